@@ -1,0 +1,28 @@
+use borrow.Author.Needs.{needs}
+use borrow.Author.Tests.{lt-ltb, le-ltb}
+use Rattle.wire.specs.Pec.{bitStep}
+use Rattle.wire.proofs.pec.bit.Statement.{statement}
+use Rattle.wire.proofs.pec.bit.Tie as tie
+use Rattle.wire.proofs.pec.bit.Reads as reads
+use Rattle.wire.proofs.pec.bit.Lts as lts
+
+-- src/pec.rt:9:18
+mul-result : tie.Need-mul-result
+mul-result c = search needs
+
+-- src/pec.rt:9:38
+mul-result-2 : tie.Need-mul-result-2
+mul-result-2 c = search needs
+
+-- src/pec.rt:6:1
+returns : tie.Need-returns
+unfolding bitStep
+returns c = simp (lt-ltb _ _ (c .if1 .taken))
+
+-- src/pec.rt:6:1
+returns-2 : tie.Need-returns-2
+unfolding bitStep
+returns-2 c = simp (le-ltb _ _ (c .if1 .left))
+
+pub bit-spec : {M : Type 1} → statement M
+bit-spec = tie.close (tie.spec mul-result mul-result-2 returns returns-2)

@@ -1,0 +1,6 @@
+pub mod Addresses
+pub mod AddressLaws
+pub mod Symbols
+pub mod Words
+pub mod Pec
+pub mod PecLaws

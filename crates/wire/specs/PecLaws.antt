@@ -1,0 +1,55 @@
+-- Laws of the packet error code: over no bytes, over an append, and that it is a byte.
+use mathlib.Core.Path.{_≡_, refl}
+use mathlib.Core.Bool.{Bool, true, false}
+use mathlib.Core.List.{List, [], _∷_, _++_}
+use Prim.Native.Nat.{ℕ, _+_, _-_, _*_, _≤_, _<_}
+use native.Mathlib.Omega.{arith}
+use native.Mathlib.Numerals.{add-one}
+use lib.Bits.{bitXor, xor-lt}
+use lib.ListN.{length, drop, getD, drop-of-length-le}
+use lib.Seq.{drop-cons}
+use lib.Dec.{ltb}
+use borrow.Author.Tests.{ltb-true}
+use Rattle.lists.specs.Choice.{pick}
+use Rattle.lists.specs.Each.{Bytes}
+use Rattle.wire.specs.Pec.{bitStep, pecStep, pecFrom, pecOf}
+
+pub pec-nil : (c : ℕ) → pecFrom c [] ≡ c
+unfolding pecFrom
+pec-nil c = refl
+
+pub pec-cons : (c b : ℕ) (bs : List ℕ) → pecFrom c (b ∷ bs) ≡ pecFrom (pecStep c b) bs
+unfolding pecFrom
+pec-cons c b bs = refl
+
+pub pec-append : (c : ℕ) (xs ys : List ℕ) → pecFrom c (xs ++ ys) ≡ pecFrom (pecFrom c xs) ys
+unfolding pecFrom
+pec-append c [] ys = refl
+pec-append c (x ∷ xs) ys = pec-append (pecStep c x) xs ys
+
+bit-byte : (c : ℕ) → c < 256 → bitStep c < 256
+unfolding bitStep
+bit-byte c h = go (ltb c 128) refl
+  where
+    go : (b : Bool) → ltb c 128 ≡ b → pick b (2 * c) (bitXor 7 (2 * (c - 128))) < 256
+    go true e = let l = ltb-true c 128 e in omega arith
+    go false e = xor-lt 8 7 (2 * (c - 128)) (omega arith) (omega arith)
+
+step-byte : (c b : ℕ) → c < 256 → b < 256 → pecStep c b < 256
+unfolding pecStep
+step-byte c b h g = bit-byte _ (bit-byte _ (bit-byte _ (bit-byte _ (bit-byte _ (bit-byte _ (bit-byte _ (bit-byte _ (xor-lt 8 c b h g))))))))
+
+-- the code of bytes is a byte
+pub pec-byte : (c : ℕ) (bs : List ℕ) → c < 256 → Bytes bs → pecFrom c bs < 256
+unfolding pecFrom
+pec-byte c [] h g = h
+pec-byte c (b ∷ bs) h g = pec-byte (pecStep c b) bs (step-byte c b h (g .0)) (g .1)
+
+-- a turn of a loop over a slice, and its end
+pub pec-turn : (s : List ℕ) (c i : ℕ) → i < length s → pecFrom c (drop i s) ≡ pecFrom (pecStep c (getD s i 0)) (drop (i + 1) s)
+unfolding pecFrom
+pec-turn s c i h = rw (add-one, drop-cons s i 0)
+
+pub pec-end : (s : List ℕ) (c i : ℕ) → length s ≤ i → pecFrom c (drop i s) ≡ c
+unfolding pecFrom
+pec-end s c i h = rw drop-of-length-le

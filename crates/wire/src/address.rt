@@ -1,0 +1,103 @@
+// A 7-bit address and the byte that carries it on the wire: two kinds, converted only here.
+ghost use mathlib.Core.Path.{_≡_};
+ghost use Prim.Native.Nat.{_+_, _*_, _/_, _%_};
+ghost use lib.Dec.{ltb, eqb};
+ghost use Rattle.wire.specs.Addresses.{isReserved, defaultAddress, hostAddress, alertAddress};
+
+// An address. A number above 127 is no address: whoever is to send to one, or to look one up, refuses it.
+pub struct Address(pub u8);
+
+// The byte on the wire: twice the address, plus 1 for a read.
+pub struct WireByte(pub u8);
+
+impl Address {
+    pub const DEFAULT: Address = Address(0x61);
+
+    pub const HOST: Address = Address(0x08);
+
+    pub const ALERT_RESPONSE: Address = Address(0x0C);
+
+    // The address that a wire byte carries, for whichever direction. It is always below 128.
+    pub fn from_wire(w: WireByte) -> Address
+        ensures { λ r. ⌜ r .0 ≡ w .0 / 2 ⌝ }
+    {
+        Address(w.0 / 2)
+    }
+
+    // The byte for a write. Of a number above 127 only the low seven bits go on the wire.
+    pub fn for_write(self) -> WireByte
+        ensures { λ r. ⌜ r .0 ≡ 2 * (self .0 % 128) ⌝ }
+    {
+        WireByte(2 * (self.0 % 128))
+    }
+
+    // The byte for a read, in the same way.
+    pub fn for_read(self) -> WireByte
+        ensures { λ r. ⌜ r .0 ≡ 2 * (self .0 % 128) + 1 ⌝ }
+    {
+        WireByte(2 * (self.0 % 128) + 1)
+    }
+
+    // The number is a 7-bit address.
+    pub fn is_seven_bit(self) -> bool
+        ensures { λ r. ⌜ r ≡ ltb (self .0) 128 ⌝ }
+    {
+        self.0 < 128
+    }
+
+    pub fn is_default(self) -> bool
+        ensures { λ r. ⌜ r ≡ eqb (self .0) defaultAddress ⌝ }
+    {
+        let named = Address::DEFAULT;
+        self.0 == named.0
+    }
+
+    pub fn is_host(self) -> bool
+        ensures { λ r. ⌜ r ≡ eqb (self .0) hostAddress ⌝ }
+    {
+        let named = Address::HOST;
+        self.0 == named.0
+    }
+
+    pub fn is_alert_response(self) -> bool
+        ensures { λ r. ⌜ r ≡ eqb (self .0) alertAddress ⌝ }
+    {
+        let named = Address::ALERT_RESPONSE;
+        self.0 == named.0
+    }
+
+    // One of the 21 that are never given out: 00h to 08h, 0Ch, 28h, 37h, 61h, 78h to 7Fh.
+    pub fn is_reserved(self) -> bool
+        ensures { λ r. ⌜ r ≡ isReserved (self .0) ⌝ }
+    {
+        let a = self.0;
+        if a <= 0x08 {
+            return true;
+        }
+        if a == 0x0C {
+            return true;
+        }
+        if a == 0x28 {
+            return true;
+        }
+        if a == 0x37 {
+            return true;
+        }
+        if a == 0x61 {
+            return true;
+        }
+        if a < 0x78 {
+            return false;
+        }
+        a <= 0x7F
+    }
+}
+
+impl WireByte {
+    // The byte asks for a read.
+    pub fn is_read(self) -> bool
+        ensures { λ r. ⌜ r ≡ eqb (self .0 % 2) 1 ⌝ }
+    {
+        self.0 % 2 == 1
+    }
+}
