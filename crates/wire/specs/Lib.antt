@@ -4,3 +4,4 @@ pub mod Symbols
 pub mod Words
 pub mod Pec
 pub mod PecLaws
+pub mod PecDivision

@@ -27,7 +27,7 @@ unfolding pecFrom
 pec-append c [] ys = refl
 pec-append c (x ∷ xs) ys = pec-append (pecStep c x) xs ys
 
-bit-byte : (c : ℕ) → c < 256 → bitStep c < 256
+pub bit-byte : (c : ℕ) → c < 256 → bitStep c < 256
 unfolding bitStep
 bit-byte c h = go (ltb c 128) refl
   where
@@ -35,7 +35,7 @@ bit-byte c h = go (ltb c 128) refl
     go true e = let l = ltb-true c 128 e in omega arith
     go false e = xor-lt 8 7 (2 * (c - 128)) (omega arith) (omega arith)
 
-step-byte : (c b : ℕ) → c < 256 → b < 256 → pecStep c b < 256
+pub step-byte : (c b : ℕ) → c < 256 → b < 256 → pecStep c b < 256
 unfolding pecStep
 step-byte c b h g = bit-byte _ (bit-byte _ (bit-byte _ (bit-byte _ (bit-byte _ (bit-byte _ (bit-byte _ (bit-byte _ (xor-lt 8 c b h g))))))))
 

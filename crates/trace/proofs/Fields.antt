@@ -1,0 +1,66 @@
+-- Tests on a field of a shape: the field's value stands apart from the shape, so that nothing else of it is rewritten.
+use mathlib.Core.Path.{_≡_, refl, sym, ap, _∙_}
+use mathlib.Core.Bool.{Bool, true, false}
+use Prim.Native.Nat.{ℕ, suc, _+_, _-_, _*_, _%_, _≤_, _<_}
+use native.Mathlib.Omega.{arith}
+use lib.Dec.{ltb, leb, eqb}
+use borrow.Author.Tests.{lt-leb, le-leb, leb-true, leb-false}
+use Rattle.lists.specs.Choice.{pick, or, and, not}
+use Rattle.wire.specs.Addresses.{hostAddress}
+use Rattle.trace.specs.declared.shape.Shape.{Shape}
+use Rattle.trace.specs.Shapes.{shapeOf, forbidden, isCounted, writes, reads}
+use Rattle.trace.specs.Allowed.{addressFits, senderFits, commandFits, lengthsFit}
+use Rattle.trace.specs.Lengths.{traceLength, roomFor}
+
+pub up : (k p : ℕ) → k ≤ p → (p ≡ k → ⊥) → suc k ≤ p
+up k p h g = omega arith
+
+pub address-is : (sh : Shape) (a : ℕ) (b : Bool) → sh .tohost ≡ b → pick b (eqb a hostAddress) (ltb a 128) ≡ addressFits sh a
+address-is sh a b e = ap (λ (x : Bool). pick x (eqb a hostAddress) (ltb a 128)) (sym e)
+
+pub sender-is : (sh : Shape) (c : ℕ) (b : Bool) → sh .tohost ≡ b → pick b (eqb (c % 2) 0) true ≡ senderFits sh c
+sender-is sh c b e = ap (λ (x : Bool). pick x (eqb (c % 2) 0) true) (sym e)
+
+pub command-is : (sh : Shape) (c : ℕ) (b : Bool) → sh .command ≡ b → pick b (senderFits sh c) (eqb c 0) ≡ commandFits sh c
+command-is sh c b e = ap (λ (x : Bool). pick x (senderFits sh c) (eqb c 0)) (sym e)
+
+-- the counts together, without a sum that could be too large
+pub sum-over : (j k most : ℕ) → most < j → leb (j + k) most ≡ false
+sum-over j k most h = lt-leb (j + k) most (omega arith)
+
+pub sum-is : (j k most : ℕ) → j ≤ most → leb k (most - j) ≡ leb (j + k) most
+sum-is j k most h = go (leb (j + k) most) refl
+  where
+    go : (b : Bool) → leb (j + k) most ≡ b → leb k (most - j) ≡ b
+    go true e = let l = leb-true (j + k) most e in le-leb k (most - j) (omega arith)
+    go false e = let l = leb-false (j + k) most e in lt-leb k (most - j) (omega arith)
+
+-- a PEC where none may be used
+pub forbidden-is : (protocol : ℕ) (pec : Bool) (sh : Shape) (b c : Bool) → sh ≡ shapeOf protocol → ltb 10 protocol ≡ b → pec ≡ c
+    → or b (and c (not (sh .checked))) ≡ forbidden protocol pec
+forbidden-is protocol pec sh b c e f g =
+    ap (λ (x : Bool). or x (and c (not (sh .checked)))) (sym f)
+    ∙ ap (λ (x : Bool). or (ltb 10 protocol) (and x (not (sh .checked)))) (sym g)
+    ∙ ap (λ (u : Shape). or (ltb 10 protocol) (and pec (not (u .checked)))) e
+
+-- the lengths that the code adds up
+pub read-length-is : (sh : Shape) (n k : ℕ) (x w : Bool) → reads sh ≡ true → writes sh ≡ w → x ≡ isCounted (sh .received) → k ≡ pick x 1 0
+    → pick w 3 0 + 2 * (k + n) ≡ pick (reads sh) (pick (writes sh) 3 0 + 2 * (pick (isCounted (sh .received)) 1 0 + n)) 0
+read-length-is sh n k x w er ew ex ek =
+    let e : k ≡ pick (isCounted (sh .received)) 1 0 = ek ∙ ap (λ (b : Bool). pick b 1 0) ex in
+    rw (er, ew) (ap (λ (j : ℕ). pick w 3 0 + 2 * (j + n)) e)
+
+pub trace-length-is : (sh : Shape) (p : Bool) (m n b k l q : ℕ) (x : Bool) → b ≡ pick (sh .command) 1 0 → x ≡ isCounted (sh .sent) → k ≡ pick x 1 0
+    → l ≡ pick (reads sh) (pick (writes sh) 3 0 + 2 * (pick (isCounted (sh .received)) 1 0 + n)) 0 → q ≡ pick p 1 0 → 4 + 2 * (b + k + m) + l + 2 * q ≡ traceLength sh p m n
+unfolding traceLength
+trace-length-is sh p m n b k l q x eb ex ek el eq =
+    let e : k ≡ pick (isCounted (sh .sent)) 1 0 = ek ∙ ap (λ (y : Bool). pick y 1 0) ex in
+    omega (arith, eb, e, el, eq)
+
+pub room-is : (protocol : ℕ) (pec : Bool) (m n : ℕ) (sh : Shape) (b c : Bool) → sh ≡ shapeOf protocol → forbidden protocol pec ≡ b → lengthsFit sh m n ≡ c
+    → pick b 0 (pick c (traceLength sh pec m n) 0) ≡ roomFor protocol pec m n
+unfolding roomFor
+room-is protocol pec m n sh b c e f g =
+    ap (λ (x : Bool). pick x 0 (pick c (traceLength sh pec m n) 0)) (sym f)
+    ∙ ap (λ (x : Bool). pick (forbidden protocol pec) 0 (pick x (traceLength sh pec m n) 0)) (sym g)
+    ∙ ap (λ (u : Shape). pick (forbidden protocol pec) 0 (pick (lengthsFit u m n) (traceLength u pec m n) 0)) e

@@ -1,0 +1,19 @@
+-- How many symbols a trace has.
+use mathlib.Core.Bool.{Bool, true, false}
+use Prim.Native.Nat.{ℕ, _+_, _*_}
+use Rattle.lists.specs.Choice.{pick}
+use Rattle.trace.specs.declared.shape.Shape.{Shape}
+use Rattle.trace.specs.Shapes.{isCounted, writes, reads, shapeOf, forbidden}
+use Rattle.trace.specs.Allowed.{lengthsFit}
+
+-- START, the first address byte, its ACK and STOP; two for each byte sent; the turn, and two for each byte received; two for PEC
+unfoldable pub traceLength : Shape → Bool → ℕ → ℕ → ℕ
+traceLength sh p m n =
+    4 + 2 * (pick (sh .command) 1 0 + pick (isCounted (sh .sent)) 1 0 + m)
+    + pick (reads sh) (pick (writes sh) 3 0 + 2 * (pick (isCounted (sh .received)) 1 0 + n)) 0
+    + 2 * pick p 1 0
+
+-- the room that the encoder needs for m bytes sent and n received; 0 where it refuses the protocol, the PEC or a length
+unfoldable pub roomFor : ℕ → Bool → ℕ → ℕ → ℕ
+roomFor protocol pec m n =
+    pick (forbidden protocol pec) 0 (pick (lengthsFit (shapeOf protocol) m n) (traceLength (shapeOf protocol) pec m n) 0)

@@ -1,0 +1,5 @@
+pub mod Shapes
+pub mod Trace
+pub mod Allowed
+pub mod Lengths
+pub mod ShapeLaws

@@ -1,0 +1,63 @@
+-- The shapes of the eleven protocols: what each row of the paper's table has, as fields.
+use mathlib.Core.Bool.{Bool, true, false}
+use mathlib.Core.List.{List, [], _∷_}
+use Prim.Native.Nat.{ℕ}
+use lib.ListN.{getD}
+use lib.Dec.{ltb}
+use Rattle.lists.specs.Choice.{or, and, not}
+use Rattle.trace.specs.declared.shape.Part.{Part}
+use Rattle.trace.specs.declared.shape.Part.the-variants.{Nothing, Fixed, Counted}
+use Rattle.trace.specs.declared.shape.Shape.{Shape}
+
+-- a row: may carry a PEC, has a command byte, sends, receives; to any address, counts 0 to 255, together at most 255
+abbrev pub row : Bool → Bool → Part → Part → Shape
+row k c s r = record { command = c; sent = s; received = r; checked = k; tohost = false; least = 0; most = 255 }
+
+-- Quick, Send Byte, Receive Byte, Write Byte, Write Word, Read Byte, Read Word, Process Call, Block Write, Block Read, Block Process Call
+abbrev pub shapes : List Shape
+shapes =
+    row false false Nothing Nothing
+    ∷ row true false (Fixed 1) Nothing
+    ∷ row true false Nothing (Fixed 1)
+    ∷ row true true (Fixed 1) Nothing
+    ∷ row true true (Fixed 2) Nothing
+    ∷ row true true Nothing (Fixed 1)
+    ∷ row true true Nothing (Fixed 2)
+    ∷ row true true (Fixed 2) (Fixed 2)
+    ∷ row true true Counted Nothing
+    ∷ row true true Nothing Counted
+    ∷ row true true Counted Counted
+    ∷ []
+
+abbrev pub shapeOf : ℕ → Shape
+shapeOf protocol = getD shapes protocol (row false false Nothing Nothing)
+
+-- 1: a protocol above 10, or a PEC where none may be used
+abbrev pub forbidden : ℕ → Bool → Bool
+forbidden protocol pec = or (ltb 10 protocol) (and pec (not (shapeOf protocol .checked)))
+
+abbrev pub some : Part → Bool
+some Nothing = false
+some (Fixed k) = true
+some Counted = true
+
+abbrev pub isCounted : Part → Bool
+isCounted Nothing = false
+isCounted (Fixed k) = false
+isCounted Counted = true
+
+-- what a part of n bytes adds to the sum of the counts, and what it adds at the least
+abbrev pub countIn : Part → ℕ → ℕ
+countIn Nothing n = 0
+countIn (Fixed k) n = 0
+countIn Counted n = n
+
+abbrev pub leastOf : Part → ℕ → ℕ
+leastOf a k = countIn a k
+
+-- there is a write phase: a command or data are sent; a read phase after it has a START and an address byte of its own
+abbrev pub writes : Shape → Bool
+writes sh = or (sh .command) (some (sh .sent))
+
+abbrev pub reads : Shape → Bool
+reads sh = some (sh .received)
