@@ -3,3 +3,5 @@ pub mod Trace
 pub mod Allowed
 pub mod Lengths
 pub mod ShapeLaws
+pub mod ValidLaws
+pub mod LengthLaws
