@@ -5,3 +5,5 @@ pub mod Lengths
 pub mod ShapeLaws
 pub mod ValidLaws
 pub mod LengthLaws
+pub mod Rows
+pub mod TableLengths
