@@ -1,0 +1,65 @@
+// PEC, addresses, and the lengths of traces.
+ghost use mathlib.Core.Path.{_≡_};
+ghost use Prim.Native.Nat.{_+_, _*_, _/_, _%_};
+ghost use Rattle.wire.specs.Addresses.{isReserved};
+ghost use Rattle.wire.specs.Pec.{pecStep, pecOf};
+ghost use Rattle.trace.specs.Lengths.{roomFor};
+ghost use Rattle.exports.specs.Numbers.{truth, bit};
+use wire::address::Address;
+use wire::address::WireByte;
+
+// The packet error code after one byte more.
+#[no_mangle]
+pub extern "C" fn hb_pec_byte(crc: u8, byte: u8) -> u8
+    ensures { λ r. ⌜ r ≡ pecStep crc byte ⌝ }
+{
+    wire::pec::add_byte(crc, byte)
+}
+
+// The packet error code of bytes.
+#[no_mangle]
+pub extern "C" fn hb_pec(s: &[u8]) -> u8
+    ensures { λ r. ⌜ r ≡ pecOf (now (s .entry)) ⌝ }
+{
+    wire::pec::of_bytes(s)
+}
+
+#[no_mangle]
+pub extern "C" fn hb_wire_for_write(address: u8) -> u8
+    ensures { λ r. ⌜ r ≡ 2 * (address % 128) ⌝ }
+{
+    let w = Address(address).for_write();
+    w.0
+}
+
+#[no_mangle]
+pub extern "C" fn hb_wire_for_read(address: u8) -> u8
+    ensures { λ r. ⌜ r ≡ 2 * (address % 128) + 1 ⌝ }
+{
+    let w = Address(address).for_read();
+    w.0
+}
+
+#[no_mangle]
+pub extern "C" fn hb_address_from_wire(byte: u8) -> u8
+    ensures { λ r. ⌜ r ≡ byte / 2 ⌝ }
+{
+    let a = Address::from_wire(WireByte(byte));
+    a.0
+}
+
+// 1 for an address that is never given out.
+#[no_mangle]
+pub extern "C" fn hb_is_reserved(address: u8) -> u8
+    ensures { λ r. ⌜ r ≡ bit (isReserved address) ⌝ }
+{
+    if Address(address).is_reserved() { 1 } else { 0 }
+}
+
+// The room in symbols that the encoder needs for so many bytes sent and received; 0 where it refuses the protocol, the PEC or a length.
+#[no_mangle]
+pub extern "C" fn hb_trace_length(protocol: u8, pec: u8, sent: usize, received: usize) -> usize
+    ensures { λ r. ⌜ r ≡ roomFor protocol (truth pec) sent received ⌝ }
+{
+    trace::length::room_for(protocol, pec != 0, sent, received)
+}
