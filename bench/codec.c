@@ -1,0 +1,122 @@
+/* Calls the library's and the plain encoder and decoder on each protocol, with and without PEC,
+   checks that they agree, and dumps callgrind's count after each. A dump's label is
+   WORK library|plain PROTOCOL PEC SENT RECEIVED SYMBOLS */
+#include "baseline.h"
+
+#include <stdio.h>
+#include <stdlib.h>
+#include <string.h>
+#include <valgrind/callgrind.h>
+
+enum { ROOM = 255, TRACE_ROOM = 2 * 525 };
+
+struct transaction {
+    uint8_t protocol;
+    uint8_t command;
+    uint8_t sent;
+    uint8_t received;
+};
+
+/* Fixed sizes, then blocks of 32 bytes, then the longest. */
+static const struct transaction transactions[] = {
+    { 0, 0, 0, 0 }, { 1, 0, 1, 0 }, { 2, 0, 0, 1 }, { 3, 7, 1, 0 }, { 4, 7, 2, 0 }, { 5, 7, 0, 1 }, { 6, 7, 0, 2 },
+    { 7, 7, 2, 2 }, { 8, 7, 32, 0 }, { 9, 7, 0, 32 }, { 10, 7, 16, 16 }, { 8, 7, 255, 0 }, { 9, 7, 0, 255 },
+    { 10, 7, 200, 55 },
+};
+
+static const uint8_t ADDRESS = 0x2c;
+static uint8_t sent[ROOM], received[ROOM];
+static uint8_t trace[TRACE_ROOM], other_trace[TRACE_ROOM];
+static uint8_t sent_back[ROOM], received_back[ROOM];
+
+typedef hb_written encoder(uint8_t, uint8_t, uint8_t, uint8_t, uint8_t, const uint8_t *, size_t,
+                           const uint8_t *, size_t, uint8_t *, size_t);
+typedef hb_decoded decoder(uint8_t, uint8_t, const uint8_t *, size_t, uint8_t *, size_t, uint8_t *, size_t);
+typedef uint8_t checker(const uint8_t *, size_t);
+
+static void stop(const char *what)
+{
+    fprintf(stderr, "bench: %s\n", what);
+    exit(1);
+}
+
+static char label[80];
+
+/* The count begins after the label is written. */
+#define BEGIN(work, who, t, pec, symbols) \
+    snprintf(label, sizeof label, "%s %s %u %s %u %u %u", work, who, (t)->protocol, (pec) ? "p" : "-", (t)->sent, \
+             (t)->received, (unsigned)(symbols)); \
+    CALLGRIND_ZERO_STATS
+#define END CALLGRIND_DUMP_STATS_AT(label)
+
+static void measure_encode(const char *who, encoder *encode, const struct transaction *t, uint8_t pec, uint32_t symbols,
+                           uint8_t *out)
+{
+    hb_written w;
+    memset(out, 0, TRACE_ROOM);
+    BEGIN("encode", who, t, pec, symbols);
+    w = encode(t->protocol, pec, ADDRESS, 0, t->command, sent, t->sent, received, t->received, out, TRACE_ROOM);
+    END;
+    if (w.answer != 0 || w.symbols != symbols)
+        stop("encoding was refused, or gave another length");
+}
+
+static void measure_decode(const char *who, decoder *decode, const struct transaction *t, uint8_t pec, uint32_t symbols)
+{
+    hb_decoded d;
+    memset(sent_back, 0, ROOM);
+    memset(received_back, 0, ROOM);
+    BEGIN("decode", who, t, pec, symbols);
+    d = decode(t->protocol, pec, trace, 2 * symbols, sent_back, ROOM, received_back, ROOM);
+    END;
+    if (d.answer != 0 || d.address != ADDRESS || d.command != t->command)
+        stop("decoding gave another transaction");
+    if (d.sent != t->sent || d.received != t->received)
+        stop("decoding gave other lengths");
+    if (memcmp(sent, sent_back, t->sent) != 0 || memcmp(received, received_back, t->received) != 0)
+        stop("decoding gave other data");
+}
+
+/* The PEC of the bytes that the trace has before its PEC. */
+static void measure_pec(const char *who, checker *pec_of, const struct transaction *t, uint32_t symbols)
+{
+    uint8_t message[TRACE_ROOM], given;
+    size_t bytes = 0;
+    for (uint32_t place = 0; place + 3 < symbols; place++)
+        if (trace[2 * place + 1] == 0)
+            message[bytes++] = trace[2 * place];
+    BEGIN("pec", who, t, 1, symbols);
+    given = pec_of(message, bytes);
+    END;
+    if (given != trace[2 * (symbols - 3)])
+        stop("the PEC differs");
+}
+
+static void measure(const struct transaction *t, uint8_t pec)
+{
+    uint32_t symbols = plain_encode(t->protocol, pec, ADDRESS, 0, t->command, sent, t->sent, received, t->received,
+                                    trace, TRACE_ROOM).symbols;
+    measure_encode("library", hb_encode, t, pec, symbols, trace);
+    measure_encode("plain", plain_encode, t, pec, symbols, other_trace);
+    if (memcmp(trace, other_trace, TRACE_ROOM) != 0)
+        stop("the encoders differ");
+    measure_decode("library", hb_decode, t, pec, symbols);
+    measure_decode("plain", plain_decode, t, pec, symbols);
+    if (pec) {
+        measure_pec("library", hb_pec, t, symbols);
+        measure_pec("plain", plain_pec, t, symbols);
+    }
+}
+
+int main(void)
+{
+    for (int i = 0; i < ROOM; i++) {
+        sent[i] = (uint8_t)(i * 151 + 77);
+        received[i] = (uint8_t)(i * 89 + 5);
+    }
+    for (size_t k = 0; k < sizeof transactions / sizeof transactions[0]; k++)
+        for (uint8_t pec = 0; pec < 2; pec++)
+            if (transactions[k].protocol != 0 || !pec)
+                measure(&transactions[k], pec);
+    return 0;
+}

@@ -1,0 +1,22 @@
+#!/bin/sh
+# Instructions a symbol for encoding and decoding, by callgrind, of the library and of plain C beside it,
+# for each protocol. Where there is a PEC, each side's own PEC work over the same bytes is taken out.
+# What it makes goes to build/.
+#   bench/codec.sh [LIBRARY]
+set -eu
+cd "$(dirname "$0")/.."
+out=build/bench
+library=${1:-target/staticlib/libexports.a}
+mkdir -p "$out"
+[ $# -gt 0 ] || rt staticlib exports >build/staticlib.log 2>&1 || {
+    cat build/staticlib.log
+    exit 1
+}
+gcc -std=c11 -O2 -Wall -Wextra -Werror bench/codec.c bench/baseline.c "$library" -o "$out/codec"
+rm -f "$out/codec.callgrind"
+valgrind --tool=callgrind --combine-dumps=yes --callgrind-out-file="$out/codec.callgrind" "$out/codec" \
+    >"$out/codec.log" 2>&1 || {
+    cat "$out/codec.log"
+    exit 1
+}
+awk -f bench/codec.awk "$out/codec.callgrind"
