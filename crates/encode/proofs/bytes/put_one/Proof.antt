@@ -1,0 +1,75 @@
+use mathlib.Core.Path.{_≡_, refl, sym, _∙_, ap}
+use native.Mathlib.Omega.{arith}
+use Prim.Native.Nat.{ℕ, _≤_, _+_, _*_}
+use lib.ListN.{length, length-set, length-take, length-drop}
+use Rattle.encode.proofs.WriterLaws.{put-byte, yes-room}
+use Rattle.lists.proofs.Laws.{onto-front}
+use borrow.Author.Needs.{needs}
+use Rattle.encode.proofs.bytes.put_one.Statement.{statement}
+use Rattle.encode.proofs.bytes.put_one.Tie as tie
+use Rattle.encode.proofs.bytes.put_one.Reads as reads
+use Rattle.encode.proofs.bytes.put_one.Lts as lts
+
+-- src/lib.rt:44:9
+mul-out : tie.Need-mul-out
+mul-out c =
+    let h : c .before .args .at + 2 ≤ length (c .before .args .out .now) = yes-room _ _ _ _ (c .if1 .taken) (c .before .pre) in
+    omega arith
+
+-- src/lib.rt:44:9
+slice-write-out : tie.Need-slice-write-out
+slice-write-out c =
+    let h : c .before .args .at + 2 ≤ length (c .before .args .out .now) = yes-room _ _ _ _ (c .if1 .taken) (c .before .pre) in
+    omega arith
+
+-- src/lib.rt:45:13
+add-out : tie.Need-add-out
+add-out c =
+    let h : c .before .args .at + 2 ≤ length (c .before .args .out .now) = yes-room _ _ _ _ (c .if1 .taken) (c .before .pre) in
+    omega arith
+
+-- src/lib.rt:45:9
+mul-out-2 : tie.Need-mul-out-2
+mul-out-2 c =
+    let h : c .before .args .at + 2 ≤ length (c .before .args .out .now) = yes-room _ _ _ _ (c .if1 .taken) (c .before .pre) in
+    omega arith
+
+-- src/lib.rt:45:9
+slice-write-out-2 : tie.Need-slice-write-out-2
+slice-write-out-2 c =
+    let h : c .before .args .at + 2 ≤ length (c .before .args .out .now) = yes-room _ _ _ _ (c .if1 .taken) (c .before .pre) in
+    simp length-set (omega arith)
+
+-- src/lib.rt:46:9
+add-result : tie.Need-add-result
+add-result c =
+    let h : c .before .args .at + 2 ≤ length (c .before .args .out .now) = yes-room _ _ _ _ (c .if1 .taken) (c .before .pre) in
+    omega arith
+
+-- src/lib.rt:39:1
+same-length : tie.Need-same-length
+same-length c = search needs
+
+-- src/lib.rt:39:1
+returns : tie.Need-returns
+returns c =
+    let h : c .before .args .at + 2 ≤ length (c .before .args .out .now) = yes-room _ _ _ _ (c .if1 .taken) (c .before .pre) in
+    rw (c .if1 .taken) (omega arith, put-byte (c .before .args .out .now) (c .before .args .at) (c .before .args .b) h)
+
+-- src/lib.rt:39:1
+returns-2 : tie.Need-returns-2
+returns-2 c = rw (c .if1 .left) (omega arith, onto-front (c .before .args .out .now) (c .before .args .at) (omega (arith, c .before .pre)))
+
+pub put-one-spec : {M : Type 1} → statement M
+put-one-spec =
+    tie.close
+    (tie.spec
+    mul-out
+    slice-write-out
+    add-out
+    mul-out-2
+    slice-write-out-2
+    add-result
+    same-length
+    returns
+    returns-2)
