@@ -3,7 +3,12 @@ ghost use mathlib.Core.Path.{_≡_};
 ghost use Prim.Native.Nat.{_*_, _≤_};
 ghost use lib.ListN.{length};
 ghost use Rattle.lists.specs.Onto.{onto};
+ghost use Rattle.encode.specs.Encode.{message};
+ghost use Rattle.exports.specs.Numbers.{truth};
 ghost use Rattle.exports.specs.Pairs.{pairsOf, symbolsIn};
+ghost use Rattle.exports.specs.Codec.{answerOf, WrotePairs};
+use encode::Encoded;
+use wire::address::Address;
 
 // The bytes of symbols, to the front of a buffer.
 fn put_pairs(out: &mut [u8], symbols: &[u16])
@@ -31,4 +36,52 @@ fn get_pairs(symbols: &mut [u16], bytes: &[u8], n: usize)
         symbols[i] = low + 256 * high;
         i += 1;
     }
+}
+
+// The answer's number, and the symbols that were written.
+#[repr(C)]
+pub struct HbWritten {
+    pub answer: u32,
+    pub symbols: u32,
+}
+
+fn written(answer: u32, symbols: u32) -> HbWritten
+    ensures { λ r. ⌜ r ≡ answerOf answer symbols ⌝ }
+{
+    HbWritten { answer, symbols }
+}
+
+// The encoder into a trace of byte pairs: the longest has 525 symbols.
+#[no_mangle]
+pub extern "C" fn hb_encode(
+    protocol: u8,
+    pec: u8,
+    address: u8,
+    direction: u8,
+    command: u8,
+    sent: &[u8],
+    received: &[u8],
+    out: &mut [u8],
+) -> HbWritten
+    ensures { λ r. ⌜ WrotePairs protocol (truth pec) (message address direction command (now (sent .entry)) (now (received .entry))) (now (out .entry)) r (now (out .exit)) ⌝ }
+{
+    let mut buf = [0u16; 525];
+    let r = encode::encode(
+        protocol,
+        pec != 0,
+        Address(address),
+        direction,
+        command,
+        sent,
+        received,
+        &mut buf,
+    );
+    let Encoded::Written(n) = r else {
+        return written(1, 0);
+    };
+    if out.len() / 2 < n {
+        return written(2, 0);
+    }
+    put_pairs(out, &buf[..n]);
+    written(0, n as u32)
 }

@@ -1,0 +1,96 @@
+-- The encoder into a buffer for the longest trace: what it answers there is what it answers for any room that has the trace.
+use mathlib.Core.Path.{_≡_, refl, sym, ap, _∙_}
+use mathlib.Core.Bool.{Bool, true, false}
+use mathlib.Core.List.{List, [], _∷_}
+use mathlib.Core.Logic.{_⊎_, inl, inr}
+use Prim.Native.Nat.{ℕ, _+_, _*_, _/_, _≤_, _<_}
+use native.Mathlib.Omega.{arith}
+use denote.Enum.Declared.{tagOf}
+use types.Run.{OneOf}
+use lib.Dec.{ltb}
+use borrow.Author.Tests.{lt-ltb, le-ltb, ltb-true, ltb-false}
+use lib.ListN.{length, take, drop, length-append, length-drop}
+use lib.Seq.{take-at, length-take-le}
+use Rattle.lists.specs.Choice.{pick, or, not}
+use Rattle.lists.specs.Each.{Bytes}
+use Rattle.lists.specs.Onto.{onto}
+use Rattle.trace.specs.Shapes.{shapeOf, forbidden}
+use Rattle.trace.specs.Trace.{Message, trace}
+use Rattle.trace.specs.Allowed.{allowed}
+use Rattle.trace.specs.ValidLaws.{allowed-valid}
+use Rattle.trace.specs.TableLengths.{longest}
+use Rattle.encode.specs.declared.Encoded.{Encoded}
+use Rattle.encode.proofs.Encoded as declared
+use Rattle.encode.specs.declared.Encoded.the-variants.{Written, Forbidden, OutputTooShort}
+use Rattle.encode.specs.Encode.{refused, encoded, symbolsOf, Wrote}
+use Rattle.exports.specs.declared.codec.HbWritten.{HbWritten}
+use Rattle.exports.specs.Pairs.{pairsOf}
+use Rattle.exports.specs.Codec.{answerOf, told, WrotePairs}
+
+refused-false : (a b : Bool) → or a (not b) ≡ false → b ≡ true
+refused-false true b h = let z : _≡_ {A = ℕ} 0 1 = cc in absurd (omega arith)
+refused-false false true h = refl
+refused-false false false h = let z : _≡_ {A = ℕ} 0 1 = cc in absurd (omega arith)
+
+module _ (protocol : ℕ) (pec : Bool) (t : Message) (command : t .command < 256) (sent : Bytes (t .sent)) (received : Bytes (t .received)) where
+  abbrev tr : List ℕ
+  tr = trace (shapeOf protocol) pec t
+
+  at-most : refused protocol pec t ≡ false → length tr ≤ 525
+  unfolding refused
+  at-most h =
+      longest protocol pec t
+      (allowed-valid (shapeOf protocol) t command sent received (refused-false (forbidden protocol pec) _ h))
+
+  -- the answer at a room, by the test of refusal 1 and of the room
+  by-tests : (room : ℕ) (b c : Bool) → refused protocol pec t ≡ b → ltb room (length tr) ≡ c
+      → encoded protocol pec t room ≡ pick b Forbidden (pick c OutputTooShort (Written (length tr)))
+  unfolding encoded
+  by-tests room b c e f = rw (e, f)
+
+  module _ (buffer : List ℕ) (long : length buffer ≡ 525) (r : Encoded) (after : List ℕ) (w : Wrote protocol pec t buffer r after) where
+    fits : refused protocol pec t ≡ false → ltb (length buffer) (length tr) ≡ false
+    fits h = le-ltb (length buffer) (length tr) (omega (arith, at-most h))
+
+    -- no trace was written: refusal 1, whatever the room
+    not-written : OneOf (1 ∷ 2 ∷ []) (tagOf declared.the-type r) → refused protocol pec t ≡ true
+    not-written k = go (refused protocol pec t) refl r k (w .answer)
+      where
+        go : (b : Bool) → refused protocol pec t ≡ b → (q : Encoded) → OneOf (1 ∷ 2 ∷ []) (tagOf declared.the-type q) → q ≡ encoded protocol pec t (length buffer) → b ≡ true
+        go true e q k h = refl
+        go false e (Written n) (inl k) h = absurd (omega arith)
+        go false e (Written n) (inr k) h = absurd (omega arith)
+        go false e Forbidden k h = let z : Forbidden ≡ Written (length tr) = h ∙ by-tests (length buffer) false false e (fits e) in let o : _≡_ {A = ℕ} 0 1 = cc in absurd (omega arith)
+        go false e OutputTooShort k h = let z : OutputTooShort ≡ Written (length tr) = h ∙ by-tests (length buffer) false false e (fits e) in let o : _≡_ {A = ℕ} 0 1 = cc in absurd (omega arith)
+
+    pub refused-pairs : (out : List ℕ) → OneOf (1 ∷ 2 ∷ []) (tagOf declared.the-type r) → (h : HbWritten) → h ≡ answerOf 1 0 → WrotePairs protocol pec t out h out
+    unfolding pairsOf
+    refused-pairs out k h e =
+        let a = by-tests (length out / 2) true _ (not-written k) refl in
+        record { answer = rw a e; output = rw a }
+
+    -- a trace was written: all tests passed, and its length is told
+    passed : (n : ℕ) → r ≡ Written n → (refused protocol pec t ≡ false) × (n ≡ length tr)
+    passed n e = go (refused protocol pec t) refl
+      where
+        go : (b : Bool) → refused protocol pec t ≡ b → (b ≡ false) × (n ≡ length tr)
+        go true f = let z : Written n ≡ Forbidden = sym e ∙ w .answer ∙ by-tests (length buffer) true _ f refl in let o : _≡_ {A = ℕ} 0 1 = cc in absurd (omega arith)
+        go false f = let z : Written n ≡ Written (length tr) = sym e ∙ w .answer ∙ by-tests (length buffer) false false f (fits f) in (refl, cc)
+
+    pub small : (n : ℕ) → r ≡ Written n → n ≤ 525
+    small n e = let p = passed n e in omega (arith, at-most (p .0), p .1)
+
+    pub short-pairs : (out : List ℕ) (n : ℕ) → r ≡ Written n → length out / 2 < n → (h : HbWritten) → h ≡ answerOf 2 0 → WrotePairs protocol pec t out h out
+    unfolding pairsOf
+    short-pairs out n e l h g =
+        let p = passed n e in
+        let a = by-tests (length out / 2) false true (p .0) (lt-ltb (length out / 2) (length tr) (omega (arith, p .1))) in
+        record { answer = rw a g; output = rw a }
+
+    pub done-pairs : (out : List ℕ) (n : ℕ) → r ≡ Written n → n ≤ length out / 2 → (h : HbWritten) → h ≡ answerOf 0 n
+        → (last : List ℕ) → last ≡ onto (pairsOf (take n after)) out → WrotePairs protocol pec t out h last
+    done-pairs out n e l h g last k =
+        let p = passed n e in
+        let a = by-tests (length out / 2) false false (p .0) (le-ltb (length out / 2) (length tr) (omega (arith, p .1))) in
+        let s : take n after ≡ tr = ap (take n) (w .output ∙ ap (λ (q : Encoded). onto (symbolsOf q tr) buffer) e) ∙ take-at tr (drop (length tr) buffer) n (sym (p .1)) in
+        record { answer = rw a (g ∙ ap (answerOf 0) (p .1)); output = rw a (k ∙ ap (λ (x : List ℕ). onto (pairsOf x) out) s) }
