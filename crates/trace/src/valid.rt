@@ -1,6 +1,6 @@
 // Which transactions a shape allows: the tests of refusal 1, on the numbers and the lengths of the data.
 ghost use mathlib.Core.Path.{_≡_};
-ghost use Rattle.trace.specs.Allowed.{lengthFits, lengthsFit, addressFits, directionFits, commandFits, senderFits, allowed};
+ghost use Rattle.trace.specs.Allowed.{lengthFits, lengthsFit, addressFits, directionFits, commandFits, senderFits};
 use crate::shape::Part;
 use crate::shape::Shape;
 use crate::shape::count_in;
@@ -74,20 +74,4 @@ pub fn command_fits(sh: Shape, c: u8) -> bool
         return sender_fits(sh, c as u16);
     }
     c == 0
-}
-
-// All of it.
-pub fn is_allowed(sh: Shape, a: Address, direction: u8, command: u8, m: usize, n: usize) -> bool
-    ensures { λ r. ⌜ r ≡ allowed sh (a .0) direction command m n ⌝ }
-{
-    if !address_fits(sh, a) {
-        return false;
-    }
-    if !direction_fits(sh, direction) {
-        return false;
-    }
-    if !command_fits(sh, command) {
-        return false;
-    }
-    lengths_fit(sh, m, n)
 }
