@@ -25,7 +25,7 @@ use Rattle.encode.specs.declared.Encoded.the-variants.{Written, Forbidden, Outp
 use Rattle.encode.specs.Encode.{refused, encoded, symbolsOf, Wrote}
 use Rattle.exports.specs.declared.codec.HbWritten.{HbWritten}
 use Rattle.exports.specs.Pairs.{pairsOf}
-use Rattle.exports.specs.Codec.{answerOf, told, WrotePairs}
+use Rattle.exports.specs.Codec.{answerOf, told, WrotePairs, WroteSymbols}
 
 refused-false : (a b : Bool) → or a (not b) ≡ false → b ≡ true
 refused-false true b h = let z : _≡_ {A = ℕ} 0 1 = cc in absurd (omega arith)
@@ -94,3 +94,18 @@ module _ (protocol : ℕ) (pec : Bool) (t : Message) (command : t .command < 256
         let a = by-tests (length out / 2) false false (p .0) (le-ltb (length out / 2) (length tr) (omega (arith, p .1))) in
         let s : take n after ≡ tr = ap (take n) (w .output ∙ ap (λ (q : Encoded). onto (symbolsOf q tr) buffer) e) ∙ take-at tr (drop (length tr) buffer) n (sym (p .1)) in
         record { answer = rw a (g ∙ ap (answerOf 0) (p .1)); output = rw a (k ∙ ap (λ (x : List ℕ). onto (pairsOf x) out) s) }
+
+  -- on symbols as they are: the length of what was written is small, and the answer is told
+  pub small-symbols : (buffer : List ℕ) (r : Encoded) (after : List ℕ) → Wrote protocol pec t buffer r after → (n : ℕ) → r ≡ Written n → n ≤ 525
+  small-symbols buffer r after w n e = go (refused protocol pec t) refl (ltb (length buffer) (length tr)) refl
+    where
+      go : (b : Bool) → refused protocol pec t ≡ b → (c : Bool) → ltb (length buffer) (length tr) ≡ c → n ≤ 525
+      go true f c g = let z : Written n ≡ Forbidden = sym e ∙ w .answer ∙ by-tests (length buffer) true c f g in let o : _≡_ {A = ℕ} 0 1 = cc in absurd (omega arith)
+      go false f true g = let z : Written n ≡ OutputTooShort = sym e ∙ w .answer ∙ by-tests (length buffer) false true f g in let o : _≡_ {A = ℕ} 0 1 = cc in absurd (omega arith)
+      go false f false g =
+          let z : Written n ≡ Written (length tr) = sym e ∙ w .answer ∙ by-tests (length buffer) false false f g in
+          let k : n ≡ length tr = cc in omega (arith, at-most f)
+
+  pub wrote-symbols : (buffer : List ℕ) (r : Encoded) (after : List ℕ) → Wrote protocol pec t buffer r after → (h : HbWritten) → h ≡ told r → WroteSymbols protocol pec t buffer h after
+  wrote-symbols buffer r after w h e =
+      record { answer = e ∙ ap told (w .answer); output = w .output ∙ ap (λ (q : Encoded). onto (symbolsOf q tr) buffer) (w .answer) }

@@ -21,3 +21,8 @@ told r = answerOf (number r .0) (number r .1)
 pub record WrotePairs (protocol : ℕ) (pec : Bool) (t : Message) (before : List ℕ) (r : HbWritten) (after : List ℕ) : Type 0 where
   pub answer : r ≡ told (encoded protocol pec t (length before / 2))
   pub output : after ≡ onto (pairsOf (symbolsOf (encoded protocol pec t (length before / 2)) (trace (shapeOf protocol) pec t))) before
+
+-- the same on symbols as they are
+pub record WroteSymbols (protocol : ℕ) (pec : Bool) (t : Message) (before : List ℕ) (r : HbWritten) (after : List ℕ) : Type 0 where
+  pub answer : r ≡ told (encoded protocol pec t (length before))
+  pub output : after ≡ onto (symbolsOf (encoded protocol pec t (length before)) (trace (shapeOf protocol) pec t)) before

@@ -3,3 +3,4 @@
 
 pub mod codec;
 pub mod ground;
+pub mod symbols;

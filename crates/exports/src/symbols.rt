@@ -1,0 +1,48 @@
+// The codec on symbols as 16-bit numbers, for the benchmark: nothing is turned into pairs.
+ghost use mathlib.Core.Path.{_≡_};
+ghost use Rattle.encode.specs.Encode.{message};
+ghost use Rattle.exports.specs.Numbers.{truth};
+ghost use Rattle.exports.specs.Codec.{WroteSymbols};
+use crate::codec::HbWritten;
+use encode::Encoded;
+use wire::address::Address;
+
+// The encoder.
+#[no_mangle]
+pub extern "C" fn hb_encode_symbols(
+    protocol: u8,
+    pec: u8,
+    address: u8,
+    direction: u8,
+    command: u8,
+    sent: &[u8],
+    received: &[u8],
+    out: &mut [u16],
+) -> HbWritten
+    ensures { λ r. ⌜ WroteSymbols protocol (truth pec) (message address direction command (now (sent .entry)) (now (received .entry))) (now (out .entry)) r (now (out .exit)) ⌝ }
+{
+    let r = encode::encode(
+        protocol,
+        pec != 0,
+        Address(address),
+        direction,
+        command,
+        sent,
+        received,
+        out,
+    );
+    match r {
+        Encoded::Written(n) => HbWritten {
+            answer: 0,
+            symbols: n as u32,
+        },
+        Encoded::Forbidden => HbWritten {
+            answer: 1,
+            symbols: 0,
+        },
+        Encoded::OutputTooShort => HbWritten {
+            answer: 2,
+            symbols: 0,
+        },
+    }
+}
