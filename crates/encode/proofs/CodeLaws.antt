@@ -1,7 +1,7 @@
 -- The code by its pieces: over a part, over the write phase, over the read phase after it.
-use mathlib.Core.Path.{_≡_, refl, sym, ap, ap₂, _∙_}
+use mathlib.Core.Path.{_≡_, sym, ap, ap₂, _∙_}
 use mathlib.Core.Bool.{Bool, true, false}
-use mathlib.Core.List.{List, [], _∷_, _++_}
+use mathlib.Core.List.{List, _++_}
 use Prim.Native.Nat.{ℕ}
 use Rattle.wire.specs.Pec.{pecStep, pecFrom, pecOf}
 use Rattle.wire.specs.PecLaws.{pec-append, pec-cons, pec-nil}

@@ -14,7 +14,7 @@ use Rattle.trace.specs.Shapes.{isCounted, writes, reads}
 use Rattle.trace.specs.Trace.{acked, nacked, inPlace}
 use Rattle.trace.specs.LengthLaws.{length-acked, length-nacked}
 use Rattle.encode.specs.Pieces.{countByte, partBytes, writeBytes, writePhase, turn, readBytes, readPhase, ending, rest}
-use Rattle.encode.proofs.WriterLaws.{put-start, next, next-acked, sealed, stopped}
+use Rattle.encode.proofs.WriterLaws.{put-start, next, next-acked, sealed}
 
 -- a part at a place i of the output l: first its count, then its data
 module _ (l s : List ℕ) (i : ℕ) (a : Part) (h : Bool) (k : ℕ) (eh : h ≡ isCounted a) (ek : k ≡ countByte s) (room : i + 2 * length (partBytes a s) ≤ length l) where

@@ -1,5 +1,5 @@
 -- The pieces of a valid message are its trace, and the writers write it.
-use mathlib.Core.Path.{_≡_, refl, sym, ap, ap₂, _∙_, subst}
+use mathlib.Core.Path.{_≡_, refl, sym, ap, ap₂, _∙_}
 use mathlib.Core.Bool.{Bool, true, false}
 use mathlib.Core.List.{List, [], _∷_, _++_, append-assoc}
 use Prim.Native.Nat.{ℕ, _+_, _-_, _*_, _%_, _≤_, _<_}
@@ -18,11 +18,11 @@ use Rattle.wire.specs.PecLaws.{pec-append}
 use Rattle.trace.specs.declared.shape.Part.{Part}
 use Rattle.trace.specs.declared.shape.Part.the-variants.{Nothing, Fixed, Counted}
 use Rattle.trace.specs.declared.shape.Shape.{Shape}
-use Rattle.trace.specs.Shapes.{some, isCounted, writes, reads}
+use Rattle.trace.specs.Shapes.{some, writes, reads}
 use Rattle.trace.specs.ShapeLaws.{Small}
-use Rattle.trace.specs.Trace.{Message, W, R, laid, acked, nacked, LengthOf, counted, Valid, firstByte, front, bytes, pecOf, inPlace, byTarget, byController, traceAt, trace}
+use Rattle.trace.specs.Trace.{Message, W, R, laid, acked, nacked, LengthOf, counted, firstByte, front, bytes, pecOf, inPlace, byController, trace}
 use Rattle.trace.specs.LengthLaws.{length-acked}
-use Rattle.encode.specs.Pieces.{countByte, partBytes, firstOf, writeBytes, writePhase, turn, readBytes, readPhase, ending, rest, turnBytes, codeOf, Ready}
+use Rattle.encode.specs.Pieces.{partBytes, firstOf, writeBytes, writePhase, turn, readBytes, readPhase, rest, turnBytes, codeOf, Ready}
 
 -- nothing is cut: a count of at most 255, an address of seven bits, a direction of one
 laid-is : (a : Part) (s : List ℕ) → counted a s ≤ 255 → partBytes a s ≡ laid a s

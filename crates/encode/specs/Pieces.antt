@@ -1,19 +1,23 @@
 -- What each writer of the encoder writes. A count and an address are cut to a byte, so that this is defined for any numbers;
 -- for a valid message nothing is cut, and the pieces together are its trace (proofs/WholeLaws.antt).
-use mathlib.Core.Path.{_≡_}
-use mathlib.Core.Bool.{Bool, true, false}
+use mathlib.Core.Bool.{Bool}
 use mathlib.Core.List.{List, [], _∷_, _++_}
 use Prim.Native.Nat.{ℕ, _%_, _≤_}
 use lib.Dec.{eqb}
 use lib.ListN.{length}
-use Rattle.lists.specs.Choice.{pick}
+use Rattle.lists.specs.Choice.{pick, and}
 use Rattle.wire.specs.Symbols.{START, STOP, ACK}
 use Rattle.wire.specs.Pec.{pecFrom, pecOf}
 use Rattle.trace.specs.declared.shape.Part.{Part}
 use Rattle.trace.specs.declared.shape.Shape.{Shape}
 use Rattle.trace.specs.Shapes.{isCounted, writes, reads}
 use Rattle.trace.specs.ShapeLaws.{Sane}
+use Rattle.trace.specs.Allowed.{addressFits, directionFits, commandFits}
 use Rattle.trace.specs.Trace.{Message, W, R, acked, nacked, inPlace, trace, Valid}
+
+-- the tests of refusal 1 but those on the lengths, which come first in the code
+abbrev pub fieldsFit : Shape → ℕ → ℕ → ℕ → Bool
+fieldsFit sh address direction command = and (addressFits sh address) (and (directionFits sh direction) (commandFits sh command))
 
 abbrev pub countByte : List ℕ → ℕ
 countByte s = length s % 256

@@ -1,6 +1,5 @@
 // The write phase: START, the first address byte, the command and the data sent, each byte with the target's ACK.
 ghost use mathlib.Core.Path.{_≡_};
-ghost use mathlib.Core.List.{_∷_};
 ghost use Prim.Native.Nat.{_+_, _*_, _≤_};
 ghost use lib.ListN.{length};
 ghost use Rattle.lists.specs.Onto.{onto};

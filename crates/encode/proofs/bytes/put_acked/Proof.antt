@@ -1,9 +1,9 @@
 use borrow.Author.Needs.{needs}
-use mathlib.Core.Path.{_≡_, refl, sym, _∙_, ap}
+use mathlib.Core.Path.{_≡_, refl, _∙_, ap}
 use mathlib.Core.List.{List, _++_}
 use Prim.Native.Nat.{ℕ, _≤_, _-_, _*_, _+_}
 use native.Mathlib.Omega.{arith}
-use lib.ListN.{length, drop, take, getD, set, length-set}
+use lib.ListN.{length, take, length-set}
 use lib.Seq.{take-all, length-take-le}
 use Rattle.trace.specs.Trace.{acked}
 use Rattle.lists.specs.Onto.{onto}

@@ -1,7 +1,6 @@
-use mathlib.Core.Path.{_≡_, refl, sym, _∙_, ap}
 use native.Mathlib.Omega.{arith}
-use Prim.Native.Nat.{ℕ, _≤_, _+_, _*_}
-use lib.ListN.{length, length-set, length-take, length-drop}
+use Prim.Native.Nat.{_≤_, _+_}
+use lib.ListN.{length, length-set}
 use Rattle.encode.proofs.WriterLaws.{put-byte, yes-room}
 use Rattle.lists.proofs.Laws.{onto-front}
 use borrow.Author.Needs.{needs}

@@ -1,5 +1,5 @@
 use Rattle.encode.proofs.CodeLaws.{read-code, no-read-code}
-use mathlib.Core.Path.{_≡_, refl, sym, _∙_, ap}
+use mathlib.Core.Path.{sym, _∙_}
 use borrow.Author.Tests.{not-true, not-false}
 use borrow.Author.Needs.{needs}
 use Rattle.encode.proofs.pec.read_code.Statement.{statement}
