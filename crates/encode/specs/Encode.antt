@@ -13,7 +13,7 @@ use Rattle.trace.specs.Allowed.{allowed}
 use Rattle.encode.specs.declared.Encoded.{Encoded}
 use Rattle.encode.specs.declared.Encoded.the-variants.{Written, Forbidden, OutputTooShort}
 
--- document 01's number and value of an answer
+-- the paper's number of an answer, and what comes with it
 abbrev pub number : Encoded → ℕ × ℕ
 number (Written n) = (0, n)
 number Forbidden = (1, 0)

@@ -1,12 +1,12 @@
 -- What each answer of the encoder means, for every input, and what it leaves in the output.
-use mathlib.Core.Path.{_≡_, refl, sym, ap, _∙_}
+use mathlib.Core.Path.{_≡_, refl, sym, ap, ap₂, _∙_}
 use mathlib.Core.Logic.{_↔_}
 use mathlib.Core.Bool.{Bool, true, false}
-use mathlib.Core.List.{List}
+use mathlib.Core.List.{List, _++_}
 use Prim.Native.Nat.{ℕ, _≤_, _<_}
 use native.Mathlib.Omega.{arith}
 use lib.Dec.{ltb, eqb}
-use lib.ListN.{length, take, drop}
+use lib.ListN.{length, take, drop, take-append-drop}
 use lib.Seq.{take-at, drop-at}
 use borrow.Author.Tests.{ltb-true, ltb-false, lt-ltb, le-ltb, eqb-true}
 use Rattle.lists.specs.Choice.{pick, or, and, not}
@@ -179,6 +179,44 @@ pub refusal-untouched : (protocol : ℕ) (pec : Bool) (t : Message) (before : Li
 refusal-untouched protocol pec t before (Written n) after w z = absurd (z refl)
 refusal-untouched protocol pec t before Forbidden after w z = w .output
 refusal-untouched protocol pec t before OutputTooShort after w z = w .output
+
+-- ---- the whole promise, with nothing of how it is computed
+
+abbrev pub Means : ℕ → Bool → Message → List ℕ → Encoded → List ℕ → Type 0
+Means protocol pec t before (Written n) after =
+    (Listed protocol pec t → ⊥)
+    × (n ≡ length (trace (shapeOf protocol) pec t))
+    × (n ≤ length before)
+    × (take n after ≡ trace (shapeOf protocol) pec t)
+    × (drop n after ≡ drop n before)
+Means protocol pec t before Forbidden after = Listed protocol pec t × (after ≡ before)
+Means protocol pec t before OutputTooShort after =
+    (Listed protocol pec t → ⊥) × (length before < length (trace (shapeOf protocol) pec t)) × (after ≡ before)
+
+pub wrote-means : (protocol : ℕ) (pec : Bool) (t : Message) (before : List ℕ) (r : Encoded) (after : List ℕ)
+    → Wrote protocol pec t before r after ↔ Means protocol pec t before r after
+wrote-means protocol pec t before (Written n) after = (there, back)
+  where
+    there : Wrote protocol pec t before (Written n) after → Means protocol pec t before (Written n) after
+    there w =
+        let m = written-exactly protocol pec t (length before) n .0 (sym (w .answer)) in
+        let f = front-is-trace protocol pec t before n after w in
+        (m .0, m .1, m .2, f .0, f .1)
+
+    back : Means protocol pec t before (Written n) after → Wrote protocol pec t before (Written n) after
+    back h =
+        record {
+          answer = sym (written-exactly protocol pec t (length before) n .1 (h .0, h .1, h .2));
+          output = sym (take-append-drop n after) ∙ ap₂ (λ (x y : List ℕ). x ++ y) (h .3) (h .4 ∙ ap (λ (k : ℕ). drop k before) (h .1));
+        }
+wrote-means protocol pec t before Forbidden after = (
+  λ w. (forbidden-exactly protocol pec t (length before) .0 (sym (w .answer)), w .output),
+  λ h. record { answer = sym (forbidden-exactly protocol pec t (length before) .1 (h .0)); output = h .1 },
+)
+wrote-means protocol pec t before OutputTooShort after = (
+  λ w. let m = too-short-exactly protocol pec t (length before) .0 (sym (w .answer)) in (m .0, m .1, w .output),
+  λ h. record { answer = sym (too-short-exactly protocol pec t (length before) .1 (h .0, h .1)); output = h .2 },
+)
 
 -- two outcomes that keep the promise for the same inputs are equal
 pub unique : (protocol : ℕ) (pec : Bool) (t : Message) (before : List ℕ) (r r′ : Encoded) (after after′ : List ℕ) → Wrote protocol pec t before r after
