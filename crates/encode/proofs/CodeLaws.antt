@@ -1,7 +1,7 @@
 -- The code by its pieces: over a part, over the write phase, over the read phase after it.
-use mathlib.Core.Path.{_≡_, refl, sym, ap, ap₂, _∙_}
+use mathlib.Core.Path.{_≡_, sym, ap, ap₂, _∙_}
 use mathlib.Core.Bool.{Bool, true, false}
-use mathlib.Core.List.{List, [], _∷_, _++_}
+use mathlib.Core.List.{List, _++_}
 use Prim.Native.Nat.{ℕ}
 use Rattle.wire.specs.Pec.{pecStep, pecFrom, pecOf}
 use Rattle.wire.specs.PecLaws.{pec-append, pec-cons, pec-nil}
@@ -9,7 +9,7 @@ use Rattle.trace.specs.declared.shape.Part.{Part}
 use Rattle.trace.specs.declared.shape.Shape.{Shape}
 use Rattle.trace.specs.Shapes.{isCounted, writes, reads}
 use Rattle.trace.specs.Trace.{inPlace}
-use Rattle.encode.specs.Pieces.{countByte, partBytes, writeBytes, turnBytes}
+use Rattle.encode.specs.Pieces.{countByte, partBytes, writeBytes, bytesAfter}
 
 -- some bytes, then others
 then-code : (c z q : ℕ) (xs ys : List ℕ) → z ≡ pecFrom c xs → q ≡ pecFrom z ys → q ≡ pecFrom c (xs ++ ys)
@@ -28,9 +28,9 @@ write-code sh f c s x z q ex ez eq =
     ∙ sym (pec-cons 0 f (inPlace (sh .command) c ++ partBytes (sh .sent) s))
 
 pub read-code : (sh : Shape) (g : ℕ) (r : List ℕ) (c z q : ℕ) (w : Bool) → reads sh ≡ true → w ≡ writes sh → z ≡ pecFrom c (inPlace w g) → q ≡ pecFrom z (partBytes (sh .received) r)
-    → q ≡ pecFrom c (turnBytes sh g r)
+    → q ≡ pecFrom c (bytesAfter sh g r)
 read-code sh g r c z q w er ew ez eq =
     rw er (then-code c z q (inPlace w g) (partBytes (sh .received) r) ez eq ∙ ap (λ (b : Bool). pecFrom c (inPlace b g ++ partBytes (sh .received) r)) ew)
 
-pub no-read-code : (sh : Shape) (g : ℕ) (r : List ℕ) (c : ℕ) → reads sh ≡ false → c ≡ pecFrom c (turnBytes sh g r)
+pub no-read-code : (sh : Shape) (g : ℕ) (r : List ℕ) (c : ℕ) → reads sh ≡ false → c ≡ pecFrom c (bytesAfter sh g r)
 no-read-code sh g r c er = rw er (sym (pec-nil c))

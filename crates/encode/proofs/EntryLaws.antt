@@ -2,9 +2,8 @@
 use mathlib.Core.Path.{_≡_, refl, sym, ap, _∙_, subst}
 use mathlib.Core.Bool.{Bool, true, false}
 use mathlib.Core.List.{List, [], _∷_}
-use Prim.Native.Nat.{ℕ, suc, _+_, _≤_, _<_}
+use Prim.Native.Nat.{ℕ, suc, _≤_, _<_}
 use native.Mathlib.Omega.{arith}
-use lib.Dec.{ltb}
 use lib.ListN.{length, getD}
 use borrow.Author.Tests.{lt-ltb, le-ltb}
 use Rattle.lists.specs.Choice.{pick, or, and, not}
@@ -12,15 +11,15 @@ use Rattle.lists.specs.Each.{Bytes}
 use Rattle.lists.specs.Onto.{onto}
 use Rattle.trace.specs.declared.shape.Shape.{Shape}
 use Rattle.trace.specs.Shapes.{shapeOf, forbidden}
-use Rattle.trace.specs.Trace.{Message, trace, Valid}
+use Rattle.trace.specs.Trace.{Message, trace}
 use Rattle.trace.specs.Allowed.{addressFits, directionFits, commandFits, lengthsFit, allowed}
 use Rattle.trace.specs.Lengths.{traceLength, roomFor}
 use Rattle.trace.specs.LengthLaws.{trace-length}
-use Rattle.trace.specs.ShapeLaws.{Sane, sane}
+use Rattle.trace.specs.ShapeLaws.{sane}
 use Rattle.trace.specs.ValidLaws.{allowed-valid}
 use Rattle.encode.specs.declared.Encoded.the-variants.{Written, Forbidden, OutputTooShort}
-use Rattle.encode.specs.Encode.{fieldsFit, refused, encoded, Wrote}
-use Rattle.encode.specs.Pieces.{Ready}
+use Rattle.encode.specs.Encode.{refused, encoded, Wrote}
+use Rattle.encode.specs.Pieces.{fieldsFit, Ready}
 
 pub all-bytes : (s : List ℕ) → ((i : ℕ) → getD s i 0 < 256) → Bytes s
 all-bytes [] h = tt

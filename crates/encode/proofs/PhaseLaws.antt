@@ -13,8 +13,8 @@ use Rattle.trace.specs.declared.shape.Shape.{Shape}
 use Rattle.trace.specs.Shapes.{isCounted, writes, reads}
 use Rattle.trace.specs.Trace.{acked, nacked, inPlace}
 use Rattle.trace.specs.LengthLaws.{length-acked, length-nacked}
-use Rattle.encode.specs.Pieces.{countByte, partBytes, writeBytes, writePhase, turn, readBytes, readPhase, ending, rest}
-use Rattle.encode.proofs.WriterLaws.{put-start, next, next-acked, sealed, stopped}
+use Rattle.encode.specs.Pieces.{countByte, partBytes, writeBytes, writePhase, repeatedStart, readBytes, readPhase, ending, rest}
+use Rattle.encode.proofs.WriterLaws.{put-start, next, next-acked, sealed}
 
 -- a part at a place i of the output l: first its count, then its data
 module _ (l s : List ℕ) (i : ℕ) (a : Part) (h : Bool) (k : ℕ) (eh : h ≡ isCounted a) (ek : k ≡ countByte s) (room : i + 2 * length (partBytes a s) ≤ length l) where
@@ -71,14 +71,14 @@ module _ (l s : List ℕ) (sh : Shape) (f c : ℕ) (room : 1 + 2 * length (write
         )
 
 -- the read phase at the front of the output l
-module _ (l r : List ℕ) (w : Bool) (g : ℕ) (a : Part) (p : Bool) (y : ℕ) (room : length (turn w g) + (2 * length (readBytes a r p y) + 1) ≤ length l) where
+module _ (l r : List ℕ) (w : Bool) (g : ℕ) (a : Part) (p : Bool) (y : ℕ) (room : length (repeatedStart w g) + (2 * length (readBytes a r p y) + 1) ≤ length l) where
   read-length : length (readBytes a r p y) ≡ length (partBytes a r) + length (inPlace p y)
   read-length = length-append (partBytes a r) (inPlace p y)
 
-  pub turn-asks : length (turn w g) ≤ length l
+  pub turn-asks : length (repeatedStart w g) ≤ length l
   turn-asks = omega arith
 
-  module _ (n : ℕ) (l₁ : List ℕ) (en : n ≡ length (turn w g)) (e₁ : l₁ ≡ onto (turn w g) l) (k₁ : length l₁ ≡ length l) where
+  module _ (n : ℕ) (l₁ : List ℕ) (en : n ≡ length (repeatedStart w g)) (e₁ : l₁ ≡ onto (repeatedStart w g) l) (k₁ : length l₁ ≡ length l) where
     pub received-asks : n + 2 * length (partBytes a r) ≤ length l₁
     received-asks = omega (arith, read-length)
 
@@ -88,35 +88,35 @@ module _ (l r : List ℕ) (w : Bool) (g : ℕ) (a : Part) (p : Bool) (y : ℕ) (
 
       module _ (e : ℕ) (l₃ : List ℕ) (ee : e ≡ m + 2 * length (inPlace p y)) (e₃ : l₃ ≡ onto (take m l₂ ++ acked (inPlace p y)) l₂) (k₃ : length l₃ ≡ length l₂)
           (some : 0 < length (readBytes a r p y)) where
-        at-end : e ≡ length (turn w g) + 2 * length (readBytes a r p y)
+        at-end : e ≡ length (repeatedStart w g) + 2 * length (readBytes a r p y)
         at-end = omega (arith, read-length)
 
         pub stop-asks : (0 < e) × (e < length l₃)
         stop-asks = (omega (arith, at-end), omega (arith, at-end))
 
-        pub read-put : (l₄ : List ℕ) → l₄ ≡ set (set l₃ (e - 1) NACK) e STOP → l₄ ≡ onto (turn w g ++ readPhase (readBytes a r p y)) l
+        pub read-put : (l₄ : List ℕ) → l₄ ≡ set (set l₃ (e - 1) NACK) e STOP → l₄ ≡ onto (repeatedStart w g ++ readPhase (readBytes a r p y)) l
         read-put l₄ e₄ =
-            let two : l₂ ≡ onto (turn w g ++ acked (partBytes a r)) l = next (turn w g) (acked (partBytes a r)) l l₁ l₂ n e₁ (sym en) e₂ in
-            let three : l₃ ≡ onto (turn w g ++ acked (readBytes a r p y)) l =
-            next-acked (turn w g) (partBytes a r) (inPlace p y) l l₂ l₃ m two (omega arith) e₃ in
-            e₄ ∙ ap (λ (t : List ℕ). set (set t (e - 1) NACK) e STOP) three ∙ sealed (turn w g) (readBytes a r p y) l e some at-end (omega (arith, at-end))
+            let two : l₂ ≡ onto (repeatedStart w g ++ acked (partBytes a r)) l = next (repeatedStart w g) (acked (partBytes a r)) l l₁ l₂ n e₁ (sym en) e₂ in
+            let three : l₃ ≡ onto (repeatedStart w g ++ acked (readBytes a r p y)) l =
+            next-acked (repeatedStart w g) (partBytes a r) (inPlace p y) l l₂ l₃ m two (omega arith) e₃ in
+            e₄ ∙ ap (λ (t : List ℕ). set (set t (e - 1) NACK) e STOP) three ∙ sealed (repeatedStart w g) (readBytes a r p y) l e some at-end (omega (arith, at-end))
 
 -- what follows the write phase: which of the two it is
 module _ (sh : Shape) (g : ℕ) (r : List ℕ) (p : Bool) (y : ℕ) where
   phase-length : (zs : List ℕ) → length (readPhase zs) ≡ 2 * length zs + 1
   phase-length zs = length-append (nacked zs) (STOP ∷ []) ∙ ap (λ (n : ℕ). n + 1) (length-nacked zs)
 
-  pub read-rest : (w : Bool) → reads sh ≡ true → w ≡ writes sh → turn w g ++ readPhase (readBytes (sh .received) r p y) ≡ rest sh g r p y
-  read-rest w er ew = rw er (ap (λ (b : Bool). turn b g ++ readPhase (readBytes (sh .received) r p y)) ew)
+  pub read-rest : (w : Bool) → reads sh ≡ true → w ≡ writes sh → repeatedStart w g ++ readPhase (readBytes (sh .received) r p y) ≡ rest sh g r p y
+  read-rest w er ew = rw er (ap (λ (b : Bool). repeatedStart b g ++ readPhase (readBytes (sh .received) r p y)) ew)
 
   pub end-rest : reads sh ≡ false → ending p y ≡ rest sh g r p y
   end-rest er = rw er
 
   module _ (m : ℕ) (room : length (rest sh g r p y) ≤ m) where
-    pub read-asks : (w : Bool) → reads sh ≡ true → w ≡ writes sh → length (turn w g) + (2 * length (readBytes (sh .received) r p y) + 1) ≤ m
+    pub read-asks : (w : Bool) → reads sh ≡ true → w ≡ writes sh → length (repeatedStart w g) + (2 * length (readBytes (sh .received) r p y) + 1) ≤ m
     read-asks w er ew =
         let zs : List ℕ = readBytes (sh .received) r p y in
-        omega (arith, ap length (read-rest w er ew), length-append (turn w g) (readPhase zs), phase-length zs)
+        omega (arith, ap length (read-rest w er ew), length-append (repeatedStart w g) (readPhase zs), phase-length zs)
 
     pub end-asks : reads sh ≡ false → 2 * length (inPlace p y) < m
     end-asks er = omega (arith, ap length (end-rest er), length-append (acked (inPlace p y)) (STOP ∷ []), length-acked (inPlace p y))

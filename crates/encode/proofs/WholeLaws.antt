@@ -1,5 +1,5 @@
 -- The pieces of a valid message are its trace, and the writers write it.
-use mathlib.Core.Path.{_≡_, refl, sym, ap, ap₂, _∙_, subst}
+use mathlib.Core.Path.{_≡_, refl, sym, ap, ap₂, _∙_}
 use mathlib.Core.Bool.{Bool, true, false}
 use mathlib.Core.List.{List, [], _∷_, _++_, append-assoc}
 use Prim.Native.Nat.{ℕ, _+_, _-_, _*_, _%_, _≤_, _<_}
@@ -18,11 +18,11 @@ use Rattle.wire.specs.PecLaws.{pec-append}
 use Rattle.trace.specs.declared.shape.Part.{Part}
 use Rattle.trace.specs.declared.shape.Part.the-variants.{Nothing, Fixed, Counted}
 use Rattle.trace.specs.declared.shape.Shape.{Shape}
-use Rattle.trace.specs.Shapes.{some, isCounted, writes, reads}
+use Rattle.trace.specs.Shapes.{some, writes, reads}
 use Rattle.trace.specs.ShapeLaws.{Small}
-use Rattle.trace.specs.Trace.{Message, W, R, laid, acked, nacked, LengthOf, counted, Valid, firstByte, front, bytes, pecOf, inPlace, byTarget, byController, traceAt, trace}
+use Rattle.trace.specs.Trace.{Message, W, R, laid, acked, nacked, LengthOf, counted, firstByte, front, bytes, pecOf, inPlace, byController, trace}
 use Rattle.trace.specs.LengthLaws.{length-acked}
-use Rattle.encode.specs.Pieces.{countByte, partBytes, firstOf, writeBytes, writePhase, turn, readBytes, readPhase, ending, rest, turnBytes, codeOf, Ready}
+use Rattle.encode.specs.Pieces.{partBytes, firstOf, writeBytes, writePhase, repeatedStart, readBytes, readPhase, rest, bytesAfter, codeOf, Ready}
 
 -- nothing is cut: a count of at most 255, an address of seven bits, a direction of one
 laid-is : (a : Part) (s : List ℕ) → counted a s ≤ 255 → partBytes a s ≡ laid a s
@@ -48,7 +48,7 @@ first-is false false a d h = quick-is a d h
 
 -- what follows the write phase, and its bytes
 rest-is : (d w : Bool) (g h : ℕ) (a b q o : List ℕ) → (w ≡ true → g ≡ h) → a ≡ b → q ≡ o
-    → pick d (turn w g ++ readPhase (a ++ q)) (acked q ++ STOP ∷ []) ≡ pick d (turn w h) (acked o) ++ (pick d (nacked (b ++ o)) [] ++ STOP ∷ [])
+    → pick d (repeatedStart w g ++ readPhase (a ++ q)) (acked q ++ STOP ∷ []) ≡ pick d (repeatedStart w h) (acked o) ++ (pick d (nacked (b ++ o)) [] ++ STOP ∷ [])
 rest-is true true g h a b q o eg ea eq = ap₂ (λ (n : ℕ) (zs : List ℕ). START ∷ n ∷ ACK ∷ readPhase zs) (eg refl) (ap₂ (λ (x y : List ℕ). x ++ y) ea eq)
 rest-is true false g h a b q o eg ea eq = ap readPhase (ap₂ (λ (x y : List ℕ). x ++ y) ea eq)
 rest-is false w g h a b q o eg ea eq = ap (λ (x : List ℕ). acked x ++ STOP ∷ []) eq
@@ -88,16 +88,16 @@ module _ (sh : Shape) (p : Bool) (t : Message) (l : List ℕ) (ready : Ready sh 
   front-is : writeBytes sh f (t .command) (t .sent) ≡ front sh t
   front-is = ap₂ (λ (n : ℕ) (a : List ℕ). n ∷ (inPlace (sh .command) (t .command) ++ a)) the-first sent-is
 
-  bytes-are : writeBytes sh f (t .command) (t .sent) ++ turnBytes sh g (t .received) ≡ bytes sh t
+  bytes-are : writeBytes sh f (t .command) (t .sent) ++ bytesAfter sh g (t .received) ≡ bytes sh t
   bytes-are = ap₂ (λ (a b : List ℕ). a ++ b) front-is (turn-is (reads sh) (writes sh) g (firstByte sh t + 1) _ _ the-second received-is)
 
   code-is : codeOf sh f g (t .command) (t .sent) (t .received) ≡ pecOf sh t
-  code-is = sym (pec-append 0 (writeBytes sh f (t .command) (t .sent)) (turnBytes sh g (t .received))) ∙ ap Pec.pecOf bytes-are
+  code-is = sym (pec-append 0 (writeBytes sh f (t .command) (t .sent)) (bytesAfter sh g (t .received))) ∙ ap Pec.pecOf bytes-are
 
   pieces : writePhase sh f (t .command) (t .sent) ++ rest sh g (t .received) p y ≡ trace sh p t
   pieces =
       let o : List ℕ = inPlace p (pecOf sh t) in
-      let x : List ℕ = pick (reads sh) (turn (writes sh) (firstByte sh t + 1)) (acked o) in
+      let x : List ℕ = pick (reads sh) (repeatedStart (writes sh) (firstByte sh t + 1)) (acked o) in
       ap₂ (λ (a b : List ℕ). START ∷ acked a ++ b) front-is
       (rest-is (reads sh) (writes sh) g (firstByte sh t + 1) _ _ (inPlace p y) o the-second received-is (place-is p y _ (pecOf sh t) ey code-is))
       ∙ sym (append-assoc (START ∷ acked (front sh t)) x (byController sh t o))

@@ -13,7 +13,7 @@ use Rattle.lists.proofs.Laws.{onto-put, onto-onto, onto-take}
 use Rattle.wire.specs.Symbols.{START, STOP, ACK, NACK}
 use Rattle.trace.specs.Trace.{acked, nacked, inPlace}
 use Rattle.trace.specs.LengthLaws.{length-acked, length-nacked}
-use Rattle.encode.specs.Pieces.{turn}
+use Rattle.encode.specs.Pieces.{repeatedStart}
 
 pub acked-append : (xs ys : List ℕ) → acked (xs ++ ys) ≡ acked xs ++ acked ys
 acked-append [] ys = refl
@@ -23,6 +23,10 @@ acked-append (x ∷ xs) ys = ap (λ (l : List ℕ). x ∷ ACK ∷ l) (acked-appe
 onto-byte : (p l : List ℕ) (b n : ℕ) → length p ≡ n → n + 2 ≤ length l → set (set (onto p l) n b) (n + 1) ACK ≡ onto (p ++ b ∷ ACK ∷ []) l
 onto-byte p l b n e h =
     rw (onto-put p l b n e (omega arith), onto-put (p ++ b ∷ []) l ACK (n + 1) (omega (arith, length-append p (b ∷ []))) (omega arith), append-assoc p (b ∷ []) (ACK ∷ []))
+
+-- a byte as a symbol
+pub wider : (b : ℕ) → b < 256 → b < 65536
+wider b h = omega arith
 
 -- the turn of the loop of `put_acked`
 pub acked-turn : (p s l : List ℕ) (i n j : ℕ) → length p ≡ n → i < length s → n + 2 * length s ≤ length l → j ≡ n + 2 * i
@@ -35,7 +39,7 @@ acked-turn p s l i n j e h r g =
       add-one i,
       take-suc s i 0 h,
       acked-append (take i s) (b ∷ []),
-      append-assoc p,
+      append-assoc p (acked (take i s)) (b ∷ ACK ∷ []),
     )
 
 -- one byte, where it is written
@@ -54,7 +58,7 @@ put-start l b h =
     ∙ ap (λ (t : List ℕ). set t 2 ACK) (onto-put (START ∷ []) l b 1 refl (omega arith))
     ∙ onto-put (START ∷ b ∷ []) l ACK 2 refl (omega arith)
 
-pub turn-room : (b : Bool) (g m : ℕ) → b ≡ true → length (turn b g) ≤ m → 3 ≤ m
+pub turn-room : (b : Bool) (g m : ℕ) → b ≡ true → length (repeatedStart b g) ≤ m → 3 ≤ m
 turn-room true g m e h = omega arith
 turn-room false g m e h = let z : _≡_ {A = ℕ} 0 1 = cc in absurd (omega arith)
 

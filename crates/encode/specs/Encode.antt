@@ -1,20 +1,19 @@
 -- The encoder's promise: the answer, by refusal 1, refusal 2 and the length of the trace, and what the output holds then.
 use mathlib.Core.Path.{_≡_}
-use mathlib.Core.Bool.{Bool, true, false}
+use mathlib.Core.Bool.{Bool}
 use mathlib.Core.List.{List, []}
 use Prim.Native.Nat.{ℕ}
 use lib.Dec.{ltb}
 use lib.ListN.{length}
-use Rattle.lists.specs.Choice.{pick, or, and, not}
+use Rattle.lists.specs.Choice.{pick, or, not}
 use Rattle.lists.specs.Onto.{onto}
-use Rattle.trace.specs.declared.shape.Shape.{Shape}
 use Rattle.trace.specs.Shapes.{shapeOf, forbidden}
 use Rattle.trace.specs.Trace.{Message, trace}
-use Rattle.trace.specs.Allowed.{addressFits, directionFits, commandFits, allowed}
+use Rattle.trace.specs.Allowed.{allowed}
 use Rattle.encode.specs.declared.Encoded.{Encoded}
 use Rattle.encode.specs.declared.Encoded.the-variants.{Written, Forbidden, OutputTooShort}
 
--- document 01's number and value of an answer
+-- the paper's number of an answer, and what comes with it
 abbrev pub number : Encoded → ℕ × ℕ
 number (Written n) = (0, n)
 number Forbidden = (1, 0)
@@ -24,10 +23,6 @@ number OutputTooShort = (2, 0)
 abbrev pub message : ℕ → ℕ → ℕ → List ℕ → List ℕ → Message
 message address direction command sent received =
     record { address = address; direction = direction; command = command; sent = sent; received = received }
-
--- the tests of refusal 1 but those on the lengths, which come first in the code
-abbrev pub fieldsFit : Shape → ℕ → ℕ → ℕ → Bool
-fieldsFit sh address direction command = and (addressFits sh address) (and (directionFits sh direction) (commandFits sh command))
 
 -- all tests of refusal 1
 unfoldable pub refused : ℕ → Bool → Message → Bool

@@ -1,7 +1,7 @@
 // Bytes of a phase with their ACKs, from a place of the output on. Each writer answers the place after what it wrote.
 ghost use mathlib.Core.Path.{_≡_};
 ghost use mathlib.Core.List.{_++_};
-ghost use Prim.Native.Nat.{_+_, _*_, _≤_, _%_};
+ghost use Prim.Native.Nat.{_+_, _*_, _≤_};
 ghost use lib.ListN.{length, take};
 ghost use Rattle.lists.specs.Onto.{onto};
 ghost use Rattle.trace.specs.Trace.{acked, inPlace};
@@ -27,7 +27,7 @@ fn put_acked(out: &mut [u16], at: usize, s: &[u8]) -> usize
 }
 
 // One byte with its ACK, where there is one.
-pub(crate) fn put_one(out: &mut [u16], at: usize, there: bool, b: u8) -> usize
+pub(crate) fn put_byte_if(out: &mut [u16], at: usize, there: bool, b: u8) -> usize
     requires { ⌜ at + 2 * length (inPlace there b) ≤ length (now out) ⌝ }
     ensures { λ r. ⌜ (r ≡ at + 2 * length (inPlace there b)) × (now (out .exit) ≡ onto (take at (now (out .entry)) ++ acked (inPlace there b)) (now (out .entry))) ⌝ }
 {
@@ -52,6 +52,6 @@ pub(crate) fn put_part(out: &mut [u16], at: usize, a: Part, s: &[u8]) -> usize
     requires { ⌜ at + 2 * length (partBytes a (now s)) ≤ length (now out) ⌝ }
     ensures { λ r. ⌜ (r ≡ at + 2 * length (partBytes a (now (s .entry)))) × (now (out .exit) ≡ onto (take at (now (out .entry)) ++ acked (partBytes a (now (s .entry)))) (now (out .entry))) ⌝ }
 {
-    let n = put_one(out, at, is_counted(a), count_of(s));
+    let n = put_byte_if(out, at, is_counted(a), count_of(s));
     put_acked(out, n, s)
 }

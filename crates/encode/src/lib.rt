@@ -4,8 +4,8 @@ ghost use mathlib.Core.Path.{_≡_};
 ghost use lib.ListN.{length};
 ghost use Rattle.lists.specs.Onto.{onto};
 ghost use Rattle.trace.specs.Trace.{trace};
-ghost use Rattle.encode.specs.Encode.{message, fieldsFit, Wrote};
-ghost use Rattle.encode.specs.Pieces.{Ready};
+ghost use Rattle.encode.specs.Encode.{message, Wrote};
+ghost use Rattle.encode.specs.Pieces.{fieldsFit, Ready};
 use trace::length::room_for;
 use trace::protocol::shape_of;
 use trace::shape::Shape;
@@ -54,11 +54,11 @@ fn put_trace(
     ensures { λ _. ⌜ now (out .exit) ≡ onto (trace sh pec (message (address .0) direction command (now (sent .entry)) (now (received .entry)))) (now (out .entry)) ⌝ }
 {
     let first = write::first_byte(sh, address, direction);
-    let again = address.for_read();
-    let code = pec::code_of(pec, sh, first, again, command, sent, received);
+    let second = address.for_read();
+    let code = pec::code_of(pec, sh, first, second, command, sent, received);
     let n = write::put_write_phase(out, sh, first, command, sent);
     // What follows the write phase is lent, from its middle on, to the writer of the read phase.
-    read::put_rest(&mut out[n..], sh, again, received, pec, code);
+    read::put_rest(&mut out[n..], sh, second, received, pec, code);
 }
 
 // The trace of a message, at the front of the output; the rest of the output, and all of it on a refusal, stays as it was.

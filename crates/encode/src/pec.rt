@@ -3,7 +3,7 @@ ghost use mathlib.Core.Path.{_≡_};
 ghost use Rattle.lists.specs.Choice.{pick};
 ghost use Rattle.wire.specs.Pec.{pecFrom, pecOf};
 ghost use Rattle.trace.specs.Trace.{inPlace};
-ghost use Rattle.encode.specs.Pieces.{partBytes, writeBytes, turnBytes, codeOf};
+ghost use Rattle.encode.specs.Pieces.{partBytes, writeBytes, bytesAfter, codeOf};
 use crate::bytes::count_of;
 use trace::shape::Part;
 use trace::shape::Shape;
@@ -15,7 +15,7 @@ use wire::pec::add_byte;
 use wire::pec::add_bytes;
 
 // One byte more, where there is one.
-fn add_one(c: u8, there: bool, b: u8) -> u8
+fn add_byte_if(c: u8, there: bool, b: u8) -> u8
     ensures { λ r. ⌜ r ≡ pecFrom c (inPlace there b) ⌝ }
 {
     if there { add_byte(c, b) } else { c }
@@ -25,7 +25,7 @@ fn add_one(c: u8, there: bool, b: u8) -> u8
 fn add_part(c: u8, a: Part, s: &[u8]) -> u8
     ensures { λ r. ⌜ r ≡ pecFrom c (partBytes a (now (s .entry))) ⌝ }
 {
-    add_bytes(add_one(c, is_counted(a), count_of(s)), s)
+    add_bytes(add_byte_if(c, is_counted(a), count_of(s)), s)
 }
 
 // The write phase.
@@ -33,18 +33,22 @@ fn write_code(sh: Shape, first: WireByte, command: u8, sent: &[u8]) -> u8
     ensures { λ r. ⌜ r ≡ pecOf (writeBytes sh (first .0) command (now (sent .entry))) ⌝ }
 {
     let a = sh.sent;
-    add_part(add_one(add_byte(0, first.0), sh.command, command), a, sent)
+    add_part(
+        add_byte_if(add_byte(0, first.0), sh.command, command),
+        a,
+        sent,
+    )
 }
 
 // The read phase after it, where there is one.
-fn read_code(c: u8, sh: Shape, again: WireByte, received: &[u8]) -> u8
-    ensures { λ r. ⌜ r ≡ pecFrom c (turnBytes sh (again .0) (now (received .entry))) ⌝ }
+fn read_code(c: u8, sh: Shape, second: WireByte, received: &[u8]) -> u8
+    ensures { λ r. ⌜ r ≡ pecFrom c (bytesAfter sh (second .0) (now (received .entry))) ⌝ }
 {
     let a = sh.received;
     if !has_read(sh) {
         return c;
     }
-    add_part(add_one(c, has_write(sh), again.0), a, received)
+    add_part(add_byte_if(c, has_write(sh), second.0), a, received)
 }
 
 // The code of the whole; 0 where none is used, and no time is spent on it.
@@ -52,15 +56,15 @@ pub(crate) fn code_of(
     pec: bool,
     sh: Shape,
     first: WireByte,
-    again: WireByte,
+    second: WireByte,
     command: u8,
     sent: &[u8],
     received: &[u8],
 ) -> u8
-    ensures { λ r. ⌜ r ≡ pick pec (codeOf sh (first .0) (again .0) command (now (sent .entry)) (now (received .entry))) 0 ⌝ }
+    ensures { λ r. ⌜ r ≡ pick pec (codeOf sh (first .0) (second .0) command (now (sent .entry)) (now (received .entry))) 0 ⌝ }
 {
     if !pec {
         return 0;
     }
-    read_code(write_code(sh, first, command, sent), sh, again, received)
+    read_code(write_code(sh, first, command, sent), sh, second, received)
 }

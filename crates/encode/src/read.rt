@@ -8,8 +8,8 @@ ghost use Rattle.lists.specs.Onto.{onto};
 ghost use Rattle.wire.specs.Symbols.{NACK as NackOf, STOP as StopOf};
 ghost use Rattle.trace.specs.Shapes.{reads};
 ghost use Rattle.trace.specs.Trace.{inPlace};
-ghost use Rattle.encode.specs.Pieces.{turn, readBytes, readPhase, ending, rest};
-use crate::bytes::put_one;
+ghost use Rattle.encode.specs.Pieces.{repeatedStart, readBytes, readPhase, ending, rest};
+use crate::bytes::put_byte_if;
 use crate::bytes::put_part;
 use trace::shape::Part;
 use trace::shape::Shape;
@@ -21,14 +21,14 @@ use wire::symbol::NACK;
 use wire::symbol::START;
 use wire::symbol::STOP;
 
-// START again and the address byte for a read, after a write phase; without one the address byte has gone already.
-fn put_turn(out: &mut [u16], turned: bool, again: WireByte) -> usize
-    requires { ⌜ length (turn turned (again .0)) ≤ length (now out) ⌝ }
-    ensures { λ r. ⌜ (r ≡ length (turn turned (again .0))) × (now (out .exit) ≡ onto (turn turned (again .0)) (now (out .entry))) ⌝ }
+// A repeated START and the address byte for a read, after a write phase. Without one that byte has gone already, as the first.
+fn put_repeated_start(out: &mut [u16], repeated: bool, second: WireByte) -> usize
+    requires { ⌜ length (repeatedStart repeated (second .0)) ≤ length (now out) ⌝ }
+    ensures { λ r. ⌜ (r ≡ length (repeatedStart repeated (second .0))) × (now (out .exit) ≡ onto (repeatedStart repeated (second .0)) (now (out .entry))) ⌝ }
 {
-    if turned {
+    if repeated {
         out[0] = START;
-        out[1] = again.0 as u16;
+        out[1] = second.0 as u16;
         out[2] = ACK;
         3
     } else {
@@ -45,22 +45,22 @@ fn put_nack_stop(out: &mut [u16], e: usize)
     out[e] = STOP;
 }
 
-// The read phase: the turn, the count and the data received, PEC, STOP. The last byte gets NACK, each other byte ACK.
+// The read phase: the repeated START, the count and the data received, PEC, STOP. The last byte gets NACK, each other byte ACK.
 fn put_read_phase(
     out: &mut [u16],
-    turned: bool,
-    again: WireByte,
+    repeated: bool,
+    second: WireByte,
     a: Part,
     received: &[u8],
     pec: bool,
     code: u8,
 )
-    requires { ⌜ (length (turn turned (again .0)) + (2 * length (readBytes a (now received) pec code) + 1) ≤ length (now out)) × (0 < length (readBytes a (now received) pec code)) ⌝ }
-    ensures { λ _. ⌜ now (out .exit) ≡ onto (turn turned (again .0) ++ readPhase (readBytes a (now (received .entry)) pec code)) (now (out .entry)) ⌝ }
+    requires { ⌜ (length (repeatedStart repeated (second .0)) + (2 * length (readBytes a (now received) pec code) + 1) ≤ length (now out)) × (0 < length (readBytes a (now received) pec code)) ⌝ }
+    ensures { λ _. ⌜ now (out .exit) ≡ onto (repeatedStart repeated (second .0) ++ readPhase (readBytes a (now (received .entry)) pec code)) (now (out .entry)) ⌝ }
 {
-    let n = put_turn(out, turned, again);
+    let n = put_repeated_start(out, repeated, second);
     let m = put_part(out, n, a, received);
-    let e = put_one(out, m, pec, code);
+    let e = put_byte_if(out, m, pec, code);
     put_nack_stop(out, e);
 }
 
@@ -69,25 +69,25 @@ fn put_end(out: &mut [u16], pec: bool, code: u8)
     requires { ⌜ 2 * length (inPlace pec code) < length (now out) ⌝ }
     ensures { λ _. ⌜ now (out .exit) ≡ onto (ending pec code) (now (out .entry)) ⌝ }
 {
-    let e = put_one(out, 0, pec, code);
+    let e = put_byte_if(out, 0, pec, code);
     out[e] = STOP;
 }
 
-// All that follows the write phase.
+// Which of the two it is.
 pub(crate) fn put_rest(
     out: &mut [u16],
     sh: Shape,
-    again: WireByte,
+    second: WireByte,
     received: &[u8],
     pec: bool,
     code: u8,
 )
-    requires { ⌜ (length (rest sh (again .0) (now received) pec code) ≤ length (now out)) × (reads sh ≡ true → 0 < length (readBytes (sh .received) (now received) pec code)) ⌝ }
-    ensures { λ _. ⌜ now (out .exit) ≡ onto (rest sh (again .0) (now (received .entry)) pec code) (now (out .entry)) ⌝ }
+    requires { ⌜ (length (rest sh (second .0) (now received) pec code) ≤ length (now out)) × (reads sh ≡ true → 0 < length (readBytes (sh .received) (now received) pec code)) ⌝ }
+    ensures { λ _. ⌜ now (out .exit) ≡ onto (rest sh (second .0) (now (received .entry)) pec code) (now (out .entry)) ⌝ }
 {
     let a = sh.received;
     if has_read(sh) {
-        put_read_phase(out, has_write(sh), again, a, received, pec, code);
+        put_read_phase(out, has_write(sh), second, a, received, pec, code);
     } else {
         put_end(out, pec, code);
     }

@@ -1,11 +1,10 @@
 // The write phase: START, the first address byte, the command and the data sent, each byte with the target's ACK.
 ghost use mathlib.Core.Path.{_≡_};
-ghost use mathlib.Core.List.{_∷_};
 ghost use Prim.Native.Nat.{_+_, _*_, _≤_};
 ghost use lib.ListN.{length};
 ghost use Rattle.lists.specs.Onto.{onto};
 ghost use Rattle.encode.specs.Pieces.{firstOf, writeBytes, writePhase};
-use crate::bytes::put_one;
+use crate::bytes::put_byte_if;
 use crate::bytes::put_part;
 use trace::shape::Shape;
 use trace::shape::has_read;
@@ -46,6 +45,6 @@ pub(crate) fn put_write_phase(
     out[0] = START;
     out[1] = first.0 as u16;
     out[2] = ACK;
-    let n = put_one(out, 3, sh.command, command);
+    let n = put_byte_if(out, 3, sh.command, command);
     put_part(out, n, a, sent)
 }

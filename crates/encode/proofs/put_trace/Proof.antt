@@ -1,4 +1,3 @@
-use mathlib.Core.Path.{_≡_, refl, sym, _∙_, ap}
 use native.Mathlib.Omega.{arith}
 use Rattle.trace.specs.Trace.{Message}
 use Rattle.encode.specs.Encode.{message}

@@ -1,13 +1,13 @@
 use borrow.Author.Needs.{needs}
-use mathlib.Core.Path.{_≡_, refl, sym, _∙_, ap}
+use mathlib.Core.Path.{_≡_, refl, _∙_, ap}
 use mathlib.Core.List.{List, _++_}
 use Prim.Native.Nat.{ℕ, _≤_, _-_, _*_, _+_}
 use native.Mathlib.Omega.{arith}
-use lib.ListN.{length, drop, take, getD, set, length-set}
+use lib.ListN.{length, take, length-set}
 use lib.Seq.{take-all, length-take-le}
 use Rattle.trace.specs.Trace.{acked}
 use Rattle.lists.specs.Onto.{onto}
-use Rattle.encode.proofs.WriterLaws.{acked-turn}
+use Rattle.encode.proofs.WriterLaws.{wider, acked-turn}
 use Rattle.lists.proofs.Laws.{onto-front}
 use Rattle.encode.proofs.bytes.put_acked.Statement.{statement}
 use Rattle.encode.proofs.bytes.put_acked.Tie as tie
@@ -30,7 +30,7 @@ shared-slice-read-out c = omega arith
 
 -- src/lib.rt:19:18
 cast-out : tie.Need-cast-out Inv-loop μ-loop
-cast-out c = omega (arith, c .shared-slice-known .given (c .before .before .loop .i))
+cast-out c = record { fits = wider _ (c .shared-slice-known .given _ .fits) }
 
 -- src/lib.rt:19:9
 mul-out : tie.Need-mul-out Inv-loop μ-loop

@@ -1,8 +1,8 @@
-use mathlib.Core.Path.{_≡_, refl, sym, _∙_, ap}
+use mathlib.Core.Path.{_∙_, ap}
 use borrow.Author.Tests.{not-true, not-false}
 use Prim.Native.Nat.{ℕ}
 use Rattle.wire.specs.Pec.{pecFrom}
-use Rattle.encode.specs.Pieces.{turnBytes}
+use Rattle.encode.specs.Pieces.{bytesAfter}
 use borrow.Author.Needs.{needs}
 use Rattle.encode.proofs.pec.code_of.Statement.{statement}
 use Rattle.encode.proofs.pec.code_of.Tie as tie
@@ -26,7 +26,7 @@ read-code-requires c κs = search needs
 -- src/pec.rt:51:1
 returns-2 : tie.Need-returns-2
 returns-2 c =
-    rw (not-false (c .before .before .before .before .before .args .pec) (c .before .before .if1 .left)) (c .read-code .ensures ∙ ap (λ (x : ℕ). pecFrom x (turnBytes (c .before .before .before .before .before .args .sh) (c .before .before .before .before .before .args .again .0) (c .before .before .before .before .before .args .received .now))) (c .before .write-code .ensures))
+    rw (not-false (c .before .before .before .before .before .args .pec) (c .before .before .if1 .left)) (c .read-code .ensures ∙ ap (λ (x : ℕ). pecFrom x (bytesAfter (c .before .before .before .before .before .args .sh) (c .before .before .before .before .before .args .second .0) (c .before .before .before .before .before .args .received .now))) (c .before .write-code .ensures))
 
 pub code-of-spec : {M : Type 1} → statement M
 code-of-spec = tie.close (tie.spec returns write-code-requires read-code-requires returns-2)

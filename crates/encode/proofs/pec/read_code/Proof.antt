@@ -1,12 +1,12 @@
 use Rattle.encode.proofs.CodeLaws.{read-code, no-read-code}
-use mathlib.Core.Path.{_≡_, refl, sym, _∙_, ap}
+use mathlib.Core.Path.{sym, _∙_}
 use borrow.Author.Tests.{not-true, not-false}
 use borrow.Author.Needs.{needs}
 use Rattle.encode.proofs.pec.read_code.Statement.{statement}
 use Rattle.encode.proofs.pec.read_code.Tie as tie
 use Rattle.encode.proofs.pec.read_code.Reads as reads
 use Rattle.encode.proofs.pec.read_code.Lts as lts
-use Rattle.encode.proofs.pec.add_one.Reads as add-one-reads
+use Rattle.encode.proofs.pec.add_byte_if.Reads as add-byte-if-reads
 use Rattle.encode.proofs.pec.add_part.Reads as add-part-reads
 use Rattle.trace.proofs.shape.has_read.Reads as has-read-reads
 use Rattle.trace.proofs.shape.has_write.Reads as has-write-reads
@@ -18,15 +18,15 @@ has-read-requires c κs = search needs
 -- src/pec.rt:45:9
 returns : tie.Need-returns
 returns c =
-    no-read-code (c .before .before .before .args .sh) (c .before .before .before .args .again .0) (c .before .before .before .args .received .now) (c .before .before .before .args .c) (sym (c .before .has-read .ensures) ∙ not-true _ (c .if1 .taken))
+    no-read-code (c .before .before .before .args .sh) (c .before .before .before .args .second .0) (c .before .before .before .args .received .now) (c .before .before .before .args .c) (sym (c .before .has-read .ensures) ∙ not-true _ (c .if1 .taken))
 
 -- src/pec.rt:47:25
 has-write-requires : tie.Need-has-write-requires
 has-write-requires c κs = search needs
 
 -- src/pec.rt:47:14
-add-one-requires : tie.Need-add-one-requires
-add-one-requires c κs = search needs
+add-byte-if-requires : tie.Need-add-byte-if-requires
+add-byte-if-requires c κs = search needs
 
 -- src/pec.rt:47:5
 add-part-requires : tie.Need-add-part-requires
@@ -35,7 +35,7 @@ add-part-requires c κs = search needs
 -- src/pec.rt:40:1
 returns-2 : tie.Need-returns-2
 returns-2 c =
-    read-code (c .before .before .before .before .before .before .args .sh) (c .before .before .before .before .before .before .args .again .0) (c .before .before .before .before .before .before .args .received .now) (c .before .before .before .before .before .before .args .c) _ _ _ (sym (c .before .before .before .before .has-read .ensures) ∙ not-false _ (c .before .before .before .if1 .left)) (c .before .before .has-write .ensures) (c .before .add-one .ensures) (c .add-part .ensures)
+    read-code (c .before .before .before .before .before .before .args .sh) (c .before .before .before .before .before .before .args .second .0) (c .before .before .before .before .before .before .args .received .now) (c .before .before .before .before .before .before .args .c) _ _ _ (sym (c .before .before .before .before .has-read .ensures) ∙ not-false _ (c .before .before .before .if1 .left)) (c .before .before .has-write .ensures) (c .before .add-byte-if .ensures) (c .add-part .ensures)
 
 pub read-code-spec : {M : Type 1} → statement M
 read-code-spec =
@@ -44,6 +44,6 @@ read-code-spec =
     has-read-requires
     returns
     has-write-requires
-    add-one-requires
+    add-byte-if-requires
     add-part-requires
     returns-2)

@@ -4,7 +4,7 @@ use Rattle.encode.proofs.pec.write_code.Statement.{statement}
 use Rattle.encode.proofs.pec.write_code.Tie as tie
 use Rattle.encode.proofs.pec.write_code.Reads as reads
 use Rattle.encode.proofs.pec.write_code.Lts as lts
-use Rattle.encode.proofs.pec.add_one.Reads as add-one-reads
+use Rattle.encode.proofs.pec.add_byte_if.Reads as add-byte-if-reads
 use Rattle.encode.proofs.pec.add_part.Reads as add-part-reads
 use Rattle.wire.proofs.pec.add_byte.Reads as add-byte-reads
 
@@ -13,8 +13,8 @@ add-byte-requires : tie.Need-add-byte-requires
 add-byte-requires c κs = search needs
 
 -- src/pec.rt:36:14
-add-one-requires : tie.Need-add-one-requires
-add-one-requires c κs = search needs
+add-byte-if-requires : tie.Need-add-byte-if-requires
+add-byte-if-requires c κs = search needs
 
 -- src/pec.rt:36:5
 add-part-requires : tie.Need-add-part-requires
@@ -23,7 +23,7 @@ add-part-requires c κs = search needs
 -- src/pec.rt:32:1
 returns : tie.Need-returns
 returns c =
-    write-code (c .before .before .before .before .args .sh) (c .before .before .before .before .args .first .0) (c .before .before .before .before .args .command) (c .before .before .before .before .args .sent .now) _ _ _ (c .before .before .add-byte .ensures) (c .before .add-one .ensures) (c .add-part .ensures)
+    write-code (c .before .before .before .before .args .sh) (c .before .before .before .before .args .first .0) (c .before .before .before .before .args .command) (c .before .before .before .before .args .sent .now) _ _ _ (c .before .before .add-byte .ensures) (c .before .add-byte-if .ensures) (c .add-part .ensures)
 
 pub write-code-spec : {M : Type 1} → statement M
-write-code-spec = tie.close (tie.spec add-byte-requires add-one-requires add-part-requires returns)
+write-code-spec = tie.close (tie.spec add-byte-requires add-byte-if-requires add-part-requires returns)

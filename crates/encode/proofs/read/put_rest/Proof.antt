@@ -1,4 +1,4 @@
-use mathlib.Core.Path.{_≡_, refl, sym, _∙_, ap}
+use mathlib.Core.Path.{sym, _∙_, ap}
 use mathlib.Core.List.{List}
 use Prim.Native.Nat.{ℕ}
 use lib.ListN.{length}
@@ -25,12 +25,12 @@ has-write-requires c κs = search needs
 -- src/read.rt:83:9
 put-read-phase-requires : tie.Need-put-read-phase-requires
 put-read-phase-requires c κs =
-    (read-asks (c .before .before .before .before .before .before .args .sh) (c .before .before .before .before .before .before .args .again .0) (c .before .before .before .before .before .before .args .received .now) (c .before .before .before .before .before .before .args .pec) (c .before .before .before .before .before .before .args .code) (length (c .before .before .before .before .before .before .args .out .now)) (c .before .before .before .before .before .before .pre .0) _ (sym (c .before .before .before .has-read .ensures) ∙ c .before .before .if1 .taken) (c .has-write .ensures), c .before .before .before .before .before .before .pre .1 (sym (c .before .before .before .has-read .ensures) ∙ c .before .before .if1 .taken))
+    (read-asks (c .before .before .before .before .before .before .args .sh) (c .before .before .before .before .before .before .args .second .0) (c .before .before .before .before .before .before .args .received .now) (c .before .before .before .before .before .before .args .pec) (c .before .before .before .before .before .before .args .code) (length (c .before .before .before .before .before .before .args .out .now)) (c .before .before .before .before .before .before .pre .0) _ (sym (c .before .before .before .has-read .ensures) ∙ c .before .before .if1 .taken) (c .has-write .ensures), c .before .before .before .before .before .before .pre .1 (sym (c .before .before .before .has-read .ensures) ∙ c .before .before .if1 .taken))
 
 -- src/read.rt:85:9
 put-end-requires : tie.Need-put-end-requires
 put-end-requires c κs =
-    end-asks (c .before .before .before .before .before .args .sh) (c .before .before .before .before .before .args .again .0) (c .before .before .before .before .before .args .received .now) (c .before .before .before .before .before .args .pec) (c .before .before .before .before .before .args .code) (length (c .before .before .before .before .before .args .out .now)) (c .before .before .before .before .before .pre .0) (sym (c .before .before .has-read .ensures) ∙ c .before .if1 .left)
+    end-asks (c .before .before .before .before .before .args .sh) (c .before .before .before .before .before .args .second .0) (c .before .before .before .before .before .args .received .now) (c .before .before .before .before .before .args .pec) (c .before .before .before .before .before .args .code) (length (c .before .before .before .before .before .args .out .now)) (c .before .before .before .before .before .pre .0) (sym (c .before .before .has-read .ensures) ∙ c .before .if1 .left)
 
 -- src/read.rt:77:1
 same-length : tie.Need-same-length
@@ -39,7 +39,7 @@ same-length c = search needs
 -- src/read.rt:77:1
 returns : tie.Need-returns
 returns c =
-    c .before .before .put-read-phase .ensures ∙ ap (λ (t : List ℕ). onto t (c .before .before .before .before .before .before .before .before .before .args .out .now)) (read-rest (c .before .before .before .before .before .before .before .before .before .args .sh) (c .before .before .before .before .before .before .before .before .before .args .again .0) (c .before .before .before .before .before .before .before .before .before .args .received .now) (c .before .before .before .before .before .before .before .before .before .args .pec) (c .before .before .before .before .before .before .before .before .before .args .code) _ (sym (c .before .before .before .before .before .before .has-read .ensures) ∙ c .before .before .before .before .before .if1 .taken) (c .before .before .before .has-write .ensures))
+    c .before .before .put-read-phase .ensures ∙ ap (λ (t : List ℕ). onto t (c .before .before .before .before .before .before .before .before .before .args .out .now)) (read-rest (c .before .before .before .before .before .before .before .before .before .args .sh) (c .before .before .before .before .before .before .before .before .before .args .second .0) (c .before .before .before .before .before .before .before .before .before .args .received .now) (c .before .before .before .before .before .before .before .before .before .args .pec) (c .before .before .before .before .before .before .before .before .before .args .code) _ (sym (c .before .before .before .before .before .before .has-read .ensures) ∙ c .before .before .before .before .before .if1 .taken) (c .before .before .before .has-write .ensures))
 
 -- src/read.rt:77:1
 same-length-2 : tie.Need-same-length-2
@@ -48,7 +48,7 @@ same-length-2 c = search needs
 -- src/read.rt:77:1
 returns-2 : tie.Need-returns-2
 returns-2 c =
-    c .before .before .put-end .ensures ∙ ap (λ (t : List ℕ). onto t (c .before .before .before .before .before .before .before .before .args .out .now)) (end-rest (c .before .before .before .before .before .before .before .before .args .sh) (c .before .before .before .before .before .before .before .before .args .again .0) (c .before .before .before .before .before .before .before .before .args .received .now) (c .before .before .before .before .before .before .before .before .args .pec) (c .before .before .before .before .before .before .before .before .args .code) (sym (c .before .before .before .before .before .has-read .ensures) ∙ c .before .before .before .before .if1 .left))
+    c .before .before .put-end .ensures ∙ ap (λ (t : List ℕ). onto t (c .before .before .before .before .before .before .before .before .args .out .now)) (end-rest (c .before .before .before .before .before .before .before .before .args .sh) (c .before .before .before .before .before .before .before .before .args .second .0) (c .before .before .before .before .before .before .before .before .args .received .now) (c .before .before .before .before .before .before .before .before .args .pec) (c .before .before .before .before .before .before .before .before .args .code) (sym (c .before .before .before .before .before .has-read .ensures) ∙ c .before .before .before .before .if1 .left))
 
 pub put-rest-spec : {M : Type 1} → statement M
 put-rest-spec =

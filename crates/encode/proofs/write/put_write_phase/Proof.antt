@@ -1,4 +1,4 @@
-use mathlib.Core.Path.{_≡_, refl, sym, _∙_, ap}
+use mathlib.Core.Path.{_∙_}
 use native.Mathlib.Omega.{arith}
 use lib.ListN.{length-set}
 use Rattle.encode.proofs.PhaseLaws.{start-asks, command-asks, sent-asks, opened-length, phase-put}
@@ -7,7 +7,7 @@ use Rattle.encode.proofs.write.put_write_phase.Statement.{statement}
 use Rattle.encode.proofs.write.put_write_phase.Tie as tie
 use Rattle.encode.proofs.write.put_write_phase.Reads as reads
 use Rattle.encode.proofs.write.put_write_phase.Lts as lts
-use Rattle.encode.proofs.bytes.put_one.Reads as put-one-reads
+use Rattle.encode.proofs.bytes.put_byte_if.Reads as put-byte-if-reads
 use Rattle.encode.proofs.bytes.put_part.Reads as put-part-reads
 
 -- src/write.rt:40:5
@@ -30,24 +30,24 @@ slice-write-out-3 c =
     let h = start-asks (c .before .before .before .args .out .now) (c .before .before .before .args .sent .now) (c .before .before .before .args .sh) (c .before .before .before .args .first .0) (c .before .before .before .args .command) (c .before .before .before .pre) in simp length-set (omega arith)
 
 -- src/write.rt:43:9
-put-one-requires : tie.Need-put-one-requires
-put-one-requires c κs =
+put-byte-if-requires : tie.Need-put-byte-if-requires
+put-byte-if-requires c κs =
     command-asks (c .before .before .before .before .args .out .now) (c .before .before .before .before .args .sent .now) (c .before .before .before .before .args .sh) (c .before .before .before .before .args .first .0) (c .before .before .before .before .args .command) (c .before .before .before .before .pre)
 
 -- src/write.rt:44:5
 put-part-requires : tie.Need-put-part-requires
 put-part-requires c κs =
-    sent-asks (c .before .before .before .before .before .before .before .before .args .out .now) (c .before .before .before .before .before .before .before .before .args .sent .now) (c .before .before .before .before .before .before .before .before .args .sh) (c .before .before .before .before .before .before .before .before .args .first .0) (c .before .before .before .before .before .before .before .before .args .command) (c .before .before .before .before .before .before .before .before .pre) _ _ (c .before .before .before .put-one .ensures .0) (c .before .before .before .put-one .ensures .1) (c .before .before .before .put-one .kept .0)
+    sent-asks (c .before .before .before .before .before .before .before .before .args .out .now) (c .before .before .before .before .before .before .before .before .args .sent .now) (c .before .before .before .before .before .before .before .before .args .sh) (c .before .before .before .before .before .before .before .before .args .first .0) (c .before .before .before .before .before .before .before .before .args .command) (c .before .before .before .before .before .before .before .before .pre) _ _ (c .before .before .before .put-byte-if .ensures .0) (c .before .before .before .put-byte-if .ensures .1) (c .before .before .before .put-byte-if .kept .0)
 
 -- src/write.rt:35:1
 same-length : tie.Need-same-length
 same-length c =
-    c .before .before .put-part .kept .0 ∙ c .before .before .before .before .before .before .put-one .kept .0 ∙ opened-length (c .before .before .before .before .before .before .before .before .before .before .before .args .out .now) (c .before .before .before .before .before .before .before .before .before .before .before .args .sent .now) (c .before .before .before .before .before .before .before .before .before .before .before .args .sh) (c .before .before .before .before .before .before .before .before .before .before .before .args .first .0) (c .before .before .before .before .before .before .before .before .before .before .before .args .command) (c .before .before .before .before .before .before .before .before .before .before .before .pre)
+    c .before .before .put-part .kept .0 ∙ c .before .before .before .before .before .before .put-byte-if .kept .0 ∙ opened-length (c .before .before .before .before .before .before .before .before .before .before .before .args .out .now) (c .before .before .before .before .before .before .before .before .before .before .before .args .sent .now) (c .before .before .before .before .before .before .before .before .before .before .before .args .sh) (c .before .before .before .before .before .before .before .before .before .before .before .args .first .0) (c .before .before .before .before .before .before .before .before .before .before .before .args .command) (c .before .before .before .before .before .before .before .before .before .before .before .pre)
 
 -- src/write.rt:35:1
 returns : tie.Need-returns
 returns c =
-    phase-put (c .before .before .before .before .before .before .before .before .before .before .before .args .out .now) (c .before .before .before .before .before .before .before .before .before .before .before .args .sent .now) (c .before .before .before .before .before .before .before .before .before .before .before .args .sh) (c .before .before .before .before .before .before .before .before .before .before .before .args .first .0) (c .before .before .before .before .before .before .before .before .before .before .before .args .command) (c .before .before .before .before .before .before .before .before .before .before .before .pre) _ _ (c .before .before .before .before .before .before .put-one .ensures .0) (c .before .before .before .before .before .before .put-one .ensures .1) (c .before .before .before .before .before .before .put-one .kept .0) _ _ (c .before .before .put-part .ensures .0) (c .before .before .put-part .ensures .1)
+    phase-put (c .before .before .before .before .before .before .before .before .before .before .before .args .out .now) (c .before .before .before .before .before .before .before .before .before .before .before .args .sent .now) (c .before .before .before .before .before .before .before .before .before .before .before .args .sh) (c .before .before .before .before .before .before .before .before .before .before .before .args .first .0) (c .before .before .before .before .before .before .before .before .before .before .before .args .command) (c .before .before .before .before .before .before .before .before .before .before .before .pre) _ _ (c .before .before .before .before .before .before .put-byte-if .ensures .0) (c .before .before .before .before .before .before .put-byte-if .ensures .1) (c .before .before .before .before .before .before .put-byte-if .kept .0) _ _ (c .before .before .put-part .ensures .0) (c .before .before .put-part .ensures .1)
 
 pub put-write-phase-spec : {M : Type 1} → statement M
 put-write-phase-spec =
@@ -57,7 +57,7 @@ put-write-phase-spec =
     cast-out
     slice-write-out-2
     slice-write-out-3
-    put-one-requires
+    put-byte-if-requires
     put-part-requires
     same-length
     returns)

@@ -1,14 +1,13 @@
-use mathlib.Core.Path.{_≡_, refl, sym, _∙_, ap}
 use native.Mathlib.Omega.{arith}
-use Prim.Native.Nat.{ℕ, _≤_, _+_, _*_}
-use lib.ListN.{length, length-set, length-take, length-drop}
+use Prim.Native.Nat.{_≤_, _+_}
+use lib.ListN.{length, length-set}
 use Rattle.encode.proofs.WriterLaws.{put-byte, yes-room}
 use Rattle.lists.proofs.Laws.{onto-front}
 use borrow.Author.Needs.{needs}
-use Rattle.encode.proofs.bytes.put_one.Statement.{statement}
-use Rattle.encode.proofs.bytes.put_one.Tie as tie
-use Rattle.encode.proofs.bytes.put_one.Reads as reads
-use Rattle.encode.proofs.bytes.put_one.Lts as lts
+use Rattle.encode.proofs.bytes.put_byte_if.Statement.{statement}
+use Rattle.encode.proofs.bytes.put_byte_if.Tie as tie
+use Rattle.encode.proofs.bytes.put_byte_if.Reads as reads
+use Rattle.encode.proofs.bytes.put_byte_if.Lts as lts
 
 -- src/lib.rt:44:9
 mul-out : tie.Need-mul-out
@@ -60,8 +59,8 @@ returns c =
 returns-2 : tie.Need-returns-2
 returns-2 c = rw (c .if1 .left) (omega arith, onto-front (c .before .args .out .now) (c .before .args .at) (omega (arith, c .before .pre)))
 
-pub put-one-spec : {M : Type 1} → statement M
-put-one-spec =
+pub put-byte-if-spec : {M : Type 1} → statement M
+put-byte-if-spec =
     tie.close
     (tie.spec
     mul-out

@@ -1,9 +1,9 @@
 use Rattle.wire.specs.Pec.{pecFrom}
 use borrow.Author.Needs.{needs}
-use Rattle.encode.proofs.pec.add_one.Statement.{statement}
-use Rattle.encode.proofs.pec.add_one.Tie as tie
-use Rattle.encode.proofs.pec.add_one.Reads as reads
-use Rattle.encode.proofs.pec.add_one.Lts as lts
+use Rattle.encode.proofs.pec.add_byte_if.Statement.{statement}
+use Rattle.encode.proofs.pec.add_byte_if.Tie as tie
+use Rattle.encode.proofs.pec.add_byte_if.Reads as reads
+use Rattle.encode.proofs.pec.add_byte_if.Lts as lts
 use Rattle.wire.proofs.pec.add_byte.Reads as add-byte-reads
 
 -- src/pec.rt:21:16
@@ -20,5 +20,5 @@ returns-2 : tie.Need-returns-2
 unfolding pecFrom
 returns-2 c = rw (c .if1 .left)
 
-pub add-one-spec : {M : Type 1} → statement M
-add-one-spec = tie.close (tie.spec add-byte-requires returns returns-2)
+pub add-byte-if-spec : {M : Type 1} → statement M
+add-byte-if-spec = tie.close (tie.spec add-byte-requires returns returns-2)

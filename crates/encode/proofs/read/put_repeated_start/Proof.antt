@@ -1,13 +1,13 @@
-use mathlib.Core.Path.{_≡_, refl, sym, _∙_, ap}
+use mathlib.Core.Path.{refl}
 use native.Mathlib.Omega.{arith}
-use Prim.Native.Nat.{ℕ, _+_, _*_, _≤_, _<_}
+use Prim.Native.Nat.{_≤_}
 use lib.ListN.{length, length-set}
 use Rattle.encode.proofs.WriterLaws.{put-start, turn-room}
 use borrow.Author.Needs.{needs}
-use Rattle.encode.proofs.read.put_turn.Statement.{statement}
-use Rattle.encode.proofs.read.put_turn.Tie as tie
-use Rattle.encode.proofs.read.put_turn.Reads as reads
-use Rattle.encode.proofs.read.put_turn.Lts as lts
+use Rattle.encode.proofs.read.put_repeated_start.Statement.{statement}
+use Rattle.encode.proofs.read.put_repeated_start.Tie as tie
+use Rattle.encode.proofs.read.put_repeated_start.Reads as reads
+use Rattle.encode.proofs.read.put_repeated_start.Lts as lts
 
 -- src/read.rt:30:9
 slice-write-out : tie.Need-slice-write-out
@@ -39,14 +39,14 @@ same-length c = search needs
 returns : tie.Need-returns
 returns c =
     let h : 3 ≤ length (c .before .before .args .out .now) = turn-room _ _ _ (c .before .if1 .taken) (c .before .before .pre) in
-    rw (c .before .if1 .taken) (refl, put-start (c .before .before .args .out .now) (c .before .before .args .again .0) h)
+    rw (c .before .if1 .taken) (refl, put-start (c .before .before .args .out .now) (c .before .before .args .second .0) h)
 
 -- src/read.rt:25:1
 returns-2 : tie.Need-returns-2
 returns-2 c = rw (c .if1 .left) (refl, refl)
 
-pub put-turn-spec : {M : Type 1} → statement M
-put-turn-spec =
+pub put-repeated-start-spec : {M : Type 1} → statement M
+put-repeated-start-spec =
     tie.close
     (tie.spec
     slice-write-out
