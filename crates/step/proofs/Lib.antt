@@ -1,0 +1,4 @@
+pub mod Tests
+pub mod Runs
+pub mod Loops
+pub mod Leads
