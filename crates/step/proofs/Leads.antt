@@ -39,6 +39,10 @@ module _ (by : Due → Bool) (sh : Shape) (p : Bool) where
   unfolding Leads
   leads-nil d = refl
 
+  pub leads-cons : (x : ℕ) (xs : List ℕ) (d e : Decoder) → fits sh d x ≡ true → by (d .due) ≡ true → Leads by sh p (move sh p d x) xs e → Leads by sh p d (x ∷ xs) e
+  unfolding Leads
+  leads-cons x xs d e h b l = (h, b, l)
+
   pub leads-append : (xs ys : List ℕ) (d e f : Decoder) → Leads by sh p d xs e → Leads by sh p e ys f → Leads by sh p d (xs ++ ys) f
   unfolding Leads
   leads-append [] ys d e f q l = subst (λ (u : Decoder). Leads by sh p u ys f) (sym q) l

@@ -2,3 +2,4 @@ pub mod Tests
 pub mod Runs
 pub mod Loops
 pub mod Leads
+pub mod Forward
