@@ -3,3 +3,4 @@ pub mod Runs
 pub mod Loops
 pub mod Leads
 pub mod Forward
+pub mod Reverse
