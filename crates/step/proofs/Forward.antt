@@ -69,7 +69,7 @@ module _ (sh : Shape) where
   Reads p d xs e = Leads noTarget sh p d xs e
 
   -- the ACK or NACK that is due
-  target-ack : (p : Bool) (g : Aim) (z f c m n : ℕ) (ok : Bool) → Writes p (state g Target z f c m n ok) (ACK ∷ []) (state g Nobody z f c m n ok)
+  pub target-ack : (p : Bool) (g : Aim) (z f c m n : ℕ) (ok : Bool) → Writes p (state g Target z f c m n ok) (ACK ∷ []) (state g Nobody z f c m n ok)
   unfolding Leads
   target-ack p g z f c m n ok = (refl, refl, refl)
 

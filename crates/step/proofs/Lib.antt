@@ -4,3 +4,5 @@ pub mod Loops
 pub mod Leads
 pub mod Forward
 pub mod Reverse
+pub mod Roomy
+pub mod Completion
