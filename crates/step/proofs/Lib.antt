@@ -6,3 +6,5 @@ pub mod Forward
 pub mod Reverse
 pub mod Roomy
 pub mod Completion
+pub mod Members
+pub mod Places
