@@ -8,3 +8,7 @@ pub mod Roomy
 pub mod Completion
 pub mod Members
 pub mod Places
+pub mod DataLaws
+pub mod PecByte
+pub mod Decides
+pub mod Theorems
