@@ -15,17 +15,15 @@ use Rattle.wire.specs.Pec.{pecStep, pecFrom}
 use Rattle.trace.specs.declared.shape.Part.{Part}
 use Rattle.trace.specs.declared.shape.Part.the-variants.{Nothing, Fixed, Counted}
 use Rattle.trace.specs.declared.shape.Shape.{Shape}
-use Rattle.trace.specs.Shapes.{some, writes, reads, leastOf}
+use Rattle.trace.specs.Shapes.{writes, reads, leastOf}
 use Rattle.trace.specs.Trace.{W, R, acked, nacked, inPlace}
 use Rattle.trace.specs.ShapeLaws.{Sane}
 use Rattle.step.specs.declared.next.Aim.{Aim}
 use Rattle.step.specs.declared.state.Slot.{Slot}
 use Rattle.step.specs.declared.state.Slot.the-variants.{Start, First, Command, Count, Data, Pec, Restart, Second, ReadCount, ReadData, ReadPec, Stop, End}
-use Rattle.step.specs.declared.state.Due.{Due}
-use Rattle.step.specs.declared.state.Due.the-variants.{Nobody, Target, Controller, Halted, Cut}
+use Rattle.step.specs.declared.state.Due.the-variants.{Nobody, Target, Controller}
 use Rattle.step.specs.declared.state.Decoder.{Decoder}
-use Rattle.step.specs.declared.whole.Progress.{Progress}
-use Rattle.step.specs.declared.whole.Progress.the-variants.{Reading, Refused}
+use Rattle.step.specs.declared.whole.Progress.the-variants.{Reading}
 use Rattle.step.specs.State.{to, state}
 use Rattle.step.specs.Next.{toReadData, toRead, afterWrite, toData, toSent, afterFirst}
 use Rattle.step.specs.Fits.{ackAt, firstFits, commandFits, fitsSlot}
@@ -34,7 +32,7 @@ use Rattle.step.specs.Run.{run}
 use Rattle.step.proofs.Runs.{run-append, run-from}
 use Rattle.step.proofs.Leads.{noController, noTarget, leads-run, leads-byte}
 use Rattle.step.proofs.Forward.{to-data, to-read-data, target-ack, datas, count-one, count-test, backs, count-read}
-use Rattle.step.proofs.Roomy.{Ahead, Roomy, least-of-le}
+use Rattle.step.proofs.Roomy.{AtCount, Roomy, least-of-le}
 
 zeros : (k : ℕ) → Bytes (replicate k 0)
 zeros zero = tt
@@ -193,7 +191,7 @@ module _ (sh : Shape) (hs : Sane sh) (p : Bool) where
         via (x ∷ ACK ∷ []) _ _ (byte-step (to First k) (afterFirst sh p) x z f c m n (pecStep z x) x c m ok (way-byte sh) (way-fits sh) refl)
         (e-after-first (sh .command) (pecStep z x) x c n ok)
 
-    e-slot : (s : Slot) (k z f c n : ℕ) (ok : Bool) → Ahead sh s m → Ends sh p (state (to s k) Nobody z f c m n ok)
+    e-slot : (s : Slot) (k z f c n : ℕ) (ok : Bool) → AtCount sh s m → Ends sh p (state (to s k) Nobody z f c m n ok)
     unfolding run
     e-slot Start k z f c n ok g = via (START ∷ []) _ _ refl (e-first 0 z f c n ok)
     e-slot First k z f c n ok g = e-first k z f c n ok

@@ -1,26 +1,24 @@
 -- The data stand where the decoder looks for them.
-use mathlib.Core.Path.{_≡_, refl, sym, _∙_, ap, subst}
+use mathlib.Core.Path.{_≡_, refl, sym, subst}
 use mathlib.Core.Bool.{Bool, true, false}
-use mathlib.Core.List.{List, [], _∷_, _++_, append-assoc, append-nil}
-use Prim.Native.Nat.{ℕ, zero, suc, _+_, _-_, _*_, _≤_, _<_, _%_, _/_}
+use mathlib.Core.List.{List, [], _∷_, _++_, append-assoc}
+use Prim.Native.Nat.{ℕ, _+_, _-_, _*_, _≤_, _%_}
 use native.Mathlib.Omega.{arith}
 use lib.ListN.{length, drop, length-append}
 use lib.Seq.{drop-at}
-use lib.Dec.{eqb}
-use borrow.Author.Tests.{eq-eqb}
+use Rattle.lists.specs.Choice.{pick, or}
+use Rattle.lists.specs.Each.{Bytes}
 use Rattle.wire.specs.Symbols.{START, STOP, ACK}
 use Rattle.trace.specs.declared.shape.Part.{Part}
 use Rattle.trace.specs.declared.shape.Part.the-variants.{Nothing, Fixed, Counted}
 use Rattle.trace.specs.declared.shape.Shape.{Shape}
 use Rattle.trace.specs.declared.transaction.Transaction.{Transaction}
-use Rattle.lists.specs.Choice.{pick, or}
-use Rattle.lists.specs.Each.{Bytes}
 use Rattle.trace.specs.Shapes.{some, writes, reads}
-use Rattle.trace.specs.Trace.{Message, W, R, laid, acked, ackOf, nacked, firstByte, byTarget, byController, traceAt, pecOf, inPlace, LengthOf, counted, Valid}
-use Rattle.step.specs.Run.{dataLength, directionOf, transaction}
-use Rattle.step.specs.Handed.{countPlaces, sentPlace, receivedPlace, lows}
+use Rattle.trace.specs.Trace.{Message, W, R, laid, acked, ackOf, nacked, firstByte, byTarget, traceAt, inPlace, LengthOf, counted, Valid}
 use Rattle.trace.specs.LengthLaws.{length-nacked, length-place}
 use Rattle.trace.specs.ShapeLaws.{Sane}
+use Rattle.step.specs.Run.{dataLength, transaction}
+use Rattle.step.specs.Handed.{countPlaces, sentPlace, receivedPlace, lows}
 use Rattle.step.specs.Answers.{summary}
 use Rattle.step.proofs.Tests.{low}
 use Rattle.step.proofs.Forward.{half-is, endState}

@@ -1,34 +1,33 @@
 -- The computed answer is the one that the declared meaning gives, and the only one. Theorems.antt states it.
 use mathlib.Core.Path.{_≡_, refl, sym, _∙_, ap, subst}
 use mathlib.Core.Bool.{Bool, true, false}
-use mathlib.Core.List.{List, [], _∷_, _++_}
-use mathlib.Core.Logic.{_⊎_, inl, inr, _↔_}
-use Prim.Native.Nat.{ℕ, zero, suc, _+_, _-_, _≤_, _<_}
+use mathlib.Core.List.{List, [], _∷_}
+use Prim.Native.Nat.{ℕ, suc, _+_, _-_, _≤_, _<_}
 use native.Mathlib.Omega.{arith}
 use lib.ListN.{length, take, drop, getD}
 use lib.Dec.{leb, eqb}
 use borrow.Author.Tests.{leb-true, leb-false, lt-leb, le-leb, eqb-true, eqb-false, eq-eqb, ne-eqb}
-use Rattle.wire.specs.Symbols.{START, ACK, NACK}
+use Rattle.lists.specs.Choice.{pick}
+use Rattle.lists.specs.Each.{Bytes}
+use Rattle.wire.specs.Symbols.{NACK}
 use Rattle.trace.specs.declared.shape.Shape.{Shape}
+use Rattle.trace.specs.declared.transaction.Transaction.{Transaction}
+use Rattle.trace.specs.Trace.{Message, traceAt, pecOf, inPlace, trace, Valid}
+use Rattle.trace.specs.ShapeLaws.{Sane}
 use Rattle.step.specs.declared.state.Slot.{Slot}
 use Rattle.step.specs.declared.state.Slot.the-variants.{End}
 use Rattle.step.specs.declared.state.Due.{Due}
 use Rattle.step.specs.declared.state.Due.the-variants.{Nobody, Target, Controller, Halted, Cut}
 use Rattle.step.specs.declared.state.Decoder.{Decoder}
-use Rattle.trace.specs.declared.transaction.Transaction.{Transaction}
 use Rattle.step.specs.declared.answer.Decoded.{Decoded}
 use Rattle.step.specs.declared.answer.Decoded.the-variants.{Done, Forbidden, BufferTooShort, NoSymbol, EndsEarly, Unexpected, NotAcknowledged, PecDiffers, AfterStop}
 use Rattle.step.specs.declared.whole.Progress.{Progress}
 use Rattle.step.specs.declared.whole.Progress.the-variants.{Reading, Refused}
-use Rattle.lists.specs.Choice.{pick}
-use Rattle.lists.specs.Each.{Bytes}
-use Rattle.trace.specs.Trace.{Message, traceAt, pecOf, inPlace, trace, Valid}
 use Rattle.step.specs.State.{fresh}
 use Rattle.step.specs.Fits.{fits}
-use Rattle.step.specs.Refusal.{ended, over, why}
+use Rattle.step.specs.Refusal.{over, why}
 use Rattle.step.specs.Run.{run, byteCount, transaction, isCut, finish, concluded, decodedBy}
-use Rattle.step.specs.Handed.{sentLength, receivedLength, sentPlace, receivedPlace, lows, sentData, receivedData}
-use Rattle.trace.specs.ShapeLaws.{Sane}
+use Rattle.step.specs.Handed.{sentPlace, receivedPlace, lows, sentData, receivedData}
 use Rattle.step.specs.Answers.{Whole, CutAt, Member, Fits, summary, Breaks, OtherPec, Carries, Answers}
 use Rattle.step.proofs.Runs.{never, not-both, same-state}
 use Rattle.step.proofs.Forward.{endState}

@@ -5,7 +5,7 @@ use mathlib.Core.List.{List, [], _∷_, _++_}
 use Prim.Native.Nat.{ℕ, suc, _+_, _-_, _*_, _≤_, _<_, _%_, _/_}
 use native.Mathlib.Omega.{arith}
 use lib.ListN.{length}
-use lib.Dec.{ltb, leb, eqb, eqb·suc-zero}
+use lib.Dec.{ltb, eqb, eqb·suc-zero}
 use borrow.Author.Tests.{eq-eqb, lt-ltb, le-leb}
 use Rattle.lists.specs.Choice.{pick, or, and}
 use Rattle.lists.specs.Each.{Bytes}
@@ -22,10 +22,8 @@ use Rattle.trace.specs.Allowed.{addressFits}
 use Rattle.trace.specs.ShapeLaws.{Sane}
 use Rattle.trace.specs.ValidLaws.{address-there, sender-there}
 use Rattle.step.specs.declared.next.Aim.{Aim}
-use Rattle.step.specs.declared.state.Slot.{Slot}
-use Rattle.step.specs.declared.state.Slot.the-variants.{Start, First, Command, Count, Data, Pec, Restart, Second, ReadCount, ReadData, ReadPec, Stop, End}
-use Rattle.step.specs.declared.state.Due.{Due}
-use Rattle.step.specs.declared.state.Due.the-variants.{Nobody, Target, Controller, Halted, Cut}
+use Rattle.step.specs.declared.state.Slot.the-variants.{First, Command, Count, Data, Pec, Restart, Second, ReadCount, ReadData, ReadPec, Stop, End}
+use Rattle.step.specs.declared.state.Due.the-variants.{Nobody, Target, Controller}
 use Rattle.step.specs.declared.state.Decoder.{Decoder}
 use Rattle.step.specs.State.{to, state, fresh}
 use Rattle.step.specs.Next.{afterRead, toReadData, toRead, afterWrite, toData, toSent, afterFirst}

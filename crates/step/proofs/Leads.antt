@@ -8,7 +8,6 @@ use Rattle.step.specs.declared.next.Aim.{Aim}
 use Rattle.step.specs.declared.state.Due.{Due}
 use Rattle.step.specs.declared.state.Due.the-variants.{Nobody, Target, Controller, Halted, Cut}
 use Rattle.step.specs.declared.state.Decoder.{Decoder}
-use Rattle.step.specs.declared.whole.Progress.{Progress}
 use Rattle.step.specs.declared.whole.Progress.the-variants.{Reading}
 use Rattle.step.specs.State.{state}
 use Rattle.step.specs.Fits.{fitsSlot, fits}

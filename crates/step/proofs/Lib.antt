@@ -12,3 +12,4 @@ pub mod DataLaws
 pub mod PecByte
 pub mod Decides
 pub mod Theorems
+pub mod Sizes

@@ -1,33 +1,31 @@
 -- The members of the language and the decoder's states: whole traces end, cut traces are cut, and what fits is what is not refused.
 use mathlib.Core.Path.{_≡_, refl, sym, _∙_, ap, ap₂, subst}
 use mathlib.Core.Bool.{Bool, true, false}
-use mathlib.Core.List.{List, [], _∷_, _++_, append-assoc, append-nil}
-use mathlib.Core.Logic.{_⊎_, inl, inr, ⊎-elim}
-use Prim.Native.Nat.{ℕ, zero, suc, _+_, _-_, _≤_, _<_, _%_}
+use mathlib.Core.List.{List, [], _∷_, _++_, append-nil}
+use mathlib.Core.Logic.{inl, inr}
+use Prim.Native.Nat.{ℕ, suc, _+_, _-_, _<_, _%_}
 use native.Mathlib.Omega.{arith}
-use lib.ListN.{length}
-use lib.Dec.{ltb, leb, eqb}
-use borrow.Author.Tests.{eqb-true, leb-true, lt-ltb}
+use lib.Dec.{ltb, eqb}
+use borrow.Author.Tests.{eqb-true, lt-ltb}
+use Rattle.lists.specs.Choice.{pick, or}
+use Rattle.lists.specs.Each.{Bytes}
 use Rattle.wire.specs.Symbols.{START, STOP, ACK, NACK}
 use Rattle.trace.specs.declared.shape.Shape.{Shape}
+use Rattle.trace.specs.Shapes.{leastOf}
+use Rattle.trace.specs.Trace.{Message, firstByte, byTarget, byController, traceAt, inPlace, Valid}
+use Rattle.trace.specs.ShapeLaws.{Sane}
 use Rattle.step.specs.declared.state.Slot.{Slot}
 use Rattle.step.specs.declared.state.Slot.the-variants.{Start, First, Command, Count, Data, Pec, Restart, Second, ReadCount, ReadData, ReadPec, Stop, End}
 use Rattle.step.specs.declared.state.Due.{Due}
 use Rattle.step.specs.declared.state.Due.the-variants.{Nobody, Target, Controller, Halted, Cut}
 use Rattle.step.specs.declared.state.Decoder.{Decoder}
-use Rattle.step.specs.declared.whole.Progress.{Progress}
 use Rattle.step.specs.declared.whole.Progress.the-variants.{Reading, Refused}
-use Rattle.lists.specs.Choice.{pick, or}
-use Rattle.lists.specs.Each.{Bytes}
-use Rattle.trace.specs.Shapes.{leastOf}
-use Rattle.trace.specs.Trace.{Message, firstByte, byTarget, byController, traceAt, inPlace, Valid}
 use Rattle.step.specs.State.{fresh}
 use Rattle.step.specs.Fits.{fitsSlot, fitsDue, fits}
 use Rattle.step.specs.Move.{at, moveSlot, moveDue, move}
 use Rattle.step.specs.Refusal.{ended, over, why}
-use Rattle.step.specs.Run.{run, byteCount, isCut}
-use Rattle.trace.specs.ShapeLaws.{Sane}
-use Rattle.step.specs.Answers.{Whole, CutAt, Member, Fits}
+use Rattle.step.specs.Run.{run, byteCount}
+use Rattle.step.specs.Answers.{CutAt, Member, Fits}
 use Rattle.step.proofs.Runs.{never, not-both, other, same-state, run-append, run-before, run-from}
 use Rattle.step.proofs.Leads.{Leads, noController, noTarget, leads-run, leads-inside}
 use Rattle.step.proofs.Forward.{target-part, controller-part, turnState, endState, first-byte}

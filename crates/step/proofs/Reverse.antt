@@ -8,15 +8,15 @@ use native.Mathlib.Omega.{arith}
 use lib.ListN.{length}
 use lib.Dec.{T, ltb, leb, eqb}
 use borrow.Author.Tests.{eqb-true, eqb-false, leb-true, ltb-true}
-use Rattle.lists.specs.Choice.{pick, or, and}
+use Rattle.lists.specs.Choice.{pick, or}
 use Rattle.lists.specs.Each.{Bytes}
 use Rattle.wire.specs.Symbols.{START, STOP, ACK, NACK}
 use Rattle.trace.specs.declared.shape.Part.{Part}
 use Rattle.trace.specs.declared.shape.Part.the-variants.{Nothing, Fixed, Counted}
 use Rattle.trace.specs.declared.shape.Shape.{Shape}
 use Rattle.trace.specs.Shapes.{some, writes, reads, leastOf}
-use Rattle.trace.specs.Trace.{Message, W, R, laid, acked, ackOf, nacked, firstByte, traceAt, inPlace, LengthOf, counted, Valid}
-use Rattle.trace.specs.Allowed.{addressFits, senderFits}
+use Rattle.trace.specs.Trace.{Message, W, R, laid, acked, ackOf, nacked, firstByte, traceAt, inPlace, LengthOf, counted}
+use Rattle.trace.specs.Allowed.{addressFits}
 use Rattle.trace.specs.ShapeLaws.{Sane, both-true}
 use Rattle.trace.specs.ValidLaws.{address-back, sender-back}
 use Rattle.step.specs.declared.state.Slot.{Slot}
@@ -24,11 +24,10 @@ use Rattle.step.specs.declared.state.Slot.the-variants.{Start, First, Co
 use Rattle.step.specs.declared.state.Due.{Due}
 use Rattle.step.specs.declared.state.Due.the-variants.{Nobody, Target, Controller, Halted, Cut}
 use Rattle.step.specs.declared.state.Decoder.{Decoder}
-use Rattle.step.specs.declared.whole.Progress.{Progress}
 use Rattle.step.specs.declared.whole.Progress.the-variants.{Reading, Refused}
 use Rattle.step.specs.State.{to, fresh}
 use Rattle.step.specs.Next.{afterRead, toReadData, toRead, afterWrite, toData, toSent}
-use Rattle.step.specs.Fits.{ackAt, wayFits, firstFits, commandFits, countFits, fitsSlot, fitsDue, fits}
+use Rattle.step.specs.Fits.{ackAt, firstFits, commandFits, countFits, fitsSlot, fitsDue, fits}
 use Rattle.step.specs.Move.{moveSlot, moveDue, move}
 use Rattle.step.specs.Refusal.{why}
 use Rattle.step.specs.Run.{run, directionOf}

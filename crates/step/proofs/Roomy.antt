@@ -1,23 +1,21 @@
 -- What holds of every state that the decoder reaches: the counts so far leave room for the least that may be received.
-use mathlib.Core.Path.{_≡_, refl, sym, subst}
+use mathlib.Core.Path.{_≡_, refl, subst}
 use mathlib.Core.Bool.{Bool, true, false}
 use mathlib.Core.List.{List, [], _∷_}
-use Prim.Native.Nat.{ℕ, suc, _+_, _-_, _≤_, _<_, _%_}
+use Prim.Native.Nat.{ℕ, suc, _+_, _-_, _≤_, _%_}
 use native.Mathlib.Omega.{arith}
 use lib.Dec.{eqb}
 use Rattle.lists.specs.Choice.{pick}
 use Rattle.trace.specs.declared.shape.Part.{Part}
 use Rattle.trace.specs.declared.shape.Part.the-variants.{Nothing, Fixed, Counted}
 use Rattle.trace.specs.declared.shape.Shape.{Shape}
-use Rattle.trace.specs.Shapes.{some, writes, reads, leastOf}
+use Rattle.trace.specs.Shapes.{writes, reads, leastOf}
 use Rattle.trace.specs.ShapeLaws.{Sane}
-use Rattle.step.specs.declared.next.Aim.{Aim}
 use Rattle.step.specs.declared.state.Slot.{Slot}
 use Rattle.step.specs.declared.state.Slot.the-variants.{Start, First, Command, Count, Data, Pec, Restart, Second, ReadCount, ReadData, ReadPec, Stop, End}
 use Rattle.step.specs.declared.state.Due.{Due}
 use Rattle.step.specs.declared.state.Due.the-variants.{Nobody, Target, Controller, Halted, Cut}
 use Rattle.step.specs.declared.state.Decoder.{Decoder}
-use Rattle.step.specs.declared.whole.Progress.{Progress}
 use Rattle.step.specs.declared.whole.Progress.the-variants.{Reading, Refused}
 use Rattle.step.specs.State.{to, fresh}
 use Rattle.step.specs.Next.{afterRead, toReadData, toRead, afterWrite, toData, toSent, afterFirst}
@@ -28,25 +26,25 @@ use Rattle.step.specs.Run.{run}
 use Rattle.step.proofs.Runs.{other, same-state}
 use Rattle.step.proofs.Reverse.{count-back}
 
--- a count that is to be received is one of a counted part
-abbrev pub Ahead : Shape → Slot → ℕ → Type 0
-Ahead sh ReadCount m = m + sh .least ≤ sh .most
-Ahead sh Start m = Unit
-Ahead sh First m = Unit
-Ahead sh Command m = Unit
-Ahead sh Count m = Unit
-Ahead sh Data m = Unit
-Ahead sh Pec m = Unit
-Ahead sh Restart m = Unit
-Ahead sh Second m = Unit
-Ahead sh ReadData m = Unit
-Ahead sh ReadPec m = Unit
-Ahead sh Stop m = Unit
-Ahead sh End m = Unit
+-- where the count to be received stands next, room for the least that it can be
+abbrev pub AtCount : Shape → Slot → ℕ → Type 0
+AtCount sh ReadCount m = m + sh .least ≤ sh .most
+AtCount sh Start m = Unit
+AtCount sh First m = Unit
+AtCount sh Command m = Unit
+AtCount sh Count m = Unit
+AtCount sh Data m = Unit
+AtCount sh Pec m = Unit
+AtCount sh Restart m = Unit
+AtCount sh Second m = Unit
+AtCount sh ReadData m = Unit
+AtCount sh ReadPec m = Unit
+AtCount sh Stop m = Unit
+AtCount sh End m = Unit
 
 pub record Roomy (sh : Shape) (d : Decoder) : Type 0 where
   pub room : d .sentcount + leastOf (sh .received) (sh .least) ≤ sh .most
-  pub ahead : Ahead sh (d .slot) (d .sentcount)
+  pub ahead : AtCount sh (d .slot) (d .sentcount)
 
 pub least-of-le : (a : Part) (k : ℕ) → leastOf a k ≤ k
 least-of-le Nothing k = omega arith
@@ -57,49 +55,49 @@ pub fresh-roomy : (sh : Shape) → Sane sh → Roomy sh fresh
 fresh-roomy sh hs = record { room = omega (arith, hs .least-twice, least-of-le (sh .received) (sh .least)); ahead = tt }
 
 -- the aims
-ahead-end : (sh : Shape) (p : Bool) (m : ℕ) → Ahead sh ((afterRead p) .slot) m
+ahead-end : (sh : Shape) (p : Bool) (m : ℕ) → AtCount sh ((afterRead p) .slot) m
 ahead-end sh true m = tt
 ahead-end sh false m = tt
 
-ahead-data : (sh : Shape) (p : Bool) (k m : ℕ) → Ahead sh ((toReadData p k) .slot) m
+ahead-data : (sh : Shape) (p : Bool) (k m : ℕ) → AtCount sh ((toReadData p k) .slot) m
 ahead-data sh p k m = go (eqb k 0)
   where
-    go : (b : Bool) → Ahead sh ((pick b (afterRead p) (to ReadData (k - 1))) .slot) m
+    go : (b : Bool) → AtCount sh ((pick b (afterRead p) (to ReadData (k - 1))) .slot) m
     go true = ahead-end sh p m
     go false = tt
 
 module _ (sh : Shape) (p : Bool) (m : ℕ) where
-  ahead-read : (a : Part) → m + leastOf a (sh .least) ≤ sh .most → Ahead sh ((toRead a p) .slot) m
+  ahead-read : (a : Part) → m + leastOf a (sh .least) ≤ sh .most → AtCount sh ((toRead a p) .slot) m
   ahead-read Nothing h = ahead-end sh p m
   ahead-read (Fixed k) h = ahead-data sh p k m
   ahead-read Counted h = h
 
   module _ (h : m + leastOf (sh .received) (sh .least) ≤ sh .most) where
-    ahead-after : Ahead sh ((afterWrite sh p) .slot) m
+    ahead-after : AtCount sh ((afterWrite sh p) .slot) m
     ahead-after = go (reads sh) (writes sh) p
       where
-        go : (r w q : Bool) → Ahead sh ((pick r (pick w (to Restart 0) (toRead (sh .received) p)) (to (pick q Pec Stop) 0)) .slot) m
+        go : (r w q : Bool) → AtCount sh ((pick r (pick w (to Restart 0) (toRead (sh .received) p)) (to (pick q Pec Stop) 0)) .slot) m
         go true true q = tt
         go true false q = ahead-read (sh .received) h
         go false w true = tt
         go false w false = tt
 
-    ahead-sending : (k : ℕ) → Ahead sh ((toData sh p k) .slot) m
+    ahead-sending : (k : ℕ) → AtCount sh ((toData sh p k) .slot) m
     ahead-sending k = go (eqb k 0)
       where
-        go : (b : Bool) → Ahead sh ((pick b (afterWrite sh p) (to Data (k - 1))) .slot) m
+        go : (b : Bool) → AtCount sh ((pick b (afterWrite sh p) (to Data (k - 1))) .slot) m
         go true = ahead-after
         go false = tt
 
-    ahead-sent : (a : Part) → Ahead sh ((toSent sh p a) .slot) m
+    ahead-sent : (a : Part) → AtCount sh ((toSent sh p a) .slot) m
     ahead-sent Nothing = ahead-after
     ahead-sent (Fixed k) = ahead-sending k
     ahead-sent Counted = tt
 
-    ahead-first : Ahead sh ((afterFirst sh p) .slot) m
+    ahead-first : AtCount sh ((afterFirst sh p) .slot) m
     ahead-first = go (sh .command)
       where
-        go : (b : Bool) → Ahead sh ((pick b (to Command 0) (toSent sh p (sh .sent))) .slot) m
+        go : (b : Bool) → AtCount sh ((pick b (to Command 0) (toSent sh p (sh .sent))) .slot) m
         go true = tt
         go false = ahead-sent (sh .sent)
 

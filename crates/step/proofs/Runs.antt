@@ -9,7 +9,6 @@ use Rattle.lists.specs.Choice.{pick}
 use Rattle.trace.specs.declared.shape.Shape.{Shape}
 use Rattle.step.specs.declared.answer.Decoded.{Decoded}
 use Rattle.step.specs.declared.state.Decoder.{Decoder}
-use Rattle.step.specs.declared.whole.Progress.{Progress}
 use Rattle.step.specs.declared.whole.Progress.the-variants.{Reading, Refused}
 use Rattle.step.specs.Fits.{fits}
 use Rattle.step.specs.Move.{move}

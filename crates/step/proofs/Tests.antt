@@ -12,7 +12,6 @@ use Rattle.wire.specs.declared.address.Address.{Address}
 use Rattle.trace.specs.declared.shape.Shape.{Shape}
 use Rattle.trace.specs.declared.transaction.Transaction.{Transaction}
 use Rattle.trace.specs.Allowed.{addressFits}
-use Rattle.step.specs.declared.answer.Decoded.{Decoded}
 use Rattle.step.specs.declared.answer.Decoded.the-variants.{Done, EndsEarly, NotAcknowledged, PecDiffers}
 use Rattle.step.specs.declared.state.Decoder.{Decoder}
 use Rattle.step.specs.Fits.{wayFits, firstFits}

@@ -8,7 +8,6 @@ use Prim.Native.Nat.{ℕ, suc, _+_, _≤_, _<_}
 use native.Mathlib.Omega.{arith}
 use lib.ListN.{length, take, getD}
 use Rattle.wire.specs.Symbols.{NACK}
-use Rattle.wire.specs.declared.address.Address.{Address}
 use Rattle.trace.specs.declared.shape.Shape.{Shape}
 use Rattle.trace.specs.declared.transaction.Transaction.{Transaction}
 use Rattle.trace.specs.Trace.{Message, trace, Valid}
@@ -16,7 +15,6 @@ use Rattle.trace.specs.ShapeLaws.{Sane}
 use Rattle.step.specs.declared.answer.Decoded.{Decoded}
 use Rattle.step.specs.declared.answer.Decoded.the-variants.{Done, Forbidden, BufferTooShort, NoSymbol, EndsEarly, Unexpected, NotAcknowledged, PecDiffers, AfterStop}
 use Rattle.step.specs.declared.state.Decoder.{Decoder}
-use Rattle.step.specs.declared.whole.Progress.{Progress}
 use Rattle.step.specs.declared.whole.Progress.the-variants.{Reading, Refused}
 use Rattle.step.specs.State.{fresh}
 use Rattle.step.specs.Fits.{fits}

@@ -1,5 +1,5 @@
 -- The data that an answer hands over: how many bytes, and where in the trace they stand. Only 0 has any.
-use mathlib.Core.Bool.{Bool, true, false}
+use mathlib.Core.Bool.{Bool}
 use mathlib.Core.List.{List, [], _∷_}
 use Prim.Native.Nat.{ℕ, zero, suc, _+_, _-_, _*_, _%_}
 use lib.ListN.{length, getD, drop}

@@ -1,5 +1,5 @@
 -- The state after a symbol. It is total; where a byte stands only the symbol's low byte counts.
-use mathlib.Core.Bool.{Bool, true, false}
+use mathlib.Core.Bool.{Bool}
 use Prim.Native.Nat.{ℕ, _%_}
 use lib.Dec.{eqb}
 use Rattle.lists.specs.Choice.{pick}

@@ -1,5 +1,5 @@
 -- Where a byte leads: the slot after it, by the shape, by whether PEC is used, and by what is left.
-use mathlib.Core.Bool.{Bool, true, false}
+use mathlib.Core.Bool.{Bool}
 use Prim.Native.Nat.{ℕ, _-_}
 use lib.Dec.{eqb}
 use Rattle.lists.specs.Choice.{pick}
@@ -8,8 +8,7 @@ use Rattle.trace.specs.declared.shape.Part.the-variants.{Nothing, Fixed, Counte
 use Rattle.trace.specs.declared.shape.Shape.{Shape}
 use Rattle.trace.specs.Shapes.{writes, reads}
 use Rattle.step.specs.declared.next.Aim.{Aim}
-use Rattle.step.specs.declared.state.Slot.{Slot}
-use Rattle.step.specs.declared.state.Slot.the-variants.{Start, First, Command, Count, Data, Pec, Restart, Second, ReadCount, ReadData, ReadPec, Stop, End}
+use Rattle.step.specs.declared.state.Slot.the-variants.{Command, Count, Data, Pec, Restart, ReadCount, ReadData, ReadPec, Stop}
 use Rattle.step.specs.State.{to}
 
 -- behind the last data byte received
