@@ -1,1 +1,3 @@
 pub mod CodecLaws
+pub mod LongTraces
+pub mod ReadLaws

@@ -1,5 +1,5 @@
--- The encoder over byte pairs: the same answers, with the room in pairs, and the symbols as pairs.
-use mathlib.Core.Path.{_≡_}
+-- The codec for C: the same answers as numbers; over byte pairs, the room in pairs and the symbols as pairs.
+use mathlib.Core.Path.{_≡_, refl}
 use mathlib.Core.Bool.{Bool, true, false}
 use mathlib.Core.List.{List}
 use Prim.Native.Nat.{ℕ, _/_}
@@ -9,6 +9,11 @@ use Rattle.trace.specs.Shapes.{shapeOf}
 use Rattle.trace.specs.Trace.{Message, trace}
 use Rattle.encode.specs.declared.Encoded.{Encoded}
 use Rattle.encode.specs.Encode.{number, encoded, symbolsOf}
+use Rattle.step.specs.declared.answer.Decoded.{Decoded}
+use Rattle.step.specs.declared.answer.Decoded.the-variants.{Done, Forbidden, BufferTooShort, NoSymbol, EndsEarly, Unexpected, NotAcknowledged, PecDiffers, AfterStop}
+use Rattle.step.specs.Paper.{paper}
+use Rattle.decode.specs.Outcome.{Outcome}
+use Rattle.exports.specs.declared.answer.HbDecoded.{HbDecoded}
 use Rattle.exports.specs.declared.codec.HbWritten.{HbWritten}
 use Rattle.exports.specs.Pairs.{pairsOf}
 
@@ -26,3 +31,37 @@ pub record WrotePairs (protocol : ℕ) (pec : Bool) (t : Message) (before : List
 pub record WroteSymbols (protocol : ℕ) (pec : Bool) (t : Message) (before : List ℕ) (r : HbWritten) (after : List ℕ) : Type 0 where
   pub answer : r ≡ told (encoded protocol pec t (length before))
   pub output : after ≡ onto (symbolsOf (encoded protocol pec t (length before)) (trace (shapeOf protocol) pec t)) before
+
+-- the decoder's answer as numbers
+abbrev pub refusalOf : ℕ → ℕ → HbDecoded
+refusalOf a v = record { answer = a; address = 0; direction = 0; command = 0; value = v; sent = 0; received = 0 }
+
+abbrev pub toldDecoded : Decoded → HbDecoded
+toldDecoded (Done t) =
+    record { answer = 0; address = t .address .0; direction = t .direction; command = t .command; value = 0; sent = t .sent; received = t .received }
+toldDecoded Forbidden = refusalOf 1 0
+toldDecoded BufferTooShort = refusalOf 2 0
+toldDecoded (NoSymbol place) = refusalOf 3 place
+toldDecoded (EndsEarly len) = refusalOf 4 len
+toldDecoded (Unexpected place) = refusalOf 5 place
+toldDecoded (NotAcknowledged byte) = refusalOf 6 byte
+toldDecoded (PecDiffers place) = refusalOf 7 place
+toldDecoded (AfterStop place) = refusalOf 8 place
+
+-- those are the paper's
+pub paper-is : (a : Decoded) → (toldDecoded a .answer, toldDecoded a .value) ≡ paper a
+paper-is (Done t) = refl
+paper-is Forbidden = refl
+paper-is BufferTooShort = refl
+paper-is (NoSymbol place) = refl
+paper-is (EndsEarly len) = refl
+paper-is (Unexpected place) = refl
+paper-is (NotAcknowledged byte) = refl
+paper-is (PecDiffers place) = refl
+paper-is (AfterStop place) = refl
+
+-- a call of the decoder on symbols tr: the answer as numbers of an outcome of decode
+pub record ReadSymbols (protocol : ℕ) (pec : Bool) (tr sent₀ received₀ : List ℕ) (h : HbDecoded) (sent received : List ℕ) : Type 0 where
+  pub answer : Decoded
+  pub outcome : Outcome protocol pec tr sent₀ received₀ answer sent received
+  pub is-told : h ≡ toldDecoded answer

@@ -69,3 +69,10 @@ pairs-turn o s i h r =
       append-assoc p ((x % 256) ∷ []) ((x / 256) ∷ []),
       m,
     )
+
+-- fewer symbols are the front of more
+pub fewer : (k n : ℕ) (l : List ℕ) → k ≤ n → take k (symbolsIn n l) ≡ symbolsIn k l
+unfolding symbolsIn
+fewer zero n l h = refl
+fewer (suc k) zero l h = absurd (omega arith)
+fewer (suc k) (suc n) l h = ap (λ (t : List ℕ). (getD l 0 0 + 256 * getD l 1 0) ∷ t) (fewer k n (drop 2 l) (omega arith))

@@ -1,12 +1,16 @@
 // Symbols as pairs of bytes, the low byte first: how a trace crosses to C.
 ghost use mathlib.Core.Path.{_≡_};
-ghost use Prim.Native.Nat.{_*_, _≤_};
+ghost use Prim.Native.Nat.{_*_, _/_, _≤_};
+ghost use lib.Dec.{ltb};
 ghost use lib.ListN.{length};
+ghost use Rattle.lists.specs.Choice.{pick};
 ghost use Rattle.lists.specs.Onto.{onto};
 ghost use Rattle.encode.specs.Encode.{message};
 ghost use Rattle.exports.specs.Numbers.{truth};
 ghost use Rattle.exports.specs.Pairs.{pairsOf, symbolsIn};
-ghost use Rattle.exports.specs.Codec.{answerOf, WrotePairs};
+ghost use Rattle.exports.specs.Codec.{answerOf, WrotePairs, ReadSymbols};
+use crate::answer::HbDecoded;
+use crate::answer::decoded;
 use encode::Encoded;
 use wire::address::Address;
 
@@ -84,4 +88,28 @@ pub extern "C" fn hb_encode(
     }
     put_pairs(out, &buf[..n]);
     written(0, n as u32)
+}
+
+// The smaller of two numbers.
+fn smaller(a: usize, b: usize) -> usize
+    ensures { λ r. ⌜ (r ≡ pick (ltb a b) a b) × (r ≤ a) × (r ≤ b) ⌝ }
+{
+    if a < b { a } else { b }
+}
+
+// The decoder of a trace of byte pairs. No trace that fits has more than 525 symbols, so the first 526 decide.
+#[no_mangle]
+pub extern "C" fn hb_decode(
+    protocol: u8,
+    pec: u8,
+    trace: &[u8],
+    sent: &mut [u8],
+    received: &mut [u8],
+) -> HbDecoded
+    ensures { λ r. ⌜ ReadSymbols protocol (truth pec) (symbolsIn (length (now (trace .entry)) / 2) (now (trace .entry))) (now (sent .entry)) (now (received .entry)) r (now (sent .exit)) (now (received .exit)) ⌝ }
+{
+    let mut buf = [0u16; 526];
+    let n = smaller(trace.len() / 2, 526);
+    get_pairs(&mut buf, trace, n);
+    decoded(decode::decode(protocol, pec != 0, &buf[..n], sent, received))
 }

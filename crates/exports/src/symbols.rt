@@ -2,7 +2,9 @@
 ghost use mathlib.Core.Path.{_≡_};
 ghost use Rattle.encode.specs.Encode.{message};
 ghost use Rattle.exports.specs.Numbers.{truth};
-ghost use Rattle.exports.specs.Codec.{WroteSymbols};
+ghost use Rattle.exports.specs.Codec.{WroteSymbols, ReadSymbols};
+use crate::answer::HbDecoded;
+use crate::answer::decoded;
 use crate::codec::HbWritten;
 use encode::Encoded;
 use wire::address::Address;
@@ -45,4 +47,18 @@ pub extern "C" fn hb_encode_symbols(
             symbols: 0,
         },
     }
+}
+
+// The decoder.
+#[no_mangle]
+pub extern "C" fn hb_decode_symbols(
+    protocol: u8,
+    pec: u8,
+    trace: &[u16],
+    sent: &mut [u8],
+    received: &mut [u8],
+) -> HbDecoded
+    ensures { λ r. ⌜ ReadSymbols protocol (truth pec) (now (trace .entry)) (now (sent .entry)) (now (received .entry)) r (now (sent .exit)) (now (received .exit)) ⌝ }
+{
+    decoded(decode::decode(protocol, pec != 0, trace, sent, received))
 }

@@ -1,0 +1,72 @@
+use borrow.Author.Needs.{needs}
+use mathlib.Core.Path.{_≡_, refl, sym, _∙_, ap}
+use native.Mathlib.Omega.{arith}
+use lib.Seq.{length-take-le}
+use Rattle.exports.specs.Numbers.{truth}
+use Rattle.exports.proofs.ReadLaws.{from-pairs, told-read}
+use Rattle.exports.proofs.codec.hb_decode.Statement.{statement}
+use Rattle.exports.proofs.codec.hb_decode.Tie as tie
+use Rattle.exports.proofs.codec.hb_decode.Reads as reads
+use Rattle.exports.proofs.codec.hb_decode.Lts as lts
+use Rattle.decode.proofs.decode.Reads as decode-reads
+use Rattle.exports.proofs.answer.decoded.Reads as decoded-reads
+use Rattle.exports.proofs.codec.get_pairs.Reads as get-pairs-reads
+use Rattle.exports.proofs.codec.smaller.Reads as smaller-reads
+
+-- src/codec.rt:112:9
+smaller-requires : tie.Need-smaller-requires
+smaller-requires c κs = search needs
+
+-- src/codec.rt:113:15
+slice-aggregate-get-pairs : tie.Need-slice-aggregate-get-pairs
+slice-aggregate-get-pairs c = search needs
+
+-- src/codec.rt:113:5
+get-pairs-requires : tie.Need-get-pairs-requires
+get-pairs-requires c κs = search needs
+
+-- src/codec.rt:114:48
+array-share-prefix-buf : tie.Need-array-share-prefix-buf
+array-share-prefix-buf c = search needs
+
+-- src/codec.rt:114:48
+slice-aggregate-decode : tie.Need-slice-aggregate-decode
+slice-aggregate-decode c = sym (length-take-le _ _ (omega (arith, c .before .before .before .before .smaller .ensures .2, c .before .buf2 .given)))
+
+-- src/codec.rt:114:13
+decode-requires : tie.Need-decode-requires
+decode-requires c κs = search needs
+
+-- src/codec.rt:114:5
+decoded-requires : tie.Need-decoded-requires
+decoded-requires c κs = search needs
+
+-- src/codec.rt:101:1
+same-length : tie.Need-same-length
+same-length c = search needs
+
+-- src/codec.rt:101:1
+same-length-2 : tie.Need-same-length-2
+same-length-2 c = search needs
+
+-- src/codec.rt:101:1
+returns : tie.Need-returns
+returns c =
+    let a = c .before .before .before .before .before .before .before .before .before .before .before .before .before .before .before .before .args in
+    told-read (a .protocol) (truth (a .pec)) _ _ _ _ _ _ _
+    (from-pairs (a .protocol) (truth (a .pec)) (a .trace .now) _ _ _ _ _ _ _ _ (c .before .before .before .before .before .before .before .before .before .before .before .before .smaller .ensures .0) (c .before .before .before .before .before .before .before .before .before .before .get-pairs .ensures) (c .before .before .before .before .before .decode .ensures)) (c .decoded .ensures)
+
+pub hb-decode-spec : {M : Type 1} → statement M
+hb-decode-spec =
+    tie.close
+    (tie.spec
+    smaller-requires
+    slice-aggregate-get-pairs
+    get-pairs-requires
+    array-share-prefix-buf
+    slice-aggregate-decode
+    decode-requires
+    decoded-requires
+    same-length
+    same-length-2
+    returns)
