@@ -38,5 +38,11 @@ END {
         g = each("decode", "plain", rows[k], symbols)
         printf "%8s %3s %5s %5s %8s ", word[1], word[2], word[3], word[4], symbols
         printf "%8.1f %8.1f %6.2f %8.1f %8.1f %6.2f\n", e, f, e / f, d, g, d / g
+        if (!(e > 0 && f > 0 && e <= 1.5 * f && d > 0 && g > 0 && d <= 2.5 * g))
+            above = above " " rows[k] ";"
+    }
+    if (above != "") {
+        print "bench: above the limit of 1.5 for encode or 2.5 for decode:" above
+        exit 1
     }
 }

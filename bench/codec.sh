@@ -1,6 +1,7 @@
 #!/bin/sh
 # Instructions a symbol for encoding and decoding, by callgrind, of the library and of plain C beside it,
-# for each protocol. Where there is a PEC, each side's own PEC work over the same bytes is taken out.
+# for each protocol; fails where encode is above 1.5 times or decode above 2.5 times plain C. Where there is a PEC, each
+# side's own PEC work over the same bytes is taken out.
 # What it makes goes to build/.
 #   bench/codec.sh [LIBRARY]
 set -eu

@@ -12,12 +12,12 @@ typedef struct {
 
 typedef struct {
     uint32_t answer;
-    uint32_t value;
     uint32_t address;
     uint32_t direction;
     uint32_t command;
-    uint32_t sent;
-    uint32_t received;
+    size_t value;
+    size_t sent;
+    size_t received;
 } hb_decoded;
 
 uint8_t hb_pec(const uint8_t *s, size_t n);
@@ -28,5 +28,13 @@ hb_written hb_encode(uint8_t protocol, uint8_t pec, uint8_t address, uint8_t dir
 
 hb_decoded hb_decode(uint8_t protocol, uint8_t pec, const uint8_t *trace, size_t trace_len,
                      uint8_t *sent, size_t sent_len, uint8_t *received, size_t received_len);
+
+/* The same on symbols as 16-bit numbers. */
+hb_written hb_encode_symbols(uint8_t protocol, uint8_t pec, uint8_t address, uint8_t direction, uint8_t command,
+                             const uint8_t *sent, size_t sent_len, const uint8_t *received, size_t received_len,
+                             uint16_t *out, size_t out_len);
+
+hb_decoded hb_decode_symbols(uint8_t protocol, uint8_t pec, const uint16_t *trace, size_t trace_len,
+                             uint8_t *sent, size_t sent_len, uint8_t *received, size_t received_len);
 
 #endif

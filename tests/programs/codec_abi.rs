@@ -42,12 +42,12 @@ pub struct Written {
 #[derive(Clone, Copy, Debug, Default, PartialEq, Eq)]
 pub struct Decoded {
     pub answer: u32,
-    pub value: u32,
     pub address: u32,
     pub direction: u32,
     pub command: u32,
-    pub sent: u32,
-    pub received: u32,
+    pub value: usize,
+    pub sent: usize,
+    pub received: usize,
 }
 
 /// Bytes on either side of a lent buffer that nobody may touch.

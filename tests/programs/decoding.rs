@@ -14,7 +14,7 @@ use reference::text::{pec_use, trace_text};
 fn due(answer: Answer) -> (Decoded, Vec<u8>, Vec<u8>) {
     match answer {
         Answer::Refused { number, value } => {
-            (Decoded { answer: number, value: value as u32, ..Decoded::default() }, vec![], vec![])
+            (Decoded { answer: number, value, ..Decoded::default() }, vec![], vec![])
         }
         Answer::Done(t) => {
             let decoded = Decoded {
@@ -23,8 +23,8 @@ fn due(answer: Answer) -> (Decoded, Vec<u8>, Vec<u8>) {
                 address: u32::from(t.address),
                 direction: u32::from(t.direction),
                 command: u32::from(t.command),
-                sent: t.sent.len() as u32,
-                received: t.received.len() as u32,
+                sent: t.sent.len(),
+                received: t.received.len(),
             };
             (decoded, t.sent, t.received)
         }
