@@ -9,11 +9,11 @@ use Rattle.encode.proofs.bytes.put_acked.Reads as put-acked-reads
 use Rattle.encode.proofs.bytes.put_byte_if.Reads as put-byte-if-reads
 use Rattle.trace.proofs.shape.is_counted.Reads as is-counted-reads
 
--- src/bytes.rt:55:30
+-- src/bytes.rt:55:34
 is-counted-requires : tie.Need-is-counted-requires
 is-counted-requires c κs = search needs
 
--- src/bytes.rt:55:45
+-- src/bytes.rt:55:49
 count-of-requires : tie.Need-count-of-requires
 count-of-requires c κs = search needs
 

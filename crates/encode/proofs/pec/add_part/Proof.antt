@@ -9,11 +9,11 @@ use Rattle.encode.proofs.pec.add_byte_if.Reads as add-byte-if-reads
 use Rattle.trace.proofs.shape.is_counted.Reads as is-counted-reads
 use Rattle.wire.proofs.pec.add_bytes.Reads as add-bytes-reads
 
--- src/pec.rt:28:26
+-- src/pec.rt:28:30
 is-counted-requires : tie.Need-is-counted-requires
 is-counted-requires c κs = search needs
 
--- src/pec.rt:28:41
+-- src/pec.rt:28:45
 count-of-requires : tie.Need-count-of-requires
 count-of-requires c κs = search needs
 

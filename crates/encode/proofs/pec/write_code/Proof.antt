@@ -8,11 +8,11 @@ use Rattle.encode.proofs.pec.add_byte_if.Reads as add-byte-if-reads
 use Rattle.encode.proofs.pec.add_part.Reads as add-part-reads
 use Rattle.wire.proofs.pec.add_byte.Reads as add-byte-reads
 
--- src/pec.rt:36:22
+-- src/pec.rt:37:21
 add-byte-requires : tie.Need-add-byte-requires
 add-byte-requires c κs = search needs
 
--- src/pec.rt:36:14
+-- src/pec.rt:37:9
 add-byte-if-requires : tie.Need-add-byte-if-requires
 add-byte-if-requires c κs = search needs
 

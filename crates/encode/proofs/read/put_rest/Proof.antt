@@ -14,20 +14,20 @@ use Rattle.encode.proofs.read.put_read_phase.Reads as put-read-phase-re
 use Rattle.trace.proofs.shape.has_read.Reads as has-read-reads
 use Rattle.trace.proofs.shape.has_write.Reads as has-write-reads
 
--- src/read.rt:82:8
+-- src/read.rt:89:8
 has-read-requires : tie.Need-has-read-requires
 has-read-requires c κs = search needs
 
--- src/read.rt:83:29
+-- src/read.rt:90:29
 has-write-requires : tie.Need-has-write-requires
 has-write-requires c κs = search needs
 
--- src/read.rt:83:9
+-- src/read.rt:90:9
 put-read-phase-requires : tie.Need-put-read-phase-requires
 put-read-phase-requires c κs =
     (read-asks (c .before .before .before .before .before .before .args .sh) (c .before .before .before .before .before .before .args .second .0) (c .before .before .before .before .before .before .args .received .now) (c .before .before .before .before .before .before .args .pec) (c .before .before .before .before .before .before .args .code) (length (c .before .before .before .before .before .before .args .out .now)) (c .before .before .before .before .before .before .pre .0) _ (sym (c .before .before .before .has-read .ensures) ∙ c .before .before .if1 .taken) (c .has-write .ensures), c .before .before .before .before .before .before .pre .1 (sym (c .before .before .before .has-read .ensures) ∙ c .before .before .if1 .taken))
 
--- src/read.rt:85:9
+-- src/read.rt:92:9
 put-end-requires : tie.Need-put-end-requires
 put-end-requires c κs =
     end-asks (c .before .before .before .before .before .args .sh) (c .before .before .before .before .before .args .second .0) (c .before .before .before .before .before .args .received .now) (c .before .before .before .before .before .args .pec) (c .before .before .before .before .before .args .code) (length (c .before .before .before .before .before .args .out .now)) (c .before .before .before .before .before .pre .0) (sym (c .before .before .has-read .ensures) ∙ c .before .if1 .left)
