@@ -1,9 +1,9 @@
 -- What is proved of the decoder's entry.
-use mathlib.Core.Path.{_≡_, refl, sym, ap, _∙_, subst}
+use mathlib.Core.Path.{_≡_, refl, sym, ap, _∙_}
 use mathlib.Core.Bool.{Bool, true, false}
-use mathlib.Core.List.{List, [], _++_}
+use mathlib.Core.List.{List, _++_}
 use mathlib.Core.Logic.{_↔_}
-use Prim.Native.Nat.{ℕ}
+use Prim.Native.Nat.{ℕ, _≤_}
 use native.Mathlib.Omega.{arith}
 use lib.ListN.{length, drop}
 use Rattle.lists.specs.Choice.{pick}
@@ -85,6 +85,67 @@ module _ (protocol : ℕ) (pec : Bool) (tr sent₀ received₀ : List ℕ) where
     λ h. (let k = computed (forbidden protocol pec) (short (length sent₀) (length received₀)) a s r h in record { answer = k .0; data-sent = k .1; data-received = k .2 }),
   )
 
+-- 1 and 2 are given exactly in their cases, in this order; every other number is the trace's
+never-unread : (protocol : ℕ) (pec : Bool) (tr : List ℕ) (n : ℕ) → n ≤ 2 → 1 ≤ n → paper (decodedBy protocol (shapeOf protocol) pec tr) .0 ≡ n → ⊥
+never-unread protocol pec tr n h g e =
+    let k = step.holds protocol (shapeOf protocol) (sane protocol) pec tr in
+    go (decodedBy protocol (shapeOf protocol) pec tr) k e
+  where
+    go : (a : Decoded) → Answers protocol (shapeOf protocol) pec tr a (sentData (shapeOf protocol) tr a) (receivedData pec tr a) → paper a .0 ≡ n → ⊥
+    go (Done t) k e = omega arith
+    go Forbidden k e = k
+    go BufferTooShort k e = k
+    go (NoSymbol i) k e = omega arith
+    go (EndsEarly i) k e = omega arith
+    go (Unexpected i) k e = omega arith
+    go (NotAcknowledged i) k e = omega arith
+    go (PecDiffers i) k e = omega arith
+    go (AfterStop i) k e = omega arith
+
+module _ (protocol : ℕ) (pec : Bool) (tr sent₀ received₀ : List ℕ) (a : Decoded) (s r : List ℕ) (h : Outcome protocol pec tr sent₀ received₀ a s r) where
+  abbrev isForbidden : Bool
+  isForbidden = forbidden protocol pec
+
+  abbrev isShort : Bool
+  isShort = short (length sent₀) (length received₀)
+
+  abbrev whole : Bool → Bool → Decoded
+  whole b c = pick b Forbidden (pick c BufferTooShort (decodedBy protocol (shapeOf protocol) pec tr))
+
+  first-of : (e : ℕ × ℕ) (n : ℕ) → e ≡ (n, 0) → e .0 ≡ n
+  first-of e n q = ap (λ (x : ℕ × ℕ). x .0) q
+
+  pub number-1 : (paper a ≡ (1, 0)) ↔ (forbidden protocol pec ≡ true)
+  unfolding answered
+  number-1 = (λ e. there isForbidden isShort (ap paper (sym (h .answer)) ∙ e), λ e. ap paper (h .answer) ∙ back isForbidden isShort e)
+    where
+      there : (b c : Bool) → paper (whole b c) ≡ (1, 0) → b ≡ true
+      there true c e = refl
+      there false true e = absurd (omega (arith, first-of _ 1 e))
+      there false false e = absurd (never-unread protocol pec tr 1 (omega arith) (omega arith) (first-of _ 1 e))
+
+      back : (b c : Bool) → b ≡ true → paper (whole b c) ≡ (1, 0)
+      back b c e = rw e
+
+  pub number-2 : (paper a ≡ (2, 0)) ↔ ((forbidden protocol pec ≡ false) × (short (length sent₀) (length received₀) ≡ true))
+  unfolding answered
+  number-2 = (λ e. there isForbidden isShort (ap paper (sym (h .answer)) ∙ e), λ e. ap paper (h .answer) ∙ back isForbidden isShort (e .0) (e .1))
+    where
+      there : (b c : Bool) → paper (whole b c) ≡ (2, 0) → (b ≡ false) × (c ≡ true)
+      there true c e = absurd (omega (arith, first-of _ 2 e))
+      there false true e = (refl, refl)
+      there false false e = absurd (never-unread protocol pec tr 2 (omega arith) (omega arith) (first-of _ 2 e))
+
+      back : (b c : Bool) → b ≡ false → c ≡ true → paper (whole b c) ≡ (2, 0)
+      back b c e g = rw (e, g)
+
+  pub other-numbers : forbidden protocol pec ≡ false → short (length sent₀) (length received₀) ≡ false → a ≡ decodedBy protocol (shapeOf protocol) pec tr
+  unfolding answered
+  other-numbers e g = h .answer ∙ back isForbidden isShort e g
+    where
+      back : (b c : Bool) → b ≡ false → c ≡ false → whole b c ≡ decodedBy protocol (shapeOf protocol) pec tr
+      back b c e g = rw (e, g)
+
 -- a refusal changes no byte of either buffer
 no-data : (protocol : ℕ) (pec : Bool) (tr l : List ℕ) (a : Decoded) → (paper a .0 ≡ 0 → ⊥) → (onto (sentData (shapeOf protocol) tr a) l ≡ l) × (onto (receivedData pec tr a) l ≡ l)
 no-data protocol pec tr l (Done t) n = absurd (n refl)
@@ -107,16 +168,11 @@ pub round-trip : (protocol : ℕ) (pec : Bool) (t : Message) (sent₀ received�
     → forbidden protocol pec ≡ false → short (length sent₀) (length received₀) ≡ false → Valid (shapeOf protocol) t
     → Outcome protocol pec (trace (shapeOf protocol) pec t) sent₀ received₀ a s r
     → (a ≡ Done (summary protocol t)) × (s ≡ t .sent ++ drop (length (t .sent)) sent₀) × (r ≡ t .received ++ drop (length (t .received)) received₀)
-unfolding answered
 round-trip protocol pec t sent₀ received₀ a s r f c v h =
     let tr : List ℕ = trace (shapeOf protocol) pec t in
     let k = step.round-trip protocol (shapeOf protocol) (sane protocol) pec t v in
-    let e : a ≡ decodedBy protocol (shapeOf protocol) pec tr = h .answer ∙ chosen (forbidden protocol pec) (short (length sent₀) (length received₀)) f c in (
+    let e : a ≡ decodedBy protocol (shapeOf protocol) pec tr = other-numbers protocol pec tr sent₀ received₀ a s r h f c in (
       e ∙ k .0,
       h .data-sent ∙ ap (λ (x : List ℕ). onto x sent₀) (ap (sentData (shapeOf protocol) tr) e ∙ k .1),
       h .data-received ∙ ap (λ (x : List ℕ). onto x received₀) (ap (receivedData pec tr) e ∙ k .2),
     )
-  where
-    chosen : (b c : Bool) → b ≡ false → c ≡ false
-        → pick b Forbidden (pick c BufferTooShort (decodedBy protocol (shapeOf protocol) pec (trace (shapeOf protocol) pec t))) ≡ decodedBy protocol (shapeOf protocol) pec (trace (shapeOf protocol) pec t)
-    chosen b c e g = rw (e, g)

@@ -7,17 +7,18 @@ ghost use lib.ListN.{length, drop};
 ghost use Rattle.lists.specs.Onto.{onto};
 ghost use Rattle.step.specs.Handed.{lows, sentLength, sentPlace, sentData, receivedLength, receivedPlace, receivedData};
 ghost use Rattle.decode.specs.Outcome.{short, Outcome};
-use crate::handed::received_length;
-use crate::handed::received_place;
-use crate::handed::sent_length;
-use crate::handed::sent_place;
+use crate::received::received_length;
+use crate::received::received_place;
+use crate::sent::sent_length;
+use crate::sent::sent_place;
 use step::answer::Decoded;
 use step::whole::decode_by;
 use trace::protocol::is_forbidden;
 use trace::protocol::shape_of;
 use trace::shape::Shape;
 
-mod handed;
+mod received;
+mod sent;
 
 // Every second symbol from a place on, n of them, as bytes, to the front of a buffer.
 fn copy_data(buf: &mut [u8], tr: &[u16], from: usize, n: usize)

@@ -9,8 +9,8 @@ use Rattle.decode.proofs.put_received.Tie as tie
 use Rattle.decode.proofs.put_received.Reads as reads
 use Rattle.decode.proofs.put_received.Lts as lts
 use Rattle.decode.proofs.copy_data.Reads as copy-data-reads
-use Rattle.decode.proofs.handed.received_length.Reads as received-length-reads
-use Rattle.decode.proofs.handed.received_place.Reads as received-place-reads
+use Rattle.decode.proofs.received.received_length.Reads as received-length-reads
+use Rattle.decode.proofs.received.received_place.Reads as received-place-reads
 
 -- src/lib.rt:51:9
 received-length-requires : tie.Need-received-length-requires

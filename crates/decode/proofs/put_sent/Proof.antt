@@ -5,8 +5,8 @@ use Rattle.decode.proofs.put_sent.Tie as tie
 use Rattle.decode.proofs.put_sent.Reads as reads
 use Rattle.decode.proofs.put_sent.Lts as lts
 use Rattle.decode.proofs.copy_data.Reads as copy-data-reads
-use Rattle.decode.proofs.handed.sent_length.Reads as sent-length-reads
-use Rattle.decode.proofs.handed.sent_place.Reads as sent-place-reads
+use Rattle.decode.proofs.sent.sent_length.Reads as sent-length-reads
+use Rattle.decode.proofs.sent.sent_place.Reads as sent-place-reads
 
 -- src/lib.rt:41:9
 sent-length-requires : tie.Need-sent-length-requires
