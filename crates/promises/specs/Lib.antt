@@ -1,2 +1,3 @@
 pub mod Marked
 pub mod Unique
+pub mod Demand2
