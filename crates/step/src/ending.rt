@@ -43,10 +43,10 @@ fn less(a: usize, b: usize) -> usize
 }
 
 // The length of a part's data, whose count was m.
-fn data_length(a: Part, m: u8) -> usize
-    ensures { λ r. ⌜ r ≡ dataLength a m ⌝ }
+fn data_length(part: Part, m: u8) -> usize
+    ensures { λ r. ⌜ r ≡ dataLength part m ⌝ }
 {
-    match a {
+    match part {
         Part::Nothing => 0,
         Part::Fixed(k) => k as usize,
         Part::Counted => m as usize,
@@ -66,23 +66,23 @@ fn direction_of(sh: Shape, first: u8) -> u8
 fn transaction_of(protocol: u8, sh: Shape, d: Decoder) -> Transaction
     ensures { λ r. ⌜ r ≡ transaction protocol sh d ⌝ }
 {
-    let a = sh.sent;
-    let b = sh.received;
-    let to = Address::from_wire(WireByte(d.first));
+    let sent = sh.sent;
+    let received = sh.received;
+    let address = Address::from_wire(WireByte(d.first));
     Transaction {
         protocol,
-        address: to,
+        address,
         direction: direction_of(sh, d.first),
         command: d.command,
-        sent: data_length(a, d.sentcount),
-        received: data_length(b, d.readcount),
+        sent: data_length(sent, d.sentcount),
+        received: data_length(received, d.readcount),
     }
 }
 
-fn is_cut(a: Due) -> bool
-    ensures { λ r. ⌜ r ≡ isCut a ⌝ }
+fn is_cut(due: Due) -> bool
+    ensures { λ r. ⌜ r ≡ isCut due ⌝ }
 {
-    match a {
+    match due {
         Due::Cut => true,
         Due::Nobody => false,
         Due::Target => false,
@@ -95,8 +95,8 @@ fn is_cut(a: Due) -> bool
 pub(crate) fn finished(protocol: u8, sh: Shape, d: Decoder, tr: &[u16]) -> Decoded
     ensures { λ r. ⌜ r ≡ finish protocol sh d (now (tr .entry)) ⌝ }
 {
-    let a = d.due;
-    if is_cut(a) {
+    let due = d.due;
+    if is_cut(due) {
         return Decoded::NotAcknowledged(less(count_bytes(tr), 1));
     }
     if !is_over(d) {

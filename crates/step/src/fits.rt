@@ -20,10 +20,10 @@ use wire::symbol::STOP;
 use wire::symbol::is_byte;
 
 // The controller's ACK; its NACK comes after the last byte received.
-fn ack_at(s: Slot) -> u16
-    ensures { λ r. ⌜ r ≡ ackAt s ⌝ }
+fn ack_at(slot: Slot) -> u16
+    ensures { λ r. ⌜ r ≡ ackAt slot ⌝ }
 {
-    match s {
+    match slot {
         Slot::Stop => NACK,
         Slot::Start => ACK,
         Slot::First => ACK,
@@ -93,15 +93,15 @@ fn count_fits(sh: Shape, taken: u8, x: u16) -> bool
 }
 
 // The symbol may stand at the slot.
-fn fits_slot(sh: Shape, s: Slot, d: Decoder, x: u16) -> bool
-    ensures { λ r. ⌜ r ≡ fitsSlot sh s d x ⌝ }
+fn fits_slot(sh: Shape, slot: Slot, d: Decoder, x: u16) -> bool
+    ensures { λ r. ⌜ r ≡ fitsSlot sh slot d x ⌝ }
 {
-    let a = sh.received;
-    match s {
+    let received = sh.received;
+    match slot {
         Slot::Start => x == START,
         Slot::First => first_fits(sh, x),
         Slot::Command => command_fits(sh, x),
-        Slot::Count => count_fits(sh, least_of(a, sh.least), x),
+        Slot::Count => count_fits(sh, least_of(received, sh.least), x),
         Slot::Data => is_byte(x),
         Slot::Pec => is_byte(x),
         Slot::Restart => x == START,
@@ -118,12 +118,12 @@ fn fits_slot(sh: Shape, s: Slot, d: Decoder, x: u16) -> bool
 pub(crate) fn may_stand(sh: Shape, d: Decoder, x: u16) -> bool
     ensures { λ r. ⌜ r ≡ fits sh d x ⌝ }
 {
-    let a = d.due;
-    let s = d.slot;
-    match a {
-        Due::Nobody => fits_slot(sh, s, d, x),
+    let due = d.due;
+    let slot = d.slot;
+    match due {
+        Due::Nobody => fits_slot(sh, slot, d, x),
         Due::Target => { if x == ACK { true } else { x == NACK } }
-        Due::Controller => x == ack_at(s),
+        Due::Controller => x == ack_at(slot),
         Due::Halted => x == STOP,
         Due::Cut => false,
     }

@@ -16,13 +16,13 @@ use wire::pec::add_byte;
 use wire::symbol::ACK;
 
 // At another slot.
-fn moved_to(d: Decoder, s: Slot, a: Due, k: u8) -> Decoder
-    ensures { λ r. ⌜ r ≡ at d s a k ⌝ }
+fn moved_to(d: Decoder, slot: Slot, due: Due, left: u8) -> Decoder
+    ensures { λ r. ⌜ r ≡ at d slot due left ⌝ }
 {
     Decoder {
-        slot: s,
-        due: a,
-        left: k,
+        slot,
+        due,
+        left,
         crc: d.crc,
         first: d.first,
         command: d.command,
@@ -33,71 +33,71 @@ fn moved_to(d: Decoder, s: Slot, a: Due, k: u8) -> Decoder
 }
 
 // A byte was read: into PEC, and on.
-fn byte_read(d: Decoder, g: Aim, a: Due, x: u8) -> Decoder
-    ensures { λ r. ⌜ r ≡ byteRead d g a x ⌝ }
+fn byte_read(d: Decoder, aim: Aim, due: Due, x: u8) -> Decoder
+    ensures { λ r. ⌜ r ≡ byteRead d aim due x ⌝ }
 {
-    let s = g.slot;
-    let mut e = moved_to(d, s, a, g.left);
+    let slot = aim.slot;
+    let mut e = moved_to(d, slot, due, aim.left);
     e.crc = add_byte(d.crc, x);
     e
 }
 
-fn first_read(d: Decoder, g: Aim, x: u8) -> Decoder
-    ensures { λ r. ⌜ r ≡ firstRead d g x ⌝ }
+fn first_read(d: Decoder, aim: Aim, x: u8) -> Decoder
+    ensures { λ r. ⌜ r ≡ firstRead d aim x ⌝ }
 {
-    let mut e = byte_read(d, g, Due::Target, x);
+    let mut e = byte_read(d, aim, Due::Target, x);
     e.first = x;
     e
 }
 
-fn command_read(d: Decoder, g: Aim, x: u8) -> Decoder
-    ensures { λ r. ⌜ r ≡ commandRead d g x ⌝ }
+fn command_read(d: Decoder, aim: Aim, x: u8) -> Decoder
+    ensures { λ r. ⌜ r ≡ commandRead d aim x ⌝ }
 {
-    let mut e = byte_read(d, g, Due::Target, x);
+    let mut e = byte_read(d, aim, Due::Target, x);
     e.command = x;
     e
 }
 
-fn sent_count_read(d: Decoder, g: Aim, x: u8) -> Decoder
-    ensures { λ r. ⌜ r ≡ sentCountRead d g x ⌝ }
+fn sent_count_read(d: Decoder, aim: Aim, x: u8) -> Decoder
+    ensures { λ r. ⌜ r ≡ sentCountRead d aim x ⌝ }
 {
-    let mut e = byte_read(d, g, Due::Target, x);
+    let mut e = byte_read(d, aim, Due::Target, x);
     e.sentcount = x;
     e
 }
 
-fn read_count_read(d: Decoder, g: Aim, x: u8) -> Decoder
-    ensures { λ r. ⌜ r ≡ readCountRead d g x ⌝ }
+fn read_count_read(d: Decoder, aim: Aim, x: u8) -> Decoder
+    ensures { λ r. ⌜ r ≡ readCountRead d aim x ⌝ }
 {
-    let mut e = byte_read(d, g, Due::Controller, x);
+    let mut e = byte_read(d, aim, Due::Controller, x);
     e.readcount = x;
     e
 }
 
 // A byte in PEC's place is held against PEC, and is no part of it.
-fn pec_read(d: Decoder, a: Due, x: u8) -> Decoder
-    ensures { λ r. ⌜ r ≡ pecRead d a x ⌝ }
+fn pec_read(d: Decoder, due: Due, x: u8) -> Decoder
+    ensures { λ r. ⌜ r ≡ pecRead d due x ⌝ }
 {
-    let mut e = moved_to(d, Slot::Stop, a, 0);
+    let mut e = moved_to(d, Slot::Stop, due, 0);
     e.good = x == d.crc;
     e
 }
 
 // After a symbol at its slot; x is the symbol's low byte.
-fn move_slot(sh: Shape, pec: bool, s: Slot, d: Decoder, x: u8) -> Decoder
-    ensures { λ r. ⌜ r ≡ moveSlot sh pec s d x ⌝ }
+fn move_slot(sh: Shape, pec: bool, slot: Slot, d: Decoder, x: u8) -> Decoder
+    ensures { λ r. ⌜ r ≡ moveSlot sh pec slot d x ⌝ }
 {
-    let a = sh.sent;
-    let b = sh.received;
-    match s {
+    let sent = sh.sent;
+    let received = sh.received;
+    match slot {
         Slot::Start => moved_to(d, Slot::First, Due::Nobody, 0),
         Slot::First => first_read(d, after_first(sh, pec), x),
-        Slot::Command => command_read(d, to_sent(sh, pec, a), x),
+        Slot::Command => command_read(d, to_sent(sh, pec, sent), x),
         Slot::Count => sent_count_read(d, to_data(sh, pec, x), x),
         Slot::Data => byte_read(d, to_data(sh, pec, d.left), Due::Target, x),
         Slot::Pec => pec_read(d, Due::Target, x),
         Slot::Restart => moved_to(d, Slot::Second, Due::Nobody, 0),
-        Slot::Second => byte_read(d, to_read(b, pec), Due::Target, x),
+        Slot::Second => byte_read(d, to_read(received, pec), Due::Target, x),
         Slot::ReadCount => read_count_read(d, to_read_data(pec, x), x),
         Slot::ReadData => byte_read(d, to_read_data(pec, d.left), Due::Controller, x),
         Slot::ReadPec => pec_read(d, Due::Controller, x),
@@ -110,19 +110,19 @@ fn move_slot(sh: Shape, pec: bool, s: Slot, d: Decoder, x: u8) -> Decoder
 pub(crate) fn moved(sh: Shape, pec: bool, d: Decoder, x: u16) -> Decoder
     ensures { λ r. ⌜ r ≡ move sh pec d x ⌝ }
 {
-    let a = d.due;
-    let s = d.slot;
-    match a {
-        Due::Nobody => move_slot(sh, pec, s, d, (x % 256) as u8),
+    let due = d.due;
+    let slot = d.slot;
+    match due {
+        Due::Nobody => move_slot(sh, pec, slot, d, (x % 256) as u8),
         Due::Target => {
             if x == ACK {
-                moved_to(d, s, Due::Nobody, d.left)
+                moved_to(d, slot, Due::Nobody, d.left)
             } else {
-                moved_to(d, s, Due::Halted, d.left)
+                moved_to(d, slot, Due::Halted, d.left)
             }
         }
-        Due::Controller => moved_to(d, s, Due::Nobody, d.left),
-        Due::Halted => moved_to(d, s, Due::Cut, 0),
-        Due::Cut => moved_to(d, s, Due::Cut, 0),
+        Due::Controller => moved_to(d, slot, Due::Nobody, d.left),
+        Due::Halted => moved_to(d, slot, Due::Cut, 0),
+        Due::Cut => moved_to(d, slot, Due::Cut, 0),
     }
 }

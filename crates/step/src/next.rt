@@ -15,10 +15,10 @@ pub struct Aim {
 }
 
 // To a slot with no data bytes to count.
-fn aim_at(s: Slot) -> Aim
-    ensures { λ r. ⌜ r ≡ to s 0 ⌝ }
+fn aim_at(slot: Slot) -> Aim
+    ensures { λ r. ⌜ r ≡ to slot 0 ⌝ }
 {
-    Aim { slot: s, left: 0 }
+    Aim { slot, left: 0 }
 }
 
 // Behind the last data byte received.
@@ -46,10 +46,10 @@ pub(crate) fn to_read_data(pec: bool, k: u8) -> Aim
 }
 
 // To the part received.
-pub(crate) fn to_read(a: Part, pec: bool) -> Aim
-    ensures { λ r. ⌜ r ≡ toRead a pec ⌝ }
+pub(crate) fn to_read(part: Part, pec: bool) -> Aim
+    ensures { λ r. ⌜ r ≡ toRead part pec ⌝ }
 {
-    match a {
+    match part {
         Part::Nothing => after_read(pec),
         Part::Fixed(k) => to_read_data(pec, k),
         Part::Counted => aim_at(Slot::ReadCount),
@@ -60,12 +60,12 @@ pub(crate) fn to_read(a: Part, pec: bool) -> Aim
 pub(crate) fn after_write(sh: Shape, pec: bool) -> Aim
     ensures { λ r. ⌜ r ≡ afterWrite sh pec ⌝ }
 {
-    let a = sh.received;
+    let part = sh.received;
     if has_read(sh) {
         if has_write(sh) {
             return aim_at(Slot::Restart);
         }
-        return to_read(a, pec);
+        return to_read(part, pec);
     }
     if pec {
         aim_at(Slot::Pec)
@@ -88,10 +88,10 @@ pub(crate) fn to_data(sh: Shape, pec: bool, k: u8) -> Aim
 }
 
 // To a part sent.
-pub(crate) fn to_sent(sh: Shape, pec: bool, a: Part) -> Aim
-    ensures { λ r. ⌜ r ≡ toSent sh pec a ⌝ }
+pub(crate) fn to_sent(sh: Shape, pec: bool, part: Part) -> Aim
+    ensures { λ r. ⌜ r ≡ toSent sh pec part ⌝ }
 {
-    match a {
+    match part {
         Part::Nothing => after_write(sh, pec),
         Part::Fixed(k) => to_data(sh, pec, k),
         Part::Counted => aim_at(Slot::Count),
@@ -102,9 +102,9 @@ pub(crate) fn to_sent(sh: Shape, pec: bool, a: Part) -> Aim
 pub(crate) fn after_first(sh: Shape, pec: bool) -> Aim
     ensures { λ r. ⌜ r ≡ afterFirst sh pec ⌝ }
 {
-    let a = sh.sent;
+    let part = sh.sent;
     if sh.command {
         return aim_at(Slot::Command);
     }
-    to_sent(sh, pec, a)
+    to_sent(sh, pec, part)
 }

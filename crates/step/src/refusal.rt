@@ -7,10 +7,10 @@ use crate::state::Due;
 use crate::state::Slot;
 use wire::symbol::is_symbol;
 
-fn is_ended(s: Slot) -> bool
-    ensures { λ r. ⌜ r ≡ ended s ⌝ }
+fn is_ended(slot: Slot) -> bool
+    ensures { λ r. ⌜ r ≡ ended slot ⌝ }
 {
-    match s {
+    match slot {
         Slot::End => true,
         Slot::Start => false,
         Slot::First => false,
@@ -31,10 +31,10 @@ fn is_ended(s: Slot) -> bool
 pub(crate) fn is_over(d: Decoder) -> bool
     ensures { λ r. ⌜ r ≡ over (d .due) (d .slot) ⌝ }
 {
-    let a = d.due;
-    let s = d.slot;
-    match a {
-        Due::Nobody => is_ended(s),
+    let due = d.due;
+    let slot = d.slot;
+    match due {
+        Due::Nobody => is_ended(slot),
         Due::Target => false,
         Due::Controller => false,
         Due::Halted => false,

@@ -18,39 +18,30 @@ Inv-loop buf₀ tr from n j₀ at₀ buf j at = (j ≤ n) × (at ≡ from + 2 * 
 abbrev μ-loop : tie.MeasureT-loop
 μ-loop buf₀ tr from n j₀ at₀ buf j at = n - j
 
--- src/lib.rt:29:5
 loop-holds : tie.Need-loop-holds Inv-loop μ-loop
 loop-holds c = (search needs, omega arith, refl, refl)
 
--- src/lib.rt:30:19
 mul-buf : tie.Need-mul-buf Inv-loop μ-loop
 mul-buf c = omega (arith, c .before .before .pre .1 (c .before .loop .j) (c .loop-test .taken))
 
--- src/lib.rt:30:19
 shared-slice-read-buf : tie.Need-shared-slice-read-buf Inv-loop μ-loop
 shared-slice-read-buf c = omega (arith, c .before .before .before .pre .1 (c .before .before .loop .j) (c .before .loop-test .taken))
 
--- src/lib.rt:30:18
 cast-buf : tie.Need-cast-buf Inv-loop μ-loop
 cast-buf c = search needs
 
--- src/lib.rt:30:9
 slice-write-buf : tie.Need-slice-write-buf Inv-loop μ-loop
 slice-write-buf c = omega arith
 
--- src/lib.rt:31:9
 add-at : tie.Need-add-at Inv-loop μ-loop
 add-at c = omega (arith, c .before .before .before .pre .1 (c .before .before .loop .j) (c .before .loop-test .taken))
 
--- src/lib.rt:32:9
 add-j : tie.Need-add-j Inv-loop μ-loop
 add-j c = omega arith
 
--- src/lib.rt:29:5
 loop-less : tie.Need-loop-less Inv-loop μ-loop
 loop-less c = omega arith
 
--- src/lib.rt:29:5
 loop-again : tie.Need-loop-again Inv-loop μ-loop
 loop-again c =
     let l = c .before .before .loop in
@@ -61,11 +52,9 @@ loop-again c =
       rw (l .inv .3) (copy-turn (a .buf .now) (a .tr .now) (a .from) (l .j) (l .at) (omega arith) (l .inv .1)),
     )
 
--- src/lib.rt:23:1
 same-length : tie.Need-same-length Inv-loop μ-loop
 same-length c = c .before .loop .inv .2
 
--- src/lib.rt:23:1
 returns : tie.Need-returns Inv-loop μ-loop
 returns c =
     let l = c .before .loop in

@@ -4,11 +4,9 @@ use Rattle.decode.proofs.is_short.Tie as tie
 use Rattle.decode.proofs.is_short.Reads as reads
 use Rattle.decode.proofs.is_short.Lts as lts
 
--- src/lib.rt:57:1
 returns : tie.Need-returns
 returns c = rw (lt-ltb _ _ (c .if1 .taken))
 
--- src/lib.rt:57:1
 returns-2 : tie.Need-returns-2
 returns-2 c = rw (le-ltb _ _ (c .if1 .left))
 

@@ -12,15 +12,12 @@ use Rattle.decode.proofs.copy_data.Reads as copy-data-reads
 use Rattle.decode.proofs.received.received_length.Reads as received-length-reads
 use Rattle.decode.proofs.received.received_place.Reads as received-place-reads
 
--- src/lib.rt:51:9
 received-length-requires : tie.Need-received-length-requires
 received-length-requires c κs = search needs
 
--- src/lib.rt:52:9
 received-place-requires : tie.Need-received-place-requires
 received-place-requires c κs = search needs
 
--- src/lib.rt:53:5
 copy-data-requires : tie.Need-copy-data-requires
 copy-data-requires c κs =
     let a = c .before .before .before .before .before .args in
@@ -28,11 +25,9 @@ copy-data-requires c κs =
     let n = c .before .before .received-length .ensures in
     copy-asks (a .buf .now) (a .tr .now) _ _ _ _ n (c .before .received-place .ensures ∙ ap (λ (k : ℕ). receivedPlace (a .pec) k (length (a .tr .now))) n) (h .0) (h .1)
 
--- src/lib.rt:47:1
 same-length : tie.Need-same-length
 same-length c = search needs
 
--- src/lib.rt:47:1
 returns : tie.Need-returns
 returns c =
     let a = c .before .before .before .before .before .before .before .before .args in

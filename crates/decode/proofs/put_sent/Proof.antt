@@ -8,26 +8,21 @@ use Rattle.decode.proofs.copy_data.Reads as copy-data-reads
 use Rattle.decode.proofs.sent.sent_length.Reads as sent-length-reads
 use Rattle.decode.proofs.sent.sent_place.Reads as sent-place-reads
 
--- src/lib.rt:41:9
 sent-length-requires : tie.Need-sent-length-requires
 sent-length-requires c κs = search needs
 
--- src/lib.rt:42:9
 sent-place-requires : tie.Need-sent-place-requires
 sent-place-requires c κs = search needs
 
--- src/lib.rt:43:5
 copy-data-requires : tie.Need-copy-data-requires
 copy-data-requires c κs =
     let a = c .before .before .before .before .before .args in
     let h = c .before .before .before .before .before .pre in
     copy-asks (a .buf .now) (a .tr .now) _ _ _ _ (c .before .before .sent-length .ensures) (c .before .sent-place .ensures) (h .0) (h .1)
 
--- src/lib.rt:37:1
 same-length : tie.Need-same-length
 same-length c = search needs
 
--- src/lib.rt:37:1
 returns : tie.Need-returns
 returns c =
     let a = c .before .before .before .before .before .before .before .before .args in

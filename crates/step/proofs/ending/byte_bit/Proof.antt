@@ -7,15 +7,12 @@ use Rattle.step.proofs.ending.byte_bit.Reads as reads
 use Rattle.step.proofs.ending.byte_bit.Lts as lts
 use Rattle.wire.proofs.symbol.is_byte.Reads as is-byte-reads
 
--- src/ending.rt:24:8
 is-byte-requires : tie.Need-is-byte-requires
 is-byte-requires c κs = search needs
 
--- src/ending.rt:21:1
 returns : tie.Need-returns
 returns c = (rw (sym (c .before .is-byte .ensures) ∙ c .if1 .taken), omega arith)
 
--- src/ending.rt:21:1
 returns-2 : tie.Need-returns-2
 returns-2 c = (rw (sym (c .before .is-byte .ensures) ∙ c .if1 .left), omega arith)
 

@@ -17,35 +17,27 @@ Inv-loop tr n₀ i₀ n i = (i ≤ length tr) × (n ≤ i) × (byteCount tr ≡ 
 abbrev μ-loop : tie.MeasureT-loop
 μ-loop tr n₀ i₀ n i = length tr - i
 
--- src/ending.rt:32:5
 loop-holds : tie.Need-loop-holds Inv-loop μ-loop
 loop-holds c = (search needs, search needs, omega arith)
 
--- src/ending.rt:33:23
 mul-byte-bit : tie.Need-mul-byte-bit Inv-loop μ-loop
 mul-byte-bit c = search needs
 
--- src/ending.rt:33:23
 shared-slice-read-byte-bit : tie.Need-shared-slice-read-byte-bit Inv-loop μ-loop
 shared-slice-read-byte-bit c = search needs
 
--- src/ending.rt:33:14
 byte-bit-requires : tie.Need-byte-bit-requires Inv-loop μ-loop
 byte-bit-requires c κs = search needs
 
--- src/ending.rt:33:9
 add-n : tie.Need-add-n Inv-loop μ-loop
 add-n c = omega (arith, c .byte-bit .ensures .1)
 
--- src/ending.rt:34:9
 add-i : tie.Need-add-i Inv-loop μ-loop
 add-i c = search needs
 
--- src/ending.rt:32:5
 loop-less : tie.Need-loop-less Inv-loop μ-loop
 loop-less c = search needs
 
--- src/ending.rt:32:5
 loop-again : tie.Need-loop-again Inv-loop μ-loop
 loop-again c =
     let l = c .before .before .before .loop in
@@ -53,7 +45,6 @@ loop-again c =
     let e = c .byte-bit .ensures in
     (omega arith, omega (arith, e .1), omega (arith, l .inv .2, t, e .0))
 
--- src/ending.rt:27:1
 returns : tie.Need-returns Inv-loop μ-loop
 returns c =
     let l = c .before .loop in

@@ -12,35 +12,27 @@ use Rattle.trace.proofs.valid.address_fits.Reads as address-fits-reads
 use Rattle.wire.proofs.address.Address.from_wire.Reads as from-wire-reads
 use Rattle.wire.proofs.symbol.is_byte.Reads as is-byte-reads
 
--- src/fits.rt:60:9
 is-byte-requires : tie.Need-is-byte-requires
 is-byte-requires c κs = search needs
 
--- src/fits.rt:61:9
 returns : tie.Need-returns
 returns c = rw (sym (c .before .is-byte .ensures) ∙ not-true _ (c .if1 .taken))
 
--- src/fits.rt:63:22
 cast-t7 : tie.Need-cast-t7
 cast-t7 c = search needs
 
--- src/fits.rt:64:26
 from-wire-requires : tie.Need-from-wire-requires
 from-wire-requires c κs = search needs
 
--- src/fits.rt:64:9
 address-fits-requires : tie.Need-address-fits-requires
 address-fits-requires c κs = search needs
 
--- src/fits.rt:65:9
 returns-2 : tie.Need-returns-2
 returns-2 c = first-is (c .before .before .before .before .before .args .sh) (c .before .before .before .before .before .args .x) _ false _ (sym (c .before .before .before .before .is-byte .ensures) ∙ not-false _ (c .before .before .before .if1 .left)) (c .before .before .from-wire .ensures) (sym (c .before .address-fits .ensures) ∙ not-true _ (c .if2 .taken)) refl
 
--- src/fits.rt:67:5
 way-fits-requires : tie.Need-way-fits-requires
 way-fits-requires c κs = search needs
 
--- src/fits.rt:57:1
 returns-3 : tie.Need-returns-3
 returns-3 c = c .way-fits .ensures ∙ first-is (c .before .before .before .before .before .before .args .sh) (c .before .before .before .before .before .before .args .x) _ true _ (sym (c .before .before .before .before .before .is-byte .ensures) ∙ not-false _ (c .before .before .before .before .if1 .left)) (c .before .before .before .from-wire .ensures) (sym (c .before .before .address-fits .ensures) ∙ not-false _ (c .before .if2 .left)) refl
 

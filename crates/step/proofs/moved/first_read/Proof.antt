@@ -5,11 +5,9 @@ use Rattle.step.proofs.moved.first_read.Reads as reads
 use Rattle.step.proofs.moved.first_read.Lts as lts
 use Rattle.step.proofs.moved.byte_read.Reads as byte-read-reads
 
--- src/moved.rt:48:9
 byte-read-requires : tie.Need-byte-read-requires
 byte-read-requires c κs = search needs
 
--- src/moved.rt:45:1
 returns : tie.Need-returns
 returns c = rw (c .byte-read .ensures)
 

@@ -8,30 +8,24 @@ use Rattle.step.proofs.whole.decode_by.Lts as lts
 use Rattle.step.proofs.ending.finished.Reads as finished-reads
 use Rattle.step.proofs.whole.read_all.Reads as read-all-reads
 
--- src/whole.rt:41:9
 read-all-requires : tie.Need-read-all-requires
 read-all-requires c κs = search needs
 
--- src/whole.rt:43:27
 enum-known-g : tie.Need-enum-known-g
 enum-known-g c = search needs
 
--- src/whole.rt:43:33
 finished-requires : tie.Need-finished-requires
 finished-requires c κs = search needs
 
--- src/whole.rt:44:27
 enum-known-g-2 : tie.Need-enum-known-g-2
 enum-known-g-2 c = search needs
 
--- src/whole.rt:38:1
 returns : tie.Need-returns
 unfolding decodedBy
 returns c =
     let a = c .before .before .before .before .before .before .args in
     rw (c .finished .ensures) (sym (ap (concluded (a .protocol) (a .sh) (a .tr .now)) (sym (c .before .before .before .before .read-all .ensures) ∙ c .before .before .g .given .1)))
 
--- src/whole.rt:38:1
 returns-2 : tie.Need-returns-2
 unfolding decodedBy
 returns-2 c =
