@@ -147,7 +147,7 @@ module _ (num : ℕ) (sh : Shape) (hs : Sane sh) (p : Bool) where
     pub number-8 : (place : ℕ) → (paper answer ≡ (8, place)) ↔ ((place < length tr) × Member sh p (take place tr) × (getD tr place 0 ≤ NACK))
     number-8 k = (λ e. (let g = given 8 k e in (g .0, g .1, g .2)), λ h. gives (AfterStop k) (h .0, h .1, h .2, refl, refl))
 
-    -- after the last STOP nothing fits, so that 8 stands at the first place that is wrong, and 3 comes before it
+    -- the order of the numbers. After the last STOP nothing fits, so that 8 stands at the first place that is wrong
     pub nothing-after : (place : ℕ) → place < length tr → Member sh p (take place tr) → Breaks sh p tr place
     nothing-after k h m =
         let r = member-runs sh hs p (take k tr) m in
@@ -156,6 +156,16 @@ module _ (num : ℕ) (sh : Shape) (hs : Sane sh) (p : Bool) where
           before = fits-back sh hs p (take k tr) (r .0) (r .1);
           here = λ g. (let q = fits-runs sh hs p (take (suc k) tr) g in not-more sh p tr k fresh (r .0) h (r .1) (nothing-follows sh p (r .0) (getD tr k 0) (r .2)) (q .0) (q .1));
         }
+
+    -- 3 comes before 8 at one place; before 5 it comes by number-3
+    pub three-before-eight : (place : ℕ) → place < length tr → Member sh p (take place tr) → NACK < getD tr place 0 → paper answer ≡ (3, place)
+    three-before-eight k h m g = number-3 k .1 (nothing-after k h m, g)
+
+    -- 6 comes before 7: a trace that the target cut is none whose PEC differs
+    pub six-before-seven : (byte place : ℕ) → CutAt sh p tr byte → OtherPec sh p tr place → ⊥
+    six-before-seven b k h g =
+        let e = sym (ap (λ (q : ℕ × ℕ). q .0) (number-6 b .1 h)) ∙ ap (λ (q : ℕ × ℕ). q .0) (number-7 k .1 g) in
+        omega (arith, e)
 
   -- the first place that is wrong decides: what follows it does not matter
   stuck-at : (w : List ℕ) (x : ℕ) (d : Decoder) → run sh p fresh 0 w ≡ Reading d → (Fits sh p (w ++ x ∷ []) → ⊥) → fits sh d x ≡ false
