@@ -27,11 +27,11 @@ length-there least Nothing s h = eq-eqb (length s) 0 h
 length-there least (Fixed k) s h = eq-eqb (length s) k h
 length-there least Counted s h = le-leb least (length s) h
 
-address-back : (b : Bool) (a : ℕ) → pick b (eqb a hostAddress) (ltb a 128) ≡ true → pick b (a ≡ hostAddress) (a < 128)
+pub address-back : (b : Bool) (a : ℕ) → pick b (eqb a hostAddress) (ltb a 128) ≡ true → pick b (a ≡ hostAddress) (a < 128)
 address-back true a h = eqb-true a hostAddress h
 address-back false a h = ltb-true a 128 h
 
-address-there : (b : Bool) (a : ℕ) → pick b (a ≡ hostAddress) (a < 128) → pick b (eqb a hostAddress) (ltb a 128) ≡ true
+pub address-there : (b : Bool) (a : ℕ) → pick b (a ≡ hostAddress) (a < 128) → pick b (eqb a hostAddress) (ltb a 128) ≡ true
 address-there true a h = eq-eqb a hostAddress h
 address-there false a h = lt-ltb a 128 h
 
@@ -43,11 +43,11 @@ direction-there : (b : Bool) (d : ℕ) → pick b (d ≡ 0) (d ≤ 1) → pick b
 direction-there true d h = eq-eqb d 0 h
 direction-there false d h = le-leb d 1 h
 
-sender-back : (b : Bool) (c : ℕ) → pick b (eqb (c % 2) 0) true ≡ true → pick b (c % 2 ≡ 0) Unit
+pub sender-back : (b : Bool) (c : ℕ) → pick b (eqb (c % 2) 0) true ≡ true → pick b (c % 2 ≡ 0) Unit
 sender-back true c h = eqb-true (c % 2) 0 h
 sender-back false c h = tt
 
-sender-there : (b : Bool) (c : ℕ) → pick b (c % 2 ≡ 0) Unit → pick b (eqb (c % 2) 0) true ≡ true
+pub sender-there : (b : Bool) (c : ℕ) → pick b (c % 2 ≡ 0) Unit → pick b (eqb (c % 2) 0) true ≡ true
 sender-there true c h = eq-eqb (c % 2) 0 h
 sender-there false c h = refl
 

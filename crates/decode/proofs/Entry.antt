@@ -1,0 +1,62 @@
+-- The entry: its tests as the definitions have them, and what its two copies ask for.
+use mathlib.Core.Path.{_≡_, refl, sym, ap, _∙_, subst}
+use mathlib.Core.Bool.{Bool, true, false}
+use mathlib.Core.List.{List}
+use Prim.Native.Nat.{ℕ, _+_, _*_, _≤_, _<_}
+use native.Mathlib.Omega.{arith}
+use lib.ListN.{length}
+use lib.Dec.{ltb}
+use borrow.Author.Tests.{ltb-false}
+use Rattle.lists.specs.Choice.{pick, or}
+use Rattle.lists.specs.Onto.{onto}
+use Rattle.trace.specs.declared.shape.Shape.{Shape}
+use Rattle.trace.specs.Shapes.{shapeOf, forbidden}
+use Rattle.trace.specs.ShapeLaws.{Sane, sane}
+use Rattle.step.specs.declared.answer.Decoded.{Decoded}
+use Rattle.step.specs.declared.answer.Decoded.the-variants.{Forbidden, BufferTooShort}
+use Rattle.step.specs.Run.{decodedBy}
+use Rattle.step.specs.Handed.{sentLength, receivedLength, sentPlace, receivedPlace, sentData, receivedData}
+use Rattle.step.proofs.Sizes.{Sizes, sizes}
+use Rattle.decode.specs.Outcome.{short, answered, Outcome}
+
+-- the answer, from the tests
+answered-is : (protocol : ℕ) (pec : Bool) (tr : List ℕ) (s r : ℕ) (b c : Bool) → forbidden protocol pec ≡ b → short s r ≡ c
+    → pick b Forbidden (pick c BufferTooShort (decodedBy protocol (shapeOf protocol) pec tr)) ≡ answered protocol pec tr s r
+unfolding answered
+answered-is protocol pec tr s r b c e f = sym (rw (e, f))
+
+-- both buffers are long enough
+neither : (a b : Bool) → or a b ≡ false → (a ≡ false) × (b ≡ false)
+neither true b h = (h, cc)
+neither false b h = (refl, h)
+
+pub roomy : (s r : ℕ) → short s r ≡ false → (255 ≤ s) × (255 ≤ r)
+roomy s r h = let n = neither (ltb s 255) (ltb r 255) h in (ltb-false s 255 (n .0), ltb-false r 255 (n .1))
+
+module _ (protocol : ℕ) (p : Bool) (tr s r : List ℕ) where
+  -- refused before the trace is read
+  pub outcome-forbidden : forbidden protocol p ≡ true → Outcome protocol p tr s r Forbidden s r
+  outcome-forbidden h = record { answer = answered-is protocol p tr (length s) (length r) true _ h refl; data-sent = refl; data-received = refl }
+
+  pub outcome-short : forbidden protocol p ≡ false → short (length s) (length r) ≡ true → Outcome protocol p tr s r BufferTooShort s r
+  outcome-short h g = record { answer = answered-is protocol p tr (length s) (length r) false true h g; data-sent = refl; data-received = refl }
+
+  module _ (sh : Shape) (a : Decoded) (e : sh ≡ shapeOf protocol) (g : a ≡ decodedBy protocol sh p tr) where
+    here : Sizes sh p tr a
+    here = subst (Sizes sh p tr) (sym g) (sizes protocol sh (subst Sane (sym e) (sane protocol)) p tr)
+
+    pub asks-sent : short (length s) (length r) ≡ false → (sentLength a ≤ length s) × ((j : ℕ) → j < sentLength a → sentPlace sh + 2 * j < length tr)
+    asks-sent h = (omega (arith, here .sent-small, roomy (length s) (length r) h), here .sent)
+
+    pub asks-received : short (length s) (length r) ≡ false
+        → (receivedLength a ≤ length r) × ((j : ℕ) → j < receivedLength a → receivedPlace p (receivedLength a) (length tr) + 2 * j < length tr)
+    asks-received h = (omega (arith, here .received-small, roomy (length s) (length r) h), here .received)
+
+    pub outcome-read : forbidden protocol p ≡ false → short (length s) (length r) ≡ false → (x y : List ℕ) → x ≡ onto (sentData sh tr a) s → y ≡ onto (receivedData p tr a) r
+        → Outcome protocol p tr s r a x y
+    outcome-read f h x y q k =
+        record {
+          answer = g ∙ ap (λ (u : Shape). decodedBy protocol u p tr) e ∙ answered-is protocol p tr (length s) (length r) false false f h;
+          data-sent = q ∙ ap (λ (u : Shape). onto (sentData u tr a) s) e;
+          data-received = k;
+        }

@@ -1,0 +1,84 @@
+use Rattle.decode.proofs.Entry.{outcome-forbidden, outcome-short, asks-sent, asks-received, outcome-read}
+use mathlib.Core.Path.{_≡_, sym, _∙_}
+use borrow.Author.Needs.{needs}
+use Rattle.decode.proofs.decode.Statement.{statement}
+use Rattle.decode.proofs.decode.Tie as tie
+use Rattle.decode.proofs.decode.Reads as reads
+use Rattle.decode.proofs.decode.Lts as lts
+use Rattle.decode.proofs.is_short.Reads as is-short-reads
+use Rattle.decode.proofs.put_received.Reads as put-received-reads
+use Rattle.decode.proofs.put_sent.Reads as put-sent-reads
+use Rattle.step.proofs.whole.decode_by.Reads as decode-by-reads
+use Rattle.trace.proofs.protocol.is_forbidden.Reads as is-forbidden-reads
+use Rattle.trace.proofs.protocol.shape_of.Reads as shape-of-reads
+
+-- src/lib.rt:74:8
+is-forbidden-requires : tie.Need-is-forbidden-requires
+is-forbidden-requires c κs = search needs
+
+-- src/lib.rt:75:9
+returns : tie.Need-returns
+returns c =
+    let a = c .before .before .before .before .before .args in
+    outcome-forbidden (a .protocol) (a .pec) (a .trace .now) (a .sent .now) (a .received .now) (sym (c .before .is-forbidden .ensures) ∙ c .if1 .taken)
+
+-- src/lib.rt:77:8
+is-short-requires : tie.Need-is-short-requires
+is-short-requires c κs = search needs
+
+-- src/lib.rt:78:9
+returns-2 : tie.Need-returns-2
+returns-2 c =
+    let a = c .before .before .before .before .before .before .before .args in
+    outcome-short (a .protocol) (a .pec) (a .trace .now) (a .sent .now) (a .received .now) (sym (c .before .before .before .is-forbidden .ensures) ∙ c .before .before .if1 .left) (sym (c .before .is-short .ensures) ∙ c .if2 .taken)
+
+-- src/lib.rt:80:9
+shape-of-requires : tie.Need-shape-of-requires
+shape-of-requires c κs = search needs
+
+-- src/lib.rt:81:9
+decode-by-requires : tie.Need-decode-by-requires
+decode-by-requires c κs = search needs
+
+-- src/lib.rt:82:5
+put-sent-requires : tie.Need-put-sent-requires
+put-sent-requires c κs =
+    let a = c .before .before .before .before .before .before .before .before .before .before .args in
+    asks-sent (a .protocol) (a .pec) (a .trace .now) (a .sent .now) (a .received .now) _ _ (c .before .before .shape-of .ensures) (c .before .decode-by .ensures) (sym (c .before .before .before .before .is-short .ensures) ∙ c .before .before .before .if2 .left)
+
+-- src/lib.rt:83:5
+put-received-requires : tie.Need-put-received-requires
+put-received-requires c κs =
+    let a = c .before .before .before .before .before .before .before .before .before .before .before .before .before .before .args in
+    asks-received (a .protocol) (a .pec) (a .trace .now) (a .sent .now) (a .received .now) _ _ (c .before .before .before .before .before .before .shape-of .ensures) (c .before .before .before .before .before .decode-by .ensures) (sym (c .before .before .before .before .before .before .before .before .is-short .ensures) ∙ c .before .before .before .before .before .before .before .if2 .left)
+
+-- src/lib.rt:65:1
+same-length : tie.Need-same-length
+same-length c = search needs
+
+-- src/lib.rt:65:1
+same-length-2 : tie.Need-same-length-2
+same-length-2 c = search needs
+
+-- src/lib.rt:65:1
+returns-3 : tie.Need-returns-3
+returns-3 c =
+    let a = c .before .before .before .before .before .before .before .before .before .before .before .before .before .before .before .before .before .args in
+    outcome-read (a .protocol) (a .pec) (a .trace .now) (a .sent .now) (a .received .now) _ _ (c .before .before .before .before .before .before .before .before .before .shape-of .ensures) (c .before .before .before .before .before .before .before .before .decode-by .ensures) (sym (c .before .before .before .before .before .before .before .before .before .before .before .before .before .is-forbidden .ensures) ∙ c .before .before .before .before .before .before .before .before .before .before .before .before .if1 .left)
+    (sym (c .before .before .before .before .before .before .before .before .before .before .before .is-short .ensures) ∙ c .before .before .before .before .before .before .before .before .before .before .if2 .left) _ _ (c .before .before .before .before .before .before .put-sent .ensures) (c .before .before .put-received .ensures)
+
+pub decode-spec : {M : Type 1} → statement M
+decode-spec =
+    tie.close
+    (tie.spec
+    is-forbidden-requires
+    returns
+    is-short-requires
+    returns-2
+    shape-of-requires
+    decode-by-requires
+    put-sent-requires
+    put-received-requires
+    same-length
+    same-length-2
+    returns-3)

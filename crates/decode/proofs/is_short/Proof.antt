@@ -1,0 +1,16 @@
+use borrow.Author.Tests.{lt-ltb, le-ltb}
+use Rattle.decode.proofs.is_short.Statement.{statement}
+use Rattle.decode.proofs.is_short.Tie as tie
+use Rattle.decode.proofs.is_short.Reads as reads
+use Rattle.decode.proofs.is_short.Lts as lts
+
+-- src/lib.rt:57:1
+returns : tie.Need-returns
+returns c = rw (lt-ltb _ _ (c .if1 .taken))
+
+-- src/lib.rt:57:1
+returns-2 : tie.Need-returns-2
+returns-2 c = rw (le-ltb _ _ (c .if1 .left))
+
+pub is-short-spec : {M : Type 1} → statement M
+is-short-spec = tie.close (tie.spec returns returns-2)

@@ -1,0 +1,50 @@
+use Rattle.decode.proofs.Copies.{copy-asks, copied}
+use Rattle.step.specs.Handed.{receivedPlace}
+use lib.ListN.{length}
+use Prim.Native.Nat.{ℕ}
+use mathlib.Core.Path.{_≡_, _∙_, ap}
+use borrow.Author.Needs.{needs}
+use Rattle.decode.proofs.put_received.Statement.{statement}
+use Rattle.decode.proofs.put_received.Tie as tie
+use Rattle.decode.proofs.put_received.Reads as reads
+use Rattle.decode.proofs.put_received.Lts as lts
+use Rattle.decode.proofs.copy_data.Reads as copy-data-reads
+use Rattle.decode.proofs.received.received_length.Reads as received-length-reads
+use Rattle.decode.proofs.received.received_place.Reads as received-place-reads
+
+-- src/lib.rt:51:9
+received-length-requires : tie.Need-received-length-requires
+received-length-requires c κs = search needs
+
+-- src/lib.rt:52:9
+received-place-requires : tie.Need-received-place-requires
+received-place-requires c κs = search needs
+
+-- src/lib.rt:53:5
+copy-data-requires : tie.Need-copy-data-requires
+copy-data-requires c κs =
+    let a = c .before .before .before .before .before .args in
+    let h = c .before .before .before .before .before .pre in
+    let n = c .before .before .received-length .ensures in
+    copy-asks (a .buf .now) (a .tr .now) _ _ _ _ n (c .before .received-place .ensures ∙ ap (λ (k : ℕ). receivedPlace (a .pec) k (length (a .tr .now))) n) (h .0) (h .1)
+
+-- src/lib.rt:47:1
+same-length : tie.Need-same-length
+same-length c = search needs
+
+-- src/lib.rt:47:1
+returns : tie.Need-returns
+returns c =
+    let a = c .before .before .before .before .before .before .before .before .args in
+    let n = c .before .before .before .before .before .received-length .ensures in
+    copied (a .buf .now) (a .tr .now) _ _ _ _ n (c .before .before .before .before .received-place .ensures ∙ ap (λ (k : ℕ). receivedPlace (a .pec) k (length (a .tr .now))) n) _ (c .before .before .copy-data .ensures)
+
+pub put-received-spec : {M : Type 1} → statement M
+put-received-spec =
+    tie.close
+    (tie.spec
+    received-length-requires
+    received-place-requires
+    copy-data-requires
+    same-length
+    returns)

@@ -1,0 +1,50 @@
+-- What a call of the decoder promises: Outcome, by equations, and Means, which says the same without a word on how it is computed.
+use mathlib.Core.Path.{_≡_}
+use mathlib.Core.Bool.{Bool}
+use mathlib.Core.List.{List}
+use Prim.Native.Nat.{ℕ}
+use lib.ListN.{length}
+use lib.Dec.{ltb}
+use Rattle.lists.specs.Choice.{pick, or}
+use Rattle.lists.specs.Onto.{onto}
+use Rattle.trace.specs.Shapes.{shapeOf, forbidden}
+use Rattle.step.specs.declared.answer.Decoded.{Decoded}
+use Rattle.step.specs.declared.answer.Decoded.the-variants.{Forbidden, BufferTooShort}
+use Rattle.step.specs.Run.{decodedBy}
+use Rattle.step.specs.Handed.{sentData, receivedData}
+use Rattle.step.specs.Answers.{Answers}
+
+-- 2: a buffer of under 255 bytes
+abbrev pub short : ℕ → ℕ → Bool
+short sentRoom receivedRoom = or (ltb sentRoom 255) (ltb receivedRoom 255)
+
+-- the answer, with the lengths of the two buffers: 1, then 2, then what the trace says
+unfoldable pub answered : ℕ → Bool → List ℕ → ℕ → ℕ → Decoded
+answered protocol pec tr sentRoom receivedRoom =
+    pick (forbidden protocol pec) Forbidden (pick (short sentRoom receivedRoom) BufferTooShort (decodedBy protocol (shapeOf protocol) pec tr))
+
+-- the answer a of a call, and what the buffers hold after it, which held sent₀ and received₀ before
+pub record Outcome (protocol : ℕ) (pec : Bool) (tr sent₀ received₀ : List ℕ) (a : Decoded) (sent received : List ℕ) : Type 0 where
+  pub answer : a ≡ answered protocol pec tr (length sent₀) (length received₀)
+  pub data-sent : sent ≡ onto (sentData (shapeOf protocol) tr a) sent₀
+  pub data-received : received ≡ onto (receivedData pec tr a) received₀
+
+-- a refusal before the trace is read, with both buffers as they were
+pub record Unread (refusal : Decoded) (sent₀ received₀ : List ℕ) (a : Decoded) (sent received : List ℕ) : Type 0 where
+  pub answer : a ≡ refusal
+  pub same-sent : sent ≡ sent₀
+  pub same-received : received ≡ received₀
+
+-- what the trace says, with its data at the fronts of the buffers; a refusal has none
+pub record Read (protocol : ℕ) (pec : Bool) (tr sent₀ received₀ : List ℕ) (a : Decoded) (sent received : List ℕ) : Type 0 where
+  pub s : List ℕ
+  pub r : List ℕ
+  pub means : Answers protocol (shapeOf protocol) pec tr a s r
+  pub front-sent : sent ≡ onto s sent₀
+  pub front-received : received ≡ onto r received₀
+
+abbrev pub Means : ℕ → Bool → List ℕ → List ℕ → List ℕ → Decoded → List ℕ → List ℕ → Type 0
+Means protocol pec tr sent₀ received₀ a sent received =
+    pick (forbidden protocol pec) (Unread Forbidden sent₀ received₀ a sent received)
+    (pick (short (length sent₀) (length received₀)) (Unread BufferTooShort sent₀ received₀ a sent received)
+    (Read protocol pec tr sent₀ received₀ a sent received))

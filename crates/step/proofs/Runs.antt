@@ -1,0 +1,76 @@
+-- Laws of the fold: one symbol, a trace in two parts, and where the count of symbols does not matter.
+use mathlib.Core.Path.{_≡_, refl, sym, _∙_, ap}
+use mathlib.Core.Bool.{Bool, true, false}
+use mathlib.Core.List.{List, [], _∷_, _++_}
+use Prim.Native.Nat.{ℕ, suc, _+_}
+use native.Mathlib.Omega.{arith}
+use lib.ListN.{length}
+use Rattle.lists.specs.Choice.{pick}
+use Rattle.trace.specs.declared.shape.Shape.{Shape}
+use Rattle.step.specs.declared.answer.Decoded.{Decoded}
+use Rattle.step.specs.declared.state.Decoder.{Decoder}
+use Rattle.step.specs.declared.whole.Progress.the-variants.{Reading, Refused}
+use Rattle.step.specs.Fits.{fits}
+use Rattle.step.specs.Move.{move}
+use Rattle.step.specs.Refusal.{why}
+use Rattle.step.specs.Run.{run}
+
+pub never : false ≡ true → ⊥
+never e = let z : _≡_ {A = ℕ} 0 1 = cc in omega arith
+
+pub not-both : {b : Bool} → b ≡ false → b ≡ true → ⊥
+not-both f t = never (sym f ∙ t)
+
+pub other : {a : Decoded} {d : Decoder} → Refused a ≡ Reading d → ⊥
+other e = let z : _≡_ {A = ℕ} 0 1 = cc in omega arith
+
+pub same-state : {d e : Decoder} → Reading d ≡ Reading e → d ≡ e
+same-state q = cc
+
+module _ (sh : Shape) (p : Bool) where
+  -- what a state does with one symbol
+  pub run-fits : (d : Decoder) (i x : ℕ) (xs : List ℕ) → fits sh d x ≡ true → run sh p d i (x ∷ xs) ≡ run sh p (move sh p d x) (suc i) xs
+  unfolding run
+  run-fits d i x xs h = rw h
+
+  pub run-stops : (d : Decoder) (i x : ℕ) (xs : List ℕ) → fits sh d x ≡ false → run sh p d i (x ∷ xs) ≡ Refused (why d i x)
+  unfolding run
+  run-stops d i x xs h = rw h
+
+  pub run-append : (xs ys : List ℕ) (d e : Decoder) (i : ℕ) → run sh p d i xs ≡ Reading e → run sh p d i (xs ++ ys) ≡ run sh p e (i + length xs) ys
+  unfolding run
+  run-append [] ys d e i q = ap (λ (u : Decoder). run sh p u i ys) (same-state q) ∙ ap (λ (n : ℕ). run sh p e n ys) (omega arith)
+  run-append (x ∷ xs) ys d e i q = go (fits sh d x) q (λ k. run-append xs ys (move sh p d x) e (suc i) k)
+    where
+      go : (b : Bool) → pick b (run sh p (move sh p d x) (suc i) xs) (Refused (why d i x)) ≡ Reading e
+          → (run sh p (move sh p d x) (suc i) xs ≡ Reading e → run sh p (move sh p d x) (suc i) (xs ++ ys) ≡ run sh p e (suc i + length xs) ys)
+          → pick b (run sh p (move sh p d x) (suc i) (xs ++ ys)) (Refused (why d i x)) ≡ run sh p e (i + suc (length xs)) ys
+      go true q ih = ih q ∙ ap (λ (n : ℕ). run sh p e n ys) (omega arith)
+      go false q ih = absurd (other q)
+
+  -- a run that goes on went on before
+  pub run-before : (xs ys : List ℕ) (d e : Decoder) (i : ℕ) → run sh p d i (xs ++ ys) ≡ Reading e
+      → (m : Decoder) × (run sh p d i xs ≡ Reading m) × (run sh p m (i + length xs) ys ≡ Reading e)
+  unfolding run
+  run-before [] ys d e i q = (d, refl, ap (λ (n : ℕ). run sh p d n ys) (omega arith) ∙ q)
+  run-before (x ∷ xs) ys d e i q = go (fits sh d x) q (λ k. run-before xs ys (move sh p d x) e (suc i) k)
+    where
+      go : (b : Bool) → pick b (run sh p (move sh p d x) (suc i) (xs ++ ys)) (Refused (why d i x)) ≡ Reading e
+          → (run sh p (move sh p d x) (suc i) (xs ++ ys) ≡ Reading e → (m : Decoder) × (run sh p (move sh p d x) (suc i) xs ≡ Reading m) × (run sh p m (suc i + length xs) ys ≡ Reading e))
+          → (m : Decoder) × (pick b (run sh p (move sh p d x) (suc i) xs) (Refused (why d i x)) ≡ Reading m) × (run sh p m (i + suc (length xs)) ys ≡ Reading e)
+      go true q ih =
+          let r = ih q in
+          (r .0, r .1, ap (λ (n : ℕ). run sh p (r .0) n ys) (omega arith) ∙ r .2)
+      go false q ih = absurd (other q)
+
+  -- the number of symbols read does not matter where nothing is refused
+  pub run-from : (xs : List ℕ) (d e : Decoder) (i j : ℕ) → run sh p d i xs ≡ Reading e → run sh p d j xs ≡ Reading e
+  unfolding run
+  run-from [] d e i j q = q
+  run-from (x ∷ xs) d e i j q = go (fits sh d x) q (λ k. run-from xs (move sh p d x) e (suc i) (suc j) k)
+    where
+      go : (b : Bool) → pick b (run sh p (move sh p d x) (suc i) xs) (Refused (why d i x)) ≡ Reading e
+          → (run sh p (move sh p d x) (suc i) xs ≡ Reading e → run sh p (move sh p d x) (suc j) xs ≡ Reading e)
+          → pick b (run sh p (move sh p d x) (suc j) xs) (Refused (why d j x)) ≡ Reading e
+      go true q ih = ih q
+      go false q ih = absurd (other q)

@@ -1,0 +1,175 @@
+-- What is proved of the decoder, for every shape whose limits make sense: so for every row of the table, and for rows yet to come.
+-- specs/Answers.antt has the meaning of each answer, specs/Paper.antt its number; how it is computed stands in specs/Run.antt.
+use mathlib.Core.Path.{_≡_, refl, sym, _∙_, ap, subst}
+use mathlib.Core.Bool.{Bool, true, false}
+use mathlib.Core.List.{List, [], _∷_, _++_}
+use mathlib.Core.Logic.{_↔_}
+use Prim.Native.Nat.{ℕ, suc, _+_, _≤_, _<_}
+use native.Mathlib.Omega.{arith}
+use lib.ListN.{length, take, getD}
+use Rattle.wire.specs.Symbols.{NACK}
+use Rattle.trace.specs.declared.shape.Shape.{Shape}
+use Rattle.trace.specs.declared.transaction.Transaction.{Transaction}
+use Rattle.trace.specs.Trace.{Message, trace, Valid}
+use Rattle.trace.specs.ShapeLaws.{Sane}
+use Rattle.step.specs.declared.answer.Decoded.{Decoded}
+use Rattle.step.specs.declared.answer.Decoded.the-variants.{Done, Forbidden, BufferTooShort, NoSymbol, EndsEarly, Unexpected, NotAcknowledged, PecDiffers, AfterStop}
+use Rattle.step.specs.declared.state.Decoder.{Decoder}
+use Rattle.step.specs.declared.whole.Progress.the-variants.{Reading, Refused}
+use Rattle.step.specs.State.{fresh}
+use Rattle.step.specs.Fits.{fits}
+use Rattle.step.specs.Refusal.{why}
+use Rattle.step.specs.Run.{run, concluded, decodedBy}
+use Rattle.step.specs.Handed.{sentData, receivedData}
+use Rattle.step.specs.Paper.{paper}
+use Rattle.step.specs.Answers.{CutAt, Member, Fits, summary, Breaks, OtherPec, Answers}
+use Rattle.step.proofs.Runs.{run-append, run-fits, run-stops}
+use Rattle.step.proofs.Members.{member-runs, fits-back, fits-runs}
+use Rattle.step.proofs.Places.{not-more, nothing-follows}
+use Rattle.step.proofs.Decides as Decides
+
+-- an answer from its number and what comes with it
+abbrev numbered : Decoded → ℕ → ℕ → Decoded
+numbered a n v = getD (a ∷ Forbidden ∷ BufferTooShort ∷ NoSymbol v ∷ EndsEarly v ∷ Unexpected v ∷ NotAcknowledged v ∷ PecDiffers v ∷ AfterStop v ∷ []) n a
+
+numbered-is : (a : Decoded) → a ≡ numbered a (paper a .0) (paper a .1)
+numbered-is (Done t) = refl
+numbered-is Forbidden = refl
+numbered-is BufferTooShort = refl
+numbered-is (NoSymbol k) = refl
+numbered-is (EndsEarly k) = refl
+numbered-is (Unexpected k) = refl
+numbered-is (NotAcknowledged k) = refl
+numbered-is (PecDiffers k) = refl
+numbered-is (AfterStop k) = refl
+
+of-number : (a : Decoded) (n v : ℕ) → paper a ≡ (n, v) → a ≡ numbered a n v
+of-number a n v e = numbered-is a ∙ ap (λ (q : ℕ × ℕ). numbered a (q .0) (q .1)) e
+
+done-of : (a : Decoded) → paper a .0 ≡ 0 → (t : Transaction) × (a ≡ Done t)
+done-of (Done t) e = (t, refl)
+done-of Forbidden e = absurd (omega arith)
+done-of BufferTooShort e = absurd (omega arith)
+done-of (NoSymbol k) e = absurd (omega arith)
+done-of (EndsEarly k) e = absurd (omega arith)
+done-of (Unexpected k) e = absurd (omega arith)
+done-of (NotAcknowledged k) e = absurd (omega arith)
+done-of (PecDiffers k) e = absurd (omega arith)
+done-of (AfterStop k) e = absurd (omega arith)
+
+same-done : {t u : Transaction} → Done t ≡ Done u → t ≡ u
+same-done e = cc
+
+-- two messages with the same fields and data
+same-message : (num : ℕ) (t u : Message) → summary num t ≡ summary num u → t .sent ≡ u .sent → t .received ≡ u .received → t ≡ u
+same-message num t u e s r =
+    made (ap (λ (x : Transaction). x .address .0) e) (ap (λ (x : Transaction). x .direction) e) (ap (λ (x : Transaction). x .command) e) s r
+  where
+    made : {a b d w c k : ℕ} {s q r l : List ℕ} → a ≡ b → d ≡ w → c ≡ k → s ≡ q → r ≡ l
+        → _≡_ {A = Message} (record { address = a; direction = d; command = c; sent = s; received = r }) (record { address = b; direction = w; command = k; sent = q; received = l })
+    made a d c s r = cc
+
+module _ (num : ℕ) (sh : Shape) (hs : Sane sh) (p : Bool) where
+  -- the answer is what the paper says, with its data
+  pub holds : (tr : List ℕ) → Answers num sh p tr (decodedBy num sh p tr) (sentData sh tr (decodedBy num sh p tr)) (receivedData p tr (decodedBy num sh p tr))
+  holds tr = Decides.holds num sh hs p tr
+
+  -- and the paper leaves no other answer, and no other data
+  pub only : (tr : List ℕ) (a : Decoded) (s r : List ℕ) → Answers num sh p tr a s r
+      → (decodedBy num sh p tr ≡ a) × (sentData sh tr (decodedBy num sh p tr) ≡ s) × (receivedData p tr (decodedBy num sh p tr) ≡ r)
+  only tr a s r h = Decides.only num sh hs p tr a s r h
+
+  -- each answer is given exactly in its case
+  pub if-and-only-if : (tr : List ℕ) (a : Decoded) → (decodedBy num sh p tr ≡ a) ↔ Answers num sh p tr a (sentData sh tr a) (receivedData p tr a)
+  if-and-only-if tr a = (
+    λ e. subst (λ (u : Decoded). Answers num sh p tr u (sentData sh tr u) (receivedData p tr u)) e (holds tr),
+    λ h. only tr a (sentData sh tr a) (receivedData p tr a) h .0,
+  )
+
+  -- the encoder's trace of a valid message gives back every field and both lists
+  pub round-trip : (t : Message) → Valid sh t
+      → (decodedBy num sh p (trace sh p t) ≡ Done (summary num t))
+      × (sentData sh (trace sh p t) (decodedBy num sh p (trace sh p t)) ≡ t .sent)
+      × (receivedData p (trace sh p t) (decodedBy num sh p (trace sh p t)) ≡ t .received)
+  round-trip t v =
+      only (trace sh p t) (Done (summary num t)) (t .sent) (t .received)
+      (record { message = t; valid = v; is = refl; fields = refl; data-sent = refl; data-received = refl })
+
+  -- two valid messages with the same trace are one
+  pub one-message : (t u : Message) → Valid sh t → Valid sh u → trace sh p t ≡ trace sh p u → t ≡ u
+  one-message t u vt vu e =
+      let a = round-trip t vt in
+      let b = round-trip u vu in
+      same-message num t u
+      (same-done (sym (a .0) ∙ ap (decodedBy num sh p) e ∙ b .0))
+      (sym (a .1) ∙ ap (λ (x : List ℕ). sentData sh x (decodedBy num sh p x)) e ∙ b .1)
+      (sym (a .2) ∙ ap (λ (x : List ℕ). receivedData p x (decodedBy num sh p x)) e ∙ b .2)
+
+  -- a trace answered 0 is the encoder's trace of a valid message, whose fields are answered, and of no other
+  pub done-means : (tr : List ℕ) (t : Transaction) → decodedBy num sh p tr ≡ Done t
+      → (m : Message) × Valid sh m × (tr ≡ trace sh p m) × (t ≡ summary num m) × ((u : Message) → Valid sh u → tr ≡ trace sh p u → u ≡ m)
+  done-means tr t e =
+      let c = if-and-only-if tr (Done t) .0 e in
+      (c .message, c .valid, c .is, c .fields, λ u v q. one-message u (c .message) v (c .valid) (sym q ∙ c .is))
+
+  -- by numbers: each is given exactly in its listed case, with what comes with it
+  module _ (tr : List ℕ) where
+    abbrev answer : Decoded
+    answer = decodedBy num sh p tr
+
+    given : (n v : ℕ) → paper answer ≡ (n, v) → Answers num sh p tr (numbered answer n v) (sentData sh tr (numbered answer n v)) (receivedData p tr (numbered answer n v))
+    given n v e = if-and-only-if tr (numbered answer n v) .0 (of-number answer n v e)
+
+    gives : (a : Decoded) → Answers num sh p tr a (sentData sh tr a) (receivedData p tr a) → paper answer ≡ paper a
+    gives a h = ap paper (if-and-only-if tr a .1 h)
+
+    pub number-0 : (paper answer ≡ (0, 0)) ↔ ((m : Message) × Valid sh m × (tr ≡ trace sh p m))
+    number-0 = (
+      λ e. (let d = done-of answer (ap (λ (q : ℕ × ℕ). q .0) e) in let m = done-means tr (d .0) (d .1) in (m .0, m .1, m .2)),
+      λ w. ap paper (ap (decodedBy num sh p) (w .2) ∙ round-trip (w .0) (w .1) .0),
+    )
+
+    pub number-3 : (place : ℕ) → (paper answer ≡ (3, place)) ↔ (Breaks sh p tr place × (NACK < getD tr place 0))
+    number-3 k = (λ e. (let g = given 3 k e in (g .0, g .1)), λ h. gives (NoSymbol k) (h .0, h .1, refl, refl))
+
+    pub number-4 : (len : ℕ) → (paper answer ≡ (4, len)) ↔ (Fits sh p tr × (Member sh p tr → ⊥) × (len ≡ length tr))
+    number-4 n = (λ e. (let g = given 4 n e in (g .0, g .1, g .2)), λ h. gives (EndsEarly n) (h .0, h .1, h .2, refl, refl))
+
+    pub number-5 : (place : ℕ) → (paper answer ≡ (5, place)) ↔ (Breaks sh p tr place × (Member sh p (take place tr) → ⊥) × (getD tr place 0 ≤ NACK))
+    number-5 k = (λ e. (let g = given 5 k e in (g .0, g .1, g .2)), λ h. gives (Unexpected k) (h .0, h .1, h .2, refl, refl))
+
+    pub number-6 : (byte : ℕ) → (paper answer ≡ (6, byte)) ↔ CutAt sh p tr byte
+    number-6 b = (λ e. given 6 b e .0, λ h. gives (NotAcknowledged b) (h, refl, refl))
+
+    pub number-7 : (place : ℕ) → (paper answer ≡ (7, place)) ↔ OtherPec sh p tr place
+    number-7 k = (λ e. given 7 k e .0, λ h. gives (PecDiffers k) (h, refl, refl))
+
+    pub number-8 : (place : ℕ) → (paper answer ≡ (8, place)) ↔ ((place < length tr) × Member sh p (take place tr) × (getD tr place 0 ≤ NACK))
+    number-8 k = (λ e. (let g = given 8 k e in (g .0, g .1, g .2)), λ h. gives (AfterStop k) (h .0, h .1, h .2, refl, refl))
+
+    -- after the last STOP nothing fits, so that 8 stands at the first place that is wrong, and 3 comes before it
+    pub nothing-after : (place : ℕ) → place < length tr → Member sh p (take place tr) → Breaks sh p tr place
+    nothing-after k h m =
+        let r = member-runs sh hs p (take k tr) m in
+        record {
+          inside = h;
+          before = fits-back sh hs p (take k tr) (r .0) (r .1);
+          here = λ g. (let q = fits-runs sh hs p (take (suc k) tr) g in not-more sh p tr k fresh (r .0) h (r .1) (nothing-follows sh p (r .0) (getD tr k 0) (r .2)) (q .0) (q .1));
+        }
+
+  -- the first place that is wrong decides: what follows it does not matter
+  stuck-at : (w : List ℕ) (x : ℕ) (d : Decoder) → run sh p fresh 0 w ≡ Reading d → (Fits sh p (w ++ x ∷ []) → ⊥) → fits sh d x ≡ false
+  unfolding run
+  stuck-at w x d q n = go (fits sh d x) refl
+    where
+      go : (b : Bool) → fits sh d x ≡ b → b ≡ false
+      go false e = refl
+      go true e = absurd (n (fits-back sh hs p (w ++ x ∷ []) _ (run-append sh p w (x ∷ []) fresh d 0 q ∙ run-fits sh p d _ x [] e)))
+
+  pub rest-ignored : (w xs ys : List ℕ) (x : ℕ) → Fits sh p w → (Fits sh p (w ++ x ∷ []) → ⊥) → decodedBy num sh p (w ++ x ∷ xs) ≡ decodedBy num sh p (w ++ x ∷ ys)
+  unfolding decodedBy
+  rest-ignored w xs ys x f n =
+      let r = fits-runs sh hs p w f in
+      let s = stuck-at w x (r .0) (r .1) n in
+      let a : (zs : List ℕ) → run sh p fresh 0 (w ++ x ∷ zs) ≡ Refused (why (r .0) (0 + length w) x) = λ zs. run-append sh p w (x ∷ zs) fresh (r .0) 0 (r .1) ∙ run-stops sh p (r .0) _ x zs s in
+      ap (concluded num sh (w ++ x ∷ xs)) (a xs) ∙ sym (ap (concluded num sh (w ++ x ∷ ys)) (a ys))

@@ -1,0 +1,58 @@
+use Rattle.step.proofs.Tests.{first-is}
+use borrow.Author.Tests.{not-true, not-false}
+use mathlib.Core.Bool.{true, false}
+use mathlib.Core.Path.{_≡_, refl, sym, ap, _∙_}
+use borrow.Author.Needs.{needs}
+use Rattle.step.proofs.fits.first_fits.Statement.{statement}
+use Rattle.step.proofs.fits.first_fits.Tie as tie
+use Rattle.step.proofs.fits.first_fits.Reads as reads
+use Rattle.step.proofs.fits.first_fits.Lts as lts
+use Rattle.step.proofs.fits.way_fits.Reads as way-fits-reads
+use Rattle.trace.proofs.valid.address_fits.Reads as address-fits-reads
+use Rattle.wire.proofs.address.Address.from_wire.Reads as from-wire-reads
+use Rattle.wire.proofs.symbol.is_byte.Reads as is-byte-reads
+
+-- src/fits.rt:60:9
+is-byte-requires : tie.Need-is-byte-requires
+is-byte-requires c κs = search needs
+
+-- src/fits.rt:61:9
+returns : tie.Need-returns
+returns c = rw (sym (c .before .is-byte .ensures) ∙ not-true _ (c .if1 .taken))
+
+-- src/fits.rt:63:22
+cast-t7 : tie.Need-cast-t7
+cast-t7 c = search needs
+
+-- src/fits.rt:64:26
+from-wire-requires : tie.Need-from-wire-requires
+from-wire-requires c κs = search needs
+
+-- src/fits.rt:64:9
+address-fits-requires : tie.Need-address-fits-requires
+address-fits-requires c κs = search needs
+
+-- src/fits.rt:65:9
+returns-2 : tie.Need-returns-2
+returns-2 c = first-is (c .before .before .before .before .before .args .sh) (c .before .before .before .before .before .args .x) _ false _ (sym (c .before .before .before .before .is-byte .ensures) ∙ not-false _ (c .before .before .before .if1 .left)) (c .before .before .from-wire .ensures) (sym (c .before .address-fits .ensures) ∙ not-true _ (c .if2 .taken)) refl
+
+-- src/fits.rt:67:5
+way-fits-requires : tie.Need-way-fits-requires
+way-fits-requires c κs = search needs
+
+-- src/fits.rt:57:1
+returns-3 : tie.Need-returns-3
+returns-3 c = c .way-fits .ensures ∙ first-is (c .before .before .before .before .before .before .args .sh) (c .before .before .before .before .before .before .args .x) _ true _ (sym (c .before .before .before .before .before .is-byte .ensures) ∙ not-false _ (c .before .before .before .before .if1 .left)) (c .before .before .before .from-wire .ensures) (sym (c .before .before .address-fits .ensures) ∙ not-false _ (c .before .if2 .left)) refl
+
+pub first-fits-spec : {M : Type 1} → statement M
+first-fits-spec =
+    tie.close
+    (tie.spec
+    is-byte-requires
+    returns
+    cast-t7
+    from-wire-requires
+    address-fits-requires
+    returns-2
+    way-fits-requires
+    returns-3)

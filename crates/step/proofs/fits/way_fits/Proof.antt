@@ -1,0 +1,52 @@
+use Rattle.step.proofs.Tests.{no-read}
+use Rattle.lists.specs.Choice.{not}
+use mathlib.Core.Bool.{Bool}
+use mathlib.Core.Path.{_≡_, sym, ap, _∙_}
+use borrow.Author.Needs.{needs}
+use Rattle.step.proofs.fits.way_fits.Statement.{statement}
+use Rattle.step.proofs.fits.way_fits.Tie as tie
+use Rattle.step.proofs.fits.way_fits.Reads as reads
+use Rattle.step.proofs.fits.way_fits.Lts as lts
+use Rattle.trace.proofs.shape.has_read.Reads as has-read-reads
+use Rattle.trace.proofs.shape.has_write.Reads as has-write-reads
+use Rattle.wire.proofs.address.WireByte.is_read.Reads as is-read-reads
+
+-- src/fits.rt:47:8
+has-write-requires : tie.Need-has-write-requires
+has-write-requires c κs = search needs
+
+-- src/fits.rt:48:17
+is-read-requires : tie.Need-is-read-requires
+is-read-requires c κs = search needs
+
+-- src/fits.rt:48:9
+returns : tie.Need-returns
+returns c = rw (sym (c .before .before .has-write .ensures) ∙ c .before .if1 .taken, c .is-read .ensures) (no-read (c .before .before .before .args .w .0))
+
+-- src/fits.rt:50:8
+has-read-requires : tie.Need-has-read-requires
+has-read-requires c κs = search needs
+
+-- src/fits.rt:51:9
+is-read-requires-2 : tie.Need-is-read-requires-2
+is-read-requires-2 c κs = search needs
+
+-- src/fits.rt:51:9
+returns-2 : tie.Need-returns-2
+returns-2 c = rw (sym (c .before .before .before .before .has-write .ensures) ∙ c .before .before .before .if1 .left, sym (c .before .before .has-read .ensures) ∙ c .before .if2 .taken) (c .is-read2 .ensures)
+
+-- src/fits.rt:44:1
+returns-3 : tie.Need-returns-3
+returns-3 c = rw (sym (c .before .before .before .has-write .ensures) ∙ c .before .before .if1 .left, sym (c .before .has-read .ensures) ∙ c .if2 .left)
+
+pub way-fits-spec : {M : Type 1} → statement M
+way-fits-spec =
+    tie.close
+    (tie.spec
+    has-write-requires
+    is-read-requires
+    returns
+    has-read-requires
+    is-read-requires-2
+    returns-2
+    returns-3)

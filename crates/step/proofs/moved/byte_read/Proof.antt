@@ -1,0 +1,22 @@
+use borrow.Author.Needs.{needs}
+use Rattle.step.proofs.moved.byte_read.Statement.{statement}
+use Rattle.step.proofs.moved.byte_read.Tie as tie
+use Rattle.step.proofs.moved.byte_read.Reads as reads
+use Rattle.step.proofs.moved.byte_read.Lts as lts
+use Rattle.step.proofs.moved.moved_to.Reads as moved-to-reads
+use Rattle.wire.proofs.pec.add_byte.Reads as add-byte-reads
+
+-- src/moved.rt:40:9
+moved-to-requires : tie.Need-moved-to-requires
+moved-to-requires c κs = search needs
+
+-- src/moved.rt:41:5
+add-byte-requires : tie.Need-add-byte-requires
+add-byte-requires c κs = search needs
+
+-- src/moved.rt:36:1
+returns : tie.Need-returns
+returns c = rw (c .add-byte .ensures, c .before .moved-to .ensures)
+
+pub byte-read-spec : {M : Type 1} → statement M
+byte-read-spec = tie.close (tie.spec moved-to-requires add-byte-requires returns)

@@ -1,0 +1,86 @@
+-- What each answer of the decoder means, held against document 01. Nothing here says how it is computed.
+use mathlib.Core.Path.{_≡_}
+use mathlib.Core.Bool.{Bool, true}
+use mathlib.Core.List.{List, [], _∷_, _++_}
+use mathlib.Core.Logic.{_⊎_}
+use Prim.Native.Nat.{ℕ, suc, _+_, _≤_, _<_}
+use lib.ListN.{length, take, getD}
+use Rattle.lists.specs.Each.{Bytes}
+use Rattle.wire.specs.Symbols.{STOP, ACK, NACK}
+use Rattle.trace.specs.declared.shape.Shape.{Shape}
+use Rattle.trace.specs.declared.transaction.Transaction.{Transaction}
+use Rattle.trace.specs.Trace.{Message, Valid, inPlace, pecOf, byTarget, traceAt, trace}
+use Rattle.step.specs.declared.answer.Decoded.{Decoded}
+use Rattle.step.specs.declared.answer.Decoded.the-variants.{Done, Forbidden, BufferTooShort, NoSymbol, EndsEarly, Unexpected, NotAcknowledged, PecDiffers, AfterStop}
+use Rattle.step.specs.Run.{byteCount}
+
+-- a whole trace, with any byte in PEC's place
+pub record Whole (sh : Shape) (p : Bool) (tr : List ℕ) : Type 0 where
+  pub message : Message
+  pub pec : ℕ
+  pub valid : Valid sh message
+  pub byte : Bytes (inPlace p pec)
+  pub is : tr ≡ traceAt sh message (inPlace p pec)
+
+-- a trace cut at a byte whose ACK is due from the target: NACK stands there, then STOP; the byte's number is b, from 0
+pub record CutAt (sh : Shape) (p : Bool) (tr : List ℕ) (b : ℕ) : Type 0 where
+  pub message : Message
+  pub pec : ℕ
+  pub valid : Valid sh message
+  pub byte : Bytes (inPlace p pec)
+  pub before : List ℕ
+  pub after : List ℕ
+  pub ack : byTarget sh message (inPlace p pec) ≡ before ++ ACK ∷ after
+  pub is : tr ≡ before ++ NACK ∷ STOP ∷ []
+  pub number : byteCount before ≡ suc b
+
+abbrev pub Member : Shape → Bool → List ℕ → Type 0
+Member sh p tr = Whole sh p tr ⊎ ((b : ℕ) × CutAt sh p tr b)
+
+-- a trace fits if it is the beginning of a member
+abbrev pub Fits : Shape → Bool → List ℕ → Type 0
+Fits sh p tr = (rest : List ℕ) × Member sh p (tr ++ rest)
+
+-- what is handed over with 0: the protocol, the fields of a message, and the lengths of its data
+abbrev pub summary : ℕ → Message → Transaction
+summary protocol t =
+    record { protocol = protocol; address = record { 0 = t .address }; direction = t .direction; command = t .command; sent = length (t .sent); received = length (t .received) }
+
+-- the place k is the first whose beginning does not fit
+pub record Breaks (sh : Shape) (p : Bool) (tr : List ℕ) (k : ℕ) : Type 0 where
+  pub inside : k < length tr
+  pub before : Fits sh p (take k tr)
+  pub here : Fits sh p (take (suc k) tr) → ⊥
+
+-- 7: a whole trace but for its PEC, whose place is k
+pub record OtherPec (sh : Shape) (p : Bool) (tr : List ℕ) (k : ℕ) : Type 0 where
+  pub used : p ≡ true
+  pub message : Message
+  pub pec : ℕ
+  pub valid : Valid sh message
+  pub byte : pec < 256
+  pub is : tr ≡ traceAt sh message (pec ∷ [])
+  pub differs : pec ≡ pecOf sh message → ⊥
+  pub place : k + 3 ≡ length tr
+
+-- 0: the encoder's trace of a message, with its fields, its data sent and its data received
+pub record Carries (protocol : ℕ) (sh : Shape) (p : Bool) (tr : List ℕ) (t : Transaction) (sent received : List ℕ) : Type 0 where
+  pub message : Message
+  pub valid : Valid sh message
+  pub is : tr ≡ trace sh p message
+  pub fields : t ≡ summary protocol message
+  pub data-sent : sent ≡ message .sent
+  pub data-received : received ≡ message .received
+
+-- a is the answer for the trace tr, with the data s sent and r received
+abbrev pub Answers : ℕ → Shape → Bool → List ℕ → Decoded → List ℕ → List ℕ → Type 0
+Answers protocol sh p tr (Done t) s r = Carries protocol sh p tr t s r
+Answers protocol sh p tr Forbidden s r = ⊥
+Answers protocol sh p tr BufferTooShort s r = ⊥
+Answers protocol sh p tr (NoSymbol k) s r = Breaks sh p tr k × (NACK < getD tr k 0) × (s ≡ []) × (r ≡ [])
+Answers protocol sh p tr (EndsEarly n) s r = Fits sh p tr × (Member sh p tr → ⊥) × (n ≡ length tr) × (s ≡ []) × (r ≡ [])
+Answers protocol sh p tr (Unexpected k) s r =
+    Breaks sh p tr k × (Member sh p (take k tr) → ⊥) × (getD tr k 0 ≤ NACK) × (s ≡ []) × (r ≡ [])
+Answers protocol sh p tr (NotAcknowledged b) s r = CutAt sh p tr b × (s ≡ []) × (r ≡ [])
+Answers protocol sh p tr (PecDiffers k) s r = OtherPec sh p tr k × (s ≡ []) × (r ≡ [])
+Answers protocol sh p tr (AfterStop k) s r = (k < length tr) × Member sh p (take k tr) × (getD tr k 0 ≤ NACK) × (s ≡ []) × (r ≡ [])

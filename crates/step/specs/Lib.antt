@@ -1,0 +1,9 @@
+pub mod State
+pub mod Next
+pub mod Fits
+pub mod Move
+pub mod Refusal
+pub mod Run
+pub mod Handed
+pub mod Paper
+pub mod Answers
