@@ -1,0 +1,5 @@
+pub mod WriterLaws
+pub mod PhaseLaws
+pub mod CodeLaws
+pub mod WholeLaws
+pub mod EntryLaws

@@ -1,0 +1,24 @@
+use Rattle.wire.specs.Pec.{pecFrom}
+use borrow.Author.Needs.{needs}
+use Rattle.encode.proofs.pec.add_byte_if.Statement.{statement}
+use Rattle.encode.proofs.pec.add_byte_if.Tie as tie
+use Rattle.encode.proofs.pec.add_byte_if.Reads as reads
+use Rattle.encode.proofs.pec.add_byte_if.Lts as lts
+use Rattle.wire.proofs.pec.add_byte.Reads as add-byte-reads
+
+-- src/pec.rt:21:16
+add-byte-requires : tie.Need-add-byte-requires
+add-byte-requires c κs = search needs
+
+-- src/pec.rt:18:1
+returns : tie.Need-returns
+unfolding pecFrom
+returns c = rw (c .add-byte .ensures, c .before .if1 .taken)
+
+-- src/pec.rt:18:1
+returns-2 : tie.Need-returns-2
+unfolding pecFrom
+returns-2 c = rw (c .if1 .left)
+
+pub add-byte-if-spec : {M : Type 1} → statement M
+add-byte-if-spec = tie.close (tie.spec add-byte-requires returns returns-2)

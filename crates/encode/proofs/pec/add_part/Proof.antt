@@ -1,0 +1,36 @@
+use Rattle.encode.proofs.CodeLaws.{part-code}
+use borrow.Author.Needs.{needs}
+use Rattle.encode.proofs.pec.add_part.Statement.{statement}
+use Rattle.encode.proofs.pec.add_part.Tie as tie
+use Rattle.encode.proofs.pec.add_part.Reads as reads
+use Rattle.encode.proofs.pec.add_part.Lts as lts
+use Rattle.encode.proofs.bytes.count_of.Reads as count-of-reads
+use Rattle.encode.proofs.pec.add_byte_if.Reads as add-byte-if-reads
+use Rattle.trace.proofs.shape.is_counted.Reads as is-counted-reads
+use Rattle.wire.proofs.pec.add_bytes.Reads as add-bytes-reads
+
+-- src/pec.rt:28:30
+is-counted-requires : tie.Need-is-counted-requires
+is-counted-requires c κs = search needs
+
+-- src/pec.rt:28:45
+count-of-requires : tie.Need-count-of-requires
+count-of-requires c κs = search needs
+
+-- src/pec.rt:28:15
+add-byte-if-requires : tie.Need-add-byte-if-requires
+add-byte-if-requires c κs = search needs
+
+-- src/pec.rt:28:5
+add-bytes-requires : tie.Need-add-bytes-requires
+add-bytes-requires c κs = search needs
+
+-- src/pec.rt:25:1
+returns : tie.Need-returns
+returns c =
+    part-code _ _ _ (c .before .before .before .before .before .args .a) (c .before .before .before .before .before .args .s .now) _ _ (c .before .before .before .is-counted .ensures) (c .before .before .count-of .ensures) (c .before .add-byte-if .ensures) (c .add-bytes .ensures)
+
+pub add-part-spec : {M : Type 1} → statement M
+add-part-spec =
+    tie.close
+    (tie.spec is-counted-requires count-of-requires add-byte-if-requires add-bytes-requires returns)

@@ -1,0 +1,47 @@
+-- The encoder's promise: the answer, by refusal 1, refusal 2 and the length of the trace, and what the output holds then.
+use mathlib.Core.Path.{_≡_}
+use mathlib.Core.Bool.{Bool}
+use mathlib.Core.List.{List, []}
+use Prim.Native.Nat.{ℕ}
+use lib.Dec.{ltb}
+use lib.ListN.{length}
+use Rattle.lists.specs.Choice.{pick, or, not}
+use Rattle.lists.specs.Onto.{onto}
+use Rattle.trace.specs.Shapes.{shapeOf, forbidden}
+use Rattle.trace.specs.Trace.{Message, trace}
+use Rattle.trace.specs.Allowed.{allowed}
+use Rattle.encode.specs.declared.Encoded.{Encoded}
+use Rattle.encode.specs.declared.Encoded.the-variants.{Written, Forbidden, OutputTooShort}
+
+-- the paper's number of an answer, and what comes with it
+abbrev pub number : Encoded → ℕ × ℕ
+number (Written n) = (0, n)
+number Forbidden = (1, 0)
+number OutputTooShort = (2, 0)
+
+-- what a caller gives
+abbrev pub message : ℕ → ℕ → ℕ → List ℕ → List ℕ → Message
+message address direction command sent received =
+    record { address = address; direction = direction; command = command; sent = sent; received = received }
+
+-- all tests of refusal 1
+unfoldable pub refused : ℕ → Bool → Message → Bool
+refused protocol pec t =
+    or (forbidden protocol pec) (not (allowed (shapeOf protocol) (t .address) (t .direction) (t .command) (length (t .sent)) (length (t .received))))
+
+-- the answer: 1, then 2, then done with the length of the trace
+unfoldable pub encoded : ℕ → Bool → Message → ℕ → Encoded
+encoded protocol pec t room =
+    pick (refused protocol pec t) Forbidden
+    (pick (ltb room (length (trace (shapeOf protocol) pec t))) OutputTooShort (Written (length (trace (shapeOf protocol) pec t))))
+
+-- what is written: the trace, or nothing
+abbrev pub symbolsOf : Encoded → List ℕ → List ℕ
+symbolsOf (Written n) tr = tr
+symbolsOf Forbidden tr = []
+symbolsOf OutputTooShort tr = []
+
+-- the promise: for a message and an output as it was, the answer and the output as it is then
+pub record Wrote (protocol : ℕ) (pec : Bool) (t : Message) (before : List ℕ) (r : Encoded) (after : List ℕ) : Type 0 where
+  pub answer : r ≡ encoded protocol pec t (length before)
+  pub output : after ≡ onto (symbolsOf r (trace (shapeOf protocol) pec t)) before

@@ -1,0 +1,226 @@
+-- What each answer of the encoder means, for every input, and what it leaves in the output.
+use mathlib.Core.Path.{_≡_, refl, sym, ap, ap₂, _∙_}
+use mathlib.Core.Logic.{_↔_}
+use mathlib.Core.Bool.{Bool, true, false}
+use mathlib.Core.List.{List, _++_}
+use Prim.Native.Nat.{ℕ, _≤_, _<_}
+use native.Mathlib.Omega.{arith}
+use lib.Dec.{ltb, eqb}
+use lib.ListN.{length, take, drop, take-append-drop}
+use lib.Seq.{take-at, drop-at}
+use borrow.Author.Tests.{ltb-true, ltb-false, lt-ltb, le-ltb, eqb-true}
+use Rattle.lists.specs.Choice.{pick, or, and, not}
+use Rattle.lists.specs.Each.{Bytes}
+use Rattle.lists.specs.Onto.{onto}
+use Rattle.trace.specs.Shapes.{shapeOf, forbidden}
+use Rattle.trace.specs.Trace.{Message, trace, Valid}
+use Rattle.trace.specs.Allowed.{allowed}
+use Rattle.trace.specs.ValidLaws.{allowed-valid, valid-allowed}
+use Rattle.encode.specs.declared.Encoded.{Encoded}
+use Rattle.encode.specs.declared.Encoded.the-variants.{Written, Forbidden, OutputTooShort}
+use Rattle.encode.specs.Encode.{number, refused, encoded, symbolsOf, Wrote}
+use Rattle.encode.specs.Listed.{Listed, protocol-above-10, quick-with-pec}
+use Rattle.encode.specs.ListedLaws.{refused-listed, listed-refused, forbidden-is}
+
+-- ---- the answer
+
+not-both : {A : Type 0} (b : Bool) → b ≡ true → b ≡ false → A
+not-both b e f = let z : _≡_ {A = ℕ} 0 1 = cc in absurd (omega arith)
+
+pub unlisted-not-refused : (protocol : ℕ) (pec : Bool) (t : Message) → (Listed protocol pec t → ⊥) → refused protocol pec t ≡ false
+unlisted-not-refused protocol pec t n = go (refused protocol pec t) refl
+  where
+    go : (b : Bool) → refused protocol pec t ≡ b → refused protocol pec t ≡ false
+    go true e = absurd (n (refused-listed protocol pec t e))
+    go false e = e
+
+module _ (protocol : ℕ) (pec : Bool) (t : Message) (room : ℕ) where
+  by-tests : (b s : Bool) → refused protocol pec t ≡ b → ltb room (length (trace (shapeOf protocol) pec t)) ≡ s
+      → encoded protocol pec t room ≡ pick b Forbidden (pick s OutputTooShort (Written (length (trace (shapeOf protocol) pec t))))
+  unfolding encoded
+  by-tests b s e f = rw (e, f)
+
+  -- 1: exactly the listed cases
+  pub forbidden-exactly : (encoded protocol pec t room ≡ Forbidden) ↔ Listed protocol pec t
+  forbidden-exactly = (λ e. refused-listed protocol pec t (go e (refused protocol pec t) refl _ refl), λ l. by-tests true _ (listed-refused protocol pec t l) refl)
+    where
+      go : encoded protocol pec t room ≡ Forbidden → (b : Bool) → refused protocol pec t ≡ b → (s : Bool) → ltb room (length (trace (shapeOf protocol) pec t)) ≡ s → refused protocol pec t ≡ true
+      go e true eb s es = eb
+      go e false eb true es = let f = by-tests false true eb es in let z : _≡_ {A = ℕ} 0 1 = cc in absurd (omega arith)
+      go e false eb false es = let f = by-tests false false eb es in let z : _≡_ {A = ℕ} 0 1 = cc in absurd (omega arith)
+
+  -- 2: no listed case, and a room that is shorter than the trace
+  pub too-short-exactly : (encoded protocol pec t room ≡ OutputTooShort) ↔ ((Listed protocol pec t → ⊥) × (room < length (trace (shapeOf protocol) pec t)))
+  too-short-exactly = (
+    λ e. go e (refused protocol pec t) refl _ refl,
+    λ h. by-tests false true (unlisted-not-refused protocol pec t (h .0)) (lt-ltb room (length (trace (shapeOf protocol) pec t)) (h .1)),
+  )
+    where
+      go : encoded protocol pec t room ≡ OutputTooShort → (b : Bool) → refused protocol pec t ≡ b → (s : Bool) → ltb room (length (trace (shapeOf protocol) pec t)) ≡ s
+          → (Listed protocol pec t → ⊥) × (room < length (trace (shapeOf protocol) pec t))
+      go e true eb s es = let f = by-tests true s eb es in let z : _≡_ {A = ℕ} 0 1 = cc in absurd (omega arith)
+      go e false eb true es = (λ l. not-both (refused protocol pec t) (listed-refused protocol pec t l) eb, ltb-true room (length (trace (shapeOf protocol) pec t)) es)
+      go e false eb false es = let f = by-tests false false eb es in let z : _≡_ {A = ℕ} 0 1 = cc in absurd (omega arith)
+
+  -- 0 with n: no listed case, n the length of the trace, and room for it
+  pub written-exactly : (n : ℕ) → (encoded protocol pec t room ≡ Written n) ↔ ((Listed protocol pec t → ⊥) × (n ≡ length (trace (shapeOf protocol) pec t)) × (n ≤ room))
+  written-exactly n = (
+    λ e. go e (refused protocol pec t) refl _ refl,
+    λ h. by-tests false false (unlisted-not-refused protocol pec t (h .0)) (le-ltb room (length (trace (shapeOf protocol) pec t)) (omega (arith, h .1, h .2))) ∙ ap Written (sym (h .1)),
+  )
+    where
+      go : encoded protocol pec t room ≡ Written n → (b : Bool) → refused protocol pec t ≡ b → (s : Bool) → ltb room (length (trace (shapeOf protocol) pec t)) ≡ s
+          → (Listed protocol pec t → ⊥) × (n ≡ length (trace (shapeOf protocol) pec t)) × (n ≤ room)
+      go e true eb s es = let f = by-tests true s eb es in let z : _≡_ {A = ℕ} 0 1 = cc in absurd (omega arith)
+      go e false eb true es = let f = by-tests false true eb es in let z : _≡_ {A = ℕ} 0 1 = cc in absurd (omega arith)
+      go e false eb false es =
+          let f = by-tests false false eb es in
+          let same : n ≡ length (trace (shapeOf protocol) pec t) = cc in
+          (λ l. not-both (refused protocol pec t) (listed-refused protocol pec t l) eb, same, omega (arith, ltb-false room (length (trace (shapeOf protocol) pec t)) es))
+
+-- ---- the valid messages
+
+or-false : (b a : Bool) → or b (not a) ≡ false → (b ≡ false) × (a ≡ true)
+or-false true a e = not-both true refl e
+or-false false true e = (refl, refl)
+or-false false false e = not-both true refl e
+
+tests-pass : (protocol : ℕ) (pec : Bool) (t : Message) → refused protocol pec t ≡ false
+    → (forbidden protocol pec ≡ false) × (allowed (shapeOf protocol) (t .address) (t .direction) (t .command) (length (t .sent)) (length (t .received)) ≡ true)
+unfolding refused
+tests-pass protocol pec t e = or-false (forbidden protocol pec) _ e
+
+tests-passed : (protocol : ℕ) (pec : Bool) (t : Message) → forbidden protocol pec ≡ false
+    → allowed (shapeOf protocol) (t .address) (t .direction) (t .command) (length (t .sent)) (length (t .received)) ≡ true → refused protocol pec t ≡ false
+unfolding refused
+tests-passed protocol pec t e f = rw (e, f)
+
+-- a message of bytes is in no listed case exactly if the protocol is one of the eleven, Quick goes without PEC, and it is valid for the protocol's shape
+pub unlisted-valid : (protocol : ℕ) (pec : Bool) (t : Message) → t .command < 256 → Bytes (t .sent) → Bytes (t .received)
+    → (Listed protocol pec t → ⊥) ↔ ((protocol ≤ 10) × (protocol ≡ 0 → pec ≡ false) × Valid (shapeOf protocol) t)
+unlisted-valid protocol pec t c s r = (there, back)
+  where
+    there : (Listed protocol pec t → ⊥) → (protocol ≤ 10) × (protocol ≡ 0 → pec ≡ false) × Valid (shapeOf protocol) t
+    there n = (go (ltb 10 protocol) refl, λ z. free z pec refl, allowed-valid (shapeOf protocol) t c s r (tests-pass protocol pec t (unlisted-not-refused protocol pec t n) .1))
+      where
+        go : (b : Bool) → ltb 10 protocol ≡ b → protocol ≤ 10
+        go true e = absurd (n (protocol-above-10 (ltb-true 10 protocol e)))
+        go false e = ltb-false 10 protocol e
+
+        free : protocol ≡ 0 → (p : Bool) → pec ≡ p → pec ≡ false
+        free z true e = absurd (n (quick-with-pec z e))
+        free z false e = e
+
+    back : (protocol ≤ 10) × (protocol ≡ 0 → pec ≡ false) × Valid (shapeOf protocol) t → Listed protocol pec t → ⊥
+    back (h, q, v) l =
+        not-both (refused protocol pec t) (listed-refused protocol pec t l)
+        (tests-passed protocol pec t (forbidden-is protocol pec t h ∙ go (eqb protocol 0) refl pec refl) (valid-allowed (shapeOf protocol) t v))
+      where
+        go : (b : Bool) → eqb protocol 0 ≡ b → (p : Bool) → pec ≡ p → and p (not (not b)) ≡ false
+        go b e false f = refl
+        go true e true f = not-both pec f (q (eqb-true protocol 0 e))
+        go false e true f = refl
+
+-- the encoder writes exactly these, where there is room
+pub written-valid : (protocol : ℕ) (pec : Bool) (t : Message) (room n : ℕ) → t .command < 256 → Bytes (t .sent) → Bytes (t .received)
+    → (encoded protocol pec t room ≡ Written n)
+    ↔ ((protocol ≤ 10) × (protocol ≡ 0 → pec ≡ false) × Valid (shapeOf protocol) t × (n ≡ length (trace (shapeOf protocol) pec t)) × (n ≤ room))
+written-valid protocol pec t room n c s r = (
+  λ e. let w = written-exactly protocol pec t room n .0 e in let v = unlisted-valid protocol pec t c s r .0 (w .0) in (v .0, v .1, v .2, w .1, w .2),
+  λ h. written-exactly protocol pec t room n .1 (unlisted-valid protocol pec t c s r .1 (h .0, h .1, h .2), h .3, h .4),
+)
+
+-- ---- the paper's numbers, and the output
+
+number-one : (r : Encoded) → number r ≡ (1, 0) → r ≡ Forbidden
+number-one (Written n) e = let z : _≡_ {A = ℕ} 0 1 = ap (λ (x : ℕ × ℕ). x .0) e in absurd (omega arith)
+number-one Forbidden e = refl
+number-one OutputTooShort e = let z : _≡_ {A = ℕ} 2 1 = ap (λ (x : ℕ × ℕ). x .0) e in absurd (omega arith)
+
+number-two : (r : Encoded) → number r ≡ (2, 0) → r ≡ OutputTooShort
+number-two (Written n) e = let z : _≡_ {A = ℕ} 0 2 = ap (λ (x : ℕ × ℕ). x .0) e in absurd (omega arith)
+number-two Forbidden e = let z : _≡_ {A = ℕ} 1 2 = ap (λ (x : ℕ × ℕ). x .0) e in absurd (omega arith)
+number-two OutputTooShort e = refl
+
+number-zero : (r : Encoded) (n : ℕ) → number r ≡ (0, n) → r ≡ Written n
+number-zero (Written m) n e = ap (λ (x : ℕ × ℕ). Written (x .1)) e
+number-zero Forbidden n e = let z : _≡_ {A = ℕ} 1 0 = ap (λ (x : ℕ × ℕ). x .0) e in absurd (omega arith)
+number-zero OutputTooShort n e = let z : _≡_ {A = ℕ} 2 0 = ap (λ (x : ℕ × ℕ). x .0) e in absurd (omega arith)
+
+module _ (protocol : ℕ) (pec : Bool) (t : Message) (before : List ℕ) (r : Encoded) (after : List ℕ) (w : Wrote protocol pec t before r after) where
+  pub answer-1 : (number r ≡ (1, 0)) ↔ Listed protocol pec t
+  answer-1 =
+      let f = forbidden-exactly protocol pec t (length before) in
+      (λ e. f .0 (sym (w .answer) ∙ number-one r e), λ l. ap number (w .answer ∙ f .1 l))
+
+  pub answer-2 : (number r ≡ (2, 0)) ↔ ((Listed protocol pec t → ⊥) × (length before < length (trace (shapeOf protocol) pec t)))
+  answer-2 =
+      let f = too-short-exactly protocol pec t (length before) in
+      (λ e. f .0 (sym (w .answer) ∙ number-two r e), λ h. ap number (w .answer ∙ f .1 h))
+
+  pub answer-0 : (n : ℕ) → (number r ≡ (0, n)) ↔ ((Listed protocol pec t → ⊥) × (n ≡ length (trace (shapeOf protocol) pec t)) × (n ≤ length before))
+  answer-0 n =
+      let f = written-exactly protocol pec t (length before) n in
+      (λ e. f .0 (sym (w .answer) ∙ number-zero r n e), λ h. ap number (w .answer ∙ f .1 h))
+
+-- what is written: the trace at the front, and behind it what was there
+pub front-is-trace : (protocol : ℕ) (pec : Bool) (t : Message) (before : List ℕ) (n : ℕ) (after : List ℕ) → Wrote protocol pec t before (Written n) after
+    → (take n after ≡ trace (shapeOf protocol) pec t) × (drop n after ≡ drop n before)
+front-is-trace protocol pec t before n after w =
+    let tr : List ℕ = trace (shapeOf protocol) pec t in
+    let e : n ≡ length tr = written-exactly protocol pec t (length before) n .0 (sym (w .answer)) .1 in (
+      ap (λ (l : List ℕ). take n l) (w .output) ∙ take-at tr (drop (length tr) before) n (sym e),
+      ap (λ (l : List ℕ). drop n l) (w .output) ∙ drop-at tr (drop (length tr) before) n (sym e) ∙ ap (λ (k : ℕ). drop k before) (sym e),
+    )
+
+-- a refusal changes no element
+pub refusal-untouched : (protocol : ℕ) (pec : Bool) (t : Message) (before : List ℕ) (r : Encoded) (after : List ℕ) → Wrote protocol pec t before r after
+    → (number r .0 ≡ 0 → ⊥) → after ≡ before
+refusal-untouched protocol pec t before (Written n) after w z = absurd (z refl)
+refusal-untouched protocol pec t before Forbidden after w z = w .output
+refusal-untouched protocol pec t before OutputTooShort after w z = w .output
+
+-- ---- the whole promise, with nothing of how it is computed
+
+abbrev pub Means : ℕ → Bool → Message → List ℕ → Encoded → List ℕ → Type 0
+Means protocol pec t before (Written n) after =
+    (Listed protocol pec t → ⊥)
+    × (n ≡ length (trace (shapeOf protocol) pec t))
+    × (n ≤ length before)
+    × (take n after ≡ trace (shapeOf protocol) pec t)
+    × (drop n after ≡ drop n before)
+Means protocol pec t before Forbidden after = Listed protocol pec t × (after ≡ before)
+Means protocol pec t before OutputTooShort after =
+    (Listed protocol pec t → ⊥) × (length before < length (trace (shapeOf protocol) pec t)) × (after ≡ before)
+
+pub wrote-means : (protocol : ℕ) (pec : Bool) (t : Message) (before : List ℕ) (r : Encoded) (after : List ℕ)
+    → Wrote protocol pec t before r after ↔ Means protocol pec t before r after
+wrote-means protocol pec t before (Written n) after = (there, back)
+  where
+    there : Wrote protocol pec t before (Written n) after → Means protocol pec t before (Written n) after
+    there w =
+        let m = written-exactly protocol pec t (length before) n .0 (sym (w .answer)) in
+        let f = front-is-trace protocol pec t before n after w in
+        (m .0, m .1, m .2, f .0, f .1)
+
+    back : Means protocol pec t before (Written n) after → Wrote protocol pec t before (Written n) after
+    back h =
+        record {
+          answer = sym (written-exactly protocol pec t (length before) n .1 (h .0, h .1, h .2));
+          output = sym (take-append-drop n after) ∙ ap₂ (λ (x y : List ℕ). x ++ y) (h .3) (h .4 ∙ ap (λ (k : ℕ). drop k before) (h .1));
+        }
+wrote-means protocol pec t before Forbidden after = (
+  λ w. (forbidden-exactly protocol pec t (length before) .0 (sym (w .answer)), w .output),
+  λ h. record { answer = sym (forbidden-exactly protocol pec t (length before) .1 (h .0)); output = h .1 },
+)
+wrote-means protocol pec t before OutputTooShort after = (
+  λ w. let m = too-short-exactly protocol pec t (length before) .0 (sym (w .answer)) in (m .0, m .1, w .output),
+  λ h. record { answer = sym (too-short-exactly protocol pec t (length before) .1 (h .0, h .1)); output = h .2 },
+)
+
+-- two outcomes that keep the promise for the same inputs are equal
+pub unique : (protocol : ℕ) (pec : Bool) (t : Message) (before : List ℕ) (r r′ : Encoded) (after after′ : List ℕ) → Wrote protocol pec t before r after
+    → Wrote protocol pec t before r′ after′ → (r ≡ r′) × (after ≡ after′)
+unique protocol pec t before r r′ after after′ w v =
+    let e : r ≡ r′ = w .answer ∙ sym (v .answer) in
+    (e, w .output ∙ ap (λ (x : Encoded). onto (symbolsOf x (trace (shapeOf protocol) pec t)) before) e ∙ sym (v .output))
