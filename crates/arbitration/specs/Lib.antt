@@ -7,3 +7,4 @@ pub mod OrderLaws
 pub mod DropOutLaws
 pub mod WinLaws
 pub mod WireLaws
+pub mod PairLaws

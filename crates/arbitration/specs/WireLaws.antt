@@ -8,6 +8,8 @@ use mathlib.Core.List.{List, [], _∷_, _++_}
 use native.Mathlib.Omega.{arith}
 use lib.Dec.{leb, leb·zero, leb·suc-zero, leb·suc-suc}
 use lib.ListN.{length, drop}
+use lib.Seq.{drop-length}
+use borrow.Author.Tests.{le-leb, lt-leb}
 use Rattle.lists.specs.Choice.{pick, and, not}
 use Rattle.lists.specs.Each.{Each}
 use Rattle.arbitration.specs.Among.{Among}
@@ -101,3 +103,42 @@ sending-is (suc n) (b ∷ m) ts h a l =
     ap (λ (w : Bool). sending n (staying w ts)) (level-is b m ts h a)
     ∙ sending-is n m (staying b ts) (staying-each b m ts h) (staying-among b m ts a) (omega arith)
     ∙ sharing-one n b m ts h
+
+-- ---- at the end one is left
+
+pub shared-all : (m : List Bool) → shared m m ≡ length m
+shared-all [] = refl
+shared-all (true ∷ m) = ap suc (shared-all m)
+shared-all (false ∷ m) = ap suc (shared-all m)
+
+-- t is as long as m, and sends something else
+abbrev pub Other : List Bool → List Bool → Type 0
+Other m t = (length t ≡ length m) × (t ≡ m → ⊥)
+
+shared-less : (m t : List Bool) → Other m t → shared m t < length m
+shared-less [] [] h = absurd (h .1 refl)
+shared-less [] (x ∷ t) h = absurd (omega arith)
+shared-less (b ∷ m) [] h = absurd (omega arith)
+shared-less (true ∷ m) (true ∷ t) h = let r = shared-less m t (omega arith, λ e. h .1 (ap (_∷_ true) e)) in omega arith
+shared-less (false ∷ m) (false ∷ t) h = let r = shared-less m t (omega arith, λ e. h .1 (ap (_∷_ false) e)) in omega arith
+shared-less (true ∷ m) (false ∷ t) h = omega arith
+shared-less (false ∷ m) (true ∷ t) h = omega arith
+
+others-out : (m : List Bool) (ts us : List (List Bool)) → Each (Other m) ts → sharing (length m) m (ts ++ us) ≡ sharing (length m) m us
+others-out m [] us h = refl
+others-out m (t ∷ ts) us h = rw (lt-leb (length m) (shared m t) (shared-less m t (h .0))) (others-out m ts us (h .1))
+
+-- after its last bit m alone still sends, where nobody else sends the same
+pub alone : (m : List Bool) (us vs : List (List Bool)) → Each (Stays m) (us ++ (m ∷ vs)) → Each (Other m) us → Each (Other m) vs → sending (length m) (us ++ (m ∷ vs)) ≡ [] ∷ []
+alone m us vs h k l =
+    sending-is (length m) m (us ++ (m ∷ vs)) h (inside us) (omega arith)
+    ∙ others-out m us (m ∷ vs) k
+    ∙ rw (le-leb (length m) (shared m m) (omega (arith, shared-all m)), drop-length m) (ap (_∷_ []) (nobody vs l))
+  where
+    inside : (ts : List (List Bool)) → Among m (ts ++ (m ∷ vs))
+    inside [] = inl refl
+    inside (t ∷ ts) = inr (inside ts)
+
+    nobody : (ts : List (List Bool)) → Each (Other m) ts → sharing (length m) m ts ≡ []
+    nobody [] g = refl
+    nobody (t ∷ ts) g = rw (lt-leb (length m) (shared m t) (shared-less m t (g .0))) (nobody ts (g .1))
