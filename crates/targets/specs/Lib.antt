@@ -5,4 +5,8 @@ pub mod Refusals
 pub mod Winner
 pub mod FirstLaws
 pub mod RecordLaws
+pub mod Cases
 pub mod FieldLaws
+pub mod Numbers
+pub mod RefusalLaws
+pub mod ChangeLaws

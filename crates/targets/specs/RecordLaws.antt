@@ -16,7 +16,7 @@ use Rattle.targets.specs.Records.{udidOf, addressByte, flagOf, targetAt,
 -- ---- one record stored
 
 -- a byte that is neither the address byte nor the flag of record i
-other-byte : (i : ℕ) (t : Target) (s : List ℕ) (k : ℕ) → (k ≡ i * 18 + 16 → ⊥) → (k ≡ i * 18 + 17 → ⊥) → getD (putTarget i t s) k 0 ≡ getD s k 0
+pub other-byte : (i : ℕ) (t : Target) (s : List ℕ) (k : ℕ) → (k ≡ i * 18 + 16 → ⊥) → (k ≡ i * 18 + 17 → ⊥) → getD (putTarget i t s) k 0 ≡ getD s k 0
 unfolding putTarget
 other-byte i t s k a b = getD-set-other (set s (i * 18 + 16) (t .addressByte)) (i * 18 + 17) k _ 0 b ∙ getD-set-other s (i * 18 + 16) k (t .addressByte) 0 a
 
