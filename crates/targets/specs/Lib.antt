@@ -10,3 +10,6 @@ pub mod FieldLaws
 pub mod Numbers
 pub mod RefusalLaws
 pub mod ChangeLaws
+pub mod Reply
+pub mod Members
+pub mod ReplyLaws
