@@ -13,3 +13,5 @@ pub mod ChangeLaws
 pub mod Reply
 pub mod Members
 pub mod ReplyLaws
+pub mod IndexLaws
+pub mod WinnerLaws
