@@ -15,3 +15,5 @@ pub mod Members
 pub mod ReplyLaws
 pub mod IndexLaws
 pub mod WinnerLaws
+pub mod Admission
+pub mod AdmissionLaws
