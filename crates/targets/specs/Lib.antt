@@ -17,3 +17,4 @@ pub mod IndexLaws
 pub mod WinnerLaws
 pub mod Admission
 pub mod AdmissionLaws
+pub mod TraceLaws
