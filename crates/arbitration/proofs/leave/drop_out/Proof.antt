@@ -1,0 +1,24 @@
+use lib.Bits.{bitXor}
+use lib.Count.{leading-le}
+use native.Mathlib.Omega.{arith}
+use borrow.Author.Needs.{needs}
+use Rattle.arbitration.specs.DropOutLaws.{drop-high, drop-low}
+use Rattle.arbitration.proofs.leave.drop_out.Statement.{statement}
+use Rattle.arbitration.proofs.leave.drop_out.Tie as tie
+use Rattle.arbitration.proofs.leave.drop_out.Reads as reads
+use Rattle.arbitration.proofs.leave.drop_out.Lts as lts
+
+-- src/leave.rt:13:9
+add-result : tie.Need-add-result
+add-result c = omega (arith, leading-le 64 (bitXor (c .before .before .before .before .before .args .a .low) (c .before .before .before .before .before .args .b .low)))
+
+-- src/leave.rt:9:1
+returns : tie.Need-returns
+returns c = drop-low (c .before .before .before .before .before .args .a) (c .before .before .before .before .before .args .b) (search needs) (search needs) (c .before .before .if1 .taken)
+
+-- src/leave.rt:9:1
+returns-2 : tie.Need-returns-2
+returns-2 c = drop-high (c .before .before .before .before .before .args .a) (c .before .before .before .before .before .args .b) (search needs) (search needs) (c .before .before .if1 .left)
+
+pub drop-out-spec : {M : Type 1} → statement M
+drop-out-spec = tie.close (tie.spec add-result returns returns-2)

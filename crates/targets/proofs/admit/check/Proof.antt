@@ -1,0 +1,39 @@
+use Prim.Native.Nat.{ℕ, suc, _+_, _*_, _-_, _/_, _%_, _≤_, _<_}
+use mathlib.Core.Path.{_≡_, refl, sym, ap, ap₂, _∙_}
+use borrow.Author.Tests.{lt-ltb, le-ltb, le-leb, lt-leb, eq-eqb, ne-eqb, not-true, not-false}
+use Rattle.targets.specs.Refusals.{amongRecords, checkedList}
+use borrow.Author.Needs.{needs}
+use Rattle.targets.proofs.admit.check.Statement.{statement}
+use Rattle.targets.proofs.admit.check.Tie as tie
+use Rattle.targets.proofs.admit.check.Reads as reads
+use Rattle.targets.proofs.admit.check.Lts as lts
+use Rattle.pool.proofs.Pool.starting.Reads as starting-reads
+use Rattle.targets.proofs.admit.among_records.Reads as among-records-reads
+use Rattle.targets.proofs.admit.is_bad_length.Reads as is-bad-length-reads
+
+-- src/admit.rt:59:8
+is-bad-length-requires : tie.Need-is-bad-length-requires
+is-bad-length-requires c κs = search needs
+
+-- src/admit.rt:60:9
+returns : tie.Need-returns
+unfolding checkedList
+returns c = simp (← c .before .is-bad-length .ensures, c .if1 .taken)
+
+-- src/admit.rt:62:28
+starting-requires : tie.Need-starting-requires
+starting-requires c κs = search needs
+
+-- src/admit.rt:62:5
+among-records-requires : tie.Need-among-records-requires
+among-records-requires c κs = search needs
+
+-- src/admit.rt:56:1
+returns-2 : tie.Need-returns-2
+unfolding checkedList
+returns-2 c = simp (← c .before .before .before .is-bad-length .ensures, c .before .before .if1 .left, c .among-records .ensures, c .before .starting .ensures)
+
+pub check-spec : {M : Type 1} → statement M
+check-spec =
+    tie.close
+    (tie.spec is-bad-length-requires returns starting-requires among-records-requires returns-2)

@@ -1,0 +1,98 @@
+use Prim.Native.Nat.{ℕ, suc, _+_, _*_, _-_, _/_, _%_, _≤_, _<_}
+use mathlib.Core.Path.{_≡_, refl, sym, ap, ap₂, _∙_}
+use native.Mathlib.Omega.{arith}
+use mathlib.Core.Bool.{true, false}
+use mathlib.Core.List.{List}
+use lib.ListN.{length, set, length-set}
+use Rattle.udid.specs.Udids.{sameUdid, isBelow, isFixed}
+use Rattle.udid.specs.declared.Udid.{Udid}
+use Rattle.targets.specs.Records.{udidOf, addressByte, flagOf, targetAt, targetsFrom, putTarget, putFrom}
+use Rattle.targets.specs.Target.{prepared, assignedTo, cleared, resolve}
+use Rattle.targets.specs.RecordLaws.{change-more, put-prepared, put-self, length-put}
+use borrow.Author.Needs.{needs}
+use Rattle.targets.proofs.assign.assign_one.Statement.{statement}
+use Rattle.targets.proofs.assign.assign_one.Tie as tie
+use Rattle.targets.proofs.assign.assign_one.Reads as reads
+use Rattle.targets.proofs.assign.assign_one.Lts as lts
+use Rattle.targets.proofs.fields.udid_of.Reads as udid-of-reads
+use Rattle.udid.proofs.Udid.is_same.Reads as is-same-reads
+use Rattle.wire.proofs.address.Address.for_read.Reads as for-read-reads
+
+taken-by : (i : ℕ) (u : Udid) (a : ℕ) (s : List ℕ) (b : ℕ) → sameUdid (udidOf s i) u ≡ true → b ≡ 2 * (a % 128) + 1
+    → putTarget i (assignedTo u a (targetAt s i)) s ≡ set (set s (i * 18 + 16) b) (i * 18 + 17) 1
+unfolding putTarget targetAt
+taken-by i u a s b e f = rw (e, f)
+
+left-by : (i : ℕ) (u : Udid) (a : ℕ) (s : List ℕ) → sameUdid (udidOf s i) u ≡ false → putTarget i (assignedTo u a (targetAt s i)) s ≡ s
+unfolding targetAt
+left-by i u a s e = rw e (put-self i s)
+
+-- src/assign.rt:16:9
+udid-of-requires : tie.Need-udid-of-requires
+udid-of-requires c κs = search needs
+
+-- src/assign.rt:17:8
+is-same-requires : tie.Need-is-same-requires
+is-same-requires c κs = search needs
+
+-- src/assign.rt:18:13
+for-read-requires : tie.Need-for-read-requires
+for-read-requires c κs = search needs
+
+-- src/assign.rt:19:17
+mul-records : tie.Need-mul-records
+mul-records c = search needs
+
+-- src/assign.rt:19:17
+add-records : tie.Need-add-records
+add-records c = search needs
+
+-- src/assign.rt:19:9
+slice-write-records : tie.Need-slice-write-records
+slice-write-records c = search needs
+
+-- src/assign.rt:20:17
+mul-records-2 : tie.Need-mul-records-2
+mul-records-2 c = search needs
+
+-- src/assign.rt:20:17
+add-records-2 : tie.Need-add-records-2
+add-records-2 c = search needs
+
+-- src/assign.rt:20:9
+slice-write-records-2 : tie.Need-slice-write-records-2
+slice-write-records-2 c = simp length-set (omega arith)
+
+-- src/assign.rt:12:1
+same-length : tie.Need-same-length
+same-length c = search needs
+
+-- src/assign.rt:12:1
+returns : tie.Need-returns
+returns c = let e : sameUdid (udidOf (c .before .before .before .before .before .before .args .records .now) (c .before .before .before .before .before .before .args .i)) (c .before .before .before .before .before .before .args .u) ≡ true = ap (λ (x : Udid). sameUdid x (c .before .before .before .before .before .before .args .u)) (sym (c .before .before .before .udid-of .ensures)) ∙ sym (c .before .before .is-same .ensures) ∙ c .before .if1 .taken in sym (taken-by (c .before .before .before .before .before .before .args .i) (c .before .before .before .before .before .before .args .u) (c .before .before .before .before .before .before .args .a .0) (c .before .before .before .before .before .before .args .records .now) (c .for-read .result .0) e (c .for-read .ensures))
+
+-- src/assign.rt:12:1
+same-length-2 : tie.Need-same-length-2
+same-length-2 c = search needs
+
+-- src/assign.rt:12:1
+returns-2 : tie.Need-returns-2
+returns-2 c = let e : sameUdid (udidOf (c .before .before .before .before .before .args .records .now) (c .before .before .before .before .before .args .i)) (c .before .before .before .before .before .args .u) ≡ false = ap (λ (x : Udid). sameUdid x (c .before .before .before .before .before .args .u)) (sym (c .before .before .udid-of .ensures)) ∙ sym (c .before .is-same .ensures) ∙ c .if1 .left in sym (left-by (c .before .before .before .before .before .args .i) (c .before .before .before .before .before .args .u) (c .before .before .before .before .before .args .a .0) (c .before .before .before .before .before .args .records .now) e)
+
+pub assign-one-spec : {M : Type 1} → statement M
+assign-one-spec =
+    tie.close
+    (tie.spec
+    udid-of-requires
+    is-same-requires
+    for-read-requires
+    mul-records
+    add-records
+    slice-write-records
+    mul-records-2
+    add-records-2
+    slice-write-records-2
+    same-length
+    returns
+    same-length-2
+    returns-2)

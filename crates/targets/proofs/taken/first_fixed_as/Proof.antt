@@ -1,0 +1,61 @@
+use Prim.Native.Nat.{ℕ, suc, _+_, _*_, _-_, _/_, _%_, _≤_, _<_}
+use mathlib.Core.Path.{_≡_, refl, sym, ap, ap₂, _∙_}
+use native.Mathlib.Omega.{arith}
+use borrow.Author.Tests.{lt-ltb, le-ltb, le-leb, lt-leb, eq-eqb, ne-eqb, not-true, not-false}
+use Rattle.targets.specs.First.{firstFrom, first}
+use Rattle.targets.specs.FirstLaws.{first-start, first-found, first-onward, first-end}
+use Rattle.targets.specs.Refusals.{isMalformed, isSameAs, isRepeated, isFixedAs, isTaken}
+use borrow.Author.Needs.{needs}
+use Rattle.targets.proofs.taken.first_fixed_as.Statement.{statement}
+use Rattle.targets.proofs.taken.first_fixed_as.Tie as tie
+use Rattle.targets.proofs.taken.first_fixed_as.Reads as reads
+use Rattle.targets.proofs.taken.first_fixed_as.Lts as lts
+use Rattle.targets.proofs.taken.is_fixed_as.Reads as is-fixed-as-reads
+
+abbrev Inv-loop : tie.InvT-loop
+Inv-loop records i j₀ j = (j ≤ i) × (first (isFixedAs (records) (i)) i ≡ firstFrom (isFixedAs (records) (i)) (i - j) j)
+
+abbrev μ-loop : tie.MeasureT-loop
+μ-loop records i j₀ j = i - j
+
+-- src/taken.rt:26:5
+loop-holds : tie.Need-loop-holds Inv-loop μ-loop
+loop-holds c = (omega arith, first-start (isFixedAs (c .before .args .records .now) (c .before .args .i)) (c .before .args .i))
+
+-- src/taken.rt:27:12
+is-fixed-as-requires : tie.Need-is-fixed-as-requires Inv-loop μ-loop
+is-fixed-as-requires c κs = search needs
+
+-- src/taken.rt:28:13
+returns : tie.Need-returns Inv-loop μ-loop
+returns c = sym (c .before .before .before .loop .inv .1 ∙ first-found (isFixedAs (c .before .before .before .before .before .args .records .now) (c .before .before .before .before .before .args .i)) (c .before .before .before .before .before .args .i) (c .before .before .before .loop .j) (c .before .before .loop-test .taken) (sym (c .before .is-fixed-as .ensures) ∙ c .if1 .taken))
+
+-- src/taken.rt:30:9
+add-j : tie.Need-add-j Inv-loop μ-loop
+add-j c = omega arith
+
+-- src/taken.rt:26:5
+loop-less : tie.Need-loop-less Inv-loop μ-loop
+loop-less c = omega arith
+
+-- src/taken.rt:26:5
+loop-again : tie.Need-loop-again Inv-loop μ-loop
+loop-again c = (omega arith, c .before .before .before .loop .inv .1 ∙ first-onward (isFixedAs (c .before .before .before .before .before .args .records .now) (c .before .before .before .before .before .args .i)) (c .before .before .before .before .before .args .i) (c .before .before .before .loop .j) (c .before .before .loop-test .taken) (sym (c .before .is-fixed-as .ensures) ∙ c .if1 .left))
+
+-- src/taken.rt:22:1
+returns-2 : tie.Need-returns-2 Inv-loop μ-loop
+returns-2 c = let e : c .before .loop .j ≡ c .before .before .before .args .i = omega arith in sym (c .before .loop .inv .1 ∙ first-end (isFixedAs (c .before .before .before .args .records .now) (c .before .before .before .args .i)) (c .before .before .before .args .i) (c .before .loop .j) e)
+
+pub first-fixed-as-spec : {M : Type 1} → statement M
+first-fixed-as-spec =
+    tie.close
+    (tie.spec
+    Inv-loop
+    μ-loop
+    loop-holds
+    is-fixed-as-requires
+    returns
+    add-j
+    loop-less
+    loop-again
+    returns-2)

@@ -1,0 +1,61 @@
+use Prim.Native.Nat.{ℕ, suc, _+_, _*_, _-_, _/_, _%_, _≤_, _<_}
+use mathlib.Core.Path.{_≡_, refl, sym, ap, ap₂, _∙_}
+use borrow.Author.Needs.{needs}
+use native.Mathlib.Omega.{arith}
+use borrow.Author.Tests.{lt-ltb, le-ltb, le-leb, lt-leb, eq-eqb, ne-eqb, not-true, not-false}
+use Rattle.targets.specs.First.{firstFrom, first}
+use Rattle.targets.specs.FirstLaws.{first-start, first-found, first-onward, first-end}
+use Rattle.targets.specs.Refusals.{isMalformed, isSameAs, isRepeated, isFixedAs, isTaken}
+use Rattle.targets.proofs.taken.first_taken.Statement.{statement}
+use Rattle.targets.proofs.taken.first_taken.Tie as tie
+use Rattle.targets.proofs.taken.first_taken.Reads as reads
+use Rattle.targets.proofs.taken.first_taken.Lts as lts
+use Rattle.targets.proofs.taken.is_taken.Reads as is-taken-reads
+
+abbrev Inv-loop : tie.InvT-loop
+Inv-loop records n starting i₀ i = (i ≤ n) × (first (isTaken (starting) (records)) n ≡ firstFrom (isTaken (starting) (records)) (n - i) i)
+
+abbrev μ-loop : tie.MeasureT-loop
+μ-loop records n starting i₀ i = n - i
+
+-- src/taken.rt:53:5
+loop-holds : tie.Need-loop-holds Inv-loop μ-loop
+loop-holds c = (omega arith, first-start (isTaken (c .before .args .starting) (c .before .args .records .now)) (c .before .args .n))
+
+-- src/taken.rt:54:12
+is-taken-requires : tie.Need-is-taken-requires Inv-loop μ-loop
+is-taken-requires c κs = search needs
+
+-- src/taken.rt:55:13
+returns : tie.Need-returns Inv-loop μ-loop
+returns c = sym (c .before .before .before .loop .inv .1 ∙ first-found (isTaken (c .before .before .before .before .before .args .starting) (c .before .before .before .before .before .args .records .now)) (c .before .before .before .before .before .args .n) (c .before .before .before .loop .i) (c .before .before .loop-test .taken) (sym (c .before .is-taken .ensures) ∙ c .if1 .taken))
+
+-- src/taken.rt:57:9
+add-i : tie.Need-add-i Inv-loop μ-loop
+add-i c = omega arith
+
+-- src/taken.rt:53:5
+loop-less : tie.Need-loop-less Inv-loop μ-loop
+loop-less c = omega arith
+
+-- src/taken.rt:53:5
+loop-again : tie.Need-loop-again Inv-loop μ-loop
+loop-again c = (omega arith, c .before .before .before .loop .inv .1 ∙ first-onward (isTaken (c .before .before .before .before .before .args .starting) (c .before .before .before .before .before .args .records .now)) (c .before .before .before .before .before .args .n) (c .before .before .before .loop .i) (c .before .before .loop-test .taken) (sym (c .before .is-taken .ensures) ∙ c .if1 .left))
+
+-- src/taken.rt:49:1
+returns-2 : tie.Need-returns-2 Inv-loop μ-loop
+returns-2 c = let e : c .before .loop .i ≡ c .before .before .before .args .n = omega arith in sym (c .before .loop .inv .1 ∙ first-end (isTaken (c .before .before .before .args .starting) (c .before .before .before .args .records .now)) (c .before .before .before .args .n) (c .before .loop .i) e)
+
+pub first-taken-spec : {M : Type 1} → statement M
+first-taken-spec =
+    tie.close
+    (tie.spec
+    Inv-loop
+    μ-loop
+    loop-holds
+    is-taken-requires
+    returns
+    add-i
+    loop-less
+    loop-again
+    returns-2)

@@ -1,0 +1,87 @@
+-- What Prepare To ARP and Assign Address do to the records, read off their bytes, and that nothing else meets it.
+use Prim.Native.Nat.{ℕ, zero, suc, _+_, _*_, _/_, _%_, _≤_, _<_}
+use mathlib.Core.Path.{_≡_, refl, sym, ap, _∙_, subst}
+use mathlib.Core.Logic.{_↔_}
+use mathlib.Core.List.{List, [], _∷_}
+use native.Mathlib.Decide.{ℕ-discrete, decLt}
+use native.Mathlib.Omega.{arith}
+use lib.ListN.{length, getD}
+use lib.Seq.{ext-getD}
+use Rattle.udid.specs.declared.Udid.{Udid}
+use Rattle.targets.specs.Target.{Target, prepared, assignedTo, mapTargets, cleared, resolve}
+use Rattle.targets.specs.Records.{udidOf, addressByte, flagOf, targetAt, targetsFrom, recordCount, targetsOf, putTarget, putFrom, recordsWith}
+use Rattle.targets.specs.RecordLaws.{other-byte, length-put-from, changed-targets, prepared-keeps, assigned-keeps}
+
+-- place k is neither the address byte nor the flag of record i
+abbrev pub Elsewhere : ℕ → ℕ → Type 0
+Elsewhere k i = (k ≡ i * 18 + 16 → ⊥) × (k ≡ i * 18 + 17 → ⊥)
+
+-- each target of s is changed by f, and every byte that is no address byte or flag of a record is as it was
+pub record Changed (f : Target → Target) (s t : List ℕ) : Type 0 where
+  pub same-length : length t ≡ length s
+  pub records : (i : ℕ) → i < recordCount s → targetAt t i ≡ f (targetAt s i)
+  pub others : (k : ℕ) → ((i : ℕ) → i < recordCount s → Elsewhere k i) → getD t k 0 ≡ getD s k 0
+
+other-bytes : (ts : List Target) (i : ℕ) (s : List ℕ) (k : ℕ) → ((j : ℕ) → i ≤ j → j < i + length ts → Elsewhere k j) → getD (putFrom ts i s) k 0 ≡ getD s k 0
+other-bytes [] i s k h = refl
+other-bytes (t ∷ ts) i s k h =
+    let e = h i (omega arith) (omega arith) in
+    other-bytes ts (suc i) (putTarget i t s) k (λ j a b. h j (omega arith) (omega arith)) ∙ other-byte i t s k (e .0) (e .1)
+
+at-index : (f : Target → Target) (s t : List ℕ) (n i : ℕ) → targetsFrom t n i ≡ mapTargets f (targetsFrom s n i) → (j : ℕ) → i ≤ j → j < i + n → targetAt t j ≡ f (targetAt s j)
+at-index f s t zero i e j a b = absurd (omega arith)
+at-index f s t (suc n) i e j a b = go (ℕ-discrete i j) (λ c d. at-index f s t n (suc i) (cc e) j c d)
+  where
+    head : targetAt t i ≡ f (targetAt s i)
+    head = cc e
+
+    go : Dec (i ≡ j) → (suc i ≤ j → j < suc i + n → targetAt t j ≡ f (targetAt s j)) → targetAt t j ≡ f (targetAt s j)
+    go (yes q) ih = subst (λ (x : ℕ). targetAt t x ≡ f (targetAt s x)) q head
+    go (no q) ih = ih (omega arith) (omega arith)
+
+length-changed : (f : Target → Target) (s : List ℕ) (n i : ℕ) → length (mapTargets f (targetsFrom s n i)) ≡ n
+length-changed f s zero i = refl
+length-changed f s (suc n) i = ap suc (length-changed f s n (suc i))
+
+module _ (f : Target → Target) (keeps : (t : Target) → f t .udid ≡ t .udid) (s : List ℕ) where
+  changed-holds : Changed f s (recordsWith (mapTargets f (targetsOf s)) s)
+  changed-holds = record {
+    same-length = length-put-from (mapTargets f (targetsOf s)) 0 s;
+    records = λ i h. at-index f s (recordsWith (mapTargets f (targetsOf s)) s) (recordCount s) 0 (changed-targets f keeps (recordCount s) 0 s (omega arith)) i (omega arith) (omega arith);
+    others = λ k h. other-bytes (mapTargets f (targetsOf s)) 0 s k (λ j a b. h j (omega (arith, length-changed f s (recordCount s) 0)));
+  }
+
+  -- two lists that are so are equal
+  changed-unique : (t u : List ℕ) → Changed f s t → Changed f s u → t ≡ u
+  unfolding targetAt
+  changed-unique t u c d = ext-getD 0 t u (c .same-length ∙ sym (d .same-length)) (λ k h. go k (decLt (k / 18) (recordCount s)) (ℕ-discrete (k % 18) 16) (ℕ-discrete (k % 18) 17))
+    where
+      address : (i : ℕ) → i < recordCount s → addressByte t i ≡ addressByte u i
+      address i l = ap (λ (x : Target). x .addressByte) (c .records i l ∙ sym (d .records i l))
+
+      flag : (i : ℕ) → i < recordCount s → flagOf t i ≡ flagOf u i
+      flag i l = ap (λ (x : Target). x .flag) (c .records i l ∙ sym (d .records i l))
+
+      apart : (k : ℕ) → ((i : ℕ) → i < recordCount s → Elsewhere k i) → getD t k 0 ≡ getD u k 0
+      apart k h = c .others k h ∙ sym (d .others k h)
+
+      go : (k : ℕ) → Dec (k / 18 < recordCount s) → Dec (k % 18 ≡ 16) → Dec (k % 18 ≡ 17) → getD t k 0 ≡ getD u k 0
+      go k (no l) p q = apart k (λ i h. (λ e. l (omega (arith, e)), λ e. l (omega (arith, e))))
+      go k (yes l) (yes p) q =
+          let e : k ≡ k / 18 * 18 + 16 = omega arith in
+          ap (λ (x : ℕ). getD t x 0) e ∙ address (k / 18) l ∙ ap (λ (x : ℕ). getD u x 0) (sym e)
+      go k (yes l) (no p) (yes q) =
+          let e : k ≡ k / 18 * 18 + 17 = omega arith in
+          ap (λ (x : ℕ). getD t x 0) e ∙ flag (k / 18) l ∙ ap (λ (x : ℕ). getD u x 0) (sym e)
+      go k (yes l) (no p) (no q) = apart k (λ i h. (λ e. p (omega (arith, e)), λ e. q (omega (arith, e))))
+
+  changed-exactly : (t : List ℕ) → (t ≡ recordsWith (mapTargets f (targetsOf s)) s) ↔ Changed f s t
+  changed-exactly t = (λ e. subst (Changed f s) (sym e) changed-holds, λ c. changed-unique t (recordsWith (mapTargets f (targetsOf s)) s) c changed-holds)
+
+-- PREPARE CLEARS THE FLAG OF EVERY RECORD, and nothing else changes
+pub prepared-exactly : (s t : List ℕ) → (t ≡ recordsWith (cleared (targetsOf s)) s) ↔ Changed prepared s t
+prepared-exactly s t = changed-exactly prepared prepared-keeps s t
+
+-- ASSIGN REACHES THE TARGETS WITH THAT IDENTIFIER: they take the address and set the flag, and nothing else changes
+pub assigned-exactly : (u : Udid) (a : ℕ) (s t : List ℕ) → (t ≡ recordsWith (resolve u a (targetsOf s)) s) ↔ Changed (assignedTo u a) s t
+assigned-exactly u a s t = changed-exactly (assignedTo u a) (assigned-keeps u a) s t

@@ -1,0 +1,25 @@
+-- The reply of a target as a trace: a Block Read of command 03h from 61h with PEC, whose received bytes are those that the target sends.
+use Prim.Native.Nat.{ℕ}
+use mathlib.Core.Path.{_≡_, refl, ap, _∙_}
+use mathlib.Core.Bool.{Bool, true, false}
+use mathlib.Core.List.{List, [], _∷_, _++_}
+use lib.ListN.{length}
+use Rattle.wire.specs.Symbols.{START, STOP, ACK}
+use Rattle.wire.specs.Pec.{pecOf}
+use Rattle.trace.specs.Shapes.{shapeOf}
+use Rattle.trace.specs.Trace.{Message, trace, traceAt, nacked}
+use Rattle.targets.specs.Target.{Target}
+use Rattle.targets.specs.Reply.{replyData, replyPec, replyBytes}
+use Rattle.targets.specs.ReplyLaws.{length-data}
+
+-- Get UDID with these 17 bytes of data received
+abbrev pub gotUdid : List ℕ → Message
+gotUdid received = record { address = 0x61; direction = 0; command = 0x03; sent = []; received = received }
+
+counted : List ℕ → ℕ → ℕ → List ℕ
+counted ds n c = START ∷ 0xC2 ∷ ACK ∷ 0x03 ∷ ACK ∷ START ∷ 0xC3 ∷ ACK ∷ (nacked (n ∷ (ds ++ c ∷ [])) ++ STOP ∷ [])
+
+pub reply-trace : (t : Target) → trace (shapeOf 9) true (gotUdid (replyData t))
+    ≡ START ∷ 0xC2 ∷ ACK ∷ 0x03 ∷ ACK ∷ START ∷ 0xC3 ∷ ACK ∷ (nacked (replyBytes t) ++ STOP ∷ [])
+unfolding replyBytes replyPec counted
+reply-trace t = ap (λ (n : ℕ). counted (replyData t) n (pecOf (0xC2 ∷ 0x03 ∷ 0xC3 ∷ n ∷ replyData t))) (length-data t)

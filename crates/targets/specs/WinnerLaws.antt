@@ -1,0 +1,200 @@
+-- The winner is the unresolved record with the least identifier, and its reply is what the wire shows.
+use Prim.Native.Nat.{ℕ, zero, suc, _+_, _*_, _/_, _≤_, _<_}
+use mathlib.Core.Path.{_≡_, refl, sym, ap, _∙_, subst}
+use mathlib.Core.Bool.{Bool, true, false}
+use mathlib.Core.Logic.{_⊎_, inl, inr, _↔_}
+use mathlib.Core.List.{List, [], _∷_}
+use native.Mathlib.Decide.{ℕ-discrete, decLt}
+use native.Mathlib.Omega.{arith}
+use lib.Dec.{eqb, ltb}
+use lib.ListN.{length}
+use borrow.Author.Tests.{ltb-true, ltb-false, lt-ltb, le-ltb, eqb-true, eqb-false, eq-eqb, ne-eqb}
+use Rattle.lists.specs.Choice.{pick}
+use Rattle.lists.specs.Each.{Bytes}
+use Rattle.udid.specs.Udids.{value, isBelow}
+use Rattle.udid.specs.UdidLaws.{fits-at, value-same}
+use Rattle.udid.specs.WindowLaws.{byte-at}
+use Rattle.arbitration.specs.Among.{Among}
+use Rattle.arbitration.specs.Wire.{sending}
+use Rattle.arbitration.specs.DropOut.{sharing}
+use Rattle.targets.specs.Target.{Target, isResolved}
+use Rattle.targets.specs.Records.{udidOf, addressByte, flagOf, targetAt, targetsFrom, recordCount, targetsOf}
+use Rattle.targets.specs.Cases.{RepeatedAt, None}
+use Rattle.targets.specs.Winner.{betterOf, bestFrom, leastOf, winnerAmong, winnerOf}
+use Rattle.targets.specs.Reply.{replyBytes, sends, waiting, OnWire, silence, shown, onWire}
+use Rattle.targets.specs.ReplyLaws.{Sized, Least, nobody-on-wire, least-on-wire, least-sending}
+use Rattle.targets.specs.IndexLaws.{in-targets, of-targets, sized-at}
+use Rattle.targets.specs.declared.winner.Winner.{Winner}
+use Rattle.targets.specs.declared.winner.Winner.the-variants.{At, AllResolved}
+
+-- ---- what the winner is
+
+abbrev pub Unresolved : List ℕ → ℕ → Type 0
+Unresolved s i = flagOf s i ≡ 1 → ⊥
+
+-- of the first n records, w is the unresolved one with the least identifier, and the first of those that have it
+pub record Wins (s : List ℕ) (n w : ℕ) : Type 0 where
+  pub below : w < n
+  pub unresolved : Unresolved s w
+  pub least : (j : ℕ) → j < n → Unresolved s j → value (udidOf s w) ≤ value (udidOf s j)
+  pub earliest : (j : ℕ) → j < w → Unresolved s j → value (udidOf s w) < value (udidOf s j)
+
+abbrev pub Won : List ℕ → Winner → Type 0
+Won s (At w) = Wins s (recordCount s) w
+Won s AllResolved = None (Unresolved s) (recordCount s)
+
+-- ---- the search finds it
+
+abbrev Best : List ℕ → ℕ → ℕ → ℕ → Type 0
+Best s n i best = ((best ≡ n) × None (Unresolved s) i) ⊎ Wins s i best
+
+module _ (s : List ℕ) where
+  abbrev Val : ℕ → ℕ
+  Val j = value (udidOf s j)
+
+  -- a number below i + 1 is below i, or i
+  split : (i j : ℕ) → j < suc i → (j ≡ i) ⊎ (j < i)
+  split i j l = at (decLt j i)
+    where
+      at : Dec (j < i) → (j ≡ i) ⊎ (j < i)
+      at (yes q) = inr q
+      at (no q) = inl (omega arith)
+
+  -- record i is resolved: what held of the others holds
+  passed : (i best n : ℕ) → flagOf s i ≡ 1 → Best s n i best → Best s n (suc i) best
+  passed i best n e (inl w) = inl (w .0, λ j l u. at j u (split i j l))
+    where
+      at : (j : ℕ) → Unresolved s j → (j ≡ i) ⊎ (j < i) → ⊥
+      at j u (inl q) = u (ap (flagOf s) q ∙ e)
+      at j u (inr q) = w .1 j q u
+  passed i best n e (inr w) = inr (record {
+    below = omega (arith, w .below);
+    unresolved = w .unresolved;
+    least = λ j l u. at j u (split i j l);
+    earliest = w .earliest;
+  })
+    where
+      at : (j : ℕ) → Unresolved s j → (j ≡ i) ⊎ (j < i) → Val best ≤ Val j
+      at j u (inl q) = absurd (u (ap (flagOf s) q ∙ e))
+      at j u (inr q) = w .least j q u
+
+  -- record i is lower than all unresolved ones before it
+  newly : (i n : ℕ) → Unresolved s i → ((j : ℕ) → j < i → Unresolved s j → Val i < Val j) → Best s n (suc i) i
+  newly i n e h = inr (record { below = omega arith; unresolved = e; least = λ j l u. at j u (split i j l); earliest = h })
+    where
+      at : (j : ℕ) → Unresolved s j → (j ≡ i) ⊎ (j < i) → Val i ≤ Val j
+      at j u (inl q) = omega (arith, ap Val q)
+      at j u (inr q) = omega (arith, h j q u)
+
+  -- record i is not lower than the best
+  remains : (i best n : ℕ) → Val best ≤ Val i → Wins s i best → Best s n (suc i) best
+  remains i best n h w = inr (record {
+    below = omega (arith, w .below);
+    unresolved = w .unresolved;
+    least = λ j l u. at j u (split i j l);
+    earliest = w .earliest;
+  })
+    where
+      at : (j : ℕ) → Unresolved s j → (j ≡ i) ⊎ (j < i) → Val best ≤ Val j
+      at j u (inl q) = omega (arith, ap Val q)
+      at j u (inr q) = w .least j q u
+
+  better-best : (n i best : ℕ) → i < n → Best s n i best → Best s n (suc i) (betterOf s n i best)
+  unfolding betterOf
+  better-best n i best h v = go (eqb (flagOf s i) 1) refl v
+    where
+      go : (t : Bool) → eqb (flagOf s i) 1 ≡ t → Best s n i best → Best s n (suc i) (pick t best (pick (ltb best n) (pick (isBelow (udidOf s i) (udidOf s best)) i best) i))
+      go true e w = passed i best n (eqb-true (flagOf s i) 1 e) w
+      go false e (inl w) =
+          rw (le-ltb best n (omega (arith, w .0))) (newly i n (eqb-false (flagOf s i) 1 e) (λ j l u. absurd (w .1 j l u)))
+      go false e (inr w) = rw (lt-ltb best n (omega (arith, w .below))) (at (isBelow (udidOf s i) (udidOf s best)) refl)
+        where
+          at : (t : Bool) → isBelow (udidOf s i) (udidOf s best) ≡ t → Best s n (suc i) (pick t i best)
+          at true f = newly i n (eqb-false (flagOf s i) 1 e) (λ j l u. omega (arith, ltb-true (Val i) (Val best) f, w .least j l u))
+          at false f = remains i best n (ltb-false (Val i) (Val best) f) w
+
+  from-best : (n k i best : ℕ) → i + k ≡ n → Best s n i best → Best s n n (bestFrom s n k i best)
+  unfolding bestFrom
+  from-best n zero i best e v = let q : i ≡ n = omega arith in subst (λ (x : ℕ). Best s n x best) q v
+  from-best n (suc k) i best e v = from-best n k (suc i) (betterOf s n i best) (omega arith) (better-best n i best (omega arith) v)
+
+  least-best : (n : ℕ) → Best s n n (leastOf s n)
+  least-best n = from-best n n 0 n (omega arith) (inl (refl, λ j l. absurd (omega arith)))
+
+  won-holds : Won s (winnerOf s)
+  unfolding winnerOf
+  won-holds = go (leastOf s n) (least-best n)
+    where
+      n : ℕ
+      n = recordCount s
+
+      go : (w : ℕ) → Best s n n w → Won s (pick (ltb w n) (At w) AllResolved)
+      go w (inl v) = rw (le-ltb w n (omega (arith, v .0))) (v .1)
+      go w (inr v) = rw (lt-ltb w n (v .below)) v
+
+  won-unique : (r t : Winner) → Won s r → Won s t → r ≡ t
+  won-unique AllResolved AllResolved h g = refl
+  won-unique AllResolved (At w) h g = absurd (h w (g .below) (g .unresolved))
+  won-unique (At w) AllResolved h g = absurd (g w (h .below) (h .unresolved))
+  won-unique (At w) (At v) h g = ap At (go (decLt w v) (decLt v w))
+    where
+      go : Dec (w < v) → Dec (v < w) → w ≡ v
+      go (yes l) d = absurd (omega (arith, g .earliest w l (h .unresolved), h .least v (g .below) (g .unresolved)))
+      go (no l) (yes k) = absurd (omega (arith, h .earliest v k (g .unresolved), g .least w (h .below) (h .unresolved)))
+      go (no l) (no k) = omega arith
+
+  -- THE WINNER IS THE UNRESOLVED RECORD WITH THE LEAST IDENTIFIER, or all are resolved
+  pub winner-exactly : (r : Winner) → (r ≡ winnerOf s) ↔ Won s r
+  winner-exactly r = (λ e. subst (Won s) (sym e) won-holds, λ h. won-unique r (winnerOf s) h won-holds)
+
+-- ---- what stands on the wire
+
+abbrev pub shownBy : List ℕ → Winner → OnWire
+shownBy s AllResolved = silence
+shownBy s (At w) = shown (replyBytes (targetAt s w))
+
+module _ (s : List ℕ) (b : Bytes s) (differ : None (RepeatedAt s) (recordCount s)) where
+  flag-is : (i : ℕ) (t : Target) → targetAt s i ≡ t → isResolved t ≡ false → Unresolved s i
+  unfolding targetAt
+  flag-is i t e o = eqb-false (flagOf s i) 1 (ap isResolved e ∙ o)
+
+  other : (i j : ℕ) → i < recordCount s → j < recordCount s → (i ≡ j → ⊥) → udidOf s i ≡ udidOf s j → ⊥
+  other i j h g n e = go (decLt i j)
+    where
+      go : Dec (i < j) → ⊥
+      go (yes l) = differ j g (i, l, e)
+      go (no l) = differ i h (j, omega arith, sym e)
+
+  least-of : (w : ℕ) → Wins s (recordCount s) w → Least (targetsOf s) (targetAt s w)
+  unfolding targetAt
+  least-of w v = record {
+    among = of-targets s (recordCount s) 0 w (omega arith) (omega (arith, v .below));
+    unresolved = ne-eqb (flagOf s w) 1 (v .unresolved);
+    sized = sized-at s b w;
+    below = λ t m o. let r = in-targets s (recordCount s) 0 t m in at t (r .0) (omega (arith, r .2)) (r .3) o (ℕ-discrete w (r .0));
+  }
+    where
+      lower : (j : ℕ) → j < recordCount s → value (udidOf s w) ≤ value (udidOf s j) → (w ≡ j → ⊥) → value (udidOf s w) < value (udidOf s j)
+      lower j l h n = strict (value (udidOf s w)) (value (udidOf s j)) h (λ e. other w j (v .below) l n (value-same (udidOf s w) (udidOf s j) (fits-at s (w * 18) b .low) (fits-at s (j * 18) b .low) e))
+        where
+          strict : (x y : ℕ) → x ≤ y → (x ≡ y → ⊥) → x < y
+          strict x y p q = omega arith
+
+      at : (t : Target) (j : ℕ) → j < recordCount s → targetAt s j ≡ t → isResolved t ≡ false → Dec (w ≡ j) → (targetAt s w ≡ t) ⊎ (Sized t × (value (udidOf s w) < value (t .udid)))
+      at t j l e o (yes q) = inl (ap (targetAt s) q ∙ e)
+      at t j l e o (no q) = inr (
+        subst Sized e (sized-at s b j),
+        subst (λ (x : Target). value (udidOf s w) < value (x .udid)) e (lower j l (v .least j l (flag-is j t e o)) q),
+      )
+
+  -- THE WIRE SHOWS THE WINNER'S REPLY, or silence where all are resolved
+  pub winner-on-wire : onWire (waiting (targetsOf s)) ≡ shownBy s (winnerOf s)
+  winner-on-wire = go (winnerOf s) (winner-exactly s (winnerOf s) .0 refl)
+    where
+      go : (r : Winner) → Won s r → onWire (waiting (targetsOf s)) ≡ shownBy s r
+      go AllResolved v = nobody-on-wire (targetsOf s) (λ t m o. let r = in-targets s (recordCount s) 0 t m in v (r .0) (omega (arith, r .2)) (flag-is (r .0) t (r .3) o))
+      go (At w) v = least-on-wire (targetsOf s) (targetAt s w) (least-of w v)
+
+  -- after n bits those targets still send that share n bits with the winner
+  pub winner-sending : (w : ℕ) → At w ≡ winnerOf s → (n : ℕ) → n ≤ 152 → sending n (waiting (targetsOf s)) ≡ sharing n (sends (targetAt s w)) (waiting (targetsOf s))
+  winner-sending w e n h = least-sending (targetsOf s) (targetAt s w) (least-of w (winner-exactly s (At w) .0 e)) n h

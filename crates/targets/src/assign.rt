@@ -1,0 +1,35 @@
+// Assign Address: it reaches the target with that identifier. Rests on fields; specs/ChangeLaws says what it does byte by byte.
+ghost use mathlib.Core.Path.{_≡_};
+ghost use Prim.Native.Nat.{_+_, _*_, _≤_};
+ghost use lib.ListN.{length};
+ghost use Rattle.targets.specs.Target.{assignedTo, resolve};
+ghost use Rattle.targets.specs.Records.{targetAt, targetsOf, putTarget, recordsWith};
+use super::fields;
+use udid::Udid;
+use wire::address::Address;
+
+// Record i takes the address and sets its flag, where the identifier is its own.
+fn assign_one(records: &mut [u8], i: usize, u: Udid, a: Address)
+    requires { ⌜ i * 18 + 18 ≤ length (now records) ⌝ }
+    ensures { λ r. ⌜ now (records .exit) ≡ putTarget i (assignedTo u (a .0) (targetAt (now (records .entry)) i)) (now (records .entry)) ⌝ }
+{
+    let own = fields::udid_of(&records[..], i);
+    if own.is_same(u) {
+        let w = a.for_read();
+        records[i * 18 + 16] = w.0;
+        records[i * 18 + 17] = 1;
+    }
+}
+
+// Every record with that identifier takes the address and sets its flag, and nothing else changes. Of an address above 127 the low
+// seven bits are taken.
+pub fn assign(records: &mut [u8], u: Udid, a: Address)
+    ensures { λ r. ⌜ now (records .exit) ≡ recordsWith (resolve u (a .0) (targetsOf (now (records .entry)))) (now (records .entry)) ⌝ }
+{
+    let n = records.len() / 18;
+    let mut i: usize = 0;
+    while i < n {
+        assign_one(&mut records[..], i, u, a);
+        i += 1;
+    }
+}

@@ -1,0 +1,60 @@
+// The fields of a record. A byte that the list does not have counts as zero. Rests on wire and udid.
+ghost use mathlib.Core.Path.{_≡_};
+ghost use Prim.Native.Nat.{_+_, _*_, _/_};
+ghost use lib.ListN.{length, getD};
+ghost use Rattle.targets.specs.Records.{udidOf, addressByte, flagOf};
+use udid::Udid;
+use wire::address::Address;
+use wire::address::WireByte;
+
+// How many whole records the list has.
+pub fn count(records: &[u8]) -> usize
+    ensures { λ r. ⌜ r ≡ length (now (records .entry)) / 18 ⌝ }
+{
+    records.len() / 18
+}
+
+// Byte k of record i.
+fn byte(records: &[u8], i: usize, k: usize) -> u8
+    ensures { λ r. ⌜ r ≡ getD (now (records .entry)) (i * 18 + k) 0 ⌝ }
+{
+    if i > records.len() / 18 {
+        return 0;
+    }
+    let at = i * 18;
+    if k >= records.len() - at {
+        return 0;
+    }
+    records[at + k]
+}
+
+// The identifier of record i.
+pub fn udid_of(records: &[u8], i: usize) -> Udid
+    ensures { λ r. ⌜ r ≡ udidOf (now (records .entry)) i ⌝ }
+{
+    if i > records.len() / 18 {
+        return Udid { high: 0, low: 0 };
+    }
+    Udid::from_bytes(records, i * 18)
+}
+
+// Its device address byte: the address in the upper seven bits, FFh for none.
+pub fn address_byte(records: &[u8], i: usize) -> u8
+    ensures { λ r. ⌜ r ≡ addressByte (now (records .entry)) i ⌝ }
+{
+    byte(records, i, 16)
+}
+
+// The address in that byte: FFh counts as 7Fh.
+pub fn address_of(records: &[u8], i: usize) -> Address
+    ensures { λ r. ⌜ r .0 ≡ addressByte (now (records .entry)) i / 2 ⌝ }
+{
+    Address::from_wire(WireByte(address_byte(records, i)))
+}
+
+// Its resolved flag: 1 where its address is resolved.
+pub fn flag_of(records: &[u8], i: usize) -> u8
+    ensures { λ r. ⌜ r ≡ flagOf (now (records .entry)) i ⌝ }
+{
+    byte(records, i, 17)
+}
