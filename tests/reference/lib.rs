@@ -1,6 +1,11 @@
 //! An independent reference for the codec, written straight from the protocol table:
 //! rows written out, long division, and a decoder that guesses, rebuilds and compares.
+//! Over it the ARP controller with maps and sets, and a bus that runs bit by bit.
 
+pub mod addresses;
+pub mod bus;
+pub mod commands;
+pub mod controller;
 pub mod decode;
 pub mod pec;
 pub mod random;
