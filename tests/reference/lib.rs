@@ -6,6 +6,7 @@ pub mod addresses;
 pub mod bus;
 pub mod commands;
 pub mod controller;
+pub mod damage;
 pub mod decode;
 pub mod pec;
 pub mod random;
