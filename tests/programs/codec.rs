@@ -2,7 +2,6 @@
 //!   codec FOLDER      the folder of the stored vectors
 
 mod codec_abi;
-mod damage;
 mod decoding;
 mod encoding;
 mod family;

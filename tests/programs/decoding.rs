@@ -1,7 +1,7 @@
 //! Families of cases for the decoder.
 
 use crate::codec_abi::{decode, Content, Decoded, Lent};
-use crate::damage::{appended, cut, moved, nacked, places, replaced};
+use reference::damage::{appended, cut, moved, nacked, places, replaced};
 use crate::family::Family;
 use reference::decode::{decode as reference_decode, Answer};
 use reference::random::Random;

@@ -6,15 +6,10 @@ mod ground_abi;
 
 use family::Family;
 use ground_abi as library;
+use reference::addresses::RESERVED;
 use reference::random::Random;
 use reference::text::{hex, transaction_text};
 use reference::{pec, stored, table};
-
-/// The addresses that the requirements reserve.
-const RESERVED: [u8; 21] = [
-    0x00, 0x01, 0x02, 0x03, 0x04, 0x05, 0x06, 0x07, 0x08, 0x0c, 0x28, 0x37, 0x61, 0x78, 0x79, 0x7a, 0x7b, 0x7c, 0x7d,
-    0x7e, 0x7f,
-];
 
 /// Every register value with every byte. The register is the PEC of some message of one byte.
 fn pec_bytes() {

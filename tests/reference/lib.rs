@@ -1,10 +1,24 @@
 //! An independent reference for the codec, written straight from the protocol table:
 //! rows written out, long division, and a decoder that guesses, rebuilds and compares.
+//! Over it the ARP controller with maps and sets, and a bus that runs bit by bit.
 
+pub mod addresses;
+pub mod bus;
+pub mod commands;
+pub mod controller;
+pub mod damage;
 pub mod decode;
+pub mod every;
+pub mod families;
+pub mod good;
+pub mod hostile;
+pub mod mistakes;
 pub mod pec;
 pub mod random;
+pub mod recorder;
 pub mod samples;
+pub mod shelf_passes;
+pub mod shelves;
 pub mod stored;
 pub mod table;
 pub mod text;

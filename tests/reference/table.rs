@@ -9,6 +9,7 @@ pub const NACK: u16 = 259;
 
 pub const PROTOCOLS: u8 = 11;
 pub const QUICK: u8 = 0;
+pub const SEND_BYTE: u8 = 1;
 pub const RECEIVE_BYTE: u8 = 2;
 pub const BLOCK_WRITE: u8 = 8;
 pub const BLOCK_READ: u8 = 9;

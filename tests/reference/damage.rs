@@ -1,7 +1,7 @@
 //! Ways to damage a trace.
 
-use reference::random::Random;
-use reference::table::{ACK, NACK, START, STOP};
+use crate::random::Random;
+use crate::table::{ACK, NACK, START, STOP};
 
 /// Values to put in a symbol's place.
 fn replacements(symbol: u16) -> Vec<u16> {

@@ -1,0 +1,59 @@
+//! A script as bytes, and its answers: what the program `passes` reads and writes.
+//!   0, occupied addresses 0 to 63, then 64 to 127      a new controller; no answer
+//!   1                                                  starts a pass; a command
+//!   2, count of 16 bits, so many symbols of 16 bits    a step; a command
+//!   3                                                  all lookups; 128 finds
+//! A command is a tag, a UDID, an address; a find is a tag and a UDID. Numbers are low byte first, UDIDs highest first.
+
+use reference::addresses::Addresses;
+use reference::commands::{Command, Udid};
+use reference::controller::Found;
+use reference::recorder::{Due, Op};
+
+const NO_UDID: Udid = [0; 16];
+
+/// One bit for each address.
+fn occupied_bits(occupied: &Addresses) -> [u8; 16] {
+    occupied.iter().fold(0u128, |bits, &address| bits | 1 << address).to_le_bytes()
+}
+
+pub fn input(op: &Op) -> Vec<u8> {
+    match op {
+        Op::New(occupied) => [&[0], &occupied_bits(occupied)[..]].concat(),
+        Op::Start => vec![1],
+        Op::Step(trace) => {
+            let count = u16::try_from(trace.len()).expect("a trace of a script is short");
+            let words = [count].into_iter().chain(trace.iter().copied());
+            [vec![2], words.flat_map(u16::to_le_bytes).collect()].concat()
+        }
+        Op::Lookups => vec![3],
+    }
+}
+
+fn command_bytes(command: &Command) -> Vec<u8> {
+    let (tag, udid, address) = match command {
+        Command::Prepare => (0, &NO_UDID, 0),
+        Command::GetUdid => (1, &NO_UDID, 0),
+        Command::Assign(udid, address) => (2, udid, *address),
+        Command::Ended => (3, &NO_UDID, 0),
+        Command::NoneFree(udid) => (4, udid, 0),
+        Command::Abandoned => (5, &NO_UDID, 0),
+        Command::NotOutstanding => (6, &NO_UDID, 0),
+    };
+    [&[tag], &udid[..], &[address]].concat()
+}
+
+fn found_bytes(found: &Found) -> Vec<u8> {
+    match found {
+        Found::Bound(udid) => [&[0], &udid[..]].concat(),
+        Found::Refused(number) => [&[*number as u8], &NO_UDID[..]].concat(),
+    }
+}
+
+pub fn output(due: &Due) -> Vec<u8> {
+    match due {
+        Due::Nothing => vec![],
+        Due::Command(command) => command_bytes(command),
+        Due::Found(all) => all.iter().flat_map(found_bytes).collect(),
+    }
+}

@@ -1,0 +1,25 @@
+//! Addresses, the reserved ones, and sets of them.
+
+use std::collections::BTreeSet;
+
+pub type Addresses = BTreeSet<u8>;
+
+pub const ADDRESSES: u8 = 128;
+
+/// Where ARP commands go.
+pub const DEFAULT: u8 = 0x61;
+
+pub const RESERVED: [u8; 21] = [
+    0x00, 0x01, 0x02, 0x03, 0x04, 0x05, 0x06, 0x07, 0x08, 0x0c, 0x28, 0x37, 0x61, 0x78, 0x79, 0x7a, 0x7b, 0x7c, 0x7d,
+    0x7e, 0x7f,
+];
+
+/// What is used before anyone is bound: the reserved and the occupied.
+pub fn starting_pool(occupied: &Addresses) -> Addresses {
+    RESERVED.into_iter().chain(occupied.iter().copied()).collect()
+}
+
+/// The lowest address outside a set.
+pub fn lowest_free(used: &Addresses) -> Option<u8> {
+    (0..ADDRESSES).find(|address| !used.contains(address))
+}

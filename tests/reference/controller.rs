@@ -1,0 +1,148 @@
+//! The ARP controller: one received trace in, the next command out.
+
+use crate::addresses::*;
+use crate::commands::*;
+use crate::decode::{decode, Answer};
+use crate::table::*;
+use std::collections::BTreeMap;
+
+/// The most Get UDIDs of a pass.
+pub const MOST_GET_UDIDS: usize = 128;
+
+#[derive(Clone, Copy, Debug, PartialEq, Eq)]
+pub enum Binding {
+    Bound(Udid),
+    /// Two claim the address, and nobody has it.
+    Claimed,
+}
+
+#[derive(Clone, Copy, Debug, PartialEq, Eq)]
+pub enum Found {
+    Bound(Udid),
+    /// 1 no address, 15 nobody bound, 16 two claim it.
+    Refused(u32),
+}
+
+#[derive(Clone, Debug, PartialEq, Eq)]
+pub struct Controller {
+    pub starting: Addresses,
+    pub pool: Addresses,
+    pub bindings: BTreeMap<u8, Binding>,
+    pub get_udids: usize,
+    /// What was answered last; a step is due if it was sent on the bus.
+    pub last: Command,
+}
+
+/// The reply to a Get UDID, as far as it matters.
+enum Reply {
+    Over,
+    Again,
+    From(Udid, u8),
+}
+
+fn reply_in(trace: &[u16]) -> Reply {
+    match decode(BLOCK_READ, true, trace, 255, 255) {
+        Answer::Refused { number: 6, value: 0..=2 } => Reply::Over,
+        Answer::Refused { .. } => Reply::Again,
+        Answer::Done(t) if t.address != DEFAULT || t.command != GET_UDID => Reply::Again,
+        Answer::Done(t) if t.received.len() != 17 => Reply::Over,
+        Answer::Done(t) => Reply::From(udid_of(&t.received[..16]), t.received[16]),
+    }
+}
+
+impl Controller {
+    pub fn new(occupied: &Addresses) -> Controller {
+        let starting = starting_pool(occupied);
+        let pool = starting.clone();
+        Controller { starting, pool, bindings: BTreeMap::new(), get_udids: 0, last: Command::NotOutstanding }
+    }
+
+    pub fn start(&mut self) -> Command {
+        self.pool = self.starting.clone();
+        self.bindings.clear();
+        self.get_udids = 0;
+        self.last = Command::Prepare;
+        self.last
+    }
+
+    pub fn step(&mut self, trace: &[u16]) -> Command {
+        self.last = match self.last {
+            Command::Prepare => self.prepared(trace),
+            Command::GetUdid => self.replied(trace),
+            Command::Assign(udid, address) => self.assigned(&udid, address, trace),
+            _ => return Command::NotOutstanding,
+        };
+        self.last
+    }
+
+    pub fn lookup(&self, address: u8) -> Found {
+        if address >= ADDRESSES {
+            return Found::Refused(1);
+        }
+        match self.bindings.get(&address) {
+            None => Found::Refused(15),
+            Some(Binding::Claimed) => Found::Refused(16),
+            Some(Binding::Bound(udid)) => Found::Bound(*udid),
+        }
+    }
+
+    fn prepared(&mut self, trace: &[u16]) -> Command {
+        if build(&prepare()).as_deref() == Ok(trace) {
+            return self.get_udid();
+        }
+        match decode(SEND_BYTE, true, trace, 255, 255) {
+            Answer::Refused { number: 6, .. } => Command::Ended,
+            _ => Command::Abandoned,
+        }
+    }
+
+    fn get_udid(&mut self) -> Command {
+        if self.get_udids == MOST_GET_UDIDS {
+            return Command::Abandoned;
+        }
+        self.get_udids += 1;
+        Command::GetUdid
+    }
+
+    fn replied(&mut self, trace: &[u16]) -> Command {
+        match reply_in(trace) {
+            Reply::Over => Command::Ended,
+            Reply::Again => self.get_udid(),
+            Reply::From(udid, address_byte) => {
+                self.unbind(&udid);
+                match self.choose(&udid, address_byte) {
+                    Some(address) => Command::Assign(udid, address),
+                    None => Command::NoneFree(udid),
+                }
+            }
+        }
+    }
+
+    fn unbind(&mut self, udid: &Udid) {
+        let held = self.bindings.iter().find(|(_, &binding)| binding == Binding::Bound(*udid));
+        if let Some(address) = held.map(|(&address, _)| address) {
+            self.bindings.remove(&address);
+            self.pool.remove(&address);
+        }
+    }
+
+    fn choose(&self, udid: &Udid, address_byte: u8) -> Option<u8> {
+        let own = address_byte / 2;
+        if address_byte == NO_ADDRESS {
+            lowest_free(&self.pool)
+        } else if is_fixed(udid) || !self.pool.contains(&own) {
+            Some(own)
+        } else {
+            lowest_free(&self.pool)
+        }
+    }
+
+    fn assigned(&mut self, udid: &Udid, address: u8, trace: &[u16]) -> Command {
+        if build(&assign(udid, address)).as_deref() == Ok(trace) {
+            let new = self.pool.insert(address);
+            let claimed = is_fixed(udid) && !new;
+            self.bindings.insert(address, if claimed { Binding::Claimed } else { Binding::Bound(*udid) });
+        }
+        self.get_udid()
+    }
+}

@@ -1,0 +1,177 @@
+//! Scripts with random answers to a controller: good ones, wrong ones, and starts at any time.
+
+use crate::addresses::*;
+use crate::commands::*;
+use crate::good::*;
+use crate::mistakes::*;
+use crate::random::Random;
+use crate::recorder::Recorder;
+use crate::shelves::*;
+
+/// How many answers in a hundred are wrong, how many Get UDIDs end the pass, and how often a pass starts in the middle.
+/// Where none is to end the pass, no wrong answer does.
+#[derive(Clone, Copy)]
+struct Temper {
+    prepare: usize,
+    get_udid: usize,
+    assign: usize,
+    over: usize,
+    restart: usize,
+}
+
+const CALM: Temper = Temper { prepare: 0, get_udid: 0, assign: 0, over: 12, restart: 0 };
+
+/// Who may reply, and with which address bytes.
+struct Faces {
+    udids: Vec<Udid>,
+    address_bytes: Vec<u8>,
+}
+
+/// So many UDIDs, and address bytes of so many addresses, with bit 0 either way, FFh, FEh, reserved and any.
+fn faces(random: &mut Random, udid_count: usize, address_count: usize) -> Faces {
+    let mut address_bytes = vec![NO_ADDRESS, 0xfe, 2 * random.pick(&RESERVED) + 1, random.byte()];
+    for _ in 0..address_count {
+        let even = random.byte() & 0xfe;
+        address_bytes.extend([even, even + 1, even + 1]);
+    }
+    Faces { udids: udids(random, udid_count), address_bytes }
+}
+
+fn chance(random: &mut Random, percent: usize) -> bool {
+    random.below(100) < percent
+}
+
+/// An end of the pass: NACK to one of the first three bytes, or a reply with another count.
+fn ending(random: &mut Random, udid: &Udid) -> Vec<u16> {
+    let reply = get_udid(&reply_bytes(udid, 0x21));
+    match random.below(4) {
+        0 => other_count(random, &reply),
+        1 => nacked_at(&trace_of(&reply), random.below(2)),
+        _ => all_resolved(),
+    }
+}
+
+/// The answer of one of the faces, good or wrong.
+fn answer(random: &mut Random, temper: Temper, faces: &Faces, command: &Command) -> Vec<u16> {
+    let udid = random.pick(&faces.udids);
+    let (right, wrong) = match command {
+        Command::Prepare => (prepare(), temper.prepare),
+        Command::Assign(udid, address) => (assign(udid, *address), temper.assign),
+        _ => (get_udid(&reply_bytes(&udid, random.pick(&faces.address_bytes))), temper.get_udid),
+    };
+    if *command == Command::GetUdid && chance(random, temper.over) {
+        ending(random, &udid)
+    } else if chance(random, wrong) {
+        mistaken(random, &right)
+    } else {
+        trace_of(&right)
+    }
+}
+
+/// Steps that nothing is outstanding for.
+fn idle(recorder: &mut Recorder, random: &mut Random) {
+    for _ in 0..random.below(3) {
+        let udid = any_udid(random);
+        let trace = match random.below(5) {
+            0 => trace_of(&prepare()),
+            1 => reply_trace(&udid, NO_ADDRESS),
+            2 => trace_of(&assign(&udid, 0x30)),
+            3 => all_resolved(),
+            _ => rubbish(random),
+        };
+        recorder.step(trace);
+    }
+}
+
+/// A pass to its end, or to the next start.
+fn pass(recorder: &mut Recorder, random: &mut Random, temper: Temper, faces: &Faces) {
+    recorder.start();
+    while recorder.outstanding().is_sent() {
+        let trace = answer(random, temper, faces, &recorder.outstanding());
+        if temper.over == 0 && recorder.trial(&trace) == Command::Ended {
+            continue;
+        }
+        recorder.step(trace);
+        if chance(random, 2) {
+            recorder.lookups();
+        }
+        if chance(random, temper.restart) {
+            return;
+        }
+    }
+    recorder.lookups();
+    if chance(random, 20) {
+        idle(recorder, random);
+        recorder.lookups();
+    }
+}
+
+/// So many controllers, each with a few passes among faces of its own.
+fn controllers(seed: u64, count: usize, temper: Temper, setting: fn(&mut Random) -> (Addresses, Faces)) -> Recorder {
+    let mut random = Random::new(seed);
+    let mut recorder = Recorder::new(&Addresses::new());
+    for _ in 0..count {
+        let (occupied, faces) = setting(&mut random);
+        recorder.renew(&occupied);
+        idle(&mut recorder, &mut random);
+        for _ in 0..1 + random.below(4) {
+            pass(&mut recorder, &mut random, temper, &faces);
+        }
+    }
+    recorder
+}
+
+/// A few UDIDs again and again, and a few addresses.
+fn few(random: &mut Random) -> (Addresses, Faces) {
+    let (udid_count, address_count) = (1 + random.below(6), 1 + random.below(3));
+    (occupied(random), faces(random, udid_count, address_count))
+}
+
+/// Fixed targets alone, on two addresses, each of them reserved, occupied or neither.
+fn claims(random: &mut Random) -> (Addresses, Faces) {
+    let fixed = udids(random, 5).into_iter().map(|udid| with_kind(udid, 0)).collect();
+    let occupied = Addresses::from([0x20, 0x21]);
+    let addresses = [random.pick(&[0x20, 0x0c, 0x61, 0x7f, 0x30]), 0x40 + random.below(4) as u8];
+    (occupied, Faces { udids: fixed, address_bytes: vec![2 * addresses[0], 2 * addresses[1] + 1] })
+}
+
+/// At most five free addresses.
+fn exhausted(random: &mut Random) -> (Addresses, Faces) {
+    let count = random.below(6);
+    (leaving(random, count), faces(random, 8, 2))
+}
+
+/// So many UDIDs that addresses run out before they repeat.
+fn many(random: &mut Random) -> (Addresses, Faces) {
+    (occupied(random), faces(random, 200, 20))
+}
+
+pub fn repeats() -> Recorder {
+    controllers(70, 900, Temper { assign: 10, over: 6, ..CALM }, few)
+}
+
+pub fn claimed() -> Recorder {
+    controllers(71, 500, Temper { assign: 5, over: 6, ..CALM }, claims)
+}
+
+pub fn none_free() -> Recorder {
+    controllers(72, 700, Temper { assign: 10, get_udid: 5, over: 1, ..CALM }, exhausted)
+}
+
+pub fn mistakes() -> Recorder {
+    controllers(73, 900, Temper { prepare: 30, get_udid: 40, assign: 40, over: 3, ..CALM }, few)
+}
+
+/// Passes that go on to the 128th Get UDID.
+pub fn endless() -> Recorder {
+    controllers(74, 60, Temper { assign: 20, over: 0, ..CALM }, many)
+}
+
+/// Passes of wrong replies alone, or nearly.
+pub fn again() -> Recorder {
+    controllers(75, 60, Temper { get_udid: 95, assign: 80, over: 0, ..CALM }, few)
+}
+
+pub fn restarts() -> Recorder {
+    controllers(76, 500, Temper { prepare: 5, get_udid: 10, assign: 10, over: 3, restart: 15 }, few)
+}

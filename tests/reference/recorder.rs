@@ -1,0 +1,85 @@
+//! A script for a controller, with the answers of the reference.
+
+use crate::addresses::*;
+use crate::commands::Command;
+use crate::controller::{Controller, Found};
+
+#[derive(Clone, Debug)]
+pub enum Op {
+    /// A new controller, with these addresses occupied.
+    New(Addresses),
+    Start,
+    Step(Vec<u16>),
+    /// All 128 addresses.
+    Lookups,
+}
+
+#[derive(Clone, Debug, PartialEq, Eq)]
+pub enum Due {
+    Nothing,
+    Command(Command),
+    Found(Vec<Found>),
+}
+
+pub struct Recorder {
+    controller: Controller,
+    pub entries: Vec<(Op, Due)>,
+}
+
+/// What an operation does to a controller, and its answer.
+pub fn apply(controller: &mut Controller, op: &Op) -> Due {
+    match op {
+        Op::New(occupied) => {
+            *controller = Controller::new(occupied);
+            Due::Nothing
+        }
+        Op::Start => Due::Command(controller.start()),
+        Op::Step(trace) => Due::Command(controller.step(trace)),
+        Op::Lookups => Due::Found((0..ADDRESSES).map(|address| controller.lookup(address)).collect()),
+    }
+}
+
+impl Recorder {
+    pub fn new(occupied: &Addresses) -> Recorder {
+        let mut recorder = Recorder { controller: Controller::new(occupied), entries: vec![] };
+        recorder.renew(occupied);
+        recorder
+    }
+
+    fn record(&mut self, op: Op) {
+        let due = apply(&mut self.controller, &op);
+        self.entries.push((op, due));
+    }
+
+    pub fn renew(&mut self, occupied: &Addresses) {
+        self.record(Op::New(occupied.clone()));
+    }
+
+    pub fn start(&mut self) -> Command {
+        self.record(Op::Start);
+        self.outstanding()
+    }
+
+    /// What is outstanding after the step.
+    pub fn step(&mut self, trace: Vec<u16>) -> Command {
+        self.record(Op::Step(trace));
+        self.outstanding()
+    }
+
+    /// What a step would answer.
+    pub fn trial(&self, trace: &[u16]) -> Command {
+        self.controller.clone().step(trace)
+    }
+
+    pub fn lookups(&mut self) {
+        self.record(Op::Lookups);
+    }
+
+    pub fn outstanding(&self) -> Command {
+        self.controller.last
+    }
+
+    pub fn passes(&self) -> usize {
+        self.entries.iter().filter(|(op, _)| matches!(op, Op::Start)).count()
+    }
+}

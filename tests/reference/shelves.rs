@@ -1,0 +1,116 @@
+//! Random UDIDs, address bytes, occupied sets and lists of targets.
+
+use crate::addresses::*;
+use crate::bus::Target;
+use crate::commands::*;
+use crate::random::Random;
+
+/// The top two bits of a UDID.
+pub const KINDS: [u8; 4] = [0x00, 0x40, 0x80, 0xc0];
+
+pub fn with_kind(udid: Udid, kind: u8) -> Udid {
+    let mut other = udid;
+    other[0] = kind | udid[0] & 0x3f;
+    other
+}
+
+/// Any UDID, or one of the lowest, or one of the highest.
+pub fn any_udid(random: &mut Random) -> Udid {
+    let mut udid = match random.below(8) {
+        0 => [0; 16],
+        1 => [0xff; 16],
+        _ => return udid_of(&random.bytes(16)),
+    };
+    udid[15] ^= random.byte() & 3;
+    udid
+}
+
+/// The same but for one bit.
+pub fn near(random: &mut Random, udid: &Udid) -> Udid {
+    let place = random.below(128);
+    let mut other = *udid;
+    other[place / 8] ^= 128 >> (place % 8);
+    other
+}
+
+/// Any UDID, or one a bit apart from one of these, or the same but for its kind.
+fn another_udid(random: &mut Random, all: &[Udid]) -> Udid {
+    if all.is_empty() {
+        return any_udid(random);
+    }
+    let other = random.pick(all);
+    match random.below(3) {
+        0 => near(random, &other),
+        1 => with_kind(other, random.pick(&KINDS)),
+        _ => any_udid(random),
+    }
+}
+
+/// So many different UDIDs.
+pub fn udids(random: &mut Random, count: usize) -> Vec<Udid> {
+    let mut all: Vec<Udid> = vec![];
+    while all.len() < count {
+        let udid = another_udid(random, &all);
+        if !all.contains(&udid) {
+            all.push(udid);
+        }
+    }
+    all
+}
+
+/// None, few, many, all but few, or all addresses.
+pub fn occupied(random: &mut Random) -> Addresses {
+    let all = 0..ADDRESSES;
+    let few = |random: &mut Random| (0..1 + random.below(5)).map(|_| random.byte() % ADDRESSES).collect();
+    match random.below(6) {
+        0 | 1 => Addresses::new(),
+        2 => few(random),
+        3 => all.filter(|_| random.below(2) == 0).collect(),
+        4 => {
+            let left: Addresses = few(random);
+            all.filter(|address| !left.contains(address)).collect()
+        }
+        _ => {
+            let below = random.byte() % ADDRESSES;
+            all.filter(|&address| address < below).collect()
+        }
+    }
+}
+
+/// All addresses but so many assignable ones.
+pub fn leaving(random: &mut Random, count: usize) -> Addresses {
+    let mut assignable: Vec<u8> = (0..ADDRESSES).filter(|address| !RESERVED.contains(address)).collect();
+    for _ in 0..count {
+        assignable.swap_remove(random.below(assignable.len()));
+    }
+    assignable.into_iter().collect()
+}
+
+/// A fixed target stands on one of the free addresses; a movable one holds none or any.
+fn address_byte(random: &mut Random, udid: &Udid, free: &mut Vec<u8>) -> u8 {
+    if is_fixed(udid) {
+        return 2 * free.swap_remove(random.below(free.len())) + 1;
+    }
+    if random.below(3) == 0 {
+        return NO_ADDRESS;
+    }
+    2 * (random.byte() % ADDRESSES) + 1
+}
+
+/// Targets that a model run takes: different UDIDs, and the fixed ones on different addresses outside the starting pool.
+pub fn targets(random: &mut Random, count: usize, occupied: &Addresses) -> Vec<Target> {
+    let starting = starting_pool(occupied);
+    let mut free: Vec<u8> = (0..ADDRESSES).filter(|address| !starting.contains(address)).collect();
+    let movable_only = random.below(3) == 0;
+    let mut all: Vec<Target> = vec![];
+    while all.len() < count {
+        let others: Vec<Udid> = all.iter().map(|target| target.udid).collect();
+        let udid = another_udid(random, &others);
+        if others.contains(&udid) || is_fixed(&udid) && (movable_only || free.is_empty()) {
+            continue;
+        }
+        let address_byte = address_byte(random, &udid, &mut free);
+        all.push(Target { udid, address_byte, resolved: random.below(2) == 0 });
+    }
+    all
+}
