@@ -56,11 +56,14 @@ fn right(to: To) -> Transaction {
     }
 }
 
-/// Each trace as an answer to the command.
+/// Each trace as an answer to the command; after an Assign Address all addresses are looked up.
 fn answered(to: To, traces: Vec<Vec<u16>>, recorder: &mut Recorder) {
     for trace in traces {
         bring(recorder, to);
         recorder.step(trace);
+        if to == To::Assign {
+            recorder.lookups();
+        }
     }
     recorder.lookups();
 }

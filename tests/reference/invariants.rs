@@ -1,0 +1,113 @@
+//! What holds after every operation of every script, and what the scripts have to reach.
+
+use reference::addresses::*;
+use reference::commands::*;
+use reference::controller::*;
+use reference::families::FAMILIES;
+use reference::recorder::{apply, Due, Op};
+use std::collections::{BTreeMap, BTreeSet};
+
+/// Used are the starting addresses and those bound or claimed; nobody is bound twice or on a starting address.
+fn consistent(controller: &Controller) -> bool {
+    let named: Addresses = controller.bindings.keys().copied().collect();
+    let bound: Vec<(u8, Udid)> = controller.bindings.iter().filter_map(|(&a, binding)| bound_at(a, binding)).collect();
+    let udids: BTreeSet<Udid> = bound.iter().map(|(_, udid)| *udid).collect();
+    controller.pool == &controller.starting | &named
+        && udids.len() == bound.len()
+        && bound.iter().all(|(address, _)| !controller.starting.contains(address))
+        && controller.get_udids <= MOST_GET_UDIDS
+}
+
+fn bound_at(address: u8, binding: &Binding) -> Option<(u8, Udid)> {
+    match binding {
+        Binding::Bound(udid) => Some((address, *udid)),
+        Binding::Claimed => None,
+    }
+}
+
+/// What may follow what.
+fn follows(before: &Controller, op: &Op, after: &Controller, due: &Due) -> bool {
+    match (op, due) {
+        (Op::Start, Due::Command(Command::Prepare)) => after.bindings.is_empty() && after.pool == after.starting,
+        (Op::Start, _) => false,
+        (Op::Step(_), Due::Command(Command::NotOutstanding)) => !before.last.is_sent() && before == after,
+        (Op::Step(_), Due::Command(Command::Prepare)) => false,
+        (Op::Step(_), _) => before.last.is_sent(),
+        (Op::Lookups, _) => before == after,
+        (Op::New(_), _) => true,
+    }
+}
+
+/// What an operation did, to be counted.
+fn event(before: &Controller, op: &Op, after: &Controller) -> &'static str {
+    let count = |controller: &Controller, claimed: bool| {
+        controller.bindings.values().filter(|&&binding| (binding == Binding::Claimed) == claimed).count()
+    };
+    let grown = |claimed| count(after, claimed) > count(before, claimed);
+    match (op, before.last, after.last) {
+        (Op::New(_), ..) => "new",
+        (Op::Start, ..) if before.last.is_sent() => "start in a pass",
+        (Op::Start, ..) => "start",
+        (Op::Lookups, ..) => "lookups",
+        (_, last, _) if !last.is_sent() => "21",
+        (_, _, Command::Abandoned) if grown(false) => "14 after a binding",
+        (_, Command::Prepare, Command::Abandoned) => "14 after prepare",
+        (_, _, Command::Abandoned) => "14 after the 128th",
+        (_, _, Command::Ended) => "0",
+        (_, _, Command::NoneFree(_)) => "13",
+        (_, Command::GetUdid, Command::GetUdid) => "get udid again",
+        (_, Command::GetUdid, _) if before.bindings != after.bindings => "unbound",
+        (_, Command::GetUdid, _) => "assign",
+        (_, Command::Assign(..), _) if grown(true) && count(after, false) < count(before, false) => {
+            "claimed, one unbound"
+        }
+        (_, Command::Assign(..), _) if grown(true) => "claimed",
+        (_, Command::Assign(..), _) if grown(false) => "bound",
+        (_, Command::Assign(..), _) => "assign in vain",
+        (_, Command::Prepare, _) => "prepared",
+        _ => "other",
+    }
+}
+
+const REACHED: [&str; 18] = [
+    "new",
+    "start",
+    "start in a pass",
+    "lookups",
+    "21",
+    "14 after a binding",
+    "14 after prepare",
+    "14 after the 128th",
+    "0",
+    "13",
+    "get udid again",
+    "unbound",
+    "assign",
+    "claimed, one unbound",
+    "claimed",
+    "bound",
+    "assign in vain",
+    "prepared",
+];
+
+/// Every script once more, step by step; the number of operations.
+pub fn all() -> usize {
+    let mut reached: BTreeMap<&str, usize> = BTreeMap::new();
+    for (name, make) in FAMILIES {
+        let mut controller = Controller::new(&Addresses::new());
+        for (k, (op, due)) in make().entries.iter().enumerate() {
+            let before = controller.clone();
+            let again = apply(&mut controller, op);
+            assert_eq!(&again, due, "{name}, entry {k}");
+            assert!(consistent(&controller), "{name}, entry {k}: {controller:02x?}");
+            assert!(follows(&before, op, &controller, due), "{name}, entry {k}: {op:?} {due:02x?}");
+            *reached.entry(event(&before, op, &controller)).or_default() += 1;
+        }
+    }
+    for wanted in REACHED {
+        let times = reached.get(wanted).copied().unwrap_or(0);
+        assert!(times >= 20, "{wanted}: {times} times");
+    }
+    assert_eq!(reached.len(), REACHED.len(), "{reached:?}");
+    reached.values().sum()
+}

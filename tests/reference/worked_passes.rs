@@ -1,0 +1,164 @@
+//! Passes worked out by hand: each reply, and the command due after it.
+
+use reference::addresses::*;
+use reference::commands::Command::*;
+use reference::commands::*;
+use reference::controller::{Controller, Found};
+use reference::good::{all_resolved, reply_trace};
+use reference::mistakes::{nacked_at, trace_of};
+
+/// Fixed, fixed, and two that are movable.
+const F: Udid = [0x01; 16];
+const G: Udid = [0x02; 16];
+const M: Udid = [0x41; 16];
+const N: Udid = [0x82; 16];
+
+struct Pass(Controller);
+
+impl Pass {
+    fn begin(occupied: &[u8]) -> Pass {
+        let mut pass = Pass(Controller::new(&occupied.iter().copied().collect()));
+        pass.again();
+        pass
+    }
+
+    fn again(&mut self) {
+        assert_eq!(self.0.start(), Prepare);
+        assert_eq!(self.0.step(&trace_of(&prepare())), GetUdid);
+    }
+
+    /// A reply, and the address due for it.
+    fn offered(&mut self, udid: Udid, address_byte: u8, address: u8) {
+        assert_eq!(self.0.step(&reply_trace(&udid, address_byte)), Assign(udid, address));
+    }
+
+    /// The same, and the target takes it.
+    fn taken(&mut self, udid: Udid, address_byte: u8, address: u8) {
+        self.offered(udid, address_byte, address);
+        assert_eq!(self.0.step(&trace_of(&assign(&udid, address))), GetUdid);
+    }
+
+    fn bound(&self, due: &[(u8, Udid)]) {
+        let all = (0..ADDRESSES).filter_map(|address| match self.0.lookup(address) {
+            Found::Bound(udid) => Some((address, udid)),
+            Found::Refused(_) => None,
+        });
+        assert_eq!(all.collect::<Vec<_>>(), due);
+    }
+
+    fn claimed(&self, due: &[u8]) {
+        let all = (0..ADDRESSES).filter(|&address| self.0.lookup(address) == Found::Refused(16));
+        assert_eq!(all.collect::<Vec<_>>(), due);
+    }
+}
+
+/// Two fixed targets at one address: nobody is bound there any more, and a movable one has to go elsewhere.
+fn two_fixed() {
+    let mut pass = Pass::begin(&[]);
+    pass.taken(F, 0x41, 0x20);
+    pass.bound(&[(0x20, F)]);
+    pass.taken(G, 0x41, 0x20);
+    pass.bound(&[]);
+    pass.claimed(&[0x20]);
+    pass.taken(F, 0x40, 0x20);
+    pass.taken(M, 0x41, 0x09);
+    pass.bound(&[(0x09, M)]);
+    pass.claimed(&[0x20]);
+    assert_eq!(pass.0.step(&all_resolved()), Ended);
+    pass.claimed(&[0x20]);
+    pass.again();
+    pass.bound(&[]);
+    pass.claimed(&[]);
+}
+
+/// A fixed target on a movable one's address, which replies again and gets another.
+fn fixed_after_movable() {
+    let mut pass = Pass::begin(&[]);
+    pass.taken(M, 0x41, 0x20);
+    pass.taken(F, 0x41, 0x20);
+    pass.bound(&[]);
+    pass.taken(M, 0x41, 0x09);
+    pass.bound(&[(0x09, M)]);
+    pass.claimed(&[0x20]);
+}
+
+/// A fixed target alone on an occupied or a reserved address is a claim.
+fn fixed_on_used() {
+    let mut pass = Pass::begin(&[0x30]);
+    pass.taken(F, 0x61, 0x30);
+    pass.taken(G, 0xfe, 0x7f);
+    pass.taken(G, 0x19, 0x0c);
+    pass.claimed(&[0x0c, 0x30, 0x7f]);
+    pass.bound(&[]);
+}
+
+/// A target that replies again has lost its address, whatever becomes of the next.
+fn replies_again() {
+    let mut pass = Pass::begin(&[]);
+    pass.taken(M, 0x41, 0x20);
+    pass.taken(M, 0x41, 0x20);
+    pass.taken(M, 0x43, 0x21);
+    pass.taken(N, 0x41, 0x20);
+    pass.bound(&[(0x20, N), (0x21, M)]);
+    pass.offered(N, 0xff, 0x09);
+    pass.bound(&[(0x21, M)]);
+    assert_eq!(pass.0.step(&nacked_at(&trace_of(&assign(&N, 0x09)), 20)), GetUdid);
+    pass.bound(&[(0x21, M)]);
+    pass.taken(F, 0x41, 0x20);
+    pass.taken(F, 0x41, 0x20);
+    pass.bound(&[(0x20, F), (0x21, M)]);
+    pass.claimed(&[]);
+}
+
+/// FFh is none, for a fixed target too; FEh is 7Fh, which a movable one cannot keep.
+fn no_address() {
+    let mut pass = Pass::begin(&[0x09]);
+    pass.taken(F, 0xff, 0x0a);
+    pass.taken(M, 0xfe, 0x0b);
+    pass.taken(N, 0xff, 0x0d);
+    pass.bound(&[(0x0a, F), (0x0b, M), (0x0d, N)]);
+}
+
+/// With one address left: a second target gets none, and what was bound stands.
+fn none_free() {
+    let all_but_one: Vec<u8> = (0..ADDRESSES).filter(|&address| address != 0x77).collect();
+    let mut pass = Pass::begin(&all_but_one);
+    pass.taken(M, 0x41, 0x77);
+    pass.taken(M, 0xff, 0x77);
+    assert_eq!(pass.0.step(&reply_trace(&N, 0xef)), NoneFree(N));
+    pass.bound(&[(0x77, M)]);
+    assert_eq!(pass.0.step(&reply_trace(&N, 0xef)), NotOutstanding);
+    pass.bound(&[(0x77, M)]);
+}
+
+/// The 128th Get UDID may bind; there is no 129th.
+fn too_many() {
+    let mut pass = Pass::begin(&[]);
+    for _ in 0..127 {
+        assert_eq!(pass.0.step(&[]), GetUdid);
+    }
+    pass.offered(M, 0x41, 0x20);
+    assert_eq!(pass.0.step(&trace_of(&assign(&M, 0x20))), Abandoned);
+    pass.bound(&[(0x20, M)]);
+    assert_eq!(pass.0.step(&[]), NotOutstanding);
+}
+
+/// Answers to Prepare.
+fn preparing() {
+    let right = trace_of(&prepare());
+    for (trace, due) in [(nacked_at(&right, 0), Ended), (nacked_at(&right, 2), Ended), (vec![], Abandoned)] {
+        let mut pass = Pass(Controller::new(&Addresses::new()));
+        assert_eq!(pass.0.step(&trace), NotOutstanding);
+        pass.0.start();
+        assert_eq!(pass.0.step(&trace), due);
+        assert_eq!(pass.0.step(&right), NotOutstanding);
+        assert_eq!(pass.0.lookup(128), Found::Refused(1));
+    }
+}
+
+pub fn all() -> usize {
+    let passes: [fn(); 8] =
+        [two_fixed, fixed_after_movable, fixed_on_used, replies_again, no_address, none_free, too_many, preparing];
+    passes.iter().for_each(|pass| pass());
+    passes.len()
+}
