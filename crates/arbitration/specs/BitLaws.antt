@@ -1,14 +1,14 @@
 -- Laws of bits: their number, that bytes are read as they were sent, and that the bits of an identifier are those of its 16 bytes.
-use Prim.Native.Nat.{ℕ, zero, suc, _+_, _*_, _/_, _%_, _^_, _<_, _≤_}
+use Prim.Native.Nat.{ℕ, zero, suc, _+_, _*_, _/_, _%_, _^_}
 use mathlib.Core.Path.{_≡_, refl, sym, ap, ap₂, _∙_}
 use mathlib.Core.Bool.{Bool, true, false}
 use mathlib.Core.Logic.{_⊎_, inl, inr}
 use mathlib.Core.List.{List, [], _∷_, _++_, append-assoc}
-use native.Mathlib.Nat.{mod-eq-of-lt, mod-one, zero-mul, one-mul, zero-add, suc-add, add-comm}
+use native.Mathlib.Nat.{mod-eq-of-lt, mod-one, zero-mul, one-mul, zero-add, suc-add, add-comm, suc-mul, pow-suc}
 use native.Mathlib.Omega.{arith}
 use lib.Dec.{eqb}
 use lib.Pow.{pow-add, shr-shr}
-use lib.ListN.{length, take, drop, length-append}
+use lib.ListN.{length, length-append}
 use lib.Seq.{take-at, drop-at}
 use Rattle.lists.specs.Each.{Bytes}
 use Rattle.pool.specs.Counts.{one}
@@ -100,7 +100,7 @@ low-byte n = λ i. same-digit (digit7 n) i ∷ same-digit (digit6 n) i ∷ same-
 
 power-bytes : (k : ℕ) → 2 ^ (k * 8) ≡ 256 ^ k
 power-bytes zero = refl
-power-bytes (suc k) = ap (λ (x : ℕ). 2 ^ x) (native.Mathlib.Nat.suc-mul k 8) ∙ pow-add 2 (k * 8) 8 ∙ ap (λ (x : ℕ). x * 256) (power-bytes k) ∙ sym (native.Mathlib.Nat.pow-suc 256 k)
+power-bytes (suc k) = ap (λ (x : ℕ). 2 ^ x) (suc-mul k 8) ∙ pow-add 2 (k * 8) 8 ∙ ap (λ (x : ℕ). x * 256) (power-bytes k) ∙ sym (pow-suc 256 k)
 
 pub bytes-bits : (k n : ℕ) → byteBits (bytesOf k n) ≡ bits (k * 8) n
 unfolding bytesOf bits

@@ -1,6 +1,6 @@
 -- Numbers, bytes and identifiers as the bits that stand on the wire, highest first.
 use Prim.Native.Nat.{ℕ, zero, suc, _+_, _*_, _^_}
-use mathlib.Core.Bool.{Bool, true, false}
+use mathlib.Core.Bool.{Bool}
 use mathlib.Core.List.{List, [], _∷_, _++_}
 use lib.ListN.{length, take, drop}
 use Rattle.pool.specs.Counts.{one}

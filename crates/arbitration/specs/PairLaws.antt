@@ -1,9 +1,9 @@
 -- Two targets on the wire: both send the same first bits, then their identifiers, then what follows those. The one that beats the other
 -- is heard to the end, and the other sends up to its drop-out bit and no further.
-use Prim.Native.Nat.{ℕ, _+_, _≤_, _<_}
-use mathlib.Core.Path.{_≡_, refl, sym, ap, _∙_}
-use mathlib.Core.Bool.{Bool, true, false}
-use mathlib.Core.Logic.{inl, inr}
+use Prim.Native.Nat.{ℕ, _+_, _≤_}
+use mathlib.Core.Path.{_≡_, refl, ap, _∙_}
+use mathlib.Core.Bool.{Bool, true}
+use mathlib.Core.Logic.{inl}
 use mathlib.Core.List.{List, [], _∷_, _++_}
 use native.Mathlib.Omega.{arith}
 use lib.Dec.{leb}
@@ -13,11 +13,10 @@ use Rattle.lists.specs.Choice.{pick}
 use Rattle.lists.specs.Each.{Each}
 use Rattle.udid.specs.Udids.{Fits, value, isBelow}
 use Rattle.udid.specs.declared.Udid.{Udid}
-use Rattle.arbitration.specs.Among.{Among}
 use Rattle.arbitration.specs.Bits.{udidBits}
 use Rattle.arbitration.specs.BitLaws.{length-udid-bits}
 use Rattle.arbitration.specs.Wire.{heard, sending}
-use Rattle.arbitration.specs.DropOut.{shared, noLater, sharing}
+use Rattle.arbitration.specs.DropOut.{shared, noLater}
 use Rattle.arbitration.specs.OrderLaws.{noLater-refl, same-front}
 use Rattle.arbitration.specs.WinLaws.{udid-order, drop-out-within}
 use Rattle.arbitration.specs.WireLaws.{Stays, heard-is, sending-is, shared-all}

@@ -1,6 +1,6 @@
 -- Who stays of two: the identifier with a zero at the drop-out bit is the lower one.
-use Prim.Native.Nat.{ℕ, zero, suc, _+_, _*_, _-_, _^_, _≤_, _<_}
-use mathlib.Core.Path.{_≡_, refl, sym, ap, ap₂, _∙_}
+use Prim.Native.Nat.{ℕ, zero, suc, _+_, _-_, _<_}
+use mathlib.Core.Path.{_≡_, refl, sym, ap, _∙_}
 use mathlib.Core.Bool.{Bool, true, false}
 use mathlib.Core.List.{List, [], _∷_, _++_, append-nil, append-assoc}
 use native.Mathlib.Decide.{decLt, ℕ-discrete}
@@ -8,13 +8,13 @@ use native.Mathlib.Omega.{arith}
 use lib.Bits.{bitXor, xor-self, xor-lt}
 use lib.Count.{leadingZeros, leading-of-zero, leading-top}
 use lib.Dec.{ltb, eqb}
-use lib.ListN.{length, getD, length-append, List·getD-append}
+use lib.ListN.{length, getD, List·getD-append}
 use lib.Seq.{getD-append-add}
 use borrow.Author.Tests.{lt-ltb, le-ltb, eq-eqb, ne-eqb}
 use Rattle.lists.specs.Choice.{pick, not}
 use Rattle.pool.specs.Digits.{digit}
 use Rattle.udid.specs.Udids.{Fits, sameUdid, value, isBelow}
-use Rattle.udid.specs.UdidLaws.{same-equal, below-halves}
+use Rattle.udid.specs.UdidLaws.{same-equal, same-refl, below-halves}
 use Rattle.udid.specs.declared.Udid.{Udid}
 use Rattle.arbitration.specs.Bits.{bits, udidBits}
 use Rattle.arbitration.specs.BitLaws.{length-bits, length-udid-bits}
@@ -153,4 +153,4 @@ module _ (a b : Udid) (f : Fits a) (g : Fits b) where
 
       go : (t : Bool) → sameUdid a b ≡ t → tested ≡ isBelow a b
       go true e = equal (same-equal a b e)
-      go false e = differ (λ q. let z : _≡_ {A = ℕ} 0 1 = cc (e, ap (sameUdid a) q, Rattle.udid.specs.UdidLaws.same-refl a) in omega arith)
+      go false e = differ (λ q. let z : _≡_ {A = ℕ} 0 1 = cc (e, ap (sameUdid a) q, same-refl a) in omega arith)

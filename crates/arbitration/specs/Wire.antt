@@ -1,6 +1,6 @@
 -- The wire, bit by bit: whoever still sends gives one bit, a zero beats a one, and whoever gives a one and sees a zero leaves.
 use Prim.Native.Nat.{ℕ, zero, suc}
-use mathlib.Core.Bool.{Bool, true, false}
+use mathlib.Core.Bool.{Bool, true}
 use mathlib.Core.List.{List, [], _∷_}
 use Rattle.lists.specs.Choice.{pick, and, not}
 

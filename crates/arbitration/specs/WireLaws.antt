@@ -3,7 +3,7 @@
 use Prim.Native.Nat.{ℕ, zero, suc, _≤_, _<_}
 use mathlib.Core.Path.{_≡_, refl, sym, ap, ap₂, _∙_}
 use mathlib.Core.Bool.{Bool, true, false}
-use mathlib.Core.Logic.{_⊎_, inl, inr}
+use mathlib.Core.Logic.{inl, inr}
 use mathlib.Core.List.{List, [], _∷_, _++_}
 use native.Mathlib.Omega.{arith}
 use lib.Dec.{leb, leb·zero, leb·suc-zero, leb·suc-suc}
@@ -13,7 +13,7 @@ use borrow.Author.Tests.{le-leb, lt-leb}
 use Rattle.lists.specs.Choice.{pick, and, not}
 use Rattle.lists.specs.Each.{Each}
 use Rattle.arbitration.specs.Among.{Among}
-use Rattle.arbitration.specs.Wire.{next, later, level, staying, heard, sending}
+use Rattle.arbitration.specs.Wire.{next, level, staying, heard, sending}
 use Rattle.arbitration.specs.DropOut.{shared, noLater, sharing}
 
 -- m does not drop out against t, which is as long

@@ -1,8 +1,8 @@
 -- A list that is not refused is a list of at most 120 targets with different identifiers, whose fixed ones have addresses of their own.
-use Prim.Native.Nat.{ℕ, zero, suc, _+_, _*_, _/_, _%_, _≤_, _<_}
-use mathlib.Core.Path.{_≡_, refl, sym, ap, _∙_, subst}
+use Prim.Native.Nat.{ℕ, _*_, _/_, _%_, _≤_, _<_}
+use mathlib.Core.Path.{_≡_, refl, sym, subst}
 use mathlib.Core.Bool.{Bool, true, false}
-use mathlib.Core.Logic.{_⊎_, inl, inr}
+use mathlib.Core.Logic.{inl, inr}
 use mathlib.Core.List.{List}
 use native.Mathlib.Decide.{ℕ-discrete, decLt}
 use native.Mathlib.Omega.{arith}
@@ -10,13 +10,12 @@ use lib.ListN.{length}
 use Rattle.lists.specs.Each.{Bytes}
 use Rattle.pool.specs.Pools.{member}
 use Rattle.pool.specs.declared.Pool.{Pool}
-use Rattle.udid.specs.Udids.{isFixed, value}
+use Rattle.udid.specs.Udids.{value}
 use Rattle.udid.specs.UdidLaws.{fits-at, value-same}
-use Rattle.targets.specs.Target.{Target}
-use Rattle.targets.specs.Records.{udidOf, addressByte, flagOf, targetAt, targetsFrom, recordCount, targetsOf}
+use Rattle.targets.specs.Records.{udidOf, addressByte, flagOf, targetAt, recordCount, targetsOf}
 use Rattle.targets.specs.Refusals.{checkedList}
 use Rattle.targets.specs.ReplyLaws.{Sized}
-use Rattle.targets.specs.Cases.{LengthIsBad, MalformedAt, RepeatedAt, TakenAt, None, Given}
+use Rattle.targets.specs.Cases.{LengthIsBad, Given}
 use Rattle.targets.specs.RefusalLaws.{given-exactly}
 use Rattle.targets.specs.IndexLaws.{in-targets, pairs-from, length-targets, sized-at}
 use Rattle.targets.specs.Admission.{Differ, FixedApart, FixedFree, AdmittedTargets}

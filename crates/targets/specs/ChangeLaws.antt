@@ -9,7 +9,7 @@ use lib.ListN.{length, getD}
 use lib.Seq.{ext-getD}
 use Rattle.udid.specs.declared.Udid.{Udid}
 use Rattle.targets.specs.Target.{Target, prepared, assignedTo, mapTargets, cleared, resolve}
-use Rattle.targets.specs.Records.{udidOf, addressByte, flagOf, targetAt, targetsFrom, recordCount, targetsOf, putTarget, putFrom, recordsWith}
+use Rattle.targets.specs.Records.{addressByte, flagOf, targetAt, targetsFrom, recordCount, targetsOf, putTarget, putFrom, recordsWith}
 use Rattle.targets.specs.RecordLaws.{other-byte, length-put-from, changed-targets, prepared-keeps, assigned-keeps}
 
 -- place k is neither the address byte nor the flag of record i

@@ -2,25 +2,23 @@
 -- every byte counts as zero.
 use Prim.Native.Nat.{ℕ, zero, suc, _+_, _*_, _/_, _≤_}
 use mathlib.Core.Path.{_≡_, refl, sym, ap, ap₂, _∙_}
-use mathlib.Core.Bool.{Bool, true, false}
+use mathlib.Core.Bool.{true}
 use mathlib.Core.Logic.{_↔_, inl}
-use mathlib.Core.List.{List, [], _∷_}
+use mathlib.Core.List.{List, _∷_}
 use native.Mathlib.Nat.{add-zero}
 use native.Mathlib.Omega.{arith}
 use lib.Dec.{eqb}
 use lib.ListN.{length, getD, take, drop, replicate, List·getD-eq-default}
 use lib.Seq.{getD-take, getD-drop}
-use Rattle.lists.specs.Choice.{or}
 use Rattle.lists.specs.Each.{Bytes}
 use Rattle.wire.specs.Addresses.{isReserved}
 use Rattle.pool.specs.Pools.{member}
 use Rattle.pool.specs.Start.{startingPool}
 use Rattle.pool.specs.StartLaws.{member-starting}
 use Rattle.pool.specs.declared.Pool.{Pool}
-use Rattle.udid.specs.Bytes.{number, numberFrom, bytesFrom, udidBytes, udidAt}
+use Rattle.udid.specs.Bytes.{number, numberFrom, bytesFrom, udidAt}
 use Rattle.udid.specs.Udids.{isFixed}
 use Rattle.udid.specs.UdidLaws.{fits-at, bytes-back, same-bytes, top-of-first}
-use Rattle.udid.specs.declared.Udid.{Udid}
 use Rattle.targets.specs.Records.{udidOf, addressByte}
 use Rattle.targets.specs.Cases.{TakenAt}
 

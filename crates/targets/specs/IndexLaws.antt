@@ -1,19 +1,18 @@
 -- Targets by the number of their record.
 use Prim.Native.Nat.{ℕ, zero, suc, _+_, _*_, _≤_, _<_}
-use mathlib.Core.Path.{_≡_, refl, ap, _∙_, subst}
-use mathlib.Core.Logic.{_⊎_, inl, inr}
+use mathlib.Core.Path.{_≡_, refl, sym, ap, _∙_, subst}
+use mathlib.Core.Logic.{inl, inr}
 use mathlib.Core.List.{List, [], _∷_, _++_}
 use native.Mathlib.Decide.{ℕ-discrete}
 use native.Mathlib.Omega.{arith}
 use lib.ListN.{length, getD, take, drop}
-use lib.Seq.{take-add, take-suc, drop-drop, drop-cons}
+use lib.Seq.{take-add, drop-drop, drop-cons}
 use Rattle.lists.specs.Each.{Bytes}
-use Rattle.udid.specs.Bytes.{udidBytes}
 use Rattle.udid.specs.UdidLaws.{fits-at, bytes-back}
 use Rattle.udid.specs.WindowLaws.{byte-at}
 use Rattle.arbitration.specs.Among.{Among}
 use Rattle.targets.specs.Target.{Target}
-use Rattle.targets.specs.Records.{udidOf, addressByte, targetAt, targetsFrom}
+use Rattle.targets.specs.Records.{addressByte, targetAt, targetsFrom}
 use Rattle.targets.specs.Members.{Pairs}
 use Rattle.targets.specs.Reply.{replyData}
 use Rattle.targets.specs.ReplyLaws.{Sized}
@@ -52,4 +51,4 @@ record-reply s i b h =
     let k : i * 18 + 16 < length s = omega arith in
     take-add 16 1 (drop (i * 18) s)
     ∙ ap (λ (x : List ℕ). take 16 (drop (i * 18) s) ++ take 1 x) (drop-drop 16 (i * 18) s ∙ drop-cons s (i * 18 + 16) 0 k)
-    ∙ ap (λ (x : List ℕ). x ++ (getD s (i * 18 + 16) 0 ∷ [])) (mathlib.Core.Path.sym (bytes-back s (i * 18) b (omega arith)))
+    ∙ ap (λ (x : List ℕ). x ++ (getD s (i * 18 + 16) 0 ∷ [])) (sym (bytes-back s (i * 18) b (omega arith)))

@@ -1,6 +1,6 @@
 -- Each answer of the check is given in its listed case, and in no other.
-use Prim.Native.Nat.{ℕ, zero, suc, _+_, _*_, _/_, _%_, _≤_, _<_}
-use mathlib.Core.Path.{_≡_, refl, sym, ap, ap₂, _∙_, subst}
+use Prim.Native.Nat.{ℕ, _/_, _%_, _<_}
+use mathlib.Core.Path.{_≡_, refl, sym, ap, _∙_, subst}
 use mathlib.Core.Bool.{Bool, true, false}
 use mathlib.Core.Logic.{_⊎_, inl, inr, _↔_}
 use mathlib.Core.List.{List}
@@ -8,14 +8,14 @@ use native.Mathlib.Decide.{decLt}
 use native.Mathlib.Omega.{arith}
 use lib.Dec.{eqb, ltb}
 use lib.ListN.{length}
-use borrow.Author.Tests.{eqb-true, eqb-false, eq-eqb, ne-eqb, ltb-true, ltb-false, lt-ltb, le-ltb}
+use borrow.Author.Tests.{eqb-true, eqb-false, eq-eqb, ltb-true, lt-ltb, le-ltb}
 use Rattle.lists.specs.Choice.{pick, or, and, not}
 use Rattle.pool.specs.Pools.{member}
 use Rattle.pool.specs.declared.Pool.{Pool}
-use Rattle.udid.specs.Udids.{sameUdid, isFixed}
+use Rattle.udid.specs.Udids.{isFixed}
 use Rattle.udid.specs.UdidLaws.{same-is}
 use Rattle.targets.specs.First.{first, some}
-use Rattle.targets.specs.FirstLaws.{first-le, first-before, first-passes, none-below}
+use Rattle.targets.specs.FirstLaws.{first-before, first-passes, none-below}
 use Rattle.targets.specs.Records.{udidOf, addressByte, flagOf, recordCount}
 use Rattle.targets.specs.Refusals.{isBadLength, isMalformed, isSameAs, isRepeated, isFixedAs, isTaken, amongRecords, checkedList}
 use Rattle.targets.specs.Cases.{LengthIsBad, MalformedAt, RepeatedAt, TakenAt, None, FirstOf, Given}

@@ -1,12 +1,11 @@
 -- What stands on the wire when the unresolved targets answer together: the reply of the one with the least identifier. Every other one
 -- leaves at its drop-out bit, after the eight bits of the count.
-use Prim.Native.Nat.{ℕ, zero, suc, _+_, _*_, _<_, _≤_}
+use Prim.Native.Nat.{ℕ, suc, _+_, _<_, _≤_}
 use mathlib.Core.Path.{_≡_, refl, sym, ap, _∙_}
 use mathlib.Core.Bool.{Bool, true, false}
 use mathlib.Core.Logic.{_⊎_, inl, inr}
 use mathlib.Core.List.{List, [], _∷_, _++_, append-assoc}
 use native.Mathlib.Omega.{arith}
-use lib.Dec.{ltb}
 use lib.ListN.{length, length-append}
 use borrow.Author.Tests.{lt-ltb}
 use Rattle.lists.specs.Choice.{pick}
@@ -26,7 +25,7 @@ use Rattle.arbitration.specs.WinLaws.{drop-out-within}
 use Rattle.arbitration.specs.WireLaws.{Stays, heard-is, sending-is}
 use Rattle.arbitration.specs.PairLaws.{sent, sent-order}
 use Rattle.targets.specs.Target.{Target, isResolved}
-use Rattle.targets.specs.Reply.{replyData, replyPec, replyBytes, sends, waiting, OnWire, silence, shown, onWire}
+use Rattle.targets.specs.Reply.{replyData, replyPec, replyBytes, sends, waiting, silence, shown, onWire}
 
 -- the numbers of a target fit their places
 pub record Sized (t : Target) : Type 0 where

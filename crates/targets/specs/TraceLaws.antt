@@ -1,13 +1,12 @@
 -- The reply of a target as a trace: a Block Read of command 03h from 61h with PEC, whose received bytes are those that the target sends.
 use Prim.Native.Nat.{ℕ}
-use mathlib.Core.Path.{_≡_, refl, ap, _∙_}
-use mathlib.Core.Bool.{Bool, true, false}
+use mathlib.Core.Path.{_≡_, ap}
+use mathlib.Core.Bool.{true}
 use mathlib.Core.List.{List, [], _∷_, _++_}
-use lib.ListN.{length}
 use Rattle.wire.specs.Symbols.{START, STOP, ACK}
 use Rattle.wire.specs.Pec.{pecOf}
 use Rattle.trace.specs.Shapes.{shapeOf}
-use Rattle.trace.specs.Trace.{Message, trace, traceAt, nacked}
+use Rattle.trace.specs.Trace.{Message, trace, nacked}
 use Rattle.targets.specs.Target.{Target}
 use Rattle.targets.specs.Reply.{replyData, replyPec, replyBytes}
 use Rattle.targets.specs.ReplyLaws.{length-data}

@@ -1,26 +1,23 @@
 -- The winner is the unresolved record with the least identifier, and its reply is what the wire shows.
-use Prim.Native.Nat.{ℕ, zero, suc, _+_, _*_, _/_, _≤_, _<_}
+use Prim.Native.Nat.{ℕ, zero, suc, _+_, _*_, _≤_, _<_}
 use mathlib.Core.Path.{_≡_, refl, sym, ap, _∙_, subst}
 use mathlib.Core.Bool.{Bool, true, false}
 use mathlib.Core.Logic.{_⊎_, inl, inr, _↔_}
-use mathlib.Core.List.{List, [], _∷_}
+use mathlib.Core.List.{List}
 use native.Mathlib.Decide.{ℕ-discrete, decLt}
 use native.Mathlib.Omega.{arith}
 use lib.Dec.{eqb, ltb}
-use lib.ListN.{length}
-use borrow.Author.Tests.{ltb-true, ltb-false, lt-ltb, le-ltb, eqb-true, eqb-false, eq-eqb, ne-eqb}
+use borrow.Author.Tests.{ltb-true, ltb-false, lt-ltb, le-ltb, eqb-true, eqb-false, ne-eqb}
 use Rattle.lists.specs.Choice.{pick}
 use Rattle.lists.specs.Each.{Bytes}
 use Rattle.udid.specs.Udids.{value, isBelow}
 use Rattle.udid.specs.UdidLaws.{fits-at, value-same}
-use Rattle.udid.specs.WindowLaws.{byte-at}
-use Rattle.arbitration.specs.Among.{Among}
 use Rattle.arbitration.specs.Wire.{sending}
 use Rattle.arbitration.specs.DropOut.{sharing}
 use Rattle.targets.specs.Target.{Target, isResolved}
-use Rattle.targets.specs.Records.{udidOf, addressByte, flagOf, targetAt, targetsFrom, recordCount, targetsOf}
+use Rattle.targets.specs.Records.{udidOf, flagOf, targetAt, recordCount, targetsOf}
 use Rattle.targets.specs.Cases.{RepeatedAt, None}
-use Rattle.targets.specs.Winner.{betterOf, bestFrom, leastOf, winnerAmong, winnerOf}
+use Rattle.targets.specs.Winner.{betterOf, bestFrom, leastOf, winnerOf}
 use Rattle.targets.specs.Reply.{replyBytes, sends, waiting, OnWire, silence, shown, onWire}
 use Rattle.targets.specs.ReplyLaws.{Sized, Least, nobody-on-wire, least-on-wire, least-sending}
 use Rattle.targets.specs.IndexLaws.{in-targets, of-targets, sized-at}

@@ -1,7 +1,5 @@
-use Prim.Native.Nat.{ℕ, suc, _+_, _*_, _-_, _/_, _%_, _≤_, _<_}
-use mathlib.Core.Path.{_≡_, refl, sym, ap, ap₂, _∙_}
-use borrow.Author.Tests.{lt-ltb, le-ltb, le-leb, lt-leb, eq-eqb, ne-eqb, not-true, not-false}
-use Rattle.targets.specs.Refusals.{amongRecords, checkedList}
+use Prim.Native.Nat.{_-_, _/_}
+use Rattle.targets.specs.Refusals.{checkedList}
 use borrow.Author.Needs.{needs}
 use Rattle.targets.proofs.admit.check.Statement.{statement}
 use Rattle.targets.proofs.admit.check.Tie as tie

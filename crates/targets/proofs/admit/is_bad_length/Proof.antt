@@ -1,6 +1,4 @@
-use mathlib.Core.Path.{_≡_, refl, sym, ap, _∙_}
-use borrow.Author.Tests.{lt-ltb, le-ltb, le-leb, lt-leb, eq-eqb, ne-eqb}
-use borrow.Author.Needs.{needs}
+use borrow.Author.Tests.{lt-ltb, le-ltb}
 use Rattle.targets.proofs.admit.is_bad_length.Statement.{statement}
 use Rattle.targets.proofs.admit.is_bad_length.Tie as tie
 use Rattle.targets.proofs.admit.is_bad_length.Reads as reads

@@ -1,15 +1,14 @@
-use Prim.Native.Nat.{ℕ, suc, _+_, _*_, _-_, _/_, _%_, _≤_, _<_}
-use mathlib.Core.Path.{_≡_, refl, sym, ap, ap₂, _∙_}
+use Prim.Native.Nat.{ℕ, suc, _+_, _-_, _/_, _≤_, _<_}
+use mathlib.Core.Path.{_≡_, refl, sym, ap, _∙_}
 use native.Mathlib.Omega.{arith}
 use mathlib.Core.List.{List}
 use native.Mathlib.Nat.{sub-zero}
 use native.Mathlib.Numerals.{add-one}
-use lib.ListN.{length, set, length-set}
+use lib.ListN.{length}
 use Rattle.udid.specs.declared.Udid.{Udid}
-use Rattle.targets.specs.Records.{udidOf, addressByte, flagOf, targetAt, targetsFrom, putTarget, putFrom}
-use Rattle.targets.specs.Target.{prepared, assignedTo, cleared, resolve}
-use Rattle.targets.specs.RecordLaws.{change-more, put-prepared, put-self, length-put}
-use borrow.Author.Needs.{needs}
+use Rattle.targets.specs.Records.{targetAt, targetsFrom, putTarget, putFrom}
+use Rattle.targets.specs.Target.{assignedTo, resolve}
+use Rattle.targets.specs.RecordLaws.{change-more, length-put}
 use Rattle.targets.proofs.assign.assign.Statement.{statement}
 use Rattle.targets.proofs.assign.assign.Tie as tie
 use Rattle.targets.proofs.assign.assign.Reads as reads

@@ -1,14 +1,14 @@
-use Prim.Native.Nat.{ℕ, suc, _+_, _*_, _-_, _/_, _%_, _≤_, _<_}
-use mathlib.Core.Path.{_≡_, refl, sym, ap, ap₂, _∙_}
+use Prim.Native.Nat.{ℕ, _+_, _*_, _-_, _/_, _%_}
+use mathlib.Core.Path.{_≡_, sym, ap, _∙_}
 use native.Mathlib.Omega.{arith}
 use mathlib.Core.Bool.{true, false}
 use mathlib.Core.List.{List}
-use lib.ListN.{length, set, length-set}
-use Rattle.udid.specs.Udids.{sameUdid, isBelow, isFixed}
+use lib.ListN.{set, length-set}
+use Rattle.udid.specs.Udids.{sameUdid}
 use Rattle.udid.specs.declared.Udid.{Udid}
-use Rattle.targets.specs.Records.{udidOf, addressByte, flagOf, targetAt, targetsFrom, putTarget, putFrom}
-use Rattle.targets.specs.Target.{prepared, assignedTo, cleared, resolve}
-use Rattle.targets.specs.RecordLaws.{change-more, put-prepared, put-self, length-put}
+use Rattle.targets.specs.Records.{udidOf, targetAt, putTarget}
+use Rattle.targets.specs.Target.{assignedTo}
+use Rattle.targets.specs.RecordLaws.{put-self}
 use borrow.Author.Needs.{needs}
 use Rattle.targets.proofs.assign.assign_one.Statement.{statement}
 use Rattle.targets.proofs.assign.assign_one.Tie as tie

@@ -1,11 +1,11 @@
-use Prim.Native.Nat.{ℕ, suc, _+_, _*_, _-_, _/_, _%_, _≤_, _<_}
-use mathlib.Core.Path.{_≡_, refl, sym, ap, ap₂, _∙_}
+use Prim.Native.Nat.{ℕ, _-_, _/_, _≤_}
+use mathlib.Core.Path.{_≡_, sym, ap, _∙_}
 use borrow.Author.Needs.{needs}
 use native.Mathlib.Omega.{arith}
-use borrow.Author.Tests.{lt-ltb, le-ltb, le-leb, lt-leb, eq-eqb, ne-eqb, not-true, not-false}
+use borrow.Author.Tests.{lt-ltb, le-ltb}
 use Rattle.targets.specs.First.{firstFrom, first}
 use Rattle.targets.specs.FirstLaws.{first-start, first-found, first-onward, first-end}
-use Rattle.targets.specs.Refusals.{isMalformed, isSameAs, isRepeated, isFixedAs, isTaken}
+use Rattle.targets.specs.Refusals.{isRepeated}
 use lib.Dec.{ltb}
 use Rattle.targets.proofs.same.first_repeated.Statement.{statement}
 use Rattle.targets.proofs.same.first_repeated.Tie as tie

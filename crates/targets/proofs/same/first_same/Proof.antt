@@ -1,11 +1,10 @@
-use Prim.Native.Nat.{ℕ, suc, _+_, _*_, _-_, _/_, _%_, _≤_, _<_}
-use mathlib.Core.Path.{_≡_, refl, sym, ap, ap₂, _∙_}
+use Prim.Native.Nat.{_-_, _/_, _≤_}
+use mathlib.Core.Path.{_≡_, sym, ap₂, _∙_}
 use native.Mathlib.Omega.{arith}
-use borrow.Author.Tests.{lt-ltb, le-ltb, le-leb, lt-leb, eq-eqb, ne-eqb, not-true, not-false}
 use Rattle.targets.specs.First.{firstFrom, first}
 use Rattle.targets.specs.FirstLaws.{first-start, first-found, first-onward, first-end}
-use Rattle.targets.specs.Refusals.{isMalformed, isSameAs, isRepeated, isFixedAs, isTaken}
-use Rattle.udid.specs.Udids.{sameUdid, isFixed}
+use Rattle.targets.specs.Refusals.{isSameAs}
+use Rattle.udid.specs.Udids.{sameUdid}
 use borrow.Author.Needs.{needs}
 use Rattle.targets.proofs.same.first_same.Statement.{statement}
 use Rattle.targets.proofs.same.first_same.Tie as tie

@@ -1,10 +1,9 @@
-use Prim.Native.Nat.{ℕ, suc, _+_, _*_, _-_, _/_, _%_, _≤_, _<_}
-use mathlib.Core.Path.{_≡_, refl, sym, ap, ap₂, _∙_}
+use Prim.Native.Nat.{_-_, _/_, _≤_}
+use mathlib.Core.Path.{_≡_, sym, _∙_}
 use native.Mathlib.Omega.{arith}
-use borrow.Author.Tests.{lt-ltb, le-ltb, le-leb, lt-leb, eq-eqb, ne-eqb, not-true, not-false}
 use Rattle.targets.specs.First.{firstFrom, first}
 use Rattle.targets.specs.FirstLaws.{first-start, first-found, first-onward, first-end}
-use Rattle.targets.specs.Refusals.{isMalformed, isSameAs, isRepeated, isFixedAs, isTaken}
+use Rattle.targets.specs.Refusals.{isFixedAs}
 use borrow.Author.Needs.{needs}
 use Rattle.targets.proofs.taken.first_fixed_as.Statement.{statement}
 use Rattle.targets.proofs.taken.first_fixed_as.Tie as tie

@@ -1,9 +1,9 @@
-use Prim.Native.Nat.{ℕ, suc, _+_, _*_, _-_, _/_, _%_, _≤_, _<_}
-use mathlib.Core.Path.{_≡_, refl, sym, ap, ap₂, _∙_}
+use Prim.Native.Nat.{_-_, _/_}
+use mathlib.Core.Path.{_≡_, sym, ap, _∙_}
 use mathlib.Core.Bool.{true, false}
-use borrow.Author.Tests.{lt-ltb, le-ltb, le-leb, lt-leb, eq-eqb, ne-eqb, not-true, not-false}
-use Rattle.targets.specs.Records.{udidOf, addressByte, flagOf, targetAt, targetsFrom, putTarget, putFrom}
-use Rattle.udid.specs.Udids.{sameUdid, isBelow, isFixed}
+use borrow.Author.Tests.{not-true, not-false}
+use Rattle.targets.specs.Records.{udidOf}
+use Rattle.udid.specs.Udids.{isFixed}
 use borrow.Author.Needs.{needs}
 use Rattle.targets.proofs.taken.is_fixed_as.Statement.{statement}
 use Rattle.targets.proofs.taken.is_fixed_as.Tie as tie

@@ -1,10 +1,10 @@
-use Prim.Native.Nat.{ℕ, suc, _+_, _*_, _-_, _/_, _%_, _≤_, _<_}
-use mathlib.Core.Path.{_≡_, refl, sym, ap, ap₂, _∙_}
+use Prim.Native.Nat.{_-_, _/_}
+use mathlib.Core.Path.{_≡_, sym, ap₂, _∙_}
 use mathlib.Core.Bool.{true, false}
-use borrow.Author.Tests.{lt-ltb, le-ltb, le-leb, lt-leb, eq-eqb, ne-eqb, not-true, not-false}
-use Rattle.targets.specs.Records.{udidOf, addressByte, flagOf, targetAt, targetsFrom, putTarget, putFrom}
-use Rattle.udid.specs.Udids.{sameUdid, isBelow, isFixed}
-use Rattle.targets.specs.Winner.{betterOf, bestFrom, leastOf, winnerOf}
+use borrow.Author.Tests.{lt-ltb, le-ltb, eq-eqb, ne-eqb}
+use Rattle.targets.specs.Records.{udidOf}
+use Rattle.udid.specs.Udids.{isBelow}
+use Rattle.targets.specs.Winner.{betterOf}
 use borrow.Author.Needs.{needs}
 use Rattle.targets.proofs.winner.better.Statement.{statement}
 use Rattle.targets.proofs.winner.better.Tie as tie

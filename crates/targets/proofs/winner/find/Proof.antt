@@ -1,7 +1,6 @@
-use Prim.Native.Nat.{ℕ, suc, _+_, _*_, _-_, _/_, _%_, _≤_, _<_}
-use mathlib.Core.Path.{_≡_, refl, sym, ap, ap₂, _∙_}
-use borrow.Author.Tests.{lt-ltb, le-ltb, le-leb, lt-leb, eq-eqb, ne-eqb, not-true, not-false}
-use Rattle.targets.specs.Winner.{betterOf, bestFrom, leastOf, winnerOf}
+use Prim.Native.Nat.{_-_, _/_}
+use borrow.Author.Tests.{lt-ltb, le-ltb}
+use Rattle.targets.specs.Winner.{winnerOf}
 use borrow.Author.Needs.{needs}
 use Rattle.targets.proofs.winner.find.Statement.{statement}
 use Rattle.targets.proofs.winner.find.Tie as tie

@@ -1,10 +1,10 @@
-use Prim.Native.Nat.{ℕ, suc, _+_, _*_, _-_, _/_, _%_, _≤_, _<_}
-use mathlib.Core.Path.{_≡_, refl, sym, ap, ap₂, _∙_}
+use Prim.Native.Nat.{ℕ, suc, _+_, _-_, _/_, _≤_, _<_}
+use mathlib.Core.Path.{_≡_, refl, sym, ap, _∙_}
 use native.Mathlib.Omega.{arith}
 use native.Mathlib.Nat.{sub-zero}
 use native.Mathlib.Numerals.{add-one}
 use mathlib.Core.List.{List}
-use Rattle.targets.specs.Winner.{betterOf, bestFrom, leastOf, winnerOf}
+use Rattle.targets.specs.Winner.{betterOf, bestFrom}
 use borrow.Author.Needs.{needs}
 use Rattle.targets.proofs.winner.least.Statement.{statement}
 use Rattle.targets.proofs.winner.least.Tie as tie
