@@ -139,8 +139,14 @@ module _ (s : Controller) (tr : List ℕ) (a : Decoded) (sent received : List �
       go (PecDiffers k) g h = refl
       go (AfterStop k) g h = refl
 
-  pub prepare-done : (t : Transaction) → a ≡ Done t → pick (isPrepare t sent) (asked s) (handed s Abandoned) ≡ afterPrepare s tr
+  prepare-done : (t : Transaction) → a ≡ Done t → pick (isPrepare t sent) (asked s) (handed s Abandoned) ≡ afterPrepare s tr
   prepare-done t e = ap (λ (b : Bool). pick b (asked s) (handed s Abandoned)) (is-prepare t) ∙ sym (ap (λ (x : Decoded). onPrepare s x (sentData (shapeOf sendByte) tr a)) e) ∙ by-prepare
+
+  pub prepare-accepted : (t : Transaction) → a ≡ Done t → isPrepare t sent ≡ true → asked s ≡ afterPrepare s tr
+  prepare-accepted t e h = sym (ap (λ (b : Bool). pick b (asked s) (handed s Abandoned)) h) ∙ prepare-done t e
+
+  pub prepare-another : (t : Transaction) → a ≡ Done t → isPrepare t sent ≡ false → handed s Abandoned ≡ afterPrepare s tr
+  prepare-another t e h = sym (ap (λ (b : Bool). pick b (asked s) (handed s Abandoned)) h) ∙ prepare-done t e
 
 -- ---- Get UDID
 
@@ -220,11 +226,17 @@ module _ (s : Controller) (u : Udid) (n : ℕ) (tr : List ℕ) (a : Decoded) (se
       go (PecDiffers i) g = refl
       go (AfterStop i) g = refl
 
-  pub assign-done : (t : Transaction) → a ≡ Done t → pick (isAssign u n t sent) (asked (bound s u n)) (asked s) ≡ afterAssign s u n tr
+  assign-done : (t : Transaction) → a ≡ Done t → pick (isAssign u n t sent) (asked (bound s u n)) (asked s) ≡ afterAssign s u n tr
   assign-done t e =
       ap (λ (b : Bool). pick b (asked (bound s u n)) (asked s)) (is-assign t)
       ∙ sym (ap (λ (x : Decoded). onAssign s u n x (sentData (shapeOf blockWrite) tr a)) e)
       ∙ by-assign
+
+  pub assign-complete : (t : Transaction) → a ≡ Done t → isAssign u n t sent ≡ true → asked (bound s u n) ≡ afterAssign s u n tr
+  assign-complete t e h = sym (ap (λ (b : Bool). pick b (asked (bound s u n)) (asked s)) h) ∙ assign-done t e
+
+  pub assign-another : (t : Transaction) → a ≡ Done t → isAssign u n t sent ≡ false → asked s ≡ afterAssign s u n tr
+  assign-another t e h = sym (ap (λ (b : Bool). pick b (asked (bound s u n)) (asked s)) h) ∙ assign-done t e
 
 -- ---- a reply
 

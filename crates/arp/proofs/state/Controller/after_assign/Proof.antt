@@ -1,10 +1,7 @@
 use mathlib.Core.Path.{_≡_, refl, sym, ap, _∙_}
 use denote.Ref.{now}
 use borrow.Author.Tests.{not-true, not-false, eq-eqb, ne-eqb}
-use mathlib.Core.Bool.{Bool, true, false}
-use Rattle.lists.specs.Choice.{pick}
-use Rattle.arp.proofs.Steps.{assign-again, assign-done}
-use Rattle.arp.specs.Bindings.{bound}
+use Rattle.arp.proofs.Steps.{assign-again, assign-complete, assign-another}
 use Rattle.arp.specs.Controller.{asked}
 use borrow.Author.Needs.{needs}
 use Rattle.arp.proofs.state.Controller.after_assign.Statement.{statement}
@@ -54,12 +51,7 @@ ask-requires-2 c κs = search needs
 
 -- src/next.rt:95:13
 returns-2 : tie.Need-returns-2
-returns-2 c =
-    let s = c .before .before .before .before .before .before .before .before .before .before .before .before .before .args in
-    let e = sym (c .before .before .is-assign .ensures) ∙ not-true _ (c .before .if1 .taken) in
-    c .ask2 .ensures
-    ∙ sym (ap (λ (b : Bool). pick b (asked (bound (s .self) (s .u) (s .a .0))) (asked (s .self))) e)
-    ∙ assign-done (s .self) (s .u) (s .a .0) (now (s .trace)) (c .before .before .before .before .before .before .before .before .before .decode .result) _ _ (c .before .before .before .before .before .before .before .before .before .decode .ensures) _ (c .before .before .before .before .before .answer .given .1)
+returns-2 c = let s = c .before .before .before .before .before .before .before .before .before .before .before .before .before .args in c .ask2 .ensures ∙ assign-another (s .self) (s .u) (s .a .0) (now (s .trace)) (c .before .before .before .before .before .before .before .before .before .decode .result) _ _ (c .before .before .before .before .before .before .before .before .before .decode .ensures) _ (c .before .before .before .before .before .answer .given .1) (sym (c .before .before .is-assign .ensures) ∙ not-true _ (c .before .if1 .taken))
 
 -- src/next.rt:97:13
 bind-requires : tie.Need-bind-requires
@@ -73,11 +65,8 @@ ask-requires-3 c κs = search needs
 returns-3 : tie.Need-returns-3
 returns-3 c =
     let s = c .before .before .before .before .before .before .before .before .before .before .before .before .before .before .args in
-    let e = sym (c .before .before .before .is-assign .ensures) ∙ not-false _ (c .before .before .if1 .left) in
-    c .ask3 .ensures
-    ∙ ap asked (c .before .bind .ensures)
-    ∙ sym (ap (λ (b : Bool). pick b (asked (bound (s .self) (s .u) (s .a .0))) (asked (s .self))) e)
-    ∙ assign-done (s .self) (s .u) (s .a .0) (now (s .trace)) (c .before .before .before .before .before .before .before .before .before .before .decode .result) _ _ (c .before .before .before .before .before .before .before .before .before .before .decode .ensures) _ (c .before .before .before .before .before .before .answer .given .1)
+    c .ask3 .ensures ∙ ap asked (c .before .bind .ensures)
+    ∙ assign-complete (s .self) (s .u) (s .a .0) (now (s .trace)) (c .before .before .before .before .before .before .before .before .before .before .decode .result) _ _ (c .before .before .before .before .before .before .before .before .before .before .decode .ensures) _ (c .before .before .before .before .before .before .answer .given .1) (sym (c .before .before .before .is-assign .ensures) ∙ not-false _ (c .before .before .if1 .left))
 
 pub after-assign-spec : {M : Type 1} → statement M
 after-assign-spec =

@@ -1,10 +1,6 @@
 use mathlib.Core.Path.{_≡_, refl, sym, ap, _∙_}
 use denote.Ref.{now}
-use mathlib.Core.Bool.{Bool, true, false}
-use Rattle.lists.specs.Choice.{pick}
-use Rattle.arp.proofs.Steps.{prepare-nack, prepare-other, prepare-done}
-use Rattle.arp.specs.Controller.{asked, handed}
-use Rattle.arp.specs.declared.command.Command.the-variants.{Abandoned}
+use Rattle.arp.proofs.Steps.{prepare-nack, prepare-other, prepare-accepted, prepare-another}
 use borrow.Author.Needs.{needs}
 use Rattle.arp.proofs.state.Controller.after_prepare.Statement.{statement}
 use Rattle.arp.proofs.state.Controller.after_prepare.Tie as tie
@@ -69,17 +65,11 @@ hand-requires-3 c κs = search needs
 
 -- src/next.rt:49:5
 returns-3 : tie.Need-returns-3
-returns-3 c =
-    let s = c .before .before .before .before .before .before .before .before .before .before .before .before .before .before .args in
-    let e = sym (c .before .before .is-prepare .ensures) ∙ c .before .if1 .taken in
-    c .ask .ensures ∙ sym (ap (λ (b : Bool). pick b (asked (s .self)) (handed (s .self) Abandoned)) e) ∙ prepare-done (s .self) (now (s .trace)) (c .before .before .before .before .before .before .before .before .before .before .decode .result) _ _ (c .before .before .before .before .before .before .before .before .before .before .decode .ensures) _ (c .before .before .before .before .before .answer .given .1)
+returns-3 c = let s = c .before .before .before .before .before .before .before .before .before .before .before .before .before .before .args in c .ask .ensures ∙ prepare-accepted (s .self) (now (s .trace)) (c .before .before .before .before .before .before .before .before .before .before .decode .result) _ _ (c .before .before .before .before .before .before .before .before .before .before .decode .ensures) _ (c .before .before .before .before .before .answer .given .1) (sym (c .before .before .is-prepare .ensures) ∙ c .before .if1 .taken)
 
 -- src/next.rt:49:5
 returns-4 : tie.Need-returns-4
-returns-4 c =
-    let s = c .before .before .before .before .before .before .before .before .before .before .before .before .before .before .args in
-    let e = sym (c .before .before .is-prepare .ensures) ∙ c .before .if1 .left in
-    c .hand3 .ensures ∙ sym (ap (λ (b : Bool). pick b (asked (s .self)) (handed (s .self) Abandoned)) e) ∙ prepare-done (s .self) (now (s .trace)) (c .before .before .before .before .before .before .before .before .before .before .decode .result) _ _ (c .before .before .before .before .before .before .before .before .before .before .decode .ensures) _ (c .before .before .before .before .before .answer .given .1)
+returns-4 c = let s = c .before .before .before .before .before .before .before .before .before .before .before .before .before .before .args in c .hand3 .ensures ∙ prepare-another (s .self) (now (s .trace)) (c .before .before .before .before .before .before .before .before .before .before .decode .result) _ _ (c .before .before .before .before .before .before .before .before .before .before .decode .ensures) _ (c .before .before .before .before .before .answer .given .1) (sym (c .before .before .is-prepare .ensures) ∙ c .before .if1 .left)
 
 pub after-prepare-spec : {M : Type 1} → statement M
 after-prepare-spec =

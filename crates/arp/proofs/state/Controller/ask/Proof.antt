@@ -1,3 +1,4 @@
+use native.Mathlib.Omega.{arith}
 use borrow.Author.Tests.{lt-ltb, le-ltb, le-leb, lt-leb, eq-eqb, ne-eqb, not-true, not-false}
 use Rattle.arp.specs.Controller.{asked}
 use borrow.Author.Needs.{needs}
@@ -14,7 +15,7 @@ hand-requires c κs = search needs
 -- src/issue.rt:34:13
 returns : tie.Need-returns
 unfolding asked
-returns c = simp (le-leb _ _ (c .before .if1 .taken)) (c .hand .ensures)
+returns c = simp (le-leb 128 (c .before .before .before .args .self .gets) (omega arith)) (c .hand .ensures)
 
 -- src/issue.rt:36:21
 add-self : tie.Need-add-self
@@ -27,7 +28,7 @@ hand-requires-2 c κs = search needs
 -- src/issue.rt:30:5
 returns-2 : tie.Need-returns-2
 unfolding asked
-returns-2 c = simp (lt-leb _ _ (c .before .before .if1 .left)) (c .hand2 .ensures)
+returns-2 c = simp (lt-leb 128 (c .before .before .before .before .args .self .gets) (omega arith)) (c .hand2 .ensures)
 
 pub ask-spec : {M : Type 1} → statement M
 ask-spec = tie.close (tie.spec hand-requires returns add-self hand-requires-2 returns-2)
