@@ -1,0 +1,58 @@
+-- What the writers of commands cite.
+use Prim.Native.Nat.{ℕ, _+_}
+use mathlib.Core.Path.{_≡_, refl, sym, ap, _∙_, subst}
+use mathlib.Core.Bool.{true}
+use mathlib.Core.List.{List, [], _∷_, _++_}
+use native.Mathlib.Omega.{arith}
+use denote.Enum.Declared.{tagOf}
+use types.Run.{OneOf}
+use lib.ListN.{length, drop, set, replicate}
+use lib.Seq.{set-at}
+use Rattle.encode.specs.Encode.{message, refused, encoded, Wrote}
+use Rattle.encode.specs.declared.Encoded.{Encoded}
+use Rattle.encode.specs.declared.Encoded.the-variants.{Forbidden}
+use Rattle.udid.specs.Bytes.{udidBytes, putAt}
+use Rattle.udid.specs.UdidLaws.{length-udid}
+use Rattle.udid.specs.WindowLaws.{put-fits}
+use Rattle.udid.specs.declared.Udid.{Udid}
+use Rattle.wire.specs.Addresses.{defaultAddress}
+use Rattle.arp.proofs.Tags.{not-sent, prepare-sent, get-sent, assign-sent}
+use Rattle.arp.proofs.command.Command as command
+use Rattle.arp.specs.Requests.{protocolOf, messageOf}
+use Rattle.arp.specs.declared.command.Command.{Command}
+use Rattle.arp.specs.declared.command.Command.the-variants.{Nothing, Prepare, GetUdid, Assign, Ended, NoneFree, Abandoned, NotOutstanding}
+
+-- the identifier's bytes at the front of 17, and a byte behind them
+pub seventeen : (u : Udid) (l : List ℕ) (w : ℕ) → l ≡ putAt (replicate 17 0) 0 (udidBytes u) → set l 16 w ≡ udidBytes u ++ (w ∷ [])
+seventeen u l w e =
+    let k : length (udidBytes u) ≡ 16 = length-udid u in
+    let f : putAt (replicate 17 0) 0 (udidBytes u) ≡ udidBytes u ++ (0 ∷ [])
+    = put-fits (replicate 17 0) (udidBytes u) 0 (omega arith) ∙ ap (λ (n : ℕ). udidBytes u ++ drop (0 + n) (replicate 17 0)) k in
+    ap (λ (x : List ℕ). set x 16 w) (e ∙ f) ∙ set-at (udidBytes u) 0 [] w 16 k
+
+-- with the same data the same is written
+pub same-data : (x y before : List ℕ) (r : Encoded) (after : List ℕ) → x ≡ y
+    → Wrote 8 true (message defaultAddress 0 4 x []) before r after → Wrote 8 true (message defaultAddress 0 4 y []) before r after
+same-data x y before r after e = subst (λ (z : List ℕ). Wrote 8 true (message defaultAddress 0 4 z []) before r after) e
+
+-- what was written for a command is written for the same command
+pub for-command : (k j : Command) (reply before : List ℕ) (r : Encoded) (after : List ℕ) → k ≡ j
+    → Wrote (protocolOf j) true (messageOf j reply) before r after → Wrote (protocolOf k) true (messageOf k reply) before r after
+for-command k j reply before r after e = subst (λ (x : Command). Wrote (protocolOf x) true (messageOf x reply) before r after) (sym e)
+
+-- 255 is refused, and nothing is written
+nothing-written : (k : Command) (reply before : List ℕ) → protocolOf k ≡ 255 → Wrote (protocolOf k) true (messageOf k reply) before Forbidden before
+unfolding encoded refused
+nothing-written k reply before e = record { answer = rw e; output = refl }
+
+-- what is no command is refused
+pub no-command : (k : Command) (reply before : List ℕ) → OneOf not-sent (tagOf command.the-type k)
+    → Wrote (protocolOf k) true (messageOf k reply) before Forbidden before
+no-command Nothing reply before h = nothing-written Nothing reply before refl
+no-command Prepare reply before h = absurd (prepare-sent h)
+no-command GetUdid reply before h = absurd (get-sent h)
+no-command (Assign u a) reply before h = absurd (assign-sent h)
+no-command Ended reply before h = nothing-written Ended reply before refl
+no-command (NoneFree u) reply before h = nothing-written (NoneFree u) reply before refl
+no-command Abandoned reply before h = nothing-written Abandoned reply before refl
+no-command NotOutstanding reply before h = nothing-written NotOutstanding reply before refl

@@ -1,0 +1,255 @@
+-- What the step's functions cite: the decoder's answer on buffers of zeros, and each case of an answer in turn.
+use Prim.Native.Nat.{ℕ, zero, suc, _+_, _-_, _<_, _≤_}
+use mathlib.Core.Path.{_≡_, refl, sym, ap, ap₂, _∙_}
+use mathlib.Core.Bool.{Bool, true, false}
+use mathlib.Core.List.{List, [], _∷_, _++_}
+use mathlib.Core.Logic.{_⊎_, inl, inr}
+use native.Mathlib.Decide.{decLt}
+use native.Mathlib.Omega.{arith}
+use denote.Enum.Declared.{tagOf}
+use types.Run.{OneOf}
+use lib.Dec.{eqb}
+use lib.ListN.{length, getD, drop, replicate, getD-replicate, length-replicate, List·getD-append, List·getD-eq-default}
+use lib.Seq.{getD-append-add, getD-drop}
+use borrow.Author.Tests.{eq-eqb, ne-eqb}
+use Rattle.lists.specs.Choice.{pick, and}
+use Rattle.lists.specs.Onto.{onto}
+use Rattle.decode.specs.Outcome.{answered, Outcome}
+use Rattle.pool.specs.declared.free.Free.{Free}
+use Rattle.pool.specs.declared.free.Free.the-variants.{At, AllUsed}
+use Rattle.step.proofs.answer.Decoded as decoded
+use Rattle.step.specs.Handed.{sentData, receivedData}
+use Rattle.step.specs.declared.answer.Decoded.{Decoded}
+use Rattle.step.specs.declared.answer.Decoded.the-variants.{Done, Forbidden, BufferTooShort, NoSymbol, EndsEarly, Unexpected, NotAcknowledged, PecDiffers, AfterStop}
+use Rattle.trace.specs.Shapes.{shapeOf}
+use Rattle.trace.specs.declared.transaction.Transaction.{Transaction}
+use Rattle.udid.specs.Bytes.{number, bytesFrom, udidAt}
+use Rattle.udid.specs.declared.Udid.{Udid}
+use Rattle.wire.specs.declared.address.Address.{Address}
+use Rattle.arp.specs.Bindings.{freed, bound}
+use Rattle.arp.specs.Controller.{asked, handed, chosen, issued, replied, onReply, onPrepare, onGet, onAssign, afterPrepare, afterGet, afterAssign}
+use Rattle.arp.specs.Heard.{sendByte, blockRead, blockWrite, answer, isPrepare, isGet, names, isAssign, nobody}
+use Rattle.arp.specs.declared.command.Command.the-variants.{Assign, Ended, NoneFree, Abandoned}
+use Rattle.arp.specs.declared.state.Controller.{Controller}
+use Rattle.arp.specs.declared.state.Stepped.{Stepped}
+
+-- ---- a buffer of zeros with the data at its front reads as the data
+
+abbrev pub zeros : List ℕ
+zeros = replicate 255 0
+
+zero-at : (i : ℕ) → getD zeros i 0 ≡ 0
+zero-at i = go (decLt i 255)
+  where
+    go : Dec (i < 255) → getD zeros i 0 ≡ 0
+    go (yes h) = getD-replicate 255 i 0 0 h
+    go (no h) = List·getD-eq-default zeros 0 {n = i} (omega (arith, length-replicate {A = ℕ} 255 0))
+
+onto-at : (xs : List ℕ) (i : ℕ) → getD (onto xs zeros) i 0 ≡ getD xs i 0
+onto-at xs i = go (decLt i (length xs))
+  where
+    go : Dec (i < length xs) → getD (onto xs zeros) i 0 ≡ getD xs i 0
+    go (yes h) = List·getD-append xs (drop (length xs) zeros) 0 i h
+    go (no h) =
+        let e : i ≡ length xs + (i - length xs) = omega arith in
+        ap (λ (j : ℕ). getD (onto xs zeros) j 0) e
+        ∙ getD-append-add xs (drop (length xs) zeros) (i - length xs) 0
+        ∙ getD-drop (length xs) zeros (i - length xs) 0
+        ∙ zero-at (length xs + (i - length xs))
+        ∙ sym (List·getD-eq-default xs 0 {n = i} (omega arith))
+
+window : (xs : List ℕ) (i n : ℕ) → bytesFrom (onto xs zeros) i n ≡ bytesFrom xs i n
+unfolding bytesFrom
+window xs i zero = refl
+window xs i (suc n) = ap₂ (λ (b : ℕ) (bs : List ℕ). b ∷ bs) (onto-at xs i) (window xs (suc i) n)
+
+onto-udid : (xs : List ℕ) → udidAt (onto xs zeros) 0 ≡ udidAt xs 0
+unfolding udidAt
+onto-udid xs = λ i. record { high = number (window xs 0 8 i); low = number (window xs (0 + 8) 8 i) }
+
+-- ---- the decoder's answer
+
+-- every tag but Done's, and every tag but that of a NACK
+abbrev pub not-done : List ℕ
+not-done = 1 ∷ 2 ∷ 3 ∷ 4 ∷ 5 ∷ 6 ∷ 7 ∷ 8 ∷ []
+
+abbrev pub not-nack : List ℕ
+not-nack = 0 ∷ 1 ∷ 2 ∷ 3 ∷ 4 ∷ 5 ∷ 7 ∷ 8 ∷ []
+
+done-is-not : OneOf not-done 0 → ⊥
+done-is-not (inl e) = omega arith
+done-is-not (inr (inl e)) = omega arith
+done-is-not (inr (inr (inl e))) = omega arith
+done-is-not (inr (inr (inr (inl e)))) = omega arith
+done-is-not (inr (inr (inr (inr (inl e))))) = omega arith
+done-is-not (inr (inr (inr (inr (inr (inl e)))))) = omega arith
+done-is-not (inr (inr (inr (inr (inr (inr (inl e))))))) = omega arith
+done-is-not (inr (inr (inr (inr (inr (inr (inr e))))))) = omega arith
+
+nack-is-not : OneOf not-nack 6 → ⊥
+nack-is-not (inl e) = omega arith
+nack-is-not (inr (inl e)) = omega arith
+nack-is-not (inr (inr (inl e))) = omega arith
+nack-is-not (inr (inr (inr (inl e)))) = omega arith
+nack-is-not (inr (inr (inr (inr (inl e))))) = omega arith
+nack-is-not (inr (inr (inr (inr (inr (inl e)))))) = omega arith
+nack-is-not (inr (inr (inr (inr (inr (inr (inl e))))))) = omega arith
+nack-is-not (inr (inr (inr (inr (inr (inr (inr e))))))) = omega arith
+
+pub somebody : (a : Decoded) → OneOf not-nack (tagOf decoded.the-type a) → nobody a ≡ false
+somebody (Done t) h = refl
+somebody Forbidden h = refl
+somebody BufferTooShort h = refl
+somebody (NoSymbol k) h = refl
+somebody (EndsEarly k) h = refl
+somebody (Unexpected k) h = refl
+somebody (NotAcknowledged b) h = absurd (nack-is-not h)
+somebody (PecDiffers k) h = refl
+somebody (AfterStop k) h = refl
+
+-- ---- Prepare To ARP
+
+module _ (s : Controller) (tr : List ℕ) (a : Decoded) (sent received : List ℕ) (o : Outcome sendByte true tr zeros zeros a sent received) where
+  heard-1 : a ≡ answer sendByte tr
+  unfolding answered
+  heard-1 = o .answer
+
+  is-prepare : (t : Transaction) → isPrepare t sent ≡ isPrepare t (sentData (shapeOf sendByte) tr a)
+  is-prepare t = rw (o .data-sent, onto-at (sentData (shapeOf sendByte) tr a) 0)
+
+  by-prepare : onPrepare s a (sentData (shapeOf sendByte) tr a) ≡ afterPrepare s tr
+  unfolding afterPrepare
+  by-prepare = ap (λ (x : Decoded). onPrepare s x (sentData (shapeOf sendByte) tr x)) heard-1
+
+  pub prepare-nack : (b : ℕ) → a ≡ NotAcknowledged b → handed s Ended ≡ afterPrepare s tr
+  prepare-nack b e = sym (ap (λ (x : Decoded). onPrepare s x (sentData (shapeOf sendByte) tr a)) e) ∙ by-prepare
+
+  pub prepare-other : OneOf not-nack (tagOf decoded.the-type a) → OneOf not-done (tagOf decoded.the-type a) → handed s Abandoned ≡ afterPrepare s tr
+  prepare-other g h = go a g h ∙ by-prepare
+    where
+      go : (x : Decoded) → OneOf not-nack (tagOf decoded.the-type x) → OneOf not-done (tagOf decoded.the-type x)
+          → handed s Abandoned ≡ onPrepare s x (sentData (shapeOf sendByte) tr a)
+      go (Done t) g h = absurd (done-is-not h)
+      go Forbidden g h = refl
+      go BufferTooShort g h = refl
+      go (NoSymbol k) g h = refl
+      go (EndsEarly k) g h = refl
+      go (Unexpected k) g h = refl
+      go (NotAcknowledged b) g h = absurd (nack-is-not g)
+      go (PecDiffers k) g h = refl
+      go (AfterStop k) g h = refl
+
+  pub prepare-done : (t : Transaction) → a ≡ Done t → pick (isPrepare t sent) (asked s) (handed s Abandoned) ≡ afterPrepare s tr
+  prepare-done t e = ap (λ (b : Bool). pick b (asked s) (handed s Abandoned)) (is-prepare t) ∙ sym (ap (λ (x : Decoded). onPrepare s x (sentData (shapeOf sendByte) tr a)) e) ∙ by-prepare
+
+-- ---- Get UDID
+
+on-reply : (s : Controller) (t : Transaction) (xs : List ℕ) → onReply s t (onto xs zeros) ≡ onReply s t xs
+unfolding onReply
+on-reply s t xs = ap₂ (λ (u : Udid) (b : ℕ). pick (isGet t) (pick (eqb (t .received) 17) (replied s u b) (handed s Ended)) (asked s)) (onto-udid xs) (onto-at xs 16)
+
+module _ (s : Controller) (tr : List ℕ) (a : Decoded) (sent received : List ℕ) (o : Outcome blockRead true tr zeros zeros a sent received) where
+  heard-9 : a ≡ answer blockRead tr
+  unfolding answered
+  heard-9 = o .answer
+
+  by-get : onGet s a (receivedData true tr a) ≡ afterGet s tr
+  unfolding afterGet
+  by-get = ap (λ (x : Decoded). onGet s x (receivedData true tr x)) heard-9
+
+  pub get-nobody : nobody a ≡ true → handed s Ended ≡ afterGet s tr
+  get-nobody e = go a e ∙ by-get
+    where
+      go : (x : Decoded) → nobody x ≡ true → handed s Ended ≡ onGet s x (receivedData true tr a)
+      go (Done t) k = absurd (let z : _≡_ {A = ℕ} 0 1 = cc k in omega arith)
+      go Forbidden k = absurd (let z : _≡_ {A = ℕ} 0 1 = cc k in omega arith)
+      go BufferTooShort k = absurd (let z : _≡_ {A = ℕ} 0 1 = cc k in omega arith)
+      go (NoSymbol i) k = absurd (let z : _≡_ {A = ℕ} 0 1 = cc k in omega arith)
+      go (EndsEarly i) k = absurd (let z : _≡_ {A = ℕ} 0 1 = cc k in omega arith)
+      go (Unexpected i) k = absurd (let z : _≡_ {A = ℕ} 0 1 = cc k in omega arith)
+      go (NotAcknowledged b) k = rw k
+      go (PecDiffers i) k = absurd (let z : _≡_ {A = ℕ} 0 1 = cc k in omega arith)
+      go (AfterStop i) k = absurd (let z : _≡_ {A = ℕ} 0 1 = cc k in omega arith)
+
+  pub get-again : nobody a ≡ false → OneOf not-done (tagOf decoded.the-type a) → asked s ≡ afterGet s tr
+  get-again e h = go a e h ∙ by-get
+    where
+      go : (x : Decoded) → nobody x ≡ false → OneOf not-done (tagOf decoded.the-type x) → asked s ≡ onGet s x (receivedData true tr a)
+      go (Done t) k g = absurd (done-is-not g)
+      go Forbidden k g = refl
+      go BufferTooShort k g = refl
+      go (NoSymbol i) k g = refl
+      go (EndsEarly i) k g = refl
+      go (Unexpected i) k g = refl
+      go (NotAcknowledged b) k g = rw k
+      go (PecDiffers i) k g = refl
+      go (AfterStop i) k g = refl
+
+  pub get-done : (t : Transaction) → a ≡ Done t → onReply s t received ≡ afterGet s tr
+  get-done t e =
+      ap (onReply s t) (o .data-received)
+      ∙ on-reply s t (receivedData true tr a)
+      ∙ sym (ap (λ (x : Decoded). onGet s x (receivedData true tr a)) e)
+      ∙ by-get
+
+-- ---- Assign Address
+
+module _ (s : Controller) (u : Udid) (n : ℕ) (tr : List ℕ) (a : Decoded) (sent received : List ℕ) (o : Outcome blockWrite true tr zeros zeros a sent received) where
+  heard-8 : a ≡ answer blockWrite tr
+  unfolding answered
+  heard-8 = o .answer
+
+  by-assign : onAssign s u n a (sentData (shapeOf blockWrite) tr a) ≡ afterAssign s u n tr
+  unfolding afterAssign
+  by-assign = ap (λ (x : Decoded). onAssign s u n x (sentData (shapeOf blockWrite) tr x)) heard-8
+
+  is-assign : (t : Transaction) → isAssign u n t sent ≡ isAssign u n t (sentData (shapeOf blockWrite) tr a)
+  is-assign t = rw (o .data-sent, onto-udid (sentData (shapeOf blockWrite) tr a), onto-at (sentData (shapeOf blockWrite) tr a) 16)
+
+  pub assign-again : OneOf not-done (tagOf decoded.the-type a) → asked s ≡ afterAssign s u n tr
+  assign-again h = go a h ∙ by-assign
+    where
+      go : (x : Decoded) → OneOf not-done (tagOf decoded.the-type x) → asked s ≡ onAssign s u n x (sentData (shapeOf blockWrite) tr a)
+      go (Done t) g = absurd (done-is-not g)
+      go Forbidden g = refl
+      go BufferTooShort g = refl
+      go (NoSymbol i) g = refl
+      go (EndsEarly i) g = refl
+      go (Unexpected i) g = refl
+      go (NotAcknowledged b) g = refl
+      go (PecDiffers i) g = refl
+      go (AfterStop i) g = refl
+
+  pub assign-done : (t : Transaction) → a ≡ Done t → pick (isAssign u n t sent) (asked (bound s u n)) (asked s) ≡ afterAssign s u n tr
+  assign-done t e =
+      ap (λ (b : Bool). pick b (asked (bound s u n)) (asked s)) (is-assign t)
+      ∙ sym (ap (λ (x : Decoded). onAssign s u n x (sentData (shapeOf blockWrite) tr a)) e)
+      ∙ by-assign
+
+-- ---- a reply
+
+module _ (s : Controller) (u : Udid) (b : ℕ) (next : Controller) (f : Free) (r : Stepped) (free : next ≡ freed s u) (choice : f ≡ chosen (next .pool) u b) where
+  choice-there : f ≡ chosen (freed s u .pool) u b
+  choice-there = choice ∙ ap (λ (x : Controller). chosen (x .pool) u b) free
+
+  pub reply-none : f ≡ AllUsed → r ≡ handed next (NoneFree u) → r ≡ replied s u b
+  unfolding replied
+  reply-none e h = h ∙ ap (λ (x : Controller). handed x (NoneFree u)) free ∙ ap (issued (freed s u) u) (sym e ∙ choice-there)
+
+  pub reply-at : (a : Address) → f ≡ At a → r ≡ handed next (Assign u a) → r ≡ replied s u b
+  unfolding replied
+  reply-at a e h = h ∙ ap (λ (x : Controller). handed x (Assign u a)) free ∙ ap (issued (freed s u) u) (sym e ∙ choice-there)
+
+-- a complete trace where a reply is due
+module _ (s : Controller) (t : Transaction) (xs : List ℕ) (r : Stepped) where
+  pub reply-other : isGet t ≡ false → r ≡ asked s → r ≡ onReply s t xs
+  unfolding onReply
+  reply-other e h = rw e h
+
+  pub reply-count : isGet t ≡ true → (t .received ≡ 17 → ⊥) → r ≡ handed s Ended → r ≡ onReply s t xs
+  unfolding onReply
+  reply-count e n h = rw (e, ne-eqb (t .received) 17 n) h
+
+  pub reply-whole : isGet t ≡ true → t .received ≡ 17 → (u : Udid) (b : ℕ) → u ≡ udidAt xs 0 → b ≡ getD xs 16 0 → r ≡ replied s u b → r ≡ onReply s t xs
+  unfolding onReply
+  reply-whole e n u b p q h = rw (e, eq-eqb (t .received) 17 n) (h ∙ ap₂ (λ (x : Udid) (y : ℕ). replied s x y) p q)

@@ -1,0 +1,49 @@
+use Rattle.arp.proofs.Requests.{same-data}
+use denote.Ref.{now}
+use borrow.Author.Needs.{needs}
+use Rattle.arp.proofs.request.put_assign.Statement.{statement}
+use Rattle.arp.proofs.request.put_assign.Tie as tie
+use Rattle.arp.proofs.request.put_assign.Reads as reads
+use Rattle.arp.proofs.request.put_assign.Lts as lts
+use Rattle.arp.proofs.request.assign_data.Reads as assign-data-reads
+use Rattle.encode.proofs.encode.Reads as encode-reads
+
+-- src/request.rt:41:16
+assign-data-requires : tie.Need-assign-data-requires
+assign-data-requires c κs = search needs
+
+-- src/request.rt:43:45
+slice-aggregate-encode : tie.Need-slice-aggregate-encode
+slice-aggregate-encode c = search needs
+
+-- src/request.rt:43:52
+array-share-prefix-none : tie.Need-array-share-prefix-none
+array-share-prefix-none c = search needs
+
+-- src/request.rt:43:52
+slice-aggregate-encode-2 : tie.Need-slice-aggregate-encode-2
+slice-aggregate-encode-2 c = search needs
+
+-- src/request.rt:43:5
+encode-requires : tie.Need-encode-requires
+encode-requires c κs = search needs
+
+-- src/request.rt:38:1
+same-length : tie.Need-same-length
+same-length c = search needs
+
+-- src/request.rt:38:1
+returns : tie.Need-returns
+returns c = let s = c .before .before .before .before .before .before .before .before .args in same-data _ _ (now (s .out)) (c .before .before .encode .result) _ (c .before .before .before .before .before .before .assign-data .ensures) (c .before .before .encode .ensures)
+
+pub put-assign-spec : {M : Type 1} → statement M
+put-assign-spec =
+    tie.close
+    (tie.spec
+    assign-data-requires
+    slice-aggregate-encode
+    array-share-prefix-none
+    slice-aggregate-encode-2
+    encode-requires
+    same-length
+    returns)

@@ -1,0 +1,33 @@
+use borrow.Author.Tests.{lt-ltb, le-ltb, le-leb, lt-leb, eq-eqb, ne-eqb, not-true, not-false}
+use Rattle.arp.specs.Controller.{asked}
+use borrow.Author.Needs.{needs}
+use Rattle.arp.proofs.state.Controller.ask.Statement.{statement}
+use Rattle.arp.proofs.state.Controller.ask.Tie as tie
+use Rattle.arp.proofs.state.Controller.ask.Reads as reads
+use Rattle.arp.proofs.state.Controller.ask.Lts as lts
+use Rattle.arp.proofs.state.Controller.hand.Reads as hand-reads
+
+-- src/issue.rt:34:13
+hand-requires : tie.Need-hand-requires
+hand-requires c κs = search needs
+
+-- src/issue.rt:34:13
+returns : tie.Need-returns
+unfolding asked
+returns c = simp (le-leb _ _ (c .before .if1 .taken)) (c .hand .ensures)
+
+-- src/issue.rt:36:21
+add-self : tie.Need-add-self
+add-self c = search needs
+
+-- src/issue.rt:37:9
+hand-requires-2 : tie.Need-hand-requires-2
+hand-requires-2 c κs = search needs
+
+-- src/issue.rt:30:5
+returns-2 : tie.Need-returns-2
+unfolding asked
+returns-2 c = simp (lt-leb _ _ (c .before .before .if1 .left)) (c .hand2 .ensures)
+
+pub ask-spec : {M : Type 1} → statement M
+ask-spec = tie.close (tie.spec hand-requires returns add-self hand-requires-2 returns-2)

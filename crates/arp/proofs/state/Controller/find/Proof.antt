@@ -1,0 +1,97 @@
+use Prim.Native.Nat.{ℕ, suc, _+_, _-_, _<_, _≤_}
+use mathlib.Core.Path.{_≡_, refl, sym, ap, _∙_}
+use mathlib.Core.Bool.{Bool, true, false}
+use mathlib.Core.List.{List}
+use native.Mathlib.Numerals.{add-one}
+use native.Mathlib.Omega.{arith}
+use Rattle.udid.specs.declared.Udid.{Udid}
+use Rattle.arp.specs.Bindings.{heldAt, boundTo, findFrom}
+use Rattle.arp.specs.declared.state.Slot.{Slot}
+use borrow.Author.Needs.{needs}
+use Rattle.arp.proofs.state.Controller.find.Statement.{statement}
+use Rattle.arp.proofs.state.Controller.find.Tie as tie
+use Rattle.arp.proofs.state.Controller.find.Reads as reads
+use Rattle.arp.proofs.state.Controller.find.Lts as lts
+use Rattle.arp.proofs.bindings.is_bound_to.Reads as is-bound-to-reads
+
+here : (u : Udid) (s : List Slot) (a : ℕ) → a < 128 → boundTo u (heldAt s a) ≡ true → findFrom u s (128 - a) a ≡ a
+unfolding findFrom
+here u s a h e = let n : 128 - a ≡ suc (127 - a) = omega arith in rw n (simp e)
+
+onward : (u : Udid) (s : List Slot) (a : ℕ) → a < 128 → boundTo u (heldAt s a) ≡ false → findFrom u s (128 - a) a ≡ findFrom u s (128 - (a + 1)) (a + 1)
+unfolding findFrom
+onward u s a h e = let n : 128 - a ≡ suc (128 - (a + 1)) = omega arith in rw (n, add-one a) (simp e)
+
+abbrev Inv-loop : tie.InvT-loop
+Inv-loop u self n₀ n = (n ≤ 128) × (findFrom u (self .slots) 128 0 ≡ findFrom u (self .slots) (128 - n) n)
+
+abbrev μ-loop : tie.MeasureT-loop
+μ-loop u self n₀ n = 128 - n
+
+-- src/bindings.rt:43:9
+loop-holds : tie.Need-loop-holds Inv-loop μ-loop
+loop-holds c = search needs
+
+-- src/bindings.rt:44:22
+cast-at : tie.Need-cast-at Inv-loop μ-loop
+cast-at c = omega arith
+
+-- src/bindings.rt:45:21
+mul-s : tie.Need-mul-s Inv-loop μ-loop
+mul-s c = omega arith
+
+-- src/bindings.rt:45:21
+element-copy-out-s : tie.Need-element-copy-out-s Inv-loop μ-loop
+element-copy-out-s c = omega arith
+
+-- src/bindings.rt:46:16
+is-bound-to-requires : tie.Need-is-bound-to-requires Inv-loop μ-loop
+is-bound-to-requires c κs = search needs
+
+-- src/bindings.rt:47:17
+returns : tie.Need-returns Inv-loop μ-loop
+returns c =
+    let l = c .before .before .before .before .loop in
+    let s = c .before .before .before .before .before .args in
+    sym (l .inv .1 ∙ here (s .u) (s .t1 .slots) (l .n) (omega arith) (sym (c .before .is-bound-to .ensures) ∙ c .if1 .taken))
+
+-- src/bindings.rt:49:13
+add-n : tie.Need-add-n Inv-loop μ-loop
+add-n c = omega arith
+
+-- src/bindings.rt:43:9
+loop-less : tie.Need-loop-less Inv-loop μ-loop
+loop-less c = omega arith
+
+-- src/bindings.rt:43:9
+loop-again : tie.Need-loop-again Inv-loop μ-loop
+loop-again c =
+    let l = c .before .before .before .before .loop in
+    let s = c .before .before .before .before .before .args in
+    (omega arith, l .inv .1 ∙ onward (s .u) (s .t1 .slots) (l .n) (omega arith) (sym (c .before .is-bound-to .ensures) ∙ c .if1 .left))
+
+-- src/bindings.rt:39:5
+returns-2 : tie.Need-returns-2 Inv-loop μ-loop
+unfolding findFrom
+returns-2 c =
+    let l = c .before .loop in
+    let s = c .before .before .args in
+    let e : 128 - l .n ≡ 0 = omega arith in
+    sym (l .inv .1 ∙ ap (λ (n : ℕ). findFrom (s .u) (s .t1 .slots) n (l .n)) e)
+
+pub find-spec : {M : Type 1} → statement M
+find-spec =
+    tie.close
+    (tie.spec
+    Inv-loop
+    μ-loop
+    loop-holds
+    cast-at
+    mul-s
+    element-copy-out-s
+    is-bound-to-requires
+    returns
+    add-n
+    loop-less
+    loop-again
+    returns-2)

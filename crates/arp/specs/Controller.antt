@@ -1,0 +1,139 @@
+-- What the controller does, as document 01 says it.
+use Prim.Native.Nat.{ℕ, _+_, _/_}
+use mathlib.Core.Bool.{Bool, true, false}
+use mathlib.Core.List.{List}
+use lib.Dec.{leb, eqb}
+use lib.ListN.{getD, replicate}
+use Rattle.lists.specs.Choice.{pick}
+use Rattle.pool.specs.Free.{lowestFree}
+use Rattle.pool.specs.Pools.{member}
+use Rattle.pool.specs.Start.{startingPool}
+use Rattle.pool.specs.declared.Pool.{Pool}
+use Rattle.pool.specs.declared.free.Free.{Free}
+use Rattle.pool.specs.declared.free.Free.the-variants.{At, AllUsed}
+use Rattle.step.specs.declared.answer.Decoded.{Decoded}
+use Rattle.step.specs.declared.answer.Decoded.the-variants.{Done, Forbidden, BufferTooShort, NoSymbol, EndsEarly, Unexpected, NotAcknowledged, PecDiffers, AfterStop}
+use Rattle.trace.specs.declared.transaction.Transaction.{Transaction}
+use Rattle.udid.specs.Bytes.{udidAt}
+use Rattle.udid.specs.Udids.{isFixed}
+use Rattle.udid.specs.declared.Udid.{Udid}
+use Rattle.wire.specs.declared.address.Address.{Address}
+use Rattle.arp.specs.Bindings.{openSlot, freed, bound}
+use Rattle.arp.specs.Heard.{sendByte, blockRead, blockWrite, answer, sentIn, receivedIn, isPrepare, isGet, isAssign, nobody}
+use Rattle.arp.specs.declared.command.Command.{Command}
+use Rattle.arp.specs.declared.command.Command.the-variants.{Nothing, Prepare, GetUdid, Assign, Ended, NoneFree, Abandoned, NotOutstanding}
+use Rattle.arp.specs.declared.state.Controller.{Controller}
+use Rattle.arp.specs.declared.state.Stepped.{Stepped}
+
+abbrev pub newController : Pool → Controller
+newController occupied =
+    record { starting = startingPool occupied; pool = startingPool occupied; slots = replicate 128 openSlot; gets = 0; last = Nothing }
+
+-- starting a pass empties all bindings and claims and sets the pool back to the starting pool
+abbrev pub started : Controller → Stepped
+started s =
+    record {
+      state = record { starting = s .starting; pool = s .starting; slots = replicate 128 openSlot; gets = 0; last = Prepare };
+      command = Prepare;
+    }
+
+-- the state with k handed out
+abbrev pub handed : Controller → Command → Stepped
+handed s k = record { state = record { starting = s .starting; pool = s .pool; slots = s .slots; gets = s .gets; last = k }; command = k }
+
+-- one Get UDID more is counted
+abbrev pub counted : Controller → Controller
+counted s = record { starting = s .starting; pool = s .pool; slots = s .slots; gets = s .gets + 1; last = s .last }
+
+-- Get UDID; when it would be the 129th of the pass: 14
+unfoldable pub asked : Controller → Stepped
+asked s = pick (leb 128 (s .gets)) (handed s Abandoned) (handed (counted s) GetUdid)
+
+-- the address in a reply's address byte: its upper seven bits
+abbrev pub ownAddress : ℕ → Address
+ownAddress b = record { 0 = b / 2 }
+
+-- FFh: a free address is picked. Else fixed: its own. Else movable: its own if not in the pool, otherwise a free one. Picked is the lowest free
+unfoldable pub chosen : Pool → Udid → ℕ → Free
+chosen p u b =
+    pick (eqb b 0xFF) (lowestFree p)
+    (pick (isFixed u) (At (ownAddress b))
+    (pick (member p (b / 2)) (lowestFree p) (At (ownAddress b))))
+
+-- none free: 13 with the UDID that asked. Then Assign Address
+abbrev pub issued : Controller → Udid → Free → Stepped
+issued s u (At a) = handed s (Assign u a)
+issued s u AllUsed = handed s (NoneFree u)
+
+-- a reply with a UDID already bound first unbinds it and frees its address; then an address is chosen
+unfoldable pub replied : Controller → Udid → ℕ → Stepped
+replied s u b = issued (freed s u) u (chosen (freed s u .pool) u b)
+
+-- a complete trace where the reply is due: another address or command: Get UDID again. A count that is not 17: the pass ends
+unfoldable pub onReply : Controller → Transaction → List ℕ → Stepped
+onReply s t received =
+    pick (isGet t) (pick (eqb (t .received) 17) (replied s (udidAt received 0) (getD received 16 0)) (handed s Ended)) (asked s)
+
+-- Prepare accepted: send Get UDID. Answer 6: the pass ends, nobody there. Any other: 14
+abbrev pub onPrepare : Controller → Decoded → List ℕ → Stepped
+onPrepare s (Done t) sent = pick (isPrepare t sent) (asked s) (handed s Abandoned)
+onPrepare s (NotAcknowledged b) sent = handed s Ended
+onPrepare s Forbidden sent = handed s Abandoned
+onPrepare s BufferTooShort sent = handed s Abandoned
+onPrepare s (NoSymbol k) sent = handed s Abandoned
+onPrepare s (EndsEarly k) sent = handed s Abandoned
+onPrepare s (Unexpected k) sent = handed s Abandoned
+onPrepare s (PecDiffers k) sent = handed s Abandoned
+onPrepare s (AfterStop k) sent = handed s Abandoned
+
+-- Get UDID: answer 6 at byte 0, 1 or 2: the pass ends. A complete reply: onReply. Any other refusal: Get UDID again
+abbrev pub onGet : Controller → Decoded → List ℕ → Stepped
+onGet s (Done t) received = onReply s t received
+onGet s (NotAcknowledged b) received = pick (nobody (NotAcknowledged b)) (handed s Ended) (asked s)
+onGet s Forbidden received = asked s
+onGet s BufferTooShort received = asked s
+onGet s (NoSymbol k) received = asked s
+onGet s (EndsEarly k) received = asked s
+onGet s (Unexpected k) received = asked s
+onGet s (PecDiffers k) received = asked s
+onGet s (AfterStop k) received = asked s
+
+-- Assign complete: bind, and add to the pool. Any other answer: no binding, Get UDID again
+abbrev pub onAssign : Controller → Udid → ℕ → Decoded → List ℕ → Stepped
+onAssign s u a (Done t) sent = pick (isAssign u a t sent) (asked (bound s u a)) (asked s)
+onAssign s u a (NotAcknowledged b) sent = asked s
+onAssign s u a Forbidden sent = asked s
+onAssign s u a BufferTooShort sent = asked s
+onAssign s u a (NoSymbol k) sent = asked s
+onAssign s u a (EndsEarly k) sent = asked s
+onAssign s u a (Unexpected k) sent = asked s
+onAssign s u a (PecDiffers k) sent = asked s
+onAssign s u a (AfterStop k) sent = asked s
+
+-- each for the trace
+unfoldable pub afterPrepare : Controller → List ℕ → Stepped
+afterPrepare s tr = onPrepare s (answer sendByte tr) (sentIn sendByte tr)
+
+unfoldable pub afterGet : Controller → List ℕ → Stepped
+afterGet s tr = onGet s (answer blockRead tr) (receivedIn blockRead tr)
+
+unfoldable pub afterAssign : Controller → Udid → ℕ → List ℕ → Stepped
+afterAssign s u a tr = onAssign s u a (answer blockWrite tr) (sentIn blockWrite tr)
+
+-- 21: no command of a pass is outstanding, and the state stays as it is
+abbrev pub notOutstanding : Controller → Stepped
+notOutstanding s = record { state = s; command = NotOutstanding }
+
+abbrev pub byCommand : Controller → List ℕ → Command → Stepped
+byCommand s tr Nothing = notOutstanding s
+byCommand s tr Prepare = afterPrepare s tr
+byCommand s tr GetUdid = afterGet s tr
+byCommand s tr (Assign u a) = afterAssign s u (a .0) tr
+byCommand s tr Ended = notOutstanding s
+byCommand s tr (NoneFree u) = notOutstanding s
+byCommand s tr Abandoned = notOutstanding s
+byCommand s tr NotOutstanding = notOutstanding s
+
+-- one step for a received trace
+unfoldable pub stepped : Controller → List ℕ → Stepped
+stepped s tr = byCommand s tr (s .last)

@@ -1,0 +1,6 @@
+pub mod Bindings
+pub mod Heard
+pub mod Controller
+pub mod Lookup
+pub mod Numbers
+pub mod Requests

@@ -1,0 +1,39 @@
+// What is handed out: a command or an end, and Get UDID with its limit. Rests on the state alone.
+ghost use mathlib.Core.Path.{_≡_};
+ghost use Rattle.arp.specs.Controller.{handed, asked};
+use super::command::Command;
+use super::state::Controller;
+use super::state::Stepped;
+
+impl Controller {
+    // The state with this handed out.
+    pub(crate) fn hand(self, k: Command) -> Stepped
+        ensures { λ r. ⌜ r ≡ handed self k ⌝ }
+    {
+        let starting = self.starting;
+        let pool = self.pool;
+        let slots = self.slots;
+        let state = Controller {
+            starting: starting,
+            pool: pool,
+            slots: slots,
+            gets: self.gets,
+            last: k,
+        };
+        Stepped {
+            state: state,
+            command: k,
+        }
+    }
+
+    // Get UDID, or the end where it would be the 129th of the pass.
+    pub(crate) fn ask(mut self) -> Stepped
+        ensures { λ r. ⌜ r ≡ asked self ⌝ }
+    {
+        if self.gets >= 128 {
+            return self.hand(Command::Abandoned);
+        }
+        self.gets = self.gets + 1;
+        self.hand(Command::GetUdid)
+    }
+}

@@ -1,0 +1,57 @@
+// What a command is on the wire: its transaction, with PEC and to the default address, and the trace of it. Rests on encode and udid.
+ghost use mathlib.Core.Path.{_≡_};
+ghost use mathlib.Core.Bool.{true};
+ghost use mathlib.Core.List.{[]};
+ghost use Rattle.encode.specs.Encode.{Wrote};
+ghost use Rattle.arp.specs.Requests.{protocolOf, messageOf, assignData};
+use super::command::Command;
+use encode::Encoded;
+use encode::encode;
+use udid::Udid;
+use wire::address::Address;
+
+// The 17 bytes of Assign Address: the identifier, and the address for writing.
+fn assign_data(u: Udid, a: Address) -> [u8; 17]
+    ensures { λ r. ⌜ r ≡ assignData u (a .0) ⌝ }
+{
+    let mut data = [0u8; 17];
+    u.put_bytes(&mut data, 0);
+    let w = a.for_write();
+    data[16] = w.0;
+    data
+}
+
+fn put_prepare(out: &mut [u16]) -> Encoded
+    ensures { λ r. ⌜ Wrote 1 true (messageOf Command.Prepare []) (now (out .entry)) r (now (out .exit)) ⌝ }
+{
+    let sent = [1u8; 1];
+    let none = [0u8; 1];
+    encode(1, true, Address::DEFAULT, 0, 0, &sent, &none[..0], out)
+}
+
+fn put_get(reply: &[u8], out: &mut [u16]) -> Encoded
+    ensures { λ r. ⌜ Wrote 9 true (messageOf Command.GetUdid (now (reply .entry))) (now (out .entry)) r (now (out .exit)) ⌝ }
+{
+    encode(9, true, Address::DEFAULT, 0, 3, &reply[..0], reply, out)
+}
+
+fn put_assign(u: Udid, a: Address, out: &mut [u16]) -> Encoded
+    ensures { λ r. ⌜ Wrote 8 true (messageOf (Command.Assign u a) []) (now (out .entry)) r (now (out .exit)) ⌝ }
+{
+    let sent = assign_data(u, a);
+    let none = [0u8; 1];
+    encode(8, true, Address::DEFAULT, 0, 4, &sent, &none[..0], out)
+}
+
+// The trace of a command that is acknowledged whole, at the front of the output; for Get UDID, with these data as its reply.
+// An end of a pass is no command: it is refused, and the output stays as it is.
+pub fn put_command(k: Command, reply: &[u8], out: &mut [u16]) -> Encoded
+    ensures { λ r. ⌜ Wrote (protocolOf k) true (messageOf k (now (reply .entry))) (now (out .entry)) r (now (out .exit)) ⌝ }
+{
+    match k {
+        Command::Prepare => put_prepare(out),
+        Command::GetUdid => put_get(reply, out),
+        Command::Assign(u, a) => put_assign(u, a, out),
+        _ => Encoded::Forbidden,
+    }
+}

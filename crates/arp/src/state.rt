@@ -1,0 +1,34 @@
+// The controller's state, which every method takes by value and hands back.
+use super::command::Command;
+use pool::Pool;
+use udid::Udid;
+
+// What an address is known for in this pass: nothing; the target bound there; that two targets claim it.
+pub enum Binding {
+    Open,
+    Bound(Udid),
+    Claimed,
+}
+
+pub struct Slot {
+    pub held: Binding,
+}
+
+pub struct Controller {
+    // The addresses in use when a pass begins.
+    pub starting: Pool,
+    // The addresses in use now.
+    pub pool: Pool,
+    // A slot for each address.
+    pub slots: [Slot; 128],
+    // How many Get UDIDs this pass has sent.
+    pub gets: u32,
+    // What was handed out last.
+    pub last: Command,
+}
+
+// The state after a step, and what it hands out.
+pub struct Stepped {
+    pub state: Controller,
+    pub command: Command,
+}

@@ -1,0 +1,14 @@
+use Rattle.pool.specs.Pools.{unionOf}
+use borrow.Author.Needs.{needs}
+use Rattle.pool.proofs.Pool.union.Statement.{statement}
+use Rattle.pool.proofs.Pool.union.Tie as tie
+use Rattle.pool.proofs.Pool.union.Reads as reads
+use Rattle.pool.proofs.Pool.union.Lts as lts
+
+-- src/members.rt:66:5
+returns : tie.Need-returns
+unfolding unionOf
+returns c = search needs
+
+pub union-spec : {M : Type 1} → statement M
+union-spec = tie.close (tie.spec returns)

@@ -1,0 +1,32 @@
+use Prim.Native.Nat.{ℕ, _*_, _%_, _^_, _<_}
+use mathlib.Core.Path.{_≡_, refl, sym, ap, _∙_}
+use native.Mathlib.Nat.{one-mul, mod-eq-of-lt}
+use native.Mathlib.Omega.{arith}
+use lib.Bits.{bitXor}
+use lib.Pow.{pow-lt}
+use Rattle.pool.specs.Digits.{flip}
+use borrow.Author.Needs.{needs}
+use Rattle.pool.proofs.bit.turned.Statement.{statement}
+use Rattle.pool.proofs.bit.turned.Tie as tie
+use Rattle.pool.proofs.bit.turned.Reads as reads
+use Rattle.pool.proofs.bit.turned.Lts as lts
+
+-- src/bit.rt:24:16
+cast-result : tie.Need-cast-result
+cast-result c = search needs
+
+-- src/bit.rt:24:10
+shl-result : tie.Need-shl-result
+shl-result c = search needs
+
+-- src/bit.rt:21:1
+returns : tie.Need-returns
+unfolding flip
+returns c =
+    let k : ℕ = c .args .k % 64 in
+    let h : 2 ^ k < 2 ^ 64 = pow-lt {i = k} {j = 64} (omega arith) in
+    let e : 1 * 2 ^ k % 2 ^ 64 ≡ 2 ^ k = ap (λ (x : ℕ). x % 2 ^ 64) (one-mul (2 ^ k)) ∙ mod-eq-of-lt h in
+    ap (λ (x : ℕ). bitXor (c .args .n) x) e
+
+pub turned-spec : {M : Type 1} → statement M
+turned-spec = tie.close (tie.spec cast-result shl-result returns)

@@ -1,0 +1,17 @@
+-- The binary digits of a number, as a set of places: k is in n where digit k of n is one.
+use Prim.Native.Nat.{ℕ, _/_, _%_, _^_}
+use mathlib.Core.Bool.{Bool}
+use lib.Dec.{eqb}
+use lib.Bits.{bitOr, bitXor}
+
+-- digit k of n is one
+unfoldable pub digit : ℕ → ℕ → Bool
+digit n k = eqb (n / 2 ^ k % 2) 1
+
+-- n with digit k one
+unfoldable pub plus : ℕ → ℕ → ℕ
+plus n k = bitOr n (2 ^ k)
+
+-- n with digit k turned over
+unfoldable pub flip : ℕ → ℕ → ℕ
+flip n k = bitXor n (2 ^ k)

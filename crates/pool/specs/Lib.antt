@@ -1,0 +1,10 @@
+pub mod Digits
+pub mod Pools
+pub mod Start
+pub mod Counts
+pub mod Free
+pub mod DigitLaws
+pub mod CountLaws
+pub mod MemberLaws
+pub mod StartLaws
+pub mod FreeLaws

@@ -1,0 +1,25 @@
+// The binary digits of a number of 64 bits. A place counts modulo 64, so there is a digit at every place. Rests on nothing.
+ghost use mathlib.Core.Path.{_≡_};
+ghost use Prim.Native.Nat.{_%_};
+ghost use Rattle.pool.specs.Digits.{digit, plus, flip};
+
+// Digit k of n is one.
+pub fn is_one(n: u64, k: u8) -> bool
+    ensures { λ r. ⌜ r ≡ digit n (k % 64) ⌝ }
+{
+    (n >> (k % 64)) % 2 == 1
+}
+
+// n with digit k one.
+pub fn with_one(n: u64, k: u8) -> u64
+    ensures { λ r. ⌜ r ≡ plus n (k % 64) ⌝ }
+{
+    n | (1 << (k % 64))
+}
+
+// n with digit k turned over.
+pub fn turned(n: u64, k: u8) -> u64
+    ensures { λ r. ⌜ r ≡ flip n (k % 64) ⌝ }
+{
+    n ^ (1 << (k % 64))
+}

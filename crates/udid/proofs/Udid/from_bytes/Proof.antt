@@ -1,0 +1,30 @@
+use Prim.Native.Nat.{ℕ, _+_}
+use mathlib.Core.Path.{_≡_, refl, sym, ap, _∙_}
+use denote.Ref.{now}
+use native.Mathlib.Nat.{add-zero}
+use Rattle.udid.specs.Bytes.{number, bytesFrom, udidAt}
+use borrow.Author.Needs.{needs}
+use Rattle.udid.proofs.Udid.from_bytes.Statement.{statement}
+use Rattle.udid.proofs.Udid.from_bytes.Tie as tie
+use Rattle.udid.proofs.Udid.from_bytes.Reads as reads
+use Rattle.udid.proofs.Udid.from_bytes.Lts as lts
+use Rattle.udid.proofs.read.word.Reads as word-reads
+
+-- src/read.rt:45:13
+word-requires : tie.Need-word-requires
+word-requires c κs = search needs
+
+-- src/read.rt:46:13
+word-requires-2 : tie.Need-word-requires-2
+word-requires-2 c κs = search needs
+
+-- src/read.rt:42:5
+returns : tie.Need-returns
+unfolding udidAt
+returns c =
+    let a = c .before .before .before .args in
+    let h : c .before .word .result ≡ number (bytesFrom (now (a .s)) (a .at) 8) = c .before .word .ensures ∙ ap (λ (x : ℕ). number (bytesFrom (now (a .s)) x 8)) (add-zero (a .at)) in
+    rw (h, c .word2 .ensures)
+
+pub from-bytes-spec : {M : Type 1} → statement M
+from-bytes-spec = tie.close (tie.spec word-requires word-requires-2 returns)

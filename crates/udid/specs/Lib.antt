@@ -1,0 +1,5 @@
+pub mod Udids
+pub mod Bytes
+pub mod ByteLaws
+pub mod WindowLaws
+pub mod UdidLaws
