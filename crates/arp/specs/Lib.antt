@@ -4,3 +4,4 @@ pub mod Controller
 pub mod Lookup
 pub mod Numbers
 pub mod Requests
+pub mod History

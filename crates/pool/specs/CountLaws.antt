@@ -6,7 +6,7 @@ use mathlib.Core.List.{List, [], _∷_}
 use native.Mathlib.Nat.{add-assoc, add-zero, zero-add, suc-add}
 use native.Mathlib.Omega.{arith}
 use lib.ListN.{length}
-use Rattle.lists.specs.Choice.{pick}
+use Rattle.lists.specs.Choice.{pick, or, and, not}
 use Rattle.wire.specs.AddressLaws.{passing}
 use Rattle.pool.specs.Counts.{one, count}
 
@@ -76,3 +76,16 @@ count-passing p a (suc k) = go (p a) refl (count-passing p (suc a) k ∙ count-c
         → length (pick b (a ∷ passing p (suc a) k) (passing p (suc a) k)) ≡ one (p (a + 0)) + count (λ j. p (a + suc j)) k
     go true e r = let z : one (p (a + 0)) ≡ 1 = ap (λ (x : ℕ). one (p x)) (add-zero a) ∙ ap one e in omega arith
     go false e r = let z : one (p (a + 0)) ≡ 0 = ap (λ (x : ℕ). one (p x)) (add-zero a) ∙ ap one e in omega arith
+
+-- the numbers that pass either of two tests: those that pass the first, and those that pass the second alone
+pub count-split : (p q r : ℕ → Bool) (k : ℕ) → ((j : ℕ) → j < k → r j ≡ or (p j) (q j)) → count r k ≡ count p k + count (λ j. and (not (p j)) (q j)) k
+unfolding count
+count-split p q r zero h = refl
+count-split p q r (suc k) h =
+    let n = count-split (λ j. p (suc j)) (λ j. q (suc j)) (λ j. r (suc j)) k (λ j l. h (suc j) (omega arith)) in
+    let e : one (r 0) ≡ one (p 0) + one (and (not (p 0)) (q 0)) = ap one (h 0 (omega arith)) ∙ each (p 0) (q 0) in
+    omega arith
+  where
+    each : (a b : Bool) → one (or a b) ≡ one a + one (and (not a) b)
+    each true b = refl
+    each false b = omega arith

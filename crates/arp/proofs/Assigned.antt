@@ -1,0 +1,279 @@
+-- Where bindings and claims come from: a target that the lookup finds was assigned its address in the present pass, by an Assign that was
+-- acknowledged whole; and an address that two claim stays claimed.
+use Prim.Native.Nat.{ℕ, _+_, _%_, _≤_, _<_}
+use mathlib.Core.Path.{_≡_, refl, sym, ap, ap₂, _∙_, subst}
+use mathlib.Core.Bool.{Bool, true, false}
+use mathlib.Core.List.{List, [], _∷_}
+use mathlib.Core.Logic.{_⊎_, inl, inr}
+use native.Mathlib.Decide.{ℕ-discrete, decLt}
+use native.Mathlib.Omega.{arith}
+use lib.Dec.{ltb, leb, eqb}
+use lib.ListN.{length, getD, set, replicate}
+use borrow.Author.Tests.{ltb-false, lt-ltb, le-ltb}
+use Rattle.lists.specs.Choice.{pick, or}
+use Rattle.pool.specs.Pools.{member}
+use Rattle.pool.specs.declared.Pool.{Pool}
+use Rattle.pool.specs.declared.free.Free.{Free}
+use Rattle.pool.specs.declared.free.Free.the-variants.{At, AllUsed}
+use Rattle.step.specs.declared.answer.Decoded.{Decoded}
+use Rattle.step.specs.declared.answer.Decoded.the-variants.{Done, Forbidden, BufferTooShort, NoSymbol, EndsEarly, Unexpected, NotAcknowledged, PecDiffers, AfterStop}
+use Rattle.trace.specs.declared.transaction.Transaction.{Transaction}
+use Rattle.udid.specs.Bytes.{udidAt}
+use Rattle.udid.specs.declared.Udid.{Udid}
+use Rattle.wire.specs.declared.address.Address.{Address}
+use Rattle.arp.proofs.Reach.{Good, Pending, PendingIn, GoodState, good-run}
+use Rattle.arp.proofs.Sound.{Sound, SoundIn, Unbound, held-same, held-other, held-cases, held-above, bound-to, not-open, open-all, find-cases}
+use Rattle.arp.proofs.TraceLaws.{assign-only, assign-whole}
+use Rattle.arp.specs.Bindings.{openSlot, heldAt, boundTo, findFrom, freedAt, freed, slotFor, boundAt, bound}
+use Rattle.arp.specs.Controller.{newController, started, handed, counted, asked, chosen, issued, replied, onReply, onPrepare, onGet, onAssign, afterPrepare, afterGet, afterAssign, byCommand, stepped}
+use Rattle.arp.specs.Heard.{sendByte, blockRead, blockWrite, answer, sentIn, receivedIn, isPrepare, isGet, isAssign, nobody}
+use Rattle.arp.specs.History.{Event, Start, Received, run, Acknowledged, isHeld}
+use Rattle.arp.specs.Lookup.{seen, lookedUp}
+use Rattle.arp.specs.Requests.{traceOf}
+use Rattle.arp.specs.declared.command.Command.{Command}
+use Rattle.arp.specs.declared.command.Command.the-variants.{Nothing, Prepare, GetUdid, Assign, Ended, NoneFree, Abandoned, NotOutstanding}
+use Rattle.arp.specs.declared.lookup.Found.{Found}
+use Rattle.arp.specs.declared.lookup.Found.the-variants as found
+use Rattle.arp.specs.declared.state.Binding.{Binding}
+use Rattle.arp.specs.declared.state.Binding.the-variants.{Open, Bound, Claimed}
+use Rattle.arp.specs.declared.state.Controller.{Controller}
+use Rattle.arp.specs.declared.state.Slot.{Slot}
+use Rattle.arp.specs.declared.state.Stepped.{Stepped}
+
+abbrev address : ℕ → Address
+address a = record { 0 = a }
+
+-- ---- the slots after each function
+
+asked-slots : (s : Controller) → asked s .state .slots ≡ s .slots
+unfolding asked
+asked-slots s = go (leb 128 (s .gets))
+  where
+    go : (t : Bool) → pick t (handed s Abandoned) (handed (counted s) GetUdid) .state .slots ≡ s .slots
+    go true = refl
+    go false = refl
+
+-- freeing binds nobody, and leaves claims
+freed-held : (s : Controller) (u w : Udid) (i : ℕ) → length (s .slots) ≡ 128 → heldAt (freed s u .slots) i ≡ Bound w → heldAt (s .slots) i ≡ Bound w
+unfolding freed
+freed-held s u w i l e = go (findFrom u (s .slots) 128 0) (ltb 127 (findFrom u (s .slots) 128 0)) refl e
+  where
+    at : (f : ℕ) → ((i ≡ f) × (Open ≡ Bound w)) ⊎ ((i ≡ f → ⊥) × (heldAt (s .slots) i ≡ Bound w)) → heldAt (s .slots) i ≡ Bound w
+    at f (inl q) = absurd (let z : _≡_ {A = ℕ} 0 1 = cc (q .1) in omega arith)
+    at f (inr q) = q .1
+
+    go : (f : ℕ) (t : Bool) → ltb 127 f ≡ t → heldAt (pick t s (freedAt s f) .slots) i ≡ Bound w → heldAt (s .slots) i ≡ Bound w
+    go f true q k = k
+    go f false q k = at f (held-cases (s .slots) f i openSlot (Bound w) (omega (arith, ltb-false 127 f q)) k)
+
+freed-claims : (s : Controller) (u : Udid) (i : ℕ) → heldAt (s .slots) i ≡ Claimed → heldAt (freed s u .slots) i ≡ Claimed
+unfolding freed
+freed-claims s u i e = go (findFrom u (s .slots) 128 0) (find-cases u (s .slots) 128 0 (omega arith))
+  where
+    go : (f : ℕ) → ((f ≡ 128) × ((j : ℕ) → 0 ≤ j → j < 128 → boundTo u (heldAt (s .slots) j) ≡ false)) ⊎ ((f < 128) × (boundTo u (heldAt (s .slots) f) ≡ true))
+        → heldAt (pick (ltb 127 f) s (freedAt s f) .slots) i ≡ Claimed
+    go f (inl r) = rw (lt-ltb 127 f (omega (arith, r .0))) e
+    go f (inr r) =
+        rw (le-ltb 127 f (omega (arith, r .0)))
+        (held-other (s .slots) f i openSlot (λ q. absurd (let z : _≡_ {A = ℕ} 0 1 = cc (bound-to u (heldAt (s .slots) f) (r .1), ap (heldAt (s .slots)) q, e) in omega arith)) ∙ e)
+
+slot-held : (b : Bool) (u w : Udid) → slotFor b u .held ≡ Bound w → u ≡ w
+slot-held true u w e = absurd (let z : _≡_ {A = ℕ} 0 1 = cc e in omega arith)
+slot-held false u w e = cc e
+
+-- binding binds u at n, and nobody else
+bound-held : (s : Controller) (u w : Udid) (n i : ℕ) → length (s .slots) ≡ 128 → n < 128 → heldAt (bound s u n .slots) i ≡ Bound w → (heldAt (s .slots) i ≡ Bound w) ⊎ ((i ≡ n) × (u ≡ w))
+unfolding bound
+bound-held s u w n i l h e = at (held-cases (s .slots) n i (slotFor (member (s .pool) n) u) (Bound w) (omega arith) (rw (le-ltb 127 n (omega arith)) at e))
+  where
+    at : ((i ≡ n) × (slotFor (member (s .pool) n) u .held ≡ Bound w)) ⊎ ((i ≡ n → ⊥) × (heldAt (s .slots) i ≡ Bound w)) → (heldAt (s .slots) i ≡ Bound w) ⊎ ((i ≡ n) × (u ≡ w))
+    at (inl q) = inr (q .0, slot-held (member (s .pool) n) u w (q .1))
+    at (inr q) = inl (q .1)
+
+-- what an address is known for once its Assign has completed
+bound-there : (s : Controller) (u : Udid) (n : ℕ) → length (s .slots) ≡ 128 → n < 128 → heldAt (bound s u n .slots) n ≡ slotFor (member (s .pool) n) u .held
+unfolding bound
+bound-there s u n l h = rw (le-ltb 127 n (omega arith)) (held-same (s .slots) n (slotFor (member (s .pool) n) u) (omega arith))
+
+bound-elsewhere : (s : Controller) (u : Udid) (n i : ℕ) → n < 128 → (i ≡ n → ⊥) → heldAt (bound s u n .slots) i ≡ heldAt (s .slots) i
+unfolding bound
+bound-elsewhere s u n i h q = rw (le-ltb 127 n (omega arith)) (held-other (s .slots) n i (slotFor (member (s .pool) n) u) q)
+
+-- ---- a step
+
+-- through a reply: the slots are as they were, or with an identifier freed
+module _ (P : List Slot → Type 0) (s : Controller) (p : P (s .slots)) (f : (u : Udid) → P (freed s u .slots)) where
+  issued-slots : (u : Udid) (k : Free) → P (issued (freed s u) u k .state .slots)
+  issued-slots u (At a) = f u
+  issued-slots u AllUsed = f u
+
+  asked-has : P (asked s .state .slots)
+  asked-has = subst P (sym (asked-slots s)) p
+
+  reply-slots : (t : Transaction) (xs : List ℕ) → P (onReply s t xs .state .slots)
+  unfolding onReply replied
+  reply-slots t xs = go (isGet t) (eqb (t .received) 17)
+    where
+      go : (a b : Bool) → P (pick a (pick b (issued (freed s (udidAt xs 0)) (udidAt xs 0) (chosen (freed s (udidAt xs 0) .pool) (udidAt xs 0) (getD xs 16 0))) (handed s Ended)) (asked s) .state .slots)
+      go true true = issued-slots (udidAt xs 0) (chosen (freed s (udidAt xs 0) .pool) (udidAt xs 0) (getD xs 16 0))
+      go true false = p
+      go false b = asked-has
+
+  get-slots : (a : Decoded) (xs : List ℕ) → P (onGet s a xs .state .slots)
+  get-slots (Done t) xs = reply-slots t xs
+  get-slots (NotAcknowledged b) xs = go (ltb b 3)
+    where
+      go : (q : Bool) → P (pick q (handed s Ended) (asked s) .state .slots)
+      go true = p
+      go false = asked-has
+  get-slots Forbidden xs = asked-has
+  get-slots BufferTooShort xs = asked-has
+  get-slots (NoSymbol k) xs = asked-has
+  get-slots (EndsEarly k) xs = asked-has
+  get-slots (Unexpected k) xs = asked-has
+  get-slots (PecDiffers k) xs = asked-has
+  get-slots (AfterStop k) xs = asked-has
+
+prepare-slots : (s : Controller) (a : Decoded) (xs : List ℕ) → onPrepare s a xs .state .slots ≡ s .slots
+prepare-slots s (Done t) xs = go (isPrepare t xs)
+  where
+    go : (q : Bool) → pick q (asked s) (handed s Abandoned) .state .slots ≡ s .slots
+    go true = asked-slots s
+    go false = refl
+prepare-slots s (NotAcknowledged b) xs = refl
+prepare-slots s Forbidden xs = refl
+prepare-slots s BufferTooShort xs = refl
+prepare-slots s (NoSymbol k) xs = refl
+prepare-slots s (EndsEarly k) xs = refl
+prepare-slots s (Unexpected k) xs = refl
+prepare-slots s (PecDiffers k) xs = refl
+prepare-slots s (AfterStop k) xs = refl
+
+-- through the answer to an Assign: the slots are as they were, or with the target bound by the trace of that Assign
+module _ (P : List Slot → Type 0) (s : Controller) (u : Udid) (a : Address) (tr : List ℕ) (p : P (s .slots)) (f : tr ≡ traceOf (Assign u a) [] → P (bound s u (a .0) .slots)) where
+  as-was : P (asked s .state .slots)
+  as-was = subst P (sym (asked-slots s)) p
+
+  assign-slots : (x : Decoded) → answer blockWrite tr ≡ x → P (onAssign s u (a .0) x (sentIn blockWrite tr) .state .slots)
+  assign-slots (Done t) e = go (isAssign u (a .0) t (sentIn blockWrite tr)) refl
+    where
+      go : (q : Bool) → isAssign u (a .0) t (sentIn blockWrite tr) ≡ q → P (pick q (asked (bound s u (a .0))) (asked s) .state .slots)
+      go true h = subst P (sym (asked-slots (bound s u (a .0)))) (f (assign-only s u a tr t e h))
+      go false h = as-was
+  assign-slots (NotAcknowledged b) e = as-was
+  assign-slots Forbidden e = as-was
+  assign-slots BufferTooShort e = as-was
+  assign-slots (NoSymbol k) e = as-was
+  assign-slots (EndsEarly k) e = as-was
+  assign-slots (Unexpected k) e = as-was
+  assign-slots (PecDiffers k) e = as-was
+  assign-slots (AfterStop k) e = as-was
+
+module _ (occupied : Pool) (s : Controller) (tr : List ℕ) (g : GoodState occupied s) where
+  -- what is bound after a step was bound before it, or comes from an Assign whose trace was received
+  abbrev From : Udid → ℕ → Type 0
+  From w a = (heldAt (s .slots) a ≡ Bound w) ⊎ ((s .last ≡ Assign w (address a)) × (tr ≡ traceOf (Assign w (address a)) []))
+
+  pub step-held : (a : ℕ) (w : Udid) → heldAt (stepped s tr .state .slots) a ≡ Bound w → From w a
+  unfolding stepped afterPrepare afterGet afterAssign
+  step-held a w e = go (s .last) refl (g .1) e
+    where
+      bound-by : (u : Udid) (b : Address) → s .last ≡ Assign u b → Pending s u (b .0) → tr ≡ traceOf (Assign u b) [] → heldAt (bound s u (b .0) .slots) a ≡ Bound w → From w a
+      bound-by u b q p t k = at (bound-held s u w (b .0) a (g .0 .sound .size) (p .small) k)
+        where
+          at : (heldAt (s .slots) a ≡ Bound w) ⊎ ((a ≡ b .0) × (u ≡ w)) → From w a
+          at (inl h) = inl h
+          at (inr h) =
+              let m : Assign u b ≡ Assign w (address a) = ap₂ (λ (x : Udid) (y : ℕ). Assign x (address y)) (h .1) (sym (h .0)) in
+              inr (q ∙ m, t ∙ ap (λ (x : Command). traceOf x []) m)
+
+      go : (k : Command) → s .last ≡ k → PendingIn s k → heldAt (byCommand s tr k .state .slots) a ≡ Bound w → From w a
+      go Nothing q p k = inl k
+      go Prepare q p k = inl (ap (λ (x : List Slot). heldAt x a) (sym (prepare-slots s (answer sendByte tr) (sentIn sendByte tr))) ∙ k)
+      go GetUdid q p k =
+          inl (get-slots (λ (x : List Slot). heldAt x a ≡ Bound w → heldAt (s .slots) a ≡ Bound w) s (λ h. h) (λ u h. freed-held s u w a (g .0 .sound .size) h)
+          (answer blockRead tr) (receivedIn blockRead tr) k)
+      go (Assign u b) q p k = assign-slots (λ (x : List Slot). heldAt x a ≡ Bound w → From w a) s u b tr (λ h. inl h) (λ t h. bound-by u b q p t h) (answer blockWrite tr) refl k
+      go Ended q p k = inl k
+      go (NoneFree u) q p k = inl k
+      go Abandoned q p k = inl k
+      go NotOutstanding q p k = inl k
+
+  -- an address claimed by two stays so
+  pub step-claimed : (a : ℕ) → heldAt (s .slots) a ≡ Claimed → heldAt (stepped s tr .state .slots) a ≡ Claimed
+  unfolding stepped afterPrepare afterGet afterAssign
+  step-claimed a e = go (s .last) (g .1)
+    where
+      claimed-by : (u : Udid) (b : Address) → Pending s u (b .0) → heldAt (bound s u (b .0) .slots) a ≡ Claimed
+      claimed-by u b p = at (ℕ-discrete a (b .0))
+        where
+          used : member (s .pool) a ≡ true
+          used = g .0 .sound .exact a ∙ ap (λ (x : Binding). or (member (s .starting) a) (isHeld x)) e ∙ or-true (member (s .starting) a)
+            where
+              or-true : (b : Bool) → or b true ≡ true
+              or-true true = refl
+              or-true false = refl
+
+          at : Dec (a ≡ b .0) → heldAt (bound s u (b .0) .slots) a ≡ Claimed
+          at (no q) = bound-elsewhere s u (b .0) a (p .small) q ∙ e
+          at (yes q) =
+              ap (heldAt (bound s u (b .0) .slots)) q
+              ∙ bound-there s u (b .0) (g .0 .sound .size) (p .small)
+              ∙ ap (λ (x : Bool). slotFor x u .held) (ap (member (s .pool)) (sym q) ∙ used)
+
+      go : (k : Command) → PendingIn s k → heldAt (byCommand s tr k .state .slots) a ≡ Claimed
+      go Nothing p = e
+      go Prepare p = ap (λ (x : List Slot). heldAt x a) (prepare-slots s (answer sendByte tr) (sentIn sendByte tr)) ∙ e
+      go GetUdid p = get-slots (λ (x : List Slot). heldAt x a ≡ Claimed) s e (λ u. freed-claims s u a e) (answer blockRead tr) (receivedIn blockRead tr)
+      go (Assign u b) p = assign-slots (λ (x : List Slot). heldAt x a ≡ Claimed) s u b tr e (λ t. claimed-by u b p) (answer blockWrite tr) refl
+      go Ended p = e
+      go (NoneFree u) p = e
+      go Abandoned p = e
+      go NotOutstanding p = e
+
+  -- an Assign that completes: its target is bound there, or the address is claimed where it was in the pool
+  pub step-assigned : (u : Udid) (a : ℕ) → s .last ≡ Assign u (address a) → tr ≡ traceOf (Assign u (address a)) []
+      → lookedUp (stepped s tr .state) a ≡ pick (member (s .pool) a) found.Two (found.Bound u)
+  unfolding stepped
+  step-assigned u a q t =
+      let p : Pending s u a = subst (PendingIn s) q (g .1) in
+      let h : a < 128 = p .small in
+      ap (λ (k : Command). lookedUp (byCommand s tr k .state) a) q
+      ∙ ap (λ (x : Stepped). lookedUp (x .state) a) (assign-whole s u (address a) tr (p .fits) t)
+      ∙ ap (λ (x : List Slot). pick (ltb 127 a) found.NoAddress (seen (heldAt x a))) (asked-slots (bound s u a))
+      ∙ ap (λ (b : Bool). pick b found.NoAddress (seen (heldAt (bound s u a .slots) a))) (le-ltb 127 a (omega arith))
+      ∙ ap seen (bound-there s u a (g .0 .sound .size) h)
+      ∙ known (member (s .pool) a)
+    where
+      known : (b : Bool) → seen (slotFor b u .held) ≡ pick b found.Two (found.Bound u)
+      known true = refl
+      known false = refl
+
+-- ---- the lookup
+
+pub bound-acknowledged : (occupied : Pool) (es : List Event) (a : ℕ) (u : Udid) → heldAt (run occupied es .slots) a ≡ Bound u → Acknowledged occupied es u a
+unfolding run Acknowledged
+bound-acknowledged occupied [] a u e = not-open _ u (open-all a) e
+bound-acknowledged occupied (Start ∷ es) a u e = not-open _ u (open-all a) e
+bound-acknowledged occupied (Received tr ∷ es) a u e = go (step-held occupied (run occupied es) tr (good-run occupied es) a u e) (λ k. bound-acknowledged occupied es a u k)
+  where
+    go : From occupied (run occupied es) tr (good-run occupied es) u a → (heldAt (run occupied es .slots) a ≡ Bound u → Acknowledged occupied es u a)
+        → ((run occupied es .last ≡ Assign u (address a)) × (tr ≡ traceOf (Assign u (address a)) [])) ⊎ Acknowledged occupied es u a
+    go (inl k) ih = inr (ih k)
+    go (inr k) ih = inl k
+
+seen-bound : (h : Binding) (u : Udid) → seen h ≡ found.Bound u → h ≡ Bound u
+seen-bound Open u e = absurd (let z : _≡_ {A = ℕ} 0 1 = cc e in omega arith)
+seen-bound (Bound v) u e = ap Bound (cc e)
+seen-bound Claimed u e = absurd (let z : _≡_ {A = ℕ} 0 1 = cc e in omega arith)
+
+found-bound : (s : Controller) (a : ℕ) (u : Udid) → lookedUp s a ≡ found.Bound u → heldAt (s .slots) a ≡ Bound u
+found-bound s a u e = go (ltb 127 a) e
+  where
+    go : (t : Bool) → pick t found.NoAddress (seen (heldAt (s .slots) a)) ≡ found.Bound u → heldAt (s .slots) a ≡ Bound u
+    go true k = absurd (let z : _≡_ {A = ℕ} 0 1 = cc k in omega arith)
+    go false k = seen-bound (heldAt (s .slots) a) u k
+
+-- LOOKUP answers a target only where an Assign of that address to it was acknowledged whole in the present pass
+pub lookup-acknowledged : (occupied : Pool) (es : List Event) (a : ℕ) (u : Udid) → lookedUp (run occupied es) a ≡ found.Bound u → Acknowledged occupied es u a
+lookup-acknowledged occupied es a u e = bound-acknowledged occupied es a u (found-bound (run occupied es) a u e)

@@ -1,0 +1,165 @@
+-- What is handed out: the state keeps it, each Get UDID is counted, and only a fixed target is sent an address that is in use.
+use Prim.Native.Nat.{ℕ, _+_}
+use mathlib.Core.Path.{_≡_, refl, sym, ap, ap₂, _∙_, subst}
+use mathlib.Core.Bool.{Bool, true, false}
+use mathlib.Core.List.{List, [], _∷_}
+use mathlib.Core.Logic.{_⊎_, inl, inr}
+use native.Mathlib.Nat.{add-zero}
+use native.Mathlib.Omega.{arith}
+use lib.Dec.{ltb, leb, eqb}
+use lib.ListN.{getD}
+use Rattle.lists.specs.Choice.{pick}
+use Rattle.pool.specs.Pools.{member}
+use Rattle.pool.specs.declared.Pool.{Pool}
+use Rattle.pool.specs.declared.free.Free.{Free}
+use Rattle.pool.specs.declared.free.Free.the-variants.{At, AllUsed}
+use Rattle.step.specs.declared.answer.Decoded.{Decoded}
+use Rattle.step.specs.declared.answer.Decoded.the-variants.{Done, Forbidden, BufferTooShort, NoSymbol, EndsEarly, Unexpected, NotAcknowledged, PecDiffers, AfterStop}
+use Rattle.trace.specs.declared.transaction.Transaction.{Transaction}
+use Rattle.udid.specs.Bytes.{udidAt}
+use Rattle.udid.specs.Udids.{isFixed}
+use Rattle.udid.specs.declared.Udid.{Udid}
+use Rattle.wire.specs.declared.address.Address.{Address}
+use Rattle.arp.proofs.Reach.{Pending, PendingIn, good-run}
+use Rattle.arp.specs.Bindings.{findFrom, freedAt, freed, boundAt, bound}
+use Rattle.arp.specs.Controller.{handed, counted, asked, chosen, issued, replied, onReply, onPrepare, onGet, onAssign, afterPrepare, afterGet, afterAssign, byCommand, stepped}
+use Rattle.arp.specs.Heard.{sendByte, blockRead, blockWrite, answer, sentIn, receivedIn, isPrepare, isGet, isAssign}
+use Rattle.arp.specs.History.{Event, Start, Received, run, oneGet, getsSent}
+use Rattle.arp.specs.declared.command.Command.{Command}
+use Rattle.arp.specs.declared.command.Command.the-variants.{Nothing, Prepare, GetUdid, Assign, Ended, NoneFree, Abandoned, NotOutstanding}
+use Rattle.arp.specs.declared.state.Controller.{Controller}
+use Rattle.arp.specs.declared.state.Stepped.{Stepped}
+
+-- handed out from a state: kept as the last, and counted where it is a Get UDID
+pub record Handed (s : Controller) (r : Stepped) : Type 0 where
+  pub last : r .state .last ≡ r .command
+  pub gets : r .state .gets ≡ s .gets + oneGet (r .command)
+
+plain : (s : Controller) (k : Command) → oneGet k ≡ 0 → Handed s (handed s k)
+plain s k e = record { last = refl; gets = omega arith }
+
+asked-handed : (s : Controller) → Handed s (asked s)
+unfolding asked
+asked-handed s = go (leb 128 (s .gets))
+  where
+    go : (t : Bool) → Handed s (pick t (handed s Abandoned) (handed (counted s) GetUdid))
+    go true = plain s Abandoned refl
+    go false = record { last = refl; gets = refl }
+
+-- unbinding and binding count nothing
+freed-gets : (s : Controller) (u : Udid) → freed s u .gets ≡ s .gets
+unfolding freed
+freed-gets s u = go (ltb 127 (findFrom u (s .slots) 128 0))
+  where
+    go : (t : Bool) → pick t s (freedAt s (findFrom u (s .slots) 128 0)) .gets ≡ s .gets
+    go true = refl
+    go false = refl
+
+bound-gets : (s : Controller) (u : Udid) (a : ℕ) → bound s u a .gets ≡ s .gets
+unfolding bound
+bound-gets s u a = go (ltb 127 a)
+  where
+    go : (t : Bool) → pick t s (boundAt s u a) .gets ≡ s .gets
+    go true = refl
+    go false = refl
+
+from : (s r : Controller) (x : Stepped) → r .gets ≡ s .gets → Handed r x → Handed s x
+from s r x e h = record { last = h .last; gets = h .gets ∙ ap (λ (n : ℕ). n + oneGet (x .command)) e }
+
+module _ (s : Controller) where
+  issued-handed : (u : Udid) (k : Free) → Handed s (issued (freed s u) u k)
+  issued-handed u (At a) = from s (freed s u) (issued (freed s u) u (At a)) (freed-gets s u) (plain (freed s u) (Assign u a) refl)
+  issued-handed u AllUsed = from s (freed s u) (issued (freed s u) u AllUsed) (freed-gets s u) (plain (freed s u) (NoneFree u) refl)
+
+  reply-handed : (t : Transaction) (xs : List ℕ) → Handed s (onReply s t xs)
+  unfolding onReply replied
+  reply-handed t xs = go (isGet t) (eqb (t .received) 17)
+    where
+      go : (a b : Bool) → Handed s (pick a (pick b (issued (freed s (udidAt xs 0)) (udidAt xs 0) (chosen (freed s (udidAt xs 0) .pool) (udidAt xs 0) (getD xs 16 0))) (handed s Ended)) (asked s))
+      go true true = issued-handed (udidAt xs 0) (chosen (freed s (udidAt xs 0) .pool) (udidAt xs 0) (getD xs 16 0))
+      go true false = plain s Ended refl
+      go false b = asked-handed s
+
+  prepare-handed : (a : Decoded) (xs : List ℕ) → Handed s (onPrepare s a xs)
+  prepare-handed (Done t) xs = go (isPrepare t xs)
+    where
+      go : (q : Bool) → Handed s (pick q (asked s) (handed s Abandoned))
+      go true = asked-handed s
+      go false = plain s Abandoned refl
+  prepare-handed (NotAcknowledged b) xs = plain s Ended refl
+  prepare-handed Forbidden xs = plain s Abandoned refl
+  prepare-handed BufferTooShort xs = plain s Abandoned refl
+  prepare-handed (NoSymbol k) xs = plain s Abandoned refl
+  prepare-handed (EndsEarly k) xs = plain s Abandoned refl
+  prepare-handed (Unexpected k) xs = plain s Abandoned refl
+  prepare-handed (PecDiffers k) xs = plain s Abandoned refl
+  prepare-handed (AfterStop k) xs = plain s Abandoned refl
+
+  get-handed : (a : Decoded) (xs : List ℕ) → Handed s (onGet s a xs)
+  get-handed (Done t) xs = reply-handed t xs
+  get-handed (NotAcknowledged b) xs = go (ltb b 3)
+    where
+      go : (q : Bool) → Handed s (pick q (handed s Ended) (asked s))
+      go true = plain s Ended refl
+      go false = asked-handed s
+  get-handed Forbidden xs = asked-handed s
+  get-handed BufferTooShort xs = asked-handed s
+  get-handed (NoSymbol k) xs = asked-handed s
+  get-handed (EndsEarly k) xs = asked-handed s
+  get-handed (Unexpected k) xs = asked-handed s
+  get-handed (PecDiffers k) xs = asked-handed s
+  get-handed (AfterStop k) xs = asked-handed s
+
+  assign-handed : (u : Udid) (n : ℕ) (a : Decoded) (xs : List ℕ) → Handed s (onAssign s u n a xs)
+  assign-handed u n (Done t) xs = go (isAssign u n t xs)
+    where
+      go : (q : Bool) → Handed s (pick q (asked (bound s u n)) (asked s))
+      go true = from s (bound s u n) (asked (bound s u n)) (bound-gets s u n) (asked-handed (bound s u n))
+      go false = asked-handed s
+  assign-handed u n (NotAcknowledged b) xs = asked-handed s
+  assign-handed u n Forbidden xs = asked-handed s
+  assign-handed u n BufferTooShort xs = asked-handed s
+  assign-handed u n (NoSymbol k) xs = asked-handed s
+  assign-handed u n (EndsEarly k) xs = asked-handed s
+  assign-handed u n (Unexpected k) xs = asked-handed s
+  assign-handed u n (PecDiffers k) xs = asked-handed s
+  assign-handed u n (AfterStop k) xs = asked-handed s
+
+  -- 21 with the state as it was, or something handed out and kept
+  pub step-handed : (tr : List ℕ) → ((stepped s tr .command ≡ NotOutstanding) × (stepped s tr .state ≡ s)) ⊎ Handed s (stepped s tr)
+  unfolding stepped afterPrepare afterGet afterAssign
+  step-handed tr = go (s .last)
+    where
+      go : (k : Command) → ((byCommand s tr k .command ≡ NotOutstanding) × (byCommand s tr k .state ≡ s)) ⊎ Handed s (byCommand s tr k)
+      go Nothing = inl (refl, refl)
+      go Prepare = inr (prepare-handed (answer sendByte tr) (sentIn sendByte tr))
+      go GetUdid = inr (get-handed (answer blockRead tr) (receivedIn blockRead tr))
+      go (Assign u a) = inr (assign-handed u (a .0) (answer blockWrite tr) (sentIn blockWrite tr))
+      go Ended = inl (refl, refl)
+      go (NoneFree u) = inl (refl, refl)
+      go Abandoned = inl (refl, refl)
+      go NotOutstanding = inl (refl, refl)
+
+-- the count in the state is that of the Get UDIDs handed out in this pass
+pub gets-are-sent : (occupied : Pool) (es : List Event) → run occupied es .gets ≡ getsSent occupied es
+unfolding run getsSent
+gets-are-sent occupied [] = refl
+gets-are-sent occupied (Start ∷ es) = refl
+gets-are-sent occupied (Received tr ∷ es) = go (step-handed (run occupied es) tr) (gets-are-sent occupied es)
+  where
+    go : ((stepped (run occupied es) tr .command ≡ NotOutstanding) × (stepped (run occupied es) tr .state ≡ run occupied es)) ⊎ Handed (run occupied es) (stepped (run occupied es) tr)
+        → run occupied es .gets ≡ getsSent occupied es
+        → stepped (run occupied es) tr .state .gets ≡ getsSent occupied es + oneGet (stepped (run occupied es) tr .command)
+    go (inl h) e = ap (λ (x : Controller). x .gets) (h .1) ∙ e ∙ sym (ap (λ (k : Command). getsSent occupied es + oneGet k) (h .0) ∙ add-zero (getsSent occupied es))
+    go (inr h) e = h .gets ∙ ap (λ (n : ℕ). n + oneGet (stepped (run occupied es) tr .command)) e
+
+-- an Assign that names an address in use is for a fixed target: only these are ever claimed by two
+pub claims-are-fixed : (occupied : Pool) (es : List Event) (u : Udid) (a : Address) → run occupied es .last ≡ Assign u a → member (run occupied es .pool) (a .0) ≡ true → isFixed u ≡ true
+claims-are-fixed occupied es u a e h = go (isFixed u) refl
+  where
+    p : Pending (run occupied es) u (a .0)
+    p = subst (PendingIn (run occupied es)) e (good-run occupied es .1)
+
+    go : (b : Bool) → isFixed u ≡ b → isFixed u ≡ true
+    go true q = q
+    go false q = absurd (let z : _≡_ {A = ℕ} 0 1 = cc (h, p .free q) in omega arith)

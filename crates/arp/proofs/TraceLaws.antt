@@ -1,0 +1,293 @@
+-- The step held against traces: which traces are taken for the command that is outstanding, and what each of them leads to.
+-- For every trace one of the lines applies, and no line speaks of how the decoder works.
+use Prim.Native.Nat.{ℕ, zero, suc, _+_, _-_, _*_, _%_, _≤_, _<_}
+use mathlib.Core.Path.{_≡_, refl, sym, ap, ap₂, _∙_, subst}
+use mathlib.Core.Bool.{Bool, true, false}
+use mathlib.Core.List.{List, [], _∷_, _++_}
+use native.Mathlib.Decide.{ℕ-discrete, decLt}
+use native.Mathlib.Omega.{arith}
+use lib.Dec.{ltb, eqb}
+use lib.ListN.{length, getD, take, drop, length-append, length-drop}
+use lib.Seq.{getD-at, split-at, take-all}
+use borrow.Author.Tests.{ltb-true, ltb-false, lt-ltb, le-ltb, eqb-true, eq-eqb, ne-eqb}
+use Rattle.lists.specs.Choice.{pick, or, and}
+use Rattle.lists.specs.Each.{Bytes}
+use Rattle.wire.specs.Addresses.{defaultAddress}
+use Rattle.wire.specs.Pec.{bitStep, pecStep, pecFrom}
+use Rattle.trace.specs.ShapeLaws.{sane, both-true}
+use Rattle.trace.specs.Shapes.{shapeOf}
+use Rattle.trace.specs.Trace.{Message, trace, Valid}
+use Rattle.trace.specs.declared.transaction.Transaction.{Transaction}
+use Rattle.step.proofs.Theorems as step
+use Rattle.step.specs.Answers.{CutAt, Carries, summary}
+use Rattle.step.specs.Handed.{sentData, receivedData}
+use Rattle.step.specs.Run.{decodedBy}
+use Rattle.step.specs.declared.answer.Decoded.{Decoded}
+use Rattle.step.specs.declared.answer.Decoded.the-variants.{Done, Forbidden, BufferTooShort, NoSymbol, EndsEarly, Unexpected, NotAcknowledged, PecDiffers, AfterStop}
+use Rattle.encode.specs.Encode.{message}
+use Rattle.udid.specs.Bytes.{udidBytes, udidAt}
+use Rattle.udid.specs.UdidLaws.{udid-bytes, length-udid, udid-back, bytes-back, same-equal, same-refl}
+use Rattle.udid.specs.Udids.{Fits, sameUdid}
+use Rattle.udid.specs.declared.Udid.{Udid}
+use Rattle.wire.specs.declared.address.Address.{Address}
+use Rattle.arp.specs.Bindings.{bound}
+use Rattle.arp.specs.Controller.{asked, handed, replied, onReply, onPrepare, onGet, onAssign, afterPrepare, afterGet, afterAssign}
+use Rattle.arp.specs.Heard.{sendByte, blockRead, blockWrite, answer, sentIn, receivedIn, isCommand, isPrepare, isGet, names, isAssign, nobody}
+use Rattle.arp.specs.Requests.{assignData, messageOf, traceOf}
+use Rattle.arp.specs.declared.command.Command.the-variants.{Prepare, GetUdid, Assign, Ended, Abandoned}
+use Rattle.arp.specs.declared.state.Controller.{Controller}
+
+-- ---- the three messages are valid
+
+pub valid-prepare : Valid (shapeOf sendByte) (messageOf Prepare [])
+valid-prepare = record {
+  address = omega arith;
+  direction = refl;
+  command = refl;
+  sent-length = refl;
+  sent-bytes = (omega arith, tt);
+  received-length = refl;
+  received-bytes = tt;
+  counts = omega arith;
+}
+
+pub valid-get : (xs : List ℕ) → Bytes xs → length xs ≤ 255 → Valid (shapeOf blockRead) (messageOf GetUdid xs)
+valid-get xs h l = record {
+  address = omega arith;
+  direction = refl;
+  command = (omega arith, tt);
+  sent-length = refl;
+  sent-bytes = tt;
+  received-length = omega arith;
+  received-bytes = h;
+  counts = omega arith;
+}
+
+append-bytes : (xs ys : List ℕ) → Bytes xs → Bytes ys → Bytes (xs ++ ys)
+append-bytes [] ys h g = g
+append-bytes (x ∷ xs) ys h g = (h .0, append-bytes xs ys (h .1) g)
+
+length-assign : (u : Udid) (a : ℕ) → length (assignData u a) ≡ 17
+length-assign u a = length-append (udidBytes u) (2 * (a % 128) ∷ []) ∙ omega (arith, length-udid u)
+
+pub valid-assign : (u : Udid) (a : Address) → Valid (shapeOf blockWrite) (messageOf (Assign u a) [])
+valid-assign u a = record {
+  address = omega arith;
+  direction = refl;
+  command = (omega arith, tt);
+  sent-length = omega arith;
+  sent-bytes = append-bytes (udidBytes u) (2 * (a .0 % 128) ∷ []) (udid-bytes u) (omega arith, tt);
+  received-length = refl;
+  received-bytes = tt;
+  counts = omega (arith, length-assign u (a .0));
+}
+
+-- Prepare To ARP is the marked case M2
+pub prepare-trace : traceOf Prepare [] ≡ 256 ∷ 194 ∷ 258 ∷ 1 ∷ 258 ∷ 192 ∷ 258 ∷ 257 ∷ []
+unfolding pecFrom pecStep bitStep
+prepare-trace = refl
+
+-- ---- what the decoder says of them
+
+module _ (protocol : ℕ) (m : Message) (v : Valid (shapeOf protocol) m) where
+  back : (answer protocol (trace (shapeOf protocol) true m) ≡ Done (summary protocol m))
+      × (sentIn protocol (trace (shapeOf protocol) true m) ≡ m .sent)
+      × (receivedIn protocol (trace (shapeOf protocol) true m) ≡ m .received)
+  back = step.round-trip protocol (shapeOf protocol) (sane protocol) true m v
+
+-- a complete trace is that of a message, with its data
+complete : (protocol : ℕ) (tr : List ℕ) (t : Transaction) → answer protocol tr ≡ Done t → Carries protocol (shapeOf protocol) true tr t (sentIn protocol tr) (receivedIn protocol tr)
+complete protocol tr t e =
+    subst (λ (x : Decoded). Carries protocol (shapeOf protocol) true tr t (sentData (shapeOf protocol) tr x) (receivedData true tr x)) (sym e)
+    (step.if-and-only-if protocol (shapeOf protocol) (sane protocol) true tr (Done t) .0 e)
+
+cut : (protocol : ℕ) (tr : List ℕ) (b : ℕ) → CutAt (shapeOf protocol) true tr b → answer protocol tr ≡ NotAcknowledged b
+cut protocol tr b h = step.if-and-only-if protocol (shapeOf protocol) (sane protocol) true tr (NotAcknowledged b) .1 (h, refl, refl)
+
+cut-back : (protocol : ℕ) (tr : List ℕ) (b : ℕ) → answer protocol tr ≡ NotAcknowledged b → CutAt (shapeOf protocol) true tr b
+cut-back protocol tr b e = step.if-and-only-if protocol (shapeOf protocol) (sane protocol) true tr (NotAcknowledged b) .0 e .0
+
+-- two messages with the same fields
+message-is : (m n : Message) → m .address ≡ n .address → m .direction ≡ n .direction → m .command ≡ n .command → m .sent ≡ n .sent → m .received ≡ n .received → m ≡ n
+message-is m n a d c s r = λ i. record { address = a i; direction = d i; command = c i; sent = s i; received = r i }
+
+empty : (xs : List ℕ) → length xs ≡ 0 → xs ≡ []
+empty [] e = refl
+empty (x ∷ xs) e = absurd (omega arith)
+
+-- ---- Prepare To ARP
+
+module _ (s : Controller) (tr : List ℕ) where
+  -- a complete trace that is Prepare To ARP is its trace
+  prepare-only : (t : Transaction) → answer sendByte tr ≡ Done t → isPrepare t (sentIn sendByte tr) ≡ true → tr ≡ traceOf Prepare []
+  prepare-only t e h =
+      let c = complete sendByte tr t e in
+      let b = both-true (eqb (t .address .0) defaultAddress) (eqb (getD (sentIn sendByte tr) 0 0) 0x01) h in
+      let a : c .message .address ≡ defaultAddress = sym (ap (λ (x : Transaction). x .address .0) (c .fields)) ∙ eqb-true (t .address .0) defaultAddress (b .0) in
+      let d : getD (c .message .sent) 0 0 ≡ 0x01 = ap (λ (x : List ℕ). getD x 0 0) (sym (c .data-sent)) ∙ eqb-true (getD (sentIn sendByte tr) 0 0) 0x01 (b .1) in
+      c .is
+      ∙ ap (trace (shapeOf sendByte) true)
+      (message-is (c .message) (messageOf Prepare []) a (c .valid .direction) (c .valid .command) (byte (c .message .sent) (c .valid .sent-length) d)
+      (empty (c .message .received) (c .valid .received-length)))
+    where
+      byte : (xs : List ℕ) → length xs ≡ 1 → getD xs 0 0 ≡ 0x01 → xs ≡ 0x01 ∷ []
+      byte [] l d = absurd (omega arith)
+      byte (x ∷ []) l d = ap (λ (y : ℕ). y ∷ []) d
+      byte (x ∷ y ∷ xs) l d = absurd (omega arith)
+
+  -- accepted: Get UDID
+  pub prepare-accepted : tr ≡ traceOf Prepare [] → afterPrepare s tr ≡ asked s
+  unfolding afterPrepare
+  prepare-accepted e =
+      let b = back sendByte (messageOf Prepare []) valid-prepare in
+      ap (λ (x : List ℕ). onPrepare s (answer sendByte x) (sentIn sendByte x)) e
+      ∙ ap₂ (onPrepare s) (b .0) (b .1)
+
+  -- answer 6: the pass ends
+  pub prepare-nobody : (b : ℕ) → CutAt (shapeOf sendByte) true tr b → afterPrepare s tr ≡ handed s Ended
+  unfolding afterPrepare
+  prepare-nobody b h = ap (λ (x : Decoded). onPrepare s x (sentIn sendByte tr)) (cut sendByte tr b h)
+
+  -- any other: 14
+  pub prepare-other : (tr ≡ traceOf Prepare [] → ⊥) → ((b : ℕ) → CutAt (shapeOf sendByte) true tr b → ⊥) → afterPrepare s tr ≡ handed s Abandoned
+  unfolding afterPrepare
+  prepare-other n k = go (answer sendByte tr) refl
+    where
+      done : (t : Transaction) → answer sendByte tr ≡ Done t → (b : Bool) → isPrepare t (sentIn sendByte tr) ≡ b → pick b (asked s) (handed s Abandoned) ≡ handed s Abandoned
+      done t e true h = absurd (n (prepare-only t e h))
+      done t e false h = refl
+
+      go : (x : Decoded) → answer sendByte tr ≡ x → onPrepare s x (sentIn sendByte tr) ≡ handed s Abandoned
+      go (Done t) e = done t e (isPrepare t (sentIn sendByte tr)) refl
+      go (NotAcknowledged b) e = absurd (k b (cut-back sendByte tr b e))
+      go Forbidden e = refl
+      go BufferTooShort e = refl
+      go (NoSymbol i) e = refl
+      go (EndsEarly i) e = refl
+      go (Unexpected i) e = refl
+      go (PecDiffers i) e = refl
+      go (AfterStop i) e = refl
+
+-- ---- Get UDID
+
+module _ (s : Controller) (tr : List ℕ) where
+  -- a complete trace that is Get UDID is its trace, with some reply
+  get-only : (t : Transaction) → answer blockRead tr ≡ Done t → isGet t ≡ true → tr ≡ traceOf GetUdid (receivedIn blockRead tr)
+  get-only t e h =
+      let c = complete blockRead tr t e in
+      let b = both-true (eqb (t .address .0) defaultAddress) (eqb (t .command) 0x03) h in
+      let a : c .message .address ≡ defaultAddress = sym (ap (λ (x : Transaction). x .address .0) (c .fields)) ∙ eqb-true (t .address .0) defaultAddress (b .0) in
+      let d : c .message .command ≡ 0x03 = sym (ap (λ (x : Transaction). x .command) (c .fields)) ∙ eqb-true (t .command) 0x03 (b .1) in
+      c .is
+      ∙ ap (trace (shapeOf blockRead) true)
+      (message-is (c .message) (messageOf GetUdid (receivedIn blockRead tr)) a (c .valid .direction) d (empty (c .message .sent) (c .valid .sent-length)) (sym (c .data-received)))
+
+  -- the decoder's answer for Get UDID with a reply
+  module _ (xs : List ℕ) (h : Bytes xs) (l : length xs ≤ 255) (e : tr ≡ traceOf GetUdid xs) where
+    get-is : afterGet s tr ≡ pick (eqb (length xs) 17) (replied s (udidAt xs 0) (getD xs 16 0)) (handed s Ended)
+    unfolding afterGet onReply
+    get-is =
+        let b = back blockRead (messageOf GetUdid xs) (valid-get xs h l) in
+        ap (λ (x : List ℕ). onGet s (answer blockRead x) (receivedIn blockRead x)) e
+        ∙ ap₂ (onGet s) (b .0) (b .2)
+
+    -- a count that is not 17: the pass ends
+    pub get-count : (length xs ≡ 17 → ⊥) → afterGet s tr ≡ handed s Ended
+    get-count n = get-is ∙ ap (λ (b : Bool). pick b (replied s (udidAt xs 0) (getD xs 16 0)) (handed s Ended)) (ne-eqb (length xs) 17 n)
+
+    -- 17 bytes: the identifier and the address byte
+    pub get-reply : length xs ≡ 17 → afterGet s tr ≡ replied s (udidAt xs 0) (getD xs 16 0)
+    get-reply n = get-is ∙ ap (λ (b : Bool). pick b (replied s (udidAt xs 0) (getD xs 16 0)) (handed s Ended)) (eq-eqb (length xs) 17 n)
+
+  -- answer 6 at byte 0, 1 or 2: the pass ends
+  pub get-nobody : (b : ℕ) → CutAt (shapeOf blockRead) true tr b → b < 3 → afterGet s tr ≡ handed s Ended
+  unfolding afterGet
+  get-nobody b h l = ap (λ (x : Decoded). onGet s x (receivedIn blockRead tr)) (cut blockRead tr b h) ∙ ap (λ (q : Bool). pick q (handed s Ended) (asked s)) (lt-ltb b 3 l)
+
+  -- any other: Get UDID again
+  pub get-again : ((xs : List ℕ) → tr ≡ traceOf GetUdid xs → ⊥) → ((b : ℕ) → CutAt (shapeOf blockRead) true tr b → b < 3 → ⊥) → afterGet s tr ≡ asked s
+  unfolding afterGet onReply
+  get-again n k = go (answer blockRead tr) refl
+    where
+      done : (t : Transaction) → answer blockRead tr ≡ Done t → (b : Bool) → isGet t ≡ b
+          → pick b (pick (eqb (t .received) 17) (replied s (udidAt (receivedIn blockRead tr) 0) (getD (receivedIn blockRead tr) 16 0)) (handed s Ended)) (asked s) ≡ asked s
+      done t e true h = absurd (n (receivedIn blockRead tr) (get-only t e h))
+      done t e false h = refl
+
+      nack : (b : ℕ) → answer blockRead tr ≡ NotAcknowledged b → (q : Bool) → ltb b 3 ≡ q → pick q (handed s Ended) (asked s) ≡ asked s
+      nack b e true h = absurd (k b (cut-back blockRead tr b e) (ltb-true b 3 h))
+      nack b e false h = refl
+
+      go : (x : Decoded) → answer blockRead tr ≡ x → onGet s x (receivedIn blockRead tr) ≡ asked s
+      go (Done t) e = done t e (isGet t) refl
+      go (NotAcknowledged b) e = nack b e (ltb b 3) refl
+      go Forbidden e = refl
+      go BufferTooShort e = refl
+      go (NoSymbol i) e = refl
+      go (EndsEarly i) e = refl
+      go (Unexpected i) e = refl
+      go (PecDiffers i) e = refl
+      go (AfterStop i) e = refl
+
+-- ---- Assign Address
+
+-- 17 bytes that name an identifier and an address are that command's data
+named : (u : Udid) (a : ℕ) (xs : List ℕ) → Bytes xs → length xs ≡ 17 → udidAt xs 0 ≡ u → getD xs 16 0 ≡ 2 * (a % 128) → xs ≡ assignData u a
+named u a xs h l e f =
+    split-at xs 16 0 (omega arith)
+    ∙ ap₂ (λ (p q : List ℕ). p ++ q) (sym (bytes-back xs 0 h (omega arith)) ∙ ap udidBytes e) (ap₂ (λ (x : ℕ) (q : List ℕ). x ∷ q) f (empty (drop 17 xs) (length-drop 17 xs ∙ omega arith)))
+
+module _ (s : Controller) (u : Udid) (a : Address) (tr : List ℕ) where
+  -- a complete trace that is the Assign which was sent is its trace
+  pub assign-only : (t : Transaction) → answer blockWrite tr ≡ Done t → isAssign u (a .0) t (sentIn blockWrite tr) ≡ true → tr ≡ traceOf (Assign u a) []
+  assign-only t e h =
+      let c = complete blockWrite tr t e in
+      let xs : List ℕ = sentIn blockWrite tr in
+      let p = both-true (isCommand 0x04 t) _ h in
+      let q = both-true (eqb (t .address .0) defaultAddress) (eqb (t .command) 0x04) (p .0) in
+      let r = both-true (eqb (t .sent) 17) (names u (a .0) (sentIn blockWrite tr)) (p .1) in
+      let n = both-true (sameUdid (udidAt (sentIn blockWrite tr) 0) u) (eqb (getD (sentIn blockWrite tr) 16 0) (2 * (a .0 % 128))) (r .1) in
+      let x : c .message .address ≡ defaultAddress = sym (ap (λ (y : Transaction). y .address .0) (c .fields)) ∙ eqb-true (t .address .0) defaultAddress (q .0) in
+      let y : c .message .command ≡ 0x04 = sym (ap (λ (y : Transaction). y .command) (c .fields)) ∙ eqb-true (t .command) 0x04 (q .1) in
+      let l : length (c .message .sent) ≡ 17 = sym (ap (λ (y : Transaction). y .sent) (c .fields)) ∙ eqb-true (t .sent) 17 (r .0) in
+      let v : udidAt (c .message .sent) 0 ≡ u = ap (λ (z : List ℕ). udidAt z 0) (sym (c .data-sent)) ∙ same-equal (udidAt (sentIn blockWrite tr) 0) u (n .0) in
+      let w : getD (c .message .sent) 16 0 ≡ 2 * (a .0 % 128) = ap (λ (z : List ℕ). getD z 16 0) (sym (c .data-sent)) ∙ eqb-true (getD (sentIn blockWrite tr) 16 0) (2 * (a .0 % 128)) (n .1) in
+      c .is
+      ∙ ap (trace (shapeOf blockWrite) true)
+      (message-is (c .message) (messageOf (Assign u a) []) x (c .valid .direction) y (named u (a .0) (c .message .sent) (c .valid .sent-bytes) l v w) (empty (c .message .received) (c .valid .received-length)))
+
+  -- complete: bound
+  pub assign-whole : Fits u → tr ≡ traceOf (Assign u a) [] → afterAssign s u (a .0) tr ≡ asked (bound s u (a .0))
+  unfolding afterAssign
+  assign-whole f e =
+      let b = back blockWrite (messageOf (Assign u a) []) (valid-assign u a) in
+      ap (λ (x : List ℕ). onAssign s u (a .0) (answer blockWrite x) (sentIn blockWrite x)) e
+      ∙ ap₂ (onAssign s u (a .0)) (b .0) (b .1)
+      ∙ ap (λ (q : Bool). pick q (asked (bound s u (a .0))) (asked s)) is
+    where
+      is : isAssign u (a .0) (summary blockWrite (messageOf (Assign u a) [])) (assignData u (a .0)) ≡ true
+      is =
+          let i = udid-back [] (2 * (a .0 % 128) ∷ []) 0 u f refl in
+          let n : sameUdid (udidAt (assignData u (a .0)) 0) u ≡ true = ap (λ (z : Udid). sameUdid z u) i ∙ same-refl u in
+          let g : getD (assignData u (a .0)) 16 0 ≡ 2 * (a .0 % 128) = getD-at (udidBytes u) (2 * (a .0 % 128)) [] 0 16 (length-udid u) in
+          rw (eq-eqb (length (assignData u (a .0))) 17 (length-assign u (a .0)), n, eq-eqb (getD (assignData u (a .0)) 16 0) (2 * (a .0 % 128)) g)
+
+  -- any other answer: no binding, Get UDID again
+  pub assign-other : (tr ≡ traceOf (Assign u a) [] → ⊥) → afterAssign s u (a .0) tr ≡ asked s
+  unfolding afterAssign
+  assign-other n = go (answer blockWrite tr) refl
+    where
+      done : (t : Transaction) → answer blockWrite tr ≡ Done t → (b : Bool) → isAssign u (a .0) t (sentIn blockWrite tr) ≡ b → pick b (asked (bound s u (a .0))) (asked s) ≡ asked s
+      done t e true h = absurd (n (assign-only t e h))
+      done t e false h = refl
+
+      go : (x : Decoded) → answer blockWrite tr ≡ x → onAssign s u (a .0) x (sentIn blockWrite tr) ≡ asked s
+      go (Done t) e = done t e (isAssign u (a .0) t (sentIn blockWrite tr)) refl
+      go (NotAcknowledged b) e = refl
+      go Forbidden e = refl
+      go BufferTooShort e = refl
+      go (NoSymbol i) e = refl
+      go (EndsEarly i) e = refl
+      go (Unexpected i) e = refl
+      go (PecDiffers i) e = refl
+      go (AfterStop i) e = refl

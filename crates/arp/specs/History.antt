@@ -1,0 +1,86 @@
+-- The states that a controller reaches, by starts and received traces in any order, and what holds in all of them.
+use Prim.Native.Nat.{ℕ, _+_, _≤_, _<_}
+use mathlib.Core.Path.{_≡_}
+use mathlib.Core.Bool.{Bool, true, false}
+use mathlib.Core.List.{List, [], _∷_}
+use mathlib.Core.Logic.{_⊎_}
+use lib.ListN.{length}
+use Rattle.lists.specs.Choice.{or, and, not}
+use Rattle.pool.specs.Counts.{count}
+use Rattle.pool.specs.Free.{used}
+use Rattle.pool.specs.Pools.{member}
+use Rattle.pool.specs.Start.{startingPool}
+use Rattle.pool.specs.declared.Pool.{Pool}
+use Rattle.udid.specs.declared.Udid.{Udid}
+use Rattle.arp.specs.Bindings.{heldAt}
+use Rattle.arp.specs.Controller.{newController, started, stepped}
+use Rattle.arp.specs.Requests.{traceOf}
+use Rattle.arp.specs.declared.command.Command.{Command}
+use Rattle.arp.specs.declared.command.Command.the-variants.{Nothing, Prepare, GetUdid, Assign, Ended, NoneFree, Abandoned, NotOutstanding}
+use Rattle.arp.specs.declared.state.Binding.{Binding}
+use Rattle.arp.specs.declared.state.Binding.the-variants.{Open, Bound, Claimed}
+use Rattle.arp.specs.declared.state.Controller.{Controller}
+
+-- what can happen to a controller
+pub data Event : Type 0 where
+  Start : Event
+  Received : List ℕ → Event
+
+-- the state after events, the latest first, of a controller that was made with these addresses occupied
+unfoldable pub run : Pool → List Event → Controller
+run occupied [] = newController occupied
+run occupied (Start ∷ es) = started (run occupied es) .state
+run occupied (Received tr ∷ es) = stepped (run occupied es) tr .state
+
+-- since the latest start, an Assign of a to u was outstanding and the trace received was that Assign, whole: every byte acknowledged
+unfoldable pub Acknowledged : Pool → List Event → Udid → ℕ → Type 0
+Acknowledged occupied [] u a = ⊥
+Acknowledged occupied (Start ∷ es) u a = ⊥
+Acknowledged occupied (Received tr ∷ es) u a =
+    ((run occupied es .last ≡ Assign u (record { 0 = a })) × (tr ≡ traceOf (Assign u (record { 0 = a })) [])) ⊎ Acknowledged occupied es u a
+
+abbrev pub isHeld : Binding → Bool
+isHeld Open = false
+isHeld (Bound u) = true
+isHeld Claimed = true
+
+-- bound or claimed, and not in the starting pool
+abbrev pub isNew : Controller → ℕ → Bool
+isNew s a = and (not (member (s .starting) a)) (isHeld (heldAt (s .slots) a))
+
+-- what holds in every state
+pub record Invariant (occupied : Pool) (s : Controller) : Type 0 where
+  -- the starting pool is the reserved and the occupied addresses, and the pool contains it
+  pub starting : s .starting ≡ startingPool occupied
+  pub contains : (a : ℕ) → member (s .starting) a ≡ true → member (s .pool) a ≡ true
+  -- a bound address is in the pool, was not in the starting pool, holds one identifier and is no claim
+  pub bound-used : (a : ℕ) (u : Udid) → heldAt (s .slots) a ≡ Bound u → member (s .pool) a ≡ true
+  pub bound-new : (a : ℕ) (u : Udid) → heldAt (s .slots) a ≡ Bound u → member (s .starting) a ≡ false
+  pub bound-one : (a : ℕ) (u v : Udid) → heldAt (s .slots) a ≡ Bound u → heldAt (s .slots) a ≡ Bound v → u ≡ v
+  pub bound-unclaimed : (a : ℕ) (u : Udid) → heldAt (s .slots) a ≡ Bound u → heldAt (s .slots) a ≡ Claimed → ⊥
+  -- no identifier is bound twice
+  pub bound-once : (a b : ℕ) (u : Udid) → heldAt (s .slots) a ≡ Bound u → heldAt (s .slots) b ≡ Bound u → a ≡ b
+  -- a claimed address is in the pool
+  pub claimed-used : (a : ℕ) → heldAt (s .slots) a ≡ Claimed → member (s .pool) a ≡ true
+  -- the used addresses are those of the starting pool and the bound and claimed ones: together they number the used ones
+  pub number : used (s .pool) ≡ used (s .starting) + count (isNew s) 128
+  -- there is a slot for each address, and at most 128 Get UDIDs were sent
+  pub size : length (s .slots) ≡ 128
+  pub gets : s .gets ≤ 128
+
+-- 1 for a Get UDID
+abbrev pub oneGet : Command → ℕ
+oneGet Nothing = 0
+oneGet Prepare = 0
+oneGet GetUdid = 1
+oneGet (Assign u a) = 0
+oneGet Ended = 0
+oneGet (NoneFree u) = 0
+oneGet Abandoned = 0
+oneGet NotOutstanding = 0
+
+-- how many Get UDIDs were handed out since the latest start
+unfoldable pub getsSent : Pool → List Event → ℕ
+getsSent occupied [] = 0
+getsSent occupied (Start ∷ es) = 0
+getsSent occupied (Received tr ∷ es) = getsSent occupied es + oneGet (stepped (run occupied es) tr .command)
