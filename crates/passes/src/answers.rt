@@ -1,0 +1,75 @@
+// What is written: commands and finds. A command is a tag, a UDID highest byte first and an address; a find is a tag and a UDID. What
+// there is not is zeros.
+ghost use Prim.Native.Nat.{_+_, _≤_};
+ghost use lib.ListN.{length};
+use arp::command::Command;
+use arp::lookup::Found;
+use arp::state::Controller;
+use udid::Udid;
+use wire::address::Address;
+
+const OUTPUT: i32 = 1;
+
+fn write_answer(tag: u8, u: Udid, a: Address) {
+    let mut out = [0u8; 18];
+    out[0] = tag;
+    out[17] = a.0;
+    u.put_bytes(&mut out, 1);
+    io::write_all(OUTPUT, &out);
+}
+
+// A tag alone.
+fn write_tag(tag: u8) {
+    let u = Udid { high: 0, low: 0 };
+    write_answer(tag, u, Address(0));
+}
+
+pub fn write_command(c: Command) {
+    match c {
+        Command::Prepare => write_tag(0),
+        Command::GetUdid => write_tag(1),
+        Command::Assign(u, a) => write_answer(2, u, a),
+        Command::Ended => write_tag(3),
+        Command::NoneFree(u) => write_answer(4, u, Address(0)),
+        Command::Abandoned => write_tag(5),
+        Command::NotOutstanding => write_tag(6),
+        Command::Nothing => write_tag(7),
+    }
+}
+
+// One find, from a place on, among zeros.
+fn put_find(out: &mut [u8], at: usize, f: Found)
+    requires { ⌜ at + 17 ≤ length (now out) ⌝ }
+{
+    match f {
+        Found::Bound(u) => u.put_bytes(out, at + 1),
+        Found::Nobody => {
+            out[at] = 15;
+        }
+        Found::Two => {
+            out[at] = 16;
+        }
+        Found::NoAddress => {
+            out[at] = 1;
+        }
+    }
+}
+
+fn put_finds(out: &mut [u8], c: Controller)
+    requires { ⌜ 2176 ≤ length (now out) ⌝ }
+{
+    let mut a: u8 = 0;
+    let mut at: usize = 0;
+    while a < 128 {
+        put_find(out, at, c.lookup(Address(a)));
+        a += 1;
+        at += 17;
+    }
+}
+
+// All addresses looked up.
+pub fn write_finds(c: Controller) {
+    let mut out = [0u8; 2176];
+    put_finds(&mut out, c);
+    io::write_all(OUTPUT, &out);
+}
