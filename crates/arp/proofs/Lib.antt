@@ -6,3 +6,4 @@ pub mod Reach
 pub mod TraceLaws
 pub mod Assigned
 pub mod Handing
+pub mod Sending
