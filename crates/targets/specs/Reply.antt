@@ -13,9 +13,12 @@ use Rattle.targets.specs.Target.{Target, isResolved}
 unfoldable pub replyData : Target → List ℕ
 replyData t = udidBytes (t .udid) ++ t .addressByte ∷ []
 
--- PEC over every byte of the transaction: 61h for writing, the command, 61h for reading, the count, the data
+-- every byte of the transaction before PEC: 61h for writing, the command, 61h for reading, the count, the data
+unfoldable pub coveredBytes : Target → List ℕ
+coveredBytes t = 0xC2 ∷ 0x03 ∷ 0xC3 ∷ 17 ∷ replyData t
+
 unfoldable pub replyPec : Target → ℕ
-replyPec t = pecOf (0xC2 ∷ 0x03 ∷ 0xC3 ∷ 17 ∷ replyData t)
+replyPec t = pecOf (coveredBytes t)
 
 -- the 19 bytes that the target sends: the count, the data, PEC
 unfoldable pub replyBytes : Target → List ℕ

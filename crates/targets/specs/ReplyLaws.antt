@@ -10,7 +10,6 @@ use lib.ListN.{length, length-append}
 use borrow.Author.Tests.{lt-ltb}
 use Rattle.lists.specs.Choice.{pick}
 use Rattle.lists.specs.Each.{Each, Bytes}
-use Rattle.wire.specs.Pec.{pecOf}
 use Rattle.wire.specs.PecLaws.{pec-byte}
 use Rattle.udid.specs.Bytes.{udidBytes}
 use Rattle.udid.specs.Udids.{Fits, value, isBelow}
@@ -25,7 +24,7 @@ use Rattle.arbitration.specs.WinLaws.{drop-out-within}
 use Rattle.arbitration.specs.WireLaws.{Stays, heard-is, sending-is}
 use Rattle.arbitration.specs.PairLaws.{sent, sent-order}
 use Rattle.targets.specs.Target.{Target, isResolved}
-use Rattle.targets.specs.Reply.{replyData, replyPec, replyBytes, sends, waiting, silence, shown, onWire}
+use Rattle.targets.specs.Reply.{replyData, coveredBytes, replyPec, replyBytes, sends, waiting, silence, shown, onWire}
 
 -- the numbers of a target fit their places
 pub record Sized (t : Target) : Type 0 where
@@ -50,12 +49,15 @@ pub bytes-data : (t : Target) → t .addressByte < 256 → Bytes (replyData t)
 unfolding replyData
 bytes-data t h = join-bytes (udidBytes (t .udid)) (t .addressByte ∷ []) (udid-bytes (t .udid)) (h, tt)
 
+bytes-covered : (t : Target) → t .addressByte < 256 → Bytes (coveredBytes t)
+unfolding coveredBytes
+bytes-covered t h = (omega arith, (omega arith, (omega arith, (omega arith, bytes-data t h))))
+
 pub bytes-reply : (t : Target) → t .addressByte < 256 → Bytes (replyBytes t)
 unfolding replyBytes replyPec
 bytes-reply t h =
-    let d = bytes-data t h in
-    let p : pecOf (0xC2 ∷ 0x03 ∷ 0xC3 ∷ 17 ∷ replyData t) < 256 = pec-byte 0 (0xC2 ∷ 0x03 ∷ 0xC3 ∷ 17 ∷ replyData t) (omega arith) (omega arith, (omega arith, (omega arith, (omega arith, d)))) in
-    (omega arith, join-bytes (replyData t) (replyPec t ∷ []) d (p, tt))
+    let p : replyPec t < 256 = pec-byte 0 (coveredBytes t) (omega arith) (bytes-covered t h) in
+    (omega arith, join-bytes (replyData t) (replyPec t ∷ []) (bytes-data t h) (p, tt))
 
 -- ---- the bits
 

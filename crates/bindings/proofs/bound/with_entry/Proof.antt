@@ -1,0 +1,26 @@
+use borrow.Author.Needs.{needs}
+use Rattle.bindings.proofs.bound.with_entry.Statement.{statement}
+use Rattle.bindings.proofs.bound.with_entry.Tie as tie
+use Rattle.bindings.proofs.bound.with_entry.Reads as reads
+use Rattle.bindings.proofs.bound.with_entry.Lts as lts
+use Rattle.bindings.proofs.entry.Entry.is_bound.Reads as is-bound-reads
+use Rattle.pool.proofs.Pool.with.Reads as with-reads
+
+-- src/bound.rt:12:8
+is-bound-requires : tie.Need-is-bound-requires
+is-bound-requires c κs = search needs
+
+-- src/bound.rt:12:23
+with-requires : tie.Need-with-requires
+with-requires c κs = search needs
+
+-- src/bound.rt:9:1
+returns : tie.Need-returns
+returns c = simp (← c .before .before .is-bound .ensures, c .before .if1 .taken, c .with .ensures)
+
+-- src/bound.rt:9:1
+returns-2 : tie.Need-returns-2
+returns-2 c = simp (← c .before .is-bound .ensures, c .if1 .left)
+
+pub with-entry-spec : {M : Type 1} → statement M
+with-entry-spec = tie.close (tie.spec is-bound-requires with-requires returns returns-2)
