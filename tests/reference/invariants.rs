@@ -3,8 +3,10 @@
 use reference::addresses::*;
 use reference::commands::*;
 use reference::controller::*;
+use reference::decode::{decode, Answer};
 use reference::families::FAMILIES;
 use reference::recorder::{apply, Due, Op};
+use reference::table::{BLOCK_READ, BLOCK_WRITE, SEND_BYTE};
 use std::collections::{BTreeMap, BTreeSet};
 
 /// Used are the starting addresses and those bound or claimed; nobody is bound twice or on a starting address.
@@ -90,9 +92,33 @@ const REACHED: [&str; 18] = [
     "prepared",
 ];
 
+/// The protocol of the command that a step answers, and what the decoder makes of the trace.
+fn decoded(before: &Controller, op: &Op) -> Option<(u8, u32)> {
+    let protocol = match before.last {
+        Command::Prepare => SEND_BYTE,
+        Command::GetUdid => BLOCK_READ,
+        Command::Assign(..) => BLOCK_WRITE,
+        _ => return None,
+    };
+    let Op::Step(trace) = op else {
+        return None;
+    };
+    match decode(protocol, true, trace, 255, 255) {
+        Answer::Done(_) => Some((protocol, 0)),
+        Answer::Refused { number, .. } => Some((protocol, number)),
+    }
+}
+
+/// Every answer of the decoder to a trace, for every command.
+fn every_answer() -> BTreeSet<(u8, u32)> {
+    let numbers = [0, 3, 4, 5, 6, 7, 8];
+    [SEND_BYTE, BLOCK_READ, BLOCK_WRITE].into_iter().flat_map(|p| numbers.map(|number| (p, number))).collect()
+}
+
 /// Every script once more, step by step; the number of operations.
 pub fn all() -> usize {
     let mut reached: BTreeMap<&str, usize> = BTreeMap::new();
+    let mut answers = BTreeSet::new();
     for (name, make) in FAMILIES {
         let mut controller = Controller::new(&Addresses::new());
         for (k, (op, due)) in make().entries.iter().enumerate() {
@@ -102,6 +128,7 @@ pub fn all() -> usize {
             assert!(consistent(&controller), "{name}, entry {k}: {controller:02x?}");
             assert!(follows(&before, op, &controller, due), "{name}, entry {k}: {op:?} {due:02x?}");
             *reached.entry(event(&before, op, &controller)).or_default() += 1;
+            answers.extend(decoded(&before, op));
         }
     }
     for wanted in REACHED {
@@ -109,5 +136,6 @@ pub fn all() -> usize {
         assert!(times >= 20, "{wanted}: {times} times");
     }
     assert_eq!(reached.len(), REACHED.len(), "{reached:?}");
+    assert_eq!(answers, every_answer());
     reached.values().sum()
 }
