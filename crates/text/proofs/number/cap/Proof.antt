@@ -1,0 +1,16 @@
+use native.Mathlib.Omega.{arith}
+use mathlib.Core.Path.{sym}
+use Rattle.text.specs.NumberLaws.{capped-low, capped-high}
+use Rattle.text.proofs.number.cap.Statement.{statement}
+use Rattle.text.proofs.number.cap.Tie as tie
+
+-- src/number.rt:77:1
+returns : tie.Need-returns
+returns c = (sym (capped-low (c .before .args .n) (omega arith)), omega arith)
+
+-- src/number.rt:77:1
+returns-2 : tie.Need-returns-2
+returns-2 c = (sym (capped-high (c .before .args .n) (omega arith)), omega arith)
+
+pub cap-spec : {M : Type 1} → statement M
+cap-spec = tie.close (tie.spec returns returns-2)
