@@ -62,8 +62,19 @@ afterwards Abandoned ts = []
 afterwards NotOutstanding ts = []
 
 -- the symbols that the controller sends, with an ACK behind each byte: as the encoder writes them
+abbrev pub sending : Command → List ℕ
+sending k = byTarget (shapeOf (protocolOf k)) (messageOf k []) (pecOf (shapeOf (protocolOf k)) (messageOf k []) ∷ [])
+
+-- an end is no command: nothing is sent
 abbrev pub sentPart : Command → List ℕ
-sentPart k = byTarget (shapeOf (protocolOf k)) (messageOf k []) (pecOf (shapeOf (protocolOf k)) (messageOf k []) ∷ [])
+sentPart Prepare = sending Prepare
+sentPart GetUdid = sending GetUdid
+sentPart (Assign u a) = sending (Assign u a)
+sentPart Nothing = []
+sentPart Ended = []
+sentPart (NoneFree u) = []
+sentPart Abandoned = []
+sentPart NotOutstanding = []
 
 -- THE TRACE ON THE BUS of a command
 unfoldable pub onBus : Command → List Target → List ℕ

@@ -25,7 +25,7 @@ use Rattle.targets.specs.Target.{Target}
 use Rattle.targets.specs.Reply.{replyData}
 use Rattle.targets.specs.ReplyLaws.{Sized, length-data, bytes-data}
 use Rattle.arp.specs.Bindings.{openSlot, heldAt, boundTo, findFrom, freed, slotFor, bound}
-use Rattle.arp.specs.Controller.{handed, asked, chosen, issued, replied, byCommand, stepped}
+use Rattle.arp.specs.Controller.{handed, asked, chosen, issued, replied, afterPrepare, afterGet, byCommand, stepped}
 use Rattle.arp.specs.Heard.{sendByte, blockRead, blockWrite}
 use Rattle.arp.specs.Requests.{messageOf, traceOf}
 use Rattle.arp.proofs.TraceLaws.{valid-prepare, valid-get, prepare-accepted, prepare-nobody, get-reply, get-nobody, assign-whole}
@@ -58,9 +58,12 @@ cut-prepare = record {
 }
 
 -- nobody there: the pass ends
+pub prepare-unheard : (c : Controller) → afterPrepare c (START ∷ 0xC2 ∷ NACK ∷ STOP ∷ []) ≡ handed c Ended
+prepare-unheard c = prepare-nobody c (START ∷ 0xC2 ∷ NACK ∷ STOP ∷ []) 0 cut-prepare
+
 pub prepare-silent : (b p : Pool) (s : List Slot) → stepped (state b p s 0 Prepare) (START ∷ 0xC2 ∷ NACK ∷ STOP ∷ []) ≡ out b p s 0 Ended
 unfolding stepped
-prepare-silent b p s = prepare-nobody (state b p s 0 Prepare) (START ∷ 0xC2 ∷ NACK ∷ STOP ∷ []) 0 cut-prepare
+prepare-silent b p s = prepare-unheard (state b p s 0 Prepare)
 
 -- ---- Get UDID
 
@@ -79,10 +82,13 @@ cut-get = record {
 }
 
 -- nobody is left: the pass ends
+pub get-unheard : (c : Controller) → afterGet c (START ∷ 0xC2 ∷ ACK ∷ 0x03 ∷ ACK ∷ START ∷ 0xC3 ∷ NACK ∷ STOP ∷ []) ≡ handed c Ended
+get-unheard c = get-nobody c (START ∷ 0xC2 ∷ ACK ∷ 0x03 ∷ ACK ∷ START ∷ 0xC3 ∷ NACK ∷ STOP ∷ []) 2 cut-get (omega arith)
+
 pub get-silent : (b p : Pool) (s : List Slot) (n : ℕ)
     → stepped (state b p s n GetUdid) (START ∷ 0xC2 ∷ ACK ∷ 0x03 ∷ ACK ∷ START ∷ 0xC3 ∷ NACK ∷ STOP ∷ []) ≡ out b p s n Ended
 unfolding stepped
-get-silent b p s n = get-nobody (state b p s n GetUdid) (START ∷ 0xC2 ∷ ACK ∷ 0x03 ∷ ACK ∷ START ∷ 0xC3 ∷ NACK ∷ STOP ∷ []) 2 cut-get (omega arith)
+get-silent b p s n = get-unheard (state b p s n GetUdid)
 
 -- a reply is read as its target's identifier and address byte
 pub get-replied : (c : Controller) (t : Target) → c .last ≡ GetUdid → Sized t → stepped c (traceOf GetUdid (replyData t)) ≡ replied c (t .udid) (t .addressByte)
