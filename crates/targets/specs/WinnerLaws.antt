@@ -151,7 +151,7 @@ shownBy s AllResolved = silence
 shownBy s (At w) = shown (replyBytes (targetAt s w))
 
 module _ (s : List ℕ) (b : Bytes s) (differ : None (RepeatedAt s) (recordCount s)) where
-  flag-is : (i : ℕ) (t : Target) → targetAt s i ≡ t → isResolved t ≡ false → Unresolved s i
+  pub flag-is : (i : ℕ) (t : Target) → targetAt s i ≡ t → isResolved t ≡ false → Unresolved s i
   unfolding targetAt
   flag-is i t e o = eqb-false (flagOf s i) 1 (ap isResolved e ∙ o)
 
@@ -162,7 +162,8 @@ module _ (s : List ℕ) (b : Bytes s) (differ : None (RepeatedAt s) (recordCount
       go (yes l) = differ j g (i, l, e)
       go (no l) = differ i h (j, omega arith, sym e)
 
-  least-of : (w : ℕ) → Wins s (recordCount s) w → Least (targetsOf s) (targetAt s w)
+  -- the winner is the least of the unresolved targets
+  pub least-of : (w : ℕ) → Wins s (recordCount s) w → Least (targetsOf s) (targetAt s w)
   unfolding targetAt
   least-of w v = record {
     among = of-targets s (recordCount s) 0 w (omega arith) (omega (arith, v .below));

@@ -1,0 +1,20 @@
+use mathlib.Core.Path.{ap}
+use Rattle.pool.specs.declared.Pool.{Pool}
+use Rattle.bus.specs.Run.{noUdid}
+use borrow.Author.Needs.{needs}
+use Rattle.bus.proofs.answer.refused.Statement.{statement}
+use Rattle.bus.proofs.answer.refused.Tie as tie
+use Rattle.bus.proofs.answer.refused.Reads as reads
+use Rattle.bus.proofs.answer.refused.Lts as lts
+use Rattle.pool.proofs.Pool.empty.Reads as empty-reads
+
+-- src/answer.rt:33:16
+empty-requires : tie.Need-empty-requires
+empty-requires c κs = search needs
+
+-- src/answer.rt:26:1
+returns : tie.Need-returns
+returns c = ap (λ (p : Pool). record { answer = c .before .args .n; place = c .before .args .i; udid = noUdid; bound = p; count = 0; gets = 0 }) (c .empty .ensures)
+
+pub refused-spec : {M : Type 1} → statement M
+refused-spec = tie.close (tie.spec empty-requires returns)

@@ -1,0 +1,54 @@
+use mathlib.Core.Path.{ap, _∙_}
+use mathlib.Core.List.{_++_}
+use lib.ListN.{drop}
+use denote.Ref.{now}
+use Rattle.arp.specs.declared.state.Stepped.{Stepped}
+use Rattle.bindings.specs.Entries.{bufferOf}
+use Rattle.bus.specs.Run.{entryAt, reported}
+use borrow.Author.Needs.{needs}
+use Rattle.bus.proofs.run.run_admitted.Statement.{statement}
+use Rattle.bus.proofs.run.run_admitted.Tie as tie
+use Rattle.bus.proofs.run.run_admitted.Reads as reads
+use Rattle.bus.proofs.run.run_admitted.Lts as lts
+use Rattle.bus.proofs.answer.report.Reads as report-reads
+use Rattle.bus.proofs.bindings_of.put_bindings.Reads as put-bindings-reads
+use Rattle.bus.proofs.pass.run_pass.Reads as run-pass-reads
+
+-- src/run.rt:25:9
+run-pass-requires : tie.Need-run-pass-requires
+run-pass-requires c κs = search needs
+
+-- src/run.rt:28:5
+put-bindings-requires : tie.Need-put-bindings-requires
+put-bindings-requires c κs = search needs
+
+-- src/run.rt:29:5
+report-requires : tie.Need-report-requires
+report-requires c κs = search needs
+
+-- src/run.rt:21:1
+same-length : tie.Need-same-length
+same-length c = search needs
+
+-- src/run.rt:21:1
+same-length-2 : tie.Need-same-length-2
+same-length-2 c = search needs
+
+-- src/run.rt:21:1
+returns : tie.Need-returns
+returns c = record {
+  answered = c .report .ensures ∙ ap reported (c .before .before .before .before .before .before .before .before .before .run-pass .ensures .controller);
+  records-hold = c .before .before .before .before .before .before .before .before .before .run-pass .ensures .stored;
+  bindings-hold = c .before .before .before .put-bindings .ensures ∙ ap (λ (x : Stepped). bufferOf (entryAt (x .state .slots)) ++ drop 2048 (now (c .before .before .before .before .before .before .before .before .before .before .before .before .before .args .bindings))) (c .before .before .before .before .before .before .before .before .before .run-pass .ensures .controller);
+}
+
+pub run-admitted-spec : {M : Type 1} → statement M
+run-admitted-spec =
+    tie.close
+    (tie.spec
+    run-pass-requires
+    put-bindings-requires
+    report-requires
+    same-length
+    same-length-2
+    returns)

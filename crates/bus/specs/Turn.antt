@@ -1,0 +1,69 @@
+-- One command on the bus, over the records' bytes.
+use Prim.Native.Nat.{ℕ, _*_, _<_}
+use mathlib.Core.Path.{_≡_}
+use mathlib.Core.Bool.{Bool, true, false}
+use mathlib.Core.List.{List, [], _∷_}
+use lib.ListN.{length}
+use Rattle.wire.specs.Symbols.{START, STOP, ACK, NACK}
+use Rattle.encode.specs.Encode.{Wrote}
+use Rattle.encode.specs.declared.Encoded.{Encoded}
+use Rattle.arbitration.specs.Among.{Among}
+use Rattle.targets.specs.Cases.{RepeatedAt, None}
+use Rattle.targets.specs.Records.{recordCount, targetsOf, recordsWith}
+use Rattle.targets.specs.Target.{Target}
+use Rattle.arp.proofs.Sending.{Sent}
+use Rattle.arp.specs.Requests.{protocolOf, messageOf}
+use Rattle.arp.specs.declared.command.Command.{Command}
+use Rattle.arp.specs.declared.command.Command.the-variants.{Nothing, Prepare, GetUdid, Assign, Ended, NoneFree, Abandoned, NotOutstanding}
+use Rattle.arp.specs.declared.state.Stepped.{Stepped}
+use Rattle.rule.specs.Bus.{World}
+
+-- records that a pass can run over: whole ones, no identifier twice
+pub record Fit (s : List ℕ) : Type 0 where
+  pub whole : length s ≡ recordCount s * 18
+  pub apart : None (RepeatedAt s) (recordCount s)
+
+-- somebody is there to answer Get UDID, and an Assign goes to one of the targets
+abbrev pub Reaches : Command → List Target → Type 0
+Reaches GetUdid ts = 0 < length ts
+Reaches (Assign u a) ts = (t : Target) × Among t ts × (t .udid ≡ u)
+Reaches Prepare ts = Unit
+Reaches Nothing ts = Unit
+Reaches Ended ts = Unit
+Reaches (NoneFree u) ts = Unit
+Reaches Abandoned ts = Unit
+Reaches NotOutstanding ts = Unit
+
+abbrev pub isSent : Command → Bool
+isSent Prepare = true
+isSent GetUdid = true
+isSent (Assign u a) = true
+isSent Nothing = false
+isSent Ended = false
+isSent (NoneFree u) = false
+isSent Abandoned = false
+isSent NotOutstanding = false
+
+-- Get UDID that nobody answers: the read address gets NACK
+abbrev pub silence : List ℕ
+silence = START ∷ 0xC2 ∷ ACK ∷ 0x03 ∷ ACK ∷ START ∷ 0xC3 ∷ NACK ∷ STOP ∷ []
+
+-- the encoder has room for the command and writes it
+abbrev pub Writes : Command → List ℕ → List ℕ → Type 0
+Writes k reply before =
+    (r : Encoded) (after : List ℕ) → Wrote (protocolOf k) true (messageOf k reply) before r after → Sent k reply before r after
+
+-- the world over the targets of the records
+abbrev pub worldOf : Stepped → List ℕ → World
+worldOf st s = record { now = st; targets = targetsOf s }
+
+-- the command that is out is the state's, and it reaches somebody
+pub record Going (st : Stepped) (s : List ℕ) : Type 0 where
+  pub handed : st .state .last ≡ st .command
+  pub reaches : Reaches (st .command) (targetsOf s)
+
+-- the code's result r and records after s are those of the world w
+pub record Matches (w : World) (r : Stepped) (s after : List ℕ) : Type 0 where
+  pub controller : r ≡ w .now
+  pub targets : targetsOf after ≡ w .targets
+  pub stored : after ≡ recordsWith (w .targets) s

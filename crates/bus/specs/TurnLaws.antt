@@ -1,0 +1,208 @@
+-- The code's turn over the records' bytes is the bus's turn over their targets.
+use Prim.Native.Nat.{ℕ, zero, suc, _+_, _*_, _-_, _/_, _%_, _≤_, _<_}
+use mathlib.Core.Path.{_≡_, refl, sym, ap, ap₂, _∙_, subst}
+use mathlib.Core.Bool.{Bool, true, false}
+use mathlib.Core.Logic.{inl, inr}
+use mathlib.Core.List.{List, [], _∷_}
+use native.Mathlib.Omega.{arith}
+use lib.ListN.{length, take, drop, length-append}
+use Rattle.lists.specs.Choice.{pick}
+use Rattle.lists.specs.Each.{Bytes}
+use Rattle.trace.specs.Shapes.{shapeOf}
+use Rattle.trace.specs.Lengths.{traceLength}
+use Rattle.trace.specs.LengthLaws.{trace-length}
+use Rattle.arbitration.specs.Among.{Among}
+use Rattle.pool.specs.Start.{startingPool}
+use Rattle.pool.specs.declared.Pool.{Pool}
+use Rattle.pool.specs.declared.free.Free.{Free}
+use Rattle.pool.specs.declared.free.Free.the-variants.{At, AllUsed}
+use Rattle.udid.specs.Bytes.{udidBytes}
+use Rattle.udid.specs.UdidLaws.{length-udid}
+use Rattle.udid.specs.declared.Udid.{Udid}
+use Rattle.wire.specs.declared.address.Address.{Address}
+use Rattle.targets.specs.AdmissionLaws.{admitted-length}
+use Rattle.targets.specs.Cases.{None, RepeatedAt}
+use Rattle.targets.specs.IndexLaws.{in-targets, length-targets, sized-at, record-reply}
+use Rattle.targets.specs.Records.{udidOf, targetAt, recordCount, targetsFrom, targetsOf, putFrom, recordsWith}
+use Rattle.targets.specs.RecordLaws.{changed-targets, put-all-self, put-again, udid-put-from, length-put-from, prepared-keeps, assigned-keeps}
+use Rattle.targets.specs.Refusals.{checkedList}
+use Rattle.targets.specs.RefusalLaws.{given-exactly}
+use Rattle.targets.specs.Reply.{replyData}
+use Rattle.targets.specs.ReplyLaws.{length-data, bytes-data}
+use Rattle.targets.specs.Target.{Target, isResolved, mapTargets, prepared, assignedTo}
+use Rattle.targets.specs.Winner.{winnerOf}
+use Rattle.targets.specs.WinnerLaws.{Unresolved, Wins, Won, winner-exactly, least-of, flag-is}
+use Rattle.targets.specs.declared.admit.Checked.the-variants.{Admitted}
+use Rattle.targets.specs.declared.winner.Winner.{Winner}
+use Rattle.targets.specs.declared.winner.Winner.the-variants as winner
+use Rattle.arp.proofs.Sending.{assign-sent}
+use Rattle.arp.specs.Bindings.{bound, freed}
+use Rattle.arp.specs.Controller.{handed, counted, asked, issued, chosen, replied, afterPrepare, afterGet, afterAssign, byCommand, stepped, started, newController}
+use Rattle.arp.specs.Requests.{assignData, messageOf, traceOf}
+use Rattle.arp.specs.declared.command.Command.{Command}
+use Rattle.arp.specs.declared.command.Command.the-variants.{Nothing, Prepare, GetUdid, Assign, Ended, NoneFree, Abandoned, NotOutstanding}
+use Rattle.arp.specs.declared.state.Controller.{Controller}
+use Rattle.arp.specs.declared.state.Stepped.{Stepped}
+use Rattle.rule.specs.Acknowledge.{onBus}
+use Rattle.rule.specs.Bus.{World, acted, sentTo, turnBy, turn, run, beginning, pass}
+use Rattle.rule.specs.TraceLaws as on-bus
+use Rattle.bus.specs.Turn.{Fit, Reaches, isSent, silence, Writes, worldOf, Going, Matches}
+
+-- ---- the traces
+
+pub no-targets : (s : List ℕ) → recordCount s ≡ 0 → targetsOf s ≡ []
+no-targets s e = empty (targetsOf s) (length-targets s (recordCount s) 0 ∙ e)
+  where
+    empty : (ts : List Target) → length ts ≡ 0 → ts ≡ []
+    empty [] h = refl
+    empty (t ∷ ts) h = absurd (omega arith)
+
+-- Prepare To ARP, with no target and with some
+pub prepare-nobody : (s : List ℕ) → recordCount s ≡ 0 → onBus Prepare (targetsOf s) ≡ 256 ∷ 0xC2 ∷ 259 ∷ 257 ∷ []
+prepare-nobody s e = ap (onBus Prepare) (no-targets s e) ∙ on-bus.prepare-cut
+
+pub prepare-all : (s : List ℕ) → (recordCount s ≡ 0 → ⊥) → onBus Prepare (targetsOf s) ≡ traceOf Prepare []
+prepare-all s n = go (targetsOf s) (length-targets s (recordCount s) 0)
+  where
+    go : (ts : List Target) → length ts ≡ recordCount s → onBus Prepare ts ≡ traceOf Prepare []
+    go [] e = absurd (n (sym e))
+    go (t ∷ ts) e = on-bus.prepare-whole t ts
+
+-- Get UDID: the winner's reply, or silence
+pub get-winner : (s : List ℕ) → Bytes s → Fit s → (w : ℕ) → winner.At w ≡ winnerOf s → onBus GetUdid (targetsOf s) ≡ traceOf GetUdid (take 17 (drop (w * 18) s))
+get-winner s b f w e =
+    let v : Wins s (recordCount s) w = winner-exactly s (winner.At w) .0 e in
+    on-bus.get-whole (targetsOf s) (targetAt s w) (least-of s b (f .apart) w v)
+    ∙ ap (traceOf GetUdid) (sym (record-reply s w b (omega (arith, v .below, f .whole))))
+
+all-resolved : (s : List ℕ) → Bytes s → Fit s → winner.AllResolved ≡ winnerOf s → (t : Target) → Among t (targetsOf s) → isResolved t ≡ true
+all-resolved s b f e t m = go (isResolved t) refl
+  where
+    go : (c : Bool) → isResolved t ≡ c → isResolved t ≡ true
+    go true q = q
+    go false q =
+        let r = in-targets s (recordCount s) 0 t m in
+        absurd (winner-exactly s winner.AllResolved .0 e (r .0) (omega (arith, r .2)) (flag-is s b (f .apart) (r .0) t (r .3) q))
+
+pub get-silence : (s : List ℕ) → Bytes s → Fit s → 0 < length (targetsOf s) → winner.AllResolved ≡ winnerOf s → onBus GetUdid (targetsOf s) ≡ silence
+get-silence s b f h e = go (targetsOf s) h (all-resolved s b f e)
+  where
+    go : (ts : List Target) → 0 < length ts → ((t : Target) → Among t ts → isResolved t ≡ true) → onBus GetUdid ts ≡ silence
+    go [] l k = absurd (omega arith)
+    go (t ∷ ts) l k = on-bus.get-cut t ts k
+
+-- ---- the lengths of the traces
+
+pub prepare-length : length (traceOf Prepare []) ≡ 8
+unfolding traceLength
+prepare-length = trace-length (shapeOf 1) true (messageOf Prepare [])
+
+pub get-length : (xs : List ℕ) → length xs ≡ 17 → length (traceOf GetUdid xs) ≡ 47
+unfolding traceLength
+get-length xs e = trace-length (shapeOf 9) true (messageOf GetUdid xs) ∙ omega (arith, e)
+
+pub assign-length : (u : Udid) (a : Address) → length (traceOf (Assign u a) []) ≡ 44
+unfolding traceLength
+assign-length u a =
+    let e : length (assignData u (a .0)) ≡ 17 = length-append (udidBytes u) (2 * (a .0 % 128) ∷ []) ∙ omega (arith, length-udid u) in
+    trace-length (shapeOf 8) true (messageOf (Assign u a) []) ∙ omega (arith, e)
+
+-- ---- what a command does to the records
+
+changes : Command → Target → Target
+changes Prepare t = prepared t
+changes (Assign u a) t = assignedTo u (a .0) t
+changes GetUdid t = t
+changes Nothing t = t
+changes Ended t = t
+changes (NoneFree u) t = t
+changes Abandoned t = t
+changes NotOutstanding t = t
+
+map-same : (ts : List Target) → ts ≡ mapTargets (λ (t : Target). t) ts
+map-same [] = refl
+map-same (t ∷ ts) = ap (λ (l : List Target). t ∷ l) (map-same ts)
+
+acted-is : (k : Command) (ts : List Target) → acted k ts ≡ mapTargets (changes k) ts
+unfolding changes
+acted-is Prepare ts = refl
+acted-is (Assign u a) ts = refl
+acted-is GetUdid ts = map-same ts
+acted-is Nothing ts = map-same ts
+acted-is Ended ts = map-same ts
+acted-is (NoneFree u) ts = map-same ts
+acted-is Abandoned ts = map-same ts
+acted-is NotOutstanding ts = map-same ts
+
+changes-keeps : (k : Command) (t : Target) → changes k t .udid ≡ t .udid
+unfolding changes
+changes-keeps Prepare t = refl
+changes-keeps (Assign u a) t = assigned-keeps u (a .0) t
+changes-keeps GetUdid t = refl
+changes-keeps Nothing t = refl
+changes-keeps Ended t = refl
+changes-keeps (NoneFree u) t = refl
+changes-keeps Abandoned t = refl
+changes-keeps NotOutstanding t = refl
+
+count-put : (ts : List Target) (s : List ℕ) → recordCount (recordsWith ts s) ≡ recordCount s
+count-put ts s = ap (λ (n : ℕ). n / 18) (length-put-from ts 0 s)
+
+acted-targets : (k : Command) (s : List ℕ) → Fit s → targetsOf (recordsWith (acted k (targetsOf s)) s) ≡ acted k (targetsOf s)
+acted-targets k s f =
+    ap (λ (ts : List Target). targetsOf (recordsWith ts s)) (acted-is k (targetsOf s))
+    ∙ ap (λ (n : ℕ). targetsFrom (recordsWith (mapTargets (changes k) (targetsOf s)) s) n 0) (count-put (mapTargets (changes k) (targetsOf s)) s)
+    ∙ changed-targets (changes k) (changes-keeps k) (recordCount s) 0 s (omega (arith, f .whole))
+    ∙ sym (acted-is k (targetsOf s))
+
+-- a command sent: the controller's step took what stood on the bus, and the targets acted
+pub sent-matches : (st r : Stepped) (s after tr : List ℕ) → Fit s → tr ≡ onBus (st .command) (targetsOf s) → r ≡ stepped (st .state) tr
+    → after ≡ recordsWith (acted (st .command) (targetsOf s)) s → Matches (sentTo st (targetsOf s) (st .command)) r s after
+sent-matches st r s after tr f e q g = record {
+  controller = q ∙ ap (stepped (st .state)) e;
+  targets = ap targetsOf g ∙ acted-targets (st .command) s f;
+  stored = g;
+}
+
+-- records that stay as they are
+pub same-records : (s : List ℕ) → s ≡ recordsWith (targetsOf s) s
+same-records s = sym (put-all-self (recordCount s) 0 s)
+
+-- the winner's record is one of the list
+pub winner-inside : (s : List ℕ) → Fit s → (w : ℕ) → winner.At w ≡ winnerOf s → w * 18 + 18 ≤ length s
+winner-inside s f w e = let v : Wins s (recordCount s) w = winner-exactly s (winner.At w) .0 e in omega (arith, v .below, f .whole)
+
+part : (s : List ℕ) (at : ℕ) → take (at + 17 - at) (drop at s) ≡ take 17 (drop at s)
+part s at = let e : at + 17 - at ≡ 17 = omega arith in ap (λ (n : ℕ). take n (drop at s)) e
+
+-- its first 17 bytes, lent as a part
+abbrev pub lentPart : List ℕ → ℕ → List ℕ
+lentPart s w = take (w * 18 + 17 - w * 18) (drop (w * 18) s)
+
+-- bytes, 17 of them
+pub record Lent (xs : List ℕ) : Type 0 where
+  pub bytes : Bytes xs
+  pub long : length xs ≡ 17
+
+pub winner-data : (s : List ℕ) → Bytes s → Fit s → (w : ℕ) → winner.At w ≡ winnerOf s → Lent (lentPart s w)
+winner-data s b f w e =
+    subst Lent (sym (part s (w * 18) ∙ record-reply s w b (omega (arith, winner-inside s f w e))))
+    (record { bytes = bytes-data (targetAt s w) (sized-at s b w .addressByte); long = length-data (targetAt s w) })
+
+pub get-part : (s : List ℕ) → Bytes s → Fit s → (w : ℕ) → winner.At w ≡ winnerOf s
+    → onBus GetUdid (targetsOf s) ≡ traceOf GetUdid (lentPart s w)
+get-part s b f w e = get-winner s b f w e ∙ ap (traceOf GetUdid) (sym (part s (w * 18)))
+
+-- ---- an Assign, by the command that it is
+
+pub assign-on-bus : (k : Command) (u : Udid) (a : Address) → k ≡ Assign u a → (ts : List Target) → Reaches k ts → onBus k ts ≡ traceOf k []
+assign-on-bus k u a e ts h =
+    let r : Reaches (Assign u a) ts = subst (λ (x : Command). Reaches x ts) e h in
+    ap (λ (x : Command). onBus x ts) e ∙ on-bus.assign-whole ts u a (r .0) (r .1) (r .2) ∙ ap (λ (x : Command). traceOf x []) (sym e)
+
+pub assign-long : (k : Command) (u : Udid) (a : Address) → k ≡ Assign u a → length (traceOf k []) ≡ 44
+assign-long k u a e = ap (λ (x : Command). length (traceOf x [])) e ∙ assign-length u a
+
+pub assign-written : (k : Command) (u : Udid) (a : Address) → k ≡ Assign u a → (before : List ℕ) → 64 ≤ length before → Writes k [] before
+assign-written k u a e before h =
+    subst (λ (x : Command). Writes x [] before) (sym e) (λ r after w. assign-sent u a [] before r after w (omega (arith, assign-length u a)))

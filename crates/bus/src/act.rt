@@ -1,0 +1,18 @@
+// What a command does to the targets. Rests on targets.
+ghost use mathlib.Core.Path.{_≡_};
+ghost use Rattle.targets.specs.Records.{targetsOf, recordsWith};
+ghost use Rattle.rule.specs.Bus.{acted};
+use arp::command::Command;
+use targets::assign;
+use targets::prepare;
+
+// Prepare To ARP clears every flag, Assign Address reaches the target with that identifier, and Get UDID changes nothing.
+pub fn act(k: Command, records: &mut [u8])
+    ensures { λ r. ⌜ now (records .exit) ≡ recordsWith (acted k (targetsOf (now (records .entry)))) (now (records .entry)) ⌝ }
+{
+    match k {
+        Command::Prepare => prepare::prepare(&mut records[..]),
+        Command::Assign(u, a) => assign::assign(&mut records[..], u, a),
+        _ => {}
+    }
+}

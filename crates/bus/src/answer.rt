@@ -1,0 +1,85 @@
+// What a model run answers. Rests on arp for how a pass ended; document 01's numbers are in arp's and targets' specs/Numbers.
+ghost use mathlib.Core.Path.{_≡_};
+ghost use Rattle.arp.specs.Numbers.{commandNumber};
+ghost use Rattle.bus.specs.Run.{numberIn, udidIn, refusedAnswer, reported};
+use super::bindings_of::bound_set;
+use arp::command::Command;
+use arp::state::Stepped;
+use pool::Pool;
+use udid::Udid;
+
+pub struct ModelAnswer {
+    // Document 01's number.
+    pub answer: u32,
+    // The record that is refused.
+    pub place: usize,
+    // The identifier that found no free address.
+    pub udid: Udid,
+    // The bound addresses, and how many they are.
+    pub bound: Pool,
+    pub count: u32,
+    // How many Get UDIDs were sent.
+    pub gets: u32,
+}
+
+// A refusal with its record: every other part is zero.
+pub(crate) fn refused(n: u32, i: usize) -> ModelAnswer
+    ensures { λ r. ⌜ r ≡ refusedAnswer n i ⌝ }
+{
+    ModelAnswer {
+        answer: n,
+        place: i,
+        udid: Udid { high: 0, low: 0 },
+        bound: Pool::empty(),
+        count: 0,
+        gets: 0,
+    }
+}
+
+fn number_of(k: Command) -> u32
+    ensures { λ r. ⌜ r ≡ numberIn (commandNumber k) ⌝ }
+{
+    match k {
+        Command::Nothing => 0,
+        Command::Prepare => 0,
+        Command::GetUdid => 0,
+        Command::Assign(_, _) => 0,
+        Command::Ended => 0,
+        Command::NoneFree(_) => 13,
+        Command::Abandoned => 14,
+        Command::NotOutstanding => 21,
+    }
+}
+
+fn asked_by(k: Command) -> Udid
+    ensures { λ r. ⌜ r ≡ udidIn (commandNumber k) ⌝ }
+{
+    match k {
+        Command::Nothing => Udid { high: 0, low: 0 },
+        Command::Prepare => Udid { high: 0, low: 0 },
+        Command::GetUdid => Udid { high: 0, low: 0 },
+        Command::Assign(_, _) => Udid { high: 0, low: 0 },
+        Command::Ended => Udid { high: 0, low: 0 },
+        Command::NoneFree(u) => u,
+        Command::Abandoned => Udid { high: 0, low: 0 },
+        Command::NotOutstanding => Udid { high: 0, low: 0 },
+    }
+}
+
+// What a pass that ended so answers.
+pub(crate) fn report(last: Stepped) -> ModelAnswer
+    ensures { λ r. ⌜ r ≡ reported last ⌝ }
+{
+    let state = last.state;
+    let slots = state.slots;
+    let command = last.command;
+    let bound = bound_set(slots);
+    ModelAnswer {
+        answer: number_of(command),
+        place: 0,
+        udid: asked_by(command),
+        bound: bound,
+        count: bound.used(),
+        gets: state.gets,
+    }
+}

@@ -1,0 +1,54 @@
+// The controller's bindings in the binding buffer, and the set of bound addresses. Rests on arp's slots and on bindings.
+ghost use mathlib.Core.Path.{_≡_};
+ghost use mathlib.Core.List.{_++_};
+ghost use Prim.Native.Nat.{_≤_};
+ghost use lib.ListN.{length, drop};
+ghost use Rattle.bindings.specs.Entries.{bufferOf, boundSet};
+ghost use Rattle.bus.specs.Run.{entryOf, entryAt};
+use arp::state::Binding;
+use arp::state::Slot;
+use bindings::bound::with_entry;
+use bindings::buffer::put_entry;
+use bindings::entry::Entry;
+use pool::Pool;
+use wire::address::Address;
+
+// Who is bound in a slot: nobody where two claim the address.
+fn entry_of(s: Slot) -> Entry
+    ensures { λ r. ⌜ r ≡ entryOf (s .held) ⌝ }
+{
+    let held = s.held;
+    match held {
+        Binding::Open => Entry::Nobody,
+        Binding::Bound(u) => Entry::Bound(u),
+        Binding::Claimed => Entry::Nobody,
+    }
+}
+
+// The first 2,048 bytes: the identifier of address a at 16 a, zeros where none is bound.
+pub fn put_bindings(out: &mut [u8], slots: [Slot; 128])
+    requires { ⌜ 2048 ≤ length (now out) ⌝ }
+    ensures { λ r. ⌜ now (out .exit) ≡ bufferOf (entryAt slots) ++ drop 2048 (now (out .entry)) ⌝ }
+{
+    let mut a: u8 = 0;
+    while a < 128 {
+        let s = slots[a as usize];
+        let e = entry_of(s);
+        put_entry(&mut out[..], Address(a), e);
+        a += 1;
+    }
+}
+
+// The addresses to which somebody is bound.
+pub fn bound_set(slots: [Slot; 128]) -> Pool
+    ensures { λ r. ⌜ r ≡ boundSet (entryAt slots) ⌝ }
+{
+    let mut bound = Pool::empty();
+    let mut a: u8 = 0;
+    while a < 128 {
+        let s = slots[a as usize];
+        bound = with_entry(bound, Address(a), entry_of(s));
+        a += 1;
+    }
+    bound
+}

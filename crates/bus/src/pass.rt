@@ -1,0 +1,43 @@
+// A whole pass over the records. Rests on turn; that it is the pass bit by bit is in specs/TurnLaws.
+ghost use mathlib.Core.Path.{_≡_};
+ghost use Rattle.pool.specs.Start.{startingPool};
+ghost use Rattle.targets.specs.Records.{targetsOf};
+ghost use Rattle.targets.specs.Refusals.{checkedList};
+ghost use Rattle.targets.specs.declared.admit.Checked.the-variants.{Admitted};
+ghost use Rattle.rule.specs.Bus.{pass};
+ghost use Rattle.bus.specs.Turn.{isSent, Matches};
+use super::turn::send;
+use arp::command::Command;
+use arp::state::Controller;
+use arp::state::Stepped;
+use pool::Pool;
+
+// A command that goes on the bus, and no end of a pass.
+fn is_sent(k: Command) -> bool
+    ensures { λ r. ⌜ r ≡ isSent k ⌝ }
+{
+    match k {
+        Command::Prepare => true,
+        Command::GetUdid => true,
+        Command::Assign(_, _) => true,
+        _ => false,
+    }
+}
+
+pub fn run_pass(occupied: Pool, records: &mut [u8]) -> Stepped
+    requires { ⌜ checkedList (startingPool occupied) (now records) ≡ Admitted ⌝ }
+    ensures { λ r. ⌜ Matches (pass occupied (targetsOf (now (records .entry)))) r (now (records .entry)) (now (records .exit)) ⌝ }
+{
+    let c = Controller::new(occupied);
+    let mut st = c.start();
+    let mut i: u32 = 0;
+    while i < 300 {
+        let k = st.command;
+        if !is_sent(k) {
+            return st;
+        }
+        st = send(st, &mut records[..]);
+        i += 1;
+    }
+    st
+}

@@ -1,0 +1,47 @@
+// The model run: refusals 2, 9, 10, 11 and 12, or a whole pass. Rests on targets for the refusals, and on pass, answer and bindings_of.
+ghost use mathlib.Core.Path.{_≡_};
+ghost use Prim.Native.Nat.{_≤_};
+ghost use lib.ListN.{length};
+ghost use Rattle.pool.specs.Start.{startingPool};
+ghost use Rattle.targets.specs.Records.{targetsOf};
+ghost use Rattle.targets.specs.Refusals.{checkedList};
+ghost use Rattle.targets.specs.declared.admit.Checked.the-variants.{Admitted};
+ghost use Rattle.rule.specs.Bus.{pass};
+ghost use Rattle.bus.specs.Run.{Leaves, endedEnd, modelEnd};
+use super::answer::ModelAnswer;
+use super::answer::refused;
+use super::answer::report;
+use super::bindings_of::put_bindings;
+use super::pass::run_pass;
+use pool::Pool;
+use targets::admit;
+use targets::admit::Checked;
+
+// A list that is not refused.
+fn run_admitted(occupied: Pool, records: &mut [u8], bindings: &mut [u8]) -> ModelAnswer
+    requires { ⌜ (checkedList (startingPool occupied) (now records) ≡ Admitted) × (2048 ≤ length (now bindings)) ⌝ }
+    ensures { λ r. ⌜ Leaves (endedEnd (pass occupied (targetsOf (now (records .entry)))) (now (records .entry)) (now (bindings .entry))) r (now (records .exit)) (now (bindings .exit)) ⌝ }
+{
+    let last = run_pass(occupied, &mut records[..]);
+    let state = last.state;
+    let slots = state.slots;
+    put_bindings(&mut bindings[..], slots);
+    report(last)
+}
+
+// The records take each target's address byte and flag, the first 2,048 bytes of the binding buffer the identifier of address a at 16 a.
+pub fn run_model(occupied: Pool, records: &mut [u8], bindings: &mut [u8]) -> ModelAnswer
+    ensures { λ r. ⌜ Leaves (modelEnd occupied (now (records .entry)) (now (bindings .entry))) r (now (records .exit)) (now (bindings .exit)) ⌝ }
+{
+    if bindings.len() < 2048 {
+        return refused(2, 0);
+    }
+    let checked = admit::check(&records[..], occupied);
+    match checked {
+        Checked::BadLength => refused(9, 0),
+        Checked::Malformed(i) => refused(10, i),
+        Checked::Repeated(i) => refused(11, i),
+        Checked::Taken(i) => refused(12, i),
+        Checked::Admitted => run_admitted(occupied, &mut records[..], &mut bindings[..]),
+    }
+}

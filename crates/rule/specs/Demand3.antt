@@ -1,0 +1,200 @@
+-- THE THIRD DEMAND: a pass of the controller's steps over the bus bit by bit ends as the plain rule says.
+use Prim.Native.Nat.{ℕ, zero, suc, _+_, _*_, _-_, _/_, _≤_, _<_}
+use mathlib.Core.Path.{_≡_, refl, sym, ap, _∙_, subst}
+use mathlib.Core.Bool.{Bool, true, false}
+use mathlib.Core.Logic.{_⊎_, inl, inr, _↔_}
+use mathlib.Core.List.{List, [], _∷_}
+use native.Mathlib.Nat.{suc-add, add-suc, zero-add}
+use native.Mathlib.Decide.{decLt}
+use native.Mathlib.Omega.{arith}
+use lib.ListN.{length, set, replicate, length-replicate, getD-replicate, List·getD-eq-default}
+use Rattle.lists.specs.Choice.{or}
+use Rattle.lists.specs.Each.{Each}
+use Rattle.wire.specs.Addresses.{isReserved}
+use Rattle.wire.specs.declared.address.Address.{Address}
+use Rattle.pool.specs.Free.{used}
+use Rattle.pool.specs.Pools.{member, withAddress}
+use Rattle.pool.specs.Start.{startingPool}
+use Rattle.pool.specs.StartLaws.{member-starting}
+use Rattle.pool.specs.declared.Pool.{Pool}
+use Rattle.pool.specs.declared.free.Free.{Free}
+use Rattle.pool.specs.declared.free.Free.the-variants.{At, AllUsed}
+use Rattle.udid.specs.Udids.{isFixed, value}
+use Rattle.udid.specs.declared.Udid.{Udid}
+use Rattle.arbitration.specs.Among.{Among}
+use Rattle.targets.specs.Target.{Target, isResolved, prepared, cleared, resolve}
+use Rattle.targets.specs.Members.{Pairs}
+use Rattle.targets.specs.ReplyLaws.{Sized}
+use Rattle.targets.specs.Admission.{Differ, FixedApart, FixedFree, AdmittedTargets}
+use Rattle.arp.specs.Bindings.{openSlot, heldAt, boundTo}
+use Rattle.arp.specs.Controller.{stepped, started, newController}
+use Rattle.arp.specs.declared.command.Command.the-variants.{Prepare}
+use Rattle.arp.specs.declared.state.Slot.{Slot}
+use Rattle.arp.specs.declared.state.Stepped.{Stepped}
+use Rattle.rule.specs.Bus.{World, turn, run, beginning, pass}
+use Rattle.rule.specs.PlainRule.{ascending, plainChoice, Ending, served, noneFree, Given, Ruled, next, rule, ruled, FreeIn, Distinct}
+use Rattle.rule.specs.PassEnd.{Outcome, state, out, boundSlot, ended, outcome, nobodyThere, passEnd}
+use Rattle.rule.specs.TraceLaws as on-bus
+use Rattle.rule.specs.RuleLaws.{Apart, Ready, rule-free, rule-all, rule-all-only}
+use Rattle.rule.specs.SortLaws.{Lower, in-ascending, of-ascending, length-ascending, ascending-lower, pairs-of, pairs-more}
+use Rattle.rule.specs.StepLaws.{Unbound, prepare-done, prepare-silent}
+use Rattle.rule.specs.PassLaws.{serve, plain, Inv, turns, asking, run-ended, serves}
+
+-- ---- the rule with all that it changes is the rule
+
+plain-rule : (rest : List Target) (p : Pool) (s : List Slot) (k : ℕ) (ts : List Target) → plain rest p s k ts ≡ outcome (rule rest p) p s k ts
+plain-rule [] p s k ts = ap (λ (n : ℕ). record { pool = p; slots = s; bound = n; targets = ts; ending = served }) (sym (zero-add k))
+plain-rule (t ∷ rest) p s k ts =
+    go (plainChoice p t) (λ a. plain-rule rest (withAddress p (a .0)) (set s (a .0) (boundSlot t)) (suc k) (resolve (t .udid) (a .0) ts))
+  where
+    go : (c : Free)
+        → ((a : Address) → plain rest (withAddress p (a .0)) (set s (a .0) (boundSlot t)) (suc k) (resolve (t .udid) (a .0) ts)
+        ≡ outcome (rule rest (withAddress p (a .0))) (withAddress p (a .0)) (set s (a .0) (boundSlot t)) (suc k) (resolve (t .udid) (a .0) ts))
+        → serve (λ p′ s′ k′ ts′. plain rest p′ s′ k′ ts′) t p s k ts c ≡ outcome (next (λ q. rule rest q) t p c) p s k ts
+    go AllUsed ih = ap (λ (n : ℕ). record { pool = p; slots = s; bound = n; targets = ts; ending = noneFree (t .udid) }) (sym (zero-add k))
+    go (At a) ih = ih a ∙ simp (add-suc, suc-add)
+
+-- ---- clearing the flags leaves what is admitted
+
+of-cleared : (ts : List Target) (y : Target) → Among y (cleared ts) → (x : Target) × Among x ts × (prepared x ≡ y)
+of-cleared (t ∷ ts) y (inl e) = (t, inl refl, e)
+of-cleared (t ∷ ts) y (inr m) = let r = of-cleared ts y m in (r .0, inr (r .1), r .2)
+
+pairs-cleared : {R : Target → Target → Type 0} (ts : List Target) → ((x y : Target) → R x y → R (prepared x) (prepared y)) → Pairs R ts → Pairs R (cleared ts)
+pairs-cleared [] f h = tt
+pairs-cleared {R} (t ∷ ts) f h = ((λ y m. let r = of-cleared ts y m in rw (r .2) at (f t (r .0) (h .0 (r .0) (r .1)))), pairs-cleared ts f (h .1))
+
+pub length-cleared : (ts : List Target) → length (cleared ts) ≡ length ts
+length-cleared [] = refl
+length-cleared (t ∷ ts) = ap suc (length-cleared ts)
+
+sized-prepared : (t : Target) → Sized t → Sized (prepared t)
+sized-prepared t z = record { udid = z .udid; addressByte = z .addressByte }
+
+open-cleared : (ts : List Target) (y : Target) → Among y (cleared ts) → isResolved y ≡ false
+open-cleared ts y m = ap isResolved (sym (of-cleared ts y m .2))
+
+pub admitted-cleared : (b : Pool) (ts : List Target) → AdmittedTargets b ts → AdmittedTargets b (cleared ts)
+admitted-cleared b ts v = record {
+  sized = λ y m. let r = of-cleared ts y m in subst Sized (r .2) (sized-prepared (r .0) (v .sized (r .0) (r .1)));
+  differ = pairs-cleared ts (λ x y h. h) (v .differ);
+  fixed-apart = pairs-cleared ts (λ x y h. h) (v .fixed-apart);
+  fixed-free = λ y m. let r = of-cleared ts y m in subst (FixedFree b) (r .2) (v .fixed-free (r .0) (r .1));
+  few = omega (arith, length-cleared ts, v .few);
+}
+
+-- ---- where a pass begins
+
+open-slots : (u : Udid) → Unbound u (replicate 128 openSlot)
+open-slots u i = go (decLt i 128)
+  where
+    go : Dec (i < 128) → boundTo u (heldAt (replicate 128 openSlot) i) ≡ false
+    go (yes h) = ap (λ (x : Slot). boundTo u (x .held)) (getD-replicate 128 i openSlot openSlot h)
+    go (no h) = ap (λ (x : Slot). boundTo u (x .held)) (List·getD-eq-default (replicate 128 openSlot) openSlot {n = i} (omega (arith, length-replicate 128 openSlot)))
+
+-- 7Fh is reserved
+pub last-starting : (occupied : Pool) → member (startingPool occupied) 127 ≡ true
+unfolding isReserved
+last-starting occupied = member-starting occupied 127
+
+module _ (b : Pool) (last : member b 127 ≡ true) (ts : List Target) (v : AdmittedTargets b ts) where
+  ready-first : Ready b (ascending ts)
+  ready-first = record {
+    apart = pairs-more (ascending ts) apart′ (ascending-lower ts (v .differ));
+    sized = λ t m. v .sized t (in-ascending ts t m);
+    fixed-free = λ t m. v .fixed-free t (in-ascending ts t m);
+    fixed-some = λ t m f e. absurd (let z : _≡_ {A = ℕ} 0 1 = cc (v .fixed-free t (in-ascending ts t m) f, ap (λ (n : ℕ). member b (n / 2)) e, last) in omega arith);
+    last-used = last;
+  }
+    where
+      elsewhere′ : (x y : Target) → (x ≡ y) ⊎ FixedApart x y → Lower x y → FixedApart x y
+      elsewhere′ x y (inl e) l = absurd (omega (arith, l, ap (λ (t : Target). value (t .udid)) e))
+      elsewhere′ x y (inr f) l = f
+
+      apart′ : (x y : Target) → Among x (ascending ts) → Among y (ascending ts) → Lower x y → Apart x y
+      apart′ x y m k l = record {
+        lower = l;
+        elsewhere = elsewhere′ x y (pairs-of ts (λ p q h f g e. h g f (sym e)) (v .fixed-apart) x y (in-ascending ts x m) (in-ascending ts y k)) l;
+      }
+
+  inv-first : 0 < length ts → ((t : Target) → Among t ts → isResolved t ≡ false) → Inv b (replicate 128 openSlot) 0 ts (ascending ts)
+  inv-first some open-all = record {
+    ready = ready-first;
+    waits = record {
+      known = λ t m e. of-ascending ts t m;
+      there = λ t m. in-ascending ts t m;
+      unresolved = λ t m. open-all t (in-ascending ts t m);
+    };
+    unbound = λ t m. open-slots (t .udid);
+    room = length-replicate 128 openSlot;
+    few = omega (arith, length-ascending ts, v .few);
+    present = some;
+  }
+
+-- ---- the pass
+
+length-turns : (l : List Target) → turns l ≡ suc (2 * length l)
+length-turns [] = refl
+length-turns (t ∷ l) = omega (arith, length-turns l)
+
+run-add : (n m : ℕ) (w : World) → run (n + m) w ≡ run m (run n w)
+run-add zero m w = ap (λ (k : ℕ). run k w) (zero-add m)
+run-add (suc n) m w = ap (λ (k : ℕ). run k w) (suc-add n m) ∙ run-add n m (turn w)
+
+module _ (occupied : Pool) where
+  start : Pool
+  start = startingPool occupied
+
+  first-turn : (t : Target) (ts : List Target) → turn (beginning occupied (t ∷ ts)) ≡ asking start start (replicate 128 openSlot) 1 (cleared (t ∷ ts))
+  unfolding start
+  first-turn t ts =
+      ap (λ (x : Stepped). record { now = x; targets = cleared (t ∷ ts) })
+      (ap (stepped (state start start (replicate 128 openSlot) 0 Prepare)) (on-bus.prepare-whole t ts) ∙ prepare-done start start (replicate 128 openSlot))
+
+  nobody-turn : turn (beginning occupied []) ≡ nobodyThere start
+  unfolding start
+  nobody-turn =
+      ap (λ (x : Stepped). record { now = x; targets = [] })
+      (ap (stepped (state start start (replicate 128 openSlot) 0 Prepare)) on-bus.prepare-cut ∙ prepare-silent start start (replicate 128 openSlot))
+
+  some-targets : (t : Target) (ts : List Target) → AdmittedTargets start (t ∷ ts) → run 300 (beginning occupied (t ∷ ts)) ≡ passEnd start (t ∷ ts)
+  unfolding start
+  some-targets t ts v =
+      let us : List Target = cleared (t ∷ ts) in
+      let v′ = admitted-cleared start (t ∷ ts) v in
+      let n : ℕ = turns (ascending us) in
+      let e : 300 ≡ suc (n + (299 - n)) = omega (arith, length-turns (ascending us), length-ascending us, v′ .few) in
+      ap (λ (k : ℕ). run k (beginning occupied (t ∷ ts))) e
+      ∙ ap (run (n + (299 - n))) (first-turn t ts)
+      ∙ run-add n (299 - n) (asking start start (replicate 128 openSlot) 1 us)
+      ∙ ap (run (299 - n))
+      (serves start start (replicate 128 openSlot) 0 us (ascending us) (inv-first start (last-starting occupied) us v′ (omega arith) (open-cleared (t ∷ ts)))
+      ∙ ap (ended start) (plain-rule (ascending us) start (replicate 128 openSlot) 0 us))
+      ∙ run-ended (299 - n) _ _ _ _ (rule (ascending us) start .ending) _
+
+-- THE PASS ENDS AS THE PLAIN RULE SAYS: bindings, pool and last command of the controller, and every target
+pub demand-3 : (occupied : Pool) (ts : List Target) → AdmittedTargets (startingPool occupied) ts → pass occupied ts ≡ passEnd (startingPool occupied) ts
+unfolding pass start
+demand-3 occupied [] v = ap (run 299) (nobody-turn occupied) ∙ run-ended 299 (startingPool occupied) (startingPool occupied) (replicate 128 openSlot) 0 served []
+demand-3 occupied (t ∷ ts) v = some-targets occupied t ts v
+
+module _ (occupied : Pool) (ts : List Target) (v : AdmittedTargets (startingPool occupied) ts) where
+  ready : Ready (startingPool occupied) (ascending (cleared ts))
+  ready = ready-first (startingPool occupied) (last-starting occupied) (cleared ts) (admitted-cleared (startingPool occupied) ts v)
+
+  count : length (ascending (cleared ts)) ≡ length ts
+  count = length-ascending (cleared ts) ∙ length-cleared ts
+
+  -- the addresses given are below 128, neither reserved nor occupied, and none is given twice
+  pub given-addresses : Each (FreeIn (startingPool occupied)) (ruled (startingPool occupied) ts .given) × Distinct (ruled (startingPool occupied) ts .given)
+  given-addresses = rule-free (ascending (cleared ts)) (startingPool occupied) ready
+
+  -- all are served if and only if the targets do not outnumber the free addresses, and then each is given one
+  pub served-exactly : (ruled (startingPool occupied) ts .ending ≡ served) ↔ (used (startingPool occupied) + length ts ≤ 128)
+  served-exactly = (
+    λ e. omega (arith, count, rule-all-only (ascending (cleared ts)) (startingPool occupied) ready e),
+    λ h. rule-all (ascending (cleared ts)) (startingPool occupied) ready (omega (arith, count)) .0,
+  )
+
+  pub served-each : used (startingPool occupied) + length ts ≤ 128 → length (ruled (startingPool occupied) ts .given) ≡ length ts
+  served-each h = rule-all (ascending (cleared ts)) (startingPool occupied) ready (omega (arith, count)) .1 ∙ count

@@ -1,0 +1,11 @@
+pub mod Acknowledge
+pub mod Bus
+pub mod PlainRule
+pub mod PassEnd
+pub mod TraceLaws
+pub mod SortLaws
+pub mod RuleLaws
+pub mod StepLaws
+pub mod PassLaws
+pub mod Demand3
+pub mod Reading

@@ -1,0 +1,73 @@
+-- How a pass ends that serves as the plain rule says: the controller's state and last command, and the targets.
+use Prim.Native.Nat.{ℕ, zero, suc, _+_}
+use mathlib.Core.List.{List, [], _∷_}
+use lib.ListN.{length, set, replicate}
+use Rattle.pool.specs.Pools.{withAddress}
+use Rattle.pool.specs.declared.Pool.{Pool}
+use Rattle.arp.specs.Bindings.{openSlot}
+use Rattle.arp.specs.declared.command.Command.{Command}
+use Rattle.arp.specs.declared.command.Command.the-variants.{Ended, NoneFree}
+use Rattle.arp.specs.declared.state.Binding.the-variants.{Bound}
+use Rattle.arp.specs.declared.state.Controller.{Controller}
+use Rattle.arp.specs.declared.state.Slot.{Slot}
+use Rattle.arp.specs.declared.state.Stepped.{Stepped}
+use Rattle.targets.specs.Target.{Target, cleared, resolve}
+use Rattle.rule.specs.Bus.{World}
+use Rattle.rule.specs.PlainRule.{Ending, served, noneFree, Given, Ruled, ruled}
+
+-- the controller's last command
+abbrev pub lastCommand : Ending → Command
+lastCommand served = Ended
+lastCommand (noneFree u) = NoneFree u
+
+-- the controller's state, and the state with a command out
+abbrev pub state : Pool → Pool → List Slot → ℕ → Command → Controller
+state b p s n k = record { starting = b; pool = p; slots = s; gets = n; last = k }
+
+abbrev pub out : Pool → Pool → List Slot → ℕ → Command → Stepped
+out b p s n k = record { state = state b p s n k; command = k }
+
+abbrev pub boundSlot : Target → Slot
+boundSlot t = record { held = Bound (t .udid) }
+
+pub record Outcome : Type 0 where
+  pub pool : Pool
+  pub slots : List Slot
+  pub bound : ℕ
+  pub targets : List Target
+  pub ending : Ending
+
+-- one Get UDID for each that was served, and one more
+abbrev pub ended : Pool → Outcome → World
+ended b o = record { now = out b (o .pool) (o .slots) (suc (o .bound)) (lastCommand (o .ending)); targets = o .targets }
+
+-- what a list of bindings makes of the pool, the slots and the targets
+abbrev pub addAll : List Given → Pool → Pool
+addAll [] p = p
+addAll (g ∷ gs) p = addAll gs (withAddress p (g .address))
+
+abbrev pub putAll : List Given → List Slot → List Slot
+putAll [] s = s
+putAll (g ∷ gs) s = putAll gs (set s (g .address) (boundSlot (g .who)))
+
+abbrev pub resolveAll : List Given → List Target → List Target
+resolveAll [] ts = ts
+resolveAll (g ∷ gs) ts = resolveAll gs (resolve (g .who .udid) (g .address) ts)
+
+abbrev pub outcome : Ruled → Pool → List Slot → ℕ → List Target → Outcome
+outcome r p s k ts = record {
+  pool = addAll (r .given) p;
+  slots = putAll (r .given) s;
+  bound = length (r .given) + k;
+  targets = resolveAll (r .given) ts;
+  ending = r .ending;
+}
+
+-- with no target: nobody acknowledges Prepare, and no Get UDID is sent
+abbrev pub nobodyThere : Pool → World
+nobodyThere b = record { now = out b b (replicate 128 openSlot) 0 Ended; targets = [] }
+
+-- how a pass over these targets ends
+abbrev pub passEnd : Pool → List Target → World
+passEnd b [] = nobodyThere b
+passEnd b (t ∷ ts) = ended b (outcome (ruled b (t ∷ ts)) b (replicate 128 openSlot) 0 (cleared (t ∷ ts)))

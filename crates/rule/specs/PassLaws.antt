@@ -1,0 +1,155 @@
+-- From a Get UDID on, the pass serves the unresolved targets in ascending order, and ends as the plain rule says.
+use Prim.Native.Nat.{ℕ, zero, suc, _+_, _%_, _≤_, _<_}
+use mathlib.Core.Path.{_≡_, refl, sym, ap, ap₂, _∙_}
+use mathlib.Core.Bool.{Bool, true, false}
+use mathlib.Core.Logic.{_⊎_, inl, inr}
+use mathlib.Core.List.{List, [], _∷_}
+use native.Mathlib.Numerals.{add-one}
+use native.Mathlib.Decide.{ℕ-discrete}
+use native.Mathlib.Omega.{arith}
+use lib.ListN.{length, getD, set, length-set}
+use lib.Seq.{getD-set-same, getD-set-other}
+use Rattle.lists.specs.Choice.{pick}
+use Rattle.wire.specs.declared.address.Address.{Address}
+use Rattle.pool.specs.Pools.{member, withAddress}
+use Rattle.pool.specs.declared.Pool.{Pool}
+use Rattle.pool.specs.declared.free.Free.{Free}
+use Rattle.pool.specs.declared.free.Free.the-variants.{At, AllUsed}
+use Rattle.udid.specs.Udids.{sameUdid, value}
+use Rattle.udid.specs.UdidLaws.{other-udid}
+use Rattle.udid.specs.declared.Udid.{Udid}
+use Rattle.arbitration.specs.Among.{Among}
+use Rattle.targets.specs.Target.{Target, isResolved, resolve}
+use Rattle.targets.specs.Members.{Waits, waits-next}
+use Rattle.targets.specs.ReplyLaws.{Sized, Least}
+use Rattle.arp.specs.Bindings.{openSlot, heldAt, boundTo, slotFor}
+use Rattle.arp.specs.Controller.{issued, stepped}
+use Rattle.arp.specs.declared.command.Command.the-variants.{GetUdid, Assign}
+use Rattle.arp.specs.declared.state.Slot.{Slot}
+use Rattle.arp.specs.declared.state.Stepped.{Stepped}
+use Rattle.rule.specs.Acknowledge.{onBus}
+use Rattle.rule.specs.Bus.{World, run}
+use Rattle.rule.specs.PlainRule.{Ending, served, noneFree, plainChoice}
+use Rattle.rule.specs.PassEnd.{lastCommand, Outcome, state, out, boundSlot, ended}
+use Rattle.rule.specs.TraceLaws as on-bus
+use Rattle.rule.specs.RuleLaws.{choice-same, Ready, ready-free, ready-next}
+use Rattle.rule.specs.StepLaws.{Unbound, get-silent, get-issued, assign-bound}
+
+-- ---- the plain rule with all that it changes carried along
+
+-- one target served, and then the others; or the end
+abbrev pub serve : (Pool → List Slot → ℕ → List Target → Outcome) → Target → Pool → List Slot → ℕ → List Target → Free → Outcome
+serve next t p s k ts AllUsed = record { pool = p; slots = s; bound = k; targets = ts; ending = noneFree (t .udid) }
+serve next t p s k ts (At a) = next (withAddress p (a .0)) (set s (a .0) (boundSlot t)) (suc k) (resolve (t .udid) (a .0) ts)
+
+-- the targets to serve, in ascending order; the pool, the bindings, how many are bound, and all targets
+abbrev pub plain : List Target → Pool → List Slot → ℕ → List Target → Outcome
+plain [] p s k ts = record { pool = p; slots = s; bound = k; targets = ts; ending = served }
+plain (t ∷ rest) p s k ts = serve (λ p′ s′ k′ ts′. plain rest p′ s′ k′ ts′) t p s k ts (plainChoice p t)
+
+-- ---- what holds whenever Get UDID is out: `rest` are the unresolved targets in ascending order, and somebody is on the bus
+
+pub record Inv (p : Pool) (s : List Slot) (k : ℕ) (ts rest : List Target) : Type 0 where
+  pub ready : Ready p rest
+  pub waits : Waits ts rest
+  pub unbound : (t : Target) → Among t rest → Unbound (t .udid) s
+  pub room : length s ≡ 128
+  pub few : k + length rest < 128
+  pub present : 0 < length ts
+
+-- binding another leaves an identifier unbound
+unbound-set : (u : Udid) (t : Target) (s : List Slot) (a : ℕ) → a < length s → sameUdid (t .udid) u ≡ false → Unbound u s → Unbound u (set s a (boundSlot t))
+unbound-set u t s a l n h i = go (ℕ-discrete i a)
+  where
+    go : Dec (i ≡ a) → boundTo u (heldAt (set s a (boundSlot t)) i) ≡ false
+    go (yes e) = ap (λ (j : ℕ). boundTo u (heldAt (set s a (boundSlot t)) j)) e
+        ∙ ap (λ (x : Slot). boundTo u (x .held)) (getD-set-same s a (boundSlot t) openSlot l) ∙ n
+    go (no e) = ap (λ (x : Slot). boundTo u (x .held)) (getD-set-other s a i (boundSlot t) openSlot e) ∙ h i
+
+length-resolve : (u : Udid) (a : ℕ) (ts : List Target) → length (resolve u a ts) ≡ length ts
+length-resolve u a [] = refl
+length-resolve u a (t ∷ ts) = ap suc (length-resolve u a ts)
+
+inv-next : (p : Pool) (s : List Slot) (k : ℕ) (ts rest : List Target) (r : Target) (a : Address) → Inv p s k ts (r ∷ rest) → plainChoice p r ≡ At a
+    → Inv (withAddress p (a .0)) (set s (a .0) (boundSlot r)) (suc k) (resolve (r .udid) (a .0) ts) rest
+inv-next p s k ts rest r a v e =
+    let free = ready-free p r rest a (v .ready) e in record {
+      ready = ready-next p r rest a (v .ready) e;
+      waits = waits-next ts rest r (a .0) (v .waits) (λ x m. v .ready .apart .0 x m .lower);
+      unbound = λ t m. unbound-set (t .udid) r s (a .0) (omega (arith, free .0, v .room)) (other-udid (r .udid) (t .udid) (λ q. above t (v .ready .apart .0 t m .lower) (ap value q))) (v .unbound t (inr m));
+      room = length-set s (a .0) (boundSlot r) ∙ v .room;
+      few = omega (arith, v .few);
+      present = omega (arith, length-resolve (r .udid) (a .0) ts, v .present);
+    }
+  where
+    above : (t : Target) → value (r .udid) < value (t .udid) → value (r .udid) ≡ value (t .udid) → ⊥
+    above t l q = omega arith
+
+-- ---- the run
+
+-- commands that a pass sends from a Get UDID on: one to learn that nobody is left, and two for each target
+abbrev pub turns : List Target → ℕ
+turns [] = 1
+turns (t ∷ ts) = suc (suc (turns ts))
+
+abbrev pub asking : Pool → Pool → List Slot → ℕ → List Target → World
+asking b p s n ts = record { now = out b p s n GetUdid; targets = ts }
+
+-- an ended pass stays as it is
+pub run-ended : (n : ℕ) (b p : Pool) (s : List Slot) (m : ℕ) (e : Ending) (ts : List Target)
+    → run n (record { now = out b p s m (lastCommand e); targets = ts }) ≡ record { now = out b p s m (lastCommand e); targets = ts }
+run-ended zero b p s m e ts = refl
+run-ended (suc n) b p s m served ts = run-ended n b p s m served ts
+run-ended (suc n) b p s m (noneFree u) ts = run-ended n b p s m (noneFree u) ts
+
+-- nobody is left
+silent : (b p : Pool) (s : List Slot) (n : ℕ) (ts : List Target) → 0 < length ts → ((t : Target) → Among t ts → isResolved t ≡ false → ⊥)
+    → stepped (state b p s n GetUdid) (onBus GetUdid ts) ≡ out b p s n (lastCommand served)
+silent b p s n [] l h = absurd (omega arith)
+silent b p s n (t ∷ ts) l h = ap (stepped (state b p s n GetUdid)) (on-bus.get-cut t ts (λ x m. all x m (isResolved x) refl)) ∙ get-silent b p s n
+  where
+    all : (x : Target) → Among x (t ∷ ts) → (c : Bool) → isResolved x ≡ c → isResolved x ≡ true
+    all x m true e = e
+    all x m false e = absurd (h x m e)
+
+pub serves : (b p : Pool) (s : List Slot) (k : ℕ) (ts rest : List Target) → Inv p s k ts rest
+    → run (turns rest) (asking b p s (suc k) ts) ≡ ended b (plain rest p s k ts)
+serves b p s k ts [] v = ap (λ (x : Stepped). record { now = x; targets = ts }) (silent b p s (suc k) ts (v .present) (λ t m e. v .waits .known t m e))
+serves b p s k ts (r ∷ rest) v =
+    ap (λ (x : Stepped). run (suc (turns rest)) (record { now = x; targets = ts })) told
+    ∙ go (plainChoice p r) refl
+    (λ a e. serves b (withAddress p (a .0)) (set s (a .0) (boundSlot r)) (suc k) (resolve (r .udid) (a .0) ts) rest (inv-next p s k ts rest r a v e))
+  where
+    least : Least ts r
+    least = record {
+      among = v .waits .there r (inl refl);
+      unresolved = v .waits .unresolved r (inl refl);
+      sized = v .ready .sized r (inl refl);
+      below = λ t m e. later t (v .waits .known t m e);
+    }
+      where
+        later : (t : Target) → Among t (r ∷ rest) → (r ≡ t) ⊎ (Sized t × (value (r .udid) < value (t .udid)))
+        later t (inl e) = inl e
+        later t (inr m) = inr (v .ready .sized t (inr m), v .ready .apart .0 t m .lower)
+
+    told : stepped (state b p s (suc k) GetUdid) (onBus GetUdid ts) ≡ issued (state b p s (suc k) GetUdid) (r .udid) (plainChoice p r)
+    told =
+        ap (stepped (state b p s (suc k) GetUdid)) (on-bus.get-whole ts r least)
+        ∙ get-issued b p s (suc k) r (v .ready .sized r (inl refl)) (v .unbound r (inl refl))
+        ∙ ap (issued (state b p s (suc k) GetUdid) (r .udid)) (choice-same p r (v .ready .last-used) (v .ready .fixed-some r (inl refl)))
+
+    go : (c : Free) → plainChoice p r ≡ c
+        → ((a : Address) → plainChoice p r ≡ At a
+        → run (turns rest) (asking b (withAddress p (a .0)) (set s (a .0) (boundSlot r)) (suc (suc k)) (resolve (r .udid) (a .0) ts))
+        ≡ ended b (plain rest (withAddress p (a .0)) (set s (a .0) (boundSlot r)) (suc k) (resolve (r .udid) (a .0) ts)))
+        → run (suc (turns rest)) (record { now = issued (state b p s (suc k) GetUdid) (r .udid) (plainChoice p r); targets = ts })
+        ≡ ended b (serve (λ p′ s′ k′ ts′. plain rest p′ s′ k′ ts′) r p s k ts (plainChoice p r))
+    go AllUsed e ih = rw e (run-ended (turns rest) b p s (suc k) (noneFree (r .udid)) ts)
+    go (At a) e ih =
+        let f = ready-free p r rest a (v .ready) e in
+        rw e
+        (ap (λ (x : Stepped). run (turns rest) (record { now = x; targets = resolve (r .udid) (a .0) ts }))
+        (ap (stepped (state b p s (suc k) (Assign (r .udid) a))) (on-bus.assign-whole ts (r .udid) a r (v .waits .there r (inl refl)) refl)
+        ∙ assign-bound b p s (suc k) (r .udid) a (omega (arith, v .few)) (v .ready .sized r (inl refl) .udid) (f .0)
+        ∙ simp (f .1, add-one (suc k)))
+        ∙ ih a e)

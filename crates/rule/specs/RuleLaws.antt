@@ -1,0 +1,192 @@
+-- The plain rule: its choice, what it needs of the targets, and what its bindings are.
+use Prim.Native.Nat.{ℕ, zero, suc, _+_, _*_, _-_, _/_, _%_, _^_, _≤_, _<_}
+use mathlib.Core.Path.{_≡_, refl, sym, ap, ap₂, _∙_, subst}
+use mathlib.Core.Bool.{Bool, true, false}
+use mathlib.Core.Logic.{_⊎_, inl, inr}
+use mathlib.Core.List.{List, [], _∷_, _++_}
+use native.Mathlib.Decide.{ℕ-discrete}
+use native.Mathlib.Omega.{arith}
+use lib.Dec.{ltb, eqb}
+use lib.ListN.{length}
+use borrow.Author.Tests.{ne-eqb, ltb-false, le-ltb, eqb-true, eqb-false}
+use Rattle.lists.specs.Choice.{pick}
+use Rattle.lists.specs.Each.{Each}
+use Rattle.wire.specs.declared.address.Address.{Address}
+use Rattle.pool.specs.Free.{used, lowestFree}
+use Rattle.pool.specs.FreeLaws.{Lowest, lowest-is, full-count, used-with-new, used-le}
+use Rattle.pool.specs.Pools.{member, withAddress}
+use Rattle.pool.specs.MemberLaws.{has-with-same, has-with-other}
+use Rattle.pool.specs.declared.Pool.{Pool}
+use Rattle.pool.specs.declared.free.Free.{Free}
+use Rattle.pool.specs.declared.free.Free.the-variants.{At, AllUsed}
+use Rattle.udid.specs.UdidLaws.{fixed-is}
+use Rattle.udid.specs.Udids.{topBits, isFixed, value}
+use Rattle.arbitration.specs.Among.{Among}
+use Rattle.targets.specs.Target.{Target}
+use Rattle.targets.specs.Members.{Pairs}
+use Rattle.targets.specs.ReplyLaws.{Sized}
+use Rattle.arp.specs.Controller.{chosen}
+use Rattle.rule.specs.PlainRule.{held, plainChoice, Ending, served, noneFree, Given, next, rule, FreeIn, Distinct}
+
+-- ---- the choice
+
+-- the controller chooses as the rule does
+pub choice-same : (p : Pool) (t : Target) → member p 127 ≡ true → (isFixed (t .udid) ≡ true → t .addressByte ≡ 255 → ⊥)
+    → chosen p (t .udid) (t .addressByte) ≡ plainChoice p t
+unfolding chosen plainChoice
+choice-same p t h n = go (ℕ-discrete (t .addressByte) 255) (isFixed (t .udid)) refl
+  where
+    go : Dec (t .addressByte ≡ 255) → (b : Bool) → isFixed (t .udid) ≡ b → chosen p (t .udid) (t .addressByte) ≡ plainChoice p t
+    go (yes e) true f = absurd (n f e)
+    go (yes e) false f = simp (f, e, h)
+    go (no e) true f = simp (ne-eqb (t .addressByte) 255 e)
+    go (no e) false f = simp (ne-eqb (t .addressByte) 255 e)
+
+address-inj : (a b : Address) → At a ≡ At b → a ≡ b
+address-inj a b e = cc e
+
+choice-free : (p : Pool) (t : Target) (a : Address) → t .addressByte < 256 → (isFixed (t .udid) ≡ true → member p (t .addressByte / 2) ≡ false) → plainChoice p t ≡ At a
+    → (a .0 < 128) × (member p (a .0) ≡ false)
+unfolding plainChoice
+choice-free p t a z f e = go (isFixed (t .udid)) refl (member p (t .addressByte / 2)) refl
+  where
+    own : At (held t) ≡ At a → member p (t .addressByte / 2) ≡ false → (a .0 < 128) × (member p (a .0) ≡ false)
+    own q h =
+        let k : t .addressByte / 2 ≡ a .0 = ap (λ (x : Address). x .0) (address-inj (held t) a q) in
+        (omega arith, ap (member p) (sym k) ∙ h)
+
+    go : (b : Bool) → isFixed (t .udid) ≡ b → (c : Bool) → member p (t .addressByte / 2) ≡ c → (a .0 < 128) × (member p (a .0) ≡ false)
+    go true q true h = own (simp q at e) (f q)
+    go true q false h = own (simp q at e) (f q)
+    go false q true h = let r : Lowest p (a .0) = lowest-is p (a .0) .0 (simp (q, h) at e) in (r .small, r .free)
+    go false q false h = own (simp (q, h) at e) h
+
+-- a fixed target is given its own
+choice-own : (p : Pool) (t : Target) (a : Address) → isFixed (t .udid) ≡ true → plainChoice p t ≡ At a → a .0 ≡ t .addressByte / 2
+unfolding plainChoice
+choice-own p t a f e = let q : At (held t) ≡ At a = simp f at e in sym (ap (λ (x : Address). x .0) (address-inj (held t) a q))
+
+-- ---- what the rule needs of the targets that are left
+
+-- the first comes before the second, and where both are fixed they stand at different addresses
+pub record Apart (r t : Target) : Type 0 where
+  pub lower : value (r .udid) < value (t .udid)
+  pub elsewhere : isFixed (r .udid) ≡ true → isFixed (t .udid) ≡ true → r .addressByte / 2 ≡ t .addressByte / 2 → ⊥
+
+pub record Ready (p : Pool) (rest : List Target) : Type 0 where
+  pub apart : Pairs Apart rest
+  pub sized : (t : Target) → Among t rest → Sized t
+  pub fixed-free : (t : Target) → Among t rest → isFixed (t .udid) ≡ true → member p (t .addressByte / 2) ≡ false
+  pub fixed-some : (t : Target) → Among t rest → isFixed (t .udid) ≡ true → t .addressByte ≡ 255 → ⊥
+  pub last-used : member p 127 ≡ true
+
+pub ready-free : (p : Pool) (r : Target) (rest : List Target) (a : Address) → Ready p (r ∷ rest) → plainChoice p r ≡ At a → (a .0 < 128) × (member p (a .0) ≡ false)
+ready-free p r rest a v e = choice-free p r a (v .sized r (inl refl) .addressByte) (v .fixed-free r (inl refl)) e
+
+high-le : (a b c d : ℕ) → d < 2 ^ 64 → a * 2 ^ 64 + b < c * 2 ^ 64 + d → a ≤ c
+high-le a b c d h l = omega arith
+
+top-le : (a c : ℕ) → a ≤ c → c / 2 ^ 62 ≡ 0 → a / 2 ^ 62 ≡ 0
+top-le a c l e = omega arith
+
+-- a movable target comes after the fixed ones
+movable-after : (r t : Target) → Sized r → Sized t → value (r .udid) < value (t .udid) → isFixed (r .udid) ≡ false → isFixed (t .udid) ≡ false
+movable-after r t zr zt h e = go (isFixed (t .udid)) refl
+  where
+    go : (b : Bool) → isFixed (t .udid) ≡ b → isFixed (t .udid) ≡ false
+    go false k = k
+    go true k =
+        let a : topBits (t .udid) ≡ 0 = fixed-is (t .udid) .0 k in
+        let l : r .udid .high ≤ t .udid .high = high-le (r .udid .high) (r .udid .low) (t .udid .high) (t .udid .low) (zt .udid .low) h in
+        absurd (eqb-false (topBits (r .udid)) 0 e (top-le (r .udid .high) (t .udid .high) l a))
+
+pub ready-next : (p : Pool) (r : Target) (rest : List Target) (a : Address) → Ready p (r ∷ rest) → plainChoice p r ≡ At a → Ready (withAddress p (a .0)) rest
+ready-next p r rest a v e = record {
+  apart = v .apart .1;
+  sized = λ t m. v .sized t (inr m);
+  fixed-free = λ t m f. still t m f (isFixed (r .udid)) refl;
+  fixed-some = λ t m. v .fixed-some t (inr m);
+  last-used = has-with-other p (a .0) 127 (λ q. absurd (let z : _≡_ {A = ℕ} 0 1 = cc (q, free .1, v .last-used) in omega arith)) ∙ v .last-used;
+}
+  where
+    free : (a .0 < 128) × (member p (a .0) ≡ false)
+    free = ready-free p r rest a v e
+
+    still : (t : Target) → Among t rest → isFixed (t .udid) ≡ true → (b : Bool) → isFixed (r .udid) ≡ b → member (withAddress p (a .0)) (t .addressByte / 2) ≡ false
+    still t m f true q =
+        has-with-other p (a .0) (t .addressByte / 2) (λ d. v .apart .0 t m .elsewhere q f (sym (choice-own p r a q e) ∙ sym d)) ∙ v .fixed-free t (inr m) f
+    still t m f false q =
+        absurd (let z : _≡_ {A = ℕ} 0 1 = cc (f, movable-after r t (v .sized r (inl refl)) (v .sized t (inr m)) (v .apart .0 t m .lower) q) in omega arith)
+
+-- ---- the bindings that it gives
+
+each-map : {A : Type 0} {P Q : A → Type 0} (l : List A) → ((a : A) → P a → Q a) → Each P l → Each Q l
+each-map [] f h = tt
+each-map (a ∷ l) f h = (f a (h .0), each-map l f (h .1))
+
+-- who is given an address in the larger pool finds it free in the smaller, and elsewhere than the one just given
+shrink : (p : Pool) (a : ℕ) → a < 128 → (g : Given) → FreeIn (withAddress p a) g → FreeIn p g × (g .address ≡ a → ⊥)
+shrink p a l g f =
+    let n : g .address ≡ a → ⊥ = λ q. absurd (let z : _≡_ {A = ℕ} 0 1 = cc (f .1, ap (member (withAddress p a)) q, has-with-same p a l) in omega arith) in
+    ((f .0, sym (has-with-other p a (g .address) n) ∙ f .1), n)
+
+-- every address given is an assignable one that is free, and none is given twice
+pub rule-free : (rest : List Target) (p : Pool) → Ready p rest → Each (FreeIn p) (rule rest p .given) × Distinct (rule rest p .given)
+rule-free [] p v = (tt, tt)
+rule-free (t ∷ rest) p v = go (plainChoice p t) refl (λ a e. rule-free rest (withAddress p (a .0)) (ready-next p t rest a v e))
+  where
+    go : (c : Free) → plainChoice p t ≡ c
+        → ((a : Address) → plainChoice p t ≡ At a → Each (FreeIn (withAddress p (a .0))) (rule rest (withAddress p (a .0)) .given) × Distinct (rule rest (withAddress p (a .0)) .given))
+        → Each (FreeIn p) (next (λ q. rule rest q) t p c .given) × Distinct (next (λ q. rule rest q) t p c .given)
+    go AllUsed e ih = (tt, tt)
+    go (At a) e ih =
+        let f = ready-free p t rest a v e in
+        let r = ih a e in (
+          (f, each-map (rule rest (withAddress p (a .0)) .given) (λ g x. shrink p (a .0) (f .0) g x .0) (r .0)),
+          (each-map (rule rest (withAddress p (a .0)) .given) (λ g x. shrink p (a .0) (f .0) g x .1) (r .0), r .1),
+        )
+
+-- ---- when all are served
+
+-- the choice is empty-handed only where all addresses are used
+choice-room : (p : Pool) (t : Target) → used p < 128 → plainChoice p t ≡ AllUsed → ⊥
+unfolding plainChoice
+choice-room p t h e = go (isFixed (t .udid)) refl (member p (t .addressByte / 2)) refl
+  where
+    never-at : (a : Address) → At a ≡ AllUsed → ⊥
+    never-at a q = let z : _≡_ {A = ℕ} 0 1 = cc q in omega arith
+
+    go : (b : Bool) → isFixed (t .udid) ≡ b → (c : Bool) → member p (t .addressByte / 2) ≡ c → ⊥
+    go true q c k = never-at (held t) (simp q at e)
+    go false q false k = never-at (held t) (simp (q, k) at e)
+    go false q true k =
+        let x : lowestFree p ≡ AllUsed = simp (q, k) at e in
+        omega (arith, full-count p .0 x)
+
+-- ALL ARE SERVED if and only if the targets do not outnumber the free addresses
+pub rule-all : (rest : List Target) (p : Pool) → Ready p rest → used p + length rest ≤ 128
+    → (rule rest p .ending ≡ served) × (length (rule rest p .given) ≡ length rest)
+rule-all [] p v h = (refl, refl)
+rule-all (t ∷ rest) p v h = go (plainChoice p t) refl (λ a e l. rule-all rest (withAddress p (a .0)) (ready-next p t rest a v e) l)
+  where
+    go : (c : Free) → plainChoice p t ≡ c
+        → ((a : Address) → plainChoice p t ≡ At a → used (withAddress p (a .0)) + length rest ≤ 128
+        → (rule rest (withAddress p (a .0)) .ending ≡ served) × (length (rule rest (withAddress p (a .0)) .given) ≡ length rest))
+        → (next (λ q. rule rest q) t p c .ending ≡ served) × (length (next (λ q. rule rest q) t p c .given) ≡ suc (length rest))
+    go AllUsed e ih = absurd (choice-room p t (omega arith) e)
+    go (At a) e ih =
+        let f = ready-free p t rest a v e in
+        let r = ih a e (omega (arith, used-with-new p (a .0) (f .0) (f .1))) in
+        (r .0, ap suc (r .1))
+
+pub rule-all-only : (rest : List Target) (p : Pool) → Ready p rest → rule rest p .ending ≡ served → used p + length rest ≤ 128
+rule-all-only [] p v h = omega (arith, used-le p)
+rule-all-only (t ∷ rest) p v h = go (plainChoice p t) refl h (λ a e l. rule-all-only rest (withAddress p (a .0)) (ready-next p t rest a v e) l)
+  where
+    go : (c : Free) → plainChoice p t ≡ c → next (λ q. rule rest q) t p c .ending ≡ served
+        → ((a : Address) → plainChoice p t ≡ At a → rule rest (withAddress p (a .0)) .ending ≡ served → used (withAddress p (a .0)) + length rest ≤ 128)
+        → used p + suc (length rest) ≤ 128
+    go AllUsed e k ih = absurd (let z : _≡_ {A = ℕ} 0 1 = cc k in omega arith)
+    go (At a) e k ih =
+        let f = ready-free p t rest a v e in
+        omega (arith, used-with-new p (a .0) (f .0) (f .1), ih a e k)
