@@ -5,6 +5,7 @@
 pub mod addresses;
 pub mod bus;
 pub mod commands;
+pub mod console;
 pub mod controller;
 pub mod damage;
 pub mod decode;
@@ -18,6 +19,7 @@ pub mod pec;
 pub mod plain_rule;
 pub mod random;
 pub mod recorder;
+pub mod requests;
 pub mod samples;
 pub mod shelf_passes;
 pub mod shelves;

@@ -1,6 +1,6 @@
 -- What was written is there, where it has room; a number written in decimal reads back as itself, and a byte as two digits too.
 use Prim.Native.Nat.{ℕ, zero, suc, _+_, _-_, _*_, _/_, _%_, _<_, _≤_}
-use mathlib.Core.Path.{_≡_, refl, ap, _∙_}
+use mathlib.Core.Path.{_≡_, refl, sym, ap, _∙_}
 use mathlib.Core.Bool.{Bool, true, false}
 use mathlib.Core.List.{List, [], _∷_, _++_}
 use native.Mathlib.Numerals.{add-one}
@@ -68,3 +68,13 @@ decimal-back n = decimal-value (suc n) n (omega arith)
 pub pair-back : (b : ℕ) → b < 256 → valueOf 16 (pairOf b) ≡ b
 unfolding valueFrom
 pair-back b h = omega (arith, glyph-back (b / 16) (omega arith), glyph-back (b % 16) (omega arith))
+
+-- ---- one outcome: two places and buffers that meet what a writer promises are equal
+
+pub put-once : (l : List ℕ) (at : ℕ) (xs : List ℕ) (r r′ : ℕ) (k k′ : List ℕ) → (r ≡ after (length l) at xs) × (k ≡ written l at xs)
+    → (r′ ≡ after (length l) at xs) × (k′ ≡ written l at xs) → (r ≡ r′) × (k ≡ k′)
+put-once l at xs r r′ k k′ p q = (p .0 ∙ sym (q .0), p .1 ∙ sym (q .1))
+
+pub byte-once : (l : List ℕ) (at c r r′ : ℕ) (k k′ : List ℕ) → (r ≡ following (length l) at) × (k ≡ set l at c)
+    → (r′ ≡ following (length l) at) × (k′ ≡ set l at c) → (r ≡ r′) × (k ≡ k′)
+byte-once l at c r r′ k k′ p q = (p .0 ∙ sym (q .0), p .1 ∙ sym (q .1))

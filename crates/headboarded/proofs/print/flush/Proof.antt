@@ -1,0 +1,30 @@
+use Prim.Native.Nat.{_-_, _≤_, _+_, _*_}
+use mathlib.Core.Path.{_≡_}
+use lib.ListN.{length}
+use native.Mathlib.Omega.{arith}
+use lib.ListN.{length-take}
+use borrow.Author.Needs.{needs}
+use Rattle.headboarded.proofs.print.flush.Statement.{statement}
+use Rattle.headboarded.proofs.print.flush.Tie as tie
+use Rattle.headboarded.proofs.print.flush.Reads as reads
+use Rattle.headboarded.proofs.print.flush.Lts as lts
+use Rattle.io.proofs.write_all.Reads as write-all-reads
+
+-- src/print.rt:14:31
+slice-aggregate-write-all : tie.Need-slice-aggregate-write-all
+slice-aggregate-write-all c = simp length-take (omega arith)
+
+-- src/print.rt:14:9
+write-all-requires : tie.Need-write-all-requires
+write-all-requires c κs = search needs
+
+-- src/print.rt:12:1
+returns : tie.Need-returns
+returns c = search needs
+
+-- src/print.rt:12:1
+returns-2 : tie.Need-returns-2
+returns-2 c = search needs
+
+pub flush-spec : {M : Type 1} → statement M
+flush-spec = tie.close (tie.spec slice-aggregate-write-all write-all-requires returns returns-2)

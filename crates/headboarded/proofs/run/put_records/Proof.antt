@@ -1,0 +1,68 @@
+use Prim.Native.Nat.{_-_, _≤_, _+_, _*_}
+use mathlib.Core.Path.{_≡_}
+use lib.ListN.{length}
+use borrow.Author.Needs.{needs}
+use Rattle.headboarded.proofs.run.put_records.Statement.{statement}
+use Rattle.headboarded.proofs.run.put_records.Tie as tie
+use Rattle.headboarded.proofs.run.put_records.Reads as reads
+use Rattle.headboarded.proofs.run.put_records.Lts as lts
+use Rattle.headboarded.proofs.print.room.Reads as room-reads
+use Rattle.headboarded.proofs.run.put_record.Reads as put-record-reads
+
+abbrev Inv-loop : tie.InvT-loop
+Inv-loop records n out₀ at to₀ i₀ out to i = length out ≡ length out₀
+
+abbrev μ-loop : tie.MeasureT-loop
+μ-loop records n out₀ at to₀ i₀ out to i = n - i
+
+-- src/run.rt:78:5
+loop-holds : tie.Need-loop-holds Inv-loop μ-loop
+loop-holds c = search needs
+
+-- src/run.rt:79:42
+room-requires : tie.Need-room-requires Inv-loop μ-loop
+room-requires c κs = search needs
+
+-- src/run.rt:79:9
+put-record-requires : tie.Need-put-record-requires Inv-loop μ-loop
+put-record-requires c κs = search needs
+
+-- src/run.rt:80:9
+add-i : tie.Need-add-i Inv-loop μ-loop
+add-i c = search needs
+
+-- src/run.rt:78:5
+loop-less : tie.Need-loop-less Inv-loop μ-loop
+loop-less c = search needs
+
+-- src/run.rt:78:5
+loop-again : tie.Need-loop-again Inv-loop μ-loop
+loop-again c = search needs
+
+-- src/run.rt:82:5
+room-requires-2 : tie.Need-room-requires-2 Inv-loop μ-loop
+room-requires-2 c κs = search needs
+
+-- src/run.rt:73:1
+same-length : tie.Need-same-length Inv-loop μ-loop
+same-length c = search needs
+
+-- src/run.rt:73:1
+returns : tie.Need-returns Inv-loop μ-loop
+returns c = search needs
+
+pub put-records-spec : {M : Type 1} → statement M
+put-records-spec =
+    tie.close
+    (tie.spec
+    Inv-loop
+    μ-loop
+    loop-holds
+    room-requires
+    put-record-requires
+    add-i
+    loop-less
+    loop-again
+    room-requires-2
+    same-length
+    returns)

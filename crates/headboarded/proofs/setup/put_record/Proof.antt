@@ -1,0 +1,53 @@
+use native.Mathlib.Omega.{arith}
+use lib.ListN.{length-set}
+use borrow.Author.Needs.{needs}
+use Rattle.headboarded.proofs.setup.put_record.Statement.{statement}
+use Rattle.headboarded.proofs.setup.put_record.Tie as tie
+use Rattle.headboarded.proofs.setup.put_record.Reads as reads
+use Rattle.headboarded.proofs.setup.put_record.Lts as lts
+use Rattle.udid.proofs.Udid.put_bytes.Reads as put-bytes-reads
+
+-- src/setup.rt:129:14
+mul-at : tie.Need-mul-at
+mul-at c = search needs
+
+-- src/setup.rt:130:5
+put-bytes-requires : tie.Need-put-bytes-requires
+put-bytes-requires c κs = search needs
+
+-- src/setup.rt:131:13
+add-records : tie.Need-add-records
+add-records c = search needs
+
+-- src/setup.rt:131:5
+slice-write-records : tie.Need-slice-write-records
+slice-write-records c = search needs
+
+-- src/setup.rt:132:13
+add-records-2 : tie.Need-add-records-2
+add-records-2 c = search needs
+
+-- src/setup.rt:132:5
+slice-write-records-2 : tie.Need-slice-write-records-2
+slice-write-records-2 c = simp length-set (omega arith)
+
+-- src/setup.rt:126:1
+same-length : tie.Need-same-length
+same-length c = search needs
+
+-- src/setup.rt:126:1
+returns : tie.Need-returns
+returns c = search needs
+
+pub put-record-spec : {M : Type 1} → statement M
+put-record-spec =
+    tie.close
+    (tie.spec
+    mul-at
+    put-bytes-requires
+    add-records
+    slice-write-records
+    add-records-2
+    slice-write-records-2
+    same-length
+    returns)

@@ -1,0 +1,57 @@
+use Prim.Native.Nat.{_-_, _≤_, _+_, _*_}
+use mathlib.Core.Path.{_≡_}
+use lib.ListN.{length}
+use borrow.Author.Needs.{needs}
+use Rattle.headboarded.proofs.setup.with_all.Statement.{statement}
+use Rattle.headboarded.proofs.setup.with_all.Tie as tie
+use Rattle.headboarded.proofs.setup.with_all.Reads as reads
+use Rattle.headboarded.proofs.setup.with_all.Lts as lts
+use Rattle.pool.proofs.Pool.with.Reads as with-reads
+
+abbrev Inv-loop : tie.InvT-loop
+Inv-loop s now₀ i₀ now i = Unit
+
+abbrev μ-loop : tie.MeasureT-loop
+μ-loop s now₀ i₀ now i = length s - i
+
+-- src/setup.rt:40:5
+loop-holds : tie.Need-loop-holds Inv-loop μ-loop
+loop-holds c = search needs
+
+-- src/setup.rt:41:32
+shared-slice-read-t8 : tie.Need-shared-slice-read-t8 Inv-loop μ-loop
+shared-slice-read-t8 c = search needs
+
+-- src/setup.rt:41:9
+with-requires : tie.Need-with-requires Inv-loop μ-loop
+with-requires c κs = search needs
+
+-- src/setup.rt:42:9
+add-i : tie.Need-add-i Inv-loop μ-loop
+add-i c = search needs
+
+-- src/setup.rt:40:5
+loop-less : tie.Need-loop-less Inv-loop μ-loop
+loop-less c = search needs
+
+-- src/setup.rt:40:5
+loop-again : tie.Need-loop-again Inv-loop μ-loop
+loop-again c = search needs
+
+-- src/setup.rt:37:1
+returns : tie.Need-returns Inv-loop μ-loop
+returns c = search needs
+
+pub with-all-spec : {M : Type 1} → statement M
+with-all-spec =
+    tie.close
+    (tie.spec
+    Inv-loop
+    μ-loop
+    loop-holds
+    shared-slice-read-t8
+    with-requires
+    add-i
+    loop-less
+    loop-again
+    returns)

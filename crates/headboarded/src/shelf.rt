@@ -1,0 +1,29 @@
+// What the console keeps between requests, beside the target records, which lie in a lent buffer.
+use arp::state::Controller;
+use pool::Pool;
+
+pub struct Shelf {
+    // The occupied addresses, for the next start and the next run.
+    pub occupied: Pool,
+    // How many target records there are.
+    pub count: usize,
+    // The controller that start and step drive.
+    pub controller: Controller,
+}
+
+// What a request leaves: the shelf, and the place after the answer in the output.
+pub struct Turn {
+    pub shelf: Shelf,
+    pub at: usize,
+}
+
+// No targets, nothing occupied, the controller as new.
+pub fn new_shelf() -> Shelf {
+    let occupied = Pool::empty();
+    let controller = Controller::new(occupied);
+    Shelf {
+        occupied,
+        count: 0,
+        controller,
+    }
+}

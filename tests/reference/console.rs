@@ -1,0 +1,347 @@
+//! The console, written from its description: words, requests, and the answers of the reference.
+
+use crate::addresses::*;
+use crate::commands::{Command, Udid};
+use crate::controller::{Binding, Controller, Found};
+use crate::decode::{decode, Answer};
+use crate::model::{run_model, BINDINGS, MOST_TARGETS, RECORD};
+use crate::pec::pec;
+use crate::table::{build, Transaction};
+use std::collections::VecDeque;
+
+/// The most characters of a line.
+pub const LONGEST_LINE: usize = 16384;
+
+const NAMES: [&str; 11] = [
+    "quick",
+    "send_byte",
+    "receive_byte",
+    "write_byte",
+    "write_word",
+    "read_byte",
+    "read_word",
+    "process_call",
+    "block_write",
+    "block_read",
+    "block_process_call",
+];
+
+const BYTE: &str = "a byte, 0 to 255";
+const SYMBOL: &str = "a symbol, 0 to 65535";
+const END: &str = "the end of the line";
+
+/// A column, from 1, and what was expected there.
+type Refusal = (usize, &'static str);
+
+type Outcome<T> = Result<T, Refusal>;
+
+/// The words of a line that are not taken yet, each with its column; the column after the last character.
+struct Line<'a> {
+    words: VecDeque<(usize, &'a [u8])>,
+    end: usize,
+}
+
+fn is_blank(character: u8) -> bool {
+    matches!(character, b' ' | b'\t' | b'\r')
+}
+
+fn line_of(text: &[u8]) -> Line<'_> {
+    let content = text.split(|&character| character == b'#').next().expect("a first part");
+    let mut words = VecDeque::new();
+    let mut column = 1;
+    for word in content.split(|&character| is_blank(character)) {
+        if !word.is_empty() {
+            words.push_back((column, word));
+        }
+        column += word.len() + 1;
+    }
+    Line { words, end: content.len() + 1 }
+}
+
+/// The value of a word, whatever its size; a value above 2^32 stays above.
+fn number_of(word: &[u8]) -> Option<u64> {
+    let (digits, base) = match word.strip_prefix(b"0x") {
+        Some(digits) => (digits, 16),
+        None => (word, 10),
+    };
+    if digits.is_empty() {
+        return None;
+    }
+    digits.iter().try_fold(0u64, |value, &character| {
+        let digit = char::from(character).to_digit(base)?;
+        Some((value * u64::from(base) + u64::from(digit)).min(1 << 40))
+    })
+}
+
+fn udid_of_word(word: &[u8]) -> Option<Udid> {
+    let text = std::str::from_utf8(word).ok()?;
+    if text.len() != 32 || !text.bytes().all(|character| character.is_ascii_hexdigit()) {
+        return None;
+    }
+    Some(u128::from_str_radix(text, 16).ok()?.to_be_bytes())
+}
+
+impl<'a> Line<'a> {
+    /// The next word, if it means something as what is expected.
+    fn take<T>(&mut self, expected: &'static str, read: impl Fn(&[u8]) -> Option<T>) -> Outcome<T> {
+        let &(column, word) = self.words.front().ok_or((self.end, expected))?;
+        let value = read(word).ok_or((column, expected))?;
+        self.words.pop_front();
+        Ok(value)
+    }
+
+    fn byte(&mut self) -> Outcome<u8> {
+        self.take(BYTE, |word| number_of(word)?.try_into().ok())
+    }
+
+    fn protocol(&mut self) -> Outcome<u8> {
+        let named = |word: &[u8]| NAMES.iter().position(|name| name.as_bytes() == word).map(|k| k as u8);
+        let numbered = |word: &[u8]| number_of(word)?.try_into().ok();
+        self.take("a protocol, by number or name", |word| named(word).or(numbered(word)))
+    }
+
+    fn pec_use(&mut self) -> Outcome<bool> {
+        self.take("p or -", |word| match word {
+            b"p" => Some(true),
+            b"-" => Some(false),
+            _ => None,
+        })
+    }
+
+    /// Bytes up to the first word that is none.
+    fn some_bytes(&mut self) -> Vec<u8> {
+        std::iter::from_fn(|| self.byte().ok()).collect()
+    }
+
+    fn all_bytes(&mut self) -> Outcome<Vec<u8>> {
+        let bytes = self.some_bytes();
+        self.finish(BYTE)?;
+        Ok(bytes)
+    }
+
+    fn all_symbols(&mut self) -> Outcome<Vec<u16>> {
+        let symbols = std::iter::from_fn(|| self.take(SYMBOL, |word| number_of(word)?.try_into().ok()).ok()).collect();
+        self.finish(SYMBOL)?;
+        Ok(symbols)
+    }
+
+    /// No word is left.
+    fn finish(&self, expected: &'static str) -> Outcome<()> {
+        match self.words.front() {
+            None => Ok(()),
+            Some(&(column, _)) => Err((column, expected)),
+        }
+    }
+
+    /// w B... r B...: what is missing at the end is empty.
+    fn both_lists(&mut self) -> Outcome<(Vec<u8>, Vec<u8>)> {
+        if self.words.is_empty() {
+            return Ok((vec![], vec![]));
+        }
+        self.take("w", |word| (word == b"w").then_some(()))?;
+        let sent = self.some_bytes();
+        if self.words.is_empty() {
+            return Ok((sent, vec![]));
+        }
+        self.take("a byte, 0 to 255, or r", |word| (word == b"r").then_some(()))?;
+        Ok((sent, self.all_bytes()?))
+    }
+}
+
+fn symbols_text(symbols: &[u16]) -> String {
+    symbols.iter().map(|symbol| format!(" {symbol}")).collect()
+}
+
+fn bytes_text(bytes: &[u8]) -> String {
+    bytes.iter().map(|byte| format!(" 0x{byte:02x}")).collect()
+}
+
+fn udid_text(udid: &Udid) -> String {
+    udid.iter().map(|byte| format!("{byte:02x}")).collect()
+}
+
+fn command_text(command: &Command) -> String {
+    match command {
+        Command::Prepare => "0 next prepare\n".to_string(),
+        Command::GetUdid => "0 next get\n".to_string(),
+        Command::Assign(udid, address) => format!("0 next assign {} 0x{address:02x}\n", udid_text(udid)),
+        Command::Ended => "0 end\n".to_string(),
+        Command::NoneFree(udid) => format!("13 end {}\n", udid_text(udid)),
+        Command::Abandoned => "14 end\n".to_string(),
+        Command::NotOutstanding => "21\n".to_string(),
+    }
+}
+
+fn decoded_text(answer: &Answer) -> String {
+    match answer {
+        Answer::Done(t) => format!(
+            "0 address 0x{:02x} direction {} command 0x{:02x} w{} r{}\n",
+            t.address,
+            t.direction,
+            t.command,
+            bytes_text(&t.sent),
+            bytes_text(&t.received)
+        ),
+        Answer::Refused { number: number @ (1 | 2), .. } => format!("{number}\n"),
+        Answer::Refused { number: 6, value } => format!("6 byte {value}\n"),
+        Answer::Refused { number, value } => format!("{number} place {value}\n"),
+    }
+}
+
+pub struct Console {
+    occupied: Addresses,
+    records: Vec<u8>,
+    controller: Controller,
+}
+
+impl Default for Console {
+    fn default() -> Console {
+        Console::new()
+    }
+}
+
+impl Console {
+    pub fn new() -> Console {
+        let none = Addresses::new();
+        Console { controller: Controller::new(&none), occupied: none, records: vec![] }
+    }
+
+    /// The command outstanding, or how the pass ended.
+    pub fn last(&self) -> Command {
+        self.controller.last
+    }
+
+    /// The answer to a line, without its line feed.
+    pub fn answer(&mut self, text: &[u8]) -> String {
+        if text.len() > LONGEST_LINE {
+            return format!("? {} expected a line of at most {LONGEST_LINE} characters\n", LONGEST_LINE + 1);
+        }
+        let mut line = line_of(text);
+        let Some((column, verb)) = line.words.pop_front() else {
+            return String::new();
+        };
+        let answer = match verb {
+            b"pec" => line.all_bytes().map(|bytes| format!("0 pec 0x{:02x}\n", pec(&bytes))),
+            b"encode" => encoded(line),
+            b"decode" => decoded(line),
+            b"occupied" => self.occupy(line),
+            b"target" => self.target(line),
+            b"clear" => line.finish(END).map(|()| self.clear()),
+            b"run" => line.finish(END).map(|()| self.run()),
+            b"start" => line.finish(END).map(|()| self.start()),
+            b"step" => line.all_symbols().map(|symbols| command_text(&self.controller.step(&symbols))),
+            b"lookup" => self.lookup(line),
+            b"grid" => line.finish(END).map(|()| self.grid()),
+            _ => Err((column, "a verb")),
+        };
+        answer.unwrap_or_else(|(column, expected)| format!("? {column} expected {expected}\n"))
+    }
+
+    fn occupy(&mut self, mut line: Line) -> Outcome<String> {
+        let addresses = line.all_bytes()?;
+        if addresses.iter().any(|&address| address >= ADDRESSES) {
+            return Ok("1\n".to_string());
+        }
+        self.occupied.extend(addresses);
+        Ok(format!("0 occupied {}\n", self.occupied.len()))
+    }
+
+    fn target(&mut self, mut line: Line) -> Outcome<String> {
+        let column = line.words.front().map_or(line.end, |&(column, _)| column);
+        let udid = line.take("a UDID of 32 hexadecimal digits", udid_of_word)?;
+        let (byte, flag) = (line.byte()?, line.byte()?);
+        line.finish(END)?;
+        let index = self.records.len() / RECORD;
+        if index >= MOST_TARGETS {
+            return Err((column, "at most 120 targets"));
+        }
+        self.records.extend(udid);
+        self.records.extend([byte, flag]);
+        Ok(format!("0 target {index}\n"))
+    }
+
+    fn clear(&mut self) -> String {
+        *self = Console::new();
+        "0 clear\n".to_string()
+    }
+
+    fn run(&mut self) -> String {
+        let mut bindings = [0; BINDINGS];
+        let outcome = run_model(&mut self.records, &mut bindings, &self.occupied);
+        let mut text = match outcome.answer {
+            0 => format!("0 bound {} get {}\n", outcome.how_many, outcome.get_udids),
+            13 => {
+                format!("13 udid {} bound {} get {}\n", udid_text(&outcome.udid), outcome.how_many, outcome.get_udids)
+            }
+            number => return format!("{number} record {}\n", outcome.record),
+        };
+        for address in outcome.bound {
+            let place = 16 * usize::from(address);
+            let udid: Udid = bindings[place..place + 16].try_into().expect("16 bytes");
+            text += &format!(" 0x{address:02x} {}\n", udid_text(&udid));
+        }
+        for (index, record) in self.records.chunks(RECORD).enumerate() {
+            text += &format!(" target {index} 0x{:02x} {}\n", record[16], record[17]);
+        }
+        text
+    }
+
+    fn start(&mut self) -> String {
+        self.controller = Controller::new(&self.occupied);
+        command_text(&self.controller.start())
+    }
+
+    fn lookup(&self, mut line: Line) -> Outcome<String> {
+        let address = line.byte()?;
+        line.finish(END)?;
+        Ok(match self.controller.lookup(address) {
+            Found::Bound(udid) => format!("0 udid {}\n", udid_text(&udid)),
+            Found::Refused(number) => format!("{number}\n"),
+        })
+    }
+
+    fn cell(&self, address: u8) -> String {
+        match self.controller.bindings.get(&address) {
+            Some(Binding::Bound(_)) => format!("{address:02x}"),
+            Some(Binding::Claimed) => "XX".to_string(),
+            None if self.controller.starting.contains(&address) => "UU".to_string(),
+            None => "--".to_string(),
+        }
+    }
+
+    fn grid(&self) -> String {
+        let head: String = (0..16).map(|column| format!("  {column:x}")).collect();
+        let mut text = format!("0 grid\n   {head}\n");
+        for row in (0..ADDRESSES).step_by(16) {
+            let cells: Vec<String> = (row..row + 16).map(|address| self.cell(address)).collect();
+            text += &format!("{row:02x}: {}\n", cells.join(" "));
+        }
+        text
+    }
+}
+
+fn encoded(mut line: Line) -> Outcome<String> {
+    let (protocol, pec) = (line.protocol()?, line.pec_use()?);
+    let (address, direction, command) = (line.byte()?, line.byte()?, line.byte()?);
+    let (sent, received) = line.both_lists()?;
+    let transaction = Transaction { protocol, pec, address, direction, command, sent, received };
+    Ok(match build(&transaction) {
+        Ok(trace) => format!("0 trace{}\n", symbols_text(&trace)),
+        Err(_) => "1\n".to_string(),
+    })
+}
+
+fn decoded(mut line: Line) -> Outcome<String> {
+    let (protocol, with_pec) = (line.protocol()?, line.pec_use()?);
+    let symbols = line.all_symbols()?;
+    Ok(decoded_text(&decode(protocol, with_pec, &symbols, 255, 255)))
+}
+
+/// The lines of an input. The last one may lack its line feed.
+pub fn lines(input: &[u8]) -> Vec<&[u8]> {
+    let mut lines: Vec<&[u8]> = input.split(|&character| character == b'\n').collect();
+    if lines.last().is_some_and(|last| last.is_empty()) {
+        lines.pop();
+    }
+    lines
+}
