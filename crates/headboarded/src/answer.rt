@@ -1,9 +1,9 @@
-// A request: its verb, and who answers it.
+// A request: its verb, and who answers it. Rests on the module of each verb.
 ghost use Prim.Native.Nat.{_≤_};
 ghost use lib.ListN.{length};
-use crate::codec::decode;
-use crate::codec::encode;
-use crate::codec::pec;
+use crate::checking::pec;
+use crate::decoding::decode;
+use crate::encoding::encode;
 use crate::grid::grid;
 use crate::pass::lookup;
 use crate::pass::start;
@@ -20,21 +20,23 @@ use text::word::next_word;
 use text::word::part;
 use text::word::same;
 
-// The verbs, by number; 0 for any other word.
+// The verbs have numbers, 0 for any other word; up to this one they change nothing.
 const NO_VERB: u8 = 0;
+
+const ASKS: u8 = 5;
 
 // The verbs of a pass.
 fn pass_verb(s: &[u8]) -> u8 {
-    if same(s, b"start") {
+    if same(s, b"lookup") {
         return 4;
     }
-    if same(s, b"step") {
+    if same(s, b"grid") {
         return 5;
     }
-    if same(s, b"lookup") {
+    if same(s, b"start") {
         return 6;
     }
-    if same(s, b"grid") {
+    if same(s, b"step") {
         return 7;
     }
     NO_VERB
@@ -71,7 +73,7 @@ fn ask(s: Shelf, v: u8, line: &[u8], from: usize, out: &mut [u8], at: usize) -> 
         1 => pec(line, from, out, at),
         2 => encode(line, from, out, at),
         3 => decode(line, from, out, at),
-        6 => lookup(s, line, from, out, at),
+        4 => lookup(s, line, from, out, at),
         _ => grid(s, line, from, out, at),
     }
 }
@@ -89,8 +91,8 @@ fn change(
     requires { ⌜ 2160 ≤ length (now records) ⌝ }
 {
     match v {
-        4 => start(s, line, from, out, at),
-        5 => step(s, line, from, out, at),
+        6 => start(s, line, from, out, at),
+        7 => step(s, line, from, out, at),
         8 => occupy(s, line, from, out, at),
         9 => target(s, line, from, records, out, at),
         11 => run_model(s, line, from, records, out, at),
@@ -126,11 +128,7 @@ pub fn answer(s: Shelf, line: &[u8], records: &mut [u8], out: &mut [u8], at: usi
         let next = refuse(out, at, w.from, VERB);
         return Turn { shelf: s, at: next };
     }
-    if v <= 3 {
-        let next = ask(s, v, line, w.to, out, at);
-        return Turn { shelf: s, at: next };
-    }
-    if v == 6 || v == 7 {
+    if v <= ASKS {
         let next = ask(s, v, line, w.to, out, at);
         return Turn { shelf: s, at: next };
     }

@@ -5,8 +5,11 @@ ghost use Prim.Native.Nat.{_≤_};
 ghost use lib.ListN.{length};
 
 mod answer;
-mod codec;
+mod checking;
+mod decoding;
+mod encoding;
 mod grid;
+mod head;
 mod help;
 mod line;
 mod list;

@@ -181,7 +181,7 @@ pub fn take_pec(line: &[u8], at: usize) -> Byte {
     no_byte(w.from)
 }
 
-// The next word is this one, as p w and r in a request of the codec.
+// The next word is this one: the marks w and r of encode's lists.
 pub fn take_mark(line: &[u8], at: usize, mark: &[u8]) -> Byte {
     let w = next_word(line, at);
     if same(part(line, w.from, w.to), mark) {

@@ -1,13 +1,9 @@
-use Prim.Native.Nat.{_-_, _≤_, _+_, _*_}
+use Prim.Native.Nat.{_-_}
 use mathlib.Core.Path.{_≡_}
 use lib.ListN.{length}
 use borrow.Author.Needs.{needs}
 use Rattle.headboarded.proofs.read_all.Statement.{statement}
 use Rattle.headboarded.proofs.read_all.Tie as tie
-use Rattle.headboarded.proofs.read_all.Reads as reads
-use Rattle.headboarded.proofs.read_all.Lts as lts
-use Rattle.headboarded.proofs.line.new_session.Reads as new-session-reads
-use Rattle.headboarded.proofs.read_some.Reads as read-some-reads
 
 abbrev Inv-loop : tie.InvT-loop
 Inv-loop line₀ records₀ out₀ s₀ turns₀ line records out s turns = (length line ≡ length line₀) × (length records ≡ length records₀) × (length out ≡ length out₀)

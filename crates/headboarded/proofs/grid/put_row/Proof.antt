@@ -1,16 +1,9 @@
-use Prim.Native.Nat.{_-_, _≤_, _+_, _*_}
+use Prim.Native.Nat.{_-_, _≤_}
 use mathlib.Core.Path.{_≡_}
 use lib.ListN.{length}
 use borrow.Author.Needs.{needs}
 use Rattle.headboarded.proofs.grid.put_row.Statement.{statement}
 use Rattle.headboarded.proofs.grid.put_row.Tie as tie
-use Rattle.headboarded.proofs.grid.put_row.Reads as reads
-use Rattle.headboarded.proofs.grid.put_row.Lts as lts
-use Rattle.headboarded.proofs.grid.put_cell.Reads as put-cell-reads
-use Rattle.headboarded.proofs.print.put_end.Reads as put-end-reads
-use Rattle.headboarded.proofs.print.room.Reads as room-reads
-use Rattle.text.proofs.write.put.Reads as put-reads
-use Rattle.text.proofs.write.put_pair.Reads as put-pair-reads
 
 abbrev Inv-loop : tie.InvT-loop
 Inv-loop c first out₀ at to₀ k₀ out to k = (k ≤ 16) × (length out ≡ length out₀)

@@ -1,13 +1,9 @@
-use Prim.Native.Nat.{_-_, _≤_, _+_, _*_}
+use Prim.Native.Nat.{_-_, _≤_}
 use mathlib.Core.Path.{_≡_}
 use lib.ListN.{length}
 use borrow.Author.Needs.{needs}
 use Rattle.headboarded.proofs.grid.put_rows.Statement.{statement}
 use Rattle.headboarded.proofs.grid.put_rows.Tie as tie
-use Rattle.headboarded.proofs.grid.put_rows.Reads as reads
-use Rattle.headboarded.proofs.grid.put_rows.Lts as lts
-use Rattle.headboarded.proofs.grid.put_row.Reads as put-row-reads
-use Rattle.headboarded.proofs.print.room.Reads as room-reads
 
 abbrev Inv-loop : tie.InvT-loop
 Inv-loop c out₀ at to₀ row₀ out to row = (row ≤ 8) × (length out ≡ length out₀)

@@ -1,11 +1,9 @@
-use Prim.Native.Nat.{_-_, _≤_, _+_, _*_}
+use Prim.Native.Nat.{_-_}
 use mathlib.Core.Path.{_≡_}
 use lib.ListN.{length}
 use borrow.Author.Needs.{needs}
 use Rattle.headboarded.proofs.line.gather.Statement.{statement}
 use Rattle.headboarded.proofs.line.gather.Tie as tie
-use Rattle.headboarded.proofs.line.gather.Reads as reads
-use Rattle.headboarded.proofs.line.gather.Lts as lts
 
 abbrev Inv-loop : tie.InvT-loop
 Inv-loop h chars from to line₀ n₀ i₀ line n i = length line ≡ length line₀

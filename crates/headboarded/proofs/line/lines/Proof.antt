@@ -1,16 +1,10 @@
 use native.Mathlib.Omega.{arith}
-use Prim.Native.Nat.{_-_, _≤_, _+_, _*_}
+use Prim.Native.Nat.{_-_}
 use mathlib.Core.Path.{_≡_}
 use lib.ListN.{length}
 use borrow.Author.Needs.{needs}
 use Rattle.headboarded.proofs.line.lines.Statement.{statement}
 use Rattle.headboarded.proofs.line.lines.Tie as tie
-use Rattle.headboarded.proofs.line.lines.Reads as reads
-use Rattle.headboarded.proofs.line.lines.Lts as lts
-use Rattle.headboarded.proofs.line.gather.Reads as gather-reads
-use Rattle.headboarded.proofs.line.hold.Reads as hold-reads
-use Rattle.headboarded.proofs.line.next_line.Reads as next-line-reads
-use Rattle.text.proofs.word.line_end.Reads as line-end-reads
 
 abbrev Inv-loop : tie.InvT-loop
 Inv-loop chars line₀ records₀ out₀ now₀ i₀ line records out now i = (length line ≡ length line₀) × (length records ≡ length records₀) × (length out ≡ length out₀)

@@ -1,14 +1,11 @@
 use native.Mathlib.Omega.{arith}
 use lib.ListN.{length-set}
-use Prim.Native.Nat.{_-_, _≤_, _+_, _*_}
+use Prim.Native.Nat.{_-_, _≤_}
 use mathlib.Core.Path.{_≡_}
 use lib.ListN.{length}
 use borrow.Author.Needs.{needs}
 use Rattle.headboarded.proofs.list.bytes.Statement.{statement}
 use Rattle.headboarded.proofs.list.bytes.Tie as tie
-use Rattle.headboarded.proofs.list.bytes.Reads as reads
-use Rattle.headboarded.proofs.list.bytes.Lts as lts
-use Rattle.headboarded.proofs.take.take_byte.Reads as take-byte-reads
 
 abbrev Inv-loop : tie.InvT-loop
 Inv-loop line from out₀ n₀ at₀ out n at = (n ≤ length out) × (length out ≡ length out₀)

@@ -3,12 +3,6 @@ use lib.ListN.{length-take}
 use borrow.Author.Needs.{needs}
 use Rattle.headboarded.proofs.pass.step.Statement.{statement}
 use Rattle.headboarded.proofs.pass.step.Tie as tie
-use Rattle.headboarded.proofs.pass.step.Reads as reads
-use Rattle.headboarded.proofs.pass.step.Lts as lts
-use Rattle.arp.proofs.state.Controller.step.Reads as step-reads
-use Rattle.headboarded.proofs.list.symbols.Reads as symbols-reads
-use Rattle.headboarded.proofs.pass.told.Reads as told-reads
-use Rattle.headboarded.proofs.refuse.refuse.Reads as refuse-reads
 
 -- src/pass.rt:80:33
 slice-aggregate-symbols : tie.Need-slice-aggregate-symbols

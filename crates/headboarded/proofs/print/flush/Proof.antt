@@ -1,14 +1,9 @@
-use Prim.Native.Nat.{_-_, _≤_, _+_, _*_}
-use mathlib.Core.Path.{_≡_}
-use lib.ListN.{length}
+use Prim.Native.Nat.{_-_}
 use native.Mathlib.Omega.{arith}
 use lib.ListN.{length-take}
 use borrow.Author.Needs.{needs}
 use Rattle.headboarded.proofs.print.flush.Statement.{statement}
 use Rattle.headboarded.proofs.print.flush.Tie as tie
-use Rattle.headboarded.proofs.print.flush.Reads as reads
-use Rattle.headboarded.proofs.print.flush.Lts as lts
-use Rattle.io.proofs.write_all.Reads as write-all-reads
 
 -- src/print.rt:14:31
 slice-aggregate-write-all : tie.Need-slice-aggregate-write-all

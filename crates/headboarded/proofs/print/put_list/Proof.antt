@@ -1,13 +1,9 @@
-use Prim.Native.Nat.{_-_, _≤_, _+_, _*_}
+use Prim.Native.Nat.{_-_}
 use mathlib.Core.Path.{_≡_}
 use lib.ListN.{length}
 use borrow.Author.Needs.{needs}
 use Rattle.headboarded.proofs.print.put_list.Statement.{statement}
 use Rattle.headboarded.proofs.print.put_list.Tie as tie
-use Rattle.headboarded.proofs.print.put_list.Reads as reads
-use Rattle.headboarded.proofs.print.put_list.Lts as lts
-use Rattle.headboarded.proofs.print.put_hex.Reads as put-hex-reads
-use Rattle.headboarded.proofs.print.room.Reads as room-reads
 
 abbrev Inv-loop : tie.InvT-loop
 Inv-loop out₀ at s to₀ i₀ out to i = length out ≡ length out₀

@@ -1,14 +1,9 @@
-use Prim.Native.Nat.{_-_, _≤_, _+_, _*_}
+use Prim.Native.Nat.{_-_}
 use mathlib.Core.Path.{_≡_}
 use lib.ListN.{length}
 use borrow.Author.Needs.{needs}
 use Rattle.headboarded.proofs.print.put_symbols.Statement.{statement}
 use Rattle.headboarded.proofs.print.put_symbols.Tie as tie
-use Rattle.headboarded.proofs.print.put_symbols.Reads as reads
-use Rattle.headboarded.proofs.print.put_symbols.Lts as lts
-use Rattle.headboarded.proofs.print.put_number.Reads as put-number-reads
-use Rattle.headboarded.proofs.print.room.Reads as room-reads
-use Rattle.headboarded.proofs.print.wide.Reads as wide-reads
 
 abbrev Inv-loop : tie.InvT-loop
 Inv-loop out₀ at s to₀ i₀ out to i = length out ≡ length out₀

@@ -1,12 +1,9 @@
-use Prim.Native.Nat.{_-_, _≤_, _+_, _*_}
+use Prim.Native.Nat.{_-_, _≤_}
 use mathlib.Core.Path.{_≡_}
 use lib.ListN.{length}
 use borrow.Author.Needs.{needs}
 use Rattle.headboarded.proofs.run.put_bindings.Statement.{statement}
 use Rattle.headboarded.proofs.run.put_bindings.Tie as tie
-use Rattle.headboarded.proofs.run.put_bindings.Reads as reads
-use Rattle.headboarded.proofs.run.put_bindings.Lts as lts
-use Rattle.headboarded.proofs.run.put_address.Reads as put-address-reads
 
 abbrev Inv-loop : tie.InvT-loop
 Inv-loop bound bindings out₀ at to₀ a₀ out to a = (a ≤ 128) × (length out ≡ length out₀)

@@ -1,13 +1,9 @@
-use Prim.Native.Nat.{_-_, _≤_, _+_, _*_}
+use Prim.Native.Nat.{_-_}
 use mathlib.Core.Path.{_≡_}
 use lib.ListN.{length}
 use borrow.Author.Needs.{needs}
 use Rattle.headboarded.proofs.run.put_records.Statement.{statement}
 use Rattle.headboarded.proofs.run.put_records.Tie as tie
-use Rattle.headboarded.proofs.run.put_records.Reads as reads
-use Rattle.headboarded.proofs.run.put_records.Lts as lts
-use Rattle.headboarded.proofs.print.room.Reads as room-reads
-use Rattle.headboarded.proofs.run.put_record.Reads as put-record-reads
 
 abbrev Inv-loop : tie.InvT-loop
 Inv-loop records n out₀ at to₀ i₀ out to i = length out ≡ length out₀

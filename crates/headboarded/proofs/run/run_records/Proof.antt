@@ -3,10 +3,6 @@ use lib.ListN.{length-take}
 use borrow.Author.Needs.{needs}
 use Rattle.headboarded.proofs.run.run_records.Statement.{statement}
 use Rattle.headboarded.proofs.run.run_records.Tie as tie
-use Rattle.headboarded.proofs.run.run_records.Reads as reads
-use Rattle.headboarded.proofs.run.run_records.Lts as lts
-use Rattle.bus.proofs.run.run_model.Reads as run-model-reads
-use Rattle.headboarded.proofs.run.put_run.Reads as put-run-reads
 
 -- src/run.rt:136:15
 mul-end : tie.Need-mul-end

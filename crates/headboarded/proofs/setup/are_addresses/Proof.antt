@@ -1,11 +1,8 @@
-use Prim.Native.Nat.{_-_, _≤_, _+_, _*_}
-use mathlib.Core.Path.{_≡_}
+use Prim.Native.Nat.{_-_}
 use lib.ListN.{length}
 use borrow.Author.Needs.{needs}
 use Rattle.headboarded.proofs.setup.are_addresses.Statement.{statement}
 use Rattle.headboarded.proofs.setup.are_addresses.Tie as tie
-use Rattle.headboarded.proofs.setup.are_addresses.Reads as reads
-use Rattle.headboarded.proofs.setup.are_addresses.Lts as lts
 
 abbrev Inv-loop : tie.InvT-loop
 Inv-loop s i₀ i = Unit

@@ -3,11 +3,6 @@ use lib.ListN.{length-take}
 use borrow.Author.Needs.{needs}
 use Rattle.headboarded.proofs.setup.occupy.Statement.{statement}
 use Rattle.headboarded.proofs.setup.occupy.Tie as tie
-use Rattle.headboarded.proofs.setup.occupy.Reads as reads
-use Rattle.headboarded.proofs.setup.occupy.Lts as lts
-use Rattle.headboarded.proofs.list.bytes.Reads as bytes-reads
-use Rattle.headboarded.proofs.refuse.refuse.Reads as refuse-reads
-use Rattle.headboarded.proofs.setup.occupy_all.Reads as occupy-all-reads
 
 -- src/setup.rt:69:31
 slice-aggregate-bytes : tie.Need-slice-aggregate-bytes

@@ -3,9 +3,6 @@ use lib.ListN.{length-set}
 use borrow.Author.Needs.{needs}
 use Rattle.headboarded.proofs.setup.put_record.Statement.{statement}
 use Rattle.headboarded.proofs.setup.put_record.Tie as tie
-use Rattle.headboarded.proofs.setup.put_record.Reads as reads
-use Rattle.headboarded.proofs.setup.put_record.Lts as lts
-use Rattle.udid.proofs.Udid.put_bytes.Reads as put-bytes-reads
 
 -- src/setup.rt:129:14
 mul-at : tie.Need-mul-at

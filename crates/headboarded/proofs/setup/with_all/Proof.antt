@@ -1,12 +1,8 @@
-use Prim.Native.Nat.{_-_, _≤_, _+_, _*_}
-use mathlib.Core.Path.{_≡_}
+use Prim.Native.Nat.{_-_}
 use lib.ListN.{length}
 use borrow.Author.Needs.{needs}
 use Rattle.headboarded.proofs.setup.with_all.Statement.{statement}
 use Rattle.headboarded.proofs.setup.with_all.Tie as tie
-use Rattle.headboarded.proofs.setup.with_all.Reads as reads
-use Rattle.headboarded.proofs.setup.with_all.Lts as lts
-use Rattle.pool.proofs.Pool.with.Reads as with-reads
 
 abbrev Inv-loop : tie.InvT-loop
 Inv-loop s now₀ i₀ now i = Unit

@@ -1,14 +1,8 @@
 use native.Mathlib.Omega.{arith}
 use lib.ListN.{length-take}
 use borrow.Author.Needs.{needs}
-use Rattle.headboarded.proofs.codec.decode.Statement.{statement}
-use Rattle.headboarded.proofs.codec.decode.Tie as tie
-use Rattle.headboarded.proofs.codec.decode.Reads as reads
-use Rattle.headboarded.proofs.codec.decode.Lts as lts
-use Rattle.headboarded.proofs.codec.put_decoded.Reads as put-decoded-reads
-use Rattle.headboarded.proofs.codec.read_head.Reads as read-head-reads
-use Rattle.headboarded.proofs.list.symbols.Reads as symbols-reads
-use Rattle.headboarded.proofs.refuse.refuse.Reads as refuse-reads
+use Rattle.headboarded.proofs.decoding.decode.Statement.{statement}
+use Rattle.headboarded.proofs.decoding.decode.Tie as tie
 
 -- src/codec.rt:305:9
 read-head-requires : tie.Need-read-head-requires

@@ -1,14 +1,8 @@
 use native.Mathlib.Omega.{arith}
 use lib.ListN.{length-take}
 use borrow.Author.Needs.{needs}
-use Rattle.headboarded.proofs.codec.encode_data.Statement.{statement}
-use Rattle.headboarded.proofs.codec.encode_data.Tie as tie
-use Rattle.headboarded.proofs.codec.encode_data.Reads as reads
-use Rattle.headboarded.proofs.codec.encode_data.Lts as lts
-use Rattle.headboarded.proofs.codec.put_trace.Reads as put-trace-reads
-use Rattle.headboarded.proofs.codec.received_data.Reads as received-data-reads
-use Rattle.headboarded.proofs.codec.sent_data.Reads as sent-data-reads
-use Rattle.headboarded.proofs.refuse.refuse.Reads as refuse-reads
+use Rattle.headboarded.proofs.encoding.encode_data.Statement.{statement}
+use Rattle.headboarded.proofs.encoding.encode_data.Tie as tie
 
 -- src/codec.rt:218:35
 slice-aggregate-sent-data : tie.Need-slice-aggregate-sent-data

@@ -1,86 +1,29 @@
-// The requests of the codec: pec, encode and decode.
+// The request encode: the trace of a transaction.
 ghost use Prim.Native.Nat.{_≤_};
 ghost use lib.ListN.{length};
+use crate::head::Head;
+use crate::head::read_head;
 use crate::list::bytes;
-use crate::list::symbols;
 use crate::print::put_end;
-use crate::print::put_hex;
 use crate::print::put_line;
-use crate::print::put_list;
-use crate::print::put_number;
 use crate::print::put_symbols;
 use crate::refuse::BYTE;
-use crate::refuse::PEC;
-use crate::refuse::PROTOCOL;
 use crate::refuse::RECEIVED;
 use crate::refuse::SENT;
-use crate::refuse::SYMBOL;
 use crate::refuse::refuse;
 use crate::take::take_byte;
 use crate::take::take_mark;
-use crate::take::take_pec;
-use crate::take::take_protocol;
 use encode::Encoded;
-use step::answer::Decoded;
 use text::write::put;
-use trace::transaction::Transaction;
 use wire::address::Address;
 
-// The words that encode and decode begin with. Where one is not as it should be, what was expected at which place; else `what` is 0, and
-// the place is that after them.
-pub struct Head {
-    pub what: u8,
-    pub at: usize,
-    pub protocol: u8,
-    pub pec: bool,
-}
-
-// The fields of a transaction, in the same way.
+// The fields of a transaction, or the place of the word that is none; `what` is 0 where all is well, and the place then is that after them.
 pub struct Fields {
     pub what: u8,
     pub at: usize,
     pub address: u8,
     pub direction: u8,
     pub command: u8,
-}
-
-// pec B...
-pub fn pec(line: &[u8], from: usize, out: &mut [u8], at: usize) -> usize {
-    let mut data = [0u8; 8192];
-    let l = bytes(line, from, &mut data);
-    let n = l.count;
-    if l.at < line.len() {
-        return refuse(out, at, l.at, BYTE);
-    }
-    let a = put(out, at, b"0 pec");
-    let b = put_hex(out, a, wire::pec::of_bytes(&data[..n]));
-    put_end(out, b)
-}
-
-fn no_head(what: u8, at: usize) -> Head {
-    Head {
-        what,
-        at,
-        protocol: 0,
-        pec: false,
-    }
-}
-
-fn read_head(line: &[u8], from: usize) -> Head {
-    let p = take_protocol(line, from);
-    if !p.good {
-        return no_head(PROTOCOL, p.from);
-    }
-    let c = take_pec(line, p.next);
-    if !c.good {
-        return no_head(PEC, c.from);
-    }
-    Head {
-        what: 0,
-        at: c.next,
-        protocol: p.value,
-        pec: c.value == 1,
-    }
 }
 
 fn no_fields(at: usize) -> Fields {
@@ -135,11 +78,11 @@ fn put_trace(h: Head, f: Fields, sent: &[u8], received: &[u8], out: &mut [u8], a
     }
 }
 
-fn put_written(trace: &[u16], n: usize, out: &mut [u8], at: usize) -> usize {
+// The front of the trace.
+fn put_written(trace: &[u16], n: usize, out: &mut [u8], at: usize) -> usize
+    requires { ⌜ n ≤ length (now trace) ⌝ }
+{
     let a = put(out, at, b"0 trace");
-    if n > trace.len() {
-        return put_end(out, a);
-    }
     let b = put_symbols(out, a, &trace[..n]);
     put_end(out, b)
 }
@@ -240,77 +183,4 @@ pub fn encode(line: &[u8], from: usize, out: &mut [u8], at: usize) -> usize {
         return refuse(out, at, f.at, f.what);
     }
     encode_data(line, h, f, out, at)
-}
-
-// A number of document 01, and where.
-fn put_place(out: &mut [u8], at: usize, number: &[u8], n: usize) -> usize {
-    let a = put(out, at, number);
-    let b = put_number(out, a, n as u64);
-    put_end(out, b)
-}
-
-// The front of a buffer, after its mark.
-fn put_data(out: &mut [u8], at: usize, mark: &[u8], data: &[u8], n: usize) -> usize {
-    let a = put(out, at, mark);
-    if n > data.len() {
-        return a;
-    }
-    put_list(out, a, &data[..n])
-}
-
-// A transaction that was decoded.
-fn put_transaction(
-    t: Transaction,
-    sent: &[u8],
-    received: &[u8],
-    out: &mut [u8],
-    at: usize,
-) -> usize {
-    let address = t.address;
-    let a = put(out, at, b"0 address");
-    let b = put_hex(out, a, address.0);
-    let c = put(out, b, b" direction");
-    let d = put_number(out, c, t.direction as u64);
-    let e = put(out, d, b" command");
-    let f = put_hex(out, e, t.command);
-    let g = put_data(out, f, b" w", sent, t.sent);
-    let h = put_data(out, g, b" r", received, t.received);
-    put_end(out, h)
-}
-
-// What the decoder answered.
-fn put_answer(a: Decoded, sent: &[u8], received: &[u8], out: &mut [u8], at: usize) -> usize {
-    match a {
-        Decoded::Done(t) => put_transaction(t, sent, received, out, at),
-        Decoded::Forbidden => put_line(out, at, b"1"),
-        Decoded::BufferTooShort => put_line(out, at, b"2"),
-        Decoded::NoSymbol(n) => put_place(out, at, b"3 place", n),
-        Decoded::EndsEarly(n) => put_place(out, at, b"4 place", n),
-        Decoded::Unexpected(n) => put_place(out, at, b"5 place", n),
-        Decoded::NotAcknowledged(n) => put_place(out, at, b"6 byte", n),
-        Decoded::PecDiffers(n) => put_place(out, at, b"7 place", n),
-        Decoded::AfterStop(n) => put_place(out, at, b"8 place", n),
-    }
-}
-
-fn put_decoded(h: Head, trace: &[u16], out: &mut [u8], at: usize) -> usize {
-    let mut sent = [0u8; 255];
-    let mut received = [0u8; 255];
-    let a = decode::decode(h.protocol, h.pec, trace, &mut sent, &mut received);
-    put_answer(a, &sent, &received, out, at)
-}
-
-// decode P p|- SYMBOL...
-pub fn decode(line: &[u8], from: usize, out: &mut [u8], at: usize) -> usize {
-    let h = read_head(line, from);
-    if h.what != 0 {
-        return refuse(out, at, h.at, h.what);
-    }
-    let mut trace = [0u16; 8192];
-    let l = symbols(line, h.at, &mut trace);
-    let n = l.count;
-    if l.at < line.len() {
-        return refuse(out, at, l.at, SYMBOL);
-    }
-    put_decoded(h, &trace[..n], out, at)
 }

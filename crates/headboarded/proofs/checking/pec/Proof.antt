@@ -1,16 +1,8 @@
 use native.Mathlib.Omega.{arith}
 use lib.ListN.{length-take}
 use borrow.Author.Needs.{needs}
-use Rattle.headboarded.proofs.codec.pec.Statement.{statement}
-use Rattle.headboarded.proofs.codec.pec.Tie as tie
-use Rattle.headboarded.proofs.codec.pec.Reads as reads
-use Rattle.headboarded.proofs.codec.pec.Lts as lts
-use Rattle.headboarded.proofs.list.bytes.Reads as bytes-reads
-use Rattle.headboarded.proofs.print.put_end.Reads as put-end-reads
-use Rattle.headboarded.proofs.print.put_hex.Reads as put-hex-reads
-use Rattle.headboarded.proofs.refuse.refuse.Reads as refuse-reads
-use Rattle.text.proofs.write.put.Reads as put-reads
-use Rattle.wire.proofs.pec.of_bytes.Reads as of-bytes-reads
+use Rattle.headboarded.proofs.checking.pec.Statement.{statement}
+use Rattle.headboarded.proofs.checking.pec.Tie as tie
 
 -- src/codec.rt:50:31
 slice-aggregate-bytes : tie.Need-slice-aggregate-bytes
