@@ -18,6 +18,7 @@ use Rattle.pool.specs.Start.{startingPool}
 use Rattle.pool.specs.StartLaws.{member-starting}
 use Rattle.pool.specs.declared.Pool.{Pool}
 use Rattle.udid.specs.Bytes.{udidBytes}
+use Rattle.udid.specs.Udids.{sameUdid}
 use Rattle.udid.specs.declared.Udid.{Udid}
 use Rattle.arp.specs.Bindings.{heldAt}
 use Rattle.arp.specs.Numbers.{commandNumber}
@@ -43,7 +44,7 @@ use Rattle.rule.specs.PlainRule.{Ending, served, noneFree, Given, Ruled, ruled,
 use Rattle.rule.specs.PassEnd.{lastCommand, passEnd}
 use Rattle.rule.specs.Demand3.{demand-3, given-addresses}
 use Rattle.rule.specs.AllBound.{movable, leftFree, all-served, all-given}
-use Rattle.rule.specs.Reading.{Any, isBound, boundAt, GivenAt, servedBy, OnePerUdid, TakenBy, bound-count, bound-given, given-bound, none-claimed, end-targets, served-target, served-once}
+use Rattle.rule.specs.Reading.{Any, isBound, boundAt, GivenAt, servedBy, OnePerUdid, TakenBy, bound-count, bound-given, given-bound, none-claimed, end-targets, unserved, served-target, served-once}
 use Rattle.bus.specs.Run.{noUdid, numberIn, udidIn, entryOf, entryAt, ModelEnd, Leaves, endedEnd, endChecked, modelEnd}
 use Rattle.bus.specs.RunLaws.{end-checked}
 use Rattle.bus.specs.declared.answer.ModelAnswer.{ModelAnswer}
@@ -92,6 +93,8 @@ pub record Meets (occupied : Pool) (s b : List ℕ) (given : List Given) (ending
   pub records : Changed (λ (t : Target). servedBy given (prepared t)) s s′
   -- a target that is bound has its address and flag 1
   pub served-targets : (t : Target) → Each (TakenBy given (prepared t)) given
+  -- one that is not keeps its address byte, with flag 0
+  pub unserved-targets : (t : Target) → Each (λ (g : Given). sameUdid (t .udid) (g .who .udid) ≡ false) given → servedBy given (prepared t) ≡ prepared t
 
 -- ---- the proof
 
@@ -212,6 +215,7 @@ module _ (occupied : Pool) (s b : List ℕ) (bytes : Bytes s) (e : checkedList (
     records = changed-exactly (λ (t : Target). servedBy given (prepared t)) (λ t. served-keeps given (prepared t)) s
         (recordsWith (passEnd (startingPool occupied) (targetsOf s) .targets) s) .0 (ap (λ (ts : List Target). recordsWith ts s) (end-targets (startingPool occupied) (targetsOf s)));
     served-targets = served-target (startingPool occupied) (targetsOf s) admitted;
+    unserved-targets = λ t h. unserved given (prepared t) h;
   }
 
 -- DEMAND 3
