@@ -21,6 +21,7 @@ pub mod recorder;
 pub mod samples;
 pub mod shelf_passes;
 pub mod shelves;
+pub mod spoiled;
 pub mod stored;
 pub mod table;
 pub mod text;
