@@ -37,4 +37,26 @@ hb_written hb_encode_symbols(uint8_t protocol, uint8_t pec, uint8_t address, uin
 hb_decoded hb_decode_symbols(uint8_t protocol, uint8_t pec, const uint16_t *trace, size_t trace_len,
                              uint8_t *sent, size_t sent_len, uint8_t *received, size_t received_len);
 
+typedef struct {
+    uint64_t high;
+    uint64_t low;
+} hb_udid;
+
+typedef struct {
+    uint64_t low;
+    uint64_t high;
+} hb_pool;
+
+typedef struct {
+    uint32_t answer;
+    uint32_t count;
+    uint32_t gets;
+    size_t place;
+    hb_udid udid;
+    hb_pool bound;
+} hb_model;
+
+hb_model hb_run_model(uint64_t occupied_low, uint64_t occupied_high, uint8_t *records, size_t records_len,
+                      uint8_t *bindings, size_t bindings_len);
+
 #endif

@@ -23,6 +23,7 @@ pub mod requests;
 pub mod samples;
 pub mod shelf_passes;
 pub mod shelves;
+pub mod spoiled;
 pub mod stored;
 pub mod table;
 pub mod text;

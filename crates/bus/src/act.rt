@@ -7,7 +7,7 @@ use targets::assign;
 use targets::prepare;
 
 // Prepare To ARP clears every flag, Assign Address reaches the target with that identifier, and Get UDID changes nothing.
-pub fn act(k: Command, records: &mut [u8])
+pub(crate) fn act(k: Command, records: &mut [u8])
     ensures { λ r. ⌜ now (records .exit) ≡ recordsWith (acted k (targetsOf (now (records .entry)))) (now (records .entry)) ⌝ }
 {
     match k {

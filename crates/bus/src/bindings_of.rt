@@ -26,7 +26,7 @@ fn entry_of(s: Slot) -> Entry
 }
 
 // The first 2,048 bytes: the identifier of address a at 16 a, zeros where none is bound.
-pub fn put_bindings(out: &mut [u8], slots: [Slot; 128])
+pub(crate) fn put_bindings(out: &mut [u8], slots: [Slot; 128])
     requires { ⌜ 2048 ≤ length (now out) ⌝ }
     ensures { λ r. ⌜ now (out .exit) ≡ bufferOf (entryAt slots) ++ drop 2048 (now (out .entry)) ⌝ }
 {
@@ -40,7 +40,7 @@ pub fn put_bindings(out: &mut [u8], slots: [Slot; 128])
 }
 
 // The addresses to which somebody is bound.
-pub fn bound_set(slots: [Slot; 128]) -> Pool
+pub(crate) fn bound_set(slots: [Slot; 128]) -> Pool
     ensures { λ r. ⌜ r ≡ boundSet (entryAt slots) ⌝ }
 {
     let mut bound = Pool::empty();

@@ -1,7 +1,7 @@
 // The model of the bus with its targets: a pass of the controller's steps over the codec's traces, against lent target records.
 // Rests on arp, encode, targets and bindings; that the pass ends as the plain rule says is in crate rule.
 mod act;
-mod answer;
+pub mod answer;
 mod bindings_of;
 mod pass;
 pub mod run;

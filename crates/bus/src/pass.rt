@@ -24,7 +24,7 @@ fn is_sent(k: Command) -> bool
     }
 }
 
-pub fn run_pass(occupied: Pool, records: &mut [u8]) -> Stepped
+pub(crate) fn run_pass(occupied: Pool, records: &mut [u8]) -> Stepped
     requires { ⌜ checkedList (startingPool occupied) (now records) ≡ Admitted ⌝ }
     ensures { λ r. ⌜ Matches (pass occupied (targetsOf (now (records .entry)))) r (now (records .entry)) (now (records .exit)) ⌝ }
 {

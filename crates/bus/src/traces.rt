@@ -73,7 +73,7 @@ fn put_get(records: &[u8], out: &mut [u16]) -> usize
 }
 
 // The trace on the bus of a command; of an end, nothing.
-pub fn put_trace(k: Command, records: &[u8], out: &mut [u16]) -> usize
+pub(crate) fn put_trace(k: Command, records: &[u8], out: &mut [u16]) -> usize
     requires { ⌜ Fit (now records) × Reaches k (targetsOf (now records)) × (64 ≤ length (now out)) ⌝ }
     ensures { λ r. ⌜ (r ≤ 64) × (take r (now (out .exit)) ≡ onBus k (targetsOf (now (records .entry)))) ⌝ }
 {

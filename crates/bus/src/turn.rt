@@ -6,7 +6,7 @@ use super::act::act;
 use super::traces::put_trace;
 use arp::state::Stepped;
 
-pub fn send(st: Stepped, records: &mut [u8]) -> Stepped
+pub(crate) fn send(st: Stepped, records: &mut [u8]) -> Stepped
     requires { ⌜ Fit (now records) × Going st (now records) ⌝ }
     ensures { λ r. ⌜ Matches (sentTo st (targetsOf (now (records .entry))) (st .command)) r (now (records .entry)) (now (records .exit)) ⌝ }
 {

@@ -1,3 +1,4 @@
 pub mod CodecLaws
 pub mod LongTraces
+pub mod ModelLaws
 pub mod ReadLaws

@@ -1,3 +1,4 @@
 pub mod Numbers
 pub mod Pairs
 pub mod Codec
+pub mod Model

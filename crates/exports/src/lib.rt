@@ -3,4 +3,5 @@
 pub mod answer;
 pub mod codec;
 pub mod ground;
+pub mod model;
 pub mod symbols;

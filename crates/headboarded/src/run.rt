@@ -11,6 +11,7 @@ use crate::refuse::END;
 use crate::refuse::TARGETS;
 use crate::refuse::refuse;
 use crate::shelf::Shelf;
+use bus::answer::ModelAnswer;
 use bus::run::run_model;
 use pool::Pool;
 use text::word::next_word;
@@ -18,17 +19,6 @@ use text::write::put;
 use text::write::put_decimal;
 use udid::Udid;
 use wire::address::Address;
-
-// What a run answered: document 01's number, the record of a refusal, the identifier that found no address, the bound addresses and how
-// many they are, and how many Get UDIDs were sent.
-struct Ran {
-    answer: u32,
-    place: usize,
-    udid: Udid,
-    bound: Pool,
-    count: u32,
-    gets: u32,
-}
 
 // A bound address and its target.
 fn put_bound(a: u8, bindings: &[u8], out: &mut [u8], at: usize) -> usize {
@@ -87,7 +77,7 @@ fn put_records(records: &[u8], n: usize, out: &mut [u8], at: usize) -> usize
 }
 
 // How a run ended: with 13, the identifier that found no address.
-fn put_ending(a: Ran, out: &mut [u8], at: usize) -> usize {
+fn put_ending(a: ModelAnswer, out: &mut [u8], at: usize) -> usize {
     let u = a.udid;
     let b = put_decimal(out, at, a.answer as u64);
     if a.answer == 13 {
@@ -98,7 +88,7 @@ fn put_ending(a: Ran, out: &mut [u8], at: usize) -> usize {
 }
 
 // The first line of a run that came to its end.
-fn put_first(a: Ran, out: &mut [u8], at: usize) -> usize {
+fn put_first(a: ModelAnswer, out: &mut [u8], at: usize) -> usize {
     let b = put_ending(a, out, at);
     let c = put(out, b, b" bound");
     let d = put_number(out, c, a.count as u64);
@@ -108,7 +98,7 @@ fn put_first(a: Ran, out: &mut [u8], at: usize) -> usize {
 }
 
 // A refusal, with the record.
-fn put_refusal(a: Ran, out: &mut [u8], at: usize) -> usize {
+fn put_refusal(a: ModelAnswer, out: &mut [u8], at: usize) -> usize {
     let b = put_decimal(out, at, a.answer as u64);
     let c = put(out, b, b" record");
     let d = put_number(out, c, a.place as u64);
@@ -116,7 +106,14 @@ fn put_refusal(a: Ran, out: &mut [u8], at: usize) -> usize {
 }
 
 // What a run answered. The lists that this program hands over are never refused with 2 or 9.
-fn put_run(a: Ran, bindings: &[u8], records: &[u8], n: usize, out: &mut [u8], at: usize) -> usize
+fn put_run(
+    a: ModelAnswer,
+    bindings: &[u8],
+    records: &[u8],
+    n: usize,
+    out: &mut [u8],
+    at: usize,
+) -> usize
     requires { ⌜ (18 * n ≤ length (now records)) × (n ≤ 120) ⌝ }
 {
     if 1 <= a.answer && a.answer <= 12 {
@@ -135,17 +132,7 @@ fn run_records(occupied: Pool, n: usize, records: &mut [u8], out: &mut [u8], at:
     let mut bindings = [0u8; 2048];
     let end = 18 * n;
     let a = run_model(occupied, &mut records[..end], &mut bindings);
-    let udid = a.udid;
-    let bound = a.bound;
-    let ran = Ran {
-        answer: a.answer,
-        place: a.place,
-        udid,
-        bound,
-        count: a.count,
-        gets: a.gets,
-    };
-    put_run(ran, &bindings, records, n, out, at)
+    put_run(a, &bindings, records, n, out, at)
 }
 
 // run

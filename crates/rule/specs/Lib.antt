@@ -9,3 +9,4 @@ pub mod StepLaws
 pub mod PassLaws
 pub mod Demand3
 pub mod Reading
+pub mod AllBound

@@ -75,7 +75,7 @@ module _ (f : Target → Target) (keeps : (t : Target) → f t .udid ≡ t .udid
           ap (λ (x : ℕ). getD t x 0) e ∙ flag (k / 18) l ∙ ap (λ (x : ℕ). getD u x 0) (sym e)
       go k (yes l) (no p) (no q) = apart k (λ i h. (λ e. p (omega (arith, e)), λ e. q (omega (arith, e))))
 
-  changed-exactly : (t : List ℕ) → (t ≡ recordsWith (mapTargets f (targetsOf s)) s) ↔ Changed f s t
+  pub changed-exactly : (t : List ℕ) → (t ≡ recordsWith (mapTargets f (targetsOf s)) s) ↔ Changed f s t
   changed-exactly t = (λ e. subst (Changed f s) (sym e) changed-holds, λ c. changed-unique t (recordsWith (mapTargets f (targetsOf s)) s) c changed-holds)
 
 -- PREPARE CLEARS THE FLAG OF EVERY RECORD, and nothing else changes

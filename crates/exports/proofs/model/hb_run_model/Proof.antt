@@ -1,0 +1,44 @@
+use borrow.Author.Needs.{needs}
+use Rattle.exports.proofs.ModelLaws.{told-model}
+use Rattle.exports.proofs.model.hb_run_model.Statement.{statement}
+use Rattle.exports.proofs.model.hb_run_model.Tie as tie
+use Rattle.exports.proofs.model.hb_run_model.Reads as reads
+use Rattle.exports.proofs.model.hb_run_model.Lts as lts
+use Rattle.bus.proofs.run.run_model.Reads as run-model-reads
+use Rattle.exports.proofs.model.addresses.Reads as addresses-reads
+use Rattle.exports.proofs.model.identifier.Reads as identifier-reads
+
+-- src/model.rt:62:9
+run-model-requires : tie.Need-run-model-requires
+run-model-requires c κs = search needs
+
+-- src/model.rt:68:15
+identifier-requires : tie.Need-identifier-requires
+identifier-requires c κs = search needs
+
+-- src/model.rt:69:16
+addresses-requires : tie.Need-addresses-requires
+addresses-requires c κs = search needs
+
+-- src/model.rt:53:1
+same-length : tie.Need-same-length
+same-length c = search needs
+
+-- src/model.rt:53:1
+same-length-2 : tie.Need-same-length-2
+same-length-2 c = search needs
+
+-- src/model.rt:53:1
+returns : tie.Need-returns
+returns c = told-model _ _ _ _ _ _ _ _ (c .before .before .before .before .before .before .run-model .ensures) (c .before .identifier .ensures) (c .addresses .ensures)
+
+pub hb-run-model-spec : {M : Type 1} → statement M
+hb-run-model-spec =
+    tie.close
+    (tie.spec
+    run-model-requires
+    identifier-requires
+    addresses-requires
+    same-length
+    same-length-2
+    returns)

@@ -1,0 +1,264 @@
+-- DEMAND 3 for the delivered model run, in terms of the plain rule alone: for every target list that is not refused, whatever the
+-- occupied addresses and the lent binding buffer. Through its contract the run is the pass bit by bit: each command is what the
+-- delivered steps give for the traces so far, each trace is the codec's for what stands on the wire.
+use Prim.Native.Nat.{ℕ, zero, suc, _+_, _*_, _%_, _≤_, _<_}
+use mathlib.Core.Path.{_≡_, refl, sym, ap, _∙_, subst}
+use mathlib.Core.Bool.{Bool, true, false}
+use mathlib.Core.Logic.{_⊎_, inl, inr, _↔_}
+use mathlib.Core.List.{List, [], _∷_, _++_}
+use native.Mathlib.Omega.{arith}
+use lib.ListN.{length, getD, take, drop, replicate}
+use Rattle.lists.specs.Choice.{or}
+use Rattle.lists.specs.Each.{Each, Bytes}
+use Rattle.wire.specs.Addresses.{isReserved}
+use Rattle.pool.specs.Counts.{count}
+use Rattle.pool.specs.CountLaws.{count-cong}
+use Rattle.pool.specs.Pools.{member}
+use Rattle.pool.specs.Start.{startingPool}
+use Rattle.pool.specs.StartLaws.{member-starting}
+use Rattle.pool.specs.declared.Pool.{Pool}
+use Rattle.udid.specs.Bytes.{udidBytes}
+use Rattle.udid.specs.Udids.{sameUdid}
+use Rattle.udid.specs.declared.Udid.{Udid}
+use Rattle.arp.specs.Bindings.{heldAt}
+use Rattle.arp.specs.Numbers.{commandNumber}
+use Rattle.arp.specs.declared.state.Binding.{Binding}
+use Rattle.arp.specs.declared.state.Binding.the-variants as binding
+use Rattle.arp.specs.declared.state.Slot.{Slot}
+use Rattle.targets.specs.Admission.{AdmittedTargets}
+use Rattle.targets.specs.AdmissionLaws.{admitted-targets}
+use Rattle.targets.specs.ChangeLaws.{Changed, changed-exactly}
+use Rattle.targets.specs.Records.{targetsOf, recordsWith}
+use Rattle.targets.specs.RecordLaws.{assigned-keeps}
+use Rattle.targets.specs.Refusals.{checkedList}
+use Rattle.targets.specs.Target.{Target, mapTargets, prepared, assignedTo}
+use Rattle.targets.specs.declared.admit.Checked.{Checked}
+use Rattle.targets.specs.declared.admit.Checked.the-variants.{Admitted}
+use Rattle.bindings.specs.BoundLaws.{bound-set-has, bound-set-count}
+use Rattle.bindings.specs.BufferLaws.{bytes-there, rest-there, nobody-bytes}
+use Rattle.bindings.specs.Entries as entries
+use Rattle.bindings.specs.declared.entry.Entry.{Entry}
+use Rattle.bindings.specs.declared.entry.Entry.the-variants.{Nobody}
+use Rattle.rule.specs.Bus.{World, pass}
+use Rattle.rule.specs.PlainRule.{Ending, served, noneFree, Given, Ruled, ruled, FreeIn, Distinct}
+use Rattle.rule.specs.PassEnd.{lastCommand, passEnd}
+use Rattle.rule.specs.Demand3.{demand-3, given-addresses}
+use Rattle.rule.specs.AllBound.{movable, leftFree, all-served, all-given}
+use Rattle.rule.specs.Reading.{Any, isBound, boundAt, GivenAt, servedBy, OnePerUdid, TakenBy, bound-count, bound-given, given-bound, none-claimed, end-targets, unserved, served-target, served-once}
+use Rattle.bus.specs.Run.{noUdid, numberIn, udidIn, entryOf, entryAt, ModelEnd, Leaves, endedEnd, endChecked, modelEnd}
+use Rattle.bus.specs.RunLaws.{end-checked}
+use Rattle.bus.specs.declared.answer.ModelAnswer.{ModelAnswer}
+
+-- ---- the plain rule's end, in the paper's numbers
+
+-- 0, or 13 with the identifier that asked
+abbrev pub numberOf : Ending → ℕ
+numberOf served = 0
+numberOf (noneFree u) = 13
+
+abbrev pub askerOf : Ending → Udid
+askerOf served = noUdid
+askerOf (noneFree u) = u
+
+-- Get UDIDs: none on an empty bus, else one more than targets are bound
+abbrev pub getsFor : List Target → ℕ → ℕ
+getsFor [] bound = 0
+getsFor (t ∷ ts) bound = suc bound
+
+-- an address below 128 that is neither reserved nor occupied
+pub record Assignable (occupied : Pool) (g : Given) : Type 0 where
+  pub address : g .address < 128
+  pub not-reserved : isReserved (g .address) ≡ false
+  pub not-occupied : member occupied (g .address) ≡ false
+
+-- ---- what the run has to leave: `given` are the bindings of the plain rule over the targets of the records s
+pub record Meets (occupied : Pool) (s b : List ℕ) (given : List Given) (ending : Ending) (r : ModelAnswer) (s′ b′ : List ℕ) : Type 0 where
+  -- the answer: 0 or 13, the identifier that asked, no record
+  pub answered : r .answer ≡ numberOf ending
+  pub asker : r .udid ≡ askerOf ending
+  pub no-record : r .place ≡ 0
+  -- how many are bound, and how many Get UDIDs were sent
+  pub counted : r .count ≡ length given
+  pub gets : r .gets ≡ getsFor (targetsOf s) (length given)
+  -- which addresses are bound: those given, each assignable, no two alike, and each identifier once
+  pub bound : (a : ℕ) → a < 128 → (member (r .bound) a ≡ true) ↔ Any (λ (g : Given). g .address ≡ a) given
+  pub assignable : Each (Assignable occupied) given
+  pub distinct : Distinct given
+  pub once : OnePerUdid given
+  -- the binding buffer: who is bound stands at 16 times the address, zeros where nobody is, and all after 2,048 bytes as it was
+  pub bound-bytes : Each (λ (g : Given). take 16 (drop (16 * g .address) b′) ≡ udidBytes (g .who .udid)) given
+  pub free-bytes : (a : ℕ) → a < 128 → (Any (λ (g : Given). g .address ≡ a) given → ⊥) → take 16 (drop (16 * a) b′) ≡ replicate 16 0
+  pub rest : drop 2048 b′ ≡ drop 2048 b
+  -- the records: each target as Prepare and the Assigns that reached it left it, every other byte as it was
+  pub records : Changed (λ (t : Target). servedBy given (prepared t)) s s′
+  -- a target that is bound has its address and flag 1
+  pub served-targets : (t : Target) → Each (TakenBy given (prepared t)) given
+  -- one that is not keeps its address byte, with flag 0
+  pub unserved-targets : (t : Target) → Each (λ (g : Given). sameUdid (t .udid) (g .who .udid) ≡ false) given → servedBy given (prepared t) ≡ prepared t
+
+-- ---- the proof
+
+number-is : (e : Ending) → numberIn (commandNumber (lastCommand e)) ≡ numberOf e
+number-is served = refl
+number-is (noneFree u) = refl
+
+asker-is : (e : Ending) → udidIn (commandNumber (lastCommand e)) ≡ askerOf e
+asker-is served = refl
+asker-is (noneFree u) = refl
+
+end-number : (p : Pool) (ts : List Target) → numberIn (commandNumber (passEnd p ts .now .command)) ≡ numberOf (ruled p ts .ending)
+end-number p [] = refl
+end-number p (t ∷ ts) = number-is (ruled p (t ∷ ts) .ending)
+
+end-asker : (p : Pool) (ts : List Target) → udidIn (commandNumber (passEnd p ts .now .command)) ≡ askerOf (ruled p ts .ending)
+end-asker p [] = refl
+end-asker p (t ∷ ts) = asker-is (ruled p (t ∷ ts) .ending)
+
+end-gets : (p : Pool) (ts : List Target) → passEnd p ts .now .state .gets ≡ getsFor ts (length (ruled p ts .given))
+end-gets p [] = refl
+end-gets p (t ∷ ts) = omega arith
+
+-- an entry is bound where a slot is
+entry-bound : (h : Binding) → entries.isBound (entryOf h) ≡ isBound h
+entry-bound binding.Open = refl
+entry-bound (binding.Bound u) = refl
+entry-bound binding.Claimed = refl
+
+bound-one : (h : Binding) → isBound h ≡ true → (u : Udid) × (h ≡ binding.Bound u)
+bound-one binding.Open e = absurd (let z : _≡_ {A = ℕ} 0 1 = cc e in omega arith)
+bound-one (binding.Bound u) e = (u, refl)
+bound-one binding.Claimed e = absurd (let z : _≡_ {A = ℕ} 0 1 = cc e in omega arith)
+
+any-more : {P Q : Given → Type 0} (gs : List Given) → ((g : Given) → P g → Q g) → Any P gs → Any Q gs
+any-more (g ∷ gs) f (inl p) = inl (f g p)
+any-more (g ∷ gs) f (inr p) = inr (any-more gs f p)
+
+each-more : {P Q R : Given → Type 0} (gs : List Given) → ((g : Given) → P g → Q g → R g) → Each P gs → Each Q gs → Each R gs
+each-more [] f p q = tt
+each-more (g ∷ gs) f p q = (f g (p .0) (q .0), each-more gs f (p .1) (q .1))
+
+-- one of a list of which something holds
+any-each : {P Q R : Given → Type 0} (gs : List Given) → ((g : Given) → P g → Q g → R g) → Any P gs → Each Q gs → Any R gs
+any-each (g ∷ gs) f (inl p) q = inl (f g p (q .0))
+any-each (g ∷ gs) f (inr p) q = inr (any-each gs f p (q .1))
+
+any-same : {C : Type 0} (gs : List Given) → Any (λ (g : Given). C) gs → C
+any-same (g ∷ gs) (inl p) = p
+any-same (g ∷ gs) (inr p) = any-same gs p
+
+served-keeps : (gs : List Given) (t : Target) → servedBy gs t .udid ≡ t .udid
+served-keeps [] t = refl
+served-keeps (g ∷ gs) t = served-keeps gs (assignedTo (g .who .udid) (g .address) t) ∙ assigned-keeps (g .who .udid) (g .address) t
+
+either-false : (x y : Bool) → or x y ≡ false → (x ≡ false) × (y ≡ false)
+either-false true y e = absurd (let z : _≡_ {A = ℕ} 0 1 = cc e in omega arith)
+either-false false y e = (refl, e)
+
+assignable-is : (occupied : Pool) (g : Given) → FreeIn (startingPool occupied) g → Assignable occupied g
+assignable-is occupied g f =
+    let e = either-false (isReserved (g .address)) (member occupied (g .address)) (sym (member-starting occupied (g .address)) ∙ f .1) in
+    record { address = f .0; not-reserved = e .0; not-occupied = e .1 }
+
+each-one : {P Q : Given → Type 0} (gs : List Given) → ((g : Given) → P g → Q g) → Each P gs → Each Q gs
+each-one [] f p = tt
+each-one (g ∷ gs) f p = (f g (p .0), each-one gs f (p .1))
+
+module _ (occupied : Pool) (s b : List ℕ) (bytes : Bytes s) (e : checkedList (startingPool occupied) s ≡ Admitted) where
+  abbrev start : Pool
+  start = startingPool occupied
+
+  admitted : AdmittedTargets (startingPool occupied) (targetsOf s)
+  admitted = admitted-targets (startingPool occupied) s bytes e
+
+  abbrev given : List Given
+  given = ruled (startingPool occupied) (targetsOf s) .given
+
+  abbrev slots : List Slot
+  slots = passEnd (startingPool occupied) (targetsOf s) .now .state .slots
+
+  slot-bound : (a : ℕ) → entries.isBound (entryAt slots a) ≡ boundAt slots a
+  slot-bound a = entry-bound (heldAt slots a)
+
+  set-has : (a : ℕ) → a < 128 → member (entries.boundSet (entryAt slots)) a ≡ boundAt slots a
+  set-has a h = bound-set-has (entryAt slots) a h ∙ slot-bound a
+
+  bound-exactly : (a : ℕ) → a < 128 → (member (entries.boundSet (entryAt slots)) a ≡ true) ↔ Any (λ (g : Given). g .address ≡ a) given
+  bound-exactly a h = (
+    λ q. (let w = bound-one (heldAt slots a) (sym (set-has a h) ∙ q) in any-more given (λ g p. p .0) (bound-given occupied (targetsOf s) admitted a (w .0) (w .1))),
+    λ q. any-same given (any-each given (λ g p k. set-has a h ∙ ap (boundAt slots) (sym p) ∙ ap isBound k) q (given-bound occupied (targetsOf s) admitted)),
+  )
+
+  free-entry : (a : ℕ) → (Any (λ (g : Given). g .address ≡ a) given → ⊥) → entryAt slots a ≡ Nobody
+  free-entry a n = go (heldAt slots a) refl
+    where
+      go : (h : Binding) → heldAt slots a ≡ h → entryOf h ≡ Nobody
+      go binding.Open q = refl
+      go (binding.Bound u) q = absurd (n (any-more given (λ g p. p .0) (bound-given occupied (targetsOf s) admitted a u q)))
+      go binding.Claimed q = refl
+
+  rule-end : Meets occupied s b given (ruled (startingPool occupied) (targetsOf s) .ending) (endedEnd (passEnd (startingPool occupied) (targetsOf s)) s b .answer)
+      (endedEnd (passEnd (startingPool occupied) (targetsOf s)) s b .records) (endedEnd (passEnd (startingPool occupied) (targetsOf s)) s b .bindings)
+  rule-end = record {
+    answered = end-number (startingPool occupied) (targetsOf s);
+    asker = end-asker (startingPool occupied) (targetsOf s);
+    no-record = refl;
+    counted = bound-set-count (entryAt slots) ∙ count-cong (λ (a : ℕ). entries.isBound (entryAt slots a)) (boundAt slots) 128 (λ j h. slot-bound j) ∙ bound-count occupied (targetsOf s) admitted;
+    gets = end-gets (startingPool occupied) (targetsOf s);
+    bound = bound-exactly;
+    assignable = each-one given (assignable-is occupied) (given-addresses occupied (targetsOf s) admitted .0);
+    distinct = given-addresses occupied (targetsOf s) admitted .1;
+    once = served-once (startingPool occupied) (targetsOf s) admitted;
+    bound-bytes = each-more given (λ g k f. bytes-there (entryAt slots) (drop 2048 b) (g .address) (f .0) ∙ ap (λ (h : Binding). entries.entryBytes (entryOf h)) k)
+        (given-bound occupied (targetsOf s) admitted) (given-addresses occupied (targetsOf s) admitted .0);
+    free-bytes = λ a h n. bytes-there (entryAt slots) (drop 2048 b) a h ∙ ap entries.entryBytes (free-entry a n) ∙ nobody-bytes;
+    rest = rest-there (entryAt slots) (drop 2048 b);
+    records = changed-exactly (λ (t : Target). servedBy given (prepared t)) (λ t. served-keeps given (prepared t)) s
+        (recordsWith (passEnd (startingPool occupied) (targetsOf s) .targets) s) .0 (ap (λ (ts : List Target). recordsWith ts s) (end-targets (startingPool occupied) (targetsOf s)));
+    served-targets = served-target (startingPool occupied) (targetsOf s) admitted;
+    unserved-targets = λ t h. unserved given (prepared t) h;
+  }
+
+-- DEMAND 3
+module _ (occupied : Pool) (s b : List ℕ) (bytes : Bytes s) (long : 2048 ≤ length b) (e : checkedList (startingPool occupied) s ≡ Admitted) (r : ModelAnswer) (s′ b′ : List ℕ)
+    (l : Leaves (modelEnd occupied s b) r s′ b′) where
+  pub end-is : modelEnd occupied s b ≡ endedEnd (passEnd (startingPool occupied) (targetsOf s)) s b
+  end-is = end-checked occupied s b Admitted long e ∙ ap (λ (w : World). endedEnd w s b) (demand-3 occupied (targetsOf s) (admitted occupied s b bytes e))
+
+  -- the run ends as the plain rule does
+  pub model-meets : Meets occupied s b (ruled (startingPool occupied) (targetsOf s) .given) (ruled (startingPool occupied) (targetsOf s) .ending) r s′ b′
+  model-meets =
+      let q = subst (λ (x : ModelEnd). Leaves x r s′ b′) end-is l in
+      subst (λ (x : ModelAnswer). Meets occupied s b (ruled (startingPool occupied) (targetsOf s) .given) (ruled (startingPool occupied) (targetsOf s) .ending) x s′ b′) (sym (q .answered))
+      (subst (λ (x : List ℕ). Meets occupied s b (ruled (startingPool occupied) (targetsOf s) .given) (ruled (startingPool occupied) (targetsOf s) .ending) (endedEnd (passEnd (startingPool occupied) (targetsOf s)) s b .answer) x b′) (sym (q .records-hold))
+      (subst (λ (x : List ℕ). Meets occupied s b (ruled (startingPool occupied) (targetsOf s) .given) (ruled (startingPool occupied) (targetsOf s) .ending) (endedEnd (passEnd (startingPool occupied) (targetsOf s)) s b .answer) (endedEnd (passEnd (startingPool occupied) (targetsOf s)) s b .records) x) (sym (q .bindings-hold))
+      (rule-end occupied s b bytes e)))
+
+  -- all are bound if and only if the movable ones do not outnumber the addresses that the fixed ones leave free
+  pub all-bound : (r .answer ≡ 0) ↔ (movable (targetsOf s) ≤ leftFree (startingPool occupied) (targetsOf s))
+  all-bound = (
+    λ q. all-served occupied (targetsOf s) (admitted occupied s b bytes e) .0 (zero-is (ruled (startingPool occupied) (targetsOf s) .ending) (sym (model-meets .answered) ∙ q)),
+    λ h. model-meets .answered ∙ ap numberOf (all-served occupied (targetsOf s) (admitted occupied s b bytes e) .1 h),
+  )
+    where
+      zero-is : (x : Ending) → numberOf x ≡ 0 → x ≡ served
+      zero-is served q = refl
+      zero-is (noneFree u) q = absurd (omega arith)
+
+  pub all-counted : movable (targetsOf s) ≤ leftFree (startingPool occupied) (targetsOf s) → r .count ≡ length (targetsOf s)
+  all-counted h = model-meets .counted ∙ all-given occupied (targetsOf s) (admitted occupied s b bytes e) h
+
+  -- with at least one target, Get UDID is sent once more than targets are bound; with none, not at all
+  pub gets-are : (0 < length (targetsOf s) → r .gets ≡ suc (r .count)) × (length (targetsOf s) ≡ 0 → (r .gets ≡ 0) × (r .answer ≡ 0) × (r .count ≡ 0))
+  gets-are = (some (targetsOf s) (model-meets .gets) (model-meets .counted), none (targetsOf s) refl)
+    where
+      some : (ts : List Target) {n : ℕ} → r .gets ≡ getsFor ts n → r .count ≡ n → 0 < length ts → r .gets ≡ suc (r .count)
+      some [] g c h = absurd (omega arith)
+      some (t ∷ ts) g c h = g ∙ ap suc (sym c)
+
+      none : (ts : List Target) → targetsOf s ≡ ts → length ts ≡ 0 → (r .gets ≡ 0) × (r .answer ≡ 0) × (r .count ≡ 0)
+      none [] q h = (
+        model-meets .gets ∙ ap (λ (x : List Target). getsFor x (length (ruled (startingPool occupied) x .given))) q,
+        model-meets .answered ∙ ap (λ (x : List Target). numberOf (ruled (startingPool occupied) x .ending)) q,
+        model-meets .counted ∙ ap (λ (x : List Target). length (ruled (startingPool occupied) x .given)) q,
+      )
+      none (t ∷ ts) q h = absurd (omega arith)

@@ -1,0 +1,156 @@
+-- Demand 1 for the model run: 2, 9, 10, 11 and 12 are given exactly in their listed cases, with the record, and then nothing lent
+-- changes and every other part of the answer is zero.
+use Prim.Native.Nat.{ℕ, _≤_, _<_}
+use mathlib.Core.Path.{_≡_, refl, sym, ap, _∙_, subst}
+use mathlib.Core.Bool.{Bool, true, false}
+use mathlib.Core.Logic.{_⊎_, inl, inr, _↔_}
+use mathlib.Core.List.{List}
+use native.Mathlib.Decide.{decLt}
+use native.Mathlib.Omega.{arith}
+use lib.ListN.{length}
+use Rattle.pool.specs.Start.{startingPool}
+use Rattle.pool.specs.declared.Pool.{Pool}
+use Rattle.targets.specs.Cases.{LengthIsBad, Given}
+use Rattle.targets.specs.Numbers.{answerOf}
+use Rattle.targets.specs.Refusals.{checkedList}
+use Rattle.targets.specs.RefusalLaws.{given-exactly, answers-differ}
+use Rattle.targets.specs.declared.admit.Checked.{Checked}
+use Rattle.targets.specs.declared.admit.Checked.the-variants.{Admitted, BadLength, Malformed, Repeated, Taken}
+use Rattle.arp.specs.Numbers.{commandNumber}
+use Rattle.arp.specs.declared.command.Command.{Command}
+use Rattle.arp.specs.declared.command.Command.the-variants.{Nothing, Prepare, GetUdid, Assign, Ended, NoneFree, Abandoned, NotOutstanding}
+use Rattle.targets.specs.Records.{targetsOf}
+use Rattle.rule.specs.Bus.{pass}
+use Rattle.bus.specs.Run.{numberIn, refusedAnswer, ModelEnd, Leaves, refusedEnd, endedEnd, endChecked, modelEnd}
+use Rattle.bus.specs.RunLaws.{end-short, end-checked}
+use Rattle.bus.specs.declared.answer.ModelAnswer.{ModelAnswer}
+
+-- the paper's number, and the record that comes with it
+abbrev pub paper : ModelAnswer → ℕ × ℕ
+paper r = (r .answer, r .place)
+
+-- ---- a pass ends with none of these numbers
+
+not-in-pass : (k : Command) (n : ℕ) → numberIn (commandNumber k) ≡ n → (n ≡ 2) ⊎ ((9 ≤ n) × (n ≤ 12)) → ⊥
+not-in-pass k n e (inl h) = two k n e h
+  where
+    two : (k : Command) (n : ℕ) → numberIn (commandNumber k) ≡ n → n ≡ 2 → ⊥
+    two Nothing n e h = omega arith
+    two Prepare n e h = omega arith
+    two GetUdid n e h = omega arith
+    two (Assign u a) n e h = omega arith
+    two Ended n e h = omega arith
+    two (NoneFree u) n e h = omega arith
+    two Abandoned n e h = omega arith
+    two NotOutstanding n e h = omega arith
+not-in-pass k n e (inr h) = some k n e (h .0) (h .1)
+  where
+    some : (k : Command) (n : ℕ) → numberIn (commandNumber k) ≡ n → 9 ≤ n → n ≤ 12 → ⊥
+    some Nothing n e h l = omega arith
+    some Prepare n e h l = omega arith
+    some GetUdid n e h l = omega arith
+    some (Assign u a) n e h l = omega arith
+    some Ended n e h l = omega arith
+    some (NoneFree u) n e h l = omega arith
+    some Abandoned n e h l = omega arith
+    some NotOutstanding n e h l = omega arith
+
+between : (k : Checked) → (k ≡ Admitted → ⊥) → (9 ≤ answerOf k .number) × (answerOf k .number ≤ 12)
+between Admitted n = absurd (n refl)
+between BadLength n = (omega arith, omega arith)
+between (Malformed i) n = (omega arith, omega arith)
+between (Repeated i) n = (omega arith, omega arith)
+between (Taken i) n = (omega arith, omega arith)
+
+-- a refused list: the answer's number and record are those of the refusal
+refused-paper : (k : Checked) → (k ≡ Admitted → ⊥) → (occupied : Pool) (s b : List ℕ) → endChecked k occupied s b ≡ refusedEnd (answerOf k .number) (answerOf k .value) s b
+refused-paper Admitted n occupied s b = absurd (n refl)
+refused-paper BadLength n occupied s b = refl
+refused-paper (Malformed i) n occupied s b = refl
+refused-paper (Repeated i) n occupied s b = refl
+refused-paper (Taken i) n occupied s b = refl
+
+same-pair : (k j : Checked) → _≡_ {A = ℕ × ℕ} (answerOf k .number, answerOf k .value) (answerOf j .number, answerOf j .value) → k ≡ j
+same-pair k j e =
+    let a : answerOf k .number ≡ answerOf j .number = ap (λ (p : ℕ × ℕ). p .0) e in
+    let v : answerOf k .value ≡ answerOf j .value = ap (λ (p : ℕ × ℕ). p .1) e in
+    answers-differ k j (λ i. record { number = a i; value = v i })
+
+is-admitted : (k : Checked) → (k ≡ Admitted) ⊎ (k ≡ Admitted → ⊥)
+is-admitted Admitted = inl refl
+is-admitted BadLength = inr (λ e. let z : _≡_ {A = ℕ} 0 1 = cc e in omega arith)
+is-admitted (Malformed i) = inr (λ e. let z : _≡_ {A = ℕ} 0 1 = cc e in omega arith)
+is-admitted (Repeated i) = inr (λ e. let z : _≡_ {A = ℕ} 0 1 = cc e in omega arith)
+is-admitted (Taken i) = inr (λ e. let z : _≡_ {A = ℕ} 0 1 = cc e in omega arith)
+
+-- what run_model's contract says of an answer and of what the lent lists hold then
+module _ (occupied : Pool) (s b : List ℕ) (r : ModelAnswer) (s′ b′ : List ℕ) (l : Leaves (modelEnd occupied s b) r s′ b′) where
+  -- the end of each case
+  short-end : length b < 2048 → Leaves (refusedEnd 2 0 s b) r s′ b′
+  short-end h = subst (λ (x : ModelEnd). Leaves x r s′ b′) (end-short occupied s b h) l
+
+  checked-end : 2048 ≤ length b → Leaves (endChecked (checkedList (startingPool occupied) s) occupied s b) r s′ b′
+  checked-end h = subst (λ (x : ModelEnd). Leaves x r s′ b′) (end-checked occupied s b (checkedList (startingPool occupied) s) h refl) l
+
+  refused-end : 2048 ≤ length b → (checkedList (startingPool occupied) s ≡ Admitted → ⊥)
+      → Leaves (refusedEnd (answerOf (checkedList (startingPool occupied) s) .number) (answerOf (checkedList (startingPool occupied) s) .value) s b) r s′ b′
+  refused-end h n = subst (λ (x : ModelEnd). Leaves x r s′ b′) (refused-paper (checkedList (startingPool occupied) s) n occupied s b) (checked-end h)
+
+  pass-number : 2048 ≤ length b → checkedList (startingPool occupied) s ≡ Admitted → (r .answer ≡ 2) ⊎ ((9 ≤ r .answer) × (r .answer ≤ 12)) → ⊥
+  pass-number h e =
+      let q = subst (λ (k : Checked). Leaves (endChecked k occupied s b) r s′ b′) e (checked-end h) in
+      not-in-pass (pass occupied (targetsOf s) .now .command) (r .answer) (sym (ap (λ (x : ModelAnswer). x .answer) (q .answered)))
+
+  -- 2: the binding buffer is under 2,048 bytes
+  pub model-2 : (paper r ≡ (2, 0)) ↔ (length b < 2048)
+  model-2 = (λ e. there e (decLt (length b) 2048), λ h. ap paper (short-end h .answered))
+    where
+      there : paper r ≡ (2, 0) → Dec (length b < 2048) → length b < 2048
+      there e (yes h) = h
+      there e (no h) = absurd (go (is-admitted (checkedList (startingPool occupied) s)))
+        where
+          two : r .answer ≡ 2
+          two = ap (λ (p : ℕ × ℕ). p .0) e
+
+          go : (checkedList (startingPool occupied) s ≡ Admitted) ⊎ (checkedList (startingPool occupied) s ≡ Admitted → ⊥) → ⊥
+          go (inl a) = pass-number (omega arith) a (inl two)
+          go (inr n) =
+              let q = between (checkedList (startingPool occupied) s) n in
+              omega (arith, q .0, ap (λ (x : ModelAnswer). x .answer) (refused-end (omega arith) n .answered), two)
+
+  -- 9, 10, 11 and 12: the buffer is long enough, and the list is what the paper lists for that number and record
+  pub model-refused : (k : Checked) → (k ≡ Admitted → ⊥) → (paper r ≡ (answerOf k .number, answerOf k .value)) ↔ ((2048 ≤ length b) × Given (startingPool occupied) s k)
+  model-refused k n = (λ e. there e (decLt (length b) 2048) (is-admitted (checkedList (startingPool occupied) s)), back)
+    where
+      there : paper r ≡ (answerOf k .number, answerOf k .value) → Dec (length b < 2048) → (checkedList (startingPool occupied) s ≡ Admitted) ⊎ (checkedList (startingPool occupied) s ≡ Admitted → ⊥)
+          → (2048 ≤ length b) × Given (startingPool occupied) s k
+      there e (yes h) c =
+          absurd (omega (arith, between k n .0, ap (λ (p : ℕ × ℕ). p .0) e, ap (λ (x : ModelAnswer). x .answer) (short-end h .answered)))
+      there e (no h) (inl a) =
+          let q : r .answer ≡ answerOf k .number = ap (λ (p : ℕ × ℕ). p .0) e in
+          absurd (pass-number (omega arith) a (inr (omega (arith, q, between k n .0), omega (arith, q, between k n .1))))
+      there e (no h) (inr c) =
+          let q = same-pair k (checkedList (startingPool occupied) s) (sym e ∙ ap paper (refused-end (omega arith) c .answered)) in
+          (omega arith, given-exactly (startingPool occupied) s k .0 q)
+
+      back : (2048 ≤ length b) × Given (startingPool occupied) s k → paper r ≡ (answerOf k .number, answerOf k .value)
+      back (h, g) =
+          let q : k ≡ checkedList (startingPool occupied) s = given-exactly (startingPool occupied) s k .1 g in
+          let m = refused-end h (λ a. n (q ∙ a)) in
+          ap paper (m .answered) ∙ ap (λ (x : Checked). (answerOf x .number, answerOf x .value)) (sym q)
+
+  -- and then nothing that was lent has changed, and all else in the answer is zero
+  pub model-untouched : (r .answer ≡ 2) ⊎ ((9 ≤ r .answer) × (r .answer ≤ 12)) → (s′ ≡ s) × (b′ ≡ b) × (r ≡ refusedAnswer (r .answer) (r .place))
+  model-untouched h = go (decLt (length b) 2048) (is-admitted (checkedList (startingPool occupied) s))
+    where
+      same : (n i : ℕ) → Leaves (refusedEnd n i s b) r s′ b′ → (s′ ≡ s) × (b′ ≡ b) × (r ≡ refusedAnswer (r .answer) (r .place))
+      same n i q = (
+        q .records-hold,
+        q .bindings-hold,
+        q .answered ∙ sym (ap (λ (x : ModelAnswer). refusedAnswer (x .answer) (x .place)) (q .answered)),
+      )
+
+      go : Dec (length b < 2048) → (checkedList (startingPool occupied) s ≡ Admitted) ⊎ (checkedList (startingPool occupied) s ≡ Admitted → ⊥) → (s′ ≡ s) × (b′ ≡ b) × (r ≡ refusedAnswer (r .answer) (r .place))
+      go (yes k) c = same 2 0 (short-end k)
+      go (no k) (inl a) = absurd (pass-number (omega arith) a h)
+      go (no k) (inr n) = same (answerOf (checkedList (startingPool occupied) s) .number) (answerOf (checkedList (startingPool occupied) s) .value) (refused-end (omega arith) n)
