@@ -20,7 +20,7 @@ returns c = sym (differ (c .before .args .a .now) (c .before .args .b .now) (λ 
 
 -- src/word.rt:114:5
 loop-holds : tie.Need-loop-holds Inv-loop μ-loop
-loop-holds c = (c .if1 .left, refl)
+loop-holds c = (omega arith, refl)
 
 -- src/word.rt:115:12
 shared-slice-read-if2 : tie.Need-shared-slice-read-if2 Inv-loop μ-loop
