@@ -44,11 +44,11 @@ pub(crate) fn bound_set(slots: [Slot; 128]) -> Pool
     ensures { λ r. ⌜ r ≡ boundSet (entryAt slots) ⌝ }
 {
     let mut bound = Pool::empty();
-    let mut a: u8 = 0;
-    while a < 128 {
-        let s = slots[a as usize];
-        bound = with_entry(bound, Address(a), entry_of(s));
-        a += 1;
+    let mut n: u8 = 0;
+    while n < 128 {
+        let s = slots[n as usize];
+        bound = with_entry(bound, Address(n), entry_of(s));
+        n += 1;
     }
     bound
 }

@@ -1,4 +1,4 @@
-// A whole pass over the records. Rests on turn; that it is the pass bit by bit is in specs/TurnLaws.
+// A whole pass over the records. Rests on turn; that it is the pass bit by bit is in specs/GoingLaws.
 ghost use mathlib.Core.Path.{_≡_};
 ghost use Rattle.pool.specs.Start.{startingPool};
 ghost use Rattle.targets.specs.Records.{targetsOf};

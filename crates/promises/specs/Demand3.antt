@@ -1,5 +1,5 @@
--- DEMAND 3 for the delivered model run, in terms of the plain rule alone: for every target list that is not refused, whatever the
--- occupied addresses and the lent binding buffer. Through its contract the run is the pass bit by bit: each command is what the
+-- DEMAND 3 for the delivered model run, in terms of the plain rule alone: for every list of bytes that is not refused as a target list,
+-- whatever the occupied addresses and the lent binding buffer. Through its contract the run is the pass bit by bit: each command is what the
 -- delivered steps give for the traces so far, each trace is the codec's for what stands on the wire.
 use Prim.Native.Nat.{ℕ, zero, suc, _+_, _*_, _%_, _≤_, _<_}
 use mathlib.Core.Path.{_≡_, refl, sym, ap, _∙_, subst}
@@ -11,6 +11,7 @@ use lib.ListN.{length, getD, take, drop, replicate}
 use Rattle.lists.specs.Choice.{or}
 use Rattle.lists.specs.Each.{Each, Bytes}
 use Rattle.wire.specs.Addresses.{isReserved}
+use Rattle.arbitration.specs.Among.{Among}
 use Rattle.pool.specs.Counts.{count}
 use Rattle.pool.specs.CountLaws.{count-cong}
 use Rattle.pool.specs.Pools.{member}
@@ -31,7 +32,7 @@ use Rattle.targets.specs.ChangeLaws.{Changed, changed-exactly}
 use Rattle.targets.specs.Records.{targetsOf, recordsWith}
 use Rattle.targets.specs.RecordLaws.{assigned-keeps}
 use Rattle.targets.specs.Refusals.{checkedList}
-use Rattle.targets.specs.Target.{Target, mapTargets, prepared, assignedTo}
+use Rattle.targets.specs.Target.{Target, mapTargets, prepared, assignedTo, cleared}
 use Rattle.targets.specs.declared.admit.Checked.{Checked}
 use Rattle.targets.specs.declared.admit.Checked.the-variants.{Admitted}
 use Rattle.bindings.specs.BoundLaws.{bound-set-has, bound-set-count}
@@ -42,7 +43,8 @@ use Rattle.bindings.specs.declared.entry.Entry.the-variants.{Nobody}
 use Rattle.rule.specs.Bus.{World, pass}
 use Rattle.rule.specs.PlainRule.{Ending, served, noneFree, Given, Ruled, ruled, FreeIn, Distinct}
 use Rattle.rule.specs.PassEnd.{lastCommand, passEnd}
-use Rattle.rule.specs.Demand3.{demand-3, given-addresses}
+use Rattle.rule.specs.Demand3.{demand-3, given-addresses, given-targets}
+use Rattle.rule.specs.RuleLaws.{each-map}
 use Rattle.rule.specs.AllBound.{movable, leftFree, all-served, all-given}
 use Rattle.rule.specs.Reading.{Any, isBound, boundAt, GivenAt, servedBy, OnePerUdid, TakenBy, bound-count, bound-given, given-bound, none-claimed, end-targets, unserved, served-target, served-once}
 use Rattle.bus.specs.Run.{noUdid, numberIn, udidIn, entryOf, entryAt, ModelEnd, Leaves, endedEnd, endChecked, modelEnd}
@@ -80,6 +82,8 @@ pub record Meets (occupied : Pool) (s b : List ℕ) (given : List Given) (ending
   -- how many are bound, and how many Get UDIDs were sent
   pub counted : r .count ≡ length given
   pub gets : r .gets ≡ getsFor (targetsOf s) (length given)
+  -- to whom: targets of the list
+  pub who : Each (λ (g : Given). Among (g .who) (cleared (targetsOf s))) given
   -- which addresses are bound: those given, each assignable, no two alike, and each identifier once
   pub bound : (a : ℕ) → a < 128 → (member (r .bound) a ≡ true) ↔ Any (λ (g : Given). g .address ≡ a) given
   pub assignable : Each (Assignable occupied) given
@@ -159,10 +163,6 @@ assignable-is occupied g f =
     let e = either-false (isReserved (g .address)) (member occupied (g .address)) (sym (member-starting occupied (g .address)) ∙ f .1) in
     record { address = f .0; not-reserved = e .0; not-occupied = e .1 }
 
-each-one : {P Q : Given → Type 0} (gs : List Given) → ((g : Given) → P g → Q g) → Each P gs → Each Q gs
-each-one [] f p = tt
-each-one (g ∷ gs) f p = (f g (p .0), each-one gs f (p .1))
-
 module _ (occupied : Pool) (s b : List ℕ) (bytes : Bytes s) (e : checkedList (startingPool occupied) s ≡ Admitted) where
   abbrev start : Pool
   start = startingPool occupied
@@ -204,8 +204,9 @@ module _ (occupied : Pool) (s b : List ℕ) (bytes : Bytes s) (e : checkedList (
     no-record = refl;
     counted = bound-set-count (entryAt slots) ∙ count-cong (λ (a : ℕ). entries.isBound (entryAt slots a)) (boundAt slots) 128 (λ j h. slot-bound j) ∙ bound-count occupied (targetsOf s) admitted;
     gets = end-gets (startingPool occupied) (targetsOf s);
+    who = given-targets occupied (targetsOf s) admitted;
     bound = bound-exactly;
-    assignable = each-one given (assignable-is occupied) (given-addresses occupied (targetsOf s) admitted .0);
+    assignable = each-map given (assignable-is occupied) (given-addresses occupied (targetsOf s) admitted .0);
     distinct = given-addresses occupied (targetsOf s) admitted .1;
     once = served-once (startingPool occupied) (targetsOf s) admitted;
     bound-bytes = each-more given (λ g k f. bytes-there (entryAt slots) (drop 2048 b) (g .address) (f .0) ∙ ap (λ (h : Binding). entries.entryBytes (entryOf h)) k)
@@ -244,8 +245,10 @@ module _ (occupied : Pool) (s b : List ℕ) (bytes : Bytes s) (long : 2048 ≤ l
       zero-is served q = refl
       zero-is (noneFree u) q = absurd (omega arith)
 
-  pub all-counted : movable (targetsOf s) ≤ leftFree (startingPool occupied) (targetsOf s) → r .count ≡ length (targetsOf s)
-  all-counted h = model-meets .counted ∙ all-given occupied (targetsOf s) (admitted occupied s b bytes e) h
+  pub all-counted : (r .count ≡ length (targetsOf s)) ↔ (movable (targetsOf s) ≤ leftFree (startingPool occupied) (targetsOf s))
+  all-counted =
+      let g = all-given occupied (targetsOf s) (admitted occupied s b bytes e) in
+      (λ q. g .0 (sym (model-meets .counted) ∙ q), λ h. model-meets .counted ∙ g .1 h)
 
   -- with at least one target, Get UDID is sent once more than targets are bound; with none, not at all
   pub gets-are : (0 < length (targetsOf s) → r .gets ≡ suc (r .count)) × (length (targetsOf s) ≡ 0 → (r .gets ≡ 0) × (r .answer ≡ 0) × (r .count ≡ 0))

@@ -20,7 +20,7 @@ use Rattle.targets.specs.Members.{Pairs}
 use Rattle.targets.specs.ReplyLaws.{Sized}
 use Rattle.targets.specs.Admission.{FixedApart, FixedFree, AdmittedTargets}
 use Rattle.rule.specs.PlainRule.{served, ruled}
-use Rattle.rule.specs.Demand3.{served-exactly, served-each}
+use Rattle.rule.specs.Demand3.{served-exactly, served-each, given-served}
 
 -- how many targets are movable
 abbrev pub movable : List Target → ℕ
@@ -76,6 +76,6 @@ module _ (occupied : Pool) (ts : List Target) (v : AdmittedTargets (startingPool
   pub all-served : (ruled (startingPool occupied) ts .ending ≡ served) ↔ (movable ts ≤ leftFree (startingPool occupied) ts)
   all-served = (λ e. room .1 (served-exactly occupied ts v .0 e), λ h. served-exactly occupied ts v .1 (room .0 h))
 
-  -- and then each is given an address
-  pub all-given : movable ts ≤ leftFree (startingPool occupied) ts → length (ruled (startingPool occupied) ts .given) ≡ length ts
-  all-given h = served-each occupied ts v (room .0 h)
+  -- AND THEN, AND ONLY THEN, each is given an address
+  pub all-given : (length (ruled (startingPool occupied) ts .given) ≡ length ts) ↔ (movable ts ≤ leftFree (startingPool occupied) ts)
+  all-given = (λ e. all-served .0 (given-served occupied ts v e), λ h. served-each occupied ts v (room .0 h))

@@ -5,10 +5,8 @@ use mathlib.Core.Bool.{Bool, true, false}
 use mathlib.Core.Logic.{_⊎_, inl, inr, _↔_}
 use mathlib.Core.List.{List, [], _∷_}
 use native.Mathlib.Nat.{suc-add, add-suc, zero-add}
-use native.Mathlib.Decide.{decLt}
 use native.Mathlib.Omega.{arith}
-use lib.ListN.{length, set, replicate, length-replicate, getD-replicate, List·getD-eq-default}
-use Rattle.lists.specs.Choice.{or}
+use lib.ListN.{length, set, replicate, length-replicate}
 use Rattle.lists.specs.Each.{Each}
 use Rattle.wire.specs.Addresses.{isReserved}
 use Rattle.wire.specs.declared.address.Address.{Address}
@@ -24,9 +22,11 @@ use Rattle.udid.specs.declared.Udid.{Udid}
 use Rattle.arbitration.specs.Among.{Among}
 use Rattle.targets.specs.Target.{Target, isResolved, prepared, cleared, resolve}
 use Rattle.targets.specs.Members.{Pairs}
+use Rattle.targets.specs.RecordLaws.{length-map}
 use Rattle.targets.specs.ReplyLaws.{Sized}
 use Rattle.targets.specs.Admission.{Differ, FixedApart, FixedFree, AdmittedTargets}
-use Rattle.arp.specs.Bindings.{openSlot, heldAt, boundTo}
+use Rattle.arp.proofs.Sound.{open-all}
+use Rattle.arp.specs.Bindings.{openSlot, boundTo}
 use Rattle.arp.specs.Controller.{stepped, started, newController}
 use Rattle.arp.specs.declared.command.Command.the-variants.{Prepare}
 use Rattle.arp.specs.declared.state.Slot.{Slot}
@@ -35,7 +35,7 @@ use Rattle.rule.specs.Bus.{World, turn, run, beginning, pass}
 use Rattle.rule.specs.PlainRule.{ascending, plainChoice, Ending, served, noneFree, Given, Ruled, next, rule, ruled, FreeIn, Distinct}
 use Rattle.rule.specs.PassEnd.{Outcome, state, out, boundSlot, ended, outcome, nobodyThere, passEnd}
 use Rattle.rule.specs.TraceLaws as on-bus
-use Rattle.rule.specs.RuleLaws.{Apart, Ready, rule-free, rule-all, rule-all-only}
+use Rattle.rule.specs.RuleLaws.{Apart, Ready, rule-free, rule-all, rule-all-only, given-all, each-map, rule-who}
 use Rattle.rule.specs.SortLaws.{Lower, in-ascending, of-ascending, length-ascending, ascending-lower, pairs-of, pairs-more}
 use Rattle.rule.specs.StepLaws.{Unbound, prepare-done, prepare-silent}
 use Rattle.rule.specs.PassLaws.{serve, plain, Inv, turns, asking, run-ended, serves}
@@ -64,9 +64,8 @@ pairs-cleared : {R : Target → Target → Type 0} (ts : List Target) → ((x y 
 pairs-cleared [] f h = tt
 pairs-cleared {R} (t ∷ ts) f h = ((λ y m. let r = of-cleared ts y m in rw (r .2) at (f t (r .0) (h .0 (r .0) (r .1)))), pairs-cleared ts f (h .1))
 
-pub length-cleared : (ts : List Target) → length (cleared ts) ≡ length ts
-length-cleared [] = refl
-length-cleared (t ∷ ts) = ap suc (length-cleared ts)
+length-cleared : (ts : List Target) → length (cleared ts) ≡ length ts
+length-cleared ts = length-map prepared ts
 
 sized-prepared : (t : Target) → Sized t → Sized (prepared t)
 sized-prepared t z = record { udid = z .udid; addressByte = z .addressByte }
@@ -86,11 +85,7 @@ admitted-cleared b ts v = record {
 -- ---- where a pass begins
 
 open-slots : (u : Udid) → Unbound u (replicate 128 openSlot)
-open-slots u i = go (decLt i 128)
-  where
-    go : Dec (i < 128) → boundTo u (heldAt (replicate 128 openSlot) i) ≡ false
-    go (yes h) = ap (λ (x : Slot). boundTo u (x .held)) (getD-replicate 128 i openSlot openSlot h)
-    go (no h) = ap (λ (x : Slot). boundTo u (x .held)) (List·getD-eq-default (replicate 128 openSlot) openSlot {n = i} (omega (arith, length-replicate 128 openSlot)))
+open-slots u i = ap (boundTo u) (open-all i)
 
 -- 7Fh is reserved
 pub last-starting : (occupied : Pool) → member (startingPool occupied) 127 ≡ true
@@ -198,3 +193,10 @@ module _ (occupied : Pool) (ts : List Target) (v : AdmittedTargets (startingPool
 
   pub served-each : used (startingPool occupied) + length ts ≤ 128 → length (ruled (startingPool occupied) ts .given) ≡ length ts
   served-each h = rule-all (ascending (cleared ts)) (startingPool occupied) ready (omega (arith, count)) .1 ∙ count
+
+  pub given-served : length (ruled (startingPool occupied) ts .given) ≡ length ts → ruled (startingPool occupied) ts .ending ≡ served
+  given-served e = given-all (ascending (cleared ts)) (startingPool occupied) (e ∙ sym count)
+
+  -- those served are targets of the bus, with their flags cleared
+  pub given-targets : Each (λ (g : Given). Among (g .who) (cleared ts)) (ruled (startingPool occupied) ts .given)
+  given-targets = each-map (ruled (startingPool occupied) ts .given) (λ g m. in-ascending (cleared ts) (g .who) m) (rule-who (ascending (cleared ts)) (startingPool occupied))

@@ -19,8 +19,9 @@ use Rattle.udid.specs.Udids.{sameUdid, value}
 use Rattle.udid.specs.UdidLaws.{other-udid}
 use Rattle.udid.specs.declared.Udid.{Udid}
 use Rattle.arbitration.specs.Among.{Among}
-use Rattle.targets.specs.Target.{Target, isResolved, resolve}
+use Rattle.targets.specs.Target.{Target, isResolved, assignedTo, resolve}
 use Rattle.targets.specs.Members.{Waits, waits-next}
+use Rattle.targets.specs.RecordLaws.{length-map}
 use Rattle.targets.specs.ReplyLaws.{Sized, Least}
 use Rattle.arp.specs.Bindings.{openSlot, heldAt, boundTo, slotFor}
 use Rattle.arp.specs.Controller.{issued, stepped}
@@ -66,10 +67,6 @@ unbound-set u t s a l n h i = go (ℕ-discrete i a)
         ∙ ap (λ (x : Slot). boundTo u (x .held)) (getD-set-same s a (boundSlot t) openSlot l) ∙ n
     go (no e) = ap (λ (x : Slot). boundTo u (x .held)) (getD-set-other s a i (boundSlot t) openSlot e) ∙ h i
 
-length-resolve : (u : Udid) (a : ℕ) (ts : List Target) → length (resolve u a ts) ≡ length ts
-length-resolve u a [] = refl
-length-resolve u a (t ∷ ts) = ap suc (length-resolve u a ts)
-
 inv-next : (p : Pool) (s : List Slot) (k : ℕ) (ts rest : List Target) (r : Target) (a : Address) → Inv p s k ts (r ∷ rest) → plainChoice p r ≡ At a
     → Inv (withAddress p (a .0)) (set s (a .0) (boundSlot r)) (suc k) (resolve (r .udid) (a .0) ts) rest
 inv-next p s k ts rest r a v e =
@@ -79,7 +76,7 @@ inv-next p s k ts rest r a v e =
       unbound = λ t m. unbound-set (t .udid) r s (a .0) (omega (arith, free .0, v .room)) (other-udid (r .udid) (t .udid) (λ q. above t (v .ready .apart .0 t m .lower) (ap value q))) (v .unbound t (inr m));
       room = length-set s (a .0) (boundSlot r) ∙ v .room;
       few = omega (arith, v .few);
-      present = omega (arith, length-resolve (r .udid) (a .0) ts, v .present);
+      present = omega (arith, length-map (assignedTo (r .udid) (a .0)) ts, v .present);
     }
   where
     above : (t : Target) → value (r .udid) < value (t .udid) → value (r .udid) ≡ value (t .udid) → ⊥

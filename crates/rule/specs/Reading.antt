@@ -5,10 +5,9 @@ use mathlib.Core.Bool.{Bool, true, false}
 use mathlib.Core.Logic.{_⊎_, inl, inr}
 use mathlib.Core.List.{List, [], _∷_}
 use native.Mathlib.Nat.{zero-add}
-use native.Mathlib.Decide.{ℕ-discrete, decLt}
+use native.Mathlib.Decide.{ℕ-discrete}
 use native.Mathlib.Omega.{arith}
-use lib.ListN.{length, getD, set, replicate, length-set, length-replicate, getD-replicate, List·getD-eq-default}
-use lib.Seq.{getD-set-same, getD-set-other}
+use lib.ListN.{length, set, replicate, length-set, length-replicate}
 use Rattle.lists.specs.Each.{Each}
 use Rattle.wire.specs.declared.address.Address.{Address}
 use Rattle.pool.specs.Counts.{count}
@@ -22,6 +21,7 @@ use Rattle.udid.specs.Udids.{sameUdid, value}
 use Rattle.udid.specs.UdidLaws.{same-refl, same-equal, other-udid}
 use Rattle.udid.specs.declared.Udid.{Udid}
 use Rattle.arbitration.specs.Among.{Among}
+use Rattle.arp.proofs.Sound.{held-same, held-other, open-all}
 use Rattle.arp.specs.Bindings.{openSlot, heldAt}
 use Rattle.arp.specs.declared.state.Binding.{Binding}
 use Rattle.arp.specs.declared.state.Binding.the-variants.{Open, Bound, Claimed}
@@ -30,6 +30,7 @@ use Rattle.targets.specs.Target.{Target, mapTargets, prepared, assignedTo, clea
 use Rattle.targets.specs.Members.{Pairs}
 use Rattle.targets.specs.Admission.{AdmittedTargets}
 use Rattle.rule.specs.PlainRule.{plainChoice, Given, Ruled, next, rule, FreeIn, Distinct, ascending, ruled}
+use Rattle.rule.specs.RuleLaws.{rule-who}
 use Rattle.rule.specs.SortLaws.{Lower, in-ascending, ascending-lower}
 use Rattle.rule.specs.PassEnd.{boundSlot, putAll, resolveAll, passEnd}
 use Rattle.rule.specs.Demand3.{admitted-cleared, given-addresses}
@@ -46,12 +47,6 @@ isBound Claimed = false
 
 abbrev pub boundAt : List Slot → ℕ → Bool
 boundAt s a = isBound (heldAt s a)
-
-held-same : (s : List Slot) (a : ℕ) (x : Slot) → a < length s → heldAt (set s a x) a ≡ x .held
-held-same s a x h = ap (λ (y : Slot). y .held) (getD-set-same s a x openSlot h)
-
-held-other : (s : List Slot) (a i : ℕ) (x : Slot) → (i ≡ a → ⊥) → heldAt (set s a x) i ≡ heldAt s i
-held-other s a i x n = ap (λ (y : Slot). y .held) (getD-set-other s a i x openSlot n)
 
 -- ---- HOW MANY are bound
 
@@ -74,11 +69,7 @@ count-given (g ∷ gs) s l r d =
     ∙ omega (arith, e)
 
 open-none : (a : ℕ) → boundAt (replicate 128 openSlot) a ≡ false
-open-none a = go (decLt a 128)
-  where
-    go : Dec (a < 128) → boundAt (replicate 128 openSlot) a ≡ false
-    go (yes h) = ap (λ (x : Slot). isBound (x .held)) (getD-replicate 128 a openSlot openSlot h)
-    go (no h) = ap (λ (x : Slot). isBound (x .held)) (List·getD-eq-default (replicate 128 openSlot) openSlot {n = a} (omega (arith, length-replicate 128 openSlot)))
+open-none a = ap isBound (open-all a)
 
 none-count : (k : ℕ) → count (λ (j : ℕ). false) k ≡ 0
 unfolding count
@@ -148,22 +139,9 @@ unclaimed (g ∷ gs) s h l f a = unclaimed gs (set s (g .address) (boundSlot (g 
         let z : _≡_ {A = ℕ} 0 1 = cc m in omega arith
 
 open-unclaimed : (a : ℕ) → heldAt (replicate 128 openSlot) a ≡ Claimed → ⊥
-open-unclaimed a = go (decLt a 128)
-  where
-    never : Open ≡ Claimed → ⊥
-    never e = let z : _≡_ {A = ℕ} 0 1 = cc e in omega arith
-
-    go : Dec (a < 128) → heldAt (replicate 128 openSlot) a ≡ Claimed → ⊥
-    go (yes h) k = never (sym (ap (λ (x : Slot). x .held) (getD-replicate 128 a openSlot openSlot h)) ∙ k)
-    go (no h) k = never (sym (ap (λ (x : Slot). x .held) (List·getD-eq-default (replicate 128 openSlot) openSlot {n = a} (omega (arith, length-replicate 128 openSlot)))) ∙ k)
+open-unclaimed a e = let q : Open ≡ Claimed = sym (open-all a) ∙ e in let z : _≡_ {A = ℕ} 0 1 = cc q in omega arith
 
 module _ (occupied : Pool) (ts : List Target) (v : AdmittedTargets (startingPool occupied) ts) where
-  gives : List Given
-  gives = ruled (startingPool occupied) ts .given
-
-  slots : List Slot
-  slots = passEnd (startingPool occupied) ts .now .state .slots
-
   -- as many are bound as the plain rule serves
   pub bound-count : count (boundAt (passEnd (startingPool occupied) ts .now .state .slots)) 128 ≡ length (ruled (startingPool occupied) ts .given)
   bound-count =
@@ -242,20 +220,6 @@ other-way u v e = go (sameUdid v u) refl
 abbrev pub OnePerUdid : List Given → Type 0
 OnePerUdid [] = Unit
 OnePerUdid (g ∷ gs) = Each (λ (h : Given). sameUdid (g .who .udid) (h .who .udid) ≡ false) gs × OnePerUdid gs
-
-later : (t : Target) (rest : List Target) (gs : List Given) → Each (λ (g : Given). Among (g .who) rest) gs → Each (λ (g : Given). Among (g .who) (t ∷ rest)) gs
-later t rest [] h = tt
-later t rest (g ∷ gs) h = (inr (h .0), later t rest gs (h .1))
-
--- those served are among the targets to serve
-pub rule-who : (rest : List Target) (p : Pool) → Each (λ (g : Given). Among (g .who) rest) (rule rest p .given)
-rule-who [] p = tt
-rule-who (t ∷ rest) p = go (plainChoice p t) (λ a. rule-who rest (withAddress p (a .0)))
-  where
-    go : (c : Free) → ((a : Address) → Each (λ (g : Given). Among (g .who) rest) (rule rest (withAddress p (a .0)) .given))
-        → Each (λ (g : Given). Among (g .who) (t ∷ rest)) (next (λ q. rule rest q) t p c .given)
-    go AllUsed ih = tt
-    go (At a) ih = (inl refl, later t rest (rule rest (withAddress p (a .0)) .given) (ih a))
 
 lower-other : (t : Target) (rest : List Target) (gs : List Given) → ((x : Target) → Among x rest → Lower t x) → Each (λ (g : Given). Among (g .who) rest) gs
     → Each (λ (h : Given). sameUdid (t .udid) (h .who .udid) ≡ false) gs

@@ -120,7 +120,7 @@ ready-next p r rest a v e = record {
 
 -- ---- the bindings that it gives
 
-each-map : {A : Type 0} {P Q : A → Type 0} (l : List A) → ((a : A) → P a → Q a) → Each P l → Each Q l
+pub each-map : {A : Type 0} {P Q : A → Type 0} (l : List A) → ((a : A) → P a → Q a) → Each P l → Each Q l
 each-map [] f h = tt
 each-map (a ∷ l) f h = (f a (h .0), each-map l f (h .1))
 
@@ -190,3 +190,30 @@ rule-all-only (t ∷ rest) p v h = go (plainChoice p t) refl h (λ a e l. rule-a
     go (At a) e k ih =
         let f = ready-free p t rest a v e in
         omega (arith, used-with-new p (a .0) (f .0) (f .1), ih a e k)
+
+-- who serves all has not ended early
+pub given-all : (rest : List Target) (p : Pool) → length (rule rest p .given) ≡ length rest → rule rest p .ending ≡ served
+given-all [] p e = refl
+given-all (t ∷ rest) p e = go (plainChoice p t) e (λ a k. given-all rest (withAddress p (a .0)) k)
+  where
+    go : (c : Free) → length (next (λ q. rule rest q) t p c .given) ≡ suc (length rest)
+        → ((a : Address) → length (rule rest (withAddress p (a .0)) .given) ≡ length rest → rule rest (withAddress p (a .0)) .ending ≡ served)
+        → next (λ q. rule rest q) t p c .ending ≡ served
+    go AllUsed k ih = absurd (omega arith)
+    go (At a) k ih = ih a (omega arith)
+
+-- ---- whom it serves
+
+later : (t : Target) (rest : List Target) (gs : List Given) → Each (λ (g : Given). Among (g .who) rest) gs → Each (λ (g : Given). Among (g .who) (t ∷ rest)) gs
+later t rest [] h = tt
+later t rest (g ∷ gs) h = (inr (h .0), later t rest gs (h .1))
+
+-- those served are among the targets to serve
+pub rule-who : (rest : List Target) (p : Pool) → Each (λ (g : Given). Among (g .who) rest) (rule rest p .given)
+rule-who [] p = tt
+rule-who (t ∷ rest) p = go (plainChoice p t) (λ a. rule-who rest (withAddress p (a .0)))
+  where
+    go : (c : Free) → ((a : Address) → Each (λ (g : Given). Among (g .who) rest) (rule rest (withAddress p (a .0)) .given))
+        → Each (λ (g : Given). Among (g .who) (t ∷ rest)) (next (λ q. rule rest q) t p c .given)
+    go AllUsed ih = tt
+    go (At a) ih = (inl refl, later t rest (rule rest (withAddress p (a .0)) .given) (ih a))

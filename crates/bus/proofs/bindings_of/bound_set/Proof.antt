@@ -22,10 +22,10 @@ unfolding boundFrom
 onward held a p h = let n : 128 - a ≡ suc (128 - (a + 1)) = omega arith in rw (n, add-one a)
 
 abbrev Inv-loop : tie.InvT-loop
-Inv-loop slots bound₀ a₀ bound a = (a ≤ 128) × (boundFrom (entryAt slots) 128 0 bound₀ ≡ boundFrom (entryAt slots) (128 - a) a bound)
+Inv-loop slots bound₀ n₀ bound n = (n ≤ 128) × (boundFrom (entryAt slots) 128 0 bound₀ ≡ boundFrom (entryAt slots) (128 - n) n bound)
 
 abbrev μ-loop : tie.MeasureT-loop
-μ-loop slots bound₀ a₀ bound a = 128 - a
+μ-loop slots bound₀ n₀ bound n = 128 - n
 
 -- src/bindings_of.rt:46:9
 empty-requires : tie.Need-empty-requires Inv-loop μ-loop
@@ -56,8 +56,8 @@ with-entry-requires : tie.Need-with-entry-requires Inv-loop μ-loop
 with-entry-requires c κs = search needs
 
 -- src/bindings_of.rt:51:9
-add-a : tie.Need-add-a Inv-loop μ-loop
-add-a c = omega arith
+add-n : tie.Need-add-n Inv-loop μ-loop
+add-n c = omega arith
 
 -- src/bindings_of.rt:48:5
 loop-less : tie.Need-loop-less Inv-loop μ-loop
@@ -70,9 +70,9 @@ loop-again c =
     let held = entryAt (c .before .before .before .before .before .before .args .t1) in (
       omega arith,
       l .inv .1
-          ∙ onward held (l .a) (l .bound) (c .before .before .before .loop-test .taken)
-          ∙ ap (λ (e : Entry). boundFrom held (128 - (l .a + 1)) (l .a + 1) (withEntry (l .bound) (l .a) e)) (sym (c .before .entry-of .ensures))
-          ∙ ap (boundFrom held (128 - (l .a + 1)) (l .a + 1)) (sym (c .with-entry .ensures)),
+          ∙ onward held (l .n) (l .bound) (c .before .before .before .loop-test .taken)
+          ∙ ap (λ (e : Entry). boundFrom held (128 - (l .n + 1)) (l .n + 1) (withEntry (l .bound) (l .n) e)) (sym (c .before .entry-of .ensures))
+          ∙ ap (boundFrom held (128 - (l .n + 1)) (l .n + 1)) (sym (c .with-entry .ensures)),
     )
 
 -- src/bindings_of.rt:43:1
@@ -80,8 +80,8 @@ returns : tie.Need-returns Inv-loop μ-loop
 unfolding boundFrom
 returns c =
     let l = c .before .loop in
-    let e : 128 - l .a ≡ 0 = omega arith in
-    sym (ap (boundFrom (entryAt (c .before .before .before .args .t1)) 128 0) (sym (c .before .before .empty .ensures)) ∙ l .inv .1 ∙ ap (λ (x : ℕ). boundFrom (entryAt (c .before .before .before .args .t1)) x (l .a) (l .bound)) e)
+    let e : 128 - l .n ≡ 0 = omega arith in
+    sym (ap (boundFrom (entryAt (c .before .before .before .args .t1)) 128 0) (sym (c .before .before .empty .ensures)) ∙ l .inv .1 ∙ ap (λ (x : ℕ). boundFrom (entryAt (c .before .before .before .args .t1)) x (l .n) (l .bound)) e)
 
 pub bound-set-spec : {M : Type 1} → statement M
 bound-set-spec =
@@ -96,7 +96,7 @@ bound-set-spec =
     array-copy-out-s
     entry-of-requires
     with-entry-requires
-    add-a
+    add-n
     loop-less
     loop-again
     returns)
