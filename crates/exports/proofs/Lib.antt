@@ -1,4 +1,6 @@
 pub mod CodecLaws
+pub mod CommandLaws
+pub mod LastLaws
 pub mod LongTraces
 pub mod ModelLaws
 pub mod ReadLaws
