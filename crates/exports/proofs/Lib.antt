@@ -3,4 +3,5 @@ pub mod CommandLaws
 pub mod LastLaws
 pub mod LongTraces
 pub mod ModelLaws
+pub mod PassLaws
 pub mod ReadLaws

@@ -6,3 +6,4 @@ pub mod Model
 pub mod Check
 pub mod LastData
 pub mod Commands
+pub mod Pass

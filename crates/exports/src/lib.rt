@@ -8,6 +8,7 @@ pub mod ground;
 pub mod last_data;
 pub mod model;
 pub mod parts;
+pub mod pass;
 pub mod pools;
 pub mod symbols;
 pub mod udids;
