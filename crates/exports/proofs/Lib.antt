@@ -1,4 +1,7 @@
 pub mod CodecLaws
+pub mod CommandLaws
+pub mod LastLaws
 pub mod LongTraces
 pub mod ModelLaws
+pub mod PassLaws
 pub mod ReadLaws

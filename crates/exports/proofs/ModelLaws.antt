@@ -5,10 +5,11 @@ use mathlib.Core.List.{List}
 use Rattle.pool.specs.declared.Pool.{Pool}
 use Rattle.bus.specs.Run.{Leaves, modelEnd}
 use Rattle.bus.specs.declared.answer.ModelAnswer.{ModelAnswer}
-use Rattle.exports.specs.declared.model.HbUdid.{HbUdid}
-use Rattle.exports.specs.declared.model.HbPool.{HbPool}
+use Rattle.exports.specs.declared.parts.HbUdid.{HbUdid}
+use Rattle.exports.specs.declared.parts.HbPool.{HbPool}
 use Rattle.exports.specs.declared.model.HbModel.{HbModel}
-use Rattle.exports.specs.Model.{toldUdid, toldPool, toldModel, RanModel}
+use Rattle.exports.specs.Parts.{toldUdid, toldPool}
+use Rattle.exports.specs.Model.{toldModel, RanModel}
 
 abbrev withParts : ModelAnswer → HbUdid → HbPool → HbModel
 withParts a u p = record { answer = a .answer; count = a .count; gets = a .gets; place = a .place; udid = u; bound = p }

@@ -17,7 +17,7 @@ use Rattle.exports.specs.Pairs.{symbolsIn, length-symbols, fewer}
 use Rattle.exports.specs.Codec.{toldDecoded, ReadSymbols}
 use Rattle.exports.proofs.LongTraces.{of-front}
 
-front-is : (n : ℕ) (bytes zeros filled : List ℕ) → filled ≡ onto (symbolsIn n bytes) zeros → take n filled ≡ symbolsIn n bytes
+pub front-is : (n : ℕ) (bytes zeros filled : List ℕ) → filled ≡ onto (symbolsIn n bytes) zeros → take n filled ≡ symbolsIn n bytes
 front-is n bytes zeros filled e = ap (take n) e ∙ take-at (symbolsIn n bytes) (drop (length (symbolsIn n bytes)) zeros) n (length-symbols n bytes)
 
 module _ (protocol : ℕ) (pec : Bool) (bytes zeros filled s₀ r₀ : List ℕ) (a : Decoded) (s r : List ℕ) where

@@ -3,22 +3,10 @@ use Prim.Native.Nat.{ℕ}
 use mathlib.Core.Path.{_≡_}
 use mathlib.Core.List.{List}
 use Rattle.pool.specs.declared.Pool.{Pool}
-use Rattle.udid.specs.declared.Udid.{Udid}
 use Rattle.bus.specs.Run.{modelEnd}
 use Rattle.bus.specs.declared.answer.ModelAnswer.{ModelAnswer}
-use Rattle.exports.specs.declared.model.HbUdid.{HbUdid}
-use Rattle.exports.specs.declared.model.HbPool.{HbPool}
 use Rattle.exports.specs.declared.model.HbModel.{HbModel}
-
--- a set of addresses from its halves
-abbrev pub poolOf : ℕ → ℕ → Pool
-poolOf low high = record { low = low; high = high }
-
-abbrev pub toldUdid : Udid → HbUdid
-toldUdid u = record { high = u .high; low = u .low }
-
-abbrev pub toldPool : Pool → HbPool
-toldPool p = record { low = p .low; high = p .high }
+use Rattle.exports.specs.Parts.{toldUdid, toldPool}
 
 abbrev pub toldModel : ModelAnswer → HbModel
 toldModel a = record {

@@ -1,23 +1,12 @@
 // The model run for C: target records and a binding buffer lent as bytes, the answer as a struct of numbers.
-ghost use mathlib.Core.Path.{_≡_};
-ghost use Rattle.exports.specs.Model.{poolOf, toldPool, toldUdid, toldModel, RanModel};
+ghost use Rattle.exports.specs.Parts.{poolOf};
+ghost use Rattle.exports.specs.Model.{RanModel};
+use crate::parts::HbPool;
+use crate::parts::HbUdid;
+use crate::parts::addresses;
+use crate::parts::identifier;
 use bus::run::run_model;
 use pool::Pool;
-use udid::Udid;
-
-// A device identifier: the first eight bytes on the wire are the high half.
-#[repr(C)]
-pub struct HbUdid {
-    pub high: u64,
-    pub low: u64,
-}
-
-// A set of addresses: bit k of low is address k, bit k of high is address 64 + k.
-#[repr(C)]
-pub struct HbPool {
-    pub low: u64,
-    pub high: u64,
-}
 
 // The paper's number; how many addresses are bound, and the Get UDIDs sent; the record of a refusal; with 13 the identifier that
 // asked; and the bound addresses. Whatever an answer lacks is 0.
@@ -29,24 +18,6 @@ pub struct HbModel {
     pub place: usize,
     pub udid: HbUdid,
     pub bound: HbPool,
-}
-
-pub fn identifier(u: Udid) -> HbUdid
-    ensures { λ r. ⌜ r ≡ toldUdid u ⌝ }
-{
-    HbUdid {
-        high: u.high,
-        low: u.low,
-    }
-}
-
-pub fn addresses(p: Pool) -> HbPool
-    ensures { λ r. ⌜ r ≡ toldPool p ⌝ }
-{
-    HbPool {
-        low: p.low,
-        high: p.high,
-    }
 }
 
 // The occupied addresses are given in two halves.

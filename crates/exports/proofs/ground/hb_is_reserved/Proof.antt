@@ -1,22 +1,24 @@
 use borrow.Author.Needs.{needs}
-use mathlib.Core.Path.{_≡_, sym, _∙_}
+use mathlib.Core.Path.{_≡_, ap, _∙_}
+use Rattle.exports.specs.Numbers.{bit}
 use Rattle.exports.proofs.ground.hb_is_reserved.Statement.{statement}
 use Rattle.exports.proofs.ground.hb_is_reserved.Tie as tie
 use Rattle.exports.proofs.ground.hb_is_reserved.Reads as reads
 use Rattle.exports.proofs.ground.hb_is_reserved.Lts as lts
+use Rattle.exports.proofs.parts.as_number.Reads as as-number-reads
 use Rattle.wire.proofs.address.Address.is_reserved.Reads as is-reserved-reads
 
--- src/ground.rt:56:8
+-- src/ground.rt:106:15
 is-reserved-requires : tie.Need-is-reserved-requires
 is-reserved-requires c κs = search needs
 
--- src/ground.rt:52:1
-returns : tie.Need-returns
-returns c = rw (sym (c .before .is-reserved .ensures) ∙ c .if1 .taken)
+-- src/ground.rt:106:5
+as-number-requires : tie.Need-as-number-requires
+as-number-requires c κs = search needs
 
--- src/ground.rt:52:1
-returns-2 : tie.Need-returns-2
-returns-2 c = rw (sym (c .before .is-reserved .ensures) ∙ c .if1 .left)
+-- src/ground.rt:102:1
+returns : tie.Need-returns
+returns c = c .as-number .ensures ∙ ap bit (c .before .is-reserved .ensures)
 
 pub hb-is-reserved-spec : {M : Type 1} → statement M
-hb-is-reserved-spec = tie.close (tie.spec is-reserved-requires returns returns-2)
+hb-is-reserved-spec = tie.close (tie.spec is-reserved-requires as-number-requires returns)

@@ -5,8 +5,8 @@ use Rattle.exports.proofs.model.hb_run_model.Tie as tie
 use Rattle.exports.proofs.model.hb_run_model.Reads as reads
 use Rattle.exports.proofs.model.hb_run_model.Lts as lts
 use Rattle.bus.proofs.run.run_model.Reads as run-model-reads
-use Rattle.exports.proofs.model.addresses.Reads as addresses-reads
-use Rattle.exports.proofs.model.identifier.Reads as identifier-reads
+use Rattle.exports.proofs.parts.addresses.Reads as addresses-reads
+use Rattle.exports.proofs.parts.identifier.Reads as identifier-reads
 
 -- src/model.rt:62:9
 run-model-requires : tie.Need-run-model-requires

@@ -1,0 +1,105 @@
+// Commands of the ARP controller as numbers, and their traces. The kinds: 0 Prepare To ARP, 1 Get UDID, 2 Assign Address, and the
+// ends of a pass: 3 ended, 4 no free address, 5 abandoned, 6 no command outstanding, 7 no pass has begun.
+ghost use mathlib.Core.Path.{_≡_};
+ghost use mathlib.Core.Bool.{true};
+ghost use Rattle.arp.specs.Requests.{protocolOf, messageOf};
+ghost use Rattle.exports.specs.Parts.{udidOf};
+ghost use Rattle.exports.specs.Codec.{WrotePairs};
+ghost use Rattle.exports.specs.Commands.{commandOf, saidOf, toldCommand};
+use crate::codec::HbWritten;
+use crate::codec::put_pairs;
+use crate::codec::written;
+use crate::parts::HbUdid;
+use crate::parts::identifier;
+use arp::command::Command;
+use arp::request::put_command;
+use encode::Encoded;
+use udid::Udid;
+use wire::address::Address;
+
+// A command of a kind that is sent; every other number is no command.
+fn command_of(kind: u8, u: Udid, a: Address) -> Command
+    ensures { λ r. ⌜ r ≡ commandOf kind u a ⌝ }
+{
+    if kind == 0 {
+        return Command::Prepare;
+    }
+    if kind == 1 {
+        return Command::GetUdid;
+    }
+    if kind == 2 {
+        return Command::Assign(u, a);
+    }
+    Command::Nothing
+}
+
+// What the controller handed out: the kind, the paper's number of an end, the identifier and the address of an Assign or the
+// identifier that found no address, and the Get UDIDs sent so far. Whatever a kind lacks is 0.
+#[repr(C)]
+pub struct HbCommand {
+    pub kind: u32,
+    pub answer: u32,
+    pub address: u32,
+    pub gets: u32,
+    pub udid: HbUdid,
+}
+
+fn said(kind: u32, answer: u32, u: Udid, a: Address, gets: u32) -> HbCommand
+    ensures { λ r. ⌜ r ≡ saidOf kind answer u (a .0) gets ⌝ }
+{
+    HbCommand {
+        kind: kind,
+        answer: answer,
+        address: a.0 as u32,
+        gets: gets,
+        udid: identifier(u),
+    }
+}
+
+pub fn told_command(k: Command, gets: u32) -> HbCommand
+    ensures { λ r. ⌜ r ≡ toldCommand k gets ⌝ }
+{
+    let none = Udid { high: 0, low: 0 };
+    match k {
+        Command::Prepare => said(0, 0, none, Address(0), gets),
+        Command::GetUdid => said(1, 0, none, Address(0), gets),
+        Command::Assign(u, a) => said(2, 0, u, a, gets),
+        Command::Ended => said(3, 0, none, Address(0), gets),
+        Command::NoneFree(u) => said(4, 13, u, Address(0), gets),
+        Command::Abandoned => said(5, 14, none, Address(0), gets),
+        Command::NotOutstanding => said(6, 21, none, Address(0), gets),
+        Command::Nothing => said(7, 0, none, Address(0), gets),
+    }
+}
+
+// The trace of a command that is acknowledged whole, as byte pairs; for Get UDID, with these data as its reply.
+#[no_mangle]
+pub extern "C" fn hb_put_command(
+    kind: u8,
+    high: u64,
+    low: u64,
+    address: u8,
+    reply: &[u8],
+    out: &mut [u8],
+) -> HbWritten
+    ensures { λ r. ⌜ WrotePairs (protocolOf (commandOf kind (udidOf high low) (record { 0 = address }))) true (messageOf (commandOf kind (udidOf high low) (record { 0 = address })) (now (reply .entry))) (now (out .entry)) r (now (out .exit)) ⌝ }
+{
+    let k = command_of(
+        kind,
+        Udid {
+            high: high,
+            low: low,
+        },
+        Address(address),
+    );
+    let mut buf = [0u16; 525];
+    let r = put_command(k, reply, &mut buf);
+    let Encoded::Written(n) = r else {
+        return written(1, 0);
+    };
+    if out.len() / 2 < n {
+        return written(2, 0);
+    }
+    put_pairs(out, &buf[..n]);
+    written(0, n as u32)
+}
