@@ -7,3 +7,4 @@ pub mod Check
 pub mod LastData
 pub mod Commands
 pub mod Pass
+pub mod Unique
