@@ -2,7 +2,7 @@
 #ifndef BASELINE_H
 #define BASELINE_H
 
-#include "hb.h"
+#include "headboarded.h"
 
 uint8_t plain_pec(const uint8_t *s, size_t n);
 

@@ -13,7 +13,7 @@ mkdir -p "$out"
     cat build/staticlib.log
     exit 1
 }
-gcc -std=c11 -O2 -Wall -Wextra -Werror bench/codec.c bench/baseline.c "$library" -o "$out/codec"
+gcc -std=c11 -O2 -Wall -Wextra -Werror -Iinclude bench/codec.c bench/baseline.c "$library" -o "$out/codec"
 rm -f "$out/codec.callgrind"
 valgrind --tool=callgrind --combine-dumps=yes --callgrind-out-file="$out/codec.callgrind" "$out/codec" \
     >"$out/codec.log" 2>&1 || {

@@ -13,7 +13,7 @@ mkdir -p "$out"
     cat build/staticlib.log
     exit 1
 }
-gcc -std=c11 -O2 -Wall -Wextra -Werror bench/model.c bench/baseline.c bench/plain_model.c "$library" -o "$out/model"
+gcc -std=c11 -O2 -Wall -Wextra -Werror -Iinclude bench/model.c bench/baseline.c bench/plain_model.c "$library" -o "$out/model"
 rm -f "$out/model.callgrind"
 valgrind --tool=callgrind --combine-dumps=yes --callgrind-out-file="$out/model.callgrind" "$out/model" \
     >"$out/model.log" 2>&1 || {

@@ -13,7 +13,7 @@ mkdir -p "$out"
     cat build/staticlib.log
     exit 1
 }
-gcc -std=c11 -O2 -Wall -Wextra -Werror bench/pec.c bench/baseline.c "$library" -o "$out/pec"
+gcc -std=c11 -O2 -Wall -Wextra -Werror -Iinclude bench/pec.c bench/baseline.c "$library" -o "$out/pec"
 
 instructions() { # WHICH CALLS: of the whole run
     valgrind --tool=callgrind --callgrind-out-file=/dev/null "$out/pec" "$1" "$2" 2>&1 >/dev/null |

@@ -1,7 +1,7 @@
 /* Writes a script for the program passes, a pass of as many steps as asked:  step STEPS
    The first is Prepare To ARP, acknowledged; the second a target's reply to Get UDID, with its own address 20h;
    the third the Assign Address that binds it there, acknowledged. */
-#include "hb.h"
+#include "headboarded.h"
 
 #include <stdio.h>
 #include <stdlib.h>

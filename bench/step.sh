@@ -17,7 +17,7 @@ mkdir -p "$out"
     cat build/step.log
     exit 1
 }
-gcc -std=c11 -O2 -Wall -Wextra -Werror bench/step.c "$library" -o "$out/step"
+gcc -std=c11 -O2 -Wall -Wextra -Werror -Iinclude bench/step.c "$library" -o "$out/step"
 "$out/step" 2 >"$out/before.script"
 "$out/step" 3 >"$out/bound.script"
 

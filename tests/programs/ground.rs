@@ -31,6 +31,8 @@ fn pec_slices() {
         for _ in 0..2 {
             let message = random.bytes(length);
             family.same(|| hex(&message), &pec::pec(&message), &library::pec(&message));
+            let (first, rest) = message.split_at(length / 3);
+            family.same(|| hex(&message), &pec::pec(&message), &library::pec_bytes(pec::pec(first), rest));
         }
     }
     family.same(|| "no bytes, null pointer".to_string(), &0, &library::pec_of_null());
@@ -54,6 +56,9 @@ fn wire_bytes() {
         family.same(input, &twice, &u16::from(library::wire_for_write(number)));
         family.same(input, &(twice + 1), &u16::from(library::wire_for_read(number)));
         family.same(input, &(number / 2), &library::address_from_wire(number));
+        family.same(input, &(number % 2), &library::wire_is_read(number));
+        let kinds = [number < 128, number == 0x61, number == 0x08, number == 0x0c].map(u8::from);
+        family.same(input, &kinds, &library::kinds(number));
     }
     family.done();
 }

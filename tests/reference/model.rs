@@ -43,8 +43,8 @@ fn misplaced(records: &[&[u8]], k: usize, starting: &Addresses) -> bool {
     fixed(records[k]) && (starting.contains(&own) || taken)
 }
 
-/// The first refusal, with its record.
-fn refusal(list: &[u8], room: usize, occupied: &Addresses) -> Option<(u32, usize)> {
+/// The first refusal, with its record; a binding buffer of so many bytes.
+pub fn refusal(list: &[u8], room: usize, occupied: &Addresses) -> Option<(u32, usize)> {
     if room < BINDINGS {
         return Some((2, 0));
     }

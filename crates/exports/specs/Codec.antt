@@ -1,5 +1,5 @@
 -- The codec for C: the same answers as numbers; over byte pairs, the room in pairs and the symbols as pairs.
-use mathlib.Core.Path.{_≡_, refl}
+use mathlib.Core.Path.{_≡_, refl, sym, _∙_}
 use mathlib.Core.Bool.{Bool, true, false}
 use mathlib.Core.List.{List}
 use Prim.Native.Nat.{ℕ, _/_}
@@ -26,6 +26,11 @@ told r = answerOf (number r .0) (number r .1)
 pub record WrotePairs (protocol : ℕ) (pec : Bool) (t : Message) (before : List ℕ) (r : HbWritten) (after : List ℕ) : Type 0 where
   pub answer : r ≡ told (encoded protocol pec t (length before / 2))
   pub output : after ≡ onto (pairsOf (symbolsOf (encoded protocol pec t (length before / 2)) (trace (shapeOf protocol) pec t))) before
+
+-- one answer and one output alone
+pub one-written : (protocol : ℕ) (pec : Bool) (t : Message) (before : List ℕ) (r r′ : HbWritten) (after after′ : List ℕ) → WrotePairs protocol pec t before r after
+    → WrotePairs protocol pec t before r′ after′ → (r ≡ r′) × (after ≡ after′)
+one-written protocol pec t before r r′ after after′ x y = (x .answer ∙ sym (y .answer), x .output ∙ sym (y .output))
 
 -- the same on symbols as they are
 pub record WroteSymbols (protocol : ℕ) (pec : Bool) (t : Message) (before : List ℕ) (r : HbWritten) (after : List ℕ) : Type 0 where

@@ -15,7 +15,7 @@ use encode::Encoded;
 use wire::address::Address;
 
 // The bytes of symbols, to the front of a buffer.
-pub fn put_pairs(out: &mut [u8], symbols: &[u16])
+pub(crate) fn put_pairs(out: &mut [u8], symbols: &[u16])
     requires { ⌜ 2 * length (now symbols) ≤ length (now out) ⌝ }
     ensures { λ _. ⌜ now (out .exit) ≡ onto (pairsOf (now (symbols .entry))) (now (out .entry)) ⌝ }
 {
@@ -29,7 +29,7 @@ pub fn put_pairs(out: &mut [u8], symbols: &[u16])
 }
 
 // The first n symbols that bytes are, to the front of a buffer.
-pub fn get_pairs(symbols: &mut [u16], bytes: &[u8], n: usize)
+pub(crate) fn get_pairs(symbols: &mut [u16], bytes: &[u8], n: usize)
     requires { ⌜ (n ≤ length (now symbols)) × (2 * n ≤ length (now bytes)) ⌝ }
     ensures { λ _. ⌜ now (symbols .exit) ≡ onto (symbolsIn n (now (bytes .entry))) (now (symbols .entry)) ⌝ }
 {
@@ -49,7 +49,7 @@ pub struct HbWritten {
     pub symbols: u32,
 }
 
-pub fn written(answer: u32, symbols: u32) -> HbWritten
+pub(crate) fn written(answer: u32, symbols: u32) -> HbWritten
     ensures { λ r. ⌜ r ≡ answerOf answer symbols ⌝ }
 {
     HbWritten { answer, symbols }

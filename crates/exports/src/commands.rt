@@ -56,7 +56,7 @@ fn said(kind: u32, answer: u32, u: Udid, a: Address, gets: u32) -> HbCommand
     }
 }
 
-pub fn told_command(k: Command, gets: u32) -> HbCommand
+pub(crate) fn told_command(k: Command, gets: u32) -> HbCommand
     ensures { λ r. ⌜ r ≡ toldCommand k gets ⌝ }
 {
     let none = Udid { high: 0, low: 0 };

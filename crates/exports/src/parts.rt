@@ -20,13 +20,13 @@ pub struct HbPool {
 }
 
 // 1 for true, 0 for false.
-pub fn as_number(b: bool) -> u8
+pub(crate) fn as_number(b: bool) -> u8
     ensures { λ r. ⌜ r ≡ bit b ⌝ }
 {
     if b { 1 } else { 0 }
 }
 
-pub fn identifier(u: Udid) -> HbUdid
+pub(crate) fn identifier(u: Udid) -> HbUdid
     ensures { λ r. ⌜ r ≡ toldUdid u ⌝ }
 {
     HbUdid {
@@ -35,7 +35,7 @@ pub fn identifier(u: Udid) -> HbUdid
     }
 }
 
-pub fn addresses(p: Pool) -> HbPool
+pub(crate) fn addresses(p: Pool) -> HbPool
     ensures { λ r. ⌜ r ≡ toldPool p ⌝ }
 {
     HbPool {

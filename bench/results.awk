@@ -1,0 +1,124 @@
+# bench/RESULTS.md from what the benchmarks left: pec.txt, codec.callgrind, step.txt and model.txt, in this order.
+
+FNR == 1 {
+    file++
+}
+
+file == 1 {
+    pec[$2, $1] = $3
+    next
+}
+
+# Labels as bench/codec.c writes them.
+file == 2 && /^desc: Trigger: Client Request:/ {
+    label = $0
+    sub(/^desc: Trigger: Client Request: */, "", label)
+}
+
+file == 2 && /^totals:/ && label != "" {
+    split(label, word, " ")
+    row = word[3] " " word[4] " " word[5] " " word[6] " " word[7]
+    if (!(row in seen)) {
+        seen[row] = 1
+        rows[++count] = row
+    }
+    cost[word[1], word[2], row] = $2
+    label = ""
+}
+
+file == 3 {
+    step = $0
+}
+
+file == 4 && $1 ~ /^[0-9]+$/ {
+    sizes[++runs] = $1
+    answer[$1] = $2
+    bound[$1] = $3
+    gets[$1] = $4
+    run["library", $1] = $5
+    run["plain", $1] = $6
+}
+
+function ratio(a, b) {
+    return b > 0 ? sprintf("%.2f", a / b) : "-"
+}
+
+# Instructions for a symbol more, from a block of 32 bytes to the longest.
+function slope(work, who, short, long, a, b) {
+    split(short, a, " ")
+    split(long, b, " ")
+    return (cost[work, who, long] - cost[work, who, short]) / (b[5] - a[5])
+}
+
+function growth(work, who) {
+    return sprintf("%.1f", slope(work, who, "8 - 32 0 72", "8 - 255 0 518"))
+}
+
+# Instructions that a PEC adds to the longest Block Write.
+function with_pec(work, who) {
+    return cost[work, who, "8 p 255 0 520"] - cost[work, who, "8 - 255 0 518"]
+}
+
+function each_target(who, n) {
+    return sprintf("%d", run[who, n] / n)
+}
+
+function pec_table(lengths, n, k) {
+    print "## PEC\n"
+    print "|bytes|library|plain C|ratio|library, a byte|\n|-:|-:|-:|-:|-:|"
+    n = split("1 16 255 65536", lengths, " ")
+    for (k = 1; k <= n; k++)
+        printf "|%d|%d|%d|%s|%.1f|\n", lengths[k], pec["library", lengths[k]], pec["plain", lengths[k]], \
+            ratio(pec["library", lengths[k]], pec["plain", lengths[k]]), pec["library", lengths[k]] / lengths[k]
+}
+
+function codec_table(k, word) {
+    print "\n## Encode and decode\n"
+    print "A whole call each, PEC work included.\n"
+    print "|protocol|PEC|sent|received|symbols|encode|plain C|ratio|decode|plain C|ratio|\n|-:|-|-:|-:|-:|-:|-:|-:|-:|-:|-:|"
+    for (k = 1; k <= count; k++) {
+        split(rows[k], word, " ")
+        printf "|%s|%s|%s|%s|%s|%d|%d|%s|%d|%d|%s|\n", word[1], word[2] == "p" ? "yes" : "no", word[3], word[4], word[5], \
+            cost["encode", "library", rows[k]], cost["encode", "plain", rows[k]], \
+            ratio(cost["encode", "library", rows[k]], cost["encode", "plain", rows[k]]), \
+            cost["decode", "library", rows[k]], cost["decode", "plain", rows[k]], \
+            ratio(cost["decode", "library", rows[k]], cost["decode", "plain", rows[k]])
+    }
+}
+
+function run_table(k, n) {
+    print "\n## Model run\n"
+    print "Plain C sorts the targets, applies the plain rule, and writes and reads the same traces.\n"
+    print "|targets|answer|bound|Get UDIDs|library|plain C|ratio|\n|-:|-:|-:|-:|-:|-:|-:|"
+    for (k = 1; k <= runs; k++) {
+        n = sizes[k]
+        printf "|%d|%d|%d|%d|%d|%d|%s|\n", n, answer[n], bound[n], gets[n], run["library", n], run["plain", n], \
+            ratio(run["library", n], run["plain", n])
+    }
+}
+
+END {
+    if (file != 4 || count == 0 || runs == 0 || step == "" || pec["plain", 65536] == 0) {
+        print "bench: nothing counted" >"/dev/stderr"
+        exit 1
+    }
+    print "# Instructions, counted by callgrind\n"
+    print "Written by `bench/run`. Plain C is `bench/baseline.c` and `bench/plain_model.c`, with gcc " compiler " -O2. Both sides'"
+    print "results are compared before anything is counted.\n"
+    pec_table()
+    codec_table()
+    print "\n## A controller step\n"
+    print step "."
+    run_table()
+    print "\n## How it grows\n"
+    print "- With the trace: linear. From a Block Write of 32 bytes to one of 255, without PEC, a symbol more costs"
+    print "  " growth("encode", "library") " instructions to encode (plain C " growth("encode", "plain") ") and " \
+        growth("decode", "library") " to decode (plain C " growth("decode", "plain") "). With PEC the long one costs"
+    print "  " with_pec("encode", "library") " more to encode (plain C " with_pec("encode", "plain") ") and " \
+        with_pec("decode", "library") " more to decode (plain C " with_pec("decode", "plain") ")."
+    print "- With the targets: between linear and quadratic. A target costs " each_target("library", 10) " instructions in a run with 10,"
+    print "  " each_target("library", 60) " with 60 and " each_target("library", 120) " with 120 (plain C " each_target("plain", 10) ", " \
+        each_target("plain", 60) " and " each_target("plain", 120) "). The traces and the controller's steps cost the same"
+    print "  for each target; the search for the winner looks at every record for each Get UDID, and the check of the list compares"
+    print "  every two records. 120 targets are more than the 107 addresses there are, so that run ends with 13."
+}

@@ -1,0 +1,231 @@
+/* The functions of the base for C: packet error code, addresses, the codec of the eleven protocols, pools of addresses, device
+ * identifiers, the ARP controller's commands and passes, target lists and the model run.
+ *
+ * Every function answers for every input. A buffer is a pointer and a length; NULL goes with the length 0. A function writes only what
+ * is said of it, and nothing at all where it answers 1 to 12, 15, 16 or 21. No function keeps anything: two calls with the same
+ * inputs give the same.
+ *
+ * A truth value is 0 or 1; as an input, any number but 0 is true. A symbol of a trace is a number: 0 to 255 a byte, HB_START, HB_STOP,
+ * HB_ACK or HB_NACK; as bytes it is a pair, low byte first. Bytes after the last whole pair of a trace are not read.
+ *
+ * The numbers answered: 0 done; 1 an input that is forbidden; 2 a buffer that is too short; of a trace, 3 a number that is no symbol,
+ * 4 its end while it still fits, 5 a symbol that cannot stand there, 6 NACK where ACK is due, 7 a PEC that differs, 8 symbols after
+ * STOP; of a target list, 9 its length, 10 a malformed record, 11 a repeated identifier, 12 a fixed target on a taken address; of a
+ * pass, 13 no free address, 14 abandoned, 21 no command outstanding; of the lookup, 15 nobody, 16 two claim the address. */
+#ifndef HEADBOARDED_H
+#define HEADBOARDED_H
+
+#include <stddef.h>
+#include <stdint.h>
+
+#ifdef __cplusplus
+extern "C" {
+#endif
+
+enum { HB_START = 256, HB_STOP = 257, HB_ACK = 258, HB_NACK = 259 };
+enum { HB_DEFAULT_ADDRESS = 0x61, HB_HOST_ADDRESS = 0x08, HB_ALERT_RESPONSE_ADDRESS = 0x0c };
+enum { HB_LONGEST_TRACE = 525, HB_DECODE_ROOM = 255, HB_BINDINGS_ROOM = 2048, HB_RECORD = 18, HB_MOST_TARGETS = 120 };
+
+/* Protocols. */
+enum {
+    HB_QUICK = 0,
+    HB_SEND_BYTE = 1,
+    HB_RECEIVE_BYTE = 2,
+    HB_WRITE_BYTE = 3,
+    HB_WRITE_WORD = 4,
+    HB_READ_BYTE = 5,
+    HB_READ_WORD = 6,
+    HB_PROCESS_CALL = 7,
+    HB_BLOCK_WRITE = 8,
+    HB_BLOCK_READ = 9,
+    HB_BLOCK_PROCESS_CALL = 10
+};
+
+/* What the controller hands out. The first three are commands to send. */
+enum {
+    HB_PREPARE = 0,
+    HB_GET_UDID = 1,
+    HB_ASSIGN = 2,
+    HB_ENDED = 3,
+    HB_NONE_FREE = 4,
+    HB_ABANDONED = 5,
+    HB_NOT_OUTSTANDING = 6
+};
+
+/* A device identifier: the first eight bytes on the wire are the high half, highest byte first. */
+typedef struct {
+    uint64_t high;
+    uint64_t low;
+} hb_udid;
+
+/* A set of addresses: bit k of low is address k, bit k of high is address 64 + k. */
+typedef struct {
+    uint64_t low;
+    uint64_t high;
+} hb_pool;
+
+/* PEC. Nothing is written. */
+
+/* The PEC of n bytes; of none it is 0. */
+uint8_t hb_pec(const uint8_t *s, size_t n);
+/* The PEC after one byte more, and after n bytes more, where it was crc before. */
+uint8_t hb_pec_byte(uint8_t crc, uint8_t byte);
+uint8_t hb_pec_bytes(uint8_t crc, const uint8_t *s, size_t n);
+
+/* Addresses. Nothing is written. */
+
+/* The byte on the wire for a write and for a read. Of a number above 127 only the low seven bits go there. */
+uint8_t hb_wire_for_write(uint8_t address);
+uint8_t hb_wire_for_read(uint8_t address);
+/* The address that a byte on the wire carries, and whether the byte asks for a read. */
+uint8_t hb_address_from_wire(uint8_t byte);
+uint8_t hb_wire_is_read(uint8_t byte);
+/* Whether the number is below 128; is the default, the host's or the alert response address; is one of the 21 that are never given
+ * out. */
+uint8_t hb_is_seven_bit(uint8_t address);
+uint8_t hb_is_default(uint8_t address);
+uint8_t hb_is_host(uint8_t address);
+uint8_t hb_is_alert_response(uint8_t address);
+uint8_t hb_is_reserved(uint8_t address);
+
+/* The codec. */
+
+/* The symbols that the encoder needs room for; 0 where it refuses the protocol, the PEC or a length. Nothing is written. */
+size_t hb_trace_length(uint8_t protocol, uint8_t pec, size_t sent, size_t received);
+
+typedef struct {
+    uint32_t answer;
+    uint32_t symbols;
+} hb_written;
+
+/* Encodes a transaction. With 0 the trace stands in the first 2 * symbols bytes of out, and the rest of out is as it was. With 1 or 2
+ * out is as it was and symbols is 0. Direction is 1 for a Quick read and otherwise 0; a command that the protocol lacks is 0. */
+hb_written hb_encode(uint8_t protocol, uint8_t pec, uint8_t address, uint8_t direction, uint8_t command,
+                     const uint8_t *sent, size_t sent_len, const uint8_t *received, size_t received_len,
+                     uint8_t *out, size_t out_len);
+
+/* With 0, the transaction: value is 0, and sent and received are the lengths of its data. Else value is the place in the trace, its length
+ * with 4, the byte's number with 6, 0 with 1 and 2; the other parts are 0. */
+typedef struct {
+    uint32_t answer;
+    uint32_t address;
+    uint32_t direction;
+    uint32_t command;
+    size_t value;
+    size_t sent;
+    size_t received;
+} hb_decoded;
+
+/* Decodes a trace. Both buffers need HB_DECODE_ROOM bytes. With 0 the data sent stand at the front of one and the data received at the
+ * front of the other, and the rest of both is as it was. With any other answer both are as they were. */
+hb_decoded hb_decode(uint8_t protocol, uint8_t pec, const uint8_t *trace, size_t trace_len,
+                     uint8_t *sent, size_t sent_len, uint8_t *received, size_t received_len);
+
+/* The same two on symbols as 16-bit numbers; lengths of traces count symbols. */
+hb_written hb_encode_symbols(uint8_t protocol, uint8_t pec, uint8_t address, uint8_t direction, uint8_t command,
+                             const uint8_t *sent, size_t sent_len, const uint8_t *received, size_t received_len,
+                             uint16_t *out, size_t out_len);
+hb_decoded hb_decode_symbols(uint8_t protocol, uint8_t pec, const uint16_t *trace, size_t trace_len,
+                             uint8_t *sent, size_t sent_len, uint8_t *received, size_t received_len);
+
+typedef struct {
+    uint32_t answer;
+    size_t length;
+} hb_part;
+
+/* The last data phase of a transaction that has sent m and received n bytes, which stand at the front of the two buffers: what was
+ * received where the protocol receives, else what was sent; nothing for an unknown protocol, or a length that does not belong to it
+ * or exceeds its buffer. With 0 these bytes stand in the first length bytes of out, and the rest of out is as it was. With 2 out is
+ * too short for them and as it was, and length is 0. */
+hb_part hb_last_data(uint8_t protocol, size_t m, size_t n, const uint8_t *sent, size_t sent_len,
+                     const uint8_t *received, size_t received_len, uint8_t *out, size_t out_len);
+
+/* Pools. Nothing is written. A number above 127 is no address: no set has it, and adding it or taking it out changes nothing. */
+
+uint8_t hb_pool_has(uint64_t low, uint64_t high, uint8_t address);
+hb_pool hb_pool_with(uint64_t low, uint64_t high, uint8_t address);
+hb_pool hb_pool_without(uint64_t low, uint64_t high, uint8_t address);
+/* The addresses of either set. */
+hb_pool hb_pool_union(uint64_t low, uint64_t high, uint64_t low2, uint64_t high2);
+/* The reserved addresses and these: the pool that a pass starts with. */
+hb_pool hb_pool_starting(uint64_t low, uint64_t high);
+/* How many addresses the set has, and the lowest that it does not have: 128 where it has all. */
+uint32_t hb_pool_used(uint64_t low, uint64_t high);
+uint8_t hb_pool_lowest_free(uint64_t low, uint64_t high);
+
+/* Device identifiers. */
+
+/* The identifier whose 16 bytes stand from a place on; a byte that is not there counts as 0. Nothing is written. */
+hb_udid hb_udid_from_bytes(const uint8_t *s, size_t n, size_t at);
+/* Writes the 16 bytes from a place on, and nothing else. A buffer that ends before them is left as it was. */
+void hb_udid_put_bytes(uint64_t high, uint64_t low, uint8_t *out, size_t out_len, size_t at);
+/* Whether two are the same; whether the first comes before the second, and so wins on the wire; whether the target's address is fixed.
+ * Nothing is written. */
+uint8_t hb_udid_is_same(uint64_t high, uint64_t low, uint64_t high2, uint64_t low2);
+uint8_t hb_udid_is_below(uint64_t high, uint64_t low, uint64_t high2, uint64_t low2);
+uint8_t hb_udid_is_fixed(uint64_t high, uint64_t low);
+
+/* The ARP controller. */
+
+/* The trace of a command that is acknowledged whole: HB_PREPARE, HB_GET_UDID with the reply's data, or HB_ASSIGN of the address to the
+ * identifier. With 0 it stands in the first 2 * symbols bytes of out, and the rest of out is as it was. With 1, another kind or a reply
+ * above 255 bytes, and with 2 out is as it was and symbols is 0. What a kind has no use for is not looked at. */
+hb_written hb_put_command(uint8_t kind, uint64_t udid_high, uint64_t udid_low, uint8_t address,
+                          const uint8_t *reply, size_t reply_len, uint8_t *out, size_t out_len);
+
+/* What was handed out last, the number of an end, and the Get UDIDs sent in the pass. The address is that of HB_ASSIGN; the identifier
+ * that of HB_ASSIGN and HB_NONE_FREE. Whatever a kind lacks is 0. */
+typedef struct {
+    uint32_t kind;
+    uint32_t answer;
+    uint32_t address;
+    uint32_t gets;
+    hb_udid udid;
+} hb_command;
+
+/* A pass from its start with these addresses occupied, a step for each trace of a list. A trace of the list is the number of its symbols
+ * and the symbols, all as pairs; the list ends where no whole trace is left. Nothing is written. */
+hb_command hb_pass(uint64_t occupied_low, uint64_t occupied_high, const uint8_t *traces, size_t traces_len);
+
+typedef struct {
+    uint32_t answer;
+    hb_udid udid;
+} hb_found;
+
+/* Who is bound at an address after such a pass: 0 with the identifier; else 1, 15 or 16, and the identifier is 0. Nothing is written. */
+hb_found hb_pass_lookup(uint64_t occupied_low, uint64_t occupied_high, const uint8_t *traces, size_t traces_len,
+                        uint8_t address);
+
+/* Targets. A record has HB_RECORD bytes: the identifier, the address byte, and the resolved flag. */
+
+typedef struct {
+    uint32_t answer;
+    size_t place;
+} hb_checked;
+
+/* Whether a target list is refused where these addresses are occupied: 0; 9; 10, 11 or 12 with the first such record. Nothing is
+ * written. */
+hb_checked hb_check_targets(uint64_t occupied_low, uint64_t occupied_high, const uint8_t *records, size_t records_len);
+
+/* How a model run ended: 0, or 13 with the identifier that asked; how many addresses are bound and which; the Get UDIDs sent. A refusal
+ * has its record in place, and its other parts are 0. */
+typedef struct {
+    uint32_t answer;
+    uint32_t count;
+    uint32_t gets;
+    size_t place;
+    hb_udid udid;
+    hb_pool bound;
+} hb_model;
+
+/* A whole pass against targets. With 0 or 13 it writes the last two bytes of each record and the first HB_BINDINGS_ROOM bytes of the
+ * binding buffer: the identifier of address a at 16 * a, zeros where nobody is bound; the rest of both is as it was. With 2 and 9 to 12
+ * both are as they were. */
+hb_model hb_run_model(uint64_t occupied_low, uint64_t occupied_high, uint8_t *records, size_t records_len,
+                      uint8_t *bindings, size_t bindings_len);
+
+#ifdef __cplusplus
+}
+#endif
+
+#endif

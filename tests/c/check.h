@@ -1,0 +1,35 @@
+/* Checks of the C tests. */
+#ifndef CHECK_H
+#define CHECK_H
+
+#include "headboarded.h"
+
+#include <stdio.h>
+#include <stdlib.h>
+#include <string.h>
+
+extern unsigned long checks;
+
+/* Counts, and stops at the first that does not hold. */
+#define CHECK(holds) \
+    do { \
+        checks++; \
+        if (!(holds)) { \
+            fprintf(stderr, "FAILED %s:%d: %s\n", __FILE__, __LINE__, #holds); \
+            exit(1); \
+        } \
+    } while (0)
+
+/* A block of exactly so many bytes, each the same; what is read or written beside it is seen by valgrind. Of none, NULL. */
+uint8_t *block(size_t bytes, uint8_t fill);
+
+/* Every byte from one place to another is that. */
+int all(const uint8_t *s, size_t from, size_t to, uint8_t fill);
+
+void check_ground(void);
+void check_pools(void);
+void check_codec(void);
+void check_passes(void);
+void check_model(void);
+
+#endif

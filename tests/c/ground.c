@@ -1,0 +1,108 @@
+/* PEC, addresses, pools and identifiers. */
+#include "check.h"
+
+static void check_pec(void)
+{
+    uint8_t *text = block(9, 0);
+    memcpy(text, "123456789", 9);
+    CHECK(hb_pec(NULL, 0) == 0);
+    CHECK(hb_pec(text, 0) == 0);
+    CHECK(hb_pec(text, 9) == 0xf4);
+    CHECK(hb_pec_byte(0, 0x01) == 0x07);
+    CHECK(hb_pec_byte(0, 0x80) == 0x89);
+    CHECK(hb_pec_bytes(0x5a, NULL, 0) == 0x5a);
+    for (size_t n = 0; n <= 9; n++)
+        CHECK(hb_pec_bytes(hb_pec(text, n), text + n, 9 - n) == 0xf4);
+    free(text);
+}
+
+static void check_addresses(void)
+{
+    unsigned reserved = 0;
+    for (unsigned n = 0; n < 256; n++) {
+        uint8_t a = (uint8_t)n;
+        CHECK(hb_wire_for_write(a) == 2 * (n % 128));
+        CHECK(hb_wire_for_read(a) == 2 * (n % 128) + 1);
+        CHECK(hb_address_from_wire(a) == n / 2);
+        CHECK(hb_wire_is_read(a) == n % 2);
+        CHECK(hb_is_seven_bit(a) == (n < 128));
+        CHECK(hb_is_default(a) == (n == HB_DEFAULT_ADDRESS));
+        CHECK(hb_is_host(a) == (n == HB_HOST_ADDRESS));
+        CHECK(hb_is_alert_response(a) == (n == HB_ALERT_RESPONSE_ADDRESS));
+        reserved += hb_is_reserved(a);
+    }
+    CHECK(reserved == 21);
+    CHECK(hb_is_reserved(0x28) == 1 && hb_is_reserved(0x29) == 0 && hb_is_reserved(128) == 0);
+}
+
+void check_ground(void)
+{
+    check_pec();
+    check_addresses();
+}
+
+static void check_sets(void)
+{
+    hb_pool p = { 0, 0 };
+    for (unsigned n = 0; n < 128; n++) {
+        CHECK(hb_pool_used(p.low, p.high) == n && hb_pool_lowest_free(p.low, p.high) == n);
+        CHECK(hb_pool_has(p.low, p.high, (uint8_t)n) == 0);
+        p = hb_pool_with(p.low, p.high, (uint8_t)n);
+        CHECK(hb_pool_has(p.low, p.high, (uint8_t)n) == 1);
+    }
+    CHECK(p.low == UINT64_MAX && p.high == UINT64_MAX);
+    CHECK(hb_pool_used(p.low, p.high) == 128 && hb_pool_lowest_free(p.low, p.high) == 128);
+    p = hb_pool_without(p.low, p.high, 70);
+    CHECK(p.high == (UINT64_MAX ^ 64) && hb_pool_lowest_free(p.low, p.high) == 70);
+    p = hb_pool_without(p.low, p.high, 70);
+    CHECK(hb_pool_used(p.low, p.high) == 127);
+    for (unsigned n = 128; n < 256; n++) {
+        hb_pool more = hb_pool_with(1, 2, (uint8_t)n), fewer = hb_pool_without(1, 2, (uint8_t)n);
+        CHECK(hb_pool_has(UINT64_MAX, UINT64_MAX, (uint8_t)n) == 0);
+        CHECK(more.low == 1 && more.high == 2 && fewer.low == 1 && fewer.high == 2);
+    }
+}
+
+static void check_starting(void)
+{
+    hb_pool start = hb_pool_starting(0, 0);
+    hb_pool either = hb_pool_union(start.low, start.high, 1 << 9, 1);
+    CHECK(hb_pool_used(start.low, start.high) == 21);
+    for (unsigned n = 0; n < 128; n++)
+        CHECK(hb_pool_has(start.low, start.high, (uint8_t)n) == hb_is_reserved((uint8_t)n));
+    CHECK(either.low == hb_pool_starting(1 << 9, 1).low && either.high == hb_pool_starting(1 << 9, 1).high);
+    CHECK(hb_pool_lowest_free(either.low, either.high) == 0x0a);
+}
+
+static void check_identifiers(void)
+{
+    uint8_t *s = block(16, 0), *short_one = block(15, 0xee), *long_one = block(20, 0xee);
+    hb_udid u;
+    for (unsigned i = 0; i < 16; i++)
+        s[i] = (uint8_t)(i + 1);
+    u = hb_udid_from_bytes(s, 16, 0);
+    CHECK(u.high == 0x0102030405060708 && u.low == 0x090a0b0c0d0e0f10);
+    CHECK(hb_udid_from_bytes(s, 16, 9).high == 0x0a0b0c0d0e0f1000 && hb_udid_from_bytes(s, 16, 9).low == 0);
+    CHECK(hb_udid_from_bytes(NULL, 0, 0).high == 0 && hb_udid_from_bytes(s, 16, SIZE_MAX).low == 0);
+    hb_udid_put_bytes(u.high, u.low, NULL, 0, 0);
+    hb_udid_put_bytes(u.high, u.low, short_one, 15, 0);
+    CHECK(all(short_one, 0, 15, 0xee));
+    hb_udid_put_bytes(u.high, u.low, long_one, 20, 5);
+    hb_udid_put_bytes(u.high, u.low, long_one, 20, SIZE_MAX);
+    CHECK(all(long_one, 0, 20, 0xee));
+    hb_udid_put_bytes(u.high, u.low, long_one, 20, 3);
+    CHECK(all(long_one, 0, 3, 0xee) && memcmp(long_one + 3, s, 16) == 0 && long_one[19] == 0xee);
+    CHECK(hb_udid_is_same(1, 2, 1, 2) == 1 && hb_udid_is_same(1, 2, 2, 1) == 0);
+    CHECK(hb_udid_is_below(1, 9, 2, 0) == 1 && hb_udid_is_below(1, 2, 1, 2) == 0 && hb_udid_is_below(1, 1, 1, 2) == 1);
+    CHECK(hb_udid_is_fixed(0x3fffffffffffffff, 0) == 1 && hb_udid_is_fixed(0x4000000000000000, 0) == 0);
+    free(s);
+    free(short_one);
+    free(long_one);
+}
+
+void check_pools(void)
+{
+    check_sets();
+    check_starting();
+    check_identifiers();
+}

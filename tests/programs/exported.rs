@@ -1,0 +1,150 @@
+//! What the library exports beside the codec and the model run, against the reference: pools, identifiers, the last data phase,
+//! commands, passes and the check of a target list.
+
+mod exported_abi;
+mod exported_passes;
+mod family;
+
+use exported_abi::{check_targets, last_data, Part, Pool, Udid};
+use family::Family;
+use reference::addresses::*;
+use reference::commands;
+use reference::model::{refusal, BINDINGS};
+use reference::random::Random;
+use reference::shelves;
+use reference::spoiled::{spoil, Input, NUMBERS};
+use reference::table::{lengths_allowed, BLOCK_LIMIT};
+
+pub fn pool_of(addresses: &Addresses) -> Pool {
+    let whole = addresses.iter().fold(0u128, |set, &address| set | 1 << address);
+    Pool { low: whole as u64, high: (whole >> 64) as u64 }
+}
+
+pub fn halves(udid: &commands::Udid) -> Udid {
+    let whole = u128::from_be_bytes(*udid);
+    Udid { high: (whole >> 64) as u64, low: whole as u64 }
+}
+
+/// Every address and every number above, against sets.
+fn pools() -> usize {
+    let mut family = Family::new("exported pools");
+    let mut random = Random::new(70);
+    for _ in 0..60 {
+        let (a, b) = (shelves::occupied(&mut random), shelves::occupied(&mut random));
+        let input = || format!("{a:02x?} {b:02x?}");
+        let pool = pool_of(&a);
+        family.same(input, &a.len(), &pool.used());
+        family.same(input, &lowest_free(&a).unwrap_or(ADDRESSES), &pool.lowest_free());
+        family.same(input, &pool_of(&starting_pool(&a)), &pool.starting());
+        family.same(input, &pool_of(&a.union(&b).copied().collect()), &pool.union(pool_of(&b)));
+        for number in 0..=255 {
+            let address = number < ADDRESSES;
+            let (mut more, mut fewer) = (a.clone(), a.clone());
+            fewer.remove(&number);
+            if address {
+                more.insert(number);
+            }
+            family.same(input, &a.contains(&number), &pool.has(number));
+            family.same(input, &pool_of(&more), &pool.with(number));
+            family.same(input, &pool_of(&fewer), &pool.without(number));
+        }
+    }
+    family.done()
+}
+
+/// Identifiers that differ in one bit or in many, and their bytes at every place.
+fn identifiers() -> usize {
+    let mut family = Family::new("exported identifiers");
+    let mut random = Random::new(71);
+    for _ in 0..400 {
+        let udid = shelves::any_udid(&mut random);
+        let other =
+            if random.below(2) == 0 { shelves::near(&mut random, &udid) } else { shelves::any_udid(&mut random) };
+        let input = || format!("{udid:02x?} {other:02x?}");
+        let (u, v) = (halves(&udid), halves(&other));
+        family.same(input, &(udid == other, udid < other), &(u.is_same(v), u.is_below(v)));
+        family.same(input, &(true, false), &(u.is_same(u), u.is_below(u)));
+        family.same(input, &commands::is_fixed(&udid), &u.is_fixed());
+        for (length, at) in [(16, 0), (15, 0), (40, 3), (40, 24), (40, 25), (40, 100), (0, 0), (30, usize::MAX)] {
+            let before = random.bytes(length);
+            let mut due = before.clone();
+            let room = at <= length && length - at >= 16;
+            if room {
+                due[at..at + 16].copy_from_slice(&udid);
+            }
+            let mut given = before.clone();
+            u.put_bytes(&mut given, at);
+            family.same(input, &due, &given);
+            let mut read = before.get(at.min(length)..).unwrap_or(&[]).to_vec();
+            read.resize(16, 0);
+            family.same(input, &halves(&commands::udid_of(&read)), &Udid::from_bytes(&before, at));
+        }
+    }
+    family.done()
+}
+
+/// Lengths that belong and that do not, buffers that have them and that do not.
+fn last_phases() -> usize {
+    const RECEIVES: [u8; 6] = [2, 5, 6, 7, 9, 10];
+    let mut family = Family::new("exported last data");
+    let mut random = Random::new(72);
+    let lengths = [0, 1, 2, 3, 55, 200, BLOCK_LIMIT, BLOCK_LIMIT + 1];
+    for protocol in 0..13 {
+        for m in lengths {
+            for n in lengths {
+                for room in [0, 1, 2, 254, 255, 256] {
+                    let (sent, received) = (random.bytes(random_room(m)), random.bytes(random_room(n)));
+                    let belongs = protocol <= 10 && lengths_allowed(protocol, m, n);
+                    let whole = belongs && m <= sent.len() && n <= received.len();
+                    let data = match RECEIVES.contains(&protocol) {
+                        _ if !whole => &[][..],
+                        true => &received[..n],
+                        false => &sent[..m],
+                    };
+                    let mut due = vec![0xee; room];
+                    let mut part = Part { answer: 2, length: 0 };
+                    if data.len() <= room {
+                        due[..data.len()].copy_from_slice(data);
+                        part = Part { answer: 0, length: data.len() };
+                    }
+                    let mut out = vec![0xee; room];
+                    let given = last_data(protocol, (m, n), &sent, &received, &mut out);
+                    family.same(|| format!("protocol {protocol} {m} {n} room {room}"), &(part, due), &(given, out));
+                }
+            }
+        }
+    }
+    family.done()
+}
+
+/// A buffer for so many bytes: as many for an even number, one less for an odd one above 2.
+fn random_room(bytes: usize) -> usize {
+    if bytes % 2 == 1 && bytes > 2 {
+        bytes - 1
+    } else {
+        bytes
+    }
+}
+
+fn checks() -> usize {
+    let mut family = Family::new("exported list checks");
+    let mut random = Random::new(73);
+    for round in 0..1500 {
+        let count = 2 + random.below(119);
+        let mut input = Input::good(&mut random, count);
+        if round % 4 > 0 {
+            let number = random.pick(&NUMBERS[1..]);
+            spoil(&mut input, &mut random, number);
+        }
+        let (answer, length) = refusal(&input.list, BINDINGS, &input.occupied).unwrap_or((0, 0));
+        let given = check_targets(pool_of(&input.occupied), &input.list);
+        family.same(|| format!("{:02x?}", input.list), &Part { answer, length }, &given);
+    }
+    family.done()
+}
+
+fn main() {
+    let parts = pools() + identifiers() + last_phases() + checks();
+    let passes = exported_passes::all();
+    println!("{:<28}{:>9} cases", "exported, all", parts + passes);
+}
