@@ -11,7 +11,7 @@ use lib.ListN.{length, getD, take, drop, length-append, length-drop}
 use lib.Seq.{getD-at, split-at, take-all}
 use borrow.Author.Tests.{ltb-true, ltb-false, lt-ltb, le-ltb, eqb-true, eq-eqb, ne-eqb}
 use Rattle.lists.specs.Choice.{pick, or, and}
-use Rattle.lists.specs.Each.{Bytes}
+use Rattle.lists.specs.Each.{Bytes, append-bytes}
 use Rattle.wire.specs.Addresses.{defaultAddress}
 use Rattle.wire.specs.Pec.{bitStep, pecStep, pecFrom}
 use Rattle.trace.specs.ShapeLaws.{sane, both-true}
@@ -62,10 +62,6 @@ valid-get xs h l = record {
   received-bytes = h;
   counts = omega arith;
 }
-
-append-bytes : (xs ys : List ℕ) → Bytes xs → Bytes ys → Bytes (xs ++ ys)
-append-bytes [] ys h g = g
-append-bytes (x ∷ xs) ys h g = (h .0, append-bytes xs ys (h .1) g)
 
 length-assign : (u : Udid) (a : ℕ) → length (assignData u a) ≡ 17
 length-assign u a = length-append (udidBytes u) (2 * (a % 128) ∷ []) ∙ omega (arith, length-udid u)

@@ -21,10 +21,6 @@ use Rattle.encode.specs.declared.Encoded.the-variants.{Written, Forbidde
 use Rattle.encode.specs.Encode.{refused, encoded, Wrote}
 use Rattle.encode.specs.Pieces.{fieldsFit, Ready}
 
-pub all-bytes : (s : List ℕ) → ((i : ℕ) → getD s i 0 < 256) → Bytes s
-all-bytes [] h = tt
-all-bytes (x ∷ s) h = (h 0, all-bytes s (λ i. h (suc i)))
-
 -- no trace is without a symbol
 some-length : (sh : Shape) (p : Bool) (m n : ℕ) → 4 ≤ traceLength sh p m n
 unfolding traceLength

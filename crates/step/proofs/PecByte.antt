@@ -5,7 +5,7 @@ use mathlib.Core.List.{List, [], _∷_, _++_}
 use Prim.Native.Nat.{ℕ, _+_, _≤_, _<_, _%_}
 use native.Mathlib.Omega.{arith}
 use Rattle.lists.specs.Choice.{pick}
-use Rattle.lists.specs.Each.{Bytes}
+use Rattle.lists.specs.Each.{Bytes, append-bytes}
 use Rattle.wire.specs.PecLaws as PecLaws
 use Rattle.trace.specs.declared.shape.Part.{Part}
 use Rattle.trace.specs.declared.shape.Part.the-variants.{Nothing, Fixed, Counted}
@@ -14,10 +14,6 @@ use Rattle.trace.specs.Shapes.{writes, reads}
 use Rattle.trace.specs.Trace.{Message, laid, firstByte, front, bytes, pecOf, inPlace, counted, Valid}
 use Rattle.trace.specs.ShapeLaws.{Sane}
 use Rattle.step.proofs.Forward.{first-byte}
-
-both : (xs ys : List ℕ) → Bytes xs → Bytes ys → Bytes (xs ++ ys)
-both [] ys h g = g
-both (x ∷ xs) ys h g = (h .0, both xs ys (h .1) g)
 
 laid-bytes : (a : Part) (s : List ℕ) → Bytes s → counted a s ≤ 255 → Bytes (laid a s)
 laid-bytes Nothing s h c = h
@@ -37,8 +33,8 @@ pub pec-lt : (sh : Shape) → Sane sh → (t : Message) → Valid sh t → pecOf
 pec-lt sh hs t v =
     let f = first-byte sh t v in
     PecLaws.pec-byte 0 (bytes sh t) (omega arith)
-    (both (front sh t) _
-    (f .0, both (pick (sh .command) (t .command ∷ []) []) (laid (sh .sent) (t .sent)) (command-bytes (sh .command) (sh .tohost) (t .command) (v .command)) (laid-bytes (sh .sent) (t .sent) (v .sent-bytes) (omega (arith, v .counts, hs .most-byte))))
+    (append-bytes (front sh t) _
+    (f .0, append-bytes (pick (sh .command) (t .command ∷ []) []) (laid (sh .sent) (t .sent)) (command-bytes (sh .command) (sh .tohost) (t .command) (v .command)) (laid-bytes (sh .sent) (t .sent) (v .sent-bytes) (omega (arith, v .counts, hs .most-byte))))
     (read-bytes (reads sh) (writes sh) (firstByte sh t) (laid (sh .received) (t .received)) (f .2) (laid-bytes (sh .received) (t .received) (v .received-bytes) (omega (arith, v .counts, hs .most-byte)))))
 
 pub pec-byte : (sh : Shape) → Sane sh → (p : Bool) (t : Message) → Valid sh t → Bytes (inPlace p (pecOf sh t))

@@ -9,7 +9,7 @@ use native.Mathlib.Omega.{arith}
 use lib.ListN.{length, length-append}
 use borrow.Author.Tests.{lt-ltb}
 use Rattle.lists.specs.Choice.{pick}
-use Rattle.lists.specs.Each.{Each, Bytes}
+use Rattle.lists.specs.Each.{Each, Bytes, append-bytes}
 use Rattle.wire.specs.PecLaws.{pec-byte}
 use Rattle.udid.specs.Bytes.{udidBytes}
 use Rattle.udid.specs.Udids.{Fits, value, isBelow}
@@ -41,13 +41,9 @@ pub length-reply : (t : Target) → length (replyBytes t) ≡ 19
 unfolding replyBytes
 length-reply t = ap suc (length-append (replyData t) (replyPec t ∷ []) ∙ omega (arith, length-data t))
 
-join-bytes : (xs ys : List ℕ) → Bytes xs → Bytes ys → Bytes (xs ++ ys)
-join-bytes [] ys h g = g
-join-bytes (x ∷ xs) ys h g = (h .0, join-bytes xs ys (h .1) g)
-
 pub bytes-data : (t : Target) → t .addressByte < 256 → Bytes (replyData t)
 unfolding replyData
-bytes-data t h = join-bytes (udidBytes (t .udid)) (t .addressByte ∷ []) (udid-bytes (t .udid)) (h, tt)
+bytes-data t h = append-bytes (udidBytes (t .udid)) (t .addressByte ∷ []) (udid-bytes (t .udid)) (h, tt)
 
 bytes-covered : (t : Target) → t .addressByte < 256 → Bytes (coveredBytes t)
 unfolding coveredBytes
@@ -57,7 +53,7 @@ pub bytes-reply : (t : Target) → t .addressByte < 256 → Bytes (replyBytes t)
 unfolding replyBytes replyPec
 bytes-reply t h =
     let p : replyPec t < 256 = pec-byte 0 (coveredBytes t) (omega arith) (bytes-covered t h) in
-    (omega arith, join-bytes (replyData t) (replyPec t ∷ []) (bytes-data t h) (p, tt))
+    (omega arith, append-bytes (replyData t) (replyPec t ∷ []) (bytes-data t h) (p, tt))
 
 -- ---- the bits
 

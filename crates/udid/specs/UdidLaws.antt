@@ -12,7 +12,7 @@ use lib.ListN.{length, getD, take, drop, length-append}
 use lib.Seq.{take-at, drop-at, take-add, drop-drop, length-take-le}
 use borrow.Author.Tests.{eqb-true, eq-eqb, ne-eqb, le-ltb}
 use Rattle.lists.specs.Choice.{pick, or, and}
-use Rattle.lists.specs.Each.{Bytes}
+use Rattle.lists.specs.Each.{Bytes, append-bytes}
 use Rattle.udid.specs.Bytes.{number, numberFrom, bytesOf, bytesFrom, udidBytes, udidAt, less, putAt}
 use Rattle.udid.specs.ByteLaws.{number-lt, number-split, number-bytes, bytes-number, bytes-bytes, length-bytes, number-order, digits-order}
 use Rattle.udid.specs.Udids.{Fits, sameUdid, value, isBelow, topBits, isFixed}
@@ -50,10 +50,6 @@ other-udid u v n = go (sameUdid u v) refl
 pub length-udid : (u : Udid) → length (udidBytes u) ≡ 16
 unfolding udidBytes
 length-udid u = omega (arith, length-append (bytesOf 8 (u .high)) (bytesOf 8 (u .low)), length-bytes 8 (u .high), length-bytes 8 (u .low))
-
-append-bytes : (xs ys : List ℕ) → Bytes xs → Bytes ys → Bytes (xs ++ ys)
-append-bytes [] ys h g = g
-append-bytes (x ∷ xs) ys h g = (h .0, append-bytes xs ys (h .1) g)
 
 pub udid-bytes : (u : Udid) → Bytes (udidBytes u)
 unfolding udidBytes

@@ -18,11 +18,6 @@ byte-at [] i h = omega arith
 byte-at (x ∷ s) zero h = h .0
 byte-at (x ∷ s) (suc i) h = byte-at s i (h .1)
 
--- a list each of whose places holds a byte is a list of bytes
-pub all-bytes : (s : List ℕ) → ((i : ℕ) → getD s i 0 < 256) → Bytes s
-all-bytes [] h = tt
-all-bytes (x ∷ s) h = (h 0, all-bytes s (λ i. h (suc i)))
-
 pub length-from : (s : List ℕ) (i n : ℕ) → length (bytesFrom s i n) ≡ n
 unfolding bytesFrom
 length-from s i zero = refl

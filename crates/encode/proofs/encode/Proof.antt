@@ -5,7 +5,8 @@ use Prim.Native.Nat.{_<_}
 use lib.ListN.{length}
 use Rattle.trace.specs.Trace.{Message}
 use Rattle.encode.specs.Encode.{message}
-use Rattle.encode.proofs.EntryLaws.{all-bytes, room-zero, refused-wrote, fields-refused, short-wrote, is-ready, done-wrote}
+use Rattle.lists.specs.Each.{all-bytes}
+use Rattle.encode.proofs.EntryLaws.{room-zero, refused-wrote, fields-refused, short-wrote, is-ready, done-wrote}
 use borrow.Author.Needs.{needs}
 use Rattle.encode.proofs.encode.Statement.{statement}
 use Rattle.encode.proofs.encode.Tie as tie
