@@ -55,7 +55,7 @@ freed-gets s u = go (ltb 127 (findFrom u (s .slots) 128 0))
     go true = refl
     go false = refl
 
-bound-gets : (s : Controller) (u : Udid) (a : ℕ) → bound s u a .gets ≡ s .gets
+pub bound-gets : (s : Controller) (u : Udid) (a : ℕ) → bound s u a .gets ≡ s .gets
 unfolding bound
 bound-gets s u a = go (ltb 127 a)
   where
@@ -80,7 +80,7 @@ module _ (s : Controller) where
       go true false = plain s Ended refl
       go false b = asked-handed s
 
-  prepare-handed : (a : Decoded) (xs : List ℕ) → Handed s (onPrepare s a xs)
+  pub prepare-handed : (a : Decoded) (xs : List ℕ) → Handed s (onPrepare s a xs)
   prepare-handed (Done t) xs = go (isPrepare t xs)
     where
       go : (q : Bool) → Handed s (pick q (asked s) (handed s Abandoned))
@@ -95,7 +95,7 @@ module _ (s : Controller) where
   prepare-handed (PecDiffers k) xs = plain s Abandoned refl
   prepare-handed (AfterStop k) xs = plain s Abandoned refl
 
-  get-handed : (a : Decoded) (xs : List ℕ) → Handed s (onGet s a xs)
+  pub get-handed : (a : Decoded) (xs : List ℕ) → Handed s (onGet s a xs)
   get-handed (Done t) xs = reply-handed t xs
   get-handed (NotAcknowledged b) xs = go (ltb b 3)
     where
@@ -110,7 +110,7 @@ module _ (s : Controller) where
   get-handed (PecDiffers k) xs = asked-handed s
   get-handed (AfterStop k) xs = asked-handed s
 
-  assign-handed : (u : Udid) (n : ℕ) (a : Decoded) (xs : List ℕ) → Handed s (onAssign s u n a xs)
+  pub assign-handed : (u : Udid) (n : ℕ) (a : Decoded) (xs : List ℕ) → Handed s (onAssign s u n a xs)
   assign-handed u n (Done t) xs = go (isAssign u n t xs)
     where
       go : (q : Bool) → Handed s (pick q (asked (bound s u n)) (asked s))

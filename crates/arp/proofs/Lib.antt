@@ -7,3 +7,4 @@ pub mod TraceLaws
 pub mod Assigned
 pub mod Handing
 pub mod Sending
+pub mod Replayed

@@ -13,10 +13,11 @@ use borrow.Author.Tests.{ltb-true, ltb-false, lt-ltb, le-ltb, eqb-true, eq-eqb, 
 use Rattle.lists.specs.Choice.{pick, or, and}
 use Rattle.lists.specs.Each.{Bytes, append-bytes}
 use Rattle.wire.specs.Addresses.{defaultAddress}
-use Rattle.wire.specs.Pec.{bitStep, pecStep, pecFrom}
+use Rattle.wire.specs.Pec.{bitStep, pecStep, pecFrom, pecOf}
 use Rattle.trace.specs.ShapeLaws.{sane, both-true}
+use Rattle.trace.specs.Rows.{rows}
 use Rattle.trace.specs.Shapes.{shapeOf}
-use Rattle.trace.specs.Trace.{Message, trace, Valid}
+use Rattle.trace.specs.Trace.{Message, acked, trace, Valid}
 use Rattle.trace.specs.declared.transaction.Transaction.{Transaction}
 use Rattle.step.proofs.Theorems as step
 use Rattle.step.specs.Answers.{CutAt, Carries, summary}
@@ -78,15 +79,37 @@ valid-assign u a = record {
   counts = omega (arith, length-assign u (a .0));
 }
 
+-- ---- their symbols, written out: 256 S, 257 P, 258 A, 259 N, and 194 and 195 the address bytes of 61h
+
 -- Prepare To ARP is the marked case M2
 pub prepare-trace : traceOf Prepare [] ≡ 256 ∷ 194 ∷ 258 ∷ 1 ∷ 258 ∷ 192 ∷ 258 ∷ 257 ∷ []
 unfolding pecFrom pecStep bitStep
 prepare-trace = refl
 
+-- Get UDID with the 17 bytes of a reply: S C2 A 03 A S C3 A 11 A, each byte with A, PEC N P
+pub get-row : (xs : List ℕ) → length xs ≡ 17 → traceOf GetUdid xs
+    ≡ 256 ∷ 194 ∷ 258 ∷ 3 ∷ 258 ∷ 256 ∷ 195 ∷ 258 ∷ 17 ∷ 258 ∷ (acked xs ++ pecOf (194 ∷ 3 ∷ 195 ∷ 17 ∷ xs) ∷ 259 ∷ 257 ∷ [])
+get-row xs e =
+    rows .block-read-pec 0x61 0x03 xs
+    ∙ ap (λ (n : ℕ). 256 ∷ 194 ∷ 258 ∷ 3 ∷ 258 ∷ 256 ∷ 195 ∷ 258 ∷ n ∷ 258 ∷ (acked xs ++ pecOf (194 ∷ 3 ∷ 195 ∷ n ∷ xs) ∷ 259 ∷ 257 ∷ [])) e
+
+acked-last : (xs : List ℕ) (b : ℕ) (l : List ℕ) → acked (xs ++ b ∷ []) ++ l ≡ acked xs ++ b ∷ 258 ∷ l
+acked-last [] b l = refl
+acked-last (x ∷ xs) b l = ap (λ (r : List ℕ). x ∷ 258 ∷ r) (acked-last xs b l)
+
+-- Assign Address: S C2 A 04 A 11 A, each byte of the identifier with A, twice the address A, PEC A P
+pub assign-row : (u : Udid) (a : Address) → traceOf (Assign u a) []
+    ≡ 256 ∷ 194 ∷ 258 ∷ 4 ∷ 258 ∷ 17 ∷ 258 ∷ (acked (udidBytes u) ++ 2 * (a .0 % 128) ∷ 258 ∷ pecOf (194 ∷ 4 ∷ 17 ∷ (udidBytes u ++ 2 * (a .0 % 128) ∷ [])) ∷ 258 ∷ 257 ∷ [])
+assign-row u a =
+    let d : List ℕ = udidBytes u ++ 2 * (a .0 % 128) ∷ [] in
+    rows .block-write-pec 0x61 0x04 (assignData u (a .0))
+    ∙ ap (λ (n : ℕ). 256 ∷ 194 ∷ 258 ∷ 4 ∷ 258 ∷ n ∷ 258 ∷ (acked d ++ pecOf (194 ∷ 4 ∷ n ∷ d) ∷ 258 ∷ 257 ∷ [])) (length-assign u (a .0))
+    ∙ ap (λ (l : List ℕ). 256 ∷ 194 ∷ 258 ∷ 4 ∷ 258 ∷ 17 ∷ 258 ∷ l) (acked-last (udidBytes u) (2 * (a .0 % 128)) (pecOf (194 ∷ 4 ∷ 17 ∷ d) ∷ 258 ∷ 257 ∷ []))
+
 -- ---- what the decoder says of them
 
 module _ (protocol : ℕ) (m : Message) (v : Valid (shapeOf protocol) m) where
-  back : (answer protocol (trace (shapeOf protocol) true m) ≡ Done (summary protocol m))
+  pub back : (answer protocol (trace (shapeOf protocol) true m) ≡ Done (summary protocol m))
       × (sentIn protocol (trace (shapeOf protocol) true m) ≡ m .sent)
       × (receivedIn protocol (trace (shapeOf protocol) true m) ≡ m .received)
   back = step.round-trip protocol (shapeOf protocol) (sane protocol) true m v
@@ -168,7 +191,7 @@ module _ (s : Controller) (tr : List ℕ) where
 
 module _ (s : Controller) (tr : List ℕ) where
   -- a complete trace that is Get UDID is its trace, with some reply
-  get-only : (t : Transaction) → answer blockRead tr ≡ Done t → isGet t ≡ true → tr ≡ traceOf GetUdid (receivedIn blockRead tr)
+  pub get-only : (t : Transaction) → answer blockRead tr ≡ Done t → isGet t ≡ true → tr ≡ traceOf GetUdid (receivedIn blockRead tr)
   get-only t e h =
       let c = complete blockRead tr t e in
       let b = both-true (eqb (t .address .0) defaultAddress) (eqb (t .command) 0x03) h in
@@ -233,6 +256,14 @@ named u a xs h l e f =
     split-at xs 16 0 (omega arith)
     ∙ ap₂ (λ (p q : List ℕ). p ++ q) (sym (bytes-back xs 0 h (omega arith)) ∙ ap udidBytes e) (ap₂ (λ (x : ℕ) (q : List ℕ). x ∷ q) f (empty (drop 17 xs) (length-drop 17 xs ∙ omega arith)))
 
+-- the command's own data are told as the Assign that was sent
+pub assign-is : (u : Udid) (a : Address) → Fits u → isAssign u (a .0) (summary blockWrite (messageOf (Assign u a) [])) (assignData u (a .0)) ≡ true
+assign-is u a f =
+    let i = udid-back [] (2 * (a .0 % 128) ∷ []) 0 u f refl in
+    let n : sameUdid (udidAt (assignData u (a .0)) 0) u ≡ true = ap (λ (z : Udid). sameUdid z u) i ∙ same-refl u in
+    let g : getD (assignData u (a .0)) 16 0 ≡ 2 * (a .0 % 128) = getD-at (udidBytes u) (2 * (a .0 % 128)) [] 0 16 (length-udid u) in
+    rw (eq-eqb (length (assignData u (a .0))) 17 (length-assign u (a .0)), n, eq-eqb (getD (assignData u (a .0)) 16 0) (2 * (a .0 % 128)) g)
+
 module _ (s : Controller) (u : Udid) (a : Address) (tr : List ℕ) where
   -- a complete trace that is the Assign which was sent is its trace
   pub assign-only : (t : Transaction) → answer blockWrite tr ≡ Done t → isAssign u (a .0) t (sentIn blockWrite tr) ≡ true → tr ≡ traceOf (Assign u a) []
@@ -259,14 +290,7 @@ module _ (s : Controller) (u : Udid) (a : Address) (tr : List ℕ) where
       let b = back blockWrite (messageOf (Assign u a) []) (valid-assign u a) in
       ap (λ (x : List ℕ). onAssign s u (a .0) (answer blockWrite x) (sentIn blockWrite x)) e
       ∙ ap₂ (onAssign s u (a .0)) (b .0) (b .1)
-      ∙ ap (λ (q : Bool). pick q (asked (bound s u (a .0))) (asked s)) is
-    where
-      is : isAssign u (a .0) (summary blockWrite (messageOf (Assign u a) [])) (assignData u (a .0)) ≡ true
-      is =
-          let i = udid-back [] (2 * (a .0 % 128) ∷ []) 0 u f refl in
-          let n : sameUdid (udidAt (assignData u (a .0)) 0) u ≡ true = ap (λ (z : Udid). sameUdid z u) i ∙ same-refl u in
-          let g : getD (assignData u (a .0)) 16 0 ≡ 2 * (a .0 % 128) = getD-at (udidBytes u) (2 * (a .0 % 128)) [] 0 16 (length-udid u) in
-          rw (eq-eqb (length (assignData u (a .0))) 17 (length-assign u (a .0)), n, eq-eqb (getD (assignData u (a .0)) 16 0) (2 * (a .0 % 128)) g)
+      ∙ ap (λ (q : Bool). pick q (asked (bound s u (a .0))) (asked s)) (assign-is u a f)
 
   -- any other answer: no binding, Get UDID again
   pub assign-other : (tr ≡ traceOf (Assign u a) [] → ⊥) → afterAssign s u (a .0) tr ≡ asked s

@@ -5,3 +5,4 @@ pub mod Lookup
 pub mod Numbers
 pub mod Requests
 pub mod History
+pub mod Replay

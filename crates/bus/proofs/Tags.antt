@@ -12,8 +12,8 @@ use Rattle.arp.proofs.Tags.{not-sent, prepare-sent, get-sent, assign-sent}
 use Rattle.arp.proofs.command.Command as command
 use Rattle.arp.specs.declared.command.Command.{Command}
 use Rattle.arp.specs.declared.command.Command.the-variants.{Nothing, Prepare, GetUdid, Assign, Ended, NoneFree, Abandoned, NotOutstanding}
-use Rattle.rule.specs.Acknowledge.{answered, onBus}
-use Rattle.rule.specs.Bus.{acted}
+use Rattle.rule.specs.Acknowledge.{standing, onBus}
+use Rattle.rule.specs.EffectLaws.{acted}
 use Rattle.bus.specs.Turn.{isSent}
 
 pub ends : (k : Command) → OneOf not-sent (tagOf command.the-type k) → isSent k ≡ false
@@ -27,7 +27,7 @@ ends Abandoned h = refl
 ends NotOutstanding h = refl
 
 pub nothing-on-bus : (k : Command) → OneOf not-sent (tagOf command.the-type k) → (ts : List Target) → onBus k ts ≡ []
-unfolding onBus answered
+unfolding onBus standing
 nothing-on-bus Prepare h ts = absurd (prepare-sent h)
 nothing-on-bus GetUdid h ts = absurd (get-sent h)
 nothing-on-bus (Assign u a) h ts = absurd (assign-sent h)

@@ -41,11 +41,12 @@ use Rattle.arp.specs.declared.command.Command.the-variants.{Nothing, Prepare, G
 use Rattle.arp.specs.declared.state.Controller.{Controller}
 use Rattle.arp.specs.declared.state.Stepped.{Stepped}
 use Rattle.rule.specs.Acknowledge.{onBus}
-use Rattle.rule.specs.Bus.{World, acted, sentTo, turnBy, turn, run, beginning, pass}
+use Rattle.rule.specs.Bus.{World, reached, sentTo, turnBy, turn, run, beginning, pass}
+use Rattle.rule.specs.EffectLaws.{acted}
 use Rattle.rule.specs.TraceLaws as on-bus
 use Rattle.rule.specs.StepLaws.{prepare-unheard, get-unheard, get-replied}
 use Rattle.bus.specs.Turn.{Fit, Reaches, isSent, silence, worldOf, Going, Matches}
-use Rattle.bus.specs.TurnLaws.{get-silence, same-records}
+use Rattle.bus.specs.TurnLaws.{get-silence, same-records, reached-is}
 
 -- ---- what is handed out reaches somebody
 
@@ -147,7 +148,7 @@ going-next st r s after b f g e m =
     let x = fine-next st s b f g e in
     record {
       handed = subst (λ (y : Stepped). y .state .last ≡ y .command) (sym (m .controller)) (x .0);
-      reaches = subst (λ (ts : List Target). Reaches (r .command) ts) (sym (m .targets)) (subst (λ (y : Stepped). Reaches (y .command) (acted (st .command) (targetsOf s))) (sym (m .controller)) (x .1));
+      reaches = subst (λ (ts : List Target). Reaches (r .command) ts) (sym (m .targets ∙ reached-is (st .command) s b (g .reaches))) (subst (λ (y : Stepped). Reaches (y .command) (acted (st .command) (targetsOf s))) (sym (m .controller)) (x .1));
     }
 
 turn-sent : (st : Stepped) (ts : List Target) (k : Command) → isSent k ≡ true → turnBy st ts k ≡ sentTo st ts k
@@ -220,7 +221,7 @@ pub running-next : (w : World) (first : List ℕ) (m : ℕ) (st r : Stepped) (s 
 running-next w first m st r s after v b e q =
     record {
       bytes = b;
-      fit = fit-put (acted (st .command) (targetsOf s)) s after (v .fit) (q .stored);
+      fit = fit-put (reached (onBus (st .command) (targetsOf s)) (targetsOf s)) s after (v .fit) (q .stored);
       going = going-next st r s after (v .bytes) (v .fit) (v .going) e q;
       leads = v .leads ∙ ap (run m) (turn-sent st (targetsOf s) (st .command) e ∙ (λ j. record { now = sym (q .controller) j; targets = sym (q .targets) j }));
       stored = q .stored ∙ ap (λ (x : List Target). recordsWith x s) (sym (q .targets))
@@ -230,7 +231,7 @@ running-next w first m st r s after v b e q =
     }
   where
     size : length after ≡ length s
-    size = ap length (q .stored) ∙ length-put-from (acted (st .command) (targetsOf s)) 0 s
+    size = ap length (q .stored) ∙ length-put-from (reached (onBus (st .command) (targetsOf s)) (targetsOf s)) 0 s
 
 -- no turn is left, or none is taken any more
 running-ended : (w : World) (first : List ℕ) (m : ℕ) (st : Stepped) (s : List ℕ) → Running w first m st s → run m (worldOf st s) ≡ worldOf st s → Matches (run 300 w) st first s

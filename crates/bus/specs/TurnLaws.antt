@@ -18,6 +18,7 @@ use Rattle.pool.specs.declared.free.Free.{Free}
 use Rattle.pool.specs.declared.free.Free.the-variants.{At, AllUsed}
 use Rattle.udid.specs.Bytes.{udidBytes}
 use Rattle.udid.specs.UdidLaws.{length-udid}
+use Rattle.udid.specs.Udids.{Fits}
 use Rattle.udid.specs.declared.Udid.{Udid}
 use Rattle.wire.specs.declared.address.Address.{Address}
 use Rattle.targets.specs.AdmissionLaws.{admitted-length}
@@ -44,7 +45,8 @@ use Rattle.arp.specs.declared.command.Command.the-variants.{Nothing, Prepare, G
 use Rattle.arp.specs.declared.state.Controller.{Controller}
 use Rattle.arp.specs.declared.state.Stepped.{Stepped}
 use Rattle.rule.specs.Acknowledge.{onBus}
-use Rattle.rule.specs.Bus.{World, acted, sentTo, turnBy, turn, run, beginning, pass}
+use Rattle.rule.specs.Bus.{World, reached, sentTo, turnBy, turn, run, beginning, pass}
+use Rattle.rule.specs.EffectLaws.{acted, Names, effect-is}
 use Rattle.rule.specs.TraceLaws as on-bus
 use Rattle.bus.specs.Turn.{Fit, Reaches, isSent, silence, Writes, worldOf, Going, Matches}
 
@@ -155,14 +157,34 @@ acted-targets k s f =
     ∙ changed-targets (changes k) (changes-keeps k) (recordCount s) 0 s (omega (arith, f .whole))
     ∙ sym (acted-is k (targetsOf s))
 
+-- the identifiers of records are numbers of 128 bits, and so is that of a command which reaches one of them
+fits-targets : (s : List ℕ) → Bytes s → (t : Target) → Among t (targetsOf s) → Fits (t .udid)
+fits-targets s b t m = let r = in-targets s (recordCount s) 0 t m in subst (λ (x : Target). Fits (x .udid)) (r .3) (sized-at s b (r .0) .udid)
+
+names-one : (k : Command) (s : List ℕ) → Bytes s → Reaches k (targetsOf s) → Names k
+names-one (Assign u a) s b r = subst Fits (r .2) (fits-targets s b (r .0) (r .1))
+names-one Prepare s b r = tt
+names-one GetUdid s b r = tt
+names-one Nothing s b r = tt
+names-one Ended s b r = tt
+names-one (NoneFree u) s b r = tt
+names-one Abandoned s b r = tt
+names-one NotOutstanding s b r = tt
+
+-- the symbols on the bus do to the targets what the command means
+pub reached-is : (k : Command) (s : List ℕ) → Bytes s → Reaches k (targetsOf s) → reached (onBus k (targetsOf s)) (targetsOf s) ≡ acted k (targetsOf s)
+reached-is k s b r = effect-is k (targetsOf s) (names-one k s b r) (fits-targets s b)
+
 -- a command sent: the controller's step took what stood on the bus, and the targets acted
-pub sent-matches : (st r : Stepped) (s after tr : List ℕ) → Fit s → tr ≡ onBus (st .command) (targetsOf s) → r ≡ stepped (st .state) tr
+pub sent-matches : (st r : Stepped) (s after tr : List ℕ) → Bytes s → Fit s → Going st s → tr ≡ onBus (st .command) (targetsOf s) → r ≡ stepped (st .state) tr
     → after ≡ recordsWith (acted (st .command) (targetsOf s)) s → Matches (sentTo st (targetsOf s) (st .command)) r s after
-sent-matches st r s after tr f e q g = record {
-  controller = q ∙ ap (stepped (st .state)) e;
-  targets = ap targetsOf g ∙ acted-targets (st .command) s f;
-  stored = g;
-}
+sent-matches st r s after tr b f n e q g =
+    let x = reached-is (st .command) s b (n .reaches) in
+    record {
+      controller = q ∙ ap (stepped (st .state)) e;
+      targets = ap targetsOf g ∙ acted-targets (st .command) s f ∙ sym x;
+      stored = g ∙ ap (λ (ts : List Target). recordsWith ts s) (sym x);
+    }
 
 -- records that stay as they are
 pub same-records : (s : List ℕ) → s ≡ recordsWith (targetsOf s) s

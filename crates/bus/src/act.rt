@@ -1,7 +1,7 @@
-// What a command does to the targets. Rests on targets.
+// What a command means for the targets; that its symbols on the bus do just that is effect-is in rule/specs/EffectLaws. Rests on targets.
 ghost use mathlib.Core.Path.{_≡_};
 ghost use Rattle.targets.specs.Records.{targetsOf, recordsWith};
-ghost use Rattle.rule.specs.Bus.{acted};
+ghost use Rattle.rule.specs.EffectLaws.{acted};
 use arp::command::Command;
 use targets::assign;
 use targets::prepare;

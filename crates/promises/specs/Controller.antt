@@ -1,29 +1,35 @@
 -- Demand 1 for the controller: which number a step and a lookup give, and when, in the paper's numbers (commandNumber, lookupNumber).
 -- Beside it the promises over every state that a controller reaches.
-use Prim.Native.Nat.{ℕ, _≤_, _<_}
+use Prim.Native.Nat.{ℕ, _*_, _≤_, _<_}
 use mathlib.Core.Path.{_≡_, refl, sym, ap, _∙_, subst}
 use mathlib.Core.Bool.{Bool, true, false}
 use mathlib.Core.Logic.{_⊎_, inl, inr, _↔_}
-use mathlib.Core.List.{List, [], _∷_}
+use mathlib.Core.List.{List, [], _∷_, _++_}
 use native.Mathlib.Decide.{decLt}
+use native.Mathlib.Nat.{mod-eq-of-lt}
 use native.Mathlib.Omega.{arith}
 use lib.Dec.{leb, ltb, eqb}
-use lib.ListN.{getD}
+use lib.ListN.{length, getD}
 use borrow.Author.Tests.{lt-ltb, le-ltb}
 use Rattle.lists.specs.Choice.{pick}
+use Rattle.wire.specs.Pec.{pecOf}
+use Rattle.wire.specs.declared.address.Address.{Address}
+use Rattle.trace.specs.Trace.{acked}
 use Rattle.pool.specs.declared.Pool.{Pool}
 use Rattle.pool.specs.declared.free.Free.{Free}
 use Rattle.pool.specs.declared.free.Free.the-variants.{At, AllUsed}
 use Rattle.step.specs.declared.answer.Decoded.{Decoded}
 use Rattle.step.specs.declared.answer.Decoded.the-variants.{Done, Forbidden, BufferTooShort, NoSymbol, EndsEarly, Unexpected, NotAcknowledged, PecDiffers, AfterStop}
-use Rattle.udid.specs.Bytes.{udidAt}
+use Rattle.udid.specs.Bytes.{udidBytes, udidAt}
 use Rattle.udid.specs.declared.Udid.{Udid}
 use Rattle.arp.specs.Bindings.{heldAt, freed, boundAt, bound}
-use Rattle.arp.specs.Controller.{handed, counted, asked, chosen, issued, replied, onReply, onPrepare, onGet, onAssign, afterPrepare, afterGet, afterAssign, byCommand, stepped}
+use Rattle.arp.specs.Controller.{newController, started, handed, counted, asked, chosen, issued, replied, onReply, onPrepare, onGet, onAssign, afterPrepare, afterGet, afterAssign, byCommand, stepped}
 use Rattle.arp.specs.Heard.{sendByte, blockRead, blockWrite, answer, sentIn, receivedIn, isPrepare, isGet, isAssign, nobody}
 use Rattle.arp.specs.History.{Event, Received, run, Invariant, Acknowledged}
 use Rattle.arp.specs.Lookup.{seen, lookedUp}
 use Rattle.arp.specs.Numbers.{commandNumber, lookupNumber}
+use Rattle.arp.specs.Requests.{traceOf}
+use Rattle.arp.specs.Replay.{Replied, released, readAs, handedOut, table, numberOf, noCommand, NoneToPick, story, Told, tracesAlone}
 use Rattle.arp.specs.declared.command.Command.{Command}
 use Rattle.arp.specs.declared.command.Command.the-variants.{Nothing, Prepare, GetUdid, Assign, Ended, NoneFree, Abandoned, NotOutstanding}
 use Rattle.arp.specs.declared.lookup.Found.{Found}
@@ -34,6 +40,8 @@ use Rattle.arp.specs.declared.state.Controller.{Controller}
 use Rattle.arp.specs.declared.state.Stepped.{Stepped}
 use Rattle.arp.proofs.Assigned.{step-claimed, lookup-acknowledged}
 use Rattle.arp.proofs.Reach.{good-run, invariant}
+use Rattle.arp.proofs.TraceLaws.{prepare-trace, get-row, assign-row}
+use Rattle.arp.proofs.Replayed.{all-told, lookup-told, start-hands-prepare, step-21-exactly, step-13-exactly, before-first-start-21}
 
 -- ---- the number of a step
 
@@ -387,3 +395,52 @@ pub claim-stays : (occupied : Pool) (es : List Event) (trs : List (List ℕ)) (a
 unfolding run
 claim-stays occupied es [] a e = e
 claim-stays occupied es (tr ∷ trs) a e = step-claimed occupied (run occupied (more trs es)) tr (good-run occupied (more trs es)) a (claim-stays occupied es trs a e)
+
+-- ---- THE COMMANDS ON THE WIRE, symbol by symbol: 256 S, 257 P, 258 A, 259 N; 194 and 195 are C2h and C3h, the two bytes of 61h
+
+pub record CommandRows : Type 0 where
+  -- Prepare To ARP: S C2 A 01 A PEC A P, the marked case M2
+  pub prepare : traceOf Prepare [] ≡ 256 ∷ 194 ∷ 258 ∷ 1 ∷ 258 ∷ 192 ∷ 258 ∷ 257 ∷ []
+  -- Get UDID with the 17 bytes of a reply: S C2 A 03 A S C3 A 11 A, each byte with A, PEC N P
+  pub get : (xs : List ℕ) → length xs ≡ 17 → traceOf GetUdid xs
+      ≡ 256 ∷ 194 ∷ 258 ∷ 3 ∷ 258 ∷ 256 ∷ 195 ∷ 258 ∷ 17 ∷ 258 ∷ (acked xs ++ pecOf (194 ∷ 3 ∷ 195 ∷ 17 ∷ xs) ∷ 259 ∷ 257 ∷ [])
+  -- Assign Address: S C2 A 04 A 11 A, each byte of the identifier with A, twice the address A, PEC A P
+  pub assign : (u : Udid) (a : Address) → a .0 < 128 → traceOf (Assign u a) []
+      ≡ 256 ∷ 194 ∷ 258 ∷ 4 ∷ 258 ∷ 17 ∷ 258 ∷ (acked (udidBytes u) ++ 2 * a .0 ∷ 258 ∷ pecOf (194 ∷ 4 ∷ 17 ∷ (udidBytes u ++ 2 * a .0 ∷ [])) ∷ 258 ∷ 257 ∷ [])
+
+pub command-rows : CommandRows
+command-rows = record {
+  prepare = prepare-trace;
+  get = get-row;
+  assign = λ u a h. assign-row u a
+      ∙ ap (λ (n : ℕ). 256 ∷ 194 ∷ 258 ∷ 4 ∷ 258 ∷ 17 ∷ 258 ∷ (acked (udidBytes u) ++ 2 * n ∷ 258 ∷ pecOf (194 ∷ 4 ∷ 17 ∷ (udidBytes u ++ 2 * n ∷ [])) ∷ 258 ∷ 257 ∷ [])) (mod-eq-of-lt h);
+}
+
+-- THE CONTROLLER BY ITS HISTORY: what each address is known for, what the pool has, how many Get UDIDs were handed out in this pass and what
+-- was handed out last are what the events alone give, in document 01's sentences (arp/specs/Replay)
+pub by-history : (occupied : Pool) (es : List Event) → Told occupied es
+by-history occupied es = all-told occupied es
+
+-- lookup answers 0 with the identifier, 15 or 16 as the events give it
+pub lookup-by-history : (occupied : Pool) (es : List Event) (a : ℕ) → a < 128 → lookupNumber (lookedUp (run occupied es) a) ≡ numberOf (story occupied es .known .held a)
+lookup-by-history occupied es a h = lookup-told occupied es a h
+
+-- FROM EVERY STATE a start hands out Prepare; lookup of every address is 15 then, and the pool is the starting one
+pub start-by-history : (s : Controller) → (started s .command ≡ Prepare) × (started s .state .last ≡ Prepare)
+    × ((a : ℕ) → a < 128 → lookupNumber (lookedUp (started s .state) a) ≡ (15, [])) × (started s .state .pool ≡ s .starting) × (started s .state .starting ≡ s .starting)
+start-by-history s = start-hands-prepare s
+
+-- A STEP GIVES 21 exactly if the latest start or step handed out no command, so always before the first start
+pub refused-by-history : (occupied : Pool) (es : List Event) (tr : List ℕ)
+    → (commandNumber (stepped (run occupied es) tr .command) ≡ (21, []) ∷ []) ↔ (noCommand (handedOut occupied es) ≡ true)
+refused-by-history occupied es tr = step-21-exactly occupied es tr
+
+pub refused-before-start : (occupied : Pool) (trs : List (List ℕ)) (tr : List ℕ)
+    → (run occupied (tracesAlone trs) ≡ newController occupied) × (commandNumber (stepped (run occupied (tracesAlone trs)) tr .command) ≡ (21, []) ∷ [])
+refused-before-start occupied trs tr = before-first-start-21 occupied trs tr
+
+-- A STEP GIVES 13 exactly at a reply for which, with what its identifier was bound to freed, there is no address to pick
+pub full-by-history : (occupied : Pool) (es : List Event) (tr : List ℕ) (u : Udid)
+    → (stepped (run occupied es) tr .command ≡ NoneFree u)
+    ↔ ((readAs (handedOut occupied es) tr ≡ Replied u) × NoneToPick (released u (table occupied es) .used) u (getD (receivedIn 9 tr) 16 0))
+full-by-history occupied es tr u = step-13-exactly occupied es tr u

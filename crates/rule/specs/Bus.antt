@@ -7,28 +7,22 @@ use Rattle.arp.specs.declared.command.Command.{Command}
 use Rattle.arp.specs.declared.command.Command.the-variants.{Nothing, Prepare, GetUdid, Assign, Ended, NoneFree, Abandoned, NotOutstanding}
 use Rattle.arp.specs.declared.state.Stepped.{Stepped}
 use Rattle.pool.specs.declared.Pool.{Pool}
-use Rattle.targets.specs.Target.{Target, cleared, resolve}
+use Rattle.targets.specs.Target.{Target, mapTargets}
 use Rattle.rule.specs.Acknowledge.{onBus}
+use Rattle.rule.specs.Effect.{effect}
 
 -- the controller with what it handed out last, and the targets
 pub record World : Type 0 where
   pub now : Stepped
   pub targets : List Target
 
--- what a command does to the targets
-abbrev pub acted : Command → List Target → List Target
-acted Prepare ts = cleared ts
-acted (Assign u a) ts = resolve u (a .0) ts
-acted GetUdid ts = ts
-acted Nothing ts = ts
-acted Ended ts = ts
-acted (NoneFree u) ts = ts
-acted Abandoned ts = ts
-acted NotOutstanding ts = ts
+-- the symbols on the bus act on each target
+abbrev pub reached : List ℕ → List Target → List Target
+reached tr ts = mapTargets (effect tr) ts
 
--- a command on the bus: the controller's step takes the trace that stands there
+-- a command on the bus: the controller's step takes the trace that stands there, and so does each target
 abbrev pub sentTo : Stepped → List Target → Command → World
-sentTo s ts k = record { now = stepped (s .state) (onBus k ts); targets = acted k ts }
+sentTo s ts k = record { now = stepped (s .state) (onBus k ts); targets = reached (onBus k ts) ts }
 
 abbrev pub turnBy : Stepped → List Target → Command → World
 turnBy s ts Prepare = sentTo s ts Prepare

@@ -1,6 +1,6 @@
 -- THE THIRD DEMAND: a pass of the controller's steps over the bus bit by bit ends as the plain rule says.
 use Prim.Native.Nat.{ℕ, zero, suc, _+_, _*_, _-_, _/_, _≤_, _<_}
-use mathlib.Core.Path.{_≡_, refl, sym, ap, _∙_, subst}
+use mathlib.Core.Path.{_≡_, refl, sym, ap, ap₂, _∙_, subst}
 use mathlib.Core.Bool.{Bool, true, false}
 use mathlib.Core.Logic.{_⊎_, inl, inr, _↔_}
 use mathlib.Core.List.{List, [], _∷_}
@@ -34,6 +34,7 @@ use Rattle.arp.specs.declared.state.Stepped.{Stepped}
 use Rattle.rule.specs.Bus.{World, turn, run, beginning, pass}
 use Rattle.rule.specs.PlainRule.{ascending, plainChoice, Ending, served, noneFree, Given, Ruled, next, rule, ruled, FreeIn, Distinct}
 use Rattle.rule.specs.PassEnd.{Outcome, state, out, boundSlot, ended, outcome, nobodyThere, passEnd}
+use Rattle.rule.specs.EffectLaws.{effect-is}
 use Rattle.rule.specs.TraceLaws as on-bus
 use Rattle.rule.specs.RuleLaws.{Apart, Ready, rule-free, rule-all, rule-all-only, given-all, each-map, rule-who}
 use Rattle.rule.specs.SortLaws.{Lower, in-ascending, of-ascending, length-ascending, ascending-lower, pairs-of, pairs-more}
@@ -124,6 +125,7 @@ module _ (b : Pool) (last : member b 127 ≡ true) (ts : List Target) (v : Admit
     room = length-replicate 128 openSlot;
     few = omega (arith, length-ascending ts, v .few);
     present = some;
+    fits = λ t m. v .sized t m .udid;
   }
 
 -- ---- the pass
@@ -140,11 +142,12 @@ module _ (occupied : Pool) where
   start : Pool
   start = startingPool occupied
 
-  first-turn : (t : Target) (ts : List Target) → turn (beginning occupied (t ∷ ts)) ≡ asking start start (replicate 128 openSlot) 1 (cleared (t ∷ ts))
+  first-turn : (t : Target) (ts : List Target) → AdmittedTargets start (t ∷ ts) → turn (beginning occupied (t ∷ ts)) ≡ asking start start (replicate 128 openSlot) 1 (cleared (t ∷ ts))
   unfolding start
-  first-turn t ts =
-      ap (λ (x : Stepped). record { now = x; targets = cleared (t ∷ ts) })
+  first-turn t ts v =
+      ap₂ (λ (x : Stepped) (us : List Target). record { now = x; targets = us })
       (ap (stepped (state start start (replicate 128 openSlot) 0 Prepare)) (on-bus.prepare-whole t ts) ∙ prepare-done start start (replicate 128 openSlot))
+      (effect-is Prepare (t ∷ ts) tt (λ x m. v .sized x m .udid))
 
   nobody-turn : turn (beginning occupied []) ≡ nobodyThere start
   unfolding start
@@ -160,7 +163,7 @@ module _ (occupied : Pool) where
       let n : ℕ = turns (ascending us) in
       let e : 300 ≡ suc (n + (299 - n)) = omega (arith, length-turns (ascending us), length-ascending us, v′ .few) in
       ap (λ (k : ℕ). run k (beginning occupied (t ∷ ts))) e
-      ∙ ap (run (n + (299 - n))) (first-turn t ts)
+      ∙ ap (run (n + (299 - n))) (first-turn t ts v)
       ∙ run-add n (299 - n) (asking start start (replicate 128 openSlot) 1 us)
       ∙ ap (run (299 - n))
       (serves start start (replicate 128 openSlot) 0 us (ascending us) (inv-first start (last-starting occupied) us v′ (omega arith) (open-cleared (t ∷ ts)))

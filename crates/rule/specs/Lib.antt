@@ -1,8 +1,10 @@
+pub mod Effect
 pub mod Acknowledge
 pub mod Bus
 pub mod PlainRule
 pub mod PassEnd
 pub mod TraceLaws
+pub mod EffectLaws
 pub mod SortLaws
 pub mod RuleLaws
 pub mod StepLaws

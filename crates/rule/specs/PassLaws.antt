@@ -1,6 +1,6 @@
 -- From a Get UDID on, the pass serves the unresolved targets in ascending order, and ends as the plain rule says.
 use Prim.Native.Nat.{ℕ, zero, suc, _+_, _%_, _≤_, _<_}
-use mathlib.Core.Path.{_≡_, refl, sym, ap, ap₂, _∙_}
+use mathlib.Core.Path.{_≡_, refl, sym, ap, ap₂, _∙_, subst}
 use mathlib.Core.Bool.{Bool, true, false}
 use mathlib.Core.Logic.{_⊎_, inl, inr}
 use mathlib.Core.List.{List, [], _∷_}
@@ -15,13 +15,13 @@ use Rattle.pool.specs.Pools.{member, withAddress}
 use Rattle.pool.specs.declared.Pool.{Pool}
 use Rattle.pool.specs.declared.free.Free.{Free}
 use Rattle.pool.specs.declared.free.Free.the-variants.{At, AllUsed}
-use Rattle.udid.specs.Udids.{sameUdid, value}
+use Rattle.udid.specs.Udids.{Fits, sameUdid, value}
 use Rattle.udid.specs.UdidLaws.{other-udid}
 use Rattle.udid.specs.declared.Udid.{Udid}
 use Rattle.arbitration.specs.Among.{Among}
 use Rattle.targets.specs.Target.{Target, isResolved, assignedTo, resolve}
 use Rattle.targets.specs.Members.{Waits, waits-next}
-use Rattle.targets.specs.RecordLaws.{length-map}
+use Rattle.targets.specs.RecordLaws.{length-map, assigned-keeps}
 use Rattle.targets.specs.ReplyLaws.{Sized, Least}
 use Rattle.arp.specs.Bindings.{openSlot, heldAt, boundTo, slotFor}
 use Rattle.arp.specs.Controller.{issued, stepped}
@@ -32,6 +32,7 @@ use Rattle.rule.specs.Acknowledge.{onBus}
 use Rattle.rule.specs.Bus.{World, run}
 use Rattle.rule.specs.PlainRule.{Ending, served, noneFree, plainChoice}
 use Rattle.rule.specs.PassEnd.{lastCommand, Outcome, state, out, boundSlot, ended}
+use Rattle.rule.specs.EffectLaws.{effect-is}
 use Rattle.rule.specs.TraceLaws as on-bus
 use Rattle.rule.specs.RuleLaws.{choice-same, Ready, ready-free, ready-next}
 use Rattle.rule.specs.StepLaws.{Unbound, get-silent, get-issued, assign-bound}
@@ -57,6 +58,7 @@ pub record Inv (p : Pool) (s : List Slot) (k : ℕ) (ts rest : List Target) : Ty
   pub room : length s ≡ 128
   pub few : k + length rest < 128
   pub present : 0 < length ts
+  pub fits : (t : Target) → Among t ts → Fits (t .udid)
 
 -- binding another leaves an identifier unbound
 unbound-set : (u : Udid) (t : Target) (s : List Slot) (a : ℕ) → a < length s → sameUdid (t .udid) u ≡ false → Unbound u s → Unbound u (set s a (boundSlot t))
@@ -66,6 +68,11 @@ unbound-set u t s a l n h i = go (ℕ-discrete i a)
     go (yes e) = ap (λ (j : ℕ). boundTo u (heldAt (set s a (boundSlot t)) j)) e
         ∙ ap (λ (x : Slot). boundTo u (x .held)) (getD-set-same s a (boundSlot t) openSlot l) ∙ n
     go (no e) = ap (λ (x : Slot). boundTo u (x .held)) (getD-set-other s a i (boundSlot t) openSlot e) ∙ h i
+
+-- an Assign keeps the identifiers
+fits-next : (u : Udid) (a : ℕ) (ts : List Target) → ((t : Target) → Among t ts → Fits (t .udid)) → (t : Target) → Among t (resolve u a ts) → Fits (t .udid)
+fits-next u a (x ∷ ts) h t (inl e) = subst Fits (sym (assigned-keeps u a x) ∙ ap (λ (y : Target). y .udid) e) (h x (inl refl))
+fits-next u a (x ∷ ts) h t (inr m) = fits-next u a ts (λ y k. h y (inr k)) t m
 
 inv-next : (p : Pool) (s : List Slot) (k : ℕ) (ts rest : List Target) (r : Target) (a : Address) → Inv p s k ts (r ∷ rest) → plainChoice p r ≡ At a
     → Inv (withAddress p (a .0)) (set s (a .0) (boundSlot r)) (suc k) (resolve (r .udid) (a .0) ts) rest
@@ -77,6 +84,7 @@ inv-next p s k ts rest r a v e =
       room = length-set s (a .0) (boundSlot r) ∙ v .room;
       few = omega (arith, v .few);
       present = omega (arith, length-map (assignedTo (r .udid) (a .0)) ts, v .present);
+      fits = fits-next (r .udid) (a .0) ts (v .fits);
     }
   where
     above : (t : Target) → value (r .udid) < value (t .udid) → value (r .udid) ≡ value (t .udid) → ⊥
@@ -91,6 +99,10 @@ turns (t ∷ ts) = suc (suc (turns ts))
 
 abbrev pub asking : Pool → Pool → List Slot → ℕ → List Target → World
 asking b p s n ts = record { now = out b p s n GetUdid; targets = ts }
+
+-- a world of the controller and the targets
+abbrev world : Stepped → List Target → World
+world x ts = record { now = x; targets = ts }
 
 -- an ended pass stays as it is
 pub run-ended : (n : ℕ) (b p : Pool) (s : List Slot) (m : ℕ) (e : Ending) (ts : List Target)
@@ -111,9 +123,9 @@ silent b p s n (t ∷ ts) l h = ap (stepped (state b p s n GetUdid)) (on-bus.get
 
 pub serves : (b p : Pool) (s : List Slot) (k : ℕ) (ts rest : List Target) → Inv p s k ts rest
     → run (turns rest) (asking b p s (suc k) ts) ≡ ended b (plain rest p s k ts)
-serves b p s k ts [] v = ap (λ (x : Stepped). record { now = x; targets = ts }) (silent b p s (suc k) ts (v .present) (λ t m e. v .waits .known t m e))
+serves b p s k ts [] v = ap₂ world (silent b p s (suc k) ts (v .present) (λ t m e. v .waits .known t m e)) (effect-is GetUdid ts tt (v .fits))
 serves b p s k ts (r ∷ rest) v =
-    ap (λ (x : Stepped). run (suc (turns rest)) (record { now = x; targets = ts })) told
+    ap₂ (λ (x : Stepped) (us : List Target). run (suc (turns rest)) (world x us)) told (effect-is GetUdid ts tt (v .fits))
     ∙ go (plainChoice p r) refl
     (λ a e. serves b (withAddress p (a .0)) (set s (a .0) (boundSlot r)) (suc k) (resolve (r .udid) (a .0) ts) rest (inv-next p s k ts rest r a v e))
   where
@@ -145,8 +157,9 @@ serves b p s k ts (r ∷ rest) v =
     go (At a) e ih =
         let f = ready-free p r rest a (v .ready) e in
         rw e
-        (ap (λ (x : Stepped). run (turns rest) (record { now = x; targets = resolve (r .udid) (a .0) ts }))
+        (ap₂ (λ (x : Stepped) (us : List Target). run (turns rest) (world x us))
         (ap (stepped (state b p s (suc k) (Assign (r .udid) a))) (on-bus.assign-whole ts (r .udid) a r (v .waits .there r (inl refl)) refl)
         ∙ assign-bound b p s (suc k) (r .udid) a (omega (arith, v .few)) (v .ready .sized r (inl refl) .udid) (f .0)
         ∙ simp (f .1, add-one (suc k)))
+        (effect-is (Assign (r .udid) a) ts (v .ready .sized r (inl refl) .udid) (v .fits))
         ∙ ih a e)

@@ -3,6 +3,7 @@ use native.Mathlib.Omega.{arith}
 use lib.ListN.{take}
 use lib.Seq.{length-take-le}
 use denote.Ref.{now}
+use Rattle.lists.specs.Each.{all-bytes}
 use Rattle.bus.specs.TurnLaws.{sent-matches}
 use borrow.Author.Needs.{needs}
 use Rattle.bus.proofs.turn.send.Statement.{statement}
@@ -43,7 +44,7 @@ same-length c = search needs
 
 -- src/turn.rt:9:1
 returns : tie.Need-returns
-returns c = sent-matches (c .before .before .before .before .before .before .before .before .before .before .before .before .args .st) (c .step .result) (now (c .before .before .before .before .before .before .before .before .before .before .before .before .args .records)) _ _ (c .before .before .before .before .before .before .before .before .before .before .before .before .pre .0) (c .before .before .before .before .before .before .before .put-trace .ensures .1) (c .step .ensures) (c .before .before .before .before .act .ensures)
+returns c = sent-matches (c .before .before .before .before .before .before .before .before .before .before .before .before .args .st) (c .step .result) (now (c .before .before .before .before .before .before .before .before .before .before .before .before .args .records)) _ _ (all-bytes (now (c .before .before .before .before .before .before .before .before .before .before .before .before .args .records)) (λ j. omega (arith, c .before .before .before .before .before .before .before .before .before .before .before .slice-known .given j))) (c .before .before .before .before .before .before .before .before .before .before .before .before .pre .0) (c .before .before .before .before .before .before .before .before .before .before .before .before .pre .1) (c .before .before .before .before .before .before .before .put-trace .ensures .1) (c .step .ensures) (c .before .before .before .before .act .ensures)
 
 pub send-spec : {M : Type 1} → statement M
 send-spec =

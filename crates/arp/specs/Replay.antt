@@ -1,0 +1,250 @@
+-- What is bound, what is claimed and what the pool has, told by the events alone, in document 01's sentences. Nothing here cites the
+-- controller's own definitions of freeing, binding or stepping: an event is read from the command that was handed out last and from what
+-- decode answers for the trace.
+use Prim.Native.Nat.{ℕ, zero, suc, _+_, _*_, _/_, _<_}
+use mathlib.Core.Path.{_≡_}
+use mathlib.Core.Bool.{Bool, true, false}
+use mathlib.Core.List.{List, [], _∷_}
+use mathlib.Core.Logic.{_⊎_}
+use lib.Dec.{ltb, leb, eqb}
+use lib.ListN.{getD}
+use Rattle.lists.specs.Choice.{pick, or, and}
+use Rattle.pool.specs.Pools.{member}
+use Rattle.pool.specs.Start.{startingPool}
+use Rattle.pool.specs.declared.Pool.{Pool}
+use Rattle.pool.specs.declared.free.Free.{Free}
+use Rattle.pool.specs.declared.free.Free.the-variants.{At, AllUsed}
+use Rattle.step.specs.declared.answer.Decoded.{Decoded}
+use Rattle.step.specs.declared.answer.Decoded.the-variants.{Done, Forbidden, BufferTooShort, NoSymbol, EndsEarly, Unexpected, NotAcknowledged, PecDiffers, AfterStop}
+use Rattle.udid.specs.Bytes.{udidAt}
+use Rattle.udid.specs.Udids.{sameUdid, isFixed}
+use Rattle.udid.specs.declared.Udid.{Udid}
+use Rattle.arp.specs.Bindings.{heldAt}
+use Rattle.arp.specs.Controller.{started, stepped}
+use Rattle.arp.specs.Heard.{answer, sentIn, receivedIn}
+use Rattle.arp.specs.History.{Event, Start, Received, run, oneGet}
+use Rattle.arp.specs.declared.command.Command.{Command}
+use Rattle.arp.specs.declared.command.Command.the-variants.{Nothing, Prepare, GetUdid, Assign, Ended, NoneFree, Abandoned, NotOutstanding}
+use Rattle.arp.specs.declared.state.Binding.{Binding}
+use Rattle.arp.specs.declared.state.Binding.the-variants.{Open, Bound, Claimed}
+
+-- ---- what happens, and the table that it changes
+
+pub data Happened : Type 0 where
+  -- a pass was started
+  Started : Happened
+  -- a target replied with this identifier
+  Replied : Udid → Happened
+  -- an Assign of the address to the identifier was complete
+  Assigned : Udid → ℕ → Happened
+  Other : Happened
+
+-- what each address is known for, and which addresses the pool has
+pub record Table : Type 0 where
+  pub held : ℕ → Binding
+  pub used : ℕ → Bool
+
+abbrev pub holds : Udid → Binding → Bool
+holds u Open = false
+holds u (Bound v) = sameUdid v u
+holds u Claimed = false
+
+-- nothing bound, nothing claimed, and the starting pool
+abbrev pub emptied : (ℕ → Bool) → Table
+emptied starting = record { held = λ a. Open; used = starting }
+
+-- u is bound nowhere; the address that it was bound to is open, and out of the pool
+abbrev pub released : Udid → Table → Table
+released u t =
+    record {
+      held = λ a. pick (holds u (t .held a)) Open (t .held a);
+      used = λ a. pick (holds u (t .held a)) false (t .used a);
+    }
+
+abbrev pub after : (ℕ → Bool) → Happened → Table → Table
+-- a start empties all bindings and claims and sets the pool back to the starting pool
+after starting Started t = emptied starting
+-- a reply with an identifier that is bound makes its address open and takes it out of the pool
+after starting (Replied u) t = released u t
+-- a complete Assign binds its address and adds it to the pool; if the address was in the pool just before, it is claimed
+after starting (Assigned u b) t =
+    record {
+      held = λ a. pick (eqb a b) (pick (t .used b) Claimed (Bound u)) (t .held a);
+      used = λ a. pick (eqb a b) true (t .used a);
+    }
+-- nothing else changes any of them
+after starting Other t = t
+
+-- ---- how a trace is read
+
+-- where a reply is due: answer 0 for Block Read (protocol 9), from 61h with command 03h, of 17 bytes: the identifier in the first 16
+abbrev pub replyIn : Decoded → List ℕ → Happened
+replyIn (Done t) received = pick (and (eqb (t .address .0) 0x61) (eqb (t .command) 0x03)) (pick (eqb (t .received) 17) (Replied (udidAt received 0)) Other) Other
+replyIn Forbidden received = Other
+replyIn BufferTooShort received = Other
+replyIn (NoSymbol k) received = Other
+replyIn (EndsEarly k) received = Other
+replyIn (Unexpected k) received = Other
+replyIn (NotAcknowledged b) received = Other
+replyIn (PecDiffers k) received = Other
+replyIn (AfterStop k) received = Other
+
+-- the bytes of Assign Address: u, and a in the upper seven bits of the last byte, bit 0 zero
+abbrev pub assigns : Udid → ℕ → List ℕ → Bool
+assigns u a sent = and (sameUdid (udidAt sent 0) u) (eqb (getD sent 16 0) (2 * a))
+
+-- where an Assign of a to u is outstanding: answer 0 for Block Write (protocol 8), to 61h with command 04h, of 17 bytes, those bytes
+abbrev pub assignIn : Udid → ℕ → Decoded → List ℕ → Happened
+assignIn u a (Done t) sent =
+    pick (and (and (eqb (t .address .0) 0x61) (eqb (t .command) 0x04)) (and (eqb (t .sent) 17) (assigns u a sent))) (Assigned u a) Other
+assignIn u a Forbidden sent = Other
+assignIn u a BufferTooShort sent = Other
+assignIn u a (NoSymbol k) sent = Other
+assignIn u a (EndsEarly k) sent = Other
+assignIn u a (Unexpected k) sent = Other
+assignIn u a (NotAcknowledged b) sent = Other
+assignIn u a (PecDiffers k) sent = Other
+assignIn u a (AfterStop k) sent = Other
+
+-- by the command that is outstanding; a trace where none is, or where Prepare is, changes nothing
+abbrev pub readAs : Command → List ℕ → Happened
+readAs GetUdid tr = replyIn (answer 9 tr) (receivedIn 9 tr)
+readAs (Assign u a) tr = assignIn u (a .0) (answer 8 tr) (sentIn 8 tr)
+readAs Nothing tr = Other
+readAs Prepare tr = Other
+readAs Ended tr = Other
+readAs (NoneFree u) tr = Other
+readAs Abandoned tr = Other
+readAs NotOutstanding tr = Other
+
+-- ---- the events of a history
+
+-- what the latest start or step handed out; nothing before the first
+unfoldable pub handedOut : Pool → List Event → Command
+handedOut occupied [] = Nothing
+handedOut occupied (Start ∷ es) = started (run occupied es) .command
+handedOut occupied (Received tr ∷ es) = stepped (run occupied es) tr .command
+
+abbrev pub happened : Pool → List Event → Event → Happened
+happened occupied es Start = Started
+happened occupied es (Received tr) = readAs (handedOut occupied es) tr
+
+-- the table after events, the latest first
+unfoldable pub table : Pool → List Event → Table
+table occupied [] = emptied (member (startingPool occupied))
+table occupied (e ∷ es) = after (member (startingPool occupied)) (happened occupied es e) (table occupied es)
+
+-- document 01's number of a lookup for what an address is known for
+abbrev pub numberOf : Binding → ℕ × List Udid
+numberOf (Bound u) = (0, u ∷ [])
+numberOf Open = (15, [])
+numberOf Claimed = (16, [])
+
+-- no command of a pass
+abbrev pub noCommand : Command → Bool
+noCommand Prepare = false
+noCommand GetUdid = false
+noCommand (Assign u a) = false
+noCommand Nothing = true
+noCommand Ended = true
+noCommand (NoneFree u) = true
+noCommand Abandoned = true
+noCommand NotOutstanding = true
+
+-- ---- what is handed out next, from the table, the count of Get UDIDs handed out in this pass, and the command outstanding
+
+-- Get UDID; when it would be the 129th of the pass: 14
+abbrev pub again : ℕ → Command
+again n = pick (leb 128 n) Abandoned GetUdid
+
+-- the lowest address that is not in the pool, of the n from a on
+unfoldable pub lowest : (ℕ → Bool) → ℕ → ℕ → Free
+lowest used zero a = AllUsed
+lowest used (suc n) a = pick (used a) (lowest used n (suc a)) (At (record { 0 = a }))
+
+-- FFh: the lowest free address. Else fixed: its own. Else movable: its own if not in the pool, otherwise the lowest free one
+abbrev pub picked : (ℕ → Bool) → Udid → ℕ → Free
+picked used u b =
+    pick (eqb b 0xFF) (lowest used 128 0)
+    (pick (isFixed u) (At (record { 0 = b / 2 }))
+    (pick (used (b / 2)) (lowest used 128 0) (At (record { 0 = b / 2 }))))
+
+-- no address to pick: the pool is full, and the byte is FFh or the target is movable with its own address in the pool
+abbrev pub NoneToPick : (ℕ → Bool) → Udid → ℕ → Type 0
+NoneToPick used u b = ((c : ℕ) → c < 128 → used c ≡ true) × ((b ≡ 0xFF) ⊎ ((isFixed u ≡ false) × (used (b / 2) ≡ true)))
+
+-- Assign Address; none free: 13
+abbrev pub assigning : Udid → Free → Command
+assigning u (At a) = Assign u a
+assigning u AllUsed = NoneFree u
+
+-- Prepare accepted (answer 0 for Send Byte, protocol 1, to 61h, of the byte 01h): Get UDID. Answer 6: the pass ends. Any other: 14
+abbrev pub nextPrepare : ℕ → Decoded → List ℕ → Command
+nextPrepare n (Done t) sent = pick (and (eqb (t .address .0) 0x61) (eqb (getD sent 0 0) 0x01)) (again n) Abandoned
+nextPrepare n (NotAcknowledged b) sent = Ended
+nextPrepare n Forbidden sent = Abandoned
+nextPrepare n BufferTooShort sent = Abandoned
+nextPrepare n (NoSymbol k) sent = Abandoned
+nextPrepare n (EndsEarly k) sent = Abandoned
+nextPrepare n (Unexpected k) sent = Abandoned
+nextPrepare n (PecDiffers k) sent = Abandoned
+nextPrepare n (AfterStop k) sent = Abandoned
+
+-- a reply of 17 bytes: an address is assigned, picked from the pool with what the identifier was bound to freed. A complete reply of another
+-- count, or answer 6 at byte 0, 1 or 2: the pass ends. Another address or command, or any other refusal: Get UDID again
+abbrev pub nextReply : Table → ℕ → Decoded → List ℕ → Command
+nextReply t n (Done x) received =
+    pick (and (eqb (x .address .0) 0x61) (eqb (x .command) 0x03))
+    (pick (eqb (x .received) 17) (assigning (udidAt received 0) (picked (released (udidAt received 0) t .used) (udidAt received 0) (getD received 16 0))) Ended)
+    (again n)
+nextReply t n (NotAcknowledged b) received = pick (ltb b 3) Ended (again n)
+nextReply t n Forbidden received = again n
+nextReply t n BufferTooShort received = again n
+nextReply t n (NoSymbol k) received = again n
+nextReply t n (EndsEarly k) received = again n
+nextReply t n (Unexpected k) received = again n
+nextReply t n (PecDiffers k) received = again n
+nextReply t n (AfterStop k) received = again n
+
+-- after an Assign, complete or not: Get UDID. With no command of a pass outstanding: 21
+abbrev pub nextCommand : Table → ℕ → Command → List ℕ → Command
+nextCommand t n Prepare tr = nextPrepare n (answer 1 tr) (sentIn 1 tr)
+nextCommand t n GetUdid tr = nextReply t n (answer 9 tr) (receivedIn 9 tr)
+nextCommand t n (Assign u a) tr = again n
+nextCommand t n Nothing tr = NotOutstanding
+nextCommand t n Ended tr = NotOutstanding
+nextCommand t n (NoneFree u) tr = NotOutstanding
+nextCommand t n Abandoned tr = NotOutstanding
+nextCommand t n NotOutstanding tr = NotOutstanding
+
+-- ---- all of it by the events alone: no state of a controller is cited
+
+pub record Story : Type 0 where
+  pub known : Table
+  pub gets : ℕ
+  pub command : Command
+
+abbrev pub onward : (ℕ → Bool) → Event → Story → Story
+onward starting Start w = record { known = emptied starting; gets = 0; command = Prepare }
+onward starting (Received tr) w =
+    record {
+      known = after starting (readAs (w .command) tr) (w .known);
+      gets = w .gets + oneGet (nextCommand (w .known) (w .gets) (w .command) tr);
+      command = nextCommand (w .known) (w .gets) (w .command) tr;
+    }
+
+unfoldable pub story : Pool → List Event → Story
+story occupied [] = record { known = emptied (member (startingPool occupied)); gets = 0; command = Nothing }
+story occupied (e ∷ es) = onward (member (startingPool occupied)) e (story occupied es)
+
+-- what each address is known for, what the pool has, how many Get UDIDs were handed out and what was handed out last: the events alone give them
+pub record Told (occupied : Pool) (es : List Event) : Type 0 where
+  pub held : (a : ℕ) → heldAt (run occupied es .slots) a ≡ story occupied es .known .held a
+  pub pool : (a : ℕ) → member (run occupied es .pool) a ≡ story occupied es .known .used a
+  pub gets : run occupied es .gets ≡ story occupied es .gets
+  pub command : handedOut occupied es ≡ story occupied es .command
+
+-- traces alone, and no start
+unfoldable pub tracesAlone : List (List ℕ) → List Event
+tracesAlone [] = []
+tracesAlone (tr ∷ trs) = Received tr ∷ tracesAlone trs

@@ -1,0 +1,285 @@
+-- The effect of a trace by its three cases, and that the traces of the controller's commands do what the commands mean.
+use Prim.Native.Nat.{ℕ, zero, suc, _+_, _*_, _/_, _%_, _<_}
+use mathlib.Core.Path.{_≡_, refl, sym, ap, ap₂, _∙_, subst}
+use mathlib.Core.Bool.{Bool, true, false}
+use mathlib.Core.Logic.{inl, inr}
+use mathlib.Core.List.{List, [], _∷_, _++_}
+use native.Mathlib.Omega.{arith}
+use lib.Dec.{eqb, ltb}
+use lib.ListN.{length, getD, drop}
+use lib.Seq.{getD-at}
+use borrow.Author.Tests.{eq-eqb, eqb-true, lt-ltb, ltb-true}
+use Rattle.lists.specs.Choice.{pick, and}
+use Rattle.lists.specs.Each.{Each, Bytes, append-bytes}
+use Rattle.wire.specs.Pec.{pecOf}
+use Rattle.wire.specs.PecLaws.{pec-byte}
+use Rattle.wire.specs.Symbols.{STOP, ACK, NACK}
+use Rattle.wire.specs.declared.address.Address.{Address}
+use Rattle.trace.specs.LengthLaws.{length-acked}
+use Rattle.trace.specs.Trace.{acked}
+use Rattle.arbitration.specs.Among.{Among}
+use Rattle.udid.specs.Bytes.{udidBytes}
+use Rattle.udid.specs.UdidLaws.{length-udid, udid-bytes, same-equal, same-refl, same-bytes}
+use Rattle.udid.specs.Udids.{Fits, sameUdid}
+use Rattle.udid.specs.declared.Udid.{Udid}
+use Rattle.targets.specs.Target.{Target, mapTargets, prepared, assignedTo, cleared, resolve}
+use Rattle.arp.proofs.TraceLaws.{prepare-trace, assign-row}
+use Rattle.arp.specs.Requests.{traceOf}
+use Rattle.arp.specs.declared.command.Command.{Command}
+use Rattle.arp.specs.declared.command.Command.the-variants.{Nothing, Prepare, GetUdid, Assign, Ended, NoneFree, Abandoned, NotOutstanding}
+use Rattle.rule.specs.Acknowledge.{begins, acknowledges, somebody, answered, standing, sentPart, onBus}
+use Rattle.rule.specs.Effect.{preparing, assigning, addressIn, same, effect}
+use Rattle.rule.specs.TraceLaws as on-bus
+
+-- ---- the test of lists
+
+same-self : (xs : List ℕ) → same xs xs ≡ true
+unfolding same
+same-self [] = refl
+same-self (x ∷ xs) = rw (eq-eqb x x refl) (same-self xs)
+
+never : {A : Type 0} → false ≡ true → A
+never q = absurd (let z : _≡_ {A = ℕ} 0 1 = cc q in omega arith)
+
+same-true : (xs ys : List ℕ) → same xs ys ≡ true → xs ≡ ys
+unfolding same
+same-true [] [] e = refl
+same-true [] (y ∷ ys) e = never e
+same-true (x ∷ xs) [] e = never e
+same-true (x ∷ xs) (y ∷ ys) e = go (eqb x y) refl e (λ q. same-true xs ys q)
+  where
+    go : (b : Bool) → eqb x y ≡ b → and b (same xs ys) ≡ true → (same xs ys ≡ true → xs ≡ ys) → x ∷ xs ≡ y ∷ ys
+    go true h k ih = ap₂ (λ (z : ℕ) (l : List ℕ). z ∷ l) (eqb-true x y h) (ih k)
+    go false h k ih = never k
+
+same-false : (xs ys : List ℕ) → (xs ≡ ys → ⊥) → same xs ys ≡ false
+same-false xs ys n = go (same xs ys) refl
+  where
+    go : (b : Bool) → same xs ys ≡ b → same xs ys ≡ false
+    go true e = absurd (n (same-true xs ys e))
+    go false e = e
+
+-- ---- THE THREE CASES
+
+-- the address byte of an Assign Address
+address-in : (id : List ℕ) (b : ℕ) → length id ≡ 16 → addressIn (assigning id b) ≡ b
+address-in id b e =
+    getD-at (256 ∷ 194 ∷ 258 ∷ 4 ∷ 258 ∷ 17 ∷ 258 ∷ acked id) b (258 ∷ pecOf (194 ∷ 4 ∷ 17 ∷ (id ++ b ∷ [])) ∷ 258 ∷ 257 ∷ []) 0 39 (omega (arith, length-acked id))
+
+-- Prepare To ARP clears the flag
+pub effect-prepare : (t : Target) → effect preparing t ≡ record { udid = t .udid; addressByte = t .addressByte; flag = 0 }
+unfolding effect same
+effect-prepare t = refl
+
+-- Assign Address with the target's own identifier: it takes the address, and sets the flag
+pub effect-assign : (t : Target) (b : ℕ) → b < 256 → effect (assigning (udidBytes (t .udid)) b) t ≡ record { udid = t .udid; addressByte = 2 * (b / 2) + 1; flag = 1 }
+unfolding effect
+effect-assign t b h =
+    let e : addressIn (assigning (udidBytes (t .udid)) b) ≡ b = address-in (udidBytes (t .udid)) b (length-udid (t .udid)) in
+    let p : same (assigning (udidBytes (t .udid)) b) preparing ≡ false = same-false _ _ (λ q. other (ap (λ (l : List ℕ). getD l 3 0) q)) in
+    rw (p, e, lt-ltb b 256 h, same-self (assigning (udidBytes (t .udid)) b))
+  where
+    other : _≡_ {A = ℕ} 4 1 → ⊥
+    other q = omega arith
+
+-- any other trace leaves it
+pub effect-none : (tr : List ℕ) (t : Target) → (tr ≡ preparing → ⊥) → ((b : ℕ) → b < 256 → tr ≡ assigning (udidBytes (t .udid)) b → ⊥) → effect tr t ≡ t
+unfolding effect
+effect-none tr t n m = rw (same-false tr preparing n) (go (ltb (addressIn tr) 256) refl (same tr (assigning (udidBytes (t .udid)) (addressIn tr))) refl)
+  where
+    taken : Target
+    taken = record { udid = t .udid; addressByte = 2 * (addressIn tr / 2) + 1; flag = 1 }
+
+    go : (a : Bool) → ltb (addressIn tr) 256 ≡ a → (b : Bool) → same tr (assigning (udidBytes (t .udid)) (addressIn tr)) ≡ b → pick (and a b) taken t ≡ t
+    go true h true e = absurd (m (addressIn tr) (ltb-true _ _ h) (same-true _ _ e))
+    go true h false e = refl
+    go false h b e = refl
+
+-- ---- an Assign Address names one identifier
+
+-- the first n bytes of symbols that are each a byte with its ACK
+bytesIn : ℕ → List ℕ → List ℕ
+bytesIn zero l = []
+bytesIn (suc n) [] = []
+bytesIn (suc n) (x ∷ []) = []
+bytesIn (suc n) (x ∷ a ∷ l) = x ∷ bytesIn n l
+
+bytes-in : (id l : List ℕ) → bytesIn (length id) (acked id ++ l) ≡ id
+unfolding bytesIn
+bytes-in [] l = refl
+bytes-in (x ∷ id) l = ap (λ (r : List ℕ). x ∷ r) (bytes-in id l)
+
+identifier-in : (id : List ℕ) (b : ℕ) → length id ≡ 16 → bytesIn 16 (drop 7 (assigning id b)) ≡ id
+identifier-in id b e =
+    let l : List ℕ = b ∷ 258 ∷ pecOf (194 ∷ 4 ∷ 17 ∷ (id ++ b ∷ [])) ∷ 258 ∷ 257 ∷ [] in
+    ap (λ (n : ℕ). bytesIn n (acked id ++ l)) (sym e) ∙ bytes-in id l
+
+-- ---- a trace without NACK was not cut
+
+abbrev Quiet : List ℕ → Type 0
+Quiet l = Each (λ (x : ℕ). x ≡ 259 → ⊥) l
+
+quiet-acked : (bs l : List ℕ) → Bytes bs → Quiet l → Quiet (acked bs ++ l)
+quiet-acked [] l h q = q
+quiet-acked (b ∷ bs) l h q = ((λ e. byte b (h .0) e), ((λ e. omega arith), quiet-acked bs l (h .1) q))
+  where
+    byte : (b : ℕ) → b < 256 → b ≡ 259 → ⊥
+    byte b h e = omega arith
+
+quiet-assigning : (id : List ℕ) (b : ℕ) → Bytes id → b < 256 → Quiet (assigning id b)
+quiet-assigning id b h g =
+    let p = pec-byte 0 (194 ∷ 4 ∷ 17 ∷ (id ++ b ∷ [])) (omega arith) (omega arith, (omega arith, (omega arith, append-bytes id (b ∷ []) h (g, tt)))) in (
+      λ e. omega arith,
+      (
+        λ e. omega arith,
+        (
+          λ e. omega arith,
+          (
+            λ e. omega arith,
+            (
+              λ e. omega arith,
+              (
+                λ e. omega arith,
+                (
+                  λ e. omega arith,
+                  quiet-acked id _ h (λ e. omega arith, (λ e. omega arith, (λ e. omega arith, (λ e. omega arith, (λ e. omega arith, tt))))),
+                ),
+              ),
+            ),
+          ),
+        ),
+      ),
+    )
+
+answered-quiet : (ack : List ℕ → Bool) (sent xs rest : List ℕ) → Quiet (answered ack sent xs rest) → answered ack sent xs rest ≡ xs ++ rest
+unfolding answered
+answered-quiet ack sent [] rest q = refl
+answered-quiet ack sent (x ∷ xs) rest q =
+    go (eqb x ACK) refl (ack sent) (λ r. answered-quiet ack sent xs rest r) (λ r. answered-quiet ack (sent ++ x ∷ []) xs rest r) q
+  where
+    go : (b : Bool) → eqb x ACK ≡ b → (c : Bool) → (Quiet (answered ack sent xs rest) → answered ack sent xs rest ≡ xs ++ rest)
+        → (Quiet (answered ack (sent ++ x ∷ []) xs rest) → answered ack (sent ++ x ∷ []) xs rest ≡ xs ++ rest)
+        → Quiet (pick b (pick c (ACK ∷ answered ack sent xs rest) (NACK ∷ STOP ∷ [])) (x ∷ answered ack (sent ++ x ∷ []) xs rest))
+        → pick b (pick c (ACK ∷ answered ack sent xs rest) (NACK ∷ STOP ∷ [])) (x ∷ answered ack (sent ++ x ∷ []) xs rest) ≡ x ∷ (xs ++ rest)
+    go true e true i j q = ap (λ (l : List ℕ). ACK ∷ l) (i (q .1)) ∙ ap (λ (y : ℕ). y ∷ (xs ++ rest)) (sym (eqb-true x ACK e))
+    go true e false i j q = absurd (q .0 refl)
+    go false e c i j q = ap (λ (l : List ℕ). x ∷ l) (j (q .1))
+
+-- ---- THE COMMANDS' TRACES DO WHAT THE COMMANDS MEAN
+
+-- what a command means for the targets
+abbrev pub acted : Command → List Target → List Target
+acted Prepare ts = cleared ts
+acted (Assign u a) ts = resolve u (a .0) ts
+acted GetUdid ts = ts
+acted Nothing ts = ts
+acted Ended ts = ts
+acted (NoneFree u) ts = ts
+acted Abandoned ts = ts
+acted NotOutstanding ts = ts
+
+-- the identifier that it names is a number of 128 bits
+abbrev pub Names : Command → Type 0
+Names (Assign u a) = Fits u
+Names Prepare = Unit
+Names GetUdid = Unit
+Names Nothing = Unit
+Names Ended = Unit
+Names (NoneFree u) = Unit
+Names Abandoned = Unit
+Names NotOutstanding = Unit
+
+-- Get UDID: its fourth symbol is 03h
+get-fourth : (x : Target) (ts : List Target) → getD (onBus GetUdid (x ∷ ts)) 3 0 ≡ 3
+unfolding onBus standing answered somebody acknowledges begins
+get-fourth x ts = refl
+
+effect-get : (ts : List Target) (t : Target) → Among t ts → effect (onBus GetUdid ts) t ≡ t
+effect-get [] t m = absurd m
+effect-get (x ∷ ts) t m =
+    effect-none (onBus GetUdid (x ∷ ts)) t
+    (λ q. prepare (sym (get-fourth x ts) ∙ ap (λ (l : List ℕ). getD l 3 0) q))
+    (λ b h q. assign (sym (get-fourth x ts) ∙ ap (λ (l : List ℕ). getD l 3 0) q))
+  where
+    prepare : _≡_ {A = ℕ} 3 1 → ⊥
+    prepare q = omega arith
+
+    assign : _≡_ {A = ℕ} 3 4 → ⊥
+    assign q = omega arith
+
+-- Assign Address: its fourth symbol is 04h
+assign-fourth : (u : Udid) (a : Address) (x : Target) (ts : List Target) → getD (onBus (Assign u a) (x ∷ ts)) 3 0 ≡ 4
+unfolding onBus standing answered somebody acknowledges begins
+assign-fourth u a x ts = refl
+
+-- the target with that identifier
+effect-own : (u : Udid) (a : Address) (ts : List Target) (t : Target) → Among t ts → t .udid ≡ u
+    → effect (onBus (Assign u a) ts) t ≡ record { udid = t .udid; addressByte = 2 * (a .0 % 128) + 1; flag = 1 }
+effect-own u a ts t m e =
+    let n : 2 * (2 * (a .0 % 128) / 2) + 1 ≡ 2 * (a .0 % 128) + 1 = omega arith in
+    ap (λ (tr : List ℕ). effect tr t) (on-bus.assign-whole ts u a t m e ∙ assign-row u a ∙ ap (λ (v : Udid). assigning (udidBytes v) (2 * (a .0 % 128))) (sym e))
+    ∙ effect-assign t (2 * (a .0 % 128)) (omega arith)
+    ∙ ap (λ (b : ℕ). record { udid = t .udid; addressByte = b; flag = 1 }) n
+
+-- a trace that is an Assign Address of some identifier is that of the command's
+assign-only : (u : Udid) (a : Address) (ts : List Target) (id : List ℕ) (b : ℕ) → Bytes id → length id ≡ 16 → b < 256 → onBus (Assign u a) ts ≡ assigning id b → udidBytes u ≡ id
+unfolding onBus standing same
+assign-only u a ts id b h l g q =
+    let w : onBus (Assign u a) ts ≡ traceOf (Assign u a) [] =
+    answered-quiet (λ (sent : List ℕ). somebody (acknowledges sent) ts) [] (sentPart (Assign u a)) (STOP ∷ []) (subst Quiet (sym q) (quiet-assigning id b h g)) in
+    let r : assigning (udidBytes u) (2 * (a .0 % 128)) ≡ assigning id b = sym (assign-row u a) ∙ sym w ∙ q in
+    sym (identifier-in (udidBytes u) (2 * (a .0 % 128)) (length-udid u)) ∙ ap (λ (x : List ℕ). bytesIn 16 (drop 7 x)) r ∙ identifier-in id b l
+
+-- any other target
+effect-other : (u : Udid) (a : Address) (ts : List Target) (t : Target) → Among t ts → Fits u → Fits (t .udid) → sameUdid (t .udid) u ≡ false
+    → effect (onBus (Assign u a) ts) t ≡ t
+effect-other u a [] t m f g e = absurd m
+effect-other u a (x ∷ ts) t m f g e =
+    effect-none (onBus (Assign u a) (x ∷ ts)) t
+    (λ q. fourth (sym (assign-fourth u a x ts) ∙ ap (λ (l : List ℕ). getD l 3 0) q))
+    (λ b h q. named (same-bytes u (t .udid) f g .0 (assign-only u a (x ∷ ts) (udidBytes (t .udid)) b (udid-bytes (t .udid)) (length-udid (t .udid)) h q)))
+  where
+    fourth : _≡_ {A = ℕ} 4 1 → ⊥
+    fourth q = omega arith
+
+    named : u ≡ t .udid → ⊥
+    named q = let z : _≡_ {A = ℕ} 0 1 = cc (e, ap (sameUdid (t .udid)) q, same-refl (t .udid)) in omega arith
+
+effect-assigned : (u : Udid) (a : Address) (ts : List Target) (t : Target) → Among t ts → Fits u → Fits (t .udid)
+    → effect (onBus (Assign u a) ts) t ≡ assignedTo u (a .0) t
+effect-assigned u a ts t m f g = go (sameUdid (t .udid) u) refl
+  where
+    go : (b : Bool) → sameUdid (t .udid) u ≡ b
+        → effect (onBus (Assign u a) ts) t ≡ pick b (record { udid = t .udid; addressByte = 2 * (a .0 % 128) + 1; flag = 1 }) t
+    go true e = effect-own u a ts t m (same-equal (t .udid) u e)
+    go false e = effect-other u a ts t m f g e
+
+-- Prepare To ARP
+effect-prepared : (ts : List Target) (t : Target) → Among t ts → effect (onBus Prepare ts) t ≡ prepared t
+effect-prepared [] t m = absurd m
+effect-prepared (x ∷ ts) t m = ap (λ (tr : List ℕ). effect tr t) (on-bus.prepare-whole x ts ∙ prepare-trace) ∙ effect-prepare t
+
+-- an end is no command: no symbol stands on the bus
+effect-nothing : (t : Target) → effect [] t ≡ t
+unfolding effect same
+effect-nothing t = refl
+
+map-among : (f g : Target → Target) (ts : List Target) → ((t : Target) → Among t ts → f t ≡ g t) → mapTargets f ts ≡ mapTargets g ts
+map-among f g [] h = refl
+map-among f g (t ∷ ts) h = ap₂ (λ (x : Target) (l : List Target). x ∷ l) (h t (inl refl)) (map-among f g ts (λ x m. h x (inr m)))
+
+map-left : (f : Target → Target) (ts : List Target) → ((t : Target) → Among t ts → f t ≡ t) → mapTargets f ts ≡ ts
+map-left f [] h = refl
+map-left f (t ∷ ts) h = ap₂ (λ (x : Target) (l : List Target). x ∷ l) (h t (inl refl)) (map-left f ts (λ x m. h x (inr m)))
+
+-- whatever the command and whoever is on the bus, as long as identifiers are numbers of 128 bits
+pub effect-is : (k : Command) (ts : List Target) → Names k → ((t : Target) → Among t ts → Fits (t .udid)) → mapTargets (effect (onBus k ts)) ts ≡ acted k ts
+unfolding onBus standing
+effect-is Prepare ts n h = map-among (effect (onBus Prepare ts)) prepared ts (effect-prepared ts)
+effect-is (Assign u a) ts n h = map-among (effect (onBus (Assign u a) ts)) (assignedTo u (a .0)) ts (λ t m. effect-assigned u a ts t m n (h t m))
+effect-is GetUdid ts n h = map-left (effect (onBus GetUdid ts)) ts (effect-get ts)
+effect-is Nothing ts n h = map-left (effect []) ts (λ t m. effect-nothing t)
+effect-is Ended ts n h = map-left (effect []) ts (λ t m. effect-nothing t)
+effect-is (NoneFree u) ts n h = map-left (effect []) ts (λ t m. effect-nothing t)
+effect-is Abandoned ts n h = map-left (effect []) ts (λ t m. effect-nothing t)
+effect-is NotOutstanding ts n h = map-left (effect []) ts (λ t m. effect-nothing t)
