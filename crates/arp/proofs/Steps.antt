@@ -28,7 +28,7 @@ use Rattle.udid.specs.declared.Udid.{Udid}
 use Rattle.wire.specs.declared.address.Address.{Address}
 use Rattle.arp.specs.Bindings.{freed, bound}
 use Rattle.arp.specs.Controller.{asked, handed, chosen, issued, replied, onReply, onPrepare, onGet, onAssign, afterPrepare, afterGet, afterAssign}
-use Rattle.arp.specs.Heard.{sendByte, blockRead, blockWrite, answer, isPrepare, isGet, names, isAssign, nobody}
+use Rattle.arp.specs.Heard.{sendByte, blockRead, blockWrite, answer, isPrepare, isGet, names, isAssign, completes, nobody}
 use Rattle.arp.specs.declared.command.Command.the-variants.{Assign, Ended, NoneFree, Abandoned}
 use Rattle.arp.specs.declared.state.Controller.{Controller}
 use Rattle.arp.specs.declared.state.Stepped.{Stepped}
@@ -200,6 +200,29 @@ module _ (s : Controller) (tr : List ℕ) (a : Decoded) (sent received : List �
 
 -- ---- Assign Address
 
+pub incomplete : (u : Udid) (n : ℕ) (a : Decoded) (sent : List ℕ) → OneOf not-done (tagOf decoded.the-type a) → completes u n a sent ≡ false
+incomplete u n (Done t) sent h = absurd (done-is-not h)
+incomplete u n Forbidden sent h = refl
+incomplete u n BufferTooShort sent h = refl
+incomplete u n (NoSymbol i) sent h = refl
+incomplete u n (EndsEarly i) sent h = refl
+incomplete u n (Unexpected i) sent h = refl
+incomplete u n (NotAcknowledged b) sent h = refl
+incomplete u n (PecDiffers i) sent h = refl
+incomplete u n (AfterStop i) sent h = refl
+
+-- bound where the Assign is complete, and Get UDID in either case
+on-assign : (s : Controller) (u : Udid) (n : ℕ) (a : Decoded) (sent : List ℕ) → pick (completes u n a sent) (asked (bound s u n)) (asked s) ≡ onAssign s u n a sent
+on-assign s u n (Done t) sent = refl
+on-assign s u n Forbidden sent = refl
+on-assign s u n BufferTooShort sent = refl
+on-assign s u n (NoSymbol i) sent = refl
+on-assign s u n (EndsEarly i) sent = refl
+on-assign s u n (Unexpected i) sent = refl
+on-assign s u n (NotAcknowledged b) sent = refl
+on-assign s u n (PecDiffers i) sent = refl
+on-assign s u n (AfterStop i) sent = refl
+
 module _ (s : Controller) (u : Udid) (n : ℕ) (tr : List ℕ) (a : Decoded) (sent received : List ℕ) (o : Outcome blockWrite true tr zeros zeros a sent received) where
   heard-8 : a ≡ answer blockWrite tr
   unfolding answered
@@ -212,31 +235,29 @@ module _ (s : Controller) (u : Udid) (n : ℕ) (tr : List ℕ) (a : Decoded) (se
   is-assign : (t : Transaction) → isAssign u n t sent ≡ isAssign u n t (sentData (shapeOf blockWrite) tr a)
   is-assign t = rw (o .data-sent, onto-udid (sentData (shapeOf blockWrite) tr a), onto-at (sentData (shapeOf blockWrite) tr a) 16)
 
-  pub assign-again : OneOf not-done (tagOf decoded.the-type a) → asked s ≡ afterAssign s u n tr
-  assign-again h = go a h ∙ by-assign
+  complete-is : completes u n a sent ≡ completes u n a (sentData (shapeOf blockWrite) tr a)
+  complete-is = go a is-assign
     where
-      go : (x : Decoded) → OneOf not-done (tagOf decoded.the-type x) → asked s ≡ onAssign s u n x (sentData (shapeOf blockWrite) tr a)
-      go (Done t) g = absurd (done-is-not g)
-      go Forbidden g = refl
-      go BufferTooShort g = refl
-      go (NoSymbol i) g = refl
-      go (EndsEarly i) g = refl
-      go (Unexpected i) g = refl
-      go (NotAcknowledged b) g = refl
-      go (PecDiffers i) g = refl
-      go (AfterStop i) g = refl
+      go : (x : Decoded) → ((t : Transaction) → isAssign u n t sent ≡ isAssign u n t (sentData (shapeOf blockWrite) tr a))
+          → completes u n x sent ≡ completes u n x (sentData (shapeOf blockWrite) tr a)
+      go (Done t) h = h t
+      go Forbidden h = refl
+      go BufferTooShort h = refl
+      go (NoSymbol i) h = refl
+      go (EndsEarly i) h = refl
+      go (Unexpected i) h = refl
+      go (NotAcknowledged b) h = refl
+      go (PecDiffers i) h = refl
+      go (AfterStop i) h = refl
 
-  assign-done : (t : Transaction) → a ≡ Done t → pick (isAssign u n t sent) (asked (bound s u n)) (asked s) ≡ afterAssign s u n tr
-  assign-done t e =
-      ap (λ (b : Bool). pick b (asked (bound s u n)) (asked s)) (is-assign t)
-      ∙ sym (ap (λ (x : Decoded). onAssign s u n x (sentData (shapeOf blockWrite) tr a)) e)
-      ∙ by-assign
+  assign-by : pick (completes u n a sent) (asked (bound s u n)) (asked s) ≡ afterAssign s u n tr
+  assign-by = ap (λ (b : Bool). pick b (asked (bound s u n)) (asked s)) complete-is ∙ on-assign s u n a (sentData (shapeOf blockWrite) tr a) ∙ by-assign
 
-  pub assign-complete : (t : Transaction) → a ≡ Done t → isAssign u n t sent ≡ true → asked (bound s u n) ≡ afterAssign s u n tr
-  assign-complete t e h = sym (ap (λ (b : Bool). pick b (asked (bound s u n)) (asked s)) h) ∙ assign-done t e
+  pub assign-complete : completes u n a sent ≡ true → asked (bound s u n) ≡ afterAssign s u n tr
+  assign-complete h = sym (ap (λ (b : Bool). pick b (asked (bound s u n)) (asked s)) h) ∙ assign-by
 
-  pub assign-another : (t : Transaction) → a ≡ Done t → isAssign u n t sent ≡ false → asked s ≡ afterAssign s u n tr
-  assign-another t e h = sym (ap (λ (b : Bool). pick b (asked (bound s u n)) (asked s)) h) ∙ assign-done t e
+  pub assign-again : completes u n a sent ≡ false → asked s ≡ afterAssign s u n tr
+  assign-again h = sym (ap (λ (b : Bool). pick b (asked (bound s u n)) (asked s)) h) ∙ assign-by
 
 -- ---- a reply
 

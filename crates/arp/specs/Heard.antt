@@ -56,6 +56,18 @@ names u a sent = and (sameUdid (udidAt sent 0) u) (eqb (getD sent 16 0) (2 * (a 
 abbrev pub isAssign : Udid → ℕ → Transaction → List ℕ → Bool
 isAssign u a t sent = and (isCommand 0x04 t) (and (eqb (t .sent) 17) (names u a sent))
 
+-- an Assign of a to u is complete: answer 0, and the trace is that Assign
+abbrev pub completes : Udid → ℕ → Decoded → List ℕ → Bool
+completes u a (Done t) sent = isAssign u a t sent
+completes u a Forbidden sent = false
+completes u a BufferTooShort sent = false
+completes u a (NoSymbol k) sent = false
+completes u a (EndsEarly k) sent = false
+completes u a (Unexpected k) sent = false
+completes u a (NotAcknowledged b) sent = false
+completes u a (PecDiffers k) sent = false
+completes u a (AfterStop k) sent = false
+
 -- answer 6 at byte 0, 1 or 2
 abbrev pub nobody : Decoded → Bool
 nobody (Done t) = false

@@ -1,7 +1,7 @@
 // Whether a transaction that was decoded is the command that was sent. Rests on crates step, trace, udid and wire.
 ghost use mathlib.Core.Path.{_≡_};
 ghost use lib.ListN.{getD};
-ghost use Rattle.arp.specs.Heard.{isCommand, isPrepare, names, isAssign, nobody};
+ghost use Rattle.arp.specs.Heard.{isCommand, isPrepare, names, isAssign, completes, nobody};
 use step::answer::Decoded;
 use trace::transaction::Transaction;
 use udid::Udid;
@@ -63,6 +63,16 @@ pub(crate) fn is_assign(u: Udid, a: Address, t: Transaction, sent: &[u8]) -> boo
     } else {
         false
     }
+}
+
+// The Assign that was sent is complete: every byte was acknowledged, and the trace is that Assign.
+pub(crate) fn is_complete(u: Udid, a: Address, answer: Decoded, sent: &[u8]) -> bool
+    ensures { λ r. ⌜ r ≡ completes u (a .0) answer (now (sent .entry)) ⌝ }
+{
+    let Decoded::Done(t) = answer else {
+        return false;
+    };
+    is_assign(u, a, t, sent)
 }
 
 // Nobody answers Get UDID any more: byte 0, 1 or 2 was not acknowledged.

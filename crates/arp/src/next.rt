@@ -5,8 +5,8 @@ ghost use Rattle.arp.specs.Controller.{replied, onReply, afterPrepare, a
 use super::choose::choose;
 use super::command::Command;
 use super::heard::byte_at;
-use super::heard::is_assign;
 use super::heard::is_command;
+use super::heard::is_complete;
 use super::heard::is_nobody;
 use super::heard::is_prepare;
 use super::state::Controller;
@@ -88,10 +88,7 @@ impl Controller {
         let mut sent = [0u8; 255];
         let mut received = [0u8; 255];
         let answer = decode::decode(8, true, trace, &mut sent, &mut received);
-        let Decoded::Done(t) = answer else {
-            return self.ask();
-        };
-        if !is_assign(u, a, t, &sent) {
+        if !is_complete(u, a, answer, &sent) {
             return self.ask();
         }
         let next = self.bind(u, a);

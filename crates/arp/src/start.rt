@@ -35,11 +35,11 @@ impl Controller {
         let open = Slot {
             held: Binding::Open,
         };
-        let slots = [open; 128];
+        let unbound = [open; 128];
         let state = Controller {
             starting: starting,
             pool: starting,
-            slots: slots,
+            slots: unbound,
             gets: 0,
             last: Command::Prepare,
         };

@@ -66,6 +66,14 @@ fn asked_by(k: Command) -> Udid
     }
 }
 
+// How many Get UDIDs a pass sent that ended so.
+fn gets_sent(last: Stepped) -> u32
+    ensures { λ r. ⌜ r ≡ last .state .gets ⌝ }
+{
+    let state = last.state;
+    state.gets
+}
+
 // What a pass that ended so answers.
 pub(crate) fn report(last: Stepped) -> ModelAnswer
     ensures { λ r. ⌜ r ≡ reported last ⌝ }
@@ -80,6 +88,6 @@ pub(crate) fn report(last: Stepped) -> ModelAnswer
         udid: asked_by(command),
         bound: bound,
         count: bound.used(),
-        gets: state.gets,
+        gets: gets_sent(last),
     }
 }

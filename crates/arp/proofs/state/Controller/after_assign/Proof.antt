@@ -1,14 +1,14 @@
-use mathlib.Core.Path.{_≡_, refl, sym, ap, _∙_}
+use mathlib.Core.Path.{sym, ap, _∙_}
 use denote.Ref.{now}
-use borrow.Author.Tests.{not-true, not-false, eq-eqb, ne-eqb}
-use Rattle.arp.proofs.Steps.{assign-again, assign-complete, assign-another}
+use borrow.Author.Tests.{not-true, not-false}
+use Rattle.arp.proofs.Steps.{assign-again, assign-complete}
 use Rattle.arp.specs.Controller.{asked}
 use borrow.Author.Needs.{needs}
 use Rattle.arp.proofs.state.Controller.after_assign.Statement.{statement}
 use Rattle.arp.proofs.state.Controller.after_assign.Tie as tie
 use Rattle.arp.proofs.state.Controller.after_assign.Reads as reads
 use Rattle.arp.proofs.state.Controller.after_assign.Lts as lts
-use Rattle.arp.proofs.heard.is_assign.Reads as is-assign-reads
+use Rattle.arp.proofs.heard.is_complete.Reads as is-complete-reads
 use Rattle.arp.proofs.state.Controller.ask.Reads as ask-reads
 use Rattle.arp.proofs.state.Controller.bind.Reads as bind-reads
 use Rattle.decode.proofs.decode.Reads as decode-reads
@@ -25,9 +25,13 @@ slice-aggregate-decode-2 c = search needs
 decode-requires : tie.Need-decode-requires
 decode-requires c κs = search needs
 
--- src/next.rt:91:27
-enum-known-answer : tie.Need-enum-known-answer
-enum-known-answer c = search needs
+-- src/next.rt:91:39
+slice-aggregate-is-complete : tie.Need-slice-aggregate-is-complete
+slice-aggregate-is-complete c = search needs
+
+-- src/next.rt:91:13
+is-complete-requires : tie.Need-is-complete-requires
+is-complete-requires c κs = search needs
 
 -- src/next.rt:92:13
 ask-requires : tie.Need-ask-requires
@@ -35,38 +39,22 @@ ask-requires c κs = search needs
 
 -- src/next.rt:92:13
 returns : tie.Need-returns
-returns c = let s = c .before .before .before .before .before .before .before .before .args in c .ask .ensures ∙ assign-again (s .self) (s .u) (s .a .0) (now (s .trace)) (c .before .before .before .before .decode .result) _ _ (c .before .before .before .before .decode .ensures) (c .before .match .keys2)
-
--- src/next.rt:94:32
-slice-aggregate-is-assign : tie.Need-slice-aggregate-is-assign
-slice-aggregate-is-assign c = search needs
+returns c = let s = c .before .before .before .before .before .before .before .before .before .before .args in c .ask .ensures ∙ assign-again (s .self) (s .u) (s .a .0) (now (s .trace)) (c .before .before .before .before .before .before .decode .result) _ _ (c .before .before .before .before .before .before .decode .ensures) (sym (c .before .before .is-complete .ensures) ∙ not-true _ (c .before .if1 .taken))
 
 -- src/next.rt:94:13
-is-assign-requires : tie.Need-is-assign-requires
-is-assign-requires c κs = search needs
-
--- src/next.rt:95:13
-ask-requires-2 : tie.Need-ask-requires-2
-ask-requires-2 c κs = search needs
-
--- src/next.rt:95:13
-returns-2 : tie.Need-returns-2
-returns-2 c = let s = c .before .before .before .before .before .before .before .before .before .before .before .before .before .args in c .ask2 .ensures ∙ assign-another (s .self) (s .u) (s .a .0) (now (s .trace)) (c .before .before .before .before .before .before .before .before .before .decode .result) _ _ (c .before .before .before .before .before .before .before .before .before .decode .ensures) _ (c .before .before .before .before .before .answer .given .1) (sym (c .before .before .is-assign .ensures) ∙ not-true _ (c .before .if1 .taken))
-
--- src/next.rt:97:13
 bind-requires : tie.Need-bind-requires
 bind-requires c κs = search needs
 
--- src/next.rt:98:9
-ask-requires-3 : tie.Need-ask-requires-3
-ask-requires-3 c κs = search needs
+-- src/next.rt:95:9
+ask-requires-2 : tie.Need-ask-requires-2
+ask-requires-2 c κs = search needs
 
 -- src/next.rt:85:5
-returns-3 : tie.Need-returns-3
-returns-3 c =
-    let s = c .before .before .before .before .before .before .before .before .before .before .before .before .before .before .args in
-    c .ask3 .ensures ∙ ap asked (c .before .bind .ensures)
-    ∙ assign-complete (s .self) (s .u) (s .a .0) (now (s .trace)) (c .before .before .before .before .before .before .before .before .before .before .decode .result) _ _ (c .before .before .before .before .before .before .before .before .before .before .decode .ensures) _ (c .before .before .before .before .before .before .answer .given .1) (sym (c .before .before .before .is-assign .ensures) ∙ not-false _ (c .before .before .if1 .left))
+returns-2 : tie.Need-returns-2
+returns-2 c =
+    let s = c .before .before .before .before .before .before .before .before .before .before .before .args in
+    c .ask2 .ensures ∙ ap asked (c .before .bind .ensures)
+    ∙ assign-complete (s .self) (s .u) (s .a .0) (now (s .trace)) (c .before .before .before .before .before .before .before .decode .result) _ _ (c .before .before .before .before .before .before .before .decode .ensures) (sym (c .before .before .before .is-complete .ensures) ∙ not-false _ (c .before .before .if1 .left))
 
 pub after-assign-spec : {M : Type 1} → statement M
 after-assign-spec =
@@ -75,13 +63,10 @@ after-assign-spec =
     slice-aggregate-decode
     slice-aggregate-decode-2
     decode-requires
-    enum-known-answer
+    slice-aggregate-is-complete
+    is-complete-requires
     ask-requires
     returns
-    slice-aggregate-is-assign
-    is-assign-requires
-    ask-requires-2
-    returns-2
     bind-requires
-    ask-requires-3
-    returns-3)
+    ask-requires-2
+    returns-2)

@@ -1,0 +1,30 @@
+use mathlib.Core.Path.{sym, ap, _∙_}
+use denote.Ref.{now}
+use Rattle.step.specs.declared.answer.Decoded.{Decoded}
+use Rattle.arp.proofs.Steps.{incomplete}
+use Rattle.arp.specs.Heard.{completes}
+use borrow.Author.Needs.{needs}
+use Rattle.arp.proofs.heard.is_complete.Statement.{statement}
+use Rattle.arp.proofs.heard.is_complete.Tie as tie
+use Rattle.arp.proofs.heard.is_complete.Reads as reads
+use Rattle.arp.proofs.heard.is_complete.Lts as lts
+use Rattle.arp.proofs.heard.is_assign.Reads as is-assign-reads
+
+-- src/heard.rt:72:23
+enum-known-answer : tie.Need-enum-known-answer
+enum-known-answer c = search needs
+
+-- src/heard.rt:73:9
+returns : tie.Need-returns
+returns c = sym (incomplete (c .before .before .args .u) (c .before .before .args .a .0) (c .before .before .args .answer) (now (c .before .before .args .sent)) (c .match .keys2))
+
+-- src/heard.rt:75:5
+is-assign-requires : tie.Need-is-assign-requires
+is-assign-requires c κs = search needs
+
+-- src/heard.rt:69:1
+returns-2 : tie.Need-returns-2
+returns-2 c = c .is-assign .ensures ∙ sym (ap (λ (x : Decoded). completes (c .before .before .before .before .before .args .u) (c .before .before .before .before .before .args .a .0) x (now (c .before .before .before .before .before .args .sent))) (c .before .before .answer .given .1))
+
+pub is-complete-spec : {M : Type 1} → statement M
+is-complete-spec = tie.close (tie.spec enum-known-answer returns is-assign-requires returns-2)
