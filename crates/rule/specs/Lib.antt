@@ -13,4 +13,5 @@ pub mod Demand3
 pub mod Sent
 pub mod SentLaws
 pub mod Reading
+pub mod RecordsLaws
 pub mod AllBound
