@@ -5,9 +5,11 @@ use Prim.Native.Nat.{ℕ, zero, suc, _+_, _*_, _/_, _%_, _≤_, _<_}
 use mathlib.Core.Path.{_≡_, refl, sym, ap, _∙_, subst}
 use mathlib.Core.Bool.{Bool, true, false}
 use mathlib.Core.Logic.{_⊎_, inl, inr, _↔_}
-use mathlib.Core.List.{List, [], _∷_, _++_}
+use mathlib.Core.List.{List, [], _∷_, List-discrete}
+use native.Mathlib.Decide.{ℕ-discrete, decLt}
 use native.Mathlib.Omega.{arith}
 use lib.ListN.{length, getD, take, drop, replicate}
+use lib.Seq.{ext-getD}
 use Rattle.lists.specs.Choice.{or}
 use Rattle.lists.specs.Each.{Each, Bytes}
 use Rattle.wire.specs.Addresses.{isReserved}
@@ -30,12 +32,10 @@ use Rattle.targets.specs.IndexLaws.{length-targets}
 use Rattle.targets.specs.Records.{recordCount, targetsOf}
 use Rattle.targets.specs.Refusals.{checkedList}
 use Rattle.targets.specs.Target.{Target}
-use Rattle.targets.specs.declared.admit.Checked.{Checked}
 use Rattle.targets.specs.declared.admit.Checked.the-variants.{Admitted}
 use Rattle.bindings.specs.BoundLaws.{bound-set-has, bound-set-count}
 use Rattle.bindings.specs.BufferLaws.{bytes-there, rest-there, nobody-bytes}
 use Rattle.bindings.specs.Entries as entries
-use Rattle.bindings.specs.declared.entry.Entry.{Entry}
 use Rattle.bindings.specs.declared.entry.Entry.the-variants.{Nobody}
 use Rattle.rule.specs.Bus.{World, pass}
 use Rattle.rule.specs.PlainRule.{Ending, served, noneFree, Given, Ruled, ruled, FreeIn, Distinct}
@@ -47,7 +47,7 @@ use Rattle.rule.specs.Reading.{Any, RecordOf, isBound, boundAt, OnePerUdid, bou
 use Rattle.rule.specs.RecordsLaws.{same-length, given-records, bound-record, other-record, other-bytes}
 use Rattle.rule.specs.Sent.{getsOnBus}
 use Rattle.rule.specs.SentLaws.{counted-on-bus}
-use Rattle.bus.specs.Run.{noUdid, numberIn, udidIn, entryOf, entryAt, ModelEnd, Leaves, endedEnd, endChecked, modelEnd}
+use Rattle.bus.specs.Run.{noUdid, numberIn, udidIn, entryOf, entryAt, ModelEnd, Leaves, endedEnd, modelEnd}
 use Rattle.bus.specs.RunLaws.{end-checked}
 use Rattle.bus.specs.declared.answer.ModelAnswer.{ModelAnswer}
 
@@ -175,6 +175,47 @@ assignable-is : (occupied : Pool) (g : Given) → FreeIn (startingPool occupied)
 assignable-is occupied g f =
     let e = either-false (isReserved (g .address)) (member occupied (g .address)) (sym (member-starting occupied (g .address)) ∙ f .1) in
     record { address = f .0; not-reserved = e .0; not-occupied = e .1 }
+
+-- ---- nothing is left open: two lists of records that are so are equal
+
+named : (s : List ℕ) (i : ℕ) (gs : List Given) → Dec (Any (RecordOf s i) gs)
+named s i [] = no (λ q. q)
+named s i (g ∷ gs) = go (List-discrete ℕ-discrete (take 16 (drop (18 * i) s)) (udidBytes (g .who .udid))) (named s i gs)
+  where
+    go : Dec (RecordOf s i g) → Dec (Any (RecordOf s i) gs) → Dec (RecordOf s i g ⊎ Any (RecordOf s i) gs)
+    go (yes q) d = yes (inl q)
+    go (no n) (yes q) = yes (inr q)
+    go (no n) (no m) = no (λ q. elim q [ inl x ↦ n x | inr y ↦ m y ])
+
+module _ (given : List Given) (s t u : List ℕ) (whole : length s ≡ 18 * (length s / 18)) (c : RecordsLeft given s t) (d : RecordsLeft given s u) where
+  abbrev Agree : ℕ → Type 0
+  Agree i = (getD t (18 * i + 16) 0 ≡ getD u (18 * i + 16) 0) × (getD t (18 * i + 17) 0 ≡ getD u (18 * i + 17) 0)
+
+  last-two : (i : ℕ) → i < length s / 18 → Agree i
+  last-two i h = go (named s i given)
+    where
+      both : (g : Given) → (RecordOf s i g → (getD t (18 * i + 16) 0 ≡ 2 * g .address + 1) × (getD t (18 * i + 17) 0 ≡ 1))
+          → (RecordOf s i g → (getD u (18 * i + 16) 0 ≡ 2 * g .address + 1) × (getD u (18 * i + 17) 0 ≡ 1)) → RecordOf s i g → Agree i
+      both g x y q = (x q .0 ∙ sym (y q .0), x q .1 ∙ sym (y q .1))
+
+      at : (g : Given) → RecordOf s i g → (RecordOf s i g → Agree i) → Agree i
+      at g q f = f q
+
+      go : Dec (Any (RecordOf s i) given) → Agree i
+      go (no n) = (c .unbound i h n .0 ∙ sym (d .unbound i h n .0), c .unbound i h n .1 ∙ sym (d .unbound i h n .1))
+      go (yes q) = any-same given (any-each given at q (each-more given both (c .bound i h) (d .bound i h)))
+
+  pub records-once : t ≡ u
+  records-once = ext-getD 0 t u (c .same-length ∙ sym (d .same-length)) (λ k h. go k (omega (arith, h, c .same-length, whole)) (decLt (k % 18) 16) (ℕ-discrete (k % 18) 16))
+    where
+      go : (k : ℕ) → k / 18 < length s / 18 → Dec (k % 18 < 16) → Dec (k % 18 ≡ 16) → getD t k 0 ≡ getD u k 0
+      go k h (yes l) q = c .others k l ∙ sym (d .others k l)
+      go k h (no l) (yes q) =
+          let e : k ≡ 18 * (k / 18) + 16 = omega arith in
+          ap (λ (x : ℕ). getD t x 0) e ∙ last-two (k / 18) h .0 ∙ ap (λ (x : ℕ). getD u x 0) (sym e)
+      go k h (no l) (no q) =
+          let e : k ≡ 18 * (k / 18) + 17 = omega arith in
+          ap (λ (x : ℕ). getD t x 0) e ∙ last-two (k / 18) h .1 ∙ ap (λ (x : ℕ). getD u x 0) (sym e)
 
 module _ (occupied : Pool) (s b : List ℕ) (bytes : Bytes s) (e : checkedList (startingPool occupied) s ≡ Admitted) where
   abbrev start : Pool

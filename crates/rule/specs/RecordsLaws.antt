@@ -1,6 +1,6 @@
 -- What a pass leaves in the records, byte by byte: which two bytes of a record it changes, by whether its target was given an address.
-use Prim.Native.Nat.{ℕ, _+_, _*_, _/_, _%_, _≤_, _<_}
-use mathlib.Core.Path.{_≡_, refl, sym, ap, _∙_, subst}
+use Prim.Native.Nat.{ℕ, _+_, _*_, _/_, _%_, _<_}
+use mathlib.Core.Path.{_≡_, refl, sym, ap, _∙_}
 use mathlib.Core.Bool.{false}
 use mathlib.Core.Logic.{inl, inr}
 use mathlib.Core.List.{List, [], _∷_}
@@ -11,7 +11,7 @@ use Rattle.lists.specs.Each.{Each, Bytes}
 use Rattle.pool.specs.Start.{startingPool}
 use Rattle.pool.specs.declared.Pool.{Pool}
 use Rattle.udid.specs.Bytes.{udidBytes}
-use Rattle.udid.specs.Udids.{Fits, sameUdid}
+use Rattle.udid.specs.Udids.{sameUdid}
 use Rattle.udid.specs.UdidLaws.{bytes-back, same-bytes, other-udid}
 use Rattle.arbitration.specs.Among.{Among}
 use Rattle.targets.specs.Admission.{AdmittedTargets}
@@ -22,7 +22,7 @@ use Rattle.targets.specs.RecordLaws.{assigned-keeps}
 use Rattle.targets.specs.Target.{Target, prepared, assignedTo}
 use Rattle.rule.specs.Demand3.{given-addresses, given-targets}
 use Rattle.rule.specs.PassEnd.{passEnd}
-use Rattle.rule.specs.PlainRule.{Given, Ruled, ruled, FreeIn}
+use Rattle.rule.specs.PlainRule.{Given, ruled, FreeIn}
 use Rattle.rule.specs.Reading.{Any, RecordOf, servedBy, taken, TakenBy, end-targets, unserved, served-target}
 use Rattle.rule.specs.RuleLaws.{each-map}
 
@@ -75,8 +75,7 @@ module _ (occupied : Pool) (s : List ℕ) (b : Bytes s) (v : AdmittedTargets (st
   unfolding targetAt
   left i h t e =
       let a : 18 * i + 16 ≡ i * 18 + 16 = omega arith in
-      let f : 18 * i + 17 ≡ i * 18 + 17 = omega arith in
-      (
+      let f : 18 * i + 17 ≡ i * 18 + 17 = omega arith in (
         ap (λ (k : ℕ). getD after k 0) a ∙ ap (λ (x : Target). x .addressByte) (changed .records i h ∙ e),
         ap (λ (k : ℕ). getD after k 0) f ∙ ap (λ (x : Target). x .flag) (changed .records i h ∙ e),
       )

@@ -1,16 +1,14 @@
 -- The count that the controller keeps is that of the Get UDIDs that stood on the bus.
 use Prim.Native.Nat.{ℕ, zero, suc, _+_, _<_}
 use mathlib.Core.Path.{_≡_, refl, sym, ap, _∙_, subst}
-use mathlib.Core.Bool.{Bool, true, false}
 use mathlib.Core.List.{List, [], _∷_}
 use native.Mathlib.Omega.{arith}
 use lib.ListN.{length}
-use Rattle.lists.specs.Choice.{pick}
 use Rattle.pool.specs.Start.{startingPool}
 use Rattle.pool.specs.declared.Pool.{Pool}
 use Rattle.targets.specs.Admission.{AdmittedTargets}
 use Rattle.targets.specs.RecordLaws.{length-map}
-use Rattle.targets.specs.Target.{Target, mapTargets}
+use Rattle.targets.specs.Target.{Target}
 use Rattle.arp.proofs.Handing.{Handed, prepare-handed, get-handed, assign-handed}
 use Rattle.arp.specs.Controller.{afterPrepare, afterGet, afterAssign, byCommand, stepped}
 use Rattle.arp.specs.Heard.{sendByte, blockRead, blockWrite, answer, sentIn, receivedIn}
@@ -18,13 +16,12 @@ use Rattle.arp.specs.History.{oneGet}
 use Rattle.arp.specs.declared.command.Command.{Command}
 use Rattle.arp.specs.declared.command.Command.the-variants.{Nothing, Prepare, GetUdid, Assign, Ended, NoneFree, Abandoned, NotOutstanding}
 use Rattle.arp.specs.declared.state.Controller.{Controller}
-use Rattle.arp.specs.declared.state.Stepped.{Stepped}
 use Rattle.rule.specs.Acknowledge.{begins, acknowledges, somebody, answered, standing, onBus}
-use Rattle.rule.specs.Bus.{World, sentTo, turnBy, turn, run, beginning, pass}
+use Rattle.rule.specs.Bus.{World, turnBy, turn, run, beginning, pass}
 use Rattle.rule.specs.Demand3.{demand-3}
-use Rattle.rule.specs.Effect.{effect, same}
+use Rattle.rule.specs.Effect.{effect}
 use Rattle.rule.specs.PassEnd.{lastCommand, passEnd}
-use Rattle.rule.specs.PlainRule.{Ending, served, noneFree, Ruled, ruled}
+use Rattle.rule.specs.PlainRule.{Ending, served, noneFree, ruled}
 use Rattle.rule.specs.Sent.{stands, traces, oneIn, getsAmong, getsOnBus}
 
 -- on a bus with a target, a command is a Get UDID by its symbols if and only if it was handed out as one
