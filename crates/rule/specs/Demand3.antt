@@ -213,6 +213,11 @@ unfolding pass start
 demand-3 occupied [] v = ap (run 299) (nobody-turn occupied) ∙ run-ended 299 (startingPool occupied) (startingPool occupied) (replicate 128 openSlot) 0 served []
 demand-3 occupied (t ∷ ts) v = some-targets occupied t ts v
 
+-- with no target, the pass ends when nobody acknowledges Prepare To ARP
+pub nobody-first : (occupied : Pool) → turn (beginning occupied []) ≡ nobodyThere (startingPool occupied)
+unfolding start
+nobody-first occupied = nobody-turn occupied
+
 module _ (occupied : Pool) (ts : List Target) (v : AdmittedTargets (startingPool occupied) ts) where
   ready : Ready (startingPool occupied) (ascending ts)
   ready = ready-first (startingPool occupied) (last-starting occupied) ts v

@@ -1,9 +1,9 @@
 -- The count that the controller keeps is that of the Get UDIDs that stood on the bus.
 use Prim.Native.Nat.{ℕ, zero, suc, _+_, _<_}
-use mathlib.Core.Path.{_≡_, refl, sym, ap, _∙_, subst}
+use mathlib.Core.Path.{_≡_, refl, sym, ap, ap₂, _∙_, subst}
 use mathlib.Core.List.{List, [], _∷_}
 use native.Mathlib.Omega.{arith}
-use lib.ListN.{length}
+use lib.ListN.{length, replicate}
 use Rattle.pool.specs.Start.{startingPool}
 use Rattle.pool.specs.declared.Pool.{Pool}
 use Rattle.targets.specs.Admission.{AdmittedTargets}
@@ -18,10 +18,11 @@ use Rattle.arp.specs.declared.command.Command.the-variants.{Nothing, Prepare, G
 use Rattle.arp.specs.declared.state.Controller.{Controller}
 use Rattle.rule.specs.Acknowledge.{begins, acknowledges, somebody, answered, standing, onBus}
 use Rattle.rule.specs.Bus.{World, turnBy, turn, run, beginning, pass}
-use Rattle.rule.specs.Demand3.{demand-3}
+use Rattle.rule.specs.Demand3.{demand-3, nobody-first}
 use Rattle.rule.specs.Effect.{effect}
-use Rattle.rule.specs.PassEnd.{lastCommand, passEnd}
+use Rattle.rule.specs.PassEnd.{lastCommand, nobodyThere, passEnd}
 use Rattle.rule.specs.PlainRule.{Ending, served, noneFree, ruled}
+use Rattle.rule.specs.TraceLaws as on-bus
 use Rattle.rule.specs.Sent.{stands, traces, oneIn, getsAmong, getsOnBus}
 
 -- on a bus with a target, a command is a Get UDID by its symbols if and only if it was handed out as one
@@ -129,7 +130,15 @@ end-counts : (e : Ending) → oneGet (lastCommand e) ≡ 0
 end-counts served = refl
 end-counts (noneFree u) = refl
 
+still : (n : ℕ) (b : Pool) → traces n (nobodyThere b) ≡ replicate n []
+still zero b = refl
+still (suc n) b = ap₂ (λ (x : List ℕ) (l : List (List ℕ)). x ∷ l) (end-silent served []) (still n b)
+
 module _ (occupied : Pool) where
+  -- WITH NO TARGET: Prepare To ARP, whose first byte gets NACK, and nothing after it
+  pub nobody-there : (n : ℕ) → traces (suc n) (beginning occupied []) ≡ (256 ∷ 194 ∷ 259 ∷ 257 ∷ []) ∷ replicate n []
+  nobody-there n = ap₂ (λ (x : List ℕ) (l : List (List ℕ)). x ∷ l) on-bus.prepare-cut (ap (traces n) (nobody-first occupied) ∙ still n (startingPool occupied))
+
   -- AFTER THE PASS THE BUS IS SILENT: no Get UDID follows those that are counted
   pub silent-after : (ts : List Target) → AdmittedTargets (startingPool occupied) ts → stands (pass occupied ts) ≡ []
   silent-after ts v = ap stands (demand-3 occupied ts v) ∙ go ts
