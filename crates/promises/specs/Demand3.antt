@@ -1,17 +1,18 @@
 -- DEMAND 3 for the delivered model run, in terms of the plain rule alone: for every list of bytes that is not refused as a target list,
 -- whatever the occupied addresses and the lent binding buffer. Through its contract the run is the pass bit by bit: each command is what the
 -- delivered steps give for the traces so far, each trace is the codec's for what stands on the wire.
-use Prim.Native.Nat.{ℕ, zero, suc, _+_, _*_, _%_, _≤_, _<_}
+use Prim.Native.Nat.{ℕ, zero, suc, _+_, _*_, _/_, _%_, _≤_, _<_}
 use mathlib.Core.Path.{_≡_, refl, sym, ap, _∙_, subst}
 use mathlib.Core.Bool.{Bool, true, false}
 use mathlib.Core.Logic.{_⊎_, inl, inr, _↔_}
-use mathlib.Core.List.{List, [], _∷_, _++_}
+use mathlib.Core.List.{List, [], _∷_, List-discrete}
+use native.Mathlib.Decide.{ℕ-discrete, decLt}
 use native.Mathlib.Omega.{arith}
 use lib.ListN.{length, getD, take, drop, replicate}
+use lib.Seq.{ext-getD}
 use Rattle.lists.specs.Choice.{or}
 use Rattle.lists.specs.Each.{Each, Bytes}
 use Rattle.wire.specs.Addresses.{isReserved}
-use Rattle.arbitration.specs.Among.{Among}
 use Rattle.pool.specs.Counts.{count}
 use Rattle.pool.specs.CountLaws.{count-cong}
 use Rattle.pool.specs.Pools.{member}
@@ -19,7 +20,6 @@ use Rattle.pool.specs.Start.{startingPool}
 use Rattle.pool.specs.StartLaws.{member-starting}
 use Rattle.pool.specs.declared.Pool.{Pool}
 use Rattle.udid.specs.Bytes.{udidBytes}
-use Rattle.udid.specs.Udids.{sameUdid}
 use Rattle.udid.specs.declared.Udid.{Udid}
 use Rattle.arp.specs.Bindings.{heldAt}
 use Rattle.arp.specs.Numbers.{commandNumber}
@@ -27,27 +27,27 @@ use Rattle.arp.specs.declared.state.Binding.{Binding}
 use Rattle.arp.specs.declared.state.Binding.the-variants as binding
 use Rattle.arp.specs.declared.state.Slot.{Slot}
 use Rattle.targets.specs.Admission.{AdmittedTargets}
-use Rattle.targets.specs.AdmissionLaws.{admitted-targets}
-use Rattle.targets.specs.ChangeLaws.{Changed, changed-exactly}
-use Rattle.targets.specs.Records.{targetsOf, recordsWith}
-use Rattle.targets.specs.RecordLaws.{assigned-keeps}
+use Rattle.targets.specs.AdmissionLaws.{admitted-length, admitted-targets}
+use Rattle.targets.specs.IndexLaws.{length-targets}
+use Rattle.targets.specs.Records.{recordCount, targetsOf}
 use Rattle.targets.specs.Refusals.{checkedList}
-use Rattle.targets.specs.Target.{Target, mapTargets, prepared, assignedTo, cleared}
-use Rattle.targets.specs.declared.admit.Checked.{Checked}
+use Rattle.targets.specs.Target.{Target}
 use Rattle.targets.specs.declared.admit.Checked.the-variants.{Admitted}
 use Rattle.bindings.specs.BoundLaws.{bound-set-has, bound-set-count}
 use Rattle.bindings.specs.BufferLaws.{bytes-there, rest-there, nobody-bytes}
 use Rattle.bindings.specs.Entries as entries
-use Rattle.bindings.specs.declared.entry.Entry.{Entry}
 use Rattle.bindings.specs.declared.entry.Entry.the-variants.{Nobody}
 use Rattle.rule.specs.Bus.{World, pass}
 use Rattle.rule.specs.PlainRule.{Ending, served, noneFree, Given, Ruled, ruled, FreeIn, Distinct}
 use Rattle.rule.specs.PassEnd.{lastCommand, passEnd}
-use Rattle.rule.specs.Demand3.{demand-3, given-addresses, given-targets}
+use Rattle.rule.specs.Demand3.{demand-3, given-addresses}
 use Rattle.rule.specs.RuleLaws.{each-map}
 use Rattle.rule.specs.AllBound.{movable, leftFree, all-served, all-given}
-use Rattle.rule.specs.Reading.{Any, isBound, boundAt, GivenAt, servedBy, OnePerUdid, TakenBy, bound-count, bound-given, given-bound, none-claimed, end-targets, unserved, served-target, served-once}
-use Rattle.bus.specs.Run.{noUdid, numberIn, udidIn, entryOf, entryAt, ModelEnd, Leaves, endedEnd, endChecked, modelEnd}
+use Rattle.rule.specs.Reading.{Any, RecordOf, isBound, boundAt, OnePerUdid, bound-count, bound-given, given-bound, served-once}
+use Rattle.rule.specs.RecordsLaws.{same-length, given-records, bound-record, other-record, other-bytes}
+use Rattle.rule.specs.Sent.{getsOnBus}
+use Rattle.rule.specs.SentLaws.{counted-on-bus}
+use Rattle.bus.specs.Run.{noUdid, numberIn, udidIn, entryOf, entryAt, ModelEnd, Leaves, endedEnd, modelEnd}
 use Rattle.bus.specs.RunLaws.{end-checked}
 use Rattle.bus.specs.declared.answer.ModelAnswer.{ModelAnswer}
 
@@ -62,10 +62,10 @@ abbrev pub askerOf : Ending → Udid
 askerOf served = noUdid
 askerOf (noneFree u) = u
 
--- Get UDIDs: none on an empty bus, else one more than targets are bound
-abbrev pub getsFor : List Target → ℕ → ℕ
-getsFor [] bound = 0
-getsFor (t ∷ ts) bound = suc bound
+-- Get UDIDs for a list of so many bytes: none where it is empty, else one more than targets are bound
+abbrev pub getsFor : ℕ → ℕ → ℕ
+getsFor zero bound = 0
+getsFor (suc n) bound = suc bound
 
 -- an address below 128 that is neither reserved nor occupied
 pub record Assignable (occupied : Pool) (g : Given) : Type 0 where
@@ -73,17 +73,31 @@ pub record Assignable (occupied : Pool) (g : Given) : Type 0 where
   pub not-reserved : isReserved (g .address) ≡ false
   pub not-occupied : member occupied (g .address) ≡ false
 
+-- ---- the records, by their bytes: the list s that is lent, of whole records of 18 bytes, and the list s′ that is left
+pub record RecordsLeft (given : List Given) (s s′ : List ℕ) : Type 0 where
+  pub same-length : length s′ ≡ length s
+  -- a record whose identifier is bound: twice its address plus 1, and flag 1
+  pub bound : (i : ℕ) → i < length s / 18
+      → Each (λ (g : Given). RecordOf s i g → (getD s′ (18 * i + 16) 0 ≡ 2 * g .address + 1) × (getD s′ (18 * i + 17) 0 ≡ 1)) given
+  -- any other record: its address byte as it was, and flag 0
+  pub unbound : (i : ℕ) → i < length s / 18 → (Any (RecordOf s i) given → ⊥)
+      → (getD s′ (18 * i + 16) 0 ≡ getD s (18 * i + 16) 0) × (getD s′ (18 * i + 17) 0 ≡ 0)
+  -- no other byte changes
+  pub others : (j : ℕ) → j % 18 < 16 → getD s′ j 0 ≡ getD s j 0
+
 -- ---- what the run has to leave: `given` are the bindings of the plain rule over the targets of the records s
 pub record Meets (occupied : Pool) (s b : List ℕ) (given : List Given) (ending : Ending) (r : ModelAnswer) (s′ b′ : List ℕ) : Type 0 where
   -- the answer: 0 or 13, the identifier that asked, no record
   pub answered : r .answer ≡ numberOf ending
   pub asker : r .udid ≡ askerOf ending
   pub no-record : r .place ≡ 0
-  -- how many are bound, and how many Get UDIDs were sent
+  -- how many are bound
   pub counted : r .count ≡ length given
-  pub gets : r .gets ≡ getsFor (targetsOf s) (length given)
-  -- to whom: targets of the list
-  pub who : Each (λ (g : Given). Among (g .who) (cleared (targetsOf s))) given
+  -- the Get UDIDs: as many as stood on the bus, counted by their symbols; one more than targets are bound, or none on an empty bus
+  pub gets : r .gets ≡ getsOnBus occupied (targetsOf s)
+  pub gets-number : r .gets ≡ getsFor (length s) (length given)
+  -- to whom: each is a record of the list
+  pub who : Each (λ (g : Given). (i : ℕ) × (i < length s / 18) × RecordOf s i g) given
   -- which addresses are bound: those given, each assignable, no two alike, and each identifier once
   pub bound : (a : ℕ) → a < 128 → (member (r .bound) a ≡ true) ↔ Any (λ (g : Given). g .address ≡ a) given
   pub assignable : Each (Assignable occupied) given
@@ -93,12 +107,8 @@ pub record Meets (occupied : Pool) (s b : List ℕ) (given : List Given) (ending
   pub bound-bytes : Each (λ (g : Given). take 16 (drop (16 * g .address) b′) ≡ udidBytes (g .who .udid)) given
   pub free-bytes : (a : ℕ) → a < 128 → (Any (λ (g : Given). g .address ≡ a) given → ⊥) → take 16 (drop (16 * a) b′) ≡ replicate 16 0
   pub rest : drop 2048 b′ ≡ drop 2048 b
-  -- the records: each target as Prepare and the Assigns that reached it left it, every other byte as it was
-  pub records : Changed (λ (t : Target). servedBy given (prepared t)) s s′
-  -- a target that is bound has its address and flag 1
-  pub served-targets : (t : Target) → Each (TakenBy given (prepared t)) given
-  -- one that is not keeps its address byte, with flag 0
-  pub unserved-targets : (t : Target) → Each (λ (g : Given). sameUdid (t .udid) (g .who .udid) ≡ false) given → servedBy given (prepared t) ≡ prepared t
+  -- the records
+  pub records : RecordsLeft given s s′
 
 -- ---- the proof
 
@@ -118,9 +128,16 @@ end-asker : (p : Pool) (ts : List Target) → udidIn (commandNumber (passEnd p t
 end-asker p [] = refl
 end-asker p (t ∷ ts) = asker-is (ruled p (t ∷ ts) .ending)
 
-end-gets : (p : Pool) (ts : List Target) → passEnd p ts .now .state .gets ≡ getsFor ts (length (ruled p ts .given))
+end-gets : (p : Pool) (ts : List Target) → passEnd p ts .now .state .gets ≡ getsFor (length ts) (length (ruled p ts .given))
 end-gets p [] = refl
 end-gets p (t ∷ ts) = omega arith
+
+-- a list of whole records is empty if and only if it has none
+gets-same : (n l k : ℕ) → n ≡ l / 18 → l ≡ l / 18 * 18 → getsFor n k ≡ getsFor l k
+gets-same zero zero k e h = refl
+gets-same zero (suc l) k e h = absurd (omega arith)
+gets-same (suc n) zero k e h = absurd (omega arith)
+gets-same (suc n) (suc l) k e h = refl
 
 -- an entry is bound where a slot is
 entry-bound : (h : Binding) → entries.isBound (entryOf h) ≡ isBound h
@@ -150,10 +167,6 @@ any-same : {C : Type 0} (gs : List Given) → Any (λ (g : Given). C) gs → C
 any-same (g ∷ gs) (inl p) = p
 any-same (g ∷ gs) (inr p) = any-same gs p
 
-served-keeps : (gs : List Given) (t : Target) → servedBy gs t .udid ≡ t .udid
-served-keeps [] t = refl
-served-keeps (g ∷ gs) t = served-keeps gs (assignedTo (g .who .udid) (g .address) t) ∙ assigned-keeps (g .who .udid) (g .address) t
-
 either-false : (x y : Bool) → or x y ≡ false → (x ≡ false) × (y ≡ false)
 either-false true y e = absurd (let z : _≡_ {A = ℕ} 0 1 = cc e in omega arith)
 either-false false y e = (refl, e)
@@ -162,6 +175,47 @@ assignable-is : (occupied : Pool) (g : Given) → FreeIn (startingPool occupied)
 assignable-is occupied g f =
     let e = either-false (isReserved (g .address)) (member occupied (g .address)) (sym (member-starting occupied (g .address)) ∙ f .1) in
     record { address = f .0; not-reserved = e .0; not-occupied = e .1 }
+
+-- ---- nothing is left open: two lists of records that are so are equal
+
+named : (s : List ℕ) (i : ℕ) (gs : List Given) → Dec (Any (RecordOf s i) gs)
+named s i [] = no (λ q. q)
+named s i (g ∷ gs) = go (List-discrete ℕ-discrete (take 16 (drop (18 * i) s)) (udidBytes (g .who .udid))) (named s i gs)
+  where
+    go : Dec (RecordOf s i g) → Dec (Any (RecordOf s i) gs) → Dec (RecordOf s i g ⊎ Any (RecordOf s i) gs)
+    go (yes q) d = yes (inl q)
+    go (no n) (yes q) = yes (inr q)
+    go (no n) (no m) = no (λ q. elim q [ inl x ↦ n x | inr y ↦ m y ])
+
+module _ (given : List Given) (s t u : List ℕ) (whole : length s ≡ 18 * (length s / 18)) (c : RecordsLeft given s t) (d : RecordsLeft given s u) where
+  abbrev Agree : ℕ → Type 0
+  Agree i = (getD t (18 * i + 16) 0 ≡ getD u (18 * i + 16) 0) × (getD t (18 * i + 17) 0 ≡ getD u (18 * i + 17) 0)
+
+  last-two : (i : ℕ) → i < length s / 18 → Agree i
+  last-two i h = go (named s i given)
+    where
+      both : (g : Given) → (RecordOf s i g → (getD t (18 * i + 16) 0 ≡ 2 * g .address + 1) × (getD t (18 * i + 17) 0 ≡ 1))
+          → (RecordOf s i g → (getD u (18 * i + 16) 0 ≡ 2 * g .address + 1) × (getD u (18 * i + 17) 0 ≡ 1)) → RecordOf s i g → Agree i
+      both g x y q = (x q .0 ∙ sym (y q .0), x q .1 ∙ sym (y q .1))
+
+      at : (g : Given) → RecordOf s i g → (RecordOf s i g → Agree i) → Agree i
+      at g q f = f q
+
+      go : Dec (Any (RecordOf s i) given) → Agree i
+      go (no n) = (c .unbound i h n .0 ∙ sym (d .unbound i h n .0), c .unbound i h n .1 ∙ sym (d .unbound i h n .1))
+      go (yes q) = any-same given (any-each given at q (each-more given both (c .bound i h) (d .bound i h)))
+
+  pub records-once : t ≡ u
+  records-once = ext-getD 0 t u (c .same-length ∙ sym (d .same-length)) (λ k h. go k (omega (arith, h, c .same-length, whole)) (decLt (k % 18) 16) (ℕ-discrete (k % 18) 16))
+    where
+      go : (k : ℕ) → k / 18 < length s / 18 → Dec (k % 18 < 16) → Dec (k % 18 ≡ 16) → getD t k 0 ≡ getD u k 0
+      go k h (yes l) q = c .others k l ∙ sym (d .others k l)
+      go k h (no l) (yes q) =
+          let e : k ≡ 18 * (k / 18) + 16 = omega arith in
+          ap (λ (x : ℕ). getD t x 0) e ∙ last-two (k / 18) h .0 ∙ ap (λ (x : ℕ). getD u x 0) (sym e)
+      go k h (no l) (no q) =
+          let e : k ≡ 18 * (k / 18) + 17 = omega arith in
+          ap (λ (x : ℕ). getD t x 0) e ∙ last-two (k / 18) h .1 ∙ ap (λ (x : ℕ). getD u x 0) (sym e)
 
 module _ (occupied : Pool) (s b : List ℕ) (bytes : Bytes s) (e : checkedList (startingPool occupied) s ≡ Admitted) where
   abbrev start : Pool
@@ -203,8 +257,10 @@ module _ (occupied : Pool) (s b : List ℕ) (bytes : Bytes s) (e : checkedList (
     asker = end-asker (startingPool occupied) (targetsOf s);
     no-record = refl;
     counted = bound-set-count (entryAt slots) ∙ count-cong (λ (a : ℕ). entries.isBound (entryAt slots a)) (boundAt slots) 128 (λ j h. slot-bound j) ∙ bound-count occupied (targetsOf s) admitted;
-    gets = end-gets (startingPool occupied) (targetsOf s);
-    who = given-targets occupied (targetsOf s) admitted;
+    gets = ap (λ (w : World). w .now .state .gets) (sym (demand-3 occupied (targetsOf s) admitted)) ∙ counted-on-bus occupied (targetsOf s) admitted;
+    gets-number = end-gets (startingPool occupied) (targetsOf s)
+        ∙ gets-same (length (targetsOf s)) (length s) (length given) (length-targets s (recordCount s) 0) (admitted-length (startingPool occupied) s bytes e .1);
+    who = given-records occupied s bytes admitted;
     bound = bound-exactly;
     assignable = each-map given (assignable-is occupied) (given-addresses occupied (targetsOf s) admitted .0);
     distinct = given-addresses occupied (targetsOf s) admitted .1;
@@ -213,10 +269,12 @@ module _ (occupied : Pool) (s b : List ℕ) (bytes : Bytes s) (e : checkedList (
         (given-bound occupied (targetsOf s) admitted) (given-addresses occupied (targetsOf s) admitted .0);
     free-bytes = λ a h n. bytes-there (entryAt slots) (drop 2048 b) a h ∙ ap entries.entryBytes (free-entry a n) ∙ nobody-bytes;
     rest = rest-there (entryAt slots) (drop 2048 b);
-    records = changed-exactly (λ (t : Target). servedBy given (prepared t)) (λ t. served-keeps given (prepared t)) s
-        (recordsWith (passEnd (startingPool occupied) (targetsOf s) .targets) s) .0 (ap (λ (ts : List Target). recordsWith ts s) (end-targets (startingPool occupied) (targetsOf s)));
-    served-targets = served-target (startingPool occupied) (targetsOf s) admitted;
-    unserved-targets = λ t h. unserved given (prepared t) h;
+    records = record {
+      same-length = same-length occupied s bytes admitted;
+      bound = bound-record occupied s bytes admitted;
+      unbound = other-record occupied s bytes admitted;
+      others = other-bytes occupied s bytes admitted;
+    };
   }
 
 -- DEMAND 3
@@ -251,17 +309,17 @@ module _ (occupied : Pool) (s b : List ℕ) (bytes : Bytes s) (long : 2048 ≤ l
       (λ q. g .0 (sym (model-meets .counted) ∙ q), λ h. model-meets .counted ∙ g .1 h)
 
   -- with at least one target, Get UDID is sent once more than targets are bound; with none, not at all
-  pub gets-are : (0 < length (targetsOf s) → r .gets ≡ suc (r .count)) × (length (targetsOf s) ≡ 0 → (r .gets ≡ 0) × (r .answer ≡ 0) × (r .count ≡ 0))
-  gets-are = (some (targetsOf s) (model-meets .gets) (model-meets .counted), none (targetsOf s) refl)
+  pub gets-are : (0 < length s → r .gets ≡ suc (r .count)) × (length s ≡ 0 → (r .gets ≡ 0) × (r .answer ≡ 0) × (r .count ≡ 0))
+  gets-are = (some (length s) (model-meets .gets-number) (model-meets .counted), none (targetsOf s) refl)
     where
-      some : (ts : List Target) {n : ℕ} → r .gets ≡ getsFor ts n → r .count ≡ n → 0 < length ts → r .gets ≡ suc (r .count)
-      some [] g c h = absurd (omega arith)
-      some (t ∷ ts) g c h = g ∙ ap suc (sym c)
+      some : (k : ℕ) {n : ℕ} → r .gets ≡ getsFor k n → r .count ≡ n → 0 < k → r .gets ≡ suc (r .count)
+      some zero g c h = absurd (omega arith)
+      some (suc k) g c h = g ∙ ap suc (sym c)
 
-      none : (ts : List Target) → targetsOf s ≡ ts → length ts ≡ 0 → (r .gets ≡ 0) × (r .answer ≡ 0) × (r .count ≡ 0)
+      none : (ts : List Target) → targetsOf s ≡ ts → length s ≡ 0 → (r .gets ≡ 0) × (r .answer ≡ 0) × (r .count ≡ 0)
       none [] q h = (
-        model-meets .gets ∙ ap (λ (x : List Target). getsFor x (length (ruled (startingPool occupied) x .given))) q,
+        model-meets .gets-number ∙ ap (λ (k : ℕ). getsFor k (length (ruled (startingPool occupied) (targetsOf s) .given))) h,
         model-meets .answered ∙ ap (λ (x : List Target). numberOf (ruled (startingPool occupied) x .ending)) q,
         model-meets .counted ∙ ap (λ (x : List Target). length (ruled (startingPool occupied) x .given)) q,
       )
-      none (t ∷ ts) q h = absurd (omega arith)
+      none (t ∷ ts) q h = absurd (omega (arith, ap length q, length-targets s (recordCount s) 0, h))

@@ -6,7 +6,9 @@ use mathlib.Core.Logic.{_⊎_, inl, inr, _↔_}
 use mathlib.Core.List.{List, [], _∷_}
 use native.Mathlib.Nat.{suc-add, add-suc, zero-add}
 use native.Mathlib.Omega.{arith}
+use lib.Dec.{ltb}
 use lib.ListN.{length, set, replicate, length-replicate}
+use Rattle.lists.specs.Choice.{pick}
 use Rattle.lists.specs.Each.{Each}
 use Rattle.wire.specs.Addresses.{isReserved}
 use Rattle.wire.specs.declared.address.Address.{Address}
@@ -32,7 +34,7 @@ use Rattle.arp.specs.declared.command.Command.the-variants.{Prepare}
 use Rattle.arp.specs.declared.state.Slot.{Slot}
 use Rattle.arp.specs.declared.state.Stepped.{Stepped}
 use Rattle.rule.specs.Bus.{World, turn, run, beginning, pass}
-use Rattle.rule.specs.PlainRule.{ascending, plainChoice, Ending, served, noneFree, Given, Ruled, next, rule, ruled, FreeIn, Distinct}
+use Rattle.rule.specs.PlainRule.{insert, ascending, plainChoice, Ending, served, noneFree, Given, Ruled, next, rule, ruled, FreeIn, Distinct}
 use Rattle.rule.specs.PassEnd.{Outcome, state, out, boundSlot, ended, outcome, nobodyThere, passEnd}
 use Rattle.rule.specs.EffectLaws.{effect-is}
 use Rattle.rule.specs.TraceLaws as on-bus
@@ -55,6 +57,38 @@ plain-rule (t ∷ rest) p s k ts =
     go AllUsed ih = ap (λ (n : ℕ). record { pool = p; slots = s; bound = n; targets = ts; ending = noneFree (t .udid) }) (sym (zero-add k))
     go (At a) ih = ih a ∙ simp (add-suc, suc-add)
 
+-- ---- clearing the flags changes nothing that the rule looks at
+
+insert-cleared : (t : Target) (xs : List Target) → insert (prepared t) (cleared xs) ≡ cleared (insert t xs)
+insert-cleared t [] = refl
+insert-cleared t (x ∷ xs) = go (ltb (value (t .udid)) (value (x .udid))) (insert-cleared t xs)
+  where
+    go : (b : Bool) → insert (prepared t) (cleared xs) ≡ cleared (insert t xs)
+        → pick b (prepared t ∷ prepared x ∷ cleared xs) (prepared x ∷ insert (prepared t) (cleared xs)) ≡ cleared (pick b (t ∷ x ∷ xs) (x ∷ insert t xs))
+    go true e = refl
+    go false e = ap (λ (l : List Target). prepared x ∷ l) e
+
+ascending-cleared : (ts : List Target) → ascending (cleared ts) ≡ cleared (ascending ts)
+ascending-cleared [] = refl
+ascending-cleared (t ∷ ts) = ap (insert (prepared t)) (ascending-cleared ts) ∙ insert-cleared t (ascending ts)
+
+choice-cleared : (p : Pool) (t : Target) → plainChoice p (prepared t) ≡ plainChoice p t
+unfolding plainChoice
+choice-cleared p t = refl
+
+plain-cleared : (rest : List Target) (p : Pool) (s : List Slot) (k : ℕ) (ts : List Target) → plain (cleared rest) p s k ts ≡ plain rest p s k ts
+plain-cleared [] p s k ts = refl
+plain-cleared (t ∷ rest) p s k ts =
+    ap (serve (λ p′ s′ k′ ts′. plain (cleared rest) p′ s′ k′ ts′) (prepared t) p s k ts) (choice-cleared p t)
+    ∙ go (plainChoice p t) (λ a. plain-cleared rest (withAddress p (a .0)) (set s (a .0) (boundSlot t)) (suc k) (resolve (t .udid) (a .0) ts))
+  where
+    go : (c : Free)
+        → ((a : Address) → plain (cleared rest) (withAddress p (a .0)) (set s (a .0) (boundSlot t)) (suc k) (resolve (t .udid) (a .0) ts)
+        ≡ plain rest (withAddress p (a .0)) (set s (a .0) (boundSlot t)) (suc k) (resolve (t .udid) (a .0) ts))
+        → serve (λ p′ s′ k′ ts′. plain (cleared rest) p′ s′ k′ ts′) (prepared t) p s k ts c ≡ serve (λ p′ s′ k′ ts′. plain rest p′ s′ k′ ts′) t p s k ts c
+    go AllUsed ih = refl
+    go (At a) ih = ih a
+
 -- ---- clearing the flags leaves what is admitted
 
 of-cleared : (ts : List Target) (y : Target) → Among y (cleared ts) → (x : Target) × Among x ts × (prepared x ≡ y)
@@ -74,7 +108,7 @@ sized-prepared t z = record { udid = z .udid; addressByte = z .addressByte }
 open-cleared : (ts : List Target) (y : Target) → Among y (cleared ts) → isResolved y ≡ false
 open-cleared ts y m = ap isResolved (sym (of-cleared ts y m .2))
 
-pub admitted-cleared : (b : Pool) (ts : List Target) → AdmittedTargets b ts → AdmittedTargets b (cleared ts)
+admitted-cleared : (b : Pool) (ts : List Target) → AdmittedTargets b ts → AdmittedTargets b (cleared ts)
 admitted-cleared b ts v = record {
   sized = λ y m. let r = of-cleared ts y m in subst Sized (r .2) (sized-prepared (r .0) (v .sized (r .0) (r .1)));
   differ = pairs-cleared ts (λ x y h. h) (v .differ);
@@ -167,8 +201,11 @@ module _ (occupied : Pool) where
       ∙ run-add n (299 - n) (asking start start (replicate 128 openSlot) 1 us)
       ∙ ap (run (299 - n))
       (serves start start (replicate 128 openSlot) 0 us (ascending us) (inv-first start (last-starting occupied) us v′ (omega arith) (open-cleared (t ∷ ts)))
-      ∙ ap (ended start) (plain-rule (ascending us) start (replicate 128 openSlot) 0 us))
-      ∙ run-ended (299 - n) _ _ _ _ (rule (ascending us) start .ending) _
+      ∙ ap (ended start)
+      (ap (λ (l : List Target). plain l start (replicate 128 openSlot) 0 us) (ascending-cleared (t ∷ ts))
+      ∙ plain-cleared (ascending (t ∷ ts)) start (replicate 128 openSlot) 0 us
+      ∙ plain-rule (ascending (t ∷ ts)) start (replicate 128 openSlot) 0 us))
+      ∙ run-ended (299 - n) _ _ _ _ (rule (ascending (t ∷ ts)) start .ending) _
 
 -- THE PASS ENDS AS THE PLAIN RULE SAYS: bindings, pool and last command of the controller, and every target
 pub demand-3 : (occupied : Pool) (ts : List Target) → AdmittedTargets (startingPool occupied) ts → pass occupied ts ≡ passEnd (startingPool occupied) ts
@@ -176,30 +213,35 @@ unfolding pass start
 demand-3 occupied [] v = ap (run 299) (nobody-turn occupied) ∙ run-ended 299 (startingPool occupied) (startingPool occupied) (replicate 128 openSlot) 0 served []
 demand-3 occupied (t ∷ ts) v = some-targets occupied t ts v
 
-module _ (occupied : Pool) (ts : List Target) (v : AdmittedTargets (startingPool occupied) ts) where
-  ready : Ready (startingPool occupied) (ascending (cleared ts))
-  ready = ready-first (startingPool occupied) (last-starting occupied) (cleared ts) (admitted-cleared (startingPool occupied) ts v)
+-- with no target, the pass ends when nobody acknowledges Prepare To ARP
+pub nobody-first : (occupied : Pool) → turn (beginning occupied []) ≡ nobodyThere (startingPool occupied)
+unfolding start
+nobody-first occupied = nobody-turn occupied
 
-  count : length (ascending (cleared ts)) ≡ length ts
-  count = length-ascending (cleared ts) ∙ length-cleared ts
+module _ (occupied : Pool) (ts : List Target) (v : AdmittedTargets (startingPool occupied) ts) where
+  ready : Ready (startingPool occupied) (ascending ts)
+  ready = ready-first (startingPool occupied) (last-starting occupied) ts v
+
+  count : length (ascending ts) ≡ length ts
+  count = length-ascending ts
 
   -- the addresses given are below 128, neither reserved nor occupied, and none is given twice
   pub given-addresses : Each (FreeIn (startingPool occupied)) (ruled (startingPool occupied) ts .given) × Distinct (ruled (startingPool occupied) ts .given)
-  given-addresses = rule-free (ascending (cleared ts)) (startingPool occupied) ready
+  given-addresses = rule-free (ascending ts) (startingPool occupied) ready
 
   -- all are served if and only if the targets do not outnumber the free addresses, and then each is given one
   pub served-exactly : (ruled (startingPool occupied) ts .ending ≡ served) ↔ (used (startingPool occupied) + length ts ≤ 128)
   served-exactly = (
-    λ e. omega (arith, count, rule-all-only (ascending (cleared ts)) (startingPool occupied) ready e),
-    λ h. rule-all (ascending (cleared ts)) (startingPool occupied) ready (omega (arith, count)) .0,
+    λ e. omega (arith, count, rule-all-only (ascending ts) (startingPool occupied) ready e),
+    λ h. rule-all (ascending ts) (startingPool occupied) ready (omega (arith, count)) .0,
   )
 
   pub served-each : used (startingPool occupied) + length ts ≤ 128 → length (ruled (startingPool occupied) ts .given) ≡ length ts
-  served-each h = rule-all (ascending (cleared ts)) (startingPool occupied) ready (omega (arith, count)) .1 ∙ count
+  served-each h = rule-all (ascending ts) (startingPool occupied) ready (omega (arith, count)) .1 ∙ count
 
   pub given-served : length (ruled (startingPool occupied) ts .given) ≡ length ts → ruled (startingPool occupied) ts .ending ≡ served
-  given-served e = given-all (ascending (cleared ts)) (startingPool occupied) (e ∙ sym count)
+  given-served e = given-all (ascending ts) (startingPool occupied) (e ∙ sym count)
 
-  -- those served are targets of the bus, with their flags cleared
-  pub given-targets : Each (λ (g : Given). Among (g .who) (cleared ts)) (ruled (startingPool occupied) ts .given)
-  given-targets = each-map (ruled (startingPool occupied) ts .given) (λ g m. in-ascending (cleared ts) (g .who) m) (rule-who (ascending (cleared ts)) (startingPool occupied))
+  -- those served are targets of the bus
+  pub given-targets : Each (λ (g : Given). Among (g .who) ts) (ruled (startingPool occupied) ts .given)
+  given-targets = each-map (ruled (startingPool occupied) ts .given) (λ g m. in-ascending ts (g .who) m) (rule-who (ascending ts) (startingPool occupied))

@@ -10,5 +10,8 @@ pub mod RuleLaws
 pub mod StepLaws
 pub mod PassLaws
 pub mod Demand3
+pub mod Sent
+pub mod SentLaws
 pub mod Reading
+pub mod RecordsLaws
 pub mod AllBound

@@ -14,7 +14,7 @@ use Rattle.pool.specs.declared.free.Free.{Free}
 use Rattle.pool.specs.declared.free.Free.the-variants.{At, AllUsed}
 use Rattle.udid.specs.Udids.{isFixed, value}
 use Rattle.udid.specs.declared.Udid.{Udid}
-use Rattle.targets.specs.Target.{Target, cleared}
+use Rattle.targets.specs.Target.{Target}
 
 -- ---- ascending order
 
@@ -63,9 +63,9 @@ abbrev pub rule : List Target → Pool → Ruled
 rule [] p = record { given = []; ending = served }
 rule (t ∷ rest) p = next (λ q. rule rest q) t p (plainChoice p t)
 
--- what the rule gives these targets, starting from this pool, after Prepare To ARP cleared their flags
+-- what the rule gives these targets as they are lent, starting from this pool: nobody's flag is looked at
 abbrev pub ruled : Pool → List Target → Ruled
-ruled b ts = rule (ascending (cleared ts)) b
+ruled b ts = rule (ascending ts) b
 
 -- ---- of what it gives
 

@@ -7,7 +7,7 @@ use mathlib.Core.List.{List, [], _∷_}
 use native.Mathlib.Nat.{zero-add}
 use native.Mathlib.Decide.{ℕ-discrete}
 use native.Mathlib.Omega.{arith}
-use lib.ListN.{length, set, replicate, length-set, length-replicate}
+use lib.ListN.{length, set, take, drop, replicate, length-set, length-replicate}
 use Rattle.lists.specs.Each.{Each}
 use Rattle.wire.specs.declared.address.Address.{Address}
 use Rattle.pool.specs.Counts.{count}
@@ -17,6 +17,7 @@ use Rattle.pool.specs.Start.{startingPool}
 use Rattle.pool.specs.declared.Pool.{Pool}
 use Rattle.pool.specs.declared.free.Free.{Free}
 use Rattle.pool.specs.declared.free.Free.the-variants.{At, AllUsed}
+use Rattle.udid.specs.Bytes.{udidBytes}
 use Rattle.udid.specs.Udids.{sameUdid, value}
 use Rattle.udid.specs.UdidLaws.{same-refl, same-equal, other-udid}
 use Rattle.udid.specs.declared.Udid.{Udid}
@@ -33,12 +34,16 @@ use Rattle.rule.specs.PlainRule.{plainChoice, Given, Ruled, next, rule, 
 use Rattle.rule.specs.RuleLaws.{rule-who}
 use Rattle.rule.specs.SortLaws.{Lower, in-ascending, ascending-lower}
 use Rattle.rule.specs.PassEnd.{boundSlot, putAll, resolveAll, passEnd}
-use Rattle.rule.specs.Demand3.{admitted-cleared, given-addresses}
+use Rattle.rule.specs.Demand3.{given-addresses}
 
 -- something holds of one of a list
 abbrev pub Any : {A : Type 0} → (A → Type 0) → List A → Type 0
 Any P [] = ⊥
 Any P (x ∷ xs) = P x ⊎ Any P xs
+
+-- the 16 bytes of record i are the identifier of one who was given an address
+abbrev pub RecordOf : List ℕ → ℕ → Given → Type 0
+RecordOf s i g = take 16 (drop (18 * i) s) ≡ udidBytes (g .who .udid)
 
 abbrev pub isBound : Binding → Bool
 isBound Open = false
@@ -271,8 +276,8 @@ taken-by (g ∷ gs) t o = (first, pass-on g gs t gs (taken-by gs t (o .1)) (o .0
 module _ (b : Pool) (ts : List Target) (v : AdmittedTargets b ts) where
   -- A SERVED TARGET ends with its address and flag 1
   pub served-target : (t : Target) → Each (TakenBy (ruled b ts .given) (prepared t)) (ruled b ts .given)
-  served-target t = taken-by (ruled b ts .given) (prepared t) (rule-one (ascending (cleared ts)) b (ascending-lower (cleared ts) (admitted-cleared b ts v .differ)))
+  served-target t = taken-by (ruled b ts .given) (prepared t) (rule-one (ascending ts) b (ascending-lower ts (v .differ)))
 
   -- no identifier is served twice
   pub served-once : OnePerUdid (ruled b ts .given)
-  served-once = rule-one (ascending (cleared ts)) b (ascending-lower (cleared ts) (admitted-cleared b ts v .differ))
+  served-once = rule-one (ascending ts) b (ascending-lower ts (v .differ))

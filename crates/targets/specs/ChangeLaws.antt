@@ -78,9 +78,52 @@ module _ (f : Target → Target) (keeps : (t : Target) → f t .udid ≡ t .udid
   pub changed-exactly : (t : List ℕ) → (t ≡ recordsWith (mapTargets f (targetsOf s)) s) ↔ Changed f s t
   changed-exactly t = (λ e. subst (Changed f s) (sym e) changed-holds, λ c. changed-unique t (recordsWith (mapTargets f (targetsOf s)) s) c changed-holds)
 
+-- byte 17 of each record is 0, and every other byte of the list is as it was
+pub record FlagsCleared (s t : List ℕ) : Type 0 where
+  pub same-length : length t ≡ length s
+  pub flags : (i : ℕ) → i < length s / 18 → getD t (18 * i + 17) 0 ≡ 0
+  pub others : (k : ℕ) → ((i : ℕ) → i < length s / 18 → k ≡ 18 * i + 17 → ⊥) → getD t k 0 ≡ getD s k 0
+
+cleared-unique : (s t u : List ℕ) → FlagsCleared s t → FlagsCleared s u → t ≡ u
+cleared-unique s t u c d = ext-getD 0 t u (c .same-length ∙ sym (d .same-length)) (λ k h. go k (decLt (k / 18) (length s / 18)) (ℕ-discrete (k % 18) 17))
+  where
+    apart : (k : ℕ) → ((i : ℕ) → i < length s / 18 → k ≡ 18 * i + 17 → ⊥) → getD t k 0 ≡ getD u k 0
+    apart k n = c .others k n ∙ sym (d .others k n)
+
+    go : (k : ℕ) → Dec (k / 18 < length s / 18) → Dec (k % 18 ≡ 17) → getD t k 0 ≡ getD u k 0
+    go k (no l) q = apart k (λ i h e. l (omega (arith, e)))
+    go k (yes l) (no q) = apart k (λ i h e. q (omega (arith, e)))
+    go k (yes l) (yes q) =
+        let e : k ≡ 18 * (k / 18) + 17 = omega arith in
+        ap (λ (x : ℕ). getD t x 0) e ∙ c .flags (k / 18) l ∙ sym (d .flags (k / 18) l) ∙ ap (λ (x : ℕ). getD u x 0) (sym e)
+
+cleared-bytes : (s t : List ℕ) → Changed prepared s t → FlagsCleared s t
+unfolding targetAt
+cleared-bytes s t c = record {
+  same-length = c .same-length;
+  flags = λ i h. ap (λ (x : ℕ). getD t x 0) (turned i 17) ∙ ap (λ (x : Target). x .flag) (c .records i h);
+  others = λ k n. go k n (decLt (k / 18) (length s / 18)) (ℕ-discrete (k % 18) 16);
+}
+  where
+    turned : (i m : ℕ) → 18 * i + m ≡ i * 18 + m
+    turned i m = omega arith
+
+    apart : (k : ℕ) → ((i : ℕ) → i < length s / 18 → k ≡ 18 * i + 17 → ⊥) → ((i : ℕ) → i < length s / 18 → k ≡ i * 18 + 16 → ⊥) → getD t k 0 ≡ getD s k 0
+    apart k n m = c .others k (λ i h. (m i h, λ e. n i h (e ∙ sym (turned i 17))))
+
+    go : (k : ℕ) → ((i : ℕ) → i < length s / 18 → k ≡ 18 * i + 17 → ⊥) → Dec (k / 18 < length s / 18) → Dec (k % 18 ≡ 16) → getD t k 0 ≡ getD s k 0
+    go k n (no l) q = apart k n (λ i h e. l (omega (arith, h, e)))
+    go k n (yes l) (no q) = apart k n (λ i h e. q (omega (arith, e)))
+    go k n (yes l) (yes q) =
+        let e : k ≡ k / 18 * 18 + 16 = omega arith in
+        ap (λ (x : ℕ). getD t x 0) e ∙ ap (λ (x : Target). x .addressByte) (c .records (k / 18) l) ∙ ap (λ (x : ℕ). getD s x 0) (sym e)
+
+cleared-holds : (s : List ℕ) → FlagsCleared s (recordsWith (cleared (targetsOf s)) s)
+cleared-holds s = cleared-bytes s (recordsWith (cleared (targetsOf s)) s) (changed-exactly prepared prepared-keeps s (recordsWith (cleared (targetsOf s)) s) .0 refl)
+
 -- PREPARE CLEARS THE FLAG OF EVERY RECORD, and nothing else changes
-pub prepared-exactly : (s t : List ℕ) → (t ≡ recordsWith (cleared (targetsOf s)) s) ↔ Changed prepared s t
-prepared-exactly s t = changed-exactly prepared prepared-keeps s t
+pub prepared-exactly : (s t : List ℕ) → (t ≡ recordsWith (cleared (targetsOf s)) s) ↔ FlagsCleared s t
+prepared-exactly s t = (λ e. subst (FlagsCleared s) (sym e) (cleared-holds s), λ c. cleared-unique s t (recordsWith (cleared (targetsOf s)) s) c (cleared-holds s))
 
 -- ASSIGN REACHES THE TARGETS WITH THAT IDENTIFIER: they take the address and set the flag, and nothing else changes
 pub assigned-exactly : (u : Udid) (a : ℕ) (s t : List ℕ) → (t ≡ recordsWith (resolve u a (targetsOf s)) s) ↔ Changed (assignedTo u a) s t

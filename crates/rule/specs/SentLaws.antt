@@ -1,0 +1,164 @@
+-- The count that the controller keeps is that of the Get UDIDs that stood on the bus.
+use Prim.Native.Nat.{ℕ, zero, suc, _+_, _<_}
+use mathlib.Core.Path.{_≡_, refl, sym, ap, ap₂, _∙_, subst}
+use mathlib.Core.List.{List, [], _∷_}
+use native.Mathlib.Omega.{arith}
+use lib.ListN.{length, replicate}
+use Rattle.pool.specs.Start.{startingPool}
+use Rattle.pool.specs.declared.Pool.{Pool}
+use Rattle.targets.specs.Admission.{AdmittedTargets}
+use Rattle.targets.specs.RecordLaws.{length-map}
+use Rattle.targets.specs.Target.{Target}
+use Rattle.arp.proofs.Handing.{Handed, prepare-handed, get-handed, assign-handed}
+use Rattle.arp.specs.Controller.{afterPrepare, afterGet, afterAssign, byCommand, stepped}
+use Rattle.arp.specs.Heard.{sendByte, blockRead, blockWrite, answer, sentIn, receivedIn}
+use Rattle.arp.specs.History.{oneGet}
+use Rattle.arp.specs.declared.command.Command.{Command}
+use Rattle.arp.specs.declared.command.Command.the-variants.{Nothing, Prepare, GetUdid, Assign, Ended, NoneFree, Abandoned, NotOutstanding}
+use Rattle.arp.specs.declared.state.Controller.{Controller}
+use Rattle.rule.specs.Acknowledge.{begins, acknowledges, somebody, answered, standing, onBus}
+use Rattle.rule.specs.Bus.{World, turnBy, turn, run, beginning, pass}
+use Rattle.rule.specs.Demand3.{demand-3, nobody-first}
+use Rattle.rule.specs.Effect.{effect}
+use Rattle.rule.specs.PassEnd.{lastCommand, nobodyThere, passEnd}
+use Rattle.rule.specs.PlainRule.{Ending, served, noneFree, ruled}
+use Rattle.rule.specs.TraceLaws as on-bus
+use Rattle.rule.specs.Sent.{stands, traces, oneIn, getsAmong, getsOnBus}
+
+-- on a bus with a target, a command is a Get UDID by its symbols if and only if it was handed out as one
+pub one-on-bus : (k : Command) (t : Target) (ts : List Target) → oneIn (onBus k (t ∷ ts)) ≡ oneGet k
+unfolding onBus standing answered somebody acknowledges begins
+one-on-bus Prepare t ts = refl
+one-on-bus GetUdid t ts = refl
+one-on-bus (Assign u a) t ts = refl
+one-on-bus Nothing t ts = refl
+one-on-bus Ended t ts = refl
+one-on-bus (NoneFree u) t ts = refl
+one-on-bus Abandoned t ts = refl
+one-on-bus NotOutstanding t ts = refl
+
+-- ---- one turn
+
+-- what a turn hands out is kept as the last, and counted where it is a Get UDID
+turn-handed : (w : World) → w .now .state .last ≡ w .now .command → Handed (w .now .state) (turn w .now)
+unfolding stepped afterPrepare afterGet afterAssign
+turn-handed w e = go (w .now .command) e
+  where
+    c : Controller
+    c = w .now .state
+
+    heard : (k : Command) → c .last ≡ k → Handed c (byCommand c (onBus k (w .targets)) k) → Handed c (stepped c (onBus k (w .targets)))
+    heard k q h = subst (λ (x : Command). Handed c (byCommand c (onBus k (w .targets)) x)) (sym q) h
+
+    still : (k : Command) → c .last ≡ k → oneGet k ≡ 0 → Handed c (w .now)
+    still k q n = record { last = e; gets = omega (arith, ap oneGet (sym e ∙ q), n) }
+
+    go : (k : Command) → c .last ≡ k → Handed c (turnBy (w .now) (w .targets) k .now)
+    go Prepare q = heard Prepare q (prepare-handed c (answer sendByte (onBus Prepare (w .targets))) (sentIn sendByte (onBus Prepare (w .targets))))
+    go GetUdid q = heard GetUdid q (get-handed c (answer blockRead (onBus GetUdid (w .targets))) (receivedIn blockRead (onBus GetUdid (w .targets))))
+    go (Assign u a) q =
+        heard (Assign u a) q (assign-handed c u (a .0) (answer blockWrite (onBus (Assign u a) (w .targets))) (sentIn blockWrite (onBus (Assign u a) (w .targets))))
+    go Nothing q = still Nothing q refl
+    go Ended q = still Ended q refl
+    go (NoneFree u) q = still (NoneFree u) q refl
+    go Abandoned q = still Abandoned q refl
+    go NotOutstanding q = still NotOutstanding q refl
+
+-- nobody leaves the bus
+turn-present : (w : World) → length (turn w .targets) ≡ length (w .targets)
+turn-present w = go (w .now .command)
+  where
+    go : (k : Command) → length (turnBy (w .now) (w .targets) k .targets) ≡ length (w .targets)
+    go Prepare = length-map (effect (onBus Prepare (w .targets))) (w .targets)
+    go GetUdid = length-map (effect (onBus GetUdid (w .targets))) (w .targets)
+    go (Assign u a) = length-map (effect (onBus (Assign u a) (w .targets))) (w .targets)
+    go Nothing = refl
+    go Ended = refl
+    go (NoneFree u) = refl
+    go Abandoned = refl
+    go NotOutstanding = refl
+
+stands-one : (k : Command) (ts : List Target) → 0 < length ts → oneIn (onBus k ts) ≡ oneGet k
+stands-one k [] h = absurd (omega arith)
+stands-one k (t ∷ ts) h = one-on-bus k t ts
+
+-- ---- several turns
+
+-- the Get UDIDs that stood on the bus, and the one that is out at the end, are those counted since, and the one that was out at first
+pub gets-counted : (n : ℕ) (w : World) → w .now .state .last ≡ w .now .command → 0 < length (w .targets)
+    → getsAmong (traces n w) + oneGet (run n w .now .command) + w .now .state .gets ≡ run n w .now .state .gets + oneGet (w .now .command)
+gets-counted zero w e h = omega arith
+gets-counted (suc n) w e h =
+    let t = turn-handed w e in
+    let r = gets-counted n (turn w) (t .last) (omega (arith, turn-present w, h)) in
+    omega (arith, stands-one (w .now .command) (w .targets) h, t .gets, r)
+
+-- from a start to an end: those counted are those that stood on the bus
+gets-whole : (n : ℕ) (w : World) → w .now .state .last ≡ w .now .command → 0 < length (w .targets) → oneGet (w .now .command) ≡ 0 → w .now .state .gets ≡ 0
+    → oneGet (run n w .now .command) ≡ 0 → run n w .now .state .gets ≡ getsAmong (traces n w)
+gets-whole n w e h a b c = omega (arith, gets-counted n w e h, a, b, c)
+
+-- with no target no byte is acknowledged, and so none of the traces is a Get UDID
+none-on-bus : (k : Command) → oneIn (onBus k []) ≡ 0
+unfolding onBus standing answered somebody begins
+none-on-bus Prepare = refl
+none-on-bus GetUdid = refl
+none-on-bus (Assign u a) = refl
+none-on-bus Nothing = refl
+none-on-bus Ended = refl
+none-on-bus (NoneFree u) = refl
+none-on-bus Abandoned = refl
+none-on-bus NotOutstanding = refl
+
+stands-none : (k : Command) (ts : List Target) → length ts ≡ 0 → oneIn (onBus k ts) ≡ 0
+stands-none k [] h = none-on-bus k
+stands-none k (t ∷ ts) h = absurd (omega arith)
+
+gets-none : (n : ℕ) (w : World) → length (w .targets) ≡ 0 → getsAmong (traces n w) ≡ 0
+gets-none zero w h = refl
+gets-none (suc n) w h = omega (arith, stands-none (w .now .command) (w .targets) h, gets-none n (turn w) (turn-present w ∙ h))
+
+-- ---- the pass
+
+-- an end is no command: nothing stands on the bus any more
+end-silent : (e : Ending) (ts : List Target) → onBus (lastCommand e) ts ≡ []
+unfolding onBus standing
+end-silent served ts = refl
+end-silent (noneFree u) ts = refl
+
+end-counts : (e : Ending) → oneGet (lastCommand e) ≡ 0
+end-counts served = refl
+end-counts (noneFree u) = refl
+
+still : (n : ℕ) (b : Pool) → traces n (nobodyThere b) ≡ replicate n []
+still zero b = refl
+still (suc n) b = ap₂ (λ (x : List ℕ) (l : List (List ℕ)). x ∷ l) (end-silent served []) (still n b)
+
+module _ (occupied : Pool) where
+  -- WITH NO TARGET: Prepare To ARP, whose first byte gets NACK, and nothing after it
+  pub nobody-there : (n : ℕ) → traces (suc n) (beginning occupied []) ≡ (256 ∷ 194 ∷ 259 ∷ 257 ∷ []) ∷ replicate n []
+  nobody-there n = ap₂ (λ (x : List ℕ) (l : List (List ℕ)). x ∷ l) on-bus.prepare-cut (ap (traces n) (nobody-first occupied) ∙ still n (startingPool occupied))
+
+  -- AFTER THE PASS THE BUS IS SILENT: no Get UDID follows those that are counted
+  pub silent-after : (ts : List Target) → AdmittedTargets (startingPool occupied) ts → stands (pass occupied ts) ≡ []
+  silent-after ts v = ap stands (demand-3 occupied ts v) ∙ go ts
+    where
+      go : (ts : List Target) → stands (passEnd (startingPool occupied) ts) ≡ []
+      go [] = end-silent served []
+      go (t ∷ ts) = end-silent (ruled (startingPool occupied) (t ∷ ts) .ending) (passEnd (startingPool occupied) (t ∷ ts) .targets)
+
+  -- THE CONTROLLER'S COUNT IS THAT OF THE GET UDIDS ON THE BUS
+  pub counted-on-bus : (ts : List Target) → AdmittedTargets (startingPool occupied) ts → pass occupied ts .now .state .gets ≡ getsOnBus occupied ts
+  unfolding getsOnBus pass
+  counted-on-bus [] v = ap (λ (w : World). w .now .state .gets) (demand-3 occupied [] v) ∙ sym (gets-none 300 (beginning occupied []) refl)
+  counted-on-bus (t ∷ ts) v =
+      gets-whole 300 (beginning occupied (t ∷ ts)) refl (omega arith) refl refl
+      (ap (λ (w : World). oneGet (w .now .command)) (demand-3 occupied (t ∷ ts) v) ∙ end-counts (ruled (startingPool occupied) (t ∷ ts) .ending))
+
+  -- ONE MORE THAN TARGETS ARE BOUND, where there is a target; with none, no Get UDID
+  pub gets-are : (t : Target) (ts : List Target) → AdmittedTargets (startingPool occupied) (t ∷ ts) → getsOnBus occupied (t ∷ ts) ≡ suc (length (ruled (startingPool occupied) (t ∷ ts) .given))
+  gets-are t ts v = sym (counted-on-bus (t ∷ ts) v) ∙ ap (λ (w : World). w .now .state .gets) (demand-3 occupied (t ∷ ts) v) ∙ omega arith
+
+  pub gets-without : getsOnBus occupied [] ≡ 0
+  unfolding getsOnBus
+  gets-without = gets-none 300 (beginning occupied []) refl
