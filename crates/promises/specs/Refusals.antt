@@ -1,6 +1,6 @@
 -- Demand 1 for the model run: 2, 9, 10, 11 and 12 are given exactly in their listed cases, with the record, and then nothing lent
 -- changes and every other part of the answer is zero.
-use Prim.Native.Nat.{ℕ, _≤_, _<_}
+use Prim.Native.Nat.{ℕ, _/_, _%_, _≤_, _<_}
 use mathlib.Core.Path.{_≡_, refl, sym, ap, _∙_, subst}
 use mathlib.Core.Bool.{Bool, true, false}
 use mathlib.Core.Logic.{_⊎_, inl, inr, _↔_}
@@ -10,7 +10,10 @@ use native.Mathlib.Omega.{arith}
 use lib.ListN.{length}
 use Rattle.pool.specs.Start.{startingPool}
 use Rattle.pool.specs.declared.Pool.{Pool}
-use Rattle.targets.specs.Cases.{LengthIsBad, Given}
+use Rattle.lists.specs.Each.{Bytes}
+use Rattle.targets.specs.ByteCases.{EvenOrFlag, SameAsEarlier, FixedOnTaken, GivenByBytes}
+use Rattle.targets.specs.ByteCasesLaws.{given-bytes}
+use Rattle.targets.specs.Cases.{LengthIsBad, None, FirstOf, Given}
 use Rattle.targets.specs.Numbers.{answerOf}
 use Rattle.targets.specs.Refusals.{checkedList}
 use Rattle.targets.specs.RefusalLaws.{given-exactly, answers-differ}
@@ -154,3 +157,39 @@ module _ (occupied : Pool) (s b : List ℕ) (r : ModelAnswer) (s′ b′ : List 
       go (yes k) c = same 2 0 (short-end k)
       go (no k) (inl a) = absurd (pass-number (omega arith) a h)
       go (no k) (inr n) = same (answerOf (checkedList (startingPool occupied) s) .number) (answerOf (checkedList (startingPool occupied) s) .value) (refused-end (omega arith) n)
+
+  -- the numbers, each if and only if its case, by the bytes of the records: record i is the 18 bytes from 18 i on
+  module _ (bytes : Bytes s) where
+    by-bytes : (k : Checked) → (k ≡ Admitted → ⊥) → (paper r ≡ (answerOf k .number, answerOf k .value)) ↔ ((2048 ≤ length b) × GivenByBytes (startingPool occupied) s k)
+    by-bytes k n =
+        let m = model-refused k n in
+        let g = given-bytes (startingPool occupied) s bytes k in
+        (λ e. (m .0 e .0, g .0 (m .0 e .1)), λ h. m .1 (h .0, g .1 (h .1)))
+
+    -- 9: over 2,160 bytes, or no multiple of 18
+    pub model-9 : (paper r ≡ (9, 0)) ↔ ((2048 ≤ length b) × ((2160 < length s) ⊎ (length s % 18 ≡ 0 → ⊥)))
+    model-9 = by-bytes BadLength (λ e. let z : _≡_ {A = ℕ} 0 1 = cc e in omega arith)
+
+    -- 10: the first record whose byte 16 is even or byte 17 above 1
+    pub model-10 : (i : ℕ) → (paper r ≡ (10, i)) ↔ ((2048 ≤ length b) × ((LengthIsBad s → ⊥) × FirstOf (EvenOrFlag s) (length s / 18) i))
+    model-10 i = by-bytes (Malformed i) (λ e. let z : _≡_ {A = ℕ} 0 1 = cc e in omega arith)
+
+    -- 11: the first record whose 16 bytes of identifier are those of an earlier one
+    pub model-11 : (i : ℕ) → (paper r ≡ (11, i)) ↔ ((2048 ≤ length b) × ((LengthIsBad s → ⊥) × None (EvenOrFlag s) (length s / 18) × FirstOf (SameAsEarlier s) (length s / 18) i))
+    model-11 i = by-bytes (Repeated i) (λ e. let z : _≡_ {A = ℕ} 0 1 = cc e in omega arith)
+
+    -- 12: the first fixed target whose address is in the starting pool or is that of an earlier fixed one
+    pub model-12 : (i : ℕ) → (paper r ≡ (12, i))
+        ↔ ((2048 ≤ length b) × ((LengthIsBad s → ⊥) × None (EvenOrFlag s) (length s / 18) × None (SameAsEarlier s) (length s / 18) × FirstOf (FixedOnTaken (startingPool occupied) s) (length s / 18) i))
+    model-12 i = by-bytes (Taken i) (λ e. let z : _≡_ {A = ℕ} 0 1 = cc e in omega arith)
+
+  -- every other part of a refusal is zero
+  pub model-zero : (r .answer ≡ 2) ⊎ ((9 ≤ r .answer) × (r .answer ≤ 12)) → (r .udid .high ≡ 0) × (r .udid .low ≡ 0) × (r .bound .low ≡ 0) × (r .bound .high ≡ 0) × (r .count ≡ 0) × (r .gets ≡ 0)
+  model-zero h = (
+    ap (λ (x : ModelAnswer). x .udid .high) (model-untouched h .2),
+    ap (λ (x : ModelAnswer). x .udid .low) (model-untouched h .2),
+    ap (λ (x : ModelAnswer). x .bound .low) (model-untouched h .2),
+    ap (λ (x : ModelAnswer). x .bound .high) (model-untouched h .2),
+    ap (λ (x : ModelAnswer). x .count) (model-untouched h .2),
+    ap (λ (x : ModelAnswer). x .gets) (model-untouched h .2),
+  )

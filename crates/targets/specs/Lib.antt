@@ -7,6 +7,8 @@ pub mod FirstLaws
 pub mod RecordLaws
 pub mod Cases
 pub mod FieldLaws
+pub mod ByteCases
+pub mod ByteCasesLaws
 pub mod Numbers
 pub mod RefusalLaws
 pub mod ChangeLaws
