@@ -94,7 +94,8 @@ assign-listed u a reply = (go (ltb 127 (a .0)) refl, λ h. protocol-above-10 (rw
 no-protocol : (t : Message) → Listed 255 true t
 no-protocol t = protocol-above-10 (omega arith)
 
-listed-exactly : (k : Command) (reply : List ℕ) → Listed (protocolFor k) true (messageOf k reply) ↔ Unsendable k reply
+-- the listed cases of refusal 1 are these
+pub listed-exactly : (k : Command) (reply : List ℕ) → Listed (protocolFor k) true (messageOf k reply) ↔ Unsendable k reply
 listed-exactly Prepare reply = (prepare-listed reply, λ h. absurd h)
 listed-exactly GetUdid reply = get-listed reply
 listed-exactly (Assign u a) reply = assign-listed u a reply
