@@ -168,8 +168,9 @@ uint8_t hb_udid_is_fixed(uint64_t high, uint64_t low);
 /* The ARP controller. */
 
 /* The trace of a command that is acknowledged whole: HB_PREPARE, HB_GET_UDID with the reply's data, or HB_ASSIGN of the address to the
- * identifier. With 0 it stands in the first 2 * symbols bytes of out, and the rest of out is as it was. With 1, another kind or a reply
- * above 255 bytes, and with 2 out is as it was and symbols is 0. What a kind has no use for is not looked at. */
+ * identifier. With 0 it stands in the first 2 * symbols bytes of out, and the rest of out is as it was. With 1, another kind, a reply
+ * above 255 bytes or an HB_ASSIGN of an address above 127, and with 2 out is as it was and symbols is 0. What a kind has no use for is
+ * not looked at. */
 hb_written hb_put_command(uint8_t kind, uint64_t udid_high, uint64_t udid_low, uint8_t address,
                           const uint8_t *reply, size_t reply_len, uint8_t *out, size_t out_len);
 

@@ -49,6 +49,20 @@ static void check_commands(void)
     free(reply);
 }
 
+/* Every number for an Assign: above 127 it is no address, and nothing is written; else the 17th byte of the data is twice the address. */
+static void check_numbers(void)
+{
+    for (unsigned n = 0; n < 256; n++) {
+        uint8_t *out = block(88, 0xee);
+        hb_written w = hb_put_command(HB_ASSIGN, HIGH, LOW, (uint8_t)n, NULL, 0, out, 88);
+        if (n > 127)
+            CHECK(w.answer == 1 && w.symbols == 0 && all(out, 0, 88, 0xee));
+        else
+            CHECK(w.answer == 0 && w.symbols == 44 && out[78] == 2 * n && out[79] == 0);
+        free(out);
+    }
+}
+
 static void expect(const struct list *l, uint32_t kind, uint32_t address, uint32_t gets)
 {
     hb_command c = hb_pass(0, 0, l->bytes, l->length);
@@ -138,6 +152,7 @@ static void check_claimed(void)
 void check_passes(void)
 {
     check_commands();
+    check_numbers();
     check_bound();
     check_ends();
     check_claimed();

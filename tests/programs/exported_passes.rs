@@ -10,20 +10,29 @@ use reference::families::FAMILIES;
 use reference::random::Random;
 use reference::recorder::{Due, Op};
 use reference::shelves;
-use reference::table::{build, Transaction, LONGEST_TRACE};
+use reference::table::{build, Refused, LONGEST_TRACE};
 
 fn pairs(trace: &[u16]) -> Vec<u8> {
     trace.iter().flat_map(|symbol| symbol.to_le_bytes()).collect()
 }
 
-/// What the reference makes of a kind: no transaction for those that are not sent.
-fn transaction(kind: u8, udid: &commands::Udid, address: u8, reply: &[u8]) -> Option<Transaction> {
-    match kind {
-        0 => Some(commands::prepare()),
-        1 => Some(commands::get_udid(reply)),
-        2 => Some(commands::assign(udid, address % ADDRESSES)),
-        _ => None,
-    }
+/// What is due for a command into a room of so many bytes: the answer and the bytes.
+fn due(trace: &Result<Vec<u16>, Refused>, room: usize) -> (Written, Vec<u8>) {
+    let mut out = vec![0xee; room];
+    let answer = match trace {
+        Err(Refused) => Written { answer: 1, symbols: 0 },
+        Ok(trace) if room / 2 < trace.len() => Written { answer: 2, symbols: 0 },
+        Ok(trace) => {
+            out[..2 * trace.len()].copy_from_slice(&pairs(trace));
+            Written { answer: 0, symbols: trace.len() as u32 }
+        }
+    };
+    (answer, out)
+}
+
+fn given(kind: u8, udid: &commands::Udid, address: u8, reply: &[u8], room: usize) -> (Written, Vec<u8>) {
+    let mut out = vec![0xee; room];
+    (put_command(kind, halves(udid), address, reply, &mut out), out)
 }
 
 fn command_traces() -> usize {
@@ -34,21 +43,30 @@ fn command_traces() -> usize {
         let udid = shelves::any_udid(&mut random);
         let length = [0, 1, 17, 254, 255, 256, 300][random.below(7)];
         let reply = random.bytes(length);
-        let trace = transaction(kind, &udid, address, &reply).and_then(|t| build(&t).ok());
+        let trace = commands::of_kind(kind, &udid, address, &reply).and_then(|t| build(&t));
         let exact = trace.as_ref().map_or(8, |trace| 2 * trace.len());
         let room = [0, exact - 1, exact, exact + 1, 2 * LONGEST_TRACE][random.below(5)];
-        let mut due = vec![0xee; room];
-        let answer = match &trace {
-            None => Written { answer: 1, symbols: 0 },
-            Some(trace) if room / 2 < trace.len() => Written { answer: 2, symbols: 0 },
-            Some(trace) => {
-                due[..2 * trace.len()].copy_from_slice(&pairs(trace));
-                Written { answer: 0, symbols: trace.len() as u32 }
+        let input = || format!("kind {kind} address {address} {length} into {room}");
+        family.same(input, &due(&trace, room), &given(kind, &udid, address, &reply, room));
+    }
+    family.done()
+}
+
+/// An Assign of every number: 44 symbols up to 127, whatever is above is refused and writes nothing.
+fn assigned_numbers() -> usize {
+    let mut family = Family::new("assigned numbers");
+    let mut random = Random::new(76);
+    for address in 0..=255 {
+        let udid = shelves::any_udid(&mut random);
+        let trace = commands::of_kind(2, &udid, address, &[]).and_then(|t| build(&t));
+        for room in [0, 87, 88, 89, 2 * LONGEST_TRACE] {
+            let input = || format!("address {address} into {room}");
+            let got = given(2, &udid, address, &[], room);
+            family.same(input, &due(&trace, room), &got);
+            if address > 127 {
+                family.same(input, &(Written { answer: 1, symbols: 0 }, vec![0xee; room]), &got);
             }
-        };
-        let mut out = vec![0xee; room];
-        let given = put_command(kind, halves(&udid), address, &reply, &mut out);
-        family.same(|| format!("kind {kind} {length} into {room}"), &(answer, due), &(given, out));
+        }
     }
     family.done()
 }
@@ -132,5 +150,5 @@ fn scripts() -> usize {
 }
 
 pub fn all() -> usize {
-    command_traces() + scripts()
+    command_traces() + assigned_numbers() + scripts()
 }

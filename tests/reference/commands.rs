@@ -1,6 +1,6 @@
 //! What an ARP controller asks for, and the three commands as transactions: all go to 61h, with PEC.
 
-use crate::addresses::DEFAULT;
+use crate::addresses::{ADDRESSES, DEFAULT};
 use crate::table::*;
 
 /// Highest byte first, as on the wire.
@@ -62,7 +62,19 @@ pub fn reply_bytes(udid: &Udid, address_byte: u8) -> Vec<u8> {
     [&udid[..], &[address_byte]].concat()
 }
 
-/// Bit 0 of the address byte is sent as zero.
+/// Bit 0 of the address byte is sent as zero. A number above 127 is no address and has no byte.
 pub fn assign(udid: &Udid, address: u8) -> Transaction {
+    assert!(address < ADDRESSES, "{address} is no address");
     to_default(BLOCK_WRITE, ASSIGN, reply_bytes(udid, 2 * address), vec![])
+}
+
+/// The transaction of a kind of command, where there is one: 0 Prepare To ARP, 1 Get UDID, 2 Assign Address. Any other
+/// kind is refused, and so is an Assign of a number above 127.
+pub fn of_kind(kind: u8, udid: &Udid, address: u8, reply: &[u8]) -> Result<Transaction, Refused> {
+    match kind {
+        0 => Ok(prepare()),
+        1 => Ok(get_udid(reply)),
+        2 if address < ADDRESSES => Ok(assign(udid, address)),
+        _ => Err(Refused),
+    }
 }

@@ -7,4 +7,5 @@ pub mod TraceLaws
 pub mod Assigned
 pub mod Handing
 pub mod Sending
+pub mod RequestLaws
 pub mod Replayed

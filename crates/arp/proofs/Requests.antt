@@ -1,13 +1,15 @@
 -- What the writers of commands cite.
-use Prim.Native.Nat.{ℕ, _+_}
+use Prim.Native.Nat.{ℕ, _+_, _≤_, _<_}
 use mathlib.Core.Path.{_≡_, refl, sym, ap, _∙_, subst}
-use mathlib.Core.Bool.{true}
+use mathlib.Core.Bool.{Bool, true}
 use mathlib.Core.List.{List, [], _∷_, _++_}
 use native.Mathlib.Omega.{arith}
 use denote.Enum.Declared.{tagOf}
 use types.Run.{OneOf}
 use lib.ListN.{length, drop, set, replicate}
 use lib.Seq.{set-at}
+use borrow.Author.Tests.{lt-ltb, le-ltb}
+use Rattle.lists.specs.Choice.{pick}
 use Rattle.encode.specs.Encode.{message, refused, encoded, Wrote}
 use Rattle.encode.specs.declared.Encoded.{Encoded}
 use Rattle.encode.specs.declared.Encoded.the-variants.{Forbidden}
@@ -16,9 +18,11 @@ use Rattle.udid.specs.UdidLaws.{length-udid}
 use Rattle.udid.specs.WindowLaws.{put-fits}
 use Rattle.udid.specs.declared.Udid.{Udid}
 use Rattle.wire.specs.Addresses.{defaultAddress}
+use Rattle.wire.specs.declared.address.Address.{Address}
 use Rattle.arp.proofs.Tags.{not-sent, prepare-sent, get-sent, assign-sent}
 use Rattle.arp.proofs.command.Command as command
-use Rattle.arp.specs.Requests.{protocolOf, messageOf}
+use Rattle.arp.specs.Heard.{blockWrite}
+use Rattle.arp.specs.Requests.{assignData, protocolFor, messageOf}
 use Rattle.arp.specs.declared.command.Command.{Command}
 use Rattle.arp.specs.declared.command.Command.the-variants.{Nothing, Prepare, GetUdid, Assign, Ended, NoneFree, Abandoned, NotOutstanding}
 
@@ -30,24 +34,30 @@ seventeen u l w e =
     = put-fits (replicate 17 0) (udidBytes u) 0 (omega arith) ∙ ap (λ (n : ℕ). udidBytes u ++ drop (0 + n) (replicate 17 0)) k in
     ap (λ (x : List ℕ). set x 16 w) (e ∙ f) ∙ set-at (udidBytes u) 0 [] w 16 k
 
--- with the same data the same is written
-pub same-data : (x y before : List ℕ) (r : Encoded) (after : List ℕ) → x ≡ y
-    → Wrote 8 true (message defaultAddress 0 4 x []) before r after → Wrote 8 true (message defaultAddress 0 4 y []) before r after
-same-data x y before r after e = subst (λ (z : List ℕ). Wrote 8 true (message defaultAddress 0 4 z []) before r after) e
+-- an Assign of a 7-bit address, with its 17 bytes as data, is a Block Write
+pub assign-data-written : (u : Udid) (a : Address) (x before : List ℕ) (r : Encoded) (after : List ℕ) → a .0 ≤ 127 → x ≡ assignData u (a .0)
+    → Wrote 8 true (message defaultAddress 0 4 x []) before r after → Wrote (protocolFor (Assign u a)) true (messageOf (Assign u a) []) before r after
+assign-data-written u a x before r after h e w =
+    subst (λ (b : Bool). Wrote (pick b 255 blockWrite) true (messageOf (Assign u a) []) before r after) (sym (le-ltb 127 (a .0) h))
+    (subst (λ (z : List ℕ). Wrote 8 true (message defaultAddress 0 4 z []) before r after) e w)
 
 -- what was written for a command is written for the same command
 pub for-command : (k j : Command) (reply before : List ℕ) (r : Encoded) (after : List ℕ) → k ≡ j
-    → Wrote (protocolOf j) true (messageOf j reply) before r after → Wrote (protocolOf k) true (messageOf k reply) before r after
-for-command k j reply before r after e = subst (λ (x : Command). Wrote (protocolOf x) true (messageOf x reply) before r after) (sym e)
+    → Wrote (protocolFor j) true (messageOf j reply) before r after → Wrote (protocolFor k) true (messageOf k reply) before r after
+for-command k j reply before r after e = subst (λ (x : Command). Wrote (protocolFor x) true (messageOf x reply) before r after) (sym e)
 
 -- 255 is refused, and nothing is written
-nothing-written : (k : Command) (reply before : List ℕ) → protocolOf k ≡ 255 → Wrote (protocolOf k) true (messageOf k reply) before Forbidden before
+nothing-written : (k : Command) (reply before : List ℕ) → protocolFor k ≡ 255 → Wrote (protocolFor k) true (messageOf k reply) before Forbidden before
 unfolding encoded refused
 nothing-written k reply before e = record { answer = rw e; output = refl }
 
+-- an Assign of a number above 127 is refused
+pub no-address : (u : Udid) (a : Address) (before : List ℕ) → 127 < a .0 → Wrote (protocolFor (Assign u a)) true (messageOf (Assign u a) []) before Forbidden before
+no-address u a before h = nothing-written (Assign u a) [] before (ap (λ (b : Bool). pick b 255 blockWrite) (lt-ltb 127 (a .0) h))
+
 -- what is no command is refused
 pub no-command : (k : Command) (reply before : List ℕ) → OneOf not-sent (tagOf command.the-type k)
-    → Wrote (protocolOf k) true (messageOf k reply) before Forbidden before
+    → Wrote (protocolFor k) true (messageOf k reply) before Forbidden before
 no-command Nothing reply before h = nothing-written Nothing reply before refl
 no-command Prepare reply before h = absurd (prepare-sent h)
 no-command GetUdid reply before h = absurd (get-sent h)

@@ -5,6 +5,7 @@ use mathlib.Core.Path.{_≡_, refl, sym, ap, ap₂, _∙_, subst}
 use mathlib.Core.Bool.{Bool, true, false}
 use mathlib.Core.List.{List, [], _∷_, _++_}
 use native.Mathlib.Decide.{ℕ-discrete, decLt}
+use native.Mathlib.Nat.{mod-eq-of-lt}
 use native.Mathlib.Omega.{arith}
 use lib.Dec.{ltb, eqb}
 use lib.ListN.{length, getD, take, drop, length-append, length-drop}
@@ -16,6 +17,8 @@ use Rattle.wire.specs.Addresses.{defaultAddress}
 use Rattle.wire.specs.Pec.{bitStep, pecStep, pecFrom, pecOf}
 use Rattle.trace.specs.ShapeLaws.{sane, both-true}
 use Rattle.trace.specs.Rows.{rows}
+use Rattle.trace.specs.Lengths.{traceLength}
+use Rattle.trace.specs.LengthLaws.{trace-length}
 use Rattle.trace.specs.Shapes.{shapeOf}
 use Rattle.trace.specs.Trace.{Message, acked, trace, Valid}
 use Rattle.trace.specs.declared.transaction.Transaction.{Transaction}
@@ -64,8 +67,13 @@ valid-get xs h l = record {
   counts = omega arith;
 }
 
-length-assign : (u : Udid) (a : ℕ) → length (assignData u a) ≡ 17
+pub length-assign : (u : Udid) (a : ℕ) → length (assignData u a) ≡ 17
 length-assign u a = length-append (udidBytes u) (2 * (a % 128) ∷ []) ∙ omega (arith, length-udid u)
+
+-- an Assign has 44 symbols
+pub assign-length : (u : Udid) (a : Address) → length (traceOf (Assign u a) []) ≡ 44
+unfolding traceLength
+assign-length u a = trace-length (shapeOf 8) true (messageOf (Assign u a) []) ∙ omega (arith, length-assign u (a .0))
 
 pub valid-assign : (u : Udid) (a : Address) → Valid (shapeOf blockWrite) (messageOf (Assign u a) [])
 valid-assign u a = record {
@@ -105,6 +113,13 @@ assign-row u a =
     rows .block-write-pec 0x61 0x04 (assignData u (a .0))
     ∙ ap (λ (n : ℕ). 256 ∷ 194 ∷ 258 ∷ 4 ∷ 258 ∷ n ∷ 258 ∷ (acked d ++ pecOf (194 ∷ 4 ∷ n ∷ d) ∷ 258 ∷ 257 ∷ [])) (length-assign u (a .0))
     ∙ ap (λ (l : List ℕ). 256 ∷ 194 ∷ 258 ∷ 4 ∷ 258 ∷ 17 ∷ 258 ∷ l) (acked-last (udidBytes u) (2 * (a .0 % 128)) (pecOf (194 ∷ 4 ∷ 17 ∷ d) ∷ 258 ∷ 257 ∷ []))
+
+-- of a 7-bit address, the byte is twice the address itself
+pub assign-row-small : (u : Udid) (a : Address) → a .0 < 128 → traceOf (Assign u a) []
+    ≡ 256 ∷ 194 ∷ 258 ∷ 4 ∷ 258 ∷ 17 ∷ 258 ∷ (acked (udidBytes u) ++ 2 * a .0 ∷ 258 ∷ pecOf (194 ∷ 4 ∷ 17 ∷ (udidBytes u ++ 2 * a .0 ∷ [])) ∷ 258 ∷ 257 ∷ [])
+assign-row-small u a h =
+    assign-row u a
+    ∙ ap (λ (n : ℕ). 256 ∷ 194 ∷ 258 ∷ 4 ∷ 258 ∷ 17 ∷ 258 ∷ (acked (udidBytes u) ++ 2 * n ∷ 258 ∷ pecOf (194 ∷ 4 ∷ 17 ∷ (udidBytes u ++ 2 * n ∷ [])) ∷ 258 ∷ 257 ∷ [])) (mod-eq-of-lt h)
 
 -- ---- what the decoder says of them
 

@@ -2,6 +2,8 @@
 use Prim.Native.Nat.{ℕ, _*_, _%_}
 use mathlib.Core.Bool.{true}
 use mathlib.Core.List.{List, [], _∷_, _++_}
+use lib.Dec.{ltb}
+use Rattle.lists.specs.Choice.{pick}
 use Rattle.wire.specs.Addresses.{defaultAddress}
 use Rattle.trace.specs.Shapes.{shapeOf}
 use Rattle.trace.specs.Trace.{Message, trace}
@@ -26,6 +28,17 @@ protocolOf Ended = 255
 protocolOf (NoneFree u) = 255
 protocolOf Abandoned = 255
 protocolOf NotOutstanding = 255
+
+-- the protocol that put_command writes with: for an Assign of a number above 127, which is no address, none either
+abbrev pub protocolFor : Command → ℕ
+protocolFor Prepare = sendByte
+protocolFor GetUdid = blockRead
+protocolFor (Assign u a) = pick (ltb 127 (a .0)) 255 blockWrite
+protocolFor Nothing = 255
+protocolFor Ended = 255
+protocolFor (NoneFree u) = 255
+protocolFor Abandoned = 255
+protocolFor NotOutstanding = 255
 
 -- 01h Prepare To ARP; 03h Get UDID, whose reply is what the target sends; 04h Assign Address
 abbrev pub messageOf : Command → List ℕ → Message

@@ -3,7 +3,7 @@ ghost use mathlib.Core.Path.{_≡_};
 ghost use mathlib.Core.Bool.{true};
 ghost use mathlib.Core.List.{[]};
 ghost use Rattle.encode.specs.Encode.{Wrote};
-ghost use Rattle.arp.specs.Requests.{protocolOf, messageOf, assignData};
+ghost use Rattle.arp.specs.Requests.{protocolFor, messageOf, assignData};
 use super::command::Command;
 use encode::Encoded;
 use encode::encode;
@@ -35,18 +35,22 @@ fn put_get(reply: &[u8], out: &mut [u16]) -> Encoded
     encode(9, true, Address::DEFAULT, 0, 3, &reply[..0], reply, out)
 }
 
+// A number above 127 is no address: it is refused, and the output stays as it is.
 fn put_assign(u: Udid, a: Address, out: &mut [u16]) -> Encoded
-    ensures { λ r. ⌜ Wrote 8 true (messageOf (Command.Assign u a) []) (now (out .entry)) r (now (out .exit)) ⌝ }
+    ensures { λ r. ⌜ Wrote (protocolFor (Command.Assign u a)) true (messageOf (Command.Assign u a) []) (now (out .entry)) r (now (out .exit)) ⌝ }
 {
+    if a.0 > 127 {
+        return Encoded::Forbidden;
+    }
     let sent = assign_data(u, a);
     let none = [0u8; 1];
     encode(8, true, Address::DEFAULT, 0, 4, &sent, &none[..0], out)
 }
 
 // The trace of a command that is acknowledged whole, at the front of the output; for Get UDID, with these data as its reply.
-// An end of a pass is no command: it is refused, and the output stays as it is.
+// An end of a pass is no command, and a number above 127 no address to assign: both are refused, and the output stays as it is.
 pub fn put_command(k: Command, reply: &[u8], out: &mut [u16]) -> Encoded
-    ensures { λ r. ⌜ Wrote (protocolOf k) true (messageOf k (now (reply .entry))) (now (out .entry)) r (now (out .exit)) ⌝ }
+    ensures { λ r. ⌜ Wrote (protocolFor k) true (messageOf k (now (reply .entry))) (now (out .entry)) r (now (out .exit)) ⌝ }
 {
     match k {
         Command::Prepare => put_prepare(out),

@@ -7,16 +7,31 @@ use native.Mathlib.Nat.{add-zero}
 use native.Mathlib.Omega.{arith}
 use lib.ListN.{length, take, drop, replicate, length-append, length-drop, take-append-drop}
 use lib.Seq.{take-at, take-add, drop-at, drop-drop}
+use borrow.Author.Tests.{lt-ltb, le-ltb}
 use Rattle.udid.specs.Bytes.{bytesOf, udidBytes, udidAt, putAt}
 use Rattle.udid.specs.Udids.{Fits}
 use Rattle.udid.specs.UdidLaws.{length-udid, udid-back}
 use Rattle.udid.specs.WindowLaws.{put-fits}
-use Rattle.bindings.specs.Entries.{entryUdid, entryBytes, rowsOf, bufferOf}
+use Rattle.bindings.specs.Entries.{entryUdid, entryBytes, putEntry, readUdid, rowsOf, bufferOf}
 use Rattle.bindings.specs.declared.entry.Entry.{Entry}
 use Rattle.bindings.specs.declared.entry.Entry.the-variants.{Nobody}
 
 pub length-entry : (e : Entry) → length (entryBytes e) ≡ 16
 length-entry e = length-udid (entryUdid e)
+
+-- ---- one entry written and read: with a number above 127 nothing changes and zeros are read; with an address, at 16 times it
+
+pub put-above : (l : List ℕ) (a : ℕ) (e : Entry) → 127 < a → putEntry l a e ≡ l
+put-above l a e h = rw (lt-ltb 127 a h)
+
+pub put-below : (l : List ℕ) (a : ℕ) (e : Entry) → a ≤ 127 → putEntry l a e ≡ putAt l (16 * a) (entryBytes e)
+put-below l a e h = rw (le-ltb 127 a h)
+
+pub read-above : (l : List ℕ) (a : ℕ) → 127 < a → readUdid l a ≡ record { high = 0; low = 0 }
+read-above l a h = rw (lt-ltb 127 a h)
+
+pub read-below : (l : List ℕ) (a : ℕ) → a ≤ 127 → readUdid l a ≡ udidAt l (16 * a)
+read-below l a h = rw (le-ltb 127 a h)
 
 -- sixteen zeros
 pub nobody-bytes : entryBytes Nobody ≡ replicate 16 0
@@ -35,7 +50,7 @@ unfolding rowsOf
 rows-none held l = refl
 
 pub rows-more : (held : ℕ → Entry) (n : ℕ) (old now : List ℕ) → 2048 ≤ length old → n < 128 → now ≡ rowsOf held n ++ drop (n * 16) old
-    → putAt now (16 * n) (entryBytes (held n)) ≡ rowsOf held (suc n) ++ drop (suc n * 16) old
+    → putEntry now n (held n) ≡ rowsOf held (suc n) ++ drop (suc n * 16) old
 unfolding rowsOf
 rows-more held n old now h l e =
     let r : length (rowsOf held n) ≡ 16 * n = omega (arith, length-rows held n) in
@@ -48,7 +63,8 @@ rows-more held n old now h l e =
     ∙ drop-drop (length (entryBytes (held n))) (n * 16) old
     ∙ ap (λ (x : ℕ). drop x old) m in
     let s : length now ≡ length old = ap length e ∙ length-append (rowsOf held n) (drop (n * 16) old) ∙ omega (arith, length-drop (n * 16) old) in
-    put-fits now (entryBytes (held n)) (16 * n) (omega arith)
+    put-below now n (held n) (omega arith)
+    ∙ put-fits now (entryBytes (held n)) (16 * n) (omega arith)
     ∙ ap₂ (λ (x y : List ℕ). x ++ (entryBytes (held n) ++ y)) a b
     ∙ sym (append-assoc (rowsOf held n) (entryBytes (held n)) (drop (suc n * 16) old))
 

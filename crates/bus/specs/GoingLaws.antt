@@ -35,6 +35,7 @@ use Rattle.arp.specs.Bindings.{bound, freed}
 use Rattle.arp.specs.Controller.{handed, counted, asked, issued, chosen, replied, onAssign, afterPrepare, afterGet, afterAssign, byCommand, stepped, started, newController}
 use Rattle.arp.specs.Heard.{answer, sentIn, blockWrite, isAssign}
 use Rattle.arp.specs.Requests.{traceOf}
+use Rattle.arp.proofs.Reach.{chosen-good}
 use Rattle.arp.proofs.TraceLaws.{prepare-accepted}
 use Rattle.arp.specs.declared.command.Command.{Command}
 use Rattle.arp.specs.declared.command.Command.the-variants.{Nothing, Prepare, GetUdid, Assign, Ended, NoneFree, Abandoned, NotOutstanding}
@@ -62,9 +63,9 @@ fine-asked c ts h = go (leb 128 (c .gets))
     go true = (refl, tt)
     go false = (refl, h)
 
-fine-issued : (c : Controller) (u : Udid) (f : Free) (ts : List Target) → Reaches (Assign u (record { 0 = 0 })) ts → Fine (issued c u f) ts
-fine-issued c u (At a) ts h = (refl, h)
-fine-issued c u AllUsed ts h = (refl, tt)
+fine-issued : (c : Controller) (t : Target) (f : Free) (ts : List Target) → Among t ts → ((a : Address) → f ≡ At a → a .0 < 128) → Fine (issued c (t .udid) f) ts
+fine-issued c t (At a) ts m h = (refl, (t, m, refl, h a refl))
+fine-issued c t AllUsed ts m h = (refl, tt)
 
 fine-assigned : (c : Controller) (u : Udid) (a : ℕ) (d : Decoded) (sent : List ℕ) (ts : List Target) → 0 < length ts → Fine (onAssign c u a d sent) ts
 fine-assigned c u a (Done t) sent ts h = go (isAssign u a t sent)
@@ -92,9 +93,11 @@ fine-prepare c (t ∷ ts) e =
     (fine-asked c (acted Prepare (t ∷ ts)) (omega arith))
 
 -- Get UDID
-fine-replied : (c : Controller) (ts : List Target) (t : Target) → Among t ts → Fine (replied c (t .udid) (t .addressByte)) ts
+fine-replied : (c : Controller) (ts : List Target) (t : Target) → Among t ts → t .addressByte < 256 → Fine (replied c (t .udid) (t .addressByte)) ts
 unfolding replied
-fine-replied c ts t m = fine-issued (freed c (t .udid)) (t .udid) (chosen (freed c (t .udid) .pool) (t .udid) (t .addressByte)) ts (t, m, refl)
+fine-replied c ts t m b =
+    let p : Pool = freed c (t .udid) .pool in
+    fine-issued (freed c (t .udid)) t (chosen p (t .udid) (t .addressByte)) ts m (λ a e. chosen-good p (t .udid) (t .addressByte) a b e .0)
 
 fine-get : (c : Controller) (s : List ℕ) → Bytes s → Fit s → c .last ≡ GetUdid → 0 < length (targetsOf s) → Fine (stepped c (onBus GetUdid (targetsOf s))) (targetsOf s)
 unfolding stepped
@@ -108,7 +111,7 @@ fine-get c s b f e h = go (winnerOf s) refl
         let l : Least (targetsOf s) (targetAt s w) = least-of s b (f .apart) w (winner-exactly s (winner.At w) .0 q) in
         subst (λ (x : Stepped). Fine x (targetsOf s))
         (sym (ap (stepped c) (on-bus.get-whole (targetsOf s) (targetAt s w) l) ∙ get-replied c (targetAt s w) e (l .sized)))
-        (fine-replied c (targetsOf s) (targetAt s w) (l .among))
+        (fine-replied c (targetsOf s) (targetAt s w) (l .among) (l .sized .addressByte))
 
 -- Assign Address
 fine-assign : (c : Controller) (u : Udid) (a : Address) (ts : List Target) → c .last ≡ Assign u a → Reaches (Assign u a) ts

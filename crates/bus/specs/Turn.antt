@@ -12,7 +12,7 @@ use Rattle.targets.specs.Cases.{RepeatedAt, None}
 use Rattle.targets.specs.Records.{recordCount, targetsOf, recordsWith}
 use Rattle.targets.specs.Target.{Target}
 use Rattle.arp.proofs.Sending.{Sent}
-use Rattle.arp.specs.Requests.{protocolOf, messageOf}
+use Rattle.arp.specs.Requests.{protocolFor, messageOf}
 use Rattle.arp.specs.declared.command.Command.{Command}
 use Rattle.arp.specs.declared.command.Command.the-variants.{Nothing, Prepare, GetUdid, Assign, Ended, NoneFree, Abandoned, NotOutstanding}
 use Rattle.arp.specs.declared.state.Stepped.{Stepped}
@@ -23,10 +23,10 @@ pub record Fit (s : List ℕ) : Type 0 where
   pub whole : length s ≡ recordCount s * 18
   pub apart : None (RepeatedAt s) (recordCount s)
 
--- somebody is there to answer Get UDID, and an Assign goes to one of the targets
+-- somebody is there to answer Get UDID, and an Assign of a 7-bit address goes to one of the targets
 abbrev pub Reaches : Command → List Target → Type 0
 Reaches GetUdid ts = 0 < length ts
-Reaches (Assign u a) ts = (t : Target) × Among t ts × (t .udid ≡ u)
+Reaches (Assign u a) ts = (t : Target) × Among t ts × (t .udid ≡ u) × (a .0 < 128)
 Reaches Prepare ts = Unit
 Reaches Nothing ts = Unit
 Reaches Ended ts = Unit
@@ -51,7 +51,7 @@ silence = START ∷ 0xC2 ∷ ACK ∷ 0x03 ∷ ACK ∷ START ∷ 0xC3 ∷ NACK �
 -- the encoder has room for the command and writes it
 abbrev pub Writes : Command → List ℕ → List ℕ → Type 0
 Writes k reply before =
-    (r : Encoded) (after : List ℕ) → Wrote (protocolOf k) true (messageOf k reply) before r after → Sent k reply before r after
+    (r : Encoded) (after : List ℕ) → Wrote (protocolFor k) true (messageOf k reply) before r after → Sent k reply before r after
 
 -- the world over the targets of the records
 abbrev pub worldOf : Stepped → List ℕ → World

@@ -5,7 +5,7 @@ use mathlib.Core.Bool.{Bool, true, false}
 use mathlib.Core.Logic.{inl, inr}
 use mathlib.Core.List.{List, [], _∷_}
 use native.Mathlib.Omega.{arith}
-use lib.ListN.{length, take, drop, length-append}
+use lib.ListN.{length, take, drop}
 use Rattle.lists.specs.Choice.{pick}
 use Rattle.lists.specs.Each.{Bytes}
 use Rattle.trace.specs.Shapes.{shapeOf}
@@ -16,15 +16,14 @@ use Rattle.pool.specs.Start.{startingPool}
 use Rattle.pool.specs.declared.Pool.{Pool}
 use Rattle.pool.specs.declared.free.Free.{Free}
 use Rattle.pool.specs.declared.free.Free.the-variants.{At, AllUsed}
-use Rattle.udid.specs.Bytes.{udidBytes}
-use Rattle.udid.specs.UdidLaws.{length-udid}
 use Rattle.udid.specs.Udids.{Fits}
 use Rattle.udid.specs.declared.Udid.{Udid}
 use Rattle.wire.specs.declared.address.Address.{Address}
 use Rattle.targets.specs.AdmissionLaws.{admitted-length}
+use Rattle.targets.specs.ChangeLaws.{assigned-below}
 use Rattle.targets.specs.Cases.{None, RepeatedAt}
 use Rattle.targets.specs.IndexLaws.{in-targets, length-targets, sized-at, record-reply}
-use Rattle.targets.specs.Records.{udidOf, targetAt, recordCount, targetsFrom, targetsOf, putFrom, recordsWith}
+use Rattle.targets.specs.Records.{udidOf, targetAt, recordCount, targetsFrom, targetsOf, putFrom, recordsWith, assignedIn}
 use Rattle.targets.specs.RecordLaws.{changed-targets, put-all-self, put-again, udid-put-from, length-put-from, prepared-keeps, assigned-keeps}
 use Rattle.targets.specs.Refusals.{checkedList}
 use Rattle.targets.specs.RefusalLaws.{given-exactly}
@@ -37,9 +36,10 @@ use Rattle.targets.specs.declared.admit.Checked.the-variants.{Admitted}
 use Rattle.targets.specs.declared.winner.Winner.{Winner}
 use Rattle.targets.specs.declared.winner.Winner.the-variants as winner
 use Rattle.arp.proofs.Sending.{assign-sent}
+use Rattle.arp.proofs.TraceLaws.{assign-length}
 use Rattle.arp.specs.Bindings.{bound, freed}
 use Rattle.arp.specs.Controller.{handed, counted, asked, issued, chosen, replied, afterPrepare, afterGet, afterAssign, byCommand, stepped, started, newController}
-use Rattle.arp.specs.Requests.{assignData, messageOf, traceOf}
+use Rattle.arp.specs.Requests.{messageOf, traceOf}
 use Rattle.arp.specs.declared.command.Command.{Command}
 use Rattle.arp.specs.declared.command.Command.the-variants.{Nothing, Prepare, GetUdid, Assign, Ended, NoneFree, Abandoned, NotOutstanding}
 use Rattle.arp.specs.declared.state.Controller.{Controller}
@@ -102,12 +102,6 @@ prepare-length = trace-length (shapeOf 1) true (messageOf Prepare [])
 pub get-length : (xs : List ℕ) → length xs ≡ 17 → length (traceOf GetUdid xs) ≡ 47
 unfolding traceLength
 get-length xs e = trace-length (shapeOf 9) true (messageOf GetUdid xs) ∙ omega (arith, e)
-
-pub assign-length : (u : Udid) (a : Address) → length (traceOf (Assign u a) []) ≡ 44
-unfolding traceLength
-assign-length u a =
-    let e : length (assignData u (a .0)) ≡ 17 = length-append (udidBytes u) (2 * (a .0 % 128) ∷ []) ∙ omega (arith, length-udid u) in
-    trace-length (shapeOf 8) true (messageOf (Assign u a) []) ∙ omega (arith, e)
 
 -- ---- what a command does to the records
 
@@ -225,6 +219,13 @@ assign-on-bus k u a e ts h =
 pub assign-long : (k : Command) (u : Udid) (a : Address) → k ≡ Assign u a → length (traceOf k []) ≡ 44
 assign-long k u a e = ap (λ (x : Command). length (traceOf x [])) e ∙ assign-length u a
 
-pub assign-written : (k : Command) (u : Udid) (a : Address) → k ≡ Assign u a → (before : List ℕ) → 64 ≤ length before → Writes k [] before
-assign-written k u a e before h =
-    subst (λ (x : Command). Writes x [] before) (sym e) (λ r after w. assign-sent u a [] before r after w (omega (arith, assign-length u a)))
+pub assign-written : (k : Command) (u : Udid) (a : Address) → k ≡ Assign u a → (ts : List Target) → Reaches k ts → (before : List ℕ) → 64 ≤ length before → Writes k [] before
+assign-written k u a e ts h before l =
+    let r : Reaches (Assign u a) ts = subst (λ (x : Command). Reaches x ts) e h in
+    subst (λ (x : Command). Writes x [] before) (sym e) (λ q after w. assign-sent u a [] before q after (r .3) w (omega (arith, assign-length u a)))
+
+-- what the targets' function leaves of the records
+pub assign-acted : (k : Command) (u : Udid) (a : Address) → k ≡ Assign u a → (s : List ℕ) → Reaches k (targetsOf s) → assignedIn u (a .0) s ≡ recordsWith (acted k (targetsOf s)) s
+assign-acted k u a e s h =
+    let r : Reaches (Assign u a) (targetsOf s) = subst (λ (x : Command). Reaches x (targetsOf s)) e h in
+    assigned-below u (a .0) s (omega (arith, r .3)) ∙ ap (λ (x : Command). recordsWith (acted x (targetsOf s)) s) (sym e)

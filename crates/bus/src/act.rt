@@ -2,12 +2,14 @@
 ghost use mathlib.Core.Path.{_≡_};
 ghost use Rattle.targets.specs.Records.{targetsOf, recordsWith};
 ghost use Rattle.rule.specs.EffectLaws.{acted};
+ghost use Rattle.bus.specs.Turn.{Reaches};
 use arp::command::Command;
 use targets::assign;
 use targets::prepare;
 
 // Prepare To ARP clears every flag, Assign Address reaches the target with that identifier, and Get UDID changes nothing.
 pub(crate) fn act(k: Command, records: &mut [u8])
+    requires { ⌜ Reaches k (targetsOf (now records)) ⌝ }
     ensures { λ r. ⌜ now (records .exit) ≡ recordsWith (acted k (targetsOf (now (records .entry)))) (now (records .entry)) ⌝ }
 {
     match k {

@@ -14,7 +14,7 @@ use Rattle.encode.specs.declared.Encoded.{Encoded}
 use Rattle.encode.specs.declared.Encoded.the-variants.{Written}
 use Rattle.encode.specs.Encode.{Wrote}
 use Rattle.arp.proofs.TraceLaws.{valid-assign}
-use Rattle.arp.specs.Requests.{protocolOf, messageOf}
+use Rattle.arp.specs.Requests.{protocolFor, messageOf}
 use Rattle.arp.specs.declared.command.Command.{Command}
 use Rattle.arp.specs.declared.command.Command.the-variants.{Nothing, Prepare, GetUdid, Assign, Ended, NoneFree, Abandoned, NotOutstanding}
 use Rattle.exports.specs.declared.codec.HbWritten.{HbWritten}
@@ -53,29 +53,29 @@ received-bytes Abandoned reply b = tt
 received-bytes NotOutstanding reply b = tt
 
 abbrev pub WroteCommand : Command → List ℕ → List ℕ → HbWritten → List ℕ → Type 0
-WroteCommand k reply before h after = WrotePairs (protocolOf k) true (messageOf k reply) before h after
+WroteCommand k reply before h after = WrotePairs (protocolFor k) true (messageOf k reply) before h after
 
 module _ (k j : Command) (same : k ≡ j) (reply : List ℕ) (bytes : Bytes reply) (buffer : List ℕ) (long : length buffer ≡ 525) (r : Encoded) (after : List ℕ)
-    (w : Wrote (protocolOf k) true (messageOf k reply) buffer r after) where
+    (w : Wrote (protocolFor k) true (messageOf k reply) buffer r after) where
   of-same : (out : List ℕ) (h : HbWritten) (last : List ℕ) → WroteCommand k reply out h last → WroteCommand j reply out h last
   of-same out h last v = subst (λ (x : Command). WroteCommand x reply out h last) same v
 
   pub command-refused : (out : List ℕ) → OneOf (1 ∷ 2 ∷ []) (tagOf declared.the-type r) → (h : HbWritten) → h ≡ answerOf 1 0 → WroteCommand j reply out h out
   command-refused out t h e =
       of-same out h out
-      (refused-pairs (protocolOf k) true (messageOf k reply) (command-byte k reply) (sent-bytes k reply) (received-bytes k reply bytes) buffer long r after w out t h e)
+      (refused-pairs (protocolFor k) true (messageOf k reply) (command-byte k reply) (sent-bytes k reply) (received-bytes k reply bytes) buffer long r after w out t h e)
 
   pub command-small : (n : ℕ) → r ≡ Written n → n ≤ 525
   command-small n e =
-      small (protocolOf k) true (messageOf k reply) (command-byte k reply) (sent-bytes k reply) (received-bytes k reply bytes) buffer long r after w n e
+      small (protocolFor k) true (messageOf k reply) (command-byte k reply) (sent-bytes k reply) (received-bytes k reply bytes) buffer long r after w n e
 
   pub command-short : (out : List ℕ) (n : ℕ) → r ≡ Written n → length out / 2 < n → (h : HbWritten) → h ≡ answerOf 2 0 → WroteCommand j reply out h out
   command-short out n e l h g =
       of-same out h out
-      (short-pairs (protocolOf k) true (messageOf k reply) (command-byte k reply) (sent-bytes k reply) (received-bytes k reply bytes) buffer long r after w out n e l h g)
+      (short-pairs (protocolFor k) true (messageOf k reply) (command-byte k reply) (sent-bytes k reply) (received-bytes k reply bytes) buffer long r after w out n e l h g)
 
   pub command-done : (out : List ℕ) (n : ℕ) → r ≡ Written n → n ≤ length out / 2 → (h : HbWritten) → h ≡ answerOf 0 n
       → (last : List ℕ) → last ≡ onto (pairsOf (take n after)) out → WroteCommand j reply out h last
   command-done out n e l h g last q =
       of-same out h last
-      (done-pairs (protocolOf k) true (messageOf k reply) (command-byte k reply) (sent-bytes k reply) (received-bytes k reply bytes) buffer long r after w out n e l h g last q)
+      (done-pairs (protocolFor k) true (messageOf k reply) (command-byte k reply) (sent-bytes k reply) (received-bytes k reply bytes) buffer long r after w out n e l h g last q)

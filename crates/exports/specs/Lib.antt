@@ -6,5 +6,6 @@ pub mod Model
 pub mod Check
 pub mod LastData
 pub mod Commands
+pub mod PutCommand
 pub mod Pass
 pub mod Unique

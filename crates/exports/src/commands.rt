@@ -2,7 +2,7 @@
 // ends of a pass: 3 ended, 4 no free address, 5 abandoned, 6 no command outstanding, 7 no pass has begun.
 ghost use mathlib.Core.Path.{_≡_};
 ghost use mathlib.Core.Bool.{true};
-ghost use Rattle.arp.specs.Requests.{protocolOf, messageOf};
+ghost use Rattle.arp.specs.Requests.{protocolFor, messageOf};
 ghost use Rattle.exports.specs.Parts.{udidOf};
 ghost use Rattle.exports.specs.Codec.{WrotePairs};
 ghost use Rattle.exports.specs.Commands.{commandOf, saidOf, toldCommand};
@@ -72,7 +72,8 @@ pub(crate) fn told_command(k: Command, gets: u32) -> HbCommand
     }
 }
 
-// The trace of a command that is acknowledged whole, as byte pairs; for Get UDID, with these data as its reply.
+// The trace of a command that is acknowledged whole, as byte pairs; for Get UDID, with these data as its reply. An Assign of a number
+// above 127 is refused with 1, and so is a kind above 2; the output then stays as it is.
 #[no_mangle]
 pub extern "C" fn hb_put_command(
     kind: u8,
@@ -82,7 +83,7 @@ pub extern "C" fn hb_put_command(
     reply: &[u8],
     out: &mut [u8],
 ) -> HbWritten
-    ensures { λ r. ⌜ WrotePairs (protocolOf (commandOf kind (udidOf high low) (record { 0 = address }))) true (messageOf (commandOf kind (udidOf high low) (record { 0 = address })) (now (reply .entry))) (now (out .entry)) r (now (out .exit)) ⌝ }
+    ensures { λ r. ⌜ WrotePairs (protocolFor (commandOf kind (udidOf high low) (record { 0 = address }))) true (messageOf (commandOf kind (udidOf high low) (record { 0 = address })) (now (reply .entry))) (now (out .entry)) r (now (out .exit)) ⌝ }
 {
     let k = command_of(
         kind,

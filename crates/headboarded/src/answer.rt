@@ -116,7 +116,7 @@ fn run_model(
 }
 
 // Answers a line, which has no comment any more. An empty one gets no answer.
-pub fn answer(s: Shelf, line: &[u8], records: &mut [u8], out: &mut [u8], at: usize) -> Turn
+pub(crate) fn answer(s: Shelf, line: &[u8], records: &mut [u8], out: &mut [u8], at: usize) -> Turn
     requires { ⌜ 2160 ≤ length (now records) ⌝ }
 {
     let w = next_word(line, 0);

@@ -7,7 +7,7 @@ use crate::refuse::refuse;
 use text::write::put;
 
 // pec B...
-pub fn pec(line: &[u8], from: usize, out: &mut [u8], at: usize) -> usize {
+pub(crate) fn pec(line: &[u8], from: usize, out: &mut [u8], at: usize) -> usize {
     let mut data = [0u8; 8192];
     let l = bytes(line, from, &mut data);
     let n = l.count;

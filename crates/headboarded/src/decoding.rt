@@ -77,7 +77,7 @@ fn put_decoded(h: Head, trace: &[u16], out: &mut [u8], at: usize) -> usize {
 }
 
 // decode P p|- SYMBOL...
-pub fn decode(line: &[u8], from: usize, out: &mut [u8], at: usize) -> usize {
+pub(crate) fn decode(line: &[u8], from: usize, out: &mut [u8], at: usize) -> usize {
     let h = read_head(line, from);
     if h.what != 0 {
         return refuse(out, at, h.at, h.what);

@@ -18,7 +18,7 @@ use text::write::put;
 use wire::address::Address;
 
 // The fields of a transaction, or the place of the word that is none; `what` is 0 where all is well, and the place then is that after them.
-pub struct Fields {
+pub(crate) struct Fields {
     pub what: u8,
     pub at: usize,
     pub address: u8,
@@ -88,7 +88,7 @@ fn put_written(trace: &[u16], n: usize, out: &mut [u8], at: usize) -> usize
 }
 
 // A list after its mark, to the front of a buffer, and the place of the word after it.
-pub struct Marked {
+pub(crate) struct Marked {
     // What was expected where the line does not go on as it should; 0 where it does.
     pub what: u8,
     pub count: usize,
@@ -173,7 +173,7 @@ fn encode_data(line: &[u8], h: Head, f: Fields, out: &mut [u8], at: usize) -> us
 }
 
 // encode P p|- ADDRESS DIRECTION COMMAND w B... r B...
-pub fn encode(line: &[u8], from: usize, out: &mut [u8], at: usize) -> usize {
+pub(crate) fn encode(line: &[u8], from: usize, out: &mut [u8], at: usize) -> usize {
     let h = read_head(line, from);
     if h.what != 0 {
         return refuse(out, at, h.at, h.what);

@@ -58,7 +58,7 @@ fn put_rows(c: Controller, out: &mut [u8], at: usize) -> usize {
 }
 
 // grid
-pub fn grid(s: Shelf, line: &[u8], from: usize, out: &mut [u8], at: usize) -> usize {
+pub(crate) fn grid(s: Shelf, line: &[u8], from: usize, out: &mut [u8], at: usize) -> usize {
     let rest = next_word(line, from);
     if rest.from < line.len() {
         return refuse(out, at, rest.from, END);

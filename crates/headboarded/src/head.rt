@@ -6,7 +6,7 @@ use crate::take::take_protocol;
 
 // Where a word is not as it should be, what was expected at which place; else `what` is 0, and
 // the place is that after them.
-pub struct Head {
+pub(crate) struct Head {
     pub what: u8,
     pub at: usize,
     pub protocol: u8,
@@ -23,7 +23,7 @@ fn no_head(what: u8, at: usize) -> Head {
 }
 
 // P p|-
-pub fn read_head(line: &[u8], from: usize) -> Head {
+pub(crate) fn read_head(line: &[u8], from: usize) -> Head {
     let p = take_protocol(line, from);
     if !p.good {
         return no_head(PROTOCOL, p.from);

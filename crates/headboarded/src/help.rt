@@ -68,7 +68,7 @@ fn help_rest() {
 }
 
 // What the first argument asks for.
-pub fn argument() {
+pub(crate) fn argument() {
     let mut buffer = [0u8; 16];
     let n = os::arg(1, &mut buffer);
     let word = &buffer[..n];

@@ -16,13 +16,13 @@ use text::word::line_end;
 use text::word::part;
 
 // How many characters of the line are held, and whether there were more than the buffer has room for.
-pub struct Held {
+pub(crate) struct Held {
     pub count: usize,
     pub long: bool,
 }
 
 // What is carried through the input. The output is empty between two parts.
-pub struct Session {
+pub(crate) struct Session {
     pub shelf: Shelf,
     pub held: Held,
     pub at: usize,
@@ -35,7 +35,7 @@ fn nothing() -> Held {
     }
 }
 
-pub fn new_session() -> Session {
+pub(crate) fn new_session() -> Session {
     let shelf = new_shelf();
     let held = nothing();
     Session { shelf, held, at: 0 }
@@ -123,7 +123,7 @@ fn lines(s: Session, chars: &[u8], line: &mut [u8], records: &mut [u8], out: &mu
 }
 
 // A part of the input: its lines are answered, and the answers go out.
-pub fn take_part(
+pub(crate) fn take_part(
     s: Session,
     chars: &[u8],
     line: &mut [u8],
@@ -140,7 +140,7 @@ pub fn take_part(
 }
 
 // The end of the input ends a line that has begun.
-pub fn end_last(s: Session, line: &[u8], records: &mut [u8], out: &mut [u8])
+pub(crate) fn end_last(s: Session, line: &[u8], records: &mut [u8], out: &mut [u8])
     requires { ⌜ 2160 ≤ length (now records) ⌝ }
 {
     let held = s.held;

@@ -5,13 +5,13 @@ use crate::take::take_byte;
 use crate::take::take_symbol;
 
 // How many numbers, and the place of the word after them.
-pub struct List {
+pub(crate) struct List {
     pub count: usize,
     pub at: usize,
 }
 
 // The bytes from a place on, to the front of a buffer. A line has no room for more than 8,192 of them.
-pub fn bytes(line: &[u8], from: usize, out: &mut [u8]) -> List
+pub(crate) fn bytes(line: &[u8], from: usize, out: &mut [u8]) -> List
     ensures { λ r. ⌜ r .count ≤ length (now (out .exit)) ⌝ }
 {
     let mut n: usize = 0;
@@ -32,7 +32,7 @@ pub fn bytes(line: &[u8], from: usize, out: &mut [u8]) -> List
 }
 
 // The symbols from a place on, in the same way.
-pub fn symbols(line: &[u8], from: usize, out: &mut [u16]) -> List
+pub(crate) fn symbols(line: &[u8], from: usize, out: &mut [u16]) -> List
     ensures { λ r. ⌜ r .count ≤ length (now (out .exit)) ⌝ }
 {
     let mut n: usize = 0;

@@ -64,7 +64,7 @@ fn told(s: Shelf, next: Stepped, out: &mut [u8], at: usize) -> Turn {
 }
 
 // start: a controller with the addresses that are occupied now begins a pass.
-pub fn start(s: Shelf, line: &[u8], from: usize, out: &mut [u8], at: usize) -> Turn {
+pub(crate) fn start(s: Shelf, line: &[u8], from: usize, out: &mut [u8], at: usize) -> Turn {
     let rest = next_word(line, from);
     if rest.from < line.len() {
         let next = refuse(out, at, rest.from, END);
@@ -75,7 +75,7 @@ pub fn start(s: Shelf, line: &[u8], from: usize, out: &mut [u8], at: usize) -> T
 }
 
 // step SYMBOL...
-pub fn step(s: Shelf, line: &[u8], from: usize, out: &mut [u8], at: usize) -> Turn {
+pub(crate) fn step(s: Shelf, line: &[u8], from: usize, out: &mut [u8], at: usize) -> Turn {
     let mut trace = [0u16; 8192];
     let l = symbols(line, from, &mut trace);
     let n = l.count;
@@ -97,7 +97,7 @@ fn put_found(f: Found, out: &mut [u8], at: usize) -> usize {
 }
 
 // lookup A
-pub fn lookup(s: Shelf, line: &[u8], from: usize, out: &mut [u8], at: usize) -> usize {
+pub(crate) fn lookup(s: Shelf, line: &[u8], from: usize, out: &mut [u8], at: usize) -> usize {
     let a = take_byte(line, from);
     if !a.good {
         return refuse(out, at, a.from, BYTE);

@@ -9,14 +9,14 @@ use udid::Udid;
 const OUTPUT: i32 = 1;
 
 // What stands before a place goes out.
-pub fn flush(out: &[u8], at: usize) {
+pub(crate) fn flush(out: &[u8], at: usize) {
     if at <= out.len() {
         io::write_all(OUTPUT, &out[..at]);
     }
 }
 
 // A place with at least 128 characters after it: the same, or the front of the buffer after all before it has gone out.
-pub fn room(out: &[u8], at: usize) -> usize {
+pub(crate) fn room(out: &[u8], at: usize) -> usize {
     if at <= out.len() {
         if out.len() - at >= 128 {
             return at;
@@ -27,19 +27,19 @@ pub fn room(out: &[u8], at: usize) -> usize {
 }
 
 // A decimal number after a blank.
-pub fn put_number(out: &mut [u8], at: usize, n: u64) -> usize {
+pub(crate) fn put_number(out: &mut [u8], at: usize, n: u64) -> usize {
     let to = put(out, at, b" ");
     put_decimal(out, to, n)
 }
 
 // A byte or an address after a blank, as 0x and two digits.
-pub fn put_hex(out: &mut [u8], at: usize, b: u8) -> usize {
+pub(crate) fn put_hex(out: &mut [u8], at: usize, b: u8) -> usize {
     let to = put(out, at, b" 0x");
     put_pair(out, to, b)
 }
 
 // An identifier after a blank, 32 digits, highest byte first.
-pub fn put_udid(out: &mut [u8], at: usize, u: Udid) -> usize {
+pub(crate) fn put_udid(out: &mut [u8], at: usize, u: Udid) -> usize {
     let mut bytes = [0u8; 16];
     u.put_bytes(&mut bytes, 0);
     let to = put(out, at, b" ");
@@ -47,7 +47,7 @@ pub fn put_udid(out: &mut [u8], at: usize, u: Udid) -> usize {
 }
 
 // Bytes, each after a blank.
-pub fn put_list(out: &mut [u8], at: usize, s: &[u8]) -> usize {
+pub(crate) fn put_list(out: &mut [u8], at: usize, s: &[u8]) -> usize {
     let mut to = at;
     let mut i: usize = 0;
     while i < s.len() {
@@ -62,7 +62,7 @@ fn wide(x: u16) -> u64 {
 }
 
 // Symbols, each after a blank.
-pub fn put_symbols(out: &mut [u8], at: usize, s: &[u16]) -> usize {
+pub(crate) fn put_symbols(out: &mut [u8], at: usize, s: &[u16]) -> usize {
     let mut to = at;
     let mut i: usize = 0;
     while i < s.len() {
@@ -73,12 +73,12 @@ pub fn put_symbols(out: &mut [u8], at: usize, s: &[u16]) -> usize {
 }
 
 // The end of an answer line.
-pub fn put_end(out: &mut [u8], at: usize) -> usize {
+pub(crate) fn put_end(out: &mut [u8], at: usize) -> usize {
     put(out, at, b"\n")
 }
 
 // A line of its own.
-pub fn put_line(out: &mut [u8], at: usize, s: &[u8]) -> usize {
+pub(crate) fn put_line(out: &mut [u8], at: usize, s: &[u8]) -> usize {
     let to = put(out, at, s);
     put_end(out, to)
 }

@@ -3,27 +3,27 @@ use crate::print::put_end;
 use crate::print::put_number;
 use text::write::put;
 
-pub const VERB: u8 = 1;
+pub(crate) const VERB: u8 = 1;
 
-pub const BYTE: u8 = 2;
+pub(crate) const BYTE: u8 = 2;
 
-pub const SYMBOL: u8 = 3;
+pub(crate) const SYMBOL: u8 = 3;
 
-pub const PROTOCOL: u8 = 4;
+pub(crate) const PROTOCOL: u8 = 4;
 
-pub const PEC: u8 = 5;
+pub(crate) const PEC: u8 = 5;
 
-pub const SENT: u8 = 6;
+pub(crate) const SENT: u8 = 6;
 
-pub const RECEIVED: u8 = 7;
+pub(crate) const RECEIVED: u8 = 7;
 
-pub const UDID: u8 = 8;
+pub(crate) const UDID: u8 = 8;
 
-pub const END: u8 = 9;
+pub(crate) const END: u8 = 9;
 
-pub const TARGETS: u8 = 10;
+pub(crate) const TARGETS: u8 = 10;
 
-pub const LONG: u8 = 11;
+pub(crate) const LONG: u8 = 11;
 
 // What was expected.
 fn put_expected(out: &mut [u8], at: usize, what: u8) -> usize {
@@ -43,7 +43,7 @@ fn put_expected(out: &mut [u8], at: usize, what: u8) -> usize {
 }
 
 // The refusal of a line at a place.
-pub fn refuse(out: &mut [u8], at: usize, place: usize, what: u8) -> usize {
+pub(crate) fn refuse(out: &mut [u8], at: usize, place: usize, what: u8) -> usize {
     let column = std::num::wrapping_add_u64(place as u64, 1);
     let a = put(out, at, b"?");
     let b = put_number(out, a, column);

@@ -136,7 +136,7 @@ fn run_records(occupied: Pool, n: usize, records: &mut [u8], out: &mut [u8], at:
 }
 
 // run
-pub fn run(
+pub(crate) fn run(
     s: Shelf,
     line: &[u8],
     from: usize,

@@ -64,7 +64,7 @@ fn occupy_all(s: Shelf, addresses: &[u8], out: &mut [u8], at: usize) -> Turn {
 }
 
 // occupied A...
-pub fn occupy(s: Shelf, line: &[u8], from: usize, out: &mut [u8], at: usize) -> Turn {
+pub(crate) fn occupy(s: Shelf, line: &[u8], from: usize, out: &mut [u8], at: usize) -> Turn {
     let mut addresses = [0u8; 8192];
     let l = bytes(line, from, &mut addresses);
     let n = l.count;
@@ -76,7 +76,7 @@ pub fn occupy(s: Shelf, line: &[u8], from: usize, out: &mut [u8], at: usize) -> 
 }
 
 // What target's words say, and the place of the first of them; or what was expected at which place.
-pub struct Asked {
+pub(crate) struct Asked {
     pub what: u8,
     pub at: usize,
     pub udid: Udid,
@@ -133,7 +133,7 @@ fn put_record(records: &mut [u8], n: usize, u: Udid, byte: u8, flag: u8)
 }
 
 // target UDID BYTE FLAG
-pub fn target(
+pub(crate) fn target(
     s: Shelf,
     line: &[u8],
     from: usize,
@@ -168,7 +168,7 @@ pub fn target(
 }
 
 // clear
-pub fn clear(s: Shelf, line: &[u8], from: usize, out: &mut [u8], at: usize) -> Turn {
+pub(crate) fn clear(s: Shelf, line: &[u8], from: usize, out: &mut [u8], at: usize) -> Turn {
     let rest = next_word(line, from);
     if rest.from < line.len() {
         let next = refuse(out, at, rest.from, END);

@@ -2,7 +2,7 @@
 use arp::state::Controller;
 use pool::Pool;
 
-pub struct Shelf {
+pub(crate) struct Shelf {
     // The occupied addresses, for the next start and the next run.
     pub occupied: Pool,
     // How many target records there are.
@@ -12,13 +12,13 @@ pub struct Shelf {
 }
 
 // What a request leaves: the shelf, and the place after the answer in the output.
-pub struct Turn {
+pub(crate) struct Turn {
     pub shelf: Shelf,
     pub at: usize,
 }
 
 // No targets, nothing occupied, the controller as new.
-pub fn new_shelf() -> Shelf {
+pub(crate) fn new_shelf() -> Shelf {
     let occupied = Pool::empty();
     let controller = Controller::new(occupied);
     Shelf {

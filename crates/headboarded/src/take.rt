@@ -9,21 +9,21 @@ use text::word::same;
 use udid::Udid;
 
 // A byte that was read from a word, or that it is none; where the word begins, and where it ends.
-pub struct Byte {
+pub(crate) struct Byte {
     pub good: bool,
     pub value: u8,
     pub from: usize,
     pub next: usize,
 }
 
-pub struct Symbol {
+pub(crate) struct Symbol {
     pub good: bool,
     pub value: u16,
     pub from: usize,
     pub next: usize,
 }
 
-pub struct Identifier {
+pub(crate) struct Identifier {
     pub good: bool,
     pub value: Udid,
     pub from: usize,
@@ -49,7 +49,7 @@ fn no_symbol(from: usize) -> Symbol {
 }
 
 // The next word as a byte.
-pub fn take_byte(line: &[u8], at: usize) -> Byte {
+pub(crate) fn take_byte(line: &[u8], at: usize) -> Byte {
     let w = next_word(line, at);
     let Number::Is(n) = read_number(part(line, w.from, w.to)) else {
         return no_byte(w.from);
@@ -66,7 +66,7 @@ pub fn take_byte(line: &[u8], at: usize) -> Byte {
 }
 
 // The next word as a symbol.
-pub fn take_symbol(line: &[u8], at: usize) -> Symbol {
+pub(crate) fn take_symbol(line: &[u8], at: usize) -> Symbol {
     let w = next_word(line, at);
     let Number::Is(n) = read_number(part(line, w.from, w.to)) else {
         return no_symbol(w.from);
@@ -80,7 +80,7 @@ pub fn take_symbol(line: &[u8], at: usize) -> Symbol {
 }
 
 // The next word as an identifier.
-pub fn take_udid(line: &[u8], at: usize) -> Identifier {
+pub(crate) fn take_udid(line: &[u8], at: usize) -> Identifier {
     let w = next_word(line, at);
     let Halves::Are(high, low) = read_halves(part(line, w.from, w.to)) else {
         let none = Udid { high: 0, low: 0 };
@@ -144,7 +144,7 @@ fn protocol_name(s: &[u8]) -> u8 {
 }
 
 // The next word as a protocol, by its name or its number. A number that no protocol has is passed on.
-pub fn take_protocol(line: &[u8], at: usize) -> Byte {
+pub(crate) fn take_protocol(line: &[u8], at: usize) -> Byte {
     let w = next_word(line, at);
     let named = protocol_name(part(line, w.from, w.to));
     if named > 10 {
@@ -159,7 +159,7 @@ pub fn take_protocol(line: &[u8], at: usize) -> Byte {
 }
 
 // The next word as p, with PEC, which is 1, or -, without, which is 0.
-pub fn take_pec(line: &[u8], at: usize) -> Byte {
+pub(crate) fn take_pec(line: &[u8], at: usize) -> Byte {
     let w = next_word(line, at);
     let word = part(line, w.from, w.to);
     if same(word, b"p") {
@@ -182,7 +182,7 @@ pub fn take_pec(line: &[u8], at: usize) -> Byte {
 }
 
 // The next word is this one: the marks w and r of encode's lists.
-pub fn take_mark(line: &[u8], at: usize, mark: &[u8]) -> Byte {
+pub(crate) fn take_mark(line: &[u8], at: usize, mark: &[u8]) -> Byte {
     let w = next_word(line, at);
     if same(part(line, w.from, w.to), mark) {
         return Byte {

@@ -24,7 +24,7 @@ fn write_tag(tag: u8) {
     write_answer(tag, u, Address(0));
 }
 
-pub fn write_command(c: Command) {
+pub(crate) fn write_command(c: Command) {
     match c {
         Command::Prepare => write_tag(0),
         Command::GetUdid => write_tag(1),
@@ -68,7 +68,7 @@ fn put_finds(out: &mut [u8], c: Controller)
 }
 
 // All addresses looked up.
-pub fn write_finds(c: Controller) {
+pub(crate) fn write_finds(c: Controller) {
     let mut out = [0u8; 2176];
     put_finds(&mut out, c);
     io::write_all(OUTPUT, &out);

@@ -6,7 +6,7 @@ use pool::Pool;
 const INPUT: i32 = 0;
 
 // The next operation; 255, which is none, at the end.
-pub fn read_operation() -> u8 {
+pub(crate) fn read_operation() -> u8 {
     let mut byte = [255u8; 1];
     io::read_full(INPUT, &mut byte);
     byte[0]
@@ -37,7 +37,7 @@ fn number(bytes: &[u8]) -> u64
     n
 }
 
-pub fn read_pool() -> Pool {
+pub(crate) fn read_pool() -> Pool {
     let mut bytes = [0u8; 16];
     io::read_full(INPUT, &mut bytes);
     let low = number(&bytes);
@@ -72,7 +72,7 @@ fn read_pairs(bytes: &mut [u8], n: usize)
 }
 
 // Reads a trace, and answers how many symbols it has; none where there are more than 1,000.
-pub fn read_trace(trace: &mut [u16]) -> usize
+pub(crate) fn read_trace(trace: &mut [u16]) -> usize
     requires { ⌜ 1000 ≤ length (now trace) ⌝ }
     ensures { λ r. ⌜ r ≤ length (now (trace .exit)) ⌝ }
 {

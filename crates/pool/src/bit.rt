@@ -4,21 +4,21 @@ ghost use Prim.Native.Nat.{_%_};
 ghost use Rattle.pool.specs.Digits.{digit, plus, flip};
 
 // Digit k of n is one.
-pub fn is_one(n: u64, k: u8) -> bool
+pub(crate) fn is_one(n: u64, k: u8) -> bool
     ensures { λ r. ⌜ r ≡ digit n (k % 64) ⌝ }
 {
     (n >> (k % 64)) % 2 == 1
 }
 
 // n with digit k one.
-pub fn with_one(n: u64, k: u8) -> u64
+pub(crate) fn with_one(n: u64, k: u8) -> u64
     ensures { λ r. ⌜ r ≡ plus n (k % 64) ⌝ }
 {
     n | (1 << (k % 64))
 }
 
 // n with digit k turned over.
-pub fn turned(n: u64, k: u8) -> u64
+pub(crate) fn turned(n: u64, k: u8) -> u64
     ensures { λ r. ⌜ r ≡ flip n (k % 64) ⌝ }
 {
     n ^ (1 << (k % 64))

@@ -6,7 +6,6 @@ use mathlib.Core.Bool.{Bool, true, false}
 use mathlib.Core.Logic.{_⊎_, inl, inr, _↔_}
 use mathlib.Core.List.{List, [], _∷_, _++_}
 use native.Mathlib.Decide.{decLt}
-use native.Mathlib.Nat.{mod-eq-of-lt}
 use native.Mathlib.Omega.{arith}
 use lib.Dec.{leb, ltb, eqb}
 use lib.ListN.{length, getD}
@@ -40,7 +39,7 @@ use Rattle.arp.specs.declared.state.Controller.{Controller}
 use Rattle.arp.specs.declared.state.Stepped.{Stepped}
 use Rattle.arp.proofs.Assigned.{step-claimed, lookup-acknowledged}
 use Rattle.arp.proofs.Reach.{good-run, invariant}
-use Rattle.arp.proofs.TraceLaws.{prepare-trace, get-row, assign-row}
+use Rattle.arp.proofs.TraceLaws.{prepare-trace, get-row, assign-row-small}
 use Rattle.arp.proofs.Replayed.{all-told, lookup-told, start-hands-prepare, step-21-exactly, step-13-exactly, before-first-start-21}
 
 -- ---- the number of a step
@@ -412,8 +411,7 @@ pub command-rows : CommandRows
 command-rows = record {
   prepare = prepare-trace;
   get = get-row;
-  assign = λ u a h. assign-row u a
-      ∙ ap (λ (n : ℕ). 256 ∷ 194 ∷ 258 ∷ 4 ∷ 258 ∷ 17 ∷ 258 ∷ (acked (udidBytes u) ++ 2 * n ∷ 258 ∷ pecOf (194 ∷ 4 ∷ 17 ∷ (udidBytes u ++ 2 * n ∷ [])) ∷ 258 ∷ 257 ∷ [])) (mod-eq-of-lt h);
+  assign = assign-row-small;
 }
 
 -- THE CONTROLLER BY ITS HISTORY: what each address is known for, what the pool has, how many Get UDIDs were handed out in this pass and what

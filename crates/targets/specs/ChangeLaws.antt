@@ -1,15 +1,20 @@
 -- What Prepare To ARP and Assign Address do to the records, read off their bytes, and that nothing else meets it.
 use Prim.Native.Nat.{ℕ, zero, suc, _+_, _*_, _/_, _%_, _≤_, _<_}
 use mathlib.Core.Path.{_≡_, refl, sym, ap, _∙_, subst}
+use mathlib.Core.Bool.{Bool, true, false}
 use mathlib.Core.Logic.{_↔_}
 use mathlib.Core.List.{List, [], _∷_}
 use native.Mathlib.Decide.{ℕ-discrete, decLt}
+use native.Mathlib.Nat.{mod-eq-of-lt}
 use native.Mathlib.Omega.{arith}
 use lib.ListN.{length, getD}
 use lib.Seq.{ext-getD}
+use borrow.Author.Tests.{lt-ltb, le-ltb}
+use Rattle.lists.specs.Choice.{pick}
+use Rattle.udid.specs.Udids.{sameUdid}
 use Rattle.udid.specs.declared.Udid.{Udid}
 use Rattle.targets.specs.Target.{Target, prepared, assignedTo, mapTargets, cleared, resolve}
-use Rattle.targets.specs.Records.{addressByte, flagOf, targetAt, targetsFrom, recordCount, targetsOf, putTarget, putFrom, recordsWith}
+use Rattle.targets.specs.Records.{addressByte, flagOf, targetAt, targetsFrom, recordCount, targetsOf, putTarget, putFrom, recordsWith, assignedIn}
 use Rattle.targets.specs.RecordLaws.{other-byte, length-put-from, changed-targets, prepared-keeps, assigned-keeps}
 
 -- place k is neither the address byte nor the flag of record i
@@ -125,6 +130,38 @@ cleared-holds s = cleared-bytes s (recordsWith (cleared (targetsOf s)) s) (chang
 pub prepared-exactly : (s t : List ℕ) → (t ≡ recordsWith (cleared (targetsOf s)) s) ↔ FlagsCleared s t
 prepared-exactly s t = (λ e. subst (FlagsCleared s) (sym e) (cleared-holds s), λ c. cleared-unique s t (recordsWith (cleared (targetsOf s)) s) c (cleared-holds s))
 
--- ASSIGN REACHES THE TARGETS WITH THAT IDENTIFIER: they take the address and set the flag, and nothing else changes
-pub assigned-exactly : (u : Udid) (a : ℕ) (s t : List ℕ) → (t ≡ recordsWith (resolve u a (targetsOf s)) s) ↔ Changed (assignedTo u a) s t
-assigned-exactly u a s t = changed-exactly (assignedTo u a) (assigned-keeps u a) s t
+-- the two cases of Assign
+pub assigned-above : (u : Udid) (a : ℕ) (s : List ℕ) → 127 < a → assignedIn u a s ≡ s
+assigned-above u a s h = rw (lt-ltb 127 a h)
+
+pub assigned-below : (u : Udid) (a : ℕ) (s : List ℕ) → a ≤ 127 → assignedIn u a s ≡ recordsWith (resolve u a (targetsOf s)) s
+assigned-below u a s h = rw (le-ltb 127 a h)
+
+-- what Assign leaves: of a number above 127 all as it was; of an address, each target with that identifier takes it and sets the flag
+pub record Assigned (u : Udid) (a : ℕ) (s t : List ℕ) : Type 0 where
+  pub above-127 : 127 < a → t ≡ s
+  pub taken : a ≤ 127 → Changed (assignedTo u a) s t
+
+-- ASSIGN REACHES THE TARGETS WITH THAT IDENTIFIER, and with a number above 127 none; nothing else changes
+pub assigned-exactly : (u : Udid) (a : ℕ) (s t : List ℕ) → (t ≡ assignedIn u a s) ↔ Assigned u a s t
+assigned-exactly u a s t = (
+  λ e. record {
+    above-127 = λ h. e ∙ assigned-above u a s h;
+    taken = λ h. changed-exactly (assignedTo u a) (assigned-keeps u a) s t .0 (e ∙ assigned-below u a s h);
+  },
+  λ c. back c (decLt 127 a),
+)
+  where
+    back : Assigned u a s t → Dec (127 < a) → t ≡ assignedIn u a s
+    back c (yes h) = c .above-127 h ∙ sym (assigned-above u a s h)
+    back c (no h) =
+        changed-exactly (assignedTo u a) (assigned-keeps u a) s t .1 (c .taken (omega arith)) ∙ sym (assigned-below u a s (omega arith))
+
+-- what a target takes: twice the address plus 1, and flag 1; a target with another identifier stays
+pub takes-address : (u : Udid) (a : ℕ) (t : Target) → a ≤ 127 → sameUdid (t .udid) u ≡ true → assignedTo u a t ≡ record { udid = t .udid; addressByte = 2 * a + 1; flag = 1 }
+takes-address u a t h e =
+    ap (λ (b : Bool). pick b (record { udid = t .udid; addressByte = 2 * (a % 128) + 1; flag = 1 }) t) e
+    ∙ ap (λ (n : ℕ). record { udid = t .udid; addressByte = 2 * n + 1; flag = 1 }) (mod-eq-of-lt (omega arith))
+
+pub others-stay : (u : Udid) (a : ℕ) (t : Target) → sameUdid (t .udid) u ≡ false → assignedTo u a t ≡ t
+others-stay u a t e = ap (λ (b : Bool). pick b (record { udid = t .udid; addressByte = 2 * (a % 128) + 1; flag = 1 }) t) e

@@ -1,10 +1,12 @@
 -- The records of targets, 18 bytes each: the identifier, highest byte first, the device address byte, the resolved flag.
 use Prim.Native.Nat.{ℕ, zero, suc, _+_, _*_, _/_}
 use mathlib.Core.List.{List, [], _∷_}
+use lib.Dec.{ltb}
 use lib.ListN.{length, getD, set}
+use Rattle.lists.specs.Choice.{pick}
 use Rattle.udid.specs.Bytes.{udidAt}
 use Rattle.udid.specs.declared.Udid.{Udid}
-use Rattle.targets.specs.Target.{Target}
+use Rattle.targets.specs.Target.{Target, resolve}
 
 -- the three fields of record i
 abbrev pub udidOf : List ℕ → ℕ → Udid
@@ -42,3 +44,7 @@ putFrom (t ∷ ts) i s = putFrom ts (suc i) (putTarget i t s)
 
 abbrev pub recordsWith : List Target → List ℕ → List ℕ
 recordsWith ts s = putFrom ts 0 s
+
+-- what the function assign leaves: a number above 127 is no address, and nothing changes
+abbrev pub assignedIn : Udid → ℕ → List ℕ → List ℕ
+assignedIn u a s = pick (ltb 127 a) s (recordsWith (resolve u a (targetsOf s)) s)

@@ -2,8 +2,8 @@
 ghost use mathlib.Core.Path.{_≡_};
 ghost use Prim.Native.Nat.{_+_, _*_, _≤_};
 ghost use lib.ListN.{length};
-ghost use Rattle.targets.specs.Target.{assignedTo, resolve};
-ghost use Rattle.targets.specs.Records.{targetAt, targetsOf, putTarget, recordsWith};
+ghost use Rattle.targets.specs.Target.{assignedTo};
+ghost use Rattle.targets.specs.Records.{targetAt, putTarget, assignedIn};
 use super::fields;
 use udid::Udid;
 use wire::address::Address;
@@ -21,11 +21,14 @@ fn assign_one(records: &mut [u8], i: usize, u: Udid, a: Address)
     }
 }
 
-// Every record with that identifier takes the address and sets its flag, and nothing else changes. Of an address above 127 the low
-// seven bits are taken.
+// Every record with that identifier takes the address and sets its flag, and nothing else changes. A number above 127 is no address:
+// nothing changes at all.
 pub fn assign(records: &mut [u8], u: Udid, a: Address)
-    ensures { λ r. ⌜ now (records .exit) ≡ recordsWith (resolve u (a .0) (targetsOf (now (records .entry)))) (now (records .entry)) ⌝ }
+    ensures { λ r. ⌜ now (records .exit) ≡ assignedIn u (a .0) (now (records .entry)) ⌝ }
 {
+    if a.0 > 127 {
+        return;
+    }
     let n = records.len() / 18;
     let mut i: usize = 0;
     while i < n {

@@ -14,7 +14,7 @@ fn is_malformed(records: &[u8], i: usize) -> bool
 }
 
 // The first such record below n, or n.
-pub fn first_malformed(records: &[u8], n: usize) -> usize
+pub(crate) fn first_malformed(records: &[u8], n: usize) -> usize
     ensures { λ r. ⌜ r ≡ first (isMalformed (now (records .entry))) n ⌝ }
 {
     let mut i: usize = 0;

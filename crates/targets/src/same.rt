@@ -21,7 +21,7 @@ fn first_same(records: &[u8], i: usize) -> usize
 }
 
 // The first record below n with the identifier of an earlier one, or n.
-pub fn first_repeated(records: &[u8], n: usize) -> usize
+pub(crate) fn first_repeated(records: &[u8], n: usize) -> usize
     ensures { λ r. ⌜ r ≡ first (isRepeated (now (records .entry))) n ⌝ }
 {
     let mut i: usize = 0;

@@ -46,7 +46,7 @@ fn is_taken(records: &[u8], i: usize, starting: Pool) -> bool
 }
 
 // The first such record below n, or n.
-pub fn first_taken(records: &[u8], n: usize, starting: Pool) -> usize
+pub(crate) fn first_taken(records: &[u8], n: usize, starting: Pool) -> usize
     ensures { λ r. ⌜ r ≡ first (isTaken starting (now (records .entry))) n ⌝ }
 {
     let mut i: usize = 0;

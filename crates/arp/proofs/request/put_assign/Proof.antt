@@ -1,4 +1,4 @@
-use Rattle.arp.proofs.Requests.{same-data}
+use Rattle.arp.proofs.Requests.{assign-data-written, no-address}
 use denote.Ref.{now}
 use borrow.Author.Needs.{needs}
 use Rattle.arp.proofs.request.put_assign.Statement.{statement}
@@ -34,16 +34,21 @@ same-length c = search needs
 
 -- src/request.rt:38:1
 returns : tie.Need-returns
-returns c = let s = c .before .before .before .before .before .before .before .before .args in same-data _ _ (now (s .out)) (c .before .before .encode .result) _ (c .before .before .before .before .before .before .assign-data .ensures) (c .before .before .encode .ensures)
+returns c = no-address _ _ _ (c .if1 .taken)
+
+-- src/request.rt:38:1
+returns-2 : tie.Need-returns-2
+returns-2 c = let s = c .before .before .before .before .before .before .before .before .before .before .args in assign-data-written (s .u) (s .a) _ (now (s .out)) (c .before .before .encode .result) _ (c .before .before .before .before .before .before .before .if1 .left) (c .before .before .before .before .before .before .assign-data .ensures) (c .before .before .encode .ensures)
 
 pub put-assign-spec : {M : Type 1} → statement M
 put-assign-spec =
     tie.close
     (tie.spec
+    returns
     assign-data-requires
     slice-aggregate-encode
     array-share-prefix-none
     slice-aggregate-encode-2
     encode-requires
     same-length
-    returns)
+    returns-2)

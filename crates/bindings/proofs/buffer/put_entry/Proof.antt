@@ -1,7 +1,8 @@
-use mathlib.Core.Path.{ap, _∙_}
+use Prim.Native.Nat.{_*_}
+use mathlib.Core.Path.{sym, ap, _∙_}
 use Rattle.udid.specs.Bytes.{udidBytes, putAt}
 use Rattle.udid.specs.declared.Udid.{Udid}
-use Prim.Native.Nat.{_*_}
+use Rattle.bindings.specs.BufferLaws.{put-above, put-below}
 use borrow.Author.Needs.{needs}
 use Rattle.bindings.proofs.buffer.put_entry.Statement.{statement}
 use Rattle.bindings.proofs.buffer.put_entry.Tie as tie
@@ -11,29 +12,37 @@ use Rattle.bindings.proofs.entry.Entry.udid.Reads as udid-reads
 use Rattle.udid.proofs.Udid.put_bytes.Reads as put-bytes-reads
 
 -- src/buffer.rt:14:9
+returns : tie.Need-returns
+returns c = let s = c .before .before .before .args in sym (put-above (s .out .now) (s .a .0) (s .e) (c .if1 .taken))
+
+-- src/buffer.rt:16:9
 udid-requires : tie.Need-udid-requires
 udid-requires c κs = search needs
 
--- src/buffer.rt:15:13
+-- src/buffer.rt:17:13
 cast-n : tie.Need-cast-n
 cast-n c = search needs
 
--- src/buffer.rt:16:31
+-- src/buffer.rt:18:31
 mul-put-bytes : tie.Need-mul-put-bytes
 mul-put-bytes c = search needs
 
--- src/buffer.rt:16:5
+-- src/buffer.rt:18:5
 put-bytes-requires : tie.Need-put-bytes-requires
 put-bytes-requires c κs = search needs
 
--- src/buffer.rt:11:1
+-- src/buffer.rt:10:1
 same-length : tie.Need-same-length
 same-length c = search needs
 
--- src/buffer.rt:11:1
-returns : tie.Need-returns
-returns c = c .before .before .put-bytes .ensures ∙ ap (λ (u : Udid). putAt (c .before .before .before .before .before .before .before .args .out .now) (16 * c .before .before .before .before .before .before .before .args .a .0) (udidBytes u)) (c .before .before .before .before .before .udid .ensures)
+-- src/buffer.rt:10:1
+returns-2 : tie.Need-returns-2
+returns-2 c = let s = c .before .before .before .before .before .before .before .before .before .args in
+    c .before .before .put-bytes .ensures
+    ∙ ap (λ (u : Udid). putAt (s .out .now) (16 * s .a .0) (udidBytes u)) (c .before .before .before .before .before .udid .ensures)
+    ∙ sym (put-below (s .out .now) (s .a .0) (s .e) (c .before .before .before .before .before .before .if1 .left))
 
 pub put-entry-spec : {M : Type 1} → statement M
 put-entry-spec =
-    tie.close (tie.spec udid-requires cast-n mul-put-bytes put-bytes-requires same-length returns)
+    tie.close
+    (tie.spec returns udid-requires cast-n mul-put-bytes put-bytes-requires same-length returns-2)

@@ -5,7 +5,7 @@ use Rattle.arp.specs.declared.command.Command.{Command}
 use Rattle.targets.specs.Records.{targetsOf, recordsWith}
 use Rattle.targets.specs.Target.{Target}
 use Rattle.rule.specs.EffectLaws.{acted}
-use Rattle.bus.specs.TurnLaws.{same-records}
+use Rattle.bus.specs.TurnLaws.{same-records, assign-acted}
 use Rattle.bus.proofs.Tags.{unacted}
 use borrow.Author.Needs.{needs}
 use Rattle.bus.proofs.act.act.Statement.{statement}
@@ -45,7 +45,7 @@ same-length-2 c = search needs
 
 -- src/act.rt:10:1
 returns-2 : tie.Need-returns-2
-returns-2 c = c .before .before .assign .ensures ∙ ap (λ (k : Command). recordsWith (acted k (targetsOf (now (c .before .before .before .before .before .before .before .before .args .records)))) (now (c .before .before .before .before .before .before .before .before .args .records))) (sym (c .before .before .before .before .before .k .given .1))
+returns-2 c = let s = c .before .before .before .before .before .before .before .before .args in c .before .before .assign .ensures ∙ assign-acted (s .k) _ _ (c .before .before .before .before .before .k .given .1) (now (s .records)) (c .before .before .before .before .before .before .before .before .pre)
 
 -- src/act.rt:10:1
 returns-3 : tie.Need-returns-3

@@ -6,10 +6,8 @@ use native.Mathlib.Omega.{arith}
 use lib.ListN.{length, drop}
 use denote.Ref.{now}
 use borrow.Author.Needs.{needs}
-use Rattle.bindings.specs.Entries.{entryBytes, rowsOf}
+use Rattle.bindings.specs.Entries.{putEntry, rowsOf}
 use Rattle.bindings.specs.BufferLaws.{rows-none, rows-more}
-use Rattle.bindings.specs.declared.entry.Entry.{Entry}
-use Rattle.udid.specs.Bytes.{putAt}
 use Rattle.bus.specs.Run.{entryAt}
 use Rattle.bus.proofs.bindings_of.put_bindings.Statement.{statement}
 use Rattle.bus.proofs.bindings_of.put_bindings.Tie as tie
@@ -64,7 +62,7 @@ loop-again c =
       omega arith,
       c .before .before .put-entry .kept .0 ∙ l .inv .1,
       c .before .before .put-entry .ensures
-          ∙ ap (λ (e : Entry). putAt (l .out) (16 * l .a) (entryBytes e)) (c .before .before .before .before .entry-of .ensures)
+          ∙ ap (putEntry (l .out) (l .a)) (c .before .before .before .before .entry-of .ensures)
           ∙ rows-more held (l .a) (now (c .before .before .before .before .before .before .before .before .before .args .out)) (l .out) (c .before .before .before .before .before .before .before .before .before .pre) (omega arith) (l .inv .2)
           ∙ ap (λ (n : ℕ). rowsOf held n ++ drop (n * 16) (now (c .before .before .before .before .before .before .before .before .before .args .out))) (sym (add-one (l .a))),
     )

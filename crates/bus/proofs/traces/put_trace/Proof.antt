@@ -46,7 +46,7 @@ slice-aggregate-put-whole c = search needs
 
 -- src/traces.rt:83:34
 put-whole-requires : tie.Need-put-whole-requires
-put-whole-requires c κs = assign-written (c .before .before .before .before .before .before .args .k) _ _ (c .before .before .enum-told3 .given .1) (now (c .before .before .before .before .before .before .args .out)) (c .before .before .before .before .before .before .pre .2)
+put-whole-requires c κs = let s = c .before .before .before .before .before .before .args in assign-written (s .k) _ _ (c .before .before .enum-told3 .given .1) (targetsOf (now (s .records))) (c .before .before .before .before .before .before .pre .1) (now (s .out)) (c .before .before .before .before .before .before .pre .2)
 
 -- src/traces.rt:76:1
 same-length : tie.Need-same-length

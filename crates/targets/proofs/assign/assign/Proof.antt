@@ -8,6 +8,7 @@ use lib.ListN.{length}
 use Rattle.udid.specs.declared.Udid.{Udid}
 use Rattle.targets.specs.Records.{targetAt, targetsFrom, putTarget, putFrom}
 use Rattle.targets.specs.Target.{assignedTo, resolve}
+use Rattle.targets.specs.ChangeLaws.{assigned-above, assigned-below}
 use Rattle.targets.specs.RecordLaws.{change-more, length-put}
 use Rattle.targets.proofs.assign.assign.Statement.{statement}
 use Rattle.targets.proofs.assign.assign.Tie as tie
@@ -28,6 +29,10 @@ Inv-loop records₀ u a n i₀ records i = (i ≤ n) × (length records ≡ leng
 abbrev μ-loop : tie.MeasureT-loop
 μ-loop records₀ u a n i₀ records i = n - i
 
+-- src/assign.rt:26:1
+returns : tie.Need-returns Inv-loop μ-loop
+returns c = sym (assigned-above _ _ _ (c .if1 .taken))
+
 -- src/assign.rt:31:5
 loop-holds : tie.Need-loop-holds Inv-loop μ-loop
 loop-holds c = (omega arith, refl, simp sub-zero)
@@ -47,7 +52,7 @@ loop-less c = omega arith
 -- src/assign.rt:31:5
 loop-again : tie.Need-loop-again Inv-loop μ-loop
 loop-again c = let l = c .before .before .before .before .before .loop in
-    let s = c .before .before .before .before .before .before .before .args in
+    let s = c .before .before .before .before .before .before .before .before .before .args in
     let e = c .before .before .assign-one .ensures in (
       omega arith,
       ap length e ∙ length-put (l .i) _ (l .records) ∙ l .inv .1,
@@ -60,8 +65,12 @@ same-length : tie.Need-same-length Inv-loop μ-loop
 same-length c = c .before .loop .inv .1
 
 -- src/assign.rt:26:1
-returns : tie.Need-returns Inv-loop μ-loop
-returns c = let z : (length (c .before .before .before .args .records .now) / 18) - c .before .loop .i ≡ 0 = omega arith in sym (c .before .loop .inv .2 ∙ ap (λ (x : ℕ). putFrom (resolve (c .before .before .before .args .u) (c .before .before .before .args .a .0) (targetsFrom (c .before .loop .records) x (c .before .loop .i))) (c .before .loop .i) (c .before .loop .records)) z)
+returns-2 : tie.Need-returns-2 Inv-loop μ-loop
+returns-2 c = let s = c .before .before .before .before .before .args in
+    let z : (length (s .records .now) / 18) - c .before .loop .i ≡ 0 = omega arith in
+    sym (assigned-below (s .u) (s .a .0) (s .records .now) (c .before .before .if1 .left)
+    ∙ c .before .loop .inv .2
+    ∙ ap (λ (x : ℕ). putFrom (resolve (s .u) (s .a .0) (targetsFrom (c .before .loop .records) x (c .before .loop .i))) (c .before .loop .i) (c .before .loop .records)) z)
 
 pub assign-spec : {M : Type 1} → statement M
 assign-spec =
@@ -69,10 +78,11 @@ assign-spec =
     (tie.spec
     Inv-loop
     μ-loop
+    returns
     loop-holds
     assign-one-requires
     add-i
     loop-less
     loop-again
     same-length
-    returns)
+    returns-2)
