@@ -19,9 +19,15 @@ use Rattle.trace.specs.Allowed.{allowed}
 use Rattle.trace.specs.ValidLaws.{allowed-valid, valid-allowed}
 use Rattle.encode.specs.declared.Encoded.{Encoded}
 use Rattle.encode.specs.declared.Encoded.the-variants.{Written, Forbidden, OutputTooShort}
-use Rattle.encode.specs.Encode.{number, refused, encoded, symbolsOf, Wrote}
+use Rattle.encode.specs.Encode.{number, message, refused, encoded, symbolsOf, Wrote}
 use Rattle.encode.specs.Listed.{Listed, protocol-above-10, quick-with-pec}
 use Rattle.encode.specs.ListedLaws.{refused-listed, listed-refused}
+
+-- ---- what a caller gives: each part is the field of its name
+
+pub message-fields : (a d c : ℕ) (s r : List ℕ)
+    → (message a d c s r .address ≡ a) × (message a d c s r .direction ≡ d) × (message a d c s r .command ≡ c) × (message a d c s r .sent ≡ s) × (message a d c s r .received ≡ r)
+message-fields a d c s r = (refl, refl, refl, refl, refl)
 
 -- ---- the answer
 

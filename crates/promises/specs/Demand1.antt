@@ -2,16 +2,16 @@
 -- That every entry returns on every input is what its proof says; here stands what the answers are.
 use mathlib.Core.Path.{_≡_, refl, ap, _∙_, subst}
 use mathlib.Core.Bool.{Bool, true, false}
-use mathlib.Core.List.{List}
+use mathlib.Core.List.{List, [], _∷_}
 use mathlib.Core.Logic.{_⊎_, inl, inr, _↔_}
-use Prim.Native.Nat.{ℕ, _-_, _/_, _≤_, _<_}
+use Prim.Native.Nat.{ℕ, _-_, _*_, _/_, _≤_, _<_}
 use native.Mathlib.Omega.{arith}
 use lib.Dec.{ltb}
 use lib.ListN.{length, take, drop, getD}
 use lib.Seq.{take-at, drop-at}
 use borrow.Author.Tests.{ltb-true, lt-ltb, le-ltb}
 use Rattle.lists.specs.Choice.{or}
-use Rattle.trace.specs.Covered.{Covered}
+use Rattle.trace.specs.Covered.{Covered, send-byte}
 use Rattle.trace.specs.CoveredLaws.{rows-cover, covered-valid}
 use Rattle.trace.specs.ForbiddenLaws.{forbidden-cases, taken-cases}
 use Rattle.trace.specs.ShapeLaws.{sane}
@@ -24,6 +24,7 @@ use Rattle.encode.specs.Encode.{number, Wrote}
 use Rattle.encode.specs.Listed.{Listed}
 use Rattle.encode.specs.EncodeMeans as encode
 use Rattle.step.specs.Answers.{Breaks, CutAt, Fits, Member, OtherPec, summary}
+use Rattle.step.specs.BytesInLaws.{byte-more}
 use Rattle.step.specs.Paper.{paper}
 use Rattle.step.specs.Run.{decodedBy}
 use Rattle.step.specs.declared.answer.Decoded.{Decoded}
@@ -36,9 +37,15 @@ use Rattle.decode.proofs.Theorems as decode
 -- ---- the encoder
 
 module _ (protocol : ℕ) (pec : Bool) (t : Message) (before : List ℕ) (r : Encoded) (after : List ℕ) (w : Wrote protocol pec t before r after) where
+  -- 0: none of the listed cases, and room for the trace, whose length comes with it
+  pub encode-0 : (n : ℕ) → (number r ≡ (0, n)) ↔ ((Listed protocol pec t → ⊥) × (n ≡ length (trace (shapeOf protocol) pec t)) × (n ≤ length before))
+  encode-0 n = encode.answer-0 protocol pec t before r after w n
+
+  -- 1: the listed cases
   pub encode-1 : (number r ≡ (1, 0)) ↔ Listed protocol pec t
   encode-1 = encode.answer-1 protocol pec t before r after w
 
+  -- 2: none of them, and an output shorter than the trace
   pub encode-2 : (number r ≡ (2, 0)) ↔ ((Listed protocol pec t → ⊥) × (length before < length (trace (shapeOf protocol) pec t)))
   encode-2 = encode.answer-2 protocol pec t before r after w
 
@@ -157,6 +164,10 @@ module _ (protocol : ℕ) (pec : Bool) (tr sent₀ received₀ : List ℕ) (a : 
   pub decode-7 : (place : ℕ) → (paper a ≡ (7, place)) ↔ (Read protocol pec sent₀ received₀ × OtherPec shape pec tr place)
   decode-7 k = by-trace _ 7 k (λ e. omega (arith, e)) (λ e. omega (arith, e)) (step.number-7 protocol shape (sane protocol) pec tr k)
 
+  -- and that place is where the PEC stands
+  pub decode-7-place : (place : ℕ) (q : OtherPec shape pec tr place) → getD tr place 0 ≡ q .pec
+  decode-7-place k q = step.pec-there protocol shape (sane protocol) pec tr k q
+
   -- 8: symbols after STOP
   pub decode-8 : (place : ℕ) → (paper a ≡ (8, place))
       ↔ (Read protocol pec sent₀ received₀ × ((place < length tr) × Member shape pec (take place tr) × (getD tr place 0 ≤ 259)))
@@ -202,3 +213,22 @@ module _ (protocol : ℕ) (pec : Bool) (tr sent₀ received₀ : List ℕ) (a : 
 
   pub decode-refusal : (paper a .0 ≡ 0 → ⊥) → (sent ≡ sent₀) × (received ≡ received₀)
   decode-refusal n = decode.refusal-changes-nothing protocol pec tr sent₀ received₀ a sent received o n
+
+-- a Send Byte whose data byte the target does not acknowledge is 6 with 1, whatever that byte is
+pub send-byte-cut : (a d : ℕ) → a < 128 → d < 256 → (sent₀ received₀ : List ℕ) → 255 ≤ length sent₀ → 255 ≤ length received₀ → (r : Decoded) (sent received : List ℕ)
+    → Outcome 1 false (256 ∷ 2 * a ∷ 258 ∷ d ∷ 259 ∷ 257 ∷ []) sent₀ received₀ r sent received → paper r ≡ (6, 1)
+send-byte-cut a d ha hd sent₀ received₀ ls lr r sent received o =
+    decode-6 1 false (256 ∷ 2 * a ∷ 258 ∷ d ∷ 259 ∷ 257 ∷ []) sent₀ received₀ r sent received o 1 .1 (
+      record { known = omega arith; quick = λ e. refl; sent-long = ls; received-long = lr },
+      record {
+        message = record { address = a; direction = 0; command = 0; sent = d ∷ []; received = [] };
+        pec = 0;
+        valid = covered-valid 1 _ (send-byte a d refl ha hd refl);
+        byte = tt;
+        before = 256 ∷ 2 * a ∷ 258 ∷ d ∷ [];
+        after = [];
+        ack = refl;
+        is = refl;
+        number = ap length (byte-more (2 * a) (258 ∷ d ∷ []) (omega arith) ∙ ap (λ (l : List ℕ). 2 * a ∷ l) (byte-more d [] hd));
+      },
+    )

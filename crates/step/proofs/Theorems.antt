@@ -10,6 +10,7 @@ use lib.ListN.{length, take, getD}
 use Rattle.trace.specs.declared.shape.Shape.{Shape}
 use Rattle.trace.specs.declared.transaction.Transaction.{Transaction}
 use Rattle.trace.specs.Trace.{Message, trace, Valid}
+use Rattle.trace.specs.PecPlaceLaws.{pec-found}
 use Rattle.trace.specs.ShapeLaws.{Sane}
 use Rattle.step.specs.declared.answer.Decoded.{Decoded}
 use Rattle.step.specs.declared.answer.Decoded.the-variants.{Done, Forbidden, BufferTooShort, NoSymbol, EndsEarly, Unexpected, NotAcknowledged, PecDiffers, AfterStop}
@@ -147,6 +148,11 @@ module _ (num : ℕ) (sh : Shape) (hs : Sane sh) (p : Bool) where
 
     pub number-7 : (place : ℕ) → (paper answer ≡ (7, place)) ↔ OtherPec sh p tr place
     number-7 k = (λ e. given 7 k e .0, λ h. gives (PecDiffers k) (h, refl, refl))
+
+    -- and the symbol at that place is the PEC that differs
+    pub pec-there : (place : ℕ) (o : OtherPec sh p tr place) → getD tr place 0 ≡ o .pec
+    pec-there k o =
+        ap (λ (l : List ℕ). getD l k 0) (o .is) ∙ pec-found sh (o .message) (o .pec) k (o .place ∙ ap length (o .is))
 
     pub number-8 : (place : ℕ) → (paper answer ≡ (8, place)) ↔ ((place < length tr) × Member sh p (take place tr) × (getD tr place 0 ≤ 259))
     number-8 k = (λ e. (let g = given 8 k e in (g .0, g .1, g .2)), λ h. gives (AfterStop k) (h .0, h .1, h .2, refl, refl))

@@ -2,14 +2,17 @@
 use mathlib.Core.Path.{_≡_, refl, ap, _∙_}
 use mathlib.Core.Bool.{Bool, true, false}
 use mathlib.Core.List.{List, [], _∷_}
-use Prim.Native.Nat.{ℕ, _%_, _≤_, _<_}
+use mathlib.Core.Logic.{_↔_}
+use Prim.Native.Nat.{ℕ, _+_, _%_, _≤_, _<_}
 use lib.Dec.{ltb, leb, eqb}
 use lib.ListN.{List·getD-eq-default}
-use Rattle.lists.specs.Choice.{pick, not}
+use borrow.Author.Tests.{leb-true, le-leb}
+use Rattle.lists.specs.Choice.{pick, or, not}
 use Rattle.trace.specs.declared.shape.Part.the-variants.{Nothing, Fixed, Counted}
 use Rattle.trace.specs.declared.shape.Shape.{Shape}
 use Rattle.trace.specs.Shapes.{some, isCounted, countIn, leastOf, writes, reads, row, shapes, shapeOf}
-use Rattle.trace.specs.Allowed.{lengthFits, addressFits, directionFits, senderFits, commandFits}
+use Rattle.trace.specs.Allowed.{lengthFits, lengthsFit, addressFits, directionFits, senderFits, commandFits}
+use Rattle.trace.specs.ShapeLaws.{both-true}
 use Rattle.trace.specs.RowLaws.{row-is, any-address}
 
 -- ---- parts: nothing is no part; a fixed length has no count; a count adds as many bytes as it says
@@ -70,6 +73,36 @@ module _ (sh : Shape) where
 
   pub lacks-command : (c : ℕ) → sh .command ≡ false → commandFits sh c ≡ eqb c 0
   lacks-command c e = ap (λ (b : Bool). pick b (senderFits sh c) (eqb c 0)) e
+
+  -- a write phase: a command or data are sent; a read phase: data are received
+  pub command-writes : sh .command ≡ true → writes sh ≡ true
+  command-writes e = ap (λ (b : Bool). or b (some (sh .sent))) e
+
+  pub sent-writes : sh .command ≡ false → writes sh ≡ some (sh .sent)
+  sent-writes e = ap (λ (b : Bool). or b (some (sh .sent))) e
+
+  pub received-reads : reads sh ≡ some (sh .received)
+  received-reads = refl
+
+  -- with either the direction is zero; with neither it is 0 or 1
+  pub has-phase : (d : ℕ) → or (writes sh) (reads sh) ≡ true → directionFits sh d ≡ eqb d 0
+  has-phase d e = ap (λ (b : Bool). pick b (eqb d 0) (leb d 1)) e
+
+  pub lacks-phase : (d : ℕ) → or (writes sh) (reads sh) ≡ false → directionFits sh d ≡ leb d 1
+  lacks-phase d e = ap (λ (b : Bool). pick b (eqb d 0) (leb d 1)) e
+
+  -- each length fits its part, and the counts together are at most the most
+  pub lengths-exactly : (m n : ℕ) → (lengthsFit sh m n ≡ true)
+      ↔ ((lengthFits (sh .least) (sh .sent) m ≡ true) × (lengthFits (sh .least) (sh .received) n ≡ true) × (countIn (sh .sent) m + countIn (sh .received) n ≤ sh .most))
+  unfolding lengthsFit
+  lengths-exactly m n = (
+    λ e. (
+        let a = both-true (lengthFits (sh .least) (sh .sent) m) _ e in
+        let b = both-true (lengthFits (sh .least) (sh .received) n) _ (a .1) in
+        (a .0, b .0, leb-true (countIn (sh .sent) m + countIn (sh .received) n) (sh .most) (b .1))
+        ),
+    λ h. rw (h .0, h .1) (le-leb (countIn (sh .sent) m + countIn (sh .received) n) (sh .most) (h .2)),
+  )
 
 -- ---- rows: which of the eleven protocols have a write phase, and which a read phase
 

@@ -15,6 +15,7 @@ pub mod TableLengths
 pub mod WordRows
 pub mod AckedLaws
 pub mod Borders
+pub mod PecPlaceLaws
 pub mod RoomLaws
 pub mod Covered
 pub mod CoveredLaws

@@ -87,7 +87,7 @@ last-nacked (y ∷ ys) x = rw (ack-before ys x, last-nacked ys x)
 ends-plain : (r : List ℕ) (s : ℕ) → nacked ((r ++ s ∷ []) ++ []) ++ P ∷ [] ≡ acked r ++ s ∷ N ∷ P ∷ []
 ends-plain r s = rw (append-nil (r ++ s ∷ []), last-nacked r s, append-assoc (acked r) (s ∷ N ∷ []) (P ∷ []))
 
-ends-checked : (r : List ℕ) (y : ℕ) → nacked (r ++ y ∷ []) ++ P ∷ [] ≡ acked r ++ y ∷ N ∷ P ∷ []
+pub ends-checked : (r : List ℕ) (y : ℕ) → nacked (r ++ y ∷ []) ++ P ∷ [] ≡ acked r ++ y ∷ N ∷ P ∷ []
 ends-checked r y = rw (last-nacked r y, append-assoc (acked r) (y ∷ N ∷ []) (P ∷ []))
 
 pub counted-plain : (r : List ℕ) (s : ℕ) → nacked (length (r ++ s ∷ []) ∷ ((r ++ s ∷ []) ++ [])) ++ P ∷ [] ≡ (length r + 1) ∷ A ∷ (acked r ++ s ∷ N ∷ P ∷ [])
