@@ -146,6 +146,17 @@ module _ (protocol : ℕ) (pec : Bool) (tr sent₀ received₀ : List ℕ) (a : 
       back : (b c : Bool) → b ≡ false → c ≡ false → whole b c ≡ decodedBy protocol (shapeOf protocol) pec tr
       back b c e g = rw (e, g)
 
+  -- every other number is given exactly where the trace is read and has it
+  pub other-number : (n v : ℕ) → (n ≡ 1 → ⊥) → (n ≡ 2 → ⊥)
+      → (paper a ≡ (n, v)) ↔ ((forbidden protocol pec ≡ false) × (short (length sent₀) (length received₀) ≡ false) × (paper (decodedBy protocol (shapeOf protocol) pec tr) ≡ (n, v)))
+  unfolding answered
+  other-number n v one two = (λ e. there isForbidden isShort (ap paper (sym (h .answer)) ∙ e), λ k. ap paper (other-numbers (k .0) (k .1)) ∙ k .2)
+    where
+      there : (b c : Bool) → paper (whole b c) ≡ (n, v) → (b ≡ false) × (c ≡ false) × (paper (decodedBy protocol (shapeOf protocol) pec tr) ≡ (n, v))
+      there true c e = absurd (one (sym (ap (λ (x : ℕ × ℕ). x .0) e)))
+      there false true e = absurd (two (sym (ap (λ (x : ℕ × ℕ). x .0) e)))
+      there false false e = (refl, refl, e)
+
 -- a refusal changes no byte of either buffer
 no-data : (protocol : ℕ) (pec : Bool) (tr l : List ℕ) (a : Decoded) → (paper a .0 ≡ 0 → ⊥) → (onto (sentData (shapeOf protocol) tr a) l ≡ l) × (onto (receivedData pec tr a) l ≡ l)
 no-data protocol pec tr l (Done t) n = absurd (n refl)

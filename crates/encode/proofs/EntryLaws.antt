@@ -15,6 +15,7 @@ use Rattle.trace.specs.Trace.{Message, trace}
 use Rattle.trace.specs.Allowed.{addressFits, directionFits, commandFits, lengthsFit, allowed}
 use Rattle.trace.specs.Lengths.{traceLength, roomFor}
 use Rattle.trace.specs.LengthLaws.{trace-length}
+use Rattle.trace.specs.RoomLaws.{room-by}
 use Rattle.trace.specs.ShapeLaws.{sane}
 use Rattle.trace.specs.ValidLaws.{allowed-valid}
 use Rattle.encode.specs.declared.Encoded.the-variants.{Written, Forbidden, OutputTooShort}
@@ -46,13 +47,6 @@ tested protocol pec t b f h eb ef eh =
     ∙ ap (λ (x : Bool). or b (not (and f x))) eh
 
 -- a room of 0 is a refusal of the protocol, the PEC or a length; any other is the length of the trace
-room-by : (protocol : ℕ) (pec : Bool) (m n : ℕ) (b h : Bool) → forbidden protocol pec ≡ b → lengthsFit (shapeOf protocol) m n ≡ h
-    → roomFor protocol pec m n ≡ pick b 0 (pick h (traceLength (shapeOf protocol) pec m n) 0)
-unfolding roomFor
-room-by protocol pec m n b h eb eh =
-    ap (λ (x : Bool). pick x 0 (pick (lengthsFit (shapeOf protocol) m n) (traceLength (shapeOf protocol) pec m n) 0)) eb
-    ∙ ap (λ (x : Bool). pick b 0 (pick x (traceLength (shapeOf protocol) pec m n) 0)) eh
-
 pub room-zero : (protocol : ℕ) (pec : Bool) (t : Message) → roomFor protocol pec (length (t .sent)) (length (t .received)) ≡ 0 → refused protocol pec t ≡ true
 room-zero protocol pec t z = go (forbidden protocol pec) (fieldsFit (shapeOf protocol) (t .address) (t .direction) (t .command)) (lengthsFit (shapeOf protocol) m n) refl refl refl
   where

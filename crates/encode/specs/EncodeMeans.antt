@@ -13,14 +13,21 @@ use Rattle.lists.specs.Choice.{pick, or, and, not}
 use Rattle.lists.specs.Each.{Bytes}
 use Rattle.lists.specs.Onto.{onto}
 use Rattle.trace.specs.Shapes.{shapeOf, forbidden}
+use Rattle.trace.specs.ForbiddenLaws.{taken-cases}
 use Rattle.trace.specs.Trace.{Message, trace, Valid}
 use Rattle.trace.specs.Allowed.{allowed}
 use Rattle.trace.specs.ValidLaws.{allowed-valid, valid-allowed}
 use Rattle.encode.specs.declared.Encoded.{Encoded}
 use Rattle.encode.specs.declared.Encoded.the-variants.{Written, Forbidden, OutputTooShort}
-use Rattle.encode.specs.Encode.{number, refused, encoded, symbolsOf, Wrote}
+use Rattle.encode.specs.Encode.{number, message, refused, encoded, symbolsOf, Wrote}
 use Rattle.encode.specs.Listed.{Listed, protocol-above-10, quick-with-pec}
-use Rattle.encode.specs.ListedLaws.{refused-listed, listed-refused, forbidden-is}
+use Rattle.encode.specs.ListedLaws.{refused-listed, listed-refused}
+
+-- ---- what a caller gives: each part is the field of its name
+
+pub message-fields : (a d c : ℕ) (s r : List ℕ)
+    → (message a d c s r .address ≡ a) × (message a d c s r .direction ≡ d) × (message a d c s r .command ≡ c) × (message a d c s r .sent ≡ s) × (message a d c s r .received ≡ r)
+message-fields a d c s r = (refl, refl, refl, refl, refl)
 
 -- ---- the answer
 
@@ -114,12 +121,7 @@ unlisted-valid protocol pec t c s r = (there, back)
     back : (protocol ≤ 10) × (protocol ≡ 0 → pec ≡ false) × Valid (shapeOf protocol) t → Listed protocol pec t → ⊥
     back (h, q, v) l =
         not-both (refused protocol pec t) (listed-refused protocol pec t l)
-        (tests-passed protocol pec t (forbidden-is protocol pec t h ∙ go (eqb protocol 0) refl pec refl) (valid-allowed (shapeOf protocol) t v))
-      where
-        go : (b : Bool) → eqb protocol 0 ≡ b → (p : Bool) → pec ≡ p → and p (not (not b)) ≡ false
-        go b e false f = refl
-        go true e true f = not-both pec f (q (eqb-true protocol 0 e))
-        go false e true f = refl
+        (tests-passed protocol pec t (taken-cases protocol pec .1 (h, q)) (valid-allowed (shapeOf protocol) t v))
 
 -- the encoder writes exactly these, where there is room
 pub written-valid : (protocol : ℕ) (pec : Bool) (t : Message) (room n : ℕ) → t .command < 256 → Bytes (t .sent) → Bytes (t .received)

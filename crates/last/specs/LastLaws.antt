@@ -11,6 +11,8 @@ use Rattle.lists.specs.Choice.{pick, and}
 use Rattle.trace.specs.declared.transaction.Transaction.{Transaction}
 use Rattle.trace.specs.Shapes.{reads, shapeOf}
 use Rattle.trace.specs.Allowed.{lengthsFit}
+use Rattle.trace.specs.DataFits.{DataFits}
+use Rattle.trace.specs.DataFitsLaws.{fits-data, data-fits}
 use Rattle.trace.specs.ShapeLaws.{both-true}
 use Rattle.last.specs.Last.{belongs, chosen, lastData, lastPlace}
 
@@ -25,7 +27,7 @@ which = refl
 -- a known protocol whose two lengths belong to it and are in their buffers
 pub record Whole (t : Transaction) (s r : ℕ) : Type 0 where
   pub known : t .protocol ≤ 10
-  pub lengths : lengthsFit (shapeOf (t .protocol)) (t .sent) (t .received) ≡ true
+  pub lengths : DataFits (t .protocol) (t .sent) (t .received)
   pub sent : t .sent ≤ s
   pub received : t .received ≤ r
 
@@ -36,9 +38,9 @@ whole t s r = (
       let a = both-true (leb (t .protocol) 10) _ h in
       let b = both-true (lengthsFit (shapeOf (t .protocol)) (t .sent) (t .received)) _ (a .1) in
       let c = both-true (leb (t .sent) s) _ (b .1) in
-      record { known = leb-true (t .protocol) 10 (a .0); lengths = b .0; sent = leb-true (t .sent) s (c .0); received = leb-true (t .received) r (c .1) }
+      record { known = leb-true (t .protocol) 10 (a .0); lengths = data-fits (t .protocol) (leb-true (t .protocol) 10 (a .0)) (t .sent) (t .received) (b .0); sent = leb-true (t .sent) s (c .0); received = leb-true (t .received) r (c .1) }
       ),
-  λ w. rw (le-leb (t .protocol) 10 (w .known), w .lengths, le-leb (t .sent) s (w .sent), le-leb (t .received) r (w .received)),
+  λ w. rw (le-leb (t .protocol) 10 (w .known), fits-data (t .protocol) (t .sent) (t .received) (w .lengths), le-leb (t .sent) s (w .sent), le-leb (t .received) r (w .received)),
 )
 
 module _ (t : Transaction) (s r : List ℕ) (p q : ℕ × ℕ) where

@@ -6,5 +6,6 @@ pub mod Free
 pub mod DigitLaws
 pub mod CountLaws
 pub mod MemberLaws
+pub mod HalfLaws
 pub mod StartLaws
 pub mod FreeLaws

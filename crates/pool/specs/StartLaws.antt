@@ -5,10 +5,10 @@ use mathlib.Core.Bool.{Bool, true, false}
 use mathlib.Core.Logic.{_↔_}
 use native.Mathlib.Decide.{decLt, ℕ-discrete}
 use native.Mathlib.Omega.{arith}
-use lib.Dec.{leb, eqb}
-use borrow.Author.Tests.{lt-leb, ne-eqb}
+use lib.Dec.{leb}
 use Rattle.lists.specs.Choice.{pick, or, and}
 use Rattle.wire.specs.Addresses.{isReserved}
+use Rattle.wire.specs.AddressLaws.{reserved-above}
 use Rattle.pool.specs.Digits.{digit}
 use Rattle.pool.specs.DigitLaws.{digit-of-zero}
 use Rattle.pool.specs.Counts.{count}
@@ -60,16 +60,6 @@ each-at test a (suc n) b e l h = go (test a) refl (each test (suc a) n) refl e (
 all-reserved : each (λ a. same (member reservedPool a) (isReserved a)) 0 128 ≡ true
 unfolding each member digit reservedPool isReserved
 all-reserved = refl
-
-reserved-above : (a : ℕ) → 128 ≤ a → isReserved a ≡ false
-unfolding isReserved
-reserved-above a h =
-    simp (lt-leb a 0x08 (omega arith), ne-eqb a 0x0C (λ e. omega arith), ne-eqb a 0x28 (λ e. omega arith), ne-eqb a 0x37 (λ e. omega arith), ne-eqb a 0x61 (λ e. omega arith), lt-leb a 0x7F (omega arith))
-    (go (leb 0x78 a))
-  where
-    go : (b : Bool) → and b false ≡ false
-    go true = refl
-    go false = refl
 
 pub member-reserved : (a : ℕ) → member reservedPool a ≡ isReserved a
 member-reserved a = go (decLt a 128)

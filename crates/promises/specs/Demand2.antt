@@ -5,20 +5,19 @@ use mathlib.Core.Bool.{Bool, true, false}
 use mathlib.Core.List.{List, _++_}
 use Prim.Native.Nat.{ℕ, _≤_, _<_, _%_}
 use native.Mathlib.Omega.{arith}
-use lib.Dec.{ltb, eqb}
 use lib.ListN.{length, take, drop}
-use borrow.Author.Tests.{le-ltb, ltb-false, eqb-true}
-use Rattle.lists.specs.Choice.{pick, or, and, not}
+use borrow.Author.Tests.{le-ltb}
+use Rattle.lists.specs.Choice.{pick}
 use Rattle.lists.specs.Each.{Bytes}
 use Rattle.lists.specs.Onto.{onto}
 use Rattle.trace.specs.declared.transaction.Transaction.{Transaction}
 use Rattle.trace.specs.Shapes.{shapeOf, forbidden}
+use Rattle.trace.specs.ForbiddenLaws.{taken-cases}
 use Rattle.trace.specs.ShapeLaws.{sane}
 use Rattle.trace.specs.Trace.{Message, trace, Valid}
 use Rattle.encode.specs.declared.Encoded.{Encoded}
 use Rattle.encode.specs.declared.Encoded.the-variants.{Written}
 use Rattle.encode.specs.Encode.{Wrote}
-use Rattle.encode.specs.ListedLaws.{forbidden-is}
 use Rattle.encode.specs.EncodeMeans.{written-valid, front-is-trace}
 use Rattle.step.specs.declared.answer.Decoded.{Decoded}
 use Rattle.step.specs.declared.answer.Decoded.the-variants.{Done}
@@ -34,34 +33,8 @@ pub record OfBytes (t : Message) : Type 0 where
   pub sent : Bytes (t .sent)
   pub received : Bytes (t .received)
 
--- the tests of the two entries, from what is known of a protocol and of buffers
-never : {A : Type 0} → true ≡ false → A
-never e = let z : _≡_ {A = ℕ} 0 1 = cc in absurd (omega arith)
-
-goes-on : (protocol : ℕ) (pec : Bool) (t : Message) → protocol ≤ 10 → (protocol ≡ 0 → pec ≡ false) → forbidden protocol pec ≡ false
-goes-on protocol pec t h q = forbidden-is protocol pec t h ∙ go (eqb protocol 0) refl pec refl
-  where
-    go : (b : Bool) → eqb protocol 0 ≡ b → (p : Bool) → pec ≡ p → and p (not (not b)) ≡ false
-    go b e false f = refl
-    go false e true f = refl
-    go true e true f = never (sym f ∙ q (eqb-true protocol 0 e))
-
 long-enough : (s r : ℕ) → 255 ≤ s → 255 ≤ r → short s r ≡ false
 long-enough s r hs hr = rw (le-ltb s 255 hs, le-ltb r 255 hr)
-
-known : (protocol : ℕ) (pec : Bool) → forbidden protocol pec ≡ false → (protocol ≤ 10) × (protocol ≡ 0 → pec ≡ false)
-known protocol pec f = (go (ltb 10 protocol) refl f, λ z. free z pec refl)
-  where
-    go : (b : Bool) → ltb 10 protocol ≡ b → or b (and pec (not (shapeOf protocol .checked))) ≡ false → protocol ≤ 10
-    go true e g = never g
-    go false e g = ltb-false 10 protocol e
-
-    quick : (p : Bool) → forbidden 0 p ≡ false → p ≡ false
-    quick false g = refl
-    quick true g = never g
-
-    free : protocol ≡ 0 → (p : Bool) → pec ≡ p → pec ≡ false
-    free z p e = quick pec (ap (λ (k : ℕ). forbidden k pec) (sym z) ∙ f)
 
 -- what a call of the encoder wrote, a call of the decoder reads: answer 0, with the protocol, every field and both data lists,
 -- at the fronts of buffers that are as they were behind
@@ -73,7 +46,7 @@ pub encode-then-decode : (protocol : ℕ) (pec : Bool) (t : Message) → OfBytes
 encode-then-decode protocol pec t b before n after w sent₀ received₀ hs hr a sent received o =
     let v = written-valid protocol pec t (length before) n (b .command) (b .sent) (b .received) .0 (sym (w .answer)) in
     let f = front-is-trace protocol pec t before n after w in
-    decode.round-trip protocol pec t sent₀ received₀ a sent received (goes-on protocol pec t (v .0) (v .1)) (long-enough (length sent₀) (length received₀) hs hr) (v .2)
+    decode.round-trip protocol pec t sent₀ received₀ a sent received (taken-cases protocol pec .1 (v .0, v .1)) (long-enough (length sent₀) (length received₀) hs hr) (v .2)
     (subst (λ (l : List ℕ). Outcome protocol pec l sent₀ received₀ a sent received) (f .0) o)
 
 command-byte : (b o : Bool) (c : ℕ) → pick b ((c < 256) × pick o (c % 2 ≡ 0) Unit) (c ≡ 0) → c < 256
@@ -129,7 +102,7 @@ module _ (protocol : ℕ) (pec : Bool) (tr sent₀ received₀ : List ℕ) (u : 
       let c = carried in
       let m = c .message in
       let v = c .valid in
-      let k = known protocol pec not-forbidden in
+      let k = taken-cases protocol pec .0 not-forbidden in
       let b : OfBytes m =
       record { command = command-byte (shapeOf protocol .command) (shapeOf protocol .tohost) (m .command) (v .command); sent = v .sent-bytes; received = v .received-bytes } in
       record {

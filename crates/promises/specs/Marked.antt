@@ -25,6 +25,8 @@ use Rattle.pool.specs.Start.{emptyPool, reservedPool, startingPool}
 use Rattle.pool.specs.declared.Pool.{Pool}
 use Rattle.udid.specs.Bytes.{numberFrom, bytesOf, bytesFrom, udidBytes, udidAt}
 use Rattle.arp.specs.Numbers.{commandNumber}
+use Rattle.arp.specs.Requests.{traceOf}
+use Rattle.arp.specs.declared.command.Command.the-variants.{Prepare}
 use Rattle.targets.specs.AdmissionLaws.{admitted-targets}
 use Rattle.targets.specs.First.{firstFrom}
 use Rattle.targets.specs.Records.{targetAt, targetsOf, putTarget, recordsWith}
@@ -61,9 +63,9 @@ message a c s r = record { address = a; direction = 0; command = c; sent = s; re
 abbrev pub m1 : Case
 m1 = record { got = λ b. pecOf [] ∷ pecOf (0x01 ∷ []) ∷ pecOf (0x80 ∷ []) ∷ []; want = 0x00 ∷ 0x07 ∷ 0x89 ∷ [] }
 
--- Prepare To ARP, whole
+-- Prepare To ARP, whole: the trace that the controller sends
 abbrev pub m2 : Case
-m2 = record { got = λ b. trace (shapeOf 1) true (message 0x61 0 (0x01 ∷ []) []); want = 256 ∷ 194 ∷ 258 ∷ 1 ∷ 258 ∷ 192 ∷ 258 ∷ 257 ∷ [] }
+m2 = record { got = λ b. traceOf Prepare []; want = 256 ∷ 194 ∷ 258 ∷ 1 ∷ 258 ∷ 192 ∷ 258 ∷ 257 ∷ [] }
 
 -- Receive Byte from 0Ch giving 4Fh with PEC
 abbrev pub m3 : Case

@@ -13,7 +13,6 @@ use Rattle.wire.specs.Symbols.{START, STOP, ACK, NACK}
 use Rattle.wire.specs.declared.address.Address.{Address}
 use Rattle.trace.specs.Shapes.{shapeOf}
 use Rattle.step.specs.Answers.{CutAt}
-use Rattle.step.specs.Run.{byteCount}
 use Rattle.pool.specs.Pools.{member, withAddress}
 use Rattle.pool.specs.declared.Pool.{Pool}
 use Rattle.pool.specs.declared.free.Free.{Free}
@@ -44,7 +43,6 @@ prepare-done b p s = prepare-accepted (state b p s 0 Prepare) (traceOf Prepare [
 
 -- S C2 N P: byte 0 was not acknowledged
 cut-prepare : CutAt (shapeOf sendByte) true (START ∷ 0xC2 ∷ NACK ∷ STOP ∷ []) 0
-unfolding byteCount
 cut-prepare = record {
   message = messageOf Prepare [];
   pec = 0;
@@ -68,7 +66,6 @@ prepare-silent b p s = prepare-unheard (state b p s 0 Prepare)
 -- ---- Get UDID
 
 cut-get : CutAt (shapeOf blockRead) true (START ∷ 0xC2 ∷ ACK ∷ 0x03 ∷ ACK ∷ START ∷ 0xC3 ∷ NACK ∷ STOP ∷ []) 2
-unfolding byteCount
 cut-get = record {
   message = messageOf GetUdid [];
   pec = 0;

@@ -26,6 +26,7 @@ use Rattle.step.specs.declared.whole.Progress.the-variants.{Reading, Ref
 use Rattle.step.specs.State.{fresh}
 use Rattle.step.specs.Fits.{fits}
 use Rattle.step.specs.Refusal.{over, why}
+use Rattle.step.specs.BytesInLaws.{byte-count-is}
 use Rattle.step.specs.Run.{run, byteCount, transaction, isCut, finish, concluded, decodedBy}
 use Rattle.step.specs.Handed.{sentPlace, receivedPlace, lows, sentData, receivedData}
 use Rattle.step.specs.Answers.{Whole, CutAt, Member, Fits, summary, Breaks, OtherPec, Carries, Answers}
@@ -85,7 +86,7 @@ module _ (num : ℕ) (sh : Shape) (hs : Sane sh) (p : Bool) (tr : List ℕ) wher
   cut-right d q c =
       let r = cut-back sh hs p tr d q (is-cut (d .due) c) in
       let k = r .1 in
-      let n : byteCount tr ≡ suc (r .0) = ap byteCount (k .is) ∙ count-nack (k .before) ∙ k .number in
+      let n : byteCount tr ≡ suc (r .0) = ap byteCount (k .is) ∙ count-nack (k .before) ∙ byte-count-is (k .before) ∙ k .number in
       subst (CutAt sh p tr) (omega arith) k
 
   -- the whole trace, and the state at its end
@@ -226,7 +227,7 @@ module _ (num : ℕ) (sh : Shape) (hs : Sane sh) (p : Bool) (tr : List ℕ) wher
   only-cut : (b : ℕ) → CutAt sh p tr b → decodedBy num sh p tr ≡ NotAcknowledged b
   only-cut b h =
       let r = cut-runs sh hs p tr b h in
-      let n : byteCount tr ≡ suc b = ap byteCount (h .is) ∙ count-nack (h .before) ∙ h .number in
+      let n : byteCount tr ≡ suc b = ap byteCount (h .is) ∙ count-nack (h .before) ∙ byte-count-is (h .before) ∙ h .number in
       by-reading (r .0) true _ _ (r .1) (ap isCut (r .2)) refl refl ∙ ap NotAcknowledged (omega arith)
 
   only-early : Fits sh p tr → (Member sh p tr → ⊥) → decodedBy num sh p tr ≡ EndsEarly (length tr)

@@ -10,6 +10,7 @@ pub mod Members
 pub mod Places
 pub mod DataLaws
 pub mod PecByte
+pub mod Cuts
 pub mod Decides
 pub mod Theorems
 pub mod Sizes

@@ -6,6 +6,7 @@ use mathlib.Core.Logic.{inl, inr}
 use Prim.Native.Nat.{ℕ, suc, _+_, _-_, _<_, _%_}
 use native.Mathlib.Omega.{arith}
 use lib.Dec.{ltb, eqb}
+use lib.ListN.{length}
 use borrow.Author.Tests.{eqb-true, lt-ltb}
 use Rattle.lists.specs.Choice.{pick, or}
 use Rattle.lists.specs.Each.{Bytes}
@@ -24,6 +25,8 @@ use Rattle.step.specs.State.{fresh}
 use Rattle.step.specs.Fits.{fitsSlot, fitsDue, fits}
 use Rattle.step.specs.Move.{at, moveSlot, moveDue, move}
 use Rattle.step.specs.Refusal.{ended, over, why}
+use Rattle.step.specs.BytesIn.{bytesIn}
+use Rattle.step.specs.BytesInLaws.{byte-count-is}
 use Rattle.step.specs.Run.{run, byteCount}
 use Rattle.step.specs.Answers.{CutAt, Member, Fits}
 use Rattle.step.proofs.Runs.{never, not-both, other, same-state, run-append, run-before, run-from}
@@ -123,10 +126,10 @@ count-byte : (a f : ℕ) (cs : List ℕ) → f < 256 → (b : ℕ) × (byteCount
 unfolding byteCount
 count-byte a f cs h = (pick (ltb a 256) 1 0 + byteCount cs, rw (lt-ltb f 256 h) (omega arith))
 
-byte-before : (f : ℕ) (xs pre post : List ℕ) → f < 256 → START ∷ f ∷ xs ≡ pre ++ ACK ∷ post → (b : ℕ) × (byteCount pre ≡ suc b)
+byte-before : (f : ℕ) (xs pre post : List ℕ) → f < 256 → START ∷ f ∷ xs ≡ pre ++ ACK ∷ post → (b : ℕ) × (length (bytesIn pre) ≡ suc b)
 byte-before f xs [] post h e = let z : _≡_ {A = ℕ} 256 258 = cc in absurd (omega arith)
 byte-before f xs (a ∷ []) post h e = let z : f ≡ 258 = cc in absurd (omega arith)
-byte-before f xs (a ∷ c ∷ cs) post h e = let z : c ≡ f = cc in count-byte a c cs (omega arith)
+byte-before f xs (a ∷ c ∷ cs) post h e = let z : c ≡ f = cc in let r = count-byte a c cs (omega arith) in (r .0, sym (byte-count-is (a ∷ c ∷ cs)) ∙ r .1)
 
 pub count-nack : (pre : List ℕ) → byteCount (pre ++ NACK ∷ STOP ∷ []) ≡ byteCount pre
 unfolding byteCount

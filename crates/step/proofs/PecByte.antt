@@ -29,13 +29,16 @@ read-bytes true true f xs h b = let l = h refl in (omega arith, b)
 read-bytes true false f xs h b = b
 read-bytes false w f xs h b = tt
 
+-- the bytes up to the last one sent
+pub front-bytes : (sh : Shape) → Sane sh → (t : Message) → Valid sh t → Bytes (front sh t)
+front-bytes sh hs t v =
+    (first-byte sh t v .0, append-bytes (pick (sh .command) (t .command ∷ []) []) (laid (sh .sent) (t .sent)) (command-bytes (sh .command) (sh .tohost) (t .command) (v .command)) (laid-bytes (sh .sent) (t .sent) (v .sent-bytes) (omega (arith, v .counts, hs .most-byte))))
+
 pub pec-lt : (sh : Shape) → Sane sh → (t : Message) → Valid sh t → pecOf sh t < 256
 pec-lt sh hs t v =
-    let f = first-byte sh t v in
     PecLaws.pec-byte 0 (bytes sh t) (omega arith)
-    (append-bytes (front sh t) _
-    (f .0, append-bytes (pick (sh .command) (t .command ∷ []) []) (laid (sh .sent) (t .sent)) (command-bytes (sh .command) (sh .tohost) (t .command) (v .command)) (laid-bytes (sh .sent) (t .sent) (v .sent-bytes) (omega (arith, v .counts, hs .most-byte))))
-    (read-bytes (reads sh) (writes sh) (firstByte sh t) (laid (sh .received) (t .received)) (f .2) (laid-bytes (sh .received) (t .received) (v .received-bytes) (omega (arith, v .counts, hs .most-byte)))))
+    (append-bytes (front sh t) _ (front-bytes sh hs t v)
+    (read-bytes (reads sh) (writes sh) (firstByte sh t) (laid (sh .received) (t .received)) (first-byte sh t v .2) (laid-bytes (sh .received) (t .received) (v .received-bytes) (omega (arith, v .counts, hs .most-byte)))))
 
 pub pec-byte : (sh : Shape) → Sane sh → (p : Bool) (t : Message) → Valid sh t → Bytes (inPlace p (pecOf sh t))
 pec-byte sh hs true t v = (pec-lt sh hs t v, tt)

@@ -4,13 +4,13 @@ use mathlib.Core.Path.{_≡_, refl, sym, _∙_, ap, subst}
 use mathlib.Core.Bool.{Bool, true, false}
 use mathlib.Core.List.{List, [], _∷_, _++_}
 use mathlib.Core.Logic.{_↔_}
-use Prim.Native.Nat.{ℕ, suc, _+_, _≤_, _<_}
+use Prim.Native.Nat.{ℕ, suc, _+_, _-_, _/_, _≤_, _<_}
 use native.Mathlib.Omega.{arith}
 use lib.ListN.{length, take, getD}
-use Rattle.wire.specs.Symbols.{NACK}
 use Rattle.trace.specs.declared.shape.Shape.{Shape}
 use Rattle.trace.specs.declared.transaction.Transaction.{Transaction}
 use Rattle.trace.specs.Trace.{Message, trace, Valid}
+use Rattle.trace.specs.PecPlaceLaws.{pec-found}
 use Rattle.trace.specs.ShapeLaws.{Sane}
 use Rattle.step.specs.declared.answer.Decoded.{Decoded}
 use Rattle.step.specs.declared.answer.Decoded.the-variants.{Done, Forbidden, BufferTooShort, NoSymbol, EndsEarly, Unexpected, NotAcknowledged, PecDiffers, AfterStop}
@@ -26,6 +26,7 @@ use Rattle.step.specs.Answers.{CutAt, Member, Fits, summary, Breaks, Oth
 use Rattle.step.proofs.Runs.{run-append, run-fits, run-stops}
 use Rattle.step.proofs.Members.{member-runs, fits-back, fits-runs}
 use Rattle.step.proofs.Places.{not-more, nothing-follows}
+use Rattle.step.proofs.Cuts.{cut-number}
 use Rattle.step.proofs.Decides as Decides
 
 -- an answer from its number and what comes with it
@@ -129,22 +130,31 @@ module _ (num : ℕ) (sh : Shape) (hs : Sane sh) (p : Bool) where
       λ w. ap paper (ap (decodedBy num sh p) (w .2) ∙ round-trip (w .0) (w .1) .0),
     )
 
-    pub number-3 : (place : ℕ) → (paper answer ≡ (3, place)) ↔ (Breaks sh p tr place × (NACK < getD tr place 0))
+    pub number-3 : (place : ℕ) → (paper answer ≡ (3, place)) ↔ (Breaks sh p tr place × (259 < getD tr place 0))
     number-3 k = (λ e. (let g = given 3 k e in (g .0, g .1)), λ h. gives (NoSymbol k) (h .0, h .1, refl, refl))
 
     pub number-4 : (len : ℕ) → (paper answer ≡ (4, len)) ↔ (Fits sh p tr × (Member sh p tr → ⊥) × (len ≡ length tr))
     number-4 n = (λ e. (let g = given 4 n e in (g .0, g .1, g .2)), λ h. gives (EndsEarly n) (h .0, h .1, h .2, refl, refl))
 
-    pub number-5 : (place : ℕ) → (paper answer ≡ (5, place)) ↔ (Breaks sh p tr place × (Member sh p (take place tr) → ⊥) × (getD tr place 0 ≤ NACK))
+    pub number-5 : (place : ℕ) → (paper answer ≡ (5, place)) ↔ (Breaks sh p tr place × (Member sh p (take place tr) → ⊥) × (getD tr place 0 ≤ 259))
     number-5 k = (λ e. (let g = given 5 k e in (g .0, g .1, g .2)), λ h. gives (Unexpected k) (h .0, h .1, h .2, refl, refl))
 
     pub number-6 : (byte : ℕ) → (paper answer ≡ (6, byte)) ↔ CutAt sh p tr byte
     number-6 b = (λ e. given 6 b e .0, λ h. gives (NotAcknowledged b) (h, refl, refl))
 
+    -- which byte it is, by the length of the trace alone
+    pub which-byte : (byte : ℕ) → paper answer ≡ (6, byte) → byte ≡ (length tr - 4) / 2
+    which-byte b e = cut-number sh hs p tr b (number-6 b .0 e)
+
     pub number-7 : (place : ℕ) → (paper answer ≡ (7, place)) ↔ OtherPec sh p tr place
     number-7 k = (λ e. given 7 k e .0, λ h. gives (PecDiffers k) (h, refl, refl))
 
-    pub number-8 : (place : ℕ) → (paper answer ≡ (8, place)) ↔ ((place < length tr) × Member sh p (take place tr) × (getD tr place 0 ≤ NACK))
+    -- and the symbol at that place is the PEC that differs
+    pub pec-there : (place : ℕ) (o : OtherPec sh p tr place) → getD tr place 0 ≡ o .pec
+    pec-there k o =
+        ap (λ (l : List ℕ). getD l k 0) (o .is) ∙ pec-found sh (o .message) (o .pec) k (o .place ∙ ap length (o .is))
+
+    pub number-8 : (place : ℕ) → (paper answer ≡ (8, place)) ↔ ((place < length tr) × Member sh p (take place tr) × (getD tr place 0 ≤ 259))
     number-8 k = (λ e. (let g = given 8 k e in (g .0, g .1, g .2)), λ h. gives (AfterStop k) (h .0, h .1, h .2, refl, refl))
 
     -- the order of the numbers. After the last STOP nothing fits, so that 8 stands at the first place that is wrong
@@ -158,7 +168,7 @@ module _ (num : ℕ) (sh : Shape) (hs : Sane sh) (p : Bool) where
         }
 
     -- 3 comes before 8 at one place; before 5 it comes by number-3
-    pub three-before-eight : (place : ℕ) → place < length tr → Member sh p (take place tr) → NACK < getD tr place 0 → paper answer ≡ (3, place)
+    pub three-before-eight : (place : ℕ) → place < length tr → Member sh p (take place tr) → 259 < getD tr place 0 → paper answer ≡ (3, place)
     three-before-eight k h m g = number-3 k .1 (nothing-after k h m, g)
 
     -- 6 comes before 7: a trace that the target cut is none whose PEC differs

@@ -1,4 +1,5 @@
--- What each answer of the decoder means, held against document 01. Nothing here says how it is computed.
+-- What each answer of the decoder means, held against document 01. Nothing here says how it is computed. 256 is START, 257 STOP, 258 ACK
+-- and 259 NACK, and a number above it no symbol.
 use mathlib.Core.Path.{_≡_}
 use mathlib.Core.Bool.{Bool, true}
 use mathlib.Core.List.{List, [], _∷_, _++_}
@@ -6,13 +7,12 @@ use mathlib.Core.Logic.{_⊎_}
 use Prim.Native.Nat.{ℕ, suc, _+_, _≤_, _<_}
 use lib.ListN.{length, take, getD}
 use Rattle.lists.specs.Each.{Bytes}
-use Rattle.wire.specs.Symbols.{STOP, ACK, NACK}
 use Rattle.trace.specs.declared.shape.Shape.{Shape}
 use Rattle.trace.specs.declared.transaction.Transaction.{Transaction}
 use Rattle.trace.specs.Trace.{Message, Valid, inPlace, pecOf, byTarget, traceAt, trace}
 use Rattle.step.specs.declared.answer.Decoded.{Decoded}
 use Rattle.step.specs.declared.answer.Decoded.the-variants.{Done, Forbidden, BufferTooShort, NoSymbol, EndsEarly, Unexpected, NotAcknowledged, PecDiffers, AfterStop}
-use Rattle.step.specs.Run.{byteCount}
+use Rattle.step.specs.BytesIn.{bytesIn}
 
 -- a whole trace, with any byte in PEC's place
 pub record Whole (sh : Shape) (p : Bool) (tr : List ℕ) : Type 0 where
@@ -22,7 +22,8 @@ pub record Whole (sh : Shape) (p : Bool) (tr : List ℕ) : Type 0 where
   pub byte : Bytes (inPlace p pec)
   pub is : tr ≡ traceAt sh message (inPlace p pec)
 
--- a trace cut at a byte whose ACK is due from the target: NACK stands there, then STOP; the byte's number is b, from 0
+-- a trace cut at a byte whose ACK is due from the target: NACK stands there, then STOP. The byte is the last before the NACK, and its
+-- number, from 0 and only bytes counted, is b: so many less one numbers below 256 stand before the NACK
 pub record CutAt (sh : Shape) (p : Bool) (tr : List ℕ) (b : ℕ) : Type 0 where
   pub message : Message
   pub pec : ℕ
@@ -30,9 +31,9 @@ pub record CutAt (sh : Shape) (p : Bool) (tr : List ℕ) (b : ℕ) : Type 0 wher
   pub byte : Bytes (inPlace p pec)
   pub before : List ℕ
   pub after : List ℕ
-  pub ack : byTarget sh message (inPlace p pec) ≡ before ++ ACK ∷ after
-  pub is : tr ≡ before ++ NACK ∷ STOP ∷ []
-  pub number : byteCount before ≡ suc b
+  pub ack : byTarget sh message (inPlace p pec) ≡ before ++ 258 ∷ after
+  pub is : tr ≡ before ++ 259 ∷ 257 ∷ []
+  pub number : length (bytesIn before) ≡ suc b
 
 abbrev pub Member : Shape → Bool → List ℕ → Type 0
 Member sh p tr = Whole sh p tr ⊎ ((b : ℕ) × CutAt sh p tr b)
@@ -77,10 +78,10 @@ abbrev pub Answers : ℕ → Shape → Bool → List ℕ → Decoded → List �
 Answers protocol sh p tr (Done t) s r = Carries protocol sh p tr t s r
 Answers protocol sh p tr Forbidden s r = ⊥
 Answers protocol sh p tr BufferTooShort s r = ⊥
-Answers protocol sh p tr (NoSymbol k) s r = Breaks sh p tr k × (NACK < getD tr k 0) × (s ≡ []) × (r ≡ [])
+Answers protocol sh p tr (NoSymbol k) s r = Breaks sh p tr k × (259 < getD tr k 0) × (s ≡ []) × (r ≡ [])
 Answers protocol sh p tr (EndsEarly n) s r = Fits sh p tr × (Member sh p tr → ⊥) × (n ≡ length tr) × (s ≡ []) × (r ≡ [])
 Answers protocol sh p tr (Unexpected k) s r =
-    Breaks sh p tr k × (Member sh p (take k tr) → ⊥) × (getD tr k 0 ≤ NACK) × (s ≡ []) × (r ≡ [])
+    Breaks sh p tr k × (Member sh p (take k tr) → ⊥) × (getD tr k 0 ≤ 259) × (s ≡ []) × (r ≡ [])
 Answers protocol sh p tr (NotAcknowledged b) s r = CutAt sh p tr b × (s ≡ []) × (r ≡ [])
 Answers protocol sh p tr (PecDiffers k) s r = OtherPec sh p tr k × (s ≡ []) × (r ≡ [])
-Answers protocol sh p tr (AfterStop k) s r = (k < length tr) × Member sh p (take k tr) × (getD tr k 0 ≤ NACK) × (s ≡ []) × (r ≡ [])
+Answers protocol sh p tr (AfterStop k) s r = (k < length tr) × Member sh p (take k tr) × (getD tr k 0 ≤ 259) × (s ≡ []) × (r ≡ [])

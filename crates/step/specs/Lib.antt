@@ -5,5 +5,7 @@ pub mod Move
 pub mod Refusal
 pub mod Run
 pub mod Handed
+pub mod BytesIn
+pub mod BytesInLaws
 pub mod Paper
 pub mod Answers

@@ -1,13 +1,13 @@
 -- The paper's table as it is written: for each protocol its row, without PEC and with it, and that the one definition over the shape
--- gives it. S START, P STOP, A ACK, N NACK, W and R the address byte for writing and for reading, c the command, d sent, r received.
--- Words go low byte first. A received byte gets A, the last one N; a received PEC is the last; a sent PEC stands before P and gets A.
+-- gives it. S START, P STOP, A ACK, N NACK, 2 * a and 2 * a + 1 the address byte for writing and for reading, c the command, d sent,
+-- r received. A word is the two bytes l and h, the low one first: WordRows. A received byte gets A, the last one N; a received PEC is the
+-- last; a sent PEC stands before P and gets A.
 use mathlib.Core.Path.{_≡_, refl, ap, _∙_}
 use mathlib.Core.Bool.{Bool, true, false}
 use mathlib.Core.List.{List, [], _∷_, _++_, append-assoc, append-nil}
 use Prim.Native.Nat.{ℕ, _+_, _*_}
 use native.Mathlib.Omega.{arith}
 use lib.ListN.{length, length-append}
-use Rattle.wire.specs.Words.{wordBytes, lowByte, highByte}
 use Rattle.wire.specs.Pec.{pecOf as pec}
 use Rattle.trace.specs.Shapes.{shapeOf}
 use Rattle.trace.specs.Trace.{Message, W, R, acked, ackOf, nacked, trace}
@@ -34,45 +34,45 @@ plain protocol t = trace (shapeOf protocol) false t
 abbrev pub checked : ℕ → Message → List ℕ
 checked protocol t = trace (shapeOf protocol) true t
 
--- a is the address, c the command, d and e data sent, r and s data received, w and v words, acked l is 'byte A' for each of l
+-- a is the address, c the command, d data sent, r and s data received, l and h, m and n the bytes of words, acked l is 'byte A' for each of l
 pub record Rows : Type 0 where
-  pub quick-write : (a : ℕ) → plain 0 (message a 0 0 [] []) ≡ S ∷ W a ∷ A ∷ P ∷ []
-  pub quick-read : (a : ℕ) → plain 0 (message a 1 0 [] []) ≡ S ∷ R a ∷ A ∷ P ∷ []
-  pub send-byte : (a d : ℕ) → plain 1 (message a 0 0 (d ∷ []) []) ≡ S ∷ W a ∷ A ∷ d ∷ A ∷ P ∷ []
-  pub send-byte-pec : (a d : ℕ) → checked 1 (message a 0 0 (d ∷ []) []) ≡ S ∷ W a ∷ A ∷ d ∷ A ∷ pec (W a ∷ d ∷ []) ∷ A ∷ P ∷ []
-  pub receive-byte : (a r : ℕ) → plain 2 (message a 0 0 [] (r ∷ [])) ≡ S ∷ R a ∷ A ∷ r ∷ N ∷ P ∷ []
-  pub receive-byte-pec : (a r : ℕ) → checked 2 (message a 0 0 [] (r ∷ [])) ≡ S ∷ R a ∷ A ∷ r ∷ A ∷ pec (R a ∷ r ∷ []) ∷ N ∷ P ∷ []
-  pub write-byte : (a c d : ℕ) → plain 3 (message a 0 c (d ∷ []) []) ≡ S ∷ W a ∷ A ∷ c ∷ A ∷ d ∷ A ∷ P ∷ []
-  pub write-byte-pec : (a c d : ℕ) → checked 3 (message a 0 c (d ∷ []) []) ≡ S ∷ W a ∷ A ∷ c ∷ A ∷ d ∷ A ∷ pec (W a ∷ c ∷ d ∷ []) ∷ A ∷ P ∷ []
-  pub write-word : (a c w : ℕ) → plain 4 (message a 0 c (wordBytes w) []) ≡ S ∷ W a ∷ A ∷ c ∷ A ∷ lowByte w ∷ A ∷ highByte w ∷ A ∷ P ∷ []
-  pub write-word-pec : (a c w : ℕ) → checked 4 (message a 0 c (wordBytes w) [])
-      ≡ S ∷ W a ∷ A ∷ c ∷ A ∷ lowByte w ∷ A ∷ highByte w ∷ A ∷ pec (W a ∷ c ∷ lowByte w ∷ highByte w ∷ []) ∷ A ∷ P ∷ []
-  pub read-byte : (a c r : ℕ) → plain 5 (message a 0 c [] (r ∷ [])) ≡ S ∷ W a ∷ A ∷ c ∷ A ∷ S ∷ R a ∷ A ∷ r ∷ N ∷ P ∷ []
+  pub quick-write : (a : ℕ) → plain 0 (message a 0 0 [] []) ≡ S ∷ 2 * a ∷ A ∷ P ∷ []
+  pub quick-read : (a : ℕ) → plain 0 (message a 1 0 [] []) ≡ S ∷ (2 * a + 1) ∷ A ∷ P ∷ []
+  pub send-byte : (a d : ℕ) → plain 1 (message a 0 0 (d ∷ []) []) ≡ S ∷ 2 * a ∷ A ∷ d ∷ A ∷ P ∷ []
+  pub send-byte-pec : (a d : ℕ) → checked 1 (message a 0 0 (d ∷ []) []) ≡ S ∷ 2 * a ∷ A ∷ d ∷ A ∷ pec (2 * a ∷ d ∷ []) ∷ A ∷ P ∷ []
+  pub receive-byte : (a r : ℕ) → plain 2 (message a 0 0 [] (r ∷ [])) ≡ S ∷ (2 * a + 1) ∷ A ∷ r ∷ N ∷ P ∷ []
+  pub receive-byte-pec : (a r : ℕ) → checked 2 (message a 0 0 [] (r ∷ [])) ≡ S ∷ (2 * a + 1) ∷ A ∷ r ∷ A ∷ pec ((2 * a + 1) ∷ r ∷ []) ∷ N ∷ P ∷ []
+  pub write-byte : (a c d : ℕ) → plain 3 (message a 0 c (d ∷ []) []) ≡ S ∷ 2 * a ∷ A ∷ c ∷ A ∷ d ∷ A ∷ P ∷ []
+  pub write-byte-pec : (a c d : ℕ) → checked 3 (message a 0 c (d ∷ []) []) ≡ S ∷ 2 * a ∷ A ∷ c ∷ A ∷ d ∷ A ∷ pec (2 * a ∷ c ∷ d ∷ []) ∷ A ∷ P ∷ []
+  pub write-word : (a c l h : ℕ) → plain 4 (message a 0 c (l ∷ h ∷ []) []) ≡ S ∷ 2 * a ∷ A ∷ c ∷ A ∷ l ∷ A ∷ h ∷ A ∷ P ∷ []
+  pub write-word-pec : (a c l h : ℕ) → checked 4 (message a 0 c (l ∷ h ∷ []) [])
+      ≡ S ∷ 2 * a ∷ A ∷ c ∷ A ∷ l ∷ A ∷ h ∷ A ∷ pec (2 * a ∷ c ∷ l ∷ h ∷ []) ∷ A ∷ P ∷ []
+  pub read-byte : (a c r : ℕ) → plain 5 (message a 0 c [] (r ∷ [])) ≡ S ∷ 2 * a ∷ A ∷ c ∷ A ∷ S ∷ (2 * a + 1) ∷ A ∷ r ∷ N ∷ P ∷ []
   pub read-byte-pec : (a c r : ℕ) → checked 5 (message a 0 c [] (r ∷ []))
-      ≡ S ∷ W a ∷ A ∷ c ∷ A ∷ S ∷ R a ∷ A ∷ r ∷ A ∷ pec (W a ∷ c ∷ R a ∷ r ∷ []) ∷ N ∷ P ∷ []
-  pub read-word : (a c v : ℕ) → plain 6 (message a 0 c [] (wordBytes v)) ≡ S ∷ W a ∷ A ∷ c ∷ A ∷ S ∷ R a ∷ A ∷ lowByte v ∷ A ∷ highByte v ∷ N ∷ P ∷ []
-  pub read-word-pec : (a c v : ℕ) → checked 6 (message a 0 c [] (wordBytes v))
-      ≡ S ∷ W a ∷ A ∷ c ∷ A ∷ S ∷ R a ∷ A ∷ lowByte v ∷ A ∷ highByte v ∷ A ∷ pec (W a ∷ c ∷ R a ∷ lowByte v ∷ highByte v ∷ []) ∷ N ∷ P ∷ []
-  pub process-call : (a c w v : ℕ) → plain 7 (message a 0 c (wordBytes w) (wordBytes v))
-      ≡ S ∷ W a ∷ A ∷ c ∷ A ∷ lowByte w ∷ A ∷ highByte w ∷ A ∷ S ∷ R a ∷ A ∷ lowByte v ∷ A ∷ highByte v ∷ N ∷ P ∷ []
-  pub process-call-pec : (a c w v : ℕ) → checked 7 (message a 0 c (wordBytes w) (wordBytes v))
-      ≡ S ∷ W a ∷ A ∷ c ∷ A ∷ lowByte w ∷ A ∷ highByte w ∷ A ∷ S ∷ R a ∷ A ∷ lowByte v ∷ A ∷ highByte v ∷ A
-      ∷ pec (W a ∷ c ∷ lowByte w ∷ highByte w ∷ R a ∷ lowByte v ∷ highByte v ∷ []) ∷ N ∷ P ∷ []
-  pub block-write : (a c : ℕ) (d : List ℕ) → plain 8 (message a 0 c d []) ≡ S ∷ W a ∷ A ∷ c ∷ A ∷ length d ∷ A ∷ (acked d ++ P ∷ [])
+      ≡ S ∷ 2 * a ∷ A ∷ c ∷ A ∷ S ∷ (2 * a + 1) ∷ A ∷ r ∷ A ∷ pec (2 * a ∷ c ∷ (2 * a + 1) ∷ r ∷ []) ∷ N ∷ P ∷ []
+  pub read-word : (a c l h : ℕ) → plain 6 (message a 0 c [] (l ∷ h ∷ [])) ≡ S ∷ 2 * a ∷ A ∷ c ∷ A ∷ S ∷ (2 * a + 1) ∷ A ∷ l ∷ A ∷ h ∷ N ∷ P ∷ []
+  pub read-word-pec : (a c l h : ℕ) → checked 6 (message a 0 c [] (l ∷ h ∷ []))
+      ≡ S ∷ 2 * a ∷ A ∷ c ∷ A ∷ S ∷ (2 * a + 1) ∷ A ∷ l ∷ A ∷ h ∷ A ∷ pec (2 * a ∷ c ∷ (2 * a + 1) ∷ l ∷ h ∷ []) ∷ N ∷ P ∷ []
+  pub process-call : (a c l h m n : ℕ) → plain 7 (message a 0 c (l ∷ h ∷ []) (m ∷ n ∷ []))
+      ≡ S ∷ 2 * a ∷ A ∷ c ∷ A ∷ l ∷ A ∷ h ∷ A ∷ S ∷ (2 * a + 1) ∷ A ∷ m ∷ A ∷ n ∷ N ∷ P ∷ []
+  pub process-call-pec : (a c l h m n : ℕ) → checked 7 (message a 0 c (l ∷ h ∷ []) (m ∷ n ∷ []))
+      ≡ S ∷ 2 * a ∷ A ∷ c ∷ A ∷ l ∷ A ∷ h ∷ A ∷ S ∷ (2 * a + 1) ∷ A ∷ m ∷ A ∷ n ∷ A
+      ∷ pec (2 * a ∷ c ∷ l ∷ h ∷ (2 * a + 1) ∷ m ∷ n ∷ []) ∷ N ∷ P ∷ []
+  pub block-write : (a c : ℕ) (d : List ℕ) → plain 8 (message a 0 c d []) ≡ S ∷ 2 * a ∷ A ∷ c ∷ A ∷ length d ∷ A ∷ (acked d ++ P ∷ [])
   pub block-write-pec : (a c : ℕ) (d : List ℕ) → checked 8 (message a 0 c d [])
-      ≡ S ∷ W a ∷ A ∷ c ∷ A ∷ length d ∷ A ∷ (acked d ++ pec (W a ∷ c ∷ length d ∷ d) ∷ A ∷ P ∷ [])
-  pub block-read-none : (a c : ℕ) → plain 9 (message a 0 c [] []) ≡ S ∷ W a ∷ A ∷ c ∷ A ∷ S ∷ R a ∷ A ∷ 0 ∷ N ∷ P ∷ []
+      ≡ S ∷ 2 * a ∷ A ∷ c ∷ A ∷ length d ∷ A ∷ (acked d ++ pec (2 * a ∷ c ∷ length d ∷ d) ∷ A ∷ P ∷ [])
+  pub block-read-none : (a c : ℕ) → plain 9 (message a 0 c [] []) ≡ S ∷ 2 * a ∷ A ∷ c ∷ A ∷ S ∷ (2 * a + 1) ∷ A ∷ 0 ∷ N ∷ P ∷ []
   pub block-read : (a c : ℕ) (r : List ℕ) (s : ℕ) → plain 9 (message a 0 c [] (r ++ s ∷ []))
-      ≡ S ∷ W a ∷ A ∷ c ∷ A ∷ S ∷ R a ∷ A ∷ (length r + 1) ∷ A ∷ (acked r ++ s ∷ N ∷ P ∷ [])
+      ≡ S ∷ 2 * a ∷ A ∷ c ∷ A ∷ S ∷ (2 * a + 1) ∷ A ∷ (length r + 1) ∷ A ∷ (acked r ++ s ∷ N ∷ P ∷ [])
   pub block-read-pec : (a c : ℕ) (r : List ℕ) → checked 9 (message a 0 c [] r)
-      ≡ S ∷ W a ∷ A ∷ c ∷ A ∷ S ∷ R a ∷ A ∷ length r ∷ A ∷ (acked r ++ pec (W a ∷ c ∷ R a ∷ length r ∷ r) ∷ N ∷ P ∷ [])
+      ≡ S ∷ 2 * a ∷ A ∷ c ∷ A ∷ S ∷ (2 * a + 1) ∷ A ∷ length r ∷ A ∷ (acked r ++ pec (2 * a ∷ c ∷ (2 * a + 1) ∷ length r ∷ r) ∷ N ∷ P ∷ [])
   pub block-process-call-none : (a c : ℕ) (d : List ℕ) → plain 10 (message a 0 c d [])
-      ≡ S ∷ W a ∷ A ∷ c ∷ A ∷ length d ∷ A ∷ (acked d ++ S ∷ R a ∷ A ∷ 0 ∷ N ∷ P ∷ [])
+      ≡ S ∷ 2 * a ∷ A ∷ c ∷ A ∷ length d ∷ A ∷ (acked d ++ S ∷ (2 * a + 1) ∷ A ∷ 0 ∷ N ∷ P ∷ [])
   pub block-process-call : (a c : ℕ) (d r : List ℕ) (s : ℕ) → plain 10 (message a 0 c d (r ++ s ∷ []))
-      ≡ S ∷ W a ∷ A ∷ c ∷ A ∷ length d ∷ A ∷ (acked d ++ S ∷ R a ∷ A ∷ (length r + 1) ∷ A ∷ (acked r ++ s ∷ N ∷ P ∷ []))
+      ≡ S ∷ 2 * a ∷ A ∷ c ∷ A ∷ length d ∷ A ∷ (acked d ++ S ∷ (2 * a + 1) ∷ A ∷ (length r + 1) ∷ A ∷ (acked r ++ s ∷ N ∷ P ∷ []))
   pub block-process-call-pec : (a c : ℕ) (d r : List ℕ) → checked 10 (message a 0 c d r)
-      ≡ S ∷ W a ∷ A ∷ c ∷ A ∷ length d ∷ A
-      ∷ (acked d ++ S ∷ R a ∷ A ∷ length r ∷ A ∷ (acked r ++ pec (W a ∷ c ∷ length d ∷ (d ++ R a ∷ length r ∷ r)) ∷ N ∷ P ∷ []))
+      ≡ S ∷ 2 * a ∷ A ∷ c ∷ A ∷ length d ∷ A
+      ∷ (acked d ++ S ∷ (2 * a + 1) ∷ A ∷ length r ∷ A ∷ (acked r ++ pec (2 * a ∷ c ∷ length d ∷ (d ++ (2 * a + 1) ∷ length r ∷ r)) ∷ N ∷ P ∷ []))
 
 -- the last of the bytes received gets N, those before it A
 ack-before : (xs : List ℕ) (x : ℕ) → ackOf (xs ++ x ∷ []) ≡ A
@@ -87,15 +87,15 @@ last-nacked (y ∷ ys) x = rw (ack-before ys x, last-nacked ys x)
 ends-plain : (r : List ℕ) (s : ℕ) → nacked ((r ++ s ∷ []) ++ []) ++ P ∷ [] ≡ acked r ++ s ∷ N ∷ P ∷ []
 ends-plain r s = rw (append-nil (r ++ s ∷ []), last-nacked r s, append-assoc (acked r) (s ∷ N ∷ []) (P ∷ []))
 
-ends-checked : (r : List ℕ) (y : ℕ) → nacked (r ++ y ∷ []) ++ P ∷ [] ≡ acked r ++ y ∷ N ∷ P ∷ []
+pub ends-checked : (r : List ℕ) (y : ℕ) → nacked (r ++ y ∷ []) ++ P ∷ [] ≡ acked r ++ y ∷ N ∷ P ∷ []
 ends-checked r y = rw (last-nacked r y, append-assoc (acked r) (y ∷ N ∷ []) (P ∷ []))
 
-counted-plain : (r : List ℕ) (s : ℕ) → nacked (length (r ++ s ∷ []) ∷ ((r ++ s ∷ []) ++ [])) ++ P ∷ [] ≡ (length r + 1) ∷ A ∷ (acked r ++ s ∷ N ∷ P ∷ [])
+pub counted-plain : (r : List ℕ) (s : ℕ) → nacked (length (r ++ s ∷ []) ∷ ((r ++ s ∷ []) ++ [])) ++ P ∷ [] ≡ (length r + 1) ∷ A ∷ (acked r ++ s ∷ N ∷ P ∷ [])
 counted-plain r s =
     let k : ackOf ((r ++ s ∷ []) ++ []) ≡ A = ap ackOf (append-nil (r ++ s ∷ [])) ∙ ack-before r s in
     rw (length-append r (s ∷ []), k, ends-plain r s)
 
-counted-checked : (r : List ℕ) (y : ℕ) → nacked (length r ∷ (r ++ y ∷ [])) ++ P ∷ [] ≡ length r ∷ A ∷ (acked r ++ y ∷ N ∷ P ∷ [])
+pub counted-checked : (r : List ℕ) (y : ℕ) → nacked (length r ∷ (r ++ y ∷ [])) ++ P ∷ [] ≡ length r ∷ A ∷ (acked r ++ y ∷ N ∷ P ∷ [])
 counted-checked r y = rw (ack-before r y, ends-checked r y)
 
 -- the ends of the blocks sent: STOP, PEC and STOP, or the turn to a read
@@ -125,14 +125,14 @@ rows =
       receive-byte-pec = λ a r. refl;
       write-byte = λ a c d. refl;
       write-byte-pec = λ a c d. refl;
-      write-word = λ a c w. refl;
-      write-word-pec = λ a c w. refl;
+      write-word = λ a c l h. refl;
+      write-word-pec = λ a c l h. refl;
       read-byte = λ a c r. refl;
       read-byte-pec = λ a c r. refl;
-      read-word = λ a c v. refl;
-      read-word-pec = λ a c v. refl;
-      process-call = λ a c w v. refl;
-      process-call-pec = λ a c w v. refl;
+      read-word = λ a c l h. refl;
+      read-word-pec = λ a c l h. refl;
+      process-call = λ a c l h m n. refl;
+      process-call-pec = λ a c l h m n. refl;
       block-write = λ a c d. ap (head (W a) c (length d)) (sent-plain d);
       block-write-pec = λ a c d. ap (head (W a) c (length d)) (sent-checked (W a) c (length d) d);
       block-read-none = λ a c. refl;

@@ -79,14 +79,22 @@ allowed-valid sh t c s r h =
       counts = leb-true (counted (sh .sent) (t .sent) + counted (sh .received) (t .received)) (sh .most) (g .1);
     }
 
+-- the lengths of a valid message fit
+pub lengths-of-valid : (sh : Shape) (t : Message) → Valid sh t → lengthsFit sh (length (t .sent)) (length (t .received)) ≡ true
+unfolding lengthsFit
+lengths-of-valid sh t v =
+    rw (
+      length-there (sh .least) (sh .sent) (t .sent) (v .sent-length),
+      length-there (sh .least) (sh .received) (t .received) (v .received-length),
+      le-leb (counted (sh .sent) (t .sent) + counted (sh .received) (t .received)) (sh .most) (v .counts),
+    )
+
 pub valid-allowed : (sh : Shape) (t : Message) → Valid sh t → allowed sh (t .address) (t .direction) (t .command) (length (t .sent)) (length (t .received)) ≡ true
-unfolding allowed lengthsFit
+unfolding allowed
 valid-allowed sh t v =
     rw (
       address-there (sh .tohost) (t .address) (v .address),
       direction-there (or (writes sh) (reads sh)) (t .direction) (v .direction),
       command-there (sh .command) (sh .tohost) (t .command) (v .command),
-      length-there (sh .least) (sh .sent) (t .sent) (v .sent-length),
-      length-there (sh .least) (sh .received) (t .received) (v .received-length),
-      le-leb (counted (sh .sent) (t .sent) + counted (sh .received) (t .received)) (sh .most) (v .counts),
+      lengths-of-valid sh t v,
     )

@@ -1,12 +1,24 @@
--- The reserved addresses are these 21; 107 are left to be given out.
+-- The named addresses; the reserved ones, which are these 21, with 107 left to be given out; and addresses from their wire bytes.
 use mathlib.Core.Path.{_≡_, refl}
 use mathlib.Core.Bool.{Bool, true, false}
 use mathlib.Core.List.{List, [], _∷_}
-use Prim.Native.Nat.{ℕ, zero, suc, _+_, _*_, _/_, _%_, _<_}
+use Prim.Native.Nat.{ℕ, zero, suc, _+_, _*_, _/_, _%_, _≤_, _<_}
 use native.Mathlib.Omega.{arith}
 use lib.ListN.{length}
-use Rattle.lists.specs.Choice.{pick, not}
-use Rattle.wire.specs.Addresses.{isReserved}
+use lib.Dec.{leb}
+use borrow.Author.Tests.{lt-leb, ne-eqb}
+use Rattle.lists.specs.Choice.{pick, and, not}
+use Rattle.wire.specs.Addresses.{defaultAddress, hostAddress, alertAddress, isReserved}
+
+-- the default address is 61h, the host's 08h, that of the alert response 0Ch
+pub default-is : defaultAddress ≡ 0x61
+default-is = refl
+
+pub host-is : hostAddress ≡ 0x08
+host-is = refl
+
+pub alert-is : alertAddress ≡ 0x0C
+alert-is = refl
 
 -- the numbers from a on, n of them, that pass a test, in ascending order
 unfoldable pub passing : (ℕ → Bool) → ℕ → ℕ → List ℕ
@@ -27,6 +39,17 @@ the-reserved = refl
 pub reserved-count : length reserved ≡ 21
 unfolding passing isReserved
 reserved-count = refl
+
+-- a number above 127 is no reserved address
+pub reserved-above : (a : ℕ) → 128 ≤ a → isReserved a ≡ false
+unfolding isReserved
+reserved-above a h =
+    simp (lt-leb a 0x08 (omega arith), ne-eqb a 0x0C (λ e. omega arith), ne-eqb a 0x28 (λ e. omega arith), ne-eqb a 0x37 (λ e. omega arith), ne-eqb a 0x61 (λ e. omega arith), lt-leb a 0x7F (omega arith))
+    (go (leb 0x78 a))
+  where
+    go : (b : Bool) → and b false ≡ false
+    go true = refl
+    go false = refl
 
 pub assignable-count : length assignable ≡ 107
 unfolding passing isReserved

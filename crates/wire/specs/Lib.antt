@@ -2,6 +2,7 @@ pub mod Addresses
 pub mod AddressLaws
 pub mod Symbols
 pub mod Words
+pub mod WordsLaws
 pub mod Pec
 pub mod PecLaws
 pub mod PecDivision

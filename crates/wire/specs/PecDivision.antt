@@ -219,3 +219,19 @@ pec-is-remainder bs h r g = (only, found)
 
     found : r ≡ pecOf bs → Leaves (256 * polynomial bs) r
     found e = rw e (pec-divides bs h)
+
+-- a byte more, after any code: the two added, times x^8, leave the new code, and no other byte
+step-leaves : (c b : ℕ) → c < 256 → b < 256 → Leaves (256 * bitXor c b) (pecStep c b)
+unfolding pecStep
+step-leaves c b h g = eight-bits (bitXor c b) (bitXor c b) (xor-lt 8 c b h g) (leaves-self (bitXor c b))
+
+pub step-is-remainder : (c b r : ℕ) → c < 256 → b < 256 → r < 256 → ((q : ℕ) × (256 * bitXor c b ≡ bitXor (timesG q) r)) ↔ (r ≡ pecStep c b)
+step-is-remainder c b r h g k = (only, found)
+  where
+    only : Leaves (256 * bitXor c b) r → r ≡ pecStep c b
+    only (q, e) =
+        let (q′, e′) = step-leaves c b h g in
+        remainder-unique q q′ r (pecStep c b) k (step-byte c b h g) (sym e ∙ e′)
+
+    found : r ≡ pecStep c b → Leaves (256 * bitXor c b) r
+    found e = rw e (step-leaves c b h g)

@@ -1,11 +1,11 @@
 -- Laws of the packet error code: over no bytes, over an append, and that it is a byte.
-use mathlib.Core.Path.{_≡_, refl}
+use mathlib.Core.Path.{_≡_, refl, sym, ap}
 use mathlib.Core.Bool.{Bool, true, false}
 use mathlib.Core.List.{List, [], _∷_, _++_}
 use Prim.Native.Nat.{ℕ, _+_, _-_, _*_, _≤_, _<_}
 use native.Mathlib.Omega.{arith}
 use native.Mathlib.Numerals.{add-one}
-use lib.Bits.{bitXor, xor-lt}
+use lib.Bits.{bitXor, xor-lt, xor-zero-l}
 use lib.ListN.{length, drop, getD, drop-of-length-le}
 use lib.Seq.{drop-cons}
 use lib.Dec.{ltb}
@@ -44,6 +44,11 @@ pub pec-byte : (c : ℕ) (bs : List ℕ) → c < 256 → Bytes bs → pecFrom c 
 unfolding pecFrom
 pec-byte c [] h g = h
 pec-byte c (b ∷ bs) h g = pec-byte (pecStep c b) bs (step-byte c b h (g .0)) (g .1)
+
+-- bytes after those that gave c: the code of these bytes alone, with c added to the first of them
+pub after-code : (c b : ℕ) (bs : List ℕ) → pecFrom c (b ∷ bs) ≡ pecOf (bitXor c b ∷ bs)
+unfolding pecFrom pecStep
+after-code c b bs = ap (λ (x : ℕ). pecFrom (bitStep (bitStep (bitStep (bitStep (bitStep (bitStep (bitStep (bitStep x)))))))) bs) (sym (xor-zero-l (bitXor c b)))
 
 -- a turn of a loop over a slice, and its end
 pub pec-turn : (s : List ℕ) (c i : ℕ) → i < length s → pecFrom c (drop i s) ≡ pecFrom (pecStep c (getD s i 0)) (drop (i + 1) s)

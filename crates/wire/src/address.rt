@@ -2,7 +2,7 @@
 ghost use mathlib.Core.Path.{_≡_};
 ghost use Prim.Native.Nat.{_+_, _*_, _/_, _%_};
 ghost use lib.Dec.{ltb, eqb};
-ghost use Rattle.wire.specs.Addresses.{isReserved, defaultAddress, hostAddress, alertAddress};
+ghost use Rattle.wire.specs.Addresses.{isReserved};
 
 // An address. A number above 127 is no address: whoever is to send to one, or to look one up, refuses it.
 pub struct Address(pub u8);
@@ -16,6 +16,25 @@ impl Address {
     pub const HOST: Address = Address(0x08);
 
     pub const ALERT_RESPONSE: Address = Address(0x0C);
+
+    // The constants as values, so that a contract says which number each of them is.
+    pub fn default_address() -> Address
+        ensures { λ r. ⌜ r .0 ≡ 0x61 ⌝ }
+    {
+        Address::DEFAULT
+    }
+
+    pub fn host() -> Address
+        ensures { λ r. ⌜ r .0 ≡ 0x08 ⌝ }
+    {
+        Address::HOST
+    }
+
+    pub fn alert_response() -> Address
+        ensures { λ r. ⌜ r .0 ≡ 0x0C ⌝ }
+    {
+        Address::ALERT_RESPONSE
+    }
 
     // The address that a wire byte carries, for whichever direction. It is always below 128.
     pub fn from_wire(w: WireByte) -> Address
@@ -46,21 +65,21 @@ impl Address {
     }
 
     pub fn is_default(self) -> bool
-        ensures { λ r. ⌜ r ≡ eqb (self .0) defaultAddress ⌝ }
+        ensures { λ r. ⌜ r ≡ eqb (self .0) 0x61 ⌝ }
     {
         let named = Address::DEFAULT;
         self.0 == named.0
     }
 
     pub fn is_host(self) -> bool
-        ensures { λ r. ⌜ r ≡ eqb (self .0) hostAddress ⌝ }
+        ensures { λ r. ⌜ r ≡ eqb (self .0) 0x08 ⌝ }
     {
         let named = Address::HOST;
         self.0 == named.0
     }
 
     pub fn is_alert_response(self) -> bool
-        ensures { λ r. ⌜ r ≡ eqb (self .0) alertAddress ⌝ }
+        ensures { λ r. ⌜ r ≡ eqb (self .0) 0x0C ⌝ }
     {
         let named = Address::ALERT_RESPONSE;
         self.0 == named.0

@@ -1,7 +1,6 @@
 // The symbols of a trace that are no bytes; 0 to 255 are the bytes themselves, and anything above NACK is no symbol.
 ghost use mathlib.Core.Path.{_≡_};
 ghost use lib.Dec.{ltb, leb, eqb};
-ghost use Rattle.wire.specs.Symbols as named;
 
 pub const START: u16 = 256;
 
@@ -26,25 +25,25 @@ pub fn is_symbol(x: u16) -> bool
 }
 
 pub fn is_start(x: u16) -> bool
-    ensures { λ r. ⌜ r ≡ eqb x named.START ⌝ }
+    ensures { λ r. ⌜ r ≡ eqb x 256 ⌝ }
 {
     x == START
 }
 
 pub fn is_stop(x: u16) -> bool
-    ensures { λ r. ⌜ r ≡ eqb x named.STOP ⌝ }
+    ensures { λ r. ⌜ r ≡ eqb x 257 ⌝ }
 {
     x == STOP
 }
 
 pub fn is_ack(x: u16) -> bool
-    ensures { λ r. ⌜ r ≡ eqb x named.ACK ⌝ }
+    ensures { λ r. ⌜ r ≡ eqb x 258 ⌝ }
 {
     x == ACK
 }
 
 pub fn is_nack(x: u16) -> bool
-    ensures { λ r. ⌜ r ≡ eqb x named.NACK ⌝ }
+    ensures { λ r. ⌜ r ≡ eqb x 259 ⌝ }
 {
     x == NACK
 }
