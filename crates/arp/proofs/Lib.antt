@@ -8,3 +8,5 @@ pub mod Assigned
 pub mod Handing
 pub mod Sending
 pub mod Replayed
+pub mod Hearing
+pub mod OneStep

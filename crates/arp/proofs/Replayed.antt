@@ -248,7 +248,7 @@ abbrev pub Alike : Command → Command → Type 0
 Alike k m = (k ≡ m) ⊎ ((noCommand k ≡ true) × (noCommand m ≡ true))
 
 -- a 21 is given where none is outstanding
-idle-21 : (s : Controller) (tr : List ℕ) → noCommand (s .last) ≡ true → (stepped s tr .state ≡ s) × (stepped s tr .command ≡ NotOutstanding)
+pub idle-21 : (s : Controller) (tr : List ℕ) → noCommand (s .last) ≡ true → (stepped s tr .state ≡ s) × (stepped s tr .command ≡ NotOutstanding)
 unfolding stepped
 idle-21 s tr h = go (s .last) h
   where
