@@ -10,3 +10,4 @@ pub mod Sending
 pub mod Replayed
 pub mod Hearing
 pub mod OneStep
+pub mod OneResult

@@ -202,7 +202,7 @@ module _ (s : Controller) (tr : List ℕ) where
       (message-is (c .message) (messageOf GetUdid (receivedIn blockRead tr)) a (c .valid .direction) d (empty (c .message .sent) (c .valid .sent-length)) (sym (c .data-received)))
 
   -- the data of a complete Block Read are at most 255 bytes
-  get-data : (t : Transaction) → answer blockRead tr ≡ Done t → Bytes (receivedIn blockRead tr) × (length (receivedIn blockRead tr) ≤ 255)
+  pub get-data : (t : Transaction) → answer blockRead tr ≡ Done t → Bytes (receivedIn blockRead tr) × (length (receivedIn blockRead tr) ≤ 255)
   get-data t e =
       let c = complete blockRead tr t e in
       (subst Bytes (sym (c .data-received)) (c .valid .received-bytes), omega (arith, ap length (c .data-received), c .valid .counts))

@@ -122,3 +122,12 @@ pub record Replies (s : Controller) (u : Udid) (b : ℕ) (r : Stepped) : Type 0 
   pub unbinds : Unbinds u s (r .state)
   pub chooses : Chooses (r .state .pool) u b (r .command)
   pub hands : Hands s r (r .command) (s .gets)
+
+-- ---- two results are the same in all that these sentences speak of
+
+pub record Alike (r q : Stepped) : Type 0 where
+  pub command : r .command ≡ q .command
+  pub last : r .state .last ≡ q .state .last
+  pub gets : r .state .gets ≡ q .state .gets
+  pub starting : r .state .starting ≡ q .state .starting
+  pub same : (a : ℕ) → Same (q .state) (r .state) a
