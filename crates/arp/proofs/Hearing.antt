@@ -3,20 +3,19 @@
 use Prim.Native.Nat.{ℕ, zero, suc, _+_, _*_, _≤_, _<_}
 use mathlib.Core.Path.{_≡_, refl, sym, ap, ap₂, _∙_}
 use mathlib.Core.Bool.{Bool, true, false}
-use mathlib.Core.List.{List, [], _∷_, _++_}
+use mathlib.Core.List.{List, _∷_}
 use mathlib.Core.Logic.{_↔_}
 use native.Mathlib.Omega.{arith}
-use lib.Dec.{ltb, eqb}
+use lib.Dec.{eqb}
 use lib.ListN.{length, getD, drop, replicate, length-replicate, List·getD-append}
 use borrow.Author.Tests.{le-ltb, eqb-true}
-use Rattle.lists.specs.Choice.{pick, or, and}
+use Rattle.lists.specs.Choice.{pick, and}
 use Rattle.lists.specs.Onto.{onto}
 use Rattle.trace.specs.ShapeLaws.{sane}
 use Rattle.trace.specs.Shapes.{shapeOf, forbidden}
-use Rattle.trace.specs.declared.transaction.Transaction.{Transaction}
 use Rattle.step.proofs.Theorems as step
 use Rattle.step.specs.Answers.{CutAt}
-use Rattle.step.specs.Handed.{lows, receivedLength, receivedPlace, sentData, receivedData}
+use Rattle.step.specs.Handed.{lows, sentData, receivedData}
 use Rattle.step.specs.Paper.{paper}
 use Rattle.step.specs.declared.answer.Decoded.{Decoded}
 use Rattle.step.specs.declared.answer.Decoded.the-variants.{Done, Forbidden, BufferTooShort, NoSymbol, EndsEarly, Unexpected, NotAcknowledged, PecDiffers, AfterStop}
@@ -84,7 +83,7 @@ six-exactly protocol tr b f =
 
 -- ---- the front of a buffer reads as the data
 
-length-lows : (n : ℕ) (l : List ℕ) → length (lows n l) ≡ n
+pub length-lows : (n : ℕ) (l : List ℕ) → length (lows n l) ≡ n
 length-lows zero l = refl
 length-lows (suc n) l = ap suc (length-lows n (drop 2 l))
 

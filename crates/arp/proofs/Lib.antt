@@ -11,3 +11,4 @@ pub mod Replayed
 pub mod Hearing
 pub mod OneStep
 pub mod OneResult
+pub mod ByHistory

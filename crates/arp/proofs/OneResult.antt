@@ -1,17 +1,15 @@
 -- The sentences on a step leave one result: whatever two results agree with is the same for both, and every trace falls under a sentence.
-use Prim.Native.Nat.{ℕ, zero, suc, _+_, _*_, _/_, _≤_, _<_}
+use Prim.Native.Nat.{ℕ, zero, suc, _+_, _/_, _≤_, _<_}
 use mathlib.Core.Path.{_≡_, refl, sym, ap, ap₂, _∙_, subst}
 use mathlib.Core.Bool.{Bool, true, false}
 use mathlib.Core.List.{List, [], _∷_, _++_}
 use mathlib.Core.Logic.{_⊎_, inl, inr}
 use native.Mathlib.Decide.{ℕ-discrete, decLt}
 use native.Mathlib.Omega.{arith}
-use lib.Dec.{ltb, leb, eqb}
-use lib.ListN.{length, getD, take, drop, length-drop}
+use lib.ListN.{length, getD, drop, length-drop}
 use lib.Seq.{split-at}
-use Rattle.lists.specs.Choice.{pick}
 use Rattle.lists.specs.Each.{Bytes}
-use Rattle.trace.specs.Shapes.{shapeOf, forbidden}
+use Rattle.trace.specs.Shapes.{forbidden}
 use Rattle.trace.specs.declared.transaction.Transaction.{Transaction}
 use Rattle.step.specs.Paper.{paper}
 use Rattle.step.specs.declared.answer.Decoded.{Decoded}
@@ -27,15 +25,14 @@ use Rattle.udid.specs.UdidLaws.{bytes-back, fits-at, same-equal, same-is}
 use Rattle.udid.specs.Udids.{Fits, sameUdid}
 use Rattle.udid.specs.WindowLaws.{byte-at}
 use Rattle.udid.specs.declared.Udid.{Udid}
+use Rattle.wire.specs.declared.address.Address.{Address}
 use Rattle.arp.proofs.Hearing.{gives-exactly}
 use Rattle.arp.proofs.OneStep.{reply-symbols}
-use Rattle.arp.proofs.Sound.{bound-to}
 use Rattle.arp.proofs.TraceLaws.{valid-get, back, get-only, get-data}
-use Rattle.arp.specs.Bindings.{heldAt, boundTo}
-use Rattle.arp.specs.Controller.{newController}
+use Rattle.arp.specs.Bindings.{heldAt}
 use Rattle.arp.specs.Heard.{blockRead, answer, receivedIn, isGet}
 use Rattle.arp.specs.OneStep.{replyTrace, Gives, Hands, Asks, Chooses, Keeps, Same, BoundAt, Unbinds, Binds, Continues, EndsWith, Replies, Alike}
-use Rattle.arp.specs.Requests.{messageOf, traceOf}
+use Rattle.arp.specs.Requests.{messageOf}
 use Rattle.arp.specs.declared.command.Command.{Command}
 use Rattle.arp.specs.declared.command.Command.the-variants.{GetUdid, Assign, NoneFree}
 use Rattle.arp.specs.declared.state.Binding.{Binding}
@@ -240,3 +237,17 @@ replies-both s u b r q h g =
     let e : (a : ℕ) → Same (q .state) (r .state) a = unbinds-both u s (r .state) (q .state) (h .unbinds) (g .unbinds) in
     let k : r .command ≡ q .command = chooses-both (r .state .pool) (q .state .pool) u b (r .command) (q .command) (λ a. e a .1) (h .chooses) (g .chooses) in
     hands-both s r q (q .command) (s .gets) (subst (λ (x : Command). Hands s r x (s .gets)) k (h .hands)) (g .hands) e
+
+-- and it is an address, or none is free
+pub chosen-one : (p : Pool) (u : Udid) (b : ℕ) (k : Command) → Chooses p u b k → ((a : Address) × (k ≡ Assign u a)) ⊎ (k ≡ NoneFree u)
+chosen-one p u b k h = go (ℕ-discrete b 0xFF) (decLt (getD (udidBytes u) 0 0) 64) (member p (b / 2)) refl
+  where
+    pick-one : (b ≡ 0xFF) ⊎ ((64 ≤ getD (udidBytes u) 0 0) × (member p (b / 2) ≡ true)) → (f : Free) → lowestFree p ≡ f → ((a : Address) × (k ≡ Assign u a)) ⊎ (k ≡ NoneFree u)
+    pick-one w (At a) q = inl (a, h .picked w (a .0) (lowest-is p (a .0) .0 q))
+    pick-one w AllUsed q = inr (h .none-free w (none-free p .0 q))
+
+    go : Dec (b ≡ 0xFF) → Dec (getD (udidBytes u) 0 0 < 64) → (t : Bool) → member p (b / 2) ≡ t → ((a : Address) × (k ≡ Assign u a)) ⊎ (k ≡ NoneFree u)
+    go (yes q) d t z = pick-one (inl q) (lowestFree p) refl
+    go (no n) (yes l) t z = inl (_, h .fixed n l)
+    go (no n) (no l) false z = inl (_, h .own n (omega arith) z)
+    go (no n) (no l) true z = pick-one (inr (omega arith, z)) (lowestFree p) refl

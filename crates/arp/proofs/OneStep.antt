@@ -1,5 +1,5 @@
 -- Document 01's sentences on a step (specs/OneStep.antt) hold of every step, from every state: whatever was done before it.
-use Prim.Native.Nat.{ℕ, zero, suc, _+_, _*_, _/_, _%_, _≤_, _<_}
+use Prim.Native.Nat.{ℕ, zero, suc, _+_, _/_, _≤_, _<_}
 use mathlib.Core.Path.{_≡_, refl, sym, ap, ap₂, _∙_, subst}
 use mathlib.Core.Bool.{Bool, true, false}
 use mathlib.Core.List.{List, [], _∷_, _++_}
@@ -7,20 +7,17 @@ use mathlib.Core.Logic.{_⊎_, inl, inr}
 use native.Mathlib.Decide.{ℕ-discrete, decLt}
 use native.Mathlib.Nat.{mod-eq-of-lt}
 use native.Mathlib.Omega.{arith}
-use lib.Dec.{ltb, leb, eqb}
+use lib.Dec.{ltb, leb}
 use lib.ListN.{length, getD, set, length-append}
 use lib.Seq.{getD-at}
 use borrow.Author.Tests.{lt-ltb, le-ltb, lt-leb, le-leb}
 use Rattle.lists.specs.Choice.{pick}
 use Rattle.lists.specs.Each.{Bytes, append-bytes}
-use Rattle.wire.specs.Pec.{pecOf}
 use Rattle.trace.specs.Rows.{rows}
-use Rattle.trace.specs.Shapes.{shapeOf}
-use Rattle.trace.specs.Trace.{acked}
 use Rattle.step.specs.declared.answer.Decoded.{Decoded}
 use Rattle.step.specs.declared.answer.Decoded.the-variants.{Done, Forbidden, BufferTooShort, NoSymbol, EndsEarly, Unexpected, NotAcknowledged, PecDiffers, AfterStop}
 use Rattle.pool.specs.Free.{lowestFree}
-use Rattle.pool.specs.FreeLaws.{Lowest, lowest-is, none-free}
+use Rattle.pool.specs.FreeLaws.{lowest-is, none-free}
 use Rattle.pool.specs.MemberLaws.{has-with-same, has-with-other, has-without-same, has-without-other}
 use Rattle.pool.specs.Pools.{member}
 use Rattle.pool.specs.declared.Pool.{Pool}
@@ -28,7 +25,7 @@ use Rattle.pool.specs.declared.free.Free.{Free}
 use Rattle.pool.specs.declared.free.Free.the-variants.{At, AllUsed}
 use Rattle.udid.specs.Bytes.{udidBytes, udidAt}
 use Rattle.udid.specs.UdidLaws.{same-refl, length-udid, udid-bytes, udid-back, fixed-first, movable-first}
-use Rattle.udid.specs.Udids.{Fits, isFixed}
+use Rattle.udid.specs.Udids.{Fits}
 use Rattle.udid.specs.declared.Udid.{Udid}
 use Rattle.wire.specs.declared.address.Address.{Address}
 use Rattle.arp.proofs.Handing.{bound-gets, freed-gets}
@@ -43,9 +40,9 @@ use Rattle.arp.specs.OneStep.{prepareTrace, replyTrace, assignTrace, Giv
 use Rattle.arp.specs.Replay.{noCommand, assigning}
 use Rattle.arp.specs.Requests.{traceOf}
 use Rattle.arp.specs.declared.command.Command.{Command}
-use Rattle.arp.specs.declared.command.Command.the-variants.{Nothing, Prepare, GetUdid, Assign, Ended, NoneFree, Abandoned, NotOutstanding}
+use Rattle.arp.specs.declared.command.Command.the-variants.{Prepare, GetUdid, Assign, Ended, NoneFree, Abandoned, NotOutstanding}
 use Rattle.arp.specs.declared.state.Binding.{Binding}
-use Rattle.arp.specs.declared.state.Binding.the-variants.{Open, Bound, Claimed}
+use Rattle.arp.specs.declared.state.Binding.the-variants.{Bound}
 use Rattle.arp.specs.declared.state.Controller.{Controller}
 use Rattle.arp.specs.declared.state.Slot.{Slot}
 use Rattle.arp.specs.declared.state.Stepped.{Stepped}
