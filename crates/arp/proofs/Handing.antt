@@ -47,7 +47,7 @@ asked-handed s = go (leb 128 (s .gets))
     go false = record { last = refl; gets = refl }
 
 -- unbinding and binding count nothing
-freed-gets : (s : Controller) (u : Udid) → freed s u .gets ≡ s .gets
+pub freed-gets : (s : Controller) (u : Udid) → freed s u .gets ≡ s .gets
 unfolding freed
 freed-gets s u = go (ltb 127 (findFrom u (s .slots) 128 0))
   where

@@ -9,3 +9,7 @@ pub mod Handing
 pub mod Sending
 pub mod RequestLaws
 pub mod Replayed
+pub mod Hearing
+pub mod OneStep
+pub mod OneResult
+pub mod ByHistory

@@ -22,6 +22,7 @@ use Rattle.pool.specs.declared.Pool.{Pool}
 use Rattle.pool.specs.declared.free.Free.{Free}
 use Rattle.pool.specs.declared.free.Free.the-variants.{At, AllUsed}
 use Rattle.step.specs.Answers.{summary}
+use Rattle.step.specs.Handed.{receivedLength}
 use Rattle.step.specs.declared.answer.Decoded.{Decoded}
 use Rattle.step.specs.declared.answer.Decoded.the-variants.{Done, Forbidden, BufferTooShort, NoSymbol, EndsEarly, Unexpected, NotAcknowledged, PecDiffers, AfterStop}
 use Rattle.trace.specs.declared.transaction.Transaction.{Transaction}
@@ -31,6 +32,7 @@ use Rattle.udid.specs.Udids.{Fits, sameUdid, isFixed}
 use Rattle.udid.specs.declared.Udid.{Udid}
 use Rattle.wire.specs.declared.address.Address.{Address}
 use Rattle.arp.proofs.Handing.{Handed, bound-gets, prepare-handed, get-handed, assign-handed, gets-are-sent}
+use Rattle.arp.proofs.Hearing.{length-lows}
 use Rattle.arp.proofs.Reach.{PendingIn, good-run}
 use Rattle.arp.proofs.Sound.{SoundIn, held-same, held-other, held-above, bound-to, open-all, find-cases, Nowhere}
 use Rattle.arp.proofs.TraceLaws.{valid-get, valid-assign, back, get-only, assign-is, assign-only}
@@ -248,7 +250,7 @@ abbrev pub Alike : Command → Command → Type 0
 Alike k m = (k ≡ m) ⊎ ((noCommand k ≡ true) × (noCommand m ≡ true))
 
 -- a 21 is given where none is outstanding
-idle-21 : (s : Controller) (tr : List ℕ) → noCommand (s .last) ≡ true → (stepped s tr .state ≡ s) × (stepped s tr .command ≡ NotOutstanding)
+pub idle-21 : (s : Controller) (tr : List ℕ) → noCommand (s .last) ≡ true → (stepped s tr .state ≡ s) × (stepped s tr .command ≡ NotOutstanding)
 unfolding stepped
 idle-21 s tr h = go (s .last) h
   where
@@ -373,14 +375,7 @@ issued-command : (s : Controller) (u : Udid) (k : Free) → issued s u k .comman
 issued-command s u (At a) = refl
 issued-command s u AllUsed = refl
 
-module _ (s : Controller) (v : SoundIn s) where
-  replied-command : (u : Udid) (b : ℕ) → replied s u b .command ≡ assigning u (picked (released u (view s) .used) u b)
-  unfolding replied
-  replied-command u b =
-      issued-command (freed s u) u (chosen (freed s u .pool) u b)
-      ∙ ap (assigning u) (chosen-picked (freed s u .pool) u b)
-      ∙ ap (λ (t : Table). assigning u (picked (t .used) u b)) (freed-view (member (s .pool)) s v u)
-
+module _ (s : Controller) where
   prepare-command : (d : Decoded) (xs : List ℕ) → onPrepare s d xs .command ≡ nextPrepare (s .gets) d xs
   prepare-command (Done t) xs = go (isPrepare t xs)
     where
@@ -395,6 +390,29 @@ module _ (s : Controller) (v : SoundIn s) where
   prepare-command (Unexpected k) xs = refl
   prepare-command (PecDiffers k) xs = refl
   prepare-command (AfterStop k) xs = refl
+
+  assign-command : (u : Udid) (n : ℕ) (d : Decoded) (xs : List ℕ) → onAssign s u n d xs .command ≡ again (s .gets)
+  assign-command u n (Done t) xs = go (isAssign u n t xs)
+    where
+      go : (q : Bool) → pick q (asked (bound s u n)) (asked s) .command ≡ again (s .gets)
+      go true = asked-command (bound s u n) ∙ ap again (bound-gets s u n)
+      go false = asked-command s
+  assign-command u n (NotAcknowledged b) xs = asked-command s
+  assign-command u n Forbidden xs = asked-command s
+  assign-command u n BufferTooShort xs = asked-command s
+  assign-command u n (NoSymbol k) xs = asked-command s
+  assign-command u n (EndsEarly k) xs = asked-command s
+  assign-command u n (Unexpected k) xs = asked-command s
+  assign-command u n (PecDiffers k) xs = asked-command s
+  assign-command u n (AfterStop k) xs = asked-command s
+
+module _ (s : Controller) (v : SoundIn s) where
+  replied-command : (u : Udid) (b : ℕ) → replied s u b .command ≡ assigning u (picked (released u (view s) .used) u b)
+  unfolding replied
+  replied-command u b =
+      issued-command (freed s u) u (chosen (freed s u .pool) u b)
+      ∙ ap (assigning u) (chosen-picked (freed s u .pool) u b)
+      ∙ ap (λ (t : Table). assigning u (picked (t .used) u b)) (freed-view (member (s .pool)) s v u)
 
   reply-command : (t : Transaction) (xs : List ℕ) → onReply s t xs .command ≡ nextReply (view s) (s .gets) (Done t) xs
   unfolding onReply
@@ -421,30 +439,15 @@ module _ (s : Controller) (v : SoundIn s) where
   get-command (PecDiffers k) xs = asked-command s
   get-command (AfterStop k) xs = asked-command s
 
-  assign-command : (u : Udid) (n : ℕ) (d : Decoded) (xs : List ℕ) → onAssign s u n d xs .command ≡ again (s .gets)
-  assign-command u n (Done t) xs = go (isAssign u n t xs)
-    where
-      go : (q : Bool) → pick q (asked (bound s u n)) (asked s) .command ≡ again (s .gets)
-      go true = asked-command (bound s u n) ∙ ap again (bound-gets s u n)
-      go false = asked-command s
-  assign-command u n (NotAcknowledged b) xs = asked-command s
-  assign-command u n Forbidden xs = asked-command s
-  assign-command u n BufferTooShort xs = asked-command s
-  assign-command u n (NoSymbol k) xs = asked-command s
-  assign-command u n (EndsEarly k) xs = asked-command s
-  assign-command u n (Unexpected k) xs = asked-command s
-  assign-command u n (PecDiffers k) xs = asked-command s
-  assign-command u n (AfterStop k) xs = asked-command s
-
   step-command : (tr : List ℕ) → stepped s tr .command ≡ nextCommand (view s) (s .gets) (s .last) tr
   unfolding stepped afterPrepare afterGet afterAssign
   step-command tr = go (s .last)
     where
       go : (k : Command) → byCommand s tr k .command ≡ nextCommand (view s) (s .gets) k tr
       go Nothing = refl
-      go Prepare = prepare-command (answer sendByte tr) (sentIn sendByte tr)
+      go Prepare = prepare-command s (answer sendByte tr) (sentIn sendByte tr)
       go GetUdid = get-command (answer blockRead tr) (receivedIn blockRead tr)
-      go (Assign u a) = assign-command u (a .0) (answer blockWrite tr) (sentIn blockWrite tr)
+      go (Assign u a) = assign-command s u (a .0) (answer blockWrite tr) (sentIn blockWrite tr)
       go Ended = refl
       go (NoneFree u) = refl
       go Abandoned = refl
@@ -477,7 +480,7 @@ step-hands-out occupied es tr =
 stories : (x y : Story) → x .known ≡ y .known → x .gets ≡ y .gets → x .command ≡ y .command → x ≡ y
 stories x y p q r = λ i. record { known = p i; gets = q i; command = r i }
 
-told : (occupied : Pool) (es : List Event) → record { known = table occupied es; gets = getsSent occupied es; command = handedOut occupied es } ≡ story occupied es
+pub told : (occupied : Pool) (es : List Event) → record { known = table occupied es; gets = getsSent occupied es; command = handedOut occupied es } ≡ story occupied es
 unfolding story table getsSent handedOut
 told occupied [] = refl
 told occupied (Start ∷ es) = refl
@@ -591,6 +594,56 @@ number-21 (NoneFree u) e = absurd (let z : 13 ≡ 21 = ap first e in omega arith
 number-21 Abandoned e = absurd (let z : 14 ≡ 21 = ap first e in omega arith)
 number-21 NotOutstanding e = refl
 
+-- from every state, whatever was done before: 21 exactly if no command of a pass is outstanding
+module _ (s : Controller) where
+  asked-not : is-21 (asked s .command) ≡ false
+  asked-not = ap is-21 (asked-command s) ∙ again-not (s .gets)
+
+  replied-not : (u : Udid) (b : ℕ) → is-21 (replied s u b .command) ≡ false
+  unfolding replied
+  replied-not u b = ap is-21 (issued-command (freed s u) u (chosen (freed s u .pool) u b)) ∙ assigning-not u (chosen (freed s u .pool) u b)
+
+  get-not : (d : Decoded) (xs : List ℕ) → is-21 (onGet s d xs .command) ≡ false
+  unfolding onReply
+  get-not (Done t) xs = go (isGet t) (eqb (t .received) 17)
+    where
+      go : (p q : Bool) → is-21 (pick p (pick q (replied s (udidAt xs 0) (getD xs 16 0)) (handed s Ended)) (asked s) .command) ≡ false
+      go true true = replied-not (udidAt xs 0) (getD xs 16 0)
+      go true false = refl
+      go false q = asked-not
+  get-not (NotAcknowledged b) xs = go (ltb b 3)
+    where
+      go : (q : Bool) → is-21 (pick q (handed s Ended) (asked s) .command) ≡ false
+      go true = refl
+      go false = asked-not
+  get-not Forbidden xs = asked-not
+  get-not BufferTooShort xs = asked-not
+  get-not (NoSymbol k) xs = asked-not
+  get-not (EndsEarly k) xs = asked-not
+  get-not (Unexpected k) xs = asked-not
+  get-not (PecDiffers k) xs = asked-not
+  get-not (AfterStop k) xs = asked-not
+
+  command-21 : (tr : List ℕ) → is-21 (stepped s tr .command) ≡ noCommand (s .last)
+  unfolding stepped afterPrepare afterGet afterAssign
+  command-21 tr = go (s .last)
+    where
+      go : (k : Command) → is-21 (byCommand s tr k .command) ≡ noCommand k
+      go Prepare = ap is-21 (prepare-command s (answer sendByte tr) (sentIn sendByte tr)) ∙ prepare-not (s .gets) (answer sendByte tr) (sentIn sendByte tr)
+      go GetUdid = get-not (answer blockRead tr) (receivedIn blockRead tr)
+      go (Assign u a) = ap is-21 (assign-command s u (a .0) (answer blockWrite tr) (sentIn blockWrite tr)) ∙ again-not (s .gets)
+      go Nothing = refl
+      go Ended = refl
+      go (NoneFree u) = refl
+      go Abandoned = refl
+      go NotOutstanding = refl
+
+  pub state-21-exactly : (tr : List ℕ) → (commandNumber (stepped s tr .command) ≡ (21, []) ∷ []) ↔ (noCommand (s .last) ≡ true)
+  state-21-exactly tr = (
+    λ e. sym (command-21 tr) ∙ number-21 (stepped s tr .command) e,
+    λ h. ap commandNumber (idle-21 s tr h .1),
+  )
+
 -- A STEP GIVES 21 exactly if the latest start or step handed out no command
 pub step-21-exactly : (occupied : Pool) (es : List Event) (tr : List ℕ)
     → (commandNumber (stepped (run occupied es) tr .command) ≡ (21, []) ∷ []) ↔ (noCommand (handedOut occupied es) ≡ true)
@@ -682,7 +735,7 @@ assign-not-started u a (Unexpected k) xs e = let z : _≡_ {A = ℕ} 0 1 = cc e 
 assign-not-started u a (PecDiffers k) xs e = let z : _≡_ {A = ℕ} 0 1 = cc e in omega arith
 assign-not-started u a (AfterStop k) xs e = let z : _≡_ {A = ℕ} 0 1 = cc e in omega arith
 
-not-started : (k : Command) (tr : List ℕ) → readAs k tr ≡ Started → ⊥
+pub not-started : (k : Command) (tr : List ℕ) → readAs k tr ≡ Started → ⊥
 not-started GetUdid tr e = reply-not-started (answer 9 tr) (receivedIn 9 tr) e
 not-started (Assign u a) tr e = assign-not-started u (a .0) (answer 8 tr) (sentIn 8 tr) e
 not-started Nothing tr e = let z : _≡_ {A = ℕ} 0 1 = cc e in omega arith
@@ -764,7 +817,8 @@ reads-reply xs h l =
     ap₂ replyIn (b .0) (b .2) ∙ ap (λ (q : Bool). pick q (Replied (udidAt xs 0)) Other) (eq-eqb (length xs) 17 l)
 
 -- and no other trace is
-pub reads-reply-only : (tr : List ℕ) (u : Udid) → readAs GetUdid tr ≡ Replied u → (tr ≡ traceOf GetUdid (receivedIn 9 tr)) × (udidAt (receivedIn 9 tr) 0 ≡ u)
+pub reads-reply-only : (tr : List ℕ) (u : Udid) → readAs GetUdid tr ≡ Replied u
+    → (tr ≡ traceOf GetUdid (receivedIn 9 tr)) × (udidAt (receivedIn 9 tr) 0 ≡ u) × (length (receivedIn 9 tr) ≡ 17)
 reads-reply-only tr u e = only (answer 9 tr) refl e
   where
     differ : Other ≡ Replied u → ⊥
@@ -773,14 +827,19 @@ reads-reply-only tr u e = only (answer 9 tr) refl e
     same : {w : Udid} → Replied w ≡ Replied u → w ≡ u
     same k = cc k
 
-    done : (t : Transaction) → answer 9 tr ≡ Done t → (p : Bool) → isGet t ≡ p → (q : Bool) → pick p (pick q (Replied (udidAt (receivedIn 9 tr) 0)) Other) Other ≡ Replied u
-        → (tr ≡ traceOf GetUdid (receivedIn 9 tr)) × (udidAt (receivedIn 9 tr) 0 ≡ u)
-    done t k true g true m = (get-only (newController emptyPool) tr t k g, same m)
-    done t k true g false m = absurd (differ m)
-    done t k false g q m = absurd (differ m)
+    count : (t : Transaction) → answer 9 tr ≡ Done t → t .received ≡ 17 → length (receivedIn 9 tr) ≡ 17
+    count t k h = length-lows (receivedLength (answer 9 tr)) _ ∙ ap receivedLength k ∙ h
 
-    only : (d : Decoded) → answer 9 tr ≡ d → replyIn d (receivedIn 9 tr) ≡ Replied u → (tr ≡ traceOf GetUdid (receivedIn 9 tr)) × (udidAt (receivedIn 9 tr) 0 ≡ u)
-    only (Done t) k g = done t k (isGet t) refl (eqb (t .received) 17) g
+    done : (t : Transaction) → answer 9 tr ≡ Done t → (p : Bool) → isGet t ≡ p → (q : Bool) → eqb (t .received) 17 ≡ q
+        → pick p (pick q (Replied (udidAt (receivedIn 9 tr) 0)) Other) Other ≡ Replied u
+        → (tr ≡ traceOf GetUdid (receivedIn 9 tr)) × (udidAt (receivedIn 9 tr) 0 ≡ u) × (length (receivedIn 9 tr) ≡ 17)
+    done t k true g true n m = (get-only (newController emptyPool) tr t k g, same m, count t k (eqb-true (t .received) 17 n))
+    done t k true g false n m = absurd (differ m)
+    done t k false g q n m = absurd (differ m)
+
+    only : (d : Decoded) → answer 9 tr ≡ d → replyIn d (receivedIn 9 tr) ≡ Replied u
+        → (tr ≡ traceOf GetUdid (receivedIn 9 tr)) × (udidAt (receivedIn 9 tr) 0 ≡ u) × (length (receivedIn 9 tr) ≡ 17)
+    only (Done t) k g = done t k (isGet t) refl (eqb (t .received) 17) refl g
     only (NotAcknowledged b) k g = absurd (differ g)
     only Forbidden k g = absurd (differ g)
     only BufferTooShort k g = absurd (differ g)

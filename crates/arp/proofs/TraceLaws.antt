@@ -216,6 +216,12 @@ module _ (s : Controller) (tr : List ℕ) where
       ∙ ap (trace (shapeOf blockRead) true)
       (message-is (c .message) (messageOf GetUdid (receivedIn blockRead tr)) a (c .valid .direction) d (empty (c .message .sent) (c .valid .sent-length)) (sym (c .data-received)))
 
+  -- the data of a complete Block Read are at most 255 bytes
+  pub get-data : (t : Transaction) → answer blockRead tr ≡ Done t → Bytes (receivedIn blockRead tr) × (length (receivedIn blockRead tr) ≤ 255)
+  get-data t e =
+      let c = complete blockRead tr t e in
+      (subst Bytes (sym (c .data-received)) (c .valid .received-bytes), omega (arith, ap length (c .data-received), c .valid .counts))
+
   -- the decoder's answer for Get UDID with a reply
   module _ (xs : List ℕ) (h : Bytes xs) (l : length xs ≤ 255) (e : tr ≡ traceOf GetUdid xs) where
     get-is : afterGet s tr ≡ pick (eqb (length xs) 17) (replied s (udidAt xs 0) (getD xs 16 0)) (handed s Ended)
@@ -239,13 +245,13 @@ module _ (s : Controller) (tr : List ℕ) where
   get-nobody b h l = ap (λ (x : Decoded). onGet s x (receivedIn blockRead tr)) (cut blockRead tr b h) ∙ ap (λ (q : Bool). pick q (handed s Ended) (asked s)) (lt-ltb b 3 l)
 
   -- any other: Get UDID again
-  pub get-again : ((xs : List ℕ) → tr ≡ traceOf GetUdid xs → ⊥) → ((b : ℕ) → CutAt (shapeOf blockRead) true tr b → b < 3 → ⊥) → afterGet s tr ≡ asked s
+  pub get-again : ((xs : List ℕ) → Bytes xs → length xs ≤ 255 → tr ≡ traceOf GetUdid xs → ⊥) → ((b : ℕ) → CutAt (shapeOf blockRead) true tr b → b < 3 → ⊥) → afterGet s tr ≡ asked s
   unfolding afterGet onReply
   get-again n k = go (answer blockRead tr) refl
     where
       done : (t : Transaction) → answer blockRead tr ≡ Done t → (b : Bool) → isGet t ≡ b
           → pick b (pick (eqb (t .received) 17) (replied s (udidAt (receivedIn blockRead tr) 0) (getD (receivedIn blockRead tr) 16 0)) (handed s Ended)) (asked s) ≡ asked s
-      done t e true h = absurd (n (receivedIn blockRead tr) (get-only t e h))
+      done t e true h = let d = get-data t e in absurd (n (receivedIn blockRead tr) (d .0) (d .1) (get-only t e h))
       done t e false h = refl
 
       nack : (b : ℕ) → answer blockRead tr ≡ NotAcknowledged b → (q : Bool) → ltb b 3 ≡ q → pick q (handed s Ended) (asked s) ≡ asked s

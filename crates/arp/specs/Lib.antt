@@ -6,3 +6,4 @@ pub mod Numbers
 pub mod Requests
 pub mod History
 pub mod Replay
+pub mod OneStep

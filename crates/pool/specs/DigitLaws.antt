@@ -4,14 +4,14 @@ use mathlib.Core.Path.{_≡_, refl, sym, ap, ap₂, _∙_, fun-ext}
 use mathlib.Core.Bool.{Bool, true, false}
 use mathlib.Core.Logic.{_⊎_, inl, inr}
 use native.Mathlib.Nat.{pow-suc, div-one, zero-div, zero-mod, div-eq-of-lt, div-self, mul-mod-left, div-div-eq-div-mul, mul-comm, zero-mul, one-mul}
-use native.Mathlib.Decide.{decLt}
+use native.Mathlib.Decide.{decLt, ℕ-discrete}
 use native.Mathlib.Numerals.{one-add}
 use native.Mathlib.Omega.{arith}
 use lib.Dec.{eqb}
 use lib.Pow.{pow-pos, pow-lt, pow-add, shl-shr, mod-pow-add}
 use lib.Count.{ones, ones-step}
 use lib.Bits.{bitOr, bitXor, differ, or-shr, or-step, xor-shr, xor-step}
-use borrow.Author.Tests.{eq-eqb}
+use borrow.Author.Tests.{eq-eqb, ne-eqb}
 use Rattle.lists.specs.Choice.{pick, or, not}
 use Rattle.pool.specs.Digits.{digit, plus, flip}
 use Rattle.pool.specs.Counts.{one, count}
@@ -39,6 +39,15 @@ power-other k j n = go (decLt j k)
     go : Dec (j < k) → 2 ^ k / 2 ^ j % 2 ≡ 0
     go (yes h) = power-below k j h
     go (no h) = power-above k j (omega arith)
+
+-- 2 ^ k has digit k, and no other
+pub digit-power : (k j : ℕ) → digit (2 ^ k) j ≡ eqb j k
+unfolding digit
+digit-power k j = go (ℕ-discrete j k)
+  where
+    go : Dec (j ≡ k) → eqb (2 ^ k / 2 ^ j % 2) 1 ≡ eqb j k
+    go (yes e) = eq-eqb _ 1 (ap (λ (x : ℕ). 2 ^ k / 2 ^ x % 2) e ∙ power-same k) ∙ sym (eq-eqb j k e)
+    go (no n) = ap (λ (x : ℕ). eqb x 1) (power-other k j n) ∙ sym (ne-eqb j k n)
 
 -- ---- two numbers joined, digit by digit
 

@@ -13,7 +13,7 @@ use lib.Pow.{pow-lt}
 use borrow.Author.Tests.{lt-ltb, le-ltb, eq-eqb, ne-eqb}
 use Rattle.lists.specs.Choice.{pick, or, and, not}
 use Rattle.pool.specs.Digits.{digit, plus, flip}
-use Rattle.pool.specs.DigitLaws.{digit-or, digit-plus-same, digit-plus-other, digit-flip-same, digit-flip-other, same-digits}
+use Rattle.pool.specs.DigitLaws.{digit-power, digit-of-zero, digit-or, digit-plus-same, digit-plus-other, digit-flip-same, digit-flip-other, same-digits}
 use Rattle.pool.specs.Pools.{Fits, member, withAddress, withoutAddress, unionOf}
 use Rattle.pool.specs.declared.Pool.{Pool}
 
@@ -31,6 +31,29 @@ member-high p a h = let e : (64 + a) % 64 ≡ a = omega arith in simp (le-ltb (6
 pub member-above : (p : Pool) (a : ℕ) → 128 ≤ a → member p a ≡ false
 unfolding member
 member-above p a h = simp (le-ltb a 64 (omega arith), le-ltb a 128 h)
+
+-- in numbers: 2 ^ a as the low half is the pool of address a alone, and as the high half that of 64 + a alone
+pub only-low : (a b : ℕ) → a < 64 → member (record { low = 2 ^ a; high = 0 }) b ≡ eqb b a
+unfolding member
+only-low a b h = go (decLt b 64) (decLt b 128)
+  where
+    go : Dec (b < 64) → Dec (b < 128) → member (record { low = 2 ^ a; high = 0 }) b ≡ eqb b a
+    go (yes k) _ = member-low (record { low = 2 ^ a; high = 0 }) b k ∙ digit-power a b
+    go (no k) (yes m) = simp (le-ltb b 64 (omega arith), lt-ltb b 128 m, digit-of-zero (b % 64), ne-eqb b a (λ e. omega arith))
+    go (no k) (no m) = simp (le-ltb b 64 (omega arith), le-ltb b 128 (omega arith), ne-eqb b a (λ e. omega arith))
+
+pub only-high : (a b : ℕ) → a < 64 → member (record { low = 0; high = 2 ^ a }) b ≡ eqb b (64 + a)
+unfolding member
+only-high a b h = go (decLt b 64) (decLt b 128)
+  where
+    place : 64 ≤ b → b < 128 → Dec (b ≡ 64 + a) → eqb (b % 64) a ≡ eqb b (64 + a)
+    place l m (yes e) = eq-eqb (b % 64) a (omega arith) ∙ sym (eq-eqb b (64 + a) e)
+    place l m (no n) = ne-eqb (b % 64) a (λ e. n (omega arith)) ∙ sym (ne-eqb b (64 + a) n)
+
+    go : Dec (b < 64) → Dec (b < 128) → member (record { low = 0; high = 2 ^ a }) b ≡ eqb b (64 + a)
+    go (yes k) _ = simp (lt-ltb b 64 k, digit-of-zero (b % 64), ne-eqb b (64 + a) (λ e. omega arith))
+    go (no k) (yes m) = simp (le-ltb b 64 (omega arith), lt-ltb b 128 m) (digit-power a (b % 64) ∙ place (omega arith) m (ℕ-discrete b (64 + a)))
+    go (no k) (no m) = simp (le-ltb b 64 (omega arith), le-ltb b 128 (omega arith), ne-eqb b (64 + a) (λ e. omega arith))
 
 -- two pools with the same members are equal
 pub same-members : (p q : Pool) → Fits p → Fits q → ((a : ℕ) → a < 128 → member p a ≡ member q a) → p ≡ q

@@ -1,34 +1,36 @@
--- Demand 1 for the controller: which number a step and a lookup give, and when, in the paper's numbers (commandNumber, lookupNumber).
--- Beside it the promises over every state that a controller reaches.
+-- The controller over its states: 21, the number of a lookup, what holds in every state that is reached, the commands on the wire, and the
+-- controller told by its history. What a single step does is said sentence by sentence in Steps. commandNumber and lookupNumber give the paper's
+-- number of each case.
 use Prim.Native.Nat.{ℕ, _*_, _≤_, _<_}
-use mathlib.Core.Path.{_≡_, refl, sym, ap, _∙_, subst}
-use mathlib.Core.Bool.{Bool, true, false}
+use mathlib.Core.Path.{_≡_, refl, sym, ap, _∙_}
+use mathlib.Core.Bool.{true}
 use mathlib.Core.Logic.{_⊎_, inl, inr, _↔_}
 use mathlib.Core.List.{List, [], _∷_, _++_}
 use native.Mathlib.Decide.{decLt}
 use native.Mathlib.Omega.{arith}
-use lib.Dec.{leb, ltb, eqb}
-use lib.ListN.{length, getD}
+use lib.ListN.{length}
 use borrow.Author.Tests.{lt-ltb, le-ltb}
-use Rattle.lists.specs.Choice.{pick}
+use Rattle.lists.specs.Choice.{or}
+use Rattle.wire.specs.Addresses.{isReserved}
 use Rattle.wire.specs.Pec.{pecOf}
 use Rattle.wire.specs.declared.address.Address.{Address}
 use Rattle.trace.specs.Trace.{acked}
-use Rattle.pool.specs.declared.Pool.{Pool}
-use Rattle.pool.specs.declared.free.Free.{Free}
-use Rattle.pool.specs.declared.free.Free.the-variants.{At, AllUsed}
 use Rattle.step.specs.declared.answer.Decoded.{Decoded}
-use Rattle.step.specs.declared.answer.Decoded.the-variants.{Done, Forbidden, BufferTooShort, NoSymbol, EndsEarly, Unexpected, NotAcknowledged, PecDiffers, AfterStop}
-use Rattle.udid.specs.Bytes.{udidBytes, udidAt}
+use Rattle.decode.specs.Outcome.{Outcome}
+use Rattle.pool.specs.Pools.{member}
+use Rattle.pool.specs.StartLaws.{member-starting}
+use Rattle.pool.specs.declared.Pool.{Pool}
+use Rattle.udid.specs.Bytes.{udidBytes}
+use Rattle.udid.specs.Udids.{Fits}
 use Rattle.udid.specs.declared.Udid.{Udid}
-use Rattle.arp.specs.Bindings.{heldAt, freed, boundAt, bound}
-use Rattle.arp.specs.Controller.{newController, started, handed, counted, asked, chosen, issued, replied, onReply, onPrepare, onGet, onAssign, afterPrepare, afterGet, afterAssign, byCommand, stepped}
-use Rattle.arp.specs.Heard.{sendByte, blockRead, blockWrite, answer, sentIn, receivedIn, isPrepare, isGet, isAssign, nobody}
+use Rattle.arp.specs.Bindings.{heldAt}
+use Rattle.arp.specs.Controller.{newController, started, stepped}
 use Rattle.arp.specs.History.{Event, Received, run, Invariant, Acknowledged}
 use Rattle.arp.specs.Lookup.{seen, lookedUp}
 use Rattle.arp.specs.Numbers.{commandNumber, lookupNumber}
+use Rattle.arp.specs.OneStep.{replyTrace, assignTrace}
+use Rattle.arp.specs.Replay.{Started, Replied, Assigned, Table, released, replyIn, assignIn, readAs, numberOf, noCommand, again, NoneToPick, nextPrepare, nextReply, nextCommand, story, Told, tracesAlone}
 use Rattle.arp.specs.Requests.{traceOf}
-use Rattle.arp.specs.Replay.{Replied, released, readAs, handedOut, table, numberOf, noCommand, NoneToPick, story, Told, tracesAlone}
 use Rattle.arp.specs.declared.command.Command.{Command}
 use Rattle.arp.specs.declared.command.Command.the-variants.{Nothing, Prepare, GetUdid, Assign, Ended, NoneFree, Abandoned, NotOutstanding}
 use Rattle.arp.specs.declared.lookup.Found.{Found}
@@ -36,253 +38,24 @@ use Rattle.arp.specs.declared.lookup.Found.the-variants as found
 use Rattle.arp.specs.declared.state.Binding.{Binding}
 use Rattle.arp.specs.declared.state.Binding.the-variants.{Open, Bound, Claimed}
 use Rattle.arp.specs.declared.state.Controller.{Controller}
-use Rattle.arp.specs.declared.state.Stepped.{Stepped}
 use Rattle.arp.proofs.Assigned.{step-claimed, lookup-acknowledged}
+use Rattle.arp.proofs.ByHistory.{again-below, again-limit, ReplyOf, replied-exactly, assigned-exactly, hands-out, refused-exactly, full-exactly}
+use Rattle.arp.proofs.ByHistory as history
+use Rattle.arp.proofs.Hearing.{reply-is-decode, assign-is-decode, next-prepare-is-decode, next-reply-is-decode}
+use Rattle.arp.proofs.OneStep.{assign-symbols}
 use Rattle.arp.proofs.Reach.{good-run, invariant}
-use Rattle.arp.proofs.TraceLaws.{prepare-trace, get-row, assign-row-small}
-use Rattle.arp.proofs.Replayed.{all-told, lookup-told, start-hands-prepare, step-21-exactly, step-13-exactly, before-first-start-21}
+use Rattle.arp.proofs.Replayed.{all-told, lookup-told, start-hands-prepare, start-pool, before-first-start-21, idle-21, state-21-exactly, not-started}
+use Rattle.arp.proofs.TraceLaws.{prepare-trace, get-row}
 
--- ---- the number of a step
+-- ---- 21
 
--- the paper's number with its identifier; a command to send has none
-abbrev Number : Type 0
-Number = List (ℕ × List Udid)
+-- 21 IS GIVEN EXACTLY where no command of a pass is outstanding, from every state, and then the state stays as it is. The other numbers of a
+-- step are said with its sentences, in Steps
+pub step-21 : (s : Controller) (tr : List ℕ) → (commandNumber (stepped s tr .command) ≡ (21, []) ∷ []) ↔ (noCommand (s .last) ≡ true)
+step-21 s tr = state-21-exactly s tr
 
-abbrev none : Number
-none = []
-
-abbrev ended : Number
-ended = (0, []) ∷ []
-
-abbrev noFree : Udid → Number
-noFree u = (13, u ∷ []) ∷ []
-
-abbrev abandoned : Number
-abandoned = (14, []) ∷ []
-
-abbrev notOutstanding : Number
-notOutstanding = (21, []) ∷ []
-
--- Get UDID comes next: 14 when it would be the 129th of the pass
-abbrev dueGet : Controller → Number
-dueGet s = pick (leb 128 (s .gets)) abandoned none
-
--- an address for a target, from the pool with whatever it was bound to freed: 13 where none is free
-abbrev dueAddress : Udid → Free → Number
-dueAddress u (At a) = none
-dueAddress u AllUsed = noFree u
-
--- Prepare outstanding: accepted, Get UDID; answer 6, the pass ends; any other, 14
-abbrev duePrepare : Controller → Decoded → List ℕ → Number
-duePrepare s (Done t) sent = pick (isPrepare t sent) (dueGet s) abandoned
-duePrepare s (NotAcknowledged b) sent = ended
-duePrepare s Forbidden sent = abandoned
-duePrepare s BufferTooShort sent = abandoned
-duePrepare s (NoSymbol k) sent = abandoned
-duePrepare s (EndsEarly k) sent = abandoned
-duePrepare s (Unexpected k) sent = abandoned
-duePrepare s (PecDiffers k) sent = abandoned
-duePrepare s (AfterStop k) sent = abandoned
-
--- Get UDID outstanding: answer 6 at byte 0, 1 or 2, or a complete reply whose count is not 17, the pass ends; a reply, an address; any
--- other refusal, Get UDID again
-abbrev dueReply : Controller → List ℕ → Number
-dueReply s received = dueAddress (udidAt received 0) (chosen (freed s (udidAt received 0) .pool) (udidAt received 0) (getD received 16 0))
-
-abbrev dueAfterGet : Controller → Decoded → List ℕ → Number
-dueAfterGet s (Done t) received = pick (isGet t) (pick (eqb (t .received) 17) (dueReply s received) ended) (dueGet s)
-dueAfterGet s (NotAcknowledged b) received = pick (ltb b 3) ended (dueGet s)
-dueAfterGet s Forbidden received = dueGet s
-dueAfterGet s BufferTooShort received = dueGet s
-dueAfterGet s (NoSymbol k) received = dueGet s
-dueAfterGet s (EndsEarly k) received = dueGet s
-dueAfterGet s (Unexpected k) received = dueGet s
-dueAfterGet s (PecDiffers k) received = dueGet s
-dueAfterGet s (AfterStop k) received = dueGet s
-
--- by the command outstanding; after an Assign, bound or not, Get UDID comes next; with none outstanding, 21
-abbrev due : Controller → List ℕ → Command → Number
-due s tr Prepare = duePrepare s (answer sendByte tr) (sentIn sendByte tr)
-due s tr GetUdid = dueAfterGet s (answer blockRead tr) (receivedIn blockRead tr)
-due s tr (Assign u a) = dueGet s
-due s tr Nothing = notOutstanding
-due s tr Ended = notOutstanding
-due s tr (NoneFree u) = notOutstanding
-due s tr Abandoned = notOutstanding
-due s tr NotOutstanding = notOutstanding
-
-asked-number : (s : Controller) → commandNumber (asked s .command) ≡ dueGet s
-unfolding asked
-asked-number s = go (leb 128 (s .gets))
-  where
-    go : (b : Bool) → commandNumber (pick b (handed s Abandoned) (handed (counted s) GetUdid) .command) ≡ pick b abandoned none
-    go true = refl
-    go false = refl
-
-issued-number : (s : Controller) (u : Udid) (f : Free) → commandNumber (issued s u f .command) ≡ dueAddress u f
-issued-number s u (At a) = refl
-issued-number s u AllUsed = refl
-
-chosen-one : (b : Bool) (x y : Stepped) (m n : Number) → commandNumber (x .command) ≡ m → commandNumber (y .command) ≡ n → commandNumber (pick b x y .command) ≡ pick b m n
-chosen-one true x y m n e f = e
-chosen-one false x y m n e f = f
-
-prepare-number : (s : Controller) (d : Decoded) (sent : List ℕ) → commandNumber (onPrepare s d sent .command) ≡ duePrepare s d sent
-prepare-number s (Done t) sent = chosen-one (isPrepare t sent) (asked s) (handed s Abandoned) (dueGet s) abandoned (asked-number s) refl
-prepare-number s (NotAcknowledged b) sent = refl
-prepare-number s Forbidden sent = refl
-prepare-number s BufferTooShort sent = refl
-prepare-number s (NoSymbol k) sent = refl
-prepare-number s (EndsEarly k) sent = refl
-prepare-number s (Unexpected k) sent = refl
-prepare-number s (PecDiffers k) sent = refl
-prepare-number s (AfterStop k) sent = refl
-
-get-number : (s : Controller) (d : Decoded) (received : List ℕ) → commandNumber (onGet s d received .command) ≡ dueAfterGet s d received
-unfolding onReply replied
-get-number s (Done t) received =
-    let u : Udid = udidAt received 0 in
-    chosen-one (isGet t) (pick (eqb (t .received) 17) (replied s (udidAt received 0) (getD received 16 0)) (handed s Ended)) (asked s)
-    (pick (eqb (t .received) 17) (dueReply s received) ended) (dueGet s)
-    (chosen-one (eqb (t .received) 17) (replied s (udidAt received 0) (getD received 16 0)) (handed s Ended) (dueReply s received) ended
-    (issued-number (freed s (udidAt received 0)) (udidAt received 0) (chosen (freed s (udidAt received 0) .pool) (udidAt received 0) (getD received 16 0))) refl)
-    (asked-number s)
-get-number s (NotAcknowledged b) received = chosen-one (ltb b 3) (handed s Ended) (asked s) ended (dueGet s) refl (asked-number s)
-get-number s Forbidden received = asked-number s
-get-number s BufferTooShort received = asked-number s
-get-number s (NoSymbol k) received = asked-number s
-get-number s (EndsEarly k) received = asked-number s
-get-number s (Unexpected k) received = asked-number s
-get-number s (PecDiffers k) received = asked-number s
-get-number s (AfterStop k) received = asked-number s
-
--- binding changes no count
-bound-gets : (s : Controller) (u : Udid) (a : ℕ) → dueGet (bound s u a) ≡ dueGet s
-unfolding bound
-bound-gets s u a = go (ltb 127 a)
-  where
-    go : (b : Bool) → dueGet (pick b s (boundAt s u a)) ≡ dueGet s
-    go true = refl
-    go false = refl
-
-assign-number : (s : Controller) (u : Udid) (a : ℕ) (d : Decoded) (sent : List ℕ) → commandNumber (onAssign s u a d sent .command) ≡ dueGet s
-assign-number s u a (Done t) sent = go (isAssign u a t sent)
-  where
-    go : (b : Bool) → commandNumber (pick b (asked (bound s u a)) (asked s) .command) ≡ dueGet s
-    go true = asked-number (bound s u a) ∙ bound-gets s u a
-    go false = asked-number s
-assign-number s u a (NotAcknowledged b) sent = asked-number s
-assign-number s u a Forbidden sent = asked-number s
-assign-number s u a BufferTooShort sent = asked-number s
-assign-number s u a (NoSymbol k) sent = asked-number s
-assign-number s u a (EndsEarly k) sent = asked-number s
-assign-number s u a (Unexpected k) sent = asked-number s
-assign-number s u a (PecDiffers k) sent = asked-number s
-assign-number s u a (AfterStop k) sent = asked-number s
-
--- THE NUMBER OF A STEP is the one that is due: 0, 13 with the identifier that asked, 14, 21, or none where a command is to be sent
-pub step-number : (s : Controller) (tr : List ℕ) → commandNumber (stepped s tr .command) ≡ due s tr (s .last)
-unfolding stepped afterPrepare afterGet afterAssign
-step-number s tr = go (s .last)
-  where
-    go : (k : Command) → commandNumber (byCommand s tr k .command) ≡ due s tr k
-    go Prepare = prepare-number s (answer sendByte tr) (sentIn sendByte tr)
-    go GetUdid = get-number s (answer blockRead tr) (receivedIn blockRead tr)
-    go (Assign u a) = assign-number s u (a .0) (answer blockWrite tr) (sentIn blockWrite tr)
-    go Nothing = refl
-    go Ended = refl
-    go (NoneFree u) = refl
-    go Abandoned = refl
-    go NotOutstanding = refl
-
--- no command of a pass is outstanding
-abbrev pub Idle : Command → Type 0
-Idle Prepare = ⊥
-Idle GetUdid = ⊥
-Idle (Assign u a) = ⊥
-Idle Nothing = Unit
-Idle Ended = Unit
-Idle (NoneFree u) = Unit
-Idle Abandoned = Unit
-Idle NotOutstanding = Unit
-
--- 21: the state stays as it is
-pub idle-untouched : (s : Controller) (tr : List ℕ) → Idle (s .last) → (stepped s tr .state ≡ s) × (commandNumber (stepped s tr .command) ≡ notOutstanding)
-unfolding stepped
-idle-untouched s tr h = go (s .last) h
-  where
-    go : (k : Command) → Idle k → (byCommand s tr k .state ≡ s) × (commandNumber (byCommand s tr k .command) ≡ notOutstanding)
-    go Prepare i = absurd i
-    go GetUdid i = absurd i
-    go (Assign u a) i = absurd i
-    go Nothing i = (refl, refl)
-    go Ended i = (refl, refl)
-    go (NoneFree u) i = (refl, refl)
-    go Abandoned i = (refl, refl)
-    go NotOutstanding i = (refl, refl)
-
--- and it is given in no other case
-abbrev is21 : Number → Bool
-is21 [] = false
-is21 (n ∷ ns) = eqb (n .0) 21
-
-get-not-21 : (s : Controller) → is21 (dueGet s) ≡ false
-get-not-21 s = go (leb 128 (s .gets))
-  where
-    go : (b : Bool) → is21 (pick b abandoned none) ≡ false
-    go true = refl
-    go false = refl
-
-address-not-21 : (u : Udid) (f : Free) → is21 (dueAddress u f) ≡ false
-address-not-21 u (At a) = refl
-address-not-21 u AllUsed = refl
-
-picked-not-21 : (b : Bool) (m n : Number) → is21 m ≡ false → is21 n ≡ false → is21 (pick b m n) ≡ false
-picked-not-21 true m n e f = e
-picked-not-21 false m n e f = f
-
-prepare-not-21 : (s : Controller) (d : Decoded) (sent : List ℕ) → is21 (duePrepare s d sent) ≡ false
-prepare-not-21 s (Done t) sent = picked-not-21 (isPrepare t sent) (dueGet s) abandoned (get-not-21 s) refl
-prepare-not-21 s (NotAcknowledged b) sent = refl
-prepare-not-21 s Forbidden sent = refl
-prepare-not-21 s BufferTooShort sent = refl
-prepare-not-21 s (NoSymbol k) sent = refl
-prepare-not-21 s (EndsEarly k) sent = refl
-prepare-not-21 s (Unexpected k) sent = refl
-prepare-not-21 s (PecDiffers k) sent = refl
-prepare-not-21 s (AfterStop k) sent = refl
-
-after-get-not-21 : (s : Controller) (d : Decoded) (received : List ℕ) → is21 (dueAfterGet s d received) ≡ false
-after-get-not-21 s (Done t) received =
-    picked-not-21 (isGet t) (pick (eqb (t .received) 17) (dueReply s received) ended) (dueGet s)
-    (picked-not-21 (eqb (t .received) 17) (dueReply s received) ended
-    (address-not-21 (udidAt received 0) (chosen (freed s (udidAt received 0) .pool) (udidAt received 0) (getD received 16 0))) refl)
-    (get-not-21 s)
-after-get-not-21 s (NotAcknowledged b) received = picked-not-21 (ltb b 3) ended (dueGet s) refl (get-not-21 s)
-after-get-not-21 s Forbidden received = get-not-21 s
-after-get-not-21 s BufferTooShort received = get-not-21 s
-after-get-not-21 s (NoSymbol k) received = get-not-21 s
-after-get-not-21 s (EndsEarly k) received = get-not-21 s
-after-get-not-21 s (Unexpected k) received = get-not-21 s
-after-get-not-21 s (PecDiffers k) received = get-not-21 s
-after-get-not-21 s (AfterStop k) received = get-not-21 s
-
--- 21 IS GIVEN EXACTLY where no command of a pass is outstanding
-pub step-21 : (s : Controller) (tr : List ℕ) → (commandNumber (stepped s tr .command) ≡ (21, []) ∷ []) ↔ Idle (s .last)
-step-21 s tr = (λ e. there (s .last) (sym (step-number s tr) ∙ e), λ h. idle-untouched s tr h .1)
-  where
-    never : (n : Number) → is21 n ≡ false → n ≡ notOutstanding → ⊥
-    never n e q = let z : _≡_ {A = ℕ} 0 1 = cc (sym e ∙ ap is21 q) in omega arith
-
-    there : (k : Command) → due s tr k ≡ notOutstanding → Idle k
-    there Prepare q = never _ (prepare-not-21 s (answer sendByte tr) (sentIn sendByte tr)) q
-    there GetUdid q = never _ (after-get-not-21 s (answer blockRead tr) (receivedIn blockRead tr)) q
-    there (Assign u a) q = never _ (get-not-21 s) q
-    there Nothing q = tt
-    there Ended q = tt
-    there (NoneFree u) q = tt
-    there Abandoned q = tt
-    there NotOutstanding q = tt
+pub idle-untouched : (s : Controller) (tr : List ℕ) → noCommand (s .last) ≡ true → stepped s tr .state ≡ s
+idle-untouched s tr h = idle-21 s tr h .0
 
 -- ---- the number of a lookup
 
@@ -411,34 +184,107 @@ pub command-rows : CommandRows
 command-rows = record {
   prepare = prepare-trace;
   get = get-row;
-  assign = assign-row-small;
+  assign = λ u a h. assign-symbols u (a .0) h;
 }
 
--- THE CONTROLLER BY ITS HISTORY: what each address is known for, what the pool has, how many Get UDIDs were handed out in this pass and what
--- was handed out last are what the events alone give, in document 01's sentences (arp/specs/Replay)
-pub by-history : (occupied : Pool) (es : List Event) → Told occupied es
-by-history occupied es = all-told occupied es
+abbrev first : List (ℕ × List Udid) → ℕ × List Udid
+first [] = (0, [])
+first (x ∷ xs) = x
 
--- lookup answers 0 with the identifier, 15 or 16 as the events give it
-pub lookup-by-history : (occupied : Pool) (es : List Event) (a : ℕ) → a < 128 → lookupNumber (lookedUp (run occupied es) a) ≡ numberOf (story occupied es .known .held a)
-lookup-by-history occupied es a h = lookup-told occupied es a h
+-- 13 with an identifier is given by one command alone
+none-free-of : (k : Command) (u : Udid) → commandNumber k ≡ (13, u ∷ []) ∷ [] → k ≡ NoneFree u
+none-free-of (NoneFree v) u e = ap NoneFree (same (ap (λ (l : List (ℕ × List Udid)). first l .1) e))
+  where
+    same : v ∷ [] ≡ u ∷ [] → v ≡ u
+    same q = cc q
+none-free-of Nothing u e = absurd (let z : _≡_ {A = ℕ} 0 1 = cc e in omega arith)
+none-free-of Prepare u e = absurd (let z : _≡_ {A = ℕ} 0 1 = cc e in omega arith)
+none-free-of GetUdid u e = absurd (let z : _≡_ {A = ℕ} 0 1 = cc e in omega arith)
+none-free-of (Assign v a) u e = absurd (let z : _≡_ {A = ℕ} 0 1 = cc e in omega arith)
+none-free-of Ended u e = absurd (let z : _≡_ {A = ℕ} 0 13 = ap (λ (l : List (ℕ × List Udid)). first l .0) e in omega arith)
+none-free-of Abandoned u e = absurd (let z : _≡_ {A = ℕ} 14 13 = ap (λ (l : List (ℕ × List Udid)). first l .0) e in omega arith)
+none-free-of NotOutstanding u e = absurd (let z : _≡_ {A = ℕ} 21 13 = ap (λ (l : List (ℕ × List Udid)). first l .0) e in omega arith)
+
+-- ---- HOW A TRACE IS READ where the controller is told by its events (arp/specs/Replay)
+
+pub record Reading (tr : List ℕ) : Type 0 where
+  -- by what decode answers for it, for every call with PEC and two buffers of at least 255 bytes: for Block Read, with the data received, where
+  -- a reply is due; for Block Write, with the data sent, where an Assign is outstanding; for Send Byte after Prepare
+  pub reply : (sent₀ received₀ : List ℕ) (d : Decoded) (sent received : List ℕ) → 255 ≤ length sent₀ → 255 ≤ length received₀
+      → Outcome 9 true tr sent₀ received₀ d sent received
+      → (readAs GetUdid tr ≡ replyIn d received) × ((t : Table) (n : ℕ) → nextCommand t n GetUdid tr ≡ nextReply t n d received)
+  pub assign : (sent₀ received₀ : List ℕ) (d : Decoded) (sent received : List ℕ) → 255 ≤ length sent₀ → 255 ≤ length received₀
+      → Outcome 8 true tr sent₀ received₀ d sent received → (u : Udid) (a : Address) → readAs (Assign u a) tr ≡ assignIn u (a .0) d sent
+  pub prepare : (sent₀ received₀ : List ℕ) (d : Decoded) (sent received : List ℕ) → 255 ≤ length sent₀ → 255 ≤ length received₀
+      → Outcome 1 true tr sent₀ received₀ d sent received → (t : Table) (n : ℕ) → nextCommand t n Prepare tr ≡ nextPrepare n d sent
+  -- as symbols: a reply, exactly if Get UDID is outstanding and the trace is Get UDID with 17 bytes, the identifier's first
+  pub replied : (k : Command) (u : Udid) → Fits u → (readAs k tr ≡ Replied u) ↔ ((k ≡ GetUdid) × ReplyOf u tr)
+  -- a complete Assign, exactly if it is outstanding and the trace is that Assign, acknowledged whole
+  pub assigned : (k : Command) (u : Udid) (a : Address) → Fits u → a .0 < 128 → (readAs k tr ≡ Assigned u (a .0)) ↔ ((k ≡ Assign u a) × (tr ≡ assignTrace u (a .0)))
+  -- and no trace is a start
+  pub no-start : (k : Command) → readAs k tr ≡ Started → ⊥
+
+pub reading-is-decode : (tr : List ℕ) → Reading tr
+reading-is-decode tr = record {
+  reply = λ sent₀ received₀ d sent received l m o. (reply-is-decode tr sent₀ received₀ d sent received l m o, next-reply-is-decode tr sent₀ received₀ d sent received l m o);
+  assign = λ sent₀ received₀ d sent received l m o. assign-is-decode tr sent₀ received₀ d sent received l m o;
+  prepare = λ sent₀ received₀ d sent received l m o. next-prepare-is-decode tr sent₀ received₀ d sent received l m o;
+  replied = λ k u f. replied-exactly k tr u f;
+  assigned = λ k u a f h. assigned-exactly k tr u a f h;
+  no-start = λ k e. not-started k tr e;
+}
+
+-- ---- THE CONTROLLER BY ITS HISTORY: from any new controller, over any starts and traces, the latest first
+
+pub record ByHistory (occupied : Pool) (es : List Event) : Type 0 where
+  -- what each address is known for, what the pool has, how many Get UDIDs were handed out in this pass and what was handed out last are what the
+  -- events alone give, in document 01's sentences
+  pub told : Told occupied es
+  -- lookup answers 0 with the identifier, 15 or 16 as the events give it, and 1 for a number above 127
+  pub lookup : (a : ℕ) → a < 128 → lookupNumber (lookedUp (run occupied es) a) ≡ numberOf (story occupied es .known .held a)
+  pub no-address : (a : ℕ) → 127 < a → lookupNumber (lookedUp (run occupied es) a) ≡ (1, [])
+  -- each command that the next step hands out is the one that the events give
+  pub next : (tr : List ℕ) → stepped (run occupied es) tr .command ≡ nextCommand (story occupied es .known) (story occupied es .gets) (story occupied es .command) tr
+  -- the next step gives 21 exactly if the latest start or step handed out no command
+  pub refused : (tr : List ℕ) → (commandNumber (stepped (run occupied es) tr .command) ≡ (21, []) ∷ []) ↔ (noCommand (story occupied es .command) ≡ true)
+  -- and 13 with an identifier exactly at its reply to Get UDID, if the pool is full with what it was bound to freed, and the byte is FFh or the
+  -- target is movable with its own address in the pool
+  pub full : (tr : List ℕ) (u : Udid) → Fits u
+      → (commandNumber (stepped (run occupied es) tr .command) ≡ (13, u ∷ []) ∷ [])
+      ↔ ((story occupied es .command ≡ GetUdid)
+      × ((b : ℕ) × (b < 256) × (tr ≡ replyTrace (udidBytes u ++ b ∷ [])) × NoneToPick (released u (story occupied es .known) .used) u b))
+  -- a binding stays, but for a reply with its identifier, a complete Assign of its address, or a start
+  pub stays : (tr : List ℕ) (a : ℕ) (u : Udid) → lookupNumber (lookedUp (run occupied es) a) ≡ (0, u ∷ []) → (readAs (story occupied es .command) tr ≡ Replied u → ⊥)
+      → ((w : Udid) → readAs (story occupied es .command) tr ≡ Assigned w a → ⊥) → lookupNumber (lookedUp (run occupied (Received tr ∷ es)) a) ≡ (0, u ∷ [])
+
+pub by-history : (occupied : Pool) (es : List Event) → ByHistory occupied es
+by-history occupied es = record {
+  told = all-told occupied es;
+  lookup = λ a h. lookup-told occupied es a h;
+  no-address = λ a h. lookup-1 (run occupied es) a .1 h;
+  next = λ tr. hands-out occupied es tr;
+  refused = λ tr. refused-exactly occupied es tr;
+  full = λ tr u f. (
+    λ e. full-exactly occupied es tr u f .0 (none-free-of (stepped (run occupied es) tr .command) u e),
+    λ w. ap commandNumber (full-exactly occupied es tr u f .1 w),
+  );
+  stays = λ tr a u e n m. (let w = lookup-0 (run occupied es) a u .0 e in lookup-0 (run occupied (Received tr ∷ es)) a u .1 (w .0, history.stays occupied es tr a u (w .1) n m));
+}
+
+-- GET UDID AND ITS LIMIT: with fewer than 128 handed out in this pass it is Get UDID, with 128 it is 14
+pub get-udid-limit : (n : ℕ) → (n < 128 → again n ≡ GetUdid) × (128 ≤ n → again n ≡ Abandoned)
+get-udid-limit n = (again-below n, again-limit n)
 
 -- FROM EVERY STATE a start hands out Prepare; lookup of every address is 15 then, and the pool is the starting one
 pub start-by-history : (s : Controller) → (started s .command ≡ Prepare) × (started s .state .last ≡ Prepare)
     × ((a : ℕ) → a < 128 → lookupNumber (lookedUp (started s .state) a) ≡ (15, [])) × (started s .state .pool ≡ s .starting) × (started s .state .starting ≡ s .starting)
 start-by-history s = start-hands-prepare s
 
--- A STEP GIVES 21 exactly if the latest start or step handed out no command, so always before the first start
-pub refused-by-history : (occupied : Pool) (es : List Event) (tr : List ℕ)
-    → (commandNumber (stepped (run occupied es) tr .command) ≡ (21, []) ∷ []) ↔ (noCommand (handedOut occupied es) ≡ true)
-refused-by-history occupied es tr = step-21-exactly occupied es tr
+-- and that has the 21 reserved addresses and the occupied ones, and no other
+pub pool-at-start : (occupied : Pool) (es : List Event) (a : ℕ) → member (started (run occupied es) .state .pool) a ≡ or (isReserved a) (member occupied a)
+pool-at-start occupied es a = ap (λ (p : Pool). member p a) (start-pool occupied es) ∙ member-starting occupied a
 
+-- BEFORE THE FIRST START every step gives 21, and the controller stays new
 pub refused-before-start : (occupied : Pool) (trs : List (List ℕ)) (tr : List ℕ)
     → (run occupied (tracesAlone trs) ≡ newController occupied) × (commandNumber (stepped (run occupied (tracesAlone trs)) tr .command) ≡ (21, []) ∷ [])
 refused-before-start occupied trs tr = before-first-start-21 occupied trs tr
-
--- A STEP GIVES 13 exactly at a reply for which, with what its identifier was bound to freed, there is no address to pick
-pub full-by-history : (occupied : Pool) (es : List Event) (tr : List ℕ) (u : Udid)
-    → (stepped (run occupied es) tr .command ≡ NoneFree u)
-    ↔ ((readAs (handedOut occupied es) tr ≡ Replied u) × NoneToPick (released u (table occupied es) .used) u (getD (receivedIn 9 tr) 16 0))
-full-by-history occupied es tr u = step-13-exactly occupied es tr u

@@ -4,7 +4,7 @@ use mathlib.Core.Path.{_≡_, refl, sym, ap, ap₂, _∙_}
 use mathlib.Core.Bool.{Bool, true, false}
 use mathlib.Core.List.{List, [], _∷_, _++_, append-assoc}
 use mathlib.Core.Logic.{_↔_}
-use native.Mathlib.Decide.{ℕ-discrete}
+use native.Mathlib.Decide.{ℕ-discrete, decLt}
 use native.Mathlib.Nat.{mod-eq-of-lt}
 use native.Mathlib.Omega.{arith}
 use lib.Dec.{ltb, eqb}
@@ -156,3 +156,21 @@ top-of-first u f = omega (arith, f .high)
 
 pub fixed-is : (u : Udid) → (isFixed u ≡ true) ↔ (topBits u ≡ 0)
 fixed-is u = (eqb-true (topBits u) 0, eq-eqb (topBits u) 0)
+
+-- 00, exactly if that byte is below 64; 01, 10 and 11 from 64 on
+pub fixed-first : (u : Udid) → Fits u → (isFixed u ≡ true) ↔ (getD (udidBytes u) 0 0 < 64)
+fixed-first u f = (λ e. omega (arith, top-of-first u f, fixed-is u .0 e), λ h. fixed-is u .1 (omega (arith, top-of-first u f)))
+
+pub movable-first : (u : Udid) → Fits u → (isFixed u ≡ false) ↔ (64 ≤ getD (udidBytes u) 0 0)
+movable-first u f = (λ e. above e (decLt (getD (udidBytes u) 0 0) 64), λ h. ne-eqb (topBits u) 0 (λ e. omega (arith, top-of-first u f)))
+  where
+    above : isFixed u ≡ false → Dec (getD (udidBytes u) 0 0 < 64) → 64 ≤ getD (udidBytes u) 0 0
+    above e (yes h) = absurd (let z : _≡_ {A = ℕ} 0 1 = cc (e, fixed-first u f .1 h) in omega arith)
+    above e (no h) = omega arith
+
+-- ---- one of them in numbers: the high half first, and in each half the highest byte first
+
+pub written-out : udidBytes (record { high = 0x0102030405060708; low = 0x090A0B0C0D0E0F10 })
+    ≡ 1 ∷ 2 ∷ 3 ∷ 4 ∷ 5 ∷ 6 ∷ 7 ∷ 8 ∷ 9 ∷ 10 ∷ 11 ∷ 12 ∷ 13 ∷ 14 ∷ 15 ∷ 16 ∷ []
+unfolding udidBytes bytesOf
+written-out = refl

@@ -1,0 +1,253 @@
+-- The sentences on a step leave one result: whatever two results agree with is the same for both, and every trace falls under a sentence.
+use Prim.Native.Nat.{ℕ, zero, suc, _+_, _/_, _≤_, _<_}
+use mathlib.Core.Path.{_≡_, refl, sym, ap, ap₂, _∙_, subst}
+use mathlib.Core.Bool.{Bool, true, false}
+use mathlib.Core.List.{List, [], _∷_, _++_}
+use mathlib.Core.Logic.{_⊎_, inl, inr}
+use native.Mathlib.Decide.{ℕ-discrete, decLt}
+use native.Mathlib.Omega.{arith}
+use lib.ListN.{length, getD, drop, length-drop}
+use lib.Seq.{split-at}
+use Rattle.lists.specs.Each.{Bytes}
+use Rattle.trace.specs.Shapes.{forbidden}
+use Rattle.trace.specs.declared.transaction.Transaction.{Transaction}
+use Rattle.step.specs.Paper.{paper}
+use Rattle.step.specs.declared.answer.Decoded.{Decoded}
+use Rattle.step.specs.declared.answer.Decoded.the-variants.{Done, Forbidden, BufferTooShort, NoSymbol, EndsEarly, Unexpected, NotAcknowledged, PecDiffers, AfterStop}
+use Rattle.pool.specs.Free.{lowestFree}
+use Rattle.pool.specs.FreeLaws.{Lowest, lowest-is, none-free}
+use Rattle.pool.specs.Pools.{member}
+use Rattle.pool.specs.declared.Pool.{Pool}
+use Rattle.pool.specs.declared.free.Free.{Free}
+use Rattle.pool.specs.declared.free.Free.the-variants.{At, AllUsed}
+use Rattle.udid.specs.Bytes.{udidBytes, udidAt}
+use Rattle.udid.specs.UdidLaws.{bytes-back, fits-at, same-equal, same-is}
+use Rattle.udid.specs.Udids.{Fits, sameUdid}
+use Rattle.udid.specs.WindowLaws.{byte-at}
+use Rattle.udid.specs.declared.Udid.{Udid}
+use Rattle.wire.specs.declared.address.Address.{Address}
+use Rattle.arp.proofs.Hearing.{gives-exactly}
+use Rattle.arp.proofs.OneStep.{reply-symbols}
+use Rattle.arp.proofs.TraceLaws.{valid-get, back, get-only, get-data}
+use Rattle.arp.specs.Bindings.{heldAt}
+use Rattle.arp.specs.Heard.{blockRead, answer, receivedIn, isGet}
+use Rattle.arp.specs.OneStep.{replyTrace, Gives, Hands, Asks, Chooses, Keeps, Same, BoundAt, Unbinds, Binds, Continues, EndsWith, Replies, Alike}
+use Rattle.arp.specs.Requests.{messageOf}
+use Rattle.arp.specs.declared.command.Command.{Command}
+use Rattle.arp.specs.declared.command.Command.the-variants.{GetUdid, Assign, NoneFree}
+use Rattle.arp.specs.declared.state.Binding.{Binding}
+use Rattle.arp.specs.declared.state.Binding.the-variants.{Open, Bound, Claimed}
+use Rattle.arp.specs.declared.state.Controller.{Controller}
+use Rattle.arp.specs.declared.state.Slot.{Slot}
+use Rattle.arp.specs.declared.state.Stepped.{Stepped}
+
+-- ---- every trace
+
+-- two traces are the same, or not
+pub same-trace : (xs ys : List ℕ) → Dec (xs ≡ ys)
+same-trace [] [] = yes refl
+same-trace [] (y ∷ ys) = no (λ e. let z : _≡_ {A = ℕ} 0 (suc (length ys)) = ap length e in omega arith)
+same-trace (x ∷ xs) [] = no (λ e. let z : _≡_ {A = ℕ} (suc (length xs)) 0 = ap length e in omega arith)
+same-trace (x ∷ xs) (y ∷ ys) = go (ℕ-discrete x y) (same-trace xs ys)
+  where
+    go : Dec (x ≡ y) → Dec (xs ≡ ys) → Dec (x ∷ xs ≡ y ∷ ys)
+    go (yes p) (yes q) = yes (ap₂ (λ (a : ℕ) (l : List ℕ). a ∷ l) p q)
+    go (no p) q = no (λ e. p (ap (λ (l : List ℕ). getD l 0 0) e))
+    go (yes p) (no q) = no (λ e. q (ap (drop 1) e))
+
+-- decode gives 6 for it, or not
+pub six-or-not : (protocol : ℕ) (tr : List ℕ) → forbidden protocol true ≡ false → ((b : ℕ) × Gives protocol tr 6 b) ⊎ ((b : ℕ) → Gives protocol tr 6 b → ⊥)
+six-or-not protocol tr f = go (answer protocol tr) refl
+  where
+    other : (d : Decoded) → answer protocol tr ≡ d → (paper d .0 ≡ 6 → ⊥) → (b : ℕ) → Gives protocol tr 6 b → ⊥
+    other d e n b g = n (ap (λ (x : Decoded). paper x .0) (sym e) ∙ ap (λ (p : ℕ × ℕ). p .0) (gives-exactly protocol tr 6 b f .0 g))
+
+    go : (d : Decoded) → answer protocol tr ≡ d → ((b : ℕ) × Gives protocol tr 6 b) ⊎ ((b : ℕ) → Gives protocol tr 6 b → ⊥)
+    go (NotAcknowledged b) e = inl (b, gives-exactly protocol tr 6 b f .1 (ap paper e))
+    go (Done t) e = inr (other (Done t) e (λ k. omega arith))
+    go Forbidden e = inr (other Forbidden e (λ k. omega arith))
+    go BufferTooShort e = inr (other BufferTooShort e (λ k. omega arith))
+    go (NoSymbol k) e = inr (other (NoSymbol k) e (λ k. omega arith))
+    go (EndsEarly k) e = inr (other (EndsEarly k) e (λ k. omega arith))
+    go (Unexpected k) e = inr (other (Unexpected k) e (λ k. omega arith))
+    go (PecDiffers k) e = inr (other (PecDiffers k) e (λ k. omega arith))
+    go (AfterStop k) e = inr (other (AfterStop k) e (λ k. omega arith))
+
+-- and with one byte alone
+pub six-once : (protocol : ℕ) (tr : List ℕ) (b c : ℕ) → forbidden protocol true ≡ false → Gives protocol tr 6 b → Gives protocol tr 6 c → b ≡ c
+six-once protocol tr b c f g h = ap (λ (p : ℕ × ℕ). p .1) (sym (gives-exactly protocol tr 6 b f .0 g) ∙ gives-exactly protocol tr 6 c f .0 h)
+
+-- it is Get UDID with some bytes, or not
+abbrev pub Reply : List ℕ → Type 0
+Reply tr = (xs : List ℕ) × Bytes xs × (length xs ≤ 255) × (tr ≡ replyTrace xs)
+
+pub reply-or-not : (s : Controller) (tr : List ℕ) → Reply tr ⊎ ((xs : List ℕ) → Bytes xs → length xs ≤ 255 → tr ≡ replyTrace xs → ⊥)
+reply-or-not s tr = go (answer blockRead tr) refl
+  where
+    -- if it is, decode answers 0 with that address and command
+    is : (xs : List ℕ) → Bytes xs → length xs ≤ 255 → tr ≡ replyTrace xs → (t : Transaction) × (answer blockRead tr ≡ Done t) × (isGet t ≡ true)
+    is xs h l e = (_, ap (answer blockRead) (e ∙ sym (reply-symbols xs)) ∙ back blockRead (messageOf GetUdid xs) (valid-get xs h l) .0, refl)
+
+    other : (d : Decoded) → answer blockRead tr ≡ d → (paper d .0 ≡ 0 → ⊥) → (xs : List ℕ) → Bytes xs → length xs ≤ 255 → tr ≡ replyTrace xs → ⊥
+    other d e n xs h l q = let w = is xs h l q in n (ap (λ (x : Decoded). paper x .0) (sym e ∙ w .1))
+
+    done : (t : Transaction) → answer blockRead tr ≡ Done t → (b : Bool) → isGet t ≡ b → Reply tr ⊎ ((xs : List ℕ) → Bytes xs → length xs ≤ 255 → tr ≡ replyTrace xs → ⊥)
+    done t e true k = let d = get-data s tr t e in inl (receivedIn blockRead tr, d .0, d .1, get-only s tr t e k ∙ reply-symbols (receivedIn blockRead tr))
+    done t e false k = inr (λ xs h l q. clash (is xs h l q))
+      where
+        clash : (t : Transaction) × (answer blockRead tr ≡ Done t) × (isGet t ≡ true) → ⊥
+        clash w =
+            let m : Done t ≡ Done (w .0) = sym e ∙ w .1 in
+            let j : t ≡ w .0 = cc m in
+            let z : _≡_ {A = ℕ} 0 1 = cc (sym k ∙ ap isGet j ∙ w .2) in
+            omega arith
+
+    go : (d : Decoded) → answer blockRead tr ≡ d → Reply tr ⊎ ((xs : List ℕ) → Bytes xs → length xs ≤ 255 → tr ≡ replyTrace xs → ⊥)
+    go (Done t) e = done t e (isGet t) refl
+    go (NotAcknowledged b) e = inr (other (NotAcknowledged b) e (λ k. omega arith))
+    go Forbidden e = inr (other Forbidden e (λ k. omega arith))
+    go BufferTooShort e = inr (other BufferTooShort e (λ k. omega arith))
+    go (NoSymbol k) e = inr (other (NoSymbol k) e (λ k. omega arith))
+    go (EndsEarly k) e = inr (other (EndsEarly k) e (λ k. omega arith))
+    go (Unexpected k) e = inr (other (Unexpected k) e (λ k. omega arith))
+    go (PecDiffers k) e = inr (other (PecDiffers k) e (λ k. omega arith))
+    go (AfterStop k) e = inr (other (AfterStop k) e (λ k. omega arith))
+
+-- 17 bytes are an identifier's and one more
+pub seventeen : (xs : List ℕ) → Bytes xs → length xs ≡ 17 → Fits (udidAt xs 0) × (getD xs 16 0 < 256) × (xs ≡ udidBytes (udidAt xs 0) ++ getD xs 16 0 ∷ [])
+seventeen xs h l = (
+  fits-at xs 0 h,
+  byte-at xs 16 h,
+  split-at xs 16 0 (omega arith)
+      ∙ ap₂ (λ (p q : List ℕ). p ++ q) (sym (bytes-back xs 0 h (omega arith))) (ap (λ (q : List ℕ). getD xs 16 0 ∷ q) (none (drop 17 xs) (length-drop 17 xs ∙ omega arith))),
+)
+  where
+    none : (l : List ℕ) → length l ≡ 0 → l ≡ []
+    none [] e = refl
+    none (x ∷ l) e = absurd (omega arith)
+
+-- ---- what two results agree with
+
+hands-both : (s : Controller) (r q : Stepped) (k : Command) (n : ℕ) → Hands s r k n → Hands s q k n → ((a : ℕ) → Same (q .state) (r .state) a) → Alike r q
+hands-both s r q k n h g e = record {
+  command = h .command ∙ sym (g .command);
+  last = h .last ∙ sym (g .last);
+  gets = h .gets ∙ sym (g .gets);
+  starting = h .starting ∙ sym (g .starting);
+  same = e;
+}
+
+asks-both : (s : Controller) (r q : Stepped) → Asks s r → Asks s q → ((a : ℕ) → Same (q .state) (r .state) a) → Alike r q
+asks-both s r q h g e = go (decLt (s .gets) 128)
+  where
+    go : Dec (s .gets < 128) → Alike r q
+    go (yes l) = hands-both s r q _ _ (h .again l) (g .again l) e
+    go (no l) = hands-both s r q _ _ (h .limit (omega arith)) (g .limit (omega arith)) e
+
+keeps-both : (s t v : Controller) → Keeps s t → Keeps s v → (a : ℕ) → Same v t a
+keeps-both s t v h g a = (
+  ap (λ (x : List Slot). heldAt x a) (h .slots ∙ sym (g .slots)),
+  ap (λ (p : Pool). member p a) (h .pool ∙ sym (g .pool)),
+)
+
+pub continues-both : (s : Controller) (r q : Stepped) → Continues s r → Continues s q → Alike r q
+continues-both s r q h g = asks-both s r q (h .0) (g .0) (keeps-both s (r .state) (q .state) (h .1) (g .1))
+
+pub ends-both : (s : Controller) (r q : Stepped) (k : Command) → EndsWith s r k → EndsWith s q k → Alike r q
+ends-both s r q k h g = hands-both s r q k (s .gets) (h .0) (g .0) (keeps-both s (r .state) (q .state) (h .1) (g .1))
+
+same-both : (s t v : Controller) (a : ℕ) → Same s t a → Same s v a → Same v t a
+same-both s t v a h g = (h .0 ∙ sym (g .0), h .1 ∙ sym (g .1))
+
+pub binds-both : (u : Udid) (n : ℕ) (s : Controller) (r q : Stepped) → Asks s r × Binds u n s (r .state) → Asks s q × Binds u n s (q .state) → Alike r q
+binds-both u n s r q h g = asks-both s r q (h .0) (g .0) (λ a. at a (ℕ-discrete a n) (member (s .pool) n) refl)
+  where
+    at : (a : ℕ) → Dec (a ≡ n) → (b : Bool) → member (s .pool) n ≡ b → Same (q .state) (r .state) a
+    at a (no m) b e = same-both s (r .state) (q .state) a (h .1 .elsewhere a m) (g .1 .elsewhere a m)
+    at a (yes m) false e = subst (Same (q .state) (r .state)) (sym m) (h .1 .free e ∙ sym (g .1 .free e), h .1 .used ∙ sym (g .1 .used))
+    at a (yes m) true e = subst (Same (q .state) (r .state)) (sym m) (h .1 .taken e ∙ sym (g .1 .taken e), h .1 .used ∙ sym (g .1 .used))
+
+-- an identifier is bound to an address first, or not
+module _ (slots : List Slot) (u : Udid) where
+  bound-here : (a : ℕ) → Dec (heldAt slots a ≡ Bound u)
+  bound-here a = go (heldAt slots a) refl
+    where
+      go : (h : Binding) → heldAt slots a ≡ h → Dec (heldAt slots a ≡ Bound u)
+      go Open e = no (λ k. let z : _≡_ {A = ℕ} 0 1 = cc (sym e ∙ k) in omega arith)
+      go Claimed e = no (λ k. let z : _≡_ {A = ℕ} 0 1 = cc (sym e ∙ k) in omega arith)
+      go (Bound v) e = at (sameUdid v u) refl
+        where
+          at : (b : Bool) → sameUdid v u ≡ b → Dec (heldAt slots a ≡ Bound u)
+          at true q = yes (e ∙ ap Bound (same-equal v u q))
+          at false q = no (λ k. let j : v ≡ u = cc (sym e ∙ k) in let z : _≡_ {A = ℕ} 0 1 = cc (sym q ∙ same-is v u .1 j) in omega arith)
+
+  below : (a : ℕ) → Dec ((b : ℕ) → b < a → heldAt slots b ≡ Bound u → ⊥)
+  below zero = yes (λ b h k. absurd (omega arith))
+  below (suc a) = go (below a) (bound-here a)
+    where
+      go : Dec ((b : ℕ) → b < a → heldAt slots b ≡ Bound u → ⊥) → Dec (heldAt slots a ≡ Bound u) → Dec ((b : ℕ) → b < suc a → heldAt slots b ≡ Bound u → ⊥)
+      go (no n) d = no (λ f. n (λ b h k. f b (omega arith) k))
+      go (yes f) (yes e) = no (λ g. g a (omega arith) e)
+      go (yes f) (no n) = yes (λ b h k. at b h k (ℕ-discrete b a))
+        where
+          at : (b : ℕ) → b < suc a → heldAt slots b ≡ Bound u → Dec (b ≡ a) → ⊥
+          at b h k (yes q) = n (ap (heldAt slots) (sym q) ∙ k)
+          at b h k (no q) = f b (omega arith) k
+
+  bound-at : (a : ℕ) → Dec (BoundAt slots u a)
+  bound-at a = go (bound-here a) (below a)
+    where
+      go : Dec (heldAt slots a ≡ Bound u) → Dec ((b : ℕ) → b < a → heldAt slots b ≡ Bound u → ⊥) → Dec (BoundAt slots u a)
+      go (yes e) (yes f) = yes (record { here = e; lowest = f })
+      go (no n) f = no (λ w. n (w .here))
+      go (yes e) (no n) = no (λ w. n (w .lowest))
+
+unbinds-both : (u : Udid) (s t v : Controller) → Unbinds u s t → Unbinds u s v → (a : ℕ) → Same v t a
+unbinds-both u s t v h g a = go (bound-at (s .slots) u a)
+  where
+    go : Dec (BoundAt (s .slots) u a) → Same v t a
+    go (yes w) = (h .there a w .0 ∙ sym (g .there a w .0), h .there a w .1 ∙ sym (g .there a w .1))
+    go (no n) = same-both s t v a (h .elsewhere a n) (g .elsewhere a n)
+
+-- one choice, where the pools have the same addresses
+chooses-both : (p o : Pool) (u : Udid) (b : ℕ) (k m : Command) → ((a : ℕ) → member p a ≡ member o a) → Chooses p u b k → Chooses o u b m → k ≡ m
+chooses-both p o u b k m e h g = go (ℕ-discrete b 0xFF) (decLt (getD (udidBytes u) 0 0) 64) (member p (b / 2)) refl
+  where
+    Picks : Pool → Type 0
+    Picks x = (b ≡ 0xFF) ⊎ ((64 ≤ getD (udidBytes u) 0 0) × (member x (b / 2) ≡ true))
+
+    pick-one : Picks p → Picks o → (f : Free) → lowestFree p ≡ f → k ≡ m
+    pick-one w x (At a) q = h .picked w (a .0) l ∙ sym (g .picked x (a .0) there)
+      where
+        l : Lowest p (a .0)
+        l = lowest-is p (a .0) .0 q
+
+        there : Lowest o (a .0)
+        there = record { small = l .small; free = sym (e (a .0)) ∙ l .free; below = λ c k. sym (e c) ∙ l .below c k }
+    pick-one w x AllUsed q = h .none-free w (none-free p .0 q) ∙ sym (g .none-free x (λ c l. sym (e c) ∙ none-free p .0 q c l))
+
+    go : Dec (b ≡ 0xFF) → Dec (getD (udidBytes u) 0 0 < 64) → (t : Bool) → member p (b / 2) ≡ t → k ≡ m
+    go (yes q) d t z = pick-one (inl q) (inl q) (lowestFree p) refl
+    go (no n) (yes l) t z = h .fixed n l ∙ sym (g .fixed n l)
+    go (no n) (no l) false z = h .own n (omega arith) z ∙ sym (g .own n (omega arith) (sym (e (b / 2)) ∙ z))
+    go (no n) (no l) true z = pick-one (inr (omega arith, z)) (inr (omega arith, sym (e (b / 2)) ∙ z)) (lowestFree p) refl
+
+pub replies-both : (s : Controller) (u : Udid) (b : ℕ) (r q : Stepped) → Replies s u b r → Replies s u b q → Alike r q
+replies-both s u b r q h g =
+    let e : (a : ℕ) → Same (q .state) (r .state) a = unbinds-both u s (r .state) (q .state) (h .unbinds) (g .unbinds) in
+    let k : r .command ≡ q .command = chooses-both (r .state .pool) (q .state .pool) u b (r .command) (q .command) (λ a. e a .1) (h .chooses) (g .chooses) in
+    hands-both s r q (q .command) (s .gets) (subst (λ (x : Command). Hands s r x (s .gets)) k (h .hands)) (g .hands) e
+
+-- and it is an address, or none is free
+pub chosen-one : (p : Pool) (u : Udid) (b : ℕ) (k : Command) → Chooses p u b k → ((a : Address) × (k ≡ Assign u a)) ⊎ (k ≡ NoneFree u)
+chosen-one p u b k h = go (ℕ-discrete b 0xFF) (decLt (getD (udidBytes u) 0 0) 64) (member p (b / 2)) refl
+  where
+    pick-one : (b ≡ 0xFF) ⊎ ((64 ≤ getD (udidBytes u) 0 0) × (member p (b / 2) ≡ true)) → (f : Free) → lowestFree p ≡ f → ((a : Address) × (k ≡ Assign u a)) ⊎ (k ≡ NoneFree u)
+    pick-one w (At a) q = inl (a, h .picked w (a .0) (lowest-is p (a .0) .0 q))
+    pick-one w AllUsed q = inr (h .none-free w (none-free p .0 q))
+
+    go : Dec (b ≡ 0xFF) → Dec (getD (udidBytes u) 0 0 < 64) → (t : Bool) → member p (b / 2) ≡ t → ((a : Address) × (k ≡ Assign u a)) ⊎ (k ≡ NoneFree u)
+    go (yes q) d t z = pick-one (inl q) (lowestFree p) refl
+    go (no n) (yes l) t z = inl (_, h .fixed n l)
+    go (no n) (no l) false z = inl (_, h .own n (omega arith) z)
+    go (no n) (no l) true z = pick-one (inr (omega arith, z)) (lowestFree p) refl

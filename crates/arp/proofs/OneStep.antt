@@ -1,0 +1,332 @@
+-- Document 01's sentences on a step (specs/OneStep.antt) hold of every step, from every state: whatever was done before it.
+use Prim.Native.Nat.{ℕ, zero, suc, _+_, _/_, _≤_, _<_}
+use mathlib.Core.Path.{_≡_, refl, sym, ap, ap₂, _∙_, subst}
+use mathlib.Core.Bool.{Bool, true, false}
+use mathlib.Core.List.{List, [], _∷_, _++_}
+use mathlib.Core.Logic.{_⊎_, inl, inr}
+use native.Mathlib.Decide.{ℕ-discrete, decLt}
+use native.Mathlib.Nat.{mod-eq-of-lt}
+use native.Mathlib.Omega.{arith}
+use lib.Dec.{ltb, leb}
+use lib.ListN.{length, getD, set, length-append}
+use lib.Seq.{getD-at}
+use borrow.Author.Tests.{lt-ltb, le-ltb, lt-leb, le-leb}
+use Rattle.lists.specs.Choice.{pick}
+use Rattle.lists.specs.Each.{Bytes, append-bytes}
+use Rattle.trace.specs.Rows.{rows}
+use Rattle.step.specs.declared.answer.Decoded.{Decoded}
+use Rattle.step.specs.declared.answer.Decoded.the-variants.{Done, Forbidden, BufferTooShort, NoSymbol, EndsEarly, Unexpected, NotAcknowledged, PecDiffers, AfterStop}
+use Rattle.pool.specs.Free.{lowestFree}
+use Rattle.pool.specs.FreeLaws.{lowest-is, none-free}
+use Rattle.pool.specs.MemberLaws.{has-with-same, has-with-other, has-without-same, has-without-other}
+use Rattle.pool.specs.Pools.{member}
+use Rattle.pool.specs.declared.Pool.{Pool}
+use Rattle.pool.specs.declared.free.Free.{Free}
+use Rattle.pool.specs.declared.free.Free.the-variants.{At, AllUsed}
+use Rattle.udid.specs.Bytes.{udidBytes, udidAt}
+use Rattle.udid.specs.UdidLaws.{same-refl, length-udid, udid-bytes, udid-back, fixed-first, movable-first}
+use Rattle.udid.specs.Udids.{Fits}
+use Rattle.udid.specs.declared.Udid.{Udid}
+use Rattle.wire.specs.declared.address.Address.{Address}
+use Rattle.arp.proofs.Handing.{bound-gets, freed-gets}
+use Rattle.arp.proofs.Hearing.{six-exactly}
+use Rattle.arp.proofs.Replayed.{chosen-none-held, chosen-fixed, chosen-own, chosen-other, idle-21}
+use Rattle.arp.proofs.Sound.{Nowhere, held-above, held-same, held-other, bound-to, not-open, find-cases}
+use Rattle.arp.proofs.TraceLaws as traces
+use Rattle.arp.specs.Bindings.{openSlot, heldAt, boundTo, findFrom, freedAt, freed, slotFor, boundAt, bound}
+use Rattle.arp.specs.Controller.{handed, counted, asked, chosen, issued, replied, onAssign, afterAssign, byCommand, stepped}
+use Rattle.arp.specs.Heard.{blockWrite, answer, sentIn, isAssign}
+use Rattle.arp.specs.OneStep.{prepareTrace, replyTrace, assignTrace, Gives, Hands, Asks, Chooses, Keeps, Same, BoundAt, Unbinds, Binds, Continues, EndsWith, Replies}
+use Rattle.arp.specs.Replay.{noCommand, assigning}
+use Rattle.arp.specs.Requests.{traceOf}
+use Rattle.arp.specs.declared.command.Command.{Command}
+use Rattle.arp.specs.declared.command.Command.the-variants.{Prepare, GetUdid, Assign, Ended, NoneFree, Abandoned, NotOutstanding}
+use Rattle.arp.specs.declared.state.Binding.{Binding}
+use Rattle.arp.specs.declared.state.Binding.the-variants.{Bound}
+use Rattle.arp.specs.declared.state.Controller.{Controller}
+use Rattle.arp.specs.declared.state.Slot.{Slot}
+use Rattle.arp.specs.declared.state.Stepped.{Stepped}
+
+-- ---- the symbols of the commands are their traces
+
+pub reply-symbols : (xs : List ℕ) → traceOf GetUdid xs ≡ replyTrace xs
+reply-symbols xs = rows .block-read-pec 0x61 0x03 xs
+
+pub assign-symbols : (u : Udid) (a : ℕ) → a < 128 → traceOf (Assign u (record { 0 = a })) [] ≡ assignTrace u a
+assign-symbols u a h = traces.assign-row u (record { 0 = a }) ∙ ap (assignTrace u) (mod-eq-of-lt h)
+
+-- ---- what is handed out
+
+-- from a state with the same counts
+hands : (s t : Controller) (k : Command) (n : ℕ) → t .gets ≡ n → t .starting ≡ s .starting → Hands s (handed t k) k n
+hands s t k n g e = record { command = refl; last = refl; gets = g; starting = e }
+
+ends : (s : Controller) (k : Command) → Hands s (handed s k) k (s .gets)
+ends s k = hands s s k (s .gets) refl refl
+
+asks : (s t : Controller) → t .gets ≡ s .gets → t .starting ≡ s .starting → Asks s (asked t)
+unfolding asked
+asks s t g e = record { again = more; limit = full }
+  where
+    more : s .gets < 128 → Hands s (asked t) GetUdid (s .gets + 1)
+    more h = rw (lt-leb 128 (t .gets) (omega arith)) (hands s (counted t) GetUdid (s .gets + 1) (omega arith) e)
+
+    full : 128 ≤ s .gets → Hands s (asked t) Abandoned (s .gets)
+    full h = rw (le-leb 128 (t .gets) (omega arith)) (hands s t Abandoned (s .gets) g e)
+
+keeps-asked : (s : Controller) → Keeps s (asked s .state)
+unfolding asked
+keeps-asked s = go (leb 128 (s .gets))
+  where
+    go : (b : Bool) → Keeps s (pick b (handed s Abandoned) (handed (counted s) GetUdid) .state)
+    go true = record { slots = refl; pool = refl }
+    go false = record { slots = refl; pool = refl }
+
+continues : (s : Controller) → Continues s (asked s)
+continues s = (asks s s refl refl, keeps-asked s)
+
+ends-with : (s : Controller) (k : Command) → EndsWith s (handed s k) k
+ends-with s k = (hands s s k (s .gets) refl refl, record { slots = refl; pool = refl })
+
+-- ---- unbinding
+
+-- no address below the one that is found holds the identifier
+find-lowest : (u : Udid) (slots : List Slot) (n a j : ℕ) → a ≤ j → j < findFrom u slots n a → j < a + n → boundTo u (heldAt slots j) ≡ false
+unfolding findFrom
+find-lowest u slots zero a j l h k = absurd (omega arith)
+find-lowest u slots (suc n) a j l h k = go (boundTo u (heldAt slots a)) refl h (ℕ-discrete a j) (λ m q. find-lowest u slots n (suc a) j m q (omega arith))
+  where
+    go : (t : Bool) → boundTo u (heldAt slots a) ≡ t → j < pick t a (findFrom u slots n (suc a)) → Dec (a ≡ j)
+        → (suc a ≤ j → j < findFrom u slots n (suc a) → boundTo u (heldAt slots j) ≡ false) → boundTo u (heldAt slots j) ≡ false
+    go true e q d ih = absurd (omega arith)
+    go false e q (yes d) ih = ap (λ (x : ℕ). boundTo u (heldAt slots x)) (sym d) ∙ e
+    go false e q (no d) ih = ih (omega arith) q
+
+module _ (s : Controller) (u : Udid) (size : length (s .slots) ≡ 128) where
+  -- what holds the identifier is bound to it
+  never : (h : Binding) → boundTo u h ≡ false → h ≡ Bound u → ⊥
+  never h e q = let z : _≡_ {A = ℕ} 0 1 = cc (sym e ∙ ap (boundTo u) q ∙ same-refl u) in omega arith
+
+  unbinds-none : Nowhere u (s .slots) 0 → Unbinds u s s
+  unbinds-none n = record { there = λ a w. absurd (gone a w (decLt a 128)); elsewhere = λ a w. (refl, refl) }
+    where
+      gone : (a : ℕ) → BoundAt (s .slots) u a → Dec (a < 128) → ⊥
+      gone a w (yes h) = never (heldAt (s .slots) a) (n a (omega arith) h) (w .here)
+      gone a w (no h) = not-open (heldAt (s .slots) a) u (held-above (s .slots) a size (omega arith)) (w .here)
+
+  module _ (f : ℕ) (h : f < 128) (e : boundTo u (heldAt (s .slots) f) ≡ true) (below : (j : ℕ) → j < f → boundTo u (heldAt (s .slots) j) ≡ false) where
+    found : BoundAt (s .slots) u f
+    found = record { here = bound-to u (heldAt (s .slots) f) e; lowest = λ b l q. never (heldAt (s .slots) b) (below b l) q }
+
+    it : (a : ℕ) → BoundAt (s .slots) u a → a ≡ f
+    it a w = go (decLt a f) (decLt f a)
+      where
+        go : Dec (a < f) → Dec (f < a) → a ≡ f
+        go (yes l) k = absurd (never (heldAt (s .slots) a) (below a l) (w .here))
+        go (no l) (yes k) = absurd (w .lowest f k (found .here))
+        go (no l) (no k) = omega arith
+
+    unbinds-at : Unbinds u s (freedAt s f)
+    unbinds-at = record {
+      there = λ a w. (
+        ap (heldAt (set (s .slots) f openSlot)) (it a w) ∙ held-same (s .slots) f openSlot (omega (arith, size)),
+        ap (member (freedAt s f .pool)) (it a w) ∙ has-without-same (s .pool) f,
+      );
+      elsewhere = λ a n. other a (λ q. n (subst (BoundAt (s .slots) u) (sym q) found));
+    }
+      where
+        other : (a : ℕ) → (a ≡ f → ⊥) → Same s (freedAt s f) a
+        other a n = (held-other (s .slots) f a openSlot n, has-without-other (s .pool) f a n)
+
+  unbinds : Unbinds u s (freed s u)
+  unfolding freed
+  unbinds = go (findFrom u (s .slots) 128 0) (find-cases u (s .slots) 128 0 (omega arith)) (λ j l k. find-lowest u (s .slots) 128 0 j (omega arith) l k)
+    where
+      go : (f : ℕ) → ((f ≡ 128) × Nowhere u (s .slots) 0) ⊎ ((f < 128) × (boundTo u (heldAt (s .slots) f) ≡ true))
+          → ((j : ℕ) → j < f → j < 0 + 128 → boundTo u (heldAt (s .slots) j) ≡ false) → Unbinds u s (pick (ltb 127 f) s (freedAt s f))
+      go f (inl r) m = rw (lt-ltb 127 f (omega (arith, r .0))) (unbinds-none (r .1))
+      go f (inr r) m = rw (le-ltb 127 f (omega (arith, r .0))) (unbinds-at f (r .0) (r .1) (λ j l. m j l (omega (arith, r .0))))
+
+-- ---- binding
+
+module _ (s : Controller) (u : Udid) (a : ℕ) (size : length (s .slots) ≡ 128) (h : a < 128) where
+  slot-is : (b : Bool) → member (s .pool) a ≡ b → heldAt (boundAt s u a .slots) a ≡ slotFor b u .held
+  slot-is b e =
+      held-same (s .slots) a (slotFor (member (s .pool) a) u) (omega (arith, size))
+      ∙ ap (λ (x : Bool). slotFor x u .held) e
+
+  binds-at : Binds u a s (boundAt s u a)
+  binds-at = record {
+    free = λ e. slot-is false e;
+    taken = λ e. slot-is true e;
+    used = has-with-same (s .pool) a h;
+    elsewhere = λ b n. (held-other (s .slots) a b (slotFor (member (s .pool) a) u) n, has-with-other (s .pool) a b n);
+  }
+
+  binds : Binds u a s (bound s u a)
+  unfolding bound
+  binds = rw (le-ltb 127 a (omega arith)) binds-at
+
+-- what was done to the addresses stands when Get UDID is due
+binds-kept : (u : Udid) (a : ℕ) (s t r : Controller) → Binds u a s t → Keeps t r → Binds u a s r
+binds-kept u a s t r b k = record {
+  free = λ e. ap (λ (x : List Slot). heldAt x a) (k .slots) ∙ b .free e;
+  taken = λ e. ap (λ (x : List Slot). heldAt x a) (k .slots) ∙ b .taken e;
+  used = ap (λ (p : Pool). member p a) (k .pool) ∙ b .used;
+  elsewhere = λ c n. (
+    ap (λ (x : List Slot). heldAt x c) (k .slots) ∙ b .elsewhere c n .0,
+    ap (λ (p : Pool). member p c) (k .pool) ∙ b .elsewhere c n .1,
+  );
+}
+
+starting-bound : (s : Controller) (u : Udid) (a : ℕ) → bound s u a .starting ≡ s .starting
+unfolding bound
+starting-bound s u a = go (ltb 127 a)
+  where
+    go : (b : Bool) → pick b s (boundAt s u a) .starting ≡ s .starting
+    go true = refl
+    go false = refl
+
+starting-freed : (s : Controller) (u : Udid) → freed s u .starting ≡ s .starting
+unfolding freed
+starting-freed s u = go (ltb 127 (findFrom u (s .slots) 128 0))
+  where
+    go : (b : Bool) → pick b s (freedAt s (findFrom u (s .slots) 128 0)) .starting ≡ s .starting
+    go true = refl
+    go false = refl
+
+-- ---- choosing
+
+module _ (p : Pool) (u : Udid) (b : ℕ) (f : Fits u) where
+  to-pick : (b ≡ 0xFF) ⊎ ((64 ≤ getD (udidBytes u) 0 0) × (member p (b / 2) ≡ true)) → chosen p u b ≡ lowestFree p
+  to-pick (inl e) = ap (chosen p u) e ∙ chosen-none-held p u
+  to-pick (inr w) = go (ℕ-discrete b 0xFF)
+    where
+      go : Dec (b ≡ 0xFF) → chosen p u b ≡ lowestFree p
+      go (yes e) = ap (chosen p u) e ∙ chosen-none-held p u
+      go (no n) = chosen-other p u b n (movable-first u f .1 (w .0)) (w .1)
+
+  chooses : Chooses p u b (assigning u (chosen p u b))
+  chooses = record {
+    picked = λ w a l. ap (assigning u) (to-pick w ∙ lowest-is p a .1 l);
+    none-free = λ w l. ap (assigning u) (to-pick w ∙ none-free p .1 l);
+    fixed = λ n l. ap (assigning u) (chosen-fixed p u b n (fixed-first u f .1 l));
+    own = λ n l m. ap (assigning u) (chosen-own p u b n (movable-first u f .1 l) m);
+  }
+
+module _ (s : Controller) (u : Udid) (b : ℕ) (f : Fits u) (size : length (s .slots) ≡ 128) where
+  replies-with : (k : Free) → k ≡ chosen (freed s u .pool) u b → Replies s u b (issued (freed s u) u k)
+  replies-with (At a) e = record {
+    unbinds = record { there = unbinds s u size .there; elsewhere = unbinds s u size .elsewhere };
+    chooses = subst (Chooses (freed s u .pool) u b) (ap (assigning u) (sym e)) (chooses (freed s u .pool) u b f);
+    hands = hands s (freed s u) (Assign u a) (s .gets) (freed-gets s u) (starting-freed s u);
+  }
+  replies-with AllUsed e = record {
+    unbinds = record { there = unbinds s u size .there; elsewhere = unbinds s u size .elsewhere };
+    chooses = subst (Chooses (freed s u .pool) u b) (ap (assigning u) (sym e)) (chooses (freed s u .pool) u b f);
+    hands = hands s (freed s u) (NoneFree u) (s .gets) (freed-gets s u) (starting-freed s u);
+  }
+
+  replies : Replies s u b (replied s u b)
+  unfolding replied
+  replies = replies-with (chosen (freed s u .pool) u b) refl
+
+-- ---- THE SENTENCES
+
+module _ (s : Controller) (tr : List ℕ) where
+  outstanding : (k : Command) → s .last ≡ k → stepped s tr ≡ byCommand s tr k
+  unfolding stepped
+  outstanding k e = ap (byCommand s tr) e
+
+  not-bound : (u : Udid) (n : ℕ) → 127 < n → bound s u n ≡ s
+  unfolding bound
+  not-bound u n h = rw (lt-ltb 127 n h)
+
+  nothing-bound : (u : Udid) (n : ℕ) → 127 < n → afterAssign s u n tr ≡ asked s
+  unfolding afterAssign
+  nothing-bound u n h = go (answer blockWrite tr) (sentIn blockWrite tr)
+    where
+      either : (b : Bool) → pick b (asked (bound s u n)) (asked s) ≡ asked s
+      either true = ap asked (not-bound u n h)
+      either false = refl
+
+      go : (d : Decoded) (xs : List ℕ) → onAssign s u n d xs ≡ asked s
+      go (Done t) xs = either (isAssign u n t xs)
+      go (NotAcknowledged b) xs = refl
+      go Forbidden xs = refl
+      go BufferTooShort xs = refl
+      go (NoSymbol i) xs = refl
+      go (EndsEarly i) xs = refl
+      go (Unexpected i) xs = refl
+      go (PecDiffers i) xs = refl
+      go (AfterStop i) xs = refl
+
+  -- Prepare accepted: send Get UDID
+  pub prepare-accepted : s .last ≡ Prepare → tr ≡ prepareTrace → Continues s (stepped s tr)
+  prepare-accepted e q = subst (Continues s) (sym (outstanding Prepare e ∙ traces.prepare-accepted s tr (q ∙ sym traces.prepare-trace))) (continues s)
+
+  -- answer 6: the pass ends, nobody there
+  pub prepare-nobody : s .last ≡ Prepare → (b : ℕ) → Gives 1 tr 6 b → EndsWith s (stepped s tr) Ended
+  prepare-nobody e b g =
+      subst (λ (r : Stepped). EndsWith s r Ended) (sym (outstanding Prepare e ∙ traces.prepare-nobody s tr b (six-exactly 1 tr b refl .0 g))) (ends-with s Ended)
+
+  -- any other: 14
+  pub prepare-other : s .last ≡ Prepare → (tr ≡ prepareTrace → ⊥) → ((b : ℕ) → Gives 1 tr 6 b → ⊥) → EndsWith s (stepped s tr) Abandoned
+  prepare-other e n m =
+      subst (λ (r : Stepped). EndsWith s r Abandoned)
+      (sym (outstanding Prepare e ∙ traces.prepare-other s tr (λ q. n (q ∙ traces.prepare-trace)) (λ b c. m b (six-exactly 1 tr b refl .1 c))))
+      (ends-with s Abandoned)
+
+  -- Get UDID: a complete reply whose count is not 17: the pass ends
+  pub get-count : s .last ≡ GetUdid → (xs : List ℕ) → Bytes xs → length xs ≤ 255 → (length xs ≡ 17 → ⊥) → tr ≡ replyTrace xs → EndsWith s (stepped s tr) Ended
+  get-count e xs h l n q =
+      subst (λ (r : Stepped). EndsWith s r Ended) (sym (outstanding GetUdid e ∙ traces.get-count s tr xs h l (q ∙ sym (reply-symbols xs)) n)) (ends-with s Ended)
+
+  -- answer 6 at byte 0, 1 or 2: the pass ends
+  pub get-nobody : s .last ≡ GetUdid → (b : ℕ) → b < 3 → Gives 9 tr 6 b → EndsWith s (stepped s tr) Ended
+  get-nobody e b l g =
+      subst (λ (r : Stepped). EndsWith s r Ended) (sym (outstanding GetUdid e ∙ traces.get-nobody s tr b (six-exactly 9 tr b refl .0 g) l)) (ends-with s Ended)
+
+  -- any other refusal, another address or another command: Get UDID again
+  pub get-again : s .last ≡ GetUdid → ((xs : List ℕ) → Bytes xs → length xs ≤ 255 → tr ≡ replyTrace xs → ⊥) → ((b : ℕ) → b < 3 → Gives 9 tr 6 b → ⊥)
+      → Continues s (stepped s tr)
+  get-again e n m =
+      subst (Continues s)
+      (sym (outstanding GetUdid e ∙ traces.get-again s tr (λ xs h l q. n xs h l (q ∙ reply-symbols xs)) (λ b c l. m b l (six-exactly 9 tr b refl .1 c))))
+      (continues s)
+
+  -- a reply of 17 bytes
+  pub get-reply : length (s .slots) ≡ 128 → s .last ≡ GetUdid → (u : Udid) (b : ℕ) → Fits u → b < 256 → tr ≡ replyTrace (udidBytes u ++ b ∷ []) → Replies s u b (stepped s tr)
+  get-reply size e u b f h q =
+      let xs : List ℕ = udidBytes u ++ b ∷ [] in
+      let n : length (udidBytes u ++ b ∷ []) ≡ 17 = omega (arith, length-append (udidBytes u) (b ∷ []), length-udid u) in
+      let v : udidAt (udidBytes u ++ b ∷ []) 0 ≡ u = udid-back [] (b ∷ []) 0 u f refl in
+      let g : getD (udidBytes u ++ b ∷ []) 16 0 ≡ b = getD-at (udidBytes u) b [] 0 16 (length-udid u) in
+      subst (Replies s u b)
+      (sym (outstanding GetUdid e
+      ∙ traces.get-reply s tr (udidBytes u ++ b ∷ []) (append-bytes (udidBytes u) (b ∷ []) (udid-bytes u) (h, tt)) (omega arith) (q ∙ sym (reply-symbols (udidBytes u ++ b ∷ []))) n
+      ∙ ap₂ (replied s) v g))
+      (replies s u b f size)
+
+  -- Assign complete: bind, and add to the pool; then Get UDID
+  pub assign-whole : length (s .slots) ≡ 128 → (u : Udid) (a : Address) → s .last ≡ Assign u a → Fits u → a .0 < 128 → tr ≡ assignTrace u (a .0)
+      → Asks s (stepped s tr) × Binds u (a .0) s (stepped s tr .state)
+  assign-whole size u a e f h q =
+      subst (λ (r : Stepped). Asks s r × Binds u (a .0) s (r .state))
+      (sym (outstanding (Assign u a) e ∙ traces.assign-whole s u a tr f (q ∙ sym (assign-symbols u (a .0) h)))) (
+        asks s (bound s u (a .0)) (bound-gets s u (a .0)) (starting-bound s u (a .0)),
+        binds-kept u (a .0) s (bound s u (a .0)) (asked (bound s u (a .0)) .state) (binds s u (a .0) size h) (keeps-asked (bound s u (a .0))),
+      )
+
+  -- any other answer: no binding, Get UDID again
+  pub assign-other : (u : Udid) (a : Address) → s .last ≡ Assign u a → a .0 < 128 → (tr ≡ assignTrace u (a .0) → ⊥) → Continues s (stepped s tr)
+  assign-other u a e h n =
+      subst (Continues s) (sym (outstanding (Assign u a) e ∙ traces.assign-other s u a tr (λ q. n (q ∙ assign-symbols u (a .0) h)))) (continues s)
+
+  -- a number above 127 is no address: nothing is bound
+  pub assign-no-address : (u : Udid) (a : Address) → s .last ≡ Assign u a → 127 < a .0 → Continues s (stepped s tr)
+  assign-no-address u a e h = subst (Continues s) (sym (outstanding (Assign u a) e ∙ nothing-bound u (a .0) h)) (continues s)
+
+  -- 21, and the state stays, where no command of a pass is outstanding
+  pub none-outstanding : noCommand (s .last) ≡ true → (stepped s tr .state ≡ s) × (stepped s tr .command ≡ NotOutstanding)
+  none-outstanding e = idle-21 s tr e

@@ -1,0 +1,133 @@
+-- What a step does, in document 01's words: the traces of the three commands as symbols, the decoder's number for a trace, what is handed
+-- out, and what becomes of each address. Nothing here cites how the step is computed. promises/Controller puts the sentences together.
+use Prim.Native.Nat.{ℕ, _+_, _*_, _/_, _≤_, _<_}
+use mathlib.Core.Path.{_≡_}
+use mathlib.Core.Bool.{true, false}
+use mathlib.Core.List.{List, [], _∷_, _++_}
+use mathlib.Core.Logic.{_⊎_}
+use lib.ListN.{length, getD}
+use Rattle.wire.specs.Pec.{pecOf}
+use Rattle.trace.specs.Trace.{acked}
+use Rattle.step.specs.Paper.{paper}
+use Rattle.step.specs.declared.answer.Decoded.{Decoded}
+use Rattle.decode.specs.Outcome.{Outcome}
+use Rattle.pool.specs.FreeLaws.{Lowest}
+use Rattle.pool.specs.Pools.{member}
+use Rattle.pool.specs.declared.Pool.{Pool}
+use Rattle.udid.specs.Bytes.{udidBytes}
+use Rattle.udid.specs.declared.Udid.{Udid}
+use Rattle.arp.specs.Bindings.{heldAt}
+use Rattle.arp.specs.declared.command.Command.{Command}
+use Rattle.arp.specs.declared.command.Command.the-variants.{GetUdid, Assign, NoneFree, Abandoned}
+use Rattle.arp.specs.declared.state.Binding.the-variants.{Open, Bound, Claimed}
+use Rattle.arp.specs.declared.state.Controller.{Controller}
+use Rattle.arp.specs.declared.state.Slot.{Slot}
+use Rattle.arp.specs.declared.state.Stepped.{Stepped}
+
+-- ---- the traces: 256 S, 257 P, 258 A, 259 N; 194 and 195 are C2h and C3h, the two bytes of 61h
+
+-- Prepare To ARP, acknowledged whole: S C2 A 01 A PEC A P
+abbrev pub prepareTrace : List ℕ
+prepareTrace = 256 ∷ 194 ∷ 258 ∷ 1 ∷ 258 ∷ 192 ∷ 258 ∷ 257 ∷ []
+
+-- Get UDID with the bytes of a reply: S C2 A 03 A S C3 A, the count A, each byte with A, PEC N P
+abbrev pub replyTrace : List ℕ → List ℕ
+replyTrace xs =
+    256 ∷ 194 ∷ 258 ∷ 3 ∷ 258 ∷ 256 ∷ 195 ∷ 258 ∷ length xs ∷ 258 ∷ (acked xs ++ pecOf (194 ∷ 3 ∷ 195 ∷ length xs ∷ xs) ∷ 259 ∷ 257 ∷ [])
+
+-- Assign Address, acknowledged whole: S C2 A 04 A 11 A, each byte of the identifier with A, twice the address A, PEC A P
+abbrev pub assignTrace : Udid → ℕ → List ℕ
+assignTrace u a =
+    256 ∷ 194 ∷ 258 ∷ 4 ∷ 258 ∷ 17 ∷ 258 ∷ (acked (udidBytes u) ++ 2 * a ∷ 258 ∷ pecOf (194 ∷ 4 ∷ 17 ∷ (udidBytes u ++ 2 * a ∷ [])) ∷ 258 ∷ 257 ∷ [])
+
+-- ---- the decoder's number
+
+-- a call of decode, told this protocol and PEC, and lent two buffers of at least 255 bytes, answers number n with v for the trace
+pub record Gives (protocol : ℕ) (tr : List ℕ) (n v : ℕ) : Type 0 where
+  pub sent₀ : List ℕ
+  pub received₀ : List ℕ
+  pub room-sent : 255 ≤ length sent₀
+  pub room-received : 255 ≤ length received₀
+  pub answer : Decoded
+  pub sent : List ℕ
+  pub received : List ℕ
+  pub outcome : Outcome protocol true tr sent₀ received₀ answer sent received
+  pub number : paper answer ≡ (n, v)
+
+-- ---- what is handed out
+
+-- k is handed out and kept as the last, and n Get UDIDs are counted; the starting pool stays
+pub record Hands (s : Controller) (r : Stepped) (k : Command) (n : ℕ) : Type 0 where
+  pub command : r .command ≡ k
+  pub last : r .state .last ≡ k
+  pub gets : r .state .gets ≡ n
+  pub starting : r .state .starting ≡ s .starting
+
+-- Get UDID, with the count one up; when it would be the 129th of the pass: 14
+pub record Asks (s : Controller) (r : Stepped) : Type 0 where
+  pub again : s .gets < 128 → Hands s r GetUdid (s .gets + 1)
+  pub limit : 128 ≤ s .gets → Hands s r Abandoned (s .gets)
+
+-- for a target with this identifier and this address byte, where the addresses of p are in use
+pub record Chooses (p : Pool) (u : Udid) (b : ℕ) (k : Command) : Type 0 where
+  -- FFh, or movable (the top two bits not 00) with its own address in the pool: the lowest free one is assigned, and 13 if none is free
+  pub picked : (b ≡ 0xFF) ⊎ ((64 ≤ getD (udidBytes u) 0 0) × (member p (b / 2) ≡ true)) → (a : ℕ) → Lowest p a → k ≡ Assign u (record { 0 = a })
+  pub none-free : (b ≡ 0xFF) ⊎ ((64 ≤ getD (udidBytes u) 0 0) × (member p (b / 2) ≡ true)) → ((a : ℕ) → a < 128 → member p a ≡ true) → k ≡ NoneFree u
+  -- else fixed: its own
+  pub fixed : (b ≡ 0xFF → ⊥) → getD (udidBytes u) 0 0 < 64 → k ≡ Assign u (record { 0 = b / 2 })
+  -- else movable with its own not in the pool: its own
+  pub own : (b ≡ 0xFF → ⊥) → 64 ≤ getD (udidBytes u) 0 0 → member p (b / 2) ≡ false → k ≡ Assign u (record { 0 = b / 2 })
+
+-- ---- what becomes of the addresses
+
+-- nothing is bound, unbound or claimed, and the pool stays
+pub record Keeps (s t : Controller) : Type 0 where
+  pub slots : t .slots ≡ s .slots
+  pub pool : t .pool ≡ s .pool
+
+-- what an address is known for and whether the pool has it are as they were
+abbrev pub Same : Controller → Controller → ℕ → Type 0
+Same s t a = (heldAt (t .slots) a ≡ heldAt (s .slots) a) × (member (t .pool) a ≡ member (s .pool) a)
+
+-- the address that an identifier is bound to: the lowest one, and the only one in every state that is reached
+pub record BoundAt (slots : List Slot) (u : Udid) (a : ℕ) : Type 0 where
+  pub here : heldAt slots a ≡ Bound u
+  pub lowest : (b : ℕ) → b < a → heldAt slots b ≡ Bound u → ⊥
+
+-- an identifier that was bound is unbound, and its address freed; every other address is as it was
+pub record Unbinds (u : Udid) (s t : Controller) : Type 0 where
+  pub there : (a : ℕ) → BoundAt (s .slots) u a → (heldAt (t .slots) a ≡ Open) × (member (t .pool) a ≡ false)
+  pub elsewhere : (a : ℕ) → (BoundAt (s .slots) u a → ⊥) → Same s t a
+
+-- the address is bound to the identifier, or, if it was in the pool just before, claimed by two; it is in the pool then, and every other
+-- address is as it was
+pub record Binds (u : Udid) (a : ℕ) (s t : Controller) : Type 0 where
+  pub free : member (s .pool) a ≡ false → heldAt (t .slots) a ≡ Bound u
+  pub taken : member (s .pool) a ≡ true → heldAt (t .slots) a ≡ Claimed
+  pub used : member (t .pool) a ≡ true
+  pub elsewhere : (b : ℕ) → (b ≡ a → ⊥) → Same s t b
+
+-- ---- both together
+
+-- Get UDID comes next, and nothing else changes
+abbrev pub Continues : Controller → Stepped → Type 0
+Continues s r = Asks s r × Keeps s (r .state)
+
+-- the pass ends with k, and what was bound stands
+abbrev pub EndsWith : Controller → Stepped → Command → Type 0
+EndsWith s r k = Hands s r k (s .gets) × Keeps s (r .state)
+
+-- a reply with this identifier and this address byte: the identifier is unbound first, then an address is chosen
+pub record Replies (s : Controller) (u : Udid) (b : ℕ) (r : Stepped) : Type 0 where
+  pub unbinds : Unbinds u s (r .state)
+  pub chooses : Chooses (r .state .pool) u b (r .command)
+  pub hands : Hands s r (r .command) (s .gets)
+
+-- ---- two results are the same in all that these sentences speak of
+
+pub record Alike (r q : Stepped) : Type 0 where
+  pub command : r .command ≡ q .command
+  pub last : r .state .last ≡ q .state .last
+  pub gets : r .state .gets ≡ q .state .gets
+  pub starting : r .state .starting ≡ q .state .starting
+  pub same : (a : ℕ) → Same (q .state) (r .state) a
