@@ -1,6 +1,9 @@
 pub mod Numbers
 pub mod Pairs
+pub mod PairLaws
 pub mod Codec
+pub mod WrittenLaws
+pub mod DecodedLaws
 pub mod Parts
 pub mod Model
 pub mod Check

@@ -5,3 +5,4 @@ pub mod Demand2
 pub mod Refusals
 pub mod Demand3
 pub mod Controller
+pub mod Exports
