@@ -43,7 +43,8 @@ done (NotAcknowledged k) e = absurd (omega arith)
 done (PecDiffers k) e = absurd (omega arith)
 done (AfterStop k) e = absurd (omega arith)
 
-pair-parts : (a b n v : ℕ) → (_≡_ {A = ℕ × ℕ} (a, b) (n, v)) ↔ ((a ≡ n) × (b ≡ v))
+-- a pair, part by part
+pub pair-parts : (a b n v : ℕ) → (_≡_ {A = ℕ × ℕ} (a, b) (n, v)) ↔ ((a ≡ n) × (b ≡ v))
 pair-parts a b n v = (λ e. (ap (λ (p : ℕ × ℕ). p .0) e, ap (λ (p : ℕ × ℕ). p .1) e), λ h i. (h .0 i, h .1 i))
 
 module _ (protocol : ℕ) (pec : Bool) (tr sent₀ received₀ : List ℕ) (h : HbDecoded) (sent received : List ℕ) (d : ReadSymbols protocol pec tr sent₀ received₀ h sent received) where

@@ -3,8 +3,8 @@
 use mathlib.Core.Path.{_≡_, refl, sym, ap, ap₂, _∙_, subst}
 use mathlib.Core.Bool.{Bool, true, false}
 use mathlib.Core.List.{List, [], _∷_, _++_}
-use mathlib.Core.Logic.{_⊎_, inl, inr, _↔_, Iff·trans}
-use Prim.Native.Nat.{ℕ, zero, suc, _+_, _*_, _/_, _%_, _≤_, _<_}
+use mathlib.Core.Logic.{_⊎_, inl, inr, _↔_, Iff·trans, Iff·symm}
+use Prim.Native.Nat.{ℕ, zero, suc, _+_, _*_, _/_, _%_, _^_, _≤_, _<_}
 use native.Mathlib.Decide.{ℕ-discrete}
 use native.Mathlib.Omega.{arith}
 use lib.ListN.{length, take, drop, getD, replicate, length-replicate}
@@ -24,16 +24,33 @@ use Rattle.step.specs.declared.answer.Decoded.the-variants.{Done}
 use Rattle.step.specs.Answers.{summary}
 use Rattle.step.specs.Paper.{paper}
 use Rattle.decode.specs.Outcome.{Outcome}
+use Rattle.pool.specs.declared.Pool.{Pool}
+use Rattle.pool.specs.Start.{startingPool}
+use Rattle.targets.specs.Cases.{LengthIsBad, MalformedAt, RepeatedAt, TakenAt, None, FirstOf, Given}
+use Rattle.targets.specs.Numbers.{answerOf}
+use Rattle.targets.specs.Records.{targetsOf, recordCount}
+use Rattle.targets.specs.Refusals.{checkedList}
+use Rattle.targets.specs.declared.admit.Checked.{Checked}
+use Rattle.targets.specs.declared.admit.Checked.the-variants.{Admitted, BadLength, Malformed, Repeated, Taken}
+use Rattle.rule.specs.PlainRule.{ruled}
+use Rattle.bus.specs.Run.{Leaves, modelEnd}
+use Rattle.bus.specs.declared.answer.ModelAnswer.{ModelAnswer}
 use Rattle.exports.specs.declared.answer.HbDecoded.{HbDecoded}
 use Rattle.exports.specs.declared.codec.HbWritten.{HbWritten}
+use Rattle.exports.specs.declared.model.HbModel.{HbModel}
 use Rattle.exports.specs.Numbers.{truth}
+use Rattle.exports.specs.Parts.{poolOf}
+use Rattle.exports.specs.Model.{RanModel}
 use Rattle.exports.specs.Pairs.{pairsOf, symbolsIn, length-pairs, length-symbols}
 use Rattle.exports.specs.PairLaws.{symbols-are, pairs-back, bytes-back}
 use Rattle.exports.specs.Codec.{told, toldDecoded, WrotePairs, WroteSymbols, ReadSymbols}
 use Rattle.exports.specs.WrittenLaws as written
-use Rattle.exports.specs.DecodedLaws.{OthersZero, read-carries, read-number, read-zeros, read-done}
+use Rattle.exports.specs.DecodedLaws.{OthersZero, pair-parts, read-carries, read-number, read-zeros, read-done}
 use Rattle.promises.specs.Demand1.{decode-1, decode-2, decode-refusal}
 use Rattle.promises.specs.Demand2.{OfBytes, Accepted, encode-then-decode, decode-then-encode}
+use Rattle.promises.specs.Demand3.{Meets, model-meets}
+use Rattle.promises.specs.Marked.{marked-cases}
+use Rattle.promises.specs.Refusals.{model-2, model-refused, model-untouched}
 
 -- ---- the encoder
 
@@ -312,3 +329,111 @@ hb-pairs-again protocol pec bytes sent₀ received₀ b h sent received d q befo
     let g : 2 * w .symbols ≡ 2 * length tr = omega (arith, s, k) in
     let i : 2 * n ≡ 2 * w .symbols = omega (arith, s) in
     (z, s, ap (λ (x : ℕ). take x after) g ∙ f .1 ∙ bytes-back n bytes b (omega arith) ∙ ap (λ (x : ℕ). take x bytes) i)
+
+-- ---- the model run
+
+-- the answer that the struct's parts are
+abbrev pub answerIn : HbModel → ModelAnswer
+answerIn h = record {
+  answer = h .answer;
+  place = h .place;
+  udid = record { high = h .udid .high; low = h .udid .low };
+  bound = record { low = h .bound .low; high = h .bound .high };
+  count = h .count;
+  gets = h .gets;
+}
+
+-- a refusal's other parts
+pub record ModelZero (h : HbModel) : Type 0 where
+  pub count : h .count ≡ 0
+  pub gets : h .gets ≡ 0
+  pub udid-high : h .udid .high ≡ 0
+  pub udid-low : h .udid .low ≡ 0
+  pub bound-low : h .bound .low ≡ 0
+  pub bound-high : h .bound .high ≡ 0
+
+-- a call with the occupied addresses in two halves, records s and a binding buffer b
+module _ (low high : ℕ) (s b : List ℕ) (h : HbModel) (s′ b′ : List ℕ) (v : RanModel (poolOf low high) s b h s′ b′) where
+  abbrev occupied : Pool
+  occupied = record { low = low; high = high }
+
+  -- what run_model's contract says, so that every theorem on it holds of this call: the demands 1 and 3 of Refusals and Demand3
+  pub hb-model-leaves : Leaves (modelEnd occupied s b) (answerIn h) s′ b′
+  hb-model-leaves = record { answered = ap answerIn (v .answered); records-hold = v .records-hold; bindings-hold = v .bindings-hold }
+
+  -- 2: the binding buffer is under 2,048 bytes
+  pub hb-model-2 : ((h .answer ≡ 2) × (h .place ≡ 0)) ↔ (length b < 2048)
+  hb-model-2 = Iff·trans (Iff·symm (pair-parts (h .answer) (h .place) 2 0)) (model-2 occupied s b (answerIn h) s′ b′ hb-model-leaves)
+
+  refused : (n i : ℕ) (k : Checked) → answerOf k .number ≡ n → answerOf k .value ≡ i → (k ≡ Admitted → ⊥)
+      → ((h .answer ≡ n) × (h .place ≡ i)) ↔ ((2048 ≤ length b) × Given (startingPool occupied) s k)
+  refused n i k e f z =
+      Iff·trans (Iff·symm (pair-parts (h .answer) (h .place) n i))
+      (subst (λ (x : ℕ × ℕ). (_≡_ {A = ℕ × ℕ} (h .answer, h .place) x) ↔ ((2048 ≤ length b) × Given (startingPool occupied) s k)) (λ j. (e j, f j))
+      (model-refused occupied s b (answerIn h) s′ b′ hb-model-leaves k z))
+
+  -- 9: the length; 10, 11 and 12, each with the first such record: malformed, repeated, on a taken address; and 2 is not due
+  pub hb-model-9 : ((h .answer ≡ 9) × (h .place ≡ 0)) ↔ ((2048 ≤ length b) × LengthIsBad s)
+  hb-model-9 = refused 9 0 BadLength refl refl (λ e. let z : _≡_ {A = ℕ} 0 1 = cc e in omega arith)
+
+  pub hb-model-10 : (i : ℕ) → ((h .answer ≡ 10) × (h .place ≡ i)) ↔ ((2048 ≤ length b) × ((LengthIsBad s → ⊥) × FirstOf (MalformedAt s) (recordCount s) i))
+  hb-model-10 i = refused 10 i (Malformed i) refl refl (λ e. let z : _≡_ {A = ℕ} 0 1 = cc e in omega arith)
+
+  pub hb-model-11 : (i : ℕ)
+      → ((h .answer ≡ 11) × (h .place ≡ i))
+      ↔ ((2048 ≤ length b) × ((LengthIsBad s → ⊥) × None (MalformedAt s) (recordCount s) × FirstOf (RepeatedAt s) (recordCount s) i))
+  hb-model-11 i = refused 11 i (Repeated i) refl refl (λ e. let z : _≡_ {A = ℕ} 0 1 = cc e in omega arith)
+
+  pub hb-model-12 : (i : ℕ)
+      → ((h .answer ≡ 12) × (h .place ≡ i))
+      ↔ ((2048 ≤ length b)
+      × ((LengthIsBad s → ⊥) × None (MalformedAt s) (recordCount s) × None (RepeatedAt s) (recordCount s) × FirstOf (TakenAt (startingPool occupied) s) (recordCount s) i))
+  hb-model-12 i = refused 12 i (Taken i) refl refl (λ e. let z : _≡_ {A = ℕ} 0 1 = cc e in omega arith)
+
+  -- a refusal: nothing lent has changed, and every other part is zero
+  pub hb-model-refusal : (h .answer ≡ 2) ⊎ ((9 ≤ h .answer) × (h .answer ≤ 12)) → (s′ ≡ s) × (b′ ≡ b) × ModelZero h
+  hb-model-refusal q =
+      let k = model-untouched occupied s b (answerIn h) s′ b′ hb-model-leaves q in (
+        k .0,
+        k .1,
+        record {
+          count = ap (λ (x : ModelAnswer). x .count) (k .2);
+          gets = ap (λ (x : ModelAnswer). x .gets) (k .2);
+          udid-high = ap (λ (x : ModelAnswer). x .udid .high) (k .2);
+          udid-low = ap (λ (x : ModelAnswer). x .udid .low) (k .2);
+          bound-low = ap (λ (x : ModelAnswer). x .bound .low) (k .2);
+          bound-high = ap (λ (x : ModelAnswer). x .bound .high) (k .2);
+        },
+      )
+
+  -- DEMAND 3: any other list ends as the plain rule does
+  pub hb-model-meets : Bytes s → 2048 ≤ length b → checkedList (startingPool occupied) s ≡ Admitted
+      → Meets occupied s b (ruled (startingPool occupied) (targetsOf s) .given) (ruled (startingPool occupied) (targetsOf s) .ending) (answerIn h) s′ b′
+  hb-model-meets bytes long e = model-meets occupied s b bytes long e (answerIn h) s′ b′ hb-model-leaves
+
+-- the struct whose parts a list tells
+abbrev structOf : List ℕ → HbModel
+structOf l = record {
+  answer = getD l 0 0;
+  count = getD l 6 0;
+  gets = getD l 7 0;
+  place = getD l 1 0;
+  udid = record { high = getD l 2 0; low = getD l 3 0 };
+  bound = record { low = getD l 4 0; high = getD l 5 0 };
+}
+
+-- M8: 09h, 0Ah and 20h are bound, four Get UDIDs are sent
+pub hb-model-m8 : (b : List ℕ) → 2048 ≤ length b → (h : HbModel) (s′ b′ : List ℕ)
+    → RanModel (poolOf 0 0)
+    ((0x80 ∷ 0 ∷ 0 ∷ 0 ∷ 0 ∷ 0 ∷ 0 ∷ 0 ∷ 0 ∷ 0 ∷ 0 ∷ 0 ∷ 0 ∷ 0 ∷ 0 ∷ 1 ∷ 0xFF ∷ 0 ∷ [])
+    ++ (0x00 ∷ 0 ∷ 0 ∷ 0 ∷ 0 ∷ 0 ∷ 0 ∷ 0 ∷ 0 ∷ 0 ∷ 0 ∷ 0 ∷ 0 ∷ 0 ∷ 0 ∷ 1 ∷ 0x13 ∷ 0 ∷ [])
+    ++ (0x40 ∷ 0 ∷ 0 ∷ 0 ∷ 0 ∷ 0 ∷ 0 ∷ 0 ∷ 0 ∷ 0 ∷ 0 ∷ 0 ∷ 0 ∷ 0 ∷ 0 ∷ 1 ∷ 0x41 ∷ 0 ∷ []))
+    b h s′ b′
+    → h ≡ record { answer = 0; count = 3; gets = 4; place = 0; udid = record { high = 0; low = 0 }; bound = record { low = 2 ^ 0x09 + 2 ^ 0x0A + 2 ^ 0x20; high = 0 } }
+hb-model-m8 b l h s′ b′ v = v .answered ∙ ap structOf (marked-cases .1 .1 .1 .1 .1 .1 .1 .0 b l)
+
+-- M10: all 128 are occupied, so one movable target ends the pass with 13 and its identifier; none is bound, one Get UDID is sent
+pub hb-model-m10 : (b : List ℕ) → 2048 ≤ length b → (h : HbModel) (s′ b′ : List ℕ)
+    → RanModel (poolOf 0xFFFFFFFFFFFFFFFF 0xFFFFFFFFFFFFFFFF) (0x80 ∷ 0 ∷ 0 ∷ 0 ∷ 0 ∷ 0 ∷ 0 ∷ 0 ∷ 0 ∷ 0 ∷ 0 ∷ 0 ∷ 0 ∷ 0 ∷ 0 ∷ 1 ∷ 0x41 ∷ 1 ∷ []) b h s′ b′
+    → h ≡ record { answer = 13; count = 0; gets = 1; place = 0; udid = record { high = 0x8000000000000000; low = 1 }; bound = record { low = 0; high = 0 } }
+hb-model-m10 b l h s′ b′ v = v .answered ∙ ap structOf (marked-cases .1 .1 .1 .1 .1 .1 .1 .1 .1 .0 b l)
