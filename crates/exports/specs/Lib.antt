@@ -1,4 +1,5 @@
 pub mod Numbers
+pub mod NumberLaws
 pub mod Pairs
 pub mod PairLaws
 pub mod Codec
@@ -10,4 +11,5 @@ pub mod Check
 pub mod LastData
 pub mod Commands
 pub mod Pass
+pub mod TraceLists
 pub mod Unique
