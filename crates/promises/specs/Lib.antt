@@ -6,3 +6,4 @@ pub mod Refusals
 pub mod Demand3
 pub mod Controller
 pub mod Exports
+pub mod ExportedParts
