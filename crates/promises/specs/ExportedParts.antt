@@ -9,7 +9,7 @@ use native.Mathlib.Decide.{decLt}
 use native.Mathlib.Omega.{arith}
 use lib.Dec.{leb, ltb, eqb}
 use lib.Count.{ones}
-use lib.ListN.{length, take, drop}
+use lib.ListN.{length, take, drop, replicate}
 use Rattle.lists.specs.Choice.{pick, or, and, not}
 use Rattle.wire.specs.Addresses.{isReserved}
 use Rattle.pool.specs.Digits.{digit}
@@ -22,10 +22,23 @@ use Rattle.pool.specs.StartLaws.{member-starting}
 use Rattle.pool.specs.declared.Pool.{Pool}
 use Rattle.pool.specs.declared.free.Free.{Free}
 use Rattle.pool.specs.declared.free.Free.the-variants.{At, AllUsed}
+use Rattle.udid.specs.Bytes.{numberFrom, bytesOf, bytesFrom, udidBytes, udidAt, putAt}
+use Rattle.udid.specs.UdidLaws.{put-back}
+use Rattle.udid.specs.Udids.{sameUdid, isBelow, isFixed}
+use Rattle.targets.specs.Cases.{LengthIsBad, MalformedAt, RepeatedAt, TakenAt, None, FirstOf, Given}
+use Rattle.targets.specs.Numbers.{answerOf}
+use Rattle.targets.specs.Records.{recordCount}
+use Rattle.targets.specs.Refusals.{checkedList}
+use Rattle.targets.specs.RefusalLaws.{given-exactly, answers-differ}
+use Rattle.targets.specs.declared.admit.Checked.{Checked}
+use Rattle.targets.specs.declared.admit.Checked.the-variants.{Admitted, BadLength, Malformed, Repeated, Taken}
+use Rattle.exports.specs.declared.check.HbChecked.{HbChecked}
 use Rattle.exports.specs.declared.parts.HbPool.{HbPool}
+use Rattle.exports.specs.declared.parts.HbUdid.{HbUdid}
+use Rattle.exports.specs.Check.{toldChecked}
 use Rattle.exports.specs.NumberLaws.{Says, says, equal, below, at-most, either, both, neither}
 use Rattle.exports.specs.Numbers.{bit}
-use Rattle.exports.specs.Parts.{poolOf, toldPool, freeNumber}
+use Rattle.exports.specs.Parts.{poolOf, udidOf, toldPool, toldUdid, freeNumber}
 
 -- ---- addresses
 
@@ -157,3 +170,77 @@ hb-pool-lowest-free low high r e = go (lowestFree (poolOf low high)) refl e
         let w : Lowest (poolOf low high) r = subst (Lowest (poolOf low high)) (sym h) (lowest-is (poolOf low high) (a .0) .0 q) in
         inl (w .small, neither (member (poolOf low high) r) (pool-is low high r) .0 (w .free), λ b l. pool-is low high b .0 (w .below b l))
     go AllUsed q h = inr (h, λ b l. pool-is low high b .0 (none-free (poolOf low high) .0 q b l))
+
+-- ---- identifiers: the first eight bytes on the wire are the high half, highest byte first
+
+pub hb-udid-from-bytes : (r : HbUdid)
+    → r ≡ toldUdid (udidAt (0xEE ∷ 0x01 ∷ 0x02 ∷ 0x03 ∷ 0x04 ∷ 0x05 ∷ 0x06 ∷ 0x07 ∷ 0x08 ∷ 0x09 ∷ 0x0A ∷ 0x0B ∷ 0x0C ∷ 0x0D ∷ 0x0E ∷ 0x0F ∷ 0x10 ∷ 0xEE ∷ []) 1)
+    → r ≡ record { high = 0x0102030405060708; low = 0x090A0B0C0D0E0F10 }
+unfolding udidAt bytesFrom numberFrom
+hb-udid-from-bytes r e = e
+
+pub hb-udid-put-bytes : (after : List ℕ)
+    → after ≡ putAt (replicate 18 0xEE) 1 (udidBytes (udidOf 0x0102030405060708 0x090A0B0C0D0E0F10))
+    → after ≡ 0xEE ∷ 0x01 ∷ 0x02 ∷ 0x03 ∷ 0x04 ∷ 0x05 ∷ 0x06 ∷ 0x07 ∷ 0x08 ∷ 0x09 ∷ 0x0A ∷ 0x0B ∷ 0x0C ∷ 0x0D ∷ 0x0E ∷ 0x0F ∷ 0x10 ∷ 0xEE ∷ []
+unfolding putAt udidBytes bytesOf
+hb-udid-put-bytes after e = e
+
+-- written and read again at a place that has room: both halves come back
+pub hb-udid-back : (high low at : ℕ) (before after : List ℕ) (r : HbUdid) → high < 2 ^ 64 → low < 2 ^ 64 → at + 16 ≤ length before
+    → after ≡ putAt before at (udidBytes (udidOf high low)) → r ≡ toldUdid (udidAt after at) → (r .high ≡ high) × (r .low ≡ low)
+hb-udid-back high low at before after r hh hl room e f =
+    let q : r ≡ toldUdid (udidOf high low) = f ∙ ap toldUdid (ap (λ (l : List ℕ). udidAt l at) e ∙ put-back before at (udidOf high low) (record { high = hh; low = hl }) room) in
+    (ap (λ (x : HbUdid). x .high) q, ap (λ (x : HbUdid). x .low) q)
+
+pub hb-udid-is-same : (high low high2 low2 r : ℕ) → r ≡ bit (sameUdid (udidOf high low) (udidOf high2 low2)) → Says r ((high ≡ high2) × (low ≡ low2))
+hb-udid-is-same high low high2 low2 r e =
+    says (sameUdid (udidOf high low) (udidOf high2 low2)) (both (eqb high high2) (eqb low low2) (equal high high2) (equal low low2)) r e
+
+pub hb-udid-is-below : (high low high2 low2 r : ℕ) → r ≡ bit (isBelow (udidOf high low) (udidOf high2 low2))
+    → Says r (high * 2 ^ 64 + low < high2 * 2 ^ 64 + low2)
+hb-udid-is-below high low high2 low2 r e =
+    says (isBelow (udidOf high low) (udidOf high2 low2)) (below (high * 2 ^ 64 + low) (high2 * 2 ^ 64 + low2)) r e
+
+-- the top two bits are 00
+pub hb-udid-is-fixed : (high low r : ℕ) → r ≡ bit (isFixed (udidOf high low)) → Says r (high < 2 ^ 62)
+hb-udid-is-fixed high low r e = says (isFixed (udidOf high low)) (Iff·trans (equal (high / 2 ^ 62) 0) (λ q. omega (arith, q), λ h. omega arith)) r e
+
+-- ---- the check of a target list
+
+module _ (low high : ℕ) (s : List ℕ) (r : HbChecked) (e : r ≡ toldChecked (checkedList (startingPool (poolOf low high)) s)) where
+  abbrev start : Pool
+  start = startingPool (record { low = low; high = high })
+
+  checked : (n i : ℕ) (k : Checked) → answerOf k .number ≡ n → answerOf k .value ≡ i → ((r .answer ≡ n) × (r .place ≡ i)) ↔ Given start s k
+  checked n i k en ei = Iff·trans (there, back) (given-exactly start s k)
+    where
+      there : (r .answer ≡ n) × (r .place ≡ i) → k ≡ checkedList start s
+      there (a, p) =
+          let x : answerOf k .number ≡ answerOf (checkedList start s) .number = en ∙ sym a ∙ ap (λ (q : HbChecked). q .answer) e in
+          let y : answerOf k .value ≡ answerOf (checkedList start s) .value = ei ∙ sym p ∙ ap (λ (q : HbChecked). q .place) e in
+          answers-differ k (checkedList start s) (λ j. record { number = x j; value = y j })
+
+      back : k ≡ checkedList start s → (r .answer ≡ n) × (r .place ≡ i)
+      back q = (
+        ap (λ (x : HbChecked). x .answer) e ∙ ap (λ (x : Checked). answerOf x .number) (sym q) ∙ en,
+        ap (λ (x : HbChecked). x .place) e ∙ ap (λ (x : Checked). answerOf x .value) (sym q) ∙ ei,
+      )
+
+  -- 9: the length; 10, 11 and 12, each with the first such record: malformed, repeated, on a taken address; 0: none of them
+  pub hb-check-9 : ((r .answer ≡ 9) × (r .place ≡ 0)) ↔ LengthIsBad s
+  hb-check-9 = checked 9 0 BadLength refl refl
+
+  pub hb-check-10 : (i : ℕ) → ((r .answer ≡ 10) × (r .place ≡ i)) ↔ ((LengthIsBad s → ⊥) × FirstOf (MalformedAt s) (recordCount s) i)
+  hb-check-10 i = checked 10 i (Malformed i) refl refl
+
+  pub hb-check-11 : (i : ℕ) → ((r .answer ≡ 11) × (r .place ≡ i)) ↔ ((LengthIsBad s → ⊥) × None (MalformedAt s) (recordCount s) × FirstOf (RepeatedAt s) (recordCount s) i)
+  hb-check-11 i = checked 11 i (Repeated i) refl refl
+
+  pub hb-check-12 : (i : ℕ)
+      → ((r .answer ≡ 12) × (r .place ≡ i))
+      ↔ ((LengthIsBad s → ⊥) × None (MalformedAt s) (recordCount s) × None (RepeatedAt s) (recordCount s) × FirstOf (TakenAt start s) (recordCount s) i)
+  hb-check-12 i = checked 12 i (Taken i) refl refl
+
+  pub hb-check-0 : ((r .answer ≡ 0) × (r .place ≡ 0))
+      ↔ ((LengthIsBad s → ⊥) × None (MalformedAt s) (recordCount s) × None (RepeatedAt s) (recordCount s) × None (TakenAt start s) (recordCount s))
+  hb-check-0 = checked 0 0 Admitted refl refl
