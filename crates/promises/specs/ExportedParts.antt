@@ -10,8 +10,15 @@ use native.Mathlib.Omega.{arith}
 use lib.Dec.{leb, ltb, eqb}
 use lib.Count.{ones}
 use lib.ListN.{length, take, drop, replicate}
+use lib.Seq.{take-at, drop-at}
+use borrow.Author.Tests.{ltb-true, ltb-false}
 use Rattle.lists.specs.Choice.{pick, or, and, not}
+use Rattle.lists.specs.Onto.{onto}
 use Rattle.wire.specs.Addresses.{isReserved}
+use Rattle.trace.specs.Allowed.{lengthsFit}
+use Rattle.trace.specs.Shapes.{reads, shapeOf}
+use Rattle.trace.specs.declared.transaction.Transaction.{Transaction}
+use Rattle.last.specs.LastLaws.{Whole, of-received, of-sent, of-neither}
 use Rattle.pool.specs.Digits.{digit}
 use Rattle.pool.specs.Free.{used, lowestFree}
 use Rattle.pool.specs.FreeLaws.{used-ones, Lowest, lowest-is, none-free}
@@ -33,9 +40,11 @@ use Rattle.targets.specs.RefusalLaws.{given-exactly, answers-differ}
 use Rattle.targets.specs.declared.admit.Checked.{Checked}
 use Rattle.targets.specs.declared.admit.Checked.the-variants.{Admitted, BadLength, Malformed, Repeated, Taken}
 use Rattle.exports.specs.declared.check.HbChecked.{HbChecked}
+use Rattle.exports.specs.declared.last_data.HbPart.{HbPart}
 use Rattle.exports.specs.declared.parts.HbPool.{HbPool}
 use Rattle.exports.specs.declared.parts.HbUdid.{HbUdid}
 use Rattle.exports.specs.Check.{toldChecked}
+use Rattle.exports.specs.LastData.{partOf, phaseOf, Copied}
 use Rattle.exports.specs.NumberLaws.{Says, says, equal, below, at-most, either, both, neither}
 use Rattle.exports.specs.Numbers.{bit}
 use Rattle.exports.specs.Parts.{poolOf, udidOf, toldPool, toldUdid, freeNumber}
@@ -244,3 +253,77 @@ module _ (low high : ℕ) (s : List ℕ) (r : HbChecked) (e : r ≡ toldChecked 
   pub hb-check-0 : ((r .answer ≡ 0) × (r .place ≡ 0))
       ↔ ((LengthIsBad s → ⊥) × None (MalformedAt s) (recordCount s) × None (RepeatedAt s) (recordCount s) × None (TakenAt start s) (recordCount s))
   hb-check-0 = checked 0 0 Admitted refl refl
+
+-- ---- the last data phase
+
+-- of the bytes: 2 exactly where the buffer is shorter, which then is as it was; else 0, and they stand at its front
+pub record CopiesOut (bytes before : List ℕ) (r : HbPart) (after : List ℕ) : Type 0 where
+  pub answer-2 : (r .answer ≡ 2) ↔ (length before < length bytes)
+  pub answer-0 : (r .answer ≡ 0) ↔ (length bytes ≤ length before)
+  pub with-2 : r .answer ≡ 2 → (r .length ≡ 0) × (after ≡ before)
+  pub with-0 : r .answer ≡ 0 → (r .length ≡ length bytes) × (take (length bytes) after ≡ bytes) × (drop (length bytes) after ≡ drop (length bytes) before)
+
+pub hb-last-data : (bytes before : List ℕ) (r : HbPart) (after : List ℕ) → Copied bytes before r after → CopiesOut bytes before r after
+hb-last-data bytes before r after c = go (ltb (length before) (length bytes)) refl (c .answer) (c .output)
+  where
+    go : (b : Bool) → ltb (length before) (length bytes) ≡ b → r ≡ pick b (partOf 2 0) (partOf 0 (length bytes)) → after ≡ pick b before (onto bytes before)
+        → CopiesOut bytes before r after
+    go true t e o = record {
+      answer-2 = (λ q. ltb-true (length before) (length bytes) t, λ h. ap (λ (x : HbPart). x .answer) e);
+      answer-0 = (λ q. absurd (omega (arith, ap (λ (x : HbPart). x .answer) e)), λ h. absurd (omega (arith, ltb-true (length before) (length bytes) t)));
+      with-2 = λ q. (ap (λ (x : HbPart). x .length) e, o);
+      with-0 = λ q. absurd (omega (arith, ap (λ (x : HbPart). x .answer) e));
+    }
+    go false t e o = record {
+      answer-2 = (λ q. absurd (omega (arith, ap (λ (x : HbPart). x .answer) e)), λ h. absurd (omega (arith, ltb-false (length before) (length bytes) t)));
+      answer-0 = (λ q. ltb-false (length before) (length bytes) t, λ h. ap (λ (x : HbPart). x .answer) e);
+      with-2 = λ q. absurd (omega (arith, ap (λ (x : HbPart). x .answer) e));
+      with-0 = λ q. (
+          ap (λ (x : HbPart). x .length) e,
+          ap (take (length bytes)) o ∙ take-at bytes (drop (length bytes) before) (length bytes) refl,
+          ap (drop (length bytes)) o ∙ drop-at bytes (drop (length bytes) before) (length bytes) refl,
+          );
+    }
+
+-- which bytes: what was received for 2, 5, 6, 7, 9 and 10, what was sent for 1, 3, 4 and 8 and for Quick, which sends nothing; none where
+-- the protocol is unknown, or a length does not belong to it or exceeds its buffer
+abbrev pub Receives : ℕ → Type 0
+Receives p = (p ≡ 2) ⊎ ((p ≡ 5) ⊎ ((p ≡ 6) ⊎ ((p ≡ 7) ⊎ ((p ≡ 9) ⊎ (p ≡ 10)))))
+
+abbrev pub Sends : ℕ → Type 0
+Sends p = (p ≡ 0) ⊎ ((p ≡ 1) ⊎ ((p ≡ 3) ⊎ ((p ≡ 4) ⊎ (p ≡ 8))))
+
+receives-reads : (p : ℕ) → Receives p → reads (shapeOf p) ≡ true
+receives-reads p (inl e) = ap (λ (k : ℕ). reads (shapeOf k)) e
+receives-reads p (inr (inl e)) = ap (λ (k : ℕ). reads (shapeOf k)) e
+receives-reads p (inr (inr (inl e))) = ap (λ (k : ℕ). reads (shapeOf k)) e
+receives-reads p (inr (inr (inr (inl e)))) = ap (λ (k : ℕ). reads (shapeOf k)) e
+receives-reads p (inr (inr (inr (inr (inl e))))) = ap (λ (k : ℕ). reads (shapeOf k)) e
+receives-reads p (inr (inr (inr (inr (inr e))))) = ap (λ (k : ℕ). reads (shapeOf k)) e
+
+sends-reads : (p : ℕ) → Sends p → reads (shapeOf p) ≡ false
+sends-reads p (inl e) = ap (λ (k : ℕ). reads (shapeOf k)) e
+sends-reads p (inr (inl e)) = ap (λ (k : ℕ). reads (shapeOf k)) e
+sends-reads p (inr (inr (inl e))) = ap (λ (k : ℕ). reads (shapeOf k)) e
+sends-reads p (inr (inr (inr (inl e)))) = ap (λ (k : ℕ). reads (shapeOf k)) e
+sends-reads p (inr (inr (inr (inr e)))) = ap (λ (k : ℕ). reads (shapeOf k)) e
+
+module _ (protocol m n : ℕ) (sent received : List ℕ) where
+  abbrev data-of : Transaction
+  data-of = record { protocol = protocol; address = record { 0 = 0 }; direction = 0; command = 0; sent = m; received = n }
+
+  -- the protocol is known, m and n belong to it, and the buffers have as many bytes
+  abbrev pub Belongs : Type 0
+  Belongs = (protocol ≤ 10) × (lengthsFit (shapeOf protocol) m n ≡ true) × (m ≤ length sent) × (n ≤ length received)
+
+  as-whole : Belongs → Whole data-of (length sent) (length received)
+  as-whole h = record { known = h .0; lengths = h .1; sent = h .2; received = h .3 }
+
+  pub hb-last-received : Belongs → Receives protocol → phaseOf protocol m n sent received ≡ take n received
+  hb-last-received h p = of-received data-of sent received (0, 0) (0, 0) (as-whole h) (receives-reads protocol p) .0
+
+  pub hb-last-sent : Belongs → Sends protocol → phaseOf protocol m n sent received ≡ take m sent
+  hb-last-sent h p = of-sent data-of sent received (0, 0) (0, 0) (as-whole h) (sends-reads protocol p) .0
+
+  pub hb-last-none : (Belongs → ⊥) → phaseOf protocol m n sent received ≡ []
+  hb-last-none z = of-neither data-of sent received (0, 0) (0, 0) (λ w. z (w .known, w .lengths, w .sent, w .received)) .0

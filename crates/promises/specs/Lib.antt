@@ -7,3 +7,4 @@ pub mod Demand3
 pub mod Controller
 pub mod Exports
 pub mod ExportedParts
+pub mod ExportedPasses
