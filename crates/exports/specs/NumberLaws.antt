@@ -1,5 +1,5 @@
 -- What a truth value says where it crosses as a number.
-use mathlib.Core.Path.{_≡_, refl, sym, ap, _∙_}
+use mathlib.Core.Path.{_≡_, refl}
 use mathlib.Core.Bool.{Bool, true, false}
 use mathlib.Core.Logic.{_⊎_, inl, inr, _↔_}
 use Prim.Native.Nat.{ℕ, _≤_, _<_}
@@ -50,3 +50,7 @@ both false b p q = (λ e. absurd (let z : _≡_ {A = ℕ} 0 1 = cc e in omega ar
 pub neither : {P : Type 0} (a : Bool) → (a ≡ true) ↔ P → (a ≡ false) ↔ (P → ⊥)
 neither true p = (λ e. absurd (let z : _≡_ {A = ℕ} 0 1 = cc e in omega arith), λ n. absurd (n (p .0 refl)))
 neither false p = (λ e x. absurd (let z : _≡_ {A = ℕ} 0 1 = cc (p .1 x) in omega arith), λ n. refl)
+
+pub otherwise : {P : Type 0} (a : Bool) → (a ≡ true) ↔ P → (not a ≡ true) ↔ (P → ⊥)
+otherwise true p = (λ e. absurd (let z : _≡_ {A = ℕ} 0 1 = cc e in omega arith), λ n. absurd (n (p .0 refl)))
+otherwise false p = (λ e x. absurd (let z : _≡_ {A = ℕ} 0 1 = cc (p .1 x) in omega arith), λ n. refl)

@@ -45,7 +45,7 @@ use Rattle.exports.specs.declared.parts.HbPool.{HbPool}
 use Rattle.exports.specs.declared.parts.HbUdid.{HbUdid}
 use Rattle.exports.specs.Check.{toldChecked}
 use Rattle.exports.specs.LastData.{partOf, phaseOf, Copied}
-use Rattle.exports.specs.NumberLaws.{Says, says, equal, below, at-most, either, both, neither}
+use Rattle.exports.specs.NumberLaws.{Says, says, equal, below, at-most, either, both, neither, otherwise}
 use Rattle.exports.specs.Numbers.{bit}
 use Rattle.exports.specs.Parts.{poolOf, udidOf, toldPool, toldUdid, freeNumber}
 
@@ -128,10 +128,6 @@ module _ (low high a : ℕ) where
 pub hb-pool-has : (low high address r : ℕ) → r ≡ bit (member (poolOf low high) address) → Says r (InPool low high address)
 hb-pool-has low high address r e = says (member (poolOf low high) address) (pool-is low high address) r e
 
-other : {P : Type 0} (b : Bool) → (b ≡ true) ↔ P → (not b ≡ true) ↔ (P → ⊥)
-other true h = (λ q. absurd (let z : _≡_ {A = ℕ} 0 1 = cc q in omega arith), λ n. absurd (n (h .0 refl)))
-other false h = (λ q p. absurd (let z : _≡_ {A = ℕ} 0 1 = cc (h .1 p) in omega arith), λ n. refl)
-
 -- the pool that a struct's halves are has what the definition's pool has
 of-struct : (q : Pool) (r : HbPool) → r ≡ toldPool q → (a : ℕ) → (member q a ≡ true) ↔ InPool (r .low) (r .high) a
 of-struct q r e a =
@@ -150,7 +146,7 @@ pub hb-pool-without : (low high address : ℕ) (r : HbPool) → r ≡ toldPool (
     → (a : ℕ) → InPool (r .low) (r .high) a ↔ ((a ≡ address → ⊥) × InPool low high a)
 hb-pool-without low high address r e a =
     Iff·trans (Iff·symm (of-struct (withoutAddress (poolOf low high) address) r e a))
-    (same-test (member-without (poolOf low high) address a) (both (not (eqb a address)) (member (poolOf low high) a) (other (eqb a address) (equal a address)) (pool-is low high a)))
+    (same-test (member-without (poolOf low high) address a) (both (not (eqb a address)) (member (poolOf low high) a) (otherwise (eqb a address) (equal a address)) (pool-is low high a)))
 
 pub hb-pool-union : (low high low2 high2 : ℕ) (r : HbPool) → r ≡ toldPool (unionOf (poolOf low high) (poolOf low2 high2))
     → (a : ℕ) → InPool (r .low) (r .high) a ↔ (InPool low high a ⊎ InPool low2 high2 a)
@@ -279,10 +275,10 @@ hb-last-data bytes before r after c = go (ltb (length before) (length bytes)) re
       answer-0 = (λ q. ltb-false (length before) (length bytes) t, λ h. ap (λ (x : HbPart). x .answer) e);
       with-2 = λ q. absurd (omega (arith, ap (λ (x : HbPart). x .answer) e));
       with-0 = λ q. (
-          ap (λ (x : HbPart). x .length) e,
-          ap (take (length bytes)) o ∙ take-at bytes (drop (length bytes) before) (length bytes) refl,
-          ap (drop (length bytes)) o ∙ drop-at bytes (drop (length bytes) before) (length bytes) refl,
-          );
+        ap (λ (x : HbPart). x .length) e,
+        ap (take (length bytes)) o ∙ take-at bytes (drop (length bytes) before) (length bytes) refl,
+        ap (drop (length bytes)) o ∙ drop-at bytes (drop (length bytes) before) (length bytes) refl,
+      );
     }
 
 -- which bytes: what was received for 2, 5, 6, 7, 9 and 10, what was sent for 1, 3, 4 and 8 and for Quick, which sends nothing; none where

@@ -31,7 +31,7 @@ use Rattle.exports.specs.declared.pass.HbFound.{HbFound}
 use Rattle.exports.specs.Commands.{commandOf, toldCommand, paper-number}
 use Rattle.exports.specs.Parts.{poolOf}
 use Rattle.exports.specs.Pass.{tracesIn, stepsOver, passOver, foundOf, toldFound}
-use Rattle.exports.specs.TraceLists.{listBytes, pass-steps}
+use Rattle.exports.specs.TraceLists.{listBytes, Cut, pass-steps}
 use Rattle.promises.specs.Controller.{lookup-0, lookup-15, lookup-16, lookup-1, refused-by-history}
 
 -- ---- the struct of a command
@@ -140,10 +140,12 @@ start-history : (occupied : Pool) → IsHistory occupied (Start ∷ []) (started
 unfolding run handedOut
 start-history occupied = record { state = refl; command = refl }
 
--- A PASS over the bytes of a list of traces leaves the state, and hands out the command, of that history
-pub hb-pass-history : (low high : ℕ) (trs : List (List ℕ)) → IsHistory (record { low = low; high = high }) (eventsOf trs) (passOver (poolOf low high) (listBytes trs))
-hb-pass-history low high trs =
-    subst (IsHistory (poolOf low high) (eventsOf trs)) (sym (pass-steps (poolOf low high) trs))
+-- A PASS over the bytes of a list of traces, and whatever is left of a trace that is cut, leaves the state and hands out the command of
+-- that history
+pub hb-pass-history : (low high : ℕ) (trs : List (List ℕ)) (rest : List ℕ) → Cut rest
+    → IsHistory (record { low = low; high = high }) (eventsOf trs) (passOver (poolOf low high) (listBytes trs ++ rest))
+hb-pass-history low high trs rest c =
+    subst (IsHistory (poolOf low high) (eventsOf trs)) (sym (pass-steps (poolOf low high) trs rest c))
     (since-steps (poolOf low high) (Start ∷ []) (started (newController (poolOf low high))) trs (start-history (poolOf low high)))
 
 since-last : (es : List Event) (trs : List (List ℕ)) (tr : List ℕ) → since es (trs ++ tr ∷ []) ≡ Received tr ∷ since es trs
@@ -152,14 +154,14 @@ since-last es [] tr = refl
 since-last es (x ∷ trs) tr = since-last (Received x ∷ es) trs tr
 
 -- hb_pass answers 21 exactly if the start and the traces before the last one handed out no command; with no trace it hands out Prepare
-pub hb-pass-21 : (low high : ℕ) (trs : List (List ℕ)) (tr : List ℕ) (r : HbCommand)
-    → r ≡ toldCommand (passOver (poolOf low high) (listBytes (trs ++ tr ∷ [])) .command) (passOver (poolOf low high) (listBytes (trs ++ tr ∷ [])) .state .gets)
+pub hb-pass-21 : (low high : ℕ) (trs : List (List ℕ)) (tr rest : List ℕ) → Cut rest → (r : HbCommand)
+    → r ≡ toldCommand (passOver (poolOf low high) (listBytes (trs ++ tr ∷ []) ++ rest) .command) (passOver (poolOf low high) (listBytes (trs ++ tr ∷ []) ++ rest) .state .gets)
     → (r .answer ≡ 21) ↔ (noCommand (handedOut (record { low = low; high = high }) (eventsOf trs)) ≡ true)
 unfolding handedOut
-hb-pass-21 low high trs tr r e =
+hb-pass-21 low high trs tr rest cut r e =
     let p : Pool = record { low = low; high = high } in
-    let st : Stepped = passOver (poolOf low high) (listBytes (trs ++ tr ∷ [])) in
-    let c : st .command ≡ stepped (run p (eventsOf trs)) tr .command = hb-pass-history low high (trs ++ tr ∷ []) .command ∙ ap (handedOut p) (since-last (Start ∷ []) trs tr) in
+    let st : Stepped = passOver (poolOf low high) (listBytes (trs ++ tr ∷ []) ++ rest) in
+    let c : st .command ≡ stepped (run p (eventsOf trs)) tr .command = hb-pass-history low high (trs ++ tr ∷ []) rest cut .command ∙ ap (handedOut p) (since-last (Start ∷ []) trs tr) in
     Iff·trans (command-21 (st .command) (st .state .gets) r e)
     (subst (λ (k : Command). (commandNumber k ≡ (21, []) ∷ []) ↔ (noCommand (handedOut p (eventsOf trs)) ≡ true)) (sym c) (refused-by-history p (eventsOf trs) tr))
 
