@@ -175,7 +175,8 @@ hb_written hb_put_command(uint8_t kind, uint64_t udid_high, uint64_t udid_low, u
                           const uint8_t *reply, size_t reply_len, uint8_t *out, size_t out_len);
 
 /* What was handed out last, the number of an end, and the Get UDIDs sent in the pass. The address is that of HB_ASSIGN; the identifier
- * that of HB_ASSIGN and HB_NONE_FREE. Whatever a kind lacks is 0. */
+ * that of HB_ASSIGN and HB_NONE_FREE. Whatever a kind lacks is 0. With 21 every part is 0 but the answer and the kind, which is no
+ * part of a result but says which of the cases it is: HB_NOT_OUTSTANDING. */
 typedef struct {
     uint32_t kind;
     uint32_t answer;

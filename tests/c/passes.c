@@ -75,6 +75,7 @@ static void check_bound(void)
 {
     struct list l = { NULL, 0 };
     uint8_t reply[17];
+    hb_command c;
     static const uint8_t silence[] = { 0, 1, 0xc2, 0, 2, 1, 3, 0, 2, 1, 0, 1, 0xc3, 0, 3, 1, 1, 1 };
     hb_udid_put_bytes(HIGH, LOW, reply, sizeof reply, 0);
     reply[16] = 2 * 0x20 + 1;
@@ -94,7 +95,9 @@ static void check_bound(void)
     CHECK(hb_pass_lookup(0, 0, l.bytes, l.length, 0x21).answer == 15);
     CHECK(hb_pass_lookup(0, 0, l.bytes, l.length, 128).answer == 1);
     append(&l, silence, 9);
-    CHECK(hb_pass(0, 0, l.bytes, l.length).kind == HB_NOT_OUTSTANDING && hb_pass(0, 0, l.bytes, l.length).answer == 21);
+    c = hb_pass(0, 0, l.bytes, l.length);
+    CHECK(c.kind == HB_NOT_OUTSTANDING && c.answer == 21);
+    CHECK(c.address == 0 && c.gets == 0 && c.udid.high == 0 && c.udid.low == 0);
     CHECK(hb_pass_lookup(0, 0, l.bytes, l.length, 0x20).answer == 0);
     l.bytes[l.length - 20] = 10;
     expect(&l, HB_ENDED, 0, 2);

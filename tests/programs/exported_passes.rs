@@ -80,7 +80,7 @@ fn told(command: &commands::Command, gets: u32) -> Command {
         commands::Command::Ended => plain(3, 0),
         commands::Command::NoneFree(u) => Command { udid: halves(u), ..plain(4, 13) },
         commands::Command::Abandoned => plain(5, 14),
-        commands::Command::NotOutstanding => plain(6, 21),
+        commands::Command::NotOutstanding => Command { kind: 6, answer: 21, ..Command::default() },
     }
 }
 

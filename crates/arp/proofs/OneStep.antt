@@ -53,7 +53,7 @@ pub reply-symbols : (xs : List ℕ) → traceOf GetUdid xs ≡ replyTrace xs
 reply-symbols xs = rows .block-read-pec 0x61 0x03 xs
 
 pub assign-symbols : (u : Udid) (a : ℕ) → a < 128 → traceOf (Assign u (record { 0 = a })) [] ≡ assignTrace u a
-assign-symbols u a h = traces.assign-row u (record { 0 = a }) ∙ ap (assignTrace u) (mod-eq-of-lt h)
+assign-symbols u a h = traces.assign-row-small u (record { 0 = a }) h
 
 -- ---- what is handed out
 

@@ -37,6 +37,11 @@ pub record WroteSymbols (protocol : ℕ) (pec : Bool) (t : Message) (before : Li
   pub answer : r ≡ told (encoded protocol pec t (length before))
   pub output : after ≡ onto (symbolsOf (encoded protocol pec t (length before)) (trace (shapeOf protocol) pec t)) before
 
+-- one answer and one output alone
+pub one-written-symbols : (protocol : ℕ) (pec : Bool) (t : Message) (before : List ℕ) (r r′ : HbWritten) (after after′ : List ℕ)
+    → WroteSymbols protocol pec t before r after → WroteSymbols protocol pec t before r′ after′ → (r ≡ r′) × (after ≡ after′)
+one-written-symbols protocol pec t before r r′ after after′ x y = (x .answer ∙ sym (y .answer), x .output ∙ sym (y .output))
+
 -- the decoder's answer as numbers
 abbrev pub refusalOf : ℕ → ℕ → HbDecoded
 refusalOf a v = record { answer = a; address = 0; direction = 0; command = 0; value = v; sent = 0; received = 0 }

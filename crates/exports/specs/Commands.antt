@@ -26,7 +26,7 @@ toldCommand (Assign u a) gets = saidOf 2 0 u (a .0) gets
 toldCommand Ended gets = saidOf 3 0 noUdid 0 gets
 toldCommand (NoneFree u) gets = saidOf 4 13 u 0 gets
 toldCommand Abandoned gets = saidOf 5 14 noUdid 0 gets
-toldCommand NotOutstanding gets = saidOf 6 21 noUdid 0 gets
+toldCommand NotOutstanding gets = saidOf 6 21 noUdid 0 0
 toldCommand Nothing gets = saidOf 7 0 noUdid 0 gets
 
 -- the answer is the paper's number, 0 where there is none

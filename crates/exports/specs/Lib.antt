@@ -1,6 +1,10 @@
 pub mod Numbers
+pub mod NumberLaws
 pub mod Pairs
+pub mod PairLaws
 pub mod Codec
+pub mod WrittenLaws
+pub mod DecodedLaws
 pub mod Parts
 pub mod Model
 pub mod Check
@@ -8,4 +12,5 @@ pub mod LastData
 pub mod Commands
 pub mod PutCommand
 pub mod Pass
+pub mod TraceLists
 pub mod Unique

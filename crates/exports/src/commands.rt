@@ -34,7 +34,8 @@ fn command_of(kind: u8, u: Udid, a: Address) -> Command
 }
 
 // What the controller handed out: the kind, the paper's number of an end, the identifier and the address of an Assign or the
-// identifier that found no address, and the Get UDIDs sent so far. Whatever a kind lacks is 0.
+// identifier that found no address, and the Get UDIDs sent so far. Whatever a kind lacks is 0. With 21 all is 0 but the kind, which
+// says which case it is, and the answer.
 #[repr(C)]
 pub struct HbCommand {
     pub kind: u32,
@@ -67,7 +68,7 @@ pub(crate) fn told_command(k: Command, gets: u32) -> HbCommand
         Command::Ended => said(3, 0, none, Address(0), gets),
         Command::NoneFree(u) => said(4, 13, u, Address(0), gets),
         Command::Abandoned => said(5, 14, none, Address(0), gets),
-        Command::NotOutstanding => said(6, 21, none, Address(0), gets),
+        Command::NotOutstanding => said(6, 21, none, Address(0), 0),
         Command::Nothing => said(7, 0, none, Address(0), gets),
     }
 }

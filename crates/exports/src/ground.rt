@@ -2,7 +2,7 @@
 ghost use mathlib.Core.Path.{_≡_};
 ghost use Prim.Native.Nat.{_+_, _*_, _/_, _%_};
 ghost use lib.Dec.{ltb, eqb};
-ghost use Rattle.wire.specs.Addresses.{isReserved, defaultAddress, hostAddress, alertAddress};
+ghost use Rattle.wire.specs.Addresses.{isReserved};
 ghost use Rattle.wire.specs.Pec.{pecStep, pecFrom, pecOf};
 ghost use Rattle.trace.specs.Lengths.{roomFor};
 ghost use Rattle.exports.specs.Numbers.{truth, bit};
@@ -77,7 +77,7 @@ pub extern "C" fn hb_is_seven_bit(address: u8) -> u8
 // 1 for the default address.
 #[no_mangle]
 pub extern "C" fn hb_is_default(address: u8) -> u8
-    ensures { λ r. ⌜ r ≡ bit (eqb address defaultAddress) ⌝ }
+    ensures { λ r. ⌜ r ≡ bit (eqb address 0x61) ⌝ }
 {
     as_number(Address(address).is_default())
 }
@@ -85,7 +85,7 @@ pub extern "C" fn hb_is_default(address: u8) -> u8
 // 1 for the host's address.
 #[no_mangle]
 pub extern "C" fn hb_is_host(address: u8) -> u8
-    ensures { λ r. ⌜ r ≡ bit (eqb address hostAddress) ⌝ }
+    ensures { λ r. ⌜ r ≡ bit (eqb address 0x08) ⌝ }
 {
     as_number(Address(address).is_host())
 }
@@ -93,7 +93,7 @@ pub extern "C" fn hb_is_host(address: u8) -> u8
 // 1 for the alert response address.
 #[no_mangle]
 pub extern "C" fn hb_is_alert_response(address: u8) -> u8
-    ensures { λ r. ⌜ r ≡ bit (eqb address alertAddress) ⌝ }
+    ensures { λ r. ⌜ r ≡ bit (eqb address 0x0C) ⌝ }
 {
     as_number(Address(address).is_alert_response())
 }

@@ -34,7 +34,7 @@ shared-slice-read-x c = search needs
 
 -- src/codec.rt:16:22
 cast-out : tie.Need-cast-out Inv-loop μ-loop
-cast-out c = search needs
+cast-out c = omega (arith, c .shared-slice-known .given (c .before .before .loop .i) .fits)
 
 -- src/codec.rt:16:13
 mul-out : tie.Need-mul-out Inv-loop μ-loop

@@ -1,0 +1,71 @@
+-- Pairs of bytes by index, and there and back: 258 is 02h 01h.
+use mathlib.Core.Path.{_≡_, refl, sym, ap, ap₂, _∙_}
+use mathlib.Core.List.{List, [], _∷_, _++_, append-assoc}
+use Prim.Native.Nat.{ℕ, zero, suc, _+_, _*_, _/_, _%_, _≤_, _<_}
+use native.Mathlib.Nat.{mod-eq-of-lt}
+use native.Mathlib.Omega.{arith}
+use lib.ListN.{length, take, drop, getD}
+use lib.Seq.{getD-drop, ext-getD}
+use Rattle.lists.specs.Each.{Bytes}
+use Rattle.exports.specs.Pairs.{pairsOf, symbolsIn, length-symbols, length-pairs}
+
+-- byte 2 i is the low byte of symbol i, byte 2 i + 1 the high one
+pub pair-at : (xs : List ℕ) (i : ℕ) → i < length xs → (getD (pairsOf xs) (2 * i) 0 ≡ getD xs i 0 % 256) × (getD (pairsOf xs) (2 * i + 1) 0 ≡ getD xs i 0 / 256)
+unfolding pairsOf
+pair-at [] i h = absurd (omega arith)
+pair-at (x ∷ xs) zero h = (refl, refl)
+pair-at (x ∷ xs) (suc i) h =
+    let k = pair-at xs i (omega arith) in
+    let l : List ℕ = x % 256 ∷ x / 256 ∷ pairsOf xs in
+    let e : 2 * suc i ≡ suc (suc (2 * i)) = omega arith in
+    let f : 2 * suc i + 1 ≡ suc (suc (2 * i + 1)) = omega arith in
+    (ap (λ (j : ℕ). getD l j 0) e ∙ k .0, ap (λ (j : ℕ). getD l j 0) f ∙ k .1)
+
+-- symbol i is byte 2 i plus 256 times byte 2 i + 1
+pub symbol-at : (n : ℕ) (l : List ℕ) (i : ℕ) → i < n → getD (symbolsIn n l) i 0 ≡ getD l (2 * i) 0 + 256 * getD l (2 * i + 1) 0
+unfolding symbolsIn
+symbol-at zero l i h = absurd (omega arith)
+symbol-at (suc n) l zero h = refl
+symbol-at (suc n) l (suc i) h =
+    let e : 2 + 2 * i ≡ 2 * suc i = omega arith in
+    let f : 2 + (2 * i + 1) ≡ 2 * suc i + 1 = omega arith in
+    symbol-at n (drop 2 l) i (omega arith)
+    ∙ ap₂ (λ (a b : ℕ). a + 256 * b) (getD-drop 2 l (2 * i) 0 ∙ ap (λ (j : ℕ). getD l j 0) e) (getD-drop 2 l (2 * i + 1) 0 ∙ ap (λ (j : ℕ). getD l j 0) f)
+
+-- the symbols that bytes are: this list and no other
+pub symbols-are : (n : ℕ) (bytes tr : List ℕ) → length tr ≡ n → ((i : ℕ) → i < n → getD tr i 0 ≡ getD bytes (2 * i) 0 + 256 * getD bytes (2 * i + 1) 0)
+    → symbolsIn n bytes ≡ tr
+symbols-are n bytes tr e h =
+    ext-getD 0 (symbolsIn n bytes) tr (length-symbols n bytes ∙ sym e)
+    (λ i k. let l : i < n = omega (arith, length-symbols n bytes) in symbol-at n bytes i l ∙ sym (h i l))
+
+-- there and back
+pub pairs-back : (xs rest : List ℕ) → symbolsIn (length xs) (pairsOf xs ++ rest) ≡ xs
+unfolding pairsOf symbolsIn
+pairs-back [] rest = refl
+pairs-back (x ∷ xs) rest = let e : x % 256 + 256 * (x / 256) ≡ x = omega arith in ap₂ (λ (y : ℕ) (ys : List ℕ). y ∷ ys) e (pairs-back xs rest)
+
+byte-back : (a b : ℕ) → a < 256 → ((a + 256 * b) % 256 ≡ a) × ((a + 256 * b) / 256 ≡ b)
+byte-back a b h = (omega arith, omega arith)
+
+-- and back and there, for bytes
+pub bytes-back : (n : ℕ) (l : List ℕ) → Bytes l → 2 * n ≤ length l → pairsOf (symbolsIn n l) ≡ take (2 * n) l
+unfolding pairsOf symbolsIn
+bytes-back zero l b h = refl
+bytes-back (suc n) [] b h = absurd (omega arith)
+bytes-back (suc n) (x ∷ []) b h = absurd (omega arith)
+bytes-back (suc n) (x ∷ y ∷ l) b h =
+    let e : suc (suc (2 * n)) ≡ 2 * suc n = omega arith in
+    let k = byte-back x y (b .0) in
+    ap₂ (λ (u : ℕ) (v : ℕ). u ∷ v ∷ pairsOf (symbolsIn n l)) (k .0) (k .1)
+    ∙ ap (λ (t : List ℕ). x ∷ y ∷ t) (bytes-back n l (b .1 .1) (omega arith))
+    ∙ ap (λ (j : ℕ). take j (x ∷ y ∷ l)) e
+
+-- 258, an ACK, is 02h 01h
+pub ack-bytes : pairsOf (258 ∷ []) ≡ 0x02 ∷ 0x01 ∷ []
+unfolding pairsOf
+ack-bytes = refl
+
+pub ack-symbol : symbolsIn 1 (0x02 ∷ 0x01 ∷ []) ≡ 258 ∷ []
+unfolding symbolsIn
+ack-symbol = refl
