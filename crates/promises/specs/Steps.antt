@@ -58,8 +58,8 @@ pub record Steps (s : Controller) (tr : List ℕ) (r : Stepped) : Type 0 where
   -- no command of a pass outstanding: 21, and the state stays as it is
   pub none-outstanding : noCommand (s .last) ≡ true → (r .state ≡ s) × (r .command ≡ NotOutstanding)
 
--- THE DECODER'S NUMBER for a trace is one, for each of the three protocols; and 6 with b says that the trace is cut at byte b: the target's NACK where
--- its ACK is due, then STOP, then the end (step/specs/Answers)
+-- THE DECODER'S NUMBER for a trace is one, for each of the three protocols; and 6 with b says that the trace is cut at byte b: the target's NACK
+-- where its ACK is due, then STOP, then the end (step/specs/Answers)
 abbrev pub OfCommand : ℕ → Type 0
 OfCommand protocol = (protocol ≡ 1) ⊎ ((protocol ≡ 8) ⊎ (protocol ≡ 9))
 
