@@ -1,5 +1,5 @@
 -- The step held against traces: which traces are taken for the command that is outstanding, and what each of them leads to.
--- For every trace one of the lines applies, and no line speaks of how the decoder works.
+-- For every trace one of the lines applies, and no line speaks of how the decoder works. proofs/OneStep.antt says them of the step itself.
 use Prim.Native.Nat.{ℕ, zero, suc, _+_, _-_, _*_, _%_, _≤_, _<_}
 use mathlib.Core.Path.{_≡_, refl, sym, ap, ap₂, _∙_, subst}
 use mathlib.Core.Bool.{Bool, true, false}

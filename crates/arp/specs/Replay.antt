@@ -1,6 +1,6 @@
 -- What is bound, what is claimed and what the pool has, told by the events alone, in document 01's sentences. Nothing here cites the
 -- controller's own definitions of freeing, binding or stepping: an event is read from the command that was handed out last and from what
--- decode answers for the trace.
+-- decode answers for the trace (reading-is-decode, promises/Controller).
 use Prim.Native.Nat.{ℕ, zero, suc, _+_, _*_, _/_, _<_}
 use mathlib.Core.Path.{_≡_}
 use mathlib.Core.Bool.{Bool, true, false}

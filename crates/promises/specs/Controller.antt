@@ -275,10 +275,11 @@ by-history occupied es = record {
 pub get-udid-limit : (n : ℕ) → (n < 128 → again n ≡ GetUdid) × (128 ≤ n → again n ≡ Abandoned)
 get-udid-limit n = (again-below n, again-limit n)
 
--- FROM EVERY STATE a start hands out Prepare; lookup of every address is 15 then, and the pool is the starting one
+-- FROM EVERY STATE a start hands out Prepare; lookup of every address is 15 then, the pool is the starting one, and no Get UDID is counted
 pub start-by-history : (s : Controller) → (started s .command ≡ Prepare) × (started s .state .last ≡ Prepare)
     × ((a : ℕ) → a < 128 → lookupNumber (lookedUp (started s .state) a) ≡ (15, [])) × (started s .state .pool ≡ s .starting) × (started s .state .starting ≡ s .starting)
-start-by-history s = start-hands-prepare s
+    × (started s .state .gets ≡ 0)
+start-by-history s = let h = start-hands-prepare s in (h .0, h .1, h .2, h .3, h .4, refl)
 
 -- and that has the 21 reserved addresses and the occupied ones, and no other
 pub pool-at-start : (occupied : Pool) (es : List Event) (a : ℕ) → member (started (run occupied es) .state .pool) a ≡ or (isReserved a) (member occupied a)

@@ -3,7 +3,7 @@
 -- For every trace one of the sentences speaks, and they leave one result: one-step.
 use Prim.Native.Nat.{ℕ, _≤_, _<_}
 use mathlib.Core.Path.{_≡_, refl, sym, ap, _∙_, subst}
-use mathlib.Core.Bool.{true}
+use mathlib.Core.Bool.{true, false}
 use mathlib.Core.List.{List, [], _∷_, _++_}
 use mathlib.Core.Logic.{_⊎_, inl, inr, _↔_}
 use native.Mathlib.Decide.{ℕ-discrete, decLt}
@@ -11,6 +11,8 @@ use native.Mathlib.Omega.{arith}
 use lib.ListN.{length, getD}
 use Rattle.lists.specs.Each.{Bytes}
 use Rattle.wire.specs.declared.address.Address.{Address}
+use Rattle.trace.specs.Shapes.{shapeOf, forbidden}
+use Rattle.step.specs.Answers.{CutAt}
 use Rattle.pool.specs.Pools.{member}
 use Rattle.pool.specs.declared.Pool.{Pool}
 use Rattle.udid.specs.Bytes.{udidBytes, udidAt}
@@ -26,6 +28,7 @@ use Rattle.arp.specs.declared.command.Command.{Command}
 use Rattle.arp.specs.declared.command.Command.the-variants.{Nothing, Prepare, GetUdid, Assign, Ended, NoneFree, Abandoned, NotOutstanding}
 use Rattle.arp.specs.declared.state.Controller.{Controller}
 use Rattle.arp.specs.declared.state.Stepped.{Stepped}
+use Rattle.arp.proofs.Hearing.{gives-exactly, six-exactly}
 use Rattle.arp.proofs.OneStep as arp
 use Rattle.arp.proofs.OneResult.{same-trace, six-or-not, six-once, Reply, reply-or-not, seventeen, continues-both, ends-both, binds-both, replies-both, chosen-one}
 use Rattle.arp.proofs.Reach.{PendingIn, good-run}
@@ -55,9 +58,25 @@ pub record Steps (s : Controller) (tr : List ℕ) (r : Stepped) : Type 0 where
   -- no command of a pass outstanding: 21, and the state stays as it is
   pub none-outstanding : noCommand (s .last) ≡ true → (r .state ≡ s) × (r .command ≡ NotOutstanding)
 
--- EVERY STEP, from every state; a state has a slot for each of the 128 addresses
-pub every-step : (s : Controller) (tr : List ℕ) → length (s .slots) ≡ 128 → Steps s tr (stepped s tr)
-every-step s tr size = record {
+-- THE DECODER'S NUMBER for a trace is one, for each of the three protocols; and 6 with b says that the trace is cut at byte b: the target's NACK
+-- where its ACK is due, then STOP, then the end (step/specs/Answers)
+abbrev pub OfCommand : ℕ → Type 0
+OfCommand protocol = (protocol ≡ 1) ⊎ ((protocol ≡ 8) ⊎ (protocol ≡ 9))
+
+allowed : (protocol : ℕ) → OfCommand protocol → forbidden protocol true ≡ false
+allowed protocol (inl e) = ap (λ (k : ℕ). forbidden k true) e
+allowed protocol (inr (inl e)) = ap (λ (k : ℕ). forbidden k true) e
+allowed protocol (inr (inr e)) = ap (λ (k : ℕ). forbidden k true) e
+
+pub one-number : (protocol : ℕ) (tr : List ℕ) (n v m w : ℕ) → OfCommand protocol → Gives protocol tr n v → Gives protocol tr m w → _≡_ {A = ℕ × ℕ} (n, v) (m, w)
+one-number protocol tr n v m w c g h =
+    sym (gives-exactly protocol tr n v (allowed protocol c) .0 g) ∙ gives-exactly protocol tr m w (allowed protocol c) .0 h
+
+pub six-is-cut : (protocol : ℕ) (tr : List ℕ) (b : ℕ) → OfCommand protocol → Gives protocol tr 6 b ↔ CutAt (shapeOf protocol) true tr b
+six-is-cut protocol tr b c = six-exactly protocol tr b (allowed protocol c)
+
+sentences : (s : Controller) (tr : List ℕ) → length (s .slots) ≡ 128 → Steps s tr (stepped s tr)
+sentences s tr size = record {
   prepare-accepted = arp.prepare-accepted s tr;
   prepare-nobody = arp.prepare-nobody s tr;
   prepare-other = arp.prepare-other s tr;
@@ -71,9 +90,13 @@ every-step s tr size = record {
   none-outstanding = arp.none-outstanding s tr;
 }
 
+-- EVERY STEP, from every state: whatever the contract of Controller::step lets it return. A state has a slot for each of the 128 addresses
+pub every-step : (s : Controller) (tr : List ℕ) (r : Stepped) → length (s .slots) ≡ 128 → r ≡ stepped s tr → Steps s tr r
+every-step s tr r size e = subst (Steps s tr) (sym e) (sentences s tr size)
+
 -- and so in every state that starts and received traces reach
 pub reached-step : (occupied : Pool) (es : List Event) (tr : List ℕ) → Steps (run occupied es) tr (stepped (run occupied es) tr)
-reached-step occupied es tr = every-step (run occupied es) tr (good-run occupied es .0 .sound .size)
+reached-step occupied es tr = sentences (run occupied es) tr (good-run occupied es .0 .sound .size)
 
 -- ---- every trace falls under one of the sentences
 
