@@ -13,11 +13,12 @@ use borrow.Author.Tests.{ltb-true, lt-ltb}
 use Rattle.lists.specs.Choice.{pick}
 use Rattle.wire.specs.Pec.{pecOf}
 use Rattle.wire.specs.declared.address.Address.{Address}
+use Rattle.trace.specs.DataFits.{DataFits, quick, send-byte, receive-byte, write-byte, write-word, read-byte, read-word, process-call, block-write, block-read, block-process-call}
 use Rattle.trace.specs.LengthLaws.{length-acked}
 use Rattle.trace.specs.Trace.{Message, acked}
 use Rattle.encode.specs.Encode.{number, Wrote}
 use Rattle.encode.specs.EncodeMeans.{answer-1, answer-2, refusal-untouched}
-use Rattle.encode.specs.Listed.{DataFits, Listed, quick, send-byte, receive-byte, write-byte, write-word, read-byte, read-word, process-call, block-write, block-read, block-process-call, protocol-above-10, address-above-127, direction-above-1, quick-with-pec, lacking-command, lacking-direction, forbidden-length}
+use Rattle.encode.specs.Listed.{Listed, protocol-above-10, address-above-127, direction-above-1, quick-with-pec, lacking-command, lacking-direction, forbidden-length}
 use Rattle.encode.specs.declared.Encoded.{Encoded}
 use Rattle.udid.specs.Bytes.{udidBytes}
 use Rattle.udid.specs.UdidLaws.{length-udid}
