@@ -1,13 +1,12 @@
 -- Pairs of bytes by index, and there and back: 258 is 02h 01h.
 use mathlib.Core.Path.{_≡_, refl, sym, ap, ap₂, _∙_}
-use mathlib.Core.List.{List, [], _∷_, _++_, append-assoc}
+use mathlib.Core.List.{List, [], _∷_, _++_}
 use Prim.Native.Nat.{ℕ, zero, suc, _+_, _*_, _/_, _%_, _≤_, _<_}
-use native.Mathlib.Nat.{mod-eq-of-lt}
 use native.Mathlib.Omega.{arith}
 use lib.ListN.{length, take, drop, getD}
 use lib.Seq.{getD-drop, ext-getD}
 use Rattle.lists.specs.Each.{Bytes}
-use Rattle.exports.specs.Pairs.{pairsOf, symbolsIn, length-symbols, length-pairs}
+use Rattle.exports.specs.Pairs.{pairsOf, symbolsIn, length-symbols}
 
 -- byte 2 i is the low byte of symbol i, byte 2 i + 1 the high one
 pub pair-at : (xs : List ℕ) (i : ℕ) → i < length xs → (getD (pairsOf xs) (2 * i) 0 ≡ getD xs i 0 % 256) × (getD (pairsOf xs) (2 * i + 1) 0 ≡ getD xs i 0 / 256)

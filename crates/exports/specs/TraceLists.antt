@@ -1,10 +1,9 @@
 -- Traces as bytes for a pass: of each, the number of its symbols and its symbols, all as pairs; and that a pass reads them back.
 use Prim.Native.Nat.{ℕ, zero, suc, _+_, _*_, _/_, _%_, _≤_, _<_}
-use mathlib.Core.Path.{_≡_, refl, sym, ap, ap₂, _∙_}
-use mathlib.Core.Bool.{Bool, true}
+use mathlib.Core.Path.{_≡_, refl, ap, ap₂, _∙_}
+use mathlib.Core.Bool.{true}
 use mathlib.Core.List.{List, [], _∷_, _++_, append-assoc}
 use native.Mathlib.Omega.{arith}
-use lib.Dec.{leb}
 use lib.ListN.{length, drop, getD, length-append}
 use lib.Seq.{drop-at}
 use borrow.Author.Tests.{le-leb, lt-leb}

@@ -1,7 +1,7 @@
 -- What the encoder's answer for C means, whatever the room is counted in, and what stands in the output.
 use mathlib.Core.Path.{_≡_, refl, sym, ap, _∙_}
 use mathlib.Core.Bool.{Bool}
-use mathlib.Core.List.{List, [], _∷_, _++_}
+use mathlib.Core.List.{List, []}
 use mathlib.Core.Logic.{_↔_}
 use Prim.Native.Nat.{ℕ, _+_, _*_, _/_, _%_, _≤_, _<_}
 use native.Mathlib.Omega.{arith}
@@ -43,12 +43,6 @@ no-symbols Forbidden tr z = (refl, refl)
 no-symbols OutputTooShort tr z = (refl, refl)
 
 module _ (protocol : ℕ) (pec : Bool) (t : Message) (room : ℕ) (h : HbWritten) (e : h ≡ told (encoded protocol pec t room)) where
-  abbrev r : Encoded
-  r = encoded protocol pec t room
-
-  abbrev tr : List ℕ
-  tr = trace (shapeOf protocol) pec t
-
   answer-is : h .answer ≡ told (encoded protocol pec t room) .answer
   answer-is = ap (λ (x : HbWritten). x .answer) e
 

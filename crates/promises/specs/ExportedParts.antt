@@ -2,7 +2,7 @@
 -- back is 1 exactly where the case holds, and 0 exactly where it does not.
 use mathlib.Core.Path.{_≡_, refl, sym, ap, _∙_, subst}
 use mathlib.Core.Bool.{Bool, true, false}
-use mathlib.Core.List.{List, [], _∷_, _++_}
+use mathlib.Core.List.{List, [], _∷_}
 use mathlib.Core.Logic.{_⊎_, inl, inr, _↔_, Iff·trans, Iff·symm}
 use Prim.Native.Nat.{ℕ, _+_, _*_, _-_, _/_, _%_, _^_, _≤_, _<_}
 use native.Mathlib.Decide.{decLt}
@@ -12,7 +12,7 @@ use lib.Count.{ones}
 use lib.ListN.{length, take, drop, replicate}
 use lib.Seq.{take-at, drop-at}
 use borrow.Author.Tests.{ltb-true, ltb-false}
-use Rattle.lists.specs.Choice.{pick, or, and, not}
+use Rattle.lists.specs.Choice.{pick, not}
 use Rattle.lists.specs.Onto.{onto}
 use Rattle.wire.specs.Addresses.{isReserved}
 use Rattle.trace.specs.Allowed.{lengthsFit}
@@ -45,9 +45,13 @@ use Rattle.exports.specs.declared.parts.HbPool.{HbPool}
 use Rattle.exports.specs.declared.parts.HbUdid.{HbUdid}
 use Rattle.exports.specs.Check.{toldChecked}
 use Rattle.exports.specs.LastData.{partOf, phaseOf, Copied}
-use Rattle.exports.specs.NumberLaws.{Says, says, equal, below, at-most, either, both, neither, otherwise}
-use Rattle.exports.specs.Numbers.{bit}
+use Rattle.exports.specs.NumberLaws.{truth-is, Says, says, equal, below, at-most, either, both, neither, otherwise}
+use Rattle.exports.specs.Numbers.{truth, bit}
 use Rattle.exports.specs.Parts.{poolOf, udidOf, toldPool, toldUdid, freeNumber}
+
+-- a truth value that is given: any number but 0 is true
+pub hb-truth : (n : ℕ) → (truth n ≡ true) ↔ (n ≡ 0 → ⊥)
+hb-truth n = truth-is n
 
 -- ---- addresses
 

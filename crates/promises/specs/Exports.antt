@@ -3,8 +3,8 @@
 use mathlib.Core.Path.{_≡_, refl, sym, ap, ap₂, _∙_, subst}
 use mathlib.Core.Bool.{Bool, true, false}
 use mathlib.Core.List.{List, [], _∷_, _++_}
-use mathlib.Core.Logic.{_⊎_, inl, inr, _↔_, Iff·trans, Iff·symm}
-use Prim.Native.Nat.{ℕ, zero, suc, _+_, _*_, _/_, _%_, _^_, _≤_, _<_}
+use mathlib.Core.Logic.{_⊎_, inl, inr, _↔_, Iff·rfl, Iff·trans, Iff·symm}
+use Prim.Native.Nat.{ℕ, _+_, _*_, _/_, _%_, _^_, _≤_, _<_}
 use native.Mathlib.Decide.{ℕ-discrete}
 use native.Mathlib.Omega.{arith}
 use lib.ListN.{length, take, drop, getD, replicate, length-replicate}
@@ -19,11 +19,11 @@ use Rattle.encode.specs.declared.Encoded.the-variants.{Written}
 use Rattle.encode.specs.Encode.{message, encoded, symbolsOf, Wrote}
 use Rattle.encode.specs.Listed.{Listed}
 use Rattle.encode.specs.EncodeMeans.{written-exactly, front-is-trace}
-use Rattle.step.specs.declared.answer.Decoded.{Decoded}
 use Rattle.step.specs.declared.answer.Decoded.the-variants.{Done}
 use Rattle.step.specs.Answers.{summary}
 use Rattle.step.specs.Paper.{paper}
-use Rattle.decode.specs.Outcome.{Outcome}
+use Rattle.decode.specs.Outcome.{short, Outcome}
+use Rattle.decode.proofs.Theorems as decode
 use Rattle.pool.specs.declared.Pool.{Pool}
 use Rattle.pool.specs.Start.{startingPool}
 use Rattle.targets.specs.Cases.{LengthIsBad, MalformedAt, RepeatedAt, TakenAt, None, FirstOf, Given}
@@ -38,16 +38,17 @@ use Rattle.bus.specs.declared.answer.ModelAnswer.{ModelAnswer}
 use Rattle.exports.specs.declared.answer.HbDecoded.{HbDecoded}
 use Rattle.exports.specs.declared.codec.HbWritten.{HbWritten}
 use Rattle.exports.specs.declared.model.HbModel.{HbModel}
+use Rattle.exports.specs.NumberLaws.{truth-is}
 use Rattle.exports.specs.Numbers.{truth}
 use Rattle.exports.specs.Parts.{poolOf}
 use Rattle.exports.specs.Model.{RanModel}
-use Rattle.exports.specs.Pairs.{pairsOf, symbolsIn, length-pairs, length-symbols}
-use Rattle.exports.specs.PairLaws.{symbols-are, pairs-back, bytes-back}
+use Rattle.exports.specs.Pairs.{pairsOf, symbolsIn, length-symbols}
+use Rattle.exports.specs.PairLaws.{symbols-are, bytes-back}
 use Rattle.exports.specs.Codec.{told, toldDecoded, WrotePairs, WroteSymbols, ReadSymbols}
 use Rattle.exports.specs.WrittenLaws as written
 use Rattle.exports.specs.DecodedLaws.{OthersZero, pair-parts, read-carries, read-number, read-zeros, read-done}
-use Rattle.promises.specs.Demand1.{decode-1, decode-2, decode-refusal}
-use Rattle.promises.specs.Demand2.{OfBytes, Accepted, encode-then-decode, decode-then-encode}
+use Rattle.promises.specs.Demand1.{short-cases, decode-1, decode-refusal}
+use Rattle.promises.specs.Demand2.{Accepted, encode-then-decode, decode-then-encode}
 use Rattle.promises.specs.Demand3.{Meets, model-meets}
 use Rattle.promises.specs.Marked.{marked-cases}
 use Rattle.promises.specs.Refusals.{model-2, model-refused, model-untouched}
@@ -191,12 +192,37 @@ module _ (protocol pec : ℕ) (tr sent₀ received₀ : List ℕ) (h : HbDecoded
   hb-decode-number n v e = Iff·trans (read-carries protocol (truth pec) tr sent₀ received₀ h sent received d n v) e
 
   -- 1: a protocol above 10, or Quick with PEC
-  pub hb-decode-1 : ((h .answer ≡ 1) × (h .value ≡ 0)) ↔ ((10 < protocol) ⊎ ((protocol ≡ 0) × (truth pec ≡ true)))
-  hb-decode-1 = hb-decode-number 1 0 (decode-1 protocol (truth pec) tr sent₀ received₀ (d .answer) sent received (d .outcome))
+  pub hb-decode-1 : ((h .answer ≡ 1) × (h .value ≡ 0)) ↔ ((10 < protocol) ⊎ ((protocol ≡ 0) × (pec ≡ 0 → ⊥)))
+  hb-decode-1 = hb-decode-number 1 0 (Iff·trans (decode-1 protocol (truth pec) tr sent₀ received₀ (d .answer) sent received (d .outcome)) (there, back))
+    where
+      there : (10 < protocol) ⊎ ((protocol ≡ 0) × (truth pec ≡ true)) → (10 < protocol) ⊎ ((protocol ≡ 0) × (pec ≡ 0 → ⊥))
+      there (inl x) = inl x
+      there (inr (x, y)) = inr (x, truth-is pec .0 y)
 
-  -- 2: a buffer of under 255 bytes, where 1 is not due
-  pub hb-decode-2 : ((h .answer ≡ 2) × (h .value ≡ 0)) ↔ ((forbidden protocol (truth pec) ≡ false) × ((length sent₀ < 255) ⊎ (length received₀ < 255)))
-  hb-decode-2 = hb-decode-number 2 0 (decode-2 protocol (truth pec) tr sent₀ received₀ (d .answer) sent received (d .outcome))
+      back : (10 < protocol) ⊎ ((protocol ≡ 0) × (pec ≡ 0 → ⊥)) → (10 < protocol) ⊎ ((protocol ≡ 0) × (truth pec ≡ true))
+      back (inl x) = inl x
+      back (inr (x, y)) = inr (x, truth-is pec .1 y)
+
+  -- 2: none of these, and a buffer of under 255 bytes
+  pub hb-decode-2 : ((h .answer ≡ 2) × (h .value ≡ 0))
+      ↔ (((10 < protocol) ⊎ ((protocol ≡ 0) × (pec ≡ 0 → ⊥)) → ⊥) × ((length sent₀ < 255) ⊎ (length received₀ < 255)))
+  hb-decode-2 = hb-decode-number 2 0 (there, back)
+    where
+      one : (paper (d .answer) ≡ (1, 0)) ↔ (forbidden protocol (truth pec) ≡ true)
+      one = decode.number-1 protocol (truth pec) tr sent₀ received₀ (d .answer) sent received (d .outcome)
+
+      two : (paper (d .answer) ≡ (2, 0)) ↔ ((forbidden protocol (truth pec) ≡ false) × (short (length sent₀) (length received₀) ≡ true))
+      two = decode.number-2 protocol (truth pec) tr sent₀ received₀ (d .answer) sent received (d .outcome)
+
+      there : paper (d .answer) ≡ (2, 0) → ((10 < protocol) ⊎ ((protocol ≡ 0) × (pec ≡ 0 → ⊥)) → ⊥) × ((length sent₀ < 255) ⊎ (length received₀ < 255))
+      there e = (λ c. omega (arith, hb-decode-1 .1 c .0, hb-decode-number 2 0 Iff·rfl .1 e .0), short-cases (length sent₀) (length received₀) .0 (two .0 e .1))
+
+      allowed : ((10 < protocol) ⊎ ((protocol ≡ 0) × (pec ≡ 0 → ⊥)) → ⊥) → (b : Bool) → forbidden protocol (truth pec) ≡ b → b ≡ false
+      allowed n true e = absurd (n (hb-decode-1 .0 (hb-decode-number 1 0 one .1 e)))
+      allowed n false e = refl
+
+      back : ((10 < protocol) ⊎ ((protocol ≡ 0) × (pec ≡ 0 → ⊥)) → ⊥) × ((length sent₀ < 255) ⊎ (length received₀ < 255)) → paper (d .answer) ≡ (2, 0)
+      back (n, c) = two .1 (allowed n (forbidden protocol (truth pec)) refl, short-cases (length sent₀) (length received₀) .1 c)
 
   -- a refusal: both buffers as they were, and every other part zero
   pub hb-decode-refusal : (h .answer ≡ 0 → ⊥) → (sent ≡ sent₀) × (received ≡ received₀) × OthersZero h
