@@ -15,7 +15,7 @@ use borrow.Author.Tests.{ltb-true, ltb-false}
 use Rattle.lists.specs.Choice.{pick, not}
 use Rattle.lists.specs.Onto.{onto}
 use Rattle.wire.specs.Addresses.{isReserved}
-use Rattle.trace.specs.Allowed.{lengthsFit}
+use Rattle.trace.specs.DataFits.{DataFits}
 use Rattle.trace.specs.Shapes.{reads, shapeOf}
 use Rattle.trace.specs.declared.transaction.Transaction.{Transaction}
 use Rattle.last.specs.LastLaws.{Whole, of-received, of-sent, of-neither}
@@ -314,7 +314,7 @@ module _ (protocol m n : ℕ) (sent received : List ℕ) where
 
   -- the protocol is known, m and n belong to it, and the buffers have as many bytes
   abbrev pub Belongs : Type 0
-  Belongs = (protocol ≤ 10) × (lengthsFit (shapeOf protocol) m n ≡ true) × (m ≤ length sent) × (n ≤ length received)
+  Belongs = (protocol ≤ 10) × DataFits protocol m n × (m ≤ length sent) × (n ≤ length received)
 
   as-whole : Belongs → Whole data-of (length sent) (length received)
   as-whole h = record { known = h .0; lengths = h .1; sent = h .2; received = h .3 }
