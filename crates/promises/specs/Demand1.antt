@@ -73,8 +73,8 @@ short-cases s r = (λ h. there (ltb s 255) refl h, back)
 pub long-cases : (s r : ℕ) → (short s r ≡ false) ↔ ((255 ≤ s) × (255 ≤ r))
 long-cases s r = (λ h. roomy s r h, λ h. rw (le-ltb s 255 (h .0), le-ltb r 255 (h .1)))
 
--- the trace is read: one of the eleven protocols, Quick without PEC, and two buffers of 255 bytes or more
-pub record Read (protocol : ℕ) (pec : Bool) (sent₀ received₀ : List ℕ) : Type 0 where
+-- neither 1 nor 2, so that the trace is read: one of the eleven protocols, Quick without PEC, and two buffers of 255 bytes or more
+pub record Entered (protocol : ℕ) (pec : Bool) (sent₀ received₀ : List ℕ) : Type 0 where
   pub known : protocol ≤ 10
   pub quick : protocol ≡ 0 → pec ≡ false
   pub sent-long : 255 ≤ length sent₀
@@ -82,7 +82,7 @@ pub record Read (protocol : ℕ) (pec : Bool) (sent₀ received₀ : List ℕ) :
 
 -- what comes with 0: the trace is that of a message of one of the rows; its fields are answered, and its data are at the fronts of the two
 -- buffers, which are as they were behind
-pub record Whole (protocol : ℕ) (pec : Bool) (tr sent₀ received₀ : List ℕ) (a : Decoded) (sent received : List ℕ) : Type 0 where
+pub record HandedOver (protocol : ℕ) (pec : Bool) (tr sent₀ received₀ : List ℕ) (a : Decoded) (sent received : List ℕ) : Type 0 where
   pub message : Message
   pub covered : Covered protocol message
   pub is : tr ≡ trace (shapeOf protocol) pec message
@@ -118,40 +118,40 @@ module _ (protocol : ℕ) (pec : Bool) (tr sent₀ received₀ : List ℕ) (a : 
       let f = short-cases (length sent₀) (length received₀) in
       (λ e. (t .0 (n .0 e .0) .0, t .0 (n .0 e .0) .1, f .0 (n .0 e .1)), λ h. n .1 (t .1 (h .0, h .1), f .1 (h .2)))
 
-  read-is : forbidden protocol pec ≡ false → short (length sent₀) (length received₀) ≡ false → Read protocol pec sent₀ received₀
-  read-is f c =
+  entered : forbidden protocol pec ≡ false → short (length sent₀) (length received₀) ≡ false → Entered protocol pec sent₀ received₀
+  entered f c =
       let t = taken-cases protocol pec .0 f in
       let l = long-cases (length sent₀) (length received₀) .0 c in
       record { known = t .0; quick = t .1; sent-long = l .0; received-long = l .1 }
 
-  not-forbidden : Read protocol pec sent₀ received₀ → forbidden protocol pec ≡ false
+  not-forbidden : Entered protocol pec sent₀ received₀ → forbidden protocol pec ≡ false
   not-forbidden r = taken-cases protocol pec .1 (r .known, r .quick)
 
-  not-short : Read protocol pec sent₀ received₀ → short (length sent₀) (length received₀) ≡ false
+  not-short : Entered protocol pec sent₀ received₀ → short (length sent₀) (length received₀) ≡ false
   not-short r = long-cases (length sent₀) (length received₀) .1 (r .sent-long, r .received-long)
 
   -- every number but 1 and 2 is the trace's, where it is read
   by-trace : (P : Type 0) (n v : ℕ) → (n ≡ 1 → ⊥) → (n ≡ 2 → ⊥) → (paper (decodedBy protocol shape pec tr) ≡ (n, v)) ↔ P
-      → (paper a ≡ (n, v)) ↔ (Read protocol pec sent₀ received₀ × P)
+      → (paper a ≡ (n, v)) ↔ (Entered protocol pec sent₀ received₀ × P)
   by-trace P n v one two e =
       let q = decode.other-number protocol pec tr sent₀ received₀ a sent received o n v one two in
-      (λ k. (let z = q .0 k in (read-is (z .0) (z .1), e .0 (z .2))), λ k. q .1 (not-forbidden (k .0), not-short (k .0), e .1 (k .1)))
+      (λ k. (let z = q .0 k in (entered (z .0) (z .1), e .0 (z .2))), λ k. q .1 (not-forbidden (k .0), not-short (k .0), e .1 (k .1)))
 
   -- 3: a number above 259 at the first place that does not fit
-  pub decode-3 : (place : ℕ) → (paper a ≡ (3, place)) ↔ (Read protocol pec sent₀ received₀ × (Breaks shape pec tr place × (259 < getD tr place 0)))
+  pub decode-3 : (place : ℕ) → (paper a ≡ (3, place)) ↔ (Entered protocol pec sent₀ received₀ × (Breaks shape pec tr place × (259 < getD tr place 0)))
   decode-3 k = by-trace _ 3 k (λ e. omega (arith, e)) (λ e. omega (arith, e)) (step.number-3 protocol shape (sane protocol) pec tr k)
 
   -- 4: the trace ends while it still fits
-  pub decode-4 : (len : ℕ) → (paper a ≡ (4, len)) ↔ (Read protocol pec sent₀ received₀ × (Fits shape pec tr × (Member shape pec tr → ⊥) × (len ≡ length tr)))
+  pub decode-4 : (len : ℕ) → (paper a ≡ (4, len)) ↔ (Entered protocol pec sent₀ received₀ × (Fits shape pec tr × (Member shape pec tr → ⊥) × (len ≡ length tr)))
   decode-4 n = by-trace _ 4 n (λ e. omega (arith, e)) (λ e. omega (arith, e)) (step.number-4 protocol shape (sane protocol) pec tr n)
 
   -- 5: a symbol that can't stand there, and not after the last STOP
   pub decode-5 : (place : ℕ) → (paper a ≡ (5, place))
-      ↔ (Read protocol pec sent₀ received₀ × (Breaks shape pec tr place × (Member shape pec (take place tr) → ⊥) × (getD tr place 0 ≤ 259)))
+      ↔ (Entered protocol pec sent₀ received₀ × (Breaks shape pec tr place × (Member shape pec (take place tr) → ⊥) × (getD tr place 0 ≤ 259)))
   decode-5 k = by-trace _ 5 k (λ e. omega (arith, e)) (λ e. omega (arith, e)) (step.number-5 protocol shape (sane protocol) pec tr k)
 
   -- 6: the target gave NACK where ACK is due, then STOP, then the end
-  pub decode-6 : (byte : ℕ) → (paper a ≡ (6, byte)) ↔ (Read protocol pec sent₀ received₀ × CutAt shape pec tr byte)
+  pub decode-6 : (byte : ℕ) → (paper a ≡ (6, byte)) ↔ (Entered protocol pec sent₀ received₀ × CutAt shape pec tr byte)
   decode-6 b = by-trace _ 6 b (λ e. omega (arith, e)) (λ e. omega (arith, e)) (step.number-6 protocol shape (sane protocol) pec tr b)
 
   -- and which byte that is, by the length of the trace alone: two places a byte, one for START, one for a repeated START, NACK and STOP
@@ -161,7 +161,7 @@ module _ (protocol : ℕ) (pec : Bool) (tr sent₀ received₀ : List ℕ) (a : 
       step.which-byte protocol shape (sane protocol) pec tr b (q .2)
 
   -- 7: the whole trace fits, to its end, but the PEC differs
-  pub decode-7 : (place : ℕ) → (paper a ≡ (7, place)) ↔ (Read protocol pec sent₀ received₀ × OtherPec shape pec tr place)
+  pub decode-7 : (place : ℕ) → (paper a ≡ (7, place)) ↔ (Entered protocol pec sent₀ received₀ × OtherPec shape pec tr place)
   decode-7 k = by-trace _ 7 k (λ e. omega (arith, e)) (λ e. omega (arith, e)) (step.number-7 protocol shape (sane protocol) pec tr k)
 
   -- and that place is where the PEC stands
@@ -170,17 +170,17 @@ module _ (protocol : ℕ) (pec : Bool) (tr sent₀ received₀ : List ℕ) (a : 
 
   -- 8: symbols after STOP
   pub decode-8 : (place : ℕ) → (paper a ≡ (8, place))
-      ↔ (Read protocol pec sent₀ received₀ × ((place < length tr) × Member shape pec (take place tr) × (getD tr place 0 ≤ 259)))
+      ↔ (Entered protocol pec sent₀ received₀ × ((place < length tr) × Member shape pec (take place tr) × (getD tr place 0 ≤ 259)))
   decode-8 k = by-trace _ 8 k (λ e. omega (arith, e)) (λ e. omega (arith, e)) (step.number-8 protocol shape (sane protocol) pec tr k)
 
   -- 0: the trace of a message, with its fields and its data
-  pub decode-0 : (paper a ≡ (0, 0)) ↔ (Read protocol pec sent₀ received₀ × Whole protocol pec tr sent₀ received₀ a sent received)
+  pub decode-0 : (paper a ≡ (0, 0)) ↔ (Entered protocol pec sent₀ received₀ × HandedOver protocol pec tr sent₀ received₀ a sent received)
   decode-0 = (there, back)
     where
-      numbered : (paper a ≡ (0, 0)) ↔ (Read protocol pec sent₀ received₀ × ((m : Message) × Valid shape m × (tr ≡ trace shape pec m)))
+      numbered : (paper a ≡ (0, 0)) ↔ (Entered protocol pec sent₀ received₀ × ((m : Message) × Valid shape m × (tr ≡ trace shape pec m)))
       numbered = by-trace _ 0 0 (λ e. omega (arith, e)) (λ e. omega (arith, e)) (step.number-0 protocol shape (sane protocol) pec tr)
 
-      there : paper a ≡ (0, 0) → Read protocol pec sent₀ received₀ × Whole protocol pec tr sent₀ received₀ a sent received
+      there : paper a ≡ (0, 0) → Entered protocol pec sent₀ received₀ × HandedOver protocol pec tr sent₀ received₀ a sent received
       there e =
           let n = numbered .0 e in
           let r = n .0 in
@@ -208,7 +208,7 @@ module _ (protocol : ℕ) (pec : Bool) (tr sent₀ received₀ : List ℕ) (a : 
             },
           )
 
-      back : Read protocol pec sent₀ received₀ × Whole protocol pec tr sent₀ received₀ a sent received → paper a ≡ (0, 0)
+      back : Entered protocol pec sent₀ received₀ × HandedOver protocol pec tr sent₀ received₀ a sent received → paper a ≡ (0, 0)
       back (r, w) = numbered .1 (r, (w .message, covered-valid protocol (w .message) (w .covered), w .is))
 
   pub decode-refusal : (paper a .0 ≡ 0 → ⊥) → (sent ≡ sent₀) × (received ≡ received₀)

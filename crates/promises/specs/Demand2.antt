@@ -6,7 +6,6 @@ use mathlib.Core.List.{List, _++_}
 use Prim.Native.Nat.{ℕ, _≤_, _<_, _%_}
 use native.Mathlib.Omega.{arith}
 use lib.ListN.{length, take, drop}
-use borrow.Author.Tests.{le-ltb}
 use Rattle.lists.specs.Choice.{pick}
 use Rattle.lists.specs.Each.{Bytes}
 use Rattle.lists.specs.Onto.{onto}
@@ -26,15 +25,13 @@ use Rattle.step.specs.Answers.{summary, Carries}
 use Rattle.step.proofs.Theorems as step
 use Rattle.decode.specs.Outcome.{short, Outcome}
 use Rattle.decode.proofs.Theorems as decode
+use Rattle.promises.specs.Demand1.{long-cases}
 
 -- a message as the encoder is given it: its command and data are bytes
 pub record OfBytes (t : Message) : Type 0 where
   pub command : t .command < 256
   pub sent : Bytes (t .sent)
   pub received : Bytes (t .received)
-
-long-enough : (s r : ℕ) → 255 ≤ s → 255 ≤ r → short s r ≡ false
-long-enough s r hs hr = rw (le-ltb s 255 hs, le-ltb r 255 hr)
 
 -- what a call of the encoder wrote, a call of the decoder reads: answer 0, with the protocol, every field and both data lists,
 -- at the fronts of buffers that are as they were behind
@@ -46,7 +43,7 @@ pub encode-then-decode : (protocol : ℕ) (pec : Bool) (t : Message) → OfBytes
 encode-then-decode protocol pec t b before n after w sent₀ received₀ hs hr a sent received o =
     let v = written-valid protocol pec t (length before) n (b .command) (b .sent) (b .received) .0 (sym (w .answer)) in
     let f = front-is-trace protocol pec t before n after w in
-    decode.round-trip protocol pec t sent₀ received₀ a sent received (taken-cases protocol pec .1 (v .0, v .1)) (long-enough (length sent₀) (length received₀) hs hr) (v .2)
+    decode.round-trip protocol pec t sent₀ received₀ a sent received (taken-cases protocol pec .1 (v .0, v .1)) (long-cases (length sent₀) (length received₀) .1 (hs, hr)) (v .2)
     (subst (λ (l : List ℕ). Outcome protocol pec l sent₀ received₀ a sent received) (f .0) o)
 
 command-byte : (b o : Bool) (c : ℕ) → pick b ((c < 256) × pick o (c % 2 ≡ 0) Unit) (c ≡ 0) → c < 256
