@@ -23,6 +23,7 @@ use Rattle.arp.specs.declared.lookup.Found.the-variants as found
 use Rattle.arp.specs.declared.state.Binding.the-variants.{Open, Bound, Claimed}
 use Rattle.arp.specs.declared.state.Controller.{Controller}
 use Rattle.arp.specs.declared.state.Stepped.{Stepped}
+use Rattle.arp.proofs.Replayed.{step-21-exactly}
 use Rattle.bus.specs.Run.{numberIn, firstOf}
 use Rattle.exports.specs.declared.commands.HbCommand.{HbCommand}
 use Rattle.exports.specs.declared.pass.HbFound.{HbFound}
@@ -30,7 +31,7 @@ use Rattle.exports.specs.Commands.{commandOf, toldCommand, paper-number}
 use Rattle.exports.specs.Parts.{poolOf}
 use Rattle.exports.specs.Pass.{tracesIn, stepsOver, passOver, foundOf, toldFound}
 use Rattle.exports.specs.TraceLists.{listBytes, Cut, pass-steps}
-use Rattle.promises.specs.Controller.{lookup-0, lookup-15, lookup-16, lookup-1, refused-by-history}
+use Rattle.promises.specs.Controller.{lookup-0, lookup-15, lookup-16, lookup-1}
 
 -- ---- the struct of a command
 
@@ -161,7 +162,7 @@ hb-pass-21 low high trs tr rest cut r e =
     let st : Stepped = passOver (poolOf low high) (listBytes (trs ++ tr ∷ []) ++ rest) in
     let c : st .command ≡ stepped (run p (eventsOf trs)) tr .command = hb-pass-history low high (trs ++ tr ∷ []) rest cut .command ∙ ap (handedOut p) (since-last (Start ∷ []) trs tr) in
     Iff·trans (command-21 (st .command) (st .state .gets) r e)
-    (subst (λ (k : Command). (commandNumber k ≡ (21, []) ∷ []) ↔ (noCommand (handedOut p (eventsOf trs)) ≡ true)) (sym c) (refused-by-history p (eventsOf trs) tr))
+    (subst (λ (k : Command). (commandNumber k ≡ (21, []) ∷ []) ↔ (noCommand (handedOut p (eventsOf trs)) ≡ true)) (sym c) (step-21-exactly p (eventsOf trs) tr))
 
 pub hb-pass-start : (low high : ℕ) (r : HbCommand)
     → r ≡ toldCommand (passOver (poolOf low high) [] .command) (passOver (poolOf low high) [] .state .gets) → CommandParts r 0 0 0 0 0 0
