@@ -15,7 +15,6 @@ use borrow.Author.Tests.{ltb-true, ltb-false}
 use Rattle.lists.specs.Choice.{pick, not}
 use Rattle.lists.specs.Onto.{onto}
 use Rattle.wire.specs.Addresses.{isReserved}
-use Rattle.trace.specs.DataFits.{DataFits}
 use Rattle.trace.specs.Shapes.{reads, shapeOf}
 use Rattle.trace.specs.declared.transaction.Transaction.{Transaction}
 use Rattle.last.specs.LastLaws.{Whole, of-received, of-sent, of-neither}
@@ -286,7 +285,7 @@ hb-last-data bytes before r after c = go (ltb (length before) (length bytes)) re
     }
 
 -- which bytes: what was received for 2, 5, 6, 7, 9 and 10, what was sent for 1, 3, 4 and 8 and for Quick, which sends nothing; none where
--- the protocol is unknown, or a length does not belong to it or exceeds its buffer
+-- the protocol is unknown, or a length does not belong to it or exceeds its buffer (Whole, in last/specs/LastLaws)
 abbrev pub Receives : ℕ → Type 0
 Receives p = (p ≡ 2) ⊎ ((p ≡ 5) ⊎ ((p ≡ 6) ⊎ ((p ≡ 7) ⊎ ((p ≡ 9) ⊎ (p ≡ 10)))))
 
@@ -309,21 +308,15 @@ sends-reads p (inr (inr (inr (inl e)))) = ap (λ (k : ℕ). reads (shapeOf k)) e
 sends-reads p (inr (inr (inr (inr e)))) = ap (λ (k : ℕ). reads (shapeOf k)) e
 
 module _ (protocol m n : ℕ) (sent received : List ℕ) where
-  abbrev data-of : Transaction
-  data-of = record { protocol = protocol; address = record { 0 = 0 }; direction = 0; command = 0; sent = m; received = n }
+  -- a transaction of this protocol that has sent m and received n bytes
+  abbrev pub having : Transaction
+  having = record { protocol = protocol; address = record { 0 = 0 }; direction = 0; command = 0; sent = m; received = n }
 
-  -- the protocol is known, m and n belong to it, and the buffers have as many bytes
-  abbrev pub Belongs : Type 0
-  Belongs = (protocol ≤ 10) × DataFits protocol m n × (m ≤ length sent) × (n ≤ length received)
+  pub hb-last-received : Whole having (length sent) (length received) → Receives protocol → phaseOf protocol m n sent received ≡ take n received
+  hb-last-received w p = of-received having sent received (0, 0) (0, 0) w (receives-reads protocol p) .0
 
-  as-whole : Belongs → Whole data-of (length sent) (length received)
-  as-whole h = record { known = h .0; lengths = h .1; sent = h .2; received = h .3 }
+  pub hb-last-sent : Whole having (length sent) (length received) → Sends protocol → phaseOf protocol m n sent received ≡ take m sent
+  hb-last-sent w p = of-sent having sent received (0, 0) (0, 0) w (sends-reads protocol p) .0
 
-  pub hb-last-received : Belongs → Receives protocol → phaseOf protocol m n sent received ≡ take n received
-  hb-last-received h p = of-received data-of sent received (0, 0) (0, 0) (as-whole h) (receives-reads protocol p) .0
-
-  pub hb-last-sent : Belongs → Sends protocol → phaseOf protocol m n sent received ≡ take m sent
-  hb-last-sent h p = of-sent data-of sent received (0, 0) (0, 0) (as-whole h) (sends-reads protocol p) .0
-
-  pub hb-last-none : (Belongs → ⊥) → phaseOf protocol m n sent received ≡ []
-  hb-last-none z = of-neither data-of sent received (0, 0) (0, 0) (λ w. z (w .known, w .lengths, w .sent, w .received)) .0
+  pub hb-last-none : (Whole having (length sent) (length received) → ⊥) → phaseOf protocol m n sent received ≡ []
+  hb-last-none z = of-neither having sent received (0, 0) (0, 0) z .0

@@ -10,7 +10,6 @@ use borrow.Author.Tests.{ne-eqb}
 use Rattle.wire.specs.declared.address.Address.{Address}
 use Rattle.pool.specs.declared.Pool.{Pool}
 use Rattle.udid.specs.declared.Udid.{Udid}
-use Rattle.arp.proofs.Replayed.{step-21-exactly}
 use Rattle.arp.specs.Bindings.{heldAt}
 use Rattle.arp.specs.Controller.{newController, started, stepped}
 use Rattle.arp.specs.History.{Event, Start, Received, run}
@@ -24,6 +23,7 @@ use Rattle.arp.specs.declared.lookup.Found.the-variants as found
 use Rattle.arp.specs.declared.state.Binding.the-variants.{Open, Bound, Claimed}
 use Rattle.arp.specs.declared.state.Controller.{Controller}
 use Rattle.arp.specs.declared.state.Stepped.{Stepped}
+use Rattle.arp.proofs.Replayed.{step-21-exactly}
 use Rattle.bus.specs.Run.{numberIn, firstOf}
 use Rattle.exports.specs.declared.commands.HbCommand.{HbCommand}
 use Rattle.exports.specs.declared.pass.HbFound.{HbFound}
