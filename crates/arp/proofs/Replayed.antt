@@ -508,6 +508,17 @@ all-told occupied es = record {
 
 -- ---- before the first start
 
+-- a new controller: the starting pool in both places, nothing bound or claimed, no Get UDID counted, and nothing handed out
+pub record New (occupied : Pool) (s : Controller) : Type 0 where
+  pub starting : s .starting ≡ startingPool occupied
+  pub pool : s .pool ≡ startingPool occupied
+  pub held : (a : ℕ) → heldAt (s .slots) a ≡ Open
+  pub gets : s .gets ≡ 0
+  pub last : s .last ≡ Nothing
+
+pub new-is : (occupied : Pool) → New occupied (newController occupied)
+new-is occupied = record { starting = refl; pool = refl; held = open-all; gets = refl; last = refl }
+
 unstarted : (occupied : Pool) (trs : List (List ℕ)) → run occupied (tracesAlone trs) ≡ newController occupied
 unfolding run tracesAlone
 unstarted occupied [] = refl

@@ -94,6 +94,11 @@ pub prepare-trace : traceOf Prepare [] ≡ 256 ∷ 194 ∷ 258 ∷ 1 ∷ 258 ∷
 unfolding pecFrom pecStep bitStep
 prepare-trace = refl
 
+-- whatever is given as a reply, which Prepare has none of
+pub prepare-whatever : (reply : List ℕ) → traceOf Prepare reply ≡ 256 ∷ 194 ∷ 258 ∷ 1 ∷ 258 ∷ 192 ∷ 258 ∷ 257 ∷ []
+unfolding pecFrom pecStep bitStep
+prepare-whatever reply = refl
+
 -- Get UDID with the 17 bytes of a reply: S C2 A 03 A S C3 A 11 A, each byte with A, PEC N P
 pub get-row : (xs : List ℕ) → length xs ≡ 17 → traceOf GetUdid xs
     ≡ 256 ∷ 194 ∷ 258 ∷ 3 ∷ 258 ∷ 256 ∷ 195 ∷ 258 ∷ 17 ∷ 258 ∷ (acked xs ++ pecOf (194 ∷ 3 ∷ 195 ∷ 17 ∷ xs) ∷ 259 ∷ 257 ∷ [])

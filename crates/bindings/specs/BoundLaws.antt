@@ -16,6 +16,15 @@ use Rattle.pool.specs.StartLaws.{member-empty}
 use Rattle.pool.specs.declared.Pool.{Pool}
 use Rattle.bindings.specs.Entries.{isBound, withEntry, boundFrom, boundSet}
 use Rattle.bindings.specs.declared.entry.Entry.{Entry}
+use Rattle.bindings.specs.declared.entry.Entry.the-variants.{Nobody, Bound}
+use Rattle.udid.specs.declared.Udid.{Udid}
+
+-- one address: it is added where somebody is bound to it, and the set is as it was where nobody is
+pub with-bound : (set : Pool) (a : ℕ) (u : Udid) → withEntry set a (Bound u) ≡ withAddress set a
+with-bound set a u = refl
+
+pub with-nobody : (set : Pool) (a : ℕ) → withEntry set a Nobody ≡ set
+with-nobody set a = refl
 
 step-other : (set : Pool) (a : ℕ) (e : Entry) (j : ℕ) → (j ≡ a → ⊥) → member (withEntry set a e) j ≡ member set j
 step-other set a e j n = go (isBound e)

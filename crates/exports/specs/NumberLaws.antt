@@ -17,6 +17,12 @@ truth-is n = go (eqb n 0) refl
     go true e = (λ q. absurd (let z : _≡_ {A = ℕ} 0 1 = cc q in omega arith), λ h. absurd (h (eqb-true n 0 e)))
     go false e = (λ q. eqb-false n 0 e, λ h. refl)
 
+pub true-is-1 : bit true ≡ 1
+true-is-1 = refl
+
+pub false-is-0 : bit false ≡ 0
+false-is-0 = refl
+
 -- handed back: 1 exactly where it holds, 0 exactly where it does not
 abbrev pub Says : ℕ → Type 0 → Type 0
 Says r P = ((r ≡ 1) ↔ P) × ((r ≡ 0) ↔ (P → ⊥))

@@ -22,6 +22,11 @@ pub two-traces : listBytes ((256 ∷ 257 ∷ []) ∷ [] ∷ []) ≡ 2 ∷ 0 ∷ 
 unfolding listBytes pairsOf
 two-traces = refl
 
+-- a trace of l + 256 h symbols begins with the bytes l and h: one of 258 with 02h, 01h
+pub count-bytes : (l h : ℕ) (tr : List ℕ) (trs : List (List ℕ)) → l < 256 → length tr ≡ l + 256 * h → listBytes (tr ∷ trs) ≡ l ∷ h ∷ (pairsOf tr ++ listBytes trs)
+unfolding listBytes
+count-bytes l h tr trs k e = ap₂ (λ (x y : ℕ). x ∷ y ∷ (pairsOf tr ++ listBytes trs)) (omega (arith, e, k)) (omega (arith, e, k))
+
 count-back : (n : ℕ) → n % 256 + 256 * (n / 256) ≡ n
 count-back n = omega arith
 

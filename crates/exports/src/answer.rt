@@ -29,7 +29,7 @@ fn refusal(answer: u32, value: usize) -> HbDecoded
     }
 }
 
-pub fn decoded(a: Decoded) -> HbDecoded
+pub(crate) fn decoded(a: Decoded) -> HbDecoded
     ensures { λ r. ⌜ r ≡ toldDecoded a ⌝ }
 {
     match a {

@@ -45,7 +45,7 @@ use Rattle.arp.proofs.Hearing.{reply-is-decode, assign-is-decode, next-prepare-
 use Rattle.arp.proofs.OneStep.{assign-symbols}
 use Rattle.arp.proofs.Reach.{good-run, invariant}
 use Rattle.arp.proofs.Replayed.{all-told, lookup-told, start-hands-prepare, start-pool, before-first-start-21, idle-21, state-21-exactly, not-started}
-use Rattle.arp.proofs.TraceLaws.{prepare-trace, get-row}
+use Rattle.arp.proofs.TraceLaws.{prepare-whatever, get-row}
 
 -- ---- 21
 
@@ -171,8 +171,8 @@ claim-stays occupied es (tr ∷ trs) a e = step-claimed occupied (run occupied (
 -- ---- THE COMMANDS ON THE WIRE, symbol by symbol: 256 S, 257 P, 258 A, 259 N; 194 and 195 are C2h and C3h, the two bytes of 61h
 
 pub record CommandRows : Type 0 where
-  -- Prepare To ARP: S C2 A 01 A PEC A P, the marked case M2
-  pub prepare : traceOf Prepare [] ≡ 256 ∷ 194 ∷ 258 ∷ 1 ∷ 258 ∷ 192 ∷ 258 ∷ 257 ∷ []
+  -- Prepare To ARP: S C2 A 01 A PEC A P, the marked case M2, whatever is given as a reply
+  pub prepare : (reply : List ℕ) → traceOf Prepare reply ≡ 256 ∷ 194 ∷ 258 ∷ 1 ∷ 258 ∷ 192 ∷ 258 ∷ 257 ∷ []
   -- Get UDID with the 17 bytes of a reply: S C2 A 03 A S C3 A 11 A, each byte with A, PEC N P
   pub get : (xs : List ℕ) → length xs ≡ 17 → traceOf GetUdid xs
       ≡ 256 ∷ 194 ∷ 258 ∷ 3 ∷ 258 ∷ 256 ∷ 195 ∷ 258 ∷ 17 ∷ 258 ∷ (acked xs ++ pecOf (194 ∷ 3 ∷ 195 ∷ 17 ∷ xs) ∷ 259 ∷ 257 ∷ [])
@@ -182,7 +182,7 @@ pub record CommandRows : Type 0 where
 
 pub command-rows : CommandRows
 command-rows = record {
-  prepare = prepare-trace;
+  prepare = prepare-whatever;
   get = get-row;
   assign = λ u a h. assign-symbols u (a .0) h;
 }

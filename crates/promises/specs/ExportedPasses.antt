@@ -4,8 +4,9 @@ use mathlib.Core.Path.{_≡_, refl, sym, ap, _∙_, subst}
 use mathlib.Core.Bool.{true}
 use mathlib.Core.List.{List, [], _∷_, _++_}
 use mathlib.Core.Logic.{_↔_, Iff·trans}
-use Prim.Native.Nat.{ℕ, _<_, _≤_}
+use Prim.Native.Nat.{ℕ, _+_, _*_, _<_, _≤_}
 use native.Mathlib.Omega.{arith}
+use lib.ListN.{length, getD}
 use borrow.Author.Tests.{ne-eqb}
 use Rattle.wire.specs.declared.address.Address.{Address}
 use Rattle.pool.specs.declared.Pool.{Pool}
@@ -30,7 +31,7 @@ use Rattle.exports.specs.declared.pass.HbFound.{HbFound}
 use Rattle.exports.specs.Commands.{commandOf, toldCommand, paper-number}
 use Rattle.exports.specs.Parts.{poolOf}
 use Rattle.exports.specs.Pass.{tracesIn, stepsOver, passOver, foundOf, toldFound}
-use Rattle.exports.specs.TraceLists.{listBytes, Cut, pass-steps}
+use Rattle.exports.specs.TraceLists.{listBytes, pass-steps}
 use Rattle.promises.specs.Controller.{lookup-0, lookup-15, lookup-16, lookup-1}
 
 -- ---- the struct of a command
@@ -141,7 +142,7 @@ start-history occupied = record { state = refl; command = refl }
 
 -- A PASS over the bytes of a list of traces, and whatever is left of a trace that is cut, leaves the state and hands out the command of
 -- that history
-pub hb-pass-history : (low high : ℕ) (trs : List (List ℕ)) (rest : List ℕ) → Cut rest
+pub hb-pass-history : (low high : ℕ) (trs : List (List ℕ)) (rest : List ℕ) → length rest < 2 + 2 * (getD rest 0 0 + 256 * getD rest 1 0)
     → IsHistory (record { low = low; high = high }) (eventsOf trs) (passOver (poolOf low high) (listBytes trs ++ rest))
 hb-pass-history low high trs rest c =
     subst (IsHistory (poolOf low high) (eventsOf trs)) (sym (pass-steps (poolOf low high) trs rest c))
@@ -153,7 +154,7 @@ since-last es [] tr = refl
 since-last es (x ∷ trs) tr = since-last (Received x ∷ es) trs tr
 
 -- hb_pass answers 21 exactly if the start and the traces before the last one handed out no command; with no trace it hands out Prepare
-pub hb-pass-21 : (low high : ℕ) (trs : List (List ℕ)) (tr rest : List ℕ) → Cut rest → (r : HbCommand)
+pub hb-pass-21 : (low high : ℕ) (trs : List (List ℕ)) (tr rest : List ℕ) → length rest < 2 + 2 * (getD rest 0 0 + 256 * getD rest 1 0) → (r : HbCommand)
     → r ≡ toldCommand (passOver (poolOf low high) (listBytes (trs ++ tr ∷ []) ++ rest) .command) (passOver (poolOf low high) (listBytes (trs ++ tr ∷ []) ++ rest) .state .gets)
     → (r .answer ≡ 21) ↔ (noCommand (handedOut (record { low = low; high = high }) (eventsOf trs)) ≡ true)
 unfolding handedOut

@@ -22,10 +22,11 @@ use Rattle.targets.specs.FieldLaws.{same-records, fixed-byte}
 eighteen : (i k : ℕ) → i * 18 + k ≡ 18 * i + k
 eighteen i k = omega arith
 
-byte-16 : (s : List ℕ) (i : ℕ) → addressByte s i ≡ getD s (18 * i + 16) 0
+-- the fields of record i, whatever i is: byte 16 and byte 17 of it, zero past the end of the list
+pub byte-16 : (s : List ℕ) (i : ℕ) → addressByte s i ≡ getD s (18 * i + 16) 0
 byte-16 s i = ap (λ (k : ℕ). getD s k 0) (eighteen i 16)
 
-byte-17 : (s : List ℕ) (i : ℕ) → flagOf s i ≡ getD s (18 * i + 17) 0
+pub byte-17 : (s : List ℕ) (i : ℕ) → flagOf s i ≡ getD s (18 * i + 17) 0
 byte-17 s i = ap (λ (k : ℕ). getD s k 0) (eighteen i 17)
 
 pub malformed-is : (s : List ℕ) (i : ℕ) → MalformedAt s i ↔ EvenOrFlag s i

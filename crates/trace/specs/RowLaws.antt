@@ -37,3 +37,12 @@ row-is =
 pub any-address : (n : ℕ) → shapeOf n .tohost ≡ false
 any-address n =
     each-at (λ (sh : Shape). sh .tohost ≡ false) shapes (row false false Nothing Nothing) n (refl, (refl, (refl, (refl, (refl, (refl, (refl, (refl, (refl, (refl, (refl, tt))))))))))) refl
+
+-- each count is at least 0, and all together are at most 255
+abbrev pub Limits : Shape → Type 0
+Limits sh = (sh .least ≡ 0) × (sh .most ≡ 255)
+
+pub limits-of-row : (n : ℕ) → Limits (shapeOf n)
+limits-of-row n =
+    each-at Limits shapes (row false false Nothing Nothing) n
+    ((refl, refl), ((refl, refl), ((refl, refl), ((refl, refl), ((refl, refl), ((refl, refl), ((refl, refl), ((refl, refl), ((refl, refl), ((refl, refl), ((refl, refl), tt))))))))))) (refl, refl)

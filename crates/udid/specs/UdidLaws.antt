@@ -8,7 +8,7 @@ use native.Mathlib.Decide.{ℕ-discrete, decLt}
 use native.Mathlib.Nat.{mod-eq-of-lt}
 use native.Mathlib.Omega.{arith}
 use lib.Dec.{ltb, eqb}
-use lib.ListN.{length, getD, take, drop, length-append}
+use lib.ListN.{length, getD, take, drop, replicate, length-append}
 use lib.Seq.{take-at, drop-at, take-add, drop-drop, length-take-le}
 use borrow.Author.Tests.{eqb-true, eq-eqb, ne-eqb, le-ltb}
 use Rattle.lists.specs.Choice.{pick, or, and}
@@ -16,7 +16,7 @@ use Rattle.lists.specs.Each.{Bytes, append-bytes}
 use Rattle.udid.specs.Bytes.{number, numberFrom, bytesOf, bytesFrom, udidBytes, udidAt, less, putAt}
 use Rattle.udid.specs.ByteLaws.{number-lt, number-split, number-bytes, bytes-number, bytes-bytes, length-bytes, number-order, digits-order}
 use Rattle.udid.specs.Udids.{Fits, sameUdid, value, isBelow, topBits, isFixed}
-use Rattle.udid.specs.WindowLaws.{length-from, bytes-from, from-part, from-between, put-fits}
+use Rattle.udid.specs.WindowLaws.{length-from, bytes-from, from-part, from-between, from-zeros, put-fits}
 use Rattle.udid.specs.declared.Udid.{Udid}
 
 halves : (u v : Udid) → u .high ≡ v .high → u .low ≡ v .low → u ≡ v
@@ -96,6 +96,16 @@ pub put-back : (l : List ℕ) (i : ℕ) (u : Udid) → Fits u → i + 16 ≤ len
 put-back l i u f h =
     ap (λ (x : List ℕ). udidAt x i) (put-fits l (udidBytes u) i (omega (arith, length-udid u)))
     ∙ udid-back (take i l) (drop (i + length (udidBytes u)) l) i u f (length-take-le i l (omega arith))
+
+-- a list that ends before the 16 bytes is read as though zeros followed it
+pub udid-zeros : (s : List ℕ) (k i : ℕ) → udidAt (s ++ replicate k 0) i ≡ udidAt s i
+unfolding udidAt
+udid-zeros s k i = halves _ _ (ap number (from-zeros s k i 8)) (ap number (from-zeros s k (i + 8) 8))
+
+-- ten bytes: the six that are not there are zeros
+pub udid-of-ten : udidAt (1 ∷ 2 ∷ 3 ∷ 4 ∷ 5 ∷ 6 ∷ 7 ∷ 8 ∷ 9 ∷ 10 ∷ []) 0 ≡ record { high = 0x0102030405060708; low = 0x090A000000000000 }
+unfolding udidAt bytesFrom numberFrom
+udid-of-ten = refl
 
 -- ---- bytes and halves
 

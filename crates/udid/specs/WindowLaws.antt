@@ -5,7 +5,7 @@ use mathlib.Core.Bool.{Bool, true, false}
 use mathlib.Core.List.{List, [], _∷_, _++_, append-assoc}
 use native.Mathlib.Omega.{arith}
 use lib.Dec.{leb}
-use lib.ListN.{length, getD, take, drop, length-append, length-drop, List·getD-append}
+use lib.ListN.{length, getD, take, drop, replicate, length-append, length-drop, List·getD-append}
 use lib.Seq.{drop-cons, drop-drop, drop-at, take-at, length-take-le, getD-append-add, getD-drop, getD-take}
 use borrow.Author.Tests.{le-leb, lt-leb}
 use Rattle.lists.specs.Choice.{pick}
@@ -42,6 +42,22 @@ from-between p q r i n e f =
     from-part (p ++ (q ++ r)) i n (omega (arith, length-append p (q ++ r), length-append q r))
     ∙ ap (take n) (drop-at p (q ++ r) i e)
     ∙ take-at q r n f
+
+-- a byte that the list does not have counts as zero: what is read is what would be read if zeros followed the list
+none-there : (k i : ℕ) → _≡_ {A = ℕ} (getD (replicate k 0) i 0) 0
+none-there zero i = refl
+none-there (suc k) zero = refl
+none-there (suc k) (suc i) = none-there k i
+
+byte-zeros : (s : List ℕ) (k i : ℕ) → getD (s ++ replicate k 0) i 0 ≡ getD s i 0
+byte-zeros [] k i = none-there k i
+byte-zeros (x ∷ s) k zero = refl
+byte-zeros (x ∷ s) k (suc i) = byte-zeros s k i
+
+pub from-zeros : (s : List ℕ) (k i n : ℕ) → bytesFrom (s ++ replicate k 0) i n ≡ bytesFrom s i n
+unfolding bytesFrom
+from-zeros s k i zero = refl
+from-zeros s k i (suc n) = ap₂ (λ (x : ℕ) (l : List ℕ). x ∷ l) (byte-zeros s k i) (from-zeros s k (suc i) n)
 
 -- ---- written
 
