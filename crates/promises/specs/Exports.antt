@@ -13,6 +13,7 @@ use Rattle.lists.specs.Each.{Bytes}
 use Rattle.lists.specs.Onto.{onto}
 use Rattle.trace.specs.Shapes.{shapeOf, forbidden}
 use Rattle.trace.specs.Trace.{Message, trace}
+use Rattle.trace.specs.declared.shape.Shape.{Shape}
 use Rattle.trace.specs.declared.transaction.Transaction.{Transaction}
 use Rattle.encode.specs.declared.Encoded.{Encoded}
 use Rattle.encode.specs.declared.Encoded.the-variants.{Written}
@@ -20,7 +21,7 @@ use Rattle.encode.specs.Encode.{message, encoded, symbolsOf, Wrote}
 use Rattle.encode.specs.Listed.{Listed}
 use Rattle.encode.specs.EncodeMeans.{written-exactly, front-is-trace}
 use Rattle.step.specs.declared.answer.Decoded.the-variants.{Done}
-use Rattle.step.specs.Answers.{summary}
+use Rattle.step.specs.Answers.{Breaks, CutAt, Fits, Member, OtherPec, summary}
 use Rattle.step.specs.Paper.{paper}
 use Rattle.decode.specs.Outcome.{short, Outcome}
 use Rattle.decode.proofs.Theorems as decode
@@ -47,7 +48,7 @@ use Rattle.exports.specs.PairLaws.{symbols-are, bytes-back}
 use Rattle.exports.specs.Codec.{told, toldDecoded, WrotePairs, WroteSymbols, ReadSymbols}
 use Rattle.exports.specs.WrittenLaws as written
 use Rattle.exports.specs.DecodedLaws.{OthersZero, pair-parts, read-carries, read-number, read-zeros, read-done}
-use Rattle.promises.specs.Demand1.{short-cases, decode-1, decode-refusal}
+use Rattle.promises.specs.Demand1.{short-cases, Entered, HandedOver, decode-0, decode-1, decode-3, decode-4, decode-5, decode-6, decode-7, decode-8, decode-refusal}
 use Rattle.promises.specs.Demand2.{Accepted, encode-then-decode, decode-then-encode}
 use Rattle.promises.specs.Demand3.{Meets, model-meets}
 use Rattle.promises.specs.Marked.{marked-cases}
@@ -223,6 +224,37 @@ module _ (protocol pec : ℕ) (tr sent₀ received₀ : List ℕ) (h : HbDecoded
 
       back : ((10 < protocol) ⊎ ((protocol ≡ 0) × (pec ≡ 0 → ⊥)) → ⊥) × ((length sent₀ < 255) ⊎ (length received₀ < 255)) → paper (d .answer) ≡ (2, 0)
       back (n, c) = two .1 (allowed n (forbidden protocol (truth pec)) refl, short-cases (length sent₀) (length received₀) .1 c)
+
+  abbrev sh : Shape
+  sh = shapeOf protocol
+
+  -- 3: a number above 259 at the first place that does not fit
+  pub hb-decode-3 : (place : ℕ) → ((h .answer ≡ 3) × (h .value ≡ place)) ↔ (Entered protocol (truth pec) sent₀ received₀ × (Breaks sh (truth pec) tr place × (259 < getD tr place 0)))
+  hb-decode-3 k = hb-decode-number 3 k (decode-3 protocol (truth pec) tr sent₀ received₀ (d .answer) sent received (d .outcome) k)
+
+  -- 4: the trace ends while it still fits
+  pub hb-decode-4 : (len : ℕ) → ((h .answer ≡ 4) × (h .value ≡ len)) ↔ (Entered protocol (truth pec) sent₀ received₀ × (Fits sh (truth pec) tr × (Member sh (truth pec) tr → ⊥) × (len ≡ length tr)))
+  hb-decode-4 k = hb-decode-number 4 k (decode-4 protocol (truth pec) tr sent₀ received₀ (d .answer) sent received (d .outcome) k)
+
+  -- 5: a symbol that can't stand there, and not after the last STOP
+  pub hb-decode-5 : (place : ℕ) → ((h .answer ≡ 5) × (h .value ≡ place)) ↔ (Entered protocol (truth pec) sent₀ received₀ × (Breaks sh (truth pec) tr place × (Member sh (truth pec) (take place tr) → ⊥) × (getD tr place 0 ≤ 259)))
+  hb-decode-5 k = hb-decode-number 5 k (decode-5 protocol (truth pec) tr sent₀ received₀ (d .answer) sent received (d .outcome) k)
+
+  -- 6: the target gave NACK where ACK is due, then STOP, then the end
+  pub hb-decode-6 : (byte : ℕ) → ((h .answer ≡ 6) × (h .value ≡ byte)) ↔ (Entered protocol (truth pec) sent₀ received₀ × CutAt sh (truth pec) tr byte)
+  hb-decode-6 k = hb-decode-number 6 k (decode-6 protocol (truth pec) tr sent₀ received₀ (d .answer) sent received (d .outcome) k)
+
+  -- 7: the whole trace fits, to its end, but the PEC differs
+  pub hb-decode-7 : (place : ℕ) → ((h .answer ≡ 7) × (h .value ≡ place)) ↔ (Entered protocol (truth pec) sent₀ received₀ × OtherPec sh (truth pec) tr place)
+  hb-decode-7 k = hb-decode-number 7 k (decode-7 protocol (truth pec) tr sent₀ received₀ (d .answer) sent received (d .outcome) k)
+
+  -- 8: symbols after STOP
+  pub hb-decode-8 : (place : ℕ) → ((h .answer ≡ 8) × (h .value ≡ place)) ↔ (Entered protocol (truth pec) sent₀ received₀ × ((place < length tr) × Member sh (truth pec) (take place tr) × (getD tr place 0 ≤ 259)))
+  hb-decode-8 k = hb-decode-number 8 k (decode-8 protocol (truth pec) tr sent₀ received₀ (d .answer) sent received (d .outcome) k)
+
+  -- 0: the trace of a message of one of the rows
+  pub hb-decode-whole : ((h .answer ≡ 0) × (h .value ≡ 0)) ↔ (Entered protocol (truth pec) sent₀ received₀ × HandedOver protocol (truth pec) tr sent₀ received₀ (d .answer) sent received)
+  hb-decode-whole = hb-decode-number 0 0 (decode-0 protocol (truth pec) tr sent₀ received₀ (d .answer) sent received (d .outcome))
 
   -- a refusal: both buffers as they were, and every other part zero
   pub hb-decode-refusal : (h .answer ≡ 0 → ⊥) → (sent ≡ sent₀) × (received ≡ received₀) × OthersZero h
