@@ -1,15 +1,3 @@
 pub mod Tags
 pub mod Steps
 pub mod Requests
-pub mod Sound
-pub mod Reach
-pub mod TraceLaws
-pub mod Assigned
-pub mod Handing
-pub mod Sending
-pub mod RequestLaws
-pub mod Replayed
-pub mod Hearing
-pub mod OneStep
-pub mod OneResult
-pub mod ByHistory

@@ -7,3 +7,15 @@ pub mod Requests
 pub mod History
 pub mod Replay
 pub mod OneStep
+pub mod SoundLaws
+pub mod HistoryLaws
+pub mod TraceLaws
+pub mod AssignedLaws
+pub mod HandingLaws
+pub mod SendingLaws
+pub mod RequestLaws
+pub mod ReplayLaws
+pub mod HeardLaws
+pub mod OneStepLaws
+pub mod OneResultLaws
+pub mod StoryLaws

@@ -35,8 +35,8 @@ use Rattle.arp.specs.Bindings.{bound, freed}
 use Rattle.arp.specs.Controller.{handed, counted, asked, issued, chosen, replied, onAssign, afterPrepare, afterGet, afterAssign, byCommand, stepped, started, newController}
 use Rattle.arp.specs.Heard.{answer, sentIn, blockWrite, isAssign}
 use Rattle.arp.specs.Requests.{traceOf}
-use Rattle.arp.proofs.Reach.{chosen-good}
-use Rattle.arp.proofs.TraceLaws.{prepare-accepted}
+use Rattle.arp.specs.HistoryLaws.{chosen-good}
+use Rattle.arp.specs.TraceLaws.{prepare-accepted}
 use Rattle.arp.specs.declared.command.Command.{Command}
 use Rattle.arp.specs.declared.command.Command.the-variants.{Nothing, Prepare, GetUdid, Assign, Ended, NoneFree, Abandoned, NotOutstanding}
 use Rattle.arp.specs.declared.state.Controller.{Controller}

@@ -10,7 +10,7 @@ use borrow.Author.Tests.{eqb-true, eqb-false}
 use borrow.Rule.Slice.PartMut.{putMid}
 use Rattle.lists.specs.Choice.{pick, or}
 use Rattle.lists.specs.Onto.{onto}
-use Rattle.lists.proofs.Laws.{lent}
+use Rattle.lists.specs.ListLaws.{lent}
 use Rattle.wire.specs.Addresses.{hostAddress}
 use Rattle.wire.specs.Symbols.{START, STOP, ACK}
 use Rattle.wire.specs.Pec as Pec

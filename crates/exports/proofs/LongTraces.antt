@@ -28,9 +28,9 @@ use Rattle.step.specs.Refusal.{why}
 use Rattle.step.specs.Run.{run, concluded, decodedBy}
 use Rattle.step.specs.Handed.{lows, sentLength, sentPlace, receivedLength, receivedPlace}
 use Rattle.step.specs.Answers.{Member, Fits, Answers}
-use Rattle.step.proofs.Runs.{other}
-use Rattle.step.proofs.Members.{fits-back}
-use Rattle.step.proofs.Decides.{holds}
+use Rattle.step.specs.RunLaws.{other}
+use Rattle.step.specs.MemberLaws.{fits-back}
+use Rattle.step.specs.DecideLaws.{holds}
 use Rattle.decode.specs.Outcome.{short, answered, Outcome}
 
 module _ (protocol : ℕ) (p : Bool) where

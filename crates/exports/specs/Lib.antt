@@ -14,3 +14,6 @@ pub mod PutCommand
 pub mod Pass
 pub mod TraceLists
 pub mod Unique
+pub mod ExportsLaws
+pub mod PartLaws
+pub mod PassLaws

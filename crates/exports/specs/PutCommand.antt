@@ -20,7 +20,7 @@ use Rattle.encode.specs.declared.Encoded.the-variants.{Written, Forbidden, Outp
 use Rattle.udid.specs.declared.Udid.{Udid}
 use Rattle.arp.specs.Requests.{protocolFor, messageOf}
 use Rattle.arp.specs.declared.command.Command.the-variants.{Nothing, Prepare, GetUdid, Assign}
-use Rattle.arp.proofs.RequestLaws.{Unsendable, listed-exactly}
+use Rattle.arp.specs.RequestLaws.{Unsendable, listed-exactly}
 use Rattle.exports.specs.Codec.{told, WrotePairs}
 use Rattle.exports.specs.Commands.{commandOf}
 use Rattle.exports.specs.Pairs.{pairsOf}

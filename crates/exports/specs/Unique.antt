@@ -4,7 +4,7 @@ use Prim.Native.Nat.{ℕ}
 use mathlib.Core.Path.{_≡_, sym, ap, _∙_}
 use mathlib.Core.Bool.{Bool}
 use mathlib.Core.List.{List}
-use Rattle.decode.proofs.Theorems.{one-outcome}
+use Rattle.decode.specs.OutcomeLaws.{one-outcome}
 use Rattle.exports.specs.Codec.{toldDecoded, ReadSymbols}
 use Rattle.exports.specs.declared.answer.HbDecoded.{HbDecoded}
 

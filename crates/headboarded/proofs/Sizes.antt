@@ -12,7 +12,7 @@ use Rattle.step.specs.declared.answer.Decoded.{Decoded}
 use Rattle.step.specs.declared.answer.Decoded.the-variants.{Forbidden, BufferTooShort}
 use Rattle.step.specs.Run.{decodedBy}
 use Rattle.step.specs.Handed.{sentLength, receivedLength}
-use Rattle.step.proofs.Sizes.{sizes}
+use Rattle.step.specs.SizeLaws.{sizes}
 use Rattle.decode.specs.Outcome.{short, answered}
 use Rattle.encode.specs.declared.Encoded.{Encoded}
 use Rattle.encode.specs.declared.Encoded.the-variants.{Written}

@@ -2,3 +2,4 @@ pub mod Choice
 pub mod ChoiceLaws
 pub mod Onto
 pub mod Each
+pub mod ListLaws

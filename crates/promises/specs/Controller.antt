@@ -38,14 +38,14 @@ use Rattle.arp.specs.declared.lookup.Found.the-variants as found
 use Rattle.arp.specs.declared.state.Binding.{Binding}
 use Rattle.arp.specs.declared.state.Binding.the-variants.{Open, Bound, Claimed}
 use Rattle.arp.specs.declared.state.Controller.{Controller}
-use Rattle.arp.proofs.Assigned.{step-claimed, lookup-acknowledged}
-use Rattle.arp.proofs.ByHistory.{again-below, again-limit, ReplyOf, replied-exactly, assigned-exactly, hands-out, refused-exactly, full-exactly}
-use Rattle.arp.proofs.ByHistory as history
-use Rattle.arp.proofs.Hearing.{reply-is-decode, assign-is-decode, next-prepare-is-decode, next-reply-is-decode}
-use Rattle.arp.proofs.OneStep.{assign-symbols}
-use Rattle.arp.proofs.Reach.{good-run, invariant}
-use Rattle.arp.proofs.Replayed.{all-told, lookup-told, start-hands-prepare, start-pool, before-first-start-21, idle-21, state-21-exactly, not-started}
-use Rattle.arp.proofs.TraceLaws.{prepare-whatever, get-row}
+use Rattle.arp.specs.AssignedLaws.{step-claimed, lookup-acknowledged}
+use Rattle.arp.specs.StoryLaws.{again-below, again-limit, ReplyOf, replied-exactly, assigned-exactly, hands-out, refused-exactly, full-exactly}
+use Rattle.arp.specs.StoryLaws as history
+use Rattle.arp.specs.HeardLaws.{reply-is-decode, assign-is-decode, next-prepare-is-decode, next-reply-is-decode}
+use Rattle.arp.specs.OneStepLaws.{assign-symbols}
+use Rattle.arp.specs.HistoryLaws.{good-run, invariant}
+use Rattle.arp.specs.ReplayLaws.{all-told, lookup-told, start-hands-prepare, start-pool, before-first-start-21, idle-21, state-21-exactly, not-started}
+use Rattle.arp.specs.TraceLaws.{prepare-whatever, get-row}
 
 -- ---- 21
 

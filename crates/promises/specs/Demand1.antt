@@ -29,10 +29,10 @@ use Rattle.step.specs.Paper.{paper}
 use Rattle.step.specs.Run.{decodedBy}
 use Rattle.step.specs.declared.answer.Decoded.{Decoded}
 use Rattle.step.specs.declared.answer.Decoded.the-variants.{Done}
-use Rattle.step.proofs.Theorems as step
+use Rattle.step.specs.AnswersLaws as step
 use Rattle.decode.specs.Outcome.{short, Outcome}
-use Rattle.decode.proofs.Entry.{roomy}
-use Rattle.decode.proofs.Theorems as decode
+use Rattle.decode.specs.EntryLaws.{roomy}
+use Rattle.decode.specs.OutcomeLaws as decode
 
 -- ---- the encoder
 

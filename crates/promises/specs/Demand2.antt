@@ -22,9 +22,9 @@ use Rattle.step.specs.declared.answer.Decoded.{Decoded}
 use Rattle.step.specs.declared.answer.Decoded.the-variants.{Done}
 use Rattle.step.specs.Handed.{sentData, receivedData}
 use Rattle.step.specs.Answers.{summary, Carries}
-use Rattle.step.proofs.Theorems as step
+use Rattle.step.specs.AnswersLaws as step
 use Rattle.decode.specs.Outcome.{short, Outcome}
-use Rattle.decode.proofs.Theorems as decode
+use Rattle.decode.specs.OutcomeLaws as decode
 use Rattle.promises.specs.Demand1.{long-cases}
 
 -- a message as the encoder is given it: its command and data are bytes

@@ -6,6 +6,3 @@ pub mod Refusals
 pub mod Demand3
 pub mod Controller
 pub mod Steps
-pub mod Exports
-pub mod ExportedParts
-pub mod ExportedPasses

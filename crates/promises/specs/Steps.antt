@@ -28,10 +28,10 @@ use Rattle.arp.specs.declared.command.Command.{Command}
 use Rattle.arp.specs.declared.command.Command.the-variants.{Nothing, Prepare, GetUdid, Assign, Ended, NoneFree, Abandoned, NotOutstanding}
 use Rattle.arp.specs.declared.state.Controller.{Controller}
 use Rattle.arp.specs.declared.state.Stepped.{Stepped}
-use Rattle.arp.proofs.Hearing.{gives-exactly, six-exactly}
-use Rattle.arp.proofs.OneStep as arp
-use Rattle.arp.proofs.OneResult.{same-trace, six-or-not, six-once, Reply, reply-or-not, seventeen, continues-both, ends-both, binds-both, replies-both, chosen-one}
-use Rattle.arp.proofs.Reach.{PendingIn, good-run}
+use Rattle.arp.specs.HeardLaws.{gives-exactly, six-exactly}
+use Rattle.arp.specs.OneStepLaws as arp
+use Rattle.arp.specs.OneResultLaws.{same-trace, six-or-not, six-once, Reply, reply-or-not, seventeen, continues-both, ends-both, binds-both, replies-both, chosen-one}
+use Rattle.arp.specs.HistoryLaws.{PendingIn, good-run}
 
 -- r is what comes of the state s and the trace tr
 pub record Steps (s : Controller) (tr : List ℕ) (r : Stepped) : Type 0 where

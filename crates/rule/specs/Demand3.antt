@@ -27,7 +27,7 @@ use Rattle.targets.specs.Members.{Pairs}
 use Rattle.targets.specs.RecordLaws.{length-map}
 use Rattle.targets.specs.ReplyLaws.{Sized}
 use Rattle.targets.specs.Admission.{Differ, FixedApart, FixedFree, AdmittedTargets}
-use Rattle.arp.proofs.Sound.{open-all}
+use Rattle.arp.specs.SoundLaws.{open-all}
 use Rattle.arp.specs.Bindings.{openSlot, boundTo}
 use Rattle.arp.specs.Controller.{stepped, started, newController}
 use Rattle.arp.specs.declared.command.Command.the-variants.{Prepare}

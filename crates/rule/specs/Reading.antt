@@ -22,7 +22,7 @@ use Rattle.udid.specs.Udids.{sameUdid, value}
 use Rattle.udid.specs.UdidLaws.{same-refl, same-equal, other-udid}
 use Rattle.udid.specs.declared.Udid.{Udid}
 use Rattle.arbitration.specs.Among.{Among}
-use Rattle.arp.proofs.Sound.{held-same, held-other, open-all}
+use Rattle.arp.specs.SoundLaws.{held-same, held-other, open-all}
 use Rattle.arp.specs.Bindings.{openSlot, heldAt}
 use Rattle.arp.specs.declared.state.Binding.{Binding}
 use Rattle.arp.specs.declared.state.Binding.the-variants.{Open, Bound, Claimed}

@@ -27,7 +27,7 @@ use Rattle.arp.specs.Bindings.{openSlot, heldAt, boundTo, findFrom, freed, slot
 use Rattle.arp.specs.Controller.{handed, asked, chosen, issued, replied, afterPrepare, afterGet, byCommand, stepped}
 use Rattle.arp.specs.Heard.{sendByte, blockRead, blockWrite}
 use Rattle.arp.specs.Requests.{messageOf, traceOf}
-use Rattle.arp.proofs.TraceLaws.{valid-prepare, valid-get, prepare-accepted, prepare-nobody, get-reply, get-nobody, assign-whole}
+use Rattle.arp.specs.TraceLaws.{valid-prepare, valid-get, prepare-accepted, prepare-nobody, get-reply, get-nobody, assign-whole}
 use Rattle.arp.specs.declared.command.Command.{Command}
 use Rattle.arp.specs.declared.command.Command.the-variants.{Prepare, GetUdid, Assign, Ended}
 use Rattle.arp.specs.declared.state.Controller.{Controller}

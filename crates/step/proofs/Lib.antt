@@ -1,16 +1,1 @@
-pub mod Tests
-pub mod Runs
 pub mod Loops
-pub mod Leads
-pub mod Forward
-pub mod Reverse
-pub mod Roomy
-pub mod Completion
-pub mod Members
-pub mod Places
-pub mod DataLaws
-pub mod PecByte
-pub mod Cuts
-pub mod Decides
-pub mod Theorems
-pub mod Sizes

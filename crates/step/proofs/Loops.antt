@@ -15,7 +15,7 @@ use Rattle.step.specs.Fits.{fits}
 use Rattle.step.specs.Move.{move}
 use Rattle.step.specs.Refusal.{why}
 use Rattle.step.specs.Run.{run, byteCount}
-use Rattle.step.proofs.Runs.{run-fits, run-stops}
+use Rattle.step.specs.RunLaws.{run-fits, run-stops}
 
 module _ (sh : Shape) (p : Bool) (s : List ℕ) (d : Decoder) (i : ℕ) where
   pub turn : i < length s → fits sh d (getD s i 0) ≡ true → run sh p d i (drop i s) ≡ run sh p (move sh p d (getD s i 0)) (i + 1) (drop (i + 1) s)

@@ -1,4 +1,4 @@
-use Rattle.decode.proofs.Entry.{outcome-forbidden, outcome-short, asks-sent, asks-received, outcome-read}
+use Rattle.decode.specs.EntryLaws.{outcome-forbidden, outcome-short, asks-sent, asks-received, outcome-read}
 use mathlib.Core.Path.{_≡_, sym, _∙_}
 use borrow.Author.Needs.{needs}
 use Rattle.decode.proofs.decode.Statement.{statement}

@@ -4,7 +4,7 @@ use mathlib.Core.List.{List}
 use native.Mathlib.Omega.{arith}
 use lib.ListN.{length, take, drop}
 use denote.Ref.{now}
-use Rattle.arp.proofs.Sending.{get-sent}
+use Rattle.arp.specs.SendingLaws.{get-sent}
 use Rattle.arp.specs.Requests.{traceOf}
 use Rattle.arp.specs.declared.command.Command.the-variants.{GetUdid}
 use Rattle.lists.specs.Each.{all-bytes}

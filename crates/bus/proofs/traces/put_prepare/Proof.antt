@@ -4,7 +4,7 @@ use mathlib.Core.List.{[]}
 use native.Mathlib.Omega.{arith}
 use lib.ListN.{length-set}
 use denote.Ref.{now}
-use Rattle.arp.proofs.Sending.{prepare-sent}
+use Rattle.arp.specs.SendingLaws.{prepare-sent}
 use Rattle.bus.specs.TurnLaws.{prepare-nobody, prepare-all, prepare-length}
 use Rattle.bus.proofs.Laws.{four}
 use borrow.Author.Needs.{needs}

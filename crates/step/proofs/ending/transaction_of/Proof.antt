@@ -1,4 +1,4 @@
-use Rattle.step.proofs.Tests.{transaction-is}
+use Rattle.step.specs.TestLaws.{transaction-is}
 use borrow.Author.Needs.{needs}
 use Rattle.step.proofs.ending.transaction_of.Statement.{statement}
 use Rattle.step.proofs.ending.transaction_of.Tie as tie

@@ -1,4 +1,4 @@
-use Rattle.step.proofs.Tests.{first-is}
+use Rattle.step.specs.TestLaws.{first-is}
 use borrow.Author.Tests.{not-true, not-false}
 use mathlib.Core.Bool.{true, false}
 use mathlib.Core.Path.{_≡_, refl, sym, ap, _∙_}

@@ -1,4 +1,4 @@
-use Rattle.step.proofs.Tests.{no-read}
+use Rattle.step.specs.TestLaws.{no-read}
 use Rattle.lists.specs.Choice.{not}
 use mathlib.Core.Bool.{Bool}
 use mathlib.Core.Path.{_≡_, sym, ap, _∙_}

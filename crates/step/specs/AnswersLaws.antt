@@ -23,11 +23,11 @@ use Rattle.step.specs.Run.{run, concluded, decodedBy}
 use Rattle.step.specs.Handed.{sentData, receivedData}
 use Rattle.step.specs.Paper.{paper}
 use Rattle.step.specs.Answers.{CutAt, Member, Fits, summary, Breaks, OtherPec, Answers}
-use Rattle.step.proofs.Runs.{run-append, run-fits, run-stops}
-use Rattle.step.proofs.Members.{member-runs, fits-back, fits-runs}
-use Rattle.step.proofs.Places.{not-more, nothing-follows}
-use Rattle.step.proofs.Cuts.{cut-number}
-use Rattle.step.proofs.Decides as Decides
+use Rattle.step.specs.RunLaws.{run-append, run-fits, run-stops}
+use Rattle.step.specs.MemberLaws.{member-runs, fits-back, fits-runs}
+use Rattle.step.specs.PlaceLaws.{not-more, nothing-follows}
+use Rattle.step.specs.CutLaws.{cut-number}
+use Rattle.step.specs.DecideLaws as Decides
 
 -- an answer from its number and what comes with it
 abbrev numbered : Decoded → ℕ → ℕ → Decoded

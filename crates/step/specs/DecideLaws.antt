@@ -30,13 +30,13 @@ use Rattle.step.specs.BytesInLaws.{byte-count-is}
 use Rattle.step.specs.Run.{run, byteCount, transaction, isCut, finish, concluded, decodedBy}
 use Rattle.step.specs.Handed.{sentPlace, receivedPlace, lows, sentData, receivedData}
 use Rattle.step.specs.Answers.{Whole, CutAt, Member, Fits, summary, Breaks, OtherPec, Carries, Answers}
-use Rattle.step.proofs.Runs.{never, not-both, same-state}
-use Rattle.step.proofs.Forward.{endState}
-use Rattle.step.proofs.Reverse.{reverse, trace-is}
-use Rattle.step.proofs.Members.{whole-runs, cut-runs, is-end, count-nack, cut-back, fits-back, member-runs, member-back, fits-runs}
-use Rattle.step.proofs.DataLaws.{sent-is, received-is, fields-are}
-use Rattle.step.proofs.PecByte.{pec-byte}
-use Rattle.step.proofs.Places.{Stopped, stops, stops-at, one-more, not-more, nothing-follows}
+use Rattle.step.specs.RunLaws.{never, not-both, same-state}
+use Rattle.step.specs.ForwardLaws.{endState}
+use Rattle.step.specs.ReverseLaws.{reverse, trace-is}
+use Rattle.step.specs.MemberLaws.{whole-runs, cut-runs, is-end, count-nack, cut-back, fits-back, member-runs, member-back, fits-runs}
+use Rattle.step.specs.DataLaws.{sent-is, received-is, fields-are}
+use Rattle.step.specs.PecByteLaws.{pec-byte}
+use Rattle.step.specs.PlaceLaws.{Stopped, stops, stops-at, one-more, not-more, nothing-follows}
 
 -- the answer with its data
 abbrev Right : ℕ → Shape → Bool → List ℕ → Decoded → Type 0

@@ -20,9 +20,9 @@ use Rattle.trace.specs.ShapeLaws.{Sane}
 use Rattle.step.specs.Run.{dataLength, transaction}
 use Rattle.step.specs.Handed.{countPlaces, sentPlace, receivedPlace, lows}
 use Rattle.step.specs.Answers.{summary}
-use Rattle.step.proofs.Tests.{low}
-use Rattle.step.proofs.Forward.{half-is, endState}
-use Rattle.step.proofs.Reverse.{trace-is}
+use Rattle.step.specs.TestLaws.{low}
+use Rattle.step.specs.ForwardLaws.{half-is, endState}
+use Rattle.step.specs.ReverseLaws.{trace-is}
 
 lows-acked : (s on : List ℕ) → Bytes s → lows (length s) (acked s ++ on) ≡ s
 lows-acked [] on h = refl

@@ -29,10 +29,10 @@ use Rattle.step.specs.Next.{toReadData, toRead, afterWrite, toData, toSe
 use Rattle.step.specs.Fits.{ackAt, firstFits, commandFits, fitsSlot}
 use Rattle.step.specs.Move.{at, moveSlot}
 use Rattle.step.specs.Run.{run}
-use Rattle.step.proofs.Runs.{run-append, run-from}
-use Rattle.step.proofs.Leads.{noController, noTarget, leads-run, leads-byte}
-use Rattle.step.proofs.Forward.{to-data, to-read-data, target-ack, datas, count-one, count-test, backs, count-read}
-use Rattle.step.proofs.Roomy.{AtCount, Roomy, least-of-le}
+use Rattle.step.specs.RunLaws.{run-append, run-from}
+use Rattle.step.specs.LeadLaws.{noController, noTarget, leads-run, leads-byte}
+use Rattle.step.specs.ForwardLaws.{to-data, to-read-data, target-ack, datas, count-one, count-test, backs, count-read}
+use Rattle.step.specs.RoomyLaws.{AtCount, Roomy, least-of-le}
 
 zeros : (k : ℕ) → Bytes (replicate k 0)
 zeros zero = tt

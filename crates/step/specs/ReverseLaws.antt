@@ -32,9 +32,9 @@ use Rattle.step.specs.Move.{moveSlot, moveDue, move}
 use Rattle.step.specs.Refusal.{why}
 use Rattle.step.specs.Run.{run, directionOf}
 use Rattle.step.specs.Answers.{Whole}
-use Rattle.step.proofs.Tests.{low}
-use Rattle.step.proofs.Runs.{never, other, same-state}
-use Rattle.step.proofs.Forward.{ack-is}
+use Rattle.step.specs.TestLaws.{low}
+use Rattle.step.specs.RunLaws.{never, other, same-state}
+use Rattle.step.specs.ForwardLaws.{ack-is}
 
 -- the count of a counted part, else what stood there
 abbrev countOr : Part → List ℕ → ℕ → ℕ

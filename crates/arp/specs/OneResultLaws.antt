@@ -26,9 +26,9 @@ use Rattle.udid.specs.Udids.{Fits, sameUdid}
 use Rattle.udid.specs.WindowLaws.{byte-at}
 use Rattle.udid.specs.declared.Udid.{Udid}
 use Rattle.wire.specs.declared.address.Address.{Address}
-use Rattle.arp.proofs.Hearing.{gives-exactly}
-use Rattle.arp.proofs.OneStep.{reply-symbols}
-use Rattle.arp.proofs.TraceLaws.{valid-get, back, get-only, get-data}
+use Rattle.arp.specs.HeardLaws.{gives-exactly}
+use Rattle.arp.specs.OneStepLaws.{reply-symbols}
+use Rattle.arp.specs.TraceLaws.{valid-get, back, get-only, get-data}
 use Rattle.arp.specs.Bindings.{heldAt}
 use Rattle.arp.specs.Heard.{blockRead, answer, receivedIn, isGet}
 use Rattle.arp.specs.OneStep.{replyTrace, Gives, Hands, Asks, Chooses, Keeps, Same, BoundAt, Unbinds, Binds, Continues, EndsWith, Replies, Alike}

@@ -1,5 +1,5 @@
 -- The step held against traces: which traces are taken for the command that is outstanding, and what each of them leads to.
--- For every trace one of the lines applies, and no line speaks of how the decoder works. proofs/OneStep.antt says them of the step itself.
+-- For every trace one of the lines applies, and no line speaks of how the decoder works. specs/OneStepLaws.antt says them of the step itself.
 use Prim.Native.Nat.{ℕ, zero, suc, _+_, _-_, _*_, _%_, _≤_, _<_}
 use mathlib.Core.Path.{_≡_, refl, sym, ap, ap₂, _∙_, subst}
 use mathlib.Core.Bool.{Bool, true, false}
@@ -22,7 +22,7 @@ use Rattle.trace.specs.LengthLaws.{trace-length}
 use Rattle.trace.specs.Shapes.{shapeOf}
 use Rattle.trace.specs.Trace.{Message, acked, trace, Valid}
 use Rattle.trace.specs.declared.transaction.Transaction.{Transaction}
-use Rattle.step.proofs.Theorems as step
+use Rattle.step.specs.AnswersLaws as step
 use Rattle.step.specs.Answers.{CutAt, Carries, summary}
 use Rattle.step.specs.Handed.{sentData, receivedData}
 use Rattle.step.specs.Run.{decodedBy}

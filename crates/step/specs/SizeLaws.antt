@@ -20,8 +20,8 @@ use Rattle.step.specs.declared.answer.Decoded.the-variants.{Done, Forbid
 use Rattle.step.specs.Run.{decodedBy}
 use Rattle.step.specs.Handed.{sentLength, receivedLength, countPlaces, sentPlace, receivedPlace}
 use Rattle.step.specs.Answers.{Carries, Answers}
-use Rattle.step.proofs.Reverse.{trace-is, after}
-use Rattle.step.proofs.Theorems.{holds}
+use Rattle.step.specs.ReverseLaws.{trace-is, after}
+use Rattle.step.specs.AnswersLaws.{holds}
 
 at-most : (least : ℕ) (a : Part) (s : List ℕ) → Small a → LengthOf least a s → counted a s ≤ 255 → length s ≤ 255
 at-most least Nothing s h l c = omega arith

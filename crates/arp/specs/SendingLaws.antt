@@ -17,7 +17,7 @@ use Rattle.encode.specs.declared.Encoded.{Encoded}
 use Rattle.encode.specs.declared.Encoded.the-variants.{Written}
 use Rattle.udid.specs.declared.Udid.{Udid}
 use Rattle.wire.specs.declared.address.Address.{Address}
-use Rattle.arp.proofs.TraceLaws.{valid-prepare, valid-get, valid-assign}
+use Rattle.arp.specs.TraceLaws.{valid-prepare, valid-get, valid-assign}
 use Rattle.arp.specs.Heard.{blockWrite}
 use Rattle.arp.specs.Requests.{protocolOf, protocolFor, messageOf, traceOf}
 use Rattle.arp.specs.declared.command.Command.{Command}

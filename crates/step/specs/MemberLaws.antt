@@ -29,12 +29,12 @@ use Rattle.step.specs.BytesIn.{bytesIn}
 use Rattle.step.specs.BytesInLaws.{byte-count-is}
 use Rattle.step.specs.Run.{run, byteCount}
 use Rattle.step.specs.Answers.{CutAt, Member, Fits}
-use Rattle.step.proofs.Runs.{never, not-both, other, same-state, run-append, run-before, run-from}
-use Rattle.step.proofs.Leads.{Leads, noController, noTarget, leads-run, leads-inside}
-use Rattle.step.proofs.Forward.{target-part, controller-part, turnState, endState, first-byte}
-use Rattle.step.proofs.Reverse.{count-back, reverse}
-use Rattle.step.proofs.Roomy.{Roomy, reached-roomy}
-use Rattle.step.proofs.Completion.{Ends, acknowledged, by-controller, by-target}
+use Rattle.step.specs.RunLaws.{never, not-both, other, same-state, run-append, run-before, run-from}
+use Rattle.step.specs.LeadLaws.{Leads, noController, noTarget, leads-run, leads-inside}
+use Rattle.step.specs.ForwardLaws.{target-part, controller-part, turnState, endState, first-byte}
+use Rattle.step.specs.ReverseLaws.{count-back, reverse}
+use Rattle.step.specs.RoomyLaws.{Roomy, reached-roomy}
+use Rattle.step.specs.CompletionLaws.{Ends, acknowledged, by-controller, by-target}
 
 -- a whole trace is read to its end
 module _ (sh : Shape) (hs : Sane sh) (p : Bool) where

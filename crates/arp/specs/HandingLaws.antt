@@ -20,7 +20,7 @@ use Rattle.udid.specs.Bytes.{udidAt}
 use Rattle.udid.specs.Udids.{isFixed}
 use Rattle.udid.specs.declared.Udid.{Udid}
 use Rattle.wire.specs.declared.address.Address.{Address}
-use Rattle.arp.proofs.Reach.{Pending, PendingIn, good-run}
+use Rattle.arp.specs.HistoryLaws.{Pending, PendingIn, good-run}
 use Rattle.arp.specs.Bindings.{findFrom, freedAt, freed, boundAt, bound}
 use Rattle.arp.specs.Controller.{handed, counted, asked, chosen, issued, replied, onReply, onPrepare, onGet, onAssign, afterPrepare, afterGet, afterAssign, byCommand, stepped}
 use Rattle.arp.specs.Heard.{sendByte, blockRead, blockWrite, answer, sentIn, receivedIn, isPrepare, isGet, isAssign}

@@ -17,8 +17,8 @@ use Rattle.trace.specs.Trace.{acked, front, firstByte, inPlace}
 use Rattle.step.specs.BytesIn.{bytesIn}
 use Rattle.step.specs.BytesInLaws.{byte-more, bytes-append, bytes-acked}
 use Rattle.step.specs.Answers.{CutAt}
-use Rattle.step.proofs.Forward.{first-byte}
-use Rattle.step.proofs.PecByte.{front-bytes}
+use Rattle.step.specs.ForwardLaws.{first-byte}
+use Rattle.step.specs.PecByteLaws.{front-bytes}
 
 -- a beginning of so many places, the last of them a byte: two places a byte but the last, which still lacks its ACK
 abbrev Odd : List ℕ → Type 0

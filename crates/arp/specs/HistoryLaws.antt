@@ -31,7 +31,7 @@ use Rattle.udid.specs.Udids.{Fits, isFixed}
 use Rattle.udid.specs.WindowLaws.{byte-at}
 use Rattle.udid.specs.declared.Udid.{Udid}
 use Rattle.wire.specs.declared.address.Address.{Address}
-use Rattle.arp.proofs.Sound.{Sound, SoundIn, Unbound, held-above, open-all, sound-open, sound-freed, sound-bound}
+use Rattle.arp.specs.SoundLaws.{Sound, SoundIn, Unbound, held-above, open-all, sound-open, sound-freed, sound-bound}
 use Rattle.arp.specs.Bindings.{heldAt, findFrom, freedAt, freed, boundAt, bound}
 use Rattle.arp.specs.Controller.{newController, started, handed, counted, asked, ownAddress, chosen, issued, replied, onReply, onPrepare, onGet, onAssign, afterPrepare, afterGet, afterAssign, byCommand, stepped}
 use Rattle.arp.specs.Heard.{sendByte, blockRead, blockWrite, answer, sentIn, receivedIn, isPrepare, isGet, isAssign, nobody}

@@ -20,11 +20,11 @@ use Rattle.udid.specs.UdidLaws.{length-udid, udid-bytes, udid-back}
 use Rattle.udid.specs.Udids.{Fits}
 use Rattle.udid.specs.declared.Udid.{Udid}
 use Rattle.wire.specs.declared.address.Address.{Address}
-use Rattle.arp.proofs.OneResult.{seventeen}
-use Rattle.arp.proofs.OneStep.{reply-symbols, assign-symbols}
-use Rattle.arp.proofs.Reach.{received-bytes}
-use Rattle.arp.proofs.Replayed.{all-told, told, step-hands-out, step-21-exactly, step-13-exactly, binding-stays, reads-assign, reads-reply, reads-reply-only}
-use Rattle.arp.proofs.TraceLaws.{valid-get, back}
+use Rattle.arp.specs.OneResultLaws.{seventeen}
+use Rattle.arp.specs.OneStepLaws.{reply-symbols, assign-symbols}
+use Rattle.arp.specs.HistoryLaws.{received-bytes}
+use Rattle.arp.specs.ReplayLaws.{all-told, told, step-hands-out, step-21-exactly, step-13-exactly, binding-stays, reads-assign, reads-reply, reads-reply-only}
+use Rattle.arp.specs.TraceLaws.{valid-get, back}
 use Rattle.arp.specs.Bindings.{heldAt}
 use Rattle.arp.specs.Controller.{stepped}
 use Rattle.arp.specs.Heard.{answer, sentIn, receivedIn}

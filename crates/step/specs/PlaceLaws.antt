@@ -19,7 +19,7 @@ use Rattle.step.specs.Fits.{fitsSlot, fitsDue, fits}
 use Rattle.step.specs.Move.{move}
 use Rattle.step.specs.Refusal.{ended, over, why}
 use Rattle.step.specs.Run.{run}
-use Rattle.step.proofs.Runs.{never, other, run-append, run-from, run-fits, run-stops}
+use Rattle.step.specs.RunLaws.{never, other, run-append, run-from, run-fits, run-stops}
 
 pub record Stopped (sh : Shape) (p : Bool) (d : Decoder) (i : ℕ) (tr : List ℕ) (a : Decoded) : Type 0 where
   pub place : ℕ

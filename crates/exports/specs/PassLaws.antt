@@ -24,15 +24,15 @@ use Rattle.arp.specs.declared.lookup.Found.the-variants as found
 use Rattle.arp.specs.declared.state.Binding.the-variants.{Open, Bound, Claimed}
 use Rattle.arp.specs.declared.state.Controller.{Controller}
 use Rattle.arp.specs.declared.state.Stepped.{Stepped}
-use Rattle.arp.proofs.Replayed.{step-21-exactly}
+use Rattle.arp.specs.ReplayLaws.{step-21-exactly}
 use Rattle.bus.specs.Run.{numberIn, firstOf}
 use Rattle.exports.specs.declared.commands.HbCommand.{HbCommand}
 use Rattle.exports.specs.declared.pass.HbFound.{HbFound}
 use Rattle.exports.specs.Commands.{commandOf, toldCommand, paper-number}
 use Rattle.exports.specs.Parts.{poolOf}
 use Rattle.exports.specs.Pass.{tracesIn, stepsOver, passOver, foundOf, toldFound}
 use Rattle.exports.specs.TraceLists.{listBytes, pass-steps}
 use Rattle.promises.specs.Controller.{lookup-0, lookup-15, lookup-16, lookup-1}
 
 -- ---- the struct of a command
 

@@ -23,8 +23,8 @@ use Rattle.step.specs.Fits.{fitsSlot, fitsDue, fits}
 use Rattle.step.specs.Move.{moveSlot, moveDue, move}
 use Rattle.step.specs.Refusal.{why}
 use Rattle.step.specs.Run.{run}
-use Rattle.step.proofs.Runs.{other, same-state}
-use Rattle.step.proofs.Reverse.{count-back}
+use Rattle.step.specs.RunLaws.{other, same-state}
+use Rattle.step.specs.ReverseLaws.{count-back}
 
 -- where the count to be received stands next, room for the least that it can be
 abbrev pub AtCount : Shape → Slot → ℕ → Type 0

@@ -17,7 +17,7 @@ use Rattle.step.specs.Run.{decodedBy}
 use Rattle.step.specs.Handed.{sentData, receivedData}
 use Rattle.step.specs.Paper.{paper}
 use Rattle.step.specs.Answers.{Answers, summary}
-use Rattle.step.proofs.Theorems as step
+use Rattle.step.specs.AnswersLaws as step
 use Rattle.decode.specs.Outcome.{short, answered, Outcome, Unread, Read, Means}
 
 module _ (protocol : ℕ) (pec : Bool) (tr sent₀ received₀ : List ℕ) where

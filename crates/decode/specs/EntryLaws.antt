@@ -16,7 +16,7 @@ use Rattle.step.specs.declared.answer.Decoded.{Decoded}
 use Rattle.step.specs.declared.answer.Decoded.the-variants.{Forbidden, BufferTooShort}
 use Rattle.step.specs.Run.{decodedBy}
 use Rattle.step.specs.Handed.{sentLength, receivedLength, sentPlace, receivedPlace, sentData, receivedData}
-use Rattle.step.proofs.Sizes.{Sizes, sizes}
+use Rattle.step.specs.SizeLaws.{Sizes, sizes}
 use Rattle.decode.specs.Outcome.{short, answered, Outcome}
 
 -- the answer, from the tests

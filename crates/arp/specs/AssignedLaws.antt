@@ -21,9 +21,9 @@ use Rattle.trace.specs.declared.transaction.Transaction.{Transaction}
 use Rattle.udid.specs.Bytes.{udidAt}
 use Rattle.udid.specs.declared.Udid.{Udid}
 use Rattle.wire.specs.declared.address.Address.{Address}
-use Rattle.arp.proofs.Reach.{Good, Pending, PendingIn, GoodState, good-run}
-use Rattle.arp.proofs.Sound.{Sound, SoundIn, Unbound, held-same, held-other, held-cases, held-above, bound-to, not-open, open-all, find-cases}
-use Rattle.arp.proofs.TraceLaws.{assign-only, assign-whole}
+use Rattle.arp.specs.HistoryLaws.{Good, Pending, PendingIn, GoodState, good-run}
+use Rattle.arp.specs.SoundLaws.{Sound, SoundIn, Unbound, held-same, held-other, held-cases, held-above, bound-to, not-open, open-all, find-cases}
+use Rattle.arp.specs.TraceLaws.{assign-only, assign-whole}
 use Rattle.arp.specs.Bindings.{openSlot, heldAt, boundTo, findFrom, freedAt, freed, slotFor, boundAt, bound}
 use Rattle.arp.specs.Controller.{newController, started, handed, counted, asked, chosen, issued, replied, onReply, onPrepare, onGet, onAssign, afterPrepare, afterGet, afterAssign, byCommand, stepped}
 use Rattle.arp.specs.Heard.{sendByte, blockRead, blockWrite, answer, sentIn, receivedIn, isPrepare, isGet, isAssign, nobody}

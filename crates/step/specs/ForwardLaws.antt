@@ -28,8 +28,8 @@ use Rattle.step.specs.declared.state.Decoder.{Decoder}
 use Rattle.step.specs.State.{to, state, fresh}
 use Rattle.step.specs.Next.{afterRead, toReadData, toRead, afterWrite, toData, toSent, afterFirst}
 use Rattle.step.specs.Fits.{ackAt, wayFits, firstFits, commandFits, countFits}
-use Rattle.step.proofs.Runs.{never}
-use Rattle.step.proofs.Leads.{Leads, noController, noTarget, leads-nil, leads-cons, leads-append, leads-byte}
+use Rattle.step.specs.RunLaws.{never}
+use Rattle.step.specs.LeadLaws.{Leads, noController, noTarget, leads-nil, leads-cons, leads-append, leads-byte}
 
 pub byte-test : {x : ℕ} → x < 256 → ltb x 256 ≡ true
 byte-test {x} h = lt-ltb x 256 h

@@ -13,13 +13,13 @@ use Rattle.lists.specs.Choice.{pick, and}
 use Rattle.lists.specs.Onto.{onto}
 use Rattle.trace.specs.ShapeLaws.{sane}
 use Rattle.trace.specs.Shapes.{shapeOf, forbidden}
-use Rattle.step.proofs.Theorems as step
+use Rattle.step.specs.AnswersLaws as step
 use Rattle.step.specs.Answers.{CutAt}
 use Rattle.step.specs.Handed.{lows, sentData, receivedData}
 use Rattle.step.specs.Paper.{paper}
 use Rattle.step.specs.declared.answer.Decoded.{Decoded}
 use Rattle.step.specs.declared.answer.Decoded.the-variants.{Done, Forbidden, BufferTooShort, NoSymbol, EndsEarly, Unexpected, NotAcknowledged, PecDiffers, AfterStop}
-use Rattle.decode.proofs.Theorems.{other-numbers}
+use Rattle.decode.specs.OutcomeLaws.{other-numbers}
 use Rattle.decode.specs.Outcome.{short, answered, Outcome}
 use Rattle.udid.specs.Bytes.{number, bytesFrom, udidAt}
 use Rattle.udid.specs.Udids.{sameUdid}

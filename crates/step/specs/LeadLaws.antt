@@ -13,7 +13,7 @@ use Rattle.step.specs.State.{state}
 use Rattle.step.specs.Fits.{fitsSlot, fits}
 use Rattle.step.specs.Move.{moveSlot, move}
 use Rattle.step.specs.Run.{run}
-use Rattle.step.proofs.Tests.{low}
+use Rattle.step.specs.TestLaws.{low}
 
 unfoldable pub Leads : (Due → Bool) → Shape → Bool → Decoder → List ℕ → Decoder → Type 0
 Leads by sh p d [] e = d ≡ e

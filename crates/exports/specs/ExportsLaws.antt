@@ -24,7 +24,7 @@ use Rattle.step.specs.declared.answer.Decoded.the-variants.{Done}
 use Rattle.step.specs.Answers.{Breaks, CutAt, Fits, Member, OtherPec, summary}
 use Rattle.step.specs.Paper.{paper}
 use Rattle.decode.specs.Outcome.{short, Outcome}
-use Rattle.decode.proofs.Theorems as decode
+use Rattle.decode.specs.OutcomeLaws as decode
 use Rattle.pool.specs.declared.Pool.{Pool}
 use Rattle.pool.specs.Start.{startingPool}
 use Rattle.targets.specs.Cases.{LengthIsBad, MalformedAt, RepeatedAt, TakenAt, None, FirstOf, Given}

@@ -31,11 +31,11 @@ use Rattle.udid.specs.UdidLaws.{other-udid}
 use Rattle.udid.specs.Udids.{Fits, sameUdid, isFixed}
 use Rattle.udid.specs.declared.Udid.{Udid}
 use Rattle.wire.specs.declared.address.Address.{Address}
-use Rattle.arp.proofs.Handing.{Handed, bound-gets, prepare-handed, get-handed, assign-handed, gets-are-sent}
-use Rattle.arp.proofs.Hearing.{length-lows}
-use Rattle.arp.proofs.Reach.{PendingIn, good-run}
-use Rattle.arp.proofs.Sound.{SoundIn, held-same, held-other, held-above, bound-to, open-all, find-cases, Nowhere}
-use Rattle.arp.proofs.TraceLaws.{valid-get, valid-assign, back, get-only, assign-is, assign-only}
+use Rattle.arp.specs.HandingLaws.{Handed, bound-gets, prepare-handed, get-handed, assign-handed, gets-are-sent}
+use Rattle.arp.specs.HeardLaws.{length-lows}
+use Rattle.arp.specs.HistoryLaws.{PendingIn, good-run}
+use Rattle.arp.specs.SoundLaws.{SoundIn, held-same, held-other, held-above, bound-to, open-all, find-cases, Nowhere}
+use Rattle.arp.specs.TraceLaws.{valid-get, valid-assign, back, get-only, assign-is, assign-only}
 use Rattle.arp.specs.Bindings.{openSlot, heldAt, boundTo, findFrom, freedAt, freed, slotFor, boundAt, bound}
 use Rattle.arp.specs.Controller.{newController, started, handed, counted, asked, chosen, issued, replied, onReply, onPrepare, onGet, onAssign, afterPrepare, afterGet, afterAssign, byCommand, stepped}
 use Rattle.arp.specs.Heard.{sendByte, blockRead, blockWrite, answer, sentIn, receivedIn, isPrepare, isGet, isAssign}

@@ -23,8 +23,8 @@ use Rattle.encode.specs.declared.Encoded.{Encoded}
 use Rattle.udid.specs.Bytes.{udidBytes}
 use Rattle.udid.specs.UdidLaws.{length-udid}
 use Rattle.udid.specs.declared.Udid.{Udid}
-use Rattle.arp.proofs.Sending.{small-protocol, assign-sent}
-use Rattle.arp.proofs.TraceLaws.{length-assign, assign-length, assign-row-small}
+use Rattle.arp.specs.SendingLaws.{small-protocol, assign-sent}
+use Rattle.arp.specs.TraceLaws.{length-assign, assign-length, assign-row-small}
 use Rattle.arp.specs.Heard.{blockWrite}
 use Rattle.arp.specs.Requests.{protocolFor, messageOf}
 use Rattle.arp.specs.declared.command.Command.{Command}
