@@ -119,6 +119,6 @@ END {
     print "- With the targets: between linear and quadratic. A target costs " each_target("library", 10) " instructions in a run with 10,"
     print "  " each_target("library", 60) " with 60 and " each_target("library", 120) " with 120 (plain C " each_target("plain", 10) ", " \
         each_target("plain", 60) " and " each_target("plain", 120) "). The traces and the controller's steps cost the same"
-    print "  for each target; the search for the winner looks at every record for each Get UDID, and the check of the list compares"
+    print "  for each target. The search for the winner looks at every record for each Get UDID. The check of the list compares"
     print "  every two records. 120 targets are more than the 107 addresses there are, so that run ends with 13."
 }
