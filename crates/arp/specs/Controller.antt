@@ -1,4 +1,4 @@
--- What the controller does, as document 01 says it.
+-- What the controller does, as the scope says it.
 use Prim.Native.Nat.{ℕ, _+_, _/_}
 use mathlib.Core.Bool.{Bool, true, false}
 use mathlib.Core.List.{List}

@@ -16,7 +16,7 @@ use Rattle.trace.specs.Shapes.{shapeOf, forbidden}
 use Rattle.step.specs.AnswersLaws as step
 use Rattle.step.specs.Answers.{CutAt}
 use Rattle.step.specs.Handed.{lows, sentData, receivedData}
-use Rattle.step.specs.Paper.{paper}
+use Rattle.step.specs.Numbers.{decodeNumber}
 use Rattle.step.specs.declared.answer.Decoded.{Decoded}
 use Rattle.step.specs.declared.answer.Decoded.the-variants.{Done, Forbidden, BufferTooShort, NoSymbol, EndsEarly, Unexpected, NotAcknowledged, PecDiffers, AfterStop}
 use Rattle.decode.specs.OutcomeLaws.{other-numbers}
@@ -58,9 +58,9 @@ unfolding answered
 answered-long protocol tr f = rw f
 
 -- decode gives a number for a trace exactly if it is that of the answer heard
-pub gives-exactly : (protocol : ℕ) (tr : List ℕ) (n v : ℕ) → forbidden protocol true ≡ false → Gives protocol tr n v ↔ (paper (answer protocol tr) ≡ (n, v))
+pub gives-exactly : (protocol : ℕ) (tr : List ℕ) (n v : ℕ) → forbidden protocol true ≡ false → Gives protocol tr n v ↔ (decodeNumber (answer protocol tr) ≡ (n, v))
 gives-exactly protocol tr n v f = (
-  λ g. ap paper (sym (heard protocol tr (g .sent₀) (g .received₀) (g .answer) (g .sent) (g .received) f (g .room-sent) (g .room-received) (g .outcome))) ∙ g .number,
+  λ g. ap decodeNumber (sym (heard protocol tr (g .sent₀) (g .received₀) (g .answer) (g .sent) (g .received) f (g .room-sent) (g .room-received) (g .outcome))) ∙ g .number,
   λ e. record {
     sent₀ = zeros;
     received₀ = zeros;

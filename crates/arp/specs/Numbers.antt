@@ -1,4 +1,4 @@
--- Document 01's number of what the controller hands out and of what the lookup answers, with the identifier that comes with it.
+-- The scope's number of what the controller hands out and of what the lookup answers, with the identifier that comes with it.
 use Prim.Native.Nat.{ℕ}
 use mathlib.Core.List.{List, [], _∷_}
 use Rattle.udid.specs.declared.Udid.{Udid}

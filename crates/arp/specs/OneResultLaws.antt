@@ -11,7 +11,7 @@ use lib.Seq.{split-at}
 use Rattle.lists.specs.Each.{Bytes}
 use Rattle.trace.specs.Shapes.{forbidden}
 use Rattle.trace.specs.declared.transaction.Transaction.{Transaction}
-use Rattle.step.specs.Paper.{paper}
+use Rattle.step.specs.Numbers.{decodeNumber}
 use Rattle.step.specs.declared.answer.Decoded.{Decoded}
 use Rattle.step.specs.declared.answer.Decoded.the-variants.{Done, Forbidden, BufferTooShort, NoSymbol, EndsEarly, Unexpected, NotAcknowledged, PecDiffers, AfterStop}
 use Rattle.pool.specs.Free.{lowestFree}
@@ -59,11 +59,11 @@ same-trace (x ∷ xs) (y ∷ ys) = go (ℕ-discrete x y) (same-trace xs ys)
 pub six-or-not : (protocol : ℕ) (tr : List ℕ) → forbidden protocol true ≡ false → ((b : ℕ) × Gives protocol tr 6 b) ⊎ ((b : ℕ) → Gives protocol tr 6 b → ⊥)
 six-or-not protocol tr f = go (answer protocol tr) refl
   where
-    other : (d : Decoded) → answer protocol tr ≡ d → (paper d .0 ≡ 6 → ⊥) → (b : ℕ) → Gives protocol tr 6 b → ⊥
-    other d e n b g = n (ap (λ (x : Decoded). paper x .0) (sym e) ∙ ap (λ (p : ℕ × ℕ). p .0) (gives-exactly protocol tr 6 b f .0 g))
+    other : (d : Decoded) → answer protocol tr ≡ d → (decodeNumber d .0 ≡ 6 → ⊥) → (b : ℕ) → Gives protocol tr 6 b → ⊥
+    other d e n b g = n (ap (λ (x : Decoded). decodeNumber x .0) (sym e) ∙ ap (λ (p : ℕ × ℕ). p .0) (gives-exactly protocol tr 6 b f .0 g))
 
     go : (d : Decoded) → answer protocol tr ≡ d → ((b : ℕ) × Gives protocol tr 6 b) ⊎ ((b : ℕ) → Gives protocol tr 6 b → ⊥)
-    go (NotAcknowledged b) e = inl (b, gives-exactly protocol tr 6 b f .1 (ap paper e))
+    go (NotAcknowledged b) e = inl (b, gives-exactly protocol tr 6 b f .1 (ap decodeNumber e))
     go (Done t) e = inr (other (Done t) e (λ k. omega arith))
     go Forbidden e = inr (other Forbidden e (λ k. omega arith))
     go BufferTooShort e = inr (other BufferTooShort e (λ k. omega arith))
@@ -88,8 +88,8 @@ reply-or-not s tr = go (answer blockRead tr) refl
     is : (xs : List ℕ) → Bytes xs → length xs ≤ 255 → tr ≡ replyTrace xs → (t : Transaction) × (answer blockRead tr ≡ Done t) × (isGet t ≡ true)
     is xs h l e = (_, ap (answer blockRead) (e ∙ sym (reply-symbols xs)) ∙ back blockRead (messageOf GetUdid xs) (valid-get xs h l) .0, refl)
 
-    other : (d : Decoded) → answer blockRead tr ≡ d → (paper d .0 ≡ 0 → ⊥) → (xs : List ℕ) → Bytes xs → length xs ≤ 255 → tr ≡ replyTrace xs → ⊥
-    other d e n xs h l q = let w = is xs h l q in n (ap (λ (x : Decoded). paper x .0) (sym e ∙ w .1))
+    other : (d : Decoded) → answer blockRead tr ≡ d → (decodeNumber d .0 ≡ 0 → ⊥) → (xs : List ℕ) → Bytes xs → length xs ≤ 255 → tr ≡ replyTrace xs → ⊥
+    other d e n xs h l q = let w = is xs h l q in n (ap (λ (x : Decoded). decodeNumber x .0) (sym e ∙ w .1))
 
     done : (t : Transaction) → answer blockRead tr ≡ Done t → (b : Bool) → isGet t ≡ b → Reply tr ⊎ ((xs : List ℕ) → Bytes xs → length xs ≤ 255 → tr ≡ replyTrace xs → ⊥)
     done t e true k = let d = get-data s tr t e in inl (receivedIn blockRead tr, d .0, d .1, get-only s tr t e k ∙ reply-symbols (receivedIn blockRead tr))

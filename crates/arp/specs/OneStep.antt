@@ -1,4 +1,4 @@
--- What a step does, in document 01's words: the traces of the three commands as symbols, the decoder's number for a trace, what is handed
+-- What a step does, in the scope's words: the traces of the three commands as symbols, the decoder's number for a trace, what is handed
 -- out, and what becomes of each address. Nothing here cites how the step is computed. promises/Controller puts the sentences together.
 use Prim.Native.Nat.{ℕ, _+_, _*_, _/_, _≤_, _<_}
 use mathlib.Core.Path.{_≡_}
@@ -8,7 +8,7 @@ use mathlib.Core.Logic.{_⊎_}
 use lib.ListN.{length, getD}
 use Rattle.wire.specs.Pec.{pecOf}
 use Rattle.trace.specs.Trace.{acked}
-use Rattle.step.specs.Paper.{paper}
+use Rattle.step.specs.Numbers.{decodeNumber}
 use Rattle.step.specs.declared.answer.Decoded.{Decoded}
 use Rattle.decode.specs.Outcome.{Outcome}
 use Rattle.pool.specs.FreeLaws.{Lowest}
@@ -52,7 +52,7 @@ pub record Gives (protocol : ℕ) (tr : List ℕ) (n v : ℕ) : Type 0 where
   pub sent : List ℕ
   pub received : List ℕ
   pub outcome : Outcome protocol true tr sent₀ received₀ answer sent received
-  pub number : paper answer ≡ (n, v)
+  pub number : decodeNumber answer ≡ (n, v)
 
 -- ---- what is handed out
 

@@ -1,4 +1,4 @@
--- Document 01's sentences on a step (specs/OneStep.antt) hold of every step, from every state: whatever was done before it.
+-- The scope's sentences on a step (specs/OneStep.antt) hold of every step, from every state: whatever was done before it.
 use Prim.Native.Nat.{ℕ, zero, suc, _+_, _/_, _≤_, _<_}
 use mathlib.Core.Path.{_≡_, refl, sym, ap, ap₂, _∙_, subst}
 use mathlib.Core.Bool.{Bool, true, false}

@@ -1,4 +1,4 @@
--- What is bound, what is claimed and what the pool has, told by the events alone, in document 01's sentences. Nothing here cites the
+-- What is bound, what is claimed and what the pool has, told by the events alone, in the scope's sentences. Nothing here cites the
 -- controller's own definitions of freeing, binding or stepping: an event is read from the command that was handed out last and from what
 -- decode answers for the trace (reading-is-decode, promises/Controller).
 use Prim.Native.Nat.{ℕ, zero, suc, _+_, _*_, _/_, _<_}
@@ -134,7 +134,7 @@ unfoldable pub table : Pool → List Event → Table
 table occupied [] = emptied (member (startingPool occupied))
 table occupied (e ∷ es) = after (member (startingPool occupied)) (happened occupied es e) (table occupied es)
 
--- document 01's number of a lookup for what an address is known for
+-- the scope's number of a lookup for what an address is known for
 abbrev pub numberOf : Binding → ℕ × List Udid
 numberOf (Bound u) = (0, u ∷ [])
 numberOf Open = (15, [])

@@ -328,7 +328,7 @@ seen-number Open = refl
 seen-number (Bound u) = refl
 seen-number Claimed = refl
 
--- in document 01's numbers: lookup answers 0 with the identifier, 15 or 16 as the events give it
+-- in the scope's numbers: lookup answers 0 with the identifier, 15 or 16 as the events give it
 pub lookup-replayed : (occupied : Pool) (es : List Event) (a : ℕ) → a < 128 → lookupNumber (lookedUp (run occupied es) a) ≡ numberOf (table occupied es .held a)
 lookup-replayed occupied es a h =
     ap (λ (b : Bool). lookupNumber (pick b found.NoAddress (seen (heldAt (run occupied es .slots) a)))) (le-ltb 127 a (omega arith))
@@ -783,7 +783,7 @@ binding-stays occupied es tr a u e n m = replayed occupied (Received tr ∷ es) 
         ∙ here
     go Other s p q = here
 
--- by the events alone, in document 01's numbers
+-- by the events alone, in the scope's numbers
 pub lookup-told : (occupied : Pool) (es : List Event) (a : ℕ) → a < 128 → lookupNumber (lookedUp (run occupied es) a) ≡ numberOf (story occupied es .known .held a)
 lookup-told occupied es a h = lookup-replayed occupied es a h ∙ ap (λ (w : Story). numberOf (w .known .held a)) (told occupied es)
 

@@ -16,7 +16,7 @@ use Rattle.wire.specs.declared.address.Address.{Address}
 use Rattle.trace.specs.DataFits.{DataFits, quick, send-byte, receive-byte, write-byte, write-word, read-byte, read-word, process-call, block-write, block-read, block-process-call}
 use Rattle.trace.specs.LengthLaws.{length-acked}
 use Rattle.trace.specs.Trace.{Message, acked}
-use Rattle.encode.specs.Encode.{number, Wrote}
+use Rattle.encode.specs.Encode.{encodeNumber, Wrote}
 use Rattle.encode.specs.EncodeMeans.{answer-1, answer-2, refusal-untouched}
 use Rattle.encode.specs.Listed.{Listed, protocol-above-10, address-above-127, direction-above-1, quick-with-pec, lacking-command, lacking-direction, forbidden-length}
 use Rattle.encode.specs.declared.Encoded.{Encoded}
@@ -108,7 +108,7 @@ listed-exactly NotOutstanding reply = (λ l. tt, λ h. no-protocol (messageOf No
 
 module _ (k : Command) (reply before : List ℕ) (r : Encoded) (after : List ℕ) (w : Wrote (protocolFor k) true (messageOf k reply) before r after) where
   -- PUT_COMMAND ANSWERS 1 EXACTLY for what is not sent
-  pub refused-exactly : (number r ≡ (1, 0)) ↔ Unsendable k reply
+  pub refused-exactly : (encodeNumber r ≡ (1, 0)) ↔ Unsendable k reply
   refused-exactly =
       let a = answer-1 (protocolFor k) true (messageOf k reply) before r after w in
       let l = listed-exactly k reply in
@@ -135,9 +135,9 @@ place-39 u a rest =
 
 -- what put_command answers for an Assign, and the output after it
 pub record AssignWritten (u : Udid) (a : ℕ) (before : List ℕ) (r : Encoded) (after : List ℕ) : Type 0 where
-  pub above-127 : 127 < a → (number r ≡ (1, 0)) × (after ≡ before)
-  pub too-short : a ≤ 127 → length before < 44 → (number r ≡ (2, 0)) × (after ≡ before)
-  pub written : a ≤ 127 → 44 ≤ length before → (number r ≡ (0, 44)) × (after ≡ assignRow u a ++ drop 44 before)
+  pub above-127 : 127 < a → (encodeNumber r ≡ (1, 0)) × (after ≡ before)
+  pub too-short : a ≤ 127 → length before < 44 → (encodeNumber r ≡ (2, 0)) × (after ≡ before)
+  pub written : a ≤ 127 → 44 ≤ length before → (encodeNumber r ≡ (0, 44)) × (after ≡ assignRow u a ++ drop 44 before)
   -- the 17th byte of the data stands at place 39
   pub address-byte : a ≤ 127 → 44 ≤ length before → getD after 39 0 ≡ 2 * a
 
@@ -145,16 +145,16 @@ module _ (u : Udid) (a : Address) (reply before : List ℕ) (r : Encoded) (after
   as-block-write : a .0 ≤ 127 → Wrote 8 true (messageOf (Assign u a) reply) before r after
   as-block-write h = subst (λ (p : ℕ). Wrote p true (messageOf (Assign u a) reply) before r after) (small-protocol u a (omega arith)) w
 
-  short : a .0 ≤ 127 → length before < 44 → number r ≡ (2, 0)
+  short : a .0 ≤ 127 → length before < 44 → encodeNumber r ≡ (2, 0)
   short h l =
       answer-2 8 true (messageOf (Assign u a) reply) before r after (as-block-write h) .1
       (small-unlisted u a reply, omega (arith, assign-length u a))
 
-  whole : a .0 ≤ 127 → 44 ≤ length before → (number r ≡ (0, 44)) × (after ≡ assignRow u (a .0) ++ drop 44 before)
+  whole : a .0 ≤ 127 → 44 ≤ length before → (encodeNumber r ≡ (0, 44)) × (after ≡ assignRow u (a .0) ++ drop 44 before)
   whole h l =
       let k = assign-length u a in
       let s = assign-sent u a reply before r after (omega arith) w (omega (arith, k)) in (
-        ap number (s .0) ∙ ap (λ (n : ℕ). (0, n)) k,
+        ap encodeNumber (s .0) ∙ ap (λ (n : ℕ). (0, n)) k,
         s .1 ∙ ap₂ (λ (x : List ℕ) (n : ℕ). x ++ drop n before) (assign-row-small u a (omega arith)) k,
       )
 
@@ -167,5 +167,5 @@ module _ (u : Udid) (a : Address) (reply before : List ℕ) (r : Encoded) (after
     address-byte = λ h l. ap (λ (x : List ℕ). getD x 39 0) (whole h l .1) ∙ place-39 u (a .0) (drop 44 before);
   }
     where
-      not-zero : number r ≡ (2, 0) → number r .0 ≡ 0 → ⊥
+      not-zero : encodeNumber r ≡ (2, 0) → encodeNumber r .0 ≡ 0 → ⊥
       not-zero e z = let q : _≡_ {A = ℕ} 0 2 = sym z ∙ ap (λ (x : ℕ × ℕ). x .0) e in omega arith

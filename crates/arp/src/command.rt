@@ -1,4 +1,4 @@
-// What the controller hands out: a command to send, or how the pass ended. specs/Numbers.antt gives document 01's number of each case.
+// What the controller hands out: a command to send, or how the pass ended. specs/Numbers.antt gives the scope's number of each case.
 use udid::Udid;
 use wire::address::Address;
 

@@ -15,7 +15,7 @@ use Rattle.rule.specs.Bus.{pass}
 use Rattle.bus.specs.Run.{refusedAnswer, ModelEnd, Leaves, refusedEnd, endedEnd, endChecked, modelEnd}
 use Rattle.bus.specs.declared.answer.ModelAnswer.{ModelAnswer}
 
--- the answer of a refusal, in the paper's number and value
+-- the answer of a refusal, in the scope's number and value
 abbrev pub Refused : Checked → ModelAnswer → Type 0
 Refused Admitted r = ⊥
 Refused BadLength r = r ≡ refusedAnswer 9 0

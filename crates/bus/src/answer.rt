@@ -1,4 +1,4 @@
-// What a model run answers. Rests on arp for how a pass ended; document 01's numbers are in arp's and targets' specs/Numbers.
+// What a model run answers. Rests on arp for how a pass ended; the scope's numbers are in arp's and targets' specs/Numbers.
 ghost use mathlib.Core.Path.{_≡_};
 ghost use Rattle.arp.specs.Numbers.{commandNumber};
 ghost use Rattle.bus.specs.Run.{numberIn, udidIn, refusedAnswer, reported};
@@ -9,7 +9,7 @@ use pool::Pool;
 use udid::Udid;
 
 pub struct ModelAnswer {
-    // Document 01's number.
+    // The scope's number.
     pub answer: u32,
     // The record that is refused.
     pub place: usize,

@@ -15,7 +15,7 @@ use Rattle.step.specs.declared.answer.Decoded.{Decoded}
 use Rattle.step.specs.declared.answer.Decoded.the-variants.{Done, Forbidden, BufferTooShort, NoSymbol, EndsEarly, Unexpected, NotAcknowledged, PecDiffers, AfterStop}
 use Rattle.step.specs.Run.{decodedBy}
 use Rattle.step.specs.Handed.{sentData, receivedData}
-use Rattle.step.specs.Paper.{paper}
+use Rattle.step.specs.Numbers.{decodeNumber}
 use Rattle.step.specs.Answers.{Answers, summary}
 use Rattle.step.specs.AnswersLaws as step
 use Rattle.decode.specs.Outcome.{short, answered, Outcome, Unread, Read, Means}
@@ -31,7 +31,7 @@ module _ (protocol : ℕ) (pec : Bool) (tr sent₀ received₀ : List ℕ) where
         h .data-received ∙ ap (λ (x : Decoded). onto (receivedData pec tr x) received₀) e ∙ sym (g .data-received),
       )
 
-  -- the outcome is what the paper says, and nothing else is
+  -- the outcome is what the scope says, and nothing else is
   abbrev Computed : Bool → Bool → Decoded → List ℕ → List ℕ → Type 0
   Computed b c a s r =
       (a ≡ pick b Forbidden (pick c BufferTooShort (decodedBy protocol (shapeOf protocol) pec tr)))
@@ -86,12 +86,12 @@ module _ (protocol : ℕ) (pec : Bool) (tr sent₀ received₀ : List ℕ) where
   )
 
 -- 1 and 2 are given exactly in their cases, in this order; every other number is the trace's
-never-unread : (protocol : ℕ) (pec : Bool) (tr : List ℕ) (n : ℕ) → n ≤ 2 → 1 ≤ n → paper (decodedBy protocol (shapeOf protocol) pec tr) .0 ≡ n → ⊥
+never-unread : (protocol : ℕ) (pec : Bool) (tr : List ℕ) (n : ℕ) → n ≤ 2 → 1 ≤ n → decodeNumber (decodedBy protocol (shapeOf protocol) pec tr) .0 ≡ n → ⊥
 never-unread protocol pec tr n h g e =
     let k = step.holds protocol (shapeOf protocol) (sane protocol) pec tr in
     go (decodedBy protocol (shapeOf protocol) pec tr) k e
   where
-    go : (a : Decoded) → Answers protocol (shapeOf protocol) pec tr a (sentData (shapeOf protocol) tr a) (receivedData pec tr a) → paper a .0 ≡ n → ⊥
+    go : (a : Decoded) → Answers protocol (shapeOf protocol) pec tr a (sentData (shapeOf protocol) tr a) (receivedData pec tr a) → decodeNumber a .0 ≡ n → ⊥
     go (Done t) k e = omega arith
     go Forbidden k e = k
     go BufferTooShort k e = k
@@ -115,28 +115,28 @@ module _ (protocol : ℕ) (pec : Bool) (tr sent₀ received₀ : List ℕ) (a : 
   first-of : (e : ℕ × ℕ) (n : ℕ) → e ≡ (n, 0) → e .0 ≡ n
   first-of e n q = ap (λ (x : ℕ × ℕ). x .0) q
 
-  pub number-1 : (paper a ≡ (1, 0)) ↔ (forbidden protocol pec ≡ true)
+  pub number-1 : (decodeNumber a ≡ (1, 0)) ↔ (forbidden protocol pec ≡ true)
   unfolding answered
-  number-1 = (λ e. there isForbidden isShort (ap paper (sym (h .answer)) ∙ e), λ e. ap paper (h .answer) ∙ back isForbidden isShort e)
+  number-1 = (λ e. there isForbidden isShort (ap decodeNumber (sym (h .answer)) ∙ e), λ e. ap decodeNumber (h .answer) ∙ back isForbidden isShort e)
     where
-      there : (b c : Bool) → paper (whole b c) ≡ (1, 0) → b ≡ true
+      there : (b c : Bool) → decodeNumber (whole b c) ≡ (1, 0) → b ≡ true
       there true c e = refl
       there false true e = absurd (omega (arith, first-of _ 1 e))
       there false false e = absurd (never-unread protocol pec tr 1 (omega arith) (omega arith) (first-of _ 1 e))
 
-      back : (b c : Bool) → b ≡ true → paper (whole b c) ≡ (1, 0)
+      back : (b c : Bool) → b ≡ true → decodeNumber (whole b c) ≡ (1, 0)
       back b c e = rw e
 
-  pub number-2 : (paper a ≡ (2, 0)) ↔ ((forbidden protocol pec ≡ false) × (short (length sent₀) (length received₀) ≡ true))
+  pub number-2 : (decodeNumber a ≡ (2, 0)) ↔ ((forbidden protocol pec ≡ false) × (short (length sent₀) (length received₀) ≡ true))
   unfolding answered
-  number-2 = (λ e. there isForbidden isShort (ap paper (sym (h .answer)) ∙ e), λ e. ap paper (h .answer) ∙ back isForbidden isShort (e .0) (e .1))
+  number-2 = (λ e. there isForbidden isShort (ap decodeNumber (sym (h .answer)) ∙ e), λ e. ap decodeNumber (h .answer) ∙ back isForbidden isShort (e .0) (e .1))
     where
-      there : (b c : Bool) → paper (whole b c) ≡ (2, 0) → (b ≡ false) × (c ≡ true)
+      there : (b c : Bool) → decodeNumber (whole b c) ≡ (2, 0) → (b ≡ false) × (c ≡ true)
       there true c e = absurd (omega (arith, first-of _ 2 e))
       there false true e = (refl, refl)
       there false false e = absurd (never-unread protocol pec tr 2 (omega arith) (omega arith) (first-of _ 2 e))
 
-      back : (b c : Bool) → b ≡ false → c ≡ true → paper (whole b c) ≡ (2, 0)
+      back : (b c : Bool) → b ≡ false → c ≡ true → decodeNumber (whole b c) ≡ (2, 0)
       back b c e g = rw (e, g)
 
   pub other-numbers : forbidden protocol pec ≡ false → short (length sent₀) (length received₀) ≡ false → a ≡ decodedBy protocol (shapeOf protocol) pec tr
@@ -148,17 +148,17 @@ module _ (protocol : ℕ) (pec : Bool) (tr sent₀ received₀ : List ℕ) (a : 
 
   -- every other number is given exactly where the trace is read and has it
   pub other-number : (n v : ℕ) → (n ≡ 1 → ⊥) → (n ≡ 2 → ⊥)
-      → (paper a ≡ (n, v)) ↔ ((forbidden protocol pec ≡ false) × (short (length sent₀) (length received₀) ≡ false) × (paper (decodedBy protocol (shapeOf protocol) pec tr) ≡ (n, v)))
+      → (decodeNumber a ≡ (n, v)) ↔ ((forbidden protocol pec ≡ false) × (short (length sent₀) (length received₀) ≡ false) × (decodeNumber (decodedBy protocol (shapeOf protocol) pec tr) ≡ (n, v)))
   unfolding answered
-  other-number n v one two = (λ e. there isForbidden isShort (ap paper (sym (h .answer)) ∙ e), λ k. ap paper (other-numbers (k .0) (k .1)) ∙ k .2)
+  other-number n v one two = (λ e. there isForbidden isShort (ap decodeNumber (sym (h .answer)) ∙ e), λ k. ap decodeNumber (other-numbers (k .0) (k .1)) ∙ k .2)
     where
-      there : (b c : Bool) → paper (whole b c) ≡ (n, v) → (b ≡ false) × (c ≡ false) × (paper (decodedBy protocol (shapeOf protocol) pec tr) ≡ (n, v))
+      there : (b c : Bool) → decodeNumber (whole b c) ≡ (n, v) → (b ≡ false) × (c ≡ false) × (decodeNumber (decodedBy protocol (shapeOf protocol) pec tr) ≡ (n, v))
       there true c e = absurd (one (sym (ap (λ (x : ℕ × ℕ). x .0) e)))
       there false true e = absurd (two (sym (ap (λ (x : ℕ × ℕ). x .0) e)))
       there false false e = (refl, refl, e)
 
 -- a refusal changes no byte of either buffer
-no-data : (protocol : ℕ) (pec : Bool) (tr l : List ℕ) (a : Decoded) → (paper a .0 ≡ 0 → ⊥) → (onto (sentData (shapeOf protocol) tr a) l ≡ l) × (onto (receivedData pec tr a) l ≡ l)
+no-data : (protocol : ℕ) (pec : Bool) (tr l : List ℕ) (a : Decoded) → (decodeNumber a .0 ≡ 0 → ⊥) → (onto (sentData (shapeOf protocol) tr a) l ≡ l) × (onto (receivedData pec tr a) l ≡ l)
 no-data protocol pec tr l (Done t) n = absurd (n refl)
 no-data protocol pec tr l Forbidden n = (refl, refl)
 no-data protocol pec tr l BufferTooShort n = (refl, refl)
@@ -170,7 +170,7 @@ no-data protocol pec tr l (PecDiffers k) n = (refl, refl)
 no-data protocol pec tr l (AfterStop k) n = (refl, refl)
 
 pub refusal-changes-nothing : (protocol : ℕ) (pec : Bool) (tr sent₀ received₀ : List ℕ) (a : Decoded) (s r : List ℕ) → Outcome protocol pec tr sent₀ received₀ a s r
-    → (paper a .0 ≡ 0 → ⊥) → (s ≡ sent₀) × (r ≡ received₀)
+    → (decodeNumber a .0 ≡ 0 → ⊥) → (s ≡ sent₀) × (r ≡ received₀)
 refusal-changes-nothing protocol pec tr sent₀ received₀ a s r h n =
     (h .data-sent ∙ no-data protocol pec tr sent₀ a n .0, h .data-received ∙ no-data protocol pec tr received₀ a n .1)
 

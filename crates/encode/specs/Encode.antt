@@ -13,11 +13,11 @@ use Rattle.trace.specs.Allowed.{allowed}
 use Rattle.encode.specs.declared.Encoded.{Encoded}
 use Rattle.encode.specs.declared.Encoded.the-variants.{Written, Forbidden, OutputTooShort}
 
--- the paper's number of an answer, and what comes with it
-abbrev pub number : Encoded → ℕ × ℕ
-number (Written n) = (0, n)
-number Forbidden = (1, 0)
-number OutputTooShort = (2, 0)
+-- the scope's number of an answer, and what comes with it
+abbrev pub encodeNumber : Encoded → ℕ × ℕ
+encodeNumber (Written n) = (0, n)
+encodeNumber Forbidden = (1, 0)
+encodeNumber OutputTooShort = (2, 0)
 
 -- what a caller gives
 abbrev pub message : ℕ → ℕ → ℕ → List ℕ → List ℕ → Message

@@ -19,7 +19,7 @@ use Rattle.trace.specs.Allowed.{allowed}
 use Rattle.trace.specs.ValidLaws.{allowed-valid, valid-allowed}
 use Rattle.encode.specs.declared.Encoded.{Encoded}
 use Rattle.encode.specs.declared.Encoded.the-variants.{Written, Forbidden, OutputTooShort}
-use Rattle.encode.specs.Encode.{number, message, refused, encoded, symbolsOf, Wrote}
+use Rattle.encode.specs.Encode.{encodeNumber, message, refused, encoded, symbolsOf, Wrote}
 use Rattle.encode.specs.Listed.{Listed, protocol-above-10, quick-with-pec}
 use Rattle.encode.specs.ListedLaws.{refused-listed, listed-refused}
 
@@ -132,38 +132,38 @@ written-valid protocol pec t room n c s r = (
   λ h. written-exactly protocol pec t room n .1 (unlisted-valid protocol pec t c s r .1 (h .0, h .1, h .2), h .3, h .4),
 )
 
--- ---- the paper's numbers, and the output
+-- ---- the scope's numbers, and the output
 
-number-one : (r : Encoded) → number r ≡ (1, 0) → r ≡ Forbidden
+number-one : (r : Encoded) → encodeNumber r ≡ (1, 0) → r ≡ Forbidden
 number-one (Written n) e = let z : _≡_ {A = ℕ} 0 1 = ap (λ (x : ℕ × ℕ). x .0) e in absurd (omega arith)
 number-one Forbidden e = refl
 number-one OutputTooShort e = let z : _≡_ {A = ℕ} 2 1 = ap (λ (x : ℕ × ℕ). x .0) e in absurd (omega arith)
 
-number-two : (r : Encoded) → number r ≡ (2, 0) → r ≡ OutputTooShort
+number-two : (r : Encoded) → encodeNumber r ≡ (2, 0) → r ≡ OutputTooShort
 number-two (Written n) e = let z : _≡_ {A = ℕ} 0 2 = ap (λ (x : ℕ × ℕ). x .0) e in absurd (omega arith)
 number-two Forbidden e = let z : _≡_ {A = ℕ} 1 2 = ap (λ (x : ℕ × ℕ). x .0) e in absurd (omega arith)
 number-two OutputTooShort e = refl
 
-number-zero : (r : Encoded) (n : ℕ) → number r ≡ (0, n) → r ≡ Written n
+number-zero : (r : Encoded) (n : ℕ) → encodeNumber r ≡ (0, n) → r ≡ Written n
 number-zero (Written m) n e = ap (λ (x : ℕ × ℕ). Written (x .1)) e
 number-zero Forbidden n e = let z : _≡_ {A = ℕ} 1 0 = ap (λ (x : ℕ × ℕ). x .0) e in absurd (omega arith)
 number-zero OutputTooShort n e = let z : _≡_ {A = ℕ} 2 0 = ap (λ (x : ℕ × ℕ). x .0) e in absurd (omega arith)
 
 module _ (protocol : ℕ) (pec : Bool) (t : Message) (before : List ℕ) (r : Encoded) (after : List ℕ) (w : Wrote protocol pec t before r after) where
-  pub answer-1 : (number r ≡ (1, 0)) ↔ Listed protocol pec t
+  pub answer-1 : (encodeNumber r ≡ (1, 0)) ↔ Listed protocol pec t
   answer-1 =
       let f = forbidden-exactly protocol pec t (length before) in
-      (λ e. f .0 (sym (w .answer) ∙ number-one r e), λ l. ap number (w .answer ∙ f .1 l))
+      (λ e. f .0 (sym (w .answer) ∙ number-one r e), λ l. ap encodeNumber (w .answer ∙ f .1 l))
 
-  pub answer-2 : (number r ≡ (2, 0)) ↔ ((Listed protocol pec t → ⊥) × (length before < length (trace (shapeOf protocol) pec t)))
+  pub answer-2 : (encodeNumber r ≡ (2, 0)) ↔ ((Listed protocol pec t → ⊥) × (length before < length (trace (shapeOf protocol) pec t)))
   answer-2 =
       let f = too-short-exactly protocol pec t (length before) in
-      (λ e. f .0 (sym (w .answer) ∙ number-two r e), λ h. ap number (w .answer ∙ f .1 h))
+      (λ e. f .0 (sym (w .answer) ∙ number-two r e), λ h. ap encodeNumber (w .answer ∙ f .1 h))
 
-  pub answer-0 : (n : ℕ) → (number r ≡ (0, n)) ↔ ((Listed protocol pec t → ⊥) × (n ≡ length (trace (shapeOf protocol) pec t)) × (n ≤ length before))
+  pub answer-0 : (n : ℕ) → (encodeNumber r ≡ (0, n)) ↔ ((Listed protocol pec t → ⊥) × (n ≡ length (trace (shapeOf protocol) pec t)) × (n ≤ length before))
   answer-0 n =
       let f = written-exactly protocol pec t (length before) n in
-      (λ e. f .0 (sym (w .answer) ∙ number-zero r n e), λ h. ap number (w .answer ∙ f .1 h))
+      (λ e. f .0 (sym (w .answer) ∙ number-zero r n e), λ h. ap encodeNumber (w .answer ∙ f .1 h))
 
 -- what is written: the trace at the front, and behind it what was there
 pub front-is-trace : (protocol : ℕ) (pec : Bool) (t : Message) (before : List ℕ) (n : ℕ) (after : List ℕ) → Wrote protocol pec t before (Written n) after
@@ -177,7 +177,7 @@ front-is-trace protocol pec t before n after w =
 
 -- a refusal changes no element
 pub refusal-untouched : (protocol : ℕ) (pec : Bool) (t : Message) (before : List ℕ) (r : Encoded) (after : List ℕ) → Wrote protocol pec t before r after
-    → (number r .0 ≡ 0 → ⊥) → after ≡ before
+    → (encodeNumber r .0 ≡ 0 → ⊥) → after ≡ before
 refusal-untouched protocol pec t before (Written n) after w z = absurd (z refl)
 refusal-untouched protocol pec t before Forbidden after w z = w .output
 refusal-untouched protocol pec t before OutputTooShort after w z = w .output

@@ -1,4 +1,4 @@
--- Refusal 1, case by case as the paper lists it, on protocol numbers. Nothing here says how it is computed.
+-- Refusal 1, case by case as the scope lists it, on protocol numbers. Nothing here says how it is computed.
 use mathlib.Core.Path.{_≡_}
 use mathlib.Core.Bool.{Bool, true}
 use Prim.Native.Nat.{ℕ, _≤_, _<_}

@@ -7,6 +7,6 @@ use Rattle.exports.specs.declared.check.HbChecked.{HbChecked}
 abbrev pub checkedOf : ℕ → ℕ → HbChecked
 checkedOf n i = record { answer = n; place = i }
 
--- the paper's number and value
+-- the scope's number and value
 abbrev pub toldChecked : Checked → HbChecked
 toldChecked c = checkedOf (answerOf c .number) (answerOf c .value)

@@ -8,10 +8,10 @@ use Rattle.lists.specs.Onto.{onto}
 use Rattle.trace.specs.Shapes.{shapeOf}
 use Rattle.trace.specs.Trace.{Message, trace}
 use Rattle.encode.specs.declared.Encoded.{Encoded}
-use Rattle.encode.specs.Encode.{number, encoded, symbolsOf}
+use Rattle.encode.specs.Encode.{encodeNumber, encoded, symbolsOf}
 use Rattle.step.specs.declared.answer.Decoded.{Decoded}
 use Rattle.step.specs.declared.answer.Decoded.the-variants.{Done, Forbidden, BufferTooShort, NoSymbol, EndsEarly, Unexpected, NotAcknowledged, PecDiffers, AfterStop}
-use Rattle.step.specs.Paper.{paper}
+use Rattle.step.specs.Numbers.{decodeNumber}
 use Rattle.decode.specs.Outcome.{Outcome}
 use Rattle.exports.specs.declared.answer.HbDecoded.{HbDecoded}
 use Rattle.exports.specs.declared.codec.HbWritten.{HbWritten}
@@ -21,7 +21,7 @@ abbrev pub answerOf : ℕ → ℕ → HbWritten
 answerOf a n = record { answer = a; symbols = n }
 
 abbrev pub told : Encoded → HbWritten
-told r = answerOf (number r .0) (number r .1)
+told r = answerOf (encodeNumber r .0) (encodeNumber r .1)
 
 pub record WrotePairs (protocol : ℕ) (pec : Bool) (t : Message) (before : List ℕ) (r : HbWritten) (after : List ℕ) : Type 0 where
   pub answer : r ≡ told (encoded protocol pec t (length before / 2))
@@ -58,17 +58,17 @@ toldDecoded (NotAcknowledged byte) = refusalOf 6 byte
 toldDecoded (PecDiffers place) = refusalOf 7 place
 toldDecoded (AfterStop place) = refusalOf 8 place
 
--- those are the paper's
-pub paper-is : (a : Decoded) → (toldDecoded a .answer, toldDecoded a .value) ≡ paper a
-paper-is (Done t) = refl
-paper-is Forbidden = refl
-paper-is BufferTooShort = refl
-paper-is (NoSymbol place) = refl
-paper-is (EndsEarly len) = refl
-paper-is (Unexpected place) = refl
-paper-is (NotAcknowledged byte) = refl
-paper-is (PecDiffers place) = refl
-paper-is (AfterStop place) = refl
+-- those are the scope's
+pub told-number : (a : Decoded) → (toldDecoded a .answer, toldDecoded a .value) ≡ decodeNumber a
+told-number (Done t) = refl
+told-number Forbidden = refl
+told-number BufferTooShort = refl
+told-number (NoSymbol place) = refl
+told-number (EndsEarly len) = refl
+told-number (Unexpected place) = refl
+told-number (NotAcknowledged byte) = refl
+told-number (PecDiffers place) = refl
+told-number (AfterStop place) = refl
 
 -- a call of the decoder on symbols tr: the answer as numbers of an outcome of decode
 pub record ReadSymbols (protocol : ℕ) (pec : Bool) (tr sent₀ received₀ : List ℕ) (h : HbDecoded) (sent received : List ℕ) : Type 0 where

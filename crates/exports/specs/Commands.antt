@@ -29,13 +29,13 @@ toldCommand Abandoned gets = saidOf 5 14 noUdid 0 gets
 toldCommand NotOutstanding gets = saidOf 6 21 noUdid 0 0
 toldCommand Nothing gets = saidOf 7 0 noUdid 0 gets
 
--- the answer is the paper's number, 0 where there is none
-pub paper-number : (k : Command) (gets : ℕ) → toldCommand k gets .answer ≡ numberIn (commandNumber k)
-paper-number Prepare gets = refl
-paper-number GetUdid gets = refl
-paper-number (Assign u a) gets = refl
-paper-number Ended gets = refl
-paper-number (NoneFree u) gets = refl
-paper-number Abandoned gets = refl
-paper-number NotOutstanding gets = refl
-paper-number Nothing gets = refl
+-- the answer is the scope's number, 0 where there is none
+pub number-told : (k : Command) (gets : ℕ) → toldCommand k gets .answer ≡ numberIn (commandNumber k)
+number-told Prepare gets = refl
+number-told GetUdid gets = refl
+number-told (Assign u a) gets = refl
+number-told Ended gets = refl
+number-told (NoneFree u) gets = refl
+number-told Abandoned gets = refl
+number-told NotOutstanding gets = refl
+number-told Nothing gets = refl

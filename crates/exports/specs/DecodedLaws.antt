@@ -1,4 +1,4 @@
--- What the decoder's answer for C says: the paper's number of an outcome of decode, the transaction with 0, and zeros with a refusal.
+-- What the decoder's answer for C says: the scope's number of an outcome of decode, the transaction with 0, and zeros with a refusal.
 use mathlib.Core.Path.{_≡_, refl, sym, ap, _∙_, subst}
 use mathlib.Core.Bool.{Bool}
 use mathlib.Core.List.{List}
@@ -8,10 +8,10 @@ use native.Mathlib.Omega.{arith}
 use Rattle.trace.specs.declared.transaction.Transaction.{Transaction}
 use Rattle.step.specs.declared.answer.Decoded.{Decoded}
 use Rattle.step.specs.declared.answer.Decoded.the-variants.{Done, Forbidden, BufferTooShort, NoSymbol, EndsEarly, Unexpected, NotAcknowledged, PecDiffers, AfterStop}
-use Rattle.step.specs.Paper.{paper}
+use Rattle.step.specs.Numbers.{decodeNumber}
 use Rattle.decode.specs.Outcome.{Outcome}
 use Rattle.exports.specs.declared.answer.HbDecoded.{HbDecoded}
-use Rattle.exports.specs.Codec.{toldDecoded, paper-is, ReadSymbols}
+use Rattle.exports.specs.Codec.{toldDecoded, told-number, ReadSymbols}
 
 -- every part but the number and what comes with it is zero
 pub record OthersZero (h : HbDecoded) : Type 0 where
@@ -51,15 +51,15 @@ module _ (protocol : ℕ) (pec : Bool) (tr sent₀ received₀ : List ℕ) (h : 
   answer-is : h .answer ≡ toldDecoded (d .answer) .answer
   answer-is = ap (λ (x : HbDecoded). x .answer) (d .is-told)
 
-  -- the number and what comes with it are those of the outcome: what holds of its paper number holds of these
-  pub read-carries : (n v : ℕ) → ((h .answer ≡ n) × (h .value ≡ v)) ↔ (paper (d .answer) ≡ (n, v))
+  -- the number and what comes with it are those of the outcome: what holds of its number holds of these
+  pub read-carries : (n v : ℕ) → ((h .answer ≡ n) × (h .value ≡ v)) ↔ (decodeNumber (d .answer) ≡ (n, v))
   read-carries n v =
       let k = pair-parts (h .answer) (h .value) n v in
-      let e : _≡_ {A = ℕ × ℕ} (h .answer, h .value) (paper (d .answer)) = ap (λ (x : HbDecoded). (x .answer, x .value)) (d .is-told) ∙ paper-is (d .answer) in
+      let e : _≡_ {A = ℕ × ℕ} (h .answer, h .value) (decodeNumber (d .answer)) = ap (λ (x : HbDecoded). (x .answer, x .value)) (d .is-told) ∙ told-number (d .answer) in
       (λ q. sym e ∙ k .1 q, λ q. k .0 (e ∙ q))
 
-  pub read-number : h .answer ≡ paper (d .answer) .0
-  read-number = answer-is ∙ ap (λ (x : ℕ × ℕ). x .0) (paper-is (d .answer))
+  pub read-number : h .answer ≡ decodeNumber (d .answer) .0
+  read-number = answer-is ∙ ap (λ (x : ℕ × ℕ). x .0) (told-number (d .answer))
 
   -- a refusal's other parts
   pub read-zeros : (h .answer ≡ 0 → ⊥) → OthersZero h

@@ -1,4 +1,4 @@
--- The demands for the functions that C calls: what the contract of each hb_ function gives, in the paper's numbers and in the parts of the
+-- The demands for the functions that C calls: what the contract of each hb_ function gives, in the scope's numbers and in the parts of the
 -- structs of include/headboarded.h.
 use mathlib.Core.Path.{_≡_, refl, sym, ap, ap₂, _∙_, subst}
 use mathlib.Core.Bool.{Bool, true, false}
@@ -22,7 +22,7 @@ use Rattle.encode.specs.Listed.{Listed}
 use Rattle.encode.specs.EncodeMeans.{written-exactly, front-is-trace}
 use Rattle.step.specs.declared.answer.Decoded.the-variants.{Done}
 use Rattle.step.specs.Answers.{Breaks, CutAt, Fits, Member, OtherPec, summary}
-use Rattle.step.specs.Paper.{paper}
+use Rattle.step.specs.Numbers.{decodeNumber}
 use Rattle.decode.specs.Outcome.{short, Outcome}
 use Rattle.decode.specs.OutcomeLaws as decode
 use Rattle.pool.specs.declared.Pool.{Pool}
@@ -189,7 +189,7 @@ module _ (protocol pec : ℕ) (tr sent₀ received₀ : List ℕ) (h : HbDecoded
   pub hb-decode-outcome : Outcome protocol (truth pec) tr sent₀ received₀ (d .answer) sent received
   hb-decode-outcome = d .outcome
 
-  pub hb-decode-number : (n v : ℕ) {P : Type 0} → (paper (d .answer) ≡ (n, v)) ↔ P → ((h .answer ≡ n) × (h .value ≡ v)) ↔ P
+  pub hb-decode-number : (n v : ℕ) {P : Type 0} → (decodeNumber (d .answer) ≡ (n, v)) ↔ P → ((h .answer ≡ n) × (h .value ≡ v)) ↔ P
   hb-decode-number n v e = Iff·trans (read-carries protocol (truth pec) tr sent₀ received₀ h sent received d n v) e
 
   -- 1: a protocol above 10, or Quick with PEC
@@ -209,20 +209,20 @@ module _ (protocol pec : ℕ) (tr sent₀ received₀ : List ℕ) (h : HbDecoded
       ↔ (((10 < protocol) ⊎ ((protocol ≡ 0) × (pec ≡ 0 → ⊥)) → ⊥) × ((length sent₀ < 255) ⊎ (length received₀ < 255)))
   hb-decode-2 = hb-decode-number 2 0 (there, back)
     where
-      one : (paper (d .answer) ≡ (1, 0)) ↔ (forbidden protocol (truth pec) ≡ true)
+      one : (decodeNumber (d .answer) ≡ (1, 0)) ↔ (forbidden protocol (truth pec) ≡ true)
       one = decode.number-1 protocol (truth pec) tr sent₀ received₀ (d .answer) sent received (d .outcome)
 
-      two : (paper (d .answer) ≡ (2, 0)) ↔ ((forbidden protocol (truth pec) ≡ false) × (short (length sent₀) (length received₀) ≡ true))
+      two : (decodeNumber (d .answer) ≡ (2, 0)) ↔ ((forbidden protocol (truth pec) ≡ false) × (short (length sent₀) (length received₀) ≡ true))
       two = decode.number-2 protocol (truth pec) tr sent₀ received₀ (d .answer) sent received (d .outcome)
 
-      there : paper (d .answer) ≡ (2, 0) → ((10 < protocol) ⊎ ((protocol ≡ 0) × (pec ≡ 0 → ⊥)) → ⊥) × ((length sent₀ < 255) ⊎ (length received₀ < 255))
+      there : decodeNumber (d .answer) ≡ (2, 0) → ((10 < protocol) ⊎ ((protocol ≡ 0) × (pec ≡ 0 → ⊥)) → ⊥) × ((length sent₀ < 255) ⊎ (length received₀ < 255))
       there e = (λ c. omega (arith, hb-decode-1 .1 c .0, hb-decode-number 2 0 Iff·rfl .1 e .0), short-cases (length sent₀) (length received₀) .0 (two .0 e .1))
 
       allowed : ((10 < protocol) ⊎ ((protocol ≡ 0) × (pec ≡ 0 → ⊥)) → ⊥) → (b : Bool) → forbidden protocol (truth pec) ≡ b → b ≡ false
       allowed n true e = absurd (n (hb-decode-1 .0 (hb-decode-number 1 0 one .1 e)))
       allowed n false e = refl
 
-      back : ((10 < protocol) ⊎ ((protocol ≡ 0) × (pec ≡ 0 → ⊥)) → ⊥) × ((length sent₀ < 255) ⊎ (length received₀ < 255)) → paper (d .answer) ≡ (2, 0)
+      back : ((10 < protocol) ⊎ ((protocol ≡ 0) × (pec ≡ 0 → ⊥)) → ⊥) × ((length sent₀ < 255) ⊎ (length received₀ < 255)) → decodeNumber (d .answer) ≡ (2, 0)
       back (n, c) = two .1 (allowed n (forbidden protocol (truth pec)) refl, short-cases (length sent₀) (length received₀) .1 c)
 
   abbrev sh : Shape

@@ -28,7 +28,7 @@ use Rattle.arp.specs.ReplayLaws.{step-21-exactly}
 use Rattle.bus.specs.Run.{numberIn, firstOf}
 use Rattle.exports.specs.declared.commands.HbCommand.{HbCommand}
 use Rattle.exports.specs.declared.pass.HbFound.{HbFound}
-use Rattle.exports.specs.Commands.{commandOf, toldCommand, paper-number}
+use Rattle.exports.specs.Commands.{commandOf, toldCommand, number-told}
 use Rattle.exports.specs.Parts.{poolOf}
 use Rattle.exports.specs.Pass.{tracesIn, stepsOver, passOver, foundOf, toldFound}
 use Rattle.exports.specs.TraceLists.{listBytes, pass-steps}
@@ -44,7 +44,7 @@ pub record CommandParts (r : HbCommand) (kind answer address gets high low : ℕ
   pub high-is : r .udid .high ≡ high
   pub low-is : r .udid .low ≡ low
 
--- the kind of each command, the paper's number of an end, the address of an Assign, the Get UDIDs so far, and the identifier of an Assign or
+-- the kind of each command, the scope's number of an end, the address of an Assign, the Get UDIDs so far, and the identifier of an Assign or
 -- of the target that found no address. With 21 all but the kind and the number is zero
 abbrev pub CommandIs : Command → ℕ → HbCommand → Type 0
 CommandIs Prepare gets r = CommandParts r 0 0 0 gets 0 0
@@ -73,7 +73,7 @@ command-parts k gets r e = subst (CommandIs k gets) (sym e) (go k)
 pub command-21 : (k : Command) (gets : ℕ) (r : HbCommand) → r ≡ toldCommand k gets → (r .answer ≡ 21) ↔ (commandNumber k ≡ (21, []) ∷ [])
 command-21 k gets r e = (
   λ q. there k (sym (ap (λ (x : HbCommand). x .answer) e) ∙ q),
-  λ q. ap (λ (x : HbCommand). x .answer) e ∙ paper-number k gets ∙ ap numberIn q,
+  λ q. ap (λ (x : HbCommand). x .answer) e ∙ number-told k gets ∙ ap numberIn q,
 )
   where
     there : (k : Command) → toldCommand k gets .answer ≡ 21 → commandNumber k ≡ (21, []) ∷ []

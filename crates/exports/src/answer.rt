@@ -3,7 +3,7 @@ ghost use mathlib.Core.Path.{_≡_};
 ghost use Rattle.exports.specs.Codec.{refusalOf, toldDecoded};
 use step::answer::Decoded;
 
-// The paper's number; the place, length or byte that comes with a refusal; and the transaction with 0. Whatever an answer lacks is 0.
+// The scope's number; the place, length or byte that comes with a refusal; and the transaction with 0. Whatever an answer lacks is 0.
 #[repr(C)]
 pub struct HbDecoded {
     pub answer: u32,

@@ -8,7 +8,7 @@ use pool::Pool;
 use targets::admit;
 use targets::admit::Checked;
 
-// The paper's number, 0 for a list that is not refused, and the record that is.
+// The scope's number, 0 for a list that is not refused, and the record that is.
 #[repr(C)]
 pub struct HbChecked {
     pub answer: u32,

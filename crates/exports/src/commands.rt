@@ -33,7 +33,7 @@ fn command_of(kind: u8, u: Udid, a: Address) -> Command
     Command::Nothing
 }
 
-// What the controller handed out: the kind, the paper's number of an end, the identifier and the address of an Assign or the
+// What the controller handed out: the kind, the scope's number of an end, the identifier and the address of an Assign or the
 // identifier that found no address, and the Get UDIDs sent so far. Whatever a kind lacks is 0. With 21 all is 0 but the kind, which
 // says which case it is, and the answer.
 #[repr(C)]

@@ -8,7 +8,7 @@ use last::last_data;
 use trace::transaction::Transaction;
 use wire::address::Address;
 
-// The paper's number, and how many bytes were copied.
+// The scope's number, and how many bytes were copied.
 #[repr(C)]
 pub struct HbPart {
     pub answer: u32,

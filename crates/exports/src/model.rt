@@ -8,7 +8,7 @@ use crate::parts::identifier;
 use bus::run::run_model;
 use pool::Pool;
 
-// The paper's number; how many addresses are bound, and the Get UDIDs sent; the record of a refusal; with 13 the identifier that
+// The scope's number; how many addresses are bound, and the Get UDIDs sent; the record of a refusal; with 13 the identifier that
 // asked; and the bound addresses. Whatever an answer lacks is 0.
 #[repr(C)]
 pub struct HbModel {

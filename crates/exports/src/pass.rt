@@ -87,7 +87,7 @@ pub extern "C" fn hb_pass(low: u64, high: u64, traces: &[u8]) -> HbCommand
     told_command(k, state.gets)
 }
 
-// The paper's number, and with 0 the identifier that is bound at the address.
+// The scope's number, and with 0 the identifier that is bound at the address.
 #[repr(C)]
 pub struct HbFound {
     pub answer: u32,

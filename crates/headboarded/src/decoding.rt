@@ -16,7 +16,7 @@ use step::answer::Decoded;
 use text::write::put;
 use trace::transaction::Transaction;
 
-// A number of document 01, and where.
+// A number of the scope, and where.
 fn put_place(out: &mut [u8], at: usize, number: &[u8], n: usize) -> usize {
     let a = put(out, at, number);
     let b = put_number(out, a, n as u64);

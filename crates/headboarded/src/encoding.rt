@@ -58,7 +58,7 @@ fn read_fields(line: &[u8], from: usize) -> Fields {
     }
 }
 
-// The trace of a transaction, or document 01's number of a refusal.
+// The trace of a transaction, or the scope's number of a refusal.
 fn put_trace(h: Head, f: Fields, sent: &[u8], received: &[u8], out: &mut [u8], at: usize) -> usize {
     let mut trace = [0u16; 525];
     let e = encode::encode(

@@ -1,4 +1,4 @@
--- What is handed back, case by case as the paper lists them, and that the contract leaves nothing else.
+-- What is handed back, case by case as the scope lists them, and that the contract leaves nothing else.
 use mathlib.Core.Path.{_≡_, refl, sym, _∙_}
 use mathlib.Core.Bool.{Bool, true, false}
 use mathlib.Core.List.{List, [], _∷_}

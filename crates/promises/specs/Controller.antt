@@ -1,5 +1,5 @@
 -- The controller over its states: 21, the number of a lookup, what holds in every state that is reached, the commands on the wire, and the
--- controller told by its history. What a single step does is said sentence by sentence in Steps. commandNumber and lookupNumber give the paper's
+-- controller told by its history. What a single step does is said sentence by sentence in Steps. commandNumber and lookupNumber give the scope's
 -- number of each case.
 use Prim.Native.Nat.{ℕ, _*_, _≤_, _<_}
 use mathlib.Core.Path.{_≡_, refl, sym, ap, _∙_}
@@ -238,7 +238,7 @@ reading-is-decode tr = record {
 
 pub record ByHistory (occupied : Pool) (es : List Event) : Type 0 where
   -- what each address is known for, what the pool has, how many Get UDIDs were handed out in this pass and what was handed out last are what the
-  -- events alone give, in document 01's sentences
+  -- events alone give, in the scope's sentences
   pub told : Told occupied es
   -- lookup answers 0 with the identifier, 15 or 16 as the events give it, and 1 for a number above 127
   pub lookup : (a : ℕ) → a < 128 → lookupNumber (lookedUp (run occupied es) a) ≡ numberOf (story occupied es .known .held a)

@@ -20,12 +20,12 @@ use Rattle.trace.specs.Trace.{Message, trace, Valid}
 use Rattle.trace.specs.declared.shape.Shape.{Shape}
 use Rattle.trace.specs.declared.transaction.Transaction.{Transaction}
 use Rattle.encode.specs.declared.Encoded.{Encoded}
-use Rattle.encode.specs.Encode.{number, Wrote}
+use Rattle.encode.specs.Encode.{encodeNumber, Wrote}
 use Rattle.encode.specs.Listed.{Listed}
 use Rattle.encode.specs.EncodeMeans as encode
 use Rattle.step.specs.Answers.{Breaks, CutAt, Fits, Member, OtherPec, summary}
 use Rattle.step.specs.BytesInLaws.{byte-more}
-use Rattle.step.specs.Paper.{paper}
+use Rattle.step.specs.Numbers.{decodeNumber}
 use Rattle.step.specs.Run.{decodedBy}
 use Rattle.step.specs.declared.answer.Decoded.{Decoded}
 use Rattle.step.specs.declared.answer.Decoded.the-variants.{Done}
@@ -38,18 +38,18 @@ use Rattle.decode.specs.OutcomeLaws as decode
 
 module _ (protocol : ℕ) (pec : Bool) (t : Message) (before : List ℕ) (r : Encoded) (after : List ℕ) (w : Wrote protocol pec t before r after) where
   -- 0: none of the listed cases, and room for the trace, whose length comes with it
-  pub encode-0 : (n : ℕ) → (number r ≡ (0, n)) ↔ ((Listed protocol pec t → ⊥) × (n ≡ length (trace (shapeOf protocol) pec t)) × (n ≤ length before))
+  pub encode-0 : (n : ℕ) → (encodeNumber r ≡ (0, n)) ↔ ((Listed protocol pec t → ⊥) × (n ≡ length (trace (shapeOf protocol) pec t)) × (n ≤ length before))
   encode-0 n = encode.answer-0 protocol pec t before r after w n
 
   -- 1: the listed cases
-  pub encode-1 : (number r ≡ (1, 0)) ↔ Listed protocol pec t
+  pub encode-1 : (encodeNumber r ≡ (1, 0)) ↔ Listed protocol pec t
   encode-1 = encode.answer-1 protocol pec t before r after w
 
   -- 2: none of them, and an output shorter than the trace
-  pub encode-2 : (number r ≡ (2, 0)) ↔ ((Listed protocol pec t → ⊥) × (length before < length (trace (shapeOf protocol) pec t)))
+  pub encode-2 : (encodeNumber r ≡ (2, 0)) ↔ ((Listed protocol pec t → ⊥) × (length before < length (trace (shapeOf protocol) pec t)))
   encode-2 = encode.answer-2 protocol pec t before r after w
 
-  pub encode-refusal : (number r .0 ≡ 0 → ⊥) → after ≡ before
+  pub encode-refusal : (encodeNumber r .0 ≡ 0 → ⊥) → after ≡ before
   encode-refusal n = encode.refusal-untouched protocol pec t before r after w n
 
 -- ---- the decoder
@@ -104,14 +104,14 @@ module _ (protocol : ℕ) (pec : Bool) (tr sent₀ received₀ : List ℕ) (a : 
   shape = shapeOf protocol
 
   -- 1: a protocol above 10, or Quick with PEC
-  pub decode-1 : (paper a ≡ (1, 0)) ↔ ((10 < protocol) ⊎ ((protocol ≡ 0) × (pec ≡ true)))
+  pub decode-1 : (decodeNumber a ≡ (1, 0)) ↔ ((10 < protocol) ⊎ ((protocol ≡ 0) × (pec ≡ true)))
   decode-1 =
       let n = decode.number-1 protocol pec tr sent₀ received₀ a sent received o in
       let f = forbidden-cases protocol pec in
       (λ e. f .0 (n .0 e), λ h. n .1 (f .1 h))
 
   -- 2: none of these, and a buffer of under 255 bytes
-  pub decode-2 : (paper a ≡ (2, 0)) ↔ ((protocol ≤ 10) × (protocol ≡ 0 → pec ≡ false) × ((length sent₀ < 255) ⊎ (length received₀ < 255)))
+  pub decode-2 : (decodeNumber a ≡ (2, 0)) ↔ ((protocol ≤ 10) × (protocol ≡ 0 → pec ≡ false) × ((length sent₀ < 255) ⊎ (length received₀ < 255)))
   decode-2 =
       let n = decode.number-2 protocol pec tr sent₀ received₀ a sent received o in
       let t = taken-cases protocol pec in
@@ -131,37 +131,37 @@ module _ (protocol : ℕ) (pec : Bool) (tr sent₀ received₀ : List ℕ) (a : 
   not-short r = long-cases (length sent₀) (length received₀) .1 (r .sent-long, r .received-long)
 
   -- every number but 1 and 2 is the trace's, where it is read
-  by-trace : (P : Type 0) (n v : ℕ) → (n ≡ 1 → ⊥) → (n ≡ 2 → ⊥) → (paper (decodedBy protocol shape pec tr) ≡ (n, v)) ↔ P
-      → (paper a ≡ (n, v)) ↔ (Entered protocol pec sent₀ received₀ × P)
+  by-trace : (P : Type 0) (n v : ℕ) → (n ≡ 1 → ⊥) → (n ≡ 2 → ⊥) → (decodeNumber (decodedBy protocol shape pec tr) ≡ (n, v)) ↔ P
+      → (decodeNumber a ≡ (n, v)) ↔ (Entered protocol pec sent₀ received₀ × P)
   by-trace P n v one two e =
       let q = decode.other-number protocol pec tr sent₀ received₀ a sent received o n v one two in
       (λ k. (let z = q .0 k in (entered (z .0) (z .1), e .0 (z .2))), λ k. q .1 (not-forbidden (k .0), not-short (k .0), e .1 (k .1)))
 
   -- 3: a number above 259 at the first place that does not fit
-  pub decode-3 : (place : ℕ) → (paper a ≡ (3, place)) ↔ (Entered protocol pec sent₀ received₀ × (Breaks shape pec tr place × (259 < getD tr place 0)))
+  pub decode-3 : (place : ℕ) → (decodeNumber a ≡ (3, place)) ↔ (Entered protocol pec sent₀ received₀ × (Breaks shape pec tr place × (259 < getD tr place 0)))
   decode-3 k = by-trace _ 3 k (λ e. omega (arith, e)) (λ e. omega (arith, e)) (step.number-3 protocol shape (sane protocol) pec tr k)
 
   -- 4: the trace ends while it still fits
-  pub decode-4 : (len : ℕ) → (paper a ≡ (4, len)) ↔ (Entered protocol pec sent₀ received₀ × (Fits shape pec tr × (Member shape pec tr → ⊥) × (len ≡ length tr)))
+  pub decode-4 : (len : ℕ) → (decodeNumber a ≡ (4, len)) ↔ (Entered protocol pec sent₀ received₀ × (Fits shape pec tr × (Member shape pec tr → ⊥) × (len ≡ length tr)))
   decode-4 n = by-trace _ 4 n (λ e. omega (arith, e)) (λ e. omega (arith, e)) (step.number-4 protocol shape (sane protocol) pec tr n)
 
   -- 5: a symbol that can't stand there, and not after the last STOP
-  pub decode-5 : (place : ℕ) → (paper a ≡ (5, place))
+  pub decode-5 : (place : ℕ) → (decodeNumber a ≡ (5, place))
       ↔ (Entered protocol pec sent₀ received₀ × (Breaks shape pec tr place × (Member shape pec (take place tr) → ⊥) × (getD tr place 0 ≤ 259)))
   decode-5 k = by-trace _ 5 k (λ e. omega (arith, e)) (λ e. omega (arith, e)) (step.number-5 protocol shape (sane protocol) pec tr k)
 
   -- 6: the target gave NACK where ACK is due, then STOP, then the end
-  pub decode-6 : (byte : ℕ) → (paper a ≡ (6, byte)) ↔ (Entered protocol pec sent₀ received₀ × CutAt shape pec tr byte)
+  pub decode-6 : (byte : ℕ) → (decodeNumber a ≡ (6, byte)) ↔ (Entered protocol pec sent₀ received₀ × CutAt shape pec tr byte)
   decode-6 b = by-trace _ 6 b (λ e. omega (arith, e)) (λ e. omega (arith, e)) (step.number-6 protocol shape (sane protocol) pec tr b)
 
   -- and which byte that is, by the length of the trace alone: two places a byte, one for START, one for a repeated START, NACK and STOP
-  pub decode-6-byte : (byte : ℕ) → paper a ≡ (6, byte) → byte ≡ (length tr - 4) / 2
+  pub decode-6-byte : (byte : ℕ) → decodeNumber a ≡ (6, byte) → byte ≡ (length tr - 4) / 2
   decode-6-byte b e =
       let q = decode.other-number protocol pec tr sent₀ received₀ a sent received o 6 b (λ z. omega (arith, z)) (λ z. omega (arith, z)) .0 e in
       step.which-byte protocol shape (sane protocol) pec tr b (q .2)
 
   -- 7: the whole trace fits, to its end, but the PEC differs
-  pub decode-7 : (place : ℕ) → (paper a ≡ (7, place)) ↔ (Entered protocol pec sent₀ received₀ × OtherPec shape pec tr place)
+  pub decode-7 : (place : ℕ) → (decodeNumber a ≡ (7, place)) ↔ (Entered protocol pec sent₀ received₀ × OtherPec shape pec tr place)
   decode-7 k = by-trace _ 7 k (λ e. omega (arith, e)) (λ e. omega (arith, e)) (step.number-7 protocol shape (sane protocol) pec tr k)
 
   -- and that place is where the PEC stands
@@ -169,18 +169,18 @@ module _ (protocol : ℕ) (pec : Bool) (tr sent₀ received₀ : List ℕ) (a : 
   decode-7-place k q = step.pec-there protocol shape (sane protocol) pec tr k q
 
   -- 8: symbols after STOP
-  pub decode-8 : (place : ℕ) → (paper a ≡ (8, place))
+  pub decode-8 : (place : ℕ) → (decodeNumber a ≡ (8, place))
       ↔ (Entered protocol pec sent₀ received₀ × ((place < length tr) × Member shape pec (take place tr) × (getD tr place 0 ≤ 259)))
   decode-8 k = by-trace _ 8 k (λ e. omega (arith, e)) (λ e. omega (arith, e)) (step.number-8 protocol shape (sane protocol) pec tr k)
 
   -- 0: the trace of a message, with its fields and its data
-  pub decode-0 : (paper a ≡ (0, 0)) ↔ (Entered protocol pec sent₀ received₀ × HandedOver protocol pec tr sent₀ received₀ a sent received)
+  pub decode-0 : (decodeNumber a ≡ (0, 0)) ↔ (Entered protocol pec sent₀ received₀ × HandedOver protocol pec tr sent₀ received₀ a sent received)
   decode-0 = (there, back)
     where
-      numbered : (paper a ≡ (0, 0)) ↔ (Entered protocol pec sent₀ received₀ × ((m : Message) × Valid shape m × (tr ≡ trace shape pec m)))
+      numbered : (decodeNumber a ≡ (0, 0)) ↔ (Entered protocol pec sent₀ received₀ × ((m : Message) × Valid shape m × (tr ≡ trace shape pec m)))
       numbered = by-trace _ 0 0 (λ e. omega (arith, e)) (λ e. omega (arith, e)) (step.number-0 protocol shape (sane protocol) pec tr)
 
-      there : paper a ≡ (0, 0) → Entered protocol pec sent₀ received₀ × HandedOver protocol pec tr sent₀ received₀ a sent received
+      there : decodeNumber a ≡ (0, 0) → Entered protocol pec sent₀ received₀ × HandedOver protocol pec tr sent₀ received₀ a sent received
       there e =
           let n = numbered .0 e in
           let r = n .0 in
@@ -208,15 +208,15 @@ module _ (protocol : ℕ) (pec : Bool) (tr sent₀ received₀ : List ℕ) (a : 
             },
           )
 
-      back : Entered protocol pec sent₀ received₀ × HandedOver protocol pec tr sent₀ received₀ a sent received → paper a ≡ (0, 0)
+      back : Entered protocol pec sent₀ received₀ × HandedOver protocol pec tr sent₀ received₀ a sent received → decodeNumber a ≡ (0, 0)
       back (r, w) = numbered .1 (r, (w .message, covered-valid protocol (w .message) (w .covered), w .is))
 
-  pub decode-refusal : (paper a .0 ≡ 0 → ⊥) → (sent ≡ sent₀) × (received ≡ received₀)
+  pub decode-refusal : (decodeNumber a .0 ≡ 0 → ⊥) → (sent ≡ sent₀) × (received ≡ received₀)
   decode-refusal n = decode.refusal-changes-nothing protocol pec tr sent₀ received₀ a sent received o n
 
 -- a Send Byte whose data byte the target does not acknowledge is 6 with 1, whatever that byte is
 pub send-byte-cut : (a d : ℕ) → a < 128 → d < 256 → (sent₀ received₀ : List ℕ) → 255 ≤ length sent₀ → 255 ≤ length received₀ → (r : Decoded) (sent received : List ℕ)
-    → Outcome 1 false (256 ∷ 2 * a ∷ 258 ∷ d ∷ 259 ∷ 257 ∷ []) sent₀ received₀ r sent received → paper r ≡ (6, 1)
+    → Outcome 1 false (256 ∷ 2 * a ∷ 258 ∷ d ∷ 259 ∷ 257 ∷ []) sent₀ received₀ r sent received → decodeNumber r ≡ (6, 1)
 send-byte-cut a d ha hd sent₀ received₀ ls lr r sent received o =
     decode-6 1 false (256 ∷ 2 * a ∷ 258 ∷ d ∷ 259 ∷ 257 ∷ []) sent₀ received₀ r sent received o 1 .1 (
       record { known = omega arith; quick = λ e. refl; sent-long = ls; received-long = lr },

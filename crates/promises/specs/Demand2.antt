@@ -1,4 +1,4 @@
--- Demand 2: the encoder writes the trace that the paper defines, and the decoder accepts exactly the traces that the encoder can
+-- Demand 2: the encoder writes the trace that the scope defines, and the decoder accepts exactly the traces that the encoder can
 -- write and gives back the transaction written. Stated over what one call of each promises.
 use mathlib.Core.Path.{_≡_, refl, sym, ap, _∙_, subst}
 use mathlib.Core.Bool.{Bool, true, false}

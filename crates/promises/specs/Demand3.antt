@@ -51,7 +51,7 @@ use Rattle.bus.specs.Run.{noUdid, numberIn, udidIn, entryOf, entryAt, ModelEnd,
 use Rattle.bus.specs.RunLaws.{end-checked}
 use Rattle.bus.specs.declared.answer.ModelAnswer.{ModelAnswer}
 
--- ---- the plain rule's end, in the paper's numbers
+-- ---- the plain rule's end, in the scope's numbers
 
 -- 0, or 13 with the identifier that asked
 abbrev pub numberOf : Ending → ℕ

@@ -13,8 +13,8 @@ use Rattle.wire.specs.Pec.{bitStep, pecStep, pecFrom, pecOf}
 use Rattle.trace.specs.Shapes.{shapeOf}
 use Rattle.trace.specs.Trace.{Message, trace}
 use Rattle.trace.specs.Allowed.{lengthsFit, allowed}
-use Rattle.encode.specs.Encode.{number, refused, encoded}
-use Rattle.step.specs.Paper.{paper}
+use Rattle.encode.specs.Encode.{encodeNumber, refused, encoded}
+use Rattle.step.specs.Numbers.{decodeNumber}
 use Rattle.step.specs.Run.{run, finish, decodedBy}
 use Rattle.decode.specs.Outcome.{answered}
 use Rattle.pool.specs.Counts.{count}
@@ -43,7 +43,7 @@ use Rattle.bus.specs.Run.{noUdid, numberIn, udidIn, entryAt, ModelEnd, endedEnd
 use Rattle.bus.specs.RunLaws.{end-checked}
 use Rattle.bus.specs.declared.answer.ModelAnswer.{ModelAnswer}
 
--- what the definitions give, and what the paper gives; the model's cases have a binding buffer, whatever it holds
+-- what the definitions give, and what the scope gives; the model's cases have a binding buffer, whatever it holds
 pub record Case : Type 0 where
   pub got : List ℕ → List ℕ
   pub want : List ℕ
@@ -85,14 +85,14 @@ m5 =
 
 -- Block Process Call 200 and 55 is written, without PEC and with it, into room for the longest trace; 200 and 56 is refused with 1
 abbrev blocks : Bool → ℕ → ℕ → List ℕ
-blocks p m n = pair (number (encoded 10 p (message 0x10 0x07 (replicate m 0) (replicate n 0)) 525))
+blocks p m n = pair (encodeNumber (encoded 10 p (message 0x10 0x07 (replicate m 0) (replicate n 0)) 525))
 
 abbrev pub m6 : Case
 m6 = record { got = λ b. blocks false 200 55 ++ blocks true 200 55 ++ blocks false 200 56 ++ blocks true 200 56; want = 0 ∷ 523 ∷ 0 ∷ 525 ∷ 1 ∷ 0 ∷ 1 ∷ 0 ∷ [] }
 
 -- the empty trace: 4 with 0, for each protocol without PEC and with it; Quick has none with it
 abbrev empty : ℕ → Bool → List ℕ
-empty protocol p = pair (paper (answered protocol p [] 255 255))
+empty protocol p = pair (decodeNumber (answered protocol p [] 255 255))
 
 abbrev pub m7 : Case
 m7 =

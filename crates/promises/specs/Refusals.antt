@@ -28,9 +28,9 @@ use Rattle.bus.specs.Run.{numberIn, refusedAnswer, ModelEnd, Leaves, refusedEnd
 use Rattle.bus.specs.RunLaws.{end-short, end-checked}
 use Rattle.bus.specs.declared.answer.ModelAnswer.{ModelAnswer}
 
--- the paper's number, and the record that comes with it
-abbrev pub paper : ModelAnswer → ℕ × ℕ
-paper r = (r .answer, r .place)
+-- the scope's number, and the record that comes with it
+abbrev pub modelNumber : ModelAnswer → ℕ × ℕ
+modelNumber r = (r .answer, r .place)
 
 -- ---- a pass ends with none of these numbers
 
@@ -66,12 +66,12 @@ between (Repeated i) n = (omega arith, omega arith)
 between (Taken i) n = (omega arith, omega arith)
 
 -- a refused list: the answer's number and record are those of the refusal
-refused-paper : (k : Checked) → (k ≡ Admitted → ⊥) → (occupied : Pool) (s b : List ℕ) → endChecked k occupied s b ≡ refusedEnd (answerOf k .number) (answerOf k .value) s b
-refused-paper Admitted n occupied s b = absurd (n refl)
-refused-paper BadLength n occupied s b = refl
-refused-paper (Malformed i) n occupied s b = refl
-refused-paper (Repeated i) n occupied s b = refl
-refused-paper (Taken i) n occupied s b = refl
+refused-number : (k : Checked) → (k ≡ Admitted → ⊥) → (occupied : Pool) (s b : List ℕ) → endChecked k occupied s b ≡ refusedEnd (answerOf k .number) (answerOf k .value) s b
+refused-number Admitted n occupied s b = absurd (n refl)
+refused-number BadLength n occupied s b = refl
+refused-number (Malformed i) n occupied s b = refl
+refused-number (Repeated i) n occupied s b = refl
+refused-number (Taken i) n occupied s b = refl
 
 same-pair : (k j : Checked) → _≡_ {A = ℕ × ℕ} (answerOf k .number, answerOf k .value) (answerOf j .number, answerOf j .value) → k ≡ j
 same-pair k j e =
@@ -97,7 +97,7 @@ module _ (occupied : Pool) (s b : List ℕ) (r : ModelAnswer) (s′ b′ : List 
 
   refused-end : 2048 ≤ length b → (checkedList (startingPool occupied) s ≡ Admitted → ⊥)
       → Leaves (refusedEnd (answerOf (checkedList (startingPool occupied) s) .number) (answerOf (checkedList (startingPool occupied) s) .value) s b) r s′ b′
-  refused-end h n = subst (λ (x : ModelEnd). Leaves x r s′ b′) (refused-paper (checkedList (startingPool occupied) s) n occupied s b) (checked-end h)
+  refused-end h n = subst (λ (x : ModelEnd). Leaves x r s′ b′) (refused-number (checkedList (startingPool occupied) s) n occupied s b) (checked-end h)
 
   pass-number : 2048 ≤ length b → checkedList (startingPool occupied) s ≡ Admitted → (r .answer ≡ 2) ⊎ ((9 ≤ r .answer) × (r .answer ≤ 12)) → ⊥
   pass-number h e =
@@ -105,10 +105,10 @@ module _ (occupied : Pool) (s b : List ℕ) (r : ModelAnswer) (s′ b′ : List 
       not-in-pass (pass occupied (targetsOf s) .now .command) (r .answer) (sym (ap (λ (x : ModelAnswer). x .answer) (q .answered)))
 
   -- 2: the binding buffer is under 2,048 bytes
-  pub model-2 : (paper r ≡ (2, 0)) ↔ (length b < 2048)
-  model-2 = (λ e. there e (decLt (length b) 2048), λ h. ap paper (short-end h .answered))
+  pub model-2 : (modelNumber r ≡ (2, 0)) ↔ (length b < 2048)
+  model-2 = (λ e. there e (decLt (length b) 2048), λ h. ap modelNumber (short-end h .answered))
     where
-      there : paper r ≡ (2, 0) → Dec (length b < 2048) → length b < 2048
+      there : modelNumber r ≡ (2, 0) → Dec (length b < 2048) → length b < 2048
       there e (yes h) = h
       there e (no h) = absurd (go (is-admitted (checkedList (startingPool occupied) s)))
         where
@@ -121,11 +121,11 @@ module _ (occupied : Pool) (s b : List ℕ) (r : ModelAnswer) (s′ b′ : List 
               let q = between (checkedList (startingPool occupied) s) n in
               omega (arith, q .0, ap (λ (x : ModelAnswer). x .answer) (refused-end (omega arith) n .answered), two)
 
-  -- 9, 10, 11 and 12: the buffer is long enough, and the list is what the paper lists for that number and record
-  pub model-refused : (k : Checked) → (k ≡ Admitted → ⊥) → (paper r ≡ (answerOf k .number, answerOf k .value)) ↔ ((2048 ≤ length b) × Given (startingPool occupied) s k)
+  -- 9, 10, 11 and 12: the buffer is long enough, and the list is what the scope lists for that number and record
+  pub model-refused : (k : Checked) → (k ≡ Admitted → ⊥) → (modelNumber r ≡ (answerOf k .number, answerOf k .value)) ↔ ((2048 ≤ length b) × Given (startingPool occupied) s k)
   model-refused k n = (λ e. there e (decLt (length b) 2048) (is-admitted (checkedList (startingPool occupied) s)), back)
     where
-      there : paper r ≡ (answerOf k .number, answerOf k .value) → Dec (length b < 2048) → (checkedList (startingPool occupied) s ≡ Admitted) ⊎ (checkedList (startingPool occupied) s ≡ Admitted → ⊥)
+      there : modelNumber r ≡ (answerOf k .number, answerOf k .value) → Dec (length b < 2048) → (checkedList (startingPool occupied) s ≡ Admitted) ⊎ (checkedList (startingPool occupied) s ≡ Admitted → ⊥)
           → (2048 ≤ length b) × Given (startingPool occupied) s k
       there e (yes h) c =
           absurd (omega (arith, between k n .0, ap (λ (p : ℕ × ℕ). p .0) e, ap (λ (x : ModelAnswer). x .answer) (short-end h .answered)))
@@ -133,14 +133,14 @@ module _ (occupied : Pool) (s b : List ℕ) (r : ModelAnswer) (s′ b′ : List 
           let q : r .answer ≡ answerOf k .number = ap (λ (p : ℕ × ℕ). p .0) e in
           absurd (pass-number (omega arith) a (inr (omega (arith, q, between k n .0), omega (arith, q, between k n .1))))
       there e (no h) (inr c) =
-          let q = same-pair k (checkedList (startingPool occupied) s) (sym e ∙ ap paper (refused-end (omega arith) c .answered)) in
+          let q = same-pair k (checkedList (startingPool occupied) s) (sym e ∙ ap modelNumber (refused-end (omega arith) c .answered)) in
           (omega arith, given-exactly (startingPool occupied) s k .0 q)
 
-      back : (2048 ≤ length b) × Given (startingPool occupied) s k → paper r ≡ (answerOf k .number, answerOf k .value)
+      back : (2048 ≤ length b) × Given (startingPool occupied) s k → modelNumber r ≡ (answerOf k .number, answerOf k .value)
       back (h, g) =
           let q : k ≡ checkedList (startingPool occupied) s = given-exactly (startingPool occupied) s k .1 g in
           let m = refused-end h (λ a. n (q ∙ a)) in
-          ap paper (m .answered) ∙ ap (λ (x : Checked). (answerOf x .number, answerOf x .value)) (sym q)
+          ap modelNumber (m .answered) ∙ ap (λ (x : Checked). (answerOf x .number, answerOf x .value)) (sym q)
 
   -- and then nothing that was lent has changed, and all else in the answer is zero
   pub model-untouched : (r .answer ≡ 2) ⊎ ((9 ≤ r .answer) × (r .answer ≤ 12)) → (s′ ≡ s) × (b′ ≡ b) × (r ≡ refusedAnswer (r .answer) (r .place))
@@ -160,26 +160,26 @@ module _ (occupied : Pool) (s b : List ℕ) (r : ModelAnswer) (s′ b′ : List 
 
   -- the numbers, each if and only if its case, by the bytes of the records: record i is the 18 bytes from 18 i on
   module _ (bytes : Bytes s) where
-    by-bytes : (k : Checked) → (k ≡ Admitted → ⊥) → (paper r ≡ (answerOf k .number, answerOf k .value)) ↔ ((2048 ≤ length b) × GivenByBytes (startingPool occupied) s k)
+    by-bytes : (k : Checked) → (k ≡ Admitted → ⊥) → (modelNumber r ≡ (answerOf k .number, answerOf k .value)) ↔ ((2048 ≤ length b) × GivenByBytes (startingPool occupied) s k)
     by-bytes k n =
         let m = model-refused k n in
         let g = given-bytes (startingPool occupied) s bytes k in
         (λ e. (m .0 e .0, g .0 (m .0 e .1)), λ h. m .1 (h .0, g .1 (h .1)))
 
     -- 9: over 2,160 bytes, or no multiple of 18
-    pub model-9 : (paper r ≡ (9, 0)) ↔ ((2048 ≤ length b) × ((2160 < length s) ⊎ (length s % 18 ≡ 0 → ⊥)))
+    pub model-9 : (modelNumber r ≡ (9, 0)) ↔ ((2048 ≤ length b) × ((2160 < length s) ⊎ (length s % 18 ≡ 0 → ⊥)))
     model-9 = by-bytes BadLength (λ e. let z : _≡_ {A = ℕ} 0 1 = cc e in omega arith)
 
     -- 10: the first record whose byte 16 is even or byte 17 above 1
-    pub model-10 : (i : ℕ) → (paper r ≡ (10, i)) ↔ ((2048 ≤ length b) × ((LengthIsBad s → ⊥) × FirstOf (EvenOrFlag s) (length s / 18) i))
+    pub model-10 : (i : ℕ) → (modelNumber r ≡ (10, i)) ↔ ((2048 ≤ length b) × ((LengthIsBad s → ⊥) × FirstOf (EvenOrFlag s) (length s / 18) i))
     model-10 i = by-bytes (Malformed i) (λ e. let z : _≡_ {A = ℕ} 0 1 = cc e in omega arith)
 
     -- 11: the first record whose 16 bytes of identifier are those of an earlier one
-    pub model-11 : (i : ℕ) → (paper r ≡ (11, i)) ↔ ((2048 ≤ length b) × ((LengthIsBad s → ⊥) × None (EvenOrFlag s) (length s / 18) × FirstOf (SameAsEarlier s) (length s / 18) i))
+    pub model-11 : (i : ℕ) → (modelNumber r ≡ (11, i)) ↔ ((2048 ≤ length b) × ((LengthIsBad s → ⊥) × None (EvenOrFlag s) (length s / 18) × FirstOf (SameAsEarlier s) (length s / 18) i))
     model-11 i = by-bytes (Repeated i) (λ e. let z : _≡_ {A = ℕ} 0 1 = cc e in omega arith)
 
     -- 12: the first fixed target whose address is in the starting pool or is that of an earlier fixed one
-    pub model-12 : (i : ℕ) → (paper r ≡ (12, i))
+    pub model-12 : (i : ℕ) → (modelNumber r ≡ (12, i))
         ↔ ((2048 ≤ length b) × ((LengthIsBad s → ⊥) × None (EvenOrFlag s) (length s / 18) × None (SameAsEarlier s) (length s / 18) × FirstOf (FixedOnTaken (startingPool occupied) s) (length s / 18) i))
     model-12 i = by-bytes (Taken i) (λ e. let z : _≡_ {A = ℕ} 0 1 = cc e in omega arith)
 

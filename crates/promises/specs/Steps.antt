@@ -1,4 +1,4 @@
--- A STEP OF THE CONTROLLER, sentence by sentence as document 01 has them: for every state and every trace, what the step hands out and what
+-- A STEP OF THE CONTROLLER, sentence by sentence as the scope has them: for every state and every trace, what the step hands out and what
 -- becomes of each address. The traces are written out as symbols, and the numbers are those that decode answers (arp/specs/OneStep).
 -- For every trace one of the sentences speaks, and they leave one result: one-step.
 use Prim.Native.Nat.{ℕ, _≤_, _<_}

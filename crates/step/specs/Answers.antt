@@ -1,4 +1,4 @@
--- What each answer of the decoder means, held against document 01. Nothing here says how it is computed. 256 is START, 257 STOP, 258 ACK
+-- What each answer of the decoder means, held against the scope. Nothing here says how it is computed. 256 is START, 257 STOP, 258 ACK
 -- and 259 NACK, and a number above it no symbol.
 use mathlib.Core.Path.{_≡_}
 use mathlib.Core.Bool.{Bool, true}

@@ -1,5 +1,5 @@
 -- What is proved of the decoder, for every shape whose limits make sense: so for every row of the table, and for rows yet to come.
--- specs/Answers.antt has the meaning of each answer, specs/Paper.antt its number; how it is computed stands in specs/Run.antt.
+-- specs/Answers.antt has the meaning of each answer, specs/Numbers.antt its number; how it is computed stands in specs/Run.antt.
 use mathlib.Core.Path.{_≡_, refl, sym, _∙_, ap, subst}
 use mathlib.Core.Bool.{Bool, true, false}
 use mathlib.Core.List.{List, [], _∷_, _++_}
@@ -21,7 +21,7 @@ use Rattle.step.specs.Fits.{fits}
 use Rattle.step.specs.Refusal.{why}
 use Rattle.step.specs.Run.{run, concluded, decodedBy}
 use Rattle.step.specs.Handed.{sentData, receivedData}
-use Rattle.step.specs.Paper.{paper}
+use Rattle.step.specs.Numbers.{decodeNumber}
 use Rattle.step.specs.Answers.{CutAt, Member, Fits, summary, Breaks, OtherPec, Answers}
 use Rattle.step.specs.RunLaws.{run-append, run-fits, run-stops}
 use Rattle.step.specs.MemberLaws.{member-runs, fits-back, fits-runs}
@@ -33,7 +33,7 @@ use Rattle.step.specs.DecideLaws as Decides
 abbrev numbered : Decoded → ℕ → ℕ → Decoded
 numbered a n v = getD (a ∷ Forbidden ∷ BufferTooShort ∷ NoSymbol v ∷ EndsEarly v ∷ Unexpected v ∷ NotAcknowledged v ∷ PecDiffers v ∷ AfterStop v ∷ []) n a
 
-numbered-is : (a : Decoded) → a ≡ numbered a (paper a .0) (paper a .1)
+numbered-is : (a : Decoded) → a ≡ numbered a (decodeNumber a .0) (decodeNumber a .1)
 numbered-is (Done t) = refl
 numbered-is Forbidden = refl
 numbered-is BufferTooShort = refl
@@ -44,10 +44,10 @@ numbered-is (NotAcknowledged k) = refl
 numbered-is (PecDiffers k) = refl
 numbered-is (AfterStop k) = refl
 
-of-number : (a : Decoded) (n v : ℕ) → paper a ≡ (n, v) → a ≡ numbered a n v
+of-number : (a : Decoded) (n v : ℕ) → decodeNumber a ≡ (n, v) → a ≡ numbered a n v
 of-number a n v e = numbered-is a ∙ ap (λ (q : ℕ × ℕ). numbered a (q .0) (q .1)) e
 
-done-of : (a : Decoded) → paper a .0 ≡ 0 → (t : Transaction) × (a ≡ Done t)
+done-of : (a : Decoded) → decodeNumber a .0 ≡ 0 → (t : Transaction) × (a ≡ Done t)
 done-of (Done t) e = (t, refl)
 done-of Forbidden e = absurd (omega arith)
 done-of BufferTooShort e = absurd (omega arith)
@@ -71,11 +71,11 @@ same-message num t u e s r =
     made a d c s r = cc
 
 module _ (num : ℕ) (sh : Shape) (hs : Sane sh) (p : Bool) where
-  -- the answer is what the paper says, with its data
+  -- the answer is what the scope says, with its data
   pub holds : (tr : List ℕ) → Answers num sh p tr (decodedBy num sh p tr) (sentData sh tr (decodedBy num sh p tr)) (receivedData p tr (decodedBy num sh p tr))
   holds tr = Decides.holds num sh hs p tr
 
-  -- and the paper leaves no other answer, and no other data
+  -- and the scope leaves no other answer, and no other data
   pub only : (tr : List ℕ) (a : Decoded) (s r : List ℕ) → Answers num sh p tr a s r
       → (decodedBy num sh p tr ≡ a) × (sentData sh tr (decodedBy num sh p tr) ≡ s) × (receivedData p tr (decodedBy num sh p tr) ≡ r)
   only tr a s r h = Decides.only num sh hs p tr a s r h
@@ -118,35 +118,35 @@ module _ (num : ℕ) (sh : Shape) (hs : Sane sh) (p : Bool) where
     abbrev answer : Decoded
     answer = decodedBy num sh p tr
 
-    given : (n v : ℕ) → paper answer ≡ (n, v) → Answers num sh p tr (numbered answer n v) (sentData sh tr (numbered answer n v)) (receivedData p tr (numbered answer n v))
+    given : (n v : ℕ) → decodeNumber answer ≡ (n, v) → Answers num sh p tr (numbered answer n v) (sentData sh tr (numbered answer n v)) (receivedData p tr (numbered answer n v))
     given n v e = if-and-only-if tr (numbered answer n v) .0 (of-number answer n v e)
 
-    gives : (a : Decoded) → Answers num sh p tr a (sentData sh tr a) (receivedData p tr a) → paper answer ≡ paper a
-    gives a h = ap paper (if-and-only-if tr a .1 h)
+    gives : (a : Decoded) → Answers num sh p tr a (sentData sh tr a) (receivedData p tr a) → decodeNumber answer ≡ decodeNumber a
+    gives a h = ap decodeNumber (if-and-only-if tr a .1 h)
 
-    pub number-0 : (paper answer ≡ (0, 0)) ↔ ((m : Message) × Valid sh m × (tr ≡ trace sh p m))
+    pub number-0 : (decodeNumber answer ≡ (0, 0)) ↔ ((m : Message) × Valid sh m × (tr ≡ trace sh p m))
     number-0 = (
       λ e. (let d = done-of answer (ap (λ (q : ℕ × ℕ). q .0) e) in let m = done-means tr (d .0) (d .1) in (m .0, m .1, m .2)),
-      λ w. ap paper (ap (decodedBy num sh p) (w .2) ∙ round-trip (w .0) (w .1) .0),
+      λ w. ap decodeNumber (ap (decodedBy num sh p) (w .2) ∙ round-trip (w .0) (w .1) .0),
     )
 
-    pub number-3 : (place : ℕ) → (paper answer ≡ (3, place)) ↔ (Breaks sh p tr place × (259 < getD tr place 0))
+    pub number-3 : (place : ℕ) → (decodeNumber answer ≡ (3, place)) ↔ (Breaks sh p tr place × (259 < getD tr place 0))
     number-3 k = (λ e. (let g = given 3 k e in (g .0, g .1)), λ h. gives (NoSymbol k) (h .0, h .1, refl, refl))
 
-    pub number-4 : (len : ℕ) → (paper answer ≡ (4, len)) ↔ (Fits sh p tr × (Member sh p tr → ⊥) × (len ≡ length tr))
+    pub number-4 : (len : ℕ) → (decodeNumber answer ≡ (4, len)) ↔ (Fits sh p tr × (Member sh p tr → ⊥) × (len ≡ length tr))
     number-4 n = (λ e. (let g = given 4 n e in (g .0, g .1, g .2)), λ h. gives (EndsEarly n) (h .0, h .1, h .2, refl, refl))
 
-    pub number-5 : (place : ℕ) → (paper answer ≡ (5, place)) ↔ (Breaks sh p tr place × (Member sh p (take place tr) → ⊥) × (getD tr place 0 ≤ 259))
+    pub number-5 : (place : ℕ) → (decodeNumber answer ≡ (5, place)) ↔ (Breaks sh p tr place × (Member sh p (take place tr) → ⊥) × (getD tr place 0 ≤ 259))
     number-5 k = (λ e. (let g = given 5 k e in (g .0, g .1, g .2)), λ h. gives (Unexpected k) (h .0, h .1, h .2, refl, refl))
 
-    pub number-6 : (byte : ℕ) → (paper answer ≡ (6, byte)) ↔ CutAt sh p tr byte
+    pub number-6 : (byte : ℕ) → (decodeNumber answer ≡ (6, byte)) ↔ CutAt sh p tr byte
     number-6 b = (λ e. given 6 b e .0, λ h. gives (NotAcknowledged b) (h, refl, refl))
 
     -- which byte it is, by the length of the trace alone
-    pub which-byte : (byte : ℕ) → paper answer ≡ (6, byte) → byte ≡ (length tr - 4) / 2
+    pub which-byte : (byte : ℕ) → decodeNumber answer ≡ (6, byte) → byte ≡ (length tr - 4) / 2
     which-byte b e = cut-number sh hs p tr b (number-6 b .0 e)
 
-    pub number-7 : (place : ℕ) → (paper answer ≡ (7, place)) ↔ OtherPec sh p tr place
+    pub number-7 : (place : ℕ) → (decodeNumber answer ≡ (7, place)) ↔ OtherPec sh p tr place
     number-7 k = (λ e. given 7 k e .0, λ h. gives (PecDiffers k) (h, refl, refl))
 
     -- and the symbol at that place is the PEC that differs
@@ -154,7 +154,7 @@ module _ (num : ℕ) (sh : Shape) (hs : Sane sh) (p : Bool) where
     pec-there k o =
         ap (λ (l : List ℕ). getD l k 0) (o .is) ∙ pec-found sh (o .message) (o .pec) k (o .place ∙ ap length (o .is))
 
-    pub number-8 : (place : ℕ) → (paper answer ≡ (8, place)) ↔ ((place < length tr) × Member sh p (take place tr) × (getD tr place 0 ≤ 259))
+    pub number-8 : (place : ℕ) → (decodeNumber answer ≡ (8, place)) ↔ ((place < length tr) × Member sh p (take place tr) × (getD tr place 0 ≤ 259))
     number-8 k = (λ e. (let g = given 8 k e in (g .0, g .1, g .2)), λ h. gives (AfterStop k) (h .0, h .1, h .2, refl, refl))
 
     -- the order of the numbers. After the last STOP nothing fits, so that 8 stands at the first place that is wrong
@@ -168,7 +168,7 @@ module _ (num : ℕ) (sh : Shape) (hs : Sane sh) (p : Bool) where
         }
 
     -- 3 comes before 8 at one place; before 5 it comes by number-3
-    pub three-before-eight : (place : ℕ) → place < length tr → Member sh p (take place tr) → 259 < getD tr place 0 → paper answer ≡ (3, place)
+    pub three-before-eight : (place : ℕ) → place < length tr → Member sh p (take place tr) → 259 < getD tr place 0 → decodeNumber answer ≡ (3, place)
     three-before-eight k h m g = number-3 k .1 (nothing-after k h m, g)
 
     -- 6 comes before 7: a trace that the target cut is none whose PEC differs

@@ -7,7 +7,7 @@ pub mod Run
 pub mod Handed
 pub mod BytesIn
 pub mod BytesInLaws
-pub mod Paper
+pub mod Numbers
 pub mod Answers
 pub mod TestLaws
 pub mod RunLaws

@@ -1,4 +1,4 @@
-// What the decoder answers. paper in specs/Paper.antt gives document 01's number of each case, and what comes with it.
+// What the decoder answers. decodeNumber in specs/Numbers.antt gives the scope's number of each case, and what comes with it.
 use trace::transaction::Transaction;
 
 pub enum Decoded {

@@ -1,4 +1,4 @@
--- When each refusal of a target list is given, in the words of the paper. RefusalLaws: the check answers with the case that holds.
+-- When each refusal of a target list is given, in the words of the scope. RefusalLaws: the check answers with the case that holds.
 use Prim.Native.Nat.{ℕ, _/_, _%_, _<_}
 use mathlib.Core.Path.{_≡_}
 use mathlib.Core.Bool.{true}

@@ -1,4 +1,4 @@
--- The paper's number and value for each answer of the check. A value that the paper does not give is zero.
+-- The scope's number and value for each answer of the check. A value that the scope does not give is zero.
 use Prim.Native.Nat.{ℕ}
 use Rattle.targets.specs.declared.admit.Checked.{Checked}
 use Rattle.targets.specs.declared.admit.Checked.the-variants.{Admitted, BadLength, Malformed, Repeated, Taken}

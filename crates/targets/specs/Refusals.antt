@@ -1,4 +1,4 @@
--- The check of a target list: the tests of the refusals 9 to 12, and the first record that fails one. Cases says in words of the paper
+-- The check of a target list: the tests of the refusals 9 to 12, and the first record that fails one. Cases says in words of the scope
 -- when each is given, and RefusalLaws that it is given then and only then.
 use Prim.Native.Nat.{ℕ, _/_, _%_}
 use mathlib.Core.Bool.{Bool}

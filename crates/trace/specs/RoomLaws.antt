@@ -1,4 +1,4 @@
--- The room that the encoder needs, in the numbers of the paper's last two columns: it is none exactly where the protocol, the PEC or a
+-- The room that the encoder needs, in the numbers of the scope's last two columns: it is none exactly where the protocol, the PEC or a
 -- length is refused, and else the length of the trace.
 use mathlib.Core.Path.{_≡_, refl, sym, ap, _∙_}
 use mathlib.Core.Bool.{Bool, true, false}
@@ -61,7 +61,7 @@ twice : (p : Bool) → 2 * pick p 1 0 ≡ pick p 2 0
 twice true = refl
 twice false = refl
 
--- the paper's last two columns: m bytes sent, n received, two symbols more with PEC
+-- the scope's last two columns: m bytes sent, n received, two symbols more with PEC
 pub record Room : Type 0 where
   pub quick-room : roomFor 0 false 0 0 ≡ 4
   pub send-byte-room : (p : Bool) → roomFor 1 p 1 0 ≡ 6 + pick p 2 0

@@ -1,4 +1,4 @@
--- The paper's table as it is written: for each protocol its row, without PEC and with it, and that the one definition over the shape
+-- The scope's table as it is written: for each protocol its row, without PEC and with it, and that the one definition over the shape
 -- gives it. S START, P STOP, A ACK, N NACK, 2 * a and 2 * a + 1 the address byte for writing and for reading, c the command, d sent,
 -- r received. A word is the two bytes l and h, the low one first: WordRows. A received byte gets A, the last one N; a received PEC is the
 -- last; a sent PEC stands before P and gets A.

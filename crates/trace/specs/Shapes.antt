@@ -1,4 +1,4 @@
--- The shapes of the eleven protocols: what each row of the paper's table has, as fields.
+-- The shapes of the eleven protocols: what each row of the scope's table has, as fields.
 use mathlib.Core.Bool.{Bool, true, false}
 use mathlib.Core.List.{List, [], _∷_}
 use Prim.Native.Nat.{ℕ}

@@ -1,4 +1,4 @@
--- The last two columns of the paper's table: the symbols of each protocol's traces, two more with PEC; the longest trace has 525.
+-- The last two columns of the scope's table: the symbols of each protocol's traces, two more with PEC; the longest trace has 525.
 use mathlib.Core.Path.{_≡_, refl, ap, _∙_}
 use mathlib.Core.Bool.{Bool, true, false}
 use mathlib.Core.List.{List, [], _∷_}

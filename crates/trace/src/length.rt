@@ -1,4 +1,4 @@
-// How many symbols a trace has: the paper's last two columns.
+// How many symbols a trace has: the scope's last two columns.
 ghost use mathlib.Core.Path.{_≡_};
 ghost use Prim.Native.Nat.{_+_, _*_, _≤_};
 ghost use Rattle.lists.specs.Choice.{pick};

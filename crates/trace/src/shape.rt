@@ -1,4 +1,4 @@
-// The shape of a protocol: what a row of the paper's table says, as fields.
+// The shape of a protocol: what a row of the scope's table says, as fields.
 ghost use mathlib.Core.Path.{_≡_};
 ghost use Prim.Native.Nat.{_≤_};
 ghost use Rattle.trace.specs.Shapes.{some, isCounted, countIn, writes, reads, leastOf};
