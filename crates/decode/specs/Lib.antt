@@ -1,3 +1,4 @@
 pub mod Outcome
 pub mod EntryLaws
 pub mod OutcomeLaws
+pub mod NumberLaws

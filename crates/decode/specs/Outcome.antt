@@ -1,8 +1,8 @@
 -- What a call of the decoder promises: Outcome, by equations, and Means, which says the same without a word on how it is computed.
 use mathlib.Core.Path.{_≡_}
-use mathlib.Core.Bool.{Bool}
+use mathlib.Core.Bool.{Bool, false}
 use mathlib.Core.List.{List}
-use Prim.Native.Nat.{ℕ}
+use Prim.Native.Nat.{ℕ, _≤_}
 use lib.ListN.{length}
 use lib.Dec.{ltb}
 use Rattle.lists.specs.Choice.{pick, or}
@@ -13,6 +13,10 @@ use Rattle.step.specs.declared.answer.Decoded.the-variants.{Forbidden, BufferTo
 use Rattle.step.specs.Run.{decodedBy}
 use Rattle.step.specs.Handed.{sentData, receivedData}
 use Rattle.step.specs.Answers.{Answers}
+
+-- neither 1 nor 2, so that the trace is read: one of the eleven protocols, Quick without PEC, and two buffers of 255 bytes or more
+abbrev pub Entered : ℕ → Bool → List ℕ → List ℕ → Type 0
+Entered protocol pec sent₀ received₀ = (protocol ≤ 10) × (protocol ≡ 0 → pec ≡ false) × (255 ≤ length sent₀) × (255 ≤ length received₀)
 
 -- 2: a buffer of under 255 bytes
 abbrev pub short : ℕ → ℕ → Bool

@@ -24,3 +24,5 @@ pub mod CutLaws
 pub mod DecideLaws
 pub mod AnswersLaws
 pub mod SizeLaws
+pub mod Fitting
+pub mod FittingLaws

@@ -19,3 +19,5 @@ pub mod PecPlaceLaws
 pub mod RoomLaws
 pub mod Covered
 pub mod CoveredLaws
+pub mod Table
+pub mod TableLaws

@@ -1,0 +1,192 @@
+-- The decoder's numbers, each if and only if its case, over the table of the protocols (trace/specs/Table, step/specs/Fitting): what a call
+-- answers, and what it leaves in the two buffers.
+use mathlib.Core.Path.{_≡_, refl, ap, _∙_, subst}
+use mathlib.Core.Bool.{Bool, true, false}
+use mathlib.Core.List.{List, [], _∷_, _++_}
+use mathlib.Core.Logic.{_⊎_, inl, inr, _↔_}
+use Prim.Native.Nat.{ℕ, _-_, _*_, _/_, _≤_, _<_}
+use native.Mathlib.Omega.{arith}
+use lib.Dec.{ltb}
+use lib.ListN.{length, take, drop, getD}
+use borrow.Author.Tests.{ltb-true, lt-ltb, le-ltb}
+use Rattle.lists.specs.Choice.{or}
+use Rattle.trace.specs.ForbiddenLaws.{forbidden-cases, taken-cases}
+use Rattle.trace.specs.ShapeLaws.{sane}
+use Rattle.trace.specs.Shapes.{shapeOf, forbidden}
+use Rattle.trace.specs.Table.{TraceOf, send-byte}
+use Rattle.trace.specs.TableLaws.{listed-trace, trace-listed}
+use Rattle.trace.specs.Trace.{Message, trace, Valid}
+use Rattle.trace.specs.declared.shape.Shape.{Shape}
+use Rattle.step.specs.Answers.{summary}
+use Rattle.step.specs.AnswersLaws as step
+use Rattle.step.specs.BytesInLaws.{byte-more}
+use Rattle.step.specs.Fitting.{Member, Fits, Breaks, CutAt, OtherPec}
+use Rattle.step.specs.FittingLaws.{member-shaped, fits-shaped, breaks-shaped, cut-shaped, other-pec-shaped, other-pec-byte}
+use Rattle.step.specs.Numbers.{decodeNumber}
+use Rattle.step.specs.Run.{decodedBy}
+use Rattle.step.specs.declared.answer.Decoded.{Decoded}
+use Rattle.step.specs.declared.answer.Decoded.the-variants.{Done}
+use Rattle.decode.specs.EntryLaws.{roomy}
+use Rattle.decode.specs.Outcome.{short, Entered, Outcome}
+use Rattle.decode.specs.OutcomeLaws as decode
+
+-- 2: a buffer of under 255 bytes
+pub short-cases : (s r : ℕ) → (short s r ≡ true) ↔ ((s < 255) ⊎ (r < 255))
+short-cases s r = (λ h. there (ltb s 255) refl h, back)
+  where
+    there : (b : Bool) → ltb s 255 ≡ b → or b (ltb r 255) ≡ true → (s < 255) ⊎ (r < 255)
+    there true e h = inl (ltb-true s 255 e)
+    there false e h = inr (ltb-true r 255 h)
+
+    either : (b : Bool) → or b true ≡ true
+    either true = refl
+    either false = refl
+
+    back : (s < 255) ⊎ (r < 255) → short s r ≡ true
+    back (inl h) = rw (lt-ltb s 255 h)
+    back (inr h) = rw (lt-ltb r 255 h) (either (ltb s 255))
+
+pub long-cases : (s r : ℕ) → (short s r ≡ false) ↔ ((255 ≤ s) × (255 ≤ r))
+long-cases s r = (λ h. roomy s r h, λ h. rw (le-ltb s 255 (h .0), le-ltb r 255 (h .1)))
+
+module _ (protocol : ℕ) (pec : Bool) (tr sent₀ received₀ : List ℕ) (a : Decoded) (sent received : List ℕ) (o : Outcome protocol pec tr sent₀ received₀ a sent received) where
+  abbrev shape : Shape
+  shape = shapeOf protocol
+
+  abbrev Here : Type 0
+  Here = Entered protocol pec sent₀ received₀
+
+  -- 1: a protocol above 10, or Quick with PEC
+  pub decode-1 : (decodeNumber a ≡ (1, 0)) ↔ ((10 < protocol) ⊎ ((protocol ≡ 0) × (pec ≡ true)))
+  decode-1 =
+      let n = decode.number-1 protocol pec tr sent₀ received₀ a sent received o in
+      let f = forbidden-cases protocol pec in
+      (λ e. f .0 (n .0 e), λ h. n .1 (f .1 h))
+
+  -- 2: none of these, and a buffer of under 255 bytes
+  pub decode-2 : (decodeNumber a ≡ (2, 0)) ↔ ((protocol ≤ 10) × (protocol ≡ 0 → pec ≡ false) × ((length sent₀ < 255) ⊎ (length received₀ < 255)))
+  decode-2 =
+      let n = decode.number-2 protocol pec tr sent₀ received₀ a sent received o in
+      let t = taken-cases protocol pec in
+      let f = short-cases (length sent₀) (length received₀) in
+      (λ e. (t .0 (n .0 e .0) .0, t .0 (n .0 e .0) .1, f .0 (n .0 e .1)), λ h. n .1 (t .1 (h .0, h .1), f .1 (h .2)))
+
+  entered : forbidden protocol pec ≡ false → short (length sent₀) (length received₀) ≡ false → Here
+  entered f c =
+      let t = taken-cases protocol pec .0 f in
+      let l = long-cases (length sent₀) (length received₀) .0 c in
+      (t .0, t .1, l .0, l .1)
+
+  pub entered-taken : Here → forbidden protocol pec ≡ false
+  entered-taken r = taken-cases protocol pec .1 (r .0, r .1)
+
+  pub entered-long : Here → short (length sent₀) (length received₀) ≡ false
+  entered-long r = long-cases (length sent₀) (length received₀) .1 (r .2, r .3)
+
+  -- every number but 1 and 2 is the trace's, where it is read: in the case Q over shapes, which is the case P over the table
+  by-trace : (P Q : Type 0) (n v : ℕ) → (n ≡ 1 → ⊥) → (n ≡ 2 → ⊥) → (Here → P ↔ Q) → (decodeNumber (decodedBy protocol shape pec tr) ≡ (n, v)) ↔ Q
+      → (decodeNumber a ≡ (n, v)) ↔ (Here × P)
+  by-trace P Q n v one two s e =
+      let q = decode.other-number protocol pec tr sent₀ received₀ a sent received o n v one two in (
+        λ k. (let z = q .0 k in let h : Here = entered (z .0) (z .1) in (h, s h .1 (e .0 (z .2)))),
+        λ k. q .1 (entered-taken (k .0), entered-long (k .0), e .1 (s (k .0) .0 (k .1))),
+      )
+
+  -- 3: a number above 259 at the first place that does not fit
+  pub decode-3 : (place : ℕ) → (decodeNumber a ≡ (3, place)) ↔ (Here × (Breaks protocol pec tr place × (259 < getD tr place 0)))
+  decode-3 k =
+      by-trace _ _ 3 k (λ e. omega (arith, e)) (λ e. omega (arith, e))
+      (λ h. let s = breaks-shaped protocol pec (h .0) (h .1) tr k in (λ b. (s .0 (b .0), b .1), λ b. (s .1 (b .0), b .1)))
+      (step.number-3 protocol shape (sane protocol) pec tr k)
+
+  -- 4: the trace ends while it still fits
+  pub decode-4 : (len : ℕ) → (decodeNumber a ≡ (4, len)) ↔ (Here × (Fits protocol pec tr × (Member protocol pec tr → ⊥) × (len ≡ length tr)))
+  decode-4 n =
+      by-trace _ _ 4 n (λ e. omega (arith, e)) (λ e. omega (arith, e))
+      (λ h. let s = fits-shaped protocol pec (h .0) (h .1) tr in let m = member-shaped protocol pec (h .0) (h .1) tr in (
+        λ b. (s .0 (b .0), λ w. b .1 (m .1 w), b .2),
+        λ b. (s .1 (b .0), λ w. b .1 (m .0 w), b .2),
+      ))
+      (step.number-4 protocol shape (sane protocol) pec tr n)
+
+  -- 5: a symbol that can't stand there, and not after the last STOP
+  pub decode-5 : (place : ℕ) → (decodeNumber a ≡ (5, place))
+      ↔ (Here × (Breaks protocol pec tr place × (Member protocol pec (take place tr) → ⊥) × (getD tr place 0 ≤ 259)))
+  decode-5 k =
+      by-trace _ _ 5 k (λ e. omega (arith, e)) (λ e. omega (arith, e))
+      (λ h. let s = breaks-shaped protocol pec (h .0) (h .1) tr k in let m = member-shaped protocol pec (h .0) (h .1) (take k tr) in (
+        λ b. (s .0 (b .0), λ w. b .1 (m .1 w), b .2),
+        λ b. (s .1 (b .0), λ w. b .1 (m .0 w), b .2),
+      ))
+      (step.number-5 protocol shape (sane protocol) pec tr k)
+
+  -- 6: the target gave NACK where ACK is due, then STOP, then the end
+  pub decode-6 : (byte : ℕ) → (decodeNumber a ≡ (6, byte)) ↔ (Here × CutAt protocol pec tr byte)
+  decode-6 b =
+      by-trace _ _ 6 b (λ e. omega (arith, e)) (λ e. omega (arith, e)) (λ h. cut-shaped protocol pec (h .0) (h .1) tr b)
+      (step.number-6 protocol shape (sane protocol) pec tr b)
+
+  -- and which byte that is, by the length of the trace alone: two places a byte, one for START, one for a repeated START, NACK and STOP
+  pub decode-6-byte : (byte : ℕ) → decodeNumber a ≡ (6, byte) → byte ≡ (length tr - 4) / 2
+  decode-6-byte b e =
+      let q = decode.other-number protocol pec tr sent₀ received₀ a sent received o 6 b (λ z. omega (arith, z)) (λ z. omega (arith, z)) .0 e in
+      step.which-byte protocol shape (sane protocol) pec tr b (q .2)
+
+  -- 7: the whole trace fits, to its end, but the PEC differs
+  pub decode-7 : (place : ℕ) → (decodeNumber a ≡ (7, place)) ↔ (Here × OtherPec protocol pec tr place)
+  decode-7 k =
+      by-trace _ _ 7 k (λ e. omega (arith, e)) (λ e. omega (arith, e)) (λ h. other-pec-shaped protocol pec (h .0) (h .1) tr k)
+      (step.number-7 protocol shape (sane protocol) pec tr k)
+
+  -- and that place is where the PEC stands
+  pub decode-7-place : Here → (place : ℕ) (q : OtherPec protocol pec tr place) → getD tr place 0 ≡ q .1 .0
+  decode-7-place h k q =
+      step.pec-there protocol shape (sane protocol) pec tr k (other-pec-shaped protocol pec (h .0) (h .1) tr k .0 q) ∙ other-pec-byte protocol pec (h .0) (h .1) tr k q
+
+  -- 8: symbols after STOP
+  pub decode-8 : (place : ℕ) → (decodeNumber a ≡ (8, place))
+      ↔ (Here × ((place < length tr) × Member protocol pec (take place tr) × (getD tr place 0 ≤ 259)))
+  decode-8 k =
+      by-trace _ _ 8 k (λ e. omega (arith, e)) (λ e. omega (arith, e))
+      (λ h. let m = member-shaped protocol pec (h .0) (h .1) (take k tr) in (λ b. (b .0, m .0 (b .1), b .2), λ b. (b .0, m .1 (b .1), b .2)))
+      (step.number-8 protocol shape (sane protocol) pec tr k)
+
+  -- 0: the trace is that of a message in the table
+  pub decode-0 : (decodeNumber a ≡ (0, 0)) ↔ (Here × ((m : Message) × TraceOf protocol pec m tr))
+  decode-0 =
+      by-trace _ ((m : Message) × Valid shape m × (tr ≡ trace shape pec m)) 0 0 (λ e. omega (arith, e)) (λ e. omega (arith, e))
+      (λ h. (
+        λ b. (b .0, listed-trace protocol pec (b .0) tr (b .1) .1, listed-trace protocol pec (b .0) tr (b .1) .2),
+        λ b. (b .0, trace-listed protocol pec (b .0) tr (h .0) (h .1) (b .1) (b .2)),
+      ))
+      (step.number-0 protocol shape (sane protocol) pec tr)
+
+  -- and then the message is handed over: its fields, and its data at the fronts of the two buffers, which are as they were behind
+  pub decode-hands-over : Here → (m : Message) → TraceOf protocol pec m tr
+      → (a ≡ Done (summary protocol m)) × (sent ≡ m .sent ++ drop (length (m .sent)) sent₀) × (received ≡ m .received ++ drop (length (m .received)) received₀)
+  decode-hands-over h m w =
+      let l = listed-trace protocol pec m tr w in
+      decode.round-trip protocol pec m sent₀ received₀ a sent received (entered-taken h) (entered-long h) (l .1)
+      (subst (λ (x : List ℕ). Outcome protocol pec x sent₀ received₀ a sent received) (l .2) o)
+
+  -- a refusal changes neither buffer
+  pub decode-refusal : (decodeNumber a .0 ≡ 0 → ⊥) → (sent ≡ sent₀) × (received ≡ received₀)
+  decode-refusal n = decode.refusal-changes-nothing protocol pec tr sent₀ received₀ a sent received o n
+
+-- a Send Byte whose data byte the target does not acknowledge is 6 with 1, whatever that byte is
+pub send-byte-cut : (a d : ℕ) → a < 128 → d < 256 → (sent₀ received₀ : List ℕ) → 255 ≤ length sent₀ → 255 ≤ length received₀ → (r : Decoded) (sent received : List ℕ)
+    → Outcome 1 false (256 ∷ 2 * a ∷ 258 ∷ d ∷ 259 ∷ 257 ∷ []) sent₀ received₀ r sent received → decodeNumber r ≡ (6, 1)
+send-byte-cut a d ha hd sent₀ received₀ ls lr r sent received o =
+    decode-6 1 false (256 ∷ 2 * a ∷ 258 ∷ d ∷ 259 ∷ 257 ∷ []) sent₀ received₀ r sent received o 1 .1 (
+      (omega arith, λ e. refl, ls, lr),
+      record {
+        y = 0;
+        row = _;
+        listed = (send-byte a d ha hd refl, refl, omega arith);
+        before = 256 ∷ 2 * a ∷ 258 ∷ d ∷ [];
+        after = [];
+        ack = refl;
+        is = refl;
+        number = ap length (byte-more (2 * a) (258 ∷ d ∷ []) (omega arith) ∙ ap (λ (l : List ℕ). 2 * a ∷ l) (byte-more d [] hd));
+      },
+    )
