@@ -3,3 +3,8 @@ pub mod Run
 pub mod TurnLaws
 pub mod GoingLaws
 pub mod RunLaws
+pub mod RefusalLaws
+pub mod PassLaws
+pub mod EndLaws
+pub mod BindingsEndLaws
+pub mod RecordsEndLaws

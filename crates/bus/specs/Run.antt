@@ -57,6 +57,10 @@ entryAt slots a = entryOf (heldAt slots a)
 
 -- ---- the answer
 
+-- the scope's number, and the record that comes with it
+abbrev pub modelNumber : ModelAnswer → ℕ × ℕ
+modelNumber r = (r .answer, r .place)
+
 -- a refusal: its number and the record, and all else zero
 abbrev pub refusedAnswer : ℕ → ℕ → ModelAnswer
 refusedAnswer n i = record { answer = n; place = i; udid = noUdid; bound = emptyPool; count = 0; gets = 0 }

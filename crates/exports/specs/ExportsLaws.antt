@@ -34,6 +34,7 @@ use Rattle.targets.specs.Refusals.{checkedList}
 use Rattle.targets.specs.declared.admit.Checked.{Checked}
 use Rattle.targets.specs.declared.admit.Checked.the-variants.{Admitted, BadLength, Malformed, Repeated, Taken}
 use Rattle.rule.specs.PlainRule.{ruled}
+use Rattle.bus.specs.RefusalLaws.{model-2, model-refused, model-untouched}
 use Rattle.bus.specs.Run.{Leaves, modelEnd}
 use Rattle.bus.specs.declared.answer.ModelAnswer.{ModelAnswer}
 use Rattle.exports.specs.declared.answer.HbDecoded.{HbDecoded}
@@ -52,7 +53,6 @@ use Rattle.promises.specs.Demand1.{short-cases, Entered, HandedOver, decode-0, 
 use Rattle.promises.specs.Demand2.{Accepted, encode-then-decode, decode-then-encode}
 use Rattle.promises.specs.Demand3.{Meets, model-meets}
 use Rattle.promises.specs.Marked.{marked-cases}
-use Rattle.promises.specs.Refusals.{model-2, model-refused, model-untouched}
 
 -- ---- the encoder
 

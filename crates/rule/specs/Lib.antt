@@ -2,6 +2,7 @@ pub mod Effect
 pub mod Acknowledge
 pub mod Bus
 pub mod PlainRule
+pub mod EndAnswer
 pub mod PassEnd
 pub mod TraceLaws
 pub mod EffectLaws
@@ -13,5 +14,6 @@ pub mod Demand3
 pub mod Sent
 pub mod SentLaws
 pub mod Reading
+pub mod AnyLaws
 pub mod RecordsLaws
 pub mod AllBound

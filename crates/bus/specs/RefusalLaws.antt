@@ -1,4 +1,4 @@
--- Demand 1 for the model run: 2, 9, 10, 11 and 12 are given exactly in their listed cases, with the record, and then nothing lent
+-- The refusals of the model run: 2, 9, 10, 11 and 12 are given exactly in their listed cases, with the record, and then nothing lent
 -- changes and every other part of the answer is zero.
 use Prim.Native.Nat.{ℕ, _/_, _%_, _≤_, _<_}
 use mathlib.Core.Path.{_≡_, refl, sym, ap, _∙_, subst}
@@ -24,13 +24,9 @@ use Rattle.arp.specs.declared.command.Command.{Command}
 use Rattle.arp.specs.declared.command.Command.the-variants.{Nothing, Prepare, GetUdid, Assign, Ended, NoneFree, Abandoned, NotOutstanding}
 use Rattle.targets.specs.Records.{targetsOf}
 use Rattle.rule.specs.Bus.{pass}
-use Rattle.bus.specs.Run.{numberIn, refusedAnswer, ModelEnd, Leaves, refusedEnd, endedEnd, endChecked, modelEnd}
+use Rattle.bus.specs.Run.{numberIn, modelNumber, refusedAnswer, ModelEnd, Leaves, refusedEnd, endedEnd, endChecked, modelEnd}
 use Rattle.bus.specs.RunLaws.{end-short, end-checked}
 use Rattle.bus.specs.declared.answer.ModelAnswer.{ModelAnswer}
-
--- the scope's number, and the record that comes with it
-abbrev pub modelNumber : ModelAnswer → ℕ × ℕ
-modelNumber r = (r .answer, r .place)
 
 -- ---- a pass ends with none of these numbers
 

@@ -1,0 +1,121 @@
+-- Which addresses are bound at the end of the model run, to whom, and what the binding buffer shows, in terms of the plain rule alone.
+use Prim.Native.Nat.{ℕ, _*_, _/_, _≤_, _<_}
+use mathlib.Core.Path.{_≡_, refl, sym, ap, _∙_}
+use mathlib.Core.Bool.{Bool, true, false}
+use mathlib.Core.Logic.{_↔_}
+use mathlib.Core.List.{List}
+use native.Mathlib.Omega.{arith}
+use lib.ListN.{length, take, drop, replicate}
+use Rattle.lists.specs.Choice.{or}
+use Rattle.lists.specs.Each.{Each, Bytes}
+use Rattle.wire.specs.Addresses.{isReserved}
+use Rattle.pool.specs.Pools.{member}
+use Rattle.pool.specs.Start.{startingPool}
+use Rattle.pool.specs.StartLaws.{member-starting}
+use Rattle.pool.specs.declared.Pool.{Pool}
+use Rattle.udid.specs.Bytes.{udidBytes}
+use Rattle.udid.specs.declared.Udid.{Udid}
+use Rattle.arp.specs.Bindings.{heldAt}
+use Rattle.arp.specs.declared.state.Binding.{Binding}
+use Rattle.arp.specs.declared.state.Binding.the-variants as binding
+use Rattle.arp.specs.declared.state.Slot.{Slot}
+use Rattle.targets.specs.Admission.{AdmittedTargets}
+use Rattle.targets.specs.AdmissionLaws.{admitted-targets}
+use Rattle.targets.specs.Records.{targetsOf}
+use Rattle.targets.specs.Refusals.{checkedList}
+use Rattle.targets.specs.declared.admit.Checked.the-variants.{Admitted}
+use Rattle.bindings.specs.BoundLaws.{bound-set-has}
+use Rattle.bindings.specs.BufferLaws.{bytes-there, rest-there, nobody-bytes}
+use Rattle.bindings.specs.Entries as entries
+use Rattle.bindings.specs.declared.entry.Entry.the-variants.{Nobody}
+use Rattle.rule.specs.AnyLaws.{any-map, each-both, any-each, any-constant}
+use Rattle.rule.specs.Demand3.{given-addresses}
+use Rattle.rule.specs.PassEnd.{passEnd}
+use Rattle.rule.specs.PlainRule.{Given, ruled, FreeIn, Distinct}
+use Rattle.rule.specs.Reading.{Any, RecordOf, isBound, boundAt, OnePerUdid, bound-given, given-bound, served-once}
+use Rattle.rule.specs.RecordsLaws as records
+use Rattle.rule.specs.RuleLaws.{each-map}
+use Rattle.bus.specs.EndLaws.{entry-bound, leaves-rule}
+use Rattle.bus.specs.Run.{entryOf, entryAt, Leaves, modelEnd}
+use Rattle.bus.specs.declared.answer.ModelAnswer.{ModelAnswer}
+
+bound-some : (h : Binding) → isBound h ≡ true → (u : Udid) × (h ≡ binding.Bound u)
+bound-some binding.Open e = absurd (let z : _≡_ {A = ℕ} 0 1 = cc e in omega arith)
+bound-some (binding.Bound u) e = (u, refl)
+bound-some binding.Claimed e = absurd (let z : _≡_ {A = ℕ} 0 1 = cc e in omega arith)
+
+neither : (x y : Bool) → or x y ≡ false → (x ≡ false) × (y ≡ false)
+neither true y e = absurd (let z : _≡_ {A = ℕ} 0 1 = cc e in omega arith)
+neither false y e = (refl, e)
+
+-- ---- whom the plain rule gives which address
+
+module _ (occupied : Pool) (s : List ℕ) (bytes : Bytes s) (e : checkedList (startingPool occupied) s ≡ Admitted) where
+  admitted : AdmittedTargets (startingPool occupied) (targetsOf s)
+  admitted = admitted-targets (startingPool occupied) s bytes e
+
+  -- each is a record of the list
+  pub given-in-records : Each (λ (g : Given). (i : ℕ) × (i < length s / 18) × RecordOf s i g) (ruled (startingPool occupied) (targetsOf s) .given)
+  given-in-records = records.given-records occupied s bytes admitted
+
+  -- each address is below 128, not reserved and not occupied
+  pub given-assignable : Each (λ (g : Given). (g .address < 128) × (isReserved (g .address) ≡ false) × (member occupied (g .address) ≡ false)) (ruled (startingPool occupied) (targetsOf s) .given)
+  given-assignable = each-map (ruled (startingPool occupied) (targetsOf s) .given) at (given-addresses occupied (targetsOf s) admitted .0)
+    where
+      at : (g : Given) → FreeIn (startingPool occupied) g → (g .address < 128) × (isReserved (g .address) ≡ false) × (member occupied (g .address) ≡ false)
+      at g f =
+          let n = neither (isReserved (g .address)) (member occupied (g .address)) (sym (member-starting occupied (g .address)) ∙ f .1) in
+          (f .0, n .0, n .1)
+
+  -- no two addresses are alike, and each identifier is given one once
+  pub given-distinct : Distinct (ruled (startingPool occupied) (targetsOf s) .given)
+  given-distinct = given-addresses occupied (targetsOf s) admitted .1
+
+  pub given-once : OnePerUdid (ruled (startingPool occupied) (targetsOf s) .given)
+  given-once = served-once (startingPool occupied) (targetsOf s) admitted
+
+-- ---- what the run answers and leaves of it: a list that is not refused, a buffer that is long enough, and what run_model's contract says
+
+module _ (occupied : Pool) (s b : List ℕ) (bytes : Bytes s) (long : 2048 ≤ length b) (e : checkedList (startingPool occupied) s ≡ Admitted) (r : ModelAnswer) (s′ b′ : List ℕ)
+    (l : Leaves (modelEnd occupied s b) r s′ b′) where
+  abbrev given : List Given
+  given = ruled (startingPool occupied) (targetsOf s) .given
+
+  abbrev slots : List Slot
+  slots = passEnd (startingPool occupied) (targetsOf s) .now .state .slots
+
+  has-bound : (a : ℕ) → a < 128 → member (r .bound) a ≡ boundAt slots a
+  has-bound a h =
+      ap (λ (x : ModelAnswer). member (x .bound) a) (leaves-rule occupied s b bytes long e r s′ b′ l .answered)
+      ∙ bound-set-has (entryAt slots) a h ∙ entry-bound (heldAt slots a)
+
+  -- an address is in the set answered if and only if it was given
+  pub bound-exactly : (a : ℕ) → a < 128 → (member (r .bound) a ≡ true) ↔ Any (λ (g : Given). g .address ≡ a) given
+  bound-exactly a h = (
+    λ q. (let w = bound-some (heldAt slots a) (sym (has-bound a h) ∙ q) in any-map given (λ g p. p .0) (bound-given occupied (targetsOf s) (admitted occupied s bytes e) a (w .0) (w .1))),
+    λ q. any-constant given (any-each given (λ g p k. has-bound a h ∙ ap (boundAt slots) (sym p) ∙ ap isBound k) q (given-bound occupied (targetsOf s) (admitted occupied s bytes e))),
+  )
+
+  buffer-at : (a : ℕ) → a < 128 → take 16 (drop (16 * a) b′) ≡ entries.entryBytes (entryAt slots a)
+  buffer-at a h =
+      ap (λ (x : List ℕ). take 16 (drop (16 * a) x)) (leaves-rule occupied s b bytes long e r s′ b′ l .bindings-hold)
+      ∙ bytes-there (entryAt slots) (drop 2048 b) a h
+
+  -- who is bound stands at 16 times the address
+  pub bytes-of-bound : Each (λ (g : Given). take 16 (drop (16 * g .address) b′) ≡ udidBytes (g .who .udid)) given
+  bytes-of-bound =
+      each-both given (λ g k f. buffer-at (g .address) (f .0) ∙ ap (λ (h : Binding). entries.entryBytes (entryOf h)) k)
+      (given-bound occupied (targetsOf s) (admitted occupied s bytes e)) (given-addresses occupied (targetsOf s) (admitted occupied s bytes e) .0)
+
+  -- zeros where nobody is
+  pub bytes-of-free : (a : ℕ) → a < 128 → (Any (λ (g : Given). g .address ≡ a) given → ⊥) → take 16 (drop (16 * a) b′) ≡ replicate 16 0
+  bytes-of-free a h n = buffer-at a h ∙ ap entries.entryBytes (go (heldAt slots a) refl) ∙ nobody-bytes
+    where
+      go : (x : Binding) → heldAt slots a ≡ x → entryOf x ≡ Nobody
+      go binding.Open q = refl
+      go (binding.Bound u) q = absurd (n (any-map given (λ g p. p .0) (bound-given occupied (targetsOf s) (admitted occupied s bytes e) a u q)))
+      go binding.Claimed q = refl
+
+  -- all after 2,048 bytes as it was
+  pub bytes-after-kept : drop 2048 b′ ≡ drop 2048 b
+  bytes-after-kept = ap (drop 2048) (leaves-rule occupied s b bytes long e r s′ b′ l .bindings-hold) ∙ rest-there (entryAt slots) (drop 2048 b)

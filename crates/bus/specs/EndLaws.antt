@@ -1,0 +1,148 @@
+-- What the model run answers, in terms of the plain rule alone: the number, who asked, how many are bound, how many Get UDIDs there were,
+-- and when all are bound.
+use Prim.Native.Nat.{ℕ, zero, suc, _*_, _/_, _≤_, _<_}
+use mathlib.Core.Path.{_≡_, refl, sym, ap, _∙_, subst}
+use mathlib.Core.Bool.{Bool, true, false}
+use mathlib.Core.Logic.{_↔_}
+use mathlib.Core.List.{List, [], _∷_}
+use native.Mathlib.Omega.{arith}
+use lib.ListN.{length}
+use Rattle.lists.specs.Each.{Bytes}
+use Rattle.pool.specs.CountLaws.{count-cong}
+use Rattle.pool.specs.Start.{startingPool}
+use Rattle.pool.specs.declared.Pool.{Pool}
+use Rattle.arp.specs.Bindings.{heldAt}
+use Rattle.arp.specs.Numbers.{commandNumber}
+use Rattle.arp.specs.declared.state.Binding.{Binding}
+use Rattle.arp.specs.declared.state.Binding.the-variants as binding
+use Rattle.arp.specs.declared.state.Slot.{Slot}
+use Rattle.targets.specs.Admission.{AdmittedTargets}
+use Rattle.targets.specs.AdmissionLaws.{admitted-length, admitted-targets}
+use Rattle.targets.specs.IndexLaws.{length-targets}
+use Rattle.targets.specs.Records.{recordCount, targetsOf}
+use Rattle.targets.specs.Refusals.{checkedList}
+use Rattle.targets.specs.Target.{Target}
+use Rattle.targets.specs.declared.admit.Checked.the-variants.{Admitted}
+use Rattle.bindings.specs.BoundLaws.{bound-set-count}
+use Rattle.bindings.specs.Entries as entries
+use Rattle.rule.specs.AllBound.{movable, leftFree, all-served, all-given}
+use Rattle.rule.specs.Bus.{World, pass}
+use Rattle.rule.specs.Demand3.{demand-3}
+use Rattle.rule.specs.EndAnswer.{numberOf, askerOf, getsFor}
+use Rattle.rule.specs.PassEnd.{lastCommand, passEnd}
+use Rattle.rule.specs.PlainRule.{Ending, served, noneFree, ruled}
+use Rattle.rule.specs.Reading.{isBound, boundAt, bound-count}
+use Rattle.rule.specs.Sent.{getsOnBus}
+use Rattle.rule.specs.SentLaws.{counted-on-bus}
+use Rattle.bus.specs.PassLaws.{leaves-pass, answer-of-pass, asker-of-pass, gets-of-pass}
+use Rattle.bus.specs.Run.{numberIn, udidIn, entryOf, entryAt, ModelEnd, Leaves, endedEnd, modelEnd}
+use Rattle.bus.specs.declared.answer.ModelAnswer.{ModelAnswer}
+
+-- ---- the last command of the rule's end, in the scope's numbers
+
+last-number : (e : Ending) → numberIn (commandNumber (lastCommand e)) ≡ numberOf e
+last-number served = refl
+last-number (noneFree u) = refl
+
+last-asker : (e : Ending) → udidIn (commandNumber (lastCommand e)) ≡ askerOf e
+last-asker served = refl
+last-asker (noneFree u) = refl
+
+end-number : (p : Pool) (ts : List Target) → numberIn (commandNumber (passEnd p ts .now .command)) ≡ numberOf (ruled p ts .ending)
+end-number p [] = refl
+end-number p (t ∷ ts) = last-number (ruled p (t ∷ ts) .ending)
+
+end-asker : (p : Pool) (ts : List Target) → udidIn (commandNumber (passEnd p ts .now .command)) ≡ askerOf (ruled p ts .ending)
+end-asker p [] = refl
+end-asker p (t ∷ ts) = last-asker (ruled p (t ∷ ts) .ending)
+
+end-gets : (p : Pool) (ts : List Target) → passEnd p ts .now .state .gets ≡ getsFor (length ts) (length (ruled p ts .given))
+end-gets p [] = refl
+end-gets p (t ∷ ts) = omega arith
+
+-- a list of whole records is empty if and only if it has none
+gets-by-length : (n l k : ℕ) → n ≡ l / 18 → l ≡ l / 18 * 18 → getsFor n k ≡ getsFor l k
+gets-by-length zero zero k e h = refl
+gets-by-length zero (suc l) k e h = absurd (omega arith)
+gets-by-length (suc n) zero k e h = absurd (omega arith)
+gets-by-length (suc n) (suc l) k e h = refl
+
+-- an entry is bound where a slot is
+pub entry-bound : (h : Binding) → entries.isBound (entryOf h) ≡ isBound h
+entry-bound binding.Open = refl
+entry-bound (binding.Bound u) = refl
+entry-bound binding.Claimed = refl
+
+-- a list that is not refused, a buffer that is long enough, and what run_model's contract says of an answer and of the lists left
+module _ (occupied : Pool) (s b : List ℕ) (bytes : Bytes s) (long : 2048 ≤ length b) (e : checkedList (startingPool occupied) s ≡ Admitted) (r : ModelAnswer) (s′ b′ : List ℕ)
+    (l : Leaves (modelEnd occupied s b) r s′ b′) where
+  admitted : AdmittedTargets (startingPool occupied) (targetsOf s)
+  admitted = admitted-targets (startingPool occupied) s bytes e
+
+  -- THE RUN ENDS as the plain rule does
+  pub leaves-rule : Leaves (endedEnd (passEnd (startingPool occupied) (targetsOf s)) s b) r s′ b′
+  leaves-rule = subst (λ (w : World). Leaves (endedEnd w s b) r s′ b′) (demand-3 occupied (targetsOf s) admitted) (leaves-pass occupied s b long e r s′ b′ l)
+
+  -- the answer: 0 or 13, the identifier that asked, no record
+  pub answer-of-rule : r .answer ≡ numberOf (ruled (startingPool occupied) (targetsOf s) .ending)
+  answer-of-rule = ap (λ (x : ModelAnswer). x .answer) (leaves-rule .answered) ∙ end-number (startingPool occupied) (targetsOf s)
+
+  pub asker-of-rule : r .udid ≡ askerOf (ruled (startingPool occupied) (targetsOf s) .ending)
+  asker-of-rule = ap (λ (x : ModelAnswer). x .udid) (leaves-rule .answered) ∙ end-asker (startingPool occupied) (targetsOf s)
+
+  pub place-zero : r .place ≡ 0
+  place-zero = ap (λ (x : ModelAnswer). x .place) (leaves-rule .answered)
+
+  abbrev slots : List Slot
+  slots = passEnd (startingPool occupied) (targetsOf s) .now .state .slots
+
+  -- how many are bound
+  pub count-of-rule : r .count ≡ length (ruled (startingPool occupied) (targetsOf s) .given)
+  count-of-rule =
+      ap (λ (x : ModelAnswer). x .count) (leaves-rule .answered)
+      ∙ bound-set-count (entryAt slots)
+      ∙ count-cong (λ (a : ℕ). entries.isBound (entryAt slots a)) (boundAt slots) 128 (λ a h. entry-bound (heldAt slots a))
+      ∙ bound-count occupied (targetsOf s) admitted
+
+  -- the Get UDIDs: as many as stood on the bus, counted by their symbols; one more than targets are bound, or none on an empty bus
+  pub gets-on-bus : r .gets ≡ getsOnBus occupied (targetsOf s)
+  gets-on-bus = gets-of-pass occupied s b long e r s′ b′ l ∙ counted-on-bus occupied (targetsOf s) admitted
+
+  pub gets-of-rule : r .gets ≡ getsFor (length s) (length (ruled (startingPool occupied) (targetsOf s) .given))
+  gets-of-rule =
+      ap (λ (x : ModelAnswer). x .gets) (leaves-rule .answered)
+      ∙ end-gets (startingPool occupied) (targetsOf s)
+      ∙ gets-by-length (length (targetsOf s)) (length s) (length (ruled (startingPool occupied) (targetsOf s) .given))
+      (length-targets s (recordCount s) 0) (admitted-length (startingPool occupied) s bytes e .1)
+
+  -- all are bound if and only if the movable ones do not outnumber the addresses that the fixed ones leave free
+  pub all-bound : (r .answer ≡ 0) ↔ (movable (targetsOf s) ≤ leftFree (startingPool occupied) (targetsOf s))
+  all-bound = (
+    λ q. all-served occupied (targetsOf s) admitted .0 (zero-served (ruled (startingPool occupied) (targetsOf s) .ending) (sym answer-of-rule ∙ q)),
+    λ h. answer-of-rule ∙ ap numberOf (all-served occupied (targetsOf s) admitted .1 h),
+  )
+    where
+      zero-served : (x : Ending) → numberOf x ≡ 0 → x ≡ served
+      zero-served served q = refl
+      zero-served (noneFree u) q = absurd (omega arith)
+
+  pub all-counted : (r .count ≡ length (targetsOf s)) ↔ (movable (targetsOf s) ≤ leftFree (startingPool occupied) (targetsOf s))
+  all-counted =
+      let g = all-given occupied (targetsOf s) admitted in
+      (λ q. g .0 (sym count-of-rule ∙ q), λ h. count-of-rule ∙ g .1 h)
+
+  -- with at least one target, Get UDID is sent once more than targets are bound; with none, not at all
+  pub gets-are : (0 < length s → r .gets ≡ suc (r .count)) × (length s ≡ 0 → (r .gets ≡ 0) × (r .answer ≡ 0) × (r .count ≡ 0))
+  gets-are = (some (length s) gets-of-rule count-of-rule, none (targetsOf s) refl)
+    where
+      some : (k : ℕ) {n : ℕ} → r .gets ≡ getsFor k n → r .count ≡ n → 0 < k → r .gets ≡ suc (r .count)
+      some zero g c h = absurd (omega arith)
+      some (suc k) g c h = g ∙ ap suc (sym c)
+
+      none : (ts : List Target) → targetsOf s ≡ ts → length s ≡ 0 → (r .gets ≡ 0) × (r .answer ≡ 0) × (r .count ≡ 0)
+      none [] q h = (
+        gets-of-rule ∙ ap (λ (k : ℕ). getsFor k (length (ruled (startingPool occupied) (targetsOf s) .given))) h,
+        answer-of-rule ∙ ap (λ (x : List Target). numberOf (ruled (startingPool occupied) x .ending)) q,
+        count-of-rule ∙ ap (λ (x : List Target). length (ruled (startingPool occupied) x .given)) q,
+      )
+      none (t ∷ ts) q h = absurd (omega (arith, ap length q, length-targets s (recordCount s) 0, h))
