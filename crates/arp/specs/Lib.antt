@@ -4,6 +4,7 @@ pub mod Controller
 pub mod Lookup
 pub mod Numbers
 pub mod Requests
+pub mod CommandTraces
 pub mod History
 pub mod Replay
 pub mod OneStep

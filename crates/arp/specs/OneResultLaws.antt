@@ -1,5 +1,5 @@
 -- The sentences on a step leave one result: whatever two results agree with is the same for both, and every trace falls under a sentence.
-use Prim.Native.Nat.{ℕ, zero, suc, _+_, _/_, _≤_, _<_}
+use Prim.Native.Nat.{ℕ, zero, suc, _/_, _≤_, _<_}
 use mathlib.Core.Path.{_≡_, refl, sym, ap, ap₂, _∙_, subst}
 use mathlib.Core.Bool.{Bool, true, false}
 use mathlib.Core.List.{List, [], _∷_, _++_}
@@ -31,7 +31,8 @@ use Rattle.arp.specs.OneStepLaws.{reply-symbols}
 use Rattle.arp.specs.TraceLaws.{valid-get, back, get-only, get-data}
 use Rattle.arp.specs.Bindings.{heldAt}
 use Rattle.arp.specs.Heard.{blockRead, answer, receivedIn, isGet}
-use Rattle.arp.specs.OneStep.{replyTrace, Gives, Hands, Asks, Chooses, Keeps, Same, BoundAt, Unbinds, Binds, Continues, EndsWith, Replies, Alike}
+use Rattle.arp.specs.CommandTraces.{replyTrace}
+use Rattle.arp.specs.OneStep.{Gives, Hands, Asks, Chooses, Keeps, Same, BoundAt, Unbinds, Binds, Continues, EndsWith, Replies, Alike}
 use Rattle.arp.specs.Requests.{messageOf}
 use Rattle.arp.specs.declared.command.Command.{Command}
 use Rattle.arp.specs.declared.command.Command.the-variants.{GetUdid, Assign, NoneFree}

@@ -1,13 +1,11 @@
--- What a step does, in the scope's words: the traces of the three commands as symbols, the decoder's number for a trace, what is handed
--- out, and what becomes of each address. Nothing here cites how the step is computed. promises/Controller puts the sentences together.
-use Prim.Native.Nat.{ℕ, _+_, _*_, _/_, _≤_, _<_}
+-- What a step does, in the scope's words: the decoder's number for a trace, what is handed out, and what becomes of each address. Nothing here
+-- cites how the step is computed. promises/Steps puts the sentences together.
+use Prim.Native.Nat.{ℕ, _+_, _/_, _≤_, _<_}
 use mathlib.Core.Path.{_≡_}
 use mathlib.Core.Bool.{true, false}
-use mathlib.Core.List.{List, [], _∷_, _++_}
+use mathlib.Core.List.{List}
 use mathlib.Core.Logic.{_⊎_}
 use lib.ListN.{length, getD}
-use Rattle.wire.specs.Pec.{pecOf}
-use Rattle.trace.specs.Trace.{acked}
 use Rattle.step.specs.Numbers.{decodeNumber}
 use Rattle.step.specs.declared.answer.Decoded.{Decoded}
 use Rattle.decode.specs.Outcome.{Outcome}
@@ -23,22 +21,6 @@ use Rattle.arp.specs.declared.state.Binding.the-variants.{Open, Bound, C
 use Rattle.arp.specs.declared.state.Controller.{Controller}
 use Rattle.arp.specs.declared.state.Slot.{Slot}
 use Rattle.arp.specs.declared.state.Stepped.{Stepped}
-
--- ---- the traces: 256 S, 257 P, 258 A, 259 N; 194 and 195 are C2h and C3h, the two bytes of 61h
-
--- Prepare To ARP, acknowledged whole: S C2 A 01 A PEC A P
-abbrev pub prepareTrace : List ℕ
-prepareTrace = 256 ∷ 194 ∷ 258 ∷ 1 ∷ 258 ∷ 192 ∷ 258 ∷ 257 ∷ []
-
--- Get UDID with the bytes of a reply: S C2 A 03 A S C3 A, the count A, each byte with A, PEC N P
-abbrev pub replyTrace : List ℕ → List ℕ
-replyTrace xs =
-    256 ∷ 194 ∷ 258 ∷ 3 ∷ 258 ∷ 256 ∷ 195 ∷ 258 ∷ length xs ∷ 258 ∷ (acked xs ++ pecOf (194 ∷ 3 ∷ 195 ∷ length xs ∷ xs) ∷ 259 ∷ 257 ∷ [])
-
--- Assign Address, acknowledged whole: S C2 A 04 A 11 A, each byte of the identifier with A, twice the address A, PEC A P
-abbrev pub assignTrace : Udid → ℕ → List ℕ
-assignTrace u a =
-    256 ∷ 194 ∷ 258 ∷ 4 ∷ 258 ∷ 17 ∷ 258 ∷ (acked (udidBytes u) ++ 2 * a ∷ 258 ∷ pecOf (194 ∷ 4 ∷ 17 ∷ (udidBytes u ++ 2 * a ∷ [])) ∷ 258 ∷ 257 ∷ [])
 
 -- ---- the decoder's number
 

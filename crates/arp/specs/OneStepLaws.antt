@@ -1,5 +1,5 @@
 -- The scope's sentences on a step (specs/OneStep.antt) hold of every step, from every state: whatever was done before it.
-use Prim.Native.Nat.{ℕ, zero, suc, _+_, _/_, _≤_, _<_}
+use Prim.Native.Nat.{ℕ, zero, suc, _+_, _*_, _/_, _≤_, _<_}
 use mathlib.Core.Path.{_≡_, refl, sym, ap, ap₂, _∙_, subst}
 use mathlib.Core.Bool.{Bool, true, false}
 use mathlib.Core.List.{List, [], _∷_, _++_}
@@ -35,7 +35,8 @@ use Rattle.arp.specs.TraceLaws as traces
 use Rattle.arp.specs.Bindings.{openSlot, heldAt, boundTo, findFrom, freedAt, freed, slotFor, boundAt, bound}
 use Rattle.arp.specs.Controller.{handed, counted, asked, chosen, issued, replied, onAssign, afterAssign, byCommand, stepped}
 use Rattle.arp.specs.Heard.{blockWrite, answer, sentIn, isAssign}
-use Rattle.arp.specs.OneStep.{prepareTrace, replyTrace, assignTrace, Gives, Hands, Asks, Chooses, Keeps, Same, BoundAt, Unbinds, Binds, Continues, EndsWith, Replies}
+use Rattle.arp.specs.CommandTraces.{prepareTrace, replyTrace, assignTrace}
+use Rattle.arp.specs.OneStep.{Gives, Hands, Asks, Chooses, Keeps, Same, BoundAt, Unbinds, Binds, Continues, EndsWith, Replies}
 use Rattle.arp.specs.Replay.{noCommand, assigning}
 use Rattle.arp.specs.Requests.{traceOf}
 use Rattle.arp.specs.declared.command.Command.{Command}
@@ -51,7 +52,7 @@ use Rattle.arp.specs.declared.state.Stepped.{Stepped}
 pub reply-symbols : (xs : List ℕ) → traceOf GetUdid xs ≡ replyTrace xs
 reply-symbols xs = rows .block-read-pec 0x61 0x03 xs
 
-pub assign-symbols : (u : Udid) (a : ℕ) → a < 128 → traceOf (Assign u (record { 0 = a })) [] ≡ assignTrace u a
+pub assign-symbols : (u : Udid) (a : ℕ) → a < 128 → traceOf (Assign u (record { 0 = a })) [] ≡ assignTrace (udidBytes u) (2 * a)
 assign-symbols u a h = traces.assign-row-small u (record { 0 = a }) h
 
 -- ---- what is handed out
@@ -308,7 +309,7 @@ module _ (s : Controller) (tr : List ℕ) where
       (replies s u b f size)
 
   -- Assign complete: bind, and add to the pool; then Get UDID
-  pub assign-whole : length (s .slots) ≡ 128 → (u : Udid) (a : Address) → s .last ≡ Assign u a → Fits u → a .0 < 128 → tr ≡ assignTrace u (a .0)
+  pub assign-whole : length (s .slots) ≡ 128 → (u : Udid) (a : Address) → s .last ≡ Assign u a → Fits u → a .0 < 128 → tr ≡ assignTrace (udidBytes u) (2 * a .0)
       → Asks s (stepped s tr) × Binds u (a .0) s (stepped s tr .state)
   assign-whole size u a e f h q =
       subst (λ (r : Stepped). Asks s r × Binds u (a .0) s (r .state))
@@ -318,7 +319,7 @@ module _ (s : Controller) (tr : List ℕ) where
       )
 
   -- any other answer: no binding, Get UDID again
-  pub assign-other : (u : Udid) (a : Address) → s .last ≡ Assign u a → a .0 < 128 → (tr ≡ assignTrace u (a .0) → ⊥) → Continues s (stepped s tr)
+  pub assign-other : (u : Udid) (a : Address) → s .last ≡ Assign u a → a .0 < 128 → (tr ≡ assignTrace (udidBytes u) (2 * a .0) → ⊥) → Continues s (stepped s tr)
   assign-other u a e h n =
       subst (Continues s) (sym (outstanding (Assign u a) e ∙ traces.assign-other s u a tr (λ q. n (q ∙ assign-symbols u (a .0) h)))) (continues s)
 

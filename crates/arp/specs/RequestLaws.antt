@@ -1,5 +1,5 @@
 -- What put_command refuses with 1, in literals, and what it writes for an Assign.
-use Prim.Native.Nat.{ℕ, _+_, _*_, _≤_, _<_}
+use Prim.Native.Nat.{ℕ, _*_, _≤_, _<_}
 use mathlib.Core.Path.{_≡_, refl, sym, ap, ap₂, _∙_, subst}
 use mathlib.Core.Bool.{Bool, true, false}
 use mathlib.Core.List.{List, [], _∷_, _++_, append-assoc}
@@ -25,6 +25,7 @@ use Rattle.udid.specs.UdidLaws.{length-udid}
 use Rattle.udid.specs.declared.Udid.{Udid}
 use Rattle.arp.specs.SendingLaws.{small-protocol, assign-sent}
 use Rattle.arp.specs.TraceLaws.{length-assign, assign-length, assign-row-small}
+use Rattle.arp.specs.CommandTraces.{assignTrace}
 use Rattle.arp.specs.Heard.{blockWrite}
 use Rattle.arp.specs.Requests.{protocolFor, messageOf}
 use Rattle.arp.specs.declared.command.Command.{Command}
@@ -122,12 +123,7 @@ module _ (k : Command) (reply before : List ℕ) (r : Encoded) (after : List ℕ
 
 -- ---- an Assign, in every case
 
--- S C2 A 04 A 11 A, each byte of the identifier with A, twice the address A, PEC A P
-abbrev pub assignRow : Udid → ℕ → List ℕ
-assignRow u a =
-    256 ∷ 194 ∷ 258 ∷ 4 ∷ 258 ∷ 17 ∷ 258 ∷ (acked (udidBytes u) ++ 2 * a ∷ 258 ∷ pecOf (194 ∷ 4 ∷ 17 ∷ (udidBytes u ++ 2 * a ∷ [])) ∷ 258 ∷ 257 ∷ [])
-
-place-39 : (u : Udid) (a : ℕ) (rest : List ℕ) → getD (assignRow u a ++ rest) 39 0 ≡ 2 * a
+place-39 : (u : Udid) (a : ℕ) (rest : List ℕ) → getD (assignTrace (udidBytes u) (2 * a) ++ rest) 39 0 ≡ 2 * a
 place-39 u a rest =
     let e : length (acked (udidBytes u)) ≡ 32 = length-acked (udidBytes u) ∙ omega (arith, length-udid u) in
     ap (λ (l : List ℕ). getD l 32 0) (append-assoc (acked (udidBytes u)) (2 * a ∷ 258 ∷ pecOf (194 ∷ 4 ∷ 17 ∷ (udidBytes u ++ 2 * a ∷ [])) ∷ 258 ∷ 257 ∷ []) rest)
@@ -137,7 +133,7 @@ place-39 u a rest =
 pub record AssignWritten (u : Udid) (a : ℕ) (before : List ℕ) (r : Encoded) (after : List ℕ) : Type 0 where
   pub above-127 : 127 < a → (encodeNumber r ≡ (1, 0)) × (after ≡ before)
   pub too-short : a ≤ 127 → length before < 44 → (encodeNumber r ≡ (2, 0)) × (after ≡ before)
-  pub written : a ≤ 127 → 44 ≤ length before → (encodeNumber r ≡ (0, 44)) × (after ≡ assignRow u a ++ drop 44 before)
+  pub written : a ≤ 127 → 44 ≤ length before → (encodeNumber r ≡ (0, 44)) × (after ≡ assignTrace (udidBytes u) (2 * a) ++ drop 44 before)
   -- the 17th byte of the data stands at place 39
   pub address-byte : a ≤ 127 → 44 ≤ length before → getD after 39 0 ≡ 2 * a
 
@@ -150,7 +146,7 @@ module _ (u : Udid) (a : Address) (reply before : List ℕ) (r : Encoded) (after
       answer-2 8 true (messageOf (Assign u a) reply) before r after (as-block-write h) .1
       (small-unlisted u a reply, omega (arith, assign-length u a))
 
-  whole : a .0 ≤ 127 → 44 ≤ length before → (encodeNumber r ≡ (0, 44)) × (after ≡ assignRow u (a .0) ++ drop 44 before)
+  whole : a .0 ≤ 127 → 44 ≤ length before → (encodeNumber r ≡ (0, 44)) × (after ≡ assignTrace (udidBytes u) (2 * a .0) ++ drop 44 before)
   whole h l =
       let k = assign-length u a in
       let s = assign-sent u a reply before r after (omega arith) w (omega (arith, k)) in (

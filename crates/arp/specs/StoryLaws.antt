@@ -1,6 +1,6 @@
 -- The controller by the events alone: what each step hands out, 21 and 13, and that a binding stays, all from the story of the events
 -- (specs/Replay.antt); and which traces are read as a reply and as a complete Assign, as symbols.
-use Prim.Native.Nat.{ℕ, _+_, _≤_, _<_}
+use Prim.Native.Nat.{ℕ, _*_, _≤_, _<_}
 use mathlib.Core.Path.{_≡_, refl, sym, ap, _∙_, subst}
 use mathlib.Core.Bool.{Bool, true, false}
 use mathlib.Core.List.{List, [], _∷_, _++_}
@@ -30,7 +30,7 @@ use Rattle.arp.specs.Controller.{stepped}
 use Rattle.arp.specs.Heard.{answer, sentIn, receivedIn}
 use Rattle.arp.specs.History.{Event, Received, run}
 use Rattle.arp.specs.Numbers.{commandNumber}
-use Rattle.arp.specs.OneStep.{replyTrace, assignTrace}
+use Rattle.arp.specs.CommandTraces.{replyTrace, assignTrace}
 use Rattle.arp.specs.Replay.{Happened, Replied, Assigned, Other, released, replyIn, assigns, assignIn, readAs, handedOut, noCommand, again, NoneToPick, nextCommand, Story, story}
 use Rattle.arp.specs.Requests.{messageOf}
 use Rattle.arp.specs.declared.command.Command.{Command}
@@ -140,7 +140,7 @@ replied-exactly k tr u f = (there k, λ w. ap (λ (x : Command). readAs x tr) (w
     there NotOutstanding e = absurd (differ e)
 
 -- A COMPLETE ASSIGN: it is outstanding, and the trace is that Assign, acknowledged whole
-pub assigned-exactly : (k : Command) (tr : List ℕ) (u : Udid) (a : Address) → Fits u → a .0 < 128 → (readAs k tr ≡ Assigned u (a .0)) ↔ ((k ≡ Assign u a) × (tr ≡ assignTrace u (a .0)))
+pub assigned-exactly : (k : Command) (tr : List ℕ) (u : Udid) (a : Address) → Fits u → a .0 < 128 → (readAs k tr ≡ Assigned u (a .0)) ↔ ((k ≡ Assign u a) × (tr ≡ assignTrace (udidBytes u) (2 * a .0)))
 assigned-exactly k tr u a f h =
     (there k, λ w. ap (λ (x : Command). readAs x tr) (w .0) ∙ reads-assign u a tr f h .1 (w .1 ∙ sym (assign-symbols u (a .0) h)))
   where
@@ -158,13 +158,13 @@ assigned-exactly k tr u a f h =
         λ i. Assign (p i) (record { 0 = q i })
 
     own : (v : Udid) (c : Address) → readAs (Assign v c) tr ≡ Assigned u (a .0) → (readAs (Assign v c) tr ≡ Other) ⊎ (readAs (Assign v c) tr ≡ Assigned v (c .0))
-        → (Assign v c ≡ Assign u a) × (tr ≡ assignTrace u (a .0))
+        → (Assign v c ≡ Assign u a) × (tr ≡ assignTrace (udidBytes u) (2 * a .0))
     own v c e (inl q) = absurd (differ (sym q ∙ e))
     own v c e (inr q) =
         let m : Assign v c ≡ Assign u a = same v c (sym q ∙ e) in
         (m, reads-assign u a tr f h .0 (ap (λ (x : Command). readAs x tr) (sym m) ∙ e) ∙ assign-symbols u (a .0) h)
 
-    there : (k : Command) → readAs k tr ≡ Assigned u (a .0) → (k ≡ Assign u a) × (tr ≡ assignTrace u (a .0))
+    there : (k : Command) → readAs k tr ≡ Assigned u (a .0) → (k ≡ Assign u a) × (tr ≡ assignTrace (udidBytes u) (2 * a .0))
     there GetUdid e = absurd (replied (udidAt (receivedIn 9 tr) 0) (readAs GetUdid tr) (reply-cases (answer 9 tr) (receivedIn 9 tr)) e)
     there (Assign v c) e = own v c e (assign-cases v (c .0) (answer 8 tr) (sentIn 8 tr))
     there Nothing e = absurd (differ e)

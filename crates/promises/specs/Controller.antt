@@ -28,7 +28,7 @@ use Rattle.arp.specs.Controller.{newController, started, stepped}
 use Rattle.arp.specs.History.{Event, Received, run, Invariant, Acknowledged}
 use Rattle.arp.specs.Lookup.{seen, lookedUp}
 use Rattle.arp.specs.Numbers.{commandNumber, lookupNumber}
-use Rattle.arp.specs.OneStep.{replyTrace, assignTrace}
+use Rattle.arp.specs.CommandTraces.{replyTrace, assignTrace}
 use Rattle.arp.specs.Replay.{Started, Replied, Assigned, Table, released, replyIn, assignIn, readAs, numberOf, noCommand, again, NoneToPick, nextPrepare, nextReply, nextCommand, story, Told, tracesAlone}
 use Rattle.arp.specs.Requests.{traceOf}
 use Rattle.arp.specs.declared.command.Command.{Command}
@@ -220,7 +220,7 @@ pub record Reading (tr : List ℕ) : Type 0 where
   -- as symbols: a reply, exactly if Get UDID is outstanding and the trace is Get UDID with 17 bytes, the identifier's first
   pub replied : (k : Command) (u : Udid) → Fits u → (readAs k tr ≡ Replied u) ↔ ((k ≡ GetUdid) × ReplyOf u tr)
   -- a complete Assign, exactly if it is outstanding and the trace is that Assign, acknowledged whole
-  pub assigned : (k : Command) (u : Udid) (a : Address) → Fits u → a .0 < 128 → (readAs k tr ≡ Assigned u (a .0)) ↔ ((k ≡ Assign u a) × (tr ≡ assignTrace u (a .0)))
+  pub assigned : (k : Command) (u : Udid) (a : Address) → Fits u → a .0 < 128 → (readAs k tr ≡ Assigned u (a .0)) ↔ ((k ≡ Assign u a) × (tr ≡ assignTrace (udidBytes u) (2 * a .0)))
   -- and no trace is a start
   pub no-start : (k : Command) → readAs k tr ≡ Started → ⊥
 

@@ -1,7 +1,7 @@
 -- A STEP OF THE CONTROLLER, sentence by sentence as the scope has them: for every state and every trace, what the step hands out and what
 -- becomes of each address. The traces are written out as symbols, and the numbers are those that decode answers (arp/specs/OneStep).
 -- For every trace one of the sentences speaks, and they leave one result: one-step.
-use Prim.Native.Nat.{ℕ, _≤_, _<_}
+use Prim.Native.Nat.{ℕ, _*_, _≤_, _<_}
 use mathlib.Core.Path.{_≡_, refl, sym, ap, _∙_, subst}
 use mathlib.Core.Bool.{true, false}
 use mathlib.Core.List.{List, [], _∷_, _++_}
@@ -22,7 +22,8 @@ use Rattle.arp.specs.Bindings.{heldAt}
 use Rattle.arp.specs.Controller.{stepped}
 use Rattle.arp.specs.History.{Event, run}
 use Rattle.arp.specs.Numbers.{commandNumber}
-use Rattle.arp.specs.OneStep.{prepareTrace, replyTrace, assignTrace, Gives, Asks, Binds, Continues, EndsWith, Replies, Alike}
+use Rattle.arp.specs.CommandTraces.{prepareTrace, replyTrace, assignTrace}
+use Rattle.arp.specs.OneStep.{Gives, Asks, Binds, Continues, EndsWith, Replies, Alike}
 use Rattle.arp.specs.Replay.{noCommand}
 use Rattle.arp.specs.declared.command.Command.{Command}
 use Rattle.arp.specs.declared.command.Command.the-variants.{Nothing, Prepare, GetUdid, Assign, Ended, NoneFree, Abandoned, NotOutstanding}
@@ -51,9 +52,9 @@ pub record Steps (s : Controller) (tr : List ℕ) (r : Stepped) : Type 0 where
   pub get-again : s .last ≡ GetUdid → ((xs : List ℕ) → Bytes xs → length xs ≤ 255 → tr ≡ replyTrace xs → ⊥) → ((b : ℕ) → b < 3 → Gives 9 tr 6 b → ⊥)
       → Continues s r
   -- Assign complete: bind, or claim, and add to the pool; Get UDID comes next
-  pub assign-whole : (u : Udid) (a : Address) → s .last ≡ Assign u a → Fits u → a .0 < 128 → tr ≡ assignTrace u (a .0) → Asks s r × Binds u (a .0) s (r .state)
+  pub assign-whole : (u : Udid) (a : Address) → s .last ≡ Assign u a → Fits u → a .0 < 128 → tr ≡ assignTrace (udidBytes u) (2 * a .0) → Asks s r × Binds u (a .0) s (r .state)
   -- any other answer: no binding, Get UDID again; a number above 127 is no address
-  pub assign-other : (u : Udid) (a : Address) → s .last ≡ Assign u a → a .0 < 128 → (tr ≡ assignTrace u (a .0) → ⊥) → Continues s r
+  pub assign-other : (u : Udid) (a : Address) → s .last ≡ Assign u a → a .0 < 128 → (tr ≡ assignTrace (udidBytes u) (2 * a .0) → ⊥) → Continues s r
   pub assign-no-address : (u : Udid) (a : Address) → s .last ≡ Assign u a → 127 < a .0 → Continues s r
   -- no command of a pass outstanding: 21, and the state stays as it is
   pub none-outstanding : noCommand (s .last) ≡ true → (r .state ≡ s) × (r .command ≡ NotOutstanding)
@@ -112,8 +113,8 @@ pub data Case (s : Controller) (tr : List ℕ) : Type 0 where
   Counted : s .last ≡ GetUdid → (xs : List ℕ) → Bytes xs → length xs ≤ 255 → (length xs ≡ 17 → ⊥) → tr ≡ replyTrace xs → Case s tr
   NobodyLeft : s .last ≡ GetUdid → (b : ℕ) → b < 3 → Gives 9 tr 6 b → Case s tr
   Again : s .last ≡ GetUdid → ((xs : List ℕ) → Bytes xs → length xs ≤ 255 → tr ≡ replyTrace xs → ⊥) → SomebodyLeft tr → Case s tr
-  Whole : (u : Udid) (a : Address) → s .last ≡ Assign u a → Fits u → a .0 < 128 → tr ≡ assignTrace u (a .0) → Case s tr
-  Other : (u : Udid) (a : Address) → s .last ≡ Assign u a → a .0 < 128 → (tr ≡ assignTrace u (a .0) → ⊥) → Case s tr
+  Whole : (u : Udid) (a : Address) → s .last ≡ Assign u a → Fits u → a .0 < 128 → tr ≡ assignTrace (udidBytes u) (2 * a .0) → Case s tr
+  Other : (u : Udid) (a : Address) → s .last ≡ Assign u a → a .0 < 128 → (tr ≡ assignTrace (udidBytes u) (2 * a .0) → ⊥) → Case s tr
   NoAddress : (u : Udid) (a : Address) → s .last ≡ Assign u a → 127 < a .0 → Case s tr
   Idle : noCommand (s .last) ≡ true → Case s tr
 
@@ -143,7 +144,7 @@ every-case s tr f = go (s .last) refl
     get e (inr n) (inl (b, w)) = six e n b w (decLt b 3)
     get e (inr n) (inr m) = Again e n (λ b l. m b)
 
-    assign : (u : Udid) (a : Address) → s .last ≡ Assign u a → Dec (a .0 < 128) → Dec (tr ≡ assignTrace u (a .0)) → Case s tr
+    assign : (u : Udid) (a : Address) → s .last ≡ Assign u a → Dec (a .0 < 128) → Dec (tr ≡ assignTrace (udidBytes u) (2 * a .0)) → Case s tr
     assign u a e (no l) d = NoAddress u a e (omega arith)
     assign u a e (yes l) (yes t) = Whole u a e (f u a e) l t
     assign u a e (yes l) (no t) = Other u a e l t
@@ -151,7 +152,7 @@ every-case s tr f = go (s .last) refl
     go : (k : Command) → s .last ≡ k → Case s tr
     go Prepare e = prepare e (same-trace tr prepareTrace) (six-or-not 1 tr refl)
     go GetUdid e = get e (reply-or-not s tr) (six-or-not 9 tr refl)
-    go (Assign u a) e = assign u a e (decLt (a .0) 128) (same-trace tr (assignTrace u (a .0)))
+    go (Assign u a) e = assign u a e (decLt (a .0) 128) (same-trace tr (assignTrace (udidBytes u) (2 * a .0)))
     go Nothing e = Idle (ap noCommand e)
     go Ended e = Idle (ap noCommand e)
     go (NoneFree u) e = Idle (ap noCommand e)
@@ -292,7 +293,7 @@ module _ (s : Controller) (tr : List ℕ) (f : FitsLast s) (r : Stepped) (h : St
       limit : Asks s r → 128 ≤ s .gets → commandNumber (r .command) ≡ (14, []) ∷ []
       limit a l = ap commandNumber (a .limit l .command)
 
-      assigned : (u : Udid) (a : Address) → s .last ≡ Assign u a → Dec (a .0 < 128) → Dec (tr ≡ assignTrace u (a .0)) → Asks s r
+      assigned : (u : Udid) (a : Address) → s .last ≡ Assign u a → Dec (a .0 < 128) → Dec (tr ≡ assignTrace (udidBytes u) (2 * a .0)) → Asks s r
       assigned u a e (no l) d = h .assign-no-address u a e (omega arith) .0
       assigned u a e (yes l) (yes t) = h .assign-whole u a e (f u a e) l t .0
       assigned u a e (yes l) (no t) = h .assign-other u a e l t .0
@@ -301,4 +302,4 @@ module _ (s : Controller) (tr : List ℕ) (f : FitsLast s) (r : Stepped) (h : St
       back (inl (e, n, m)) = ap commandNumber (h .prepare-other e n m .0 .command)
       back (inr (l, inl (e, t))) = limit (h .prepare-accepted e t .0) l
       back (inr (l, inr (inl (e, n, m)))) = limit (h .get-again e n m .0) l
-      back (inr (l, inr (inr (u, a, e)))) = limit (assigned u a e (decLt (a .0) 128) (same-trace tr (assignTrace u (a .0)))) l
+      back (inr (l, inr (inr (u, a, e)))) = limit (assigned u a e (decLt (a .0) 128) (same-trace tr (assignTrace (udidBytes u) (2 * a .0)))) l

@@ -24,11 +24,12 @@ use Rattle.udid.specs.Udids.{Fits, sameUdid}
 use Rattle.udid.specs.declared.Udid.{Udid}
 use Rattle.targets.specs.Target.{Target, mapTargets, prepared, assignedTo, cleared, resolve}
 use Rattle.arp.specs.TraceLaws.{prepare-trace, assign-row}
+use Rattle.arp.specs.CommandTraces.{prepareTrace, assignTrace}
 use Rattle.arp.specs.Requests.{traceOf}
 use Rattle.arp.specs.declared.command.Command.{Command}
 use Rattle.arp.specs.declared.command.Command.the-variants.{Nothing, Prepare, GetUdid, Assign, Ended, NoneFree, Abandoned, NotOutstanding}
 use Rattle.rule.specs.Acknowledge.{begins, acknowledges, somebody, answered, standing, sentPart, onBus}
-use Rattle.rule.specs.Effect.{preparing, assigning, addressIn, same, effect}
+use Rattle.rule.specs.Effect.{addressIn, same, effect}
 use Rattle.rule.specs.TraceLaws as on-bus
 
 -- ---- the test of lists
@@ -62,35 +63,35 @@ same-false xs ys n = go (same xs ys) refl
 -- ---- THE THREE CASES
 
 -- the address byte of an Assign Address
-address-in : (id : List ℕ) (b : ℕ) → length id ≡ 16 → addressIn (assigning id b) ≡ b
+address-in : (id : List ℕ) (b : ℕ) → length id ≡ 16 → addressIn (assignTrace id b) ≡ b
 address-in id b e =
     getD-at (256 ∷ 194 ∷ 258 ∷ 4 ∷ 258 ∷ 17 ∷ 258 ∷ acked id) b (258 ∷ pecOf (194 ∷ 4 ∷ 17 ∷ (id ++ b ∷ [])) ∷ 258 ∷ 257 ∷ []) 0 39 (omega (arith, length-acked id))
 
 -- Prepare To ARP clears the flag
-pub effect-prepare : (t : Target) → effect preparing t ≡ record { udid = t .udid; addressByte = t .addressByte; flag = 0 }
+pub effect-prepare : (t : Target) → effect prepareTrace t ≡ record { udid = t .udid; addressByte = t .addressByte; flag = 0 }
 unfolding effect same
 effect-prepare t = refl
 
 -- Assign Address with the target's own identifier: it takes the address, and sets the flag
-pub effect-assign : (t : Target) (b : ℕ) → b < 256 → effect (assigning (udidBytes (t .udid)) b) t ≡ record { udid = t .udid; addressByte = 2 * (b / 2) + 1; flag = 1 }
+pub effect-assign : (t : Target) (b : ℕ) → b < 256 → effect (assignTrace (udidBytes (t .udid)) b) t ≡ record { udid = t .udid; addressByte = 2 * (b / 2) + 1; flag = 1 }
 unfolding effect
 effect-assign t b h =
-    let e : addressIn (assigning (udidBytes (t .udid)) b) ≡ b = address-in (udidBytes (t .udid)) b (length-udid (t .udid)) in
-    let p : same (assigning (udidBytes (t .udid)) b) preparing ≡ false = same-false _ _ (λ q. other (ap (λ (l : List ℕ). getD l 3 0) q)) in
-    rw (p, e, lt-ltb b 256 h, same-self (assigning (udidBytes (t .udid)) b))
+    let e : addressIn (assignTrace (udidBytes (t .udid)) b) ≡ b = address-in (udidBytes (t .udid)) b (length-udid (t .udid)) in
+    let p : same (assignTrace (udidBytes (t .udid)) b) prepareTrace ≡ false = same-false _ _ (λ q. other (ap (λ (l : List ℕ). getD l 3 0) q)) in
+    rw (p, e, lt-ltb b 256 h, same-self (assignTrace (udidBytes (t .udid)) b))
   where
     other : _≡_ {A = ℕ} 4 1 → ⊥
     other q = omega arith
 
 -- any other trace leaves it
-pub effect-none : (tr : List ℕ) (t : Target) → (tr ≡ preparing → ⊥) → ((b : ℕ) → b < 256 → tr ≡ assigning (udidBytes (t .udid)) b → ⊥) → effect tr t ≡ t
+pub effect-none : (tr : List ℕ) (t : Target) → (tr ≡ prepareTrace → ⊥) → ((b : ℕ) → b < 256 → tr ≡ assignTrace (udidBytes (t .udid)) b → ⊥) → effect tr t ≡ t
 unfolding effect
-effect-none tr t n m = rw (same-false tr preparing n) (go (ltb (addressIn tr) 256) refl (same tr (assigning (udidBytes (t .udid)) (addressIn tr))) refl)
+effect-none tr t n m = rw (same-false tr prepareTrace n) (go (ltb (addressIn tr) 256) refl (same tr (assignTrace (udidBytes (t .udid)) (addressIn tr))) refl)
   where
     taken : Target
     taken = record { udid = t .udid; addressByte = 2 * (addressIn tr / 2) + 1; flag = 1 }
 
-    go : (a : Bool) → ltb (addressIn tr) 256 ≡ a → (b : Bool) → same tr (assigning (udidBytes (t .udid)) (addressIn tr)) ≡ b → pick (and a b) taken t ≡ t
+    go : (a : Bool) → ltb (addressIn tr) 256 ≡ a → (b : Bool) → same tr (assignTrace (udidBytes (t .udid)) (addressIn tr)) ≡ b → pick (and a b) taken t ≡ t
     go true h true e = absurd (m (addressIn tr) (ltb-true _ _ h) (same-true _ _ e))
     go true h false e = refl
     go false h b e = refl
@@ -109,7 +110,7 @@ unfolding bytesIn
 bytes-in [] l = refl
 bytes-in (x ∷ id) l = ap (λ (r : List ℕ). x ∷ r) (bytes-in id l)
 
-identifier-in : (id : List ℕ) (b : ℕ) → length id ≡ 16 → bytesIn 16 (drop 7 (assigning id b)) ≡ id
+identifier-in : (id : List ℕ) (b : ℕ) → length id ≡ 16 → bytesIn 16 (drop 7 (assignTrace id b)) ≡ id
 identifier-in id b e =
     let l : List ℕ = b ∷ 258 ∷ pecOf (194 ∷ 4 ∷ 17 ∷ (id ++ b ∷ [])) ∷ 258 ∷ 257 ∷ [] in
     ap (λ (n : ℕ). bytesIn n (acked id ++ l)) (sym e) ∙ bytes-in id l
@@ -126,7 +127,7 @@ quiet-acked (b ∷ bs) l h q = ((λ e. byte b (h .0) e), ((λ e. omega arith), q
     byte : (b : ℕ) → b < 256 → b ≡ 259 → ⊥
     byte b h e = omega arith
 
-quiet-assigning : (id : List ℕ) (b : ℕ) → Bytes id → b < 256 → Quiet (assigning id b)
+quiet-assigning : (id : List ℕ) (b : ℕ) → Bytes id → b < 256 → Quiet (assignTrace id b)
 quiet-assigning id b h g =
     let p = pec-byte 0 (194 ∷ 4 ∷ 17 ∷ (id ++ b ∷ [])) (omega arith) (omega arith, (omega arith, (omega arith, append-bytes id (b ∷ []) h (g, tt)))) in (
       λ e. omega arith,
@@ -217,17 +218,17 @@ effect-own : (u : Udid) (a : Address) (ts : List Target) (t : Target) → Among 
     → effect (onBus (Assign u a) ts) t ≡ record { udid = t .udid; addressByte = 2 * (a .0 % 128) + 1; flag = 1 }
 effect-own u a ts t m e =
     let n : 2 * (2 * (a .0 % 128) / 2) + 1 ≡ 2 * (a .0 % 128) + 1 = omega arith in
-    ap (λ (tr : List ℕ). effect tr t) (on-bus.assign-whole ts u a t m e ∙ assign-row u a ∙ ap (λ (v : Udid). assigning (udidBytes v) (2 * (a .0 % 128))) (sym e))
+    ap (λ (tr : List ℕ). effect tr t) (on-bus.assign-whole ts u a t m e ∙ assign-row u a ∙ ap (λ (v : Udid). assignTrace (udidBytes v) (2 * (a .0 % 128))) (sym e))
     ∙ effect-assign t (2 * (a .0 % 128)) (omega arith)
     ∙ ap (λ (b : ℕ). record { udid = t .udid; addressByte = b; flag = 1 }) n
 
 -- a trace that is an Assign Address of some identifier is that of the command's
-assign-only : (u : Udid) (a : Address) (ts : List Target) (id : List ℕ) (b : ℕ) → Bytes id → length id ≡ 16 → b < 256 → onBus (Assign u a) ts ≡ assigning id b → udidBytes u ≡ id
+assign-only : (u : Udid) (a : Address) (ts : List Target) (id : List ℕ) (b : ℕ) → Bytes id → length id ≡ 16 → b < 256 → onBus (Assign u a) ts ≡ assignTrace id b → udidBytes u ≡ id
 unfolding onBus standing same
 assign-only u a ts id b h l g q =
     let w : onBus (Assign u a) ts ≡ traceOf (Assign u a) [] =
     answered-quiet (λ (sent : List ℕ). somebody (acknowledges sent) ts) [] (sentPart (Assign u a)) (STOP ∷ []) (subst Quiet (sym q) (quiet-assigning id b h g)) in
-    let r : assigning (udidBytes u) (2 * (a .0 % 128)) ≡ assigning id b = sym (assign-row u a) ∙ sym w ∙ q in
+    let r : assignTrace (udidBytes u) (2 * (a .0 % 128)) ≡ assignTrace id b = sym (assign-row u a) ∙ sym w ∙ q in
     sym (identifier-in (udidBytes u) (2 * (a .0 % 128)) (length-udid u)) ∙ ap (λ (x : List ℕ). bytesIn 16 (drop 7 x)) r ∙ identifier-in id b l
 
 -- any other target
