@@ -5,3 +5,6 @@ pub mod Demand2
 pub mod Demand3
 pub mod Controller
 pub mod Steps
+pub mod Words
+pub mod MarkedWords
+pub mod Demands

@@ -1,0 +1,208 @@
+-- THE PAGE OF PROMISES: statements only. DemandsLaws has one inhabitant of each record, and so its proof.
+-- ≡ is 'equal', ↔ 'if and only if', × 'and', ⊎ 'or', P → ⊥ 'not P', (x : A) × P 'there is an x with P'; getD l i 0 is number i of the list l.
+-- A parameter such as (contract : Wrote ..) is what a function's `ensures` says, word for word. It need not be believed: the code meets it.
+-- BELIEVED
+use mathlib.Core.Path.{_≡_}
+use mathlib.Core.Bool.{Bool, true, false}
+use mathlib.Core.List.{List, [], _∷_, _++_}
+use mathlib.Core.Logic.{_⊎_, _↔_}
+use Prim.Native.Nat.{ℕ, suc, _+_, _*_, _/_, _%_, _^_, _≤_, _<_}
+use lib.ListN.{length, take, drop, getD, replicate}
+use Rattle.promises.specs.MarkedWords.{message, identifier, holding, Shows}
+use Rattle.promises.specs.Words.{Each, Bytes, isReserved, pecOf, Address, TraceOf, Message, encodeNumber, encoded, Wrote, Listed, Encoded, summary, Member, Fits, Breaks, CutAt, OtherPec, decodeNumber, Decoded, Done, Entered, answered, Outcome}
+use Rattle.promises.specs.Words.{member, emptyPool, startingPool, Pool, udidBytes, In128, Udid, heldAt, prepareTrace, replyTrace, assignTrace, newController, started, stepped, Event, Received, run, Acknowledged, Invariant, lookedUp, commandNumber, lookupNumber}
+use Rattle.promises.specs.Words.{Asks, Binds, Continues, EndsWith, Replies, Alike, protocolFor, messageOf, traceOf, Nothing, Prepare, GetUdid, Assign, Ended, Abandoned, NotOutstanding, Open, Bound, Claimed, Controller, Stepped}
+use Rattle.promises.specs.Words.{EvenOrFlag, SameAsEarlier, FixedOnTaken, LengthIsBad, None, FirstOf, targetsOf, recordsWith, movable, leftFree, pass, numberOf, askerOf, getsFor, Given, Ending, Distinct, ruled, Any, RecordOf, OnePerUdid, getsOnBus, noUdid, numberIn, modelNumber, Leaves, modelEnd, ModelAnswer}
+
+-- ---- DEMAND 1: EACH NUMBER, IF AND ONLY IF ITS CASE; A REFUSAL CHANGES NOTHING THAT WAS LENT
+
+-- a message as the encoder's types have it: its command and its data are bytes
+abbrev pub OfBytes : Message → Type 0
+OfBytes m = (m .command < 256) × Bytes (m .sent) × Bytes (m .received)
+
+-- encode of the message m, into an output that holds `before`: the answer r, and what the output holds after
+pub record Encodes (protocol : ℕ) (pec : Bool) (m : Message) (bytes : OfBytes m) (before : List ℕ) (r : Encoded) (after : List ℕ) (contract : Wrote protocol pec m before r after) : Type 0 where
+  pub encode-0 : (n : ℕ) → (encodeNumber r ≡ (0, n)) ↔ ((tr : List ℕ) × TraceOf protocol pec m tr × (length tr ≡ n) × (n ≤ length before))
+  pub encode-1 : (encodeNumber r ≡ (1, 0)) ↔ Listed protocol pec m
+  pub encode-2 : (encodeNumber r ≡ (2, 0)) ↔ ((tr : List ℕ) × TraceOf protocol pec m tr × (length before < length tr))
+  -- with 0 the trace stands at the front, and the rest is as it was
+  pub written : encodeNumber r .0 ≡ 0 → (tr : List ℕ) → TraceOf protocol pec m tr → after ≡ tr ++ drop (length tr) before
+  pub untouched : (encodeNumber r .0 ≡ 0 → ⊥) → after ≡ before
+
+-- decode of the trace tr, with two buffers that hold sent₀ and received₀: the answer a, and what they hold after. k is a place, b a byte's number
+pub record Decodes (protocol : ℕ) (pec : Bool) (tr sent₀ received₀ : List ℕ) (a : Decoded) (sent received : List ℕ) (contract : Outcome protocol pec tr sent₀ received₀ a sent received) : Type 0 where
+  pub decode-0 : (decodeNumber a ≡ (0, 0)) ↔ (Entered protocol pec sent₀ received₀ × ((m : Message) × TraceOf protocol pec m tr))
+  pub decode-1 : (decodeNumber a ≡ (1, 0)) ↔ ((10 < protocol) ⊎ ((protocol ≡ 0) × (pec ≡ true)))
+  pub decode-2 : (decodeNumber a ≡ (2, 0)) ↔ ((protocol ≤ 10) × (protocol ≡ 0 → pec ≡ false) × ((length sent₀ < 255) ⊎ (length received₀ < 255)))
+  pub decode-3 : (k : ℕ) → (decodeNumber a ≡ (3, k)) ↔ (Entered protocol pec sent₀ received₀ × (Breaks protocol pec tr k × (259 < getD tr k 0)))
+  pub decode-4 : (n : ℕ) → (decodeNumber a ≡ (4, n)) ↔ (Entered protocol pec sent₀ received₀ × (Fits protocol pec tr × (Member protocol pec tr → ⊥) × (n ≡ length tr)))
+  pub decode-5 : (k : ℕ) → (decodeNumber a ≡ (5, k))
+      ↔ (Entered protocol pec sent₀ received₀ × (Breaks protocol pec tr k × (Member protocol pec (take k tr) → ⊥) × (getD tr k 0 ≤ 259)))
+  pub decode-6 : (b : ℕ) → (decodeNumber a ≡ (6, b)) ↔ (Entered protocol pec sent₀ received₀ × CutAt protocol pec tr b)
+  pub decode-7 : (k : ℕ) → (decodeNumber a ≡ (7, k)) ↔ (Entered protocol pec sent₀ received₀ × OtherPec protocol pec tr k)
+  pub decode-8 : (k : ℕ) → (decodeNumber a ≡ (8, k)) ↔ (Entered protocol pec sent₀ received₀ × ((k < length tr) × Member protocol pec (take k tr) × (getD tr k 0 ≤ 259)))
+  -- with 0 the message is handed over: its fields, and its data at the fronts of the buffers, which are as they were behind
+  pub handed : Entered protocol pec sent₀ received₀ → (m : Message) → TraceOf protocol pec m tr
+      → (a ≡ Done (summary protocol m)) × (sent ≡ m .sent ++ drop (length (m .sent)) sent₀) × (received ≡ m .received ++ drop (length (m .received)) received₀)
+  pub untouched : (decodeNumber a .0 ≡ 0 → ⊥) → (sent ≡ sent₀) × (received ≡ received₀)
+
+-- put_command: 1 if and only if Bad, else the trace tr, as encode writes it
+pub record Puts (Bad : Type 0) (tr before : List ℕ) (r : Encoded) (after : List ℕ) : Type 0 where
+  pub put-0 : (n : ℕ) → (encodeNumber r ≡ (0, n)) ↔ ((Bad → ⊥) × (n ≡ length tr) × (n ≤ length before))
+  pub put-1 : (encodeNumber r ≡ (1, 0)) ↔ Bad
+  pub put-2 : (encodeNumber r ≡ (2, 0)) ↔ ((Bad → ⊥) × (length before < length tr))
+  pub written : encodeNumber r .0 ≡ 0 → after ≡ tr ++ drop (length tr) before
+  pub untouched : (encodeNumber r .0 ≡ 0 → ⊥) → after ≡ before
+
+pub record Commands (reply before : List ℕ) (r : Encoded) (after : List ℕ) : Type 0 where
+  pub prepare : Wrote (protocolFor Prepare) true (messageOf Prepare reply) before r after → Puts ⊥ prepareTrace before r after
+  pub get : Wrote (protocolFor GetUdid) true (messageOf GetUdid reply) before r after → Puts (255 < length reply) (replyTrace reply) before r after
+  pub assign : (u : Udid) (a : Address) → Wrote (protocolFor (Assign u a)) true (messageOf (Assign u a) reply) before r after
+      → Puts (127 < a .0) (assignTrace (udidBytes u) (2 * a .0)) before r after
+
+-- lookup of the address a in the state s
+pub record LooksUp (s : Controller) (a : ℕ) : Type 0 where
+  pub lookup-0 : (u : Udid) → (lookupNumber (lookedUp s a) ≡ (0, u ∷ [])) ↔ ((a < 128) × (heldAt (s .slots) a ≡ Bound u))
+  pub lookup-1 : (lookupNumber (lookedUp s a) ≡ (1, [])) ↔ (127 < a)
+  pub lookup-15 : (lookupNumber (lookedUp s a) ≡ (15, [])) ↔ ((a < 128) × (heldAt (s .slots) a ≡ Open))
+  pub lookup-16 : (lookupNumber (lookedUp s a) ≡ (16, [])) ↔ ((a < 128) × (heldAt (s .slots) a ≡ Claimed))
+
+-- run_model over the records s and the binding buffer b, which hold s′ and b′ after. i is a record
+abbrev pub Refused : ModelAnswer → Type 0
+Refused r = (r .answer ≡ 2) ⊎ ((9 ≤ r .answer) × (r .answer ≤ 12))
+
+pub record Checks (occupied : Pool) (s b : List ℕ) (bytes : Bytes s) (r : ModelAnswer) (s′ b′ : List ℕ) (contract : Leaves (modelEnd occupied s b) r s′ b′) : Type 0 where
+  pub model-2 : (modelNumber r ≡ (2, 0)) ↔ (length b < 2048)
+  pub model-9 : (modelNumber r ≡ (9, 0)) ↔ ((2048 ≤ length b) × LengthIsBad s)
+  pub model-10 : (i : ℕ) → (modelNumber r ≡ (10, i)) ↔ ((2048 ≤ length b) × ((LengthIsBad s → ⊥) × FirstOf (EvenOrFlag s) (length s / 18) i))
+  pub model-11 : (i : ℕ) → (modelNumber r ≡ (11, i))
+      ↔ ((2048 ≤ length b) × ((LengthIsBad s → ⊥) × None (EvenOrFlag s) (length s / 18) × FirstOf (SameAsEarlier s) (length s / 18) i))
+  pub model-12 : (i : ℕ) → (modelNumber r ≡ (12, i)) ↔ ((2048 ≤ length b) × ((LengthIsBad s → ⊥) × None (EvenOrFlag s) (length s / 18)
+      × None (SameAsEarlier s) (length s / 18) × FirstOf (FixedOnTaken (startingPool occupied) s) (length s / 18) i))
+  pub untouched : Refused r → (s′ ≡ s) × (b′ ≡ b) × (r .udid ≡ noUdid) × (r .bound ≡ emptyPool) × (r .count ≡ 0) × (r .gets ≡ 0)
+
+-- ---- DEMAND 2: THE DECODER READS WHAT THE ENCODER WRITES, AND NOTHING ELSE
+
+pub record Demand2 (protocol : ℕ) (pec : Bool) : Type 0 where
+  -- what a call of the encoder wrote, a call of the decoder reads
+  pub there : (m : Message) (before : List ℕ) (r : Encoded) (after : List ℕ) → OfBytes m → Wrote protocol pec m before r after → (n : ℕ) → encodeNumber r ≡ (0, n)
+      → (sent₀ received₀ : List ℕ) (a : Decoded) (sent received : List ℕ) → 255 ≤ length sent₀ → 255 ≤ length received₀ → Outcome protocol pec (take n after) sent₀ received₀ a sent received
+      → (a ≡ Done (summary protocol m)) × (sent ≡ m .sent ++ drop (length (m .sent)) sent₀) × (received ≡ m .received ++ drop (length (m .received)) received₀)
+  -- what the decoder answers with 0 is the trace that the encoder writes for the message handed over, into any output that has room
+  pub back : (tr sent₀ received₀ : List ℕ) (a : Decoded) (sent received : List ℕ) → Outcome protocol pec tr sent₀ received₀ a sent received → decodeNumber a ≡ (0, 0)
+      → (m : Message) × OfBytes m × (a ≡ Done (summary protocol m)) × ((before : List ℕ) (r : Encoded) (after : List ℕ) → length tr ≤ length before
+      → Wrote protocol pec m before r after → (encodeNumber r ≡ (0, length tr)) × (take (length tr) after ≡ tr))
+  -- and a trace is that of one message alone
+  pub one : (m t : Message) (tr : List ℕ) → TraceOf protocol pec m tr → TraceOf protocol pec t tr → m ≡ t
+
+-- ---- DEMAND 3: THE RUN OVER THE BUS, BIT BY BIT, ENDS AS THE PLAIN RULE DOES
+
+-- `given` are the bindings of the plain rule over the targets of the records s, `ending` is its end
+pub record Meets (occupied : Pool) (s b : List ℕ) (given : List Given) (ending : Ending) (r : ModelAnswer) (s′ b′ : List ℕ) : Type 0 where
+  -- the answer: 0, or 13 with the identifier that asked; how many are bound; the Get UDIDs that stood on the bus, one more than that
+  pub answer : (r .answer ≡ numberOf ending) × (r .udid ≡ askerOf ending) × (r .place ≡ 0)
+  pub counted : r .count ≡ length given
+  pub gets : (r .gets ≡ getsOnBus occupied (targetsOf s)) × (r .gets ≡ getsFor (length s) (length given))
+  -- who is bound: targets of the records, to addresses that are neither reserved nor occupied, no two to one, each identifier once
+  pub who : Each (λ (g : Given). (i : ℕ) × (i < length s / 18) × RecordOf s i g) given
+  pub assignable : Each (λ (g : Given). (g .address < 128) × (isReserved (g .address) ≡ false) × (member occupied (g .address) ≡ false)) given
+  pub distinct : Distinct given × OnePerUdid given
+  pub bound : (a : ℕ) → a < 128 → (member (r .bound) a ≡ true) ↔ Any (λ (g : Given). g .address ≡ a) given
+  -- the binding buffer: who is bound stands at 16 times the address, zeros where nobody is, and all after 2,048 bytes as it was
+  pub bound-bytes : Each (λ (g : Given). take 16 (drop (16 * g .address) b′) ≡ udidBytes (g .who .udid)) given
+  pub free-bytes : (a : ℕ) → a < 128 → (Any (λ (g : Given). g .address ≡ a) given → ⊥) → take 16 (drop (16 * a) b′) ≡ replicate 16 0
+  pub rest : drop 2048 b′ ≡ drop 2048 b
+  -- the records: a bound one has twice its address plus 1 and flag 1, any other its address byte as it was and flag 0; no other byte changes
+  pub same-length : length s′ ≡ length s
+  pub bound-record : (i : ℕ) → i < length s / 18
+      → Each (λ (g : Given). RecordOf s i g → (getD s′ (18 * i + 16) 0 ≡ 2 * g .address + 1) × (getD s′ (18 * i + 17) 0 ≡ 1)) given
+  pub unbound-record : (i : ℕ) → i < length s / 18 → (Any (RecordOf s i) given → ⊥) → (getD s′ (18 * i + 16) 0 ≡ getD s (18 * i + 16) 0) × (getD s′ (18 * i + 17) 0 ≡ 0)
+  pub others : (j : ℕ) → j % 18 < 16 → getD s′ j 0 ≡ getD s j 0
+  -- all are bound if and only if the movable targets do not outnumber the addresses that the fixed ones leave free
+  pub all-bound : (r .count ≡ length (targetsOf s)) ↔ (movable (targetsOf s) ≤ leftFree (startingPool occupied) (targetsOf s))
+  -- and it is the end of the pass over the bus: the delivered steps and the targets, trace by trace
+  pub of-pass : (numberIn (commandNumber (pass occupied (targetsOf s) .now .command)) ≡ r .answer) × (s′ ≡ recordsWith (pass occupied (targetsOf s) .targets) s)
+      × ((a : ℕ) (u : Udid) → a < 128 → heldAt (pass occupied (targetsOf s) .now .state .slots) a ≡ Bound u → take 16 (drop (16 * a) b′) ≡ udidBytes u)
+
+pub record Demand3 (occupied : Pool) (s b : List ℕ) (bytes : Bytes s) (r : ModelAnswer) (s′ b′ : List ℕ) (contract : Leaves (modelEnd occupied s b) r s′ b′) : Type 0 where
+  pub meets : (Refused r → ⊥) → Meets occupied s b (ruled (startingPool occupied) (targetsOf s) .given) (ruled (startingPool occupied) (targetsOf s) .ending) r s′ b′
+
+-- ---- THE CONTROLLER
+
+-- no command of a pass is outstanding; the trace is no complete reply; nobody is left to answer Get UDID
+abbrev pub Idle : Controller → Type 0
+Idle s = (s .last ≡ Prepare → ⊥) × (s .last ≡ GetUdid → ⊥) × ((u : Udid) (a : Address) → s .last ≡ Assign u a → ⊥)
+
+abbrev pub NoReply : List ℕ → Type 0
+NoReply tr = (xs : List ℕ) → Bytes xs → length xs ≤ 255 → tr ≡ replyTrace xs → ⊥
+
+abbrev pub NobodyLeft : List ℕ → Type 0
+NobodyLeft tr = (b : ℕ) × (b < 3) × CutAt 9 true tr b
+
+-- A STEP, sentence by sentence: r is what comes of the state s and the trace tr
+pub record Steps (s : Controller) (tr : List ℕ) (r : Stepped) : Type 0 where
+  -- Prepare accepted: Get UDID. Answer 6: the pass ends, nobody there. Any other: 14
+  pub prepare-accepted : s .last ≡ Prepare → tr ≡ prepareTrace → Continues s r
+  pub prepare-nobody : s .last ≡ Prepare → (b : ℕ) → CutAt 1 true tr b → EndsWith s r Ended
+  pub prepare-other : s .last ≡ Prepare → (tr ≡ prepareTrace → ⊥) → ((b : ℕ) → CutAt 1 true tr b → ⊥) → EndsWith s r Abandoned
+  -- Get UDID: a reply of 17 bytes is served. Another count, or answer 6 at byte 0, 1 or 2: the pass ends. Any other: Get UDID again
+  pub get-reply : s .last ≡ GetUdid → (u : Udid) (b : ℕ) → In128 u → b < 256 → tr ≡ replyTrace (udidBytes u ++ b ∷ []) → Replies s u b r
+  pub get-count : s .last ≡ GetUdid → (xs : List ℕ) → Bytes xs → length xs ≤ 255 → (length xs ≡ 17 → ⊥) → tr ≡ replyTrace xs → EndsWith s r Ended
+  pub get-nobody : s .last ≡ GetUdid → NobodyLeft tr → EndsWith s r Ended
+  pub get-again : s .last ≡ GetUdid → NoReply tr → (NobodyLeft tr → ⊥) → Continues s r
+  -- Assign complete: bind, or claim, and add to the pool. Any other: no binding. Get UDID comes next; a number above 127 is no address
+  pub assign-whole : (u : Udid) (a : Address) → s .last ≡ Assign u a → In128 u → a .0 < 128 → tr ≡ assignTrace (udidBytes u) (2 * a .0) → Asks s r × Binds u (a .0) s (r .state)
+  pub assign-other : (u : Udid) (a : Address) → s .last ≡ Assign u a → (a .0 < 128 → tr ≡ assignTrace (udidBytes u) (2 * a .0) → ⊥) → Continues s r
+  -- no command outstanding: 21, and the state stays as it is
+  pub none-outstanding : Idle s → (r .state ≡ s) × (r .command ≡ NotOutstanding)
+
+-- the numbers of a step, each if and only if its case
+pub record StepNumbers (s : Controller) (tr : List ℕ) (r : Stepped) : Type 0 where
+  pub step-0 : (commandNumber (r .command) ≡ (0, []) ∷ []) ↔ (((s .last ≡ Prepare) × ((b : ℕ) × CutAt 1 true tr b))
+      ⊎ ((s .last ≡ GetUdid) × (NobodyLeft tr ⊎ ((xs : List ℕ) × Bytes xs × (length xs ≤ 255) × (length xs ≡ 17 → ⊥) × (tr ≡ replyTrace xs)))))
+  pub step-13 : (u : Udid) → (commandNumber (r .command) ≡ (13, u ∷ []) ∷ []) ↔ ((s .last ≡ GetUdid) × ((b : ℕ) × In128 u × (b < 256) × (tr ≡ replyTrace (udidBytes u ++ b ∷ []))
+      × ((b ≡ 0xFF) ⊎ ((64 ≤ getD (udidBytes u) 0 0) × (member (r .state .pool) (b / 2) ≡ true))) × ((a : ℕ) → a < 128 → member (r .state .pool) a ≡ true)))
+  pub step-14 : (commandNumber (r .command) ≡ (14, []) ∷ []) ↔ (((s .last ≡ Prepare) × (tr ≡ prepareTrace → ⊥) × ((b : ℕ) → CutAt 1 true tr b → ⊥)) ⊎ ((128 ≤ s .gets)
+      × (((s .last ≡ Prepare) × (tr ≡ prepareTrace)) ⊎ (((s .last ≡ GetUdid) × NoReply tr × (NobodyLeft tr → ⊥)) ⊎ ((u : Udid) × (a : Address) × (s .last ≡ Assign u a))))))
+  pub step-21 : (commandNumber (r .command) ≡ (21, []) ∷ []) ↔ Idle s
+
+-- a state has a slot for each address, and the identifier of an outstanding Assign has 128 bits
+abbrev pub Sound : Controller → Type 0
+Sound s = (length (s .slots) ≡ 128) × ((u : Udid) (a : Address) → s .last ≡ Assign u a → In128 u)
+
+pub record Control : Type 0 where
+  pub new : (occupied : Pool) → (newController occupied .starting ≡ startingPool occupied) × (newController occupied .last ≡ Nothing)
+  pub start : (s : Controller) → (started s .command ≡ Prepare) × (started s .state .last ≡ Prepare) × (started s .state .gets ≡ 0)
+      × (started s .state .pool ≡ s .starting) × (started s .state .starting ≡ s .starting) × ((a : ℕ) → heldAt (started s .state .slots) a ≡ Open)
+  -- every step is as the sentences say; they leave one result; and its number is given in its case alone
+  pub step : (s : Controller) (tr : List ℕ) → Sound s → Steps s tr (stepped s tr) × StepNumbers s tr (stepped s tr)
+  pub one-step : (s : Controller) (tr : List ℕ) (r q : Stepped) → Sound s → Steps s tr r → Steps s tr q → Alike r q
+  -- over any starts and traces, the latest first: the state is sound, no address is bound to two, no identifier is bound twice ..
+  pub reached : (occupied : Pool) (es : List Event) → Sound (run occupied es) × Invariant occupied (run occupied es)
+  -- .. what lookup answers was assigned in this pass, and acknowledged byte for byte; a claim stays
+  pub acknowledged : (occupied : Pool) (es : List Event) (a : ℕ) (u : Udid) → lookupNumber (lookedUp (run occupied es) a) ≡ (0, u ∷ []) → Acknowledged occupied es u a
+  pub claim-stays : (occupied : Pool) (es : List Event) (tr : List ℕ) (a : ℕ) → heldAt (run occupied es .slots) a ≡ Claimed → heldAt (run occupied (Received tr ∷ es) .slots) a ≡ Claimed
+
+-- ---- THE MARKED CASES, whatever binding buffer of at least 2,048 bytes is lent
+
+pub record Marked (b : List ℕ) (room : 2048 ≤ length b) : Type 0 where
+  pub m1 : (pecOf [] ≡ 0x00) × (pecOf (0x01 ∷ []) ≡ 0x07) × (pecOf (0x80 ∷ []) ≡ 0x89)
+  pub m2 : traceOf Prepare [] ≡ 256 ∷ 194 ∷ 258 ∷ 1 ∷ 258 ∷ 192 ∷ 258 ∷ 257 ∷ []
+  pub m3 : TraceOf 2 true (message 0x0C 0 [] (0x4F ∷ [])) (256 ∷ 25 ∷ 258 ∷ 79 ∷ 258 ∷ 0 ∷ 259 ∷ 257 ∷ [])
+  pub m4 : pecOf (0xC2 ∷ 0x02 ∷ []) ≡ 0xC9
+  pub m5 : TraceOf 9 false (message 0x10 0x07 [] []) (256 ∷ 32 ∷ 258 ∷ 7 ∷ 258 ∷ 256 ∷ 33 ∷ 258 ∷ 0 ∷ 259 ∷ 257 ∷ [])
+  pub m6 : (encodeNumber (encoded 10 false (message 0x10 7 (replicate 200 0) (replicate 55 0)) 525) ≡ (0, 523)) × (encodeNumber (encoded 10 true (message 0x10 7 (replicate 200 0) (replicate 55 0)) 525) ≡ (0, 525))
+      × ((pec : Bool) → encodeNumber (encoded 10 pec (message 0x10 7 (replicate 200 0) (replicate 56 0)) 525) ≡ (1, 0))
+  pub m7 : (protocol : ℕ) (pec : Bool) → protocol ≤ 10 → (protocol ≡ 0 → pec ≡ false) → decodeNumber (answered protocol pec [] 255 255) ≡ (4, 0)
+  -- 80h.. with FFh, 00h.. fixed at 09h, 40h.. holding 20h, nothing occupied: 09h fixed, 20h kept, 0Ah given to 80h..; four Get UDIDs
+  pub m8 : Shows (modelEnd emptyPool (holding 0x80 0xFF 0 ++ holding 0x00 0x13 0 ++ holding 0x40 0x41 0) b)
+      (record { answer = 0; place = 0; udid = noUdid; bound = record { low = 2 ^ 0x09 + 2 ^ 0x0A + 2 ^ 0x20; high = 0 }; count = 3; gets = 4 })
+      (holding 0x80 0x15 1 ++ holding 0x00 0x13 1 ++ holding 0x40 0x41 1) (0x09 ∷ 0x0A ∷ 0x0B ∷ 0x20 ∷ []) (identifier 0x00 ++ identifier 0x80 ++ replicate 16 0 ++ identifier 0x40)
+  -- two movable targets, the smaller with none, the larger holding 09h: 09h and 0Ah
+  pub m9 : Shows (modelEnd emptyPool (holding 0x40 0xFF 0 ++ holding 0x80 0x13 0) b)
+      (record { answer = 0; place = 0; udid = noUdid; bound = record { low = 2 ^ 0x09 + 2 ^ 0x0A; high = 0 }; count = 2; gets = 3 })
+      (holding 0x40 0x13 1 ++ holding 0x80 0x15 1) (0x09 ∷ 0x0A ∷ 0x0B ∷ []) (identifier 0x40 ++ identifier 0x80 ++ replicate 16 0)
+  -- all 128 occupied, one movable target: 13, none bound, one Get UDID
+  pub m10 : Shows (modelEnd (record { low = 18446744073709551615; high = 18446744073709551615 }) (holding 0x80 0x41 1) b)
+      (record { answer = 13; place = 0; udid = record { high = 0x80 * 2 ^ 56; low = 1 }; bound = emptyPool; count = 0; gets = 1 })
+      (holding 0x80 0x41 0) (0x09 ∷ 0x20 ∷ []) (replicate 32 0)
