@@ -10,7 +10,7 @@ use borrow.Author.Tests.{eqb-true, eqb-false}
 use borrow.Rule.Slice.PartMut.{putMid}
 use Rattle.lists.specs.Choice.{pick, or}
 use Rattle.lists.specs.Onto.{onto}
-use Rattle.lists.specs.ListLaws.{lent}
+use Rattle.lists.specs.OntoLaws.{onto-lent}
 use Rattle.wire.specs.Addresses.{hostAddress}
 use Rattle.wire.specs.Symbols.{START, STOP, ACK}
 use Rattle.wire.specs.Pec as Pec
@@ -123,5 +123,5 @@ module _ (sh : Shape) (p : Bool) (t : Message) (l : List ℕ) (ready : Ready sh 
 
     pub trace-put : (ys : List ℕ) → ys ≡ onto (rest sh g (t .received) p y) (take (length l₁ - n) (drop n l₁)) → putMid n (length l₁ - n) l₁ ys ≡ onto (trace sh p t) l
     trace-put ys e =
-        lent (writePhase sh f (t .command) (t .sent)) (rest sh g (t .received) p y) l l₁ ys n e₁ (phase-length ∙ sym en) (omega (arith, write-asks)) e
+        onto-lent (writePhase sh f (t .command) (t .sent)) (rest sh g (t .received) p y) l l₁ ys n e₁ (phase-length ∙ sym en) (omega (arith, write-asks)) e
         ∙ ap (λ (a : List ℕ). onto a l) pieces

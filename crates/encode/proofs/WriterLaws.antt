@@ -9,7 +9,7 @@ use native.Mathlib.Omega.{arith}
 use lib.ListN.{length, take, drop, getD, set, length-append}
 use lib.Seq.{take-suc, length-take-le}
 use Rattle.lists.specs.Onto.{onto}
-use Rattle.lists.specs.ListLaws.{onto-put, onto-onto, onto-take}
+use Rattle.lists.specs.OntoLaws.{onto-put, onto-onto, onto-take}
 use Rattle.wire.specs.Symbols.{START, STOP, ACK, NACK}
 use Rattle.trace.specs.Trace.{acked, nacked, inPlace}
 use Rattle.trace.specs.LengthLaws.{length-acked, length-nacked}

@@ -8,7 +8,7 @@ use native.Mathlib.Omega.{arith}
 use lib.ListN.{length, take, drop, getD, List·getD-append}
 use lib.Seq.{take-at, drop-at}
 use Rattle.lists.specs.Onto.{onto}
-use Rattle.lists.specs.ListLaws.{length-onto}
+use Rattle.lists.specs.OntoLaws.{length-onto}
 use Rattle.trace.specs.Shapes.{shapeOf}
 use Rattle.trace.specs.Trace.{Message, trace}
 use Rattle.encode.specs.declared.Encoded.{Encoded}

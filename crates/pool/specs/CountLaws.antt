@@ -7,7 +7,7 @@ use native.Mathlib.Nat.{add-assoc, add-zero, zero-add, suc-add}
 use native.Mathlib.Omega.{arith}
 use lib.ListN.{length}
 use Rattle.lists.specs.Choice.{pick, or, and, not}
-use Rattle.wire.specs.AddressLaws.{passing}
+use Rattle.lists.specs.Passing.{passing}
 use Rattle.pool.specs.Counts.{one, count}
 
 pub count-add : (p : ℕ → Bool) (k l : ℕ) → count p (k + l) ≡ count p k + count (λ j. p (k + j)) l

@@ -9,7 +9,7 @@ use lib.Count.{ones}
 use lib.ListN.{length}
 use native.Mathlib.Nat.{zero-add}
 use Rattle.lists.specs.Choice.{pick}
-use Rattle.wire.specs.AddressLaws.{passing}
+use Rattle.lists.specs.Passing.{passing}
 use Rattle.wire.specs.declared.address.Address.{Address}
 use Rattle.pool.specs.Digits.{digit}
 use Rattle.pool.specs.DigitLaws.{ones-count}

@@ -7,7 +7,7 @@ use mathlib.Core.Logic.{_↔_}
 use native.Mathlib.Omega.{arith}
 use lib.Dec.{eqb}
 use borrow.Author.Tests.{eqb-true, eq-eqb}
-use Rattle.wire.specs.AddressLaws.{passing}
+use Rattle.lists.specs.Passing.{passing}
 use Rattle.pool.specs.Digits.{digit}
 use Rattle.pool.specs.MemberLaws.{member-low, member-high}
 use Rattle.pool.specs.Pools.{member}

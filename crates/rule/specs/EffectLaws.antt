@@ -10,7 +10,8 @@ use lib.ListN.{length, getD, drop}
 use lib.Seq.{getD-at}
 use borrow.Author.Tests.{eq-eqb, eqb-true, lt-ltb, ltb-true}
 use Rattle.lists.specs.Choice.{pick, and}
-use Rattle.lists.specs.Each.{Each, Bytes, append-bytes}
+use Rattle.lists.specs.EachLaws.{append-bytes}
+use Rattle.lists.specs.Each.{Each, Bytes}
 use Rattle.wire.specs.Pec.{pecOf}
 use Rattle.wire.specs.PecLaws.{pec-byte}
 use Rattle.wire.specs.Symbols.{STOP, ACK, NACK}

@@ -5,7 +5,8 @@ use mathlib.Core.List.{List, [], _∷_, _++_}
 use Prim.Native.Nat.{ℕ, _+_, _≤_, _<_, _%_}
 use native.Mathlib.Omega.{arith}
 use Rattle.lists.specs.Choice.{pick}
-use Rattle.lists.specs.Each.{Bytes, append-bytes}
+use Rattle.lists.specs.EachLaws.{append-bytes}
+use Rattle.lists.specs.Each.{Bytes}
 use Rattle.wire.specs.PecLaws as PecLaws
 use Rattle.trace.specs.declared.shape.Part.{Part}
 use Rattle.trace.specs.declared.shape.Part.the-variants.{Nothing, Fixed, Counted}

@@ -5,7 +5,8 @@ use mathlib.Core.Logic.{_⊎_, inl, inr, _↔_}
 use Prim.Native.Nat.{ℕ, zero, suc, _+_, _≤_, _<_}
 use native.Mathlib.Omega.{arith}
 use lib.ListN.{length, length-append}
-use Rattle.lists.specs.Each.{Bytes, append-bytes}
+use Rattle.lists.specs.EachLaws.{append-bytes}
+use Rattle.lists.specs.Each.{Bytes}
 use Rattle.trace.specs.Shapes.{shapeOf}
 use Rattle.trace.specs.RowLaws.{by-row}
 use Rattle.trace.specs.Trace.{Message, Valid}

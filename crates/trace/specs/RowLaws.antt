@@ -5,7 +5,7 @@ use Prim.Native.Nat.{ℕ, zero, suc, _≤_}
 use native.Mathlib.Omega.{arith}
 use lib.Dec.{ltb, eqb}
 use Rattle.lists.specs.Choice.{or, not}
-use Rattle.lists.specs.Each.{each-at}
+use Rattle.lists.specs.EachLaws.{each-at}
 use Rattle.trace.specs.declared.shape.Part.the-variants.{Nothing}
 use Rattle.trace.specs.declared.shape.Shape.{Shape}
 use Rattle.trace.specs.Shapes.{row, shapes, shapeOf, writes, reads}

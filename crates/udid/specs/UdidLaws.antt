@@ -12,7 +12,8 @@ use lib.ListN.{length, getD, take, drop, replicate, length-append}
 use lib.Seq.{take-at, drop-at, take-add, drop-drop, length-take-le}
 use borrow.Author.Tests.{eqb-true, eq-eqb, ne-eqb, le-ltb}
 use Rattle.lists.specs.Choice.{pick, or, and}
-use Rattle.lists.specs.Each.{Bytes, append-bytes}
+use Rattle.lists.specs.EachLaws.{append-bytes}
+use Rattle.lists.specs.Each.{Bytes}
 use Rattle.udid.specs.Bytes.{number, numberFrom, bytesOf, bytesFrom, udidBytes, udidAt, less, putAt}
 use Rattle.udid.specs.ByteLaws.{number-lt, number-split, number-bytes, bytes-number, bytes-bytes, length-bytes, number-order, digits-order}
 use Rattle.udid.specs.Udids.{Fits, sameUdid, value, isBelow, topBits, isFixed}

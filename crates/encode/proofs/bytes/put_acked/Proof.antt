@@ -8,7 +8,7 @@ use lib.Seq.{take-all, length-take-le}
 use Rattle.trace.specs.Trace.{acked}
 use Rattle.lists.specs.Onto.{onto}
 use Rattle.encode.proofs.WriterLaws.{wider, acked-turn}
-use Rattle.lists.specs.ListLaws.{onto-front}
+use Rattle.lists.specs.OntoLaws.{onto-front}
 use Rattle.encode.proofs.bytes.put_acked.Statement.{statement}
 use Rattle.encode.proofs.bytes.put_acked.Tie as tie
 use Rattle.encode.proofs.bytes.put_acked.Reads as reads
