@@ -14,10 +14,11 @@ use borrow.Author.Tests.{ltb-true, ltb-false, lt-ltb, le-ltb, eqb-true, eq-eqb, 
 use Rattle.lists.specs.Choice.{pick, or, and}
 use Rattle.lists.specs.EachLaws.{append-bytes}
 use Rattle.lists.specs.Each.{Bytes}
+use Rattle.lists.specs.ChoiceLaws.{both-true}
 use Rattle.wire.specs.Addresses.{defaultAddress}
 use Rattle.wire.specs.Pec.{bitStep, pecStep, pecFrom, pecOf}
-use Rattle.trace.specs.ShapeLaws.{sane, both-true}
-use Rattle.trace.specs.Rows.{rows}
+use Rattle.trace.specs.ShapeLaws.{sane}
+use Rattle.trace.specs.RowsLaws.{rows}
 use Rattle.trace.specs.Lengths.{traceLength}
 use Rattle.trace.specs.LengthLaws.{trace-length}
 use Rattle.trace.specs.Shapes.{shapeOf}

@@ -11,7 +11,8 @@ use Rattle.lists.specs.Choice.{pick, or}
 use Rattle.lists.specs.Onto.{onto}
 use Rattle.trace.specs.declared.shape.Shape.{Shape}
 use Rattle.trace.specs.Shapes.{shapeOf, forbidden}
-use Rattle.trace.specs.ShapeLaws.{Sane, sane}
+use Rattle.trace.specs.Sane.{Sane}
+use Rattle.trace.specs.ShapeLaws.{sane}
 use Rattle.step.specs.declared.answer.Decoded.{Decoded}
 use Rattle.step.specs.declared.answer.Decoded.the-variants.{Forbidden, BufferTooShort}
 use Rattle.step.specs.Run.{decodedBy}

@@ -19,7 +19,7 @@ use Rattle.trace.specs.declared.shape.Part.{Part}
 use Rattle.trace.specs.declared.shape.Part.the-variants.{Nothing, Fixed, Counted}
 use Rattle.trace.specs.declared.shape.Shape.{Shape}
 use Rattle.trace.specs.Shapes.{some, writes, reads}
-use Rattle.trace.specs.ShapeLaws.{Small}
+use Rattle.trace.specs.Sane.{Small}
 use Rattle.trace.specs.Trace.{Message, W, R, laid, acked, nacked, LengthOf, counted, firstByte, front, bytes, pecOf, inPlace, byController, trace}
 use Rattle.trace.specs.LengthLaws.{length-acked}
 use Rattle.encode.specs.Pieces.{partBytes, firstOf, writeBytes, writePhase, repeatedStart, readBytes, readPhase, rest, bytesAfter, codeOf, Ready}

@@ -1,4 +1,4 @@
--- The tests of refusal 1 find exactly the cases that are listed.
+-- The tests of refusal 1 find exactly the cases that are listed, all of them and no other.
 use mathlib.Core.Path.{_≡_, refl, sym, ap, _∙_}
 use mathlib.Core.Logic.{_↔_}
 use mathlib.Core.Bool.{Bool, true, false}

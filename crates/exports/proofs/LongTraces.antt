@@ -15,7 +15,7 @@ use Rattle.trace.specs.Shapes.{shapeOf, forbidden, reads}
 use Rattle.trace.specs.ShapeLaws.{sane}
 use Rattle.trace.specs.Trace.{Message, inPlace, nacked, laid, byTarget, byController, traceAt, trace, Valid}
 use Rattle.trace.specs.LengthLaws.{length-at, trace-length}
-use Rattle.trace.specs.TableLengths.{longest}
+use Rattle.trace.specs.ColumnsLaws.{longest}
 use Rattle.step.specs.declared.answer.Decoded.{Decoded}
 use Rattle.step.specs.declared.answer.Decoded.the-variants.{Done, Forbidden, BufferTooShort, NoSymbol, EndsEarly, Unexpected, NotAcknowledged, PecDiffers, AfterStop}
 use Rattle.step.specs.declared.state.Decoder.{Decoder}

@@ -15,7 +15,7 @@ use Rattle.encode.specs.declared.Encoded.{Encoded}
 use Rattle.encode.specs.declared.Encoded.the-variants.{Written, Forbidden, OutputTooShort}
 use Rattle.encode.specs.Encode.{encoded, symbolsOf}
 use Rattle.encode.specs.Listed.{Listed}
-use Rattle.encode.specs.EncodeMeans.{forbidden-exactly, too-short-exactly, written-exactly}
+use Rattle.encode.specs.EncodeLaws.{forbidden-exactly, too-short-exactly, written-exactly}
 use Rattle.exports.specs.declared.codec.HbWritten.{HbWritten}
 use Rattle.exports.specs.Pairs.{pairsOf, length-pairs}
 use Rattle.exports.specs.PairLaws.{pair-at}

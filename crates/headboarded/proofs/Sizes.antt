@@ -17,7 +17,7 @@ use Rattle.decode.specs.Outcome.{short, answered}
 use Rattle.encode.specs.declared.Encoded.{Encoded}
 use Rattle.encode.specs.declared.Encoded.the-variants.{Written}
 use Rattle.encode.specs.Encode.{encoded}
-use Rattle.encode.specs.EncodeMeans.{written-exactly}
+use Rattle.encode.specs.EncodeLaws.{written-exactly}
 
 -- a trace that was written has no more symbols than the output
 pub written-fits : (protocol : ℕ) (pec : Bool) (t : Message) (room n : ℕ) (r : Encoded) → r ≡ encoded protocol pec t room → r ≡ Written n → n ≤ room

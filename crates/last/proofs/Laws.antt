@@ -7,11 +7,11 @@ use lib.ListN.{length, take}
 use lib.Dec.{leb}
 use borrow.Author.Tests.{leb-true}
 use Rattle.lists.specs.Choice.{pick, and}
+use Rattle.lists.specs.ChoiceLaws.{both-true}
 use Rattle.trace.specs.declared.shape.Shape.{Shape}
 use Rattle.trace.specs.declared.transaction.Transaction.{Transaction}
 use Rattle.trace.specs.Shapes.{reads, shapeOf}
 use Rattle.trace.specs.Allowed.{lengthsFit}
-use Rattle.trace.specs.ShapeLaws.{both-true}
 use Rattle.last.specs.declared.Chosen.{Chosen}
 use Rattle.last.specs.Last.{belongs, part, chosen}
 

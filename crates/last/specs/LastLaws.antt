@@ -8,12 +8,12 @@ use lib.ListN.{length, take}
 use lib.Dec.{leb}
 use borrow.Author.Tests.{leb-true, le-leb}
 use Rattle.lists.specs.Choice.{pick, and}
+use Rattle.lists.specs.ChoiceLaws.{both-true}
 use Rattle.trace.specs.declared.transaction.Transaction.{Transaction}
 use Rattle.trace.specs.Shapes.{reads, shapeOf}
 use Rattle.trace.specs.Allowed.{lengthsFit}
 use Rattle.trace.specs.DataFits.{DataFits}
 use Rattle.trace.specs.DataFitsLaws.{fits-data, data-fits}
-use Rattle.trace.specs.ShapeLaws.{both-true}
 use Rattle.last.specs.Last.{belongs, chosen, lastData, lastPlace}
 
 -- received for 2, 5, 6, 7, 9 and 10; sent for 1, 3, 4 and 8, and for Quick, which has nothing to send

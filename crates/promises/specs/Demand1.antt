@@ -22,7 +22,7 @@ use Rattle.trace.specs.declared.transaction.Transaction.{Transaction}
 use Rattle.encode.specs.declared.Encoded.{Encoded}
 use Rattle.encode.specs.Encode.{encodeNumber, Wrote}
 use Rattle.encode.specs.Listed.{Listed}
-use Rattle.encode.specs.EncodeMeans as encode
+use Rattle.encode.specs.EncodeLaws as encode
 use Rattle.step.specs.Answers.{Breaks, CutAt, Fits, Member, OtherPec, summary}
 use Rattle.step.specs.BytesInLaws.{byte-more}
 use Rattle.step.specs.Numbers.{decodeNumber}

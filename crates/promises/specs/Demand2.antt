@@ -17,7 +17,7 @@ use Rattle.trace.specs.Trace.{Message, trace, Valid}
 use Rattle.encode.specs.declared.Encoded.{Encoded}
 use Rattle.encode.specs.declared.Encoded.the-variants.{Written}
 use Rattle.encode.specs.Encode.{Wrote}
-use Rattle.encode.specs.EncodeMeans.{written-valid, front-is-trace}
+use Rattle.encode.specs.EncodeLaws.{written-valid, front-is-trace}
 use Rattle.step.specs.declared.answer.Decoded.{Decoded}
 use Rattle.step.specs.declared.answer.Decoded.the-variants.{Done}
 use Rattle.step.specs.Handed.{sentData, receivedData}

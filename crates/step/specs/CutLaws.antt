@@ -11,7 +11,7 @@ use Rattle.lists.specs.Choice.{pick}
 use Rattle.lists.specs.Each.{Bytes}
 use Rattle.trace.specs.declared.shape.Shape.{Shape}
 use Rattle.trace.specs.Shapes.{writes, reads}
-use Rattle.trace.specs.ShapeLaws.{Sane}
+use Rattle.trace.specs.Sane.{Sane}
 use Rattle.trace.specs.LengthLaws.{length-acked}
 use Rattle.trace.specs.Trace.{acked, front, firstByte, inPlace}
 use Rattle.step.specs.BytesIn.{bytesIn}

@@ -16,7 +16,7 @@ use Rattle.trace.specs.declared.transaction.Transaction.{Transaction}
 use Rattle.trace.specs.Shapes.{some, writes, reads}
 use Rattle.trace.specs.Trace.{Message, W, R, laid, acked, ackOf, nacked, firstByte, byTarget, traceAt, inPlace, LengthOf, counted, Valid}
 use Rattle.trace.specs.LengthLaws.{length-nacked, length-place}
-use Rattle.trace.specs.ShapeLaws.{Sane}
+use Rattle.trace.specs.Sane.{Sane}
 use Rattle.step.specs.Run.{dataLength, transaction}
 use Rattle.step.specs.Handed.{countPlaces, sentPlace, receivedPlace, lows}
 use Rattle.step.specs.Answers.{summary}

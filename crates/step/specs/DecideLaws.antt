@@ -13,7 +13,7 @@ use Rattle.wire.specs.Symbols.{NACK}
 use Rattle.trace.specs.declared.shape.Shape.{Shape}
 use Rattle.trace.specs.declared.transaction.Transaction.{Transaction}
 use Rattle.trace.specs.Trace.{Message, traceAt, pecOf, inPlace, trace, Valid}
-use Rattle.trace.specs.ShapeLaws.{Sane}
+use Rattle.trace.specs.Sane.{Sane}
 use Rattle.step.specs.declared.state.Slot.{Slot}
 use Rattle.step.specs.declared.state.Slot.the-variants.{End}
 use Rattle.step.specs.declared.state.Due.{Due}

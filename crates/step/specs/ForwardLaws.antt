@@ -19,7 +19,7 @@ use Rattle.trace.specs.declared.shape.Shape.{Shape}
 use Rattle.trace.specs.Shapes.{some, writes, reads, leastOf}
 use Rattle.trace.specs.Trace.{Message, W, R, laid, acked, ackOf, nacked, firstByte, front, byTarget, byController, pecOf, inPlace, LengthOf, counted, Valid}
 use Rattle.trace.specs.Allowed.{addressFits}
-use Rattle.trace.specs.ShapeLaws.{Sane}
+use Rattle.trace.specs.Sane.{Sane}
 use Rattle.trace.specs.ValidLaws.{address-there, sender-there}
 use Rattle.step.specs.declared.next.Aim.{Aim}
 use Rattle.step.specs.declared.state.Slot.the-variants.{First, Command, Count, Data, Pec, Restart, Second, ReadCount, ReadData, ReadPec, Stop, End}

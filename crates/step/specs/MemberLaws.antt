@@ -14,7 +14,7 @@ use Rattle.wire.specs.Symbols.{START, STOP, ACK, NACK}
 use Rattle.trace.specs.declared.shape.Shape.{Shape}
 use Rattle.trace.specs.Shapes.{leastOf}
 use Rattle.trace.specs.Trace.{Message, firstByte, byTarget, byController, traceAt, inPlace, Valid}
-use Rattle.trace.specs.ShapeLaws.{Sane}
+use Rattle.trace.specs.Sane.{Sane}
 use Rattle.step.specs.declared.state.Slot.{Slot}
 use Rattle.step.specs.declared.state.Slot.the-variants.{Start, First, Command, Count, Data, Pec, Restart, Second, ReadCount, ReadData, ReadPec, Stop, End}
 use Rattle.step.specs.declared.state.Due.{Due}

@@ -13,7 +13,7 @@ use Rattle.trace.specs.declared.shape.Part.the-variants.{Nothing, Fixed, Counte
 use Rattle.trace.specs.declared.shape.Shape.{Shape}
 use Rattle.trace.specs.Shapes.{writes, reads}
 use Rattle.trace.specs.Trace.{Message, laid, firstByte, front, bytes, pecOf, inPlace, counted, Valid}
-use Rattle.trace.specs.ShapeLaws.{Sane}
+use Rattle.trace.specs.Sane.{Sane}
 use Rattle.step.specs.ForwardLaws.{first-byte}
 
 laid-bytes : (a : Part) (s : List ℕ) → Bytes s → counted a s ≤ 255 → Bytes (laid a s)

@@ -10,6 +10,7 @@ use lib.Dec.{T, ltb, leb, eqb}
 use borrow.Author.Tests.{eqb-true, eqb-false, leb-true, ltb-true}
 use Rattle.lists.specs.Choice.{pick, or}
 use Rattle.lists.specs.Each.{Bytes}
+use Rattle.lists.specs.ChoiceLaws.{both-true}
 use Rattle.wire.specs.Symbols.{START, STOP, ACK, NACK}
 use Rattle.trace.specs.declared.shape.Part.{Part}
 use Rattle.trace.specs.declared.shape.Part.the-variants.{Nothing, Fixed, Counted}
@@ -17,7 +18,7 @@ use Rattle.trace.specs.declared.shape.Shape.{Shape}
 use Rattle.trace.specs.Shapes.{some, writes, reads, leastOf}
 use Rattle.trace.specs.Trace.{Message, W, R, laid, acked, ackOf, nacked, firstByte, traceAt, inPlace, LengthOf, counted}
 use Rattle.trace.specs.Allowed.{addressFits}
-use Rattle.trace.specs.ShapeLaws.{Sane, both-true}
+use Rattle.trace.specs.Sane.{Sane}
 use Rattle.trace.specs.ValidLaws.{address-back, sender-back}
 use Rattle.step.specs.declared.state.Slot.{Slot}
 use Rattle.step.specs.declared.state.Slot.the-variants.{Start, First, Command, Count, Data, Pec, Restart, Second, ReadCount, ReadData, ReadPec, Stop, End}

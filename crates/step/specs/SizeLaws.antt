@@ -14,7 +14,7 @@ use Rattle.trace.specs.declared.transaction.Transaction.{Transaction}
 use Rattle.trace.specs.Shapes.{some, writes}
 use Rattle.trace.specs.Trace.{Message, laid, acked, nacked, firstByte, byTarget, traceAt, pecOf, inPlace, LengthOf, counted}
 use Rattle.trace.specs.LengthLaws.{length-acked, length-nacked, length-place}
-use Rattle.trace.specs.ShapeLaws.{Small, Sane}
+use Rattle.trace.specs.Sane.{Small, Sane}
 use Rattle.step.specs.declared.answer.Decoded.{Decoded}
 use Rattle.step.specs.declared.answer.Decoded.the-variants.{Done, Forbidden, BufferTooShort, NoSymbol, EndsEarly, Unexpected, NotAcknowledged, PecDiffers, AfterStop}
 use Rattle.step.specs.Run.{decodedBy}
