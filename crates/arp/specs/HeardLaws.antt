@@ -174,7 +174,7 @@ module _ (tr l : List ℕ) where
   -- a complete Send Byte has one byte
   next-prepare-front : (n : ℕ) (d : Decoded) → answer 1 tr ≡ d → nextPrepare n d (onto (sentData (shapeOf 1) tr d) l) ≡ nextPrepare n d (sentData (shapeOf 1) tr d)
   next-prepare-front n (Done t) e =
-      let c = step.if-and-only-if 1 (shapeOf 1) (sane 1) true tr (Done t) .0 e in
+      let c = step.answer-exactly 1 (shapeOf 1) (sane 1) true tr (Done t) .0 e in
       let k : length (sentData (shapeOf 1) tr (Done t)) ≡ 1 = ap length (c .data-sent) ∙ c .valid .sent-length in
       ap (λ (b : ℕ). pick (and (eqb (t .address .0) 0x61) (eqb b 0x01)) (again n) Abandoned) (front-at (sentData (shapeOf 1) tr (Done t)) l 0 (omega arith))
   next-prepare-front n Forbidden e = refl

@@ -17,7 +17,8 @@ use Rattle.step.specs.declared.answer.Decoded.{Decoded}
 use Rattle.step.specs.declared.answer.Decoded.the-variants.{Forbidden, BufferTooShort}
 use Rattle.step.specs.Run.{decodedBy}
 use Rattle.step.specs.Handed.{sentLength, receivedLength, sentPlace, receivedPlace, sentData, receivedData}
-use Rattle.step.specs.SizeLaws.{Sizes, sizes}
+use Rattle.step.specs.Sizes.{Sizes}
+use Rattle.step.specs.SizeLaws.{sizes-of-answer}
 use Rattle.decode.specs.Outcome.{short, answered, Outcome}
 
 -- the answer, from the tests
@@ -44,7 +45,7 @@ module _ (protocol : ℕ) (p : Bool) (tr s r : List ℕ) where
 
   module _ (sh : Shape) (a : Decoded) (e : sh ≡ shapeOf protocol) (g : a ≡ decodedBy protocol sh p tr) where
     here : Sizes sh p tr a
-    here = subst (Sizes sh p tr) (sym g) (sizes protocol sh (subst Sane (sym e) (sane protocol)) p tr)
+    here = subst (Sizes sh p tr) (sym g) (sizes-of-answer protocol sh (subst Sane (sym e) (sane protocol)) p tr)
 
     pub asks-sent : short (length s) (length r) ≡ false → (sentLength a ≤ length s) × ((j : ℕ) → j < sentLength a → sentPlace sh + 2 * j < length tr)
     asks-sent h = (omega (arith, here .sent-small, roomy (length s) (length r) h), here .sent)

@@ -55,7 +55,7 @@ module _ (protocol : ℕ) (pec : Bool) (tr sent₀ received₀ : List ℕ) where
   says false false a s r h = record {
     s = sentData (shapeOf protocol) tr a;
     r = receivedData pec tr a;
-    means = step.if-and-only-if protocol (shapeOf protocol) (sane protocol) pec tr a .0 (sym (h .0));
+    means = step.answer-exactly protocol (shapeOf protocol) (sane protocol) pec tr a .0 (sym (h .0));
     front-sent = h .1;
     front-received = h .2;
   }
@@ -72,7 +72,7 @@ module _ (protocol : ℕ) (pec : Bool) (tr sent₀ received₀ : List ℕ) where
     h .same-received ∙ sym (ap (λ (x : Decoded). onto (receivedData pec tr x) received₀) (h .answer)),
   )
   computed false false a s r h =
-      let k = step.only protocol (shapeOf protocol) (sane protocol) pec tr a (h .s) (h .r) (h .means) in (
+      let k = step.no-other-answer protocol (shapeOf protocol) (sane protocol) pec tr a (h .s) (h .r) (h .means) in (
         sym (k .0),
         h .front-sent ∙ ap (λ (x : List ℕ). onto x sent₀) (sym (k .1) ∙ ap (sentData (shapeOf protocol) tr) (k .0)),
         h .front-received ∙ ap (λ (x : List ℕ). onto x received₀) (sym (k .2) ∙ ap (receivedData pec tr) (k .0)),
@@ -88,7 +88,7 @@ module _ (protocol : ℕ) (pec : Bool) (tr sent₀ received₀ : List ℕ) where
 -- 1 and 2 are given exactly in their cases, in this order; every other number is the trace's
 never-unread : (protocol : ℕ) (pec : Bool) (tr : List ℕ) (n : ℕ) → n ≤ 2 → 1 ≤ n → decodeNumber (decodedBy protocol (shapeOf protocol) pec tr) .0 ≡ n → ⊥
 never-unread protocol pec tr n h g e =
-    let k = step.holds protocol (shapeOf protocol) (sane protocol) pec tr in
+    let k = step.answer-holds protocol (shapeOf protocol) (sane protocol) pec tr in
     go (decodedBy protocol (shapeOf protocol) pec tr) k e
   where
     go : (a : Decoded) → Answers protocol (shapeOf protocol) pec tr a (sentData (shapeOf protocol) tr a) (receivedData pec tr a) → decodeNumber a .0 ≡ n → ⊥

@@ -158,7 +158,7 @@ module _ (protocol : ℕ) (pec : Bool) (tr sent₀ received₀ : List ℕ) (a : 
   pub decode-6-byte : (byte : ℕ) → decodeNumber a ≡ (6, byte) → byte ≡ (length tr - 4) / 2
   decode-6-byte b e =
       let q = decode.other-number protocol pec tr sent₀ received₀ a sent received o 6 b (λ z. omega (arith, z)) (λ z. omega (arith, z)) .0 e in
-      step.which-byte protocol shape (sane protocol) pec tr b (q .2)
+      step.byte-by-length protocol shape (sane protocol) pec tr b (q .2)
 
   -- 7: the whole trace fits, to its end, but the PEC differs
   pub decode-7 : (place : ℕ) → (decodeNumber a ≡ (7, place)) ↔ (Entered protocol pec sent₀ received₀ × OtherPec shape pec tr place)
