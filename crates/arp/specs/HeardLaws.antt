@@ -19,7 +19,7 @@ use Rattle.step.specs.Handed.{lows, sentData, receivedData}
 use Rattle.step.specs.Numbers.{decodeNumber}
 use Rattle.step.specs.declared.answer.Decoded.{Decoded}
 use Rattle.step.specs.declared.answer.Decoded.the-variants.{Done, Forbidden, BufferTooShort, NoSymbol, EndsEarly, Unexpected, NotAcknowledged, PecDiffers, AfterStop}
-use Rattle.decode.specs.OutcomeLaws.{other-numbers}
+use Rattle.decode.specs.OutcomeLaws.{answer-by-trace}
 use Rattle.decode.specs.Outcome.{short, answered, Outcome}
 use Rattle.udid.specs.Bytes.{number, bytesFrom, udidAt}
 use Rattle.udid.specs.Udids.{sameUdid}
@@ -39,7 +39,7 @@ module _ (protocol : ℕ) (tr sent₀ received₀ : List ℕ) (d : Decoded) (sen
 
   -- the answer is the one that is heard
   pub heard : d ≡ answer protocol tr
-  heard = other-numbers protocol true tr sent₀ received₀ d sent received o f long
+  heard = answer-by-trace protocol true tr sent₀ received₀ d sent received o f long
 
   -- and the data stand at the fronts of the buffers
   pub heard-sent : sent ≡ onto (sentIn protocol tr) sent₀

@@ -17,10 +17,12 @@ use Rattle.lists.specs.Onto.{onto}
 use Rattle.wire.specs.Addresses.{isReserved}
 use Rattle.trace.specs.Shapes.{reads, shapeOf}
 use Rattle.trace.specs.declared.transaction.Transaction.{Transaction}
-use Rattle.last.specs.LastLaws.{Whole, of-received, of-sent, of-neither}
+use Rattle.last.specs.Last.{Whole}
+use Rattle.last.specs.LastLaws.{of-received, of-sent, of-neither}
 use Rattle.pool.specs.Digits.{digit}
 use Rattle.pool.specs.Free.{used, lowestFree}
-use Rattle.pool.specs.FreeLaws.{used-ones, Lowest, lowest-is, none-free}
+use Rattle.pool.specs.Free.{Lowest}
+use Rattle.pool.specs.FreeLaws.{used-ones, lowest-is, none-free}
 use Rattle.pool.specs.MemberLaws.{member-low, member-high, member-above, member-with, member-without, member-union}
 use Rattle.pool.specs.Pools.{member, withAddress, withoutAddress, unionOf}
 use Rattle.pool.specs.Start.{startingPool}

@@ -91,7 +91,7 @@ module _ (protocol : ℕ) (pec : Bool) (tr sent₀ received₀ : List ℕ) (u : 
   carried : Carries protocol (shapeOf protocol) pec tr u (sentData (shapeOf protocol) tr (Done u)) (receivedData pec tr (Done u))
   carried =
       step.answer-exactly protocol (shapeOf protocol) (sane protocol) pec tr (Done u) .0
-      (sym (decode.other-numbers protocol pec tr sent₀ received₀ (Done u) sent received o not-forbidden not-short))
+      (sym (decode.answer-by-trace protocol pec tr sent₀ received₀ (Done u) sent received o not-forbidden not-short))
 
   -- a trace that the decoder accepts is one that the encoder writes, for one message alone, and that is the one it hands back
   pub decode-then-encode : Accepted protocol pec tr sent₀ received₀ u sent received

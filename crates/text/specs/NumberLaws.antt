@@ -1,4 +1,4 @@
--- Laws of numbers: a digit more, the cap at 65,536, and what each answer means.
+-- Which characters are digits, the value with one digit more, the cap at 65,536, and the case of each answer.
 use Prim.Native.Nat.{ℕ, zero, suc, _+_, _-_, _*_, _^_, _<_, _≤_}
 use mathlib.Core.Path.{_≡_, refl, sym, ap, _∙_}
 use mathlib.Core.Bool.{Bool, true, false}
