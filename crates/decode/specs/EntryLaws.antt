@@ -48,12 +48,12 @@ module _ (protocol : ℕ) (p : Bool) (tr s r : List ℕ) where
     here : Sizes sh p tr a
     here = subst (Sizes sh p tr) (sym g) (sizes-of-answer protocol sh (subst Sane (sym e) (sane protocol)) p tr)
 
-    pub asks-sent : short (length s) (length r) ≡ false → (sentLength a ≤ length s) × ((j : ℕ) → j < sentLength a → sentPlace sh + 2 * j < length tr)
-    asks-sent h = (omega (arith, here .sent-small, both-at-least-255 (length s) (length r) h), here .sent)
+    pub sent-copy-fits : short (length s) (length r) ≡ false → (sentLength a ≤ length s) × ((j : ℕ) → j < sentLength a → sentPlace sh + 2 * j < length tr)
+    sent-copy-fits h = (omega (arith, here .sent-small, both-at-least-255 (length s) (length r) h), here .sent)
 
-    pub asks-received : short (length s) (length r) ≡ false
+    pub received-copy-fits : short (length s) (length r) ≡ false
         → (receivedLength a ≤ length r) × ((j : ℕ) → j < receivedLength a → receivedPlace p (receivedLength a) (length tr) + 2 * j < length tr)
-    asks-received h = (omega (arith, here .received-small, both-at-least-255 (length s) (length r) h), here .received)
+    received-copy-fits h = (omega (arith, here .received-small, both-at-least-255 (length s) (length r) h), here .received)
 
     pub outcome-read : forbidden protocol p ≡ false → short (length s) (length r) ≡ false → (x y : List ℕ) → x ≡ onto (sentData sh tr a) s → y ≡ onto (receivedData p tr a) r
         → Outcome protocol p tr s r a x y

@@ -1,4 +1,4 @@
--- What is handed back, case by case as the scope lists them, and that the contract leaves nothing else.
+-- What is handed back, case by case as the scope lists them: data received, data sent, or the empty part. The contract leaves one part.
 use mathlib.Core.Path.{_≡_, refl, sym, _∙_}
 use mathlib.Core.Bool.{Bool, true, false}
 use mathlib.Core.List.{List, [], _∷_}
@@ -11,7 +11,7 @@ use Rattle.lists.specs.ChoiceLaws.{both-true}
 use Rattle.trace.specs.declared.transaction.Transaction.{Transaction}
 use Rattle.trace.specs.Shapes.{reads, shapeOf}
 use Rattle.trace.specs.Allowed.{lengthsFit}
-use Rattle.trace.specs.DataFitsLaws.{fits-data, data-fits}
+use Rattle.trace.specs.DataFitsLaws.{listed-lengths-fit, fitting-lengths-listed}
 use Rattle.last.specs.Last.{belongs, chosen, lastData, lastPlace, receives, Whole, Gives}
 
 -- received for 2, 5, 6, 7, 9 and 10; sent for 1, 3, 4 and 8, and for Quick, which has nothing to send
@@ -27,25 +27,25 @@ belongs-exactly t s r = (
       let a = both-true (leb (t .protocol) 10) _ h in
       let b = both-true (lengthsFit (shapeOf (t .protocol)) (t .sent) (t .received)) _ (a .1) in
       let c = both-true (leb (t .sent) s) _ (b .1) in
-      record { known = leb-true (t .protocol) 10 (a .0); lengths = data-fits (t .protocol) (leb-true (t .protocol) 10 (a .0)) (t .sent) (t .received) (b .0); sent = leb-true (t .sent) s (c .0); received = leb-true (t .received) r (c .1) }
+      record { known = leb-true (t .protocol) 10 (a .0); lengths = fitting-lengths-listed (t .protocol) (leb-true (t .protocol) 10 (a .0)) (t .sent) (t .received) (b .0); sent = leb-true (t .sent) s (c .0); received = leb-true (t .received) r (c .1) }
       ),
-  λ w. rw (le-leb (t .protocol) 10 (w .known), fits-data (t .protocol) (t .sent) (t .received) (w .lengths), le-leb (t .sent) s (w .sent), le-leb (t .received) r (w .received)),
+  λ w. rw (le-leb (t .protocol) 10 (w .known), listed-lengths-fit (t .protocol) (t .sent) (t .received) (w .lengths), le-leb (t .sent) s (w .sent), le-leb (t .received) r (w .received)),
 )
 
 module _ (t : Transaction) (s r : List ℕ) (p q : ℕ × ℕ) where
   -- where it is whole: the front of the buffer of its last data phase
-  pub of-received : Whole t (length s) (length r) → reads (shapeOf (t .protocol)) ≡ true → Gives t s r p q (take (t .received) r) q
+  pub gives-received : Whole t (length s) (length r) → reads (shapeOf (t .protocol)) ≡ true → Gives t s r p q (take (t .received) r) q
   unfolding chosen
-  of-received w e = let h = belongs-exactly t (length s) (length r) .1 w in (rw (h, e), rw (h, e))
+  gives-received w e = let h = belongs-exactly t (length s) (length r) .1 w in (rw (h, e), rw (h, e))
 
-  pub of-sent : Whole t (length s) (length r) → reads (shapeOf (t .protocol)) ≡ false → Gives t s r p q (take (t .sent) s) p
+  pub gives-sent : Whole t (length s) (length r) → reads (shapeOf (t .protocol)) ≡ false → Gives t s r p q (take (t .sent) s) p
   unfolding chosen
-  of-sent w e = let h = belongs-exactly t (length s) (length r) .1 w in (rw (h, e), rw (h, e))
+  gives-sent w e = let h = belongs-exactly t (length s) (length r) .1 w in (rw (h, e), rw (h, e))
 
   -- anything else: the empty part at the front of the sent buffer
-  pub of-neither : (Whole t (length s) (length r) → ⊥) → Gives t s r p q [] p
+  pub gives-empty : (Whole t (length s) (length r) → ⊥) → Gives t s r p q [] p
   unfolding chosen
-  of-neither n = go (belongs t (length s) (length r)) refl
+  gives-empty n = go (belongs t (length s) (length r)) refl
     where
       go : (b : Bool) → belongs t (length s) (length r) ≡ b → Gives t s r p q [] p
       go true h = absurd (n (belongs-exactly t (length s) (length r) .0 h))

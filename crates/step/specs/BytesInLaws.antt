@@ -1,4 +1,4 @@
--- The bytes of a trace, one number at a time, and that the decoder's count is how many they are.
+-- The bytes of a trace, one number at a time and in two parts; the decoder's count is how many they are.
 use mathlib.Core.Path.{_≡_, refl, sym, ap, _∙_}
 use mathlib.Core.Bool.{Bool, true, false}
 use mathlib.Core.List.{List, [], _∷_, _++_}

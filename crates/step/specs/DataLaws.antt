@@ -1,4 +1,4 @@
--- The data stand where the decoder looks for them.
+-- The data of a message, and its fields, are what the decoder finds where it looks for them.
 use mathlib.Core.Path.{_≡_, refl, sym, subst}
 use mathlib.Core.Bool.{Bool, true, false}
 use mathlib.Core.List.{List, [], _∷_, _++_, append-assoc}

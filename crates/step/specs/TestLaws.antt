@@ -1,4 +1,5 @@
--- The code's tests and fields, as the definitions have them: what is tested stands apart, so that nothing else is rewritten.
+-- What the code tests and puts together is what the definitions have: the first byte, the fields of a transaction, the answer at the end.
+-- What is tested stands apart, so that nothing else is rewritten.
 use mathlib.Core.Path.{_≡_, refl, sym, ap, _∙_}
 use mathlib.Core.Bool.{Bool, true, false}
 use mathlib.Core.List.{List}
@@ -22,9 +23,9 @@ use Rattle.step.specs.Run.{byteCount, dataLength, directionOf, transacti
 pub low-of-byte : (x : ℕ) → x < 256 → x % 256 ≡ x
 low-of-byte x h = omega arith
 
--- a byte asks for no read if its lowest bit is 0
-pub no-read : (x : ℕ) → not (eqb (x % 2) 1) ≡ eqb (x % 2) 0
-no-read x = go (eqb (x % 2) 0) refl
+-- a lowest bit that is not 1 is 0
+pub not-odd-is-even : (x : ℕ) → not (eqb (x % 2) 1) ≡ eqb (x % 2) 0
+not-odd-is-even x = go (eqb (x % 2) 0) refl
   where
     go : (b : Bool) → eqb (x % 2) 0 ≡ b → not (eqb (x % 2) 1) ≡ b
     go true e = let z = eqb-true (x % 2) 0 e in rw (ne-eqb (x % 2) 1 (λ q. omega arith))

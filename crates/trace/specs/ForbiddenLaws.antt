@@ -1,4 +1,4 @@
--- Which protocols and which uses of a PEC are refused, said in numbers.
+-- Refused are the protocols above 10 and Quick with PEC, and no others.
 use mathlib.Core.Path.{_≡_, refl, sym, ap, _∙_}
 use mathlib.Core.Bool.{Bool, true, false}
 use mathlib.Core.Logic.{_⊎_, inl, inr, _↔_}

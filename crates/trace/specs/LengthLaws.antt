@@ -1,4 +1,4 @@
--- The length of a trace is the one that traceLength adds up.
+-- The length of a trace is the one that traceLength adds up, whatever stands in PEC's place.
 use mathlib.Core.Path.{_≡_, refl, ap, _∙_}
 use mathlib.Core.Bool.{Bool, true, false}
 use mathlib.Core.List.{List, [], _∷_, _++_}

@@ -1,4 +1,4 @@
--- In every trace the PEC stands third from the end, and is found there.
+-- In every trace the PEC is the third symbol from the end, and is found three places before it.
 use mathlib.Core.Path.{_≡_, sym, ap, _∙_}
 use mathlib.Core.Bool.{Bool, true, false}
 use mathlib.Core.List.{List, [], _∷_, _++_, append-assoc}

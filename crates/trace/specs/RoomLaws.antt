@@ -11,7 +11,7 @@ use Rattle.lists.specs.ChoiceLaws.{false-not-true}
 use Rattle.trace.specs.Shapes.{shapeOf, forbidden}
 use Rattle.trace.specs.Allowed.{lengthsFit}
 use Rattle.trace.specs.DataFits.{DataFits, quick, send-byte, receive-byte, write-byte, write-word, read-byte, read-word, process-call, block-write, block-read, block-process-call}
-use Rattle.trace.specs.DataFitsLaws.{fits-data, data-fits}
+use Rattle.trace.specs.DataFitsLaws.{listed-lengths-fit, fitting-lengths-listed}
 use Rattle.trace.specs.ForbiddenLaws.{forbidden-cases, taken-cases}
 use Rattle.trace.specs.Lengths.{traceLength, roomFor}
 use Rattle.trace.specs.LengthLaws.{trace-length, pec-symbols}
@@ -41,12 +41,12 @@ no-room protocol pec m n = (λ e. there (forbidden protocol pec) (lengthsFit (sh
         → ((10 < protocol) ⊎ ((protocol ≡ 0) × (pec ≡ true))) ⊎ (DataFits protocol m n → ⊥)
     there true h eb eh e = inl (forbidden-cases protocol pec .0 eb)
     there false true eb eh e = absurd (omega (arith, some-length protocol pec m n, sym (room-by protocol pec m n false true eb eh) ∙ e))
-    there false false eb eh e = inr (λ d. false-not-true (sym eh ∙ fits-data protocol m n d))
+    there false false eb eh e = inr (λ d. false-not-true (sym eh ∙ listed-lengths-fit protocol m n d))
 
     unfit : (b h : Bool) → forbidden protocol pec ≡ b → lengthsFit (shapeOf protocol) m n ≡ h → (DataFits protocol m n → ⊥) → roomFor protocol pec m n ≡ 0
     unfit true h eb eh z = room-by protocol pec m n true h eb eh
     unfit false false eb eh z = room-by protocol pec m n false false eb eh
-    unfit false true eb eh z = absurd (z (data-fits protocol (taken-cases protocol pec .0 eb .0) m n eh))
+    unfit false true eb eh z = absurd (z (fitting-lengths-listed protocol (taken-cases protocol pec .0 eb .0) m n eh))
 
     back : ((10 < protocol) ⊎ ((protocol ≡ 0) × (pec ≡ true))) ⊎ (DataFits protocol m n → ⊥) → roomFor protocol pec m n ≡ 0
     back (inl f) = room-by protocol pec m n true _ (forbidden-cases protocol pec .1 f) refl
@@ -54,7 +54,7 @@ no-room protocol pec m n = (λ e. there (forbidden protocol pec) (lengthsFit (sh
 
 -- else, that of the trace
 room-fits : (protocol : ℕ) (pec : Bool) (m n : ℕ) → forbidden protocol pec ≡ false → DataFits protocol m n → roomFor protocol pec m n ≡ traceLength (shapeOf protocol) pec m n
-room-fits protocol pec m n f d = room-by protocol pec m n false true f (fits-data protocol m n d)
+room-fits protocol pec m n f d = room-by protocol pec m n false true f (listed-lengths-fit protocol m n d)
 
 -- with or without PEC
 not-forbidden : (k : ℕ) (p : Bool) → 0 < k → k ≤ 10 → forbidden k p ≡ false
