@@ -13,7 +13,7 @@ use lib.Seq.{take-at, drop-at}
 use Rattle.lists.specs.Each.{Bytes}
 use Rattle.pool.specs.Counts.{one}
 use Rattle.pool.specs.Digits.{digit}
-use Rattle.pool.specs.DigitLaws.{top}
+use Rattle.pool.specs.DigitLaws.{top-digit}
 use Rattle.udid.specs.Bytes.{bytesOf, udidBytes}
 use Rattle.udid.specs.declared.Udid.{Udid}
 use Rattle.arbitration.specs.Bits.{bits, udidBits, byteBits, numberOf, bytesRead}
@@ -40,7 +40,7 @@ byte-bits-append (b ∷ s) t = ap (λ (x : List Bool). bits 8 b ++ x) (byte-bits
 pub number-bits : (k n : ℕ) → numberOf (bits k n) ≡ n % 2 ^ k
 unfolding numberOf bits
 number-bits zero n = sym (mod-one n)
-number-bits (suc k) n = go (number-bits k n) (length-bits k n) (top n k)
+number-bits (suc k) n = go (number-bits k n) (length-bits k n) (top-digit n k)
   where
     go : numberOf (bits k n) ≡ n % 2 ^ k → length (bits k n) ≡ k
         → ((digit n k ≡ false) × (n % 2 ^ suc k ≡ n % 2 ^ k)) ⊎ ((digit n k ≡ true) × (n % 2 ^ suc k ≡ 2 ^ k + n % 2 ^ k))

@@ -11,7 +11,8 @@ use lib.Count.{leadingZeros, leading-length, leading-unique, leading-top}
 use lib.ListN.{length}
 use lib.Pow.{pow-pos}
 use Rattle.pool.specs.Digits.{digit}
-use Rattle.pool.specs.DigitLaws.{top, digit-xor, differs}
+use Rattle.pool.specs.Digits.{differs}
+use Rattle.pool.specs.DigitLaws.{top-digit, digit-xor}
 use Rattle.udid.specs.declared.Udid.{Udid}
 use Rattle.arbitration.specs.Bits.{bits, udidBits}
 use Rattle.arbitration.specs.BitLaws.{length-bits}
@@ -46,7 +47,7 @@ leading-none k x h l = sym (leading-unique (suc k) x 0 (suc k) (omega arith) l (
 shared-mod : (k n m : ℕ) → shared (bits k n) (bits k m) ≡ leadingZeros k (bitXor n m % 2 ^ k)
 unfolding bits leadingZeros
 shared-mod zero n m = refl
-shared-mod (suc k) n m = go (digit n k) (digit m k) refl refl (top (bitXor n m) k) (shared-mod k n m) (digit-xor n m k)
+shared-mod (suc k) n m = go (digit n k) (digit m k) refl refl (top-digit (bitXor n m) k) (shared-mod k n m) (digit-xor n m k)
   where
     x : ℕ
     x = bitXor n m

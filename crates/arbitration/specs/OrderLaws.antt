@@ -8,7 +8,7 @@ use native.Mathlib.Nat.{mod-lt, mod-eq-of-lt}
 use native.Mathlib.Omega.{arith}
 use lib.Pow.{pow-pos}
 use Rattle.pool.specs.Digits.{digit}
-use Rattle.pool.specs.DigitLaws.{top}
+use Rattle.pool.specs.DigitLaws.{top-digit}
 use Rattle.arbitration.specs.Bits.{bits}
 use Rattle.arbitration.specs.DropOut.{noLater}
 
@@ -31,7 +31,7 @@ Top k n = ((digit n k ≡ false) × (n % 2 ^ suc k ≡ n % 2 ^ k)) ⊎ ((digit n
 lower : (k n m : ℕ) (xs ys : List Bool) → n % 2 ^ k < m % 2 ^ k → noLater (bits k n ++ xs) (bits k m ++ ys) ≡ true
 unfolding bits
 lower zero n m xs ys h = absurd (omega arith)
-lower (suc k) n m xs ys h = go (λ q. lower k n m xs ys q) (top n k) (top m k)
+lower (suc k) n m xs ys h = go (λ q. lower k n m xs ys q) (top-digit n k) (top-digit m k)
   where
     go : (n % 2 ^ k < m % 2 ^ k → noLater (bits k n ++ xs) (bits k m ++ ys) ≡ true) → Top k n → Top k m
         → noLater (digit n k ∷ (bits k n ++ xs)) (digit m k ∷ (bits k m ++ ys)) ≡ true
@@ -43,7 +43,7 @@ lower (suc k) n m xs ys h = go (λ q. lower k n m xs ys q) (top n k) (top m k)
 higher : (k n m : ℕ) (xs ys : List Bool) → m % 2 ^ k < n % 2 ^ k → noLater (bits k n ++ xs) (bits k m ++ ys) ≡ false
 unfolding bits
 higher zero n m xs ys h = absurd (omega arith)
-higher (suc k) n m xs ys h = go (λ q. higher k n m xs ys q) (top n k) (top m k)
+higher (suc k) n m xs ys h = go (λ q. higher k n m xs ys q) (top-digit n k) (top-digit m k)
   where
     go : (m % 2 ^ k < n % 2 ^ k → noLater (bits k n ++ xs) (bits k m ++ ys) ≡ false) → Top k n → Top k m
         → noLater (digit n k ∷ (bits k n ++ xs)) (digit m k ∷ (bits k m ++ ys)) ≡ false

@@ -19,7 +19,7 @@ use Rattle.step.specs.Handed.{lows, sentData, receivedData}
 use Rattle.step.specs.Numbers.{decodeNumber}
 use Rattle.step.specs.declared.answer.Decoded.{Decoded}
 use Rattle.step.specs.declared.answer.Decoded.the-variants.{Done, Forbidden, BufferTooShort, NoSymbol, EndsEarly, Unexpected, NotAcknowledged, PecDiffers, AfterStop}
-use Rattle.decode.specs.OutcomeLaws.{other-numbers}
+use Rattle.decode.specs.OutcomeLaws.{answer-by-trace}
 use Rattle.decode.specs.Outcome.{short, answered, Outcome}
 use Rattle.udid.specs.Bytes.{number, bytesFrom, udidAt}
 use Rattle.udid.specs.Udids.{sameUdid}
@@ -39,7 +39,7 @@ module _ (protocol : ℕ) (tr sent₀ received₀ : List ℕ) (d : Decoded) (sen
 
   -- the answer is the one that is heard
   pub heard : d ≡ answer protocol tr
-  heard = other-numbers protocol true tr sent₀ received₀ d sent received o f long
+  heard = answer-by-trace protocol true tr sent₀ received₀ d sent received o f long
 
   -- and the data stand at the fronts of the buffers
   pub heard-sent : sent ≡ onto (sentIn protocol tr) sent₀
@@ -174,7 +174,7 @@ module _ (tr l : List ℕ) where
   -- a complete Send Byte has one byte
   next-prepare-front : (n : ℕ) (d : Decoded) → answer 1 tr ≡ d → nextPrepare n d (onto (sentData (shapeOf 1) tr d) l) ≡ nextPrepare n d (sentData (shapeOf 1) tr d)
   next-prepare-front n (Done t) e =
-      let c = step.if-and-only-if 1 (shapeOf 1) (sane 1) true tr (Done t) .0 e in
+      let c = step.answer-exactly 1 (shapeOf 1) (sane 1) true tr (Done t) .0 e in
       let k : length (sentData (shapeOf 1) tr (Done t)) ≡ 1 = ap length (c .data-sent) ∙ c .valid .sent-length in
       ap (λ (b : ℕ). pick (and (eqb (t .address .0) 0x61) (eqb b 0x01)) (again n) Abandoned) (front-at (sentData (shapeOf 1) tr (Done t)) l 0 (omega arith))
   next-prepare-front n Forbidden e = refl

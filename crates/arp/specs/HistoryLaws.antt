@@ -14,7 +14,8 @@ use Rattle.lists.specs.Each.{Bytes}
 use Rattle.pool.specs.CountLaws.{count-cong, count-split}
 use Rattle.pool.specs.Counts.{count}
 use Rattle.pool.specs.Free.{used, lowestFree}
-use Rattle.pool.specs.FreeLaws.{Lowest, lowest-is}
+use Rattle.pool.specs.Free.{Lowest}
+use Rattle.pool.specs.FreeLaws.{lowest-is}
 use Rattle.pool.specs.MemberLaws.{member-above}
 use Rattle.pool.specs.Pools.{member}
 use Rattle.pool.specs.Start.{startingPool}

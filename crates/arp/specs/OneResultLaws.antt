@@ -15,7 +15,8 @@ use Rattle.step.specs.Numbers.{decodeNumber}
 use Rattle.step.specs.declared.answer.Decoded.{Decoded}
 use Rattle.step.specs.declared.answer.Decoded.the-variants.{Done, Forbidden, BufferTooShort, NoSymbol, EndsEarly, Unexpected, NotAcknowledged, PecDiffers, AfterStop}
 use Rattle.pool.specs.Free.{lowestFree}
-use Rattle.pool.specs.FreeLaws.{Lowest, lowest-is, none-free}
+use Rattle.pool.specs.Free.{Lowest}
+use Rattle.pool.specs.FreeLaws.{lowest-is, none-free}
 use Rattle.pool.specs.Pools.{member}
 use Rattle.pool.specs.declared.Pool.{Pool}
 use Rattle.pool.specs.declared.free.Free.{Free}

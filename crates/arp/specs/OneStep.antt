@@ -9,7 +9,7 @@ use lib.ListN.{length, getD}
 use Rattle.step.specs.Numbers.{decodeNumber}
 use Rattle.step.specs.declared.answer.Decoded.{Decoded}
 use Rattle.decode.specs.Outcome.{Outcome}
-use Rattle.pool.specs.FreeLaws.{Lowest}
+use Rattle.pool.specs.Free.{Lowest}
 use Rattle.pool.specs.Pools.{member}
 use Rattle.pool.specs.declared.Pool.{Pool}
 use Rattle.udid.specs.Bytes.{udidBytes}

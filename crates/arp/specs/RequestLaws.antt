@@ -17,7 +17,7 @@ use Rattle.trace.specs.DataFits.{DataFits, quick, send-byte, receive-byte, writ
 use Rattle.trace.specs.LengthLaws.{length-acked}
 use Rattle.trace.specs.Trace.{Message, acked}
 use Rattle.encode.specs.Encode.{encodeNumber, Wrote}
-use Rattle.encode.specs.EncodeMeans.{answer-1, answer-2, refusal-untouched}
+use Rattle.encode.specs.EncodeLaws.{answer-1, answer-2, refusal-untouched}
 use Rattle.encode.specs.Listed.{Listed, protocol-above-10, address-above-127, direction-above-1, quick-with-pec, lacking-command, lacking-direction, forbidden-length}
 use Rattle.encode.specs.declared.Encoded.{Encoded}
 use Rattle.udid.specs.Bytes.{udidBytes}

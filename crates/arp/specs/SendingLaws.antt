@@ -12,7 +12,7 @@ use Rattle.lists.specs.Onto.{onto}
 use Rattle.trace.specs.Shapes.{shapeOf}
 use Rattle.trace.specs.Trace.{Message, trace, Valid}
 use Rattle.encode.specs.Encode.{encoded, symbolsOf, Wrote}
-use Rattle.encode.specs.EncodeMeans.{written-valid, unique}
+use Rattle.encode.specs.EncodeLaws.{written-valid, one-outcome}
 use Rattle.encode.specs.declared.Encoded.{Encoded}
 use Rattle.encode.specs.declared.Encoded.the-variants.{Written}
 use Rattle.udid.specs.declared.Udid.{Udid}
@@ -55,4 +55,4 @@ assign-sent u a reply before r after h w room =
 -- one answer and one output alone
 pub one-sending : (k : Command) (reply before : List ℕ) (r q : Encoded) (after later : List ℕ) → Wrote (protocolFor k) true (messageOf k reply) before r after
     → Wrote (protocolFor k) true (messageOf k reply) before q later → (r ≡ q) × (after ≡ later)
-one-sending k reply before r q after later w v = unique (protocolFor k) true (messageOf k reply) before r q after later w v
+one-sending k reply before r q after later w v = one-outcome (protocolFor k) true (messageOf k reply) before r q after later w v

@@ -11,7 +11,8 @@ use lib.ListN.{length, getD, length-append}
 use lib.Seq.{getD-at}
 use borrow.Author.Tests.{le-leb, lt-leb}
 use Rattle.lists.specs.Choice.{pick, and}
-use Rattle.lists.specs.Each.{Bytes, append-bytes}
+use Rattle.lists.specs.EachLaws.{append-bytes}
+use Rattle.lists.specs.Each.{Bytes}
 use Rattle.step.specs.declared.answer.Decoded.{Decoded}
 use Rattle.step.specs.declared.answer.Decoded.the-variants.{Done, Forbidden, BufferTooShort, NoSymbol, EndsEarly, Unexpected, NotAcknowledged, PecDiffers, AfterStop}
 use Rattle.pool.specs.declared.Pool.{Pool}

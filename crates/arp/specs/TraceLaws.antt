@@ -12,11 +12,13 @@ use lib.ListN.{length, getD, take, drop, length-append, length-drop}
 use lib.Seq.{getD-at, split-at, take-all}
 use borrow.Author.Tests.{ltb-true, ltb-false, lt-ltb, le-ltb, eqb-true, eq-eqb, ne-eqb}
 use Rattle.lists.specs.Choice.{pick, or, and}
-use Rattle.lists.specs.Each.{Bytes, append-bytes}
+use Rattle.lists.specs.EachLaws.{append-bytes}
+use Rattle.lists.specs.Each.{Bytes}
+use Rattle.lists.specs.ChoiceLaws.{both-true}
 use Rattle.wire.specs.Addresses.{defaultAddress}
 use Rattle.wire.specs.Pec.{bitStep, pecStep, pecFrom, pecOf}
-use Rattle.trace.specs.ShapeLaws.{sane, both-true}
-use Rattle.trace.specs.Rows.{rows}
+use Rattle.trace.specs.ShapeLaws.{sane}
+use Rattle.trace.specs.RowsLaws.{rows}
 use Rattle.trace.specs.Lengths.{traceLength}
 use Rattle.trace.specs.LengthLaws.{trace-length}
 use Rattle.trace.specs.Shapes.{shapeOf}
@@ -138,13 +140,13 @@ module _ (protocol : ℕ) (m : Message) (v : Valid (shapeOf protocol) m) where
 complete : (protocol : ℕ) (tr : List ℕ) (t : Transaction) → answer protocol tr ≡ Done t → Carries protocol (shapeOf protocol) true tr t (sentIn protocol tr) (receivedIn protocol tr)
 complete protocol tr t e =
     subst (λ (x : Decoded). Carries protocol (shapeOf protocol) true tr t (sentData (shapeOf protocol) tr x) (receivedData true tr x)) (sym e)
-    (step.if-and-only-if protocol (shapeOf protocol) (sane protocol) true tr (Done t) .0 e)
+    (step.answer-exactly protocol (shapeOf protocol) (sane protocol) true tr (Done t) .0 e)
 
 cut : (protocol : ℕ) (tr : List ℕ) (b : ℕ) → CutAt (shapeOf protocol) true tr b → answer protocol tr ≡ NotAcknowledged b
-cut protocol tr b h = step.if-and-only-if protocol (shapeOf protocol) (sane protocol) true tr (NotAcknowledged b) .1 (h, refl, refl)
+cut protocol tr b h = step.answer-exactly protocol (shapeOf protocol) (sane protocol) true tr (NotAcknowledged b) .1 (h, refl, refl)
 
 cut-back : (protocol : ℕ) (tr : List ℕ) (b : ℕ) → answer protocol tr ≡ NotAcknowledged b → CutAt (shapeOf protocol) true tr b
-cut-back protocol tr b e = step.if-and-only-if protocol (shapeOf protocol) (sane protocol) true tr (NotAcknowledged b) .0 e .0
+cut-back protocol tr b e = step.answer-exactly protocol (shapeOf protocol) (sane protocol) true tr (NotAcknowledged b) .0 e .0
 
 -- two messages with the same fields
 message-is : (m n : Message) → m .address ≡ n .address → m .direction ≡ n .direction → m .command ≡ n .command → m .sent ≡ n .sent → m .received ≡ n .received → m ≡ n

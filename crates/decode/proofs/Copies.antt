@@ -9,7 +9,7 @@ use lib.ListN.{length, drop, getD, set}
 use lib.Seq.{getD-drop}
 use Rattle.lists.specs.Choice.{pick}
 use Rattle.lists.specs.Onto.{onto}
-use Rattle.lists.specs.ListLaws.{onto-put}
+use Rattle.lists.specs.OntoLaws.{onto-put}
 use Rattle.trace.specs.declared.shape.Shape.{Shape}
 use Rattle.step.specs.Handed.{lows, countPlaces, sentPlace, receivedPlace}
 

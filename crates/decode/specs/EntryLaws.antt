@@ -1,4 +1,5 @@
--- The entry: its tests as the definitions have them, and what its two copies ask for.
+-- The outcome of each way through the entry, from the tests that it makes; and where the trace is read, both copies have room and stay inside
+-- the trace.
 use mathlib.Core.Path.{_≡_, refl, sym, ap, _∙_, subst}
 use mathlib.Core.Bool.{Bool, true, false}
 use mathlib.Core.List.{List}
@@ -11,12 +12,14 @@ use Rattle.lists.specs.Choice.{pick, or}
 use Rattle.lists.specs.Onto.{onto}
 use Rattle.trace.specs.declared.shape.Shape.{Shape}
 use Rattle.trace.specs.Shapes.{shapeOf, forbidden}
-use Rattle.trace.specs.ShapeLaws.{Sane, sane}
+use Rattle.trace.specs.Sane.{Sane}
+use Rattle.trace.specs.ShapeLaws.{sane}
 use Rattle.step.specs.declared.answer.Decoded.{Decoded}
 use Rattle.step.specs.declared.answer.Decoded.the-variants.{Forbidden, BufferTooShort}
 use Rattle.step.specs.Run.{decodedBy}
 use Rattle.step.specs.Handed.{sentLength, receivedLength, sentPlace, receivedPlace, sentData, receivedData}
-use Rattle.step.specs.SizeLaws.{Sizes, sizes}
+use Rattle.step.specs.Sizes.{Sizes}
+use Rattle.step.specs.SizeLaws.{sizes-of-answer}
 use Rattle.decode.specs.Outcome.{short, answered, Outcome}
 
 -- the answer, from the tests
@@ -30,8 +33,8 @@ neither : (a b : Bool) → or a b ≡ false → (a ≡ false) × (b ≡ false)
 neither true b h = (h, cc)
 neither false b h = (refl, h)
 
-pub roomy : (s r : ℕ) → short s r ≡ false → (255 ≤ s) × (255 ≤ r)
-roomy s r h = let n = neither (ltb s 255) (ltb r 255) h in (ltb-false s 255 (n .0), ltb-false r 255 (n .1))
+pub both-at-least-255 : (s r : ℕ) → short s r ≡ false → (255 ≤ s) × (255 ≤ r)
+both-at-least-255 s r h = let n = neither (ltb s 255) (ltb r 255) h in (ltb-false s 255 (n .0), ltb-false r 255 (n .1))
 
 module _ (protocol : ℕ) (p : Bool) (tr s r : List ℕ) where
   -- refused before the trace is read
@@ -43,14 +46,14 @@ module _ (protocol : ℕ) (p : Bool) (tr s r : List ℕ) where
 
   module _ (sh : Shape) (a : Decoded) (e : sh ≡ shapeOf protocol) (g : a ≡ decodedBy protocol sh p tr) where
     here : Sizes sh p tr a
-    here = subst (Sizes sh p tr) (sym g) (sizes protocol sh (subst Sane (sym e) (sane protocol)) p tr)
+    here = subst (Sizes sh p tr) (sym g) (sizes-of-answer protocol sh (subst Sane (sym e) (sane protocol)) p tr)
 
-    pub asks-sent : short (length s) (length r) ≡ false → (sentLength a ≤ length s) × ((j : ℕ) → j < sentLength a → sentPlace sh + 2 * j < length tr)
-    asks-sent h = (omega (arith, here .sent-small, roomy (length s) (length r) h), here .sent)
+    pub sent-copy-fits : short (length s) (length r) ≡ false → (sentLength a ≤ length s) × ((j : ℕ) → j < sentLength a → sentPlace sh + 2 * j < length tr)
+    sent-copy-fits h = (omega (arith, here .sent-small, both-at-least-255 (length s) (length r) h), here .sent)
 
-    pub asks-received : short (length s) (length r) ≡ false
+    pub received-copy-fits : short (length s) (length r) ≡ false
         → (receivedLength a ≤ length r) × ((j : ℕ) → j < receivedLength a → receivedPlace p (receivedLength a) (length tr) + 2 * j < length tr)
-    asks-received h = (omega (arith, here .received-small, roomy (length s) (length r) h), here .received)
+    received-copy-fits h = (omega (arith, here .received-small, both-at-least-255 (length s) (length r) h), here .received)
 
     pub outcome-read : forbidden protocol p ≡ false → short (length s) (length r) ≡ false → (x y : List ℕ) → x ≡ onto (sentData sh tr a) s → y ≡ onto (receivedData p tr a) r
         → Outcome protocol p tr s r a x y

@@ -1,4 +1,5 @@
--- What is proved of the decoder's entry.
+-- One outcome is possible, and it is what the scope says. Each number is given exactly in its case, a refusal changes no byte of either
+-- buffer, and a trace of the encoder gives back its message.
 use mathlib.Core.Path.{_≡_, refl, sym, ap, _∙_}
 use mathlib.Core.Bool.{Bool, true, false}
 use mathlib.Core.List.{List, _++_}
@@ -41,38 +42,38 @@ module _ (protocol : ℕ) (pec : Bool) (tr sent₀ received₀ : List ℕ) where
   Says b c a s r =
       pick b (Unread Forbidden sent₀ received₀ a s r) (pick c (Unread BufferTooShort sent₀ received₀ a s r) (Read protocol pec tr sent₀ received₀ a s r))
 
-  says : (b c : Bool) (a : Decoded) (s r : List ℕ) → Computed b c a s r → Says b c a s r
-  says true c a s r h = record {
+  computed-says : (b c : Bool) (a : Decoded) (s r : List ℕ) → Computed b c a s r → Says b c a s r
+  computed-says true c a s r h = record {
     answer = h .0;
     same-sent = h .1 ∙ ap (λ (x : Decoded). onto (sentData (shapeOf protocol) tr x) sent₀) (h .0);
     same-received = h .2 ∙ ap (λ (x : Decoded). onto (receivedData pec tr x) received₀) (h .0);
   }
-  says false true a s r h = record {
+  computed-says false true a s r h = record {
     answer = h .0;
     same-sent = h .1 ∙ ap (λ (x : Decoded). onto (sentData (shapeOf protocol) tr x) sent₀) (h .0);
     same-received = h .2 ∙ ap (λ (x : Decoded). onto (receivedData pec tr x) received₀) (h .0);
   }
-  says false false a s r h = record {
+  computed-says false false a s r h = record {
     s = sentData (shapeOf protocol) tr a;
     r = receivedData pec tr a;
-    means = step.if-and-only-if protocol (shapeOf protocol) (sane protocol) pec tr a .0 (sym (h .0));
+    means = step.answer-exactly protocol (shapeOf protocol) (sane protocol) pec tr a .0 (sym (h .0));
     front-sent = h .1;
     front-received = h .2;
   }
 
-  computed : (b c : Bool) (a : Decoded) (s r : List ℕ) → Says b c a s r → Computed b c a s r
-  computed true c a s r h = (
+  says-computed : (b c : Bool) (a : Decoded) (s r : List ℕ) → Says b c a s r → Computed b c a s r
+  says-computed true c a s r h = (
     h .answer,
     h .same-sent ∙ sym (ap (λ (x : Decoded). onto (sentData (shapeOf protocol) tr x) sent₀) (h .answer)),
     h .same-received ∙ sym (ap (λ (x : Decoded). onto (receivedData pec tr x) received₀) (h .answer)),
   )
-  computed false true a s r h = (
+  says-computed false true a s r h = (
     h .answer,
     h .same-sent ∙ sym (ap (λ (x : Decoded). onto (sentData (shapeOf protocol) tr x) sent₀) (h .answer)),
     h .same-received ∙ sym (ap (λ (x : Decoded). onto (receivedData pec tr x) received₀) (h .answer)),
   )
-  computed false false a s r h =
-      let k = step.only protocol (shapeOf protocol) (sane protocol) pec tr a (h .s) (h .r) (h .means) in (
+  says-computed false false a s r h =
+      let k = step.no-other-answer protocol (shapeOf protocol) (sane protocol) pec tr a (h .s) (h .r) (h .means) in (
         sym (k .0),
         h .front-sent ∙ ap (λ (x : List ℕ). onto x sent₀) (sym (k .1) ∙ ap (sentData (shapeOf protocol) tr) (k .0)),
         h .front-received ∙ ap (λ (x : List ℕ). onto x received₀) (sym (k .2) ∙ ap (receivedData pec tr) (k .0)),
@@ -81,14 +82,14 @@ module _ (protocol : ℕ) (pec : Bool) (tr sent₀ received₀ : List ℕ) where
   pub outcome-means : (a : Decoded) (s r : List ℕ) → Outcome protocol pec tr sent₀ received₀ a s r ↔ Means protocol pec tr sent₀ received₀ a s r
   unfolding answered
   outcome-means a s r = (
-    λ h. says (forbidden protocol pec) (short (length sent₀) (length received₀)) a s r (h .answer, h .data-sent, h .data-received),
-    λ h. (let k = computed (forbidden protocol pec) (short (length sent₀) (length received₀)) a s r h in record { answer = k .0; data-sent = k .1; data-received = k .2 }),
+    λ h. computed-says (forbidden protocol pec) (short (length sent₀) (length received₀)) a s r (h .answer, h .data-sent, h .data-received),
+    λ h. (let k = says-computed (forbidden protocol pec) (short (length sent₀) (length received₀)) a s r h in record { answer = k .0; data-sent = k .1; data-received = k .2 }),
   )
 
 -- 1 and 2 are given exactly in their cases, in this order; every other number is the trace's
 never-unread : (protocol : ℕ) (pec : Bool) (tr : List ℕ) (n : ℕ) → n ≤ 2 → 1 ≤ n → decodeNumber (decodedBy protocol (shapeOf protocol) pec tr) .0 ≡ n → ⊥
 never-unread protocol pec tr n h g e =
-    let k = step.holds protocol (shapeOf protocol) (sane protocol) pec tr in
+    let k = step.answer-holds protocol (shapeOf protocol) (sane protocol) pec tr in
     go (decodedBy protocol (shapeOf protocol) pec tr) k e
   where
     go : (a : Decoded) → Answers protocol (shapeOf protocol) pec tr a (sentData (shapeOf protocol) tr a) (receivedData pec tr a) → decodeNumber a .0 ≡ n → ⊥
@@ -139,18 +140,19 @@ module _ (protocol : ℕ) (pec : Bool) (tr sent₀ received₀ : List ℕ) (a : 
       back : (b c : Bool) → b ≡ false → c ≡ true → decodeNumber (whole b c) ≡ (2, 0)
       back b c e g = rw (e, g)
 
-  pub other-numbers : forbidden protocol pec ≡ false → short (length sent₀) (length received₀) ≡ false → a ≡ decodedBy protocol (shapeOf protocol) pec tr
+  -- neither 1 nor 2: the answer is the one that the trace has
+  pub answer-by-trace : forbidden protocol pec ≡ false → short (length sent₀) (length received₀) ≡ false → a ≡ decodedBy protocol (shapeOf protocol) pec tr
   unfolding answered
-  other-numbers e g = h .answer ∙ back isForbidden isShort e g
+  answer-by-trace e g = h .answer ∙ back isForbidden isShort e g
     where
       back : (b c : Bool) → b ≡ false → c ≡ false → whole b c ≡ decodedBy protocol (shapeOf protocol) pec tr
       back b c e g = rw (e, g)
 
   -- every other number is given exactly where the trace is read and has it
-  pub other-number : (n v : ℕ) → (n ≡ 1 → ⊥) → (n ≡ 2 → ⊥)
+  pub other-number-exactly : (n v : ℕ) → (n ≡ 1 → ⊥) → (n ≡ 2 → ⊥)
       → (decodeNumber a ≡ (n, v)) ↔ ((forbidden protocol pec ≡ false) × (short (length sent₀) (length received₀) ≡ false) × (decodeNumber (decodedBy protocol (shapeOf protocol) pec tr) ≡ (n, v)))
   unfolding answered
-  other-number n v one two = (λ e. there isForbidden isShort (ap decodeNumber (sym (h .answer)) ∙ e), λ k. ap decodeNumber (other-numbers (k .0) (k .1)) ∙ k .2)
+  other-number-exactly n v one two = (λ e. there isForbidden isShort (ap decodeNumber (sym (h .answer)) ∙ e), λ k. ap decodeNumber (answer-by-trace (k .0) (k .1)) ∙ k .2)
     where
       there : (b c : Bool) → decodeNumber (whole b c) ≡ (n, v) → (b ≡ false) × (c ≡ false) × (decodeNumber (decodedBy protocol (shapeOf protocol) pec tr) ≡ (n, v))
       there true c e = absurd (one (sym (ap (λ (x : ℕ × ℕ). x .0) e)))
@@ -182,7 +184,7 @@ pub round-trip : (protocol : ℕ) (pec : Bool) (t : Message) (sent₀ received�
 round-trip protocol pec t sent₀ received₀ a s r f c v h =
     let tr : List ℕ = trace (shapeOf protocol) pec t in
     let k = step.round-trip protocol (shapeOf protocol) (sane protocol) pec t v in
-    let e : a ≡ decodedBy protocol (shapeOf protocol) pec tr = other-numbers protocol pec tr sent₀ received₀ a s r h f c in (
+    let e : a ≡ decodedBy protocol (shapeOf protocol) pec tr = answer-by-trace protocol pec tr sent₀ received₀ a s r h f c in (
       e ∙ k .0,
       h .data-sent ∙ ap (λ (x : List ℕ). onto x sent₀) (ap (sentData (shapeOf protocol) tr) e ∙ k .1),
       h .data-received ∙ ap (λ (x : List ℕ). onto x received₀) (ap (receivedData pec tr) e ∙ k .2),

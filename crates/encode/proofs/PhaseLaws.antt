@@ -14,7 +14,7 @@ use Rattle.trace.specs.Shapes.{isCounted, writes, reads}
 use Rattle.trace.specs.Trace.{acked, nacked, inPlace}
 use Rattle.trace.specs.LengthLaws.{length-acked, length-nacked}
 use Rattle.encode.specs.Pieces.{countByte, partBytes, writeBytes, writePhase, repeatedStart, readBytes, readPhase, ending, rest}
-use Rattle.encode.proofs.WriterLaws.{put-start, next, next-acked, sealed}
+use Rattle.encode.proofs.WriterLaws.{put-start, onto-next, onto-next-acked, onto-nack-stop}
 
 -- a part at a place i of the output l: first its count, then its data
 module _ (l s : List ℕ) (i : ℕ) (a : Part) (h : Bool) (k : ℕ) (eh : h ≡ isCounted a) (ek : k ≡ countByte s) (room : i + 2 * length (partBytes a s) ≤ length l) where
@@ -35,7 +35,7 @@ module _ (l s : List ℕ) (i : ℕ) (a : Part) (h : Bool) (k : ℕ) (eh : h ≡ 
         → (m ≡ i + 2 * length (partBytes a s)) × (l₂ ≡ onto (take i l ++ acked (partBytes a s)) l)
     part-put m l₂ em e₂ = (
       omega (arith, part-length),
-      next-acked (take i l) (inPlace h k) s l l₁ l₂ n e₁ (omega (arith, length-take-le i l (omega arith))) e₂
+      onto-next-acked (take i l) (inPlace h k) s l l₁ l₂ n e₁ (omega (arith, length-take-le i l (omega arith))) e₂
           ∙ ap (λ (t : List ℕ). onto (take i l ++ acked t) l) same-part,
     )
 
@@ -65,9 +65,9 @@ module _ (l s : List ℕ) (sh : Shape) (f c : ℕ) (room : 1 + 2 * length (write
         → (m ≡ 1 + 2 * length (writeBytes sh f c s)) × (l₂ ≡ onto (writePhase sh f c s) l)
     phase-put m l₂ em e₂ =
         let first : l₁ ≡ onto (START ∷ acked (f ∷ inPlace (sh .command) c)) l =
-        next-acked (START ∷ []) (f ∷ []) (inPlace (sh .command) c) l opened l₁ 3 (put-start l f start-asks) refl e₁ in (
+        onto-next-acked (START ∷ []) (f ∷ []) (inPlace (sh .command) c) l opened l₁ 3 (put-start l f start-asks) refl e₁ in (
           omega (arith, write-length),
-          next-acked (START ∷ []) (f ∷ inPlace (sh .command) c) (partBytes (sh .sent) s) l l₁ l₂ n first (omega arith) e₂,
+          onto-next-acked (START ∷ []) (f ∷ inPlace (sh .command) c) (partBytes (sh .sent) s) l l₁ l₂ n first (omega arith) e₂,
         )
 
 -- the read phase at the front of the output l
@@ -96,10 +96,10 @@ module _ (l r : List ℕ) (w : Bool) (g : ℕ) (a : Part) (p : Bool) (y : ℕ) (
 
         pub read-put : (l₄ : List ℕ) → l₄ ≡ set (set l₃ (e - 1) NACK) e STOP → l₄ ≡ onto (repeatedStart w g ++ readPhase (readBytes a r p y)) l
         read-put l₄ e₄ =
-            let two : l₂ ≡ onto (repeatedStart w g ++ acked (partBytes a r)) l = next (repeatedStart w g) (acked (partBytes a r)) l l₁ l₂ n e₁ (sym en) e₂ in
+            let two : l₂ ≡ onto (repeatedStart w g ++ acked (partBytes a r)) l = onto-next (repeatedStart w g) (acked (partBytes a r)) l l₁ l₂ n e₁ (sym en) e₂ in
             let three : l₃ ≡ onto (repeatedStart w g ++ acked (readBytes a r p y)) l =
-            next-acked (repeatedStart w g) (partBytes a r) (inPlace p y) l l₂ l₃ m two (omega arith) e₃ in
-            e₄ ∙ ap (λ (t : List ℕ). set (set t (e - 1) NACK) e STOP) three ∙ sealed (repeatedStart w g) (readBytes a r p y) l e some at-end (omega (arith, at-end))
+            onto-next-acked (repeatedStart w g) (partBytes a r) (inPlace p y) l l₂ l₃ m two (omega arith) e₃ in
+            e₄ ∙ ap (λ (t : List ℕ). set (set t (e - 1) NACK) e STOP) three ∙ onto-nack-stop (repeatedStart w g) (readBytes a r p y) l e some at-end (omega (arith, at-end))
 
 -- what follows the write phase: which of the two it is
 module _ (sh : Shape) (g : ℕ) (r : List ℕ) (p : Bool) (y : ℕ) where

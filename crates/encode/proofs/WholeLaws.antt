@@ -10,7 +10,7 @@ use borrow.Author.Tests.{eqb-true, eqb-false}
 use borrow.Rule.Slice.PartMut.{putMid}
 use Rattle.lists.specs.Choice.{pick, or}
 use Rattle.lists.specs.Onto.{onto}
-use Rattle.lists.specs.ListLaws.{lent}
+use Rattle.lists.specs.OntoLaws.{onto-lent}
 use Rattle.wire.specs.Addresses.{hostAddress}
 use Rattle.wire.specs.Symbols.{START, STOP, ACK}
 use Rattle.wire.specs.Pec as Pec
@@ -19,7 +19,7 @@ use Rattle.trace.specs.declared.shape.Part.{Part}
 use Rattle.trace.specs.declared.shape.Part.the-variants.{Nothing, Fixed, Counted}
 use Rattle.trace.specs.declared.shape.Shape.{Shape}
 use Rattle.trace.specs.Shapes.{some, writes, reads}
-use Rattle.trace.specs.ShapeLaws.{Small}
+use Rattle.trace.specs.Sane.{Small}
 use Rattle.trace.specs.Trace.{Message, W, R, laid, acked, nacked, LengthOf, counted, firstByte, front, bytes, pecOf, inPlace, byController, trace}
 use Rattle.trace.specs.LengthLaws.{length-acked}
 use Rattle.encode.specs.Pieces.{partBytes, firstOf, writeBytes, writePhase, repeatedStart, readBytes, readPhase, rest, bytesAfter, codeOf, Ready}
@@ -123,5 +123,5 @@ module _ (sh : Shape) (p : Bool) (t : Message) (l : List ℕ) (ready : Ready sh 
 
     pub trace-put : (ys : List ℕ) → ys ≡ onto (rest sh g (t .received) p y) (take (length l₁ - n) (drop n l₁)) → putMid n (length l₁ - n) l₁ ys ≡ onto (trace sh p t) l
     trace-put ys e =
-        lent (writePhase sh f (t .command) (t .sent)) (rest sh g (t .received) p y) l l₁ ys n e₁ (phase-length ∙ sym en) (omega (arith, write-asks)) e
+        onto-lent (writePhase sh f (t .command) (t .sent)) (rest sh g (t .received) p y) l l₁ ys n e₁ (phase-length ∙ sym en) (omega (arith, write-asks)) e
         ∙ ap (λ (a : List ℕ). onto a l) pieces

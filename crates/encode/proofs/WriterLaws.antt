@@ -9,7 +9,7 @@ use native.Mathlib.Omega.{arith}
 use lib.ListN.{length, take, drop, getD, set, length-append}
 use lib.Seq.{take-suc, length-take-le}
 use Rattle.lists.specs.Onto.{onto}
-use Rattle.lists.specs.ListLaws.{onto-put, onto-onto, onto-take}
+use Rattle.lists.specs.OntoLaws.{onto-put, onto-onto, onto-take}
 use Rattle.wire.specs.Symbols.{START, STOP, ACK, NACK}
 use Rattle.trace.specs.Trace.{acked, nacked, inPlace}
 use Rattle.trace.specs.LengthLaws.{length-acked, length-nacked}
@@ -25,8 +25,8 @@ onto-byte p l b n e h =
     rw (onto-put p l b n e (omega arith), onto-put (p ++ b ∷ []) l ACK (n + 1) (omega (arith, length-append p (b ∷ []))) (omega arith), append-assoc p (b ∷ []) (ACK ∷ []))
 
 -- a byte as a symbol
-pub wider : (b : ℕ) → b < 256 → b < 65536
-wider b h = omega arith
+pub byte-below-65536 : (b : ℕ) → b < 256 → b < 65536
+byte-below-65536 b h = omega arith
 
 -- the turn of the loop of `put_acked`
 pub acked-turn : (p s l : List ℕ) (i n j : ℕ) → length p ≡ n → i < length s → n + 2 * length s ≤ length l → j ≡ n + 2 * i
@@ -63,14 +63,14 @@ turn-room true g m e h = omega arith
 turn-room false g m e h = let z : _≡_ {A = ℕ} 0 1 = cc in absurd (omega arith)
 
 -- one writer after another
-pub next : (xs ys l l₁ l₂ : List ℕ) (n : ℕ) → l₁ ≡ onto xs l → length xs ≡ n → l₂ ≡ onto (take n l₁ ++ ys) l₁ → l₂ ≡ onto (xs ++ ys) l
-next xs ys l l₁ l₂ n e g h = h ∙ ap (λ (t : List ℕ). onto (take n t ++ ys) t) e ∙ onto-onto xs ys l n g
+pub onto-next : (xs ys l l₁ l₂ : List ℕ) (n : ℕ) → l₁ ≡ onto xs l → length xs ≡ n → l₂ ≡ onto (take n l₁ ++ ys) l₁ → l₂ ≡ onto (xs ++ ys) l
+onto-next xs ys l l₁ l₂ n e g h = h ∙ ap (λ (t : List ℕ). onto (take n t ++ ys) t) e ∙ onto-onto xs ys l n g
 
 -- more bytes with their ACKs, after some
-pub next-acked : (p xs ys l l₁ l₂ : List ℕ) (n : ℕ) → l₁ ≡ onto (p ++ acked xs) l → length p + 2 * length xs ≡ n → l₂ ≡ onto (take n l₁ ++ acked ys) l₁
+pub onto-next-acked : (p xs ys l l₁ l₂ : List ℕ) (n : ℕ) → l₁ ≡ onto (p ++ acked xs) l → length p + 2 * length xs ≡ n → l₂ ≡ onto (take n l₁ ++ acked ys) l₁
     → l₂ ≡ onto (p ++ acked (xs ++ ys)) l
-next-acked p xs ys l l₁ l₂ n e g h =
-    next (p ++ acked xs) (acked ys) l l₁ l₂ n e (omega (arith, length-append p (acked xs), length-acked xs)) h
+onto-next-acked p xs ys l l₁ l₂ n e g h =
+    onto-next (p ++ acked xs) (acked ys) l l₁ l₂ n e (omega (arith, length-append p (acked xs), length-acked xs)) h
     ∙ ap (λ (t : List ℕ). onto t l) (append-assoc p (acked xs) (acked ys) ∙ ap (λ (t : List ℕ). p ++ t) (sym (acked-append xs ys)))
 
 -- the last ACK becomes a NACK
@@ -91,10 +91,10 @@ nacked-after p x xs l n e =
     set-after p (acked (x ∷ xs) ++ l) (2 * length xs + 1) NACK n e ∙ ap (λ (t : List ℕ). p ++ t) (nacked-acked x xs l)
 
 -- and STOP follows it
-pub sealed : (p xs l : List ℕ) (e : ℕ) → 0 < length xs → e ≡ length p + 2 * length xs → e < length l
+pub onto-nack-stop : (p xs l : List ℕ) (e : ℕ) → 0 < length xs → e ≡ length p + 2 * length xs → e < length l
     → set (set (onto (p ++ acked xs) l) (e - 1) NACK) e STOP ≡ onto (p ++ (nacked xs ++ STOP ∷ [])) l
-sealed p [] l e z g h = absurd (not-suc-le-zero z)
-sealed p (x ∷ xs) l e z g h =
+onto-nack-stop p [] l e z g h = absurd (not-suc-le-zero z)
+onto-nack-stop p (x ∷ xs) l e z g h =
     let us : List ℕ = acked (x ∷ xs) in
     let ns : List ℕ = nacked (x ∷ xs) in
     let n : e - 1 ≡ length p + (2 * length xs + 1) = omega arith in
@@ -108,5 +108,5 @@ sealed p (x ∷ xs) l e z g h =
     ∙ onto-put (p ++ ns) l STOP e q h ∙ ap (λ (t : List ℕ). onto t l) (append-assoc p ns (STOP ∷ []))
 
 -- STOP at the end of what is written
-pub stopped : (xs l l₁ : List ℕ) (e : ℕ) → l₁ ≡ onto xs l → e ≡ length xs → e < length l → set l₁ e STOP ≡ onto (xs ++ STOP ∷ []) l
-stopped xs l l₁ e h g k = ap (λ (t : List ℕ). set t e STOP) h ∙ onto-put xs l STOP e (sym g) k
+pub onto-stop : (xs l l₁ : List ℕ) (e : ℕ) → l₁ ≡ onto xs l → e ≡ length xs → e < length l → set l₁ e STOP ≡ onto (xs ++ STOP ∷ []) l
+onto-stop xs l l₁ e h g k = ap (λ (t : List ℕ). set t e STOP) h ∙ onto-put xs l STOP e (sym g) k

@@ -1,10 +1,11 @@
--- The encoder's promise: the answer, by refusal 1, refusal 2 and the length of the trace, and what the output holds then.
+-- The encoder's promise: Wrote, by equations (the answer by refusal 1, refusal 2 and the length of the trace, and what the output holds
+-- then), and Means, which says the same without a word on how it is computed.
 use mathlib.Core.Path.{_≡_}
 use mathlib.Core.Bool.{Bool}
 use mathlib.Core.List.{List, []}
-use Prim.Native.Nat.{ℕ}
+use Prim.Native.Nat.{ℕ, _≤_, _<_}
 use lib.Dec.{ltb}
-use lib.ListN.{length}
+use lib.ListN.{length, take, drop}
 use Rattle.lists.specs.Choice.{pick, or, not}
 use Rattle.lists.specs.Onto.{onto}
 use Rattle.trace.specs.Shapes.{shapeOf, forbidden}
@@ -12,6 +13,7 @@ use Rattle.trace.specs.Trace.{Message, trace}
 use Rattle.trace.specs.Allowed.{allowed}
 use Rattle.encode.specs.declared.Encoded.{Encoded}
 use Rattle.encode.specs.declared.Encoded.the-variants.{Written, Forbidden, OutputTooShort}
+use Rattle.encode.specs.Listed.{Listed}
 
 -- the scope's number of an answer, and what comes with it
 abbrev pub encodeNumber : Encoded → ℕ × ℕ
@@ -45,3 +47,15 @@ symbolsOf OutputTooShort tr = []
 pub record Wrote (protocol : ℕ) (pec : Bool) (t : Message) (before : List ℕ) (r : Encoded) (after : List ℕ) : Type 0 where
   pub answer : r ≡ encoded protocol pec t (length before)
   pub output : after ≡ onto (symbolsOf r (trace (shapeOf protocol) pec t)) before
+
+-- the same promise with nothing of how it is computed: what each answer means, and what it leaves in the output
+abbrev pub Means : ℕ → Bool → Message → List ℕ → Encoded → List ℕ → Type 0
+Means protocol pec t before (Written n) after =
+    (Listed protocol pec t → ⊥)
+    × (n ≡ length (trace (shapeOf protocol) pec t))
+    × (n ≤ length before)
+    × (take n after ≡ trace (shapeOf protocol) pec t)
+    × (drop n after ≡ drop n before)
+Means protocol pec t before Forbidden after = Listed protocol pec t × (after ≡ before)
+Means protocol pec t before OutputTooShort after =
+    (Listed protocol pec t → ⊥) × (length before < length (trace (shapeOf protocol) pec t)) × (after ≡ before)

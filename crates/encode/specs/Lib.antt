@@ -1,5 +1,5 @@
-pub mod Encode
 pub mod Listed
-pub mod ListedLaws
-pub mod EncodeMeans
+pub mod Encode
 pub mod Pieces
+pub mod ListedLaws
+pub mod EncodeLaws

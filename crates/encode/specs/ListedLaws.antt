@@ -1,4 +1,4 @@
--- The tests of refusal 1 find exactly the cases that are listed.
+-- The tests of refusal 1 find exactly the cases that are listed, all of them and no other.
 use mathlib.Core.Path.{_≡_, refl, sym, ap, _∙_}
 use mathlib.Core.Logic.{_↔_}
 use mathlib.Core.Bool.{Bool, true, false}
@@ -12,7 +12,7 @@ use Rattle.trace.specs.declared.shape.Shape.{Shape}
 use Rattle.trace.specs.Shapes.{shapeOf, forbidden, writes, reads}
 use Rattle.trace.specs.FieldLaws.{address-of-row, command-of-row, direction-of-row}
 use Rattle.trace.specs.ForbiddenLaws.{forbidden-is}
-use Rattle.trace.specs.DataFitsLaws.{fits-data, data-fits}
+use Rattle.trace.specs.DataFitsLaws.{listed-lengths-fit, fitting-lengths-listed}
 use Rattle.trace.specs.Trace.{Message}
 use Rattle.trace.specs.Allowed.{lengthsFit, addressFits, directionFits, commandFits, allowed}
 use Rattle.encode.specs.Encode.{refused}
@@ -91,7 +91,7 @@ module _ (protocol : ℕ) (pec : Bool) (t : Message) where
   listed-refused (forbidden-length z) = below-or-refused (λ h. go h (lengthsFit sh (length (t .sent)) (length (t .received))) refl)
     where
       go : protocol ≤ 10 → (l : Bool) → lengthsFit sh (length (t .sent)) (length (t .received)) ≡ l → refused protocol pec t ≡ true
-      go h true e = absurd (z (data-fits protocol h (length (t .sent)) (length (t .received)) e))
+      go h true e = absurd (z (fitting-lengths-listed protocol h (length (t .sent)) (length (t .received)) e))
       go h false e =
           refused-by _ _ _ _ false refl refl refl refl e ∙ fail-4 (forbidden protocol pec) (addressFits sh (t .address)) (directionFits sh (t .direction)) (commandFits sh (t .command))
 
@@ -123,7 +123,7 @@ module _ (protocol : ℕ) (pec : Bool) (t : Message) where
       go false g f = lacking-command (ltb-false 2 protocol g) (eqb-false (t .command) 0 f)
 
   length-listed : lengthsFit sh (length (t .sent)) (length (t .received)) ≡ false → Listed protocol pec t
-  length-listed e = forbidden-length (λ d. let f = fits-data protocol (length (t .sent)) (length (t .received)) d in let z : _≡_ {A = ℕ} 0 1 = cc in omega arith)
+  length-listed e = forbidden-length (λ d. let f = listed-lengths-fit protocol (length (t .sent)) (length (t .received)) d in let z : _≡_ {A = ℕ} 0 1 = cc in omega arith)
 
   pub refused-listed : refused protocol pec t ≡ true → Listed protocol pec t
   refused-listed e =

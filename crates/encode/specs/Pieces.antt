@@ -11,7 +11,7 @@ use Rattle.wire.specs.Pec.{pecFrom, pecOf}
 use Rattle.trace.specs.declared.shape.Part.{Part}
 use Rattle.trace.specs.declared.shape.Shape.{Shape}
 use Rattle.trace.specs.Shapes.{isCounted, writes, reads}
-use Rattle.trace.specs.ShapeLaws.{Sane}
+use Rattle.trace.specs.Sane.{Sane}
 use Rattle.trace.specs.Allowed.{addressFits, directionFits, commandFits}
 use Rattle.trace.specs.Trace.{Message, W, R, acked, nacked, inPlace, trace, Valid}
 

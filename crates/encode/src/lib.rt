@@ -1,5 +1,5 @@
 // The encoder: the refusals, then the trace of a transaction at the front of the output.
-// Rests on trace. What it promises is the record Wrote of specs/Encode.antt; what each answer means, specs/EncodeMeans.antt.
+// Rests on trace. What it promises is the record Wrote of specs/Encode.antt; what each answer means, specs/EncodeLaws.antt.
 ghost use mathlib.Core.Path.{_≡_};
 ghost use lib.ListN.{length};
 ghost use Rattle.lists.specs.Onto.{onto};

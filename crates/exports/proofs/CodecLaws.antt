@@ -18,7 +18,7 @@ use Rattle.trace.specs.Shapes.{shapeOf, forbidden}
 use Rattle.trace.specs.Trace.{Message, trace}
 use Rattle.trace.specs.Allowed.{allowed}
 use Rattle.trace.specs.ValidLaws.{allowed-valid}
-use Rattle.trace.specs.TableLengths.{longest}
+use Rattle.trace.specs.ColumnsLaws.{longest}
 use Rattle.encode.specs.declared.Encoded.{Encoded}
 use Rattle.encode.proofs.Encoded as declared
 use Rattle.encode.specs.declared.Encoded.the-variants.{Written, Forbidden, OutputTooShort}

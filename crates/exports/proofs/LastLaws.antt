@@ -9,7 +9,7 @@ use borrow.Author.Tests.{lt-ltb, le-ltb}
 use lib.ListN.{length, take, getD, set}
 use lib.Seq.{take-suc, length-take-le}
 use Rattle.lists.specs.Onto.{onto}
-use Rattle.lists.specs.ListLaws.{onto-put}
+use Rattle.lists.specs.OntoLaws.{onto-put}
 use Rattle.exports.specs.declared.last_data.HbPart.{HbPart}
 use Rattle.exports.specs.LastData.{partOf, Copied}
 

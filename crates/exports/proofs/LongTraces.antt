@@ -15,7 +15,7 @@ use Rattle.trace.specs.Shapes.{shapeOf, forbidden, reads}
 use Rattle.trace.specs.ShapeLaws.{sane}
 use Rattle.trace.specs.Trace.{Message, inPlace, nacked, laid, byTarget, byController, traceAt, trace, Valid}
 use Rattle.trace.specs.LengthLaws.{length-at, trace-length}
-use Rattle.trace.specs.TableLengths.{longest}
+use Rattle.trace.specs.ColumnsLaws.{longest}
 use Rattle.step.specs.declared.answer.Decoded.{Decoded}
 use Rattle.step.specs.declared.answer.Decoded.the-variants.{Done, Forbidden, BufferTooShort, NoSymbol, EndsEarly, Unexpected, NotAcknowledged, PecDiffers, AfterStop}
 use Rattle.step.specs.declared.state.Decoder.{Decoder}
@@ -28,9 +28,9 @@ use Rattle.step.specs.Refusal.{why}
 use Rattle.step.specs.Run.{run, concluded, decodedBy}
 use Rattle.step.specs.Handed.{lows, sentLength, sentPlace, receivedLength, receivedPlace}
 use Rattle.step.specs.Answers.{Member, Fits, Answers}
-use Rattle.step.specs.RunLaws.{other}
+use Rattle.step.specs.RunLaws.{refused-not-reading}
 use Rattle.step.specs.MemberLaws.{fits-back}
-use Rattle.step.specs.DecideLaws.{holds}
+use Rattle.step.specs.DecideLaws.{answer-holds}
 use Rattle.decode.specs.Outcome.{short, answered, Outcome}
 
 module _ (protocol : ℕ) (p : Bool) where
@@ -65,7 +65,7 @@ module _ (protocol : ℕ) (p : Bool) where
   -- what is refused stays refused, whatever follows
   refused-on : (xs ys : List ℕ) (d : Decoder) (i : ℕ) (a : Decoded) → run sh p d i xs ≡ Refused a → run sh p d i (xs ++ ys) ≡ Refused a
   unfolding run
-  refused-on [] ys d i a q = absurd (other (sym q))
+  refused-on [] ys d i a q = absurd (refused-not-reading (sym q))
   refused-on (x ∷ xs) ys d i a q = go (fits sh d x) q (λ k. refused-on xs ys (move sh p d x) (suc i) a k)
     where
       go : (b : Bool) → pick b (run sh p (move sh p d x) (suc i) xs) (Refused (why d i x)) ≡ Refused a
@@ -111,7 +111,7 @@ module _ (protocol : ℕ) (p : Bool) where
         go : (b c : Bool) → (sentLength (pick b Forbidden (pick c BufferTooShort (decodedBy protocol sh p tr))) ≡ 0) × (receivedLength (pick b Forbidden (pick c BufferTooShort (decodedBy protocol sh p tr))) ≡ 0)
         go true c = (refl, refl)
         go false true = (refl, refl)
-        go false false = no-data (decodedBy protocol sh p tr) _ _ (holds protocol sh (sane protocol) p tr)
+        go false false = no-data (decodedBy protocol sh p tr) _ _ (answer-holds protocol sh (sane protocol) p tr)
 
     same-answered : (s r : ℕ) → answered protocol p (take 526 tr) s r ≡ answered protocol p tr s r
     unfolding answered

@@ -19,7 +19,7 @@ use Rattle.encode.specs.declared.Encoded.{Encoded}
 use Rattle.encode.specs.declared.Encoded.the-variants.{Written}
 use Rattle.encode.specs.Encode.{message, encoded, symbolsOf, Wrote}
 use Rattle.encode.specs.Listed.{Listed}
-use Rattle.encode.specs.EncodeMeans.{written-exactly, front-is-trace}
+use Rattle.encode.specs.EncodeLaws.{written-exactly, front-is-trace}
 use Rattle.step.specs.declared.answer.Decoded.the-variants.{Done}
 use Rattle.step.specs.Answers.{Breaks, CutAt, Fits, Member, OtherPec, summary}
 use Rattle.step.specs.Numbers.{decodeNumber}

@@ -7,7 +7,7 @@ use native.Mathlib.Omega.{arith}
 use lib.ListN.{length, take, drop, getD, set, length-append}
 use lib.Seq.{getD-drop, take-suc, length-take-le}
 use Rattle.lists.specs.Onto.{onto}
-use Rattle.lists.specs.ListLaws.{onto-put}
+use Rattle.lists.specs.OntoLaws.{onto-put}
 
 -- the bytes of symbols
 unfoldable pub pairsOf : List ℕ → List ℕ

@@ -17,10 +17,12 @@ use Rattle.lists.specs.Onto.{onto}
 use Rattle.wire.specs.Addresses.{isReserved}
 use Rattle.trace.specs.Shapes.{reads, shapeOf}
 use Rattle.trace.specs.declared.transaction.Transaction.{Transaction}
-use Rattle.last.specs.LastLaws.{Whole, of-received, of-sent, of-neither}
+use Rattle.last.specs.Last.{Whole}
+use Rattle.last.specs.LastLaws.{gives-received, gives-sent, gives-empty}
 use Rattle.pool.specs.Digits.{digit}
 use Rattle.pool.specs.Free.{used, lowestFree}
-use Rattle.pool.specs.FreeLaws.{used-ones, Lowest, lowest-is, none-free}
+use Rattle.pool.specs.Free.{Lowest}
+use Rattle.pool.specs.FreeLaws.{used-ones, lowest-is, none-free}
 use Rattle.pool.specs.MemberLaws.{member-low, member-high, member-above, member-with, member-without, member-union}
 use Rattle.pool.specs.Pools.{member, withAddress, withoutAddress, unionOf}
 use Rattle.pool.specs.Start.{startingPool}
@@ -313,10 +315,10 @@ module _ (protocol m n : ℕ) (sent received : List ℕ) where
   having = record { protocol = protocol; address = record { 0 = 0 }; direction = 0; command = 0; sent = m; received = n }
 
   pub hb-last-received : Whole having (length sent) (length received) → Receives protocol → phaseOf protocol m n sent received ≡ take n received
-  hb-last-received w p = of-received having sent received (0, 0) (0, 0) w (receives-reads protocol p) .0
+  hb-last-received w p = gives-received having sent received (0, 0) (0, 0) w (receives-reads protocol p) .0
 
   pub hb-last-sent : Whole having (length sent) (length received) → Sends protocol → phaseOf protocol m n sent received ≡ take m sent
-  hb-last-sent w p = of-sent having sent received (0, 0) (0, 0) w (sends-reads protocol p) .0
+  hb-last-sent w p = gives-sent having sent received (0, 0) (0, 0) w (sends-reads protocol p) .0
 
   pub hb-last-none : (Whole having (length sent) (length received) → ⊥) → phaseOf protocol m n sent received ≡ []
-  hb-last-none z = of-neither having sent received (0, 0) (0, 0) z .0
+  hb-last-none z = gives-empty having sent received (0, 0) (0, 0) z .0

@@ -14,7 +14,7 @@ use Rattle.trace.specs.Shapes.{shapeOf}
 use Rattle.trace.specs.Trace.{Message, trace}
 use Rattle.wire.specs.declared.address.Address.{Address}
 use Rattle.encode.specs.Encode.{encoded, symbolsOf}
-use Rattle.encode.specs.EncodeMeans.{forbidden-exactly}
+use Rattle.encode.specs.EncodeLaws.{forbidden-exactly}
 use Rattle.encode.specs.declared.Encoded.{Encoded}
 use Rattle.encode.specs.declared.Encoded.the-variants.{Written, Forbidden, OutputTooShort}
 use Rattle.udid.specs.declared.Udid.{Udid}

@@ -8,14 +8,14 @@ use native.Mathlib.Omega.{arith}
 use lib.ListN.{length, take, drop, getD, List·getD-append}
 use lib.Seq.{take-at, drop-at}
 use Rattle.lists.specs.Onto.{onto}
-use Rattle.lists.specs.ListLaws.{length-onto}
+use Rattle.lists.specs.OntoLaws.{length-onto}
 use Rattle.trace.specs.Shapes.{shapeOf}
 use Rattle.trace.specs.Trace.{Message, trace}
 use Rattle.encode.specs.declared.Encoded.{Encoded}
 use Rattle.encode.specs.declared.Encoded.the-variants.{Written, Forbidden, OutputTooShort}
 use Rattle.encode.specs.Encode.{encoded, symbolsOf}
 use Rattle.encode.specs.Listed.{Listed}
-use Rattle.encode.specs.EncodeMeans.{forbidden-exactly, too-short-exactly, written-exactly}
+use Rattle.encode.specs.EncodeLaws.{forbidden-exactly, too-short-exactly, written-exactly}
 use Rattle.exports.specs.declared.codec.HbWritten.{HbWritten}
 use Rattle.exports.specs.Pairs.{pairsOf, length-pairs}
 use Rattle.exports.specs.PairLaws.{pair-at}

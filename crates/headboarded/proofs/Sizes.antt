@@ -12,12 +12,12 @@ use Rattle.step.specs.declared.answer.Decoded.{Decoded}
 use Rattle.step.specs.declared.answer.Decoded.the-variants.{Forbidden, BufferTooShort}
 use Rattle.step.specs.Run.{decodedBy}
 use Rattle.step.specs.Handed.{sentLength, receivedLength}
-use Rattle.step.specs.SizeLaws.{sizes}
+use Rattle.step.specs.SizeLaws.{sizes-of-answer}
 use Rattle.decode.specs.Outcome.{short, answered}
 use Rattle.encode.specs.declared.Encoded.{Encoded}
 use Rattle.encode.specs.declared.Encoded.the-variants.{Written}
 use Rattle.encode.specs.Encode.{encoded}
-use Rattle.encode.specs.EncodeMeans.{written-exactly}
+use Rattle.encode.specs.EncodeLaws.{written-exactly}
 
 -- a trace that was written has no more symbols than the output
 pub written-fits : (protocol : ℕ) (pec : Bool) (t : Message) (room n : ℕ) (r : Encoded) → r ≡ encoded protocol pec t room → r ≡ Written n → n ≤ room
@@ -29,7 +29,7 @@ Small a = (sentLength a ≤ 255) × (receivedLength a ≤ 255)
 small : (protocol : ℕ) (pec : Bool) (tr : List ℕ) (b c : Bool) → Small (pick b Forbidden (pick c BufferTooShort (decodedBy protocol (shapeOf protocol) pec tr)))
 small protocol pec tr true c = (omega arith, omega arith)
 small protocol pec tr false true = (omega arith, omega arith)
-small protocol pec tr false false = let s = sizes protocol (shapeOf protocol) (sane protocol) pec tr in (s .sent-small, s .received-small)
+small protocol pec tr false false = let s = sizes-of-answer protocol (shapeOf protocol) (sane protocol) pec tr in (s .sent-small, s .received-small)
 
 -- an answer of the decoder has at most 255 bytes of either
 pub answered-small : (protocol : ℕ) (pec : Bool) (tr : List ℕ) (s r : ℕ) (a : Decoded) → a ≡ answered protocol pec tr s r → (sentLength a ≤ 255) × (receivedLength a ≤ 255)

@@ -7,11 +7,11 @@ use lib.ListN.{length, take}
 use lib.Dec.{leb}
 use borrow.Author.Tests.{leb-true}
 use Rattle.lists.specs.Choice.{pick, and}
+use Rattle.lists.specs.ChoiceLaws.{both-true}
 use Rattle.trace.specs.declared.shape.Shape.{Shape}
 use Rattle.trace.specs.declared.transaction.Transaction.{Transaction}
 use Rattle.trace.specs.Shapes.{reads, shapeOf}
 use Rattle.trace.specs.Allowed.{lengthsFit}
-use Rattle.trace.specs.ShapeLaws.{both-true}
 use Rattle.last.specs.declared.Chosen.{Chosen}
 use Rattle.last.specs.Last.{belongs, part, chosen}
 
@@ -25,9 +25,9 @@ belongs-is t s r sh a b c e ea eb ec =
     ∙ ap (λ (x : Bool). and (leb (t .protocol) 10) (and (lengthsFit sh (t .sent) (t .received)) (and x (leb (t .received) r)))) (sym ec)
     ∙ ap (λ (u : Shape). and (leb (t .protocol) 10) (and (lengthsFit u (t .sent) (t .received)) (and (leb (t .sent) s) (leb (t .received) r)))) e
 
-pub rooms : (t : Transaction) (s r : ℕ) → belongs t s r ≡ true → (t .sent ≤ s) × (t .received ≤ r)
+pub belongs-in-buffers : (t : Transaction) (s r : ℕ) → belongs t s r ≡ true → (t .sent ≤ s) × (t .received ≤ r)
 unfolding belongs
-rooms t s r h =
+belongs-in-buffers t s r h =
     let a = both-true (leb (t .protocol) 10) _ h in
     let b = both-true (lengthsFit (shapeOf (t .protocol)) (t .sent) (t .received)) _ (a .1) in
     let c = both-true (leb (t .sent) s) _ (b .1) in

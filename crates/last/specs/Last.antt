@@ -1,13 +1,15 @@
 -- Which buffer holds the last data phase, which part of it that is, and where the part begins.
+use mathlib.Core.Path.{_≡_}
 use mathlib.Core.Bool.{Bool, true, false}
 use mathlib.Core.List.{List}
-use Prim.Native.Nat.{ℕ}
+use Prim.Native.Nat.{ℕ, _≤_}
 use lib.ListN.{length, take}
 use lib.Dec.{leb}
 use Rattle.lists.specs.Choice.{pick, and}
 use Rattle.trace.specs.declared.transaction.Transaction.{Transaction}
 use Rattle.trace.specs.Shapes.{reads, shapeOf}
 use Rattle.trace.specs.Allowed.{lengthsFit}
+use Rattle.trace.specs.DataFits.{DataFits}
 use Rattle.last.specs.declared.Chosen.{Chosen}
 
 -- the protocol is known, both lengths belong to it, and buffers of s and r bytes have them
@@ -30,3 +32,18 @@ lastData t s r = taken (chosen t (length s) (length r)) s r
 
 abbrev pub lastPlace : Transaction → ℕ → ℕ → ℕ × ℕ → ℕ × ℕ → ℕ × ℕ
 lastPlace t s r p q = pick (chosen t s r .received) q p
+
+-- the last data phase of a protocol is data received
+abbrev pub receives : ℕ → Bool
+receives protocol = reads (shapeOf protocol)
+
+-- a known protocol whose two lengths belong to it and are in their buffers
+pub record Whole (t : Transaction) (s r : ℕ) : Type 0 where
+  pub known : t .protocol ≤ 10
+  pub lengths : DataFits (t .protocol) (t .sent) (t .received)
+  pub sent : t .sent ≤ s
+  pub received : t .received ≤ r
+
+-- the list l is handed back, and begins at the place at
+abbrev pub Gives : Transaction → List ℕ → List ℕ → ℕ × ℕ → ℕ × ℕ → List ℕ → ℕ × ℕ → Type 0
+Gives t s r p q l at = (lastData t s r ≡ l) × (lastPlace t (length s) (length r) p q ≡ at)

@@ -1,68 +1,54 @@
--- What is handed back, case by case as the scope lists them, and that the contract leaves nothing else.
+-- What is handed back, case by case as the scope lists them: data received, data sent, or the empty part. The contract leaves one part.
 use mathlib.Core.Path.{_≡_, refl, sym, _∙_}
 use mathlib.Core.Bool.{Bool, true, false}
 use mathlib.Core.List.{List, [], _∷_}
 use mathlib.Core.Logic.{_↔_}
-use Prim.Native.Nat.{ℕ, _≤_}
+use Prim.Native.Nat.{ℕ}
 use lib.ListN.{length, take}
 use lib.Dec.{leb}
 use borrow.Author.Tests.{leb-true, le-leb}
-use Rattle.lists.specs.Choice.{pick, and}
+use Rattle.lists.specs.ChoiceLaws.{both-true}
 use Rattle.trace.specs.declared.transaction.Transaction.{Transaction}
 use Rattle.trace.specs.Shapes.{reads, shapeOf}
 use Rattle.trace.specs.Allowed.{lengthsFit}
-use Rattle.trace.specs.DataFits.{DataFits}
-use Rattle.trace.specs.DataFitsLaws.{fits-data, data-fits}
-use Rattle.trace.specs.ShapeLaws.{both-true}
-use Rattle.last.specs.Last.{belongs, chosen, lastData, lastPlace}
+use Rattle.trace.specs.DataFitsLaws.{listed-lengths-fit, fitting-lengths-listed}
+use Rattle.last.specs.Last.{belongs, chosen, lastData, lastPlace, receives, Whole, Gives}
 
 -- received for 2, 5, 6, 7, 9 and 10; sent for 1, 3, 4 and 8, and for Quick, which has nothing to send
-abbrev receives : ℕ → Bool
-receives protocol = reads (shapeOf protocol)
-
-pub which : receives 0 ∷ receives 1 ∷ receives 2 ∷ receives 3 ∷ receives 4 ∷ receives 5 ∷ receives 6 ∷ receives 7 ∷ receives 8 ∷ receives 9 ∷ receives 10 ∷ []
+pub received-or-sent : receives 0 ∷ receives 1 ∷ receives 2 ∷ receives 3 ∷ receives 4 ∷ receives 5 ∷ receives 6 ∷ receives 7 ∷ receives 8 ∷ receives 9 ∷ receives 10 ∷ []
     ≡ false ∷ false ∷ true ∷ false ∷ false ∷ true ∷ true ∷ true ∷ false ∷ true ∷ true ∷ []
-which = refl
+received-or-sent = refl
 
--- a known protocol whose two lengths belong to it and are in their buffers
-pub record Whole (t : Transaction) (s r : ℕ) : Type 0 where
-  pub known : t .protocol ≤ 10
-  pub lengths : DataFits (t .protocol) (t .sent) (t .received)
-  pub sent : t .sent ≤ s
-  pub received : t .received ≤ r
-
-pub whole : (t : Transaction) (s r : ℕ) → (belongs t s r ≡ true) ↔ Whole t s r
+-- the tests pass exactly for a whole transaction
+pub belongs-exactly : (t : Transaction) (s r : ℕ) → (belongs t s r ≡ true) ↔ Whole t s r
 unfolding belongs
-whole t s r = (
+belongs-exactly t s r = (
   λ h. (
       let a = both-true (leb (t .protocol) 10) _ h in
       let b = both-true (lengthsFit (shapeOf (t .protocol)) (t .sent) (t .received)) _ (a .1) in
       let c = both-true (leb (t .sent) s) _ (b .1) in
-      record { known = leb-true (t .protocol) 10 (a .0); lengths = data-fits (t .protocol) (leb-true (t .protocol) 10 (a .0)) (t .sent) (t .received) (b .0); sent = leb-true (t .sent) s (c .0); received = leb-true (t .received) r (c .1) }
+      record { known = leb-true (t .protocol) 10 (a .0); lengths = fitting-lengths-listed (t .protocol) (leb-true (t .protocol) 10 (a .0)) (t .sent) (t .received) (b .0); sent = leb-true (t .sent) s (c .0); received = leb-true (t .received) r (c .1) }
       ),
-  λ w. rw (le-leb (t .protocol) 10 (w .known), fits-data (t .protocol) (t .sent) (t .received) (w .lengths), le-leb (t .sent) s (w .sent), le-leb (t .received) r (w .received)),
+  λ w. rw (le-leb (t .protocol) 10 (w .known), listed-lengths-fit (t .protocol) (t .sent) (t .received) (w .lengths), le-leb (t .sent) s (w .sent), le-leb (t .received) r (w .received)),
 )
 
 module _ (t : Transaction) (s r : List ℕ) (p q : ℕ × ℕ) where
-  -- the list that is handed back, and where it begins
-  abbrev Gives : List ℕ → ℕ × ℕ → Type 0
-  Gives l at = (lastData t s r ≡ l) × (lastPlace t (length s) (length r) p q ≡ at)
-
-  pub of-received : Whole t (length s) (length r) → reads (shapeOf (t .protocol)) ≡ true → Gives (take (t .received) r) q
+  -- where it is whole: the front of the buffer of its last data phase
+  pub gives-received : Whole t (length s) (length r) → reads (shapeOf (t .protocol)) ≡ true → Gives t s r p q (take (t .received) r) q
   unfolding chosen
-  of-received w e = let h = whole t (length s) (length r) .1 w in (rw (h, e), rw (h, e))
+  gives-received w e = let h = belongs-exactly t (length s) (length r) .1 w in (rw (h, e), rw (h, e))
 
-  pub of-sent : Whole t (length s) (length r) → reads (shapeOf (t .protocol)) ≡ false → Gives (take (t .sent) s) p
+  pub gives-sent : Whole t (length s) (length r) → reads (shapeOf (t .protocol)) ≡ false → Gives t s r p q (take (t .sent) s) p
   unfolding chosen
-  of-sent w e = let h = whole t (length s) (length r) .1 w in (rw (h, e), rw (h, e))
+  gives-sent w e = let h = belongs-exactly t (length s) (length r) .1 w in (rw (h, e), rw (h, e))
 
   -- anything else: the empty part at the front of the sent buffer
-  pub of-neither : (Whole t (length s) (length r) → ⊥) → Gives [] p
+  pub gives-empty : (Whole t (length s) (length r) → ⊥) → Gives t s r p q [] p
   unfolding chosen
-  of-neither n = go (belongs t (length s) (length r)) refl
+  gives-empty n = go (belongs t (length s) (length r)) refl
     where
-      go : (b : Bool) → belongs t (length s) (length r) ≡ b → Gives [] p
-      go true h = absurd (n (whole t (length s) (length r) .0 h))
+      go : (b : Bool) → belongs t (length s) (length r) ≡ b → Gives t s r p q [] p
+      go true h = absurd (n (belongs-exactly t (length s) (length r) .0 h))
       go false h = (rw h, rw h)
 
 -- two parts that meet the contract for the same buffers and transaction are the same part

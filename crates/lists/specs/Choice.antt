@@ -1,4 +1,5 @@
 -- Choices on Bools: the tests of a definition, in the order in which they are made.
+use mathlib.Core.Path.{_≡_}
 use mathlib.Core.Bool.{Bool, true, false}
 
 abbrev pub pick {ℓ} : {A : Type ℓ} → Bool → A → A → A
@@ -16,3 +17,14 @@ and false b = false
 abbrev pub not : Bool → Bool
 not true = false
 not false = true
+
+-- the four, case by case
+pub record Choices : Type 1 where
+  pub pick-first : {A : Type 0} (a b : A) → pick true a b ≡ a
+  pub pick-second : {A : Type 0} (a b : A) → pick false a b ≡ b
+  pub or-true : (b : Bool) → or true b ≡ true
+  pub or-false : (b : Bool) → or false b ≡ b
+  pub and-true : (b : Bool) → and true b ≡ b
+  pub and-false : (b : Bool) → and false b ≡ false
+  pub not-true : not true ≡ false
+  pub not-false : not false ≡ true

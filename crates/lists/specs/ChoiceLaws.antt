@@ -1,17 +1,9 @@
--- The choices, case by case.
-use mathlib.Core.Path.{_≡_, refl}
+-- The choices are what they are, case by case; both of two tests pass where their `and` does; false is not true.
+use mathlib.Core.Path.{_≡_, refl, sym, _∙_}
 use mathlib.Core.Bool.{Bool, true, false}
-use Rattle.lists.specs.Choice.{pick, or, and, not}
-
-pub record Choices : Type 1 where
-  pub pick-first : {A : Type 0} (a b : A) → pick true a b ≡ a
-  pub pick-second : {A : Type 0} (a b : A) → pick false a b ≡ b
-  pub or-true : (b : Bool) → or true b ≡ true
-  pub or-false : (b : Bool) → or false b ≡ b
-  pub and-true : (b : Bool) → and true b ≡ b
-  pub and-false : (b : Bool) → and false b ≡ false
-  pub not-true : not true ≡ false
-  pub not-false : not false ≡ true
+use Prim.Native.Nat.{ℕ}
+use native.Mathlib.Omega.{arith}
+use Rattle.lists.specs.Choice.{and, Choices}
 
 pub choices : Choices
 choices =
@@ -25,3 +17,15 @@ choices =
       not-true = refl;
       not-false = refl;
     }
+
+pub both-true : (a b : Bool) → and a b ≡ true → (a ≡ true) × (b ≡ true)
+both-true true b h = (refl, h)
+both-true false b h = (h, cc)
+
+-- anything follows if they are equal
+pub false-not-true : {A : Type 0} → false ≡ true → A
+false-not-true e = let z : _≡_ {A = ℕ} 0 1 = cc in absurd (omega arith)
+
+-- no test both fails and passes
+pub not-both : {A : Type 0} {b : Bool} → b ≡ false → b ≡ true → A
+not-both f t = false-not-true (sym f ∙ t)

@@ -1,5 +1,7 @@
 pub mod Choice
 pub mod ChoiceLaws
-pub mod Onto
 pub mod Each
-pub mod ListLaws
+pub mod EachLaws
+pub mod Onto
+pub mod OntoLaws
+pub mod Passing

@@ -1,4 +1,5 @@
--- Laws of counting.
+-- Counting the numbers that pass a test: in two ranges, by an equal test, with one number more, where all pass and where one does not. The
+-- count is the length of the list of those that pass.
 use Prim.Native.Nat.{ℕ, zero, suc, _+_, _≤_, _<_}
 use mathlib.Core.Path.{_≡_, refl, sym, ap, ap₂, _∙_, fun-ext}
 use mathlib.Core.Bool.{Bool, true, false}
@@ -7,7 +8,7 @@ use native.Mathlib.Nat.{add-assoc, add-zero, zero-add, suc-add}
 use native.Mathlib.Omega.{arith}
 use lib.ListN.{length}
 use Rattle.lists.specs.Choice.{pick, or, and, not}
-use Rattle.wire.specs.AddressLaws.{passing}
+use Rattle.lists.specs.Passing.{passing}
 use Rattle.pool.specs.Counts.{one, count}
 
 pub count-add : (p : ℕ → Bool) (k l : ℕ) → count p (k + l) ≡ count p k + count (λ j. p (k + j)) l
@@ -55,10 +56,10 @@ count-all p (suc k) h =
     omega (arith, ap one (h 0 (omega arith)))
 
 -- fewer than all pass: one of them does not
-pub count-room : (p : ℕ → Bool) (k : ℕ) → count p k < k → (a : ℕ) × (a < k) × (p a ≡ false)
+pub one-fails : (p : ℕ → Bool) (k : ℕ) → count p k < k → (a : ℕ) × (a < k) × (p a ≡ false)
 unfolding count
-count-room p zero h = absurd (omega arith)
-count-room p (suc k) h = go (λ l. count-room (λ j. p (suc j)) k l) (p 0) refl
+one-fails p zero h = absurd (omega arith)
+one-fails p (suc k) h = go (λ l. one-fails (λ j. p (suc j)) k l) (p 0) refl
   where
     go : (count (λ j. p (suc j)) k < k → (a : ℕ) × (a < k) × (p (suc a) ≡ false)) → (b : Bool) → p 0 ≡ b → (a : ℕ) × (a < suc k) × (p a ≡ false)
     go ih false e = (0, omega arith, e)

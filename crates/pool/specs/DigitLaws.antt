@@ -1,9 +1,10 @@
--- Laws of digits: of a number with a digit one or turned over, of two numbers joined, and that its digits make a number.
-use Prim.Native.Nat.{ℕ, zero, suc, _+_, _-_, _*_, _/_, _%_, _^_, _≤_, _<_, max}
+-- The digits of a power of two, of two numbers joined, and of a number with one digit set or turned over. Digits make the number, and its ones
+-- are the digits that are one.
+use Prim.Native.Nat.{ℕ, zero, suc, _+_, _-_, _*_, _/_, _%_, _^_, _<_, max}
 use mathlib.Core.Path.{_≡_, refl, sym, ap, ap₂, _∙_, fun-ext}
 use mathlib.Core.Bool.{Bool, true, false}
 use mathlib.Core.Logic.{_⊎_, inl, inr}
-use native.Mathlib.Nat.{pow-suc, div-one, zero-div, zero-mod, div-eq-of-lt, div-self, mul-mod-left, div-div-eq-div-mul, mul-comm, zero-mul, one-mul}
+use native.Mathlib.Nat.{pow-suc, div-one, zero-div, div-eq-of-lt, div-self, mul-mod-left, div-div-eq-div-mul, mul-comm, zero-mul, one-mul}
 use native.Mathlib.Decide.{decLt, ℕ-discrete}
 use native.Mathlib.Numerals.{one-add}
 use native.Mathlib.Omega.{arith}
@@ -12,8 +13,8 @@ use lib.Pow.{pow-pos, pow-lt, pow-add, shl-shr, mod-pow-add}
 use lib.Count.{ones, ones-step}
 use lib.Bits.{bitOr, bitXor, differ, or-shr, or-step, xor-shr, xor-step}
 use borrow.Author.Tests.{eq-eqb, ne-eqb}
-use Rattle.lists.specs.Choice.{pick, or, not}
-use Rattle.pool.specs.Digits.{digit, plus, flip}
+use Rattle.lists.specs.Choice.{or, not}
+use Rattle.pool.specs.Digits.{digit, plus, flip, differs}
 use Rattle.pool.specs.Counts.{one, count}
 
 -- ---- the digits of a power of two
@@ -77,10 +78,6 @@ or-digit (suc (suc x)) y h k = absurd (omega arith)
 pub digit-or : (n m k : ℕ) → digit (bitOr n m) k ≡ or (digit n k) (digit m k)
 unfolding digit
 digit-or n m k = ap (λ (x : ℕ). eqb x 1) (or-at n m k) ∙ or-digit (n / 2 ^ k % 2) (m / 2 ^ k % 2) (omega arith) (omega arith)
-
-abbrev pub differs : Bool → Bool → Bool
-differs true b = not b
-differs false b = b
 
 differs-digit : (x y : ℕ) → x < 2 → y < 2 → eqb (differ x y) 1 ≡ differs (eqb x 1) (eqb y 1)
 differs-digit zero y h k = refl
@@ -158,9 +155,9 @@ same-digits (suc k) n m h g e =
     omega arith
 
 -- the highest of k + 1 digits, and what the others make
-pub top : (n k : ℕ) → ((digit n k ≡ false) × (n % 2 ^ suc k ≡ n % 2 ^ k)) ⊎ ((digit n k ≡ true) × (n % 2 ^ suc k ≡ 2 ^ k + n % 2 ^ k))
+pub top-digit : (n k : ℕ) → ((digit n k ≡ false) × (n % 2 ^ suc k ≡ n % 2 ^ k)) ⊎ ((digit n k ≡ true) × (n % 2 ^ suc k ≡ 2 ^ k + n % 2 ^ k))
 unfolding digit
-top n k = go (n / 2 ^ k % 2) (omega arith) refl
+top-digit n k = go (n / 2 ^ k % 2) (omega arith) refl
   where
     e : n % 2 ^ suc k ≡ (n / 2 ^ k % 2) * 2 ^ k + n % 2 ^ k
     e = ap (λ (x : ℕ). n % 2 ^ x) (sym (one-add k)) ∙ mod-pow-add n 1 k

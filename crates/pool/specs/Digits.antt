@@ -1,8 +1,9 @@
 -- The binary digits of a number, as a set of places: k is in n where digit k of n is one.
 use Prim.Native.Nat.{ℕ, _/_, _%_, _^_}
-use mathlib.Core.Bool.{Bool}
+use mathlib.Core.Bool.{Bool, true, false}
 use lib.Dec.{eqb}
 use lib.Bits.{bitOr, bitXor}
+use Rattle.lists.specs.Choice.{not}
 
 -- digit k of n is one
 unfoldable pub digit : ℕ → ℕ → Bool
@@ -15,3 +16,8 @@ plus n k = bitOr n (2 ^ k)
 -- n with digit k turned over
 unfoldable pub flip : ℕ → ℕ → ℕ
 flip n k = bitXor n (2 ^ k)
+
+-- two digits differ
+abbrev pub differs : Bool → Bool → Bool
+differs true b = not b
+differs false b = b

@@ -1,5 +1,7 @@
 -- How many addresses are in use, and the lowest that is free.
-use Prim.Native.Nat.{ℕ, zero, suc}
+use Prim.Native.Nat.{ℕ, zero, suc, _<_}
+use mathlib.Core.Path.{_≡_}
+use mathlib.Core.Bool.{true, false}
 use Rattle.lists.specs.Choice.{pick}
 use Rattle.wire.specs.declared.address.Address.{Address}
 use Rattle.pool.specs.Counts.{count}
@@ -19,3 +21,13 @@ freeFrom p (suc n) a = pick (member p a) (freeFrom p n (suc a)) (At (record { 0 
 
 abbrev pub lowestFree : Pool → Free
 lowestFree p = freeFrom p 128 0
+
+-- a is free, and all below it are in use
+pub record Lowest (p : Pool) (a : ℕ) : Type 0 where
+  pub small : a < 128
+  pub free : member p a ≡ false
+  pub below : (b : ℕ) → b < a → member p b ≡ true
+
+-- the address of a number
+abbrev pub address : ℕ → Address
+address a = record { 0 = a }

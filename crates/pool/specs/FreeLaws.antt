@@ -1,25 +1,24 @@
--- How many are in use, and the lowest that is free: what the answers mean.
-use Prim.Native.Nat.{ℕ, zero, suc, _+_, _-_, _%_, _^_, _<_, _≤_}
+-- The count of the addresses in use is that of the ones of both halves, and follows each address more or fewer. The lowest free address is
+-- answered exactly if it is the lowest that is free, and none exactly if all 128 are in use.
+use Prim.Native.Nat.{ℕ, zero, suc, _+_, _-_, _<_, _≤_}
 use mathlib.Core.Path.{_≡_, refl, sym, ap, ap₂, _∙_}
 use mathlib.Core.Bool.{Bool, true, false}
 use mathlib.Core.Logic.{_↔_}
-use native.Mathlib.Decide.{decLt, ℕ-discrete}
+use native.Mathlib.Decide.{ℕ-discrete}
 use native.Mathlib.Omega.{arith}
 use lib.Count.{ones}
 use lib.ListN.{length}
 use native.Mathlib.Nat.{zero-add}
 use Rattle.lists.specs.Choice.{pick}
-use Rattle.wire.specs.AddressLaws.{passing}
+use Rattle.lists.specs.Passing.{passing}
 use Rattle.wire.specs.declared.address.Address.{Address}
 use Rattle.pool.specs.Digits.{digit}
 use Rattle.pool.specs.DigitLaws.{ones-count}
-use Rattle.pool.specs.Counts.{count}
-use Rattle.pool.specs.CountLaws.{count-add, count-cong, count-more, count-le, count-all, count-room, count-passing}
-use Rattle.pool.specs.Free.{used, freeFrom, lowestFree}
+use Rattle.pool.specs.CountLaws.{count-add, count-cong, count-more, count-le, count-all, count-passing}
+use Rattle.pool.specs.Free.{used, freeFrom, lowestFree, Lowest, address}
 use Rattle.pool.specs.MemberLaws.{member-low, member-high, has-with-same, has-with-other, has-without-same, has-without-other}
 use Rattle.pool.specs.Pools.{Fits, member, withAddress, withoutAddress}
 use Rattle.pool.specs.declared.Pool.{Pool}
-use Rattle.pool.specs.declared.free.Free.{Free}
 use Rattle.pool.specs.declared.free.Free.the-variants.{At, AllUsed}
 
 -- ---- how many
@@ -63,9 +62,6 @@ unfolding used
 used-without p a h e = sym (count-more (member (withoutAddress p a)) (member p) 128 a h (has-without-same p a) e (λ j l n. sym (has-without-other p a j n)))
 
 -- ---- the lowest that is free
-
-abbrev address : ℕ → Address
-address a = record { 0 = a }
 
 from-free : (p : Pool) (n a b : ℕ) → freeFrom p n a ≡ At (address b) → (member p b ≡ false) × (a ≤ b) × (b < a + n) × ((j : ℕ) → a ≤ j → j < b → member p j ≡ true)
 unfolding freeFrom
@@ -112,12 +108,6 @@ from-all : (p : Pool) (n a : ℕ) → ((j : ℕ) → a ≤ j → j < a + n → m
 unfolding freeFrom
 from-all p zero a m = refl
 from-all p (suc n) a m = let z : member p a ≡ true = m a (omega arith) (omega arith) in rw z (from-all p n (suc a) (λ j l h. m j (omega arith) (omega arith)))
-
--- a is free, and all below it are in use
-pub record Lowest (p : Pool) (a : ℕ) : Type 0 where
-  pub small : a < 128
-  pub free : member p a ≡ false
-  pub below : (b : ℕ) → b < a → member p b ≡ true
 
 -- an address is answered if and only if it is the lowest that is free
 pub lowest-is : (p : Pool) (a : ℕ) → (lowestFree p ≡ At (address a)) ↔ Lowest p a

@@ -1,16 +1,15 @@
 -- Which bit of which half an address is, in arithmetic: address a is bit a of the low half, and address 64 + k bit k of the high one.
 use Prim.Native.Nat.{ℕ, _+_, _-_, _/_, _%_, _^_, _<_, _≤_}
 use mathlib.Core.Path.{_≡_, refl, sym, ap, _∙_}
-use mathlib.Core.Bool.{Bool, true, false}
+use mathlib.Core.Bool.{true}
 use mathlib.Core.List.{[], _∷_}
 use mathlib.Core.Logic.{_↔_}
 use native.Mathlib.Omega.{arith}
-use lib.Dec.{eqb}
 use borrow.Author.Tests.{eqb-true, eq-eqb}
-use Rattle.wire.specs.AddressLaws.{passing}
+use Rattle.lists.specs.Passing.{passing}
 use Rattle.pool.specs.Digits.{digit}
 use Rattle.pool.specs.MemberLaws.{member-low, member-high}
-use Rattle.pool.specs.Pools.{member}
+use Rattle.pool.specs.Pools.{member, pool}
 use Rattle.pool.specs.declared.Pool.{Pool}
 
 one-is : (n k : ℕ) → (digit n k ≡ true) ↔ (n / 2 ^ k % 2 ≡ 1)
@@ -26,9 +25,6 @@ pub high-half : (p : Pool) (a : ℕ) → 64 ≤ a → a < 128 → (member p a �
 high-half p a l h =
     let m : member p a ≡ digit (p .high) (a - 64) = ap (member p) {x = a} {y = 64 + (a - 64)} (omega arith) ∙ member-high p (a - 64) (omega arith) in
     (λ e. one-is (p .high) (a - 64) .0 (sym m ∙ e), λ e. m ∙ one-is (p .high) (a - 64) .1 e)
-
-abbrev pool : ℕ → ℕ → Pool
-pool l h = record { low = l; high = h }
 
 -- the lowest and the highest bit of each half: the addresses 0, 63, 64 and 127, each alone
 pub only-0 : passing (member (pool 1 0)) 0 128 ≡ 0 ∷ []

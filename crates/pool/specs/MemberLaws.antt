@@ -195,16 +195,16 @@ fits-union p q f g = record { low = or-lt 64 (p .low) (q .low) (f .low) (g .low)
 
 -- ---- a pool is one of these if and only if it has just these members
 
-only : (r q : Pool) (test : ℕ → Bool) → Fits r → Fits q → ((b : ℕ) → b < 128 → member q b ≡ test b)
+settled-by-members : (r q : Pool) (test : ℕ → Bool) → Fits r → Fits q → ((b : ℕ) → b < 128 → member q b ≡ test b)
     → (r ≡ q) ↔ ((b : ℕ) → b < 128 → member r b ≡ test b)
-only r q test f g h = (λ e b l. ap (λ (x : Pool). member x b) e ∙ h b l, λ k. same-members r q f g (λ b l. k b l ∙ sym (h b l)))
+settled-by-members r q test f g h = (λ e b l. ap (λ (x : Pool). member x b) e ∙ h b l, λ k. same-members r q f g (λ b l. k b l ∙ sym (h b l)))
 
 module _ (p : Pool) (f : Fits p) (r : Pool) (g : Fits r) where
   pub with-only : (a : ℕ) → (r ≡ withAddress p a) ↔ ((b : ℕ) → b < 128 → member r b ≡ or (eqb b a) (member p b))
-  with-only a = only r (withAddress p a) (λ b. or (eqb b a) (member p b)) g (fits-with p a f) (member-with p a)
+  with-only a = settled-by-members r (withAddress p a) (λ b. or (eqb b a) (member p b)) g (fits-with p a f) (member-with p a)
 
   pub without-only : (a : ℕ) → (r ≡ withoutAddress p a) ↔ ((b : ℕ) → b < 128 → member r b ≡ and (not (eqb b a)) (member p b))
-  without-only a = only r (withoutAddress p a) (λ b. and (not (eqb b a)) (member p b)) g (fits-without p a f) (λ b l. member-without p a b)
+  without-only a = settled-by-members r (withoutAddress p a) (λ b. and (not (eqb b a)) (member p b)) g (fits-without p a f) (λ b l. member-without p a b)
 
   pub union-only : (q : Pool) → Fits q → (r ≡ unionOf p q) ↔ ((b : ℕ) → b < 128 → member r b ≡ or (member p b) (member q b))
-  union-only q h = only r (unionOf p q) (λ b. or (member p b) (member q b)) g (fits-union p q f h) (λ b l. member-union p q b)
+  union-only q h = settled-by-members r (unionOf p q) (λ b. or (member p b) (member q b)) g (fits-union p q f h) (λ b l. member-union p q b)

@@ -33,3 +33,7 @@ withoutAddress p a =
 -- those in use in either
 unfoldable pub unionOf : Pool → Pool → Pool
 unionOf p q = record { low = bitOr (p .low) (q .low); high = bitOr (p .high) (q .high) }
+
+-- the pool of two halves
+abbrev pub pool : ℕ → ℕ → Pool
+pool l h = record { low = l; high = h }

@@ -22,7 +22,7 @@ use Rattle.trace.specs.declared.transaction.Transaction.{Transaction}
 use Rattle.encode.specs.declared.Encoded.{Encoded}
 use Rattle.encode.specs.Encode.{encodeNumber, Wrote}
 use Rattle.encode.specs.Listed.{Listed}
-use Rattle.encode.specs.EncodeMeans as encode
+use Rattle.encode.specs.EncodeLaws as encode
 use Rattle.step.specs.Answers.{Breaks, CutAt, Fits, Member, OtherPec, summary}
 use Rattle.step.specs.BytesInLaws.{byte-more}
 use Rattle.step.specs.Numbers.{decodeNumber}
@@ -31,7 +31,7 @@ use Rattle.step.specs.declared.answer.Decoded.{Decoded}
 use Rattle.step.specs.declared.answer.Decoded.the-variants.{Done}
 use Rattle.step.specs.AnswersLaws as step
 use Rattle.decode.specs.Outcome.{short, Outcome}
-use Rattle.decode.specs.EntryLaws.{roomy}
+use Rattle.decode.specs.EntryLaws.{both-at-least-255}
 use Rattle.decode.specs.OutcomeLaws as decode
 
 -- ---- the encoder
@@ -71,7 +71,7 @@ short-cases s r = (λ h. there (ltb s 255) refl h, back)
     back (inr h) = rw (lt-ltb r 255 h) (either (ltb s 255))
 
 pub long-cases : (s r : ℕ) → (short s r ≡ false) ↔ ((255 ≤ s) × (255 ≤ r))
-long-cases s r = (λ h. roomy s r h, λ h. rw (le-ltb s 255 (h .0), le-ltb r 255 (h .1)))
+long-cases s r = (λ h. both-at-least-255 s r h, λ h. rw (le-ltb s 255 (h .0), le-ltb r 255 (h .1)))
 
 -- neither 1 nor 2, so that the trace is read: one of the eleven protocols, Quick without PEC, and two buffers of 255 bytes or more
 pub record Entered (protocol : ℕ) (pec : Bool) (sent₀ received₀ : List ℕ) : Type 0 where
@@ -134,7 +134,7 @@ module _ (protocol : ℕ) (pec : Bool) (tr sent₀ received₀ : List ℕ) (a : 
   by-trace : (P : Type 0) (n v : ℕ) → (n ≡ 1 → ⊥) → (n ≡ 2 → ⊥) → (decodeNumber (decodedBy protocol shape pec tr) ≡ (n, v)) ↔ P
       → (decodeNumber a ≡ (n, v)) ↔ (Entered protocol pec sent₀ received₀ × P)
   by-trace P n v one two e =
-      let q = decode.other-number protocol pec tr sent₀ received₀ a sent received o n v one two in
+      let q = decode.other-number-exactly protocol pec tr sent₀ received₀ a sent received o n v one two in
       (λ k. (let z = q .0 k in (entered (z .0) (z .1), e .0 (z .2))), λ k. q .1 (not-forbidden (k .0), not-short (k .0), e .1 (k .1)))
 
   -- 3: a number above 259 at the first place that does not fit
@@ -157,8 +157,8 @@ module _ (protocol : ℕ) (pec : Bool) (tr sent₀ received₀ : List ℕ) (a : 
   -- and which byte that is, by the length of the trace alone: two places a byte, one for START, one for a repeated START, NACK and STOP
   pub decode-6-byte : (byte : ℕ) → decodeNumber a ≡ (6, byte) → byte ≡ (length tr - 4) / 2
   decode-6-byte b e =
-      let q = decode.other-number protocol pec tr sent₀ received₀ a sent received o 6 b (λ z. omega (arith, z)) (λ z. omega (arith, z)) .0 e in
-      step.which-byte protocol shape (sane protocol) pec tr b (q .2)
+      let q = decode.other-number-exactly protocol pec tr sent₀ received₀ a sent received o 6 b (λ z. omega (arith, z)) (λ z. omega (arith, z)) .0 e in
+      step.byte-by-length protocol shape (sane protocol) pec tr b (q .2)
 
   -- 7: the whole trace fits, to its end, but the PEC differs
   pub decode-7 : (place : ℕ) → (decodeNumber a ≡ (7, place)) ↔ (Entered protocol pec sent₀ received₀ × OtherPec shape pec tr place)

@@ -17,7 +17,7 @@ use Rattle.trace.specs.Trace.{Message, trace, Valid}
 use Rattle.encode.specs.declared.Encoded.{Encoded}
 use Rattle.encode.specs.declared.Encoded.the-variants.{Written}
 use Rattle.encode.specs.Encode.{Wrote}
-use Rattle.encode.specs.EncodeMeans.{written-valid, front-is-trace}
+use Rattle.encode.specs.EncodeLaws.{written-valid, front-is-trace}
 use Rattle.step.specs.declared.answer.Decoded.{Decoded}
 use Rattle.step.specs.declared.answer.Decoded.the-variants.{Done}
 use Rattle.step.specs.Handed.{sentData, receivedData}
@@ -90,8 +90,8 @@ module _ (protocol : ℕ) (pec : Bool) (tr sent₀ received₀ : List ℕ) (u : 
 
   carried : Carries protocol (shapeOf protocol) pec tr u (sentData (shapeOf protocol) tr (Done u)) (receivedData pec tr (Done u))
   carried =
-      step.if-and-only-if protocol (shapeOf protocol) (sane protocol) pec tr (Done u) .0
-      (sym (decode.other-numbers protocol pec tr sent₀ received₀ (Done u) sent received o not-forbidden not-short))
+      step.answer-exactly protocol (shapeOf protocol) (sane protocol) pec tr (Done u) .0
+      (sym (decode.answer-by-trace protocol pec tr sent₀ received₀ (Done u) sent received o not-forbidden not-short))
 
   -- a trace that the decoder accepts is one that the encoder writes, for one message alone, and that is the one it hands back
   pub decode-then-encode : Accepted protocol pec tr sent₀ received₀ u sent received

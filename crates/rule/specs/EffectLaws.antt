@@ -10,7 +10,9 @@ use lib.ListN.{length, getD, drop}
 use lib.Seq.{getD-at}
 use borrow.Author.Tests.{eq-eqb, eqb-true, lt-ltb, ltb-true}
 use Rattle.lists.specs.Choice.{pick, and}
-use Rattle.lists.specs.Each.{Each, Bytes, append-bytes}
+use Rattle.lists.specs.ChoiceLaws.{false-not-true}
+use Rattle.lists.specs.EachLaws.{append-bytes}
+use Rattle.lists.specs.Each.{Each, Bytes}
 use Rattle.wire.specs.Pec.{pecOf}
 use Rattle.wire.specs.PecLaws.{pec-byte}
 use Rattle.wire.specs.Symbols.{STOP, ACK, NACK}
@@ -39,19 +41,16 @@ unfolding same
 same-self [] = refl
 same-self (x ∷ xs) = rw (eq-eqb x x refl) (same-self xs)
 
-never : {A : Type 0} → false ≡ true → A
-never q = absurd (let z : _≡_ {A = ℕ} 0 1 = cc q in omega arith)
-
 same-true : (xs ys : List ℕ) → same xs ys ≡ true → xs ≡ ys
 unfolding same
 same-true [] [] e = refl
-same-true [] (y ∷ ys) e = never e
-same-true (x ∷ xs) [] e = never e
+same-true [] (y ∷ ys) e = false-not-true e
+same-true (x ∷ xs) [] e = false-not-true e
 same-true (x ∷ xs) (y ∷ ys) e = go (eqb x y) refl e (λ q. same-true xs ys q)
   where
     go : (b : Bool) → eqb x y ≡ b → and b (same xs ys) ≡ true → (same xs ys ≡ true → xs ≡ ys) → x ∷ xs ≡ y ∷ ys
     go true h k ih = ap₂ (λ (z : ℕ) (l : List ℕ). z ∷ l) (eqb-true x y h) (ih k)
-    go false h k ih = never k
+    go false h k ih = false-not-true k
 
 same-false : (xs ys : List ℕ) → (xs ≡ ys → ⊥) → same xs ys ≡ false
 same-false xs ys n = go (same xs ys) refl

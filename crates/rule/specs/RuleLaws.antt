@@ -13,7 +13,8 @@ use Rattle.lists.specs.Choice.{pick}
 use Rattle.lists.specs.Each.{Each}
 use Rattle.wire.specs.declared.address.Address.{Address}
 use Rattle.pool.specs.Free.{used, lowestFree}
-use Rattle.pool.specs.FreeLaws.{Lowest, lowest-is, full-count, used-with-new, used-le}
+use Rattle.pool.specs.Free.{Lowest}
+use Rattle.pool.specs.FreeLaws.{lowest-is, full-count, used-with-new, used-le}
 use Rattle.pool.specs.Pools.{member, withAddress}
 use Rattle.pool.specs.MemberLaws.{has-with-same, has-with-other}
 use Rattle.pool.specs.declared.Pool.{Pool}

@@ -18,15 +18,15 @@ use Rattle.step.specs.Run.{run, byteCount}
 use Rattle.step.specs.RunLaws.{run-fits, run-stops}
 
 module _ (sh : Shape) (p : Bool) (s : List ℕ) (d : Decoder) (i : ℕ) where
-  pub turn : i < length s → fits sh d (getD s i 0) ≡ true → run sh p d i (drop i s) ≡ run sh p (move sh p d (getD s i 0)) (i + 1) (drop (i + 1) s)
-  turn h f = rw (add-one, drop-cons s i 0) (run-fits sh p d i (getD s i 0) (drop (suc i) s) f)
+  pub read-turn : i < length s → fits sh d (getD s i 0) ≡ true → run sh p d i (drop i s) ≡ run sh p (move sh p d (getD s i 0)) (i + 1) (drop (i + 1) s)
+  read-turn h f = rw (add-one, drop-cons s i 0) (run-fits sh p d i (getD s i 0) (drop (suc i) s) f)
 
-  pub stop : i < length s → fits sh d (getD s i 0) ≡ false → run sh p d i (drop i s) ≡ Refused (why d i (getD s i 0))
-  stop h f = rw (drop-cons s i 0) (run-stops sh p d i (getD s i 0) (drop (suc i) s) f)
+  pub read-stop : i < length s → fits sh d (getD s i 0) ≡ false → run sh p d i (drop i s) ≡ Refused (why d i (getD s i 0))
+  read-stop h f = rw (drop-cons s i 0) (run-stops sh p d i (getD s i 0) (drop (suc i) s) f)
 
-  pub end : length s ≤ i → run sh p d i (drop i s) ≡ Reading d
+  pub read-end : length s ≤ i → run sh p d i (drop i s) ≡ Reading d
   unfolding run
-  end h = rw drop-of-length-le
+  read-end h = rw drop-of-length-le
 
 -- the count of bytes
 pub count-turn : (s : List ℕ) (i : ℕ) → i < length s → byteCount (drop i s) ≡ pick (ltb (getD s i 0) 256) 1 0 + byteCount (drop (i + 1) s)

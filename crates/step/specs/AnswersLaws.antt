@@ -1,5 +1,6 @@
--- What is proved of the decoder, for every shape whose limits make sense: so for every row of the table, and for rows yet to come.
--- specs/Answers.antt has the meaning of each answer, specs/Numbers.antt its number; how it is computed stands in specs/Run.antt.
+-- Each answer and each number of the decoder is given exactly in its case, and a trace of the encoder is read back whole. This holds for every
+-- shape whose limits make sense: so for every row of the table, and for rows yet to come. Answers has the meaning of each answer, Numbers
+-- its number; how it is computed stands in Run.
 use mathlib.Core.Path.{_≡_, refl, sym, _∙_, ap, subst}
 use mathlib.Core.Bool.{Bool, true, false}
 use mathlib.Core.List.{List, [], _∷_, _++_}
@@ -11,7 +12,7 @@ use Rattle.trace.specs.declared.shape.Shape.{Shape}
 use Rattle.trace.specs.declared.transaction.Transaction.{Transaction}
 use Rattle.trace.specs.Trace.{Message, trace, Valid}
 use Rattle.trace.specs.PecPlaceLaws.{pec-found}
-use Rattle.trace.specs.ShapeLaws.{Sane}
+use Rattle.trace.specs.Sane.{Sane}
 use Rattle.step.specs.declared.answer.Decoded.{Decoded}
 use Rattle.step.specs.declared.answer.Decoded.the-variants.{Done, Forbidden, BufferTooShort, NoSymbol, EndsEarly, Unexpected, NotAcknowledged, PecDiffers, AfterStop}
 use Rattle.step.specs.declared.state.Decoder.{Decoder}
@@ -25,7 +26,7 @@ use Rattle.step.specs.Numbers.{decodeNumber}
 use Rattle.step.specs.Answers.{CutAt, Member, Fits, summary, Breaks, OtherPec, Answers}
 use Rattle.step.specs.RunLaws.{run-append, run-fits, run-stops}
 use Rattle.step.specs.MemberLaws.{member-runs, fits-back, fits-runs}
-use Rattle.step.specs.PlaceLaws.{not-more, nothing-follows}
+use Rattle.step.specs.PlaceLaws.{reads-no-more, nothing-follows}
 use Rattle.step.specs.CutLaws.{cut-number}
 use Rattle.step.specs.DecideLaws as Decides
 
@@ -72,19 +73,19 @@ same-message num t u e s r =
 
 module _ (num : ℕ) (sh : Shape) (hs : Sane sh) (p : Bool) where
   -- the answer is what the scope says, with its data
-  pub holds : (tr : List ℕ) → Answers num sh p tr (decodedBy num sh p tr) (sentData sh tr (decodedBy num sh p tr)) (receivedData p tr (decodedBy num sh p tr))
-  holds tr = Decides.holds num sh hs p tr
+  pub answer-holds : (tr : List ℕ) → Answers num sh p tr (decodedBy num sh p tr) (sentData sh tr (decodedBy num sh p tr)) (receivedData p tr (decodedBy num sh p tr))
+  answer-holds tr = Decides.answer-holds num sh hs p tr
 
   -- and the scope leaves no other answer, and no other data
-  pub only : (tr : List ℕ) (a : Decoded) (s r : List ℕ) → Answers num sh p tr a s r
+  pub no-other-answer : (tr : List ℕ) (a : Decoded) (s r : List ℕ) → Answers num sh p tr a s r
       → (decodedBy num sh p tr ≡ a) × (sentData sh tr (decodedBy num sh p tr) ≡ s) × (receivedData p tr (decodedBy num sh p tr) ≡ r)
-  only tr a s r h = Decides.only num sh hs p tr a s r h
+  no-other-answer tr a s r h = Decides.no-other-answer num sh hs p tr a s r h
 
   -- each answer is given exactly in its case
-  pub if-and-only-if : (tr : List ℕ) (a : Decoded) → (decodedBy num sh p tr ≡ a) ↔ Answers num sh p tr a (sentData sh tr a) (receivedData p tr a)
-  if-and-only-if tr a = (
-    λ e. subst (λ (u : Decoded). Answers num sh p tr u (sentData sh tr u) (receivedData p tr u)) e (holds tr),
-    λ h. only tr a (sentData sh tr a) (receivedData p tr a) h .0,
+  pub answer-exactly : (tr : List ℕ) (a : Decoded) → (decodedBy num sh p tr ≡ a) ↔ Answers num sh p tr a (sentData sh tr a) (receivedData p tr a)
+  answer-exactly tr a = (
+    λ e. subst (λ (u : Decoded). Answers num sh p tr u (sentData sh tr u) (receivedData p tr u)) e (answer-holds tr),
+    λ h. no-other-answer tr a (sentData sh tr a) (receivedData p tr a) h .0,
   )
 
   -- the encoder's trace of a valid message gives back every field and both lists
@@ -93,7 +94,7 @@ module _ (num : ℕ) (sh : Shape) (hs : Sane sh) (p : Bool) where
       × (sentData sh (trace sh p t) (decodedBy num sh p (trace sh p t)) ≡ t .sent)
       × (receivedData p (trace sh p t) (decodedBy num sh p (trace sh p t)) ≡ t .received)
   round-trip t v =
-      only (trace sh p t) (Done (summary num t)) (t .sent) (t .received)
+      no-other-answer (trace sh p t) (Done (summary num t)) (t .sent) (t .received)
       (record { message = t; valid = v; is = refl; fields = refl; data-sent = refl; data-received = refl })
 
   -- two valid messages with the same trace are one
@@ -110,7 +111,7 @@ module _ (num : ℕ) (sh : Shape) (hs : Sane sh) (p : Bool) where
   pub done-means : (tr : List ℕ) (t : Transaction) → decodedBy num sh p tr ≡ Done t
       → (m : Message) × Valid sh m × (tr ≡ trace sh p m) × (t ≡ summary num m) × ((u : Message) → Valid sh u → tr ≡ trace sh p u → u ≡ m)
   done-means tr t e =
-      let c = if-and-only-if tr (Done t) .0 e in
+      let c = answer-exactly tr (Done t) .0 e in
       (c .message, c .valid, c .is, c .fields, λ u v q. one-message u (c .message) v (c .valid) (sym q ∙ c .is))
 
   -- by numbers: each is given exactly in its listed case, with what comes with it
@@ -119,10 +120,10 @@ module _ (num : ℕ) (sh : Shape) (hs : Sane sh) (p : Bool) where
     answer = decodedBy num sh p tr
 
     given : (n v : ℕ) → decodeNumber answer ≡ (n, v) → Answers num sh p tr (numbered answer n v) (sentData sh tr (numbered answer n v)) (receivedData p tr (numbered answer n v))
-    given n v e = if-and-only-if tr (numbered answer n v) .0 (of-number answer n v e)
+    given n v e = answer-exactly tr (numbered answer n v) .0 (of-number answer n v e)
 
     gives : (a : Decoded) → Answers num sh p tr a (sentData sh tr a) (receivedData p tr a) → decodeNumber answer ≡ decodeNumber a
-    gives a h = ap decodeNumber (if-and-only-if tr a .1 h)
+    gives a h = ap decodeNumber (answer-exactly tr a .1 h)
 
     pub number-0 : (decodeNumber answer ≡ (0, 0)) ↔ ((m : Message) × Valid sh m × (tr ≡ trace sh p m))
     number-0 = (
@@ -143,8 +144,8 @@ module _ (num : ℕ) (sh : Shape) (hs : Sane sh) (p : Bool) where
     number-6 b = (λ e. given 6 b e .0, λ h. gives (NotAcknowledged b) (h, refl, refl))
 
     -- which byte it is, by the length of the trace alone
-    pub which-byte : (byte : ℕ) → decodeNumber answer ≡ (6, byte) → byte ≡ (length tr - 4) / 2
-    which-byte b e = cut-number sh hs p tr b (number-6 b .0 e)
+    pub byte-by-length : (byte : ℕ) → decodeNumber answer ≡ (6, byte) → byte ≡ (length tr - 4) / 2
+    byte-by-length b e = cut-number sh hs p tr b (number-6 b .0 e)
 
     pub number-7 : (place : ℕ) → (decodeNumber answer ≡ (7, place)) ↔ OtherPec sh p tr place
     number-7 k = (λ e. given 7 k e .0, λ h. gives (PecDiffers k) (h, refl, refl))
@@ -164,7 +165,7 @@ module _ (num : ℕ) (sh : Shape) (hs : Sane sh) (p : Bool) where
         record {
           inside = h;
           before = fits-back sh hs p (take k tr) (r .0) (r .1);
-          here = λ g. (let q = fits-runs sh hs p (take (suc k) tr) g in not-more sh p tr k fresh (r .0) h (r .1) (nothing-follows sh p (r .0) (getD tr k 0) (r .2)) (q .0) (q .1));
+          here = λ g. (let q = fits-runs sh hs p (take (suc k) tr) g in reads-no-more sh p tr k fresh (r .0) h (r .1) (nothing-follows sh p (r .0) (getD tr k 0) (r .2)) (q .0) (q .1));
         }
 
     -- 3 comes before 8 at one place; before 5 it comes by number-3

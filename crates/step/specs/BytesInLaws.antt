@@ -1,4 +1,4 @@
--- The bytes of a trace, one number at a time, and that the decoder's count is how many they are.
+-- The bytes of a trace, one number at a time and in two parts; the decoder's count is how many they are.
 use mathlib.Core.Path.{_≡_, refl, sym, ap, _∙_}
 use mathlib.Core.Bool.{Bool, true, false}
 use mathlib.Core.List.{List, [], _∷_, _++_}
@@ -17,8 +17,8 @@ use Rattle.step.specs.Run.{byteCount}
 pub byte-more : (x : ℕ) (l : List ℕ) → x < 256 → bytesIn (x ∷ l) ≡ x ∷ bytesIn l
 byte-more x l h = rw (lt-ltb x 256 h)
 
-pub none-more : (x : ℕ) (l : List ℕ) → 256 ≤ x → bytesIn (x ∷ l) ≡ bytesIn l
-none-more x l h = rw (le-ltb x 256 h)
+pub no-byte-more : (x : ℕ) (l : List ℕ) → 256 ≤ x → bytesIn (x ∷ l) ≡ bytesIn l
+no-byte-more x l h = rw (le-ltb x 256 h)
 
 pub bytes-append : (xs ys : List ℕ) → bytesIn (xs ++ ys) ≡ bytesIn xs ++ bytesIn ys
 bytes-append [] ys = refl

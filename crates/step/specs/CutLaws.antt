@@ -11,13 +11,13 @@ use Rattle.lists.specs.Choice.{pick}
 use Rattle.lists.specs.Each.{Bytes}
 use Rattle.trace.specs.declared.shape.Shape.{Shape}
 use Rattle.trace.specs.Shapes.{writes, reads}
-use Rattle.trace.specs.ShapeLaws.{Sane}
+use Rattle.trace.specs.Sane.{Sane}
 use Rattle.trace.specs.LengthLaws.{length-acked}
 use Rattle.trace.specs.Trace.{acked, front, firstByte, inPlace}
 use Rattle.step.specs.BytesIn.{bytesIn}
 use Rattle.step.specs.BytesInLaws.{byte-more, bytes-append, bytes-acked}
 use Rattle.step.specs.Answers.{CutAt}
-use Rattle.step.specs.ForwardLaws.{first-byte}
+use Rattle.step.specs.ForwardLaws.{first-byte-fits}
 use Rattle.step.specs.PecByteLaws.{front-bytes}
 
 -- a beginning of so many places, the last of them a byte: two places a byte but the last, which still lacks its ACK
@@ -63,27 +63,27 @@ even-after bs mid h o =
     omega (arith, length-append (acked bs) mid, length-acked bs, ap length (bytes-append (acked bs) mid ∙ ap (λ (l : List ℕ). l ++ bytesIn mid) (bytes-acked bs h)), length-append bs (bytesIn mid))
 
 -- a repeated START and the address byte for a read
-restart : (f : ℕ) (mid after : List ℕ) → f < 256 → 256 ∷ f ∷ 258 ∷ [] ≡ mid ++ 258 ∷ after → Even mid
-restart f [] after h e = let z : _≡_ {A = ℕ} 256 258 = cc in absurd (omega arith)
-restart f (x ∷ []) after h e = let z : f ≡ 258 = cc in absurd (omega arith)
-restart f (x ∷ y ∷ []) after h e =
+restart-even : (f : ℕ) (mid after : List ℕ) → f < 256 → 256 ∷ f ∷ 258 ∷ [] ≡ mid ++ 258 ∷ after → Even mid
+restart-even f [] after h e = let z : _≡_ {A = ℕ} 256 258 = cc in absurd (omega arith)
+restart-even f (x ∷ []) after h e = let z : f ≡ 258 = cc in absurd (omega arith)
+restart-even f (x ∷ y ∷ []) after h e =
     let p : x ≡ 256 = cc in
     let q : y ≡ f = cc in
     subst (λ (k : ℕ). Even (k ∷ y ∷ [])) (sym p) (omega (arith, ap length (byte-more y [] (omega arith))))
-restart f (x ∷ y ∷ z ∷ []) after h e = let w : _≡_ {A = List ℕ} [] (258 ∷ after) = cc in absurd (let v : _≡_ {A = ℕ} 0 (suc (length after)) = ap length w in omega arith)
-restart f (x ∷ y ∷ z ∷ u ∷ mid) after h e = let w : _≡_ {A = List ℕ} [] (u ∷ (mid ++ 258 ∷ after)) = cc in absurd (let v : _≡_ {A = ℕ} 0 (suc (length (mid ++ 258 ∷ after))) = ap length w in omega arith)
+restart-even f (x ∷ y ∷ z ∷ []) after h e = let w : _≡_ {A = List ℕ} [] (258 ∷ after) = cc in absurd (let v : _≡_ {A = ℕ} 0 (suc (length after)) = ap length w in omega arith)
+restart-even f (x ∷ y ∷ z ∷ u ∷ mid) after h e = let w : _≡_ {A = List ℕ} [] (u ∷ (mid ++ 258 ∷ after)) = cc in absurd (let v : _≡_ {A = ℕ} 0 (suc (length (mid ++ 258 ∷ after))) = ap length w in omega arith)
 
 never-empty : (mid after : List ℕ) → [] ≡ mid ++ 258 ∷ after → ⊥
 never-empty [] after e = let v : _≡_ {A = ℕ} 0 (suc (length after)) = ap length e in omega arith
 never-empty (x ∷ mid) after e = let v : _≡_ {A = ℕ} 0 (suc (length (mid ++ 258 ∷ after))) = ap length e in omega arith
 
 -- the target's part behind its START
-behind : (r w : Bool) (f : ℕ) (bs q before after : List ℕ) → Bytes bs → Bytes q → (w ≡ true → f < 256)
+odd-or-even : (r w : Bool) (f : ℕ) (bs q before after : List ℕ) → Bytes bs → Bytes q → (w ≡ true → f < 256)
     → acked bs ++ pick r (pick w (256 ∷ f ∷ 258 ∷ []) []) (acked q) ≡ before ++ 258 ∷ after → Odd before ⊎ Even before
-behind r w f bs q before after hb hq hf e = go (at-ack bs before after _ hb e)
+odd-or-even r w f bs q before after hb hq hf e = go (at-ack bs before after _ hb e)
   where
     rest : (r w : Bool) → (w ≡ true → f < 256) → (mid : List ℕ) → pick r (pick w (256 ∷ f ∷ 258 ∷ []) []) (acked q) ≡ mid ++ 258 ∷ after → Odd mid ⊎ Even mid
-    rest true true k mid d = inr (restart f mid after (k refl) d)
+    rest true true k mid d = inr (restart-even f mid after (k refl) d)
     rest true false k mid d = absurd (never-empty mid after d)
     rest false w k mid d = sent (at-ack q mid after [] hq (append-nil (acked q) ∙ d))
       where
@@ -101,16 +101,16 @@ behind r w f bs q before after hb hq hf e = go (at-ack bs before after _ hb e)
 
 module _ (sh : Shape) (hs : Sane sh) (p : Bool) (tr : List ℕ) (b : ℕ) (c : CutAt sh p tr b) where
   -- START stands first, and no ACK is due for it
-  split : (before : List ℕ) → c .before ≡ before → (length tr ≡ 2 * b + 4) ⊎ (length tr ≡ 2 * b + 5)
-  split [] e =
+  cut-lengths : (before : List ℕ) → c .before ≡ before → (length tr ≡ 2 * b + 4) ⊎ (length tr ≡ 2 * b + 5)
+  cut-lengths [] e =
       let q = c .ack ∙ ap (λ (l : List ℕ). l ++ 258 ∷ c .after) e in
       let z : _≡_ {A = ℕ} 256 258 = cc q in
       absurd (omega arith)
-  split (s ∷ before) e =
+  cut-lengths (s ∷ before) e =
       let q = c .ack ∙ ap (λ (l : List ℕ). l ++ 258 ∷ c .after) e in
       let z : 256 ≡ s = cc q in
-      let f = first-byte sh (c .message) (c .valid) in
-      let d = behind (reads sh) (writes sh) (firstByte sh (c .message) + 1) (front sh (c .message)) (inPlace p (c .pec)) before (c .after) (front-bytes sh hs (c .message) (c .valid)) (c .byte)
+      let f = first-byte-fits sh (c .message) (c .valid) in
+      let d = odd-or-even (reads sh) (writes sh) (firstByte sh (c .message) + 1) (front sh (c .message)) (inPlace p (c .pec)) before (c .after) (front-bytes sh hs (c .message) (c .valid)) (c .byte)
       (λ w. let l = f .2 w in omega arith) (cc q) in
       let n : length (bytesIn before) ≡ suc b = subst (λ (k : ℕ). length (bytesIn (k ∷ before)) ≡ suc b) (sym z) (subst (λ (l : List ℕ). length (bytesIn l) ≡ suc b) e (c .number)) in
       let m : length tr ≡ length before + 3 = ap length (c .is ∙ ap (λ (l : List ℕ). l ++ 259 ∷ 257 ∷ []) e) ∙ omega (arith, length-append before (259 ∷ 257 ∷ [])) in
@@ -122,7 +122,7 @@ module _ (sh : Shape) (hs : Sane sh) (p : Bool) (tr : List ℕ) (b : ℕ) (c : C
 
   -- the length of a cut trace, without and with a repeated START
   pub cut-length : (length tr ≡ 2 * b + 4) ⊎ (length tr ≡ 2 * b + 5)
-  cut-length = split (c .before) refl
+  cut-length = cut-lengths (c .before) refl
 
   -- so the number of the byte is half of what the length is above 4
   pub cut-number : b ≡ (length tr - 4) / 2

@@ -1,4 +1,4 @@
--- The data stand where the decoder looks for them.
+-- The data of a message, and its fields, are what the decoder finds where it looks for them.
 use mathlib.Core.Path.{_≡_, refl, sym, subst}
 use mathlib.Core.Bool.{Bool, true, false}
 use mathlib.Core.List.{List, [], _∷_, _++_, append-assoc}
@@ -16,25 +16,26 @@ use Rattle.trace.specs.declared.transaction.Transaction.{Transaction}
 use Rattle.trace.specs.Shapes.{some, writes, reads}
 use Rattle.trace.specs.Trace.{Message, W, R, laid, acked, ackOf, nacked, firstByte, byTarget, traceAt, inPlace, LengthOf, counted, Valid}
 use Rattle.trace.specs.LengthLaws.{length-nacked, length-place}
-use Rattle.trace.specs.ShapeLaws.{Sane}
+use Rattle.trace.specs.Sane.{Sane}
 use Rattle.step.specs.Run.{dataLength, transaction}
 use Rattle.step.specs.Handed.{countPlaces, sentPlace, receivedPlace, lows}
 use Rattle.step.specs.Answers.{summary}
-use Rattle.step.specs.TestLaws.{low}
-use Rattle.step.specs.ForwardLaws.{half-is, endState}
-use Rattle.step.specs.ReverseLaws.{trace-is}
+use Rattle.step.specs.TestLaws.{low-of-byte}
+use Rattle.step.specs.EndState.{endState}
+use Rattle.step.specs.ForwardLaws.{half-is-address}
+use Rattle.step.specs.JoinedLaws.{trace-joined}
 
 lows-acked : (s on : List ℕ) → Bytes s → lows (length s) (acked s ++ on) ≡ s
 lows-acked [] on h = refl
-lows-acked (x ∷ s) on h = rw (lows-acked s on (h .1), low x (h .0))
+lows-acked (x ∷ s) on h = rw (lows-acked s on (h .1), low-of-byte x (h .0))
 
 lows-nacked : (r q on : List ℕ) → Bytes r → lows (length r) (nacked (r ++ q) ++ on) ≡ r
 lows-nacked [] q on h = refl
-lows-nacked (x ∷ r) q on h = rw (lows-nacked r q on (h .1), low x (h .0))
+lows-nacked (x ∷ r) q on h = rw (lows-nacked r q on (h .1), low-of-byte x (h .0))
 
 -- the data sent
 pub sent-is : (sh : Shape) (t : Message) (q : List ℕ) → Bytes (t .sent) → lows (length (t .sent)) (drop (sentPlace sh) (traceAt sh t q)) ≡ t .sent
-sent-is sh t q h = rw (trace-is sh t q) (go (sh .command) (sh .sent) (firstByte sh t) _)
+sent-is sh t q h = rw (trace-joined sh t q) (go (sh .command) (sh .sent) (firstByte sh t) _)
   where
     go : (b : Bool) (a : Part) (f : ℕ) (on : List ℕ)
         → lows (length (t .sent)) (drop (3 + pick b 2 0 + countPlaces a) (START ∷ f ∷ ACK ∷ (acked (pick b (t .command ∷ []) [] ++ laid a (t .sent)) ++ on))) ≡ t .sent
@@ -83,12 +84,12 @@ direction-is false false a d h = let k : d ≤ 1 = h in omega arith
 abbrev made : ℕ → ℕ → ℕ → ℕ → ℕ → ℕ → Transaction
 made n a d c s r = record { protocol = n; address = record { 0 = a }; direction = d; command = c; sent = s; received = r }
 
-same : (n a a₁ d d₁ c s s₁ r r₁ : ℕ) → a ≡ a₁ → d ≡ d₁ → s ≡ s₁ → r ≡ r₁ → made n a d c s r ≡ made n a₁ d₁ c s₁ r₁
-same n a a₁ d d₁ c s s₁ r r₁ ea ed es er = rw (ea, ed, es, er)
+same-fields : (n a a₁ d d₁ c s s₁ r r₁ : ℕ) → a ≡ a₁ → d ≡ d₁ → s ≡ s₁ → r ≡ r₁ → made n a d c s r ≡ made n a₁ d₁ c s₁ r₁
+same-fields n a a₁ d d₁ c s s₁ r r₁ ea ed es er = rw (ea, ed, es, er)
 
 pub fields-are : (n : ℕ) (sh : Shape) (hs : Sane sh) (p : Bool) (t : Message) (y : ℕ) (v : Valid sh t) (hy : Bytes (inPlace p y))
-    → transaction n sh (endState sh hs p t y v hy) ≡ summary n t
+    → transaction n sh (endState sh p t y) ≡ summary n t
 fields-are n sh hs p t y v hy =
-    same n _ _ _ _ _ _ _ _ _ (half-is (writes sh) (reads sh) (t .address) (t .direction) (v .direction))
+    same-fields n _ _ _ _ _ _ _ _ _ (half-is-address (writes sh) (reads sh) (t .address) (t .direction) (v .direction))
     (direction-is (writes sh) (reads sh) (t .address) (t .direction) (v .direction))
     (length-is (sh .least) (sh .sent) (t .sent) (v .sent-length)) (length-is (sh .least) (sh .received) (t .received) (v .received-length))

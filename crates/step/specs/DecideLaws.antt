@@ -1,4 +1,4 @@
--- The computed answer is the one that the declared meaning gives, and the only one. Theorems.antt states it.
+-- The computed answer is one that the declared meaning allows, and the meaning allows no other. AnswersLaws draws from it what is promised.
 use mathlib.Core.Path.{_≡_, refl, sym, _∙_, ap, subst}
 use mathlib.Core.Bool.{Bool, true, false}
 use mathlib.Core.List.{List, [], _∷_}
@@ -8,12 +8,13 @@ use lib.ListN.{length, take, drop, getD}
 use lib.Dec.{leb, eqb}
 use borrow.Author.Tests.{leb-true, leb-false, lt-leb, le-leb, eqb-true, eqb-false, eq-eqb, ne-eqb}
 use Rattle.lists.specs.Choice.{pick}
+use Rattle.lists.specs.ChoiceLaws.{false-not-true, not-both}
 use Rattle.lists.specs.Each.{Bytes}
 use Rattle.wire.specs.Symbols.{NACK}
 use Rattle.trace.specs.declared.shape.Shape.{Shape}
 use Rattle.trace.specs.declared.transaction.Transaction.{Transaction}
 use Rattle.trace.specs.Trace.{Message, traceAt, pecOf, inPlace, trace, Valid}
-use Rattle.trace.specs.ShapeLaws.{Sane}
+use Rattle.trace.specs.Sane.{Sane}
 use Rattle.step.specs.declared.state.Slot.{Slot}
 use Rattle.step.specs.declared.state.Slot.the-variants.{End}
 use Rattle.step.specs.declared.state.Due.{Due}
@@ -30,13 +31,15 @@ use Rattle.step.specs.BytesInLaws.{byte-count-is}
 use Rattle.step.specs.Run.{run, byteCount, transaction, isCut, finish, concluded, decodedBy}
 use Rattle.step.specs.Handed.{sentPlace, receivedPlace, lows, sentData, receivedData}
 use Rattle.step.specs.Answers.{Whole, CutAt, Member, Fits, summary, Breaks, OtherPec, Carries, Answers}
-use Rattle.step.specs.RunLaws.{never, not-both, same-state}
-use Rattle.step.specs.ForwardLaws.{endState}
-use Rattle.step.specs.ReverseLaws.{reverse, trace-is}
-use Rattle.step.specs.MemberLaws.{whole-runs, cut-runs, is-end, count-nack, cut-back, fits-back, member-runs, member-back, fits-runs}
+use Rattle.step.specs.RunLaws.{same-state}
+use Rattle.step.specs.EndState.{endState}
+use Rattle.step.specs.JoinedLaws.{trace-joined}
+use Rattle.step.specs.ReverseLaws.{ended-is-whole}
+use Rattle.step.specs.MemberLaws.{whole-runs, cut-runs, ended-is-end, nack-adds-no-byte, cut-back, fits-back, member-runs, member-back, fits-runs}
 use Rattle.step.specs.DataLaws.{sent-is, received-is, fields-are}
 use Rattle.step.specs.PecByteLaws.{pec-byte}
-use Rattle.step.specs.PlaceLaws.{Stopped, stops, stops-at, one-more, not-more, nothing-follows}
+use Rattle.step.specs.Stopped.{Stopped}
+use Rattle.step.specs.PlaceLaws.{refused-at-place, stops-at, reads-one-more, reads-no-more, nothing-follows}
 
 -- the answer with its data
 abbrev Right : ℕ → Shape → Bool → List ℕ → Decoded → Type 0
@@ -44,18 +47,18 @@ Right num sh p tr a = Answers num sh p tr a (sentData sh tr a) (receivedData p t
 
 -- the state at the end of a whole trace, where the decoder is neither cut nor short
 not-cut : (a : Due) (s : Slot) → isCut a ≡ false → over a s ≡ true → (a ≡ Nobody) × (s ≡ End)
-not-cut Nobody s c h = (refl, is-end s h)
-not-cut Target s c h = absurd (never h)
-not-cut Controller s c h = absurd (never h)
-not-cut Halted s c h = absurd (never h)
-not-cut Cut s c h = absurd (never (sym c))
+not-cut Nobody s c h = (refl, ended-is-end s h)
+not-cut Target s c h = false-not-true h
+not-cut Controller s c h = false-not-true h
+not-cut Halted s c h = false-not-true h
+not-cut Cut s c h = false-not-true (sym c)
 
 is-cut : (a : Due) → isCut a ≡ true → a ≡ Cut
 is-cut Cut h = refl
-is-cut Nobody h = absurd (never h)
-is-cut Target h = absurd (never h)
-is-cut Controller h = absurd (never h)
-is-cut Halted h = absurd (never h)
+is-cut Nobody h = false-not-true h
+is-cut Target h = false-not-true h
+is-cut Controller h = false-not-true h
+is-cut Halted h = false-not-true h
 
 -- the byte in PEC's place is PEC
 same-place : (p : Bool) (y z : ℕ) → pick p (eqb y z) true ≡ true → inPlace p y ≡ inPlace p z
@@ -64,7 +67,7 @@ same-place false y z h = refl
 
 other-place : (p : Bool) (y z : ℕ) → pick p (eqb y z) true ≡ false → (p ≡ true) × (y ≡ z → ⊥)
 other-place true y z h = (refl, eqb-false y z h)
-other-place false y z h = absurd (never (sym h))
+other-place false y z h = false-not-true (sym h)
 
 good-place : (p : Bool) (z : ℕ) → pick p (eqb z z) true ≡ true
 good-place true z = eq-eqb z z refl
@@ -75,22 +78,22 @@ open-cut Nobody s h = refl
 open-cut Target s h = refl
 open-cut Controller s h = refl
 open-cut Halted s h = refl
-open-cut Cut s h = absurd (never (sym h))
+open-cut Cut s h = false-not-true (sym h)
 
 -- a trace has at least START, the first address byte and its ACK
-three : (sh : Shape) (t : Message) (q : List ℕ) → 3 ≤ length (traceAt sh t q)
-three sh t q = omega (arith, ap length (trace-is sh t q))
+at-least-three : (sh : Shape) (t : Message) (q : List ℕ) → 3 ≤ length (traceAt sh t q)
+at-least-three sh t q = omega (arith, ap length (trace-joined sh t q))
 
 module _ (num : ℕ) (sh : Shape) (hs : Sane sh) (p : Bool) (tr : List ℕ) where
   cut-right : (d : Decoder) → run sh p fresh 0 tr ≡ Reading d → isCut (d .due) ≡ true → CutAt sh p tr (byteCount tr - 1)
   cut-right d q c =
       let r = cut-back sh hs p tr d q (is-cut (d .due) c) in
       let k = r .1 in
-      let n : byteCount tr ≡ suc (r .0) = ap byteCount (k .is) ∙ count-nack (k .before) ∙ byte-count-is (k .before) ∙ k .number in
+      let n : byteCount tr ≡ suc (r .0) = ap byteCount (k .is) ∙ nack-adds-no-byte (k .before) ∙ byte-count-is (k .before) ∙ k .number in
       subst (CutAt sh p tr) (omega arith) k
 
   -- the whole trace, and the state at its end
-  whole-right : (w : Whole sh p tr) (d : Decoder) → run sh p fresh 0 tr ≡ Reading d → d ≡ endState sh hs p (w .message) (w .pec) (w .valid) (w .byte)
+  whole-right : (w : Whole sh p tr) (d : Decoder) → run sh p fresh 0 tr ≡ Reading d → d ≡ endState sh p (w .message) (w .pec)
   whole-right w d q = same-state (sym q ∙ ap (run sh p fresh 0) (w .is) ∙ whole-runs sh hs p (w .message) (w .pec) (w .valid) (w .byte))
 
   carries : (m : Message) (v : Valid sh m) (t : Transaction) → tr ≡ trace sh p m → t ≡ summary num m
@@ -124,7 +127,7 @@ module _ (num : ℕ) (sh : Shape) (hs : Sane sh) (p : Bool) (tr : List ℕ) wher
         byte = b .0;
         is = w .is ∙ ap (traceAt sh (w .message)) i;
         differs = o .1;
-        place = omega (arith, ap length (w .is), three sh (w .message) (inPlace p (w .pec)));
+        place = omega (arith, ap length (w .is), at-least-three sh (w .message) (inPlace p (w .pec)));
       }
 
   -- the whole trace was read
@@ -133,7 +136,7 @@ module _ (num : ℕ) (sh : Shape) (hs : Sane sh) (p : Bool) (tr : List ℕ) wher
   finish-right d q true c g e f h = (cut-right d q e, refl, refl)
   finish-right d q false true g e f h =
       let n = not-cut (d .due) (d .slot) e f in
-      whole (reverse sh hs p tr d 0 q (n .1) (n .0)) g h
+      whole (ended-is-whole sh hs p tr d 0 q (n .1) (n .0)) g h
     where
       whole : Whole sh p tr → (g : Bool) → d .good ≡ g → Right num sh p tr (pick g (Done (transaction num sh d)) (PecDiffers (length tr - 3)))
       whole w true h = done-right w d q h
@@ -144,7 +147,7 @@ module _ (num : ℕ) (sh : Shape) (hs : Sane sh) (p : Bool) (tr : List ℕ) wher
   -- a symbol was refused
   breaks : (k : ℕ) (d : Decoder) → k < length tr → run sh p fresh 0 (take k tr) ≡ Reading d → fits sh d (getD tr k 0) ≡ false → Breaks sh p tr k
   breaks k d h q f =
-      record { inside = h; before = fits-back sh hs p (take k tr) d q; here = λ g. (let r = fits-runs sh hs p (take (suc k) tr) g in not-more sh p tr k fresh d h q f (r .0) (r .1)) }
+      record { inside = h; before = fits-back sh hs p (take k tr) d q; here = λ g. (let r = fits-runs sh hs p (take (suc k) tr) g in reads-no-more sh p tr k fresh d h q f (r .0) (r .1)) }
 
   no-member : (k : ℕ) (d : Decoder) → run sh p fresh 0 (take k tr) ≡ Reading d → over (d .due) (d .slot) ≡ false → Member sh p (take k tr) → ⊥
   no-member k d q f m = let r = member-runs sh hs p (take k tr) m in not-both f (ap (λ (u : Decoder). over (u .due) (u .slot)) (same-state (sym q ∙ r .1)) ∙ r .2)
@@ -164,12 +167,12 @@ module _ (num : ℕ) (sh : Shape) (hs : Sane sh) (p : Bool) (tr : List ℕ) wher
   right-by : (g : Progress) → run sh p fresh 0 tr ≡ g → Right num sh p tr (concluded num sh tr g)
   unfolding finish
   right-by (Reading d) q = finish-right d q _ _ _ refl refl refl
-  right-by (Refused a) q = stopped-right a (stops sh p tr fresh 0 a q)
+  right-by (Refused a) q = stopped-right a (refused-at-place sh p tr fresh 0 a q)
 
   -- the computed answer is one that the declared meaning allows
-  pub holds : Answers num sh p tr (decodedBy num sh p tr) (sentData sh tr (decodedBy num sh p tr)) (receivedData p tr (decodedBy num sh p tr))
+  pub answer-holds : Answers num sh p tr (decodedBy num sh p tr) (sentData sh tr (decodedBy num sh p tr)) (receivedData p tr (decodedBy num sh p tr))
   unfolding decodedBy
-  holds = right-by (run sh p fresh 0 tr) refl
+  answer-holds = right-by (run sh p fresh 0 tr) refl
 
   -- the other way: what the meaning allows is what is computed
   by-reading : (d : Decoder) (b c g : Bool) → run sh p fresh 0 tr ≡ Reading d → isCut (d .due) ≡ b → over (d .due) (d .slot) ≡ c → d .good ≡ g
@@ -188,7 +191,7 @@ module _ (num : ℕ) (sh : Shape) (hs : Sane sh) (p : Bool) (tr : List ℕ) wher
     where
       go : (b : Bool) → fits sh d (getD tr k 0) ≡ b → b ≡ false
       go false e = refl
-      go true e = absurd (z .here (fits-back sh hs p (take (suc k) tr) _ (one-more sh p tr k fresh d (z .inside) q e)))
+      go true e = absurd (z .here (fits-back sh hs p (take (suc k) tr) _ (reads-one-more sh p tr k fresh d (z .inside) q e)))
 
   not-over : (k : ℕ) (d : Decoder) → run sh p fresh 0 (take k tr) ≡ Reading d → (Member sh p (take k tr) → ⊥) → over (d .due) (d .slot) ≡ false
   not-over k d q n = go (over (d .due) (d .slot)) refl
@@ -207,7 +210,7 @@ module _ (num : ℕ) (sh : Shape) (hs : Sane sh) (p : Bool) (tr : List ℕ) wher
   only-done t s r h =
       let m = h .message in
       let y = pec-byte sh hs p m (h .valid) in
-      let q : run sh p fresh 0 tr ≡ Reading (endState sh hs p m (pecOf sh m) (h .valid) y) = ap (run sh p fresh 0) (h .is) ∙ whole-runs sh hs p m (pecOf sh m) (h .valid) y in
+      let q : run sh p fresh 0 tr ≡ Reading (endState sh p m (pecOf sh m)) = ap (run sh p fresh 0) (h .is) ∙ whole-runs sh hs p m (pecOf sh m) (h .valid) y in
       let k = carries m (h .valid) t (h .is) (h .fields) in (
         by-reading _ false true true q refl refl (good-place p (pecOf sh m)) ∙ ap Done (fields-are num sh hs p m (pecOf sh m) (h .valid) y ∙ sym (h .fields)),
         k .data-sent ∙ sym (h .data-sent),
@@ -219,7 +222,7 @@ module _ (num : ℕ) (sh : Shape) (hs : Sane sh) (p : Bool) (tr : List ℕ) wher
       let m = h .message in
       let i : h .pec ∷ [] ≡ inPlace p (h .pec) = ap (λ (b : Bool). inPlace b (h .pec)) (sym (h .used)) in
       let y : Bytes (inPlace p (h .pec)) = subst Bytes i (h .byte, tt) in
-      let q : run sh p fresh 0 tr ≡ Reading (endState sh hs p m (h .pec) (h .valid) y) =
+      let q : run sh p fresh 0 tr ≡ Reading (endState sh p m (h .pec)) =
       ap (run sh p fresh 0) (h .is ∙ ap (traceAt sh m) i) ∙ whole-runs sh hs p m (h .pec) (h .valid) y in
       let g : pick p (eqb (h .pec) (pecOf sh m)) true ≡ false = ap (λ (b : Bool). pick b (eqb (h .pec) (pecOf sh m)) true) (h .used) ∙ ne-eqb (h .pec) (pecOf sh m) (h .differs) in
       by-reading _ false true false q refl refl g ∙ ap PecDiffers (omega (arith, h .place))
@@ -227,7 +230,7 @@ module _ (num : ℕ) (sh : Shape) (hs : Sane sh) (p : Bool) (tr : List ℕ) wher
   only-cut : (b : ℕ) → CutAt sh p tr b → decodedBy num sh p tr ≡ NotAcknowledged b
   only-cut b h =
       let r = cut-runs sh hs p tr b h in
-      let n : byteCount tr ≡ suc b = ap byteCount (h .is) ∙ count-nack (h .before) ∙ byte-count-is (h .before) ∙ h .number in
+      let n : byteCount tr ≡ suc b = ap byteCount (h .is) ∙ nack-adds-no-byte (h .before) ∙ byte-count-is (h .before) ∙ h .number in
       by-reading (r .0) true _ _ (r .1) (ap isCut (r .2)) refl refl ∙ ap NotAcknowledged (omega arith)
 
   only-early : Fits sh p tr → (Member sh p tr → ⊥) → decodedBy num sh p tr ≡ EndsEarly (length tr)
@@ -241,23 +244,23 @@ module _ (num : ℕ) (sh : Shape) (hs : Sane sh) (p : Bool) (tr : List ℕ) wher
       go d q true e = absurd (n (member-back sh hs p tr d q e))
 
   -- and the declared meaning allows no other answer, and no other data
-  pub only : (a : Decoded) (s r : List ℕ) → Answers num sh p tr a s r → (decodedBy num sh p tr ≡ a) × (sentData sh tr (decodedBy num sh p tr) ≡ s) × (receivedData p tr (decodedBy num sh p tr) ≡ r)
-  only (Done t) s r h = let k = only-done t s r h in computed (Done t) s r (k .0) (k .1) (k .2)
-  only Forbidden s r h = absurd h
-  only BufferTooShort s r h = absurd h
-  only (NoSymbol k) s r h =
+  pub no-other-answer : (a : Decoded) (s r : List ℕ) → Answers num sh p tr a s r → (decodedBy num sh p tr ≡ a) × (sentData sh tr (decodedBy num sh p tr) ≡ s) × (receivedData p tr (decodedBy num sh p tr) ≡ r)
+  no-other-answer (Done t) s r h = let k = only-done t s r h in computed (Done t) s r (k .0) (k .1) (k .2)
+  no-other-answer Forbidden s r h = absurd h
+  no-other-answer BufferTooShort s r h = absurd h
+  no-other-answer (NoSymbol k) s r h =
       let z = h .0 in
       let f = fits-runs sh hs p (take k tr) (z .before) in
       computed (NoSymbol k) s r (by-stop k (f .0) false _ (z .inside) (f .1) (stuck k z (f .0) (f .1)) (lt-leb (getD tr k 0) NACK (h .1)) refl) (sym (h .2)) (sym (h .3))
-  only (EndsEarly n) s r h = computed (EndsEarly n) s r (only-early (h .0) (h .1) ∙ ap EndsEarly (sym (h .2))) (sym (h .3)) (sym (h .4))
-  only (Unexpected k) s r h =
+  no-other-answer (EndsEarly n) s r h = computed (EndsEarly n) s r (only-early (h .0) (h .1) ∙ ap EndsEarly (sym (h .2))) (sym (h .3)) (sym (h .4))
+  no-other-answer (Unexpected k) s r h =
       let z = h .0 in
       let f = fits-runs sh hs p (take k tr) (z .before) in
       computed (Unexpected k) s r
       (by-stop k (f .0) true false (z .inside) (f .1) (stuck k z (f .0) (f .1)) (le-leb (getD tr k 0) NACK (h .2)) (not-over k (f .0) (f .1) (h .1))) (sym (h .3)) (sym (h .4))
-  only (NotAcknowledged b) s r h = computed (NotAcknowledged b) s r (only-cut b (h .0)) (sym (h .1)) (sym (h .2))
-  only (PecDiffers k) s r h = computed (PecDiffers k) s r (only-pec k (h .0)) (sym (h .1)) (sym (h .2))
-  only (AfterStop k) s r h =
+  no-other-answer (NotAcknowledged b) s r h = computed (NotAcknowledged b) s r (only-cut b (h .0)) (sym (h .1)) (sym (h .2))
+  no-other-answer (PecDiffers k) s r h = computed (PecDiffers k) s r (only-pec k (h .0)) (sym (h .1)) (sym (h .2))
+  no-other-answer (AfterStop k) s r h =
       let m = member-runs sh hs p (take k tr) (h .1) in
       computed (AfterStop k) s r
       (by-stop k (m .0) true true (h .0) (m .1) (nothing-follows sh p (m .0) (getD tr k 0) (m .2)) (le-leb (getD tr k 0) NACK (h .2)) (m .2)) (sym (h .3)) (sym (h .4))

@@ -1,37 +1,21 @@
--- Paths of the decoder: the symbols xs lead from the state d to the state e, with only such ACKs pending on the way as `by` allows.
+-- Paths of the decoder put together: none, one symbol more, two in a row. A path is a run of the decoder, and has a state at each of its
+-- places.
 use mathlib.Core.Path.{_≡_, refl, sym, ap, subst}
-use mathlib.Core.Bool.{Bool, true, false}
+use mathlib.Core.Bool.{Bool, true}
 use mathlib.Core.List.{List, [], _∷_, _++_}
 use Prim.Native.Nat.{ℕ, suc, _<_}
 use Rattle.trace.specs.declared.shape.Shape.{Shape}
 use Rattle.step.specs.declared.next.Aim.{Aim}
 use Rattle.step.specs.declared.state.Due.{Due}
-use Rattle.step.specs.declared.state.Due.the-variants.{Nobody, Target, Controller, Halted, Cut}
+use Rattle.step.specs.declared.state.Due.the-variants.{Nobody}
 use Rattle.step.specs.declared.state.Decoder.{Decoder}
 use Rattle.step.specs.declared.whole.Progress.the-variants.{Reading}
 use Rattle.step.specs.State.{state}
 use Rattle.step.specs.Fits.{fitsSlot, fits}
 use Rattle.step.specs.Move.{moveSlot, move}
 use Rattle.step.specs.Run.{run}
-use Rattle.step.specs.TestLaws.{low}
-
-unfoldable pub Leads : (Due → Bool) → Shape → Bool → Decoder → List ℕ → Decoder → Type 0
-Leads by sh p d [] e = d ≡ e
-Leads by sh p d (x ∷ xs) e = (fits sh d x ≡ true) × (by (d .due) ≡ true) × Leads by sh p (move sh p d x) xs e
-
-abbrev pub noController : Due → Bool
-noController Nobody = true
-noController Target = true
-noController Controller = false
-noController Halted = true
-noController Cut = true
-
-abbrev pub noTarget : Due → Bool
-noTarget Nobody = true
-noTarget Target = false
-noTarget Controller = true
-noTarget Halted = true
-noTarget Cut = true
+use Rattle.step.specs.Leads.{Leads}
+use Rattle.step.specs.TestLaws.{low-of-byte}
 
 module _ (by : Due → Bool) (sh : Shape) (p : Bool) where
   pub leads-nil : (d : Decoder) → Leads by sh p d [] d
@@ -67,4 +51,4 @@ module _ (by : Due → Bool) (sh : Shape) (p : Bool) where
       → Leads by sh p (state g Nobody z f c m n ok) (x ∷ xs) e
   unfolding Leads
   leads-byte g z f c m n ok x xs e h b t l =
-      (t, b, subst (λ (k : ℕ). Leads by sh p (moveSlot sh p (g .slot) (state g Nobody z f c m n ok) k) xs e) (sym (low x h)) l)
+      (t, b, subst (λ (k : ℕ). Leads by sh p (moveSlot sh p (g .slot) (state g Nobody z f c m n ok) k) xs e) (sym (low-of-byte x h)) l)

@@ -1,4 +1,5 @@
--- The members of the language and the decoder's states: whole traces end, cut traces are cut, and what fits is what is not refused.
+-- Whole traces are read to their end, cut traces are found cut, and both ways round: the members are the traces at whose end the decoder is
+-- over, and what fits is what is not refused.
 use mathlib.Core.Path.{_≡_, refl, sym, _∙_, ap, ap₂, subst}
 use mathlib.Core.Bool.{Bool, true, false}
 use mathlib.Core.List.{List, [], _∷_, _++_, append-nil}
@@ -9,12 +10,13 @@ use lib.Dec.{ltb, eqb}
 use lib.ListN.{length}
 use borrow.Author.Tests.{eqb-true, lt-ltb}
 use Rattle.lists.specs.Choice.{pick, or}
+use Rattle.lists.specs.ChoiceLaws.{false-not-true, not-both}
 use Rattle.lists.specs.Each.{Bytes}
 use Rattle.wire.specs.Symbols.{START, STOP, ACK, NACK}
 use Rattle.trace.specs.declared.shape.Shape.{Shape}
 use Rattle.trace.specs.Shapes.{leastOf}
 use Rattle.trace.specs.Trace.{Message, firstByte, byTarget, byController, traceAt, inPlace, Valid}
-use Rattle.trace.specs.ShapeLaws.{Sane}
+use Rattle.trace.specs.Sane.{Sane}
 use Rattle.step.specs.declared.state.Slot.{Slot}
 use Rattle.step.specs.declared.state.Slot.the-variants.{Start, First, Command, Count, Data, Pec, Restart, Second, ReadCount, ReadData, ReadPec, Stop, End}
 use Rattle.step.specs.declared.state.Due.{Due}
@@ -29,42 +31,46 @@ use Rattle.step.specs.BytesIn.{bytesIn}
 use Rattle.step.specs.BytesInLaws.{byte-count-is}
 use Rattle.step.specs.Run.{run, byteCount}
 use Rattle.step.specs.Answers.{CutAt, Member, Fits}
-use Rattle.step.specs.RunLaws.{never, not-both, other, same-state, run-append, run-before, run-from}
-use Rattle.step.specs.LeadLaws.{Leads, noController, noTarget, leads-run, leads-inside}
-use Rattle.step.specs.ForwardLaws.{target-part, controller-part, turnState, endState, first-byte}
-use Rattle.step.specs.ReverseLaws.{count-back, reverse}
-use Rattle.step.specs.RoomyLaws.{Roomy, reached-roomy}
-use Rattle.step.specs.CompletionLaws.{Ends, acknowledged, by-controller, by-target}
+use Rattle.step.specs.RunLaws.{refused-not-reading, same-state, run-append, run-before, run-from}
+use Rattle.step.specs.Leads.{Leads, noController, noTarget}
+use Rattle.step.specs.LeadLaws.{leads-run, leads-inside}
+use Rattle.step.specs.EndState.{turnState, endState}
+use Rattle.step.specs.ForwardLaws.{target-part-leads, controller-part-leads, first-byte-fits}
+use Rattle.step.specs.ReverseLaws.{count-back, ended-is-whole}
+use Rattle.step.specs.Roomy.{Roomy}
+use Rattle.step.specs.RoomyLaws.{reached-roomy}
+use Rattle.step.specs.Ends.{Ends}
+use Rattle.step.specs.CompletionLaws.{acknowledged-ends, controller-due-ends, target-due-ends}
 
 -- a whole trace is read to its end
 module _ (sh : Shape) (hs : Sane sh) (p : Bool) where
-  pub whole-runs : (t : Message) (y : ℕ) (v : Valid sh t) (hy : Bytes (inPlace p y)) → run sh p fresh 0 (traceAt sh t (inPlace p y)) ≡ Reading (endState sh hs p t y v hy)
+  pub whole-runs : (t : Message) (y : ℕ) (v : Valid sh t) (hy : Bytes (inPlace p y)) → run sh p fresh 0 (traceAt sh t (inPlace p y)) ≡ Reading (endState sh p t y)
   whole-runs t y v hy =
-      run-append sh p (byTarget sh t (inPlace p y)) (byController sh t (inPlace p y)) fresh _ 0 (leads-run noController sh p _ _ _ 0 (target-part sh hs p t y v hy))
-      ∙ leads-run noTarget sh p _ _ _ _ (controller-part sh hs p t y v hy)
+      run-append sh p (byTarget sh t (inPlace p y)) (byController sh t (inPlace p y)) fresh _ 0 (leads-run noController sh p _ _ _ 0 (target-part-leads sh hs p t y v hy))
+      ∙ leads-run noTarget sh p _ _ _ _ (controller-part-leads sh hs p t y v hy)
 
   -- a byte is followed by no ACK but the one that is due
   no-ack : (s : Slot) (d : Decoder) → fitsSlot sh s d ACK ≡ true → ⊥
-  no-ack Start d h = never h
-  no-ack First d h = never h
-  no-ack Command d h = never h
+  no-ack Start d h = false-not-true h
+  no-ack First d h = false-not-true h
+  no-ack Command d h = false-not-true h
   no-ack Count d h = let e = count-back sh (leastOf (sh .received) (sh .least)) ACK h in omega (arith, e .1, hs .most-byte)
-  no-ack Data d h = never h
-  no-ack Pec d h = never h
-  no-ack Restart d h = never h
+  no-ack Data d h = false-not-true h
+  no-ack Pec d h = false-not-true h
+  no-ack Restart d h = false-not-true h
   no-ack Second d h = let e = eqb-true 258 ((d .first + 1) % 256) h in omega arith
   no-ack ReadCount d h = let e = count-back sh (d .sentcount) ACK h in omega (arith, e .1, hs .most-byte)
-  no-ack ReadData d h = never h
-  no-ack ReadPec d h = never h
-  no-ack Stop d h = never h
-  no-ack End d h = never h
+  no-ack ReadData d h = false-not-true h
+  no-ack ReadPec d h = false-not-true h
+  no-ack Stop d h = false-not-true h
+  no-ack End d h = false-not-true h
 
   ack-due : (d : Decoder) (a : Due) → fitsDue sh a d ACK ≡ true → noController a ≡ true → a ≡ Target
   ack-due d Nobody h g = absurd (no-ack (d .slot) d h)
   ack-due d Target h g = refl
-  ack-due d Controller h g = absurd (never g)
-  ack-due d Halted h g = absurd (never h)
-  ack-due d Cut h g = absurd (never h)
+  ack-due d Controller h g = false-not-true g
+  ack-due d Halted h g = false-not-true h
+  ack-due d Cut h g = false-not-true h
 
   -- NACK and STOP where the target's ACK is due
   halts-at : (d : Decoder) (i : ℕ) → run sh p (at d (d .slot) Target (d .left)) i (NACK ∷ STOP ∷ []) ≡ Reading (at d (d .slot) Cut 0)
@@ -74,17 +80,17 @@ module _ (sh : Shape) (hs : Sane sh) (p : Bool) where
   halts : (d : Decoder) (i : ℕ) → d .due ≡ Target → run sh p d i (NACK ∷ STOP ∷ []) ≡ Reading (at d (d .slot) Cut 0)
   halts d i e = subst (λ (a : Due). run sh p (at d (d .slot) a (d .left)) i (NACK ∷ STOP ∷ []) ≡ Reading (at d (d .slot) Cut 0)) (sym e) (halts-at d i)
 
-  acks-at : (d : Decoder) (i : ℕ) (ys : List ℕ) → run sh p (at d (d .slot) Target (d .left)) i (ACK ∷ ys) ≡ run sh p (at d (d .slot) Nobody (d .left)) (suc i) ys
+  target-ack-runs-at : (d : Decoder) (i : ℕ) (ys : List ℕ) → run sh p (at d (d .slot) Target (d .left)) i (ACK ∷ ys) ≡ run sh p (at d (d .slot) Nobody (d .left)) (suc i) ys
   unfolding run
-  acks-at d i ys = refl
+  target-ack-runs-at d i ys = refl
 
-  pub acks : (d : Decoder) (i : ℕ) (ys : List ℕ) → d .due ≡ Target → run sh p d i (ACK ∷ ys) ≡ run sh p (at d (d .slot) Nobody (d .left)) (suc i) ys
-  acks d i ys e = subst (λ (a : Due). run sh p (at d (d .slot) a (d .left)) i (ACK ∷ ys) ≡ run sh p (at d (d .slot) Nobody (d .left)) (suc i) ys) (sym e) (acks-at d i ys)
+  pub target-ack-runs : (d : Decoder) (i : ℕ) (ys : List ℕ) → d .due ≡ Target → run sh p d i (ACK ∷ ys) ≡ run sh p (at d (d .slot) Nobody (d .left)) (suc i) ys
+  target-ack-runs d i ys e = subst (λ (a : Due). run sh p (at d (d .slot) a (d .left)) i (ACK ∷ ys) ≡ run sh p (at d (d .slot) Nobody (d .left)) (suc i) ys) (sym e) (target-ack-runs-at d i ys)
 
   -- a cut trace is read to its end, and the decoder says so
   pub cut-runs : (tr : List ℕ) (b : ℕ) → CutAt sh p tr b → (e : Decoder) × (run sh p fresh 0 tr ≡ Reading e) × (e .due ≡ Cut)
   cut-runs tr b c =
-      let l = leads-inside noController sh p (c .before) 258 (c .after) fresh _ (subst (λ (xs : List ℕ). Leads noController sh p fresh xs (turnState sh hs p (c .message) (c .pec) (c .valid) (c .byte))) (c .ack) (target-part sh hs p (c .message) (c .pec) (c .valid) (c .byte))) in
+      let l = leads-inside noController sh p (c .before) 258 (c .after) fresh _ (subst (λ (xs : List ℕ). Leads noController sh p fresh xs (turnState sh p (c .message) (c .pec))) (c .ack) (target-part-leads sh hs p (c .message) (c .pec) (c .valid) (c .byte))) in
       let m = l .0 in
       let q : run sh p fresh 0 (c .before) ≡ Reading m = leads-run noController sh p (c .before) fresh m 0 (l .1) in (
         at m (m .slot) Cut 0,
@@ -92,30 +98,30 @@ module _ (sh : Shape) (hs : Sane sh) (p : Bool) where
         refl,
       )
 
-pub is-end : (s : Slot) → ended s ≡ true → s ≡ End
-is-end End h = refl
-is-end Start h = absurd (never h)
-is-end First h = absurd (never h)
-is-end Command h = absurd (never h)
-is-end Count h = absurd (never h)
-is-end Data h = absurd (never h)
-is-end Pec h = absurd (never h)
-is-end Restart h = absurd (never h)
-is-end Second h = absurd (never h)
-is-end ReadCount h = absurd (never h)
-is-end ReadData h = absurd (never h)
-is-end ReadPec h = absurd (never h)
-is-end Stop h = absurd (never h)
+pub ended-is-end : (s : Slot) → ended s ≡ true → s ≡ End
+ended-is-end End h = refl
+ended-is-end Start h = false-not-true h
+ended-is-end First h = false-not-true h
+ended-is-end Command h = false-not-true h
+ended-is-end Count h = false-not-true h
+ended-is-end Data h = false-not-true h
+ended-is-end Pec h = false-not-true h
+ended-is-end Restart h = false-not-true h
+ended-is-end Second h = false-not-true h
+ended-is-end ReadCount h = false-not-true h
+ended-is-end ReadData h = false-not-true h
+ended-is-end ReadPec h = false-not-true h
+ended-is-end Stop h = false-not-true h
 
 -- two ways to part a list
 data Parted (us bs cs : List ℕ) (x : ℕ) (ds : List ℕ) : Type 0 where
   early : (post : List ℕ) → us ≡ cs ++ x ∷ post → Parted us bs cs x ds
   late : (mid : List ℕ) → cs ≡ us ++ mid → bs ≡ mid ++ x ∷ ds → Parted us bs cs x ds
 
-part : (us bs cs : List ℕ) (x : ℕ) (ds : List ℕ) → us ++ bs ≡ cs ++ x ∷ ds → Parted us bs cs x ds
-part [] bs cs x ds e = late cs refl e
-part (a ∷ us) bs [] x ds e = early us (cc)
-part (a ∷ us) bs (c ∷ cs) x ds e = go (part us bs cs x ds (cc))
+split-at-symbol : (us bs cs : List ℕ) (x : ℕ) (ds : List ℕ) → us ++ bs ≡ cs ++ x ∷ ds → Parted us bs cs x ds
+split-at-symbol [] bs cs x ds e = late cs refl e
+split-at-symbol (a ∷ us) bs [] x ds e = early us (cc)
+split-at-symbol (a ∷ us) bs (c ∷ cs) x ds e = go (split-at-symbol us bs cs x ds (cc))
   where
     go : Parted us bs cs x ds → Parted (a ∷ us) bs (c ∷ cs) x ds
     go (early post q) = early post (cc)
@@ -131,10 +137,10 @@ byte-before f xs [] post h e = let z : _≡_ {A = ℕ} 256 258 = cc in absurd (o
 byte-before f xs (a ∷ []) post h e = let z : f ≡ 258 = cc in absurd (omega arith)
 byte-before f xs (a ∷ c ∷ cs) post h e = let z : c ≡ f = cc in let r = count-byte a c cs (omega arith) in (r .0, sym (byte-count-is (a ∷ c ∷ cs)) ∙ r .1)
 
-pub count-nack : (pre : List ℕ) → byteCount (pre ++ NACK ∷ STOP ∷ []) ≡ byteCount pre
+pub nack-adds-no-byte : (pre : List ℕ) → byteCount (pre ++ NACK ∷ STOP ∷ []) ≡ byteCount pre
 unfolding byteCount
-count-nack [] = refl
-count-nack (x ∷ pre) = ap (λ (n : ℕ). pick (ltb x 256) 1 0 + n) (count-nack pre)
+nack-adds-no-byte [] = refl
+nack-adds-no-byte (x ∷ pre) = ap (λ (n : ℕ). pick (ltb x 256) 1 0 + n) (nack-adds-no-byte pre)
 
 -- the symbol that cut it
 record Inside (sh : Shape) (p : Bool) (d : Decoder) (tr : List ℕ) : Type 0 where
@@ -174,16 +180,16 @@ module _ (sh : Shape) (hs : Sane sh) (p : Bool) where
 
   due-halts : (d : Decoder) (x : ℕ) (a : Due) → halting a ≡ false → fitsDue sh a d x ≡ true → halting ((moveDue sh p a d x) .due) ≡ true
       → (a ≡ Target) × (x ≡ NACK) × (moveDue sh p a d x ≡ at d (d .slot) Halted (d .left))
-  due-halts d x Nobody n h g = absurd (not-both (slot-goes-on (d .slot) d (x % 256)) g)
+  due-halts d x Nobody n h g = not-both (slot-goes-on (d .slot) d (x % 256)) g
   due-halts d x Target n h g = go (eqb x ACK) refl g
     where
       go : (b : Bool) → eqb x ACK ≡ b → halting (pick b Nobody Halted) ≡ true
           → (Target ≡ Target) × (x ≡ NACK) × (at d (d .slot) (pick b Nobody Halted) (d .left) ≡ at d (d .slot) Halted (d .left))
-      go true e g = absurd (never g)
+      go true e g = false-not-true g
       go false e g = (refl, eqb-true x 259 (or-else (eqb x ACK) (eqb x NACK) h e), refl)
-  due-halts d x Controller n h g = absurd (never g)
-  due-halts d x Halted n h g = absurd (never (sym n))
-  due-halts d x Cut n h g = absurd (never (sym n))
+  due-halts d x Controller n h g = false-not-true g
+  due-halts d x Halted n h g = false-not-true (sym n)
+  due-halts d x Cut n h g = false-not-true (sym n)
 
   -- after the NACK only STOP leads to the end
   after-nack : (d e : Decoder) (i : ℕ) (xs : List ℕ) → run sh p (at d (d .slot) Halted (d .left)) i xs ≡ Reading e → e .due ≡ Cut → xs ≡ STOP ∷ []
@@ -196,19 +202,19 @@ module _ (sh : Shape) (hs : Sane sh) (p : Bool) where
     where
       go : (b : Bool) → eqb x STOP ≡ b → pick b (Reading (at d (d .slot) Cut 0)) (Refused (why (at d (d .slot) Halted (d .left)) i x)) ≡ Reading e → x ∷ [] ≡ STOP ∷ []
       go true h q = ap (λ (n : ℕ). n ∷ []) (eqb-true x 257 h)
-      go false h q = absurd (other q)
+      go false h q = absurd (refused-not-reading q)
   after-nack d e i (x ∷ y ∷ ys) q c = go (eqb x STOP) q
     where
       go : (b : Bool) → pick b (Refused (why (at d (d .slot) Cut 0) (suc i) y)) (Refused (why (at d (d .slot) Halted (d .left)) i x)) ≡ Reading e → x ∷ y ∷ ys ≡ STOP ∷ []
-      go true q = absurd (other q)
-      go false q = absurd (other q)
+      go true q = absurd (refused-not-reading q)
+      go false q = absurd (refused-not-reading q)
 
-  inside : (tr : List ℕ) (d e : Decoder) (i : ℕ) → halting (d .due) ≡ false → run sh p d i tr ≡ Reading e → e .due ≡ Cut → Inside sh p d tr
+  cut-inside : (tr : List ℕ) (d e : Decoder) (i : ℕ) → halting (d .due) ≡ false → run sh p d i tr ≡ Reading e → e .due ≡ Cut → Inside sh p d tr
   unfolding run
-  inside [] d e i n q c =
+  cut-inside [] d e i n q c =
       let z : d .due ≡ Cut = ap (λ (u : Decoder). u .due) (same-state q) ∙ c in
-      absurd (not-both n (ap halting z))
-  inside (x ∷ xs) d e i n q c = go (fits sh d x) refl q (λ g k. inside xs (move sh p d x) e (suc i) g k c)
+      not-both n (ap halting z)
+  cut-inside (x ∷ xs) d e i n q c = go (fits sh d x) refl q (λ g k. cut-inside xs (move sh p d x) e (suc i) g k c)
     where
       again : fits sh d x ≡ true → run sh p (move sh p d x) (suc i) xs ≡ Reading e → (b : Bool) → halting ((move sh p d x) .due) ≡ b
           → (halting ((move sh p d x) .due) ≡ false → run sh p (move sh p d x) (suc i) xs ≡ Reading e → Inside sh p (move sh p d x) xs)
@@ -230,7 +236,7 @@ module _ (sh : Shape) (hs : Sane sh) (p : Bool) where
           → (halting ((move sh p d x) .due) ≡ false → run sh p (move sh p d x) (suc i) xs ≡ Reading e → Inside sh p (move sh p d x) xs)
           → Inside sh p d (x ∷ xs)
       go true h q ih = again h q (halting ((move sh p d x) .due)) refl ih
-      go false h q ih = absurd (other q)
+      go false h q ih = absurd (refused-not-reading q)
 
   -- the place of the NACK is in the part that the target acknowledges
   cut-part : (t : Message) (y : ℕ) (v : Valid sh t) (hy : Bytes (inPlace p y)) (pre ys : List ℕ) (m : Decoder)
@@ -238,25 +244,25 @@ module _ (sh : Shape) (hs : Sane sh) (p : Bool) where
       → (post : List ℕ) × (byTarget sh t (inPlace p y) ≡ pre ++ ACK ∷ post)
   cut-part t y v hy pre ys m q g (early post e) = (post, e)
   cut-part t y v hy pre ys m q g (late mid e r) =
-      let l = leads-inside noTarget sh p mid 258 ys _ _ (subst (λ (xs : List ℕ). Leads noTarget sh p (turnState sh hs p t y v hy) xs (endState sh hs p t y v hy)) r (controller-part sh hs p t y v hy)) in
+      let l = leads-inside noTarget sh p mid 258 ys _ _ (subst (λ (xs : List ℕ). Leads noTarget sh p (turnState sh p t y) xs (endState sh p t y)) r (controller-part-leads sh hs p t y v hy)) in
       let z : run sh p fresh 0 pre ≡ Reading (l .0) =
-      ap (run sh p fresh 0) e ∙ run-append sh p (byTarget sh t (inPlace p y)) mid fresh _ 0 (leads-run noController sh p _ _ _ 0 (target-part sh hs p t y v hy)) ∙ leads-run noTarget sh p mid _ _ _ (l .1) in
+      ap (run sh p fresh 0) e ∙ run-append sh p (byTarget sh t (inPlace p y)) mid fresh _ 0 (leads-run noController sh p _ _ _ 0 (target-part-leads sh hs p t y v hy)) ∙ leads-run noTarget sh p mid _ _ _ (l .1) in
       let w : m ≡ l .0 = same-state (sym q ∙ z) in
-      absurd (not-both {b = noTarget (m .due)} (ap noTarget g) (ap (λ (u : Decoder). noTarget (u .due)) w ∙ l .3))
+      not-both {b = noTarget (m .due)} (ap noTarget g) (ap (λ (u : Decoder). noTarget (u .due)) w ∙ l .3)
 
   -- a trace at whose end the decoder is cut is a cut trace
   pub cut-back : (tr : List ℕ) (e : Decoder) → run sh p fresh 0 tr ≡ Reading e → e .due ≡ Cut → (b : ℕ) × CutAt sh p tr b
   cut-back tr e q c =
-      let n = inside tr fresh e 0 refl q c in
+      let n = cut-inside tr fresh e 0 refl q c in
       let m = n .state in
-      let w = acknowledged sh hs p m (reached-roomy sh hs p (n .pre) m (n .leads)) in
+      let w = acknowledged-ends sh hs p m (reached-roomy sh hs p (n .pre) m (n .leads)) in
       let r : run sh p fresh 0 (n .pre ++ ACK ∷ w .rest) ≡ Reading (w .last) =
-      run-append sh p (n .pre) (ACK ∷ w .rest) fresh m 0 (n .leads) ∙ acks sh hs p m _ (w .rest) (n .target) ∙ run-from sh p (w .rest) _ (w .last) 0 _ (w .leads) in
-      let v = reverse sh hs p (n .pre ++ ACK ∷ w .rest) (w .last) 0 r (w .slot) (w .due) in
+      run-append sh p (n .pre) (ACK ∷ w .rest) fresh m 0 (n .leads) ∙ target-ack-runs sh hs p m _ (w .rest) (n .target) ∙ run-from sh p (w .rest) _ (w .last) 0 _ (w .leads) in
+      let v = ended-is-whole sh hs p (n .pre ++ ACK ∷ w .rest) (w .last) 0 r (w .slot) (w .due) in
       let y : List ℕ = inPlace p (v .pec) in
       let k = cut-part (v .message) (v .pec) (v .valid) (v .byte) (n .pre) (w .rest) m (n .leads) (n .target)
-      (part (byTarget sh (v .message) y) (byController sh (v .message) y) (n .pre) 258 (w .rest) (sym (v .is))) in
-      let b = byte-before (firstByte sh (v .message)) _ (n .pre) (k .0) (first-byte sh (v .message) (v .valid) .0) (k .1) in
+      (split-at-symbol (byTarget sh (v .message) y) (byController sh (v .message) y) (n .pre) 258 (w .rest) (sym (v .is))) in
+      let b = byte-before (firstByte sh (v .message)) _ (n .pre) (k .0) (first-byte-fits sh (v .message) (v .valid) .0) (k .1) in
       (b .0, record { message = v .message; pec = v .pec; valid = v .valid; byte = v .byte; before = n .pre; after = k .0; ack = k .1; is = n .is; number = b .1 })
 
   -- what is not refused fits: some symbols make it a member
@@ -266,16 +272,16 @@ module _ (sh : Shape) (hs : Sane sh) (p : Bool) where
 
     whole-by : (d : Decoder) → Ends sh p d → Completes d
     whole-by d w q =
-        (w .rest, inl (reverse sh hs p (tr ++ w .rest) (w .last) 0 (run-append sh p tr (w .rest) fresh d 0 q ∙ run-from sh p (w .rest) d (w .last) 0 _ (w .leads)) (w .slot) (w .due)))
+        (w .rest, inl (ended-is-whole sh hs p (tr ++ w .rest) (w .last) 0 (run-append sh p tr (w .rest) fresh d 0 q ∙ run-from sh p (w .rest) d (w .last) 0 _ (w .leads)) (w .slot) (w .due)))
 
     stop-step : (d : Decoder) (i : ℕ) → run sh p (at d (d .slot) Halted (d .left)) i (STOP ∷ []) ≡ Reading (at d (d .slot) Cut 0)
     unfolding run
     stop-step d i = refl
 
     by-due : (d : Decoder) (a : Due) → Roomy sh d → Completes (at d (d .slot) a (d .left))
-    by-due d Nobody h q = whole-by _ (acknowledged sh hs p d h) q
-    by-due d Target h q = whole-by _ (by-target sh hs p d h) q
-    by-due d Controller h q = whole-by _ (by-controller sh hs p d h) q
+    by-due d Nobody h q = whole-by _ (acknowledged-ends sh hs p d h) q
+    by-due d Target h q = whole-by _ (target-due-ends sh hs p d h) q
+    by-due d Controller h q = whole-by _ (controller-due-ends sh hs p d h) q
     by-due d Halted h q =
         (STOP ∷ [], inr (cut-back (tr ++ STOP ∷ []) _ (run-append sh p tr (STOP ∷ []) fresh _ 0 q ∙ stop-step d _) refl))
     by-due d Cut h q = ([], subst (Member sh p) (sym (append-nil tr)) (inr (cut-back tr _ q refl)))
@@ -286,15 +292,15 @@ module _ (sh : Shape) (hs : Sane sh) (p : Bool) where
     -- what fits is not refused
     pub member-runs : Member sh p tr → (e : Decoder) × (run sh p fresh 0 tr ≡ Reading e) × (over (e .due) (e .slot) ≡ true)
     member-runs (inl w) =
-        (endState sh hs p (w .message) (w .pec) (w .valid) (w .byte), ap (run sh p fresh 0) (w .is) ∙ whole-runs sh hs p (w .message) (w .pec) (w .valid) (w .byte), refl)
+        (endState sh p (w .message) (w .pec), ap (run sh p fresh 0) (w .is) ∙ whole-runs sh hs p (w .message) (w .pec) (w .valid) (w .byte), refl)
     member-runs (inr (b, c)) = let r = cut-runs sh hs p tr b c in (r .0, r .1, ap (λ (a : Due). over a ((r .0) .slot)) (r .2))
 
     -- the states of the members
     over-back : (d : Decoder) (a : Due) (s : Slot) → d .due ≡ a → d .slot ≡ s → over a s ≡ true → run sh p fresh 0 tr ≡ Reading d → Member sh p tr
-    over-back d Nobody s e g h q = inl (reverse sh hs p tr d 0 q (g ∙ is-end s h) e)
-    over-back d Target s e g h q = absurd (never h)
-    over-back d Controller s e g h q = absurd (never h)
-    over-back d Halted s e g h q = absurd (never h)
+    over-back d Nobody s e g h q = inl (ended-is-whole sh hs p tr d 0 q (g ∙ ended-is-end s h) e)
+    over-back d Target s e g h q = false-not-true h
+    over-back d Controller s e g h q = false-not-true h
+    over-back d Halted s e g h q = false-not-true h
     over-back d Cut s e g h q = inr (cut-back tr d q e)
 
     pub member-back : (d : Decoder) → run sh p fresh 0 tr ≡ Reading d → over (d .due) (d .slot) ≡ true → Member sh p tr

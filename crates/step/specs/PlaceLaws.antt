@@ -1,4 +1,4 @@
--- A refusal stands at the first symbol that does not fit, and says why.
+-- A refusal stands at the first symbol that does not fit, and says why; a run that fits reads one symbol more; nothing follows the end.
 use mathlib.Core.Path.{_≡_, refl, sym, _∙_, ap}
 use mathlib.Core.Bool.{Bool, true, false}
 use mathlib.Core.List.{List, [], _∷_}
@@ -7,6 +7,7 @@ use native.Mathlib.Omega.{arith}
 use lib.ListN.{length, take, drop, getD}
 use lib.Seq.{split-at, take-suc, length-take-le}
 use Rattle.lists.specs.Choice.{pick}
+use Rattle.lists.specs.ChoiceLaws.{false-not-true}
 use Rattle.trace.specs.declared.shape.Shape.{Shape}
 use Rattle.step.specs.declared.state.Slot.{Slot}
 use Rattle.step.specs.declared.state.Slot.the-variants.{Start, First, Command, Count, Data, Pec, Restart, Second, ReadCount, ReadData, ReadPec, Stop, End}
@@ -19,24 +20,17 @@ use Rattle.step.specs.Fits.{fitsSlot, fitsDue, fits}
 use Rattle.step.specs.Move.{move}
 use Rattle.step.specs.Refusal.{ended, over, why}
 use Rattle.step.specs.Run.{run}
-use Rattle.step.specs.RunLaws.{never, other, run-append, run-from, run-fits, run-stops}
-
-pub record Stopped (sh : Shape) (p : Bool) (d : Decoder) (i : ℕ) (tr : List ℕ) (a : Decoded) : Type 0 where
-  pub place : ℕ
-  pub state : Decoder
-  pub inside : place < length tr
-  pub leads : run sh p d 0 (take place tr) ≡ Reading state
-  pub stuck : fits sh state (getD tr place 0) ≡ false
-  pub is : a ≡ why state (i + place) (getD tr place 0)
+use Rattle.step.specs.Stopped.{Stopped}
+use Rattle.step.specs.RunLaws.{refused-not-reading, run-append, run-from, run-fits, run-stops}
 
 same-answer : {a b : Decoded} → Refused a ≡ Refused b → a ≡ b
 same-answer q = cc
 
 module _ (sh : Shape) (p : Bool) where
-  pub stops : (tr : List ℕ) (d : Decoder) (i : ℕ) (a : Decoded) → run sh p d i tr ≡ Refused a → Stopped sh p d i tr a
+  pub refused-at-place : (tr : List ℕ) (d : Decoder) (i : ℕ) (a : Decoded) → run sh p d i tr ≡ Refused a → Stopped sh p d i tr a
   unfolding run
-  stops [] d i a q = absurd (other (sym q))
-  stops (x ∷ xs) d i a q = go (fits sh d x) refl q (λ k. stops xs (move sh p d x) (suc i) a k)
+  refused-at-place [] d i a q = absurd (refused-not-reading (sym q))
+  refused-at-place (x ∷ xs) d i a q = go (fits sh d x) refl q (λ k. refused-at-place xs (move sh p d x) (suc i) a k)
     where
       go : (b : Bool) → fits sh d x ≡ b → pick b (run sh p (move sh p d x) (suc i) xs) (Refused (why d i x)) ≡ Refused a
           → (run sh p (move sh p d x) (suc i) xs ≡ Refused a → Stopped sh p (move sh p d x) (suc i) xs a) → Stopped sh p d i (x ∷ xs) a
@@ -64,38 +58,38 @@ module _ (sh : Shape) (p : Bool) where
       ∙ ap (λ (n : ℕ). run sh p e n (getD tr k 0 ∷ drop (suc k) tr)) l ∙ run-stops sh p e k (getD tr k 0) (drop (suc k) tr) f
 
   -- one symbol more
-  pub one-more : (tr : List ℕ) (k : ℕ) (d e : Decoder) → k < length tr → run sh p d 0 (take k tr) ≡ Reading e → fits sh e (getD tr k 0) ≡ true
+  pub reads-one-more : (tr : List ℕ) (k : ℕ) (d e : Decoder) → k < length tr → run sh p d 0 (take k tr) ≡ Reading e → fits sh e (getD tr k 0) ≡ true
       → run sh p d 0 (take (suc k) tr) ≡ Reading (move sh p e (getD tr k 0))
   unfolding run
-  one-more tr k d e h q f =
+  reads-one-more tr k d e h q f =
       ap (run sh p d 0) (take-suc tr k 0 h) ∙ run-append sh p (take k tr) (getD tr k 0 ∷ []) d e 0 q ∙ run-fits sh p e _ (getD tr k 0) [] f
 
-  pub not-more : (tr : List ℕ) (k : ℕ) (d e : Decoder) → k < length tr → run sh p d 0 (take k tr) ≡ Reading e → fits sh e (getD tr k 0) ≡ false
+  pub reads-no-more : (tr : List ℕ) (k : ℕ) (d e : Decoder) → k < length tr → run sh p d 0 (take k tr) ≡ Reading e → fits sh e (getD tr k 0) ≡ false
       → (m : Decoder) → run sh p d 0 (take (suc k) tr) ≡ Reading m → ⊥
-  not-more tr k d e h q f m r =
-      other (sym (ap (run sh p d 0) (take-suc tr k 0 h) ∙ run-append sh p (take k tr) (getD tr k 0 ∷ []) d e 0 q ∙ run-stops sh p e _ (getD tr k 0) [] f) ∙ r)
+  reads-no-more tr k d e h q f m r =
+      refused-not-reading (sym (ap (run sh p d 0) (take-suc tr k 0 h) ∙ run-append sh p (take k tr) (getD tr k 0 ∷ []) d e 0 q ∙ run-stops sh p e _ (getD tr k 0) [] f) ∙ r)
 
   -- nothing follows the end
   slot-over : (s : Slot) (d : Decoder) (x : ℕ) → ended s ≡ true → fitsSlot sh s d x ≡ false
   slot-over End d x h = refl
-  slot-over Start d x h = absurd (never h)
-  slot-over First d x h = absurd (never h)
-  slot-over Command d x h = absurd (never h)
-  slot-over Count d x h = absurd (never h)
-  slot-over Data d x h = absurd (never h)
-  slot-over Pec d x h = absurd (never h)
-  slot-over Restart d x h = absurd (never h)
-  slot-over Second d x h = absurd (never h)
-  slot-over ReadCount d x h = absurd (never h)
-  slot-over ReadData d x h = absurd (never h)
-  slot-over ReadPec d x h = absurd (never h)
-  slot-over Stop d x h = absurd (never h)
+  slot-over Start d x h = false-not-true h
+  slot-over First d x h = false-not-true h
+  slot-over Command d x h = false-not-true h
+  slot-over Count d x h = false-not-true h
+  slot-over Data d x h = false-not-true h
+  slot-over Pec d x h = false-not-true h
+  slot-over Restart d x h = false-not-true h
+  slot-over Second d x h = false-not-true h
+  slot-over ReadCount d x h = false-not-true h
+  slot-over ReadData d x h = false-not-true h
+  slot-over ReadPec d x h = false-not-true h
+  slot-over Stop d x h = false-not-true h
 
   due-over : (a : Due) (d : Decoder) (x : ℕ) → over a (d .slot) ≡ true → fitsDue sh a d x ≡ false
   due-over Nobody d x h = slot-over (d .slot) d x h
-  due-over Target d x h = absurd (never h)
-  due-over Controller d x h = absurd (never h)
-  due-over Halted d x h = absurd (never h)
+  due-over Target d x h = false-not-true h
+  due-over Controller d x h = false-not-true h
+  due-over Halted d x h = false-not-true h
   due-over Cut d x h = refl
 
   pub nothing-follows : (d : Decoder) (x : ℕ) → over (d .due) (d .slot) ≡ true → fits sh d x ≡ false

@@ -2,22 +2,23 @@
 -- By the languages of suffixes: Lang d tr says of what form tr is if it leads from the state d to the end.
 use mathlib.Core.Path.{_≡_, refl, sym, _∙_, ap, ap₂, subst}
 use mathlib.Core.Bool.{Bool, true, false}
-use mathlib.Core.List.{List, [], _∷_, _++_, append-assoc}
+use mathlib.Core.List.{List, [], _∷_, _++_}
 use Prim.Native.Nat.{ℕ, suc, _+_, _-_, _*_, _≤_, _<_, _%_, _/_}
 use native.Mathlib.Omega.{arith}
 use lib.ListN.{length}
 use lib.Dec.{T, ltb, leb, eqb}
 use borrow.Author.Tests.{eqb-true, eqb-false, leb-true, ltb-true}
 use Rattle.lists.specs.Choice.{pick, or}
+use Rattle.lists.specs.ChoiceLaws.{false-not-true, both-true}
 use Rattle.lists.specs.Each.{Bytes}
 use Rattle.wire.specs.Symbols.{START, STOP, ACK, NACK}
 use Rattle.trace.specs.declared.shape.Part.{Part}
 use Rattle.trace.specs.declared.shape.Part.the-variants.{Nothing, Fixed, Counted}
 use Rattle.trace.specs.declared.shape.Shape.{Shape}
 use Rattle.trace.specs.Shapes.{some, writes, reads, leastOf}
-use Rattle.trace.specs.Trace.{Message, W, R, laid, acked, ackOf, nacked, firstByte, traceAt, inPlace, LengthOf, counted}
+use Rattle.trace.specs.Trace.{Message, W, R, laid, acked, ackOf, nacked, firstByte, inPlace, LengthOf, counted}
 use Rattle.trace.specs.Allowed.{addressFits}
-use Rattle.trace.specs.ShapeLaws.{Sane, both-true}
+use Rattle.trace.specs.Sane.{Sane}
 use Rattle.trace.specs.ValidLaws.{address-back, sender-back}
 use Rattle.step.specs.declared.state.Slot.{Slot}
 use Rattle.step.specs.declared.state.Slot.the-variants.{Start, First, Command, Count, Data, Pec, Restart, Second, ReadCount, ReadData, ReadPec, Stop, End}
@@ -32,8 +33,10 @@ use Rattle.step.specs.Move.{moveSlot, moveDue, move}
 use Rattle.step.specs.Refusal.{why}
 use Rattle.step.specs.Run.{run, directionOf}
 use Rattle.step.specs.Answers.{Whole}
-use Rattle.step.specs.TestLaws.{low}
-use Rattle.step.specs.RunLaws.{never, other, same-state}
+use Rattle.step.specs.TestLaws.{low-of-byte}
+use Rattle.step.specs.Joined.{after, joined}
+use Rattle.step.specs.JoinedLaws.{trace-joined}
+use Rattle.step.specs.RunLaws.{refused-not-reading, same-state}
 use Rattle.step.specs.ForwardLaws.{ack-is}
 
 -- the count of a counted part, else what stood there
@@ -60,10 +63,6 @@ record ReadL (sh : Shape) (p : Bool) (a : Part) (m : ℕ) (tr : List ℕ) : Type
   bytes : Bytes r
   pec : Bytes (inPlace p y)
   is : tr ≡ nacked (laid a r ++ inPlace p y) ++ STOP ∷ []
-
--- what follows the write phase; b is the address byte for reading
-abbrev pub after : Part → Bool → ℕ → List ℕ → List ℕ → List ℕ
-after a w b r q = pick (some a) (pick w (START ∷ b ∷ ACK ∷ []) []) (acked q) ++ (pick (some a) (nacked (laid a r ++ q)) [] ++ STOP ∷ [])
 
 record AfterL (sh : Shape) (p : Bool) (a : Part) (w : Bool) (m f : ℕ) (tr : List ℕ) : Type 0 where
   r : List ℕ
@@ -222,16 +221,16 @@ count-back sh k x h = let b = both-true (leb (sh .least) x) _ h in (leb-true (sh
 -- where a symbol fits at its slot, the low byte that is taken is the symbol
 pub slot-low : (sh : Shape) → Sane sh → (p : Bool) (s : Slot) (d : Decoder) (x : ℕ) → fitsSlot sh s d x ≡ true → moveSlot sh p s d (x % 256) ≡ moveSlot sh p s d x
 slot-low sh hs p Start d x h = refl
-slot-low sh hs p First d x h = ap (moveSlot sh p First d) (low x (byte-back (both-true (ltb x 256) _ h .0)))
-slot-low sh hs p Command d x h = ap (moveSlot sh p Command d) (low x (byte-back (both-true (ltb x 256) _ h .0)))
-slot-low sh hs p Count d x h = let b = count-back sh _ x h in ap (moveSlot sh p Count d) (low x (omega (arith, b .1, hs .most-byte)))
-slot-low sh hs p Data d x h = ap (moveSlot sh p Data d) (low x (byte-back h))
-slot-low sh hs p Pec d x h = ap (moveSlot sh p Pec d) (low x (byte-back h))
+slot-low sh hs p First d x h = ap (moveSlot sh p First d) (low-of-byte x (byte-back (both-true (ltb x 256) _ h .0)))
+slot-low sh hs p Command d x h = ap (moveSlot sh p Command d) (low-of-byte x (byte-back (both-true (ltb x 256) _ h .0)))
+slot-low sh hs p Count d x h = let b = count-back sh _ x h in ap (moveSlot sh p Count d) (low-of-byte x (omega (arith, b .1, hs .most-byte)))
+slot-low sh hs p Data d x h = ap (moveSlot sh p Data d) (low-of-byte x (byte-back h))
+slot-low sh hs p Pec d x h = ap (moveSlot sh p Pec d) (low-of-byte x (byte-back h))
 slot-low sh hs p Restart d x h = refl
 slot-low sh hs p Second d x h = let l = eqb-true x ((d .first + 1) % 256) h in ap (moveSlot sh p Second d) (omega arith)
-slot-low sh hs p ReadCount d x h = let b = count-back sh _ x h in ap (moveSlot sh p ReadCount d) (low x (omega (arith, b .1, hs .most-byte)))
-slot-low sh hs p ReadData d x h = ap (moveSlot sh p ReadData d) (low x (byte-back h))
-slot-low sh hs p ReadPec d x h = ap (moveSlot sh p ReadPec d) (low x (byte-back h))
+slot-low sh hs p ReadCount d x h = let b = count-back sh _ x h in ap (moveSlot sh p ReadCount d) (low-of-byte x (omega (arith, b .1, hs .most-byte)))
+slot-low sh hs p ReadData d x h = ap (moveSlot sh p ReadData d) (low-of-byte x (byte-back h))
+slot-low sh hs p ReadPec d x h = ap (moveSlot sh p ReadPec d) (low-of-byte x (byte-back h))
 slot-low sh hs p Stop d x h = refl
 slot-low sh hs p End d x h = refl
 
@@ -272,7 +271,7 @@ module _ (sh : Shape) (hs : Sane sh) (p : Bool) (d : Decoder) (x : ℕ) (xs : Li
       record { r = x ∷ b .r; y = b .y; len = ap suc (b .len); bytes = (byte-back h, b .bytes); pec = b .pec; is = ap (_∷_ x) (read-is p (d .left) (b .r) (b .y) xs (l .on) (b .len) (l .is) (b .is)) }
   slot-back ReadPec h l = record { y = x; byte = byte-back h; is = cc (l .is, l .then) }
   slot-back Stop h l = ap₂ _∷_ (eqb-true x STOP h) l
-  slot-back End h l = absurd (never h)
+  slot-back End h l = false-not-true h
 
   due-back : (a : Due) → fitsDue sh a d x ≡ true → Lang sh p (moveDue sh p a d x) xs → LangD sh p a (d .slot) (d .left) (d .sentcount) (d .first) (x ∷ xs)
   due-back Nobody h l = slot-back (d .slot) h (subst (λ (u : Decoder). Lang sh p u xs) (slot-low sh hs p (d .slot) d x h) l)
@@ -286,15 +285,15 @@ module _ (sh : Shape) (hs : Sane sh) (p : Bool) (d : Decoder) (x : ℕ) (xs : Li
   due-back Cut h l = l
 
 -- a trace that leads to the end is in the state's language
-lang : (sh : Shape) → Sane sh → (p : Bool) (tr : List ℕ) (d e : Decoder) (i : ℕ) → run sh p d i tr ≡ Reading e → e .slot ≡ End → e .due ≡ Nobody → Lang sh p d tr
+run-in-lang : (sh : Shape) → Sane sh → (p : Bool) (tr : List ℕ) (d e : Decoder) (i : ℕ) → run sh p d i tr ≡ Reading e → e .slot ≡ End → e .due ≡ Nobody → Lang sh p d tr
 unfolding run
-lang sh hs p [] d e i q s g = subst (λ (u : Decoder). Lang sh p u []) (sym (same-state q)) (rw (g, s))
-lang sh hs p (x ∷ xs) d e i q s g = go (fits sh d x) refl q (λ k. lang sh hs p xs (move sh p d x) e (suc i) k s g)
+run-in-lang sh hs p [] d e i q s g = subst (λ (u : Decoder). Lang sh p u []) (sym (same-state q)) (rw (g, s))
+run-in-lang sh hs p (x ∷ xs) d e i q s g = go (fits sh d x) refl q (λ k. run-in-lang sh hs p xs (move sh p d x) e (suc i) k s g)
   where
     go : (b : Bool) → fits sh d x ≡ b → pick b (run sh p (move sh p d x) (suc i) xs) (Refused (why d i x)) ≡ Reading e
         → (run sh p (move sh p d x) (suc i) xs ≡ Reading e → Lang sh p (move sh p d x) xs) → Lang sh p d (x ∷ xs)
     go true h q ih = due-back sh hs p d x xs (d .due) h (ih q)
-    go false h q ih = absurd (other q)
+    go false h q ih = absurd (refused-not-reading q)
 
 record HeadL (sh : Shape) (p b : Bool) (m f : ℕ) (tr : List ℕ) : Type 0 where
   c : ℕ
@@ -339,16 +338,9 @@ second-is a true r f b q h e =
     ap (λ (n : ℕ). after a true n b q) k
 second-is a false r f b q h e = refl
 
--- a trace from its pieces
-abbrev joined : Shape → ℕ → ℕ → List ℕ → List ℕ → List ℕ → List ℕ
-joined sh f c s r q = START ∷ f ∷ ACK ∷ (acked (pick (sh .command) (c ∷ []) [] ++ laid (sh .sent) s) ++ after (sh .received) (writes sh) (f + 1) r q)
-
-pub trace-is : (sh : Shape) (t : Message) (q : List ℕ) → traceAt sh t q ≡ joined sh (firstByte sh t) (t .command) (t .sent) (t .received) q
-trace-is sh t q = rw (append-assoc (acked (pick (sh .command) (t .command ∷ []) [] ++ laid (sh .sent) (t .sent))))
-
-pub reverse : (sh : Shape) → Sane sh → (p : Bool) (tr : List ℕ) (e : Decoder) (i : ℕ) → run sh p fresh i tr ≡ Reading e → e .slot ≡ End → e .due ≡ Nobody → Whole sh p tr
-reverse sh hs p tr e i q s g =
-    let l = lang sh hs p tr fresh e i q s g in
+pub ended-is-whole : (sh : Shape) → Sane sh → (p : Bool) (tr : List ℕ) (e : Decoder) (i : ℕ) → run sh p fresh i tr ≡ Reading e → e .slot ≡ End → e .due ≡ Nobody → Whole sh p tr
+ended-is-whole sh hs p tr e i q s g =
+    let l = run-in-lang sh hs p tr fresh e i q s g in
     let w = l .then in
     let first = both-true (ltb (w .f) 256) _ (w .fit) in
     let ways = both-true (addressFits sh (w .f / 2)) _ (first .1) in
@@ -375,5 +367,5 @@ reverse sh hs p tr e i q s g =
             counts = omega (arith, room, h .small);
           };
       byte = a .pec;
-      is = j ∙ ap (λ (n : ℕ). joined sh n (h .c) (h .s) (a .r) (inPlace p (a .y))) (sym f) ∙ sym (trace-is sh t (inPlace p (a .y)));
+      is = j ∙ ap (λ (n : ℕ). joined sh n (h .c) (h .s) (a .r) (inPlace p (a .y))) (sym f) ∙ sym (trace-joined sh t (inPlace p (a .y)));
     }

@@ -1,4 +1,4 @@
--- What holds of every state that the decoder reaches: the counts so far leave room for the least that may be received.
+-- In every state that the decoder reaches, the counts so far leave room for the least that may be received.
 use mathlib.Core.Path.{_≡_, refl, subst}
 use mathlib.Core.Bool.{Bool, true, false}
 use mathlib.Core.List.{List, [], _∷_}
@@ -10,7 +10,7 @@ use Rattle.trace.specs.declared.shape.Part.{Part}
 use Rattle.trace.specs.declared.shape.Part.the-variants.{Nothing, Fixed, Counted}
 use Rattle.trace.specs.declared.shape.Shape.{Shape}
 use Rattle.trace.specs.Shapes.{writes, reads, leastOf}
-use Rattle.trace.specs.ShapeLaws.{Sane}
+use Rattle.trace.specs.Sane.{Sane}
 use Rattle.step.specs.declared.state.Slot.{Slot}
 use Rattle.step.specs.declared.state.Slot.the-variants.{Start, First, Command, Count, Data, Pec, Restart, Second, ReadCount, ReadData, ReadPec, Stop, End}
 use Rattle.step.specs.declared.state.Due.{Due}
@@ -23,28 +23,9 @@ use Rattle.step.specs.Fits.{fitsSlot, fitsDue, fits}
 use Rattle.step.specs.Move.{moveSlot, moveDue, move}
 use Rattle.step.specs.Refusal.{why}
 use Rattle.step.specs.Run.{run}
-use Rattle.step.specs.RunLaws.{other, same-state}
+use Rattle.step.specs.Roomy.{AtCount, Roomy}
+use Rattle.step.specs.RunLaws.{refused-not-reading, same-state}
 use Rattle.step.specs.ReverseLaws.{count-back}
-
--- where the count to be received stands next, room for the least that it can be
-abbrev pub AtCount : Shape → Slot → ℕ → Type 0
-AtCount sh ReadCount m = m + sh .least ≤ sh .most
-AtCount sh Start m = Unit
-AtCount sh First m = Unit
-AtCount sh Command m = Unit
-AtCount sh Count m = Unit
-AtCount sh Data m = Unit
-AtCount sh Pec m = Unit
-AtCount sh Restart m = Unit
-AtCount sh Second m = Unit
-AtCount sh ReadData m = Unit
-AtCount sh ReadPec m = Unit
-AtCount sh Stop m = Unit
-AtCount sh End m = Unit
-
-pub record Roomy (sh : Shape) (d : Decoder) : Type 0 where
-  pub room : d .sentcount + leastOf (sh .received) (sh .least) ≤ sh .most
-  pub ahead : AtCount sh (d .slot) (d .sentcount)
 
 pub least-of-le : (a : Part) (k : ℕ) → leastOf a k ≤ k
 least-of-le Nothing k = omega arith
@@ -130,15 +111,15 @@ module _ (sh : Shape) (hs : Sane sh) (p : Bool) where
   due-keeps d x Halted h f = record { room = h .room; ahead = h .ahead }
   due-keeps d x Cut h f = record { room = h .room; ahead = h .ahead }
 
-  keeps : (tr : List ℕ) (d e : Decoder) (i : ℕ) → Roomy sh d → run sh p d i tr ≡ Reading e → Roomy sh e
+  run-keeps : (tr : List ℕ) (d e : Decoder) (i : ℕ) → Roomy sh d → run sh p d i tr ≡ Reading e → Roomy sh e
   unfolding run
-  keeps [] d e i h q = subst (Roomy sh) (same-state q) h
-  keeps (x ∷ xs) d e i h q = go (fits sh d x) refl q (λ g k. keeps xs (move sh p d x) e (suc i) g k)
+  run-keeps [] d e i h q = subst (Roomy sh) (same-state q) h
+  run-keeps (x ∷ xs) d e i h q = go (fits sh d x) refl q (λ g k. run-keeps xs (move sh p d x) e (suc i) g k)
     where
       go : (b : Bool) → fits sh d x ≡ b → pick b (run sh p (move sh p d x) (suc i) xs) (Refused (why d i x)) ≡ Reading e
           → (Roomy sh (move sh p d x) → run sh p (move sh p d x) (suc i) xs ≡ Reading e → Roomy sh e) → Roomy sh e
       go true f q ih = ih (due-keeps d x (d .due) h f) q
-      go false f q ih = absurd (other q)
+      go false f q ih = absurd (refused-not-reading q)
 
   pub reached-roomy : (tr : List ℕ) (e : Decoder) → run sh p fresh 0 tr ≡ Reading e → Roomy sh e
-  reached-roomy tr e q = keeps tr fresh e 0 (fresh-roomy sh hs) q
+  reached-roomy tr e q = run-keeps tr fresh e 0 (fresh-roomy sh hs) q

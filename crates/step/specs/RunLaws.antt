@@ -1,5 +1,6 @@
--- Laws of the fold: one symbol, a trace in two parts, and where the count of symbols does not matter.
-use mathlib.Core.Path.{_≡_, refl, sym, _∙_, ap}
+-- The fold over one symbol, and over a trace in two parts. A run that goes on went on before, and where nothing is refused the number of
+-- symbols read so far does not matter.
+use mathlib.Core.Path.{_≡_, refl, _∙_, ap}
 use mathlib.Core.Bool.{Bool, true, false}
 use mathlib.Core.List.{List, [], _∷_, _++_}
 use Prim.Native.Nat.{ℕ, suc, _+_}
@@ -15,14 +16,8 @@ use Rattle.step.specs.Move.{move}
 use Rattle.step.specs.Refusal.{why}
 use Rattle.step.specs.Run.{run}
 
-pub never : false ≡ true → ⊥
-never e = let z : _≡_ {A = ℕ} 0 1 = cc in omega arith
-
-pub not-both : {b : Bool} → b ≡ false → b ≡ true → ⊥
-not-both f t = never (sym f ∙ t)
-
-pub other : {a : Decoded} {d : Decoder} → Refused a ≡ Reading d → ⊥
-other e = let z : _≡_ {A = ℕ} 0 1 = cc in omega arith
+pub refused-not-reading : {a : Decoded} {d : Decoder} → Refused a ≡ Reading d → ⊥
+refused-not-reading e = let z : _≡_ {A = ℕ} 0 1 = cc in omega arith
 
 pub same-state : {d e : Decoder} → Reading d ≡ Reading e → d ≡ e
 same-state q = cc
@@ -46,7 +41,7 @@ module _ (sh : Shape) (p : Bool) where
           → (run sh p (move sh p d x) (suc i) xs ≡ Reading e → run sh p (move sh p d x) (suc i) (xs ++ ys) ≡ run sh p e (suc i + length xs) ys)
           → pick b (run sh p (move sh p d x) (suc i) (xs ++ ys)) (Refused (why d i x)) ≡ run sh p e (i + suc (length xs)) ys
       go true q ih = ih q ∙ ap (λ (n : ℕ). run sh p e n ys) (omega arith)
-      go false q ih = absurd (other q)
+      go false q ih = absurd (refused-not-reading q)
 
   -- a run that goes on went on before
   pub run-before : (xs ys : List ℕ) (d e : Decoder) (i : ℕ) → run sh p d i (xs ++ ys) ≡ Reading e
@@ -61,7 +56,7 @@ module _ (sh : Shape) (p : Bool) where
       go true q ih =
           let r = ih q in
           (r .0, r .1, ap (λ (n : ℕ). run sh p (r .0) n ys) (omega arith) ∙ r .2)
-      go false q ih = absurd (other q)
+      go false q ih = absurd (refused-not-reading q)
 
   -- the number of symbols read does not matter where nothing is refused
   pub run-from : (xs : List ℕ) (d e : Decoder) (i j : ℕ) → run sh p d i xs ≡ Reading e → run sh p d j xs ≡ Reading e
@@ -73,4 +68,4 @@ module _ (sh : Shape) (p : Bool) where
           → (run sh p (move sh p d x) (suc i) xs ≡ Reading e → run sh p (move sh p d x) (suc j) xs ≡ Reading e)
           → pick b (run sh p (move sh p d x) (suc j) xs) (Refused (why d j x)) ≡ Reading e
       go true q ih = ih q
-      go false q ih = absurd (other q)
+      go false q ih = absurd (refused-not-reading q)

@@ -1,4 +1,4 @@
--- The data that an answer hands over lie inside the trace, and are at most 255 bytes.
+-- The data that any answer of the decoder hands over lie inside the trace, and are at most 255 bytes.
 use mathlib.Core.Path.{_≡_, refl, ap}
 use mathlib.Core.Bool.{Bool, true, false}
 use mathlib.Core.List.{List, [], _∷_, _++_}
@@ -14,19 +14,21 @@ use Rattle.trace.specs.declared.transaction.Transaction.{Transaction}
 use Rattle.trace.specs.Shapes.{some, writes}
 use Rattle.trace.specs.Trace.{Message, laid, acked, nacked, firstByte, byTarget, traceAt, pecOf, inPlace, LengthOf, counted}
 use Rattle.trace.specs.LengthLaws.{length-acked, length-nacked, length-place}
-use Rattle.trace.specs.ShapeLaws.{Small, Sane}
+use Rattle.trace.specs.Sane.{Small, Sane}
 use Rattle.step.specs.declared.answer.Decoded.{Decoded}
 use Rattle.step.specs.declared.answer.Decoded.the-variants.{Done, Forbidden, BufferTooShort, NoSymbol, EndsEarly, Unexpected, NotAcknowledged, PecDiffers, AfterStop}
 use Rattle.step.specs.Run.{decodedBy}
-use Rattle.step.specs.Handed.{sentLength, receivedLength, countPlaces, sentPlace, receivedPlace}
+use Rattle.step.specs.Handed.{sentLength, receivedLength, countPlaces, sentPlace}
 use Rattle.step.specs.Answers.{Carries, Answers}
-use Rattle.step.specs.ReverseLaws.{trace-is, after}
-use Rattle.step.specs.AnswersLaws.{holds}
+use Rattle.step.specs.JoinedLaws.{trace-joined}
+use Rattle.step.specs.Joined.{after}
+use Rattle.step.specs.Sizes.{Sizes}
+use Rattle.step.specs.AnswersLaws.{answer-holds}
 
-at-most : (least : ℕ) (a : Part) (s : List ℕ) → Small a → LengthOf least a s → counted a s ≤ 255 → length s ≤ 255
-at-most least Nothing s h l c = omega arith
-at-most least (Fixed k) s h l c = omega (arith, h .1)
-at-most least Counted s h l c = c
+part-at-most-255 : (least : ℕ) (a : Part) (s : List ℕ) → Small a → LengthOf least a s → counted a s ≤ 255 → length s ≤ 255
+part-at-most-255 least Nothing s h l c = omega arith
+part-at-most-255 least (Fixed k) s h l c = omega (arith, h .1)
+part-at-most-255 least Counted s h l c = c
 
 -- the lengths of the parts of a trace
 front-length : (b : Bool) (a : Part) (c : ℕ) (s : List ℕ) → 2 * length (pick b (c ∷ []) [] ++ laid a s) ≡ pick b 2 0 + countPlaces a + 2 * length s
@@ -40,7 +42,7 @@ front-length false Counted c s = omega arith
 sent-inside : (sh : Shape) (t : Message) (q : List ℕ) → sentPlace sh + 2 * length (t .sent) ≤ length (traceAt sh t q)
 sent-inside sh t q =
     let body : List ℕ = pick (sh .command) (t .command ∷ []) [] ++ laid (sh .sent) (t .sent) in
-    omega (arith, ap length (trace-is sh t q), length-append (acked body) (after (sh .received) (writes sh) (firstByte sh t + 1) (t .received) q), length-acked body, front-length (sh .command) (sh .sent) (t .command) (t .sent))
+    omega (arith, ap length (trace-joined sh t q), length-append (acked body) (after (sh .received) (writes sh) (firstByte sh t + 1) (t .received) q), length-acked body, front-length (sh .command) (sh .sent) (t .command) (t .sent))
 
 back-inside : (least : ℕ) (b : List ℕ) (a : Part) (r : List ℕ) (p : Bool) (y : ℕ) → LengthOf least a r → 0 < length r
     → 2 * (length r + pick p 1 0) + 1 ≤ length (b ++ (pick (some a) (nacked (laid a r ++ inPlace p y)) [] ++ STOP ∷ []))
@@ -52,18 +54,12 @@ back-inside least b Counted r p y l h =
     let on : List ℕ = nacked (length r ∷ r ++ inPlace p y) in
     omega (arith, length-append b (on ++ STOP ∷ []), length-append on (STOP ∷ []), length-nacked (length r ∷ r ++ inPlace p y), length-append r (inPlace p y), length-place p y)
 
-pub record Sizes (sh : Shape) (p : Bool) (tr : List ℕ) (a : Decoded) : Type 0 where
-  pub sent : (j : ℕ) → j < sentLength a → sentPlace sh + 2 * j < length tr
-  pub received : (j : ℕ) → j < receivedLength a → receivedPlace p (receivedLength a) (length tr) + 2 * j < length tr
-  pub sent-small : sentLength a ≤ 255
-  pub received-small : receivedLength a ≤ 255
-
 module _ (num : ℕ) (sh : Shape) (hs : Sane sh) (p : Bool) (tr : List ℕ) where
-  none : (a : Decoded) → sentLength a ≡ 0 → receivedLength a ≡ 0 → Sizes sh p tr a
-  none a e g = record { sent = λ j h. absurd (omega arith); received = λ j h. absurd (omega arith); sent-small = omega arith; received-small = omega arith }
+  no-data-sizes : (a : Decoded) → sentLength a ≡ 0 → receivedLength a ≡ 0 → Sizes sh p tr a
+  no-data-sizes a e g = record { sent = λ j h. absurd (omega arith); received = λ j h. absurd (omega arith); sent-small = omega arith; received-small = omega arith }
 
-  some-sizes : (t : Transaction) (s r : List ℕ) → Carries num sh p tr t s r → Sizes sh p tr (Done t)
-  some-sizes t s r c =
+  done-sizes : (t : Transaction) (s r : List ℕ) → Carries num sh p tr t s r → Sizes sh p tr (Done t)
+  done-sizes t s r c =
       let m = c .message in
       let v = c .valid in
       let q : List ℕ = inPlace p (pecOf sh m) in
@@ -73,20 +69,20 @@ module _ (num : ℕ) (sh : Shape) (hs : Sane sh) (p : Bool) (tr : List ℕ) wher
       record {
         sent = λ j h. omega (arith, es, len, sent-inside sh m q);
         received = λ j h. omega (arith, er, len, back-inside (sh .least) (byTarget sh m q) (sh .received) (m .received) p (pecOf sh m) (v .received-length) (omega (arith, er)));
-        sent-small = (let k = at-most (sh .least) (sh .sent) (m .sent) (hs .sent-small) (v .sent-length) (omega (arith, v .counts, hs .most-byte)) in omega (arith, es));
-        received-small = (let k = at-most (sh .least) (sh .received) (m .received) (hs .received-small) (v .received-length) (omega (arith, v .counts, hs .most-byte)) in omega (arith, er));
+        sent-small = (let k = part-at-most-255 (sh .least) (sh .sent) (m .sent) (hs .sent-small) (v .sent-length) (omega (arith, v .counts, hs .most-byte)) in omega (arith, es));
+        received-small = (let k = part-at-most-255 (sh .least) (sh .received) (m .received) (hs .received-small) (v .received-length) (omega (arith, v .counts, hs .most-byte)) in omega (arith, er));
       }
 
-  of-answer : (a : Decoded) (s r : List ℕ) → Answers num sh p tr a s r → Sizes sh p tr a
-  of-answer (Done t) s r h = some-sizes t s r h
-  of-answer Forbidden s r h = absurd h
-  of-answer BufferTooShort s r h = absurd h
-  of-answer (NoSymbol k) s r h = none (NoSymbol k) refl refl
-  of-answer (EndsEarly k) s r h = none (EndsEarly k) refl refl
-  of-answer (Unexpected k) s r h = none (Unexpected k) refl refl
-  of-answer (NotAcknowledged k) s r h = none (NotAcknowledged k) refl refl
-  of-answer (PecDiffers k) s r h = none (PecDiffers k) refl refl
-  of-answer (AfterStop k) s r h = none (AfterStop k) refl refl
+  sizes-by-meaning : (a : Decoded) (s r : List ℕ) → Answers num sh p tr a s r → Sizes sh p tr a
+  sizes-by-meaning (Done t) s r h = done-sizes t s r h
+  sizes-by-meaning Forbidden s r h = absurd h
+  sizes-by-meaning BufferTooShort s r h = absurd h
+  sizes-by-meaning (NoSymbol k) s r h = no-data-sizes (NoSymbol k) refl refl
+  sizes-by-meaning (EndsEarly k) s r h = no-data-sizes (EndsEarly k) refl refl
+  sizes-by-meaning (Unexpected k) s r h = no-data-sizes (Unexpected k) refl refl
+  sizes-by-meaning (NotAcknowledged k) s r h = no-data-sizes (NotAcknowledged k) refl refl
+  sizes-by-meaning (PecDiffers k) s r h = no-data-sizes (PecDiffers k) refl refl
+  sizes-by-meaning (AfterStop k) s r h = no-data-sizes (AfterStop k) refl refl
 
-  pub sizes : Sizes sh p tr (decodedBy num sh p tr)
-  sizes = of-answer (decodedBy num sh p tr) _ _ (holds num sh hs p tr)
+  pub sizes-of-answer : Sizes sh p tr (decodedBy num sh p tr)
+  sizes-of-answer = sizes-by-meaning (decodedBy num sh p tr) _ _ (answer-holds num sh hs p tr)

@@ -1,4 +1,5 @@
--- The code's tests and fields, as the definitions have them: what is tested stands apart, so that nothing else is rewritten.
+-- What the code tests and puts together is what the definitions have: the first byte, the fields of a transaction, the answer at the end.
+-- What is tested stands apart, so that nothing else is rewritten.
 use mathlib.Core.Path.{_≡_, refl, sym, ap, _∙_}
 use mathlib.Core.Bool.{Bool, true, false}
 use mathlib.Core.List.{List}
@@ -19,12 +20,12 @@ use Rattle.step.specs.Refusal.{over}
 use Rattle.step.specs.Run.{byteCount, dataLength, directionOf, transaction, isCut, finish}
 
 -- the low byte of a byte
-pub low : (x : ℕ) → x < 256 → x % 256 ≡ x
-low x h = omega arith
+pub low-of-byte : (x : ℕ) → x < 256 → x % 256 ≡ x
+low-of-byte x h = omega arith
 
--- a byte asks for no read if its lowest bit is 0
-pub no-read : (x : ℕ) → not (eqb (x % 2) 1) ≡ eqb (x % 2) 0
-no-read x = go (eqb (x % 2) 0) refl
+-- a lowest bit that is not 1 is 0
+pub not-odd-is-even : (x : ℕ) → not (eqb (x % 2) 1) ≡ eqb (x % 2) 0
+not-odd-is-even x = go (eqb (x % 2) 0) refl
   where
     go : (b : Bool) → eqb (x % 2) 0 ≡ b → not (eqb (x % 2) 1) ≡ b
     go true e = let z = eqb-true (x % 2) 0 e in rw (ne-eqb (x % 2) 1 (λ q. omega arith))
@@ -33,7 +34,7 @@ no-read x = go (eqb (x % 2) 0) refl
 -- the first address byte
 pub first-is : (sh : Shape) (x a : ℕ) (b c : Bool) → ltb x 256 ≡ true → a ≡ x % 256 / 2 → addressFits sh a ≡ b → wayFits sh (x % 256) ≡ c → and b c ≡ firstFits sh x
 first-is sh x a b c h e f g =
-    let l : x % 256 ≡ x = low x (ltb-true x 256 h) in
+    let l : x % 256 ≡ x = low-of-byte x (ltb-true x 256 h) in
     let i : addressFits sh (x / 2) ≡ b = ap (λ (n : ℕ). addressFits sh n) (sym (e ∙ ap (λ (n : ℕ). n / 2) l)) ∙ f in
     let j : wayFits sh x ≡ c = ap (wayFits sh) (sym l) ∙ g in
     sym (ap (λ (k : Bool). and k (and (addressFits sh (x / 2)) (wayFits sh x))) h ∙ ap (λ (k : Bool). and k (wayFits sh x)) i ∙ ap (and b) j)

@@ -9,7 +9,8 @@ use native.Mathlib.Omega.{arith}
 use lib.ListN.{length, length-append}
 use borrow.Author.Tests.{lt-ltb}
 use Rattle.lists.specs.Choice.{pick}
-use Rattle.lists.specs.Each.{Each, Bytes, append-bytes}
+use Rattle.lists.specs.EachLaws.{append-bytes}
+use Rattle.lists.specs.Each.{Each, Bytes}
 use Rattle.wire.specs.PecLaws.{pec-byte}
 use Rattle.udid.specs.Bytes.{udidBytes}
 use Rattle.udid.specs.Udids.{Fits, value, isBelow}

@@ -1,4 +1,4 @@
--- Laws of numbers: a digit more, the cap at 65,536, and what each answer means.
+-- Which characters are digits, the value with one digit more, the cap at 65,536, and the case of each answer.
 use Prim.Native.Nat.{ℕ, zero, suc, _+_, _-_, _*_, _^_, _<_, _≤_}
 use mathlib.Core.Path.{_≡_, refl, sym, ap, _∙_}
 use mathlib.Core.Bool.{Bool, true, false}
@@ -142,24 +142,24 @@ capped-on hex v s i h = ap capped (value-on (baseOf hex) v s i h) ∙ value-capp
 
 -- ---- what the digits say
 
-pub says-nothing : (base : ℕ) (s : List ℕ) (i : ℕ) → length s ≤ i → digitsOf base (drop i s) ≡ NoNumber
+pub no-digits-no-number : (base : ℕ) (s : List ℕ) (i : ℕ) → length s ≤ i → digitsOf base (drop i s) ≡ NoNumber
 unfolding digitsOf
-says-nothing base s i h = rw (drop-of-length-le s h)
+no-digits-no-number base s i h = rw (drop-of-length-le s h)
 
-pub says-none : (base : ℕ) (l : List ℕ) → areDigits base l ≡ false → digitsOf base l ≡ NoNumber
+pub other-characters-no-number : (base : ℕ) (l : List ℕ) → areDigits base l ≡ false → digitsOf base l ≡ NoNumber
 unfolding digitsOf
-says-none base [] e = refl
-says-none base (c ∷ cs) e = simp e
+other-characters-no-number base [] e = refl
+other-characters-no-number base (c ∷ cs) e = simp e
 
-pub says-number : (base : ℕ) (l : List ℕ) → 0 < length l → areDigits base l ≡ true → valueOf base l < 65536 → digitsOf base l ≡ Is (valueOf base l)
+pub digits-say-number : (base : ℕ) (l : List ℕ) → 0 < length l → areDigits base l ≡ true → valueOf base l < 65536 → digitsOf base l ≡ Is (valueOf base l)
 unfolding digitsOf
-says-number base [] h e f = absurd (omega arith)
-says-number base (c ∷ cs) h e f = simp (e, lt-ltb _ _ f)
+digits-say-number base [] h e f = absurd (omega arith)
+digits-say-number base (c ∷ cs) h e f = simp (e, lt-ltb _ _ f)
 
-pub says-large : (base : ℕ) (l : List ℕ) → 0 < length l → areDigits base l ≡ true → 65536 ≤ valueOf base l → digitsOf base l ≡ TooLarge
+pub digits-too-large : (base : ℕ) (l : List ℕ) → 0 < length l → areDigits base l ≡ true → 65536 ≤ valueOf base l → digitsOf base l ≡ TooLarge
 unfolding digitsOf
-says-large base [] h e f = absurd (omega arith)
-says-large base (c ∷ cs) h e f = simp (e, le-ltb _ _ f)
+digits-too-large base [] h e f = absurd (omega arith)
+digits-too-large base (c ∷ cs) h e f = simp (e, le-ltb _ _ f)
 
 -- a capped value below the cap is the value, and at the cap the value is no less
 pub below-cap : (n v : ℕ) → v ≡ capped n → v < 65536 → n ≡ v

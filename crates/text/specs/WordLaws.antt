@@ -1,4 +1,4 @@
--- Laws of words: the search for a character of a kind, turn by turn, and texts held against each other.
+-- The search for a character of a kind, turn by turn; texts are the same exactly if all their characters are; a part of a text.
 use Prim.Native.Nat.{ℕ, suc, _+_, _-_, _<_, _≤_}
 use mathlib.Core.Path.{_≡_, refl, ap}
 use mathlib.Core.Bool.{Bool, true, false}
@@ -44,19 +44,19 @@ same-cons : (x y : ℕ) (a b : List ℕ) → (sameText a b ≡ true → a ≡ b)
 same-cons x y a b rest true q f = cc (rest f, eqb-true x y q)
 same-cons x y a b rest false q f = let z : _≡_ {A = ℕ} 0 1 = cc in absurd (omega arith)
 
-pub same-is : (a b : List ℕ) → sameText a b ≡ true → a ≡ b
+pub same-text-equal : (a b : List ℕ) → sameText a b ≡ true → a ≡ b
 unfolding sameText
-same-is [] [] e = refl
-same-is [] (y ∷ b) e = let z : _≡_ {A = ℕ} 0 1 = cc in absurd (omega arith)
-same-is (x ∷ a) [] e = let z : _≡_ {A = ℕ} 0 1 = cc in absurd (omega arith)
-same-is (x ∷ a) (y ∷ b) e = same-cons x y a b (same-is a b) (eqb x y) refl e
+same-text-equal [] [] e = refl
+same-text-equal [] (y ∷ b) e = let z : _≡_ {A = ℕ} 0 1 = cc in absurd (omega arith)
+same-text-equal (x ∷ a) [] e = let z : _≡_ {A = ℕ} 0 1 = cc in absurd (omega arith)
+same-text-equal (x ∷ a) (y ∷ b) e = same-cons x y a b (same-text-equal a b) (eqb x y) refl e
 
 -- texts of different lengths differ
-pub differ : (a b : List ℕ) → (length a ≡ length b → ⊥) → sameText a b ≡ false
-differ a b h = go (sameText a b) refl
+pub other-lengths-differ : (a b : List ℕ) → (length a ≡ length b → ⊥) → sameText a b ≡ false
+other-lengths-differ a b h = go (sameText a b) refl
   where
     go : (t : Bool) → sameText a b ≡ t → t ≡ false
-    go true e = absurd (h (ap length (same-is a b e)))
+    go true e = absurd (h (ap length (same-text-equal a b e)))
     go false e = refl
 
 module _ (a b : List ℕ) (i : ℕ) (h : i < length a) (g : i < length b) where

@@ -1,4 +1,5 @@
 -- Text written into a buffer, and numbers as text.
+use mathlib.Core.Path.{_≡_}
 use Prim.Native.Nat.{ℕ, zero, suc, _+_, _/_, _%_}
 use mathlib.Core.List.{List, [], _∷_, _++_}
 use lib.Dec.{ltb}
@@ -39,3 +40,9 @@ pairOf b = glyph (b / 16) ∷ glyph (b % 16) ∷ []
 unfoldable pub pairsOf : List ℕ → List ℕ
 pairsOf [] = []
 pairsOf (b ∷ bs) = pairOf b ++ pairsOf bs
+
+-- what a writer has done: the buffer l₀ from place at on has the text xs before it is to write ys
+pub record Came (l₀ : List ℕ) (at : ℕ) (all : List ℕ) (l : List ℕ) (to : ℕ) (rest : List ℕ) : Type 0 where
+  pub size : length l ≡ length l₀
+  pub place : after (length l₀) at all ≡ after (length l₀) to rest
+  pub text : written l₀ at all ≡ written l to rest

@@ -1,4 +1,4 @@
--- Laws of written text: one piece after another, where all of it has room, and that a number written in decimal reads back as itself.
+-- Text written piece after piece is the text written at once; the digits of a number come one after the other, the last one last.
 use Prim.Native.Nat.{ℕ, zero, suc, _+_, _-_, _/_, _%_, _<_, _≤_}
 use mathlib.Core.Path.{_≡_, refl, sym, ap, _∙_}
 use mathlib.Core.Bool.{Bool, true, false}
@@ -11,7 +11,7 @@ use lib.ListN.{length, drop, getD, set, length-set, drop-of-length-le}
 use lib.Seq.{drop-cons}
 use borrow.Author.Tests.{lt-ltb, le-ltb, ltb-false}
 use Rattle.lists.specs.Choice.{pick}
-use Rattle.text.specs.Written.{following, after, written, glyph, decimal, decimalOf, pairOf, pairsOf}
+use Rattle.text.specs.Written.{following, after, written, glyph, decimal, decimalOf, pairOf, pairsOf, Came}
 
 -- ---- one piece after another
 
@@ -40,12 +40,6 @@ after-one n at c = refl
 pub written-one : (l : List ℕ) (at c : ℕ) → written l at (c ∷ []) ≡ set l at c
 unfolding written
 written-one l at c = refl
-
--- what a writer has done: the buffer l₀ from place at on has the text xs before it is to write ys
-pub record Came (l₀ : List ℕ) (at : ℕ) (all : List ℕ) (l : List ℕ) (to : ℕ) (rest : List ℕ) : Type 0 where
-  pub size : length l ≡ length l₀
-  pub place : after (length l₀) at all ≡ after (length l₀) to rest
-  pub text : written l₀ at all ≡ written l to rest
 
 pub came-start : (l : List ℕ) (at : ℕ) (all : List ℕ) → Came l at all l at all
 came-start l at all = record { size = refl; place = refl; text = refl }
@@ -95,11 +89,11 @@ fuel-step : (k m n : ℕ) → (10 ≤ n → decimal k (n / 10) ≡ decimal m (n 
 fuel-step k m n rest true e = refl
 fuel-step k m n rest false e = ap (λ (z : List ℕ). z ++ (glyph (n % 10) ∷ [])) (rest (ltb-false n 10 e))
 
-pub fuel : (k m n : ℕ) → n < k → n < m → decimal k n ≡ decimal m n
+pub fuel-enough : (k m n : ℕ) → n < k → n < m → decimal k n ≡ decimal m n
 unfolding decimal
-fuel zero m n h g = absurd (omega arith)
-fuel (suc k) zero n h g = absurd (omega arith)
-fuel (suc k) (suc m) n h g = fuel-step k m n (λ b. fuel k m (n / 10) (omega arith) (omega arith)) (ltb n 10) refl
+fuel-enough zero m n h g = absurd (omega arith)
+fuel-enough (suc k) zero n h g = absurd (omega arith)
+fuel-enough (suc k) (suc m) n h g = fuel-step k m n (λ b. fuel-enough k m (n / 10) (omega arith) (omega arith)) (ltb n 10) refl
 
 pub decimal-digit : (n : ℕ) → n < 10 → decimalOf n ≡ glyph (n % 10) ∷ []
 unfolding decimal
@@ -107,7 +101,7 @@ decimal-digit n h = rw (lt-ltb n 10 h, mod-eq-of-lt h, lt-ltb n 10 h)
 
 pub decimal-more : (n : ℕ) → 10 ≤ n → decimalOf n ≡ decimalOf (n / 10) ++ (glyph (n % 10) ∷ [])
 unfolding decimal
-decimal-more n h = rw (le-ltb n 10 h) (ap (λ (z : List ℕ). z ++ (glyph (n % 10) ∷ [])) (fuel n (suc (n / 10)) (n / 10) (omega arith) (omega arith)))
+decimal-more n h = rw (le-ltb n 10 h) (ap (λ (z : List ℕ). z ++ (glyph (n % 10) ∷ [])) (fuel-enough n (suc (n / 10)) (n / 10) (omega arith) (omega arith)))
 
 -- a number of one digit, and one of more
 pub put-digit : (l l′ : List ℕ) (at to n d : ℕ) → n < 10 → d ≡ glyph (n % 10) → to ≡ following (length l) at → l′ ≡ set l at d

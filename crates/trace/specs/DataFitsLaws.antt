@@ -5,11 +5,11 @@ use Prim.Native.Nat.{ℕ, _+_, _≤_}
 use native.Mathlib.Omega.{arith}
 use lib.Dec.{leb, eqb}
 use borrow.Author.Tests.{leb-true, eqb-true, le-leb, eq-eqb}
+use Rattle.lists.specs.ChoiceLaws.{both-true}
 use Rattle.trace.specs.declared.shape.Part.{Part}
 use Rattle.trace.specs.declared.shape.Part.the-variants.{Nothing, Fixed, Counted}
 use Rattle.trace.specs.Shapes.{row, shapeOf, countIn}
-use Rattle.trace.specs.ShapeLaws.{both-true}
-use Rattle.trace.specs.RowLaws.{by-row}
+use Rattle.trace.specs.ShapeLaws.{by-row}
 use Rattle.trace.specs.Allowed.{lengthFits, lengthsFit}
 use Rattle.trace.specs.DataFits.{DataFits, quick, send-byte, receive-byte, write-byte, write-word, read-byte, read-word, process-call, block-write, block-read, block-process-call}
 
@@ -28,8 +28,8 @@ row-fits k c s r m n e f g = rw (e, f) (le-leb (countIn s m + countIn r n) 255 g
 fixed-fits : (k c : Bool) (s r : Part) (m n : ℕ) → lengthFits 0 s m ≡ true → lengthFits 0 r n ≡ true → countIn s m + countIn r n ≡ 0 → lengthsFit (row k c s r) m n ≡ true
 fixed-fits k c s r m n e f g = row-fits k c s r m n e f (omega arith)
 
-pub fits-data : (protocol m n : ℕ) → DataFits protocol m n → lengthsFit (shapeOf protocol) m n ≡ true
-fits-data protocol m n d = go d
+pub listed-lengths-fit : (protocol m n : ℕ) → DataFits protocol m n → lengthsFit (shapeOf protocol) m n ≡ true
+listed-lengths-fit protocol m n d = go d
   where
     at-row : (k : ℕ) → protocol ≡ k → lengthsFit (shapeOf k) m n ≡ true → lengthsFit (shapeOf protocol) m n ≡ true
     at-row k e h = subst (λ (j : ℕ). lengthsFit (shapeOf j) m n ≡ true) (sym e) h
@@ -50,8 +50,8 @@ fits-data protocol m n d = go d
 abbrev Fitting : ℕ → Type 0
 Fitting p = (m n : ℕ) → lengthsFit (shapeOf p) m n ≡ true → DataFits p m n
 
-pub data-fits : (protocol : ℕ) → protocol ≤ 10 → (m n : ℕ) → lengthsFit (shapeOf protocol) m n ≡ true → DataFits protocol m n
-data-fits =
+pub fitting-lengths-listed : (protocol : ℕ) → protocol ≤ 10 → (m n : ℕ) → lengthsFit (shapeOf protocol) m n ≡ true → DataFits protocol m n
+fitting-lengths-listed =
     by-row Fitting
     (λ m n h. let x = row-lengths false false Nothing Nothing m n h in quick refl (eqb-true m 0 (x .0)) (eqb-true n 0 (x .1)))
     (λ m n h. let x = row-lengths true false (Fixed 1) Nothing m n h in send-byte refl (eqb-true m 1 (x .0)) (eqb-true n 0 (x .1)))

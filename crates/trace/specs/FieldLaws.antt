@@ -1,4 +1,4 @@
--- The tests on parts and on fields, in numbers: for each kind of part, for shapes in general, and for each row of the table.
+-- What the tests on parts and on fields say: for each kind of part, for shapes in general, and for each row of the table.
 use mathlib.Core.Path.{_≡_, refl, ap, _∙_}
 use mathlib.Core.Bool.{Bool, true, false}
 use mathlib.Core.List.{List, [], _∷_}
@@ -8,33 +8,18 @@ use lib.Dec.{ltb, leb, eqb}
 use lib.ListN.{List·getD-eq-default}
 use borrow.Author.Tests.{leb-true, le-leb}
 use Rattle.lists.specs.Choice.{pick, or, not}
-use Rattle.trace.specs.declared.shape.Part.the-variants.{Nothing, Fixed, Counted}
+use Rattle.lists.specs.ChoiceLaws.{both-true}
+use Rattle.trace.specs.declared.shape.Part.the-variants.{Nothing}
 use Rattle.trace.specs.declared.shape.Shape.{Shape}
-use Rattle.trace.specs.Shapes.{some, isCounted, countIn, leastOf, writes, reads, row, shapes, shapeOf}
+use Rattle.trace.specs.Shapes.{some, countIn, writes, reads, row, shapes, shapeOf, each}
+use Rattle.trace.specs.Parts.{Parts}
 use Rattle.trace.specs.Allowed.{lengthFits, lengthsFit, addressFits, directionFits, senderFits, commandFits}
-use Rattle.trace.specs.ShapeLaws.{both-true}
-use Rattle.trace.specs.RowLaws.{row-is, any-address}
+use Rattle.trace.specs.ShapeLaws.{row-is, none-to-host}
 
--- ---- parts: nothing is no part; a fixed length has no count; a count adds as many bytes as it says
-pub record Parts : Type 0 where
-  pub nothing-there : some Nothing ≡ false
-  pub fixed-there : (k : ℕ) → some (Fixed k) ≡ true
-  pub counted-there : some Counted ≡ true
-  pub nothing-counted : isCounted Nothing ≡ false
-  pub fixed-counted : (k : ℕ) → isCounted (Fixed k) ≡ false
-  pub counted-counted : isCounted Counted ≡ true
-  pub nothing-adds : (n : ℕ) → countIn Nothing n ≡ 0
-  pub fixed-adds : (k n : ℕ) → countIn (Fixed k) n ≡ 0
-  pub counted-adds : (n : ℕ) → countIn Counted n ≡ n
-  pub nothing-least : (k : ℕ) → leastOf Nothing k ≡ 0
-  pub fixed-least : (j k : ℕ) → leastOf (Fixed j) k ≡ 0
-  pub counted-least : (k : ℕ) → leastOf Counted k ≡ k
-  pub nothing-fits : (least n : ℕ) → lengthFits least Nothing n ≡ eqb n 0
-  pub fixed-fits : (least k n : ℕ) → lengthFits least (Fixed k) n ≡ eqb n k
-  pub counted-fits : (least n : ℕ) → lengthFits least Counted n ≡ leb least n
+-- ---- parts
 
-pub parts : Parts
-parts =
+pub parts-in-numbers : Parts
+parts-in-numbers =
     record {
       nothing-there = refl;
       fixed-there = λ k. refl;
@@ -106,9 +91,6 @@ module _ (sh : Shape) where
 
 -- ---- rows: which of the eleven protocols have a write phase, and which a read phase
 
-abbrev each : (ℕ → Bool) → List Bool
-each f = f 0 ∷ f 1 ∷ f 2 ∷ f 3 ∷ f 4 ∷ f 5 ∷ f 6 ∷ f 7 ∷ f 8 ∷ f 9 ∷ f 10 ∷ []
-
 pub which-write : each (λ n. writes (shapeOf n)) ≡ false ∷ true ∷ false ∷ true ∷ true ∷ true ∷ true ∷ true ∷ true ∷ true ∷ true ∷ []
 which-write = refl
 
@@ -121,11 +103,11 @@ shape-above n h = List·getD-eq-default shapes (row false false Nothing Nothing)
 
 -- every row goes to any address; a command is lacking in Quick, Send Byte and Receive Byte; a direction in all but Quick
 pub address-of-row : (n a : ℕ) → addressFits (shapeOf n) a ≡ ltb a 128
-address-of-row n a = to-any (shapeOf n) a (any-address n)
+address-of-row n a = to-any (shapeOf n) a (none-to-host n)
 
 pub command-of-row : (n c : ℕ) → n ≤ 10 → commandFits (shapeOf n) c ≡ pick (ltb 2 n) true (eqb c 0)
 command-of-row n c h =
-    ap (λ (x : Bool). pick (shapeOf n .command) x (eqb c 0)) (any-sender (shapeOf n) c (any-address n))
+    ap (λ (x : Bool). pick (shapeOf n .command) x (eqb c 0)) (any-sender (shapeOf n) c (none-to-host n))
     ∙ ap (λ (b : Bool). pick b true (eqb c 0)) (row-is n h .1)
 
 pub direction-of-row : (n d : ℕ) → n ≤ 10 → directionFits (shapeOf n) d ≡ pick (not (eqb n 0)) (eqb d 0) (leb d 1)

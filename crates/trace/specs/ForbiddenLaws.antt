@@ -1,17 +1,14 @@
--- Which protocols and which uses of a PEC are refused, said in numbers.
+-- Refused are the protocols above 10 and Quick with PEC, and no others.
 use mathlib.Core.Path.{_≡_, refl, sym, ap, _∙_}
 use mathlib.Core.Bool.{Bool, true, false}
 use mathlib.Core.Logic.{_⊎_, inl, inr, _↔_}
 use Prim.Native.Nat.{ℕ, _≤_, _<_}
-use native.Mathlib.Omega.{arith}
 use lib.Dec.{ltb, eqb}
 use borrow.Author.Tests.{ltb-true, ltb-false, lt-ltb, le-ltb, eqb-true}
-use Rattle.lists.specs.Choice.{or, and, not}
-use Rattle.trace.specs.Shapes.{shapeOf, forbidden}
-use Rattle.trace.specs.RowLaws.{row-is}
-
-never : {A : Type 0} → true ≡ false → A
-never e = let z : _≡_ {A = ℕ} 0 1 = cc in absurd (omega arith)
+use Rattle.lists.specs.Choice.{and, not}
+use Rattle.lists.specs.ChoiceLaws.{false-not-true}
+use Rattle.trace.specs.Shapes.{forbidden}
+use Rattle.trace.specs.ShapeLaws.{row-is}
 
 pub forbidden-is : (protocol : ℕ) (pec : Bool) → protocol ≤ 10 → forbidden protocol pec ≡ and pec (not (not (eqb protocol 0)))
 forbidden-is protocol pec h = rw (le-ltb 10 protocol h) (ap (λ (b : Bool). and pec (not b)) (row-is protocol h .0))
@@ -22,9 +19,9 @@ forbidden-cases protocol pec = (λ f. there (ltb 10 protocol) refl f, back)
   where
     quick : (b p : Bool) → eqb protocol 0 ≡ b → pec ≡ p → and p (not (not b)) ≡ true → (protocol ≡ 0) × (pec ≡ true)
     quick true true e g h = (eqb-true protocol 0 e, g)
-    quick true false e g h = never (sym h)
-    quick false true e g h = never (sym h)
-    quick false false e g h = never (sym h)
+    quick true false e g h = false-not-true h
+    quick false true e g h = false-not-true h
+    quick false false e g h = false-not-true h
 
     there : (b : Bool) → ltb 10 protocol ≡ b → forbidden protocol pec ≡ true → (10 < protocol) ⊎ ((protocol ≡ 0) × (pec ≡ true))
     there true e f = inl (ltb-true 10 protocol e)
@@ -39,17 +36,17 @@ pub taken-cases : (protocol : ℕ) (pec : Bool) → (forbidden protocol pec ≡ 
 taken-cases protocol pec = (λ f. (small (ltb 10 protocol) refl f, λ z. free z pec refl f), λ h. back (h .0) (h .1))
   where
     small : (b : Bool) → ltb 10 protocol ≡ b → forbidden protocol pec ≡ false → protocol ≤ 10
-    small true e f = never (sym (forbidden-cases protocol pec .1 (inl (ltb-true 10 protocol e))) ∙ f)
+    small true e f = false-not-true (sym f ∙ forbidden-cases protocol pec .1 (inl (ltb-true 10 protocol e)))
     small false e f = ltb-false 10 protocol e
 
     free : protocol ≡ 0 → (p : Bool) → pec ≡ p → forbidden protocol pec ≡ false → pec ≡ false
     free z false e f = e
-    free z true e f = never (sym (forbidden-cases protocol pec .1 (inr (z, e))) ∙ f)
+    free z true e f = false-not-true (sym f ∙ forbidden-cases protocol pec .1 (inr (z, e)))
 
     go : (b : Bool) → eqb protocol 0 ≡ b → (p : Bool) → pec ≡ p → (protocol ≡ 0 → pec ≡ false) → and p (not (not b)) ≡ false
     go b e false f q = refl
     go false e true f q = refl
-    go true e true f q = never (sym f ∙ q (eqb-true protocol 0 e))
+    go true e true f q = false-not-true (sym (q (eqb-true protocol 0 e)) ∙ f)
 
     back : protocol ≤ 10 → (protocol ≡ 0 → pec ≡ false) → forbidden protocol pec ≡ false
     back h q = forbidden-is protocol pec h ∙ go (eqb protocol 0) refl pec refl q

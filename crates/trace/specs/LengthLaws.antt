@@ -1,4 +1,4 @@
--- The length of a trace is the one that traceLength adds up.
+-- The length of a trace is the one that traceLength adds up, whatever stands in PEC's place.
 use mathlib.Core.Path.{_≡_, refl, ap, _∙_}
 use mathlib.Core.Bool.{Bool, true, false}
 use mathlib.Core.List.{List, [], _∷_, _++_}
@@ -26,6 +26,11 @@ pub length-place : (p : Bool) (y : ℕ) → length (inPlace p y) ≡ pick p 1 0
 length-place true y = refl
 length-place false y = refl
 
+-- two symbols more with PEC
+pub pec-symbols : (p : Bool) → 2 * pick p 1 0 ≡ pick p 2 0
+pec-symbols true = refl
+pec-symbols false = refl
+
 laid-length : (a : Part) (s : List ℕ) → length (laid a s) ≡ pick (isCounted a) 1 0 + length s
 laid-length Nothing s = omega arith
 laid-length (Fixed k) s = omega arith
@@ -46,10 +51,10 @@ back-length true p xs y =
     ∙ ap (λ (n : ℕ). n + 1) (length-nacked (xs ++ inPlace p y) ∙ ap (λ (n : ℕ). 2 * n) (length-append xs (inPlace p y) ∙ ap (λ (n : ℕ). length xs + n) (length-place p y)))
 back-length false p xs y = refl
 
-sum : (r w : Bool) (q k n m : ℕ) → 1 + 2 * (1 + m) + pick r (pick w 3 0) (2 * q) + (pick r (2 * (k + n + q)) 0 + 1) ≡ 4 + 2 * m + pick r (pick w 3 0 + 2 * (k + n)) 0 + 2 * q
-sum true true q k n m = omega arith
-sum true false q k n m = omega arith
-sum false w q k n m = omega arith
+lengths-add-up : (r w : Bool) (q k n m : ℕ) → 1 + 2 * (1 + m) + pick r (pick w 3 0) (2 * q) + (pick r (2 * (k + n + q)) 0 + 1) ≡ 4 + 2 * m + pick r (pick w 3 0 + 2 * (k + n)) 0 + 2 * q
+lengths-add-up true true q k n m = omega arith
+lengths-add-up true false q k n m = omega arith
+lengths-add-up false w q k n m = omega arith
 
 -- whatever byte stands in PEC's place
 pub length-at : (sh : Shape) (p : Bool) (t : Message) (y : ℕ) → length (traceAt sh t (inPlace p y)) ≡ traceLength sh p (length (t .sent)) (length (t .received))
@@ -62,7 +67,7 @@ length-at sh p t y =
     let first = length-append (START ∷ acked (front sh t)) (pick (reads sh) (pick (writes sh) (START ∷ (firstByte sh t + 1) ∷ ACK ∷ []) []) (acked (inPlace p y))) in
     let back : length (byController sh t (inPlace p y)) ≡ pick (reads sh) (2 * (pick (isCounted (sh .received)) 1 0 + length (t .received) + pick p 1 0)) 0 + 1 =
     back-length (reads sh) p (laid (sh .received) (t .received)) y ∙ ap (λ (n : ℕ). pick (reads sh) (2 * (n + pick p 1 0)) 0 + 1) (laid-length (sh .received) (t .received)) in
-    let s = sum (reads sh) (writes sh) (pick p 1 0) (pick (isCounted (sh .received)) 1 0) (length (t .received)) (pick (sh .command) 1 0 + pick (isCounted (sh .sent)) 1 0 + length (t .sent)) in
+    let s = lengths-add-up (reads sh) (writes sh) (pick p 1 0) (pick (isCounted (sh .received)) 1 0) (length (t .received)) (pick (sh .command) 1 0 + pick (isCounted (sh .sent)) 1 0 + length (t .sent)) in
     omega (arith, fr, mid, whole, first, back, s)
 
 pub trace-length : (sh : Shape) (p : Bool) (t : Message) → length (trace sh p t) ≡ traceLength sh p (length (t .sent)) (length (t .received))

@@ -1,4 +1,4 @@
--- Where the PEC stands: it is the third symbol from the end, before its ACK or NACK and the STOP.
+-- In every trace the PEC is the third symbol from the end, and is found three places before it.
 use mathlib.Core.Path.{_≡_, sym, ap, _∙_}
 use mathlib.Core.Bool.{Bool, true, false}
 use mathlib.Core.List.{List, [], _∷_, _++_, append-assoc}
@@ -8,15 +8,10 @@ use lib.ListN.{length, getD, length-append}
 use lib.Seq.{getD-at}
 use Rattle.lists.specs.Choice.{pick}
 use Rattle.trace.specs.declared.shape.Shape.{Shape}
-use Rattle.trace.specs.Rows.{ends-checked}
+use Rattle.trace.specs.RowsLaws.{ends-checked}
+use Rattle.trace.specs.PecPlace.{Third}
 use Rattle.trace.specs.Shapes.{writes, reads}
 use Rattle.trace.specs.Trace.{Message, laid, acked, nacked, front, firstByte, traceAt}
-
--- what stands before it, and what it gets
-pub record Third (tr : List ℕ) (y : ℕ) : Type 0 where
-  pub before : List ℕ
-  pub gets : ℕ
-  pub is : tr ≡ before ++ y ∷ gets ∷ 257 ∷ []
 
 third-by : (r : Bool) (xs ys zs : List ℕ) (y : ℕ) → Third ((xs ++ pick r ys (acked (y ∷ []))) ++ (pick r (nacked (zs ++ y ∷ [])) [] ++ 257 ∷ [])) y
 third-by true xs ys zs y = record {

@@ -1,9 +1,10 @@
 -- The shapes of the eleven protocols: what each row of the scope's table has, as fields.
+use mathlib.Core.Path.{_≡_}
 use mathlib.Core.Bool.{Bool, true, false}
 use mathlib.Core.List.{List, [], _∷_}
 use Prim.Native.Nat.{ℕ}
 use lib.ListN.{getD}
-use lib.Dec.{ltb}
+use lib.Dec.{ltb, eqb}
 use Rattle.lists.specs.Choice.{or, and, not}
 use Rattle.trace.specs.declared.shape.Part.{Part}
 use Rattle.trace.specs.declared.shape.Part.the-variants.{Nothing, Fixed, Counted}
@@ -61,3 +62,11 @@ writes sh = or (sh .command) (some (sh .sent))
 
 abbrev pub reads : Shape → Bool
 reads sh = some (sh .received)
+
+-- the rows by their numbers: which carry a PEC, have a command, lack a direction
+abbrev pub Row : ℕ → Type 0
+Row n = (shapeOf n .checked ≡ not (eqb n 0)) × (shapeOf n .command ≡ ltb 2 n) × (or (writes (shapeOf n)) (reads (shapeOf n)) ≡ not (eqb n 0))
+
+-- a test of each of the eleven protocols
+abbrev pub each : (ℕ → Bool) → List Bool
+each f = f 0 ∷ f 1 ∷ f 2 ∷ f 3 ∷ f 4 ∷ f 5 ∷ f 6 ∷ f 7 ∷ f 8 ∷ f 9 ∷ f 10 ∷ []

@@ -8,6 +8,7 @@ use lib.ListN.{length}
 use borrow.Author.Tests.{ltb-true, leb-true, eqb-true, lt-ltb, le-leb, eq-eqb}
 use Rattle.lists.specs.Choice.{pick, or, and}
 use Rattle.lists.specs.Each.{Bytes}
+use Rattle.lists.specs.ChoiceLaws.{both-true}
 use Rattle.wire.specs.Addresses.{hostAddress}
 use Rattle.trace.specs.declared.shape.Part.{Part}
 use Rattle.trace.specs.declared.shape.Part.the-variants.{Nothing, Fixed, Counted}
@@ -15,7 +16,6 @@ use Rattle.trace.specs.declared.shape.Shape.{Shape}
 use Rattle.trace.specs.Shapes.{countIn, writes, reads}
 use Rattle.trace.specs.Trace.{Message, LengthOf, counted, Valid}
 use Rattle.trace.specs.Allowed.{lengthFits, lengthsFit, addressFits, directionFits, commandFits, allowed}
-use Rattle.trace.specs.ShapeLaws.{both-true}
 
 length-back : (least : ℕ) (a : Part) (s : List ℕ) → lengthFits least a (length s) ≡ true → LengthOf least a s
 length-back least Nothing s h = eqb-true (length s) 0 h

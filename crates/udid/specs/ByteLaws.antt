@@ -1,4 +1,4 @@
--- Laws of bytes and numbers: there and back, and that the order of numbers is that of their bytes, highest first.
+-- Bytes make a number and a number has bytes, there and back; the order of numbers is that of their bytes, highest first.
 use Prim.Native.Nat.{ℕ, zero, suc, _+_, _*_, _-_, _/_, _%_, _^_, _<_, _≤_}
 use mathlib.Core.Path.{_≡_, refl, sym, ap, ap₂, _∙_}
 use mathlib.Core.Bool.{Bool, true, false}

@@ -12,15 +12,16 @@ use lib.ListN.{length, getD, take, drop, replicate, length-append}
 use lib.Seq.{take-at, drop-at, take-add, drop-drop, length-take-le}
 use borrow.Author.Tests.{eqb-true, eq-eqb, ne-eqb, le-ltb}
 use Rattle.lists.specs.Choice.{pick, or, and}
-use Rattle.lists.specs.Each.{Bytes, append-bytes}
+use Rattle.lists.specs.EachLaws.{append-bytes}
+use Rattle.lists.specs.Each.{Bytes}
 use Rattle.udid.specs.Bytes.{number, numberFrom, bytesOf, bytesFrom, udidBytes, udidAt, less, putAt}
 use Rattle.udid.specs.ByteLaws.{number-lt, number-split, number-bytes, bytes-number, bytes-bytes, length-bytes, number-order, digits-order}
 use Rattle.udid.specs.Udids.{Fits, sameUdid, value, isBelow, topBits, isFixed}
 use Rattle.udid.specs.WindowLaws.{length-from, bytes-from, from-part, from-between, from-zeros, put-fits}
 use Rattle.udid.specs.declared.Udid.{Udid}
 
-halves : (u v : Udid) → u .high ≡ v .high → u .low ≡ v .low → u ≡ v
-halves u v h l = λ i. record { high = h i; low = l i }
+same-halves : (u v : Udid) → u .high ≡ v .high → u .low ≡ v .low → u ≡ v
+same-halves u v h l = λ i. record { high = h i; low = l i }
 
 -- ---- the test of equality
 
@@ -28,7 +29,7 @@ pub same-equal : (u v : Udid) → sameUdid u v ≡ true → u ≡ v
 same-equal u v e = go (eqb (u .high) (v .high)) refl (eqb (u .low) (v .low)) refl e
   where
     go : (a : Bool) → eqb (u .high) (v .high) ≡ a → (b : Bool) → eqb (u .low) (v .low) ≡ b → and a b ≡ true → u ≡ v
-    go true h true l k = halves u v (eqb-true _ _ h) (eqb-true _ _ l)
+    go true h true l k = same-halves u v (eqb-true _ _ h) (eqb-true _ _ l)
     go true h false l k = absurd (let z : _≡_ {A = ℕ} 0 1 = cc k in omega arith)
     go false h b l k = absurd (let z : _≡_ {A = ℕ} 0 1 = cc k in omega arith)
 
@@ -63,8 +64,8 @@ fits-at s i h =
       low = rw (length-from s (i + 8) 8) at (number-lt (bytesFrom s (i + 8) 8) (bytes-from s (i + 8) 8 h));
     }
 
-whole : (n : ℕ) → n < 2 ^ 64 → number (bytesOf 8 n) ≡ n
-whole n h = number-bytes 8 n ∙ mod-eq-of-lt h
+eight-bytes-make : (n : ℕ) → n < 2 ^ 64 → number (bytesOf 8 n) ≡ n
+eight-bytes-make n h = number-bytes 8 n ∙ mod-eq-of-lt h
 
 -- an identifier is read where its bytes stand, whatever stands before and after them
 pub udid-back : (p r : List ℕ) (i : ℕ) (u : Udid) → Fits u → length p ≡ i → udidAt (p ++ (udidBytes u ++ r)) i ≡ u
@@ -79,7 +80,7 @@ udid-back p r i u f e =
     let y : bytesFrom (p ++ ((bytesOf 8 (u .high) ++ bytesOf 8 (u .low)) ++ r)) (i + 8) 8 ≡ bytesOf 8 (u .low)
     = rw (append-assoc (bytesOf 8 (u .high)) (bytesOf 8 (u .low)) r, ← append-assoc p (bytesOf 8 (u .high)) (bytesOf 8 (u .low) ++ r))
     (from-between (p ++ bytesOf 8 (u .high)) (bytesOf 8 (u .low)) r (i + 8) 8 (omega (arith, length-append p (bytesOf 8 (u .high)))) m) in
-    halves _ u (ap number x ∙ whole (u .high) (f .high)) (ap number y ∙ whole (u .low) (f .low))
+    same-halves _ u (ap number x ∙ eight-bytes-make (u .high) (f .high)) (ap number y ∙ eight-bytes-make (u .low) (f .low))
 
 -- and its bytes are those that stand there
 pub bytes-back : (s : List ℕ) (i : ℕ) → Bytes s → i + 16 ≤ length s → udidBytes (udidAt s i) ≡ take 16 (drop i s)
@@ -100,7 +101,7 @@ put-back l i u f h =
 -- a list that ends before the 16 bytes is read as though zeros followed it
 pub udid-zeros : (s : List ℕ) (k i : ℕ) → udidAt (s ++ replicate k 0) i ≡ udidAt s i
 unfolding udidAt
-udid-zeros s k i = halves _ _ (ap number (from-zeros s k i 8)) (ap number (from-zeros s k (i + 8) 8))
+udid-zeros s k i = same-halves _ _ (ap number (from-zeros s k i 8)) (ap number (from-zeros s k (i + 8) 8))
 
 -- ten bytes: the six that are not there are zeros
 pub udid-of-ten : udidAt (1 ∷ 2 ∷ 3 ∷ 4 ∷ 5 ∷ 6 ∷ 7 ∷ 8 ∷ 9 ∷ 10 ∷ []) 0 ≡ record { high = 0x0102030405060708; low = 0x090A000000000000 }
@@ -130,13 +131,13 @@ pub value-bytes : (u : Udid) → Fits u → number (udidBytes u) ≡ value u
 unfolding udidBytes
 value-bytes u f =
     number-append (bytesOf 8 (u .high)) (bytesOf 8 (u .low))
-    ∙ rw (length-bytes 8 (u .low), whole (u .high) (f .high), whole (u .low) (f .low))
+    ∙ rw (length-bytes 8 (u .low), eight-bytes-make (u .high) (f .high), eight-bytes-make (u .low) (f .low))
 
-parts : (h l h′ l′ : ℕ) → l < 2 ^ 64 → l′ < 2 ^ 64 → h * 2 ^ 64 + l ≡ h′ * 2 ^ 64 + l′ → (h ≡ h′) × (l ≡ l′)
-parts h l h′ l′ a b e = omega arith
+halves-unique : (h l h′ l′ : ℕ) → l < 2 ^ 64 → l′ < 2 ^ 64 → h * 2 ^ 64 + l ≡ h′ * 2 ^ 64 + l′ → (h ≡ h′) × (l ≡ l′)
+halves-unique h l h′ l′ a b e = omega arith
 
 pub value-same : (u v : Udid) → u .low < 2 ^ 64 → v .low < 2 ^ 64 → value u ≡ value v → u ≡ v
-value-same u v a b e = let r = parts (u .high) (u .low) (v .high) (v .low) a b e in halves u v (r .0) (r .1)
+value-same u v a b e = let r = halves-unique (u .high) (u .low) (v .high) (v .low) a b e in same-halves u v (r .0) (r .1)
 
 -- an identifier is below another if and only if its bytes are: the first that differs decides
 pub below-bytes : (u v : Udid) → Fits u → Fits v → isBelow u v ≡ less (udidBytes u) (udidBytes v)

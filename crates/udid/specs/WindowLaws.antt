@@ -1,4 +1,4 @@
--- Laws of the bytes that stand in a list from a place on, read and written.
+-- Bytes that stand in a list from a place on: what is read there, zeros past the end, and what a write changes and leaves.
 use Prim.Native.Nat.{ℕ, zero, suc, _+_, _-_, _<_, _≤_}
 use mathlib.Core.Path.{_≡_, refl, sym, ap, ap₂, _∙_}
 use mathlib.Core.Bool.{Bool, true, false}

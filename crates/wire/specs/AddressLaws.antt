@@ -1,14 +1,15 @@
--- The named addresses; the reserved ones, which are these 21, with 107 left to be given out; and addresses from their wire bytes.
+-- The named addresses in numbers. The reserved ones are these 21, and 107 are left. An address comes back from its wire byte.
 use mathlib.Core.Path.{_≡_, refl}
 use mathlib.Core.Bool.{Bool, true, false}
-use mathlib.Core.List.{List, [], _∷_}
-use Prim.Native.Nat.{ℕ, zero, suc, _+_, _*_, _/_, _%_, _≤_, _<_}
+use mathlib.Core.List.{[], _∷_}
+use Prim.Native.Nat.{ℕ, _+_, _*_, _/_, _%_, _≤_, _<_}
 use native.Mathlib.Omega.{arith}
 use lib.ListN.{length}
 use lib.Dec.{leb}
 use borrow.Author.Tests.{lt-leb, ne-eqb}
-use Rattle.lists.specs.Choice.{pick, and, not}
-use Rattle.wire.specs.Addresses.{defaultAddress, hostAddress, alertAddress, isReserved}
+use Rattle.lists.specs.Choice.{and}
+use Rattle.lists.specs.Passing.{passing}
+use Rattle.wire.specs.Addresses.{defaultAddress, hostAddress, alertAddress, isReserved, reserved, assignable}
 
 -- the default address is 61h, the host's 08h, that of the alert response 0Ch
 pub default-is : defaultAddress ≡ 0x61
@@ -19,17 +20,6 @@ host-is = refl
 
 pub alert-is : alertAddress ≡ 0x0C
 alert-is = refl
-
--- the numbers from a on, n of them, that pass a test, in ascending order
-unfoldable pub passing : (ℕ → Bool) → ℕ → ℕ → List ℕ
-passing test a zero = []
-passing test a (suc n) = pick (test a) (a ∷ passing test (suc a) n) (passing test (suc a) n)
-
-abbrev pub reserved : List ℕ
-reserved = passing isReserved 0 128
-
-abbrev pub assignable : List ℕ
-assignable = passing (λ (a : ℕ). not (isReserved a)) 0 128
 
 pub the-reserved : reserved
     ≡ 0x00 ∷ 0x01 ∷ 0x02 ∷ 0x03 ∷ 0x04 ∷ 0x05 ∷ 0x06 ∷ 0x07 ∷ 0x08 ∷ 0x0C ∷ 0x28 ∷ 0x37 ∷ 0x61 ∷ 0x78 ∷ 0x79 ∷ 0x7A ∷ 0x7B ∷ 0x7C ∷ 0x7D ∷ 0x7E ∷ 0x7F ∷ []

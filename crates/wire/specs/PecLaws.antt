@@ -1,4 +1,5 @@
--- Laws of the packet error code: over no bytes, over an append, and that it is a byte.
+-- The packet error code over no bytes, over one byte more and over two lists in a row. It is a byte, and what came before is added to the
+-- first byte that follows.
 use mathlib.Core.Path.{_≡_, refl, sym, ap}
 use mathlib.Core.Bool.{Bool, true, false}
 use mathlib.Core.List.{List, [], _∷_, _++_}

@@ -1,4 +1,4 @@
-use Rattle.decode.specs.EntryLaws.{outcome-forbidden, outcome-short, asks-sent, asks-received, outcome-read}
+use Rattle.decode.specs.EntryLaws.{outcome-forbidden, outcome-short, sent-copy-fits, received-copy-fits, outcome-read}
 use mathlib.Core.Path.{_≡_, sym, _∙_}
 use borrow.Author.Needs.{needs}
 use Rattle.decode.proofs.decode.Statement.{statement}
@@ -37,12 +37,12 @@ decode-by-requires c κs = search needs
 put-sent-requires : tie.Need-put-sent-requires
 put-sent-requires c κs =
     let a = c .before .before .before .before .before .before .before .before .before .before .args in
-    asks-sent (a .protocol) (a .pec) (a .trace .now) (a .sent .now) (a .received .now) _ _ (c .before .before .shape-of .ensures) (c .before .decode-by .ensures) (sym (c .before .before .before .before .is-short .ensures) ∙ c .before .before .before .if2 .left)
+    sent-copy-fits (a .protocol) (a .pec) (a .trace .now) (a .sent .now) (a .received .now) _ _ (c .before .before .shape-of .ensures) (c .before .decode-by .ensures) (sym (c .before .before .before .before .is-short .ensures) ∙ c .before .before .before .if2 .left)
 
 put-received-requires : tie.Need-put-received-requires
 put-received-requires c κs =
     let a = c .before .before .before .before .before .before .before .before .before .before .before .before .before .before .args in
-    asks-received (a .protocol) (a .pec) (a .trace .now) (a .sent .now) (a .received .now) _ _ (c .before .before .before .before .before .before .shape-of .ensures) (c .before .before .before .before .before .decode-by .ensures) (sym (c .before .before .before .before .before .before .before .before .is-short .ensures) ∙ c .before .before .before .before .before .before .before .if2 .left)
+    received-copy-fits (a .protocol) (a .pec) (a .trace .now) (a .sent .now) (a .received .now) _ _ (c .before .before .before .before .before .before .shape-of .ensures) (c .before .before .before .before .before .decode-by .ensures) (sym (c .before .before .before .before .before .before .before .before .is-short .ensures) ∙ c .before .before .before .before .before .before .before .if2 .left)
 
 same-length : tie.Need-same-length
 same-length c = search needs

@@ -5,7 +5,7 @@ use Prim.Native.Nat.{_<_}
 use lib.ListN.{length}
 use Rattle.trace.specs.Trace.{Message}
 use Rattle.encode.specs.Encode.{message}
-use Rattle.lists.specs.Each.{all-bytes}
+use Rattle.lists.specs.EachLaws.{all-bytes}
 use Rattle.encode.proofs.EntryLaws.{room-zero, refused-wrote, fields-refused, short-wrote, is-ready, done-wrote}
 use borrow.Author.Needs.{needs}
 use Rattle.encode.proofs.encode.Statement.{statement}

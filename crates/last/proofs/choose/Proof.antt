@@ -3,7 +3,7 @@ use mathlib.Core.Path.{_≡_, refl, sym, _∙_, ap}
 use borrow.Author.Tests.{lt-ltb, le-ltb, lt-leb, le-leb, eq-eqb, ne-eqb, not-true, not-false}
 use mathlib.Core.Bool.{true, false}
 use native.Mathlib.Omega.{arith}
-use Rattle.last.proofs.Laws.{chosen-is, rooms}
+use Rattle.last.proofs.Laws.{chosen-is, belongs-in-buffers}
 use Rattle.last.proofs.choose.Statement.{statement}
 use Rattle.last.proofs.choose.Tie as tie
 use Rattle.last.proofs.choose.Reads as reads
@@ -30,11 +30,11 @@ has-read-requires c κs = search needs
 
 -- src/lib.rt:38:1
 returns-2 : tie.Need-returns-2
-returns-2 c = (chosen-is (c .before .before .before .before .before .args .t) (c .before .before .before .before .before .args .sent) (c .before .before .before .before .before .args .received) _ true true (c .before .before .shape-of .ensures) (sym (c .before .before .before .before .is-whole .ensures) ∙ not-false _ (c .before .before .before .if1 .left)) (sym (c .before .has-read .ensures) ∙ c .if2 .taken), rooms (c .before .before .before .before .before .args .t) (c .before .before .before .before .before .args .sent) (c .before .before .before .before .before .args .received) (sym (c .before .before .before .before .is-whole .ensures) ∙ not-false _ (c .before .before .before .if1 .left)) .1)
+returns-2 c = (chosen-is (c .before .before .before .before .before .args .t) (c .before .before .before .before .before .args .sent) (c .before .before .before .before .before .args .received) _ true true (c .before .before .shape-of .ensures) (sym (c .before .before .before .before .is-whole .ensures) ∙ not-false _ (c .before .before .before .if1 .left)) (sym (c .before .has-read .ensures) ∙ c .if2 .taken), belongs-in-buffers (c .before .before .before .before .before .args .t) (c .before .before .before .before .before .args .sent) (c .before .before .before .before .before .args .received) (sym (c .before .before .before .before .is-whole .ensures) ∙ not-false _ (c .before .before .before .if1 .left)) .1)
 
 -- src/lib.rt:38:1
 returns-3 : tie.Need-returns-3
-returns-3 c = (chosen-is (c .before .before .before .before .before .args .t) (c .before .before .before .before .before .args .sent) (c .before .before .before .before .before .args .received) _ true false (c .before .before .shape-of .ensures) (sym (c .before .before .before .before .is-whole .ensures) ∙ not-false _ (c .before .before .before .if1 .left)) (sym (c .before .has-read .ensures) ∙ c .if2 .left), rooms (c .before .before .before .before .before .args .t) (c .before .before .before .before .before .args .sent) (c .before .before .before .before .before .args .received) (sym (c .before .before .before .before .is-whole .ensures) ∙ not-false _ (c .before .before .before .if1 .left)) .0)
+returns-3 c = (chosen-is (c .before .before .before .before .before .args .t) (c .before .before .before .before .before .args .sent) (c .before .before .before .before .before .args .received) _ true false (c .before .before .shape-of .ensures) (sym (c .before .before .before .before .is-whole .ensures) ∙ not-false _ (c .before .before .before .if1 .left)) (sym (c .before .has-read .ensures) ∙ c .if2 .left), belongs-in-buffers (c .before .before .before .before .before .args .t) (c .before .before .before .before .before .args .sent) (c .before .before .before .before .before .args .received) (sym (c .before .before .before .before .is-whole .ensures) ∙ not-false _ (c .before .before .before .if1 .left)) .0)
 
 pub choose-spec : {M : Type 1} → statement M
 choose-spec =

@@ -7,7 +7,7 @@ use borrow.Author.Needs.{needs}
 use lib.ListN.{length}
 use denote.Ref.{now}
 use Rattle.arp.specs.Controller.{started}
-use Rattle.lists.specs.Each.{all-bytes}
+use Rattle.lists.specs.EachLaws.{all-bytes}
 use Rattle.bus.specs.Turn.{isSent, worldOf}
 use Rattle.bus.specs.GoingLaws.{Running, running-first, running-next, running-last, running-still}
 use Rattle.bus.proofs.pass.run_pass.Statement.{statement}

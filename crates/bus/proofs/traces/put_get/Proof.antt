@@ -7,7 +7,7 @@ use denote.Ref.{now}
 use Rattle.arp.specs.SendingLaws.{get-sent}
 use Rattle.arp.specs.Requests.{traceOf}
 use Rattle.arp.specs.declared.command.Command.the-variants.{GetUdid}
-use Rattle.lists.specs.Each.{all-bytes}
+use Rattle.lists.specs.EachLaws.{all-bytes}
 use Rattle.bus.specs.TurnLaws.{get-silence, get-winner, get-part, get-length, lentPart, winner-inside, winner-data}
 use borrow.Author.Needs.{needs}
 use Rattle.bus.proofs.traces.put_get.Statement.{statement}

@@ -3,7 +3,7 @@ use native.Mathlib.Omega.{arith}
 use lib.ListN.{take}
 use lib.Seq.{length-take-le}
 use denote.Ref.{now}
-use Rattle.lists.specs.Each.{all-bytes}
+use Rattle.lists.specs.EachLaws.{all-bytes}
 use Rattle.bus.specs.TurnLaws.{sent-matches}
 use borrow.Author.Needs.{needs}
 use Rattle.bus.proofs.turn.send.Statement.{statement}

@@ -7,8 +7,8 @@ use lib.ListN.{length, take, length-set}
 use lib.Seq.{take-all, length-take-le}
 use Rattle.trace.specs.Trace.{acked}
 use Rattle.lists.specs.Onto.{onto}
-use Rattle.encode.proofs.WriterLaws.{wider, acked-turn}
-use Rattle.lists.specs.ListLaws.{onto-front}
+use Rattle.encode.proofs.WriterLaws.{byte-below-65536, acked-turn}
+use Rattle.lists.specs.OntoLaws.{onto-front}
 use Rattle.encode.proofs.bytes.put_acked.Statement.{statement}
 use Rattle.encode.proofs.bytes.put_acked.Tie as tie
 use Rattle.encode.proofs.bytes.put_acked.Reads as reads
@@ -30,7 +30,7 @@ shared-slice-read-out c = omega arith
 
 -- src/bytes.rt:21:18
 cast-out : tie.Need-cast-out Inv-loop μ-loop
-cast-out c = record { fits = wider _ (c .shared-slice-known .given _ .fits) }
+cast-out c = record { fits = byte-below-65536 _ (c .shared-slice-known .given _ .fits) }
 
 -- src/bytes.rt:21:9
 mul-out : tie.Need-mul-out Inv-loop μ-loop

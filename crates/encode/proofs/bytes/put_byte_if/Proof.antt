@@ -2,7 +2,7 @@ use native.Mathlib.Omega.{arith}
 use Prim.Native.Nat.{_≤_, _+_}
 use lib.ListN.{length, length-set}
 use Rattle.encode.proofs.WriterLaws.{put-byte, yes-room}
-use Rattle.lists.specs.ListLaws.{onto-front}
+use Rattle.lists.specs.OntoLaws.{onto-front}
 use borrow.Author.Needs.{needs}
 use Rattle.encode.proofs.bytes.put_byte_if.Statement.{statement}
 use Rattle.encode.proofs.bytes.put_byte_if.Tie as tie

@@ -6,7 +6,7 @@ use lib.ListN.{length, take}
 use lib.Seq.{length-take-le}
 use Rattle.trace.specs.Trace.{Message}
 use Rattle.encode.specs.Encode.{message}
-use Rattle.lists.specs.Each.{all-bytes}
+use Rattle.lists.specs.EachLaws.{all-bytes}
 use Rattle.exports.specs.Numbers.{truth}
 use Rattle.exports.proofs.CodecLaws.{refused-pairs, small, short-pairs, done-pairs}
 use Rattle.exports.proofs.codec.hb_encode.Statement.{statement}

@@ -3,7 +3,7 @@ use mathlib.Core.Path.{_≡_, refl, sym}
 use native.Mathlib.Omega.{arith}
 use lib.ListN.{length, take}
 use lib.Seq.{length-take-le}
-use Rattle.lists.specs.Each.{all-bytes}
+use Rattle.lists.specs.EachLaws.{all-bytes}
 use Rattle.exports.proofs.CommandLaws.{command-refused, command-small, command-short, command-done}
 use Rattle.exports.proofs.commands.hb_put_command.Statement.{statement}
 use Rattle.exports.proofs.commands.hb_put_command.Tie as tie

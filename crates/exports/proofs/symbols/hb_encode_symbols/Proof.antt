@@ -4,7 +4,7 @@ use Prim.Native.Nat.{_<_}
 use native.Mathlib.Omega.{arith}
 use Rattle.trace.specs.Trace.{Message}
 use Rattle.encode.specs.Encode.{message}
-use Rattle.lists.specs.Each.{all-bytes}
+use Rattle.lists.specs.EachLaws.{all-bytes}
 use Rattle.exports.specs.Numbers.{truth}
 use Rattle.exports.specs.Codec.{told}
 use Rattle.exports.proofs.CodecLaws.{small-symbols, wrote-symbols}

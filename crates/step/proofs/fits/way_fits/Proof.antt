@@ -1,4 +1,4 @@
-use Rattle.step.specs.TestLaws.{no-read}
+use Rattle.step.specs.TestLaws.{not-odd-is-even}
 use Rattle.lists.specs.Choice.{not}
 use mathlib.Core.Bool.{Bool}
 use mathlib.Core.Path.{_≡_, sym, ap, _∙_}
@@ -18,7 +18,7 @@ is-read-requires : tie.Need-is-read-requires
 is-read-requires c κs = search needs
 
 returns : tie.Need-returns
-returns c = rw (sym (c .before .before .has-write .ensures) ∙ c .before .if1 .taken, c .is-read .ensures) (no-read (c .before .before .before .args .w .0))
+returns c = rw (sym (c .before .before .has-write .ensures) ∙ c .before .if1 .taken, c .is-read .ensures) (not-odd-is-even (c .before .before .before .args .w .0))
 
 has-read-requires : tie.Need-has-read-requires
 has-read-requires c κs = search needs

@@ -1,4 +1,4 @@
-use Rattle.step.proofs.Loops.{turn, stop, end}
+use Rattle.step.proofs.Loops.{read-turn, read-stop, read-end}
 use Rattle.step.specs.Run.{run}
 use Rattle.step.specs.State.{fresh}
 use borrow.Author.Tests.{not-true, not-false}
@@ -43,7 +43,7 @@ returns : tie.Need-returns Inv-loop μ-loop
 returns c =
     let l = c .before .before .before .before .before .loop in
     let a = c .before .before .before .before .before .before .before .before .args in
-    rw (c .why-not .ensures) (sym (l .inv .1 ∙ stop (a .sh) (a .pec) (a .tr .now) (l .d) (l .i) (c .before .before .before .before .loop-test .taken) (sym (c .before .before .may-stand .ensures) ∙ not-true _ (c .before .if1 .taken))))
+    rw (c .why-not .ensures) (sym (l .inv .1 ∙ read-stop (a .sh) (a .pec) (a .tr .now) (l .d) (l .i) (c .before .before .before .before .loop-test .taken) (sym (c .before .before .may-stand .ensures) ∙ not-true _ (c .before .if1 .taken))))
 
 moved-requires : tie.Need-moved-requires Inv-loop μ-loop
 moved-requires c κs = search needs
@@ -58,13 +58,13 @@ loop-again : tie.Need-loop-again Inv-loop μ-loop
 loop-again c =
     let l = c .before .before .before .before .before .loop in
     let a = c .before .before .before .before .before .before .before .before .args in
-    (search needs, rw (c .moved .ensures) (l .inv .1 ∙ turn (a .sh) (a .pec) (a .tr .now) (l .d) (l .i) (c .before .before .before .before .loop-test .taken) (sym (c .before .before .may-stand .ensures) ∙ not-false _ (c .before .if1 .left))))
+    (search needs, rw (c .moved .ensures) (l .inv .1 ∙ read-turn (a .sh) (a .pec) (a .tr .now) (l .d) (l .i) (c .before .before .before .before .loop-test .taken) (sym (c .before .before .may-stand .ensures) ∙ not-false _ (c .before .if1 .left))))
 
 returns-2 : tie.Need-returns-2 Inv-loop μ-loop
 returns-2 c =
     let l = c .before .loop in
     let a = c .before .before .before .before .args in
-    sym (l .inv .1 ∙ end (a .sh) (a .pec) (a .tr .now) (l .d) (l .i) (c .loop-test .left))
+    sym (l .inv .1 ∙ read-end (a .sh) (a .pec) (a .tr .now) (l .d) (l .i) (c .loop-test .left))
 
 pub read-all-spec : {M : Type 1} → statement M
 read-all-spec =

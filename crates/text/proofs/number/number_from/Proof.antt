@@ -4,7 +4,7 @@ use native.Mathlib.Omega.{arith}
 use lib.ListN.{length, drop, length-drop}
 use borrow.Author.Tests.{not-true, not-false}
 use Rattle.text.specs.Numbers.{baseOf, valueOf}
-use Rattle.text.specs.NumberLaws.{says-nothing, says-none, says-number, says-large, below-cap, at-cap}
+use Rattle.text.specs.NumberLaws.{no-digits-no-number, other-characters-no-number, digits-say-number, digits-too-large, below-cap, at-cap}
 use Rattle.text.specs.declared.number.Number.the-variants.{Is}
 use borrow.Author.Needs.{needs}
 use Rattle.text.proofs.number.number_from.Statement.{statement}
@@ -12,7 +12,7 @@ use Rattle.text.proofs.number.number_from.Tie as tie
 
 -- src/number.rt:122:9
 returns : tie.Need-returns
-returns c = sym (says-nothing (baseOf (c .before .before .args .hex)) (c .before .before .args .s .now) (c .before .before .args .at) (omega arith))
+returns c = sym (no-digits-no-number (baseOf (c .before .before .args .hex)) (c .before .before .args .s .now) (c .before .before .args .at) (omega arith))
 
 -- src/number.rt:124:9
 are-digits-requires : tie.Need-are-digits-requires
@@ -20,7 +20,7 @@ are-digits-requires c κs = search needs
 
 -- src/number.rt:125:9
 returns-2 : tie.Need-returns-2
-returns-2 c = sym (says-none (baseOf (c .before .before .before .before .args .hex)) (drop (c .before .before .before .before .args .at) (c .before .before .before .before .args .s .now)) (sym (c .before .are-digits .ensures) ∙ not-true _ (c .if2 .taken)))
+returns-2 c = sym (other-characters-no-number (baseOf (c .before .before .before .before .args .hex)) (drop (c .before .before .before .before .args .at) (c .before .before .before .before .args .s .now)) (sym (c .before .are-digits .ensures) ∙ not-true _ (c .if2 .taken)))
 
 -- src/number.rt:127:9
 capped-value-requires : tie.Need-capped-value-requires
@@ -31,14 +31,14 @@ returns-3 : tie.Need-returns-3
 returns-3 c =
     let e : valueOf (baseOf (c .before .before .before .before .before .before .args .hex)) (drop (c .before .before .before .before .before .before .args .at) (c .before .before .before .before .before .before .args .s .now)) ≡ c .before .capped-value .result = below-cap _ _ (c .before .capped-value .ensures) (omega arith) in
     let l : 0 < length (drop (c .before .before .before .before .before .before .args .at) (c .before .before .before .before .before .before .args .s .now)) = omega (arith, length-drop (c .before .before .before .before .before .before .args .at) (c .before .before .before .before .before .before .args .s .now)) in
-    sym (says-number (baseOf (c .before .before .before .before .before .before .args .hex)) (drop (c .before .before .before .before .before .before .args .at) (c .before .before .before .before .before .before .args .s .now)) l (sym (c .before .before .before .are-digits .ensures) ∙ not-false _ (c .before .before .if2 .left)) (omega arith) ∙ ap Is e)
+    sym (digits-say-number (baseOf (c .before .before .before .before .before .before .args .hex)) (drop (c .before .before .before .before .before .before .args .at) (c .before .before .before .before .before .before .args .s .now)) l (sym (c .before .before .before .are-digits .ensures) ∙ not-false _ (c .before .before .if2 .left)) (omega arith) ∙ ap Is e)
 
 -- src/number.rt:118:1
 returns-4 : tie.Need-returns-4
 returns-4 c =
     let e : 65536 ≤ valueOf (baseOf (c .before .before .before .before .before .before .args .hex)) (drop (c .before .before .before .before .before .before .args .at) (c .before .before .before .before .before .before .args .s .now)) = at-cap _ _ (c .before .capped-value .ensures) (omega arith) in
     let l : 0 < length (drop (c .before .before .before .before .before .before .args .at) (c .before .before .before .before .before .before .args .s .now)) = omega (arith, length-drop (c .before .before .before .before .before .before .args .at) (c .before .before .before .before .before .before .args .s .now)) in
-    sym (says-large (baseOf (c .before .before .before .before .before .before .args .hex)) (drop (c .before .before .before .before .before .before .args .at) (c .before .before .before .before .before .before .args .s .now)) l (sym (c .before .before .before .are-digits .ensures) ∙ not-false _ (c .before .before .if2 .left)) e)
+    sym (digits-too-large (baseOf (c .before .before .before .before .before .before .args .hex)) (drop (c .before .before .before .before .before .before .args .at) (c .before .before .before .before .before .before .args .s .now)) l (sym (c .before .before .before .are-digits .ensures) ∙ not-false _ (c .before .before .if2 .left)) e)
 
 pub number-from-spec : {M : Type 1} → statement M
 number-from-spec =

@@ -3,7 +3,7 @@ use mathlib.Core.Path.{_≡_, sym, refl, _∙_}
 use native.Mathlib.Omega.{arith}
 use lib.ListN.{length, drop}
 use Rattle.text.specs.Words.{sameText}
-use Rattle.text.specs.WordLaws.{differ, same-on, same-not, same-over}
+use Rattle.text.specs.WordLaws.{other-lengths-differ, same-on, same-not, same-over}
 use borrow.Author.Needs.{needs}
 use Rattle.text.proofs.word.same.Statement.{statement}
 use Rattle.text.proofs.word.same.Tie as tie
@@ -16,7 +16,7 @@ abbrev μ-loop : tie.MeasureT-loop
 
 -- src/word.rt:111:9
 returns : tie.Need-returns Inv-loop μ-loop
-returns c = sym (differ (c .before .args .a .now) (c .before .args .b .now) (λ e. omega arith))
+returns c = sym (other-lengths-differ (c .before .args .a .now) (c .before .args .b .now) (λ e. omega arith))
 
 -- src/word.rt:114:5
 loop-holds : tie.Need-loop-holds Inv-loop μ-loop

@@ -3,7 +3,8 @@ use mathlib.Core.Path.{sym, subst, _∙_}
 use mathlib.Core.List.{List, [], _∷_}
 use native.Mathlib.Omega.{arith}
 use lib.ListN.{length, drop, getD, drop-of-length-le}
-use Rattle.text.specs.WrittenLaws.{Came, came-start, came-on, came-end, rest-on, after-one, written-one}
+use Rattle.text.specs.Written.{Came}
+use Rattle.text.specs.WrittenLaws.{came-start, came-on, came-end, rest-on, after-one, written-one}
 use borrow.Author.Needs.{needs}
 use Rattle.text.proofs.write.put.Statement.{statement}
 use Rattle.text.proofs.write.put.Tie as tie

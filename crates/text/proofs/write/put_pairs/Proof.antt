@@ -4,7 +4,8 @@ use mathlib.Core.List.{List}
 use native.Mathlib.Omega.{arith}
 use lib.ListN.{length, drop, getD}
 use Rattle.text.specs.Written.{pairOf, pairsOf}
-use Rattle.text.specs.WrittenLaws.{Came, came-start, came-on, came-end, pairs-on, pairs-over}
+use Rattle.text.specs.Written.{Came}
+use Rattle.text.specs.WrittenLaws.{came-start, came-on, came-end, pairs-on, pairs-over}
 use borrow.Author.Needs.{needs}
 use Rattle.text.proofs.write.put_pairs.Statement.{statement}
 use Rattle.text.proofs.write.put_pairs.Tie as tie

@@ -3,7 +3,8 @@ use borrow.Author.Tests.{not-true, not-false}
 use mathlib.Core.Path.{_≡_, refl, sym, _∙_, subst}
 use mathlib.Core.Bool.{true, false}
 use Rattle.trace.specs.declared.shape.Shape.{Shape}
-use Rattle.trace.specs.ShapeLaws.{Sane, sane, lengths-small}
+use Rattle.trace.specs.Sane.{Sane}
+use Rattle.trace.specs.ShapeLaws.{sane, lengths-small}
 use Rattle.trace.proofs.Fields.{room-is}
 use Rattle.trace.proofs.length.room_for.Statement.{statement}
 use Rattle.trace.proofs.length.room_for.Tie as tie

@@ -1,15 +1,17 @@
--- What each answer of the encoder means, for every input, and what it leaves in the output.
+-- Each answer of the encoder is given exactly in its case, a refusal leaves the output as it was, and what is written is the trace. One answer
+-- and one output keep the promise.
 use mathlib.Core.Path.{_≡_, refl, sym, ap, ap₂, _∙_}
 use mathlib.Core.Logic.{_↔_}
 use mathlib.Core.Bool.{Bool, true, false}
 use mathlib.Core.List.{List, _++_}
 use Prim.Native.Nat.{ℕ, _≤_, _<_}
 use native.Mathlib.Omega.{arith}
-use lib.Dec.{ltb, eqb}
+use lib.Dec.{ltb}
 use lib.ListN.{length, take, drop, take-append-drop}
 use lib.Seq.{take-at, drop-at}
-use borrow.Author.Tests.{ltb-true, ltb-false, lt-ltb, le-ltb, eqb-true}
-use Rattle.lists.specs.Choice.{pick, or, and, not}
+use borrow.Author.Tests.{ltb-true, ltb-false, lt-ltb, le-ltb}
+use Rattle.lists.specs.Choice.{pick, or, not}
+use Rattle.lists.specs.ChoiceLaws.{false-not-true, not-both}
 use Rattle.lists.specs.Each.{Bytes}
 use Rattle.lists.specs.Onto.{onto}
 use Rattle.trace.specs.Shapes.{shapeOf, forbidden}
@@ -19,7 +21,7 @@ use Rattle.trace.specs.Allowed.{allowed}
 use Rattle.trace.specs.ValidLaws.{allowed-valid, valid-allowed}
 use Rattle.encode.specs.declared.Encoded.{Encoded}
 use Rattle.encode.specs.declared.Encoded.the-variants.{Written, Forbidden, OutputTooShort}
-use Rattle.encode.specs.Encode.{encodeNumber, message, refused, encoded, symbolsOf, Wrote}
+use Rattle.encode.specs.Encode.{encodeNumber, message, refused, encoded, symbolsOf, Wrote, Means}
 use Rattle.encode.specs.Listed.{Listed, protocol-above-10, quick-with-pec}
 use Rattle.encode.specs.ListedLaws.{refused-listed, listed-refused}
 
@@ -30,9 +32,6 @@ pub message-fields : (a d c : ℕ) (s r : List ℕ)
 message-fields a d c s r = (refl, refl, refl, refl, refl)
 
 -- ---- the answer
-
-not-both : {A : Type 0} (b : Bool) → b ≡ true → b ≡ false → A
-not-both b e f = let z : _≡_ {A = ℕ} 0 1 = cc in absurd (omega arith)
 
 pub unlisted-not-refused : (protocol : ℕ) (pec : Bool) (t : Message) → (Listed protocol pec t → ⊥) → refused protocol pec t ≡ false
 unlisted-not-refused protocol pec t n = go (refused protocol pec t) refl
@@ -66,7 +65,7 @@ module _ (protocol : ℕ) (pec : Bool) (t : Message) (room : ℕ) where
       go : encoded protocol pec t room ≡ OutputTooShort → (b : Bool) → refused protocol pec t ≡ b → (s : Bool) → ltb room (length (trace (shapeOf protocol) pec t)) ≡ s
           → (Listed protocol pec t → ⊥) × (room < length (trace (shapeOf protocol) pec t))
       go e true eb s es = let f = by-tests true s eb es in let z : _≡_ {A = ℕ} 0 1 = cc in absurd (omega arith)
-      go e false eb true es = (λ l. not-both (refused protocol pec t) (listed-refused protocol pec t l) eb, ltb-true room (length (trace (shapeOf protocol) pec t)) es)
+      go e false eb true es = (λ l. not-both eb (listed-refused protocol pec t l), ltb-true room (length (trace (shapeOf protocol) pec t)) es)
       go e false eb false es = let f = by-tests false false eb es in let z : _≡_ {A = ℕ} 0 1 = cc in absurd (omega arith)
 
   -- 0 with n: no listed case, n the length of the trace, and room for it
@@ -83,14 +82,14 @@ module _ (protocol : ℕ) (pec : Bool) (t : Message) (room : ℕ) where
       go e false eb false es =
           let f = by-tests false false eb es in
           let same : n ≡ length (trace (shapeOf protocol) pec t) = cc in
-          (λ l. not-both (refused protocol pec t) (listed-refused protocol pec t l) eb, same, omega (arith, ltb-false room (length (trace (shapeOf protocol) pec t)) es))
+          (λ l. not-both eb (listed-refused protocol pec t l), same, omega (arith, ltb-false room (length (trace (shapeOf protocol) pec t)) es))
 
 -- ---- the valid messages
 
 or-false : (b a : Bool) → or b (not a) ≡ false → (b ≡ false) × (a ≡ true)
-or-false true a e = not-both true refl e
+or-false true a e = false-not-true (sym e)
 or-false false true e = (refl, refl)
-or-false false false e = not-both true refl e
+or-false false false e = false-not-true (sym e)
 
 tests-pass : (protocol : ℕ) (pec : Bool) (t : Message) → refused protocol pec t ≡ false
     → (forbidden protocol pec ≡ false) × (allowed (shapeOf protocol) (t .address) (t .direction) (t .command) (length (t .sent)) (length (t .received)) ≡ true)
@@ -120,8 +119,8 @@ unlisted-valid protocol pec t c s r = (there, back)
 
     back : (protocol ≤ 10) × (protocol ≡ 0 → pec ≡ false) × Valid (shapeOf protocol) t → Listed protocol pec t → ⊥
     back (h, q, v) l =
-        not-both (refused protocol pec t) (listed-refused protocol pec t l)
-        (tests-passed protocol pec t (taken-cases protocol pec .1 (h, q)) (valid-allowed (shapeOf protocol) t v))
+        not-both (tests-passed protocol pec t (taken-cases protocol pec .1 (h, q)) (valid-allowed (shapeOf protocol) t v))
+        (listed-refused protocol pec t l)
 
 -- the encoder writes exactly these, where there is room
 pub written-valid : (protocol : ℕ) (pec : Bool) (t : Message) (room n : ℕ) → t .command < 256 → Bytes (t .sent) → Bytes (t .received)
@@ -184,17 +183,6 @@ refusal-untouched protocol pec t before OutputTooShort after w z = w .output
 
 -- ---- the whole promise, with nothing of how it is computed
 
-abbrev pub Means : ℕ → Bool → Message → List ℕ → Encoded → List ℕ → Type 0
-Means protocol pec t before (Written n) after =
-    (Listed protocol pec t → ⊥)
-    × (n ≡ length (trace (shapeOf protocol) pec t))
-    × (n ≤ length before)
-    × (take n after ≡ trace (shapeOf protocol) pec t)
-    × (drop n after ≡ drop n before)
-Means protocol pec t before Forbidden after = Listed protocol pec t × (after ≡ before)
-Means protocol pec t before OutputTooShort after =
-    (Listed protocol pec t → ⊥) × (length before < length (trace (shapeOf protocol) pec t)) × (after ≡ before)
-
 pub wrote-means : (protocol : ℕ) (pec : Bool) (t : Message) (before : List ℕ) (r : Encoded) (after : List ℕ)
     → Wrote protocol pec t before r after ↔ Means protocol pec t before r after
 wrote-means protocol pec t before (Written n) after = (there, back)
@@ -221,8 +209,8 @@ wrote-means protocol pec t before OutputTooShort after = (
 )
 
 -- two outcomes that keep the promise for the same inputs are equal
-pub unique : (protocol : ℕ) (pec : Bool) (t : Message) (before : List ℕ) (r r′ : Encoded) (after after′ : List ℕ) → Wrote protocol pec t before r after
+pub one-outcome : (protocol : ℕ) (pec : Bool) (t : Message) (before : List ℕ) (r r′ : Encoded) (after after′ : List ℕ) → Wrote protocol pec t before r after
     → Wrote protocol pec t before r′ after′ → (r ≡ r′) × (after ≡ after′)
-unique protocol pec t before r r′ after after′ w v =
+one-outcome protocol pec t before r r′ after after′ w v =
     let e : r ≡ r′ = w .answer ∙ sym (v .answer) in
     (e, w .output ∙ ap (λ (x : Encoded). onto (symbolsOf x (trace (shapeOf protocol) pec t)) before) e ∙ sym (v .output))

@@ -1,0 +1,21 @@
+-- Two lists of bytes in a row are one, a list whose every place holds a byte is one, and what holds of each element holds of the one at an
+-- index.
+use mathlib.Core.List.{List, [], _∷_, _++_}
+use Prim.Native.Nat.{ℕ, zero, suc, _<_}
+use lib.ListN.{getD}
+use Rattle.lists.specs.Each.{Each, Bytes}
+
+pub append-bytes : (xs ys : List ℕ) → Bytes xs → Bytes ys → Bytes (xs ++ ys)
+append-bytes [] ys h g = g
+append-bytes (x ∷ xs) ys h g = (h .0, append-bytes xs ys (h .1) g)
+
+-- a list each of whose places holds a byte is a list of bytes
+pub all-bytes : (s : List ℕ) → ((i : ℕ) → getD s i 0 < 256) → Bytes s
+all-bytes [] h = tt
+all-bytes (x ∷ s) h = (h 0, all-bytes s (λ i. h (suc i)))
+
+-- what holds of each, and of the default, holds of whatever an index finds
+pub each-at {ℓ} : {A : Type 0} (P : A → Type ℓ) (l : List A) (d : A) (n : ℕ) → Each P l → P d → P (getD l n d)
+each-at P [] d n h g = g
+each-at P (x ∷ xs) d zero h g = h .0
+each-at P (x ∷ xs) d (suc n) h g = each-at P xs d n (h .1) g

@@ -1,0 +1,22 @@
+-- Shapes whose limits make sense: counts that a byte holds, data of at most 255 bytes, and room for the smallest counts.
+use mathlib.Core.Path.{_≡_}
+use Prim.Native.Nat.{ℕ, _+_, _≤_}
+use Rattle.trace.specs.declared.shape.Part.{Part}
+use Rattle.trace.specs.declared.shape.Part.the-variants.{Nothing, Fixed, Counted}
+use Rattle.trace.specs.declared.shape.Shape.{Shape}
+
+-- a part of fixed length has 1 to 255 bytes
+abbrev pub Small : Part → Type 0
+Small Nothing = Unit
+Small (Fixed k) = (1 ≤ k) × (k ≤ 255)
+Small Counted = Unit
+
+pub record Sane (sh : Shape) : Type 0 where
+  pub most-byte : sh .most ≤ 255
+  pub least-twice : sh .least + sh .least ≤ sh .most
+  pub sent-small : Small (sh .sent)
+  pub received-small : Small (sh .received)
+
+-- the limits of the scope: each count is at least 0, and all together are at most 255
+abbrev pub Limits : Shape → Type 0
+Limits sh = (sh .least ≡ 0) × (sh .most ≡ 255)
