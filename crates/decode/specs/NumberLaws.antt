@@ -26,7 +26,7 @@ use Rattle.step.specs.Numbers.{decodeNumber}
 use Rattle.step.specs.Run.{decodedBy}
 use Rattle.step.specs.declared.answer.Decoded.{Decoded}
 use Rattle.step.specs.declared.answer.Decoded.the-variants.{Done}
-use Rattle.decode.specs.EntryLaws.{roomy}
+use Rattle.decode.specs.EntryLaws.{both-at-least-255}
 use Rattle.decode.specs.Outcome.{short, Entered, Outcome}
 use Rattle.decode.specs.OutcomeLaws as decode
 
@@ -47,7 +47,7 @@ short-cases s r = (λ h. there (ltb s 255) refl h, back)
     back (inr h) = rw (lt-ltb r 255 h) (either (ltb s 255))
 
 pub long-cases : (s r : ℕ) → (short s r ≡ false) ↔ ((255 ≤ s) × (255 ≤ r))
-long-cases s r = (λ h. roomy s r h, λ h. rw (le-ltb s 255 (h .0), le-ltb r 255 (h .1)))
+long-cases s r = (λ h. both-at-least-255 s r h, λ h. rw (le-ltb s 255 (h .0), le-ltb r 255 (h .1)))
 
 module _ (protocol : ℕ) (pec : Bool) (tr sent₀ received₀ : List ℕ) (a : Decoded) (sent received : List ℕ) (o : Outcome protocol pec tr sent₀ received₀ a sent received) where
   abbrev shape : Shape

@@ -3,3 +3,4 @@ pub mod Encode
 pub mod Pieces
 pub mod ListedLaws
 pub mod EncodeLaws
+pub mod NumberLaws

@@ -25,7 +25,5 @@ pub mod ColumnsLaws
 pub mod AckedLaws
 pub mod PecPlaceLaws
 pub mod RoomLaws
-pub mod Covered
-pub mod CoveredLaws
 pub mod Table
 pub mod TableLaws

@@ -7,7 +7,8 @@ use mathlib.Core.Logic.{_↔_}
 use Prim.Native.Nat.{ℕ, _+_, _*_, _≤_, _<_}
 use native.Mathlib.Omega.{arith}
 use lib.ListN.{length, length-append}
-use Rattle.lists.specs.Each.{Bytes, append-bytes}
+use Rattle.lists.specs.Each.{Bytes}
+use Rattle.lists.specs.EachLaws.{append-bytes}
 use Rattle.trace.specs.Covered.{Covered}
 use Rattle.trace.specs.Covered as covered
 use Rattle.trace.specs.CoveredLaws.{rows-cover}
