@@ -11,9 +11,9 @@
 #   output           all that these commands write
 #   output FILE      what they write is FILE, and the block is a piece of it: lines that follow each other there
 #
-# Any other block, fenced or indented, has no request of the console in it. Besides: every request in the table of docs/CONSOLE.md stands in
-# a session of that page; the table of crates in README.md has those of crates.txt; the names and links of documents lead
-# somewhere (tests/names.sh); lines and sentences are short (tests/limits.sh).
+# Any other block, fenced or indented, has no request of the console in it. Besides: the requests that docs/CONSOLE.md lists are those that
+# its sessions show; the table of crates in README.md has those of crates.txt; what documents name is there (tests/names.sh); lines and
+# sentences are short (tests/limits.sh).
 set -eu
 cd "$(dirname "$0")/.."
 out=build/documents
@@ -160,18 +160,16 @@ while read -r id document line kind file; do
 done <"$out/blocks"
 [ "$cases" -gt 0 ] || wrong "no examples were found"
 
-# Every request of the table of docs/CONSOLE.md is shown there in a session.
-sed -n 's/^| `\([a-z]*\).*/\1/p' docs/CONSOLE.md >"$out/table"
-[ -s "$out/table" ] || wrong "docs/CONSOLE.md has no table of requests"
-while read -r verb; do
-    cases=$((cases + 1))
-    awk '$2 == "docs/CONSOLE.md" && $4 == "console" { print $1 }' "$out/blocks" >"$out/sessions"
-    shown=no
-    while read -r id; do
-        if grep -q "^> $verb\( \|\$\)" "$out/$id"; then shown=yes; fi
-    done <"$out/sessions"
-    [ $shown = yes ] || wrong "docs/CONSOLE.md: no session shows '$verb'"
-done <"$out/table"
+# The requests that docs/CONSOLE.md lists under 'Requests' are those that its sessions show. A line that is no request may be shown too.
+awk '/^#/ { inside = /Requests$/ } inside' docs/CONSOLE.md | sed -n 's/^[-|] `\([a-z]*\).*/\1/p' | sort -u >"$out/listed"
+[ -s "$out/listed" ] || wrong "docs/CONSOLE.md lists no requests"
+awk '$2 == "docs/CONSOLE.md" && $4 == "console" { print $1 }' "$out/blocks" | while read -r id; do
+    sed -n 's/^> //p' "$out/$id"
+done >"$out/requests"
+while IFS= read -r request; do
+    printf '%s\n' "$request" | "$console" | grep -q '^?' || echo "$request" | awk '{ print $1 }'
+done <"$out/requests" | sort -u >"$out/given"
+same 'docs/CONSOLE.md, the requests listed against those shown' "$out/listed" "$out/given"
 
 # The crates.
 sed -n 's/^\([a-z_]*\):.*/\1/p' crates.txt | sort >"$out/crates"
