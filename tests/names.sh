@@ -9,7 +9,7 @@
 #   `part/file`          a file or a folder, from the root, from the document or from crates/ on; specs/, proofs/, must-fail/, src/ and the
 #                        ending may be left out there
 #   crate/file           the same, outside of backticks, where the first part is a crate
-#   [text](file#title)   the file, and a title in it
+#   [text](file#title)   the file, and a title in it; and so where a link is followed by a title: [text](file), 'title'
 #
 # And the scope has one name: no document says 'document 01' or 'the paper'.
 set -eu
@@ -87,6 +87,18 @@ fence || /^(    |\t)/ { next }
     }
     rest = rest line
     if (rest ~ /[Dd]ocument 01|[Tt]he paper/) told("scope", "document 01, the paper")
+    quoted = rest
+    while (match(quoted, /\]\([^)]*\), \047[^\047]*\047/)) {
+        title = substr(quoted, RSTART + 2, RLENGTH - 3)
+        quoted = substr(quoted, RSTART + RLENGTH)
+        to = title
+        sub(/\).*/, "", to)
+        sub(/.*\), \047/, "", title)
+        title = tolower(title)
+        gsub(/[^a-z0-9 _-]/, "", title)
+        gsub(/ /, "-", title)
+        told("link", to "#" title)
+    }
     while (match(rest, /\]\([^)]*\)/)) {
         told("link", substr(rest, RSTART + 2, RLENGTH - 3))
         rest = substr(rest, 1, RSTART - 1) " " substr(rest, RSTART + RLENGTH)
