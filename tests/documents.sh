@@ -12,8 +12,8 @@
 #   output FILE      what they write is FILE, and the block is a piece of it: lines that follow each other there
 #
 # Any other block, fenced or indented, has no request of the console in it. Besides: the requests that docs/CONSOLE.md lists are those that
-# its sessions show; the table of crates in README.md has those of crates.txt; what documents name is there (tests/names.sh); lines and
-# sentences are short (tests/limits.sh).
+# its sessions show, and the answers that it lists are those that the console gives (tests/forms.sh); the table of crates in README.md has
+# those of crates.txt; what documents name is there (tests/names.sh); lines and sentences are short (tests/limits.sh).
 set -eu
 cd "$(dirname "$0")/.."
 out=build/documents
@@ -177,6 +177,7 @@ sed -n 's/^| `\([a-z_]*\)` | .*/\1/p' README.md | sort >"$out/given"
 same 'README.md, its crates against those of crates.txt' "$out/given" "$out/crates"
 
 [ $failed = 0 ] && printf '%-36s %8d cases\n' 'examples in documents' "$cases"
+sh tests/forms.sh || failed=1
 # shellcheck disable=SC2086
 sh tests/names.sh $documents || failed=1
 # shellcheck disable=SC2086
