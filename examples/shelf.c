@@ -1,0 +1,34 @@
+/* Headboarded from C. A word is read from a module: its trace is written, and read back. Then a pass gives two modules their addresses. */
+#include <inttypes.h>
+#include <stdio.h>
+
+#include "headboarded.h"
+
+/* A record each: identifier, address byte, resolved flag. The first module is fixed at 09h, the second has no address. */
+static uint8_t shelf[2 * HB_RECORD] = {
+    0x00, 0x01, 0x0a, 0xd2, 0x00, 0x01, 0x00, 0x24, 0, 0, 0, 0, 0, 0, 0, 0x01, 0x13, 0,
+    0x81, 0x01, 0x0a, 0xd2, 0x00, 0x03, 0x00, 0x24, 0, 0, 0, 0, 0, 0, 0, 0x04, 0xff, 0,
+};
+static uint8_t trace[2 * HB_LONGEST_TRACE], sent[HB_DECODE_ROOM], received[HB_DECODE_ROOM], bindings[HB_BINDINGS_ROOM];
+
+int main(void)
+{
+    /* README.md shows the lines from here .. */
+    const uint8_t word[2] = {0x90, 0x01}; /* low byte first */
+    hb_written w = hb_encode(HB_READ_WORD, 1, 0x0a, 0, 0x05, NULL, 0, word, sizeof word, trace, sizeof trace);
+    printf("encode: %u, %u symbols\n", w.answer, w.symbols);
+
+    hb_decoded d = hb_decode(HB_READ_WORD, 1, trace, 2 * w.symbols, sent, sizeof sent, received, sizeof received);
+    printf("decode: %u, word %d\n", d.answer, received[0] + 256 * received[1]);
+
+    hb_model m = hb_run_model(0, 0, shelf, sizeof shelf, bindings, sizeof bindings);
+    printf("model: %u, %u bound, %u Get UDIDs\n", m.answer, m.count, m.gets);
+    for (int a = 0; a < 128; a++) {
+        if (hb_pool_has(m.bound.low, m.bound.high, a)) {
+            hb_udid u = hb_udid_from_bytes(bindings, sizeof bindings, 16 * a);
+            printf("0x%02x: %016" PRIx64 "%016" PRIx64 "\n", a, u.high, u.low);
+        }
+    }
+    /* .. to here. */
+    return 0;
+}
