@@ -87,7 +87,7 @@ module _ (protocol : ℕ) (pec : Bool) (tr sent₀ received₀ : List ℕ) (a : 
   by-trace : (P Q : Type 0) (n v : ℕ) → (n ≡ 1 → ⊥) → (n ≡ 2 → ⊥) → (Here → P ↔ Q) → (decodeNumber (decodedBy protocol shape pec tr) ≡ (n, v)) ↔ Q
       → (decodeNumber a ≡ (n, v)) ↔ (Here × P)
   by-trace P Q n v one two s e =
-      let q = decode.other-number protocol pec tr sent₀ received₀ a sent received o n v one two in (
+      let q = decode.other-number-exactly protocol pec tr sent₀ received₀ a sent received o n v one two in (
         λ k. (let z = q .0 k in let h : Here = entered (z .0) (z .1) in (h, s h .1 (e .0 (z .2)))),
         λ k. q .1 (entered-taken (k .0), entered-long (k .0), e .1 (s (k .0) .0 (k .1))),
       )
@@ -129,8 +129,8 @@ module _ (protocol : ℕ) (pec : Bool) (tr sent₀ received₀ : List ℕ) (a : 
   -- and which byte that is, by the length of the trace alone: two places a byte, one for START, one for a repeated START, NACK and STOP
   pub decode-6-byte : (byte : ℕ) → decodeNumber a ≡ (6, byte) → byte ≡ (length tr - 4) / 2
   decode-6-byte b e =
-      let q = decode.other-number protocol pec tr sent₀ received₀ a sent received o 6 b (λ z. omega (arith, z)) (λ z. omega (arith, z)) .0 e in
-      step.which-byte protocol shape (sane protocol) pec tr b (q .2)
+      let q = decode.other-number-exactly protocol pec tr sent₀ received₀ a sent received o 6 b (λ z. omega (arith, z)) (λ z. omega (arith, z)) .0 e in
+      step.byte-by-length protocol shape (sane protocol) pec tr b (q .2)
 
   -- 7: the whole trace fits, to its end, but the PEC differs
   pub decode-7 : (place : ℕ) → (decodeNumber a ≡ (7, place)) ↔ (Here × OtherPec protocol pec tr place)
