@@ -1,14 +1,14 @@
 -- Where bindings and claims come from: a target that the lookup finds was assigned its address in the present pass, by an Assign that was
 -- acknowledged whole; and an address that two claim stays claimed.
-use Prim.Native.Nat.{ℕ, _+_, _%_, _≤_, _<_}
+use Prim.Native.Nat.{ℕ, _≤_, _<_}
 use mathlib.Core.Path.{_≡_, refl, sym, ap, ap₂, _∙_, subst}
 use mathlib.Core.Bool.{Bool, true, false}
 use mathlib.Core.List.{List, [], _∷_}
 use mathlib.Core.Logic.{_⊎_, inl, inr}
-use native.Mathlib.Decide.{ℕ-discrete, decLt}
+use native.Mathlib.Decide.{ℕ-discrete}
 use native.Mathlib.Omega.{arith}
 use lib.Dec.{ltb, leb, eqb}
-use lib.ListN.{length, getD, set, replicate}
+use lib.ListN.{length, getD}
 use borrow.Author.Tests.{ltb-false, lt-ltb, le-ltb}
 use Rattle.lists.specs.Choice.{pick, or}
 use Rattle.pool.specs.Pools.{member}
@@ -21,18 +21,18 @@ use Rattle.trace.specs.declared.transaction.Transaction.{Transaction}
 use Rattle.udid.specs.Bytes.{udidAt}
 use Rattle.udid.specs.declared.Udid.{Udid}
 use Rattle.wire.specs.declared.address.Address.{Address}
-use Rattle.arp.specs.HistoryLaws.{Good, Pending, PendingIn, GoodState, good-run}
-use Rattle.arp.specs.SoundLaws.{Sound, SoundIn, Unbound, held-same, held-other, held-cases, held-above, bound-to, not-open, open-all, find-cases}
+use Rattle.arp.specs.Sound.{Pending, PendingIn, GoodState}
+use Rattle.arp.specs.HistoryLaws.{good-run}
+use Rattle.arp.specs.SoundLaws.{held-same, held-other, held-cases, bound-to, not-open, open-all, find-cases}
 use Rattle.arp.specs.TraceLaws.{assign-only, assign-whole}
-use Rattle.arp.specs.Bindings.{openSlot, heldAt, boundTo, findFrom, freedAt, freed, slotFor, boundAt, bound}
-use Rattle.arp.specs.Controller.{newController, started, handed, counted, asked, chosen, issued, replied, onReply, onPrepare, onGet, onAssign, afterPrepare, afterGet, afterAssign, byCommand, stepped}
-use Rattle.arp.specs.Heard.{sendByte, blockRead, blockWrite, answer, sentIn, receivedIn, isPrepare, isGet, isAssign, nobody}
+use Rattle.arp.specs.Bindings.{openSlot, heldAt, boundTo, findFrom, freedAt, freed, slotFor, bound}
+use Rattle.arp.specs.Controller.{handed, counted, asked, chosen, issued, replied, onReply, onPrepare, onGet, onAssign, afterPrepare, afterGet, afterAssign, byCommand, stepped}
+use Rattle.arp.specs.Heard.{sendByte, blockRead, blockWrite, answer, sentIn, receivedIn, isPrepare, isGet, isAssign}
 use Rattle.arp.specs.History.{Event, Start, Received, run, Acknowledged, isHeld}
 use Rattle.arp.specs.Lookup.{seen, lookedUp}
 use Rattle.arp.specs.Requests.{traceOf}
 use Rattle.arp.specs.declared.command.Command.{Command}
 use Rattle.arp.specs.declared.command.Command.the-variants.{Nothing, Prepare, GetUdid, Assign, Ended, NoneFree, Abandoned, NotOutstanding}
-use Rattle.arp.specs.declared.lookup.Found.{Found}
 use Rattle.arp.specs.declared.lookup.Found.the-variants as found
 use Rattle.arp.specs.declared.state.Binding.{Binding}
 use Rattle.arp.specs.declared.state.Binding.the-variants.{Open, Bound, Claimed}

@@ -1,6 +1,6 @@
 -- What is handed out: the state keeps it, each Get UDID is counted, and only a fixed target is sent an address that is in use.
 use Prim.Native.Nat.{ℕ, _+_}
-use mathlib.Core.Path.{_≡_, refl, sym, ap, ap₂, _∙_, subst}
+use mathlib.Core.Path.{_≡_, refl, sym, ap, _∙_, subst}
 use mathlib.Core.Bool.{Bool, true, false}
 use mathlib.Core.List.{List, [], _∷_}
 use mathlib.Core.Logic.{_⊎_, inl, inr}
@@ -20,7 +20,9 @@ use Rattle.udid.specs.Bytes.{udidAt}
 use Rattle.udid.specs.Udids.{isFixed}
 use Rattle.udid.specs.declared.Udid.{Udid}
 use Rattle.wire.specs.declared.address.Address.{Address}
-use Rattle.arp.specs.HistoryLaws.{Pending, PendingIn, good-run}
+use Rattle.arp.specs.Handing.{Handed}
+use Rattle.arp.specs.Sound.{Pending, PendingIn}
+use Rattle.arp.specs.HistoryLaws.{good-run}
 use Rattle.arp.specs.Bindings.{findFrom, freedAt, freed, boundAt, bound}
 use Rattle.arp.specs.Controller.{handed, counted, asked, chosen, issued, replied, onReply, onPrepare, onGet, onAssign, afterPrepare, afterGet, afterAssign, byCommand, stepped}
 use Rattle.arp.specs.Heard.{sendByte, blockRead, blockWrite, answer, sentIn, receivedIn, isPrepare, isGet, isAssign}
@@ -29,11 +31,6 @@ use Rattle.arp.specs.declared.command.Command.{Command}
 use Rattle.arp.specs.declared.command.Command.the-variants.{Nothing, Prepare, GetUdid, Assign, Ended, NoneFree, Abandoned, NotOutstanding}
 use Rattle.arp.specs.declared.state.Controller.{Controller}
 use Rattle.arp.specs.declared.state.Stepped.{Stepped}
-
--- handed out from a state: kept as the last, and counted where it is a Get UDID
-pub record Handed (s : Controller) (r : Stepped) : Type 0 where
-  pub last : r .state .last ≡ r .command
-  pub gets : r .state .gets ≡ s .gets + oneGet (r .command)
 
 plain : (s : Controller) (k : Command) → oneGet k ≡ 0 → Handed s (handed s k)
 plain s k e = record { last = refl; gets = omega arith }

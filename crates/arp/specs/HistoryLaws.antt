@@ -1,27 +1,23 @@
 -- Every state that starts and received traces reach is sound: the invariant of specs/History.antt.
-use Prim.Native.Nat.{ℕ, zero, suc, _+_, _-_, _*_, _/_, _%_, _≤_, _<_}
-use mathlib.Core.Path.{_≡_, refl, sym, ap, ap₂, _∙_, subst}
+use Prim.Native.Nat.{ℕ, zero, suc, _/_, _<_}
+use mathlib.Core.Path.{_≡_, refl, sym, ap, _∙_}
 use mathlib.Core.Bool.{Bool, true, false}
 use mathlib.Core.List.{List, [], _∷_}
-use mathlib.Core.Logic.{_⊎_, inl, inr}
-use native.Mathlib.Decide.{decLt}
 use native.Mathlib.Omega.{arith}
 use lib.Dec.{ltb, leb, eqb}
 use lib.ListN.{length, getD, drop}
-use borrow.Author.Tests.{leb-false, leb-true}
-use Rattle.lists.specs.Choice.{pick, or, and, not}
+use borrow.Author.Tests.{leb-false}
+use Rattle.lists.specs.Choice.{pick, or}
 use Rattle.lists.specs.Each.{Bytes}
-use Rattle.pool.specs.CountLaws.{count-cong, count-split}
-use Rattle.pool.specs.Counts.{count}
+use Rattle.pool.specs.CountLaws.{count-split}
 use Rattle.pool.specs.Free.{used, lowestFree}
-use Rattle.pool.specs.FreeLaws.{Lowest, lowest-is}
-use Rattle.pool.specs.MemberLaws.{member-above}
+use Rattle.pool.specs.FreeLaws.{lowest-is}
 use Rattle.pool.specs.Pools.{member}
 use Rattle.pool.specs.Start.{startingPool}
 use Rattle.pool.specs.declared.Pool.{Pool}
 use Rattle.pool.specs.declared.free.Free.{Free}
 use Rattle.pool.specs.declared.free.Free.the-variants.{At, AllUsed}
-use Rattle.step.specs.Handed.{lows, receivedLength, receivedPlace, receivedData}
+use Rattle.step.specs.Handed.{lows, receivedLength, receivedPlace}
 use Rattle.step.specs.declared.answer.Decoded.{Decoded}
 use Rattle.step.specs.declared.answer.Decoded.the-variants.{Done, Forbidden, BufferTooShort, NoSymbol, EndsEarly, Unexpected, NotAcknowledged, PecDiffers, AfterStop}
 use Rattle.trace.specs.declared.transaction.Transaction.{Transaction}
@@ -31,43 +27,17 @@ use Rattle.udid.specs.Udids.{Fits, isFixed}
 use Rattle.udid.specs.WindowLaws.{byte-at}
 use Rattle.udid.specs.declared.Udid.{Udid}
 use Rattle.wire.specs.declared.address.Address.{Address}
-use Rattle.arp.specs.SoundLaws.{Sound, SoundIn, Unbound, held-above, open-all, sound-open, sound-freed, sound-bound}
+use Rattle.arp.specs.Sound.{SoundIn, Good, Pending, PendingIn, GoodState}
+use Rattle.arp.specs.SoundLaws.{sound-open, sound-freed, sound-bound}
 use Rattle.arp.specs.Bindings.{heldAt, findFrom, freedAt, freed, boundAt, bound}
-use Rattle.arp.specs.Controller.{newController, started, handed, counted, asked, ownAddress, chosen, issued, replied, onReply, onPrepare, onGet, onAssign, afterPrepare, afterGet, afterAssign, byCommand, stepped}
-use Rattle.arp.specs.Heard.{sendByte, blockRead, blockWrite, answer, sentIn, receivedIn, isPrepare, isGet, isAssign, nobody}
-use Rattle.arp.specs.History.{Event, Start, Received, run, isHeld, isNew, Invariant}
+use Rattle.arp.specs.Controller.{handed, counted, asked, ownAddress, chosen, issued, replied, onReply, onPrepare, onGet, onAssign, afterPrepare, afterGet, afterAssign, byCommand, stepped}
+use Rattle.arp.specs.Heard.{sendByte, blockRead, blockWrite, answer, sentIn, receivedIn, isPrepare, isGet, isAssign}
+use Rattle.arp.specs.History.{Event, Start, Received, run, isHeld, Invariant}
 use Rattle.arp.specs.declared.command.Command.{Command}
 use Rattle.arp.specs.declared.command.Command.the-variants.{Nothing, Prepare, GetUdid, Assign, Ended, NoneFree, Abandoned, NotOutstanding}
 use Rattle.arp.specs.declared.state.Binding.{Binding}
-use Rattle.arp.specs.declared.state.Binding.the-variants.{Open, Bound, Claimed}
+use Rattle.arp.specs.declared.state.Binding.the-variants.{Bound, Claimed}
 use Rattle.arp.specs.declared.state.Controller.{Controller}
-use Rattle.arp.specs.declared.state.Stepped.{Stepped}
-
--- a state without what was handed out last
-pub record Good (occupied : Pool) (s : Controller) : Type 0 where
-  pub sound : SoundIn s
-  pub gets : s .gets ≤ 128
-  pub starting : s .starting ≡ startingPool occupied
-
--- an Assign that is outstanding names a seven-bit address, an identifier of two halves that is bound nowhere, and, if that is movable, a free address
-pub record Pending (s : Controller) (u : Udid) (a : ℕ) : Type 0 where
-  pub small : a < 128
-  pub unbound : Unbound u (s .slots)
-  pub fits : Fits u
-  pub free : isFixed u ≡ false → member (s .pool) a ≡ false
-
-abbrev pub PendingIn : Controller → Command → Type 0
-PendingIn s Nothing = Unit
-PendingIn s Prepare = Unit
-PendingIn s GetUdid = Unit
-PendingIn s (Assign u a) = Pending s u (a .0)
-PendingIn s Ended = Unit
-PendingIn s (NoneFree u) = Unit
-PendingIn s Abandoned = Unit
-PendingIn s NotOutstanding = Unit
-
-abbrev pub GoodState : Pool → Controller → Type 0
-GoodState occupied s = Good occupied s × PendingIn s (s .last)
 
 -- ---- data that the decoder hands over are bytes
 

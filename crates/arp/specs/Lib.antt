@@ -5,7 +5,10 @@ pub mod Lookup
 pub mod Numbers
 pub mod Requests
 pub mod CommandTraces
+pub mod Sending
 pub mod History
+pub mod Sound
+pub mod Handing
 pub mod Replay
 pub mod OneStep
 pub mod SoundLaws

@@ -31,7 +31,7 @@ use Rattle.arp.specs.OneStepLaws.{reply-symbols}
 use Rattle.arp.specs.TraceLaws.{valid-get, back, get-only, get-data}
 use Rattle.arp.specs.Bindings.{heldAt}
 use Rattle.arp.specs.Heard.{blockRead, answer, receivedIn, isGet}
-use Rattle.arp.specs.CommandTraces.{replyTrace}
+use Rattle.arp.specs.CommandTraces.{replyTrace, Reply}
 use Rattle.arp.specs.OneStep.{Gives, Hands, Asks, Chooses, Keeps, Same, BoundAt, Unbinds, Binds, Continues, EndsWith, Replies, Alike}
 use Rattle.arp.specs.Requests.{messageOf}
 use Rattle.arp.specs.declared.command.Command.{Command}
@@ -79,9 +79,6 @@ pub six-once : (protocol : ℕ) (tr : List ℕ) (b c : ℕ) → forbidden protoc
 six-once protocol tr b c f g h = ap (λ (p : ℕ × ℕ). p .1) (sym (gives-exactly protocol tr 6 b f .0 g) ∙ gives-exactly protocol tr 6 c f .0 h)
 
 -- it is Get UDID with some bytes, or not
-abbrev pub Reply : List ℕ → Type 0
-Reply tr = (xs : List ℕ) × Bytes xs × (length xs ≤ 255) × (tr ≡ replyTrace xs)
-
 pub reply-or-not : (s : Controller) (tr : List ℕ) → Reply tr ⊎ ((xs : List ℕ) → Bytes xs → length xs ≤ 255 → tr ≡ replyTrace xs → ⊥)
 reply-or-not s tr = go (answer blockRead tr) refl
   where

@@ -27,10 +27,11 @@ use Rattle.udid.specs.UdidLaws.{same-refl, length-udid, udid-bytes, udid-back, 
 use Rattle.udid.specs.Udids.{Fits}
 use Rattle.udid.specs.declared.Udid.{Udid}
 use Rattle.wire.specs.declared.address.Address.{Address}
+use Rattle.arp.specs.Sound.{Nowhere}
 use Rattle.arp.specs.HandingLaws.{bound-gets, freed-gets}
 use Rattle.arp.specs.HeardLaws.{six-exactly}
 use Rattle.arp.specs.ReplayLaws.{chosen-none-held, chosen-fixed, chosen-own, chosen-other, idle-21}
-use Rattle.arp.specs.SoundLaws.{Nowhere, held-above, held-same, held-other, bound-to, not-open, find-cases}
+use Rattle.arp.specs.SoundLaws.{held-above, held-same, held-other, bound-to, not-open, find-cases}
 use Rattle.arp.specs.TraceLaws as traces
 use Rattle.arp.specs.Bindings.{openSlot, heldAt, boundTo, findFrom, freedAt, freed, slotFor, boundAt, bound}
 use Rattle.arp.specs.Controller.{handed, counted, asked, chosen, issued, replied, onAssign, afterAssign, byCommand, stepped}

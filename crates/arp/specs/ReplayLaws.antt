@@ -11,7 +11,7 @@ use native.Mathlib.Omega.{arith}
 use lib.Dec.{ltb, leb, eqb}
 use lib.ListN.{length, getD, set, replicate}
 use borrow.Author.Tests.{lt-ltb, le-ltb, eq-eqb, ne-eqb, eqb-true}
-use Rattle.lists.specs.Choice.{pick, or, and, not}
+use Rattle.lists.specs.Choice.{pick, and}
 use Rattle.lists.specs.Each.{Bytes}
 use Rattle.pool.specs.Free.{freeFrom, lowestFree}
 use Rattle.pool.specs.FreeLaws.{none-free}
@@ -31,15 +31,17 @@ use Rattle.udid.specs.UdidLaws.{other-udid}
 use Rattle.udid.specs.Udids.{Fits, sameUdid, isFixed}
 use Rattle.udid.specs.declared.Udid.{Udid}
 use Rattle.wire.specs.declared.address.Address.{Address}
-use Rattle.arp.specs.HandingLaws.{Handed, bound-gets, prepare-handed, get-handed, assign-handed, gets-are-sent}
+use Rattle.arp.specs.Handing.{Handed}
+use Rattle.arp.specs.Sound.{SoundIn, Nowhere, PendingIn}
+use Rattle.arp.specs.HandingLaws.{bound-gets, prepare-handed, get-handed, assign-handed, gets-are-sent}
 use Rattle.arp.specs.HeardLaws.{length-lows}
-use Rattle.arp.specs.HistoryLaws.{PendingIn, good-run}
-use Rattle.arp.specs.SoundLaws.{SoundIn, held-same, held-other, held-above, bound-to, open-all, find-cases, Nowhere}
+use Rattle.arp.specs.HistoryLaws.{good-run}
+use Rattle.arp.specs.SoundLaws.{held-same, held-other, held-above, bound-to, open-all, find-cases}
 use Rattle.arp.specs.TraceLaws.{valid-get, valid-assign, back, get-only, assign-is, assign-only}
 use Rattle.arp.specs.Bindings.{openSlot, heldAt, boundTo, findFrom, freedAt, freed, slotFor, boundAt, bound}
 use Rattle.arp.specs.Controller.{newController, started, handed, counted, asked, chosen, issued, replied, onReply, onPrepare, onGet, onAssign, afterPrepare, afterGet, afterAssign, byCommand, stepped}
 use Rattle.arp.specs.Heard.{sendByte, blockRead, blockWrite, answer, sentIn, receivedIn, isPrepare, isGet, isAssign}
-use Rattle.arp.specs.History.{Event, Start, Received, run, oneGet, getsSent}
+use Rattle.arp.specs.History.{Event, Start, Received, run, oneGet, getsSent, New}
 use Rattle.arp.specs.Lookup.{seen, lookedUp}
 use Rattle.arp.specs.Numbers.{commandNumber, lookupNumber}
 use Rattle.arp.specs.Replay.{Happened, Started, Replied, Assigned, Other, Table, holds, emptied, released, after, replyIn, assigns, assignIn, readAs, handedOut, table, numberOf, noCommand, again, lowest, picked, NoneToPick, assigning, nextPrepare, nextReply, nextCommand, Story, onward, story, Told, tracesAlone}
@@ -507,14 +509,6 @@ all-told occupied es = record {
 }
 
 -- ---- before the first start
-
--- a new controller: the starting pool in both places, nothing bound or claimed, no Get UDID counted, and nothing handed out
-pub record New (occupied : Pool) (s : Controller) : Type 0 where
-  pub starting : s .starting ≡ startingPool occupied
-  pub pool : s .pool ≡ startingPool occupied
-  pub held : (a : ℕ) → heldAt (s .slots) a ≡ Open
-  pub gets : s .gets ≡ 0
-  pub last : s .last ≡ Nothing
 
 pub new-is : (occupied : Pool) → New occupied (newController occupied)
 new-is occupied = record { starting = refl; pool = refl; held = open-all; gets = refl; last = refl }

@@ -23,6 +23,7 @@ use Rattle.encode.specs.declared.Encoded.{Encoded}
 use Rattle.udid.specs.Bytes.{udidBytes}
 use Rattle.udid.specs.UdidLaws.{length-udid}
 use Rattle.udid.specs.declared.Udid.{Udid}
+use Rattle.arp.specs.Sending.{Unsendable, AssignWritten}
 use Rattle.arp.specs.SendingLaws.{small-protocol, assign-sent}
 use Rattle.arp.specs.TraceLaws.{length-assign, assign-length, assign-row-small}
 use Rattle.arp.specs.CommandTraces.{assignTrace}
@@ -32,17 +33,6 @@ use Rattle.arp.specs.declared.command.Command.{Command}
 use Rattle.arp.specs.declared.command.Command.the-variants.{Nothing, Prepare, GetUdid, Assign, Ended, NoneFree, Abandoned, NotOutstanding}
 
 -- ---- number 1
-
--- what is not sent: a reply of more than 255 bytes, an Assign of a number above 127, and what is no command
-abbrev pub Unsendable : Command → List ℕ → Type 0
-Unsendable Prepare reply = ⊥
-Unsendable GetUdid reply = 255 < length reply
-Unsendable (Assign u a) reply = 127 < a .0
-Unsendable Nothing reply = Unit
-Unsendable Ended reply = Unit
-Unsendable (NoneFree u) reply = Unit
-Unsendable Abandoned reply = Unit
-Unsendable NotOutstanding reply = Unit
 
 -- a message of a protocol with PEC is in no listed case of refusal 1 if its fields and its data fit
 unlisted : (protocol : ℕ) (t : Message) → 1 ≤ protocol → protocol ≤ 10 → t .address ≤ 127 → t .direction ≡ 0 → (protocol ≤ 2 → t .command ≡ 0)
@@ -128,14 +118,6 @@ place-39 u a rest =
     let e : length (acked (udidBytes u)) ≡ 32 = length-acked (udidBytes u) ∙ omega (arith, length-udid u) in
     ap (λ (l : List ℕ). getD l 32 0) (append-assoc (acked (udidBytes u)) (2 * a ∷ 258 ∷ pecOf (194 ∷ 4 ∷ 17 ∷ (udidBytes u ++ 2 * a ∷ [])) ∷ 258 ∷ 257 ∷ []) rest)
     ∙ getD-at (acked (udidBytes u)) (2 * a) _ 0 32 e
-
--- what put_command answers for an Assign, and the output after it
-pub record AssignWritten (u : Udid) (a : ℕ) (before : List ℕ) (r : Encoded) (after : List ℕ) : Type 0 where
-  pub above-127 : 127 < a → (encodeNumber r ≡ (1, 0)) × (after ≡ before)
-  pub too-short : a ≤ 127 → length before < 44 → (encodeNumber r ≡ (2, 0)) × (after ≡ before)
-  pub written : a ≤ 127 → 44 ≤ length before → (encodeNumber r ≡ (0, 44)) × (after ≡ assignTrace (udidBytes u) (2 * a) ++ drop 44 before)
-  -- the 17th byte of the data stands at place 39
-  pub address-byte : a ≤ 127 → 44 ≤ length before → getD after 39 0 ≡ 2 * a
 
 module _ (u : Udid) (a : Address) (reply before : List ℕ) (r : Encoded) (after : List ℕ) (w : Wrote (protocolFor (Assign u a)) true (messageOf (Assign u a) reply) before r after) where
   as-block-write : a .0 ≤ 127 → Wrote 8 true (messageOf (Assign u a) reply) before r after

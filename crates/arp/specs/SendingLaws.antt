@@ -2,7 +2,7 @@
 use Prim.Native.Nat.{ℕ, _≤_, _<_}
 use mathlib.Core.Path.{_≡_, refl, ap, _∙_, subst}
 use mathlib.Core.Bool.{Bool, true, false}
-use mathlib.Core.List.{List, []}
+use mathlib.Core.List.{List}
 use native.Mathlib.Omega.{arith}
 use lib.ListN.{length}
 use borrow.Author.Tests.{le-ltb}
@@ -10,22 +10,19 @@ use Rattle.lists.specs.Choice.{pick}
 use Rattle.lists.specs.Each.{Bytes}
 use Rattle.lists.specs.Onto.{onto}
 use Rattle.trace.specs.Shapes.{shapeOf}
-use Rattle.trace.specs.Trace.{Message, trace, Valid}
-use Rattle.encode.specs.Encode.{encoded, symbolsOf, Wrote}
+use Rattle.trace.specs.Trace.{Valid}
+use Rattle.encode.specs.Encode.{symbolsOf, Wrote}
 use Rattle.encode.specs.EncodeMeans.{written-valid, unique}
 use Rattle.encode.specs.declared.Encoded.{Encoded}
 use Rattle.encode.specs.declared.Encoded.the-variants.{Written}
 use Rattle.udid.specs.declared.Udid.{Udid}
 use Rattle.wire.specs.declared.address.Address.{Address}
+use Rattle.arp.specs.Sending.{Sent}
 use Rattle.arp.specs.TraceLaws.{valid-prepare, valid-get, valid-assign}
 use Rattle.arp.specs.Heard.{blockWrite}
 use Rattle.arp.specs.Requests.{protocolOf, protocolFor, messageOf, traceOf}
 use Rattle.arp.specs.declared.command.Command.{Command}
 use Rattle.arp.specs.declared.command.Command.the-variants.{Prepare, GetUdid, Assign}
-
--- what was written is the trace of the command
-abbrev pub Sent : Command → List ℕ → List ℕ → Encoded → List ℕ → Type 0
-Sent k reply before r after = (r ≡ Written (length (traceOf k reply))) × (after ≡ onto (traceOf k reply) before)
 
 module _ (k : Command) (reply before : List ℕ) (r : Encoded) (after : List ℕ) (w : Wrote (protocolOf k) true (messageOf k reply) before r after) (room : length (traceOf k reply) ≤ length before) where
   written : protocolOf k ≤ 10 → (protocolOf k ≡ 0 → true ≡ false) → messageOf k reply .command < 256 → Valid (shapeOf (protocolOf k)) (messageOf k reply) → Sent k reply before r after

@@ -1,42 +1,28 @@
 -- What holds in every state that starts and received traces reach, kept by each function of the step.
-use Prim.Native.Nat.{ℕ, zero, suc, _+_, _-_, _*_, _/_, _%_, _≤_, _<_}
-use mathlib.Core.Path.{_≡_, refl, sym, ap, ap₂, _∙_, subst}
+use Prim.Native.Nat.{ℕ, zero, suc, _+_, _≤_, _<_}
+use mathlib.Core.Path.{_≡_, refl, sym, ap, ap₂, _∙_}
 use mathlib.Core.Bool.{Bool, true, false}
-use mathlib.Core.List.{List, [], _∷_}
+use mathlib.Core.List.{List}
 use mathlib.Core.Logic.{_⊎_, inl, inr}
 use native.Mathlib.Decide.{ℕ-discrete, decLt}
 use native.Mathlib.Omega.{arith}
-use lib.Dec.{ltb, leb, eqb}
-use lib.ListN.{length, getD, set, replicate, length-set, length-replicate, getD-replicate, List·getD-eq-default}
+use lib.Dec.{ltb}
+use lib.ListN.{length, set, replicate, length-set, length-replicate, getD-replicate, List·getD-eq-default}
 use lib.Seq.{getD-set-same, getD-set-other}
-use borrow.Author.Tests.{lt-ltb, le-ltb, ltb-true, ltb-false, leb-true, leb-false}
-use Rattle.lists.specs.Choice.{pick, or, and, not}
-use Rattle.pool.specs.MemberLaws.{has-with-same, has-with-other, has-without-same, has-without-other, member-above}
+use borrow.Author.Tests.{lt-ltb, le-ltb}
+use Rattle.lists.specs.Choice.{pick, or}
+use Rattle.pool.specs.MemberLaws.{has-with-same, has-with-other, has-without-same, has-without-other}
 use Rattle.pool.specs.Pools.{member, withAddress, withoutAddress}
 use Rattle.pool.specs.declared.Pool.{Pool}
 use Rattle.udid.specs.UdidLaws.{same-equal, same-refl}
-use Rattle.udid.specs.Udids.{sameUdid}
 use Rattle.udid.specs.declared.Udid.{Udid}
-use Rattle.arp.specs.Bindings.{openSlot, heldAt, boundTo, findFrom, freedAt, freed, slotFor, boundAt, bound}
+use Rattle.arp.specs.Sound.{Sound, SoundIn, Unbound, Nowhere}
+use Rattle.arp.specs.Bindings.{openSlot, heldAt, boundTo, findFrom, freedAt, freed, slotFor, bound}
 use Rattle.arp.specs.History.{isHeld}
 use Rattle.arp.specs.declared.state.Binding.{Binding}
 use Rattle.arp.specs.declared.state.Binding.the-variants.{Open, Bound, Claimed}
 use Rattle.arp.specs.declared.state.Controller.{Controller}
 use Rattle.arp.specs.declared.state.Slot.{Slot}
-
--- of the starting pool, the pool and the slots: the pool has the starting addresses and those that are bound or claimed, and no others
-pub record Sound (starting pool : Pool) (slots : List Slot) : Type 0 where
-  pub size : length slots ≡ 128
-  pub once : (i j : ℕ) (u : Udid) → heldAt slots i ≡ Bound u → heldAt slots j ≡ Bound u → i ≡ j
-  pub new : (a : ℕ) (u : Udid) → heldAt slots a ≡ Bound u → member starting a ≡ false
-  pub exact : (a : ℕ) → member pool a ≡ or (member starting a) (isHeld (heldAt slots a))
-
-abbrev pub SoundIn : Controller → Type 0
-SoundIn s = Sound (s .starting) (s .pool) (s .slots)
-
--- u is bound nowhere
-abbrev pub Unbound : Udid → List Slot → Type 0
-Unbound u slots = (i : ℕ) → boundTo u (heldAt slots i) ≡ false
 
 -- ---- slots
 
@@ -89,9 +75,6 @@ sound-open p = record {
 }
 
 -- ---- the search for an identifier
-
-abbrev pub Nowhere : Udid → List Slot → ℕ → Type 0
-Nowhere u slots a = (j : ℕ) → a ≤ j → j < 128 → boundTo u (heldAt slots j) ≡ false
 
 pub find-cases : (u : Udid) (slots : List Slot) (n a : ℕ) → a + n ≡ 128
     → ((findFrom u slots n a ≡ 128) × Nowhere u slots a) ⊎ ((findFrom u slots n a < 128) × (boundTo u (heldAt slots (findFrom u slots n a)) ≡ true))

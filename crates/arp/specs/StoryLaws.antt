@@ -30,7 +30,7 @@ use Rattle.arp.specs.Controller.{stepped}
 use Rattle.arp.specs.Heard.{answer, sentIn, receivedIn}
 use Rattle.arp.specs.History.{Event, Received, run}
 use Rattle.arp.specs.Numbers.{commandNumber}
-use Rattle.arp.specs.CommandTraces.{replyTrace, assignTrace}
+use Rattle.arp.specs.CommandTraces.{replyTrace, assignTrace, ReplyOf}
 use Rattle.arp.specs.Replay.{Happened, Replied, Assigned, Other, released, replyIn, assigns, assignIn, readAs, handedOut, noCommand, again, NoneToPick, nextCommand, Story, story}
 use Rattle.arp.specs.Requests.{messageOf}
 use Rattle.arp.specs.declared.command.Command.{Command}
@@ -72,10 +72,6 @@ module _ (u : Udid) (b : ℕ) (f : Fits u) (h : b < 256) where
       ap (λ (l : List ℕ). getD (receivedIn 9 l) 16 0) (sym (reply-symbols (udidBytes u ++ b ∷ [])))
       ∙ ap (λ (l : List ℕ). getD l 16 0) (back 9 (messageOf GetUdid (udidBytes u ++ b ∷ [])) (valid-get (udidBytes u ++ b ∷ []) reply-bytes (omega (arith, reply-length))) .2)
       ∙ getD-at (udidBytes u) b [] 0 16 (length-udid u)
-
--- a trace is a reply with this identifier
-abbrev pub ReplyOf : Udid → List ℕ → Type 0
-ReplyOf u tr = (b : ℕ) × (b < 256) × (tr ≡ replyTrace (udidBytes u ++ b ∷ []))
 
 reply-only : (tr : List ℕ) (u : Udid) → readAs GetUdid tr ≡ Replied u → ReplyOf u tr
 reply-only tr u e =

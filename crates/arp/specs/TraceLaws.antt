@@ -1,17 +1,16 @@
 -- The step held against traces: which traces are taken for the command that is outstanding, and what each of them leads to.
 -- For every trace one of the lines applies, and no line speaks of how the decoder works. specs/OneStepLaws.antt says them of the step itself.
-use Prim.Native.Nat.{ℕ, zero, suc, _+_, _-_, _*_, _%_, _≤_, _<_}
+use Prim.Native.Nat.{ℕ, _*_, _%_, _≤_, _<_}
 use mathlib.Core.Path.{_≡_, refl, sym, ap, ap₂, _∙_, subst}
 use mathlib.Core.Bool.{Bool, true, false}
 use mathlib.Core.List.{List, [], _∷_, _++_}
-use native.Mathlib.Decide.{ℕ-discrete, decLt}
 use native.Mathlib.Nat.{mod-eq-of-lt}
 use native.Mathlib.Omega.{arith}
 use lib.Dec.{ltb, eqb}
-use lib.ListN.{length, getD, take, drop, length-append, length-drop}
-use lib.Seq.{getD-at, split-at, take-all}
-use borrow.Author.Tests.{ltb-true, ltb-false, lt-ltb, le-ltb, eqb-true, eq-eqb, ne-eqb}
-use Rattle.lists.specs.Choice.{pick, or, and}
+use lib.ListN.{length, getD, drop, length-append, length-drop}
+use lib.Seq.{getD-at, split-at}
+use borrow.Author.Tests.{ltb-true, lt-ltb, eqb-true, eq-eqb, ne-eqb}
+use Rattle.lists.specs.Choice.{pick}
 use Rattle.lists.specs.Each.{Bytes, append-bytes}
 use Rattle.wire.specs.Addresses.{defaultAddress}
 use Rattle.wire.specs.Pec.{bitStep, pecStep, pecFrom, pecOf}
@@ -25,7 +24,6 @@ use Rattle.trace.specs.declared.transaction.Transaction.{Transaction}
 use Rattle.step.specs.AnswersLaws as step
 use Rattle.step.specs.Answers.{CutAt, Carries, summary}
 use Rattle.step.specs.Handed.{sentData, receivedData}
-use Rattle.step.specs.Run.{decodedBy}
 use Rattle.step.specs.declared.answer.Decoded.{Decoded}
 use Rattle.step.specs.declared.answer.Decoded.the-variants.{Done, Forbidden, BufferTooShort, NoSymbol, EndsEarly, Unexpected, NotAcknowledged, PecDiffers, AfterStop}
 use Rattle.encode.specs.Encode.{message}
@@ -36,7 +34,7 @@ use Rattle.udid.specs.declared.Udid.{Udid}
 use Rattle.wire.specs.declared.address.Address.{Address}
 use Rattle.arp.specs.Bindings.{bound}
 use Rattle.arp.specs.Controller.{asked, handed, replied, onReply, onPrepare, onGet, onAssign, afterPrepare, afterGet, afterAssign}
-use Rattle.arp.specs.Heard.{sendByte, blockRead, blockWrite, answer, sentIn, receivedIn, isCommand, isPrepare, isGet, names, isAssign, nobody}
+use Rattle.arp.specs.Heard.{sendByte, blockRead, blockWrite, answer, sentIn, receivedIn, isCommand, isPrepare, isGet, names, isAssign}
 use Rattle.arp.specs.Requests.{assignData, messageOf, traceOf}
 use Rattle.arp.specs.declared.command.Command.the-variants.{Prepare, GetUdid, Assign, Ended, Abandoned}
 use Rattle.arp.specs.declared.state.Controller.{Controller}

@@ -28,7 +28,7 @@ use Rattle.arp.specs.Controller.{newController, started, stepped}
 use Rattle.arp.specs.History.{Event, Received, run, Invariant, Acknowledged}
 use Rattle.arp.specs.Lookup.{seen, lookedUp}
 use Rattle.arp.specs.Numbers.{commandNumber, lookupNumber}
-use Rattle.arp.specs.CommandTraces.{replyTrace, assignTrace}
+use Rattle.arp.specs.CommandTraces.{replyTrace, assignTrace, ReplyOf}
 use Rattle.arp.specs.Replay.{Started, Replied, Assigned, Table, released, replyIn, assignIn, readAs, numberOf, noCommand, again, NoneToPick, nextPrepare, nextReply, nextCommand, story, Told, tracesAlone}
 use Rattle.arp.specs.Requests.{traceOf}
 use Rattle.arp.specs.declared.command.Command.{Command}
@@ -39,7 +39,7 @@ use Rattle.arp.specs.declared.state.Binding.{Binding}
 use Rattle.arp.specs.declared.state.Binding.the-variants.{Open, Bound, Claimed}
 use Rattle.arp.specs.declared.state.Controller.{Controller}
 use Rattle.arp.specs.AssignedLaws.{step-claimed, lookup-acknowledged}
-use Rattle.arp.specs.StoryLaws.{again-below, again-limit, ReplyOf, replied-exactly, assigned-exactly, hands-out, refused-exactly, full-exactly}
+use Rattle.arp.specs.StoryLaws.{again-below, again-limit, replied-exactly, assigned-exactly, hands-out, refused-exactly, full-exactly}
 use Rattle.arp.specs.StoryLaws as history
 use Rattle.arp.specs.HeardLaws.{reply-is-decode, assign-is-decode, next-prepare-is-decode, next-reply-is-decode}
 use Rattle.arp.specs.OneStepLaws.{assign-symbols}

@@ -18,11 +18,12 @@ use Rattle.pool.specs.declared.Pool.{Pool}
 use Rattle.udid.specs.Bytes.{udidBytes, udidAt}
 use Rattle.udid.specs.Udids.{Fits}
 use Rattle.udid.specs.declared.Udid.{Udid}
+use Rattle.arp.specs.Sound.{PendingIn}
 use Rattle.arp.specs.Bindings.{heldAt}
 use Rattle.arp.specs.Controller.{stepped}
 use Rattle.arp.specs.History.{Event, run}
 use Rattle.arp.specs.Numbers.{commandNumber}
-use Rattle.arp.specs.CommandTraces.{prepareTrace, replyTrace, assignTrace}
+use Rattle.arp.specs.CommandTraces.{prepareTrace, replyTrace, assignTrace, Reply}
 use Rattle.arp.specs.OneStep.{Gives, Asks, Binds, Continues, EndsWith, Replies, Alike}
 use Rattle.arp.specs.Replay.{noCommand}
 use Rattle.arp.specs.declared.command.Command.{Command}
@@ -31,8 +32,8 @@ use Rattle.arp.specs.declared.state.Controller.{Controller}
 use Rattle.arp.specs.declared.state.Stepped.{Stepped}
 use Rattle.arp.specs.HeardLaws.{gives-exactly, six-exactly}
 use Rattle.arp.specs.OneStepLaws as arp
-use Rattle.arp.specs.OneResultLaws.{same-trace, six-or-not, six-once, Reply, reply-or-not, seventeen, continues-both, ends-both, binds-both, replies-both, chosen-one}
-use Rattle.arp.specs.HistoryLaws.{PendingIn, good-run}
+use Rattle.arp.specs.OneResultLaws.{same-trace, six-or-not, six-once, reply-or-not, seventeen, continues-both, ends-both, binds-both, replies-both, chosen-one}
+use Rattle.arp.specs.HistoryLaws.{good-run}
 
 -- r is what comes of the state s and the trace tr
 pub record Steps (s : Controller) (tr : List ℕ) (r : Stepped) : Type 0 where
