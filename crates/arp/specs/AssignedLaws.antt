@@ -11,24 +11,26 @@ use lib.Dec.{ltb, leb, eqb}
 use lib.ListN.{length, getD}
 use borrow.Author.Tests.{ltb-false, lt-ltb, le-ltb}
 use Rattle.lists.specs.Choice.{pick, or}
+use Rattle.wire.specs.declared.address.Address.{Address}
+use Rattle.trace.specs.declared.transaction.Transaction.{Transaction}
+use Rattle.step.specs.declared.answer.Decoded.{Decoded}
+use Rattle.step.specs.declared.answer.Decoded.the-variants.{Done, Forbidden, BufferTooShort, NoSymbol, EndsEarly, Unexpected, NotAcknowledged, PecDiffers, AfterStop}
 use Rattle.pool.specs.Pools.{member}
 use Rattle.pool.specs.declared.Pool.{Pool}
 use Rattle.pool.specs.declared.free.Free.{Free}
 use Rattle.pool.specs.declared.free.Free.the-variants.{At, AllUsed}
-use Rattle.step.specs.declared.answer.Decoded.{Decoded}
-use Rattle.step.specs.declared.answer.Decoded.the-variants.{Done, Forbidden, BufferTooShort, NoSymbol, EndsEarly, Unexpected, NotAcknowledged, PecDiffers, AfterStop}
-use Rattle.trace.specs.declared.transaction.Transaction.{Transaction}
 use Rattle.udid.specs.Bytes.{udidAt}
 use Rattle.udid.specs.declared.Udid.{Udid}
-use Rattle.wire.specs.declared.address.Address.{Address}
-use Rattle.arp.specs.Sound.{Pending, PendingIn, GoodState}
 use Rattle.arp.specs.HistoryLaws.{good-run}
+use Rattle.arp.specs.LookupLaws.{lookup-0}
 use Rattle.arp.specs.SoundLaws.{held-same, held-other, held-cases, bound-to, not-open, open-all, find-cases}
 use Rattle.arp.specs.TraceLaws.{assign-only, assign-whole}
+use Rattle.arp.specs.Numbers.{lookupNumber}
+use Rattle.arp.specs.Sound.{Pending, PendingIn, GoodState}
 use Rattle.arp.specs.Bindings.{openSlot, heldAt, boundTo, findFrom, freedAt, freed, slotFor, bound}
 use Rattle.arp.specs.Controller.{handed, counted, asked, chosen, issued, replied, onReply, onPrepare, onGet, onAssign, afterPrepare, afterGet, afterAssign, byCommand, stepped}
 use Rattle.arp.specs.Heard.{sendByte, blockRead, blockWrite, answer, sentIn, receivedIn, isPrepare, isGet, isAssign}
-use Rattle.arp.specs.History.{Event, Start, Received, run, Acknowledged, isHeld}
+use Rattle.arp.specs.History.{Event, Start, Received, run, Acknowledged, isHeld, withTraces}
 use Rattle.arp.specs.Lookup.{seen, lookedUp}
 use Rattle.arp.specs.Requests.{traceOf}
 use Rattle.arp.specs.declared.command.Command.{Command}
@@ -262,18 +264,15 @@ bound-acknowledged occupied (Received tr ∷ es) a u e = go (step-held occupied 
     go (inl k) ih = inr (ih k)
     go (inr k) ih = inl k
 
-seen-bound : (h : Binding) (u : Udid) → seen h ≡ found.Bound u → h ≡ Bound u
-seen-bound Open u e = absurd (let z : _≡_ {A = ℕ} 0 1 = cc e in omega arith)
-seen-bound (Bound v) u e = ap Bound (cc e)
-seen-bound Claimed u e = absurd (let z : _≡_ {A = ℕ} 0 1 = cc e in omega arith)
+-- 0 WITH AN IDENTIFIER is answered only where an Assign of that address to it was acknowledged whole, in the present pass
+pub found-acknowledged : (occupied : Pool) (es : List Event) (a : ℕ) (u : Udid) → lookupNumber (lookedUp (run occupied es) a) ≡ (0, u ∷ []) → Acknowledged occupied es u a
+found-acknowledged occupied es a u e = bound-acknowledged occupied es a u (lookup-0 (run occupied es) a u .0 e .1)
 
-found-bound : (s : Controller) (a : ℕ) (u : Udid) → lookedUp s a ≡ found.Bound u → heldAt (s .slots) a ≡ Bound u
-found-bound s a u e = go (ltb 127 a) e
-  where
-    go : (t : Bool) → pick t found.NoAddress (seen (heldAt (s .slots) a)) ≡ found.Bound u → heldAt (s .slots) a ≡ Bound u
-    go true k = absurd (let z : _≡_ {A = ℕ} 0 1 = cc k in omega arith)
-    go false k = seen-bound (heldAt (s .slots) a) u k
+-- ---- claims
 
--- LOOKUP answers a target only where an Assign of that address to it was acknowledged whole in the present pass
-pub lookup-acknowledged : (occupied : Pool) (es : List Event) (a : ℕ) (u : Udid) → lookedUp (run occupied es) a ≡ found.Bound u → Acknowledged occupied es u a
-lookup-acknowledged occupied es a u e = bound-acknowledged occupied es a u (found-bound (run occupied es) a u e)
+-- A CLAIM STAYS for the rest of the pass, whatever is received
+pub claim-stays : (occupied : Pool) (es : List Event) (trs : List (List ℕ)) (a : ℕ) → heldAt (run occupied es .slots) a ≡ Claimed
+    → heldAt (run occupied (withTraces trs es) .slots) a ≡ Claimed
+unfolding run
+claim-stays occupied es [] a e = e
+claim-stays occupied es (tr ∷ trs) a e = step-claimed occupied (run occupied (withTraces trs es)) tr (good-run occupied (withTraces trs es)) a (claim-stays occupied es trs a e)

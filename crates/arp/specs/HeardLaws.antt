@@ -11,6 +11,7 @@ use lib.ListN.{length, getD, drop, replicate, length-replicate, List·getD-appen
 use borrow.Author.Tests.{le-ltb, eqb-true}
 use Rattle.lists.specs.Choice.{pick, and}
 use Rattle.lists.specs.Onto.{onto}
+use Rattle.wire.specs.declared.address.Address.{Address}
 use Rattle.trace.specs.ShapeLaws.{sane}
 use Rattle.trace.specs.Shapes.{shapeOf, forbidden}
 use Rattle.step.specs.AnswersLaws as step
@@ -24,7 +25,6 @@ use Rattle.decode.specs.Outcome.{short, answered, Outcome}
 use Rattle.udid.specs.Bytes.{number, bytesFrom, udidAt}
 use Rattle.udid.specs.Udids.{sameUdid}
 use Rattle.udid.specs.declared.Udid.{Udid}
-use Rattle.wire.specs.declared.address.Address.{Address}
 use Rattle.arp.specs.Heard.{answer, sentIn, receivedIn}
 use Rattle.arp.specs.OneStep.{Gives}
 use Rattle.arp.specs.Replay.{Happened, Replied, Assigned, Other, Table, released, replyIn, assigns, assignIn, readAs, again, picked, assigning, nextPrepare, nextReply, nextCommand}

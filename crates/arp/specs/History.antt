@@ -26,6 +26,15 @@ pub data Event : Type 0 where
   Start : Event
   Received : List ℕ → Event
 
+-- more traces, and no start
+abbrev pub withTraces : List (List ℕ) → List Event → List Event
+withTraces [] es = es
+withTraces (tr ∷ trs) es = Received tr ∷ withTraces trs es
+
+-- traces alone, and no start
+abbrev pub tracesAlone : List (List ℕ) → List Event
+tracesAlone trs = withTraces trs []
+
 -- the state after events, the latest first, of a controller that was made with these addresses occupied
 unfoldable pub run : Pool → List Event → Controller
 run occupied [] = newController occupied

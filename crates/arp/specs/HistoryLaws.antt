@@ -1,5 +1,5 @@
 -- Every state that starts and received traces reach is sound: the invariant of specs/History.antt.
-use Prim.Native.Nat.{ℕ, zero, suc, _/_, _<_}
+use Prim.Native.Nat.{ℕ, zero, suc, _<_}
 use mathlib.Core.Path.{_≡_, refl, sym, ap, _∙_}
 use mathlib.Core.Bool.{Bool, true, false}
 use mathlib.Core.List.{List, [], _∷_}
@@ -9,30 +9,29 @@ use lib.ListN.{length, getD, drop}
 use borrow.Author.Tests.{leb-false}
 use Rattle.lists.specs.Choice.{pick, or}
 use Rattle.lists.specs.Each.{Bytes}
+use Rattle.trace.specs.declared.transaction.Transaction.{Transaction}
+use Rattle.step.specs.Handed.{lows, receivedLength, receivedPlace}
+use Rattle.step.specs.declared.answer.Decoded.{Decoded}
+use Rattle.step.specs.declared.answer.Decoded.the-variants.{Done, Forbidden, BufferTooShort, NoSymbol, EndsEarly, Unexpected, NotAcknowledged, PecDiffers, AfterStop}
 use Rattle.pool.specs.CountLaws.{count-split}
-use Rattle.pool.specs.Free.{used, lowestFree}
-use Rattle.pool.specs.FreeLaws.{lowest-is}
+use Rattle.pool.specs.Free.{used}
 use Rattle.pool.specs.Pools.{member}
 use Rattle.pool.specs.Start.{startingPool}
 use Rattle.pool.specs.declared.Pool.{Pool}
 use Rattle.pool.specs.declared.free.Free.{Free}
 use Rattle.pool.specs.declared.free.Free.the-variants.{At, AllUsed}
-use Rattle.step.specs.Handed.{lows, receivedLength, receivedPlace}
-use Rattle.step.specs.declared.answer.Decoded.{Decoded}
-use Rattle.step.specs.declared.answer.Decoded.the-variants.{Done, Forbidden, BufferTooShort, NoSymbol, EndsEarly, Unexpected, NotAcknowledged, PecDiffers, AfterStop}
-use Rattle.trace.specs.declared.transaction.Transaction.{Transaction}
 use Rattle.udid.specs.Bytes.{udidAt}
 use Rattle.udid.specs.UdidLaws.{fits-at}
-use Rattle.udid.specs.Udids.{Fits, isFixed}
+use Rattle.udid.specs.Udids.{Fits}
 use Rattle.udid.specs.WindowLaws.{byte-at}
 use Rattle.udid.specs.declared.Udid.{Udid}
-use Rattle.wire.specs.declared.address.Address.{Address}
+use Rattle.arp.specs.ChosenLaws.{chosen-good}
+use Rattle.arp.specs.SoundLaws.{sound-open, sound-freed, sound-bound, open-all}
 use Rattle.arp.specs.Sound.{SoundIn, Good, Pending, PendingIn, GoodState}
-use Rattle.arp.specs.SoundLaws.{sound-open, sound-freed, sound-bound}
 use Rattle.arp.specs.Bindings.{heldAt, findFrom, freedAt, freed, boundAt, bound}
-use Rattle.arp.specs.Controller.{handed, counted, asked, ownAddress, chosen, issued, replied, onReply, onPrepare, onGet, onAssign, afterPrepare, afterGet, afterAssign, byCommand, stepped}
+use Rattle.arp.specs.Controller.{handed, counted, asked, chosen, issued, replied, onReply, onPrepare, onGet, onAssign, afterPrepare, afterGet, afterAssign, byCommand, stepped, newController}
 use Rattle.arp.specs.Heard.{sendByte, blockRead, blockWrite, answer, sentIn, receivedIn, isPrepare, isGet, isAssign}
-use Rattle.arp.specs.History.{Event, Start, Received, run, isHeld, Invariant}
+use Rattle.arp.specs.History.{Event, Start, Received, run, isHeld, Invariant, New}
 use Rattle.arp.specs.declared.command.Command.{Command}
 use Rattle.arp.specs.declared.command.Command.the-variants.{Nothing, Prepare, GetUdid, Assign, Ended, NoneFree, Abandoned, NotOutstanding}
 use Rattle.arp.specs.declared.state.Binding.{Binding}
@@ -47,27 +46,6 @@ lows-bytes (suc n) l = (omega arith, lows-bytes n (drop 2 l))
 
 pub received-bytes : (protocol : ℕ) (tr : List ℕ) → Bytes (receivedIn protocol tr)
 received-bytes protocol tr = lows-bytes (receivedLength (answer protocol tr)) (drop (receivedPlace true (receivedLength (answer protocol tr)) (length tr)) tr)
-
--- ---- the address chosen
-
--- it has seven bits, and for a movable target it is free
-pub chosen-good : (p : Pool) (u : Udid) (b : ℕ) (a : Address) → b < 256 → chosen p u b ≡ At a → (a .0 < 128) × (isFixed u ≡ false → member p (a .0) ≡ false)
-unfolding chosen
-chosen-good p u b a h e = go (eqb b 0xFF) (isFixed u) refl (member p (b / 2)) refl e
-  where
-    picked : lowestFree p ≡ At a → (a .0 < 128) × (isFixed u ≡ false → member p (a .0) ≡ false)
-    picked k = let w = lowest-is p (a .0) .0 k in (w .small, λ q. w .free)
-
-    own : At (ownAddress b) ≡ At a → b / 2 ≡ a .0
-    own k = let q : ownAddress b ≡ a = cc k in ap (λ (x : Address). x .0) q
-
-    go : (r s : Bool) → isFixed u ≡ s → (t : Bool) → member p (b / 2) ≡ t
-        → pick r (lowestFree p) (pick s (At (ownAddress b)) (pick t (lowestFree p) (At (ownAddress b)))) ≡ At a
-        → (a .0 < 128) × (isFixed u ≡ false → member p (a .0) ≡ false)
-    go true s f t m k = picked k
-    go false true f t m k = (let q = own k in omega arith, λ g. absurd (let z : _≡_ {A = ℕ} 0 1 = cc (f, g) in omega arith))
-    go false false f true m k = picked k
-    go false false f false m k = (let q = own k in omega arith, λ g. ap (member p) (sym (own k)) ∙ m)
 
 -- ---- each function of the step keeps the state good
 
@@ -201,9 +179,10 @@ or-held : (a : Bool) → or a true ≡ true
 or-held true = refl
 or-held false = refl
 
-pub invariant : (occupied : Pool) (es : List Event) → Invariant occupied (run occupied es)
+-- EVERY STATE that starts and received traces reach
+pub reached : (occupied : Pool) (es : List Event) → Invariant occupied (run occupied es)
 unfolding used
-invariant occupied es = record {
+reached occupied es = record {
   starting = good-run occupied es .0 .starting;
   contains = λ a e. v .exact a ∙ or-true (member (s .starting) a) (isHeld (heldAt (s .slots) a)) e;
   bound-used = λ a u e. held-used a (Bound u) e refl;
@@ -228,3 +207,8 @@ invariant occupied es = record {
 
     same : {u w : Udid} → Bound u ≡ Bound w → u ≡ w
     same e = cc e
+
+-- ---- a new controller
+
+pub new-is : (occupied : Pool) → New occupied (newController occupied)
+new-is occupied = record { starting = refl; pool = refl; held = open-all; gets = refl; last = refl }

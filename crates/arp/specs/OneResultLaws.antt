@@ -2,13 +2,13 @@
 use Prim.Native.Nat.{ℕ, zero, suc, _/_, _≤_, _<_}
 use mathlib.Core.Path.{_≡_, refl, sym, ap, ap₂, _∙_, subst}
 use mathlib.Core.Bool.{Bool, true, false}
-use mathlib.Core.List.{List, [], _∷_, _++_}
+use mathlib.Core.List.{List, [], _∷_}
 use mathlib.Core.Logic.{_⊎_, inl, inr}
 use native.Mathlib.Decide.{ℕ-discrete, decLt}
 use native.Mathlib.Omega.{arith}
-use lib.ListN.{length, getD, drop, length-drop}
-use lib.Seq.{split-at}
+use lib.ListN.{length, getD, drop}
 use Rattle.lists.specs.Each.{Bytes}
+use Rattle.wire.specs.declared.address.Address.{Address}
 use Rattle.trace.specs.Shapes.{forbidden}
 use Rattle.trace.specs.declared.transaction.Transaction.{Transaction}
 use Rattle.step.specs.Numbers.{decodeNumber}
@@ -20,15 +20,13 @@ use Rattle.pool.specs.Pools.{member}
 use Rattle.pool.specs.declared.Pool.{Pool}
 use Rattle.pool.specs.declared.free.Free.{Free}
 use Rattle.pool.specs.declared.free.Free.the-variants.{At, AllUsed}
-use Rattle.udid.specs.Bytes.{udidBytes, udidAt}
-use Rattle.udid.specs.UdidLaws.{bytes-back, fits-at, same-equal, same-is}
-use Rattle.udid.specs.Udids.{Fits, sameUdid}
-use Rattle.udid.specs.WindowLaws.{byte-at}
+use Rattle.udid.specs.Bytes.{udidBytes}
+use Rattle.udid.specs.UdidLaws.{same-equal, same-is}
+use Rattle.udid.specs.Udids.{sameUdid}
 use Rattle.udid.specs.declared.Udid.{Udid}
-use Rattle.wire.specs.declared.address.Address.{Address}
 use Rattle.arp.specs.HeardLaws.{gives-exactly}
-use Rattle.arp.specs.OneStepLaws.{reply-symbols}
-use Rattle.arp.specs.TraceLaws.{valid-get, back, get-only, get-data}
+use Rattle.arp.specs.RequestLaws.{valid-get, reply-symbols}
+use Rattle.arp.specs.TraceLaws.{back, get-only, get-data}
 use Rattle.arp.specs.Bindings.{heldAt}
 use Rattle.arp.specs.Heard.{blockRead, answer, receivedIn, isGet}
 use Rattle.arp.specs.CommandTraces.{replyTrace, Reply}
@@ -110,19 +108,6 @@ reply-or-not s tr = go (answer blockRead tr) refl
     go (Unexpected k) e = inr (other (Unexpected k) e (λ k. omega arith))
     go (PecDiffers k) e = inr (other (PecDiffers k) e (λ k. omega arith))
     go (AfterStop k) e = inr (other (AfterStop k) e (λ k. omega arith))
-
--- 17 bytes are an identifier's and one more
-pub seventeen : (xs : List ℕ) → Bytes xs → length xs ≡ 17 → Fits (udidAt xs 0) × (getD xs 16 0 < 256) × (xs ≡ udidBytes (udidAt xs 0) ++ getD xs 16 0 ∷ [])
-seventeen xs h l = (
-  fits-at xs 0 h,
-  byte-at xs 16 h,
-  split-at xs 16 0 (omega arith)
-      ∙ ap₂ (λ (p q : List ℕ). p ++ q) (sym (bytes-back xs 0 h (omega arith))) (ap (λ (q : List ℕ). getD xs 16 0 ∷ q) (none (drop 17 xs) (length-drop 17 xs ∙ omega arith))),
-)
-  where
-    none : (l : List ℕ) → length l ≡ 0 → l ≡ []
-    none [] e = refl
-    none (x ∷ l) e = absurd (omega arith)
 
 -- ---- what two results agree with
 

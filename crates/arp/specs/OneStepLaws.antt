@@ -12,7 +12,7 @@ use lib.Seq.{getD-at}
 use borrow.Author.Tests.{lt-ltb, le-ltb, lt-leb, le-leb}
 use Rattle.lists.specs.Choice.{pick}
 use Rattle.lists.specs.Each.{Bytes, append-bytes}
-use Rattle.trace.specs.Rows.{rows}
+use Rattle.wire.specs.declared.address.Address.{Address}
 use Rattle.step.specs.declared.answer.Decoded.{Decoded}
 use Rattle.step.specs.declared.answer.Decoded.the-variants.{Done, Forbidden, BufferTooShort, NoSymbol, EndsEarly, Unexpected, NotAcknowledged, PecDiffers, AfterStop}
 use Rattle.pool.specs.Free.{lowestFree}
@@ -26,20 +26,20 @@ use Rattle.udid.specs.Bytes.{udidBytes, udidAt}
 use Rattle.udid.specs.UdidLaws.{same-refl, length-udid, udid-bytes, udid-back, fixed-first, movable-first}
 use Rattle.udid.specs.Udids.{Fits}
 use Rattle.udid.specs.declared.Udid.{Udid}
-use Rattle.wire.specs.declared.address.Address.{Address}
-use Rattle.arp.specs.Sound.{Nowhere}
+use Rattle.arp.specs.ChosenLaws.{chosen-none-held, chosen-fixed, chosen-own, chosen-other}
 use Rattle.arp.specs.HandingLaws.{bound-gets, freed-gets}
 use Rattle.arp.specs.HeardLaws.{six-exactly}
-use Rattle.arp.specs.ReplayLaws.{chosen-none-held, chosen-fixed, chosen-own, chosen-other, idle-21}
+use Rattle.arp.specs.OutstandingLaws.{idle-21}
+use Rattle.arp.specs.RequestLaws.{reply-symbols, prepare-symbols, assign-symbols-small}
 use Rattle.arp.specs.SoundLaws.{held-above, held-same, held-other, bound-to, not-open, find-cases}
 use Rattle.arp.specs.TraceLaws as traces
+use Rattle.arp.specs.Sound.{Nowhere}
 use Rattle.arp.specs.Bindings.{openSlot, heldAt, boundTo, findFrom, freedAt, freed, slotFor, boundAt, bound}
 use Rattle.arp.specs.Controller.{handed, counted, asked, chosen, issued, replied, onAssign, afterAssign, byCommand, stepped}
 use Rattle.arp.specs.Heard.{blockWrite, answer, sentIn, isAssign}
 use Rattle.arp.specs.CommandTraces.{prepareTrace, replyTrace, assignTrace}
 use Rattle.arp.specs.OneStep.{Gives, Hands, Asks, Chooses, Keeps, Same, BoundAt, Unbinds, Binds, Continues, EndsWith, Replies}
 use Rattle.arp.specs.Replay.{noCommand, assigning}
-use Rattle.arp.specs.Requests.{traceOf}
 use Rattle.arp.specs.declared.command.Command.{Command}
 use Rattle.arp.specs.declared.command.Command.the-variants.{Prepare, GetUdid, Assign, Ended, NoneFree, Abandoned, NotOutstanding}
 use Rattle.arp.specs.declared.state.Binding.{Binding}
@@ -47,14 +47,6 @@ use Rattle.arp.specs.declared.state.Binding.the-variants.{Bound}
 use Rattle.arp.specs.declared.state.Controller.{Controller}
 use Rattle.arp.specs.declared.state.Slot.{Slot}
 use Rattle.arp.specs.declared.state.Stepped.{Stepped}
-
--- ---- the symbols of the commands are their traces
-
-pub reply-symbols : (xs : List ℕ) → traceOf GetUdid xs ≡ replyTrace xs
-reply-symbols xs = rows .block-read-pec 0x61 0x03 xs
-
-pub assign-symbols : (u : Udid) (a : ℕ) → a < 128 → traceOf (Assign u (record { 0 = a })) [] ≡ assignTrace (udidBytes u) (2 * a)
-assign-symbols u a h = traces.assign-row-small u (record { 0 = a }) h
 
 -- ---- what is handed out
 
@@ -264,7 +256,7 @@ module _ (s : Controller) (tr : List ℕ) where
 
   -- Prepare accepted: send Get UDID
   pub prepare-accepted : s .last ≡ Prepare → tr ≡ prepareTrace → Continues s (stepped s tr)
-  prepare-accepted e q = subst (Continues s) (sym (outstanding Prepare e ∙ traces.prepare-accepted s tr (q ∙ sym traces.prepare-trace))) (continues s)
+  prepare-accepted e q = subst (Continues s) (sym (outstanding Prepare e ∙ traces.prepare-accepted s tr (q ∙ sym (prepare-symbols [])))) (continues s)
 
   -- answer 6: the pass ends, nobody there
   pub prepare-nobody : s .last ≡ Prepare → (b : ℕ) → Gives 1 tr 6 b → EndsWith s (stepped s tr) Ended
@@ -275,7 +267,7 @@ module _ (s : Controller) (tr : List ℕ) where
   pub prepare-other : s .last ≡ Prepare → (tr ≡ prepareTrace → ⊥) → ((b : ℕ) → Gives 1 tr 6 b → ⊥) → EndsWith s (stepped s tr) Abandoned
   prepare-other e n m =
       subst (λ (r : Stepped). EndsWith s r Abandoned)
-      (sym (outstanding Prepare e ∙ traces.prepare-other s tr (λ q. n (q ∙ traces.prepare-trace)) (λ b c. m b (six-exactly 1 tr b refl .1 c))))
+      (sym (outstanding Prepare e ∙ traces.prepare-other s tr (λ q. n (q ∙ prepare-symbols [])) (λ b c. m b (six-exactly 1 tr b refl .1 c))))
       (ends-with s Abandoned)
 
   -- Get UDID: a complete reply whose count is not 17: the pass ends
@@ -314,7 +306,7 @@ module _ (s : Controller) (tr : List ℕ) where
       → Asks s (stepped s tr) × Binds u (a .0) s (stepped s tr .state)
   assign-whole size u a e f h q =
       subst (λ (r : Stepped). Asks s r × Binds u (a .0) s (r .state))
-      (sym (outstanding (Assign u a) e ∙ traces.assign-whole s u a tr f (q ∙ sym (assign-symbols u (a .0) h)))) (
+      (sym (outstanding (Assign u a) e ∙ traces.assign-whole s u a tr f (q ∙ sym (assign-symbols-small u a h)))) (
         asks s (bound s u (a .0)) (bound-gets s u (a .0)) (starting-bound s u (a .0)),
         binds-kept u (a .0) s (bound s u (a .0)) (asked (bound s u (a .0)) .state) (binds s u (a .0) size h) (keeps-asked (bound s u (a .0))),
       )
@@ -322,7 +314,7 @@ module _ (s : Controller) (tr : List ℕ) where
   -- any other answer: no binding, Get UDID again
   pub assign-other : (u : Udid) (a : Address) → s .last ≡ Assign u a → a .0 < 128 → (tr ≡ assignTrace (udidBytes u) (2 * a .0) → ⊥) → Continues s (stepped s tr)
   assign-other u a e h n =
-      subst (Continues s) (sym (outstanding (Assign u a) e ∙ traces.assign-other s u a tr (λ q. n (q ∙ assign-symbols u (a .0) h)))) (continues s)
+      subst (Continues s) (sym (outstanding (Assign u a) e ∙ traces.assign-other s u a tr (λ q. n (q ∙ assign-symbols-small u a h)))) (continues s)
 
   -- a number above 127 is no address: nothing is bound
   pub assign-no-address : (u : Udid) (a : Address) → s .last ≡ Assign u a → 127 < a .0 → Continues s (stepped s tr)

@@ -4,22 +4,18 @@ use Prim.Native.Nat.{ℕ, _*_, _%_, _≤_, _<_}
 use mathlib.Core.Path.{_≡_, refl, sym, ap, ap₂, _∙_, subst}
 use mathlib.Core.Bool.{Bool, true, false}
 use mathlib.Core.List.{List, [], _∷_, _++_}
-use native.Mathlib.Nat.{mod-eq-of-lt}
 use native.Mathlib.Omega.{arith}
 use lib.Dec.{ltb, eqb}
-use lib.ListN.{length, getD, drop, length-append, length-drop}
+use lib.ListN.{length, getD, drop, length-drop}
 use lib.Seq.{getD-at, split-at}
 use borrow.Author.Tests.{ltb-true, lt-ltb, eqb-true, eq-eqb, ne-eqb}
 use Rattle.lists.specs.Choice.{pick}
-use Rattle.lists.specs.Each.{Bytes, append-bytes}
+use Rattle.lists.specs.Each.{Bytes}
 use Rattle.wire.specs.Addresses.{defaultAddress}
-use Rattle.wire.specs.Pec.{bitStep, pecStep, pecFrom, pecOf}
+use Rattle.wire.specs.declared.address.Address.{Address}
 use Rattle.trace.specs.ShapeLaws.{sane, both-true}
-use Rattle.trace.specs.Rows.{rows}
-use Rattle.trace.specs.Lengths.{traceLength}
-use Rattle.trace.specs.LengthLaws.{trace-length}
 use Rattle.trace.specs.Shapes.{shapeOf}
-use Rattle.trace.specs.Trace.{Message, acked, trace, Valid}
+use Rattle.trace.specs.Trace.{Message, trace, Valid}
 use Rattle.trace.specs.declared.transaction.Transaction.{Transaction}
 use Rattle.step.specs.AnswersLaws as step
 use Rattle.step.specs.Answers.{CutAt, Carries, summary}
@@ -28,101 +24,16 @@ use Rattle.step.specs.declared.answer.Decoded.{Decoded}
 use Rattle.step.specs.declared.answer.Decoded.the-variants.{Done, Forbidden, BufferTooShort, NoSymbol, EndsEarly, Unexpected, NotAcknowledged, PecDiffers, AfterStop}
 use Rattle.encode.specs.Encode.{message}
 use Rattle.udid.specs.Bytes.{udidBytes, udidAt}
-use Rattle.udid.specs.UdidLaws.{udid-bytes, length-udid, udid-back, bytes-back, same-equal, same-refl}
+use Rattle.udid.specs.UdidLaws.{length-udid, udid-back, bytes-back, same-equal, same-refl}
 use Rattle.udid.specs.Udids.{Fits, sameUdid}
 use Rattle.udid.specs.declared.Udid.{Udid}
-use Rattle.wire.specs.declared.address.Address.{Address}
+use Rattle.arp.specs.RequestLaws.{valid-prepare, valid-get, length-assign, valid-assign}
 use Rattle.arp.specs.Bindings.{bound}
 use Rattle.arp.specs.Controller.{asked, handed, replied, onReply, onPrepare, onGet, onAssign, afterPrepare, afterGet, afterAssign}
 use Rattle.arp.specs.Heard.{sendByte, blockRead, blockWrite, answer, sentIn, receivedIn, isCommand, isPrepare, isGet, names, isAssign}
 use Rattle.arp.specs.Requests.{assignData, messageOf, traceOf}
 use Rattle.arp.specs.declared.command.Command.the-variants.{Prepare, GetUdid, Assign, Ended, Abandoned}
 use Rattle.arp.specs.declared.state.Controller.{Controller}
-
--- ---- the three messages are valid
-
-pub valid-prepare : Valid (shapeOf sendByte) (messageOf Prepare [])
-valid-prepare = record {
-  address = omega arith;
-  direction = refl;
-  command = refl;
-  sent-length = refl;
-  sent-bytes = (omega arith, tt);
-  received-length = refl;
-  received-bytes = tt;
-  counts = omega arith;
-}
-
-pub valid-get : (xs : List ℕ) → Bytes xs → length xs ≤ 255 → Valid (shapeOf blockRead) (messageOf GetUdid xs)
-valid-get xs h l = record {
-  address = omega arith;
-  direction = refl;
-  command = (omega arith, tt);
-  sent-length = refl;
-  sent-bytes = tt;
-  received-length = omega arith;
-  received-bytes = h;
-  counts = omega arith;
-}
-
-pub length-assign : (u : Udid) (a : ℕ) → length (assignData u a) ≡ 17
-length-assign u a = length-append (udidBytes u) (2 * (a % 128) ∷ []) ∙ omega (arith, length-udid u)
-
--- an Assign has 44 symbols
-pub assign-length : (u : Udid) (a : Address) → length (traceOf (Assign u a) []) ≡ 44
-unfolding traceLength
-assign-length u a = trace-length (shapeOf 8) true (messageOf (Assign u a) []) ∙ omega (arith, length-assign u (a .0))
-
-pub valid-assign : (u : Udid) (a : Address) → Valid (shapeOf blockWrite) (messageOf (Assign u a) [])
-valid-assign u a = record {
-  address = omega arith;
-  direction = refl;
-  command = (omega arith, tt);
-  sent-length = omega arith;
-  sent-bytes = append-bytes (udidBytes u) (2 * (a .0 % 128) ∷ []) (udid-bytes u) (omega arith, tt);
-  received-length = refl;
-  received-bytes = tt;
-  counts = omega (arith, length-assign u (a .0));
-}
-
--- ---- their symbols, written out: 256 S, 257 P, 258 A, 259 N, and 194 and 195 the address bytes of 61h
-
--- Prepare To ARP is the marked case M2
-pub prepare-trace : traceOf Prepare [] ≡ 256 ∷ 194 ∷ 258 ∷ 1 ∷ 258 ∷ 192 ∷ 258 ∷ 257 ∷ []
-unfolding pecFrom pecStep bitStep
-prepare-trace = refl
-
--- whatever is given as a reply, which Prepare has none of
-pub prepare-whatever : (reply : List ℕ) → traceOf Prepare reply ≡ 256 ∷ 194 ∷ 258 ∷ 1 ∷ 258 ∷ 192 ∷ 258 ∷ 257 ∷ []
-unfolding pecFrom pecStep bitStep
-prepare-whatever reply = refl
-
--- Get UDID with the 17 bytes of a reply: S C2 A 03 A S C3 A 11 A, each byte with A, PEC N P
-pub get-row : (xs : List ℕ) → length xs ≡ 17 → traceOf GetUdid xs
-    ≡ 256 ∷ 194 ∷ 258 ∷ 3 ∷ 258 ∷ 256 ∷ 195 ∷ 258 ∷ 17 ∷ 258 ∷ (acked xs ++ pecOf (194 ∷ 3 ∷ 195 ∷ 17 ∷ xs) ∷ 259 ∷ 257 ∷ [])
-get-row xs e =
-    rows .block-read-pec 0x61 0x03 xs
-    ∙ ap (λ (n : ℕ). 256 ∷ 194 ∷ 258 ∷ 3 ∷ 258 ∷ 256 ∷ 195 ∷ 258 ∷ n ∷ 258 ∷ (acked xs ++ pecOf (194 ∷ 3 ∷ 195 ∷ n ∷ xs) ∷ 259 ∷ 257 ∷ [])) e
-
-acked-last : (xs : List ℕ) (b : ℕ) (l : List ℕ) → acked (xs ++ b ∷ []) ++ l ≡ acked xs ++ b ∷ 258 ∷ l
-acked-last [] b l = refl
-acked-last (x ∷ xs) b l = ap (λ (r : List ℕ). x ∷ 258 ∷ r) (acked-last xs b l)
-
--- Assign Address: S C2 A 04 A 11 A, each byte of the identifier with A, twice the address A, PEC A P
-pub assign-row : (u : Udid) (a : Address) → traceOf (Assign u a) []
-    ≡ 256 ∷ 194 ∷ 258 ∷ 4 ∷ 258 ∷ 17 ∷ 258 ∷ (acked (udidBytes u) ++ 2 * (a .0 % 128) ∷ 258 ∷ pecOf (194 ∷ 4 ∷ 17 ∷ (udidBytes u ++ 2 * (a .0 % 128) ∷ [])) ∷ 258 ∷ 257 ∷ [])
-assign-row u a =
-    let d : List ℕ = udidBytes u ++ 2 * (a .0 % 128) ∷ [] in
-    rows .block-write-pec 0x61 0x04 (assignData u (a .0))
-    ∙ ap (λ (n : ℕ). 256 ∷ 194 ∷ 258 ∷ 4 ∷ 258 ∷ n ∷ 258 ∷ (acked d ++ pecOf (194 ∷ 4 ∷ n ∷ d) ∷ 258 ∷ 257 ∷ [])) (length-assign u (a .0))
-    ∙ ap (λ (l : List ℕ). 256 ∷ 194 ∷ 258 ∷ 4 ∷ 258 ∷ 17 ∷ 258 ∷ l) (acked-last (udidBytes u) (2 * (a .0 % 128)) (pecOf (194 ∷ 4 ∷ 17 ∷ d) ∷ 258 ∷ 257 ∷ []))
-
--- of a 7-bit address, the byte is twice the address itself
-pub assign-row-small : (u : Udid) (a : Address) → a .0 < 128 → traceOf (Assign u a) []
-    ≡ 256 ∷ 194 ∷ 258 ∷ 4 ∷ 258 ∷ 17 ∷ 258 ∷ (acked (udidBytes u) ++ 2 * a .0 ∷ 258 ∷ pecOf (194 ∷ 4 ∷ 17 ∷ (udidBytes u ++ 2 * a .0 ∷ [])) ∷ 258 ∷ 257 ∷ [])
-assign-row-small u a h =
-    assign-row u a
-    ∙ ap (λ (n : ℕ). 256 ∷ 194 ∷ 258 ∷ 4 ∷ 258 ∷ 17 ∷ 258 ∷ (acked (udidBytes u) ++ 2 * n ∷ 258 ∷ pecOf (194 ∷ 4 ∷ 17 ∷ (udidBytes u ++ 2 * n ∷ [])) ∷ 258 ∷ 257 ∷ [])) (mod-eq-of-lt h)
 
 -- ---- what the decoder says of them
 

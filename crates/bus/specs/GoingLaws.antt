@@ -31,11 +31,11 @@ use Rattle.targets.specs.ReplyLaws.{Least}
 use Rattle.targets.specs.declared.admit.Checked.the-variants.{Admitted}
 use Rattle.targets.specs.declared.winner.Winner.{Winner}
 use Rattle.targets.specs.declared.winner.Winner.the-variants as winner
+use Rattle.arp.specs.ChosenLaws.{chosen-good}
 use Rattle.arp.specs.Bindings.{bound, freed}
 use Rattle.arp.specs.Controller.{handed, counted, asked, issued, chosen, replied, onAssign, afterPrepare, afterGet, afterAssign, byCommand, stepped, started, newController}
 use Rattle.arp.specs.Heard.{answer, sentIn, blockWrite, isAssign}
 use Rattle.arp.specs.Requests.{traceOf}
-use Rattle.arp.specs.HistoryLaws.{chosen-good}
 use Rattle.arp.specs.TraceLaws.{prepare-accepted}
 use Rattle.arp.specs.declared.command.Command.{Command}
 use Rattle.arp.specs.declared.command.Command.the-variants.{Nothing, Prepare, GetUdid, Assign, Ended, NoneFree, Abandoned, NotOutstanding}

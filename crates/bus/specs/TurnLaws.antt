@@ -35,8 +35,8 @@ use Rattle.targets.specs.WinnerLaws.{Unresolved, Wins, Won, winner-exactly, lea
 use Rattle.targets.specs.declared.admit.Checked.the-variants.{Admitted}
 use Rattle.targets.specs.declared.winner.Winner.{Winner}
 use Rattle.targets.specs.declared.winner.Winner.the-variants as winner
+use Rattle.arp.specs.RequestLaws.{assign-length}
 use Rattle.arp.specs.SendingLaws.{assign-sent}
-use Rattle.arp.specs.TraceLaws.{assign-length}
 use Rattle.arp.specs.Bindings.{bound, freed}
 use Rattle.arp.specs.Controller.{handed, counted, asked, issued, chosen, replied, afterPrepare, afterGet, afterAssign, byCommand, stepped, started, newController}
 use Rattle.arp.specs.Requests.{messageOf, traceOf}

@@ -4,5 +4,4 @@ pub mod Demand1
 pub mod Demand2
 pub mod Refusals
 pub mod Demand3
-pub mod Controller
 pub mod Steps

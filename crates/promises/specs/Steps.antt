@@ -18,6 +18,7 @@ use Rattle.pool.specs.declared.Pool.{Pool}
 use Rattle.udid.specs.Bytes.{udidBytes, udidAt}
 use Rattle.udid.specs.Udids.{Fits}
 use Rattle.udid.specs.declared.Udid.{Udid}
+use Rattle.arp.specs.RequestLaws.{seventeen}
 use Rattle.arp.specs.Sound.{PendingIn}
 use Rattle.arp.specs.Bindings.{heldAt}
 use Rattle.arp.specs.Controller.{stepped}
@@ -32,7 +33,7 @@ use Rattle.arp.specs.declared.state.Controller.{Controller}
 use Rattle.arp.specs.declared.state.Stepped.{Stepped}
 use Rattle.arp.specs.HeardLaws.{gives-exactly, six-exactly}
 use Rattle.arp.specs.OneStepLaws as arp
-use Rattle.arp.specs.OneResultLaws.{same-trace, six-or-not, six-once, reply-or-not, seventeen, continues-both, ends-both, binds-both, replies-both, chosen-one}
+use Rattle.arp.specs.OneResultLaws.{same-trace, six-or-not, six-once, reply-or-not, continues-both, ends-both, binds-both, replies-both, chosen-one}
 use Rattle.arp.specs.HistoryLaws.{good-run}
 
 -- r is what comes of the state s and the trace tr
