@@ -21,10 +21,10 @@ use Rattle.pool.specs.declared.free.Free.{Free}
 use Rattle.pool.specs.declared.free.Free.the-variants.{At, AllUsed}
 use Rattle.udid.specs.Bytes.{udidAt}
 use Rattle.udid.specs.declared.Udid.{Udid}
-use Rattle.arp.specs.HistoryLaws.{good-run}
+use Rattle.arp.specs.HistoryLaws.{reached-good}
 use Rattle.arp.specs.LookupLaws.{lookup-0}
-use Rattle.arp.specs.SoundLaws.{held-same, held-other, held-cases, bound-to, not-open, open-all, find-cases}
-use Rattle.arp.specs.TraceLaws.{assign-only, assign-whole}
+use Rattle.arp.specs.SoundLaws.{held-same, held-other, held-cases, bound-to-is-bound, open-is-not-bound, open-all, find-cases}
+use Rattle.arp.specs.TraceLaws.{complete-assign-is-its-trace, assign-whole}
 use Rattle.arp.specs.Numbers.{lookupNumber}
 use Rattle.arp.specs.Sound.{Pending, PendingIn, GoodState}
 use Rattle.arp.specs.Bindings.{openSlot, heldAt, boundTo, findFrom, freedAt, freed, slotFor, bound}
@@ -77,7 +77,7 @@ freed-claims s u i e = go (findFrom u (s .slots) 128 0) (find-cases u (s .slots)
     go f (inl r) = rw (lt-ltb 127 f (omega (arith, r .0))) e
     go f (inr r) =
         rw (le-ltb 127 f (omega (arith, r .0)))
-        (held-other (s .slots) f i openSlot (λ q. absurd (let z : _≡_ {A = ℕ} 0 1 = cc (bound-to u (heldAt (s .slots) f) (r .1), ap (heldAt (s .slots)) q, e) in omega arith)) ∙ e)
+        (held-other (s .slots) f i openSlot (λ q. absurd (let z : _≡_ {A = ℕ} 0 1 = cc (bound-to-is-bound u (heldAt (s .slots) f) (r .1), ap (heldAt (s .slots)) q, e) in omega arith)) ∙ e)
 
 slot-held : (b : Bool) (u w : Udid) → slotFor b u .held ≡ Bound w → u ≡ w
 slot-held true u w e = absurd (let z : _≡_ {A = ℕ} 0 1 = cc e in omega arith)
@@ -160,7 +160,7 @@ module _ (P : List Slot → Type 0) (s : Controller) (u : Udid) (a : Address) (t
   assign-slots (Done t) e = go (isAssign u (a .0) t (sentIn blockWrite tr)) refl
     where
       go : (q : Bool) → isAssign u (a .0) t (sentIn blockWrite tr) ≡ q → P (pick q (asked (bound s u (a .0))) (asked s) .state .slots)
-      go true h = subst P (sym (asked-slots (bound s u (a .0)))) (f (assign-only s u a tr t e h))
+      go true h = subst P (sym (asked-slots (bound s u (a .0)))) (f (complete-assign-is-its-trace s u a tr t e h))
       go false h = as-was
   assign-slots (NotAcknowledged b) e = as-was
   assign-slots Forbidden e = as-was
@@ -176,9 +176,9 @@ module _ (occupied : Pool) (s : Controller) (tr : List ℕ) (g : GoodState occup
   abbrev From : Udid → ℕ → Type 0
   From w a = (heldAt (s .slots) a ≡ Bound w) ⊎ ((s .last ≡ Assign w (address a)) × (tr ≡ traceOf (Assign w (address a)) []))
 
-  pub step-held : (a : ℕ) (w : Udid) → heldAt (stepped s tr .state .slots) a ≡ Bound w → From w a
+  bound-before-or-assigned : (a : ℕ) (w : Udid) → heldAt (stepped s tr .state .slots) a ≡ Bound w → From w a
   unfolding stepped afterPrepare afterGet afterAssign
-  step-held a w e = go (s .last) refl (g .1) e
+  bound-before-or-assigned a w e = go (s .last) refl (g .1) e
     where
       bound-by : (u : Udid) (b : Address) → s .last ≡ Assign u b → Pending s u (b .0) → tr ≡ traceOf (Assign u b) [] → heldAt (bound s u (b .0) .slots) a ≡ Bound w → From w a
       bound-by u b q p t k = at (bound-held s u w (b .0) a (g .0 .sound .size) (p .small) k)
@@ -202,9 +202,9 @@ module _ (occupied : Pool) (s : Controller) (tr : List ℕ) (g : GoodState occup
       go NotOutstanding q p k = inl k
 
   -- an address claimed by two stays so
-  pub step-claimed : (a : ℕ) → heldAt (s .slots) a ≡ Claimed → heldAt (stepped s tr .state .slots) a ≡ Claimed
+  step-keeps-claim : (a : ℕ) → heldAt (s .slots) a ≡ Claimed → heldAt (stepped s tr .state .slots) a ≡ Claimed
   unfolding stepped afterPrepare afterGet afterAssign
-  step-claimed a e = go (s .last) (g .1)
+  step-keeps-claim a e = go (s .last) (g .1)
     where
       claimed-by : (u : Udid) (b : Address) → Pending s u (b .0) → heldAt (bound s u (b .0) .slots) a ≡ Claimed
       claimed-by u b p = at (ℕ-discrete a (b .0))
@@ -234,10 +234,10 @@ module _ (occupied : Pool) (s : Controller) (tr : List ℕ) (g : GoodState occup
       go NotOutstanding p = e
 
   -- an Assign that completes: its target is bound there, or the address is claimed where it was in the pool
-  pub step-assigned : (u : Udid) (a : ℕ) → s .last ≡ Assign u (address a) → tr ≡ traceOf (Assign u (address a)) []
+  pub complete-assign-binds-or-claims : (u : Udid) (a : ℕ) → s .last ≡ Assign u (record { 0 = a }) → tr ≡ traceOf (Assign u (record { 0 = a })) []
       → lookedUp (stepped s tr .state) a ≡ pick (member (s .pool) a) found.Two (found.Bound u)
   unfolding stepped
-  step-assigned u a q t =
+  complete-assign-binds-or-claims u a q t =
       let p : Pending s u a = subst (PendingIn s) q (g .1) in
       let h : a < 128 = p .small in
       ap (λ (k : Command). lookedUp (byCommand s tr k .state) a) q
@@ -251,15 +251,15 @@ module _ (occupied : Pool) (s : Controller) (tr : List ℕ) (g : GoodState occup
       known true = refl
       known false = refl
 
--- ---- the lookup
+-- ---- bindings
 
 pub bound-acknowledged : (occupied : Pool) (es : List Event) (a : ℕ) (u : Udid) → heldAt (run occupied es .slots) a ≡ Bound u → Acknowledged occupied es u a
 unfolding run Acknowledged
-bound-acknowledged occupied [] a u e = not-open _ u (open-all a) e
-bound-acknowledged occupied (Start ∷ es) a u e = not-open _ u (open-all a) e
-bound-acknowledged occupied (Received tr ∷ es) a u e = go (step-held occupied (run occupied es) tr (good-run occupied es) a u e) (λ k. bound-acknowledged occupied es a u k)
+bound-acknowledged occupied [] a u e = open-is-not-bound _ u (open-all a) e
+bound-acknowledged occupied (Start ∷ es) a u e = open-is-not-bound _ u (open-all a) e
+bound-acknowledged occupied (Received tr ∷ es) a u e = go (bound-before-or-assigned occupied (run occupied es) tr (reached-good occupied es) a u e) (λ k. bound-acknowledged occupied es a u k)
   where
-    go : From occupied (run occupied es) tr (good-run occupied es) u a → (heldAt (run occupied es .slots) a ≡ Bound u → Acknowledged occupied es u a)
+    go : From occupied (run occupied es) tr (reached-good occupied es) u a → (heldAt (run occupied es .slots) a ≡ Bound u → Acknowledged occupied es u a)
         → ((run occupied es .last ≡ Assign u (address a)) × (tr ≡ traceOf (Assign u (address a)) [])) ⊎ Acknowledged occupied es u a
     go (inl k) ih = inr (ih k)
     go (inr k) ih = inl k
@@ -275,4 +275,4 @@ pub claim-stays : (occupied : Pool) (es : List Event) (trs : List (List ℕ)) (a
     → heldAt (run occupied (withTraces trs es) .slots) a ≡ Claimed
 unfolding run
 claim-stays occupied es [] a e = e
-claim-stays occupied es (tr ∷ trs) a e = step-claimed occupied (run occupied (withTraces trs es)) tr (good-run occupied (withTraces trs es)) a (claim-stays occupied es trs a e)
+claim-stays occupied es (tr ∷ trs) a e = step-keeps-claim occupied (run occupied (withTraces trs es)) tr (reached-good occupied (withTraces trs es)) a (claim-stays occupied es trs a e)

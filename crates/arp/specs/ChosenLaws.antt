@@ -9,7 +9,7 @@ use lib.Dec.{eqb}
 use borrow.Author.Tests.{eq-eqb, ne-eqb, eqb-true}
 use Rattle.lists.specs.Choice.{pick}
 use Rattle.wire.specs.declared.address.Address.{Address}
-use Rattle.pool.specs.Free.{freeFrom, lowestFree, used}
+use Rattle.pool.specs.Free.{freeFrom, lowestFree}
 use Rattle.pool.specs.FreeLaws.{lowest-is}
 use Rattle.pool.specs.Pools.{member}
 use Rattle.pool.specs.declared.Pool.{Pool}
@@ -23,28 +23,28 @@ use Rattle.arp.specs.Replay.{lowest, picked, NoneToPick}
 -- ---- the cases
 
 -- FFh: the lowest free one, for every identifier
-pub chosen-none-held : (p : Pool) (u : Udid) → chosen p u 255 ≡ lowestFree p
+pub chosen-ff-lowest : (p : Pool) (u : Udid) → chosen p u 255 ≡ lowestFree p
 unfolding chosen
-chosen-none-held p u = refl
+chosen-ff-lowest p u = refl
 
 -- a fixed target's own, in the pool or not
-pub chosen-fixed : (p : Pool) (u : Udid) (b : ℕ) → (b ≡ 255 → ⊥) → isFixed u ≡ true → chosen p u b ≡ At (record { 0 = b / 2 })
+pub chosen-fixed-own : (p : Pool) (u : Udid) (b : ℕ) → (b ≡ 255 → ⊥) → isFixed u ≡ true → chosen p u b ≡ At (record { 0 = b / 2 })
 unfolding chosen
-chosen-fixed p u b n f = rw (ne-eqb b 255 n, f)
+chosen-fixed-own p u b n f = rw (ne-eqb b 255 n, f)
 
 -- a movable target's own if that is not in the pool, and otherwise the lowest free one
-pub chosen-own : (p : Pool) (u : Udid) (b : ℕ) → (b ≡ 255 → ⊥) → isFixed u ≡ false → member p (b / 2) ≡ false → chosen p u b ≡ At (record { 0 = b / 2 })
+pub chosen-movable-own : (p : Pool) (u : Udid) (b : ℕ) → (b ≡ 255 → ⊥) → isFixed u ≡ false → member p (b / 2) ≡ false → chosen p u b ≡ At (record { 0 = b / 2 })
 unfolding chosen
-chosen-own p u b n f m = rw (ne-eqb b 255 n, f, m)
+chosen-movable-own p u b n f m = rw (ne-eqb b 255 n, f, m)
 
-pub chosen-other : (p : Pool) (u : Udid) (b : ℕ) → (b ≡ 255 → ⊥) → isFixed u ≡ false → member p (b / 2) ≡ true → chosen p u b ≡ lowestFree p
+pub chosen-movable-lowest : (p : Pool) (u : Udid) (b : ℕ) → (b ≡ 255 → ⊥) → isFixed u ≡ false → member p (b / 2) ≡ true → chosen p u b ≡ lowestFree p
 unfolding chosen
-chosen-other p u b n f m = rw (ne-eqb b 255 n, f, m)
+chosen-movable-lowest p u b n f m = rw (ne-eqb b 255 n, f, m)
 
 -- what is chosen has seven bits, and for a movable target it is free
-pub chosen-good : (p : Pool) (u : Udid) (b : ℕ) (a : Address) → b < 256 → chosen p u b ≡ At a → (a .0 < 128) × (isFixed u ≡ false → member p (a .0) ≡ false)
+pub chosen-small-and-free : (p : Pool) (u : Udid) (b : ℕ) (a : Address) → b < 256 → chosen p u b ≡ At a → (a .0 < 128) × (isFixed u ≡ false → member p (a .0) ≡ false)
 unfolding chosen
-chosen-good p u b a h e = go (eqb b 0xFF) (isFixed u) refl (member p (b / 2)) refl e
+chosen-small-and-free p u b a h e = go (eqb b 0xFF) (isFixed u) refl (member p (b / 2)) refl e
   where
     picked : lowestFree p ≡ At a → (a .0 < 128) × (isFixed u ≡ false → member p (a .0) ≡ false)
     picked k = let w = lowest-is p (a .0) .0 k in (w .small, λ q. w .free)
@@ -67,9 +67,9 @@ unfolding freeFrom lowest
 lowest-free p zero a = refl
 lowest-free p (suc n) a = ap (λ (f : Free). pick (member p a) f (At (record { 0 = a }))) (lowest-free p n (suc a))
 
-pub chosen-picked : (p : Pool) (u : Udid) (b : ℕ) → chosen p u b ≡ picked (member p) u b
+pub chosen-is-picked : (p : Pool) (u : Udid) (b : ℕ) → chosen p u b ≡ picked (member p) u b
 unfolding chosen
-chosen-picked p u b =
+chosen-is-picked p u b =
     ap (λ (f : Free). pick (eqb b 0xFF) f (pick (isFixed u) (At (record { 0 = b / 2 })) (pick (member p (b / 2)) f (At (record { 0 = b / 2 }))))) (lowest-free p 128 0)
 
 lowest-full : (used : ℕ → Bool) (n a : ℕ) → lowest used n a ≡ AllUsed → (c : ℕ) → a ≤ c → c < a + n → used c ≡ true
@@ -90,8 +90,8 @@ full-lowest used (suc n) a h =
     ∙ full-lowest used n (suc a) (λ c l k. h c (omega arith) (omega arith))
 
 -- no address to pick: the pool is full, and the byte is FFh or the target is movable with its own address in the pool
-pub picked-none : (used : ℕ → Bool) (u : Udid) (b : ℕ) → (picked used u b ≡ AllUsed) ↔ NoneToPick used u b
-picked-none used u b = (λ e. forth (eqb b 0xFF) refl (isFixed u) refl (used (b / 2)) refl e, λ h. back-to (h .1) h)
+pub none-picked-exactly : (used : ℕ → Bool) (u : Udid) (b : ℕ) → (picked used u b ≡ AllUsed) ↔ NoneToPick used u b
+none-picked-exactly used u b = (λ e. forth (eqb b 0xFF) refl (isFixed u) refl (used (b / 2)) refl e, λ h. back-to (h .1) h)
   where
     never : {a : Address} → At a ≡ AllUsed → ⊥
     never q = let z : _≡_ {A = ℕ} 0 1 = cc q in omega arith
@@ -122,5 +122,5 @@ picked-none used u b = (λ e. forth (eqb b 0xFF) refl (isFixed u) refl (used (b 
         either false = refl
 
 -- 13: the pool is full, and the byte is FFh or the target is movable with its own address in the pool
-pub chosen-none : (p : Pool) (u : Udid) (b : ℕ) → (chosen p u b ≡ AllUsed) ↔ NoneToPick (member p) u b
-chosen-none p u b = subst (λ (f : Free). (f ≡ AllUsed) ↔ NoneToPick (member p) u b) (sym (chosen-picked p u b)) (picked-none (member p) u b)
+pub none-chosen-exactly : (p : Pool) (u : Udid) (b : ℕ) → (chosen p u b ≡ AllUsed) ↔ NoneToPick (member p) u b
+none-chosen-exactly p u b = subst (λ (f : Free). (f ≡ AllUsed) ↔ NoneToPick (member p) u b) (sym (chosen-is-picked p u b)) (none-picked-exactly (member p) u b)

@@ -19,11 +19,11 @@ use Rattle.pool.specs.declared.free.Free.{Free}
 use Rattle.pool.specs.declared.free.Free.the-variants.{At, AllUsed}
 use Rattle.udid.specs.Bytes.{udidAt}
 use Rattle.udid.specs.declared.Udid.{Udid}
-use Rattle.arp.specs.ChosenLaws.{chosen-picked}
-use Rattle.arp.specs.HandingLaws.{bound-gets, gets-are-sent}
-use Rattle.arp.specs.HistoryLaws.{good-run}
-use Rattle.arp.specs.OutstandingLaws.{last-handed}
-use Rattle.arp.specs.TableLaws.{freed-view, view-table}
+use Rattle.arp.specs.ChosenLaws.{chosen-is-picked}
+use Rattle.arp.specs.HandingLaws.{bound-keeps-gets, gets-are-sent}
+use Rattle.arp.specs.HistoryLaws.{reached-good}
+use Rattle.arp.specs.OutstandingLaws.{last-is-handed-out}
+use Rattle.arp.specs.TableLaws.{freed-as-replied, view-is-table}
 use Rattle.arp.specs.Story.{Story, onward, story}
 use Rattle.arp.specs.Sound.{SoundIn}
 use Rattle.arp.specs.Bindings.{freed, bound}
@@ -67,7 +67,7 @@ module _ (s : Controller) where
   assign-command u n (Done t) xs = go (isAssign u n t xs)
     where
       go : (q : Bool) → pick q (asked (bound s u n)) (asked s) .command ≡ again (s .gets)
-      go true = asked-command (bound s u n) ∙ ap again (bound-gets s u n)
+      go true = asked-command (bound s u n) ∙ ap again (bound-keeps-gets s u n)
       go false = asked-command s
   assign-command u n (NotAcknowledged b) xs = asked-command s
   assign-command u n Forbidden xs = asked-command s
@@ -83,8 +83,8 @@ module _ (s : Controller) (v : SoundIn s) where
   unfolding replied
   replied-command u b =
       issued-command (freed s u) u (chosen (freed s u .pool) u b)
-      ∙ ap (assigning u) (chosen-picked (freed s u .pool) u b)
-      ∙ ap (λ (t : Table). assigning u (picked (t .used) u b)) (freed-view (member (s .pool)) s v u)
+      ∙ ap (assigning u) (chosen-is-picked (freed s u .pool) u b)
+      ∙ ap (λ (t : Table). assigning u (picked (t .used) u b)) (freed-as-replied (member (s .pool)) s v u)
 
   reply-command : (t : Transaction) (xs : List ℕ) → onReply s t xs .command ≡ nextReply (view s) (s .gets) (Done t) xs
   unfolding onReply
@@ -140,23 +140,23 @@ same-next t n k m tr (inl e) = ap (λ (x : Command). nextCommand t n x tr) e
 same-next t n k m tr (inr h) = idle-next t n k tr (h .0) ∙ sym (idle-next t n m tr (h .1))
 
 -- EACH COMMAND THAT A STEP HANDS OUT is the one that the table, the count of Get UDIDs and the command outstanding give
-pub step-hands-out : (occupied : Pool) (es : List Event) (tr : List ℕ)
+pub handed-out-by-table : (occupied : Pool) (es : List Event) (tr : List ℕ)
     → stepped (run occupied es) tr .command ≡ nextCommand (table occupied es) (getsSent occupied es) (handedOut occupied es) tr
-step-hands-out occupied es tr =
-    step-command (run occupied es) (good-run occupied es .0 .sound) tr
-    ∙ same-next (view (run occupied es)) (run occupied es .gets) (run occupied es .last) (handedOut occupied es) tr (last-handed occupied es)
-    ∙ ap₂ (λ (t : Table) (n : ℕ). nextCommand t n (handedOut occupied es) tr) (view-table occupied es) (gets-are-sent occupied es)
+handed-out-by-table occupied es tr =
+    step-command (run occupied es) (reached-good occupied es .0 .sound) tr
+    ∙ same-next (view (run occupied es)) (run occupied es .gets) (run occupied es .last) (handedOut occupied es) tr (last-is-handed-out occupied es)
+    ∙ ap₂ (λ (t : Table) (n : ℕ). nextCommand t n (handedOut occupied es) tr) (view-is-table occupied es) (gets-are-sent occupied es)
 
 -- ---- by the events alone
 
 stories : (x y : Story) → x .known ≡ y .known → x .gets ≡ y .gets → x .command ≡ y .command → x ≡ y
 stories x y p q r = λ i. record { known = p i; gets = q i; command = r i }
 
-pub told : (occupied : Pool) (es : List Event) → record { known = table occupied es; gets = getsSent occupied es; command = handedOut occupied es } ≡ story occupied es
+pub table-is-story : (occupied : Pool) (es : List Event) → record { known = table occupied es; gets = getsSent occupied es; command = handedOut occupied es } ≡ story occupied es
 unfolding story table getsSent handedOut
-told occupied [] = refl
-told occupied (Start ∷ es) = refl
-told occupied (Received tr ∷ es) =
+table-is-story occupied [] = refl
+table-is-story occupied (Start ∷ es) = refl
+table-is-story occupied (Received tr ∷ es) =
     stories
     (record {
       known = after (member (startingPool occupied)) (readAs (handedOut occupied es) tr) (table occupied es);
@@ -165,6 +165,6 @@ told occupied (Received tr ∷ es) =
     })
     (onward (member (startingPool occupied)) (Received tr) (record { known = table occupied es; gets = getsSent occupied es; command = handedOut occupied es }))
     refl
-    (ap (λ (k : Command). getsSent occupied es + oneGet k) (step-hands-out occupied es tr))
-    (step-hands-out occupied es tr)
-    ∙ ap (onward (member (startingPool occupied)) (Received tr)) (told occupied es)
+    (ap (λ (k : Command). getsSent occupied es + oneGet k) (handed-out-by-table occupied es tr))
+    (handed-out-by-table occupied es tr)
+    ∙ ap (onward (member (startingPool occupied)) (Received tr)) (table-is-story occupied es)

@@ -20,7 +20,7 @@ use Rattle.pool.specs.declared.free.Free.the-variants.{At, AllUsed}
 use Rattle.udid.specs.Bytes.{udidAt}
 use Rattle.udid.specs.Udids.{isFixed}
 use Rattle.udid.specs.declared.Udid.{Udid}
-use Rattle.arp.specs.HistoryLaws.{good-run}
+use Rattle.arp.specs.HistoryLaws.{reached-good}
 use Rattle.arp.specs.Handing.{Handed}
 use Rattle.arp.specs.Sound.{Pending, PendingIn}
 use Rattle.arp.specs.Bindings.{findFrom, freedAt, freed, boundAt, bound}
@@ -44,17 +44,17 @@ asked-handed s = go (leb 128 (s .gets))
     go false = record { last = refl; gets = refl }
 
 -- unbinding and binding count nothing
-pub freed-gets : (s : Controller) (u : Udid) → freed s u .gets ≡ s .gets
+pub freed-keeps-gets : (s : Controller) (u : Udid) → freed s u .gets ≡ s .gets
 unfolding freed
-freed-gets s u = go (ltb 127 (findFrom u (s .slots) 128 0))
+freed-keeps-gets s u = go (ltb 127 (findFrom u (s .slots) 128 0))
   where
     go : (t : Bool) → pick t s (freedAt s (findFrom u (s .slots) 128 0)) .gets ≡ s .gets
     go true = refl
     go false = refl
 
-pub bound-gets : (s : Controller) (u : Udid) (a : ℕ) → bound s u a .gets ≡ s .gets
+pub bound-keeps-gets : (s : Controller) (u : Udid) (a : ℕ) → bound s u a .gets ≡ s .gets
 unfolding bound
-bound-gets s u a = go (ltb 127 a)
+bound-keeps-gets s u a = go (ltb 127 a)
   where
     go : (t : Bool) → pick t s (boundAt s u a) .gets ≡ s .gets
     go true = refl
@@ -65,8 +65,8 @@ from s r x e h = record { last = h .last; gets = h .gets ∙ ap (λ (n : ℕ). n
 
 module _ (s : Controller) where
   issued-handed : (u : Udid) (k : Free) → Handed s (issued (freed s u) u k)
-  issued-handed u (At a) = from s (freed s u) (issued (freed s u) u (At a)) (freed-gets s u) (plain (freed s u) (Assign u a) refl)
-  issued-handed u AllUsed = from s (freed s u) (issued (freed s u) u AllUsed) (freed-gets s u) (plain (freed s u) (NoneFree u) refl)
+  issued-handed u (At a) = from s (freed s u) (issued (freed s u) u (At a)) (freed-keeps-gets s u) (plain (freed s u) (Assign u a) refl)
+  issued-handed u AllUsed = from s (freed s u) (issued (freed s u) u AllUsed) (freed-keeps-gets s u) (plain (freed s u) (NoneFree u) refl)
 
   reply-handed : (t : Transaction) (xs : List ℕ) → Handed s (onReply s t xs)
   unfolding onReply replied
@@ -111,7 +111,7 @@ module _ (s : Controller) where
   assign-handed u n (Done t) xs = go (isAssign u n t xs)
     where
       go : (q : Bool) → Handed s (pick q (asked (bound s u n)) (asked s))
-      go true = from s (bound s u n) (asked (bound s u n)) (bound-gets s u n) (asked-handed (bound s u n))
+      go true = from s (bound s u n) (asked (bound s u n)) (bound-keeps-gets s u n) (asked-handed (bound s u n))
       go false = asked-handed s
   assign-handed u n (NotAcknowledged b) xs = asked-handed s
   assign-handed u n Forbidden xs = asked-handed s
@@ -123,9 +123,9 @@ module _ (s : Controller) where
   assign-handed u n (AfterStop k) xs = asked-handed s
 
   -- 21 with the state as it was, or something handed out and kept
-  pub step-handed : (tr : List ℕ) → ((stepped s tr .command ≡ NotOutstanding) × (stepped s tr .state ≡ s)) ⊎ Handed s (stepped s tr)
+  pub step-21-or-handed : (tr : List ℕ) → ((stepped s tr .command ≡ NotOutstanding) × (stepped s tr .state ≡ s)) ⊎ Handed s (stepped s tr)
   unfolding stepped afterPrepare afterGet afterAssign
-  step-handed tr = go (s .last)
+  step-21-or-handed tr = go (s .last)
     where
       go : (k : Command) → ((byCommand s tr k .command ≡ NotOutstanding) × (byCommand s tr k .state ≡ s)) ⊎ Handed s (byCommand s tr k)
       go Nothing = inl (refl, refl)
@@ -142,7 +142,7 @@ pub gets-are-sent : (occupied : Pool) (es : List Event) → run occupied es .get
 unfolding run getsSent
 gets-are-sent occupied [] = refl
 gets-are-sent occupied (Start ∷ es) = refl
-gets-are-sent occupied (Received tr ∷ es) = go (step-handed (run occupied es) tr) (gets-are-sent occupied es)
+gets-are-sent occupied (Received tr ∷ es) = go (step-21-or-handed (run occupied es) tr) (gets-are-sent occupied es)
   where
     go : ((stepped (run occupied es) tr .command ≡ NotOutstanding) × (stepped (run occupied es) tr .state ≡ run occupied es)) ⊎ Handed (run occupied es) (stepped (run occupied es) tr)
         → run occupied es .gets ≡ getsSent occupied es
@@ -155,7 +155,7 @@ pub claims-are-fixed : (occupied : Pool) (es : List Event) (u : Udid) (a : Addre
 claims-are-fixed occupied es u a e h = go (isFixed u) refl
   where
     p : Pending (run occupied es) u (a .0)
-    p = subst (PendingIn (run occupied es)) e (good-run occupied es .1)
+    p = subst (PendingIn (run occupied es)) e (reached-good occupied es .1)
 
     go : (b : Bool) → isFixed u ≡ b → isFixed u ≡ true
     go true q = q

@@ -1,4 +1,4 @@
--- Every state that starts and received traces reach is sound: the invariant of specs/History.antt.
+-- Every state that starts and received traces reach is sound, so the invariant of specs/History.antt holds in it; and what a new controller is.
 use Prim.Native.Nat.{ℕ, zero, suc, _<_}
 use mathlib.Core.Path.{_≡_, refl, sym, ap, _∙_}
 use mathlib.Core.Bool.{Bool, true, false}
@@ -25,7 +25,7 @@ use Rattle.udid.specs.UdidLaws.{fits-at}
 use Rattle.udid.specs.Udids.{Fits}
 use Rattle.udid.specs.WindowLaws.{byte-at}
 use Rattle.udid.specs.declared.Udid.{Udid}
-use Rattle.arp.specs.ChosenLaws.{chosen-good}
+use Rattle.arp.specs.ChosenLaws.{chosen-small-and-free}
 use Rattle.arp.specs.SoundLaws.{sound-open, sound-freed, sound-bound, open-all}
 use Rattle.arp.specs.Sound.{SoundIn, Good, Pending, PendingIn, GoodState}
 use Rattle.arp.specs.Bindings.{heldAt, findFrom, freedAt, freed, boundAt, bound}
@@ -44,8 +44,8 @@ lows-bytes : (n : ℕ) (l : List ℕ) → Bytes (lows n l)
 lows-bytes zero l = tt
 lows-bytes (suc n) l = (omega arith, lows-bytes n (drop 2 l))
 
-pub received-bytes : (protocol : ℕ) (tr : List ℕ) → Bytes (receivedIn protocol tr)
-received-bytes protocol tr = lows-bytes (receivedLength (answer protocol tr)) (drop (receivedPlace true (receivedLength (answer protocol tr)) (length tr)) tr)
+pub received-are-bytes : (protocol : ℕ) (tr : List ℕ) → Bytes (receivedIn protocol tr)
+received-are-bytes protocol tr = lows-bytes (receivedLength (answer protocol tr)) (drop (receivedPlace true (receivedLength (answer protocol tr)) (length tr)) tr)
 
 -- ---- each function of the step keeps the state good
 
@@ -90,7 +90,7 @@ module _ (occupied : Pool) where
 
       go : (k : Free) → chosen (freed s u .pool) u b ≡ k → GoodState occupied (issued (freed s u) u k .state)
       go (At a) e =
-          let c = chosen-good (freed s u .pool) u b a h e in
+          let c = chosen-small-and-free (freed s u .pool) u b a h e in
           (record { sound = v .sound; gets = v .gets; starting = v .starting }, record { small = c .0; unbound = sound-freed s u (g .sound) .1; fits = f; free = c .1 })
       go AllUsed e = (record { sound = v .sound; gets = v .gets; starting = v .starting }, tt)
 
@@ -148,14 +148,14 @@ module _ (occupied : Pool) where
   good-assign s u n (PecDiffers k) xs g p = good-asked s g
   good-assign s u n (AfterStop k) xs g p = good-asked s g
 
-  pub good-step : (s : Controller) (tr : List ℕ) → GoodState occupied s → GoodState occupied (stepped s tr .state)
+  pub step-keeps-good : (s : Controller) (tr : List ℕ) → GoodState occupied s → GoodState occupied (stepped s tr .state)
   unfolding stepped afterPrepare afterGet afterAssign
-  good-step s tr g = go (s .last) (g .1)
+  step-keeps-good s tr g = go (s .last) (g .1)
     where
       go : (k : Command) → PendingIn s k → GoodState occupied (byCommand s tr k .state)
       go Nothing p = g
       go Prepare p = good-prepare s (answer sendByte tr) (sentIn sendByte tr) (g .0)
-      go GetUdid p = good-get s (answer blockRead tr) (receivedIn blockRead tr) (g .0) (received-bytes blockRead tr)
+      go GetUdid p = good-get s (answer blockRead tr) (receivedIn blockRead tr) (g .0) (received-are-bytes blockRead tr)
       go (Assign u a) p = good-assign s u (a .0) (answer blockWrite tr) (sentIn blockWrite tr) (g .0) p
       go Ended p = g
       go (NoneFree u) p = g
@@ -163,12 +163,12 @@ module _ (occupied : Pool) where
       go NotOutstanding p = g
 
   -- EVERY STATE
-  pub good-run : (es : List Event) → GoodState occupied (run occupied es)
+  pub reached-good : (es : List Event) → GoodState occupied (run occupied es)
   unfolding run
-  good-run [] = (record { sound = sound-open (startingPool occupied); gets = omega arith; starting = refl }, tt)
-  good-run (Start ∷ es) =
-      (record { sound = sound-open (run occupied es .starting); gets = omega arith; starting = good-run es .0 .starting }, tt)
-  good-run (Received tr ∷ es) = good-step (run occupied es) tr (good-run es)
+  reached-good [] = (record { sound = sound-open (startingPool occupied); gets = omega arith; starting = refl }, tt)
+  reached-good (Start ∷ es) =
+      (record { sound = sound-open (run occupied es .starting); gets = omega arith; starting = reached-good es .0 .starting }, tt)
+  reached-good (Received tr ∷ es) = step-keeps-good (run occupied es) tr (reached-good es)
 
 -- ---- the invariant, as specs/History.antt has it
 
@@ -180,10 +180,10 @@ or-held true = refl
 or-held false = refl
 
 -- EVERY STATE that starts and received traces reach
-pub reached : (occupied : Pool) (es : List Event) → Invariant occupied (run occupied es)
+pub reached-invariant : (occupied : Pool) (es : List Event) → Invariant occupied (run occupied es)
 unfolding used
-reached occupied es = record {
-  starting = good-run occupied es .0 .starting;
+reached-invariant occupied es = record {
+  starting = reached-good occupied es .0 .starting;
   contains = λ a e. v .exact a ∙ or-true (member (s .starting) a) (isHeld (heldAt (s .slots) a)) e;
   bound-used = λ a u e. held-used a (Bound u) e refl;
   bound-new = λ a u e. v .new a u e;
@@ -193,14 +193,14 @@ reached occupied es = record {
   claimed-used = λ a e. held-used a Claimed e refl;
   number = count-split (member (s .starting)) (λ a. isHeld (heldAt (s .slots) a)) (member (s .pool)) 128 (λ a h. v .exact a);
   size = v .size;
-  gets = good-run occupied es .0 .gets;
+  gets = reached-good occupied es .0 .gets;
 }
   where
     s : Controller
     s = run occupied es
 
     v : SoundIn (run occupied es)
-    v = good-run occupied es .0 .sound
+    v = reached-good occupied es .0 .sound
 
     held-used : (a : ℕ) (x : Binding) → heldAt (run occupied es .slots) a ≡ x → isHeld x ≡ true → member (run occupied es .pool) a ≡ true
     held-used a x e f = v .exact a ∙ ap (λ (b : Binding). or (member (run occupied es .starting) a) (isHeld b)) e ∙ ap (or (member (run occupied es .starting) a)) f ∙ or-held (member (run occupied es .starting) a)
@@ -210,5 +210,5 @@ reached occupied es = record {
 
 -- ---- a new controller
 
-pub new-is : (occupied : Pool) → New occupied (newController occupied)
-new-is occupied = record { starting = refl; pool = refl; held = open-all; gets = refl; last = refl }
+pub new-controller-is-new : (occupied : Pool) → New occupied (newController occupied)
+new-controller-is-new occupied = record { starting = refl; pool = refl; held = open-all; gets = refl; last = refl }

@@ -8,7 +8,6 @@ use native.Mathlib.Decide.{decLt}
 use native.Mathlib.Omega.{arith}
 use borrow.Author.Tests.{lt-ltb, le-ltb}
 use Rattle.udid.specs.declared.Udid.{Udid}
-use Rattle.arp.specs.TraceLaws.{back}
 use Rattle.arp.specs.Bindings.{heldAt}
 use Rattle.arp.specs.Lookup.{seen, lookedUp}
 use Rattle.arp.specs.Numbers.{lookupNumber}

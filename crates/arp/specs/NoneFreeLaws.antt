@@ -16,9 +16,9 @@ use Rattle.pool.specs.declared.free.Free.the-variants.{At, AllUsed}
 use Rattle.udid.specs.Bytes.{udidAt, udidBytes}
 use Rattle.udid.specs.Udids.{Fits}
 use Rattle.udid.specs.declared.Udid.{Udid}
-use Rattle.arp.specs.ChosenLaws.{picked-none}
-use Rattle.arp.specs.HandedOutLaws.{step-hands-out, told}
-use Rattle.arp.specs.ReadingLaws.{replied-exactly, reply-byte}
+use Rattle.arp.specs.ChosenLaws.{none-picked-exactly}
+use Rattle.arp.specs.HandedOutLaws.{handed-out-by-table, table-is-story}
+use Rattle.arp.specs.ReadingLaws.{replied-exactly, reply-byte-received}
 use Rattle.arp.specs.Story.{Story, story, Full}
 use Rattle.arp.specs.Controller.{stepped}
 use Rattle.arp.specs.Heard.{answer, sentIn, receivedIn}
@@ -125,10 +125,10 @@ module _ (t : Table) (n : ℕ) (u : Udid) where
   next-none NotOutstanding tr = idle-none (receivedIn 9 tr)
 
 -- A STEP GIVES 13 exactly at a reply for which, with what its identifier was bound to freed, there is no address to pick
-pub step-13-exactly : (occupied : Pool) (es : List Event) (tr : List ℕ) (u : Udid)
+pub step-13-by-table : (occupied : Pool) (es : List Event) (tr : List ℕ) (u : Udid)
     → (stepped (run occupied es) tr .command ≡ NoneFree u)
     ↔ ((readAs (handedOut occupied es) tr ≡ Replied u) × NoneToPick (released u (table occupied es) .used) u (getD (receivedIn 9 tr) 16 0))
-step-13-exactly occupied es tr u = (forth, back-to)
+step-13-by-table occupied es tr u = (forth, back-to)
   where
     both : (nextCommand (table occupied es) (getsSent occupied es) (handedOut occupied es) tr ≡ NoneFree u)
         ↔ ((readAs (handedOut occupied es) tr ≡ Replied u) × (picked (released u (table occupied es) .used) u (getD (receivedIn 9 tr) 16 0) ≡ AllUsed))
@@ -137,29 +137,29 @@ step-13-exactly occupied es tr u = (forth, back-to)
     forth : stepped (run occupied es) tr .command ≡ NoneFree u
         → (readAs (handedOut occupied es) tr ≡ Replied u) × NoneToPick (released u (table occupied es) .used) u (getD (receivedIn 9 tr) 16 0)
     forth e =
-        let h = both .0 (sym (step-hands-out occupied es tr) ∙ e) in
-        (h .0, picked-none (released u (table occupied es) .used) u (getD (receivedIn 9 tr) 16 0) .0 (h .1))
+        let h = both .0 (sym (handed-out-by-table occupied es tr) ∙ e) in
+        (h .0, none-picked-exactly (released u (table occupied es) .used) u (getD (receivedIn 9 tr) 16 0) .0 (h .1))
 
     back-to : (readAs (handedOut occupied es) tr ≡ Replied u) × NoneToPick (released u (table occupied es) .used) u (getD (receivedIn 9 tr) 16 0)
         → stepped (run occupied es) tr .command ≡ NoneFree u
     back-to h =
-        step-hands-out occupied es tr
-        ∙ both .1 (h .0, picked-none (released u (table occupied es) .used) u (getD (receivedIn 9 tr) 16 0) .1 (h .1))
+        handed-out-by-table occupied es tr
+        ∙ both .1 (h .0, none-picked-exactly (released u (table occupied es) .used) u (getD (receivedIn 9 tr) 16 0) .1 (h .1))
 
 module _ (occupied : Pool) (es : List Event) (tr : List ℕ) where
   -- and by the story of the events alone
-  pub full-exactly : (u : Udid) → Fits u → (stepped (run occupied es) tr .command ≡ NoneFree u) ↔ Full occupied es tr u
-  full-exactly u f = (λ e. there (in-story .0 e), λ w. in-story .1 (back-to w))
+  pub step-13-by-story : (u : Udid) → Fits u → (stepped (run occupied es) tr .command ≡ NoneFree u) ↔ Full occupied es tr u
+  step-13-by-story u f = (λ e. there (in-story .0 e), λ w. in-story .1 (back-to w))
     where
       in-story : (stepped (run occupied es) tr .command ≡ NoneFree u)
           ↔ ((readAs (story occupied es .command) tr ≡ Replied u) × NoneToPick (released u (story occupied es .known) .used) u (getD (receivedIn 9 tr) 16 0))
       in-story =
           subst (λ (w : Story). (stepped (run occupied es) tr .command ≡ NoneFree u)
-          ↔ ((readAs (w .command) tr ≡ Replied u) × NoneToPick (released u (w .known) .used) u (getD (receivedIn 9 tr) 16 0))) (told occupied es)
-          (step-13-exactly occupied es tr u)
+          ↔ ((readAs (w .command) tr ≡ Replied u) × NoneToPick (released u (w .known) .used) u (getD (receivedIn 9 tr) 16 0))) (table-is-story occupied es)
+          (step-13-by-table occupied es tr u)
 
       byte : (b : ℕ) → b < 256 → tr ≡ replyTrace (udidBytes u ++ b ∷ []) → getD (receivedIn 9 tr) 16 0 ≡ b
-      byte b h q = ap (λ (l : List ℕ). getD (receivedIn 9 l) 16 0) q ∙ reply-byte u b f h
+      byte b h q = ap (λ (l : List ℕ). getD (receivedIn 9 l) 16 0) q ∙ reply-byte-received u b f h
 
       there : (readAs (story occupied es .command) tr ≡ Replied u) × NoneToPick (released u (story occupied es .known) .used) u (getD (receivedIn 9 tr) 16 0) → Full occupied es tr u
       there w =
@@ -177,15 +177,15 @@ first [] = (0, [])
 first (x ∷ xs) = x
 
 -- 13 with an identifier is given by one command alone
-pub none-free-of : (k : Command) (u : Udid) → commandNumber k ≡ (13, u ∷ []) ∷ [] → k ≡ NoneFree u
-none-free-of (NoneFree v) u e = ap NoneFree (same (ap (λ (l : List (ℕ × List Udid)). first l .1) e))
+pub number-13-is-none-free : (k : Command) (u : Udid) → commandNumber k ≡ (13, u ∷ []) ∷ [] → k ≡ NoneFree u
+number-13-is-none-free (NoneFree v) u e = ap NoneFree (same (ap (λ (l : List (ℕ × List Udid)). first l .1) e))
   where
     same : v ∷ [] ≡ u ∷ [] → v ≡ u
     same q = cc q
-none-free-of Nothing u e = absurd (let z : _≡_ {A = ℕ} 0 1 = cc e in omega arith)
-none-free-of Prepare u e = absurd (let z : _≡_ {A = ℕ} 0 1 = cc e in omega arith)
-none-free-of GetUdid u e = absurd (let z : _≡_ {A = ℕ} 0 1 = cc e in omega arith)
-none-free-of (Assign v a) u e = absurd (let z : _≡_ {A = ℕ} 0 1 = cc e in omega arith)
-none-free-of Ended u e = absurd (let z : _≡_ {A = ℕ} 0 13 = ap (λ (l : List (ℕ × List Udid)). first l .0) e in omega arith)
-none-free-of Abandoned u e = absurd (let z : _≡_ {A = ℕ} 14 13 = ap (λ (l : List (ℕ × List Udid)). first l .0) e in omega arith)
-none-free-of NotOutstanding u e = absurd (let z : _≡_ {A = ℕ} 21 13 = ap (λ (l : List (ℕ × List Udid)). first l .0) e in omega arith)
+number-13-is-none-free Nothing u e = absurd (let z : _≡_ {A = ℕ} 0 1 = cc e in omega arith)
+number-13-is-none-free Prepare u e = absurd (let z : _≡_ {A = ℕ} 0 1 = cc e in omega arith)
+number-13-is-none-free GetUdid u e = absurd (let z : _≡_ {A = ℕ} 0 1 = cc e in omega arith)
+number-13-is-none-free (Assign v a) u e = absurd (let z : _≡_ {A = ℕ} 0 1 = cc e in omega arith)
+number-13-is-none-free Ended u e = absurd (let z : _≡_ {A = ℕ} 0 13 = ap (λ (l : List (ℕ × List Udid)). first l .0) e in omega arith)
+number-13-is-none-free Abandoned u e = absurd (let z : _≡_ {A = ℕ} 14 13 = ap (λ (l : List (ℕ × List Udid)). first l .0) e in omega arith)
+number-13-is-none-free NotOutstanding u e = absurd (let z : _≡_ {A = ℕ} 21 13 = ap (λ (l : List (ℕ × List Udid)). first l .0) e in omega arith)

@@ -26,12 +26,12 @@ use Rattle.udid.specs.Bytes.{udidBytes, udidAt}
 use Rattle.udid.specs.UdidLaws.{same-refl, length-udid, udid-bytes, udid-back, fixed-first, movable-first}
 use Rattle.udid.specs.Udids.{Fits}
 use Rattle.udid.specs.declared.Udid.{Udid}
-use Rattle.arp.specs.ChosenLaws.{chosen-none-held, chosen-fixed, chosen-own, chosen-other}
-use Rattle.arp.specs.HandingLaws.{bound-gets, freed-gets}
+use Rattle.arp.specs.ChosenLaws.{chosen-ff-lowest, chosen-fixed-own, chosen-movable-own, chosen-movable-lowest}
+use Rattle.arp.specs.HandingLaws.{bound-keeps-gets, freed-keeps-gets}
 use Rattle.arp.specs.HeardLaws.{six-exactly}
-use Rattle.arp.specs.OutstandingLaws.{idle-21}
+use Rattle.arp.specs.OutstandingLaws.{idle-gives-21}
 use Rattle.arp.specs.RequestLaws.{reply-symbols, prepare-symbols, assign-symbols-small}
-use Rattle.arp.specs.SoundLaws.{held-above, held-same, held-other, bound-to, not-open, find-cases}
+use Rattle.arp.specs.SoundLaws.{held-above-is-open, held-same, held-other, bound-to-is-bound, open-is-not-bound, find-cases}
 use Rattle.arp.specs.TraceLaws as traces
 use Rattle.arp.specs.Sound.{Nowhere}
 use Rattle.arp.specs.Bindings.{openSlot, heldAt, boundTo, findFrom, freedAt, freed, slotFor, boundAt, bound}
@@ -105,11 +105,11 @@ module _ (s : Controller) (u : Udid) (size : length (s .slots) ≡ 128) where
     where
       gone : (a : ℕ) → BoundAt (s .slots) u a → Dec (a < 128) → ⊥
       gone a w (yes h) = never (heldAt (s .slots) a) (n a (omega arith) h) (w .here)
-      gone a w (no h) = not-open (heldAt (s .slots) a) u (held-above (s .slots) a size (omega arith)) (w .here)
+      gone a w (no h) = open-is-not-bound (heldAt (s .slots) a) u (held-above-is-open (s .slots) a size (omega arith)) (w .here)
 
   module _ (f : ℕ) (h : f < 128) (e : boundTo u (heldAt (s .slots) f) ≡ true) (below : (j : ℕ) → j < f → boundTo u (heldAt (s .slots) j) ≡ false) where
     found : BoundAt (s .slots) u f
-    found = record { here = bound-to u (heldAt (s .slots) f) e; lowest = λ b l q. never (heldAt (s .slots) b) (below b l) q }
+    found = record { here = bound-to-is-bound u (heldAt (s .slots) f) e; lowest = λ b l q. never (heldAt (s .slots) b) (below b l) q }
 
     it : (a : ℕ) → BoundAt (s .slots) u a → a ≡ f
     it a w = go (decLt a f) (decLt f a)
@@ -192,19 +192,19 @@ starting-freed s u = go (ltb 127 (findFrom u (s .slots) 128 0))
 
 module _ (p : Pool) (u : Udid) (b : ℕ) (f : Fits u) where
   to-pick : (b ≡ 0xFF) ⊎ ((64 ≤ getD (udidBytes u) 0 0) × (member p (b / 2) ≡ true)) → chosen p u b ≡ lowestFree p
-  to-pick (inl e) = ap (chosen p u) e ∙ chosen-none-held p u
+  to-pick (inl e) = ap (chosen p u) e ∙ chosen-ff-lowest p u
   to-pick (inr w) = go (ℕ-discrete b 0xFF)
     where
       go : Dec (b ≡ 0xFF) → chosen p u b ≡ lowestFree p
-      go (yes e) = ap (chosen p u) e ∙ chosen-none-held p u
-      go (no n) = chosen-other p u b n (movable-first u f .1 (w .0)) (w .1)
+      go (yes e) = ap (chosen p u) e ∙ chosen-ff-lowest p u
+      go (no n) = chosen-movable-lowest p u b n (movable-first u f .1 (w .0)) (w .1)
 
   chooses : Chooses p u b (assigning u (chosen p u b))
   chooses = record {
     picked = λ w a l. ap (assigning u) (to-pick w ∙ lowest-is p a .1 l);
     none-free = λ w l. ap (assigning u) (to-pick w ∙ none-free p .1 l);
-    fixed = λ n l. ap (assigning u) (chosen-fixed p u b n (fixed-first u f .1 l));
-    own = λ n l m. ap (assigning u) (chosen-own p u b n (movable-first u f .1 l) m);
+    fixed = λ n l. ap (assigning u) (chosen-fixed-own p u b n (fixed-first u f .1 l));
+    own = λ n l m. ap (assigning u) (chosen-movable-own p u b n (movable-first u f .1 l) m);
   }
 
 module _ (s : Controller) (u : Udid) (b : ℕ) (f : Fits u) (size : length (s .slots) ≡ 128) where
@@ -212,12 +212,12 @@ module _ (s : Controller) (u : Udid) (b : ℕ) (f : Fits u) (size : length (s .s
   replies-with (At a) e = record {
     unbinds = record { there = unbinds s u size .there; elsewhere = unbinds s u size .elsewhere };
     chooses = subst (Chooses (freed s u .pool) u b) (ap (assigning u) (sym e)) (chooses (freed s u .pool) u b f);
-    hands = hands s (freed s u) (Assign u a) (s .gets) (freed-gets s u) (starting-freed s u);
+    hands = hands s (freed s u) (Assign u a) (s .gets) (freed-keeps-gets s u) (starting-freed s u);
   }
   replies-with AllUsed e = record {
     unbinds = record { there = unbinds s u size .there; elsewhere = unbinds s u size .elsewhere };
     chooses = subst (Chooses (freed s u .pool) u b) (ap (assigning u) (sym e)) (chooses (freed s u .pool) u b f);
-    hands = hands s (freed s u) (NoneFree u) (s .gets) (freed-gets s u) (starting-freed s u);
+    hands = hands s (freed s u) (NoneFree u) (s .gets) (freed-keeps-gets s u) (starting-freed s u);
   }
 
   replies : Replies s u b (replied s u b)
@@ -307,7 +307,7 @@ module _ (s : Controller) (tr : List ℕ) where
   assign-whole size u a e f h q =
       subst (λ (r : Stepped). Asks s r × Binds u (a .0) s (r .state))
       (sym (outstanding (Assign u a) e ∙ traces.assign-whole s u a tr f (q ∙ sym (assign-symbols-small u a h)))) (
-        asks s (bound s u (a .0)) (bound-gets s u (a .0)) (starting-bound s u (a .0)),
+        asks s (bound s u (a .0)) (bound-keeps-gets s u (a .0)) (starting-bound s u (a .0)),
         binds-kept u (a .0) s (bound s u (a .0)) (asked (bound s u (a .0)) .state) (binds s u (a .0) size h) (keeps-asked (bound s u (a .0))),
       )
 
@@ -322,4 +322,4 @@ module _ (s : Controller) (tr : List ℕ) where
 
   -- 21, and the state stays, where no command of a pass is outstanding
   pub none-outstanding : noCommand (s .last) ≡ true → (stepped s tr .state ≡ s) × (stepped s tr .command ≡ NotOutstanding)
-  none-outstanding e = idle-21 s tr e
+  none-outstanding e = idle-gives-21 s tr e

@@ -32,9 +32,9 @@ use Rattle.arp.specs.declared.state.Controller.{Controller}
 -- ---- none is outstanding, or what is handed out is kept
 
 -- a 21 is given where none is outstanding
-pub idle-21 : (s : Controller) (tr : List ℕ) → noCommand (s .last) ≡ true → (stepped s tr .state ≡ s) × (stepped s tr .command ≡ NotOutstanding)
+pub idle-gives-21 : (s : Controller) (tr : List ℕ) → noCommand (s .last) ≡ true → (stepped s tr .state ≡ s) × (stepped s tr .command ≡ NotOutstanding)
 unfolding stepped
-idle-21 s tr h = go (s .last) h
+idle-gives-21 s tr h = go (s .last) h
   where
     go : (k : Command) → noCommand k ≡ true → (byCommand s tr k .state ≡ s) × (byCommand s tr k .command ≡ NotOutstanding)
     go Prepare i = absurd (let z : _≡_ {A = ℕ} 0 1 = cc i in omega arith)
@@ -48,7 +48,7 @@ idle-21 s tr h = go (s .last) h
 
 -- and the state stays as it is
 pub idle-untouched : (s : Controller) (tr : List ℕ) → noCommand (s .last) ≡ true → stepped s tr .state ≡ s
-idle-untouched s tr h = idle-21 s tr h .0
+idle-untouched s tr h = idle-gives-21 s tr h .0
 
 -- and otherwise something is handed out, and kept
 busy-handed : (s : Controller) (tr : List ℕ) → noCommand (s .last) ≡ false → Handed s (stepped s tr)
@@ -66,15 +66,15 @@ busy-handed s tr h = go (s .last) h
     go NotOutstanding i = absurd (let z : _≡_ {A = ℕ} 0 1 = cc i in omega arith)
 
 -- THE COMMAND OUTSTANDING is the one that was handed out last
-pub last-handed : (occupied : Pool) (es : List Event) → SameOutstanding (run occupied es .last) (handedOut occupied es)
+pub last-is-handed-out : (occupied : Pool) (es : List Event) → SameOutstanding (run occupied es .last) (handedOut occupied es)
 unfolding run handedOut
-last-handed occupied [] = inl refl
-last-handed occupied (Start ∷ es) = inl refl
-last-handed occupied (Received tr ∷ es) = go (noCommand (run occupied es .last)) refl
+last-is-handed-out occupied [] = inl refl
+last-is-handed-out occupied (Start ∷ es) = inl refl
+last-is-handed-out occupied (Received tr ∷ es) = go (noCommand (run occupied es .last)) refl
   where
     go : (b : Bool) → noCommand (run occupied es .last) ≡ b → SameOutstanding (stepped (run occupied es) tr .state .last) (stepped (run occupied es) tr .command)
     go true e =
-        let h = idle-21 (run occupied es) tr e in
+        let h = idle-gives-21 (run occupied es) tr e in
         inr (ap (λ (s : Controller). noCommand (s .last)) (h .0) ∙ e, ap noCommand (h .1))
     go false e = inl (busy-handed (run occupied es) tr e .last)
 
@@ -205,7 +205,7 @@ module _ (s : Controller) where
   pub step-21 : (tr : List ℕ) → (commandNumber (stepped s tr .command) ≡ (21, []) ∷ []) ↔ (noCommand (s .last) ≡ true)
   step-21 tr = (
     λ e. sym (command-21 tr) ∙ number-21 (stepped s tr .command) e,
-    λ h. ap commandNumber (idle-21 s tr h .1),
+    λ h. ap commandNumber (idle-gives-21 s tr h .1),
   )
 
 same-none : (k m : Command) → SameOutstanding k m → noCommand k ≡ noCommand m
@@ -213,10 +213,10 @@ same-none k m (inl e) = ap noCommand e
 same-none k m (inr h) = h .0 ∙ sym (h .1)
 
 -- so exactly if the latest start or step handed out no command
-pub step-21-exactly : (occupied : Pool) (es : List Event) (tr : List ℕ)
+pub step-21-by-events : (occupied : Pool) (es : List Event) (tr : List ℕ)
     → (commandNumber (stepped (run occupied es) tr .command) ≡ (21, []) ∷ []) ↔ (noCommand (handedOut occupied es) ≡ true)
-step-21-exactly occupied es tr =
-    let e : noCommand (run occupied es .last) ≡ noCommand (handedOut occupied es) = same-none (run occupied es .last) (handedOut occupied es) (last-handed occupied es) in
+step-21-by-events occupied es tr =
+    let e : noCommand (run occupied es .last) ≡ noCommand (handedOut occupied es) = same-none (run occupied es .last) (handedOut occupied es) (last-is-handed-out occupied es) in
     (λ q. sym e ∙ step-21 (run occupied es) tr .0 q, λ q. step-21 (run occupied es) tr .1 (e ∙ q))
 
 -- ---- before the first start
@@ -224,10 +224,10 @@ step-21-exactly occupied es tr =
 unstarted : (occupied : Pool) (trs : List (List ℕ)) → run occupied (tracesAlone trs) ≡ newController occupied
 unfolding run
 unstarted occupied [] = refl
-unstarted occupied (tr ∷ trs) = ap (λ (s : Controller). stepped s tr .state) (unstarted occupied trs) ∙ idle-21 (newController occupied) tr refl .0
+unstarted occupied (tr ∷ trs) = ap (λ (s : Controller). stepped s tr .state) (unstarted occupied trs) ∙ idle-gives-21 (newController occupied) tr refl .0
 
 -- EVERY STEP GIVES 21, and the controller stays new
 pub refused-before-start : (occupied : Pool) (trs : List (List ℕ)) (tr : List ℕ)
     → (run occupied (tracesAlone trs) ≡ newController occupied) × (commandNumber (stepped (run occupied (tracesAlone trs)) tr .command) ≡ (21, []) ∷ [])
 refused-before-start occupied trs tr =
-    (unstarted occupied trs, ap (λ (s : Controller). commandNumber (stepped s tr .command)) (unstarted occupied trs) ∙ ap commandNumber (idle-21 (newController occupied) tr refl .1))
+    (unstarted occupied trs, ap (λ (s : Controller). commandNumber (stepped s tr .command)) (unstarted occupied trs) ∙ ap commandNumber (idle-gives-21 (newController occupied) tr refl .1))

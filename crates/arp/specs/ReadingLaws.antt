@@ -25,10 +25,10 @@ use Rattle.udid.specs.UdidLaws.{length-udid, udid-bytes, udid-back}
 use Rattle.udid.specs.Udids.{Fits, sameUdid}
 use Rattle.udid.specs.declared.Udid.{Udid}
 use Rattle.arp.specs.HeardLaws.{length-lows, reply-is-decode, assign-is-decode, next-prepare-is-decode, next-reply-is-decode}
-use Rattle.arp.specs.HistoryLaws.{received-bytes}
-use Rattle.arp.specs.RequestLaws.{valid-get, valid-assign, seventeen, reply-symbols, assign-symbols-small}
-use Rattle.arp.specs.TraceLaws.{back, get-only, assign-is, assign-only}
-use Rattle.arp.specs.Controller.{newController, replied}
+use Rattle.arp.specs.HistoryLaws.{received-are-bytes}
+use Rattle.arp.specs.RequestLaws.{valid-get, valid-assign, seventeen-bytes-are-udid-and-byte, reply-symbols, assign-symbols-small}
+use Rattle.arp.specs.TraceLaws.{decoded-back, complete-get-is-its-trace, assign-data-is-assign, complete-assign-is-its-trace}
+use Rattle.arp.specs.Controller.{newController}
 use Rattle.arp.specs.Heard.{blockRead, blockWrite, answer, sentIn, receivedIn, isGet, isAssign}
 use Rattle.arp.specs.Replay.{Happened, Started, Replied, Assigned, Other, replyIn, assigns, assignIn, readAs}
 use Rattle.arp.specs.Requests.{assignData, messageOf, traceOf}
@@ -38,37 +38,37 @@ use Rattle.arp.specs.declared.command.Command.{Command}
 use Rattle.arp.specs.declared.command.Command.the-variants.{Nothing, Prepare, GetUdid, Assign, Ended, NoneFree, Abandoned, NotOutstanding}
 
 -- the byte that is sent: the address has seven bits
-pub same-test : (u : Udid) (n : ℕ) → n < 128 → (t : Transaction) (xs : List ℕ)
+pub is-assign-below-128 : (u : Udid) (n : ℕ) → n < 128 → (t : Transaction) (xs : List ℕ)
     → isAssign u n t xs ≡ and (and (eqb (t .address .0) 0x61) (eqb (t .command) 0x04)) (and (eqb (t .sent) 17) (assigns u n xs))
-same-test u n h t xs =
+is-assign-below-128 u n h t xs =
     ap (λ (x : ℕ). and (and (eqb (t .address .0) 0x61) (eqb (t .command) 0x04)) (and (eqb (t .sent) 17) (and (sameUdid (udidAt xs 0) u) (eqb (getD xs 16 0) (2 * x)))))
     (mod-eq-of-lt h)
 
 -- ---- the readings are those of the traces on the wire
 
 -- an Assign outstanding: exactly its own trace, acknowledged whole, is read as complete
-pub reads-assign : (u : Udid) (a : Address) (tr : List ℕ) → Fits u → a .0 < 128
+pub reads-assign-exactly : (u : Udid) (a : Address) (tr : List ℕ) → Fits u → a .0 < 128
     → (readAs (Assign u a) tr ≡ Assigned u (a .0)) ↔ (tr ≡ traceOf (Assign u a) [])
-reads-assign u a tr f h = (λ e. only (answer 8 tr) refl e, λ e. ap (readAs (Assign u a)) e ∙ whole)
+reads-assign-exactly u a tr f h = (λ e. only (answer 8 tr) refl e, λ e. ap (readAs (Assign u a)) e ∙ whole)
   where
     whole : readAs (Assign u a) (traceOf (Assign u a) []) ≡ Assigned u (a .0)
     whole =
-        let b = back blockWrite (messageOf (Assign u a) []) (valid-assign u a) in
+        let b = decoded-back blockWrite (messageOf (Assign u a) []) (valid-assign u a) in
         ap₂ (assignIn u (a .0)) (b .0) (b .1)
         ∙ ap (λ (q : Bool). pick q (Assigned u (a .0)) Other)
-        (sym (same-test u (a .0) h (summary blockWrite (messageOf (Assign u a) [])) (assignData u (a .0))) ∙ assign-is u a f)
+        (sym (is-assign-below-128 u (a .0) h (summary blockWrite (messageOf (Assign u a) [])) (assignData u (a .0))) ∙ assign-data-is-assign u a f)
 
     differ : Other ≡ Assigned u (a .0) → ⊥
     differ k = let z : _≡_ {A = ℕ} 0 1 = cc k in omega arith
 
     done : (t : Transaction) → answer 8 tr ≡ Done t → (q : Bool) → isAssign u (a .0) t (sentIn 8 tr) ≡ q → pick q (Assigned u (a .0)) Other ≡ Assigned u (a .0)
         → tr ≡ traceOf (Assign u a) []
-    done t e true k g = assign-only (newController emptyPool) u a tr t e k
+    done t e true k g = complete-assign-is-its-trace (newController emptyPool) u a tr t e k
     done t e false k g = absurd (differ g)
 
     only : (d : Decoded) → answer 8 tr ≡ d → assignIn u (a .0) d (sentIn 8 tr) ≡ Assigned u (a .0) → tr ≡ traceOf (Assign u a) []
     only (Done t) e g =
-        done t e (isAssign u (a .0) t (sentIn 8 tr)) refl (ap (λ (q : Bool). pick q (Assigned u (a .0)) Other) (same-test u (a .0) h t (sentIn 8 tr)) ∙ g)
+        done t e (isAssign u (a .0) t (sentIn 8 tr)) refl (ap (λ (q : Bool). pick q (Assigned u (a .0)) Other) (is-assign-below-128 u (a .0) h t (sentIn 8 tr)) ∙ g)
     only (NotAcknowledged b) e g = absurd (differ g)
     only Forbidden e g = absurd (differ g)
     only BufferTooShort e g = absurd (differ g)
@@ -81,13 +81,13 @@ reads-assign u a tr f h = (λ e. only (answer 8 tr) refl e, λ e. ap (readAs (As
 -- Get UDID outstanding: a whole trace of it with 17 bytes is read as a reply with the identifier of its first 16
 pub reads-reply : (xs : List ℕ) → Bytes xs → length xs ≡ 17 → readAs GetUdid (traceOf GetUdid xs) ≡ Replied (udidAt xs 0)
 reads-reply xs h l =
-    let b = back blockRead (messageOf GetUdid xs) (valid-get xs h (omega arith)) in
+    let b = decoded-back blockRead (messageOf GetUdid xs) (valid-get xs h (omega arith)) in
     ap₂ replyIn (b .0) (b .2) ∙ ap (λ (q : Bool). pick q (Replied (udidAt xs 0)) Other) (eq-eqb (length xs) 17 l)
 
 -- and no other trace is
-pub reads-reply-only : (tr : List ℕ) (u : Udid) → readAs GetUdid tr ≡ Replied u
+pub read-as-reply-is-get-udid : (tr : List ℕ) (u : Udid) → readAs GetUdid tr ≡ Replied u
     → (tr ≡ traceOf GetUdid (receivedIn 9 tr)) × (udidAt (receivedIn 9 tr) 0 ≡ u) × (length (receivedIn 9 tr) ≡ 17)
-reads-reply-only tr u e = only (answer 9 tr) refl e
+read-as-reply-is-get-udid tr u e = only (answer 9 tr) refl e
   where
     differ : Other ≡ Replied u → ⊥
     differ k = let z : _≡_ {A = ℕ} 0 1 = cc k in omega arith
@@ -101,7 +101,7 @@ reads-reply-only tr u e = only (answer 9 tr) refl e
     done : (t : Transaction) → answer 9 tr ≡ Done t → (p : Bool) → isGet t ≡ p → (q : Bool) → eqb (t .received) 17 ≡ q
         → pick p (pick q (Replied (udidAt (receivedIn 9 tr) 0)) Other) Other ≡ Replied u
         → (tr ≡ traceOf GetUdid (receivedIn 9 tr)) × (udidAt (receivedIn 9 tr) 0 ≡ u) × (length (receivedIn 9 tr) ≡ 17)
-    done t k true g true n m = (get-only (newController emptyPool) tr t k g, same m, count t k (eqb-true (t .received) 17 n))
+    done t k true g true n m = (complete-get-is-its-trace (newController emptyPool) tr t k g, same m, count t k (eqb-true (t .received) 17 n))
     done t k true g false n m = absurd (differ m)
     done t k false g q n m = absurd (differ m)
 
@@ -150,15 +150,15 @@ assign-not-started u a (Unexpected k) xs e = let z : _≡_ {A = ℕ} 0 1 = cc e 
 assign-not-started u a (PecDiffers k) xs e = let z : _≡_ {A = ℕ} 0 1 = cc e in omega arith
 assign-not-started u a (AfterStop k) xs e = let z : _≡_ {A = ℕ} 0 1 = cc e in omega arith
 
-pub not-started : (k : Command) (tr : List ℕ) → readAs k tr ≡ Started → ⊥
-not-started GetUdid tr e = reply-not-started (answer 9 tr) (receivedIn 9 tr) e
-not-started (Assign u a) tr e = assign-not-started u (a .0) (answer 8 tr) (sentIn 8 tr) e
-not-started Nothing tr e = let z : _≡_ {A = ℕ} 0 1 = cc e in omega arith
-not-started Prepare tr e = let z : _≡_ {A = ℕ} 0 1 = cc e in omega arith
-not-started Ended tr e = let z : _≡_ {A = ℕ} 0 1 = cc e in omega arith
-not-started (NoneFree u) tr e = let z : _≡_ {A = ℕ} 0 1 = cc e in omega arith
-not-started Abandoned tr e = let z : _≡_ {A = ℕ} 0 1 = cc e in omega arith
-not-started NotOutstanding tr e = let z : _≡_ {A = ℕ} 0 1 = cc e in omega arith
+pub trace-is-no-start : (k : Command) (tr : List ℕ) → readAs k tr ≡ Started → ⊥
+trace-is-no-start GetUdid tr e = reply-not-started (answer 9 tr) (receivedIn 9 tr) e
+trace-is-no-start (Assign u a) tr e = assign-not-started u (a .0) (answer 8 tr) (sentIn 8 tr) e
+trace-is-no-start Nothing tr e = let z : _≡_ {A = ℕ} 0 1 = cc e in omega arith
+trace-is-no-start Prepare tr e = let z : _≡_ {A = ℕ} 0 1 = cc e in omega arith
+trace-is-no-start Ended tr e = let z : _≡_ {A = ℕ} 0 1 = cc e in omega arith
+trace-is-no-start (NoneFree u) tr e = let z : _≡_ {A = ℕ} 0 1 = cc e in omega arith
+trace-is-no-start Abandoned tr e = let z : _≡_ {A = ℕ} 0 1 = cc e in omega arith
+trace-is-no-start NotOutstanding tr e = let z : _≡_ {A = ℕ} 0 1 = cc e in omega arith
 
 -- ---- which traces are read as what
 
@@ -180,16 +180,16 @@ module _ (u : Udid) (b : ℕ) (f : Fits u) (h : b < 256) where
       ∙ ap Replied (udid-back [] (b ∷ []) 0 u f refl)
 
   -- the byte is the one that is received
-  pub reply-byte : getD (receivedIn 9 (replyTrace (udidBytes u ++ b ∷ []))) 16 0 ≡ b
-  reply-byte =
+  pub reply-byte-received : getD (receivedIn 9 (replyTrace (udidBytes u ++ b ∷ []))) 16 0 ≡ b
+  reply-byte-received =
       ap (λ (l : List ℕ). getD (receivedIn 9 l) 16 0) (sym (reply-symbols (udidBytes u ++ b ∷ [])))
-      ∙ ap (λ (l : List ℕ). getD l 16 0) (back 9 (messageOf GetUdid (udidBytes u ++ b ∷ [])) (valid-get (udidBytes u ++ b ∷ []) reply-bytes (omega (arith, reply-length))) .2)
+      ∙ ap (λ (l : List ℕ). getD l 16 0) (decoded-back 9 (messageOf GetUdid (udidBytes u ++ b ∷ [])) (valid-get (udidBytes u ++ b ∷ []) reply-bytes (omega (arith, reply-length))) .2)
       ∙ getD-at (udidBytes u) b [] 0 16 (length-udid u)
 
 reply-only : (tr : List ℕ) (u : Udid) → readAs GetUdid tr ≡ Replied u → ReplyOf u tr
 reply-only tr u e =
-    let r = reads-reply-only tr u e in
-    let w = seventeen (receivedIn 9 tr) (received-bytes 9 tr) (r .2) in (
+    let r = read-as-reply-is-get-udid tr u e in
+    let w = seventeen-bytes-are-udid-and-byte (receivedIn 9 tr) (received-are-bytes 9 tr) (r .2) in (
       getD (receivedIn 9 tr) 16 0,
       w .1,
       r .0 ∙ reply-symbols (receivedIn 9 tr) ∙ ap replyTrace (w .2 ∙ ap (λ (v : Udid). udidBytes v ++ getD (receivedIn 9 tr) 16 0 ∷ []) (r .1)),
@@ -251,7 +251,7 @@ replied-exactly k tr u f = (there k, λ w. ap (λ (x : Command). readAs x tr) (w
 -- A COMPLETE ASSIGN: it is outstanding, and the trace is that Assign, acknowledged whole
 pub assigned-exactly : (k : Command) (tr : List ℕ) (u : Udid) (a : Address) → Fits u → a .0 < 128 → (readAs k tr ≡ Assigned u (a .0)) ↔ ((k ≡ Assign u a) × (tr ≡ assignTrace (udidBytes u) (2 * a .0)))
 assigned-exactly k tr u a f h =
-    (there k, λ w. ap (λ (x : Command). readAs x tr) (w .0) ∙ reads-assign u a tr f h .1 (w .1 ∙ sym (assign-symbols-small u a h)))
+    (there k, λ w. ap (λ (x : Command). readAs x tr) (w .0) ∙ reads-assign-exactly u a tr f h .1 (w .1 ∙ sym (assign-symbols-small u a h)))
   where
     differ : Other ≡ Assigned u (a .0) → ⊥
     differ e = let z : _≡_ {A = ℕ} 0 1 = cc e in omega arith
@@ -271,7 +271,7 @@ assigned-exactly k tr u a f h =
     own v c e (inl q) = absurd (differ (sym q ∙ e))
     own v c e (inr q) =
         let m : Assign v c ≡ Assign u a = same v c (sym q ∙ e) in
-        (m, reads-assign u a tr f h .0 (ap (λ (x : Command). readAs x tr) (sym m) ∙ e) ∙ assign-symbols-small u a h)
+        (m, reads-assign-exactly u a tr f h .0 (ap (λ (x : Command). readAs x tr) (sym m) ∙ e) ∙ assign-symbols-small u a h)
 
     there : (k : Command) → readAs k tr ≡ Assigned u (a .0) → (k ≡ Assign u a) × (tr ≡ assignTrace (udidBytes u) (2 * a .0))
     there GetUdid e = absurd (replied (udidAt (receivedIn 9 tr) 0) (readAs GetUdid tr) (reply-cases (answer 9 tr) (receivedIn 9 tr)) e)
@@ -292,5 +292,5 @@ reading-is-decode tr = record {
   prepare = λ sent₀ received₀ d sent received l m o. next-prepare-is-decode tr sent₀ received₀ d sent received l m o;
   replied = λ k u f. replied-exactly k tr u f;
   assigned = λ k u a f h. assigned-exactly k tr u a f h;
-  no-start = λ k e. not-started k tr e;
+  no-start = λ k e. trace-is-no-start k tr e;
 }

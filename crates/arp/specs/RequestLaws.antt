@@ -52,13 +52,13 @@ valid-get xs h l = record {
   counts = omega arith;
 }
 
-pub length-assign : (u : Udid) (a : ℕ) → length (assignData u a) ≡ 17
-length-assign u a = length-append (udidBytes u) (2 * (a % 128) ∷ []) ∙ omega (arith, length-udid u)
+pub assign-data-has-17-bytes : (u : Udid) (a : ℕ) → length (assignData u a) ≡ 17
+assign-data-has-17-bytes u a = length-append (udidBytes u) (2 * (a % 128) ∷ []) ∙ omega (arith, length-udid u)
 
 -- an Assign has 44 symbols
-pub assign-length : (u : Udid) (a : Address) → length (traceOf (Assign u a) []) ≡ 44
+pub assign-has-44-symbols : (u : Udid) (a : Address) → length (traceOf (Assign u a) []) ≡ 44
 unfolding traceLength
-assign-length u a = trace-length (shapeOf 8) true (messageOf (Assign u a) []) ∙ omega (arith, length-assign u (a .0))
+assign-has-44-symbols u a = trace-length (shapeOf 8) true (messageOf (Assign u a) []) ∙ omega (arith, assign-data-has-17-bytes u (a .0))
 
 pub valid-assign : (u : Udid) (a : Address) → Valid (shapeOf blockWrite) (messageOf (Assign u a) [])
 valid-assign u a = record {
@@ -69,7 +69,7 @@ valid-assign u a = record {
   sent-bytes = append-bytes (udidBytes u) (2 * (a .0 % 128) ∷ []) (udid-bytes u) (omega arith, tt);
   received-length = refl;
   received-bytes = tt;
-  counts = omega (arith, length-assign u (a .0));
+  counts = omega (arith, assign-data-has-17-bytes u (a .0));
 }
 
 -- ---- their traces, symbol by symbol
@@ -99,7 +99,7 @@ pub assign-symbols : (u : Udid) (a : Address) → traceOf (Assign u a) [] ≡ as
 assign-symbols u a =
     let d : List ℕ = udidBytes u ++ 2 * (a .0 % 128) ∷ [] in
     rows .block-write-pec 0x61 0x04 (assignData u (a .0))
-    ∙ ap (λ (n : ℕ). 256 ∷ 194 ∷ 258 ∷ 4 ∷ 258 ∷ n ∷ 258 ∷ (acked d ++ pecOf (194 ∷ 4 ∷ n ∷ d) ∷ 258 ∷ 257 ∷ [])) (length-assign u (a .0))
+    ∙ ap (λ (n : ℕ). 256 ∷ 194 ∷ 258 ∷ 4 ∷ 258 ∷ n ∷ 258 ∷ (acked d ++ pecOf (194 ∷ 4 ∷ n ∷ d) ∷ 258 ∷ 257 ∷ [])) (assign-data-has-17-bytes u (a .0))
     ∙ ap (λ (l : List ℕ). 256 ∷ 194 ∷ 258 ∷ 4 ∷ 258 ∷ 17 ∷ 258 ∷ l) (acked-last (udidBytes u) (2 * (a .0 % 128)) (pecOf (194 ∷ 4 ∷ 17 ∷ d) ∷ 258 ∷ 257 ∷ []))
 
 -- of a 7-bit address, the byte is twice the address itself
@@ -116,8 +116,8 @@ command-rows = record {
 -- ---- the bytes of a reply
 
 -- 17 bytes are an identifier's and one more
-pub seventeen : (xs : List ℕ) → Bytes xs → length xs ≡ 17 → Fits (udidAt xs 0) × (getD xs 16 0 < 256) × (xs ≡ udidBytes (udidAt xs 0) ++ getD xs 16 0 ∷ [])
-seventeen xs h l = (
+pub seventeen-bytes-are-udid-and-byte : (xs : List ℕ) → Bytes xs → length xs ≡ 17 → Fits (udidAt xs 0) × (getD xs 16 0 < 256) × (xs ≡ udidBytes (udidAt xs 0) ++ getD xs 16 0 ∷ [])
+seventeen-bytes-are-udid-and-byte xs h l = (
   fits-at xs 0 h,
   byte-at xs 16 h,
   split-at xs 16 0 (omega arith)

@@ -28,7 +28,7 @@ use Rattle.encode.specs.declared.Encoded.the-variants.{Written}
 use Rattle.udid.specs.Bytes.{udidBytes}
 use Rattle.udid.specs.UdidLaws.{length-udid}
 use Rattle.udid.specs.declared.Udid.{Udid}
-use Rattle.arp.specs.RequestLaws.{valid-prepare, valid-get, length-assign, assign-length, valid-assign, assign-symbols-small}
+use Rattle.arp.specs.RequestLaws.{valid-prepare, valid-get, assign-data-has-17-bytes, assign-has-44-symbols, valid-assign, assign-symbols-small}
 use Rattle.arp.specs.Sending.{Sent, Unsendable, AssignWritten}
 use Rattle.arp.specs.Heard.{blockWrite}
 use Rattle.arp.specs.Requests.{protocolOf, protocolFor, messageOf, traceOf}
@@ -54,19 +54,19 @@ pub get-sent : (reply before : List ℕ) (r : Encoded) (after : List ℕ) → By
 get-sent reply before r after h l w room = written GetUdid reply before r after w room (omega arith) (λ e. absurd (omega arith)) (omega arith) (valid-get reply h l)
 
 -- an Assign of a 7-bit address
-pub small-protocol : (u : Udid) (a : Address) → a .0 < 128 → protocolFor (Assign u a) ≡ protocolOf (Assign u a)
-small-protocol u a h = ap (λ (b : Bool). pick b 255 blockWrite) (le-ltb 127 (a .0) (omega arith))
+pub small-address-protocol : (u : Udid) (a : Address) → a .0 < 128 → protocolFor (Assign u a) ≡ protocolOf (Assign u a)
+small-address-protocol u a h = ap (λ (b : Bool). pick b 255 blockWrite) (le-ltb 127 (a .0) (omega arith))
 
 pub assign-sent : (u : Udid) (a : Address) (reply before : List ℕ) (r : Encoded) (after : List ℕ) → a .0 < 128 → Wrote (protocolFor (Assign u a)) true (messageOf (Assign u a) reply) before r after
     → length (traceOf (Assign u a) reply) ≤ length before → Sent (Assign u a) reply before r after
 assign-sent u a reply before r after h w room =
-    written (Assign u a) reply before r after (subst (λ (p : ℕ). Wrote p true (messageOf (Assign u a) reply) before r after) (small-protocol u a h) w) room
+    written (Assign u a) reply before r after (subst (λ (p : ℕ). Wrote p true (messageOf (Assign u a) reply) before r after) (small-address-protocol u a h) w) room
     (omega arith) (λ e. absurd (omega arith)) (omega arith) (valid-assign u a)
 
 -- one answer and one output alone
-pub one-sending : (k : Command) (reply before : List ℕ) (r q : Encoded) (after later : List ℕ) → Wrote (protocolFor k) true (messageOf k reply) before r after
+pub sending-is-unique : (k : Command) (reply before : List ℕ) (r q : Encoded) (after later : List ℕ) → Wrote (protocolFor k) true (messageOf k reply) before r after
     → Wrote (protocolFor k) true (messageOf k reply) before q later → (r ≡ q) × (after ≡ later)
-one-sending k reply before r q after later w v = unique (protocolFor k) true (messageOf k reply) before r q after later w v
+sending-is-unique k reply before r q after later w v = unique (protocolFor k) true (messageOf k reply) before r q after later w v
 
 -- ---- number 1
 
@@ -110,7 +110,7 @@ get-listed reply = (λ l. go l (decLt 255 (length reply)), λ h. forbidden-lengt
 small-unlisted : (u : Udid) (a : Address) (reply : List ℕ) → Listed 8 true (messageOf (Assign u a) reply) → ⊥
 small-unlisted u a reply =
     unlisted 8 (messageOf (Assign u a) reply) (omega arith) (omega arith) (omega arith) refl (λ q. absurd (omega arith))
-    (block-write refl (omega (arith, length-assign u (a .0))) refl)
+    (block-write refl (omega (arith, assign-data-has-17-bytes u (a .0))) refl)
 
 assign-listed : (u : Udid) (a : Address) (reply : List ℕ) → Listed (protocolFor (Assign u a)) true (messageOf (Assign u a) reply) ↔ (127 < a .0)
 assign-listed u a reply = (go (ltb 127 (a .0)) refl, λ h. protocol-above-10 (rw (lt-ltb 127 (a .0) h) (omega arith)))
@@ -157,16 +157,16 @@ place-39 u a rest =
 
 module _ (u : Udid) (a : Address) (reply before : List ℕ) (r : Encoded) (after : List ℕ) (w : Wrote (protocolFor (Assign u a)) true (messageOf (Assign u a) reply) before r after) where
   as-block-write : a .0 ≤ 127 → Wrote 8 true (messageOf (Assign u a) reply) before r after
-  as-block-write h = subst (λ (p : ℕ). Wrote p true (messageOf (Assign u a) reply) before r after) (small-protocol u a (omega arith)) w
+  as-block-write h = subst (λ (p : ℕ). Wrote p true (messageOf (Assign u a) reply) before r after) (small-address-protocol u a (omega arith)) w
 
   short : a .0 ≤ 127 → length before < 44 → encodeNumber r ≡ (2, 0)
   short h l =
       answer-2 8 true (messageOf (Assign u a) reply) before r after (as-block-write h) .1
-      (small-unlisted u a reply, omega (arith, assign-length u a))
+      (small-unlisted u a reply, omega (arith, assign-has-44-symbols u a))
 
   whole : a .0 ≤ 127 → 44 ≤ length before → (encodeNumber r ≡ (0, 44)) × (after ≡ assignTrace (udidBytes u) (2 * a .0) ++ drop 44 before)
   whole h l =
-      let k = assign-length u a in
+      let k = assign-has-44-symbols u a in
       let s = assign-sent u a reply before r after (omega arith) w (omega (arith, k)) in (
         ap encodeNumber (s .0) ∙ ap (λ (n : ℕ). (0, n)) k,
         s .1 ∙ ap₂ (λ (x : List ℕ) (n : ℕ). x ++ drop n before) (assign-symbols-small u a (omega arith)) k,

@@ -14,15 +14,15 @@ use Rattle.pool.specs.StartLaws.{member-starting}
 use Rattle.pool.specs.declared.Pool.{Pool}
 use Rattle.udid.specs.UdidLaws.{other-udid}
 use Rattle.udid.specs.declared.Udid.{Udid}
-use Rattle.arp.specs.HandedOutLaws.{step-hands-out, told}
+use Rattle.arp.specs.HandedOutLaws.{handed-out-by-table, table-is-story}
 use Rattle.arp.specs.HandingLaws.{gets-are-sent}
-use Rattle.arp.specs.HistoryLaws.{good-run}
+use Rattle.arp.specs.HistoryLaws.{reached-good}
 use Rattle.arp.specs.LookupLaws.{lookup-0, lookup-1, lookup-15}
-use Rattle.arp.specs.NoneFreeLaws.{full-exactly, none-free-of}
-use Rattle.arp.specs.OutstandingLaws.{step-21-exactly}
-use Rattle.arp.specs.ReadingLaws.{not-started}
+use Rattle.arp.specs.NoneFreeLaws.{step-13-by-story, number-13-is-none-free}
+use Rattle.arp.specs.OutstandingLaws.{step-21-by-events}
+use Rattle.arp.specs.ReadingLaws.{trace-is-no-start}
 use Rattle.arp.specs.SoundLaws.{open-all}
-use Rattle.arp.specs.TableLaws.{replayed, lookup-replayed}
+use Rattle.arp.specs.TableLaws.{addresses-by-table, lookup-by-table}
 use Rattle.arp.specs.Story.{Story, story, Told, ByHistory}
 use Rattle.arp.specs.Bindings.{heldAt}
 use Rattle.arp.specs.Controller.{started, stepped}
@@ -36,12 +36,12 @@ use Rattle.arp.specs.declared.state.Binding.the-variants.{Open, Bound, C
 use Rattle.arp.specs.declared.state.Controller.{Controller}
 
 -- THE EVENTS ALONE give what each address is known for, what the pool has, how many Get UDIDs were handed out and what was handed out last
-pub all-told : (occupied : Pool) (es : List Event) → Told occupied es
-all-told occupied es = record {
-  held = λ a. replayed occupied es a .0 ∙ ap (λ (w : Story). w .known .held a) (told occupied es);
-  pool = λ a. replayed occupied es a .1 ∙ ap (λ (w : Story). w .known .used a) (told occupied es);
-  gets = gets-are-sent occupied es ∙ ap (λ (w : Story). w .gets) (told occupied es);
-  command = ap (λ (w : Story). w .command) (told occupied es);
+pub state-by-story : (occupied : Pool) (es : List Event) → Told occupied es
+state-by-story occupied es = record {
+  held = λ a. addresses-by-table occupied es a .0 ∙ ap (λ (w : Story). w .known .held a) (table-is-story occupied es);
+  pool = λ a. addresses-by-table occupied es a .1 ∙ ap (λ (w : Story). w .known .used a) (table-is-story occupied es);
+  gets = gets-are-sent occupied es ∙ ap (λ (w : Story). w .gets) (table-is-story occupied es);
+  command = ap (λ (w : Story). w .command) (table-is-story occupied es);
 }
 
 -- A BINDING STAYS, but for a reply with its identifier, a complete Assign of its address, or a start
@@ -51,13 +51,13 @@ pub binding-stays : (occupied : Pool) (es : List Event) (tr : List ℕ) (a : ℕ
     → ((w : Udid) → readAs (handedOut occupied es) tr ≡ Assigned w a → ⊥)
     → heldAt (run occupied (Received tr ∷ es) .slots) a ≡ Bound u
 unfolding table
-binding-stays occupied es tr a u e n m = replayed occupied (Received tr ∷ es) a .0 ∙ go (readAs (handedOut occupied es) tr) no-start n m
+binding-stays occupied es tr a u e n m = addresses-by-table occupied (Received tr ∷ es) a .0 ∙ go (readAs (handedOut occupied es) tr) no-start n m
   where
     here : table occupied es .held a ≡ Bound u
-    here = sym (replayed occupied es a .0) ∙ e
+    here = sym (addresses-by-table occupied es a .0) ∙ e
 
     no-start : readAs (handedOut occupied es) tr ≡ Started → ⊥
-    no-start q = not-started (handedOut occupied es) tr q
+    no-start q = trace-is-no-start (handedOut occupied es) tr q
 
     go : (x : Happened) → (x ≡ Started → ⊥) → (x ≡ Replied u → ⊥) → ((w : Udid) → x ≡ Assigned w a → ⊥)
         → after (member (startingPool occupied)) x (table occupied es) .held a ≡ Bound u
@@ -72,43 +72,43 @@ binding-stays occupied es tr a u e n m = replayed occupied (Received tr ∷ es) 
     go Other s p q = here
 
 -- by the events alone, in the scope's numbers
-pub lookup-told : (occupied : Pool) (es : List Event) (a : ℕ) → a < 128 → lookupNumber (lookedUp (run occupied es) a) ≡ numberOf (story occupied es .known .held a)
-lookup-told occupied es a h = lookup-replayed occupied es a h ∙ ap (λ (w : Story). numberOf (w .known .held a)) (told occupied es)
+pub lookup-by-story : (occupied : Pool) (es : List Event) (a : ℕ) → a < 128 → lookupNumber (lookedUp (run occupied es) a) ≡ numberOf (story occupied es .known .held a)
+lookup-by-story occupied es a h = lookup-by-table occupied es a h ∙ ap (λ (w : Story). numberOf (w .known .held a)) (table-is-story occupied es)
 
 -- ---- by the story
 
 module _ (occupied : Pool) (es : List Event) (tr : List ℕ) where
   -- EACH COMMAND THAT A STEP HANDS OUT is given by the events
-  pub hands-out : stepped (run occupied es) tr .command ≡ nextCommand (story occupied es .known) (story occupied es .gets) (story occupied es .command) tr
-  hands-out = step-hands-out occupied es tr ∙ ap (λ (w : Story). nextCommand (w .known) (w .gets) (w .command) tr) (told occupied es)
+  pub handed-out-by-story : stepped (run occupied es) tr .command ≡ nextCommand (story occupied es .known) (story occupied es .gets) (story occupied es .command) tr
+  handed-out-by-story = handed-out-by-table occupied es tr ∙ ap (λ (w : Story). nextCommand (w .known) (w .gets) (w .command) tr) (table-is-story occupied es)
 
   -- 21, exactly if the latest start or step handed out no command
-  pub refused-exactly : (commandNumber (stepped (run occupied es) tr .command) ≡ (21, []) ∷ []) ↔ (noCommand (story occupied es .command) ≡ true)
-  refused-exactly =
-      subst (λ (w : Story). (commandNumber (stepped (run occupied es) tr .command) ≡ (21, []) ∷ []) ↔ (noCommand (w .command) ≡ true)) (told occupied es)
-      (step-21-exactly occupied es tr)
+  pub step-21-by-story : (commandNumber (stepped (run occupied es) tr .command) ≡ (21, []) ∷ []) ↔ (noCommand (story occupied es .command) ≡ true)
+  step-21-by-story =
+      subst (λ (w : Story). (commandNumber (stepped (run occupied es) tr .command) ≡ (21, []) ∷ []) ↔ (noCommand (w .command) ≡ true)) (table-is-story occupied es)
+      (step-21-by-events occupied es tr)
 
   -- A BINDING STAYS, but for a reply with its identifier, a complete Assign of its address, or a start
-  pub stays : (a : ℕ) (u : Udid) → heldAt (run occupied es .slots) a ≡ Bound u → (readAs (story occupied es .command) tr ≡ Replied u → ⊥)
+  pub binding-stays-by-story : (a : ℕ) (u : Udid) → heldAt (run occupied es .slots) a ≡ Bound u → (readAs (story occupied es .command) tr ≡ Replied u → ⊥)
       → ((w : Udid) → readAs (story occupied es .command) tr ≡ Assigned w a → ⊥) → heldAt (run occupied (Received tr ∷ es) .slots) a ≡ Bound u
-  stays a u e n m =
-      let q : handedOut occupied es ≡ story occupied es .command = all-told occupied es .command in
+  binding-stays-by-story a u e n m =
+      let q : handedOut occupied es ≡ story occupied es .command = state-by-story occupied es .command in
       binding-stays occupied es tr a u e (λ k. n (ap (λ (x : Command). readAs x tr) (sym q) ∙ k)) (λ w k. m w (ap (λ (x : Command). readAs x tr) (sym q) ∙ k))
 
 -- ---- ALL OF IT: from any new controller, over any starts and traces
 
 pub by-history : (occupied : Pool) (es : List Event) → ByHistory occupied es
 by-history occupied es = record {
-  told = all-told occupied es;
-  lookup = λ a h. lookup-told occupied es a h;
+  told = state-by-story occupied es;
+  lookup = λ a h. lookup-by-story occupied es a h;
   no-address = λ a h. lookup-1 (run occupied es) a .1 h;
-  next = λ tr. hands-out occupied es tr;
-  refused = λ tr. refused-exactly occupied es tr;
+  next = λ tr. handed-out-by-story occupied es tr;
+  refused = λ tr. step-21-by-story occupied es tr;
   full = λ tr u f. (
-    λ e. full-exactly occupied es tr u f .0 (none-free-of (stepped (run occupied es) tr .command) u e),
-    λ w. ap commandNumber (full-exactly occupied es tr u f .1 w),
+    λ e. step-13-by-story occupied es tr u f .0 (number-13-is-none-free (stepped (run occupied es) tr .command) u e),
+    λ w. ap commandNumber (step-13-by-story occupied es tr u f .1 w),
   );
-  stays = λ tr a u e n m. (let w = lookup-0 (run occupied es) a u .0 e in lookup-0 (run occupied (Received tr ∷ es)) a u .1 (w .0, stays occupied es tr a u (w .1) n m));
+  stays = λ tr a u e n m. (let w = lookup-0 (run occupied es) a u .0 e in lookup-0 (run occupied (Received tr ∷ es)) a u .1 (w .0, binding-stays-by-story occupied es tr a u (w .1) n m));
 }
 
 -- ---- Get UDID, and starts
@@ -125,4 +125,4 @@ start-by-history s = (refl, refl, λ a h. lookup-15 (started s .state) a .1 (h, 
 
 -- and that has the 21 reserved addresses and the occupied ones, and no other
 pub pool-at-start : (occupied : Pool) (es : List Event) (a : ℕ) → member (started (run occupied es) .state .pool) a ≡ or (isReserved a) (member occupied a)
-pool-at-start occupied es a = ap (λ (p : Pool). member p a) (good-run occupied es .0 .starting) ∙ member-starting occupied a
+pool-at-start occupied es a = ap (λ (p : Pool). member p a) (reached-good occupied es .0 .starting) ∙ member-starting occupied a

@@ -22,11 +22,11 @@ use Rattle.pool.specs.declared.free.Free.{Free}
 use Rattle.pool.specs.declared.free.Free.the-variants.{At, AllUsed}
 use Rattle.udid.specs.Bytes.{udidAt}
 use Rattle.udid.specs.declared.Udid.{Udid}
-use Rattle.arp.specs.HistoryLaws.{good-run}
+use Rattle.arp.specs.HistoryLaws.{reached-good}
 use Rattle.arp.specs.LookupLaws.{lookup-number}
-use Rattle.arp.specs.OutstandingLaws.{same-reading, last-handed}
-use Rattle.arp.specs.ReadingLaws.{same-test}
-use Rattle.arp.specs.SoundLaws.{held-same, held-other, held-above, bound-to, open-all, find-cases}
+use Rattle.arp.specs.OutstandingLaws.{same-reading, last-is-handed-out}
+use Rattle.arp.specs.ReadingLaws.{is-assign-below-128}
+use Rattle.arp.specs.SoundLaws.{held-same, held-other, held-above-is-open, bound-to-is-bound, open-all, find-cases}
 use Rattle.arp.specs.Sound.{SoundIn, Nowhere, PendingIn}
 use Rattle.arp.specs.Bindings.{openSlot, heldAt, boundTo, findFrom, freedAt, freed, slotFor, boundAt, bound}
 use Rattle.arp.specs.Controller.{newController, started, handed, counted, asked, chosen, issued, replied, onReply, onPrepare, onGet, onAssign, afterPrepare, afterGet, afterAssign, byCommand, stepped}
@@ -72,7 +72,7 @@ module _ (starting : ℕ → Bool) (s : Controller) (v : SoundIn s) (u : Udid) w
     where
       go : Dec (a < 128) → boundTo u (heldAt (s .slots) a) ≡ false
       go (yes h) = n a (omega arith) h
-      go (no h) = ap (boundTo u) (held-above (s .slots) a (v .size) (omega arith))
+      go (no h) = ap (boundTo u) (held-above-is-open (s .slots) a (v .size) (omega arith))
 
   reply-none : Nowhere u (s .slots) 0 → view s ≡ after starting (Replied u) (view s)
   reply-none n = tables (view s) (after starting (Replied u) (view s))
@@ -81,14 +81,14 @@ module _ (starting : ℕ → Bool) (s : Controller) (v : SoundIn s) (u : Udid) w
 
   module _ (f : ℕ) (h : f < 128) (e : boundTo u (heldAt (s .slots) f) ≡ true) where
     here : heldAt (s .slots) f ≡ Bound u
-    here = bound-to u (heldAt (s .slots) f) e
+    here = bound-to-is-bound u (heldAt (s .slots) f) e
 
     there : (a : ℕ) → (a ≡ f → ⊥) → holds u (heldAt (s .slots) a) ≡ false
     there a n = go (holds u (heldAt (s .slots) a)) refl
       where
         go : (b : Bool) → holds u (heldAt (s .slots) a) ≡ b → holds u (heldAt (s .slots) a) ≡ false
         go false q = q
-        go true q = absurd (n (v .once a f u (bound-to u (heldAt (s .slots) a) (sym (holds-is u (heldAt (s .slots) a)) ∙ q)) here))
+        go true q = absurd (n (v .once a f u (bound-to-is-bound u (heldAt (s .slots) a) (sym (holds-is u (heldAt (s .slots) a)) ∙ q)) here))
 
     held-then : (a : ℕ) → Dec (a ≡ f) → heldAt (set (s .slots) f openSlot) a ≡ pick (holds u (heldAt (s .slots) a)) Open (heldAt (s .slots) a)
     held-then a (yes q) =
@@ -105,9 +105,9 @@ module _ (starting : ℕ → Bool) (s : Controller) (v : SoundIn s) (u : Udid) w
     reply-there : view (freedAt s f) ≡ after starting (Replied u) (view s)
     reply-there = tables (view (freedAt s f)) (after starting (Replied u) (view s)) (λ a. held-then a (ℕ-discrete a f)) (λ a. used-then a (ℕ-discrete a f))
 
-  pub freed-view : view (freed s u) ≡ after starting (Replied u) (view s)
+  pub freed-as-replied : view (freed s u) ≡ after starting (Replied u) (view s)
   unfolding freed
-  freed-view = go (findFrom u (s .slots) 128 0) (find-cases u (s .slots) 128 0 (omega arith))
+  freed-as-replied = go (findFrom u (s .slots) 128 0) (find-cases u (s .slots) 128 0 (omega arith))
     where
       go : (f : ℕ) → ((f ≡ 128) × Nowhere u (s .slots) 0) ⊎ ((f < 128) × (boundTo u (heldAt (s .slots) f) ≡ true))
           → view (pick (ltb 127 f) s (freedAt s f)) ≡ after starting (Replied u) (view s)
@@ -116,7 +116,7 @@ module _ (starting : ℕ → Bool) (s : Controller) (v : SoundIn s) (u : Udid) w
 
   replied-view : (b : ℕ) → view (replied s u b .state) ≡ after starting (Replied u) (view s)
   unfolding replied
-  replied-view b = issued-view (freed s u) u (chosen (freed s u .pool) u b) ∙ freed-view
+  replied-view b = issued-view (freed s u) u (chosen (freed s u .pool) u b) ∙ freed-as-replied
 
 -- ---- a complete Assign
 
@@ -194,7 +194,7 @@ module _ (starting : ℕ → Bool) (s : Controller) (v : SoundIn s) where
   module _ (u : Udid) (n : ℕ) (h : n < 128) where
     assign-view : (d : Decoded) (xs : List ℕ) → view (onAssign s u n d xs .state) ≡ after starting (assignIn u n d xs) (view s)
     assign-view (Done t) xs =
-        go (isAssign u n t xs) ∙ ap (λ (q : Bool). after starting (pick q (Assigned u n) Other) (view s)) (same-test u n h t xs)
+        go (isAssign u n t xs) ∙ ap (λ (q : Bool). after starting (pick q (Assigned u n) Other) (view s)) (is-assign-below-128 u n h t xs)
       where
         go : (q : Bool) → view (pick q (asked (bound s u n)) (asked s) .state) ≡ after starting (pick q (Assigned u n) Other) (view s)
         go true = asked-view (bound s u n) ∙ bound-view starting s u n (v .size) h
@@ -224,22 +224,22 @@ module _ (starting : ℕ → Bool) (s : Controller) (v : SoundIn s) where
 
 -- ---- EVERY STATE
 
-pub view-table : (occupied : Pool) (es : List Event) → view (run occupied es) ≡ table occupied es
+pub view-is-table : (occupied : Pool) (es : List Event) → view (run occupied es) ≡ table occupied es
 unfolding run table
-view-table occupied [] = tables (view (newController occupied)) (emptied (member (startingPool occupied))) open-all (λ a. refl)
-view-table occupied (Start ∷ es) =
+view-is-table occupied [] = tables (view (newController occupied)) (emptied (member (startingPool occupied))) open-all (λ a. refl)
+view-is-table occupied (Start ∷ es) =
     tables (view (started (run occupied es) .state)) (emptied (member (startingPool occupied))) open-all
-    (λ a. ap (λ (p : Pool). member p a) (good-run occupied es .0 .starting))
-view-table occupied (Received tr ∷ es) =
-    step-view (member (startingPool occupied)) (run occupied es) (good-run occupied es .0 .sound) (good-run occupied es .1) tr
-    ∙ ap (λ (x : Happened). after (member (startingPool occupied)) x (view (run occupied es))) (same-reading (run occupied es .last) (handedOut occupied es) tr (last-handed occupied es))
-    ∙ ap (after (member (startingPool occupied)) (readAs (handedOut occupied es) tr)) (view-table occupied es)
+    (λ a. ap (λ (p : Pool). member p a) (reached-good occupied es .0 .starting))
+view-is-table occupied (Received tr ∷ es) =
+    step-view (member (startingPool occupied)) (run occupied es) (reached-good occupied es .0 .sound) (reached-good occupied es .1) tr
+    ∙ ap (λ (x : Happened). after (member (startingPool occupied)) x (view (run occupied es))) (same-reading (run occupied es .last) (handedOut occupied es) tr (last-is-handed-out occupied es))
+    ∙ ap (after (member (startingPool occupied)) (readAs (handedOut occupied es) tr)) (view-is-table occupied es)
 
 -- THE CONTROLLER BY ITS HISTORY: what each address is known for, and whether the pool has it, is what the events give
-pub replayed : (occupied : Pool) (es : List Event) (a : ℕ)
+pub addresses-by-table : (occupied : Pool) (es : List Event) (a : ℕ)
     → (heldAt (run occupied es .slots) a ≡ table occupied es .held a) × (member (run occupied es .pool) a ≡ table occupied es .used a)
-replayed occupied es a = (ap (λ (t : Table). t .held a) (view-table occupied es), ap (λ (t : Table). t .used a) (view-table occupied es))
+addresses-by-table occupied es a = (ap (λ (t : Table). t .held a) (view-is-table occupied es), ap (λ (t : Table). t .used a) (view-is-table occupied es))
 
 -- in the scope's numbers: lookup answers 0 with the identifier, 15 or 16 as the events give it
-pub lookup-replayed : (occupied : Pool) (es : List Event) (a : ℕ) → a < 128 → lookupNumber (lookedUp (run occupied es) a) ≡ numberOf (table occupied es .held a)
-lookup-replayed occupied es a h = lookup-number (run occupied es) a h ∙ ap numberOf (replayed occupied es a .0)
+pub lookup-by-table : (occupied : Pool) (es : List Event) (a : ℕ) → a < 128 → lookupNumber (lookedUp (run occupied es) a) ≡ numberOf (table occupied es .held a)
+lookup-by-table occupied es a h = lookup-number (run occupied es) a h ∙ ap numberOf (addresses-by-table occupied es a .0)

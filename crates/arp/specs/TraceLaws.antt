@@ -22,12 +22,11 @@ use Rattle.step.specs.Answers.{CutAt, Carries, summary}
 use Rattle.step.specs.Handed.{sentData, receivedData}
 use Rattle.step.specs.declared.answer.Decoded.{Decoded}
 use Rattle.step.specs.declared.answer.Decoded.the-variants.{Done, Forbidden, BufferTooShort, NoSymbol, EndsEarly, Unexpected, NotAcknowledged, PecDiffers, AfterStop}
-use Rattle.encode.specs.Encode.{message}
 use Rattle.udid.specs.Bytes.{udidBytes, udidAt}
 use Rattle.udid.specs.UdidLaws.{length-udid, udid-back, bytes-back, same-equal, same-refl}
 use Rattle.udid.specs.Udids.{Fits, sameUdid}
 use Rattle.udid.specs.declared.Udid.{Udid}
-use Rattle.arp.specs.RequestLaws.{valid-prepare, valid-get, length-assign, valid-assign}
+use Rattle.arp.specs.RequestLaws.{valid-prepare, valid-get, assign-data-has-17-bytes, valid-assign}
 use Rattle.arp.specs.Bindings.{bound}
 use Rattle.arp.specs.Controller.{asked, handed, replied, onReply, onPrepare, onGet, onAssign, afterPrepare, afterGet, afterAssign}
 use Rattle.arp.specs.Heard.{sendByte, blockRead, blockWrite, answer, sentIn, receivedIn, isCommand, isPrepare, isGet, names, isAssign}
@@ -38,10 +37,10 @@ use Rattle.arp.specs.declared.state.Controller.{Controller}
 -- ---- what the decoder says of them
 
 module _ (protocol : ℕ) (m : Message) (v : Valid (shapeOf protocol) m) where
-  pub back : (answer protocol (trace (shapeOf protocol) true m) ≡ Done (summary protocol m))
+  pub decoded-back : (answer protocol (trace (shapeOf protocol) true m) ≡ Done (summary protocol m))
       × (sentIn protocol (trace (shapeOf protocol) true m) ≡ m .sent)
       × (receivedIn protocol (trace (shapeOf protocol) true m) ≡ m .received)
-  back = step.round-trip protocol (shapeOf protocol) (sane protocol) true m v
+  decoded-back = step.round-trip protocol (shapeOf protocol) (sane protocol) true m v
 
 -- a complete trace is that of a message, with its data
 complete : (protocol : ℕ) (tr : List ℕ) (t : Transaction) → answer protocol tr ≡ Done t → Carries protocol (shapeOf protocol) true tr t (sentIn protocol tr) (receivedIn protocol tr)
@@ -87,7 +86,7 @@ module _ (s : Controller) (tr : List ℕ) where
   pub prepare-accepted : tr ≡ traceOf Prepare [] → afterPrepare s tr ≡ asked s
   unfolding afterPrepare
   prepare-accepted e =
-      let b = back sendByte (messageOf Prepare []) valid-prepare in
+      let b = decoded-back sendByte (messageOf Prepare []) valid-prepare in
       ap (λ (x : List ℕ). onPrepare s (answer sendByte x) (sentIn sendByte x)) e
       ∙ ap₂ (onPrepare s) (b .0) (b .1)
 
@@ -120,8 +119,8 @@ module _ (s : Controller) (tr : List ℕ) where
 
 module _ (s : Controller) (tr : List ℕ) where
   -- a complete trace that is Get UDID is its trace, with some reply
-  pub get-only : (t : Transaction) → answer blockRead tr ≡ Done t → isGet t ≡ true → tr ≡ traceOf GetUdid (receivedIn blockRead tr)
-  get-only t e h =
+  pub complete-get-is-its-trace : (t : Transaction) → answer blockRead tr ≡ Done t → isGet t ≡ true → tr ≡ traceOf GetUdid (receivedIn blockRead tr)
+  complete-get-is-its-trace t e h =
       let c = complete blockRead tr t e in
       let b = both-true (eqb (t .address .0) defaultAddress) (eqb (t .command) 0x03) h in
       let a : c .message .address ≡ defaultAddress = sym (ap (λ (x : Transaction). x .address .0) (c .fields)) ∙ eqb-true (t .address .0) defaultAddress (b .0) in
@@ -131,8 +130,8 @@ module _ (s : Controller) (tr : List ℕ) where
       (message-is (c .message) (messageOf GetUdid (receivedIn blockRead tr)) a (c .valid .direction) d (empty (c .message .sent) (c .valid .sent-length)) (sym (c .data-received)))
 
   -- the data of a complete Block Read are at most 255 bytes
-  pub get-data : (t : Transaction) → answer blockRead tr ≡ Done t → Bytes (receivedIn blockRead tr) × (length (receivedIn blockRead tr) ≤ 255)
-  get-data t e =
+  pub complete-get-data-fits : (t : Transaction) → answer blockRead tr ≡ Done t → Bytes (receivedIn blockRead tr) × (length (receivedIn blockRead tr) ≤ 255)
+  complete-get-data-fits t e =
       let c = complete blockRead tr t e in
       (subst Bytes (sym (c .data-received)) (c .valid .received-bytes), omega (arith, ap length (c .data-received), c .valid .counts))
 
@@ -141,7 +140,7 @@ module _ (s : Controller) (tr : List ℕ) where
     get-is : afterGet s tr ≡ pick (eqb (length xs) 17) (replied s (udidAt xs 0) (getD xs 16 0)) (handed s Ended)
     unfolding afterGet onReply
     get-is =
-        let b = back blockRead (messageOf GetUdid xs) (valid-get xs h l) in
+        let b = decoded-back blockRead (messageOf GetUdid xs) (valid-get xs h l) in
         ap (λ (x : List ℕ). onGet s (answer blockRead x) (receivedIn blockRead x)) e
         ∙ ap₂ (onGet s) (b .0) (b .2)
 
@@ -165,7 +164,7 @@ module _ (s : Controller) (tr : List ℕ) where
     where
       done : (t : Transaction) → answer blockRead tr ≡ Done t → (b : Bool) → isGet t ≡ b
           → pick b (pick (eqb (t .received) 17) (replied s (udidAt (receivedIn blockRead tr) 0) (getD (receivedIn blockRead tr) 16 0)) (handed s Ended)) (asked s) ≡ asked s
-      done t e true h = let d = get-data t e in absurd (n (receivedIn blockRead tr) (d .0) (d .1) (get-only t e h))
+      done t e true h = let d = complete-get-data-fits t e in absurd (n (receivedIn blockRead tr) (d .0) (d .1) (complete-get-is-its-trace t e h))
       done t e false h = refl
 
       nack : (b : ℕ) → answer blockRead tr ≡ NotAcknowledged b → (q : Bool) → ltb b 3 ≡ q → pick q (handed s Ended) (asked s) ≡ asked s
@@ -192,17 +191,17 @@ named u a xs h l e f =
     ∙ ap₂ (λ (p q : List ℕ). p ++ q) (sym (bytes-back xs 0 h (omega arith)) ∙ ap udidBytes e) (ap₂ (λ (x : ℕ) (q : List ℕ). x ∷ q) f (empty (drop 17 xs) (length-drop 17 xs ∙ omega arith)))
 
 -- the command's own data are told as the Assign that was sent
-pub assign-is : (u : Udid) (a : Address) → Fits u → isAssign u (a .0) (summary blockWrite (messageOf (Assign u a) [])) (assignData u (a .0)) ≡ true
-assign-is u a f =
+pub assign-data-is-assign : (u : Udid) (a : Address) → Fits u → isAssign u (a .0) (summary blockWrite (messageOf (Assign u a) [])) (assignData u (a .0)) ≡ true
+assign-data-is-assign u a f =
     let i = udid-back [] (2 * (a .0 % 128) ∷ []) 0 u f refl in
     let n : sameUdid (udidAt (assignData u (a .0)) 0) u ≡ true = ap (λ (z : Udid). sameUdid z u) i ∙ same-refl u in
     let g : getD (assignData u (a .0)) 16 0 ≡ 2 * (a .0 % 128) = getD-at (udidBytes u) (2 * (a .0 % 128)) [] 0 16 (length-udid u) in
-    rw (eq-eqb (length (assignData u (a .0))) 17 (length-assign u (a .0)), n, eq-eqb (getD (assignData u (a .0)) 16 0) (2 * (a .0 % 128)) g)
+    rw (eq-eqb (length (assignData u (a .0))) 17 (assign-data-has-17-bytes u (a .0)), n, eq-eqb (getD (assignData u (a .0)) 16 0) (2 * (a .0 % 128)) g)
 
 module _ (s : Controller) (u : Udid) (a : Address) (tr : List ℕ) where
   -- a complete trace that is the Assign which was sent is its trace
-  pub assign-only : (t : Transaction) → answer blockWrite tr ≡ Done t → isAssign u (a .0) t (sentIn blockWrite tr) ≡ true → tr ≡ traceOf (Assign u a) []
-  assign-only t e h =
+  pub complete-assign-is-its-trace : (t : Transaction) → answer blockWrite tr ≡ Done t → isAssign u (a .0) t (sentIn blockWrite tr) ≡ true → tr ≡ traceOf (Assign u a) []
+  complete-assign-is-its-trace t e h =
       let c = complete blockWrite tr t e in
       let xs : List ℕ = sentIn blockWrite tr in
       let p = both-true (isCommand 0x04 t) _ h in
@@ -222,10 +221,10 @@ module _ (s : Controller) (u : Udid) (a : Address) (tr : List ℕ) where
   pub assign-whole : Fits u → tr ≡ traceOf (Assign u a) [] → afterAssign s u (a .0) tr ≡ asked (bound s u (a .0))
   unfolding afterAssign
   assign-whole f e =
-      let b = back blockWrite (messageOf (Assign u a) []) (valid-assign u a) in
+      let b = decoded-back blockWrite (messageOf (Assign u a) []) (valid-assign u a) in
       ap (λ (x : List ℕ). onAssign s u (a .0) (answer blockWrite x) (sentIn blockWrite x)) e
       ∙ ap₂ (onAssign s u (a .0)) (b .0) (b .1)
-      ∙ ap (λ (q : Bool). pick q (asked (bound s u (a .0))) (asked s)) (assign-is u a f)
+      ∙ ap (λ (q : Bool). pick q (asked (bound s u (a .0))) (asked s)) (assign-data-is-assign u a f)
 
   -- any other answer: no binding, Get UDID again
   pub assign-other : (tr ≡ traceOf (Assign u a) [] → ⊥) → afterAssign s u (a .0) tr ≡ asked s
@@ -233,7 +232,7 @@ module _ (s : Controller) (u : Udid) (a : Address) (tr : List ℕ) where
   assign-other n = go (answer blockWrite tr) refl
     where
       done : (t : Transaction) → answer blockWrite tr ≡ Done t → (b : Bool) → isAssign u (a .0) t (sentIn blockWrite tr) ≡ b → pick b (asked (bound s u (a .0))) (asked s) ≡ asked s
-      done t e true h = absurd (n (assign-only t e h))
+      done t e true h = absurd (n (complete-assign-is-its-trace t e h))
       done t e false h = refl
 
       go : (x : Decoded) → answer blockWrite tr ≡ x → onAssign s u (a .0) x (sentIn blockWrite tr) ≡ asked s
