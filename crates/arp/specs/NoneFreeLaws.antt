@@ -52,10 +52,10 @@ module _ (t : Table) (n : ℕ) (u : Udid) where
   prepare-none (PecDiffers k) xs e = let z : _≡_ {A = ℕ} 0 1 = cc e in omega arith
   prepare-none (AfterStop k) xs e = let z : _≡_ {A = ℕ} 0 1 = cc e in omega arith
 
-  abbrev Asks : Happened → List ℕ → Type 0
-  Asks x xs = (x ≡ Replied u) × (picked (released u t .used) u (getD xs 16 0) ≡ AllUsed)
+  abbrev Unserved : Happened → List ℕ → Type 0
+  Unserved x xs = (x ≡ Replied u) × (picked (released u t .used) u (getD xs 16 0) ≡ AllUsed)
 
-  not-reply : (xs : List ℕ) → Asks Other xs → ⊥
+  not-reply : (xs : List ℕ) → Unserved Other xs → ⊥
   not-reply xs h = let z : _≡_ {A = ℕ} 0 1 = cc (h .0) in omega arith
 
   assigning-none : (w : Udid) (f : Free) → assigning w f ≡ NoneFree u → (w ≡ u) × (f ≡ AllUsed)
@@ -63,25 +63,25 @@ module _ (t : Table) (n : ℕ) (u : Udid) where
   assigning-none w AllUsed e = (cc e, refl)
 
   done-none : (p q : Bool) (w : Udid) (xs : List ℕ)
-      → (pick p (pick q (assigning w (picked (released w t .used) w (getD xs 16 0))) Ended) (again n) ≡ NoneFree u) ↔ Asks (pick p (pick q (Replied w) Other) Other) xs
+      → (pick p (pick q (assigning w (picked (released w t .used) w (getD xs 16 0))) Ended) (again n) ≡ NoneFree u) ↔ Unserved (pick p (pick q (Replied w) Other) Other) xs
   done-none true true w xs = (forth, back-to)
     where
-      forth : assigning w (picked (released w t .used) w (getD xs 16 0)) ≡ NoneFree u → Asks (Replied w) xs
+      forth : assigning w (picked (released w t .used) w (getD xs 16 0)) ≡ NoneFree u → Unserved (Replied w) xs
       forth e =
           let h = assigning-none w (picked (released w t .used) w (getD xs 16 0)) e in
           (ap Replied (h .0), sym (ap (λ (v : Udid). picked (released v t .used) v (getD xs 16 0)) (h .0)) ∙ h .1)
 
-      back-to : Asks (Replied w) xs → assigning w (picked (released w t .used) w (getD xs 16 0)) ≡ NoneFree u
+      back-to : Unserved (Replied w) xs → assigning w (picked (released w t .used) w (getD xs 16 0)) ≡ NoneFree u
       back-to h =
           let k : w ≡ u = cc (h .0) in
           ap (λ (v : Udid). assigning v (picked (released v t .used) v (getD xs 16 0))) k ∙ ap (assigning u) (h .1)
   done-none true false w xs = (λ e. absurd (let z : _≡_ {A = ℕ} 0 1 = cc e in omega arith), λ h. absurd (not-reply xs h))
   done-none false q w xs = (λ e. absurd (again-none e), λ h. absurd (not-reply xs h))
 
-  neither : (xs : List ℕ) → (again n ≡ NoneFree u) ↔ Asks Other xs
+  neither : (xs : List ℕ) → (again n ≡ NoneFree u) ↔ Unserved Other xs
   neither xs = (λ e. absurd (again-none e), λ h. absurd (not-reply xs h))
 
-  reply-none-free : (d : Decoded) (xs : List ℕ) → (nextReply t n d xs ≡ NoneFree u) ↔ Asks (replyIn d xs) xs
+  reply-none-free : (d : Decoded) (xs : List ℕ) → (nextReply t n d xs ≡ NoneFree u) ↔ Unserved (replyIn d xs) xs
   reply-none-free (Done x) xs = done-none (and (eqb (x .address .0) 0x61) (eqb (x .command) 0x03)) (eqb (x .received) 17) (udidAt xs 0) xs
   reply-none-free (NotAcknowledged b) xs = (λ e. absurd (go (ltb b 3) e), λ h. absurd (not-reply xs h))
     where
@@ -96,7 +96,7 @@ module _ (t : Table) (n : ℕ) (u : Udid) where
   reply-none-free (PecDiffers k) xs = neither xs
   reply-none-free (AfterStop k) xs = neither xs
 
-  assign-asks : (w : Udid) (a : ℕ) (d : Decoded) (xs ys : List ℕ) → Asks (assignIn w a d xs) ys → ⊥
+  assign-asks : (w : Udid) (a : ℕ) (d : Decoded) (xs ys : List ℕ) → Unserved (assignIn w a d xs) ys → ⊥
   assign-asks w a (Done x) xs ys h = go (and (and (eqb (x .address .0) 0x61) (eqb (x .command) 0x04)) (and (eqb (x .sent) 17) (assigns w a xs))) (h .0)
     where
       go : (q : Bool) → pick q (Assigned w a) Other ≡ Replied u → ⊥
@@ -111,10 +111,10 @@ module _ (t : Table) (n : ℕ) (u : Udid) where
   assign-asks w a (PecDiffers k) xs ys h = not-reply ys h
   assign-asks w a (AfterStop k) xs ys h = not-reply ys h
 
-  idle-none : (xs : List ℕ) → (NotOutstanding ≡ NoneFree u) ↔ Asks Other xs
+  idle-none : (xs : List ℕ) → (NotOutstanding ≡ NoneFree u) ↔ Unserved Other xs
   idle-none xs = (λ e. absurd (let z : _≡_ {A = ℕ} 0 1 = cc e in omega arith), λ h. absurd (not-reply xs h))
 
-  next-none : (k : Command) (tr : List ℕ) → (nextCommand t n k tr ≡ NoneFree u) ↔ Asks (readAs k tr) (receivedIn 9 tr)
+  next-none : (k : Command) (tr : List ℕ) → (nextCommand t n k tr ≡ NoneFree u) ↔ Unserved (readAs k tr) (receivedIn 9 tr)
   next-none Prepare tr = (λ e. absurd (prepare-none (answer 1 tr) (sentIn 1 tr) e), λ h. absurd (not-reply (receivedIn 9 tr) h))
   next-none GetUdid tr = reply-none-free (answer 9 tr) (receivedIn 9 tr)
   next-none (Assign w a) tr = (λ e. absurd (again-none e), λ h. absurd (assign-asks w (a .0) (answer 8 tr) (sentIn 8 tr) (receivedIn 9 tr) h))

@@ -164,9 +164,6 @@ trace-is-no-start NotOutstanding tr e = let z : _≡_ {A = ℕ} 0 1 = cc e in om
 
 -- 17 bytes: those of an identifier, and one more
 module _ (u : Udid) (b : ℕ) (f : Fits u) (h : b < 256) where
-  abbrev reply : List ℕ
-  reply = udidBytes u ++ b ∷ []
-
   reply-bytes : Bytes (udidBytes u ++ b ∷ [])
   reply-bytes = append-bytes (udidBytes u) (b ∷ []) (udid-bytes u) (h, tt)
 
