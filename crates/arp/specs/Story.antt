@@ -21,11 +21,13 @@ use Rattle.arp.specs.Replay.{Replied, Assigned, Table, released, readAs,
 use Rattle.arp.specs.declared.command.Command.{Command}
 use Rattle.arp.specs.declared.command.Command.the-variants.{Nothing, Prepare, GetUdid}
 
+-- the table, how many Get UDIDs were handed out in this pass, and what was handed out last
 pub record Story : Type 0 where
   pub known : Table
   pub gets : ℕ
   pub command : Command
 
+-- after one event more
 abbrev pub onward : (ℕ → Bool) → Event → Story → Story
 onward starting Start w = record { known = emptied starting; gets = 0; command = Prepare }
 onward starting (Received tr) w =
@@ -35,6 +37,7 @@ onward starting (Received tr) w =
       command = nextCommand (w .known) (w .gets) (w .command) tr;
     }
 
+-- after events, the latest first, of a controller that was made with these addresses occupied
 unfoldable pub story : Pool → List Event → Story
 story occupied [] = record { known = emptied (member (startingPool occupied)); gets = 0; command = Nothing }
 story occupied (e ∷ es) = onward (member (startingPool occupied)) e (story occupied es)

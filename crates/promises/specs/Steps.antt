@@ -198,7 +198,7 @@ one-reached-step occupied es tr r h =
     (λ u a e. subst (PendingIn (run occupied es)) e (reached-good occupied es .1) .fits)
     h (reached-step occupied es tr)
 
--- ---- the numbers 0 and 14 of a step, each exactly in its listed case; 13 and 21 are in Controller
+-- ---- the numbers 0 and 14 of a step, each exactly in its listed case; 13 and 21 are in arp (StoryLaws, OutstandingLaws)
 
 -- 0: nobody accepted Prepare; or nobody answers Get UDID any more, or the count is not 17
 abbrev pub EndDue : Controller → List ℕ → Type 0
