@@ -27,8 +27,8 @@ use Rattle.arp.specs.declared.command.Command.{Command}
 use Rattle.arp.specs.declared.command.Command.the-variants.{Nothing, Prepare, GetUdid, Assign, Ended, NoneFree, Abandoned, NotOutstanding}
 
 -- the identifier's bytes at the front of 17, and a byte behind them
-pub seventeen : (u : Udid) (l : List ℕ) (w : ℕ) → l ≡ putAt (replicate 17 0) 0 (udidBytes u) → set l 16 w ≡ udidBytes u ++ (w ∷ [])
-seventeen u l w e =
+pub udid-and-byte-written : (u : Udid) (l : List ℕ) (w : ℕ) → l ≡ putAt (replicate 17 0) 0 (udidBytes u) → set l 16 w ≡ udidBytes u ++ (w ∷ [])
+udid-and-byte-written u l w e =
     let k : length (udidBytes u) ≡ 16 = length-udid u in
     let f : putAt (replicate 17 0) 0 (udidBytes u) ≡ udidBytes u ++ (0 ∷ [])
     = put-fits (replicate 17 0) (udidBytes u) 0 (omega arith) ∙ ap (λ (n : ℕ). udidBytes u ++ drop (0 + n) (replicate 17 0)) k in
@@ -42,9 +42,9 @@ assign-data-written u a x before r after h e w =
     (subst (λ (z : List ℕ). Wrote 8 true (message defaultAddress 0 4 z []) before r after) e w)
 
 -- what was written for a command is written for the same command
-pub for-command : (k j : Command) (reply before : List ℕ) (r : Encoded) (after : List ℕ) → k ≡ j
+pub wrote-same-command : (k j : Command) (reply before : List ℕ) (r : Encoded) (after : List ℕ) → k ≡ j
     → Wrote (protocolFor j) true (messageOf j reply) before r after → Wrote (protocolFor k) true (messageOf k reply) before r after
-for-command k j reply before r after e = subst (λ (x : Command). Wrote (protocolFor x) true (messageOf x reply) before r after) (sym e)
+wrote-same-command k j reply before r after e = subst (λ (x : Command). Wrote (protocolFor x) true (messageOf x reply) before r after) (sym e)
 
 -- 255 is refused, and nothing is written
 nothing-written : (k : Command) (reply before : List ℕ) → protocolFor k ≡ 255 → Wrote (protocolFor k) true (messageOf k reply) before Forbidden before
@@ -52,17 +52,17 @@ unfolding encoded refused
 nothing-written k reply before e = record { answer = rw e; output = refl }
 
 -- an Assign of a number above 127 is refused
-pub no-address : (u : Udid) (a : Address) (before : List ℕ) → 127 < a .0 → Wrote (protocolFor (Assign u a)) true (messageOf (Assign u a) []) before Forbidden before
-no-address u a before h = nothing-written (Assign u a) [] before (ap (λ (b : Bool). pick b 255 blockWrite) (lt-ltb 127 (a .0) h))
+pub no-address-refused : (u : Udid) (a : Address) (before : List ℕ) → 127 < a .0 → Wrote (protocolFor (Assign u a)) true (messageOf (Assign u a) []) before Forbidden before
+no-address-refused u a before h = nothing-written (Assign u a) [] before (ap (λ (b : Bool). pick b 255 blockWrite) (lt-ltb 127 (a .0) h))
 
 -- what is no command is refused
-pub no-command : (k : Command) (reply before : List ℕ) → OneOf not-sent (tagOf command.the-type k)
+pub no-command-refused : (k : Command) (reply before : List ℕ) → OneOf not-sent (tagOf command.the-type k)
     → Wrote (protocolFor k) true (messageOf k reply) before Forbidden before
-no-command Nothing reply before h = nothing-written Nothing reply before refl
-no-command Prepare reply before h = absurd (prepare-sent h)
-no-command GetUdid reply before h = absurd (get-sent h)
-no-command (Assign u a) reply before h = absurd (assign-sent h)
-no-command Ended reply before h = nothing-written Ended reply before refl
-no-command (NoneFree u) reply before h = nothing-written (NoneFree u) reply before refl
-no-command Abandoned reply before h = nothing-written Abandoned reply before refl
-no-command NotOutstanding reply before h = nothing-written NotOutstanding reply before refl
+no-command-refused Nothing reply before h = nothing-written Nothing reply before refl
+no-command-refused Prepare reply before h = absurd (prepare-sent h)
+no-command-refused GetUdid reply before h = absurd (get-sent h)
+no-command-refused (Assign u a) reply before h = absurd (assign-sent h)
+no-command-refused Ended reply before h = nothing-written Ended reply before refl
+no-command-refused (NoneFree u) reply before h = nothing-written (NoneFree u) reply before refl
+no-command-refused Abandoned reply before h = nothing-written Abandoned reply before refl
+no-command-refused NotOutstanding reply before h = nothing-written NotOutstanding reply before refl

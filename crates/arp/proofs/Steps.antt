@@ -96,16 +96,16 @@ nack-is-not (inr (inr (inr (inr (inr (inl e)))))) = omega arith
 nack-is-not (inr (inr (inr (inr (inr (inr (inl e))))))) = omega arith
 nack-is-not (inr (inr (inr (inr (inr (inr (inr e))))))) = omega arith
 
-pub somebody : (a : Decoded) → OneOf not-nack (tagOf decoded.the-type a) → nobody a ≡ false
-somebody (Done t) h = refl
-somebody Forbidden h = refl
-somebody BufferTooShort h = refl
-somebody (NoSymbol k) h = refl
-somebody (EndsEarly k) h = refl
-somebody (Unexpected k) h = refl
-somebody (NotAcknowledged b) h = absurd (nack-is-not h)
-somebody (PecDiffers k) h = refl
-somebody (AfterStop k) h = refl
+pub other-answers-are-somebody : (a : Decoded) → OneOf not-nack (tagOf decoded.the-type a) → nobody a ≡ false
+other-answers-are-somebody (Done t) h = refl
+other-answers-are-somebody Forbidden h = refl
+other-answers-are-somebody BufferTooShort h = refl
+other-answers-are-somebody (NoSymbol k) h = refl
+other-answers-are-somebody (EndsEarly k) h = refl
+other-answers-are-somebody (Unexpected k) h = refl
+other-answers-are-somebody (NotAcknowledged b) h = absurd (nack-is-not h)
+other-answers-are-somebody (PecDiffers k) h = refl
+other-answers-are-somebody (AfterStop k) h = refl
 
 -- ---- Prepare To ARP
 
@@ -200,16 +200,16 @@ module _ (s : Controller) (tr : List ℕ) (a : Decoded) (sent received : List �
 
 -- ---- Assign Address
 
-pub incomplete : (u : Udid) (n : ℕ) (a : Decoded) (sent : List ℕ) → OneOf not-done (tagOf decoded.the-type a) → completes u n a sent ≡ false
-incomplete u n (Done t) sent h = absurd (done-is-not h)
-incomplete u n Forbidden sent h = refl
-incomplete u n BufferTooShort sent h = refl
-incomplete u n (NoSymbol i) sent h = refl
-incomplete u n (EndsEarly i) sent h = refl
-incomplete u n (Unexpected i) sent h = refl
-incomplete u n (NotAcknowledged b) sent h = refl
-incomplete u n (PecDiffers i) sent h = refl
-incomplete u n (AfterStop i) sent h = refl
+pub not-done-is-incomplete : (u : Udid) (n : ℕ) (a : Decoded) (sent : List ℕ) → OneOf not-done (tagOf decoded.the-type a) → completes u n a sent ≡ false
+not-done-is-incomplete u n (Done t) sent h = absurd (done-is-not h)
+not-done-is-incomplete u n Forbidden sent h = refl
+not-done-is-incomplete u n BufferTooShort sent h = refl
+not-done-is-incomplete u n (NoSymbol i) sent h = refl
+not-done-is-incomplete u n (EndsEarly i) sent h = refl
+not-done-is-incomplete u n (Unexpected i) sent h = refl
+not-done-is-incomplete u n (NotAcknowledged b) sent h = refl
+not-done-is-incomplete u n (PecDiffers i) sent h = refl
+not-done-is-incomplete u n (AfterStop i) sent h = refl
 
 -- bound where the Assign is complete, and Get UDID in either case
 on-assign : (s : Controller) (u : Udid) (n : ℕ) (a : Decoded) (sent : List ℕ) → pick (completes u n a sent) (asked (bound s u n)) (asked s) ≡ onAssign s u n a sent

@@ -1,38 +1,40 @@
 -- Where bindings and claims come from: a target that the lookup finds was assigned its address in the present pass, by an Assign that was
 -- acknowledged whole; and an address that two claim stays claimed.
-use Prim.Native.Nat.{ℕ, _+_, _%_, _≤_, _<_}
+use Prim.Native.Nat.{ℕ, _≤_, _<_}
 use mathlib.Core.Path.{_≡_, refl, sym, ap, ap₂, _∙_, subst}
 use mathlib.Core.Bool.{Bool, true, false}
 use mathlib.Core.List.{List, [], _∷_}
 use mathlib.Core.Logic.{_⊎_, inl, inr}
-use native.Mathlib.Decide.{ℕ-discrete, decLt}
+use native.Mathlib.Decide.{ℕ-discrete}
 use native.Mathlib.Omega.{arith}
 use lib.Dec.{ltb, leb, eqb}
-use lib.ListN.{length, getD, set, replicate}
+use lib.ListN.{length, getD}
 use borrow.Author.Tests.{ltb-false, lt-ltb, le-ltb}
 use Rattle.lists.specs.Choice.{pick, or}
+use Rattle.wire.specs.declared.address.Address.{Address}
+use Rattle.trace.specs.declared.transaction.Transaction.{Transaction}
+use Rattle.step.specs.declared.answer.Decoded.{Decoded}
+use Rattle.step.specs.declared.answer.Decoded.the-variants.{Done, Forbidden, BufferTooShort, NoSymbol, EndsEarly, Unexpected, NotAcknowledged, PecDiffers, AfterStop}
 use Rattle.pool.specs.Pools.{member}
 use Rattle.pool.specs.declared.Pool.{Pool}
 use Rattle.pool.specs.declared.free.Free.{Free}
 use Rattle.pool.specs.declared.free.Free.the-variants.{At, AllUsed}
-use Rattle.step.specs.declared.answer.Decoded.{Decoded}
-use Rattle.step.specs.declared.answer.Decoded.the-variants.{Done, Forbidden, BufferTooShort, NoSymbol, EndsEarly, Unexpected, NotAcknowledged, PecDiffers, AfterStop}
-use Rattle.trace.specs.declared.transaction.Transaction.{Transaction}
 use Rattle.udid.specs.Bytes.{udidAt}
 use Rattle.udid.specs.declared.Udid.{Udid}
-use Rattle.wire.specs.declared.address.Address.{Address}
-use Rattle.arp.specs.HistoryLaws.{Good, Pending, PendingIn, GoodState, good-run}
-use Rattle.arp.specs.SoundLaws.{Sound, SoundIn, Unbound, held-same, held-other, held-cases, held-above, bound-to, not-open, open-all, find-cases}
-use Rattle.arp.specs.TraceLaws.{assign-only, assign-whole}
-use Rattle.arp.specs.Bindings.{openSlot, heldAt, boundTo, findFrom, freedAt, freed, slotFor, boundAt, bound}
-use Rattle.arp.specs.Controller.{newController, started, handed, counted, asked, chosen, issued, replied, onReply, onPrepare, onGet, onAssign, afterPrepare, afterGet, afterAssign, byCommand, stepped}
-use Rattle.arp.specs.Heard.{sendByte, blockRead, blockWrite, answer, sentIn, receivedIn, isPrepare, isGet, isAssign, nobody}
-use Rattle.arp.specs.History.{Event, Start, Received, run, Acknowledged, isHeld}
+use Rattle.arp.specs.HistoryLaws.{reached-good}
+use Rattle.arp.specs.LookupLaws.{lookup-0}
+use Rattle.arp.specs.SoundLaws.{held-same, held-other, held-cases, bound-to-is-bound, open-is-not-bound, open-all, find-cases}
+use Rattle.arp.specs.TraceLaws.{complete-assign-is-its-trace, assign-whole}
+use Rattle.arp.specs.Numbers.{lookupNumber}
+use Rattle.arp.specs.Sound.{Pending, PendingIn, GoodState}
+use Rattle.arp.specs.Bindings.{openSlot, heldAt, boundTo, findFrom, freedAt, freed, slotFor, bound}
+use Rattle.arp.specs.Controller.{handed, counted, asked, chosen, issued, replied, onReply, onPrepare, onGet, onAssign, afterPrepare, afterGet, afterAssign, byCommand, stepped}
+use Rattle.arp.specs.Heard.{sendByte, blockRead, blockWrite, answer, sentIn, receivedIn, isPrepare, isGet, isAssign}
+use Rattle.arp.specs.History.{Event, Start, Received, run, Acknowledged, isHeld, withTraces}
 use Rattle.arp.specs.Lookup.{seen, lookedUp}
 use Rattle.arp.specs.Requests.{traceOf}
 use Rattle.arp.specs.declared.command.Command.{Command}
 use Rattle.arp.specs.declared.command.Command.the-variants.{Nothing, Prepare, GetUdid, Assign, Ended, NoneFree, Abandoned, NotOutstanding}
-use Rattle.arp.specs.declared.lookup.Found.{Found}
 use Rattle.arp.specs.declared.lookup.Found.the-variants as found
 use Rattle.arp.specs.declared.state.Binding.{Binding}
 use Rattle.arp.specs.declared.state.Binding.the-variants.{Open, Bound, Claimed}
@@ -75,7 +77,7 @@ freed-claims s u i e = go (findFrom u (s .slots) 128 0) (find-cases u (s .slots)
     go f (inl r) = rw (lt-ltb 127 f (omega (arith, r .0))) e
     go f (inr r) =
         rw (le-ltb 127 f (omega (arith, r .0)))
-        (held-other (s .slots) f i openSlot (λ q. absurd (let z : _≡_ {A = ℕ} 0 1 = cc (bound-to u (heldAt (s .slots) f) (r .1), ap (heldAt (s .slots)) q, e) in omega arith)) ∙ e)
+        (held-other (s .slots) f i openSlot (λ q. absurd (let z : _≡_ {A = ℕ} 0 1 = cc (bound-to-is-bound u (heldAt (s .slots) f) (r .1), ap (heldAt (s .slots)) q, e) in omega arith)) ∙ e)
 
 slot-held : (b : Bool) (u w : Udid) → slotFor b u .held ≡ Bound w → u ≡ w
 slot-held true u w e = absurd (let z : _≡_ {A = ℕ} 0 1 = cc e in omega arith)
@@ -158,7 +160,7 @@ module _ (P : List Slot → Type 0) (s : Controller) (u : Udid) (a : Address) (t
   assign-slots (Done t) e = go (isAssign u (a .0) t (sentIn blockWrite tr)) refl
     where
       go : (q : Bool) → isAssign u (a .0) t (sentIn blockWrite tr) ≡ q → P (pick q (asked (bound s u (a .0))) (asked s) .state .slots)
-      go true h = subst P (sym (asked-slots (bound s u (a .0)))) (f (assign-only s u a tr t e h))
+      go true h = subst P (sym (asked-slots (bound s u (a .0)))) (f (complete-assign-is-its-trace s u a tr t e h))
       go false h = as-was
   assign-slots (NotAcknowledged b) e = as-was
   assign-slots Forbidden e = as-was
@@ -174,9 +176,9 @@ module _ (occupied : Pool) (s : Controller) (tr : List ℕ) (g : GoodState occup
   abbrev From : Udid → ℕ → Type 0
   From w a = (heldAt (s .slots) a ≡ Bound w) ⊎ ((s .last ≡ Assign w (address a)) × (tr ≡ traceOf (Assign w (address a)) []))
 
-  pub step-held : (a : ℕ) (w : Udid) → heldAt (stepped s tr .state .slots) a ≡ Bound w → From w a
+  bound-before-or-assigned : (a : ℕ) (w : Udid) → heldAt (stepped s tr .state .slots) a ≡ Bound w → From w a
   unfolding stepped afterPrepare afterGet afterAssign
-  step-held a w e = go (s .last) refl (g .1) e
+  bound-before-or-assigned a w e = go (s .last) refl (g .1) e
     where
       bound-by : (u : Udid) (b : Address) → s .last ≡ Assign u b → Pending s u (b .0) → tr ≡ traceOf (Assign u b) [] → heldAt (bound s u (b .0) .slots) a ≡ Bound w → From w a
       bound-by u b q p t k = at (bound-held s u w (b .0) a (g .0 .sound .size) (p .small) k)
@@ -200,9 +202,9 @@ module _ (occupied : Pool) (s : Controller) (tr : List ℕ) (g : GoodState occup
       go NotOutstanding q p k = inl k
 
   -- an address claimed by two stays so
-  pub step-claimed : (a : ℕ) → heldAt (s .slots) a ≡ Claimed → heldAt (stepped s tr .state .slots) a ≡ Claimed
+  step-keeps-claim : (a : ℕ) → heldAt (s .slots) a ≡ Claimed → heldAt (stepped s tr .state .slots) a ≡ Claimed
   unfolding stepped afterPrepare afterGet afterAssign
-  step-claimed a e = go (s .last) (g .1)
+  step-keeps-claim a e = go (s .last) (g .1)
     where
       claimed-by : (u : Udid) (b : Address) → Pending s u (b .0) → heldAt (bound s u (b .0) .slots) a ≡ Claimed
       claimed-by u b p = at (ℕ-discrete a (b .0))
@@ -232,10 +234,10 @@ module _ (occupied : Pool) (s : Controller) (tr : List ℕ) (g : GoodState occup
       go NotOutstanding p = e
 
   -- an Assign that completes: its target is bound there, or the address is claimed where it was in the pool
-  pub step-assigned : (u : Udid) (a : ℕ) → s .last ≡ Assign u (address a) → tr ≡ traceOf (Assign u (address a)) []
+  pub complete-assign-binds-or-claims : (u : Udid) (a : ℕ) → s .last ≡ Assign u (record { 0 = a }) → tr ≡ traceOf (Assign u (record { 0 = a })) []
       → lookedUp (stepped s tr .state) a ≡ pick (member (s .pool) a) found.Two (found.Bound u)
   unfolding stepped
-  step-assigned u a q t =
+  complete-assign-binds-or-claims u a q t =
       let p : Pending s u a = subst (PendingIn s) q (g .1) in
       let h : a < 128 = p .small in
       ap (λ (k : Command). lookedUp (byCommand s tr k .state) a) q
@@ -249,31 +251,28 @@ module _ (occupied : Pool) (s : Controller) (tr : List ℕ) (g : GoodState occup
       known true = refl
       known false = refl
 
--- ---- the lookup
+-- ---- bindings
 
 pub bound-acknowledged : (occupied : Pool) (es : List Event) (a : ℕ) (u : Udid) → heldAt (run occupied es .slots) a ≡ Bound u → Acknowledged occupied es u a
 unfolding run Acknowledged
-bound-acknowledged occupied [] a u e = not-open _ u (open-all a) e
-bound-acknowledged occupied (Start ∷ es) a u e = not-open _ u (open-all a) e
-bound-acknowledged occupied (Received tr ∷ es) a u e = go (step-held occupied (run occupied es) tr (good-run occupied es) a u e) (λ k. bound-acknowledged occupied es a u k)
+bound-acknowledged occupied [] a u e = open-is-not-bound _ u (open-all a) e
+bound-acknowledged occupied (Start ∷ es) a u e = open-is-not-bound _ u (open-all a) e
+bound-acknowledged occupied (Received tr ∷ es) a u e = go (bound-before-or-assigned occupied (run occupied es) tr (reached-good occupied es) a u e) (λ k. bound-acknowledged occupied es a u k)
   where
-    go : From occupied (run occupied es) tr (good-run occupied es) u a → (heldAt (run occupied es .slots) a ≡ Bound u → Acknowledged occupied es u a)
+    go : From occupied (run occupied es) tr (reached-good occupied es) u a → (heldAt (run occupied es .slots) a ≡ Bound u → Acknowledged occupied es u a)
         → ((run occupied es .last ≡ Assign u (address a)) × (tr ≡ traceOf (Assign u (address a)) [])) ⊎ Acknowledged occupied es u a
     go (inl k) ih = inr (ih k)
     go (inr k) ih = inl k
 
-seen-bound : (h : Binding) (u : Udid) → seen h ≡ found.Bound u → h ≡ Bound u
-seen-bound Open u e = absurd (let z : _≡_ {A = ℕ} 0 1 = cc e in omega arith)
-seen-bound (Bound v) u e = ap Bound (cc e)
-seen-bound Claimed u e = absurd (let z : _≡_ {A = ℕ} 0 1 = cc e in omega arith)
+-- 0 WITH AN IDENTIFIER is answered only where an Assign of that address to it was acknowledged whole, in the present pass
+pub found-acknowledged : (occupied : Pool) (es : List Event) (a : ℕ) (u : Udid) → lookupNumber (lookedUp (run occupied es) a) ≡ (0, u ∷ []) → Acknowledged occupied es u a
+found-acknowledged occupied es a u e = bound-acknowledged occupied es a u (lookup-0 (run occupied es) a u .0 e .1)
 
-found-bound : (s : Controller) (a : ℕ) (u : Udid) → lookedUp s a ≡ found.Bound u → heldAt (s .slots) a ≡ Bound u
-found-bound s a u e = go (ltb 127 a) e
-  where
-    go : (t : Bool) → pick t found.NoAddress (seen (heldAt (s .slots) a)) ≡ found.Bound u → heldAt (s .slots) a ≡ Bound u
-    go true k = absurd (let z : _≡_ {A = ℕ} 0 1 = cc k in omega arith)
-    go false k = seen-bound (heldAt (s .slots) a) u k
+-- ---- claims
 
--- LOOKUP answers a target only where an Assign of that address to it was acknowledged whole in the present pass
-pub lookup-acknowledged : (occupied : Pool) (es : List Event) (a : ℕ) (u : Udid) → lookedUp (run occupied es) a ≡ found.Bound u → Acknowledged occupied es u a
-lookup-acknowledged occupied es a u e = bound-acknowledged occupied es a u (found-bound (run occupied es) a u e)
+-- A CLAIM STAYS for the rest of the pass, whatever is received
+pub claim-stays : (occupied : Pool) (es : List Event) (trs : List (List ℕ)) (a : ℕ) → heldAt (run occupied es .slots) a ≡ Claimed
+    → heldAt (run occupied (withTraces trs es) .slots) a ≡ Claimed
+unfolding run
+claim-stays occupied es [] a e = e
+claim-stays occupied es (tr ∷ trs) a e = step-keeps-claim occupied (run occupied (withTraces trs es)) tr (reached-good occupied (withTraces trs es)) a (claim-stays occupied es trs a e)

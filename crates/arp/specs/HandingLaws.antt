@@ -1,6 +1,6 @@
 -- What is handed out: the state keeps it, each Get UDID is counted, and only a fixed target is sent an address that is in use.
 use Prim.Native.Nat.{ℕ, _+_}
-use mathlib.Core.Path.{_≡_, refl, sym, ap, ap₂, _∙_, subst}
+use mathlib.Core.Path.{_≡_, refl, sym, ap, _∙_, subst}
 use mathlib.Core.Bool.{Bool, true, false}
 use mathlib.Core.List.{List, [], _∷_}
 use mathlib.Core.Logic.{_⊎_, inl, inr}
@@ -9,18 +9,20 @@ use native.Mathlib.Omega.{arith}
 use lib.Dec.{ltb, leb, eqb}
 use lib.ListN.{getD}
 use Rattle.lists.specs.Choice.{pick}
+use Rattle.wire.specs.declared.address.Address.{Address}
+use Rattle.trace.specs.declared.transaction.Transaction.{Transaction}
+use Rattle.step.specs.declared.answer.Decoded.{Decoded}
+use Rattle.step.specs.declared.answer.Decoded.the-variants.{Done, Forbidden, BufferTooShort, NoSymbol, EndsEarly, Unexpected, NotAcknowledged, PecDiffers, AfterStop}
 use Rattle.pool.specs.Pools.{member}
 use Rattle.pool.specs.declared.Pool.{Pool}
 use Rattle.pool.specs.declared.free.Free.{Free}
 use Rattle.pool.specs.declared.free.Free.the-variants.{At, AllUsed}
-use Rattle.step.specs.declared.answer.Decoded.{Decoded}
-use Rattle.step.specs.declared.answer.Decoded.the-variants.{Done, Forbidden, BufferTooShort, NoSymbol, EndsEarly, Unexpected, NotAcknowledged, PecDiffers, AfterStop}
-use Rattle.trace.specs.declared.transaction.Transaction.{Transaction}
 use Rattle.udid.specs.Bytes.{udidAt}
 use Rattle.udid.specs.Udids.{isFixed}
 use Rattle.udid.specs.declared.Udid.{Udid}
-use Rattle.wire.specs.declared.address.Address.{Address}
-use Rattle.arp.specs.HistoryLaws.{Pending, PendingIn, good-run}
+use Rattle.arp.specs.HistoryLaws.{reached-good}
+use Rattle.arp.specs.Handing.{Handed}
+use Rattle.arp.specs.Sound.{Pending, PendingIn}
 use Rattle.arp.specs.Bindings.{findFrom, freedAt, freed, boundAt, bound}
 use Rattle.arp.specs.Controller.{handed, counted, asked, chosen, issued, replied, onReply, onPrepare, onGet, onAssign, afterPrepare, afterGet, afterAssign, byCommand, stepped}
 use Rattle.arp.specs.Heard.{sendByte, blockRead, blockWrite, answer, sentIn, receivedIn, isPrepare, isGet, isAssign}
@@ -29,11 +31,6 @@ use Rattle.arp.specs.declared.command.Command.{Command}
 use Rattle.arp.specs.declared.command.Command.the-variants.{Nothing, Prepare, GetUdid, Assign, Ended, NoneFree, Abandoned, NotOutstanding}
 use Rattle.arp.specs.declared.state.Controller.{Controller}
 use Rattle.arp.specs.declared.state.Stepped.{Stepped}
-
--- handed out from a state: kept as the last, and counted where it is a Get UDID
-pub record Handed (s : Controller) (r : Stepped) : Type 0 where
-  pub last : r .state .last ≡ r .command
-  pub gets : r .state .gets ≡ s .gets + oneGet (r .command)
 
 plain : (s : Controller) (k : Command) → oneGet k ≡ 0 → Handed s (handed s k)
 plain s k e = record { last = refl; gets = omega arith }
@@ -47,17 +44,17 @@ asked-handed s = go (leb 128 (s .gets))
     go false = record { last = refl; gets = refl }
 
 -- unbinding and binding count nothing
-pub freed-gets : (s : Controller) (u : Udid) → freed s u .gets ≡ s .gets
+pub freed-keeps-gets : (s : Controller) (u : Udid) → freed s u .gets ≡ s .gets
 unfolding freed
-freed-gets s u = go (ltb 127 (findFrom u (s .slots) 128 0))
+freed-keeps-gets s u = go (ltb 127 (findFrom u (s .slots) 128 0))
   where
     go : (t : Bool) → pick t s (freedAt s (findFrom u (s .slots) 128 0)) .gets ≡ s .gets
     go true = refl
     go false = refl
 
-pub bound-gets : (s : Controller) (u : Udid) (a : ℕ) → bound s u a .gets ≡ s .gets
+pub bound-keeps-gets : (s : Controller) (u : Udid) (a : ℕ) → bound s u a .gets ≡ s .gets
 unfolding bound
-bound-gets s u a = go (ltb 127 a)
+bound-keeps-gets s u a = go (ltb 127 a)
   where
     go : (t : Bool) → pick t s (boundAt s u a) .gets ≡ s .gets
     go true = refl
@@ -68,8 +65,8 @@ from s r x e h = record { last = h .last; gets = h .gets ∙ ap (λ (n : ℕ). n
 
 module _ (s : Controller) where
   issued-handed : (u : Udid) (k : Free) → Handed s (issued (freed s u) u k)
-  issued-handed u (At a) = from s (freed s u) (issued (freed s u) u (At a)) (freed-gets s u) (plain (freed s u) (Assign u a) refl)
-  issued-handed u AllUsed = from s (freed s u) (issued (freed s u) u AllUsed) (freed-gets s u) (plain (freed s u) (NoneFree u) refl)
+  issued-handed u (At a) = from s (freed s u) (issued (freed s u) u (At a)) (freed-keeps-gets s u) (plain (freed s u) (Assign u a) refl)
+  issued-handed u AllUsed = from s (freed s u) (issued (freed s u) u AllUsed) (freed-keeps-gets s u) (plain (freed s u) (NoneFree u) refl)
 
   reply-handed : (t : Transaction) (xs : List ℕ) → Handed s (onReply s t xs)
   unfolding onReply replied
@@ -114,7 +111,7 @@ module _ (s : Controller) where
   assign-handed u n (Done t) xs = go (isAssign u n t xs)
     where
       go : (q : Bool) → Handed s (pick q (asked (bound s u n)) (asked s))
-      go true = from s (bound s u n) (asked (bound s u n)) (bound-gets s u n) (asked-handed (bound s u n))
+      go true = from s (bound s u n) (asked (bound s u n)) (bound-keeps-gets s u n) (asked-handed (bound s u n))
       go false = asked-handed s
   assign-handed u n (NotAcknowledged b) xs = asked-handed s
   assign-handed u n Forbidden xs = asked-handed s
@@ -126,9 +123,9 @@ module _ (s : Controller) where
   assign-handed u n (AfterStop k) xs = asked-handed s
 
   -- 21 with the state as it was, or something handed out and kept
-  pub step-handed : (tr : List ℕ) → ((stepped s tr .command ≡ NotOutstanding) × (stepped s tr .state ≡ s)) ⊎ Handed s (stepped s tr)
+  pub step-21-or-handed : (tr : List ℕ) → ((stepped s tr .command ≡ NotOutstanding) × (stepped s tr .state ≡ s)) ⊎ Handed s (stepped s tr)
   unfolding stepped afterPrepare afterGet afterAssign
-  step-handed tr = go (s .last)
+  step-21-or-handed tr = go (s .last)
     where
       go : (k : Command) → ((byCommand s tr k .command ≡ NotOutstanding) × (byCommand s tr k .state ≡ s)) ⊎ Handed s (byCommand s tr k)
       go Nothing = inl (refl, refl)
@@ -145,7 +142,7 @@ pub gets-are-sent : (occupied : Pool) (es : List Event) → run occupied es .get
 unfolding run getsSent
 gets-are-sent occupied [] = refl
 gets-are-sent occupied (Start ∷ es) = refl
-gets-are-sent occupied (Received tr ∷ es) = go (step-handed (run occupied es) tr) (gets-are-sent occupied es)
+gets-are-sent occupied (Received tr ∷ es) = go (step-21-or-handed (run occupied es) tr) (gets-are-sent occupied es)
   where
     go : ((stepped (run occupied es) tr .command ≡ NotOutstanding) × (stepped (run occupied es) tr .state ≡ run occupied es)) ⊎ Handed (run occupied es) (stepped (run occupied es) tr)
         → run occupied es .gets ≡ getsSent occupied es
@@ -158,7 +155,7 @@ pub claims-are-fixed : (occupied : Pool) (es : List Event) (u : Udid) (a : Addre
 claims-are-fixed occupied es u a e h = go (isFixed u) refl
   where
     p : Pending (run occupied es) u (a .0)
-    p = subst (PendingIn (run occupied es)) e (good-run occupied es .1)
+    p = subst (PendingIn (run occupied es)) e (reached-good occupied es .1)
 
     go : (b : Bool) → isFixed u ≡ b → isFixed u ≡ true
     go true q = q

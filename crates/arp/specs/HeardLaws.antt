@@ -11,6 +11,7 @@ use lib.ListN.{length, getD, drop, replicate, length-replicate, List·getD-appen
 use borrow.Author.Tests.{le-ltb, eqb-true}
 use Rattle.lists.specs.Choice.{pick, and}
 use Rattle.lists.specs.Onto.{onto}
+use Rattle.wire.specs.declared.address.Address.{Address}
 use Rattle.trace.specs.ShapeLaws.{sane}
 use Rattle.trace.specs.Shapes.{shapeOf, forbidden}
 use Rattle.step.specs.AnswersLaws as step
@@ -24,7 +25,6 @@ use Rattle.decode.specs.Outcome.{short, answered, Outcome}
 use Rattle.udid.specs.Bytes.{number, bytesFrom, udidAt}
 use Rattle.udid.specs.Udids.{sameUdid}
 use Rattle.udid.specs.declared.Udid.{Udid}
-use Rattle.wire.specs.declared.address.Address.{Address}
 use Rattle.arp.specs.Heard.{answer, sentIn, receivedIn}
 use Rattle.arp.specs.OneStep.{Gives}
 use Rattle.arp.specs.Replay.{Happened, Replied, Assigned, Other, Table, released, replyIn, assigns, assignIn, readAs, again, picked, assigning, nextPrepare, nextReply, nextCommand}
@@ -38,15 +38,15 @@ module _ (protocol : ℕ) (tr sent₀ received₀ : List ℕ) (d : Decoded) (sen
   long = rw (le-ltb (length sent₀) 255 l, le-ltb (length received₀) 255 m)
 
   -- the answer is the one that is heard
-  pub heard : d ≡ answer protocol tr
-  heard = answer-by-trace protocol true tr sent₀ received₀ d sent received o f long
+  pub answer-is-heard : d ≡ answer protocol tr
+  answer-is-heard = other-numbers protocol true tr sent₀ received₀ d sent received o f long
 
   -- and the data stand at the fronts of the buffers
-  pub heard-sent : sent ≡ onto (sentIn protocol tr) sent₀
-  heard-sent = o .data-sent ∙ ap (λ (x : Decoded). onto (sentData (shapeOf protocol) tr x) sent₀) heard
+  pub sent-is-heard : sent ≡ onto (sentIn protocol tr) sent₀
+  sent-is-heard = o .data-sent ∙ ap (λ (x : Decoded). onto (sentData (shapeOf protocol) tr x) sent₀) answer-is-heard
 
-  pub heard-received : received ≡ onto (receivedIn protocol tr) received₀
-  heard-received = o .data-received ∙ ap (λ (x : Decoded). onto (receivedData true tr x) received₀) heard
+  pub received-is-heard : received ≡ onto (receivedIn protocol tr) received₀
+  received-is-heard = o .data-received ∙ ap (λ (x : Decoded). onto (receivedData true tr x) received₀) answer-is-heard
 
 -- ---- the numbers
 
@@ -60,7 +60,7 @@ answered-long protocol tr f = rw f
 -- decode gives a number for a trace exactly if it is that of the answer heard
 pub gives-exactly : (protocol : ℕ) (tr : List ℕ) (n v : ℕ) → forbidden protocol true ≡ false → Gives protocol tr n v ↔ (decodeNumber (answer protocol tr) ≡ (n, v))
 gives-exactly protocol tr n v f = (
-  λ g. ap decodeNumber (sym (heard protocol tr (g .sent₀) (g .received₀) (g .answer) (g .sent) (g .received) f (g .room-sent) (g .room-received) (g .outcome))) ∙ g .number,
+  λ g. ap decodeNumber (sym (answer-is-heard protocol tr (g .sent₀) (g .received₀) (g .answer) (g .sent) (g .received) f (g .room-sent) (g .room-received) (g .outcome))) ∙ g .number,
   λ e. record {
     sent₀ = zeros;
     received₀ = zeros;
@@ -191,27 +191,27 @@ module _ (tr sent₀ received₀ : List ℕ) (d : Decoded) (sent received : List
   -- where a reply is due: its answer for Block Read, and the data received
   pub reply-is-decode : Outcome 9 true tr sent₀ received₀ d sent received → readAs GetUdid tr ≡ replyIn d received
   reply-is-decode o =
-      ap (λ (x : Decoded). replyIn x (receivedData true tr x)) (sym (heard 9 tr sent₀ received₀ d sent received refl l m o))
+      ap (λ (x : Decoded). replyIn x (receivedData true tr x)) (sym (answer-is-heard 9 tr sent₀ received₀ d sent received refl l m o))
       ∙ sym (reply-front tr received₀ d)
       ∙ ap (replyIn d) (sym (o .data-received))
 
   -- where an Assign is outstanding: its answer for Block Write, and the data sent
   pub assign-is-decode : Outcome 8 true tr sent₀ received₀ d sent received → (u : Udid) (a : Address) → readAs (Assign u a) tr ≡ assignIn u (a .0) d sent
   assign-is-decode o u a =
-      ap (λ (x : Decoded). assignIn u (a .0) x (sentData (shapeOf 8) tr x)) (sym (heard 8 tr sent₀ received₀ d sent received refl l m o))
+      ap (λ (x : Decoded). assignIn u (a .0) x (sentData (shapeOf 8) tr x)) (sym (answer-is-heard 8 tr sent₀ received₀ d sent received refl l m o))
       ∙ sym (assign-front tr sent₀ u (a .0) d)
       ∙ ap (assignIn u (a .0) d) (sym (o .data-sent))
 
   -- what is handed out next: by its answer for Send Byte after Prepare, and for Block Read after Get UDID
   pub next-prepare-is-decode : Outcome 1 true tr sent₀ received₀ d sent received → (t : Table) (n : ℕ) → nextCommand t n Prepare tr ≡ nextPrepare n d sent
   next-prepare-is-decode o t n =
-      let e : d ≡ answer 1 tr = heard 1 tr sent₀ received₀ d sent received refl l m o in
+      let e : d ≡ answer 1 tr = answer-is-heard 1 tr sent₀ received₀ d sent received refl l m o in
       ap (λ (x : Decoded). nextPrepare n x (sentData (shapeOf 1) tr x)) (sym e)
       ∙ sym (next-prepare-front tr sent₀ n d (sym e))
       ∙ ap (nextPrepare n d) (sym (o .data-sent))
 
   pub next-reply-is-decode : Outcome 9 true tr sent₀ received₀ d sent received → (t : Table) (n : ℕ) → nextCommand t n GetUdid tr ≡ nextReply t n d received
   next-reply-is-decode o t n =
-      ap (λ (x : Decoded). nextReply t n x (receivedData true tr x)) (sym (heard 9 tr sent₀ received₀ d sent received refl l m o))
+      ap (λ (x : Decoded). nextReply t n x (receivedData true tr x)) (sym (answer-is-heard 9 tr sent₀ received₀ d sent received refl l m o))
       ∙ sym (next-reply-front tr received₀ t n d)
       ∙ ap (nextReply t n d) (sym (o .data-received))

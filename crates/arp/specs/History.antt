@@ -1,11 +1,11 @@
 -- The states that a controller reaches, by starts and received traces in any order, and what holds in all of them.
-use Prim.Native.Nat.{ℕ, _+_, _≤_, _<_}
+use Prim.Native.Nat.{ℕ, _+_, _≤_}
 use mathlib.Core.Path.{_≡_}
 use mathlib.Core.Bool.{Bool, true, false}
 use mathlib.Core.List.{List, [], _∷_}
 use mathlib.Core.Logic.{_⊎_}
 use lib.ListN.{length}
-use Rattle.lists.specs.Choice.{or, and, not}
+use Rattle.lists.specs.Choice.{and, not}
 use Rattle.pool.specs.Counts.{count}
 use Rattle.pool.specs.Free.{used}
 use Rattle.pool.specs.Pools.{member}
@@ -26,11 +26,28 @@ pub data Event : Type 0 where
   Start : Event
   Received : List ℕ → Event
 
+-- more traces, and no start
+abbrev pub withTraces : List (List ℕ) → List Event → List Event
+withTraces [] es = es
+withTraces (tr ∷ trs) es = Received tr ∷ withTraces trs es
+
+-- traces alone, and no start
+abbrev pub tracesAlone : List (List ℕ) → List Event
+tracesAlone trs = withTraces trs []
+
 -- the state after events, the latest first, of a controller that was made with these addresses occupied
 unfoldable pub run : Pool → List Event → Controller
 run occupied [] = newController occupied
 run occupied (Start ∷ es) = started (run occupied es) .state
 run occupied (Received tr ∷ es) = stepped (run occupied es) tr .state
+
+-- a new controller: the starting pool in both places, nothing bound or claimed, no Get UDID counted, and nothing handed out
+pub record New (occupied : Pool) (s : Controller) : Type 0 where
+  pub starting : s .starting ≡ startingPool occupied
+  pub pool : s .pool ≡ startingPool occupied
+  pub held : (a : ℕ) → heldAt (s .slots) a ≡ Open
+  pub gets : s .gets ≡ 0
+  pub last : s .last ≡ Nothing
 
 -- since the latest start, an Assign of a to u was outstanding and the trace received was that Assign, whole: every byte acknowledged
 unfoldable pub Acknowledged : Pool → List Event → Udid → ℕ → Type 0

@@ -1,74 +1,42 @@
--- Every state that starts and received traces reach is sound: the invariant of specs/History.antt.
-use Prim.Native.Nat.{ℕ, zero, suc, _+_, _-_, _*_, _/_, _%_, _≤_, _<_}
-use mathlib.Core.Path.{_≡_, refl, sym, ap, ap₂, _∙_, subst}
+-- Every state that starts and received traces reach is sound, so the invariant of specs/History.antt holds in it; and what a new controller is.
+use Prim.Native.Nat.{ℕ, zero, suc, _<_}
+use mathlib.Core.Path.{_≡_, refl, sym, ap, _∙_}
 use mathlib.Core.Bool.{Bool, true, false}
 use mathlib.Core.List.{List, [], _∷_}
-use mathlib.Core.Logic.{_⊎_, inl, inr}
-use native.Mathlib.Decide.{decLt}
 use native.Mathlib.Omega.{arith}
 use lib.Dec.{ltb, leb, eqb}
 use lib.ListN.{length, getD, drop}
-use borrow.Author.Tests.{leb-false, leb-true}
-use Rattle.lists.specs.Choice.{pick, or, and, not}
+use borrow.Author.Tests.{leb-false}
+use Rattle.lists.specs.Choice.{pick, or}
 use Rattle.lists.specs.Each.{Bytes}
-use Rattle.pool.specs.CountLaws.{count-cong, count-split}
-use Rattle.pool.specs.Counts.{count}
-use Rattle.pool.specs.Free.{used, lowestFree}
-use Rattle.pool.specs.Free.{Lowest}
-use Rattle.pool.specs.FreeLaws.{lowest-is}
-use Rattle.pool.specs.MemberLaws.{member-above}
+use Rattle.trace.specs.declared.transaction.Transaction.{Transaction}
+use Rattle.step.specs.Handed.{lows, receivedLength, receivedPlace}
+use Rattle.step.specs.declared.answer.Decoded.{Decoded}
+use Rattle.step.specs.declared.answer.Decoded.the-variants.{Done, Forbidden, BufferTooShort, NoSymbol, EndsEarly, Unexpected, NotAcknowledged, PecDiffers, AfterStop}
+use Rattle.pool.specs.CountLaws.{count-split}
+use Rattle.pool.specs.Free.{used}
 use Rattle.pool.specs.Pools.{member}
 use Rattle.pool.specs.Start.{startingPool}
 use Rattle.pool.specs.declared.Pool.{Pool}
 use Rattle.pool.specs.declared.free.Free.{Free}
 use Rattle.pool.specs.declared.free.Free.the-variants.{At, AllUsed}
-use Rattle.step.specs.Handed.{lows, receivedLength, receivedPlace, receivedData}
-use Rattle.step.specs.declared.answer.Decoded.{Decoded}
-use Rattle.step.specs.declared.answer.Decoded.the-variants.{Done, Forbidden, BufferTooShort, NoSymbol, EndsEarly, Unexpected, NotAcknowledged, PecDiffers, AfterStop}
-use Rattle.trace.specs.declared.transaction.Transaction.{Transaction}
 use Rattle.udid.specs.Bytes.{udidAt}
 use Rattle.udid.specs.UdidLaws.{fits-at}
-use Rattle.udid.specs.Udids.{Fits, isFixed}
+use Rattle.udid.specs.Udids.{Fits}
 use Rattle.udid.specs.WindowLaws.{byte-at}
 use Rattle.udid.specs.declared.Udid.{Udid}
-use Rattle.wire.specs.declared.address.Address.{Address}
-use Rattle.arp.specs.SoundLaws.{Sound, SoundIn, Unbound, held-above, open-all, sound-open, sound-freed, sound-bound}
+use Rattle.arp.specs.ChosenLaws.{chosen-small-and-free}
+use Rattle.arp.specs.SoundLaws.{sound-open, sound-freed, sound-bound, open-all}
+use Rattle.arp.specs.Sound.{SoundIn, Good, Pending, PendingIn, GoodState}
 use Rattle.arp.specs.Bindings.{heldAt, findFrom, freedAt, freed, boundAt, bound}
-use Rattle.arp.specs.Controller.{newController, started, handed, counted, asked, ownAddress, chosen, issued, replied, onReply, onPrepare, onGet, onAssign, afterPrepare, afterGet, afterAssign, byCommand, stepped}
-use Rattle.arp.specs.Heard.{sendByte, blockRead, blockWrite, answer, sentIn, receivedIn, isPrepare, isGet, isAssign, nobody}
-use Rattle.arp.specs.History.{Event, Start, Received, run, isHeld, isNew, Invariant}
+use Rattle.arp.specs.Controller.{handed, counted, asked, chosen, issued, replied, onReply, onPrepare, onGet, onAssign, afterPrepare, afterGet, afterAssign, byCommand, stepped, newController}
+use Rattle.arp.specs.Heard.{sendByte, blockRead, blockWrite, answer, sentIn, receivedIn, isPrepare, isGet, isAssign}
+use Rattle.arp.specs.History.{Event, Start, Received, run, isHeld, Invariant, New}
 use Rattle.arp.specs.declared.command.Command.{Command}
 use Rattle.arp.specs.declared.command.Command.the-variants.{Nothing, Prepare, GetUdid, Assign, Ended, NoneFree, Abandoned, NotOutstanding}
 use Rattle.arp.specs.declared.state.Binding.{Binding}
-use Rattle.arp.specs.declared.state.Binding.the-variants.{Open, Bound, Claimed}
+use Rattle.arp.specs.declared.state.Binding.the-variants.{Bound, Claimed}
 use Rattle.arp.specs.declared.state.Controller.{Controller}
-use Rattle.arp.specs.declared.state.Stepped.{Stepped}
-
--- a state without what was handed out last
-pub record Good (occupied : Pool) (s : Controller) : Type 0 where
-  pub sound : SoundIn s
-  pub gets : s .gets ≤ 128
-  pub starting : s .starting ≡ startingPool occupied
-
--- an Assign that is outstanding names a seven-bit address, an identifier of two halves that is bound nowhere, and, if that is movable, a free address
-pub record Pending (s : Controller) (u : Udid) (a : ℕ) : Type 0 where
-  pub small : a < 128
-  pub unbound : Unbound u (s .slots)
-  pub fits : Fits u
-  pub free : isFixed u ≡ false → member (s .pool) a ≡ false
-
-abbrev pub PendingIn : Controller → Command → Type 0
-PendingIn s Nothing = Unit
-PendingIn s Prepare = Unit
-PendingIn s GetUdid = Unit
-PendingIn s (Assign u a) = Pending s u (a .0)
-PendingIn s Ended = Unit
-PendingIn s (NoneFree u) = Unit
-PendingIn s Abandoned = Unit
-PendingIn s NotOutstanding = Unit
-
-abbrev pub GoodState : Pool → Controller → Type 0
-GoodState occupied s = Good occupied s × PendingIn s (s .last)
 
 -- ---- data that the decoder hands over are bytes
 
@@ -76,29 +44,8 @@ lows-bytes : (n : ℕ) (l : List ℕ) → Bytes (lows n l)
 lows-bytes zero l = tt
 lows-bytes (suc n) l = (omega arith, lows-bytes n (drop 2 l))
 
-pub received-bytes : (protocol : ℕ) (tr : List ℕ) → Bytes (receivedIn protocol tr)
-received-bytes protocol tr = lows-bytes (receivedLength (answer protocol tr)) (drop (receivedPlace true (receivedLength (answer protocol tr)) (length tr)) tr)
-
--- ---- the address chosen
-
--- it has seven bits, and for a movable target it is free
-pub chosen-good : (p : Pool) (u : Udid) (b : ℕ) (a : Address) → b < 256 → chosen p u b ≡ At a → (a .0 < 128) × (isFixed u ≡ false → member p (a .0) ≡ false)
-unfolding chosen
-chosen-good p u b a h e = go (eqb b 0xFF) (isFixed u) refl (member p (b / 2)) refl e
-  where
-    picked : lowestFree p ≡ At a → (a .0 < 128) × (isFixed u ≡ false → member p (a .0) ≡ false)
-    picked k = let w = lowest-is p (a .0) .0 k in (w .small, λ q. w .free)
-
-    own : At (ownAddress b) ≡ At a → b / 2 ≡ a .0
-    own k = let q : ownAddress b ≡ a = cc k in ap (λ (x : Address). x .0) q
-
-    go : (r s : Bool) → isFixed u ≡ s → (t : Bool) → member p (b / 2) ≡ t
-        → pick r (lowestFree p) (pick s (At (ownAddress b)) (pick t (lowestFree p) (At (ownAddress b)))) ≡ At a
-        → (a .0 < 128) × (isFixed u ≡ false → member p (a .0) ≡ false)
-    go true s f t m k = picked k
-    go false true f t m k = (let q = own k in omega arith, λ g. absurd (let z : _≡_ {A = ℕ} 0 1 = cc (f, g) in omega arith))
-    go false false f true m k = picked k
-    go false false f false m k = (let q = own k in omega arith, λ g. ap (member p) (sym (own k)) ∙ m)
+pub received-are-bytes : (protocol : ℕ) (tr : List ℕ) → Bytes (receivedIn protocol tr)
+received-are-bytes protocol tr = lows-bytes (receivedLength (answer protocol tr)) (drop (receivedPlace true (receivedLength (answer protocol tr)) (length tr)) tr)
 
 -- ---- each function of the step keeps the state good
 
@@ -143,7 +90,7 @@ module _ (occupied : Pool) where
 
       go : (k : Free) → chosen (freed s u .pool) u b ≡ k → GoodState occupied (issued (freed s u) u k .state)
       go (At a) e =
-          let c = chosen-good (freed s u .pool) u b a h e in
+          let c = chosen-small-and-free (freed s u .pool) u b a h e in
           (record { sound = v .sound; gets = v .gets; starting = v .starting }, record { small = c .0; unbound = sound-freed s u (g .sound) .1; fits = f; free = c .1 })
       go AllUsed e = (record { sound = v .sound; gets = v .gets; starting = v .starting }, tt)
 
@@ -201,14 +148,14 @@ module _ (occupied : Pool) where
   good-assign s u n (PecDiffers k) xs g p = good-asked s g
   good-assign s u n (AfterStop k) xs g p = good-asked s g
 
-  pub good-step : (s : Controller) (tr : List ℕ) → GoodState occupied s → GoodState occupied (stepped s tr .state)
+  pub step-keeps-good : (s : Controller) (tr : List ℕ) → GoodState occupied s → GoodState occupied (stepped s tr .state)
   unfolding stepped afterPrepare afterGet afterAssign
-  good-step s tr g = go (s .last) (g .1)
+  step-keeps-good s tr g = go (s .last) (g .1)
     where
       go : (k : Command) → PendingIn s k → GoodState occupied (byCommand s tr k .state)
       go Nothing p = g
       go Prepare p = good-prepare s (answer sendByte tr) (sentIn sendByte tr) (g .0)
-      go GetUdid p = good-get s (answer blockRead tr) (receivedIn blockRead tr) (g .0) (received-bytes blockRead tr)
+      go GetUdid p = good-get s (answer blockRead tr) (receivedIn blockRead tr) (g .0) (received-are-bytes blockRead tr)
       go (Assign u a) p = good-assign s u (a .0) (answer blockWrite tr) (sentIn blockWrite tr) (g .0) p
       go Ended p = g
       go (NoneFree u) p = g
@@ -216,12 +163,12 @@ module _ (occupied : Pool) where
       go NotOutstanding p = g
 
   -- EVERY STATE
-  pub good-run : (es : List Event) → GoodState occupied (run occupied es)
+  pub reached-good : (es : List Event) → GoodState occupied (run occupied es)
   unfolding run
-  good-run [] = (record { sound = sound-open (startingPool occupied); gets = omega arith; starting = refl }, tt)
-  good-run (Start ∷ es) =
-      (record { sound = sound-open (run occupied es .starting); gets = omega arith; starting = good-run es .0 .starting }, tt)
-  good-run (Received tr ∷ es) = good-step (run occupied es) tr (good-run es)
+  reached-good [] = (record { sound = sound-open (startingPool occupied); gets = omega arith; starting = refl }, tt)
+  reached-good (Start ∷ es) =
+      (record { sound = sound-open (run occupied es .starting); gets = omega arith; starting = reached-good es .0 .starting }, tt)
+  reached-good (Received tr ∷ es) = step-keeps-good (run occupied es) tr (reached-good es)
 
 -- ---- the invariant, as specs/History.antt has it
 
@@ -232,10 +179,11 @@ or-held : (a : Bool) → or a true ≡ true
 or-held true = refl
 or-held false = refl
 
-pub invariant : (occupied : Pool) (es : List Event) → Invariant occupied (run occupied es)
+-- EVERY STATE that starts and received traces reach
+pub reached-invariant : (occupied : Pool) (es : List Event) → Invariant occupied (run occupied es)
 unfolding used
-invariant occupied es = record {
-  starting = good-run occupied es .0 .starting;
+reached-invariant occupied es = record {
+  starting = reached-good occupied es .0 .starting;
   contains = λ a e. v .exact a ∙ or-true (member (s .starting) a) (isHeld (heldAt (s .slots) a)) e;
   bound-used = λ a u e. held-used a (Bound u) e refl;
   bound-new = λ a u e. v .new a u e;
@@ -245,17 +193,22 @@ invariant occupied es = record {
   claimed-used = λ a e. held-used a Claimed e refl;
   number = count-split (member (s .starting)) (λ a. isHeld (heldAt (s .slots) a)) (member (s .pool)) 128 (λ a h. v .exact a);
   size = v .size;
-  gets = good-run occupied es .0 .gets;
+  gets = reached-good occupied es .0 .gets;
 }
   where
     s : Controller
     s = run occupied es
 
     v : SoundIn (run occupied es)
-    v = good-run occupied es .0 .sound
+    v = reached-good occupied es .0 .sound
 
     held-used : (a : ℕ) (x : Binding) → heldAt (run occupied es .slots) a ≡ x → isHeld x ≡ true → member (run occupied es .pool) a ≡ true
     held-used a x e f = v .exact a ∙ ap (λ (b : Binding). or (member (run occupied es .starting) a) (isHeld b)) e ∙ ap (or (member (run occupied es .starting) a)) f ∙ or-held (member (run occupied es .starting) a)
 
     same : {u w : Udid} → Bound u ≡ Bound w → u ≡ w
     same e = cc e
+
+-- ---- a new controller
+
+pub new-controller-is-new : (occupied : Pool) → New occupied (newController occupied)
+new-controller-is-new occupied = record { starting = refl; pool = refl; held = open-all; gets = refl; last = refl }

@@ -1,6 +1,5 @@
 -- The lookup by address, in the present pass.
 use Prim.Native.Nat.{ℕ}
-use mathlib.Core.Bool.{Bool, true, false}
 use lib.Dec.{ltb}
 use Rattle.lists.specs.Choice.{pick}
 use Rattle.arp.specs.Bindings.{heldAt}

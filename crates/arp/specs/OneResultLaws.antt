@@ -2,13 +2,13 @@
 use Prim.Native.Nat.{ℕ, zero, suc, _/_, _≤_, _<_}
 use mathlib.Core.Path.{_≡_, refl, sym, ap, ap₂, _∙_, subst}
 use mathlib.Core.Bool.{Bool, true, false}
-use mathlib.Core.List.{List, [], _∷_, _++_}
+use mathlib.Core.List.{List, [], _∷_}
 use mathlib.Core.Logic.{_⊎_, inl, inr}
 use native.Mathlib.Decide.{ℕ-discrete, decLt}
 use native.Mathlib.Omega.{arith}
-use lib.ListN.{length, getD, drop, length-drop}
-use lib.Seq.{split-at}
+use lib.ListN.{length, getD, drop}
 use Rattle.lists.specs.Each.{Bytes}
+use Rattle.wire.specs.declared.address.Address.{Address}
 use Rattle.trace.specs.Shapes.{forbidden}
 use Rattle.trace.specs.declared.transaction.Transaction.{Transaction}
 use Rattle.step.specs.Numbers.{decodeNumber}
@@ -21,18 +21,16 @@ use Rattle.pool.specs.Pools.{member}
 use Rattle.pool.specs.declared.Pool.{Pool}
 use Rattle.pool.specs.declared.free.Free.{Free}
 use Rattle.pool.specs.declared.free.Free.the-variants.{At, AllUsed}
-use Rattle.udid.specs.Bytes.{udidBytes, udidAt}
-use Rattle.udid.specs.UdidLaws.{bytes-back, fits-at, same-equal, same-is}
-use Rattle.udid.specs.Udids.{Fits, sameUdid}
-use Rattle.udid.specs.WindowLaws.{byte-at}
+use Rattle.udid.specs.Bytes.{udidBytes}
+use Rattle.udid.specs.UdidLaws.{same-equal, same-is}
+use Rattle.udid.specs.Udids.{sameUdid}
 use Rattle.udid.specs.declared.Udid.{Udid}
-use Rattle.wire.specs.declared.address.Address.{Address}
 use Rattle.arp.specs.HeardLaws.{gives-exactly}
-use Rattle.arp.specs.OneStepLaws.{reply-symbols}
-use Rattle.arp.specs.TraceLaws.{valid-get, back, get-only, get-data}
+use Rattle.arp.specs.RequestLaws.{valid-get, reply-symbols}
+use Rattle.arp.specs.TraceLaws.{decoded-back, complete-get-is-its-trace, complete-get-data-fits}
 use Rattle.arp.specs.Bindings.{heldAt}
 use Rattle.arp.specs.Heard.{blockRead, answer, receivedIn, isGet}
-use Rattle.arp.specs.CommandTraces.{replyTrace}
+use Rattle.arp.specs.CommandTraces.{replyTrace, Reply}
 use Rattle.arp.specs.OneStep.{Gives, Hands, Asks, Chooses, Keeps, Same, BoundAt, Unbinds, Binds, Continues, EndsWith, Replies, Alike}
 use Rattle.arp.specs.Requests.{messageOf}
 use Rattle.arp.specs.declared.command.Command.{Command}
@@ -46,11 +44,11 @@ use Rattle.arp.specs.declared.state.Stepped.{Stepped}
 -- ---- every trace
 
 -- two traces are the same, or not
-pub same-trace : (xs ys : List ℕ) → Dec (xs ≡ ys)
-same-trace [] [] = yes refl
-same-trace [] (y ∷ ys) = no (λ e. let z : _≡_ {A = ℕ} 0 (suc (length ys)) = ap length e in omega arith)
-same-trace (x ∷ xs) [] = no (λ e. let z : _≡_ {A = ℕ} (suc (length xs)) 0 = ap length e in omega arith)
-same-trace (x ∷ xs) (y ∷ ys) = go (ℕ-discrete x y) (same-trace xs ys)
+pub same-trace-or-not : (xs ys : List ℕ) → Dec (xs ≡ ys)
+same-trace-or-not [] [] = yes refl
+same-trace-or-not [] (y ∷ ys) = no (λ e. let z : _≡_ {A = ℕ} 0 (suc (length ys)) = ap length e in omega arith)
+same-trace-or-not (x ∷ xs) [] = no (λ e. let z : _≡_ {A = ℕ} (suc (length xs)) 0 = ap length e in omega arith)
+same-trace-or-not (x ∷ xs) (y ∷ ys) = go (ℕ-discrete x y) (same-trace-or-not xs ys)
   where
     go : Dec (x ≡ y) → Dec (xs ≡ ys) → Dec (x ∷ xs ≡ y ∷ ys)
     go (yes p) (yes q) = yes (ap₂ (λ (a : ℕ) (l : List ℕ). a ∷ l) p q)
@@ -80,21 +78,18 @@ pub six-once : (protocol : ℕ) (tr : List ℕ) (b c : ℕ) → forbidden protoc
 six-once protocol tr b c f g h = ap (λ (p : ℕ × ℕ). p .1) (sym (gives-exactly protocol tr 6 b f .0 g) ∙ gives-exactly protocol tr 6 c f .0 h)
 
 -- it is Get UDID with some bytes, or not
-abbrev pub Reply : List ℕ → Type 0
-Reply tr = (xs : List ℕ) × Bytes xs × (length xs ≤ 255) × (tr ≡ replyTrace xs)
-
 pub reply-or-not : (s : Controller) (tr : List ℕ) → Reply tr ⊎ ((xs : List ℕ) → Bytes xs → length xs ≤ 255 → tr ≡ replyTrace xs → ⊥)
 reply-or-not s tr = go (answer blockRead tr) refl
   where
     -- if it is, decode answers 0 with that address and command
     is : (xs : List ℕ) → Bytes xs → length xs ≤ 255 → tr ≡ replyTrace xs → (t : Transaction) × (answer blockRead tr ≡ Done t) × (isGet t ≡ true)
-    is xs h l e = (_, ap (answer blockRead) (e ∙ sym (reply-symbols xs)) ∙ back blockRead (messageOf GetUdid xs) (valid-get xs h l) .0, refl)
+    is xs h l e = (_, ap (answer blockRead) (e ∙ sym (reply-symbols xs)) ∙ decoded-back blockRead (messageOf GetUdid xs) (valid-get xs h l) .0, refl)
 
     other : (d : Decoded) → answer blockRead tr ≡ d → (decodeNumber d .0 ≡ 0 → ⊥) → (xs : List ℕ) → Bytes xs → length xs ≤ 255 → tr ≡ replyTrace xs → ⊥
     other d e n xs h l q = let w = is xs h l q in n (ap (λ (x : Decoded). decodeNumber x .0) (sym e ∙ w .1))
 
     done : (t : Transaction) → answer blockRead tr ≡ Done t → (b : Bool) → isGet t ≡ b → Reply tr ⊎ ((xs : List ℕ) → Bytes xs → length xs ≤ 255 → tr ≡ replyTrace xs → ⊥)
-    done t e true k = let d = get-data s tr t e in inl (receivedIn blockRead tr, d .0, d .1, get-only s tr t e k ∙ reply-symbols (receivedIn blockRead tr))
+    done t e true k = let d = complete-get-data-fits s tr t e in inl (receivedIn blockRead tr, d .0, d .1, complete-get-is-its-trace s tr t e k ∙ reply-symbols (receivedIn blockRead tr))
     done t e false k = inr (λ xs h l q. clash (is xs h l q))
       where
         clash : (t : Transaction) × (answer blockRead tr ≡ Done t) × (isGet t ≡ true) → ⊥
@@ -114,19 +109,6 @@ reply-or-not s tr = go (answer blockRead tr) refl
     go (Unexpected k) e = inr (other (Unexpected k) e (λ k. omega arith))
     go (PecDiffers k) e = inr (other (PecDiffers k) e (λ k. omega arith))
     go (AfterStop k) e = inr (other (AfterStop k) e (λ k. omega arith))
-
--- 17 bytes are an identifier's and one more
-pub seventeen : (xs : List ℕ) → Bytes xs → length xs ≡ 17 → Fits (udidAt xs 0) × (getD xs 16 0 < 256) × (xs ≡ udidBytes (udidAt xs 0) ++ getD xs 16 0 ∷ [])
-seventeen xs h l = (
-  fits-at xs 0 h,
-  byte-at xs 16 h,
-  split-at xs 16 0 (omega arith)
-      ∙ ap₂ (λ (p q : List ℕ). p ++ q) (sym (bytes-back xs 0 h (omega arith))) (ap (λ (q : List ℕ). getD xs 16 0 ∷ q) (none (drop 17 xs) (length-drop 17 xs ∙ omega arith))),
-)
-  where
-    none : (l : List ℕ) → length l ≡ 0 → l ≡ []
-    none [] e = refl
-    none (x ∷ l) e = absurd (omega arith)
 
 -- ---- what two results agree with
 
@@ -152,17 +134,17 @@ keeps-both s t v h g a = (
   ap (λ (p : Pool). member p a) (h .pool ∙ sym (g .pool)),
 )
 
-pub continues-both : (s : Controller) (r q : Stepped) → Continues s r → Continues s q → Alike r q
-continues-both s r q h g = asks-both s r q (h .0) (g .0) (keeps-both s (r .state) (q .state) (h .1) (g .1))
+pub continues-alike : (s : Controller) (r q : Stepped) → Continues s r → Continues s q → Alike r q
+continues-alike s r q h g = asks-both s r q (h .0) (g .0) (keeps-both s (r .state) (q .state) (h .1) (g .1))
 
-pub ends-both : (s : Controller) (r q : Stepped) (k : Command) → EndsWith s r k → EndsWith s q k → Alike r q
-ends-both s r q k h g = hands-both s r q k (s .gets) (h .0) (g .0) (keeps-both s (r .state) (q .state) (h .1) (g .1))
+pub ends-alike : (s : Controller) (r q : Stepped) (k : Command) → EndsWith s r k → EndsWith s q k → Alike r q
+ends-alike s r q k h g = hands-both s r q k (s .gets) (h .0) (g .0) (keeps-both s (r .state) (q .state) (h .1) (g .1))
 
 same-both : (s t v : Controller) (a : ℕ) → Same s t a → Same s v a → Same v t a
 same-both s t v a h g = (h .0 ∙ sym (g .0), h .1 ∙ sym (g .1))
 
-pub binds-both : (u : Udid) (n : ℕ) (s : Controller) (r q : Stepped) → Asks s r × Binds u n s (r .state) → Asks s q × Binds u n s (q .state) → Alike r q
-binds-both u n s r q h g = asks-both s r q (h .0) (g .0) (λ a. at a (ℕ-discrete a n) (member (s .pool) n) refl)
+pub binds-alike : (u : Udid) (n : ℕ) (s : Controller) (r q : Stepped) → Asks s r × Binds u n s (r .state) → Asks s q × Binds u n s (q .state) → Alike r q
+binds-alike u n s r q h g = asks-both s r q (h .0) (g .0) (λ a. at a (ℕ-discrete a n) (member (s .pool) n) refl)
   where
     at : (a : ℕ) → Dec (a ≡ n) → (b : Bool) → member (s .pool) n ≡ b → Same (q .state) (r .state) a
     at a (no m) b e = same-both s (r .state) (q .state) a (h .1 .elsewhere a m) (g .1 .elsewhere a m)
@@ -234,15 +216,15 @@ chooses-both p o u b k m e h g = go (ℕ-discrete b 0xFF) (decLt (getD (udidByte
     go (no n) (no l) false z = h .own n (omega arith) z ∙ sym (g .own n (omega arith) (sym (e (b / 2)) ∙ z))
     go (no n) (no l) true z = pick-one (inr (omega arith, z)) (inr (omega arith, sym (e (b / 2)) ∙ z)) (lowestFree p) refl
 
-pub replies-both : (s : Controller) (u : Udid) (b : ℕ) (r q : Stepped) → Replies s u b r → Replies s u b q → Alike r q
-replies-both s u b r q h g =
+pub replies-alike : (s : Controller) (u : Udid) (b : ℕ) (r q : Stepped) → Replies s u b r → Replies s u b q → Alike r q
+replies-alike s u b r q h g =
     let e : (a : ℕ) → Same (q .state) (r .state) a = unbinds-both u s (r .state) (q .state) (h .unbinds) (g .unbinds) in
     let k : r .command ≡ q .command = chooses-both (r .state .pool) (q .state .pool) u b (r .command) (q .command) (λ a. e a .1) (h .chooses) (g .chooses) in
     hands-both s r q (q .command) (s .gets) (subst (λ (x : Command). Hands s r x (s .gets)) k (h .hands)) (g .hands) e
 
 -- and it is an address, or none is free
-pub chosen-one : (p : Pool) (u : Udid) (b : ℕ) (k : Command) → Chooses p u b k → ((a : Address) × (k ≡ Assign u a)) ⊎ (k ≡ NoneFree u)
-chosen-one p u b k h = go (ℕ-discrete b 0xFF) (decLt (getD (udidBytes u) 0 0) 64) (member p (b / 2)) refl
+pub chooses-address-or-none : (p : Pool) (u : Udid) (b : ℕ) (k : Command) → Chooses p u b k → ((a : Address) × (k ≡ Assign u a)) ⊎ (k ≡ NoneFree u)
+chooses-address-or-none p u b k h = go (ℕ-discrete b 0xFF) (decLt (getD (udidBytes u) 0 0) 64) (member p (b / 2)) refl
   where
     pick-one : (b ≡ 0xFF) ⊎ ((64 ≤ getD (udidBytes u) 0 0) × (member p (b / 2) ≡ true)) → (f : Free) → lowestFree p ≡ f → ((a : Address) × (k ≡ Assign u a)) ⊎ (k ≡ NoneFree u)
     pick-one w (At a) q = inl (a, h .picked w (a .0) (lowest-is p (a .0) .0 q))

@@ -1,5 +1,5 @@
 -- What a step does, in the scope's words: the decoder's number for a trace, what is handed out, and what becomes of each address. Nothing here
--- cites how the step is computed. promises/Steps puts the sentences together.
+-- cites how the step is computed. The record Steps of crate promises puts the sentences together.
 use Prim.Native.Nat.{ℕ, _+_, _/_, _≤_, _<_}
 use mathlib.Core.Path.{_≡_}
 use mathlib.Core.Bool.{true, false}

@@ -11,9 +11,8 @@ use lib.ListN.{length, getD, set, length-append}
 use lib.Seq.{getD-at}
 use borrow.Author.Tests.{lt-ltb, le-ltb, lt-leb, le-leb}
 use Rattle.lists.specs.Choice.{pick}
-use Rattle.lists.specs.EachLaws.{append-bytes}
-use Rattle.lists.specs.Each.{Bytes}
-use Rattle.trace.specs.RowsLaws.{rows}
+use Rattle.lists.specs.Each.{Bytes, append-bytes}
+use Rattle.wire.specs.declared.address.Address.{Address}
 use Rattle.step.specs.declared.answer.Decoded.{Decoded}
 use Rattle.step.specs.declared.answer.Decoded.the-variants.{Done, Forbidden, BufferTooShort, NoSymbol, EndsEarly, Unexpected, NotAcknowledged, PecDiffers, AfterStop}
 use Rattle.pool.specs.Free.{lowestFree}
@@ -27,19 +26,20 @@ use Rattle.udid.specs.Bytes.{udidBytes, udidAt}
 use Rattle.udid.specs.UdidLaws.{same-refl, length-udid, udid-bytes, udid-back, fixed-first, movable-first}
 use Rattle.udid.specs.Udids.{Fits}
 use Rattle.udid.specs.declared.Udid.{Udid}
-use Rattle.wire.specs.declared.address.Address.{Address}
-use Rattle.arp.specs.HandingLaws.{bound-gets, freed-gets}
+use Rattle.arp.specs.ChosenLaws.{chosen-ff-lowest, chosen-fixed-own, chosen-movable-own, chosen-movable-lowest}
+use Rattle.arp.specs.HandingLaws.{bound-keeps-gets, freed-keeps-gets}
 use Rattle.arp.specs.HeardLaws.{six-exactly}
-use Rattle.arp.specs.ReplayLaws.{chosen-none-held, chosen-fixed, chosen-own, chosen-other, idle-21}
-use Rattle.arp.specs.SoundLaws.{Nowhere, held-above, held-same, held-other, bound-to, not-open, find-cases}
+use Rattle.arp.specs.OutstandingLaws.{idle-gives-21}
+use Rattle.arp.specs.RequestLaws.{reply-symbols, prepare-symbols, assign-symbols-small}
+use Rattle.arp.specs.SoundLaws.{held-above-is-open, held-same, held-other, bound-to-is-bound, open-is-not-bound, find-cases}
 use Rattle.arp.specs.TraceLaws as traces
+use Rattle.arp.specs.Sound.{Nowhere}
 use Rattle.arp.specs.Bindings.{openSlot, heldAt, boundTo, findFrom, freedAt, freed, slotFor, boundAt, bound}
 use Rattle.arp.specs.Controller.{handed, counted, asked, chosen, issued, replied, onAssign, afterAssign, byCommand, stepped}
 use Rattle.arp.specs.Heard.{blockWrite, answer, sentIn, isAssign}
 use Rattle.arp.specs.CommandTraces.{prepareTrace, replyTrace, assignTrace}
 use Rattle.arp.specs.OneStep.{Gives, Hands, Asks, Chooses, Keeps, Same, BoundAt, Unbinds, Binds, Continues, EndsWith, Replies}
 use Rattle.arp.specs.Replay.{noCommand, assigning}
-use Rattle.arp.specs.Requests.{traceOf}
 use Rattle.arp.specs.declared.command.Command.{Command}
 use Rattle.arp.specs.declared.command.Command.the-variants.{Prepare, GetUdid, Assign, Ended, NoneFree, Abandoned, NotOutstanding}
 use Rattle.arp.specs.declared.state.Binding.{Binding}
@@ -47,14 +47,6 @@ use Rattle.arp.specs.declared.state.Binding.the-variants.{Bound}
 use Rattle.arp.specs.declared.state.Controller.{Controller}
 use Rattle.arp.specs.declared.state.Slot.{Slot}
 use Rattle.arp.specs.declared.state.Stepped.{Stepped}
-
--- ---- the symbols of the commands are their traces
-
-pub reply-symbols : (xs : List ℕ) → traceOf GetUdid xs ≡ replyTrace xs
-reply-symbols xs = rows .block-read-pec 0x61 0x03 xs
-
-pub assign-symbols : (u : Udid) (a : ℕ) → a < 128 → traceOf (Assign u (record { 0 = a })) [] ≡ assignTrace (udidBytes u) (2 * a)
-assign-symbols u a h = traces.assign-row-small u (record { 0 = a }) h
 
 -- ---- what is handed out
 
@@ -113,11 +105,11 @@ module _ (s : Controller) (u : Udid) (size : length (s .slots) ≡ 128) where
     where
       gone : (a : ℕ) → BoundAt (s .slots) u a → Dec (a < 128) → ⊥
       gone a w (yes h) = never (heldAt (s .slots) a) (n a (omega arith) h) (w .here)
-      gone a w (no h) = not-open (heldAt (s .slots) a) u (held-above (s .slots) a size (omega arith)) (w .here)
+      gone a w (no h) = open-is-not-bound (heldAt (s .slots) a) u (held-above-is-open (s .slots) a size (omega arith)) (w .here)
 
   module _ (f : ℕ) (h : f < 128) (e : boundTo u (heldAt (s .slots) f) ≡ true) (below : (j : ℕ) → j < f → boundTo u (heldAt (s .slots) j) ≡ false) where
     found : BoundAt (s .slots) u f
-    found = record { here = bound-to u (heldAt (s .slots) f) e; lowest = λ b l q. never (heldAt (s .slots) b) (below b l) q }
+    found = record { here = bound-to-is-bound u (heldAt (s .slots) f) e; lowest = λ b l q. never (heldAt (s .slots) b) (below b l) q }
 
     it : (a : ℕ) → BoundAt (s .slots) u a → a ≡ f
     it a w = go (decLt a f) (decLt f a)
@@ -200,19 +192,19 @@ starting-freed s u = go (ltb 127 (findFrom u (s .slots) 128 0))
 
 module _ (p : Pool) (u : Udid) (b : ℕ) (f : Fits u) where
   to-pick : (b ≡ 0xFF) ⊎ ((64 ≤ getD (udidBytes u) 0 0) × (member p (b / 2) ≡ true)) → chosen p u b ≡ lowestFree p
-  to-pick (inl e) = ap (chosen p u) e ∙ chosen-none-held p u
+  to-pick (inl e) = ap (chosen p u) e ∙ chosen-ff-lowest p u
   to-pick (inr w) = go (ℕ-discrete b 0xFF)
     where
       go : Dec (b ≡ 0xFF) → chosen p u b ≡ lowestFree p
-      go (yes e) = ap (chosen p u) e ∙ chosen-none-held p u
-      go (no n) = chosen-other p u b n (movable-first u f .1 (w .0)) (w .1)
+      go (yes e) = ap (chosen p u) e ∙ chosen-ff-lowest p u
+      go (no n) = chosen-movable-lowest p u b n (movable-first u f .1 (w .0)) (w .1)
 
   chooses : Chooses p u b (assigning u (chosen p u b))
   chooses = record {
     picked = λ w a l. ap (assigning u) (to-pick w ∙ lowest-is p a .1 l);
     none-free = λ w l. ap (assigning u) (to-pick w ∙ none-free p .1 l);
-    fixed = λ n l. ap (assigning u) (chosen-fixed p u b n (fixed-first u f .1 l));
-    own = λ n l m. ap (assigning u) (chosen-own p u b n (movable-first u f .1 l) m);
+    fixed = λ n l. ap (assigning u) (chosen-fixed-own p u b n (fixed-first u f .1 l));
+    own = λ n l m. ap (assigning u) (chosen-movable-own p u b n (movable-first u f .1 l) m);
   }
 
 module _ (s : Controller) (u : Udid) (b : ℕ) (f : Fits u) (size : length (s .slots) ≡ 128) where
@@ -220,12 +212,12 @@ module _ (s : Controller) (u : Udid) (b : ℕ) (f : Fits u) (size : length (s .s
   replies-with (At a) e = record {
     unbinds = record { there = unbinds s u size .there; elsewhere = unbinds s u size .elsewhere };
     chooses = subst (Chooses (freed s u .pool) u b) (ap (assigning u) (sym e)) (chooses (freed s u .pool) u b f);
-    hands = hands s (freed s u) (Assign u a) (s .gets) (freed-gets s u) (starting-freed s u);
+    hands = hands s (freed s u) (Assign u a) (s .gets) (freed-keeps-gets s u) (starting-freed s u);
   }
   replies-with AllUsed e = record {
     unbinds = record { there = unbinds s u size .there; elsewhere = unbinds s u size .elsewhere };
     chooses = subst (Chooses (freed s u .pool) u b) (ap (assigning u) (sym e)) (chooses (freed s u .pool) u b f);
-    hands = hands s (freed s u) (NoneFree u) (s .gets) (freed-gets s u) (starting-freed s u);
+    hands = hands s (freed s u) (NoneFree u) (s .gets) (freed-keeps-gets s u) (starting-freed s u);
   }
 
   replies : Replies s u b (replied s u b)
@@ -264,7 +256,7 @@ module _ (s : Controller) (tr : List ℕ) where
 
   -- Prepare accepted: send Get UDID
   pub prepare-accepted : s .last ≡ Prepare → tr ≡ prepareTrace → Continues s (stepped s tr)
-  prepare-accepted e q = subst (Continues s) (sym (outstanding Prepare e ∙ traces.prepare-accepted s tr (q ∙ sym traces.prepare-trace))) (continues s)
+  prepare-accepted e q = subst (Continues s) (sym (outstanding Prepare e ∙ traces.prepare-accepted s tr (q ∙ sym (prepare-symbols [])))) (continues s)
 
   -- answer 6: the pass ends, nobody there
   pub prepare-nobody : s .last ≡ Prepare → (b : ℕ) → Gives 1 tr 6 b → EndsWith s (stepped s tr) Ended
@@ -275,7 +267,7 @@ module _ (s : Controller) (tr : List ℕ) where
   pub prepare-other : s .last ≡ Prepare → (tr ≡ prepareTrace → ⊥) → ((b : ℕ) → Gives 1 tr 6 b → ⊥) → EndsWith s (stepped s tr) Abandoned
   prepare-other e n m =
       subst (λ (r : Stepped). EndsWith s r Abandoned)
-      (sym (outstanding Prepare e ∙ traces.prepare-other s tr (λ q. n (q ∙ traces.prepare-trace)) (λ b c. m b (six-exactly 1 tr b refl .1 c))))
+      (sym (outstanding Prepare e ∙ traces.prepare-other s tr (λ q. n (q ∙ prepare-symbols [])) (λ b c. m b (six-exactly 1 tr b refl .1 c))))
       (ends-with s Abandoned)
 
   -- Get UDID: a complete reply whose count is not 17: the pass ends
@@ -314,15 +306,15 @@ module _ (s : Controller) (tr : List ℕ) where
       → Asks s (stepped s tr) × Binds u (a .0) s (stepped s tr .state)
   assign-whole size u a e f h q =
       subst (λ (r : Stepped). Asks s r × Binds u (a .0) s (r .state))
-      (sym (outstanding (Assign u a) e ∙ traces.assign-whole s u a tr f (q ∙ sym (assign-symbols u (a .0) h)))) (
-        asks s (bound s u (a .0)) (bound-gets s u (a .0)) (starting-bound s u (a .0)),
+      (sym (outstanding (Assign u a) e ∙ traces.assign-whole s u a tr f (q ∙ sym (assign-symbols-small u a h)))) (
+        asks s (bound s u (a .0)) (bound-keeps-gets s u (a .0)) (starting-bound s u (a .0)),
         binds-kept u (a .0) s (bound s u (a .0)) (asked (bound s u (a .0)) .state) (binds s u (a .0) size h) (keeps-asked (bound s u (a .0))),
       )
 
   -- any other answer: no binding, Get UDID again
   pub assign-other : (u : Udid) (a : Address) → s .last ≡ Assign u a → a .0 < 128 → (tr ≡ assignTrace (udidBytes u) (2 * a .0) → ⊥) → Continues s (stepped s tr)
   assign-other u a e h n =
-      subst (Continues s) (sym (outstanding (Assign u a) e ∙ traces.assign-other s u a tr (λ q. n (q ∙ assign-symbols u (a .0) h)))) (continues s)
+      subst (Continues s) (sym (outstanding (Assign u a) e ∙ traces.assign-other s u a tr (λ q. n (q ∙ assign-symbols-small u a h)))) (continues s)
 
   -- a number above 127 is no address: nothing is bound
   pub assign-no-address : (u : Udid) (a : Address) → s .last ≡ Assign u a → 127 < a .0 → Continues s (stepped s tr)
@@ -330,4 +322,4 @@ module _ (s : Controller) (tr : List ℕ) where
 
   -- 21, and the state stays, where no command of a pass is outstanding
   pub none-outstanding : noCommand (s .last) ≡ true → (stepped s tr .state ≡ s) × (stepped s tr .command ≡ NotOutstanding)
-  none-outstanding e = idle-21 s tr e
+  none-outstanding e = idle-gives-21 s tr e

@@ -1,32 +1,33 @@
 -- What is bound, what is claimed and what the pool has, told by the events alone, in the scope's sentences. Nothing here cites the
 -- controller's own definitions of freeing, binding or stepping: an event is read from the command that was handed out last and from what
--- decode answers for the trace (reading-is-decode, promises/Controller).
-use Prim.Native.Nat.{ℕ, zero, suc, _+_, _*_, _/_, _<_}
+-- decode answers for the trace (specs/Reading.antt).
+use Prim.Native.Nat.{ℕ, zero, suc, _*_, _/_, _<_}
 use mathlib.Core.Path.{_≡_}
 use mathlib.Core.Bool.{Bool, true, false}
 use mathlib.Core.List.{List, [], _∷_}
 use mathlib.Core.Logic.{_⊎_}
 use lib.Dec.{ltb, leb, eqb}
 use lib.ListN.{getD}
-use Rattle.lists.specs.Choice.{pick, or, and}
+use Rattle.lists.specs.Choice.{pick, and}
+use Rattle.step.specs.declared.answer.Decoded.{Decoded}
+use Rattle.step.specs.declared.answer.Decoded.the-variants.{Done, Forbidden, BufferTooShort, NoSymbol, EndsEarly, Unexpected, NotAcknowledged, PecDiffers, AfterStop}
 use Rattle.pool.specs.Pools.{member}
 use Rattle.pool.specs.Start.{startingPool}
 use Rattle.pool.specs.declared.Pool.{Pool}
 use Rattle.pool.specs.declared.free.Free.{Free}
 use Rattle.pool.specs.declared.free.Free.the-variants.{At, AllUsed}
-use Rattle.step.specs.declared.answer.Decoded.{Decoded}
-use Rattle.step.specs.declared.answer.Decoded.the-variants.{Done, Forbidden, BufferTooShort, NoSymbol, EndsEarly, Unexpected, NotAcknowledged, PecDiffers, AfterStop}
 use Rattle.udid.specs.Bytes.{udidAt}
 use Rattle.udid.specs.Udids.{sameUdid, isFixed}
 use Rattle.udid.specs.declared.Udid.{Udid}
 use Rattle.arp.specs.Bindings.{heldAt}
 use Rattle.arp.specs.Controller.{started, stepped}
 use Rattle.arp.specs.Heard.{answer, sentIn, receivedIn}
-use Rattle.arp.specs.History.{Event, Start, Received, run, oneGet}
+use Rattle.arp.specs.History.{Event, Start, Received, run}
 use Rattle.arp.specs.declared.command.Command.{Command}
 use Rattle.arp.specs.declared.command.Command.the-variants.{Nothing, Prepare, GetUdid, Assign, Ended, NoneFree, Abandoned, NotOutstanding}
 use Rattle.arp.specs.declared.state.Binding.{Binding}
 use Rattle.arp.specs.declared.state.Binding.the-variants.{Open, Bound, Claimed}
+use Rattle.arp.specs.declared.state.Controller.{Controller}
 
 -- ---- what happens, and the table that it changes
 
@@ -43,6 +44,10 @@ pub data Happened : Type 0 where
 pub record Table : Type 0 where
   pub held : ℕ → Binding
   pub used : ℕ → Bool
+
+-- what a state says of each address
+abbrev pub view : Controller → Table
+view s = record { held = heldAt (s .slots); used = member (s .pool) }
 
 abbrev pub holds : Udid → Binding → Bool
 holds u Open = false
@@ -151,6 +156,10 @@ noCommand (NoneFree u) = true
 noCommand Abandoned = true
 noCommand NotOutstanding = true
 
+-- after a 21 the state keeps what was handed out before it: in both no command of a pass
+abbrev pub SameOutstanding : Command → Command → Type 0
+SameOutstanding k m = (k ≡ m) ⊎ ((noCommand k ≡ true) × (noCommand m ≡ true))
+
 -- ---- what is handed out next, from the table, the count of Get UDIDs handed out in this pass, and the command outstanding
 
 -- Get UDID; when it would be the 129th of the pass: 14
@@ -216,35 +225,3 @@ nextCommand t n Ended tr = NotOutstanding
 nextCommand t n (NoneFree u) tr = NotOutstanding
 nextCommand t n Abandoned tr = NotOutstanding
 nextCommand t n NotOutstanding tr = NotOutstanding
-
--- ---- all of it by the events alone: no state of a controller is cited
-
-pub record Story : Type 0 where
-  pub known : Table
-  pub gets : ℕ
-  pub command : Command
-
-abbrev pub onward : (ℕ → Bool) → Event → Story → Story
-onward starting Start w = record { known = emptied starting; gets = 0; command = Prepare }
-onward starting (Received tr) w =
-    record {
-      known = after starting (readAs (w .command) tr) (w .known);
-      gets = w .gets + oneGet (nextCommand (w .known) (w .gets) (w .command) tr);
-      command = nextCommand (w .known) (w .gets) (w .command) tr;
-    }
-
-unfoldable pub story : Pool → List Event → Story
-story occupied [] = record { known = emptied (member (startingPool occupied)); gets = 0; command = Nothing }
-story occupied (e ∷ es) = onward (member (startingPool occupied)) e (story occupied es)
-
--- what each address is known for, what the pool has, how many Get UDIDs were handed out and what was handed out last: the events alone give them
-pub record Told (occupied : Pool) (es : List Event) : Type 0 where
-  pub held : (a : ℕ) → heldAt (run occupied es .slots) a ≡ story occupied es .known .held a
-  pub pool : (a : ℕ) → member (run occupied es .pool) a ≡ story occupied es .known .used a
-  pub gets : run occupied es .gets ≡ story occupied es .gets
-  pub command : handedOut occupied es ≡ story occupied es .command
-
--- traces alone, and no start
-unfoldable pub tracesAlone : List (List ℕ) → List Event
-tracesAlone [] = []
-tracesAlone (tr ∷ trs) = Received tr ∷ tracesAlone trs

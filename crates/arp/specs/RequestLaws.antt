@@ -1,167 +1,129 @@
--- What put_command refuses with 1, in literals, and what it writes for an Assign.
-use Prim.Native.Nat.{ℕ, _*_, _≤_, _<_}
-use mathlib.Core.Path.{_≡_, refl, sym, ap, ap₂, _∙_, subst}
-use mathlib.Core.Bool.{Bool, true, false}
-use mathlib.Core.List.{List, [], _∷_, _++_, append-assoc}
-use mathlib.Core.Logic.{_↔_}
-use native.Mathlib.Decide.{decLt}
+-- The messages of the three commands are valid, and their traces are those of specs/CommandTraces.antt, symbol by symbol.
+use Prim.Native.Nat.{ℕ, _*_, _%_, _≤_, _<_}
+use mathlib.Core.Path.{_≡_, refl, sym, ap, ap₂, _∙_}
+use mathlib.Core.Bool.{true}
+use mathlib.Core.List.{List, [], _∷_, _++_}
+use native.Mathlib.Nat.{mod-eq-of-lt}
 use native.Mathlib.Omega.{arith}
-use lib.Dec.{ltb}
-use lib.ListN.{length, getD, drop}
-use lib.Seq.{getD-at}
-use borrow.Author.Tests.{ltb-true, lt-ltb}
-use Rattle.lists.specs.Choice.{pick}
-use Rattle.wire.specs.Pec.{pecOf}
+use lib.ListN.{length, getD, drop, length-append, length-drop}
+use lib.Seq.{split-at}
+use Rattle.lists.specs.Each.{Bytes, append-bytes}
+use Rattle.wire.specs.Pec.{bitStep, pecStep, pecFrom, pecOf}
 use Rattle.wire.specs.declared.address.Address.{Address}
-use Rattle.trace.specs.DataFits.{DataFits, quick, send-byte, receive-byte, write-byte, write-word, read-byte, read-word, process-call, block-write, block-read, block-process-call}
-use Rattle.trace.specs.LengthLaws.{length-acked}
-use Rattle.trace.specs.Trace.{Message, acked}
-use Rattle.encode.specs.Encode.{encodeNumber, Wrote}
-use Rattle.encode.specs.EncodeLaws.{answer-1, answer-2, refusal-untouched}
-use Rattle.encode.specs.Listed.{Listed, protocol-above-10, address-above-127, direction-above-1, quick-with-pec, lacking-command, lacking-direction, forbidden-length}
-use Rattle.encode.specs.declared.Encoded.{Encoded}
-use Rattle.udid.specs.Bytes.{udidBytes}
-use Rattle.udid.specs.UdidLaws.{length-udid}
+use Rattle.trace.specs.Rows.{rows}
+use Rattle.trace.specs.Lengths.{traceLength}
+use Rattle.trace.specs.LengthLaws.{trace-length}
+use Rattle.trace.specs.Shapes.{shapeOf}
+use Rattle.trace.specs.Trace.{acked, Valid}
+use Rattle.udid.specs.Bytes.{udidBytes, udidAt}
+use Rattle.udid.specs.UdidLaws.{udid-bytes, length-udid, bytes-back, fits-at}
+use Rattle.udid.specs.Udids.{Fits}
+use Rattle.udid.specs.WindowLaws.{byte-at}
 use Rattle.udid.specs.declared.Udid.{Udid}
-use Rattle.arp.specs.SendingLaws.{small-protocol, assign-sent}
-use Rattle.arp.specs.TraceLaws.{length-assign, assign-length, assign-row-small}
-use Rattle.arp.specs.CommandTraces.{assignTrace}
-use Rattle.arp.specs.Heard.{blockWrite}
-use Rattle.arp.specs.Requests.{protocolFor, messageOf}
-use Rattle.arp.specs.declared.command.Command.{Command}
-use Rattle.arp.specs.declared.command.Command.the-variants.{Nothing, Prepare, GetUdid, Assign, Ended, NoneFree, Abandoned, NotOutstanding}
+use Rattle.arp.specs.Heard.{sendByte, blockRead, blockWrite}
+use Rattle.arp.specs.Requests.{assignData, messageOf, traceOf}
+use Rattle.arp.specs.CommandTraces.{replyTrace, prepareTrace, assignTrace}
+use Rattle.arp.specs.CommandRows.{CommandRows}
+use Rattle.arp.specs.declared.command.Command.the-variants.{Prepare, GetUdid, Assign}
 
--- ---- number 1
+-- ---- the three messages are valid
 
--- what is not sent: a reply of more than 255 bytes, an Assign of a number above 127, and what is no command
-abbrev pub Unsendable : Command → List ℕ → Type 0
-Unsendable Prepare reply = ⊥
-Unsendable GetUdid reply = 255 < length reply
-Unsendable (Assign u a) reply = 127 < a .0
-Unsendable Nothing reply = Unit
-Unsendable Ended reply = Unit
-Unsendable (NoneFree u) reply = Unit
-Unsendable Abandoned reply = Unit
-Unsendable NotOutstanding reply = Unit
+pub valid-prepare : Valid (shapeOf sendByte) (messageOf Prepare [])
+valid-prepare = record {
+  address = omega arith;
+  direction = refl;
+  command = refl;
+  sent-length = refl;
+  sent-bytes = (omega arith, tt);
+  received-length = refl;
+  received-bytes = tt;
+  counts = omega arith;
+}
 
--- a message of a protocol with PEC is in no listed case of refusal 1 if its fields and its data fit
-unlisted : (protocol : ℕ) (t : Message) → 1 ≤ protocol → protocol ≤ 10 → t .address ≤ 127 → t .direction ≡ 0 → (protocol ≤ 2 → t .command ≡ 0)
-    → DataFits protocol (length (t .sent)) (length (t .received)) → Listed protocol true t → ⊥
-unlisted protocol t l h a d c f (protocol-above-10 q) = omega arith
-unlisted protocol t l h a d c f (address-above-127 q) = omega arith
-unlisted protocol t l h a d c f (direction-above-1 q) = omega arith
-unlisted protocol t l h a d c f (quick-with-pec q e) = omega arith
-unlisted protocol t l h a d c f (lacking-command q n) = n (c q)
-unlisted protocol t l h a d c f (lacking-direction q n) = n d
-unlisted protocol t l h a d c f (forbidden-length n) = n f
+pub valid-get : (xs : List ℕ) → Bytes xs → length xs ≤ 255 → Valid (shapeOf blockRead) (messageOf GetUdid xs)
+valid-get xs h l = record {
+  address = omega arith;
+  direction = refl;
+  command = (omega arith, tt);
+  sent-length = refl;
+  sent-bytes = tt;
+  received-length = omega arith;
+  received-bytes = h;
+  counts = omega arith;
+}
 
-prepare-listed : (reply : List ℕ) → Listed (protocolFor Prepare) true (messageOf Prepare reply) → ⊥
-prepare-listed reply = unlisted 1 (messageOf Prepare reply) (omega arith) (omega arith) (omega arith) refl (λ q. refl) (send-byte refl refl refl)
+pub assign-data-has-17-bytes : (u : Udid) (a : ℕ) → length (assignData u a) ≡ 17
+assign-data-has-17-bytes u a = length-append (udidBytes u) (2 * (a % 128) ∷ []) ∙ omega (arith, length-udid u)
 
--- a Block Read of more than 255 bytes does not fit
-too-many : (n : ℕ) → 255 < n → DataFits 9 0 n → ⊥
-too-many n h (quick p a b) = omega arith
-too-many n h (send-byte p a b) = omega arith
-too-many n h (receive-byte p a b) = omega arith
-too-many n h (write-byte p a b) = omega arith
-too-many n h (write-word p a b) = omega arith
-too-many n h (read-byte p a b) = omega arith
-too-many n h (read-word p a b) = omega arith
-too-many n h (process-call p a b) = omega arith
-too-many n h (block-write p a b) = omega arith
-too-many n h (block-read p a b) = omega arith
-too-many n h (block-process-call p a) = omega arith
+-- an Assign has 44 symbols
+pub assign-has-44-symbols : (u : Udid) (a : Address) → length (traceOf (Assign u a) []) ≡ 44
+unfolding traceLength
+assign-has-44-symbols u a = trace-length (shapeOf 8) true (messageOf (Assign u a) []) ∙ omega (arith, assign-data-has-17-bytes u (a .0))
 
-get-listed : (reply : List ℕ) → Listed (protocolFor GetUdid) true (messageOf GetUdid reply) ↔ (255 < length reply)
-get-listed reply = (λ l. go l (decLt 255 (length reply)), λ h. forbidden-length (too-many (length reply) h))
+pub valid-assign : (u : Udid) (a : Address) → Valid (shapeOf blockWrite) (messageOf (Assign u a) [])
+valid-assign u a = record {
+  address = omega arith;
+  direction = refl;
+  command = (omega arith, tt);
+  sent-length = omega arith;
+  sent-bytes = append-bytes (udidBytes u) (2 * (a .0 % 128) ∷ []) (udid-bytes u) (omega arith, tt);
+  received-length = refl;
+  received-bytes = tt;
+  counts = omega (arith, assign-data-has-17-bytes u (a .0));
+}
+
+-- ---- their traces, symbol by symbol
+
+-- Prepare To ARP is the marked case M2, whatever is given as a reply, which it has none of
+pub prepare-symbols : (reply : List ℕ) → traceOf Prepare reply ≡ prepareTrace
+unfolding pecFrom pecStep bitStep
+prepare-symbols reply = refl
+
+-- Get UDID with the bytes of a reply
+pub reply-symbols : (xs : List ℕ) → traceOf GetUdid xs ≡ replyTrace xs
+reply-symbols xs = rows .block-read-pec 0x61 0x03 xs
+
+-- of 17 bytes: S C2 A 03 A S C3 A 11 A, each byte with A, PEC N P
+pub reply-symbols-17 : (xs : List ℕ) → length xs ≡ 17 → traceOf GetUdid xs
+    ≡ 256 ∷ 194 ∷ 258 ∷ 3 ∷ 258 ∷ 256 ∷ 195 ∷ 258 ∷ 17 ∷ 258 ∷ (acked xs ++ pecOf (194 ∷ 3 ∷ 195 ∷ 17 ∷ xs) ∷ 259 ∷ 257 ∷ [])
+reply-symbols-17 xs e =
+    reply-symbols xs
+    ∙ ap (λ (n : ℕ). 256 ∷ 194 ∷ 258 ∷ 3 ∷ 258 ∷ 256 ∷ 195 ∷ 258 ∷ n ∷ 258 ∷ (acked xs ++ pecOf (194 ∷ 3 ∷ 195 ∷ n ∷ xs) ∷ 259 ∷ 257 ∷ [])) e
+
+acked-last : (xs : List ℕ) (b : ℕ) (l : List ℕ) → acked (xs ++ b ∷ []) ++ l ≡ acked xs ++ b ∷ 258 ∷ l
+acked-last [] b l = refl
+acked-last (x ∷ xs) b l = ap (λ (r : List ℕ). x ∷ 258 ∷ r) (acked-last xs b l)
+
+-- Assign Address: the address byte is twice the address, of which seven bits count
+pub assign-symbols : (u : Udid) (a : Address) → traceOf (Assign u a) [] ≡ assignTrace (udidBytes u) (2 * (a .0 % 128))
+assign-symbols u a =
+    let d : List ℕ = udidBytes u ++ 2 * (a .0 % 128) ∷ [] in
+    rows .block-write-pec 0x61 0x04 (assignData u (a .0))
+    ∙ ap (λ (n : ℕ). 256 ∷ 194 ∷ 258 ∷ 4 ∷ 258 ∷ n ∷ 258 ∷ (acked d ++ pecOf (194 ∷ 4 ∷ n ∷ d) ∷ 258 ∷ 257 ∷ [])) (assign-data-has-17-bytes u (a .0))
+    ∙ ap (λ (l : List ℕ). 256 ∷ 194 ∷ 258 ∷ 4 ∷ 258 ∷ 17 ∷ 258 ∷ l) (acked-last (udidBytes u) (2 * (a .0 % 128)) (pecOf (194 ∷ 4 ∷ 17 ∷ d) ∷ 258 ∷ 257 ∷ []))
+
+-- of a 7-bit address, the byte is twice the address itself
+pub assign-symbols-small : (u : Udid) (a : Address) → a .0 < 128 → traceOf (Assign u a) [] ≡ assignTrace (udidBytes u) (2 * a .0)
+assign-symbols-small u a h = assign-symbols u a ∙ ap (λ (n : ℕ). assignTrace (udidBytes u) (2 * n)) (mod-eq-of-lt h)
+
+pub command-rows : CommandRows
+command-rows = record {
+  prepare = prepare-symbols;
+  get = reply-symbols-17;
+  assign = assign-symbols-small;
+}
+
+-- ---- the bytes of a reply
+
+-- 17 bytes are an identifier's and one more
+pub seventeen-bytes-are-udid-and-byte : (xs : List ℕ) → Bytes xs → length xs ≡ 17 → Fits (udidAt xs 0) × (getD xs 16 0 < 256) × (xs ≡ udidBytes (udidAt xs 0) ++ getD xs 16 0 ∷ [])
+seventeen-bytes-are-udid-and-byte xs h l = (
+  fits-at xs 0 h,
+  byte-at xs 16 h,
+  split-at xs 16 0 (omega arith)
+      ∙ ap₂ (λ (p q : List ℕ). p ++ q) (sym (bytes-back xs 0 h (omega arith))) (ap (λ (q : List ℕ). getD xs 16 0 ∷ q) (none (drop 17 xs) (length-drop 17 xs ∙ omega arith))),
+)
   where
-    go : Listed 9 true (messageOf GetUdid reply) → Dec (255 < length reply) → 255 < length reply
-    go l (yes h) = h
-    go l (no h) =
-        absurd
-        (unlisted 9 (messageOf GetUdid reply) (omega arith) (omega arith) (omega arith) refl (λ q. absurd (omega arith)) (block-read refl refl (omega arith)) l)
-
-small-unlisted : (u : Udid) (a : Address) (reply : List ℕ) → Listed 8 true (messageOf (Assign u a) reply) → ⊥
-small-unlisted u a reply =
-    unlisted 8 (messageOf (Assign u a) reply) (omega arith) (omega arith) (omega arith) refl (λ q. absurd (omega arith))
-    (block-write refl (omega (arith, length-assign u (a .0))) refl)
-
-assign-listed : (u : Udid) (a : Address) (reply : List ℕ) → Listed (protocolFor (Assign u a)) true (messageOf (Assign u a) reply) ↔ (127 < a .0)
-assign-listed u a reply = (go (ltb 127 (a .0)) refl, λ h. protocol-above-10 (rw (lt-ltb 127 (a .0) h) (omega arith)))
-  where
-    go : (b : Bool) → ltb 127 (a .0) ≡ b → Listed (pick b 255 blockWrite) true (messageOf (Assign u a) reply) → 127 < a .0
-    go true e l = ltb-true 127 (a .0) e
-    go false e l = absurd (small-unlisted u a reply l)
-
-no-protocol : (t : Message) → Listed 255 true t
-no-protocol t = protocol-above-10 (omega arith)
-
--- the listed cases of refusal 1 are these
-pub listed-exactly : (k : Command) (reply : List ℕ) → Listed (protocolFor k) true (messageOf k reply) ↔ Unsendable k reply
-listed-exactly Prepare reply = (prepare-listed reply, λ h. absurd h)
-listed-exactly GetUdid reply = get-listed reply
-listed-exactly (Assign u a) reply = assign-listed u a reply
-listed-exactly Nothing reply = (λ l. tt, λ h. no-protocol (messageOf Nothing reply))
-listed-exactly Ended reply = (λ l. tt, λ h. no-protocol (messageOf Ended reply))
-listed-exactly (NoneFree u) reply = (λ l. tt, λ h. no-protocol (messageOf (NoneFree u) reply))
-listed-exactly Abandoned reply = (λ l. tt, λ h. no-protocol (messageOf Abandoned reply))
-listed-exactly NotOutstanding reply = (λ l. tt, λ h. no-protocol (messageOf NotOutstanding reply))
-
-module _ (k : Command) (reply before : List ℕ) (r : Encoded) (after : List ℕ) (w : Wrote (protocolFor k) true (messageOf k reply) before r after) where
-  -- PUT_COMMAND ANSWERS 1 EXACTLY for what is not sent
-  pub refused-exactly : (encodeNumber r ≡ (1, 0)) ↔ Unsendable k reply
-  refused-exactly =
-      let a = answer-1 (protocolFor k) true (messageOf k reply) before r after w in
-      let l = listed-exactly k reply in
-      (λ e. l .0 (a .0 e), λ h. a .1 (l .1 h))
-
-  -- and leaves the output as it was
-  pub refused-untouched : Unsendable k reply → after ≡ before
-  refused-untouched h =
-      refusal-untouched (protocolFor k) true (messageOf k reply) before r after w
-      (λ e. let z : _≡_ {A = ℕ} 0 1 = sym e ∙ ap (λ (x : ℕ × ℕ). x .0) (refused-exactly .1 h) in omega arith)
-
--- ---- an Assign, in every case
-
-place-39 : (u : Udid) (a : ℕ) (rest : List ℕ) → getD (assignTrace (udidBytes u) (2 * a) ++ rest) 39 0 ≡ 2 * a
-place-39 u a rest =
-    let e : length (acked (udidBytes u)) ≡ 32 = length-acked (udidBytes u) ∙ omega (arith, length-udid u) in
-    ap (λ (l : List ℕ). getD l 32 0) (append-assoc (acked (udidBytes u)) (2 * a ∷ 258 ∷ pecOf (194 ∷ 4 ∷ 17 ∷ (udidBytes u ++ 2 * a ∷ [])) ∷ 258 ∷ 257 ∷ []) rest)
-    ∙ getD-at (acked (udidBytes u)) (2 * a) _ 0 32 e
-
--- what put_command answers for an Assign, and the output after it
-pub record AssignWritten (u : Udid) (a : ℕ) (before : List ℕ) (r : Encoded) (after : List ℕ) : Type 0 where
-  pub above-127 : 127 < a → (encodeNumber r ≡ (1, 0)) × (after ≡ before)
-  pub too-short : a ≤ 127 → length before < 44 → (encodeNumber r ≡ (2, 0)) × (after ≡ before)
-  pub written : a ≤ 127 → 44 ≤ length before → (encodeNumber r ≡ (0, 44)) × (after ≡ assignTrace (udidBytes u) (2 * a) ++ drop 44 before)
-  -- the 17th byte of the data stands at place 39
-  pub address-byte : a ≤ 127 → 44 ≤ length before → getD after 39 0 ≡ 2 * a
-
-module _ (u : Udid) (a : Address) (reply before : List ℕ) (r : Encoded) (after : List ℕ) (w : Wrote (protocolFor (Assign u a)) true (messageOf (Assign u a) reply) before r after) where
-  as-block-write : a .0 ≤ 127 → Wrote 8 true (messageOf (Assign u a) reply) before r after
-  as-block-write h = subst (λ (p : ℕ). Wrote p true (messageOf (Assign u a) reply) before r after) (small-protocol u a (omega arith)) w
-
-  short : a .0 ≤ 127 → length before < 44 → encodeNumber r ≡ (2, 0)
-  short h l =
-      answer-2 8 true (messageOf (Assign u a) reply) before r after (as-block-write h) .1
-      (small-unlisted u a reply, omega (arith, assign-length u a))
-
-  whole : a .0 ≤ 127 → 44 ≤ length before → (encodeNumber r ≡ (0, 44)) × (after ≡ assignTrace (udidBytes u) (2 * a .0) ++ drop 44 before)
-  whole h l =
-      let k = assign-length u a in
-      let s = assign-sent u a reply before r after (omega arith) w (omega (arith, k)) in (
-        ap encodeNumber (s .0) ∙ ap (λ (n : ℕ). (0, n)) k,
-        s .1 ∙ ap₂ (λ (x : List ℕ) (n : ℕ). x ++ drop n before) (assign-row-small u a (omega arith)) k,
-      )
-
-  -- PUT_COMMAND REFUSES AN ASSIGN OF A NUMBER ABOVE 127, and of any other the byte on the wire is twice the address
-  pub assign-written : AssignWritten u (a .0) before r after
-  assign-written = record {
-    above-127 = λ h. (refused-exactly (Assign u a) reply before r after w .1 h, refused-untouched (Assign u a) reply before r after w h);
-    too-short = λ h l. (short h l, refusal-untouched (protocolFor (Assign u a)) true (messageOf (Assign u a) reply) before r after w (not-zero (short h l)));
-    written = whole;
-    address-byte = λ h l. ap (λ (x : List ℕ). getD x 39 0) (whole h l .1) ∙ place-39 u (a .0) (drop 44 before);
-  }
-    where
-      not-zero : encodeNumber r ≡ (2, 0) → encodeNumber r .0 ≡ 0 → ⊥
-      not-zero e z = let q : _≡_ {A = ℕ} 0 2 = sym z ∙ ap (λ (x : ℕ × ℕ). x .0) e in omega arith
+    none : (l : List ℕ) → length l ≡ 0 → l ≡ []
+    none [] e = refl
+    none (x ∷ l) e = absurd (omega arith)

@@ -1,48 +1,34 @@
--- What holds in every state that starts and received traces reach, kept by each function of the step.
-use Prim.Native.Nat.{ℕ, zero, suc, _+_, _-_, _*_, _/_, _%_, _≤_, _<_}
-use mathlib.Core.Path.{_≡_, refl, sym, ap, ap₂, _∙_, subst}
+-- Unbinding and binding keep the slots and the pool sound (specs/Sound.antt); what slots hold after a store, and where an identifier is found.
+use Prim.Native.Nat.{ℕ, zero, suc, _+_, _≤_, _<_}
+use mathlib.Core.Path.{_≡_, refl, sym, ap, ap₂, _∙_}
 use mathlib.Core.Bool.{Bool, true, false}
-use mathlib.Core.List.{List, [], _∷_}
+use mathlib.Core.List.{List}
 use mathlib.Core.Logic.{_⊎_, inl, inr}
 use native.Mathlib.Decide.{ℕ-discrete, decLt}
 use native.Mathlib.Omega.{arith}
-use lib.Dec.{ltb, leb, eqb}
-use lib.ListN.{length, getD, set, replicate, length-set, length-replicate, getD-replicate, List·getD-eq-default}
+use lib.Dec.{ltb}
+use lib.ListN.{length, set, replicate, length-set, length-replicate, getD-replicate, List·getD-eq-default}
 use lib.Seq.{getD-set-same, getD-set-other}
-use borrow.Author.Tests.{lt-ltb, le-ltb, ltb-true, ltb-false, leb-true, leb-false}
-use Rattle.lists.specs.Choice.{pick, or, and, not}
-use Rattle.pool.specs.MemberLaws.{has-with-same, has-with-other, has-without-same, has-without-other, member-above}
+use borrow.Author.Tests.{lt-ltb, le-ltb}
+use Rattle.lists.specs.Choice.{pick, or}
+use Rattle.pool.specs.MemberLaws.{has-with-same, has-with-other, has-without-same, has-without-other}
 use Rattle.pool.specs.Pools.{member, withAddress, withoutAddress}
 use Rattle.pool.specs.declared.Pool.{Pool}
 use Rattle.udid.specs.UdidLaws.{same-equal, same-refl}
-use Rattle.udid.specs.Udids.{sameUdid}
 use Rattle.udid.specs.declared.Udid.{Udid}
-use Rattle.arp.specs.Bindings.{openSlot, heldAt, boundTo, findFrom, freedAt, freed, slotFor, boundAt, bound}
+use Rattle.arp.specs.Sound.{Sound, SoundIn, Unbound, Nowhere}
+use Rattle.arp.specs.Bindings.{openSlot, heldAt, boundTo, findFrom, freedAt, freed, slotFor, bound}
 use Rattle.arp.specs.History.{isHeld}
 use Rattle.arp.specs.declared.state.Binding.{Binding}
 use Rattle.arp.specs.declared.state.Binding.the-variants.{Open, Bound, Claimed}
 use Rattle.arp.specs.declared.state.Controller.{Controller}
 use Rattle.arp.specs.declared.state.Slot.{Slot}
 
--- of the starting pool, the pool and the slots: the pool has the starting addresses and those that are bound or claimed, and no others
-pub record Sound (starting pool : Pool) (slots : List Slot) : Type 0 where
-  pub size : length slots ≡ 128
-  pub once : (i j : ℕ) (u : Udid) → heldAt slots i ≡ Bound u → heldAt slots j ≡ Bound u → i ≡ j
-  pub new : (a : ℕ) (u : Udid) → heldAt slots a ≡ Bound u → member starting a ≡ false
-  pub exact : (a : ℕ) → member pool a ≡ or (member starting a) (isHeld (heldAt slots a))
-
-abbrev pub SoundIn : Controller → Type 0
-SoundIn s = Sound (s .starting) (s .pool) (s .slots)
-
--- u is bound nowhere
-abbrev pub Unbound : Udid → List Slot → Type 0
-Unbound u slots = (i : ℕ) → boundTo u (heldAt slots i) ≡ false
-
 -- ---- slots
 
 -- past the last address nothing is held
-pub held-above : (slots : List Slot) (a : ℕ) → length slots ≡ 128 → 128 ≤ a → heldAt slots a ≡ Open
-held-above slots a l h = ap (λ (x : Slot). x .held) (List·getD-eq-default slots openSlot {n = a} (omega arith))
+pub held-above-is-open : (slots : List Slot) (a : ℕ) → length slots ≡ 128 → 128 ≤ a → heldAt slots a ≡ Open
+held-above-is-open slots a l h = ap (λ (x : Slot). x .held) (List·getD-eq-default slots openSlot {n = a} (omega arith))
 
 pub held-same : (slots : List Slot) (a : ℕ) (x : Slot) → a < length slots → heldAt (set slots a x) a ≡ x .held
 held-same slots a x h = ap (λ (y : Slot). y .held) (getD-set-same slots a x openSlot h)
@@ -59,13 +45,13 @@ held-cases slots a i x h l e = go (ℕ-discrete i a)
     go (yes q) = inl (q, sym (held-same slots a x l) ∙ ap (heldAt (set slots a x)) (sym q) ∙ e)
     go (no q) = inr (q, sym (held-other slots a i x q) ∙ e)
 
-pub bound-to : (u : Udid) (h : Binding) → boundTo u h ≡ true → h ≡ Bound u
-bound-to u Open e = absurd (let z : _≡_ {A = ℕ} 0 1 = cc e in omega arith)
-bound-to u (Bound v) e = ap Bound (same-equal v u e)
-bound-to u Claimed e = absurd (let z : _≡_ {A = ℕ} 0 1 = cc e in omega arith)
+pub bound-to-is-bound : (u : Udid) (h : Binding) → boundTo u h ≡ true → h ≡ Bound u
+bound-to-is-bound u Open e = absurd (let z : _≡_ {A = ℕ} 0 1 = cc e in omega arith)
+bound-to-is-bound u (Bound v) e = ap Bound (same-equal v u e)
+bound-to-is-bound u Claimed e = absurd (let z : _≡_ {A = ℕ} 0 1 = cc e in omega arith)
 
-pub not-open : (h : Binding) (u : Udid) → h ≡ Open → h ≡ Bound u → ⊥
-not-open h u e f = let z : _≡_ {A = ℕ} 0 1 = cc in omega arith
+pub open-is-not-bound : (h : Binding) (u : Udid) → h ≡ Open → h ≡ Bound u → ⊥
+open-is-not-bound h u e f = let z : _≡_ {A = ℕ} 0 1 = cc in omega arith
 
 -- ---- where a pass begins
 
@@ -74,7 +60,7 @@ open-all i = go (decLt i 128)
   where
     go : Dec (i < 128) → heldAt (replicate 128 openSlot) i ≡ Open
     go (yes h) = ap (λ (x : Slot). x .held) (getD-replicate 128 i openSlot openSlot h)
-    go (no h) = held-above (replicate 128 openSlot) i (length-replicate 128 openSlot) (omega arith)
+    go (no h) = held-above-is-open (replicate 128 openSlot) i (length-replicate 128 openSlot) (omega arith)
 
 or-false : (b : Bool) → b ≡ or b false
 or-false true = refl
@@ -83,15 +69,12 @@ or-false false = refl
 pub sound-open : (p : Pool) → Sound p p (replicate 128 openSlot)
 sound-open p = record {
   size = length-replicate 128 openSlot;
-  once = λ i j u e f. absurd (not-open _ u (open-all i) e);
-  new = λ a u e. absurd (not-open _ u (open-all a) e);
+  once = λ i j u e f. absurd (open-is-not-bound _ u (open-all i) e);
+  new = λ a u e. absurd (open-is-not-bound _ u (open-all a) e);
   exact = λ a. or-false (member p a) ∙ ap (λ (h : Binding). or (member p a) (isHeld h)) (sym (open-all a));
 }
 
 -- ---- the search for an identifier
-
-abbrev pub Nowhere : Udid → List Slot → ℕ → Type 0
-Nowhere u slots a = (j : ℕ) → a ≤ j → j < 128 → boundTo u (heldAt slots j) ≡ false
 
 pub find-cases : (u : Udid) (slots : List Slot) (n a : ℕ) → a + n ≡ 128
     → ((findFrom u slots n a ≡ 128) × Nowhere u slots a) ⊎ ((findFrom u slots n a < 128) × (boundTo u (heldAt slots (findFrom u slots n a)) ≡ true))
@@ -116,13 +99,13 @@ unbound-all u slots l h i = go (decLt i 128)
   where
     go : Dec (i < 128) → boundTo u (heldAt slots i) ≡ false
     go (yes k) = h i (omega arith) k
-    go (no k) = ap (boundTo u) (held-above slots i l (omega arith))
+    go (no k) = ap (boundTo u) (held-above-is-open slots i l (omega arith))
 
 -- ---- freeing an identifier
 
 module _ (starting pool : Pool) (slots : List Slot) (v : Sound starting pool slots) (u : Udid) (f : ℕ) (h : f < 128) (e : boundTo u (heldAt slots f) ≡ true) where
   here : heldAt slots f ≡ Bound u
-  here = bound-to u (heldAt slots f) e
+  here = bound-to-is-bound u (heldAt slots f) e
 
   fits : f < length slots
   fits = omega (arith, v .size)
@@ -156,7 +139,7 @@ module _ (starting pool : Pool) (slots : List Slot) (v : Sound starting pool slo
     where
       go : (t : Bool) → boundTo u (heldAt (set slots f openSlot) i) ≡ t → boundTo u (heldAt (set slots f openSlot) i) ≡ false
       go false k = k
-      go true k = let r = away i u (bound-to u _ k) in absurd (r .0 (v .once i f u (r .1) here))
+      go true k = let r = away i u (bound-to-is-bound u _ k) in absurd (r .0 (v .once i f u (r .1) here))
 
 pub sound-freed : (s : Controller) (u : Udid) → SoundIn s → SoundIn (freed s u) × Unbound u (freed s u .slots)
 unfolding freed

@@ -1,140 +1,46 @@
 -- The step held against traces: which traces are taken for the command that is outstanding, and what each of them leads to.
 -- For every trace one of the lines applies, and no line speaks of how the decoder works. specs/OneStepLaws.antt says them of the step itself.
-use Prim.Native.Nat.{ℕ, zero, suc, _+_, _-_, _*_, _%_, _≤_, _<_}
+use Prim.Native.Nat.{ℕ, _*_, _%_, _≤_, _<_}
 use mathlib.Core.Path.{_≡_, refl, sym, ap, ap₂, _∙_, subst}
 use mathlib.Core.Bool.{Bool, true, false}
 use mathlib.Core.List.{List, [], _∷_, _++_}
-use native.Mathlib.Decide.{ℕ-discrete, decLt}
-use native.Mathlib.Nat.{mod-eq-of-lt}
 use native.Mathlib.Omega.{arith}
 use lib.Dec.{ltb, eqb}
-use lib.ListN.{length, getD, take, drop, length-append, length-drop}
-use lib.Seq.{getD-at, split-at, take-all}
-use borrow.Author.Tests.{ltb-true, ltb-false, lt-ltb, le-ltb, eqb-true, eq-eqb, ne-eqb}
-use Rattle.lists.specs.Choice.{pick, or, and}
-use Rattle.lists.specs.EachLaws.{append-bytes}
+use lib.ListN.{length, getD, drop, length-drop}
+use lib.Seq.{getD-at, split-at}
+use borrow.Author.Tests.{ltb-true, lt-ltb, eqb-true, eq-eqb, ne-eqb}
+use Rattle.lists.specs.Choice.{pick}
 use Rattle.lists.specs.Each.{Bytes}
-use Rattle.lists.specs.ChoiceLaws.{both-true}
 use Rattle.wire.specs.Addresses.{defaultAddress}
-use Rattle.wire.specs.Pec.{bitStep, pecStep, pecFrom, pecOf}
-use Rattle.trace.specs.ShapeLaws.{sane}
-use Rattle.trace.specs.RowsLaws.{rows}
-use Rattle.trace.specs.Lengths.{traceLength}
-use Rattle.trace.specs.LengthLaws.{trace-length}
+use Rattle.wire.specs.declared.address.Address.{Address}
+use Rattle.trace.specs.ShapeLaws.{sane, both-true}
 use Rattle.trace.specs.Shapes.{shapeOf}
-use Rattle.trace.specs.Trace.{Message, acked, trace, Valid}
+use Rattle.trace.specs.Trace.{Message, trace, Valid}
 use Rattle.trace.specs.declared.transaction.Transaction.{Transaction}
 use Rattle.step.specs.AnswersLaws as step
 use Rattle.step.specs.Answers.{CutAt, Carries, summary}
 use Rattle.step.specs.Handed.{sentData, receivedData}
-use Rattle.step.specs.Run.{decodedBy}
 use Rattle.step.specs.declared.answer.Decoded.{Decoded}
 use Rattle.step.specs.declared.answer.Decoded.the-variants.{Done, Forbidden, BufferTooShort, NoSymbol, EndsEarly, Unexpected, NotAcknowledged, PecDiffers, AfterStop}
-use Rattle.encode.specs.Encode.{message}
 use Rattle.udid.specs.Bytes.{udidBytes, udidAt}
-use Rattle.udid.specs.UdidLaws.{udid-bytes, length-udid, udid-back, bytes-back, same-equal, same-refl}
+use Rattle.udid.specs.UdidLaws.{length-udid, udid-back, bytes-back, same-equal, same-refl}
 use Rattle.udid.specs.Udids.{Fits, sameUdid}
 use Rattle.udid.specs.declared.Udid.{Udid}
-use Rattle.wire.specs.declared.address.Address.{Address}
+use Rattle.arp.specs.RequestLaws.{valid-prepare, valid-get, assign-data-has-17-bytes, valid-assign}
 use Rattle.arp.specs.Bindings.{bound}
 use Rattle.arp.specs.Controller.{asked, handed, replied, onReply, onPrepare, onGet, onAssign, afterPrepare, afterGet, afterAssign}
-use Rattle.arp.specs.Heard.{sendByte, blockRead, blockWrite, answer, sentIn, receivedIn, isCommand, isPrepare, isGet, names, isAssign, nobody}
+use Rattle.arp.specs.Heard.{sendByte, blockRead, blockWrite, answer, sentIn, receivedIn, isCommand, isPrepare, isGet, names, isAssign}
 use Rattle.arp.specs.Requests.{assignData, messageOf, traceOf}
 use Rattle.arp.specs.declared.command.Command.the-variants.{Prepare, GetUdid, Assign, Ended, Abandoned}
 use Rattle.arp.specs.declared.state.Controller.{Controller}
 
--- ---- the three messages are valid
-
-pub valid-prepare : Valid (shapeOf sendByte) (messageOf Prepare [])
-valid-prepare = record {
-  address = omega arith;
-  direction = refl;
-  command = refl;
-  sent-length = refl;
-  sent-bytes = (omega arith, tt);
-  received-length = refl;
-  received-bytes = tt;
-  counts = omega arith;
-}
-
-pub valid-get : (xs : List ℕ) → Bytes xs → length xs ≤ 255 → Valid (shapeOf blockRead) (messageOf GetUdid xs)
-valid-get xs h l = record {
-  address = omega arith;
-  direction = refl;
-  command = (omega arith, tt);
-  sent-length = refl;
-  sent-bytes = tt;
-  received-length = omega arith;
-  received-bytes = h;
-  counts = omega arith;
-}
-
-pub length-assign : (u : Udid) (a : ℕ) → length (assignData u a) ≡ 17
-length-assign u a = length-append (udidBytes u) (2 * (a % 128) ∷ []) ∙ omega (arith, length-udid u)
-
--- an Assign has 44 symbols
-pub assign-length : (u : Udid) (a : Address) → length (traceOf (Assign u a) []) ≡ 44
-unfolding traceLength
-assign-length u a = trace-length (shapeOf 8) true (messageOf (Assign u a) []) ∙ omega (arith, length-assign u (a .0))
-
-pub valid-assign : (u : Udid) (a : Address) → Valid (shapeOf blockWrite) (messageOf (Assign u a) [])
-valid-assign u a = record {
-  address = omega arith;
-  direction = refl;
-  command = (omega arith, tt);
-  sent-length = omega arith;
-  sent-bytes = append-bytes (udidBytes u) (2 * (a .0 % 128) ∷ []) (udid-bytes u) (omega arith, tt);
-  received-length = refl;
-  received-bytes = tt;
-  counts = omega (arith, length-assign u (a .0));
-}
-
--- ---- their symbols, written out: 256 S, 257 P, 258 A, 259 N, and 194 and 195 the address bytes of 61h
-
--- Prepare To ARP is the marked case M2
-pub prepare-trace : traceOf Prepare [] ≡ 256 ∷ 194 ∷ 258 ∷ 1 ∷ 258 ∷ 192 ∷ 258 ∷ 257 ∷ []
-unfolding pecFrom pecStep bitStep
-prepare-trace = refl
-
--- whatever is given as a reply, which Prepare has none of
-pub prepare-whatever : (reply : List ℕ) → traceOf Prepare reply ≡ 256 ∷ 194 ∷ 258 ∷ 1 ∷ 258 ∷ 192 ∷ 258 ∷ 257 ∷ []
-unfolding pecFrom pecStep bitStep
-prepare-whatever reply = refl
-
--- Get UDID with the 17 bytes of a reply: S C2 A 03 A S C3 A 11 A, each byte with A, PEC N P
-pub get-row : (xs : List ℕ) → length xs ≡ 17 → traceOf GetUdid xs
-    ≡ 256 ∷ 194 ∷ 258 ∷ 3 ∷ 258 ∷ 256 ∷ 195 ∷ 258 ∷ 17 ∷ 258 ∷ (acked xs ++ pecOf (194 ∷ 3 ∷ 195 ∷ 17 ∷ xs) ∷ 259 ∷ 257 ∷ [])
-get-row xs e =
-    rows .block-read-pec 0x61 0x03 xs
-    ∙ ap (λ (n : ℕ). 256 ∷ 194 ∷ 258 ∷ 3 ∷ 258 ∷ 256 ∷ 195 ∷ 258 ∷ n ∷ 258 ∷ (acked xs ++ pecOf (194 ∷ 3 ∷ 195 ∷ n ∷ xs) ∷ 259 ∷ 257 ∷ [])) e
-
-acked-last : (xs : List ℕ) (b : ℕ) (l : List ℕ) → acked (xs ++ b ∷ []) ++ l ≡ acked xs ++ b ∷ 258 ∷ l
-acked-last [] b l = refl
-acked-last (x ∷ xs) b l = ap (λ (r : List ℕ). x ∷ 258 ∷ r) (acked-last xs b l)
-
--- Assign Address: S C2 A 04 A 11 A, each byte of the identifier with A, twice the address A, PEC A P
-pub assign-row : (u : Udid) (a : Address) → traceOf (Assign u a) []
-    ≡ 256 ∷ 194 ∷ 258 ∷ 4 ∷ 258 ∷ 17 ∷ 258 ∷ (acked (udidBytes u) ++ 2 * (a .0 % 128) ∷ 258 ∷ pecOf (194 ∷ 4 ∷ 17 ∷ (udidBytes u ++ 2 * (a .0 % 128) ∷ [])) ∷ 258 ∷ 257 ∷ [])
-assign-row u a =
-    let d : List ℕ = udidBytes u ++ 2 * (a .0 % 128) ∷ [] in
-    rows .block-write-pec 0x61 0x04 (assignData u (a .0))
-    ∙ ap (λ (n : ℕ). 256 ∷ 194 ∷ 258 ∷ 4 ∷ 258 ∷ n ∷ 258 ∷ (acked d ++ pecOf (194 ∷ 4 ∷ n ∷ d) ∷ 258 ∷ 257 ∷ [])) (length-assign u (a .0))
-    ∙ ap (λ (l : List ℕ). 256 ∷ 194 ∷ 258 ∷ 4 ∷ 258 ∷ 17 ∷ 258 ∷ l) (acked-last (udidBytes u) (2 * (a .0 % 128)) (pecOf (194 ∷ 4 ∷ 17 ∷ d) ∷ 258 ∷ 257 ∷ []))
-
--- of a 7-bit address, the byte is twice the address itself
-pub assign-row-small : (u : Udid) (a : Address) → a .0 < 128 → traceOf (Assign u a) []
-    ≡ 256 ∷ 194 ∷ 258 ∷ 4 ∷ 258 ∷ 17 ∷ 258 ∷ (acked (udidBytes u) ++ 2 * a .0 ∷ 258 ∷ pecOf (194 ∷ 4 ∷ 17 ∷ (udidBytes u ++ 2 * a .0 ∷ [])) ∷ 258 ∷ 257 ∷ [])
-assign-row-small u a h =
-    assign-row u a
-    ∙ ap (λ (n : ℕ). 256 ∷ 194 ∷ 258 ∷ 4 ∷ 258 ∷ 17 ∷ 258 ∷ (acked (udidBytes u) ++ 2 * n ∷ 258 ∷ pecOf (194 ∷ 4 ∷ 17 ∷ (udidBytes u ++ 2 * n ∷ [])) ∷ 258 ∷ 257 ∷ [])) (mod-eq-of-lt h)
-
 -- ---- what the decoder says of them
 
 module _ (protocol : ℕ) (m : Message) (v : Valid (shapeOf protocol) m) where
-  pub back : (answer protocol (trace (shapeOf protocol) true m) ≡ Done (summary protocol m))
+  pub decoded-back : (answer protocol (trace (shapeOf protocol) true m) ≡ Done (summary protocol m))
       × (sentIn protocol (trace (shapeOf protocol) true m) ≡ m .sent)
       × (receivedIn protocol (trace (shapeOf protocol) true m) ≡ m .received)
-  back = step.round-trip protocol (shapeOf protocol) (sane protocol) true m v
+  decoded-back = step.round-trip protocol (shapeOf protocol) (sane protocol) true m v
 
 -- a complete trace is that of a message, with its data
 complete : (protocol : ℕ) (tr : List ℕ) (t : Transaction) → answer protocol tr ≡ Done t → Carries protocol (shapeOf protocol) true tr t (sentIn protocol tr) (receivedIn protocol tr)
@@ -180,7 +86,7 @@ module _ (s : Controller) (tr : List ℕ) where
   pub prepare-accepted : tr ≡ traceOf Prepare [] → afterPrepare s tr ≡ asked s
   unfolding afterPrepare
   prepare-accepted e =
-      let b = back sendByte (messageOf Prepare []) valid-prepare in
+      let b = decoded-back sendByte (messageOf Prepare []) valid-prepare in
       ap (λ (x : List ℕ). onPrepare s (answer sendByte x) (sentIn sendByte x)) e
       ∙ ap₂ (onPrepare s) (b .0) (b .1)
 
@@ -213,8 +119,8 @@ module _ (s : Controller) (tr : List ℕ) where
 
 module _ (s : Controller) (tr : List ℕ) where
   -- a complete trace that is Get UDID is its trace, with some reply
-  pub get-only : (t : Transaction) → answer blockRead tr ≡ Done t → isGet t ≡ true → tr ≡ traceOf GetUdid (receivedIn blockRead tr)
-  get-only t e h =
+  pub complete-get-is-its-trace : (t : Transaction) → answer blockRead tr ≡ Done t → isGet t ≡ true → tr ≡ traceOf GetUdid (receivedIn blockRead tr)
+  complete-get-is-its-trace t e h =
       let c = complete blockRead tr t e in
       let b = both-true (eqb (t .address .0) defaultAddress) (eqb (t .command) 0x03) h in
       let a : c .message .address ≡ defaultAddress = sym (ap (λ (x : Transaction). x .address .0) (c .fields)) ∙ eqb-true (t .address .0) defaultAddress (b .0) in
@@ -224,8 +130,8 @@ module _ (s : Controller) (tr : List ℕ) where
       (message-is (c .message) (messageOf GetUdid (receivedIn blockRead tr)) a (c .valid .direction) d (empty (c .message .sent) (c .valid .sent-length)) (sym (c .data-received)))
 
   -- the data of a complete Block Read are at most 255 bytes
-  pub get-data : (t : Transaction) → answer blockRead tr ≡ Done t → Bytes (receivedIn blockRead tr) × (length (receivedIn blockRead tr) ≤ 255)
-  get-data t e =
+  pub complete-get-data-fits : (t : Transaction) → answer blockRead tr ≡ Done t → Bytes (receivedIn blockRead tr) × (length (receivedIn blockRead tr) ≤ 255)
+  complete-get-data-fits t e =
       let c = complete blockRead tr t e in
       (subst Bytes (sym (c .data-received)) (c .valid .received-bytes), omega (arith, ap length (c .data-received), c .valid .counts))
 
@@ -234,7 +140,7 @@ module _ (s : Controller) (tr : List ℕ) where
     get-is : afterGet s tr ≡ pick (eqb (length xs) 17) (replied s (udidAt xs 0) (getD xs 16 0)) (handed s Ended)
     unfolding afterGet onReply
     get-is =
-        let b = back blockRead (messageOf GetUdid xs) (valid-get xs h l) in
+        let b = decoded-back blockRead (messageOf GetUdid xs) (valid-get xs h l) in
         ap (λ (x : List ℕ). onGet s (answer blockRead x) (receivedIn blockRead x)) e
         ∙ ap₂ (onGet s) (b .0) (b .2)
 
@@ -258,7 +164,7 @@ module _ (s : Controller) (tr : List ℕ) where
     where
       done : (t : Transaction) → answer blockRead tr ≡ Done t → (b : Bool) → isGet t ≡ b
           → pick b (pick (eqb (t .received) 17) (replied s (udidAt (receivedIn blockRead tr) 0) (getD (receivedIn blockRead tr) 16 0)) (handed s Ended)) (asked s) ≡ asked s
-      done t e true h = let d = get-data t e in absurd (n (receivedIn blockRead tr) (d .0) (d .1) (get-only t e h))
+      done t e true h = let d = complete-get-data-fits t e in absurd (n (receivedIn blockRead tr) (d .0) (d .1) (complete-get-is-its-trace t e h))
       done t e false h = refl
 
       nack : (b : ℕ) → answer blockRead tr ≡ NotAcknowledged b → (q : Bool) → ltb b 3 ≡ q → pick q (handed s Ended) (asked s) ≡ asked s
@@ -285,17 +191,17 @@ named u a xs h l e f =
     ∙ ap₂ (λ (p q : List ℕ). p ++ q) (sym (bytes-back xs 0 h (omega arith)) ∙ ap udidBytes e) (ap₂ (λ (x : ℕ) (q : List ℕ). x ∷ q) f (empty (drop 17 xs) (length-drop 17 xs ∙ omega arith)))
 
 -- the command's own data are told as the Assign that was sent
-pub assign-is : (u : Udid) (a : Address) → Fits u → isAssign u (a .0) (summary blockWrite (messageOf (Assign u a) [])) (assignData u (a .0)) ≡ true
-assign-is u a f =
+pub assign-data-is-assign : (u : Udid) (a : Address) → Fits u → isAssign u (a .0) (summary blockWrite (messageOf (Assign u a) [])) (assignData u (a .0)) ≡ true
+assign-data-is-assign u a f =
     let i = udid-back [] (2 * (a .0 % 128) ∷ []) 0 u f refl in
     let n : sameUdid (udidAt (assignData u (a .0)) 0) u ≡ true = ap (λ (z : Udid). sameUdid z u) i ∙ same-refl u in
     let g : getD (assignData u (a .0)) 16 0 ≡ 2 * (a .0 % 128) = getD-at (udidBytes u) (2 * (a .0 % 128)) [] 0 16 (length-udid u) in
-    rw (eq-eqb (length (assignData u (a .0))) 17 (length-assign u (a .0)), n, eq-eqb (getD (assignData u (a .0)) 16 0) (2 * (a .0 % 128)) g)
+    rw (eq-eqb (length (assignData u (a .0))) 17 (assign-data-has-17-bytes u (a .0)), n, eq-eqb (getD (assignData u (a .0)) 16 0) (2 * (a .0 % 128)) g)
 
 module _ (s : Controller) (u : Udid) (a : Address) (tr : List ℕ) where
   -- a complete trace that is the Assign which was sent is its trace
-  pub assign-only : (t : Transaction) → answer blockWrite tr ≡ Done t → isAssign u (a .0) t (sentIn blockWrite tr) ≡ true → tr ≡ traceOf (Assign u a) []
-  assign-only t e h =
+  pub complete-assign-is-its-trace : (t : Transaction) → answer blockWrite tr ≡ Done t → isAssign u (a .0) t (sentIn blockWrite tr) ≡ true → tr ≡ traceOf (Assign u a) []
+  complete-assign-is-its-trace t e h =
       let c = complete blockWrite tr t e in
       let xs : List ℕ = sentIn blockWrite tr in
       let p = both-true (isCommand 0x04 t) _ h in
@@ -315,10 +221,10 @@ module _ (s : Controller) (u : Udid) (a : Address) (tr : List ℕ) where
   pub assign-whole : Fits u → tr ≡ traceOf (Assign u a) [] → afterAssign s u (a .0) tr ≡ asked (bound s u (a .0))
   unfolding afterAssign
   assign-whole f e =
-      let b = back blockWrite (messageOf (Assign u a) []) (valid-assign u a) in
+      let b = decoded-back blockWrite (messageOf (Assign u a) []) (valid-assign u a) in
       ap (λ (x : List ℕ). onAssign s u (a .0) (answer blockWrite x) (sentIn blockWrite x)) e
       ∙ ap₂ (onAssign s u (a .0)) (b .0) (b .1)
-      ∙ ap (λ (q : Bool). pick q (asked (bound s u (a .0))) (asked s)) (assign-is u a f)
+      ∙ ap (λ (q : Bool). pick q (asked (bound s u (a .0))) (asked s)) (assign-data-is-assign u a f)
 
   -- any other answer: no binding, Get UDID again
   pub assign-other : (tr ≡ traceOf (Assign u a) [] → ⊥) → afterAssign s u (a .0) tr ≡ asked s
@@ -326,7 +232,7 @@ module _ (s : Controller) (u : Udid) (a : Address) (tr : List ℕ) where
   assign-other n = go (answer blockWrite tr) refl
     where
       done : (t : Transaction) → answer blockWrite tr ≡ Done t → (b : Bool) → isAssign u (a .0) t (sentIn blockWrite tr) ≡ b → pick b (asked (bound s u (a .0))) (asked s) ≡ asked s
-      done t e true h = absurd (n (assign-only t e h))
+      done t e true h = absurd (n (complete-assign-is-its-trace t e h))
       done t e false h = refl
 
       go : (x : Decoded) → answer blockWrite tr ≡ x → onAssign s u (a .0) x (sentIn blockWrite tr) ≡ asked s

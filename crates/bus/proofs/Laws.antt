@@ -8,7 +8,7 @@ use lib.Seq.{take-at, drop-cons}
 use Rattle.lists.specs.Onto.{onto}
 use Rattle.encode.specs.declared.Encoded.{Encoded}
 use Rattle.encode.specs.declared.Encoded.the-variants.{Written, Forbidden, OutputTooShort}
-use Rattle.arp.specs.SendingLaws.{Sent}
+use Rattle.arp.specs.Sending.{Sent}
 use Rattle.arp.specs.Requests.{traceOf}
 use Rattle.arp.specs.declared.command.Command.{Command}
 use Rattle.bus.specs.Turn.{silence}

@@ -31,11 +31,11 @@ use Rattle.targets.specs.ReplyLaws.{Least}
 use Rattle.targets.specs.declared.admit.Checked.the-variants.{Admitted}
 use Rattle.targets.specs.declared.winner.Winner.{Winner}
 use Rattle.targets.specs.declared.winner.Winner.the-variants as winner
+use Rattle.arp.specs.ChosenLaws.{chosen-small-and-free}
 use Rattle.arp.specs.Bindings.{bound, freed}
 use Rattle.arp.specs.Controller.{handed, counted, asked, issued, chosen, replied, onAssign, afterPrepare, afterGet, afterAssign, byCommand, stepped, started, newController}
 use Rattle.arp.specs.Heard.{answer, sentIn, blockWrite, isAssign}
 use Rattle.arp.specs.Requests.{traceOf}
-use Rattle.arp.specs.HistoryLaws.{chosen-good}
 use Rattle.arp.specs.TraceLaws.{prepare-accepted}
 use Rattle.arp.specs.declared.command.Command.{Command}
 use Rattle.arp.specs.declared.command.Command.the-variants.{Nothing, Prepare, GetUdid, Assign, Ended, NoneFree, Abandoned, NotOutstanding}
@@ -97,7 +97,7 @@ fine-replied : (c : Controller) (ts : List Target) (t : Target) → Among t ts �
 unfolding replied
 fine-replied c ts t m b =
     let p : Pool = freed c (t .udid) .pool in
-    fine-issued (freed c (t .udid)) t (chosen p (t .udid) (t .addressByte)) ts m (λ a e. chosen-good p (t .udid) (t .addressByte) a b e .0)
+    fine-issued (freed c (t .udid)) t (chosen p (t .udid) (t .addressByte)) ts m (λ a e. chosen-small-and-free p (t .udid) (t .addressByte) a b e .0)
 
 fine-get : (c : Controller) (s : List ℕ) → Bytes s → Fit s → c .last ≡ GetUdid → 0 < length (targetsOf s) → Fine (stepped c (onBus GetUdid (targetsOf s))) (targetsOf s)
 unfolding stepped

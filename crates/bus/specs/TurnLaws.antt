@@ -35,8 +35,8 @@ use Rattle.targets.specs.WinnerLaws.{Unresolved, Wins, Won, winner-exactly, lea
 use Rattle.targets.specs.declared.admit.Checked.the-variants.{Admitted}
 use Rattle.targets.specs.declared.winner.Winner.{Winner}
 use Rattle.targets.specs.declared.winner.Winner.the-variants as winner
+use Rattle.arp.specs.RequestLaws.{assign-has-44-symbols}
 use Rattle.arp.specs.SendingLaws.{assign-sent}
-use Rattle.arp.specs.TraceLaws.{assign-length}
 use Rattle.arp.specs.Bindings.{bound, freed}
 use Rattle.arp.specs.Controller.{handed, counted, asked, issued, chosen, replied, afterPrepare, afterGet, afterAssign, byCommand, stepped, started, newController}
 use Rattle.arp.specs.Requests.{messageOf, traceOf}
@@ -217,12 +217,12 @@ assign-on-bus k u a e ts h =
     ap (λ (x : Command). onBus x ts) e ∙ on-bus.assign-whole ts u a (r .0) (r .1) (r .2) ∙ ap (λ (x : Command). traceOf x []) (sym e)
 
 pub assign-long : (k : Command) (u : Udid) (a : Address) → k ≡ Assign u a → length (traceOf k []) ≡ 44
-assign-long k u a e = ap (λ (x : Command). length (traceOf x [])) e ∙ assign-length u a
+assign-long k u a e = ap (λ (x : Command). length (traceOf x [])) e ∙ assign-has-44-symbols u a
 
 pub assign-written : (k : Command) (u : Udid) (a : Address) → k ≡ Assign u a → (ts : List Target) → Reaches k ts → (before : List ℕ) → 64 ≤ length before → Writes k [] before
 assign-written k u a e ts h before l =
     let r : Reaches (Assign u a) ts = subst (λ (x : Command). Reaches x ts) e h in
-    subst (λ (x : Command). Writes x [] before) (sym e) (λ q after w. assign-sent u a [] before q after (r .3) w (omega (arith, assign-length u a)))
+    subst (λ (x : Command). Writes x [] before) (sym e) (λ q after w. assign-sent u a [] before q after (r .3) w (omega (arith, assign-has-44-symbols u a)))
 
 -- what the targets' function leaves of the records
 pub assign-acted : (k : Command) (u : Udid) (a : Address) → k ≡ Assign u a → (s : List ℕ) → Reaches k (targetsOf s) → assignedIn u (a .0) s ≡ recordsWith (acted k (targetsOf s)) s

@@ -13,7 +13,7 @@ use Rattle.encode.proofs.Encoded as declared
 use Rattle.encode.specs.declared.Encoded.{Encoded}
 use Rattle.encode.specs.declared.Encoded.the-variants.{Written}
 use Rattle.encode.specs.Encode.{Wrote}
-use Rattle.arp.specs.TraceLaws.{valid-assign}
+use Rattle.arp.specs.RequestLaws.{valid-assign}
 use Rattle.arp.specs.Requests.{protocolFor, messageOf}
 use Rattle.arp.specs.declared.command.Command.{Command}
 use Rattle.arp.specs.declared.command.Command.the-variants.{Nothing, Prepare, GetUdid, Assign, Ended, NoneFree, Abandoned, NotOutstanding}

@@ -3,7 +3,6 @@ pub mod Unique
 pub mod Demand1
 pub mod Demand2
 pub mod Demand3
-pub mod Controller
 pub mod Steps
 pub mod Words
 pub mod MarkedWords

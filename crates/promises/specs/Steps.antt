@@ -18,11 +18,13 @@ use Rattle.pool.specs.declared.Pool.{Pool}
 use Rattle.udid.specs.Bytes.{udidBytes, udidAt}
 use Rattle.udid.specs.Udids.{Fits}
 use Rattle.udid.specs.declared.Udid.{Udid}
+use Rattle.arp.specs.RequestLaws.{seventeen-bytes-are-udid-and-byte}
+use Rattle.arp.specs.Sound.{PendingIn}
 use Rattle.arp.specs.Bindings.{heldAt}
 use Rattle.arp.specs.Controller.{stepped}
 use Rattle.arp.specs.History.{Event, run}
 use Rattle.arp.specs.Numbers.{commandNumber}
-use Rattle.arp.specs.CommandTraces.{prepareTrace, replyTrace, assignTrace}
+use Rattle.arp.specs.CommandTraces.{prepareTrace, replyTrace, assignTrace, Reply}
 use Rattle.arp.specs.OneStep.{Gives, Asks, Binds, Continues, EndsWith, Replies, Alike}
 use Rattle.arp.specs.Replay.{noCommand}
 use Rattle.arp.specs.declared.command.Command.{Command}
@@ -31,8 +33,8 @@ use Rattle.arp.specs.declared.state.Controller.{Controller}
 use Rattle.arp.specs.declared.state.Stepped.{Stepped}
 use Rattle.arp.specs.HeardLaws.{gives-exactly, six-exactly}
 use Rattle.arp.specs.OneStepLaws as arp
-use Rattle.arp.specs.OneResultLaws.{same-trace, six-or-not, six-once, Reply, reply-or-not, seventeen, continues-both, ends-both, binds-both, replies-both, chosen-one}
-use Rattle.arp.specs.HistoryLaws.{PendingIn, good-run}
+use Rattle.arp.specs.OneResultLaws.{same-trace-or-not, six-or-not, six-once, reply-or-not, continues-alike, ends-alike, binds-alike, replies-alike, chooses-address-or-none}
+use Rattle.arp.specs.HistoryLaws.{reached-good}
 
 -- r is what comes of the state s and the trace tr
 pub record Steps (s : Controller) (tr : List ℕ) (r : Stepped) : Type 0 where
@@ -97,7 +99,7 @@ every-step s tr r size e = subst (Steps s tr) (sym e) (sentences s tr size)
 
 -- and so in every state that starts and received traces reach
 pub reached-step : (occupied : Pool) (es : List Event) (tr : List ℕ) → Steps (run occupied es) tr (stepped (run occupied es) tr)
-reached-step occupied es tr = sentences (run occupied es) tr (good-run occupied es .0 .sound .size)
+reached-step occupied es tr = sentences (run occupied es) tr (reached-good occupied es .0 .sound .size)
 
 -- ---- every trace falls under one of the sentences
 
@@ -132,7 +134,7 @@ every-case s tr f = go (s .last) refl
 
     reply : s .last ≡ GetUdid → (xs : List ℕ) → Bytes xs → length xs ≤ 255 → tr ≡ replyTrace xs → Dec (length xs ≡ 17) → Case s tr
     reply e xs d l t (no n) = Counted e xs d l n t
-    reply e xs d l t (yes n) = let k = seventeen xs d n in Replied e (udidAt xs 0) (getD xs 16 0) (k .0) (k .1) (t ∙ ap replyTrace (k .2))
+    reply e xs d l t (yes n) = let k = seventeen-bytes-are-udid-and-byte xs d n in Replied e (udidAt xs 0) (getD xs 16 0) (k .0) (k .1) (t ∙ ap replyTrace (k .2))
 
     six : s .last ≡ GetUdid → ((xs : List ℕ) → Bytes xs → length xs ≤ 255 → tr ≡ replyTrace xs → ⊥) → (b : ℕ) → Gives 9 tr 6 b → Dec (b < 3) → Case s tr
     six e n b w (yes l) = NobodyLeft e b l w
@@ -150,9 +152,9 @@ every-case s tr f = go (s .last) refl
     assign u a e (yes l) (no t) = Other u a e l t
 
     go : (k : Command) → s .last ≡ k → Case s tr
-    go Prepare e = prepare e (same-trace tr prepareTrace) (six-or-not 1 tr refl)
+    go Prepare e = prepare e (same-trace-or-not tr prepareTrace) (six-or-not 1 tr refl)
     go GetUdid e = get e (reply-or-not s tr) (six-or-not 9 tr refl)
-    go (Assign u a) e = assign u a e (decLt (a .0) 128) (same-trace tr (assignTrace (udidBytes u) (2 * a .0)))
+    go (Assign u a) e = assign u a e (decLt (a .0) 128) (same-trace-or-not tr (assignTrace (udidBytes u) (2 * a .0)))
     go Nothing e = Idle (ap noCommand e)
     go Ended e = Idle (ap noCommand e)
     go (NoneFree u) e = Idle (ap noCommand e)
@@ -177,26 +179,26 @@ pub one-step : (s : Controller) (tr : List ℕ) (r q : Stepped) → FitsLast s �
 one-step s tr r q f h g = go (every-case s tr f)
   where
     go : Case s tr → Alike r q
-    go (Accepted e t) = continues-both s r q (h .prepare-accepted e t) (g .prepare-accepted e t)
-    go (Nobody e b w) = ends-both s r q Ended (h .prepare-nobody e b w) (g .prepare-nobody e b w)
-    go (Refused e n m) = ends-both s r q Abandoned (h .prepare-other e n m) (g .prepare-other e n m)
-    go (Replied e u b k l t) = replies-both s u b r q (h .get-reply e u b k l t) (g .get-reply e u b k l t)
-    go (Counted e xs d l n t) = ends-both s r q Ended (h .get-count e xs d l n t) (g .get-count e xs d l n t)
-    go (NobodyLeft e b l w) = ends-both s r q Ended (h .get-nobody e b l w) (g .get-nobody e b l w)
-    go (Again e n m) = continues-both s r q (h .get-again e n m) (g .get-again e n m)
-    go (Whole u a e k l t) = binds-both u (a .0) s r q (h .assign-whole u a e k l t) (g .assign-whole u a e k l t)
-    go (Other u a e l n) = continues-both s r q (h .assign-other u a e l n) (g .assign-other u a e l n)
-    go (NoAddress u a e l) = continues-both s r q (h .assign-no-address u a e l) (g .assign-no-address u a e l)
+    go (Accepted e t) = continues-alike s r q (h .prepare-accepted e t) (g .prepare-accepted e t)
+    go (Nobody e b w) = ends-alike s r q Ended (h .prepare-nobody e b w) (g .prepare-nobody e b w)
+    go (Refused e n m) = ends-alike s r q Abandoned (h .prepare-other e n m) (g .prepare-other e n m)
+    go (Replied e u b k l t) = replies-alike s u b r q (h .get-reply e u b k l t) (g .get-reply e u b k l t)
+    go (Counted e xs d l n t) = ends-alike s r q Ended (h .get-count e xs d l n t) (g .get-count e xs d l n t)
+    go (NobodyLeft e b l w) = ends-alike s r q Ended (h .get-nobody e b l w) (g .get-nobody e b l w)
+    go (Again e n m) = continues-alike s r q (h .get-again e n m) (g .get-again e n m)
+    go (Whole u a e k l t) = binds-alike u (a .0) s r q (h .assign-whole u a e k l t) (g .assign-whole u a e k l t)
+    go (Other u a e l n) = continues-alike s r q (h .assign-other u a e l n) (g .assign-other u a e l n)
+    go (NoAddress u a e l) = continues-alike s r q (h .assign-no-address u a e l) (g .assign-no-address u a e l)
     go (Idle i) = idle-both s tr r q (h .none-outstanding i) (g .none-outstanding i)
 
 -- in a state that is reached, nothing else need be known
 pub one-reached-step : (occupied : Pool) (es : List Event) (tr : List ℕ) (r : Stepped) → Steps (run occupied es) tr r → Alike r (stepped (run occupied es) tr)
 one-reached-step occupied es tr r h =
     one-step (run occupied es) tr r (stepped (run occupied es) tr)
-    (λ u a e. subst (PendingIn (run occupied es)) e (good-run occupied es .1) .fits)
+    (λ u a e. subst (PendingIn (run occupied es)) e (reached-good occupied es .1) .fits)
     h (reached-step occupied es tr)
 
--- ---- the numbers 0 and 14 of a step, each exactly in its listed case; 13 and 21 are in Controller
+-- ---- the numbers 0 and 14 of a step, each exactly in its listed case; 13 and 21 are in arp (StoryLaws, OutstandingLaws)
 
 -- 0: nobody accepted Prepare; or nobody answers Get UDID any more, or the count is not 17
 abbrev pub EndDue : Controller → List ℕ → Type 0
@@ -243,7 +245,7 @@ module _ (s : Controller) (tr : List ℕ) (f : FitsLast s) (r : Stepped) (h : St
       go (no l) = omega arith
 
   replies-no : (u : Udid) (b n : ℕ) → (n ≡ 0) ⊎ (n ≡ 14) → Replies s u b r → commandNumber (r .command) ≡ (n, []) ∷ [] → ⊥
-  replies-no u b n d w q = go d (chosen-one (r .state .pool) u b (r .command) (w .chooses))
+  replies-no u b n d w q = go d (chooses-address-or-none (r .state .pool) u b (r .command) (w .chooses))
     where
       go : (n ≡ 0) ⊎ (n ≡ 14) → ((a : Address) × (r .command ≡ Assign u a)) ⊎ (r .command ≡ NoneFree u) → ⊥
       go (inl z) (inl (a, e)) = apart (Assign u a) n e (λ m. omega arith) q
@@ -302,4 +304,4 @@ module _ (s : Controller) (tr : List ℕ) (f : FitsLast s) (r : Stepped) (h : St
       back (inl (e, n, m)) = ap commandNumber (h .prepare-other e n m .0 .command)
       back (inr (l, inl (e, t))) = limit (h .prepare-accepted e t .0) l
       back (inr (l, inr (inl (e, n, m)))) = limit (h .get-again e n m .0) l
-      back (inr (l, inr (inr (u, a, e)))) = limit (assigned u a e (decLt (a .0) 128) (same-trace tr (assignTrace (udidBytes u) (2 * a .0)))) l
+      back (inr (l, inr (inr (u, a, e)))) = limit (assigned u a e (decLt (a .0) 128) (same-trace-or-not tr (assignTrace (udidBytes u) (2 * a .0)))) l

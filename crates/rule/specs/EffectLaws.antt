@@ -25,7 +25,7 @@ use Rattle.udid.specs.UdidLaws.{length-udid, udid-bytes, same-equal, same-refl,
 use Rattle.udid.specs.Udids.{Fits, sameUdid}
 use Rattle.udid.specs.declared.Udid.{Udid}
 use Rattle.targets.specs.Target.{Target, mapTargets, prepared, assignedTo, cleared, resolve}
-use Rattle.arp.specs.TraceLaws.{prepare-trace, assign-row}
+use Rattle.arp.specs.RequestLaws.{prepare-symbols, assign-symbols}
 use Rattle.arp.specs.CommandTraces.{prepareTrace, assignTrace}
 use Rattle.arp.specs.Requests.{traceOf}
 use Rattle.arp.specs.declared.command.Command.{Command}
@@ -217,7 +217,7 @@ effect-own : (u : Udid) (a : Address) (ts : List Target) (t : Target) → Among 
     → effect (onBus (Assign u a) ts) t ≡ record { udid = t .udid; addressByte = 2 * (a .0 % 128) + 1; flag = 1 }
 effect-own u a ts t m e =
     let n : 2 * (2 * (a .0 % 128) / 2) + 1 ≡ 2 * (a .0 % 128) + 1 = omega arith in
-    ap (λ (tr : List ℕ). effect tr t) (on-bus.assign-whole ts u a t m e ∙ assign-row u a ∙ ap (λ (v : Udid). assignTrace (udidBytes v) (2 * (a .0 % 128))) (sym e))
+    ap (λ (tr : List ℕ). effect tr t) (on-bus.assign-whole ts u a t m e ∙ assign-symbols u a ∙ ap (λ (v : Udid). assignTrace (udidBytes v) (2 * (a .0 % 128))) (sym e))
     ∙ effect-assign t (2 * (a .0 % 128)) (omega arith)
     ∙ ap (λ (b : ℕ). record { udid = t .udid; addressByte = b; flag = 1 }) n
 
@@ -227,7 +227,7 @@ unfolding onBus standing same
 assign-only u a ts id b h l g q =
     let w : onBus (Assign u a) ts ≡ traceOf (Assign u a) [] =
     answered-quiet (λ (sent : List ℕ). somebody (acknowledges sent) ts) [] (sentPart (Assign u a)) (STOP ∷ []) (subst Quiet (sym q) (quiet-assigning id b h g)) in
-    let r : assignTrace (udidBytes u) (2 * (a .0 % 128)) ≡ assignTrace id b = sym (assign-row u a) ∙ sym w ∙ q in
+    let r : assignTrace (udidBytes u) (2 * (a .0 % 128)) ≡ assignTrace id b = sym (assign-symbols u a) ∙ sym w ∙ q in
     sym (identifier-in (udidBytes u) (2 * (a .0 % 128)) (length-udid u)) ∙ ap (λ (x : List ℕ). bytesIn 16 (drop 7 x)) r ∙ identifier-in id b l
 
 -- any other target
@@ -257,7 +257,7 @@ effect-assigned u a ts t m f g = go (sameUdid (t .udid) u) refl
 -- Prepare To ARP
 effect-prepared : (ts : List Target) (t : Target) → Among t ts → effect (onBus Prepare ts) t ≡ prepared t
 effect-prepared [] t m = absurd m
-effect-prepared (x ∷ ts) t m = ap (λ (tr : List ℕ). effect tr t) (on-bus.prepare-whole x ts ∙ prepare-trace) ∙ effect-prepare t
+effect-prepared (x ∷ ts) t m = ap (λ (tr : List ℕ). effect tr t) (on-bus.prepare-whole x ts ∙ prepare-symbols []) ∙ effect-prepare t
 
 -- an end is no command: no symbol stands on the bus
 effect-nothing : (t : Target) → effect [] t ≡ t

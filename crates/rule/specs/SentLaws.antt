@@ -9,7 +9,8 @@ use Rattle.pool.specs.declared.Pool.{Pool}
 use Rattle.targets.specs.Admission.{AdmittedTargets}
 use Rattle.targets.specs.RecordLaws.{length-map}
 use Rattle.targets.specs.Target.{Target}
-use Rattle.arp.specs.HandingLaws.{Handed, prepare-handed, get-handed, assign-handed}
+use Rattle.arp.specs.Handing.{Handed}
+use Rattle.arp.specs.HandingLaws.{prepare-handed, get-handed, assign-handed}
 use Rattle.arp.specs.Controller.{afterPrepare, afterGet, afterAssign, byCommand, stepped}
 use Rattle.arp.specs.Heard.{sendByte, blockRead, blockWrite, answer, sentIn, receivedIn}
 use Rattle.arp.specs.History.{oneGet}

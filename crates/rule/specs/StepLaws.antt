@@ -23,11 +23,12 @@ use Rattle.udid.specs.declared.Udid.{Udid}
 use Rattle.targets.specs.Target.{Target}
 use Rattle.targets.specs.Reply.{replyData}
 use Rattle.targets.specs.ReplyLaws.{Sized, length-data, bytes-data}
+use Rattle.arp.specs.RequestLaws.{valid-prepare, valid-get}
 use Rattle.arp.specs.Bindings.{openSlot, heldAt, boundTo, findFrom, freed, slotFor, bound}
 use Rattle.arp.specs.Controller.{handed, asked, chosen, issued, replied, afterPrepare, afterGet, byCommand, stepped}
 use Rattle.arp.specs.Heard.{sendByte, blockRead, blockWrite}
 use Rattle.arp.specs.Requests.{messageOf, traceOf}
-use Rattle.arp.specs.TraceLaws.{valid-prepare, valid-get, prepare-accepted, prepare-nobody, get-reply, get-nobody, assign-whole}
+use Rattle.arp.specs.TraceLaws.{prepare-accepted, prepare-nobody, get-reply, get-nobody, assign-whole}
 use Rattle.arp.specs.declared.command.Command.{Command}
 use Rattle.arp.specs.declared.command.Command.the-variants.{Prepare, GetUdid, Assign, Ended}
 use Rattle.arp.specs.declared.state.Controller.{Controller}

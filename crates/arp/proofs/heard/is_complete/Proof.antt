@@ -1,7 +1,7 @@
 use mathlib.Core.Path.{sym, ap, _∙_}
 use denote.Ref.{now}
 use Rattle.step.specs.declared.answer.Decoded.{Decoded}
-use Rattle.arp.proofs.Steps.{incomplete}
+use Rattle.arp.proofs.Steps.{not-done-is-incomplete}
 use Rattle.arp.specs.Heard.{completes}
 use borrow.Author.Needs.{needs}
 use Rattle.arp.proofs.heard.is_complete.Statement.{statement}
@@ -16,7 +16,7 @@ enum-known-answer c = search needs
 
 -- src/heard.rt:73:9
 returns : tie.Need-returns
-returns c = sym (incomplete (c .before .before .args .u) (c .before .before .args .a .0) (c .before .before .args .answer) (now (c .before .before .args .sent)) (c .match .keys2))
+returns c = sym (not-done-is-incomplete (c .before .before .args .u) (c .before .before .args .a .0) (c .before .before .args .answer) (now (c .before .before .args .sent)) (c .match .keys2))
 
 -- src/heard.rt:75:5
 is-assign-requires : tie.Need-is-assign-requires

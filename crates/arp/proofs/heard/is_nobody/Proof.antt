@@ -1,5 +1,5 @@
 use mathlib.Core.Path.{_≡_, refl, sym, ap, _∙_}
-use Rattle.arp.proofs.Steps.{somebody}
+use Rattle.arp.proofs.Steps.{other-answers-are-somebody}
 use Rattle.arp.specs.Heard.{nobody}
 use borrow.Author.Needs.{needs}
 use Rattle.arp.proofs.heard.is_nobody.Statement.{statement}
@@ -17,7 +17,7 @@ returns c = sym (ap nobody (c .before .a .given .1))
 
 -- src/heard.rt:69:1
 returns-2 : tie.Need-returns-2
-returns-2 c = sym (somebody (c .before .args .a) (c .match .keys2))
+returns-2 c = sym (other-answers-are-somebody (c .before .args .a) (c .match .keys2))
 
 pub is-nobody-spec : {M : Type 1} → statement M
 is-nobody-spec = tie.close (tie.spec enum-known-a returns returns-2)

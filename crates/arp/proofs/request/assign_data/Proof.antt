@@ -2,7 +2,7 @@ use mathlib.Core.Path.{_≡_, refl, sym, ap, _∙_}
 use Prim.Native.Nat.{ℕ}
 use mathlib.Core.List.{List, [], _∷_, _++_}
 use Rattle.udid.specs.Bytes.{udidBytes}
-use Rattle.arp.proofs.Requests.{seventeen}
+use Rattle.arp.proofs.Requests.{udid-and-byte-written}
 use borrow.Author.Needs.{needs}
 use Rattle.arp.proofs.request.assign_data.Statement.{statement}
 use Rattle.arp.proofs.request.assign_data.Tie as tie
@@ -29,7 +29,7 @@ array-write-data c = search needs
 
 -- src/request.rt:14:1
 returns : tie.Need-returns
-returns c = let s = c .before .before .before .before .args in seventeen (s .u) _ _ (c .before .before .put-bytes .ensures) ∙ ap (λ (w : ℕ). udidBytes (s .u) ++ (w ∷ [])) (c .for-write .ensures)
+returns c = let s = c .before .before .before .before .args in udid-and-byte-written (s .u) _ _ (c .before .before .put-bytes .ensures) ∙ ap (λ (w : ℕ). udidBytes (s .u) ++ (w ∷ [])) (c .for-write .ensures)
 
 pub assign-data-spec : {M : Type 1} → statement M
 assign-data-spec =

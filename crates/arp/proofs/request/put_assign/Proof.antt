@@ -1,4 +1,4 @@
-use Rattle.arp.proofs.Requests.{assign-data-written, no-address}
+use Rattle.arp.proofs.Requests.{assign-data-written, no-address-refused}
 use native.Mathlib.Omega.{arith}
 use denote.Ref.{now}
 use borrow.Author.Needs.{needs}
@@ -35,7 +35,7 @@ same-length c = search needs
 
 -- src/request.rt:38:1
 returns : tie.Need-returns
-returns c = no-address _ _ _ (omega (arith, c .if1 .taken))
+returns c = no-address-refused _ _ _ (omega (arith, c .if1 .taken))
 
 -- src/request.rt:38:1
 returns-2 : tie.Need-returns-2

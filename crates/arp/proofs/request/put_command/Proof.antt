@@ -1,5 +1,5 @@
 use denote.Ref.{now}
-use Rattle.arp.proofs.Requests.{for-command, no-command}
+use Rattle.arp.proofs.Requests.{wrote-same-command, no-command-refused}
 use Rattle.arp.specs.declared.command.Command.the-variants.{Prepare, GetUdid}
 use borrow.Author.Needs.{needs}
 use Rattle.arp.proofs.request.put_command.Statement.{statement}
@@ -40,7 +40,7 @@ same-length c = search needs
 
 -- src/request.rt:48:1
 returns : tie.Need-returns
-returns c = let s = c .before .before .before .before .before .before .before .before .args in for-command (s .k) Prepare (now (s .reply)) _ _ _ (c .before .before .before .before .enum-told .given .1) (c .before .before .put-prepare .ensures)
+returns c = let s = c .before .before .before .before .before .before .before .before .args in wrote-same-command (s .k) Prepare (now (s .reply)) _ _ _ (c .before .before .before .before .enum-told .given .1) (c .before .before .put-prepare .ensures)
 
 -- src/request.rt:48:1
 same-length-2 : tie.Need-same-length-2
@@ -48,7 +48,7 @@ same-length-2 c = search needs
 
 -- src/request.rt:48:1
 returns-2 : tie.Need-returns-2
-returns-2 c = let s = c .before .before .before .before .before .before .before .before .args in for-command (s .k) GetUdid (now (s .reply)) _ _ _ (c .before .before .before .before .enum-told2 .given .1) (c .before .before .put-get .ensures)
+returns-2 c = let s = c .before .before .before .before .before .before .before .before .args in wrote-same-command (s .k) GetUdid (now (s .reply)) _ _ _ (c .before .before .before .before .enum-told2 .given .1) (c .before .before .put-get .ensures)
 
 -- src/request.rt:48:1
 same-length-3 : tie.Need-same-length-3
@@ -56,11 +56,11 @@ same-length-3 c = search needs
 
 -- src/request.rt:48:1
 returns-3 : tie.Need-returns-3
-returns-3 c = let s = c .before .before .before .before .before .before .before .before .before .args in for-command (s .k) _ (now (s .reply)) _ _ _ (c .before .before .before .before .before .k .given .1) (c .before .before .put-assign .ensures)
+returns-3 c = let s = c .before .before .before .before .before .before .before .before .before .args in wrote-same-command (s .k) _ (now (s .reply)) _ _ _ (c .before .before .before .before .before .k .given .1) (c .before .before .put-assign .ensures)
 
 -- src/request.rt:48:1
 returns-4 : tie.Need-returns-4
-returns-4 c = let s = c .before .before .before .args in no-command (s .k) (now (s .reply)) (now (s .out)) (c .match .keys4)
+returns-4 c = let s = c .before .before .before .args in no-command-refused (s .k) (now (s .reply)) (now (s .out)) (c .match .keys4)
 
 pub put-command-spec : {M : Type 1} → statement M
 put-command-spec =

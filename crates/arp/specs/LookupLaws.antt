@@ -1,0 +1,116 @@
+-- The number of a lookup: 0 with the identifier that is bound there, 15 where nobody is, 16 where two claim the address, 1 above 127; each exactly
+-- in its case.
+use Prim.Native.Nat.{ℕ, _<_}
+use mathlib.Core.Path.{_≡_, refl, sym, ap, _∙_}
+use mathlib.Core.List.{List, [], _∷_}
+use mathlib.Core.Logic.{_⊎_, inl, inr, _↔_}
+use native.Mathlib.Decide.{decLt}
+use native.Mathlib.Omega.{arith}
+use borrow.Author.Tests.{lt-ltb, le-ltb}
+use Rattle.udid.specs.declared.Udid.{Udid}
+use Rattle.arp.specs.Bindings.{heldAt}
+use Rattle.arp.specs.Lookup.{seen, lookedUp}
+use Rattle.arp.specs.Numbers.{lookupNumber}
+use Rattle.arp.specs.Replay.{numberOf}
+use Rattle.arp.specs.declared.lookup.Found.{Found}
+use Rattle.arp.specs.declared.lookup.Found.the-variants as found
+use Rattle.arp.specs.declared.state.Binding.{Binding}
+use Rattle.arp.specs.declared.state.Binding.the-variants.{Open, Bound, Claimed}
+use Rattle.arp.specs.declared.state.Controller.{Controller}
+
+-- what is held where a lookup gives this answer
+abbrev heldFor : Found → Binding → Type 0
+heldFor (found.Bound u) h = h ≡ Bound u
+heldFor found.Nobody h = h ≡ Open
+heldFor found.Two h = h ≡ Claimed
+heldFor found.NoAddress h = ⊥
+
+number-tells : (x y : Found) → lookupNumber x ≡ lookupNumber y → x ≡ y
+number-tells (found.Bound u) (found.Bound v) e = ap found.Bound (first (ap (λ (p : ℕ × List Udid). p .1) e))
+  where
+    first : u ∷ [] ≡ v ∷ [] → u ≡ v
+    first q = cc q
+number-tells found.Nobody found.Nobody e = refl
+number-tells found.Two found.Two e = refl
+number-tells found.NoAddress found.NoAddress e = refl
+number-tells (found.Bound u) found.Nobody e = absurd (let q : 0 ≡ 15 = ap (λ (p : ℕ × List Udid). p .0) e in omega arith)
+number-tells (found.Bound u) found.Two e = absurd (let q : 0 ≡ 16 = ap (λ (p : ℕ × List Udid). p .0) e in omega arith)
+number-tells (found.Bound u) found.NoAddress e = absurd (let q : 0 ≡ 1 = ap (λ (p : ℕ × List Udid). p .0) e in omega arith)
+number-tells found.Nobody (found.Bound u) e = absurd (let q : 15 ≡ 0 = ap (λ (p : ℕ × List Udid). p .0) e in omega arith)
+number-tells found.Nobody found.Two e = absurd (let q : 15 ≡ 16 = ap (λ (p : ℕ × List Udid). p .0) e in omega arith)
+number-tells found.Nobody found.NoAddress e = absurd (let q : 15 ≡ 1 = ap (λ (p : ℕ × List Udid). p .0) e in omega arith)
+number-tells found.Two (found.Bound u) e = absurd (let q : 16 ≡ 0 = ap (λ (p : ℕ × List Udid). p .0) e in omega arith)
+number-tells found.Two found.Nobody e = absurd (let q : 16 ≡ 15 = ap (λ (p : ℕ × List Udid). p .0) e in omega arith)
+number-tells found.Two found.NoAddress e = absurd (let q : 16 ≡ 1 = ap (λ (p : ℕ × List Udid). p .0) e in omega arith)
+number-tells found.NoAddress (found.Bound u) e = absurd (let q : 1 ≡ 0 = ap (λ (p : ℕ × List Udid). p .0) e in omega arith)
+number-tells found.NoAddress found.Nobody e = absurd (let q : 1 ≡ 15 = ap (λ (p : ℕ × List Udid). p .0) e in omega arith)
+number-tells found.NoAddress found.Two e = absurd (let q : 1 ≡ 16 = ap (λ (p : ℕ × List Udid). p .0) e in omega arith)
+
+seen-is : (x : Found) (h : Binding) → (seen h ≡ x) ↔ heldFor x h
+seen-is (found.Bound u) Open = (λ e. absurd (let z : _≡_ {A = ℕ} 0 1 = cc e in omega arith), λ e. absurd (let z : _≡_ {A = ℕ} 0 1 = cc e in omega arith))
+seen-is (found.Bound u) (Bound v) = (λ e. cc e, λ e. cc e)
+seen-is (found.Bound u) Claimed = (λ e. absurd (let z : _≡_ {A = ℕ} 0 1 = cc e in omega arith), λ e. absurd (let z : _≡_ {A = ℕ} 0 1 = cc e in omega arith))
+seen-is found.Nobody Open = (λ e. refl, λ e. refl)
+seen-is found.Nobody (Bound v) = (λ e. absurd (let z : _≡_ {A = ℕ} 0 1 = cc e in omega arith), λ e. absurd (let z : _≡_ {A = ℕ} 0 1 = cc e in omega arith))
+seen-is found.Nobody Claimed = (λ e. absurd (let z : _≡_ {A = ℕ} 0 1 = cc e in omega arith), λ e. absurd (let z : _≡_ {A = ℕ} 0 1 = cc e in omega arith))
+seen-is found.Two Open = (λ e. absurd (let z : _≡_ {A = ℕ} 0 1 = cc e in omega arith), λ e. absurd (let z : _≡_ {A = ℕ} 0 1 = cc e in omega arith))
+seen-is found.Two (Bound v) = (λ e. absurd (let z : _≡_ {A = ℕ} 0 1 = cc e in omega arith), λ e. absurd (let z : _≡_ {A = ℕ} 0 1 = cc e in omega arith))
+seen-is found.Two Claimed = (λ e. refl, λ e. refl)
+seen-is found.NoAddress Open = (λ e. absurd (let z : _≡_ {A = ℕ} 0 1 = cc e in omega arith), λ e. absurd e)
+seen-is found.NoAddress (Bound v) = (λ e. absurd (let z : _≡_ {A = ℕ} 0 1 = cc e in omega arith), λ e. absurd e)
+seen-is found.NoAddress Claimed = (λ e. absurd (let z : _≡_ {A = ℕ} 0 1 = cc e in omega arith), λ e. absurd e)
+
+module _ (s : Controller) (a : ℕ) where
+  small : a < 128 → lookedUp s a ≡ seen (heldAt (s .slots) a)
+  small h = rw (le-ltb 127 a (omega arith))
+
+  above : 127 < a → lookedUp s a ≡ found.NoAddress
+  above h = rw (lt-ltb 127 a h)
+
+  answers : (x : Found) → (lookupNumber (lookedUp s a) ≡ lookupNumber x) ↔ (((x ≡ found.NoAddress) × (127 < a)) ⊎ ((a < 128) × heldFor x (heldAt (s .slots) a)))
+  answers x = (λ e. there (number-tells (lookedUp s a) x e) (decLt 127 a), back)
+    where
+      there : lookedUp s a ≡ x → Dec (127 < a) → ((x ≡ found.NoAddress) × (127 < a)) ⊎ ((a < 128) × heldFor x (heldAt (s .slots) a))
+      there e (yes h) = inl (sym e ∙ above h, h)
+      there e (no h) = inr (omega arith, seen-is x (heldAt (s .slots) a) .0 (sym (small (omega arith)) ∙ e))
+
+      back : ((x ≡ found.NoAddress) × (127 < a)) ⊎ ((a < 128) × heldFor x (heldAt (s .slots) a)) → lookupNumber (lookedUp s a) ≡ lookupNumber x
+      back (inl (q, h)) = ap lookupNumber (above h ∙ sym q)
+      back (inr (h, q)) = ap lookupNumber (small h ∙ seen-is x (heldAt (s .slots) a) .1 q)
+
+  only-small : (x : Found) → (x ≡ found.NoAddress → ⊥) → (lookupNumber (lookedUp s a) ≡ lookupNumber x) ↔ ((a < 128) × heldFor x (heldAt (s .slots) a))
+  only-small x n = (λ e. go (answers x .0 e), λ h. answers x .1 (inr h))
+    where
+      go : ((x ≡ found.NoAddress) × (127 < a)) ⊎ ((a < 128) × heldFor x (heldAt (s .slots) a)) → (a < 128) × heldFor x (heldAt (s .slots) a)
+      go (inl q) = absurd (n (q .0))
+      go (inr q) = q
+
+  -- 0 WITH THE IDENTIFIER: it is bound there
+  pub lookup-0 : (u : Udid) → (lookupNumber (lookedUp s a) ≡ (0, u ∷ [])) ↔ ((a < 128) × (heldAt (s .slots) a ≡ Bound u))
+  lookup-0 u = only-small (found.Bound u) (λ e. let z : _≡_ {A = ℕ} 0 1 = cc e in omega arith)
+
+  -- 15: nobody is bound
+  pub lookup-15 : (lookupNumber (lookedUp s a) ≡ (15, [])) ↔ ((a < 128) × (heldAt (s .slots) a ≡ Open))
+  lookup-15 = only-small found.Nobody (λ e. let z : _≡_ {A = ℕ} 0 1 = cc e in omega arith)
+
+  -- 16: two claim it
+  pub lookup-16 : (lookupNumber (lookedUp s a) ≡ (16, [])) ↔ ((a < 128) × (heldAt (s .slots) a ≡ Claimed))
+  lookup-16 = only-small found.Two (λ e. let z : _≡_ {A = ℕ} 0 1 = cc e in omega arith)
+
+  -- 1: an address above 127
+  pub lookup-1 : (lookupNumber (lookedUp s a) ≡ (1, [])) ↔ (127 < a)
+  lookup-1 = (λ e. go (answers found.NoAddress .0 e), λ h. ap lookupNumber (above h))
+    where
+      go : ((found.NoAddress ≡ found.NoAddress) × (127 < a)) ⊎ ((a < 128) × ⊥) → 127 < a
+      go (inl q) = q .1
+      go (inr q) = absurd (q .1)
+
+-- ---- the number by what the address is known for
+
+seen-number : (h : Binding) → lookupNumber (seen h) ≡ numberOf h
+seen-number Open = refl
+seen-number (Bound u) = refl
+seen-number Claimed = refl
+
+pub lookup-number : (s : Controller) (a : ℕ) → a < 128 → lookupNumber (lookedUp s a) ≡ numberOf (heldAt (s .slots) a)
+lookup-number s a h = ap lookupNumber (small s a h) ∙ seen-number (heldAt (s .slots) a)

@@ -1,0 +1,191 @@
+-- 13 is handed out with an identifier exactly at its reply, if with what it was bound to freed there is no address to pick.
+use Prim.Native.Nat.{ℕ, _<_}
+use mathlib.Core.Path.{_≡_, refl, sym, ap, _∙_, subst}
+use mathlib.Core.Bool.{Bool, true, false}
+use mathlib.Core.List.{List, [], _∷_, _++_}
+use mathlib.Core.Logic.{_↔_}
+use native.Mathlib.Omega.{arith}
+use lib.Dec.{ltb, leb, eqb}
+use lib.ListN.{getD}
+use Rattle.lists.specs.Choice.{pick, and}
+use Rattle.step.specs.declared.answer.Decoded.{Decoded}
+use Rattle.step.specs.declared.answer.Decoded.the-variants.{Done, Forbidden, BufferTooShort, NoSymbol, EndsEarly, Unexpected, NotAcknowledged, PecDiffers, AfterStop}
+use Rattle.pool.specs.declared.Pool.{Pool}
+use Rattle.pool.specs.declared.free.Free.{Free}
+use Rattle.pool.specs.declared.free.Free.the-variants.{At, AllUsed}
+use Rattle.udid.specs.Bytes.{udidAt, udidBytes}
+use Rattle.udid.specs.Udids.{Fits}
+use Rattle.udid.specs.declared.Udid.{Udid}
+use Rattle.arp.specs.ChosenLaws.{none-picked-exactly}
+use Rattle.arp.specs.HandedOutLaws.{handed-out-by-table, table-is-story}
+use Rattle.arp.specs.ReadingLaws.{replied-exactly, reply-byte-received}
+use Rattle.arp.specs.Story.{Story, story, Full}
+use Rattle.arp.specs.Controller.{stepped}
+use Rattle.arp.specs.Heard.{answer, sentIn, receivedIn}
+use Rattle.arp.specs.History.{Event, run, getsSent}
+use Rattle.arp.specs.Numbers.{commandNumber}
+use Rattle.arp.specs.Replay.{Happened, Replied, Assigned, Other, Table, released, replyIn, assigns, assignIn, readAs, handedOut, table, again, picked, NoneToPick, assigning, nextPrepare, nextReply, nextCommand}
+use Rattle.arp.specs.CommandTraces.{replyTrace}
+use Rattle.arp.specs.declared.command.Command.{Command}
+use Rattle.arp.specs.declared.command.Command.the-variants.{Nothing, Prepare, GetUdid, Assign, Ended, NoneFree, Abandoned, NotOutstanding}
+
+module _ (t : Table) (n : ℕ) (u : Udid) where
+  again-none : again n ≡ NoneFree u → ⊥
+  again-none e = go (leb 128 n) e
+    where
+      go : (b : Bool) → pick b Abandoned GetUdid ≡ NoneFree u → ⊥
+      go true k = let z : _≡_ {A = ℕ} 0 1 = cc k in omega arith
+      go false k = let z : _≡_ {A = ℕ} 0 1 = cc k in omega arith
+
+  prepare-none : (d : Decoded) (xs : List ℕ) → nextPrepare n d xs ≡ NoneFree u → ⊥
+  prepare-none (Done x) xs e = go (and (eqb (x .address .0) 0x61) (eqb (getD xs 0 0) 0x01)) e
+    where
+      go : (b : Bool) → pick b (again n) Abandoned ≡ NoneFree u → ⊥
+      go true k = again-none k
+      go false k = let z : _≡_ {A = ℕ} 0 1 = cc k in omega arith
+  prepare-none (NotAcknowledged b) xs e = let z : _≡_ {A = ℕ} 0 1 = cc e in omega arith
+  prepare-none Forbidden xs e = let z : _≡_ {A = ℕ} 0 1 = cc e in omega arith
+  prepare-none BufferTooShort xs e = let z : _≡_ {A = ℕ} 0 1 = cc e in omega arith
+  prepare-none (NoSymbol k) xs e = let z : _≡_ {A = ℕ} 0 1 = cc e in omega arith
+  prepare-none (EndsEarly k) xs e = let z : _≡_ {A = ℕ} 0 1 = cc e in omega arith
+  prepare-none (Unexpected k) xs e = let z : _≡_ {A = ℕ} 0 1 = cc e in omega arith
+  prepare-none (PecDiffers k) xs e = let z : _≡_ {A = ℕ} 0 1 = cc e in omega arith
+  prepare-none (AfterStop k) xs e = let z : _≡_ {A = ℕ} 0 1 = cc e in omega arith
+
+  abbrev Unserved : Happened → List ℕ → Type 0
+  Unserved x xs = (x ≡ Replied u) × (picked (released u t .used) u (getD xs 16 0) ≡ AllUsed)
+
+  not-reply : (xs : List ℕ) → Unserved Other xs → ⊥
+  not-reply xs h = let z : _≡_ {A = ℕ} 0 1 = cc (h .0) in omega arith
+
+  assigning-none : (w : Udid) (f : Free) → assigning w f ≡ NoneFree u → (w ≡ u) × (f ≡ AllUsed)
+  assigning-none w (At a) e = absurd (let z : _≡_ {A = ℕ} 0 1 = cc e in omega arith)
+  assigning-none w AllUsed e = (cc e, refl)
+
+  done-none : (p q : Bool) (w : Udid) (xs : List ℕ)
+      → (pick p (pick q (assigning w (picked (released w t .used) w (getD xs 16 0))) Ended) (again n) ≡ NoneFree u) ↔ Unserved (pick p (pick q (Replied w) Other) Other) xs
+  done-none true true w xs = (forth, back-to)
+    where
+      forth : assigning w (picked (released w t .used) w (getD xs 16 0)) ≡ NoneFree u → Unserved (Replied w) xs
+      forth e =
+          let h = assigning-none w (picked (released w t .used) w (getD xs 16 0)) e in
+          (ap Replied (h .0), sym (ap (λ (v : Udid). picked (released v t .used) v (getD xs 16 0)) (h .0)) ∙ h .1)
+
+      back-to : Unserved (Replied w) xs → assigning w (picked (released w t .used) w (getD xs 16 0)) ≡ NoneFree u
+      back-to h =
+          let k : w ≡ u = cc (h .0) in
+          ap (λ (v : Udid). assigning v (picked (released v t .used) v (getD xs 16 0))) k ∙ ap (assigning u) (h .1)
+  done-none true false w xs = (λ e. absurd (let z : _≡_ {A = ℕ} 0 1 = cc e in omega arith), λ h. absurd (not-reply xs h))
+  done-none false q w xs = (λ e. absurd (again-none e), λ h. absurd (not-reply xs h))
+
+  neither : (xs : List ℕ) → (again n ≡ NoneFree u) ↔ Unserved Other xs
+  neither xs = (λ e. absurd (again-none e), λ h. absurd (not-reply xs h))
+
+  reply-none-free : (d : Decoded) (xs : List ℕ) → (nextReply t n d xs ≡ NoneFree u) ↔ Unserved (replyIn d xs) xs
+  reply-none-free (Done x) xs = done-none (and (eqb (x .address .0) 0x61) (eqb (x .command) 0x03)) (eqb (x .received) 17) (udidAt xs 0) xs
+  reply-none-free (NotAcknowledged b) xs = (λ e. absurd (go (ltb b 3) e), λ h. absurd (not-reply xs h))
+    where
+      go : (q : Bool) → pick q Ended (again n) ≡ NoneFree u → ⊥
+      go true k = let z : _≡_ {A = ℕ} 0 1 = cc k in omega arith
+      go false k = again-none k
+  reply-none-free Forbidden xs = neither xs
+  reply-none-free BufferTooShort xs = neither xs
+  reply-none-free (NoSymbol k) xs = neither xs
+  reply-none-free (EndsEarly k) xs = neither xs
+  reply-none-free (Unexpected k) xs = neither xs
+  reply-none-free (PecDiffers k) xs = neither xs
+  reply-none-free (AfterStop k) xs = neither xs
+
+  assign-asks : (w : Udid) (a : ℕ) (d : Decoded) (xs ys : List ℕ) → Unserved (assignIn w a d xs) ys → ⊥
+  assign-asks w a (Done x) xs ys h = go (and (and (eqb (x .address .0) 0x61) (eqb (x .command) 0x04)) (and (eqb (x .sent) 17) (assigns w a xs))) (h .0)
+    where
+      go : (q : Bool) → pick q (Assigned w a) Other ≡ Replied u → ⊥
+      go true k = let z : _≡_ {A = ℕ} 0 1 = cc k in omega arith
+      go false k = let z : _≡_ {A = ℕ} 0 1 = cc k in omega arith
+  assign-asks w a (NotAcknowledged b) xs ys h = not-reply ys h
+  assign-asks w a Forbidden xs ys h = not-reply ys h
+  assign-asks w a BufferTooShort xs ys h = not-reply ys h
+  assign-asks w a (NoSymbol k) xs ys h = not-reply ys h
+  assign-asks w a (EndsEarly k) xs ys h = not-reply ys h
+  assign-asks w a (Unexpected k) xs ys h = not-reply ys h
+  assign-asks w a (PecDiffers k) xs ys h = not-reply ys h
+  assign-asks w a (AfterStop k) xs ys h = not-reply ys h
+
+  idle-none : (xs : List ℕ) → (NotOutstanding ≡ NoneFree u) ↔ Unserved Other xs
+  idle-none xs = (λ e. absurd (let z : _≡_ {A = ℕ} 0 1 = cc e in omega arith), λ h. absurd (not-reply xs h))
+
+  next-none : (k : Command) (tr : List ℕ) → (nextCommand t n k tr ≡ NoneFree u) ↔ Unserved (readAs k tr) (receivedIn 9 tr)
+  next-none Prepare tr = (λ e. absurd (prepare-none (answer 1 tr) (sentIn 1 tr) e), λ h. absurd (not-reply (receivedIn 9 tr) h))
+  next-none GetUdid tr = reply-none-free (answer 9 tr) (receivedIn 9 tr)
+  next-none (Assign w a) tr = (λ e. absurd (again-none e), λ h. absurd (assign-asks w (a .0) (answer 8 tr) (sentIn 8 tr) (receivedIn 9 tr) h))
+  next-none Nothing tr = idle-none (receivedIn 9 tr)
+  next-none Ended tr = idle-none (receivedIn 9 tr)
+  next-none (NoneFree w) tr = idle-none (receivedIn 9 tr)
+  next-none Abandoned tr = idle-none (receivedIn 9 tr)
+  next-none NotOutstanding tr = idle-none (receivedIn 9 tr)
+
+-- A STEP GIVES 13 exactly at a reply for which, with what its identifier was bound to freed, there is no address to pick
+pub step-13-by-table : (occupied : Pool) (es : List Event) (tr : List ℕ) (u : Udid)
+    → (stepped (run occupied es) tr .command ≡ NoneFree u)
+    ↔ ((readAs (handedOut occupied es) tr ≡ Replied u) × NoneToPick (released u (table occupied es) .used) u (getD (receivedIn 9 tr) 16 0))
+step-13-by-table occupied es tr u = (forth, back-to)
+  where
+    both : (nextCommand (table occupied es) (getsSent occupied es) (handedOut occupied es) tr ≡ NoneFree u)
+        ↔ ((readAs (handedOut occupied es) tr ≡ Replied u) × (picked (released u (table occupied es) .used) u (getD (receivedIn 9 tr) 16 0) ≡ AllUsed))
+    both = next-none (table occupied es) (getsSent occupied es) u (handedOut occupied es) tr
+
+    forth : stepped (run occupied es) tr .command ≡ NoneFree u
+        → (readAs (handedOut occupied es) tr ≡ Replied u) × NoneToPick (released u (table occupied es) .used) u (getD (receivedIn 9 tr) 16 0)
+    forth e =
+        let h = both .0 (sym (handed-out-by-table occupied es tr) ∙ e) in
+        (h .0, none-picked-exactly (released u (table occupied es) .used) u (getD (receivedIn 9 tr) 16 0) .0 (h .1))
+
+    back-to : (readAs (handedOut occupied es) tr ≡ Replied u) × NoneToPick (released u (table occupied es) .used) u (getD (receivedIn 9 tr) 16 0)
+        → stepped (run occupied es) tr .command ≡ NoneFree u
+    back-to h =
+        handed-out-by-table occupied es tr
+        ∙ both .1 (h .0, none-picked-exactly (released u (table occupied es) .used) u (getD (receivedIn 9 tr) 16 0) .1 (h .1))
+
+module _ (occupied : Pool) (es : List Event) (tr : List ℕ) where
+  -- and by the story of the events alone
+  pub step-13-by-story : (u : Udid) → Fits u → (stepped (run occupied es) tr .command ≡ NoneFree u) ↔ Full occupied es tr u
+  step-13-by-story u f = (λ e. there (in-story .0 e), λ w. in-story .1 (back-to w))
+    where
+      in-story : (stepped (run occupied es) tr .command ≡ NoneFree u)
+          ↔ ((readAs (story occupied es .command) tr ≡ Replied u) × NoneToPick (released u (story occupied es .known) .used) u (getD (receivedIn 9 tr) 16 0))
+      in-story =
+          subst (λ (w : Story). (stepped (run occupied es) tr .command ≡ NoneFree u)
+          ↔ ((readAs (w .command) tr ≡ Replied u) × NoneToPick (released u (w .known) .used) u (getD (receivedIn 9 tr) 16 0))) (table-is-story occupied es)
+          (step-13-by-table occupied es tr u)
+
+      byte : (b : ℕ) → b < 256 → tr ≡ replyTrace (udidBytes u ++ b ∷ []) → getD (receivedIn 9 tr) 16 0 ≡ b
+      byte b h q = ap (λ (l : List ℕ). getD (receivedIn 9 l) 16 0) q ∙ reply-byte-received u b f h
+
+      there : (readAs (story occupied es .command) tr ≡ Replied u) × NoneToPick (released u (story occupied es .known) .used) u (getD (receivedIn 9 tr) 16 0) → Full occupied es tr u
+      there w =
+          let r = replied-exactly (story occupied es .command) tr u f .0 (w .0) in
+          (r .0, (r .1 .0, r .1 .1, r .1 .2, subst (NoneToPick (released u (story occupied es .known) .used) u) (byte (r .1 .0) (r .1 .1) (r .1 .2)) (w .1)))
+
+      back-to : Full occupied es tr u → (readAs (story occupied es .command) tr ≡ Replied u) × NoneToPick (released u (story occupied es .known) .used) u (getD (receivedIn 9 tr) 16 0)
+      back-to (k, (b, h, q, n)) = (
+        replied-exactly (story occupied es .command) tr u f .1 (k, (b, h, q)),
+        subst (NoneToPick (released u (story occupied es .known) .used) u) (sym (byte b h q)) n,
+      )
+
+abbrev first : List (ℕ × List Udid) → ℕ × List Udid
+first [] = (0, [])
+first (x ∷ xs) = x
+
+-- 13 with an identifier is given by one command alone
+pub number-13-is-none-free : (k : Command) (u : Udid) → commandNumber k ≡ (13, u ∷ []) ∷ [] → k ≡ NoneFree u
+number-13-is-none-free (NoneFree v) u e = ap NoneFree (same (ap (λ (l : List (ℕ × List Udid)). first l .1) e))
+  where
+    same : v ∷ [] ≡ u ∷ [] → v ≡ u
+    same q = cc q
+number-13-is-none-free Nothing u e = absurd (let z : _≡_ {A = ℕ} 0 1 = cc e in omega arith)
+number-13-is-none-free Prepare u e = absurd (let z : _≡_ {A = ℕ} 0 1 = cc e in omega arith)
+number-13-is-none-free GetUdid u e = absurd (let z : _≡_ {A = ℕ} 0 1 = cc e in omega arith)
+number-13-is-none-free (Assign v a) u e = absurd (let z : _≡_ {A = ℕ} 0 1 = cc e in omega arith)
+number-13-is-none-free Ended u e = absurd (let z : _≡_ {A = ℕ} 0 13 = ap (λ (l : List (ℕ × List Udid)). first l .0) e in omega arith)
+number-13-is-none-free Abandoned u e = absurd (let z : _≡_ {A = ℕ} 14 13 = ap (λ (l : List (ℕ × List Udid)). first l .0) e in omega arith)
+number-13-is-none-free NotOutstanding u e = absurd (let z : _≡_ {A = ℕ} 21 13 = ap (λ (l : List (ℕ × List Udid)). first l .0) e in omega arith)

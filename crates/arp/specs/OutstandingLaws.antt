@@ -1,0 +1,233 @@
+-- The command outstanding: it is the one that was handed out last. A step gives 21 exactly where none is outstanding, as before the first
+-- start, and the state stays as it is then.
+use Prim.Native.Nat.{ℕ}
+use mathlib.Core.Path.{_≡_, refl, sym, ap, _∙_}
+use mathlib.Core.Bool.{Bool, true, false}
+use mathlib.Core.List.{List, [], _∷_}
+use mathlib.Core.Logic.{inl, inr, _↔_}
+use native.Mathlib.Omega.{arith}
+use lib.Dec.{ltb, leb, eqb}
+use lib.ListN.{getD}
+use Rattle.lists.specs.Choice.{pick}
+use Rattle.trace.specs.declared.transaction.Transaction.{Transaction}
+use Rattle.step.specs.declared.answer.Decoded.{Decoded}
+use Rattle.step.specs.declared.answer.Decoded.the-variants.{Done, Forbidden, BufferTooShort, NoSymbol, EndsEarly, Unexpected, NotAcknowledged, PecDiffers, AfterStop}
+use Rattle.pool.specs.declared.Pool.{Pool}
+use Rattle.pool.specs.declared.free.Free.{Free}
+use Rattle.pool.specs.declared.free.Free.the-variants.{At, AllUsed}
+use Rattle.udid.specs.Bytes.{udidAt}
+use Rattle.udid.specs.declared.Udid.{Udid}
+use Rattle.arp.specs.HandingLaws.{prepare-handed, get-handed, assign-handed}
+use Rattle.arp.specs.Handing.{Handed}
+use Rattle.arp.specs.Bindings.{freed, bound}
+use Rattle.arp.specs.Controller.{newController, handed, counted, asked, chosen, issued, replied, onReply, onPrepare, onGet, onAssign, afterPrepare, afterGet, afterAssign, byCommand, stepped}
+use Rattle.arp.specs.Heard.{sendByte, blockRead, blockWrite, answer, sentIn, receivedIn, isPrepare, isGet, isAssign}
+use Rattle.arp.specs.History.{Event, Start, Received, run, tracesAlone}
+use Rattle.arp.specs.Numbers.{commandNumber}
+use Rattle.arp.specs.Replay.{Other, readAs, handedOut, noCommand, SameOutstanding}
+use Rattle.arp.specs.declared.command.Command.{Command}
+use Rattle.arp.specs.declared.command.Command.the-variants.{Nothing, Prepare, GetUdid, Assign, Ended, NoneFree, Abandoned, NotOutstanding}
+use Rattle.arp.specs.declared.state.Controller.{Controller}
+
+-- ---- none is outstanding, or what is handed out is kept
+
+-- a 21 is given where none is outstanding
+pub idle-gives-21 : (s : Controller) (tr : List ℕ) → noCommand (s .last) ≡ true → (stepped s tr .state ≡ s) × (stepped s tr .command ≡ NotOutstanding)
+unfolding stepped
+idle-gives-21 s tr h = go (s .last) h
+  where
+    go : (k : Command) → noCommand k ≡ true → (byCommand s tr k .state ≡ s) × (byCommand s tr k .command ≡ NotOutstanding)
+    go Prepare i = absurd (let z : _≡_ {A = ℕ} 0 1 = cc i in omega arith)
+    go GetUdid i = absurd (let z : _≡_ {A = ℕ} 0 1 = cc i in omega arith)
+    go (Assign u a) i = absurd (let z : _≡_ {A = ℕ} 0 1 = cc i in omega arith)
+    go Nothing i = (refl, refl)
+    go Ended i = (refl, refl)
+    go (NoneFree u) i = (refl, refl)
+    go Abandoned i = (refl, refl)
+    go NotOutstanding i = (refl, refl)
+
+-- and the state stays as it is
+pub idle-untouched : (s : Controller) (tr : List ℕ) → noCommand (s .last) ≡ true → stepped s tr .state ≡ s
+idle-untouched s tr h = idle-gives-21 s tr h .0
+
+-- and otherwise something is handed out, and kept
+busy-handed : (s : Controller) (tr : List ℕ) → noCommand (s .last) ≡ false → Handed s (stepped s tr)
+unfolding stepped afterPrepare afterGet afterAssign
+busy-handed s tr h = go (s .last) h
+  where
+    go : (k : Command) → noCommand k ≡ false → Handed s (byCommand s tr k)
+    go Prepare i = prepare-handed s (answer sendByte tr) (sentIn sendByte tr)
+    go GetUdid i = get-handed s (answer blockRead tr) (receivedIn blockRead tr)
+    go (Assign u a) i = assign-handed s u (a .0) (answer blockWrite tr) (sentIn blockWrite tr)
+    go Nothing i = absurd (let z : _≡_ {A = ℕ} 0 1 = cc i in omega arith)
+    go Ended i = absurd (let z : _≡_ {A = ℕ} 0 1 = cc i in omega arith)
+    go (NoneFree u) i = absurd (let z : _≡_ {A = ℕ} 0 1 = cc i in omega arith)
+    go Abandoned i = absurd (let z : _≡_ {A = ℕ} 0 1 = cc i in omega arith)
+    go NotOutstanding i = absurd (let z : _≡_ {A = ℕ} 0 1 = cc i in omega arith)
+
+-- THE COMMAND OUTSTANDING is the one that was handed out last
+pub last-is-handed-out : (occupied : Pool) (es : List Event) → SameOutstanding (run occupied es .last) (handedOut occupied es)
+unfolding run handedOut
+last-is-handed-out occupied [] = inl refl
+last-is-handed-out occupied (Start ∷ es) = inl refl
+last-is-handed-out occupied (Received tr ∷ es) = go (noCommand (run occupied es .last)) refl
+  where
+    go : (b : Bool) → noCommand (run occupied es .last) ≡ b → SameOutstanding (stepped (run occupied es) tr .state .last) (stepped (run occupied es) tr .command)
+    go true e =
+        let h = idle-gives-21 (run occupied es) tr e in
+        inr (ap (λ (s : Controller). noCommand (s .last)) (h .0) ∙ e, ap noCommand (h .1))
+    go false e = inl (busy-handed (run occupied es) tr e .last)
+
+idle-reads : (k : Command) (tr : List ℕ) → noCommand k ≡ true → readAs k tr ≡ Other
+idle-reads Prepare tr i = refl
+idle-reads GetUdid tr i = absurd (let z : _≡_ {A = ℕ} 0 1 = cc i in omega arith)
+idle-reads (Assign u a) tr i = absurd (let z : _≡_ {A = ℕ} 0 1 = cc i in omega arith)
+idle-reads Nothing tr i = refl
+idle-reads Ended tr i = refl
+idle-reads (NoneFree u) tr i = refl
+idle-reads Abandoned tr i = refl
+idle-reads NotOutstanding tr i = refl
+
+-- so a trace is read alike by either
+pub same-reading : (k m : Command) (tr : List ℕ) → SameOutstanding k m → readAs k tr ≡ readAs m tr
+same-reading k m tr (inl e) = ap (λ (x : Command). readAs x tr) e
+same-reading k m tr (inr h) = idle-reads k tr (h .0) ∙ sym (idle-reads m tr (h .1))
+
+-- ---- 21, and no other time
+
+abbrev is-21 : Command → Bool
+is-21 Nothing = false
+is-21 Prepare = false
+is-21 GetUdid = false
+is-21 (Assign u a) = false
+is-21 Ended = false
+is-21 (NoneFree u) = false
+is-21 Abandoned = false
+is-21 NotOutstanding = true
+
+abbrev first : List (ℕ × List Udid) → ℕ
+first [] = 0
+first (x ∷ xs) = x .0
+
+number-21 : (k : Command) → commandNumber k ≡ (21, []) ∷ [] → is-21 k ≡ true
+number-21 Nothing e = absurd (let z : _≡_ {A = ℕ} 0 1 = cc e in omega arith)
+number-21 Prepare e = absurd (let z : _≡_ {A = ℕ} 0 1 = cc e in omega arith)
+number-21 GetUdid e = absurd (let z : _≡_ {A = ℕ} 0 1 = cc e in omega arith)
+number-21 (Assign u a) e = absurd (let z : _≡_ {A = ℕ} 0 1 = cc e in omega arith)
+number-21 Ended e = absurd (let z : 0 ≡ 21 = ap first e in omega arith)
+number-21 (NoneFree u) e = absurd (let z : 13 ≡ 21 = ap first e in omega arith)
+number-21 Abandoned e = absurd (let z : 14 ≡ 21 = ap first e in omega arith)
+number-21 NotOutstanding e = refl
+
+-- every other way of a step hands out something else
+asked-not : (s : Controller) → is-21 (asked s .command) ≡ false
+unfolding asked
+asked-not s = go (leb 128 (s .gets))
+  where
+    go : (b : Bool) → is-21 (pick b (handed s Abandoned) (handed (counted s) GetUdid) .command) ≡ false
+    go true = refl
+    go false = refl
+
+issued-not : (s : Controller) (u : Udid) (f : Free) → is-21 (issued s u f .command) ≡ false
+issued-not s u (At a) = refl
+issued-not s u AllUsed = refl
+
+module _ (s : Controller) where
+  prepare-not : (d : Decoded) (xs : List ℕ) → is-21 (onPrepare s d xs .command) ≡ false
+  prepare-not (Done t) xs = go (isPrepare t xs)
+    where
+      go : (q : Bool) → is-21 (pick q (asked s) (handed s Abandoned) .command) ≡ false
+      go true = asked-not s
+      go false = refl
+  prepare-not (NotAcknowledged b) xs = refl
+  prepare-not Forbidden xs = refl
+  prepare-not BufferTooShort xs = refl
+  prepare-not (NoSymbol k) xs = refl
+  prepare-not (EndsEarly k) xs = refl
+  prepare-not (Unexpected k) xs = refl
+  prepare-not (PecDiffers k) xs = refl
+  prepare-not (AfterStop k) xs = refl
+
+  reply-not : (t : Transaction) (xs : List ℕ) → is-21 (onReply s t xs .command) ≡ false
+  unfolding onReply replied
+  reply-not t xs = go (isGet t) (eqb (t .received) 17)
+    where
+      go : (p q : Bool) → is-21 (pick p (pick q (issued (freed s (udidAt xs 0)) (udidAt xs 0) (chosen (freed s (udidAt xs 0) .pool) (udidAt xs 0) (getD xs 16 0))) (handed s Ended)) (asked s) .command) ≡ false
+      go true true = issued-not (freed s (udidAt xs 0)) (udidAt xs 0) (chosen (freed s (udidAt xs 0) .pool) (udidAt xs 0) (getD xs 16 0))
+      go true false = refl
+      go false q = asked-not s
+
+  get-not : (d : Decoded) (xs : List ℕ) → is-21 (onGet s d xs .command) ≡ false
+  get-not (Done t) xs = reply-not t xs
+  get-not (NotAcknowledged b) xs = go (ltb b 3)
+    where
+      go : (q : Bool) → is-21 (pick q (handed s Ended) (asked s) .command) ≡ false
+      go true = refl
+      go false = asked-not s
+  get-not Forbidden xs = asked-not s
+  get-not BufferTooShort xs = asked-not s
+  get-not (NoSymbol k) xs = asked-not s
+  get-not (EndsEarly k) xs = asked-not s
+  get-not (Unexpected k) xs = asked-not s
+  get-not (PecDiffers k) xs = asked-not s
+  get-not (AfterStop k) xs = asked-not s
+
+  assign-not : (u : Udid) (n : ℕ) (d : Decoded) (xs : List ℕ) → is-21 (onAssign s u n d xs .command) ≡ false
+  assign-not u n (Done t) xs = go (isAssign u n t xs)
+    where
+      go : (q : Bool) → is-21 (pick q (asked (bound s u n)) (asked s) .command) ≡ false
+      go true = asked-not (bound s u n)
+      go false = asked-not s
+  assign-not u n (NotAcknowledged b) xs = asked-not s
+  assign-not u n Forbidden xs = asked-not s
+  assign-not u n BufferTooShort xs = asked-not s
+  assign-not u n (NoSymbol k) xs = asked-not s
+  assign-not u n (EndsEarly k) xs = asked-not s
+  assign-not u n (Unexpected k) xs = asked-not s
+  assign-not u n (PecDiffers k) xs = asked-not s
+  assign-not u n (AfterStop k) xs = asked-not s
+
+  command-21 : (tr : List ℕ) → is-21 (stepped s tr .command) ≡ noCommand (s .last)
+  unfolding stepped afterPrepare afterGet afterAssign
+  command-21 tr = go (s .last)
+    where
+      go : (k : Command) → is-21 (byCommand s tr k .command) ≡ noCommand k
+      go Prepare = prepare-not (answer sendByte tr) (sentIn sendByte tr)
+      go GetUdid = get-not (answer blockRead tr) (receivedIn blockRead tr)
+      go (Assign u a) = assign-not u (a .0) (answer blockWrite tr) (sentIn blockWrite tr)
+      go Nothing = refl
+      go Ended = refl
+      go (NoneFree u) = refl
+      go Abandoned = refl
+      go NotOutstanding = refl
+
+  -- 21 IS GIVEN EXACTLY where no command of a pass is outstanding, from every state
+  pub step-21 : (tr : List ℕ) → (commandNumber (stepped s tr .command) ≡ (21, []) ∷ []) ↔ (noCommand (s .last) ≡ true)
+  step-21 tr = (
+    λ e. sym (command-21 tr) ∙ number-21 (stepped s tr .command) e,
+    λ h. ap commandNumber (idle-gives-21 s tr h .1),
+  )
+
+same-none : (k m : Command) → SameOutstanding k m → noCommand k ≡ noCommand m
+same-none k m (inl e) = ap noCommand e
+same-none k m (inr h) = h .0 ∙ sym (h .1)
+
+-- so exactly if the latest start or step handed out no command
+pub step-21-by-events : (occupied : Pool) (es : List Event) (tr : List ℕ)
+    → (commandNumber (stepped (run occupied es) tr .command) ≡ (21, []) ∷ []) ↔ (noCommand (handedOut occupied es) ≡ true)
+step-21-by-events occupied es tr =
+    let e : noCommand (run occupied es .last) ≡ noCommand (handedOut occupied es) = same-none (run occupied es .last) (handedOut occupied es) (last-is-handed-out occupied es) in
+    (λ q. sym e ∙ step-21 (run occupied es) tr .0 q, λ q. step-21 (run occupied es) tr .1 (e ∙ q))
+
+-- ---- before the first start
+
+unstarted : (occupied : Pool) (trs : List (List ℕ)) → run occupied (tracesAlone trs) ≡ newController occupied
+unfolding run
+unstarted occupied [] = refl
+unstarted occupied (tr ∷ trs) = ap (λ (s : Controller). stepped s tr .state) (unstarted occupied trs) ∙ idle-gives-21 (newController occupied) tr refl .0
+
+-- EVERY STEP GIVES 21, and the controller stays new
+pub refused-before-start : (occupied : Pool) (trs : List (List ℕ)) (tr : List ℕ)
+    → (run occupied (tracesAlone trs) ≡ newController occupied) × (commandNumber (stepped (run occupied (tracesAlone trs)) tr .command) ≡ (21, []) ∷ [])
+refused-before-start occupied trs tr =
+    (unstarted occupied trs, ap (λ (s : Controller). commandNumber (stepped s tr .command)) (unstarted occupied trs) ∙ ap commandNumber (idle-gives-21 (newController occupied) tr refl .1))

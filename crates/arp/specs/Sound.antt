@@ -1,0 +1,64 @@
+-- What holds of a state that is reached, as the proofs carry it from step to step: the slots and the pool fit together, and an Assign that is
+-- outstanding can be bound.
+use Prim.Native.Nat.{ℕ, _≤_, _<_}
+use mathlib.Core.Path.{_≡_}
+use mathlib.Core.Bool.{false}
+use mathlib.Core.List.{List}
+use lib.ListN.{length}
+use Rattle.lists.specs.Choice.{or}
+use Rattle.pool.specs.Pools.{member}
+use Rattle.pool.specs.Start.{startingPool}
+use Rattle.pool.specs.declared.Pool.{Pool}
+use Rattle.udid.specs.Udids.{Fits, isFixed}
+use Rattle.udid.specs.declared.Udid.{Udid}
+use Rattle.arp.specs.Bindings.{heldAt, boundTo}
+use Rattle.arp.specs.History.{isHeld}
+use Rattle.arp.specs.declared.command.Command.{Command}
+use Rattle.arp.specs.declared.command.Command.the-variants.{Nothing, Prepare, GetUdid, Assign, Ended, NoneFree, Abandoned, NotOutstanding}
+use Rattle.arp.specs.declared.state.Binding.the-variants.{Bound}
+use Rattle.arp.specs.declared.state.Controller.{Controller}
+use Rattle.arp.specs.declared.state.Slot.{Slot}
+
+-- of the starting pool, the pool and the slots: the pool has the starting addresses and those that are bound or claimed, and no others
+pub record Sound (starting pool : Pool) (slots : List Slot) : Type 0 where
+  pub size : length slots ≡ 128
+  pub once : (i j : ℕ) (u : Udid) → heldAt slots i ≡ Bound u → heldAt slots j ≡ Bound u → i ≡ j
+  pub new : (a : ℕ) (u : Udid) → heldAt slots a ≡ Bound u → member starting a ≡ false
+  pub exact : (a : ℕ) → member pool a ≡ or (member starting a) (isHeld (heldAt slots a))
+
+abbrev pub SoundIn : Controller → Type 0
+SoundIn s = Sound (s .starting) (s .pool) (s .slots)
+
+-- u is bound nowhere
+abbrev pub Unbound : Udid → List Slot → Type 0
+Unbound u slots = (i : ℕ) → boundTo u (heldAt slots i) ≡ false
+
+-- u is bound to none of the addresses from a on
+abbrev pub Nowhere : Udid → List Slot → ℕ → Type 0
+Nowhere u slots a = (j : ℕ) → a ≤ j → j < 128 → boundTo u (heldAt slots j) ≡ false
+
+-- a state without what was handed out last
+pub record Good (occupied : Pool) (s : Controller) : Type 0 where
+  pub sound : SoundIn s
+  pub gets : s .gets ≤ 128
+  pub starting : s .starting ≡ startingPool occupied
+
+-- an Assign that is outstanding names a seven-bit address, an identifier of two halves that is bound nowhere, and, if that is movable, a free address
+pub record Pending (s : Controller) (u : Udid) (a : ℕ) : Type 0 where
+  pub small : a < 128
+  pub unbound : Unbound u (s .slots)
+  pub fits : Fits u
+  pub free : isFixed u ≡ false → member (s .pool) a ≡ false
+
+abbrev pub PendingIn : Controller → Command → Type 0
+PendingIn s Nothing = Unit
+PendingIn s Prepare = Unit
+PendingIn s GetUdid = Unit
+PendingIn s (Assign u a) = Pending s u (a .0)
+PendingIn s Ended = Unit
+PendingIn s (NoneFree u) = Unit
+PendingIn s Abandoned = Unit
+PendingIn s NotOutstanding = Unit
+
+abbrev pub GoodState : Pool → Controller → Type 0
+GoodState occupied s = Good occupied s × PendingIn s (s .last)

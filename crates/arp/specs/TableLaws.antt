@@ -1,0 +1,245 @@
+-- Each step changes what is bound and what the pool has as its event says. So in every state that is reached these are what the table of the
+-- events says (specs/Replay.antt).
+use Prim.Native.Nat.{ℕ, _<_}
+use mathlib.Core.Path.{_≡_, refl, sym, ap, ap₂, _∙_, fun-ext}
+use mathlib.Core.Bool.{Bool, true, false}
+use mathlib.Core.List.{List, [], _∷_}
+use mathlib.Core.Logic.{_⊎_, inl, inr}
+use native.Mathlib.Decide.{ℕ-discrete, decLt}
+use native.Mathlib.Omega.{arith}
+use lib.Dec.{ltb, leb, eqb}
+use lib.ListN.{length, getD, set}
+use borrow.Author.Tests.{lt-ltb, le-ltb, eq-eqb, ne-eqb}
+use Rattle.lists.specs.Choice.{pick}
+use Rattle.trace.specs.declared.transaction.Transaction.{Transaction}
+use Rattle.step.specs.declared.answer.Decoded.{Decoded}
+use Rattle.step.specs.declared.answer.Decoded.the-variants.{Done, Forbidden, BufferTooShort, NoSymbol, EndsEarly, Unexpected, NotAcknowledged, PecDiffers, AfterStop}
+use Rattle.pool.specs.MemberLaws.{has-with-same, has-with-other, has-without-same, has-without-other}
+use Rattle.pool.specs.Pools.{member, withAddress, withoutAddress}
+use Rattle.pool.specs.Start.{startingPool}
+use Rattle.pool.specs.declared.Pool.{Pool}
+use Rattle.pool.specs.declared.free.Free.{Free}
+use Rattle.pool.specs.declared.free.Free.the-variants.{At, AllUsed}
+use Rattle.udid.specs.Bytes.{udidAt}
+use Rattle.udid.specs.declared.Udid.{Udid}
+use Rattle.arp.specs.HistoryLaws.{reached-good}
+use Rattle.arp.specs.LookupLaws.{lookup-number}
+use Rattle.arp.specs.OutstandingLaws.{same-reading, last-is-handed-out}
+use Rattle.arp.specs.ReadingLaws.{is-assign-below-128}
+use Rattle.arp.specs.SoundLaws.{held-same, held-other, held-above-is-open, bound-to-is-bound, open-all, find-cases}
+use Rattle.arp.specs.Sound.{SoundIn, Nowhere, PendingIn}
+use Rattle.arp.specs.Bindings.{openSlot, heldAt, boundTo, findFrom, freedAt, freed, slotFor, boundAt, bound}
+use Rattle.arp.specs.Controller.{newController, started, handed, counted, asked, chosen, issued, replied, onReply, onPrepare, onGet, onAssign, afterPrepare, afterGet, afterAssign, byCommand, stepped}
+use Rattle.arp.specs.Heard.{sendByte, blockRead, blockWrite, answer, sentIn, receivedIn, isPrepare, isGet, isAssign}
+use Rattle.arp.specs.History.{Event, Start, Received, run}
+use Rattle.arp.specs.Lookup.{lookedUp}
+use Rattle.arp.specs.Numbers.{lookupNumber}
+use Rattle.arp.specs.Replay.{Happened, Replied, Assigned, Other, Table, holds, emptied, after, replyIn, assignIn, readAs, handedOut, table, numberOf, view}
+use Rattle.arp.specs.declared.command.Command.{Command}
+use Rattle.arp.specs.declared.command.Command.the-variants.{Nothing, Prepare, GetUdid, Assign, Ended, NoneFree, Abandoned, NotOutstanding}
+use Rattle.arp.specs.declared.state.Binding.{Binding}
+use Rattle.arp.specs.declared.state.Binding.the-variants.{Open, Bound, Claimed}
+use Rattle.arp.specs.declared.state.Controller.{Controller}
+
+tables : (t r : Table) → ((a : ℕ) → t .held a ≡ r .held a) → ((a : ℕ) → t .used a ≡ r .used a) → t ≡ r
+tables t r h u = ap₂ (λ (x : ℕ → Binding) (y : ℕ → Bool). record { held = x; used = y }) (fun-ext h) (fun-ext u)
+
+holds-is : (u : Udid) (h : Binding) → holds u h ≡ boundTo u h
+holds-is u Open = refl
+holds-is u (Bound v) = refl
+holds-is u Claimed = refl
+
+-- ---- what leaves the table as it is
+
+asked-view : (s : Controller) → view (asked s .state) ≡ view s
+unfolding asked
+asked-view s = go (leb 128 (s .gets))
+  where
+    go : (b : Bool) → view (pick b (handed s Abandoned) (handed (counted s) GetUdid) .state) ≡ view s
+    go true = refl
+    go false = refl
+
+issued-view : (s : Controller) (u : Udid) (k : Free) → view (issued s u k .state) ≡ view s
+issued-view s u (At a) = refl
+issued-view s u AllUsed = refl
+
+-- ---- a reply
+
+module _ (starting : ℕ → Bool) (s : Controller) (v : SoundIn s) (u : Udid) where
+  -- bound nowhere: nothing changes
+  none-held : Nowhere u (s .slots) 0 → (a : ℕ) → holds u (heldAt (s .slots) a) ≡ false
+  none-held n a = holds-is u (heldAt (s .slots) a) ∙ go (decLt a 128)
+    where
+      go : Dec (a < 128) → boundTo u (heldAt (s .slots) a) ≡ false
+      go (yes h) = n a (omega arith) h
+      go (no h) = ap (boundTo u) (held-above-is-open (s .slots) a (v .size) (omega arith))
+
+  reply-none : Nowhere u (s .slots) 0 → view s ≡ after starting (Replied u) (view s)
+  reply-none n = tables (view s) (after starting (Replied u) (view s))
+      (λ a. ap (λ (b : Bool). pick b Open (heldAt (s .slots) a)) (sym (none-held n a)))
+      (λ a. ap (λ (b : Bool). pick b false (member (s .pool) a)) (sym (none-held n a)))
+
+  module _ (f : ℕ) (h : f < 128) (e : boundTo u (heldAt (s .slots) f) ≡ true) where
+    here : heldAt (s .slots) f ≡ Bound u
+    here = bound-to-is-bound u (heldAt (s .slots) f) e
+
+    there : (a : ℕ) → (a ≡ f → ⊥) → holds u (heldAt (s .slots) a) ≡ false
+    there a n = go (holds u (heldAt (s .slots) a)) refl
+      where
+        go : (b : Bool) → holds u (heldAt (s .slots) a) ≡ b → holds u (heldAt (s .slots) a) ≡ false
+        go false q = q
+        go true q = absurd (n (v .once a f u (bound-to-is-bound u (heldAt (s .slots) a) (sym (holds-is u (heldAt (s .slots) a)) ∙ q)) here))
+
+    held-then : (a : ℕ) → Dec (a ≡ f) → heldAt (set (s .slots) f openSlot) a ≡ pick (holds u (heldAt (s .slots) a)) Open (heldAt (s .slots) a)
+    held-then a (yes q) =
+        ap (heldAt (set (s .slots) f openSlot)) q ∙ held-same (s .slots) f openSlot (omega (arith, v .size))
+        ∙ ap (λ (b : Bool). pick b Open (heldAt (s .slots) a)) (sym (ap (λ (x : ℕ). holds u (heldAt (s .slots) x)) q ∙ holds-is u (heldAt (s .slots) f) ∙ e))
+    held-then a (no n) = held-other (s .slots) f a openSlot n ∙ ap (λ (b : Bool). pick b Open (heldAt (s .slots) a)) (sym (there a n))
+
+    used-then : (a : ℕ) → Dec (a ≡ f) → member (withoutAddress (s .pool) f) a ≡ pick (holds u (heldAt (s .slots) a)) false (member (s .pool) a)
+    used-then a (yes q) =
+        ap (member (withoutAddress (s .pool) f)) q ∙ has-without-same (s .pool) f
+        ∙ ap (λ (b : Bool). pick b false (member (s .pool) a)) (sym (ap (λ (x : ℕ). holds u (heldAt (s .slots) x)) q ∙ holds-is u (heldAt (s .slots) f) ∙ e))
+    used-then a (no n) = has-without-other (s .pool) f a n ∙ ap (λ (b : Bool). pick b false (member (s .pool) a)) (sym (there a n))
+
+    reply-there : view (freedAt s f) ≡ after starting (Replied u) (view s)
+    reply-there = tables (view (freedAt s f)) (after starting (Replied u) (view s)) (λ a. held-then a (ℕ-discrete a f)) (λ a. used-then a (ℕ-discrete a f))
+
+  pub freed-as-replied : view (freed s u) ≡ after starting (Replied u) (view s)
+  unfolding freed
+  freed-as-replied = go (findFrom u (s .slots) 128 0) (find-cases u (s .slots) 128 0 (omega arith))
+    where
+      go : (f : ℕ) → ((f ≡ 128) × Nowhere u (s .slots) 0) ⊎ ((f < 128) × (boundTo u (heldAt (s .slots) f) ≡ true))
+          → view (pick (ltb 127 f) s (freedAt s f)) ≡ after starting (Replied u) (view s)
+      go f (inl r) = ap (λ (b : Bool). view (pick b s (freedAt s f))) (lt-ltb 127 f (omega (arith, r .0))) ∙ reply-none (r .1)
+      go f (inr r) = ap (λ (b : Bool). view (pick b s (freedAt s f))) (le-ltb 127 f (omega (arith, r .0))) ∙ reply-there f (r .0) (r .1)
+
+  replied-view : (b : ℕ) → view (replied s u b .state) ≡ after starting (Replied u) (view s)
+  unfolding replied
+  replied-view b = issued-view (freed s u) u (chosen (freed s u .pool) u b) ∙ freed-as-replied
+
+-- ---- a complete Assign
+
+module _ (starting : ℕ → Bool) (s : Controller) (u : Udid) (b : ℕ) (l : length (s .slots) ≡ 128) (h : b < 128) where
+  slot-held : (t : Bool) → slotFor t u .held ≡ pick t Claimed (Bound u)
+  slot-held true = refl
+  slot-held false = refl
+
+  held-bound : (a : ℕ) → Dec (a ≡ b)
+      → heldAt (set (s .slots) b (slotFor (member (s .pool) b) u)) a ≡ pick (eqb a b) (pick (member (s .pool) b) Claimed (Bound u)) (heldAt (s .slots) a)
+  held-bound a (yes q) =
+      ap (heldAt (set (s .slots) b (slotFor (member (s .pool) b) u))) q
+      ∙ held-same (s .slots) b (slotFor (member (s .pool) b) u) (omega (arith, l))
+      ∙ slot-held (member (s .pool) b)
+      ∙ ap (λ (x : Bool). pick x (pick (member (s .pool) b) Claimed (Bound u)) (heldAt (s .slots) a)) (sym (eq-eqb a b q))
+  held-bound a (no n) =
+      held-other (s .slots) b a (slotFor (member (s .pool) b) u) n
+      ∙ ap (λ (x : Bool). pick x (pick (member (s .pool) b) Claimed (Bound u)) (heldAt (s .slots) a)) (sym (ne-eqb a b n))
+
+  used-bound : (a : ℕ) → Dec (a ≡ b) → member (withAddress (s .pool) b) a ≡ pick (eqb a b) true (member (s .pool) a)
+  used-bound a (yes q) =
+      ap (member (withAddress (s .pool) b)) q ∙ has-with-same (s .pool) b h
+      ∙ ap (λ (x : Bool). pick x true (member (s .pool) a)) (sym (eq-eqb a b q))
+  used-bound a (no n) = has-with-other (s .pool) b a n ∙ ap (λ (x : Bool). pick x true (member (s .pool) a)) (sym (ne-eqb a b n))
+
+  bound-view : view (bound s u b) ≡ after starting (Assigned u b) (view s)
+  unfolding bound
+  bound-view =
+      ap (λ (x : Bool). view (pick x s (boundAt s u b))) (le-ltb 127 b (omega arith))
+      ∙ tables (view (boundAt s u b)) (after starting (Assigned u b) (view s)) (λ a. held-bound a (ℕ-discrete a b)) (λ a. used-bound a (ℕ-discrete a b))
+
+-- ---- each trace
+
+module _ (starting : ℕ → Bool) (s : Controller) (v : SoundIn s) where
+  prepare-view : (d : Decoded) (xs : List ℕ) → view (onPrepare s d xs .state) ≡ view s
+  prepare-view (Done t) xs = go (isPrepare t xs)
+    where
+      go : (q : Bool) → view (pick q (asked s) (handed s Abandoned) .state) ≡ view s
+      go true = asked-view s
+      go false = refl
+  prepare-view (NotAcknowledged b) xs = refl
+  prepare-view Forbidden xs = refl
+  prepare-view BufferTooShort xs = refl
+  prepare-view (NoSymbol k) xs = refl
+  prepare-view (EndsEarly k) xs = refl
+  prepare-view (Unexpected k) xs = refl
+  prepare-view (PecDiffers k) xs = refl
+  prepare-view (AfterStop k) xs = refl
+
+  reply-view : (t : Transaction) (xs : List ℕ) → view (onReply s t xs .state) ≡ after starting (replyIn (Done t) xs) (view s)
+  unfolding onReply
+  reply-view t xs = go (isGet t) (eqb (t .received) 17)
+    where
+      go : (p q : Bool) → view (pick p (pick q (replied s (udidAt xs 0) (getD xs 16 0)) (handed s Ended)) (asked s) .state)
+          ≡ after starting (pick p (pick q (Replied (udidAt xs 0)) Other) Other) (view s)
+      go true true = replied-view starting s v (udidAt xs 0) (getD xs 16 0)
+      go true false = refl
+      go false q = asked-view s
+
+  get-view : (d : Decoded) (xs : List ℕ) → view (onGet s d xs .state) ≡ after starting (replyIn d xs) (view s)
+  get-view (Done t) xs = reply-view t xs
+  get-view (NotAcknowledged b) xs = go (ltb b 3)
+    where
+      go : (q : Bool) → view (pick q (handed s Ended) (asked s) .state) ≡ view s
+      go true = refl
+      go false = asked-view s
+  get-view Forbidden xs = asked-view s
+  get-view BufferTooShort xs = asked-view s
+  get-view (NoSymbol k) xs = asked-view s
+  get-view (EndsEarly k) xs = asked-view s
+  get-view (Unexpected k) xs = asked-view s
+  get-view (PecDiffers k) xs = asked-view s
+  get-view (AfterStop k) xs = asked-view s
+
+  module _ (u : Udid) (n : ℕ) (h : n < 128) where
+    assign-view : (d : Decoded) (xs : List ℕ) → view (onAssign s u n d xs .state) ≡ after starting (assignIn u n d xs) (view s)
+    assign-view (Done t) xs =
+        go (isAssign u n t xs) ∙ ap (λ (q : Bool). after starting (pick q (Assigned u n) Other) (view s)) (is-assign-below-128 u n h t xs)
+      where
+        go : (q : Bool) → view (pick q (asked (bound s u n)) (asked s) .state) ≡ after starting (pick q (Assigned u n) Other) (view s)
+        go true = asked-view (bound s u n) ∙ bound-view starting s u n (v .size) h
+        go false = asked-view s
+    assign-view (NotAcknowledged b) xs = asked-view s
+    assign-view Forbidden xs = asked-view s
+    assign-view BufferTooShort xs = asked-view s
+    assign-view (NoSymbol k) xs = asked-view s
+    assign-view (EndsEarly k) xs = asked-view s
+    assign-view (Unexpected k) xs = asked-view s
+    assign-view (PecDiffers k) xs = asked-view s
+    assign-view (AfterStop k) xs = asked-view s
+
+  step-view : PendingIn s (s .last) → (tr : List ℕ) → view (stepped s tr .state) ≡ after starting (readAs (s .last) tr) (view s)
+  unfolding stepped afterPrepare afterGet afterAssign
+  step-view p tr = go (s .last) p
+    where
+      go : (k : Command) → PendingIn s k → view (byCommand s tr k .state) ≡ after starting (readAs k tr) (view s)
+      go Nothing q = refl
+      go Prepare q = prepare-view (answer sendByte tr) (sentIn sendByte tr)
+      go GetUdid q = get-view (answer blockRead tr) (receivedIn blockRead tr)
+      go (Assign u a) q = assign-view u (a .0) (q .small) (answer blockWrite tr) (sentIn blockWrite tr)
+      go Ended q = refl
+      go (NoneFree u) q = refl
+      go Abandoned q = refl
+      go NotOutstanding q = refl
+
+-- ---- EVERY STATE
+
+pub view-is-table : (occupied : Pool) (es : List Event) → view (run occupied es) ≡ table occupied es
+unfolding run table
+view-is-table occupied [] = tables (view (newController occupied)) (emptied (member (startingPool occupied))) open-all (λ a. refl)
+view-is-table occupied (Start ∷ es) =
+    tables (view (started (run occupied es) .state)) (emptied (member (startingPool occupied))) open-all
+    (λ a. ap (λ (p : Pool). member p a) (reached-good occupied es .0 .starting))
+view-is-table occupied (Received tr ∷ es) =
+    step-view (member (startingPool occupied)) (run occupied es) (reached-good occupied es .0 .sound) (reached-good occupied es .1) tr
+    ∙ ap (λ (x : Happened). after (member (startingPool occupied)) x (view (run occupied es))) (same-reading (run occupied es .last) (handedOut occupied es) tr (last-is-handed-out occupied es))
+    ∙ ap (after (member (startingPool occupied)) (readAs (handedOut occupied es) tr)) (view-is-table occupied es)
+
+-- THE CONTROLLER BY ITS HISTORY: what each address is known for, and whether the pool has it, is what the events give
+pub addresses-by-table : (occupied : Pool) (es : List Event) (a : ℕ)
+    → (heldAt (run occupied es .slots) a ≡ table occupied es .held a) × (member (run occupied es .pool) a ≡ table occupied es .used a)
+addresses-by-table occupied es a = (ap (λ (t : Table). t .held a) (view-is-table occupied es), ap (λ (t : Table). t .used a) (view-is-table occupied es))
+
+-- in the scope's numbers: lookup answers 0 with the identifier, 15 or 16 as the events give it
+pub lookup-by-table : (occupied : Pool) (es : List Event) (a : ℕ) → a < 128 → lookupNumber (lookedUp (run occupied es) a) ≡ numberOf (table occupied es .held a)
+lookup-by-table occupied es a h = lookup-number (run occupied es) a h ∙ ap numberOf (addresses-by-table occupied es a .0)
