@@ -39,7 +39,7 @@ module _ (protocol : ℕ) (tr sent₀ received₀ : List ℕ) (d : Decoded) (sen
 
   -- the answer is the one that is heard
   pub answer-is-heard : d ≡ answer protocol tr
-  answer-is-heard = other-numbers protocol true tr sent₀ received₀ d sent received o f long
+  answer-is-heard = answer-by-trace protocol true tr sent₀ received₀ d sent received o f long
 
   -- and the data stand at the fronts of the buffers
   pub sent-is-heard : sent ≡ onto (sentIn protocol tr) sent₀

@@ -11,7 +11,8 @@ use lib.ListN.{length, getD, set, length-append}
 use lib.Seq.{getD-at}
 use borrow.Author.Tests.{lt-ltb, le-ltb, lt-leb, le-leb}
 use Rattle.lists.specs.Choice.{pick}
-use Rattle.lists.specs.Each.{Bytes, append-bytes}
+use Rattle.lists.specs.Each.{Bytes}
+use Rattle.lists.specs.EachLaws.{append-bytes}
 use Rattle.wire.specs.declared.address.Address.{Address}
 use Rattle.step.specs.declared.answer.Decoded.{Decoded}
 use Rattle.step.specs.declared.answer.Decoded.the-variants.{Done, Forbidden, BufferTooShort, NoSymbol, EndsEarly, Unexpected, NotAcknowledged, PecDiffers, AfterStop}

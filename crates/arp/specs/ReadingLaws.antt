@@ -12,7 +12,8 @@ use lib.ListN.{length, getD, length-append}
 use lib.Seq.{getD-at}
 use borrow.Author.Tests.{eq-eqb, eqb-true}
 use Rattle.lists.specs.Choice.{pick, and}
-use Rattle.lists.specs.Each.{Bytes, append-bytes}
+use Rattle.lists.specs.Each.{Bytes}
+use Rattle.lists.specs.EachLaws.{append-bytes}
 use Rattle.wire.specs.declared.address.Address.{Address}
 use Rattle.trace.specs.declared.transaction.Transaction.{Transaction}
 use Rattle.step.specs.Answers.{summary}

@@ -7,10 +7,11 @@ use native.Mathlib.Nat.{mod-eq-of-lt}
 use native.Mathlib.Omega.{arith}
 use lib.ListN.{length, getD, drop, length-append, length-drop}
 use lib.Seq.{split-at}
-use Rattle.lists.specs.Each.{Bytes, append-bytes}
+use Rattle.lists.specs.Each.{Bytes}
+use Rattle.lists.specs.EachLaws.{append-bytes}
 use Rattle.wire.specs.Pec.{bitStep, pecStep, pecFrom, pecOf}
 use Rattle.wire.specs.declared.address.Address.{Address}
-use Rattle.trace.specs.Rows.{rows}
+use Rattle.trace.specs.RowsLaws.{rows}
 use Rattle.trace.specs.Lengths.{traceLength}
 use Rattle.trace.specs.LengthLaws.{trace-length}
 use Rattle.trace.specs.Shapes.{shapeOf}

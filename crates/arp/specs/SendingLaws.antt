@@ -21,7 +21,7 @@ use Rattle.trace.specs.Trace.{Valid, Message, acked}
 use Rattle.trace.specs.DataFits.{DataFits, quick, send-byte, receive-byte, write-byte, write-word, read-byte, read-word, process-call, block-write, block-read, block-process-call}
 use Rattle.trace.specs.LengthLaws.{length-acked}
 use Rattle.encode.specs.Encode.{symbolsOf, Wrote, encodeNumber}
-use Rattle.encode.specs.EncodeMeans.{written-valid, unique, answer-1, answer-2, refusal-untouched}
+use Rattle.encode.specs.EncodeLaws.{written-valid, one-outcome, answer-1, answer-2, refusal-untouched}
 use Rattle.encode.specs.Listed.{Listed, protocol-above-10, address-above-127, direction-above-1, quick-with-pec, lacking-command, lacking-direction, forbidden-length}
 use Rattle.encode.specs.declared.Encoded.{Encoded}
 use Rattle.encode.specs.declared.Encoded.the-variants.{Written}
@@ -66,7 +66,7 @@ assign-sent u a reply before r after h w room =
 -- one answer and one output alone
 pub sending-is-unique : (k : Command) (reply before : List ℕ) (r q : Encoded) (after later : List ℕ) → Wrote (protocolFor k) true (messageOf k reply) before r after
     → Wrote (protocolFor k) true (messageOf k reply) before q later → (r ≡ q) × (after ≡ later)
-sending-is-unique k reply before r q after later w v = unique (protocolFor k) true (messageOf k reply) before r q after later w v
+sending-is-unique k reply before r q after later w v = one-outcome (protocolFor k) true (messageOf k reply) before r q after later w v
 
 -- ---- number 1
 

@@ -13,7 +13,8 @@ use Rattle.lists.specs.Choice.{pick}
 use Rattle.lists.specs.Each.{Bytes}
 use Rattle.wire.specs.Addresses.{defaultAddress}
 use Rattle.wire.specs.declared.address.Address.{Address}
-use Rattle.trace.specs.ShapeLaws.{sane, both-true}
+use Rattle.lists.specs.ChoiceLaws.{both-true}
+use Rattle.trace.specs.ShapeLaws.{sane}
 use Rattle.trace.specs.Shapes.{shapeOf}
 use Rattle.trace.specs.Trace.{Message, trace, Valid}
 use Rattle.trace.specs.declared.transaction.Transaction.{Transaction}
