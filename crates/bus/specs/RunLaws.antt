@@ -1,9 +1,10 @@
--- The model run by its cases.
+-- The model run by its cases, and that it has one answer.
 use Prim.Native.Nat.{ℕ, _≤_, _<_}
 use mathlib.Core.Path.{_≡_, refl, sym, ap, _∙_, subst}
 use mathlib.Core.List.{List}
 use lib.ListN.{length}
 use borrow.Author.Tests.{lt-ltb, le-ltb}
+use Rattle.lists.specs.UniqueLaws.{one-answer}
 use Rattle.pool.specs.Start.{startingPool}
 use Rattle.pool.specs.declared.Pool.{Pool}
 use Rattle.targets.specs.Numbers.{answerOf}
@@ -52,3 +53,10 @@ module _ (occupied : Pool) (s b : List ℕ) where
   pub leaves-run : (r : ModelAnswer) (s′ b′ : List ℕ) → 2048 ≤ length b → checkedList (startingPool occupied) s ≡ Admitted → Leaves (endedEnd (pass occupied (targetsOf s)) s b) r s′ b′
       → Leaves (modelEnd occupied s b) r s′ b′
   leaves-run r s′ b′ h e v = subst (λ (x : ModelEnd). Leaves x r s′ b′) (sym (end-checked Admitted h e)) v
+
+-- ---- one answer, one content of the records, one of the binding buffer
+
+pub one-model : (occupied : Pool) (s b : List ℕ) (r q : ModelAnswer) (s′ t′ b′ c′ : List ℕ) → Leaves (modelEnd occupied s b) r s′ b′ → Leaves (modelEnd occupied s b) q t′ c′
+    → (r ≡ q) × (s′ ≡ t′) × (b′ ≡ c′)
+one-model occupied s b r q s′ t′ b′ c′ v w =
+    (one-answer (v .answered) (w .answered), one-answer (v .records-hold) (w .records-hold), one-answer (v .bindings-hold) (w .bindings-hold))

@@ -3,3 +3,4 @@ pub mod ChoiceLaws
 pub mod Onto
 pub mod Each
 pub mod ListLaws
+pub mod UniqueLaws

@@ -6,3 +6,4 @@ pub mod WordsLaws
 pub mod Pec
 pub mod PecLaws
 pub mod PecDivision
+pub mod UniqueLaws
