@@ -42,11 +42,12 @@ use Rattle.arp.specs.declared.command.Command.the-variants.{Nothing, Prepare, G
 use Rattle.arp.specs.declared.state.Controller.{Controller}
 use Rattle.arp.specs.declared.state.Stepped.{Stepped}
 use Rattle.rule.specs.Acknowledge.{onBus}
-use Rattle.rule.specs.Bus.{World, reached, sentTo, turnBy, turn, run, beginning, pass}
+use Rattle.rule.specs.Bus.{World, reached, took, turn, run, beginning, pass}
+use Rattle.rule.specs.BusLaws.{turn-still, turn-takes}
 use Rattle.rule.specs.EffectLaws.{acted}
 use Rattle.rule.specs.TraceLaws as on-bus
 use Rattle.rule.specs.StepLaws.{prepare-unheard, get-unheard, get-replied}
-use Rattle.bus.specs.Turn.{Fit, Reaches, isSent, silence, worldOf, Going, Matches}
+use Rattle.bus.specs.Turn.{Fit, Reaches, isSent, silence, worldOf, sentTo, Going, Matches}
 use Rattle.bus.specs.TurnLaws.{get-silence, same-records, reached-is}
 
 -- ---- what is handed out reaches somebody
@@ -154,38 +155,39 @@ going-next st r s after b f g e m =
       reaches = subst (λ (ts : List Target). Reaches (r .command) ts) (sym (m .targets ∙ reached-is (st .command) s b (g .reaches))) (subst (λ (y : Stepped). Reaches (y .command) (acted (st .command) (targetsOf s))) (sym (m .controller)) (x .1));
     }
 
-turn-sent : (st : Stepped) (ts : List Target) (k : Command) → isSent k ≡ true → turnBy st ts k ≡ sentTo st ts k
+-- what is sent is taken by the controller and by the targets
+turn-sent : (st : Stepped) (ts : List Target) (k : Command) → isSent k ≡ true → took st ts (onBus k ts) ≡ sentTo st ts k
 turn-sent st ts k e = go k e
   where
-    never : (w : World) → false ≡ true → record { now = st; targets = ts } ≡ w
-    never w q = absurd (let z : _≡_ {A = ℕ} 0 1 = cc q in omega arith)
+    never : (k : Command) → false ≡ true → took st ts (onBus k ts) ≡ sentTo st ts k
+    never k q = absurd (let z : _≡_ {A = ℕ} 0 1 = cc q in omega arith)
 
-    go : (k : Command) → isSent k ≡ true → turnBy st ts k ≡ sentTo st ts k
-    go Prepare i = refl
-    go GetUdid i = refl
-    go (Assign u a) i = refl
-    go Nothing i = never _ i
-    go Ended i = never _ i
-    go (NoneFree u) i = never _ i
-    go Abandoned i = never _ i
-    go NotOutstanding i = never _ i
+    go : (k : Command) → isSent k ≡ true → took st ts (onBus k ts) ≡ sentTo st ts k
+    go Prepare i = turn-takes st ts Prepare refl
+    go GetUdid i = turn-takes st ts GetUdid refl
+    go (Assign u a) i = turn-takes st ts (Assign u a) refl
+    go Nothing i = never Nothing i
+    go Ended i = never Ended i
+    go (NoneFree u) i = never (NoneFree u) i
+    go Abandoned i = never Abandoned i
+    go NotOutstanding i = never NotOutstanding i
 
 -- an end stays
-turn-ended : (st : Stepped) (ts : List Target) (k : Command) → isSent k ≡ false → turnBy st ts k ≡ record { now = st; targets = ts }
+turn-ended : (st : Stepped) (ts : List Target) (k : Command) → isSent k ≡ false → took st ts (onBus k ts) ≡ record { now = st; targets = ts }
 turn-ended st ts k e = go k e
   where
-    never : (w : World) → true ≡ false → w ≡ record { now = st; targets = ts }
-    never w q = absurd (let z : _≡_ {A = ℕ} 0 1 = cc q in omega arith)
+    never : (k : Command) → true ≡ false → took st ts (onBus k ts) ≡ record { now = st; targets = ts }
+    never k q = absurd (let z : _≡_ {A = ℕ} 0 1 = cc q in omega arith)
 
-    go : (k : Command) → isSent k ≡ false → turnBy st ts k ≡ record { now = st; targets = ts }
-    go Prepare i = never _ i
-    go GetUdid i = never _ i
-    go (Assign u a) i = never _ i
-    go Nothing i = refl
-    go Ended i = refl
-    go (NoneFree u) i = refl
-    go Abandoned i = refl
-    go NotOutstanding i = refl
+    go : (k : Command) → isSent k ≡ false → took st ts (onBus k ts) ≡ record { now = st; targets = ts }
+    go Prepare i = never Prepare i
+    go GetUdid i = never GetUdid i
+    go (Assign u a) i = never (Assign u a) i
+    go Nothing i = turn-still st ts Nothing refl
+    go Ended i = turn-still st ts Ended refl
+    go (NoneFree u) i = turn-still st ts (NoneFree u) refl
+    go Abandoned i = turn-still st ts Abandoned refl
+    go NotOutstanding i = turn-still st ts NotOutstanding refl
 
 run-still : (n : ℕ) (w : World) → isSent (w .now .command) ≡ false → run n w ≡ w
 run-still zero w e = refl

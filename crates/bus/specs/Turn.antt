@@ -11,12 +11,14 @@ use Rattle.arbitration.specs.Among.{Among}
 use Rattle.targets.specs.Cases.{RepeatedAt, None}
 use Rattle.targets.specs.Records.{recordCount, targetsOf, recordsWith}
 use Rattle.targets.specs.Target.{Target}
+use Rattle.arp.specs.Controller.{stepped}
 use Rattle.arp.specs.SendingLaws.{Sent}
 use Rattle.arp.specs.Requests.{protocolFor, messageOf}
 use Rattle.arp.specs.declared.command.Command.{Command}
 use Rattle.arp.specs.declared.command.Command.the-variants.{Nothing, Prepare, GetUdid, Assign, Ended, NoneFree, Abandoned, NotOutstanding}
 use Rattle.arp.specs.declared.state.Stepped.{Stepped}
-use Rattle.rule.specs.Bus.{World}
+use Rattle.rule.specs.Acknowledge.{onBus}
+use Rattle.rule.specs.Bus.{World, reached}
 
 -- records that a pass can run over: whole ones, no identifier twice
 pub record Fit (s : List ℕ) : Type 0 where
@@ -56,6 +58,10 @@ Writes k reply before =
 -- the world over the targets of the records
 abbrev pub worldOf : Stepped → List ℕ → World
 worldOf st s = record { now = st; targets = targetsOf s }
+
+-- a command on the bus: the controller's step takes the trace that stands there, and so does each target
+abbrev pub sentTo : Stepped → List Target → Command → World
+sentTo s ts k = record { now = stepped (s .state) (onBus k ts); targets = reached (onBus k ts) ts }
 
 -- the command that is out is the state's, and it reaches somebody
 pub record Going (st : Stepped) (s : List ℕ) : Type 0 where

@@ -34,6 +34,7 @@ use Rattle.arp.specs.declared.command.Command.the-variants.{Prepare}
 use Rattle.arp.specs.declared.state.Slot.{Slot}
 use Rattle.arp.specs.declared.state.Stepped.{Stepped}
 use Rattle.rule.specs.Bus.{World, turn, run, beginning, pass}
+use Rattle.rule.specs.BusLaws.{turn-takes}
 use Rattle.rule.specs.PlainRule.{insert, ascending, plainChoice, Ending, served, noneFree, Given, Ruled, next, rule, ruled, FreeIn, Distinct}
 use Rattle.rule.specs.PassEnd.{Outcome, state, out, boundSlot, ended, outcome, nobodyThere, passEnd}
 use Rattle.rule.specs.EffectLaws.{effect-is}
@@ -179,14 +180,16 @@ module _ (occupied : Pool) where
   first-turn : (t : Target) (ts : List Target) → AdmittedTargets start (t ∷ ts) → turn (beginning occupied (t ∷ ts)) ≡ asking start start (replicate 128 openSlot) 1 (cleared (t ∷ ts))
   unfolding start
   first-turn t ts v =
-      ap₂ (λ (x : Stepped) (us : List Target). record { now = x; targets = us })
+      turn-takes (beginning occupied (t ∷ ts) .now) (t ∷ ts) Prepare refl
+      ∙ ap₂ (λ (x : Stepped) (us : List Target). record { now = x; targets = us })
       (ap (stepped (state start start (replicate 128 openSlot) 0 Prepare)) (on-bus.prepare-whole t ts) ∙ prepare-done start start (replicate 128 openSlot))
       (effect-is Prepare (t ∷ ts) tt (λ x m. v .sized x m .udid))
 
   nobody-turn : turn (beginning occupied []) ≡ nobodyThere start
   unfolding start
   nobody-turn =
-      ap (λ (x : Stepped). record { now = x; targets = [] })
+      turn-takes (beginning occupied [] .now) [] Prepare refl
+      ∙ ap (λ (x : Stepped). record { now = x; targets = [] })
       (ap (stepped (state start start (replicate 128 openSlot) 0 Prepare)) on-bus.prepare-cut ∙ prepare-silent start start (replicate 128 openSlot))
 
   some-targets : (t : Target) (ts : List Target) → AdmittedTargets start (t ∷ ts) → run 300 (beginning occupied (t ∷ ts)) ≡ passEnd start (t ∷ ts)

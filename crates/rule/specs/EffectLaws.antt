@@ -28,6 +28,7 @@ use Rattle.arp.specs.Requests.{traceOf}
 use Rattle.arp.specs.declared.command.Command.{Command}
 use Rattle.arp.specs.declared.command.Command.the-variants.{Nothing, Prepare, GetUdid, Assign, Ended, NoneFree, Abandoned, NotOutstanding}
 use Rattle.rule.specs.Acknowledge.{begins, acknowledges, somebody, answered, standing, sentPart, onBus}
+use Rattle.rule.specs.AcknowledgeLaws.{assign-stop}
 use Rattle.rule.specs.Effect.{preparing, assigning, addressIn, same, effect}
 use Rattle.rule.specs.TraceLaws as on-bus
 
@@ -226,7 +227,7 @@ assign-only : (u : Udid) (a : Address) (ts : List Target) (id : List ℕ) (b : �
 unfolding onBus standing same
 assign-only u a ts id b h l g q =
     let w : onBus (Assign u a) ts ≡ traceOf (Assign u a) [] =
-    answered-quiet (λ (sent : List ℕ). somebody (acknowledges sent) ts) [] (sentPart (Assign u a)) (STOP ∷ []) (subst Quiet (sym q) (quiet-assigning id b h g)) in
+    answered-quiet (λ (sent : List ℕ). somebody (acknowledges sent) ts) [] (sentPart (Assign u a)) (STOP ∷ []) (subst Quiet (sym q) (quiet-assigning id b h g)) ∙ assign-stop u a in
     let r : assigning (udidBytes u) (2 * (a .0 % 128)) ≡ assigning id b = sym (assign-row u a) ∙ sym w ∙ q in
     sym (identifier-in (udidBytes u) (2 * (a .0 % 128)) (length-udid u)) ∙ ap (λ (x : List ℕ). bytesIn 16 (drop 7 x)) r ∙ identifier-in id b l
 

@@ -4,6 +4,8 @@ pub mod Bus
 pub mod PlainRule
 pub mod EndAnswer
 pub mod PassEnd
+pub mod AcknowledgeLaws
+pub mod BusLaws
 pub mod TraceLaws
 pub mod EffectLaws
 pub mod SortLaws

@@ -30,6 +30,7 @@ use Rattle.arp.specs.declared.state.Slot.{Slot}
 use Rattle.arp.specs.declared.state.Stepped.{Stepped}
 use Rattle.rule.specs.Acknowledge.{onBus}
 use Rattle.rule.specs.Bus.{World, run}
+use Rattle.rule.specs.BusLaws.{turn-still, turn-takes}
 use Rattle.rule.specs.PlainRule.{Ending, served, noneFree, plainChoice}
 use Rattle.rule.specs.PassEnd.{lastCommand, Outcome, state, out, boundSlot, ended}
 use Rattle.rule.specs.EffectLaws.{effect-is}
@@ -108,8 +109,9 @@ world x ts = record { now = x; targets = ts }
 pub run-ended : (n : ℕ) (b p : Pool) (s : List Slot) (m : ℕ) (e : Ending) (ts : List Target)
     → run n (record { now = out b p s m (lastCommand e); targets = ts }) ≡ record { now = out b p s m (lastCommand e); targets = ts }
 run-ended zero b p s m e ts = refl
-run-ended (suc n) b p s m served ts = run-ended n b p s m served ts
-run-ended (suc n) b p s m (noneFree u) ts = run-ended n b p s m (noneFree u) ts
+run-ended (suc n) b p s m served ts = ap (run n) (turn-still (out b p s m (lastCommand served)) ts (lastCommand served) refl) ∙ run-ended n b p s m served ts
+run-ended (suc n) b p s m (noneFree u) ts =
+    ap (run n) (turn-still (out b p s m (lastCommand (noneFree u))) ts (lastCommand (noneFree u)) refl) ∙ run-ended n b p s m (noneFree u) ts
 
 -- nobody is left
 silent : (b p : Pool) (s : List Slot) (n : ℕ) (ts : List Target) → 0 < length ts → ((t : Target) → Among t ts → isResolved t ≡ false → ⊥)
@@ -123,9 +125,10 @@ silent b p s n (t ∷ ts) l h = ap (stepped (state b p s n GetUdid)) (on-bus.get
 
 pub serves : (b p : Pool) (s : List Slot) (k : ℕ) (ts rest : List Target) → Inv p s k ts rest
     → run (turns rest) (asking b p s (suc k) ts) ≡ ended b (plain rest p s k ts)
-serves b p s k ts [] v = ap₂ world (silent b p s (suc k) ts (v .present) (λ t m e. v .waits .known t m e)) (effect-is GetUdid ts tt (v .fits))
+serves b p s k ts [] v = turn-takes (out b p s (suc k) GetUdid) ts GetUdid refl ∙ ap₂ world (silent b p s (suc k) ts (v .present) (λ t m e. v .waits .known t m e)) (effect-is GetUdid ts tt (v .fits))
 serves b p s k ts (r ∷ rest) v =
-    ap₂ (λ (x : Stepped) (us : List Target). run (suc (turns rest)) (world x us)) told (effect-is GetUdid ts tt (v .fits))
+    ap (run (suc (turns rest))) (turn-takes (out b p s (suc k) GetUdid) ts GetUdid refl)
+    ∙ ap₂ (λ (x : Stepped) (us : List Target). run (suc (turns rest)) (world x us)) told (effect-is GetUdid ts tt (v .fits))
     ∙ go (plainChoice p r) refl
     (λ a e. serves b (withAddress p (a .0)) (set s (a .0) (boundSlot r)) (suc k) (resolve (r .udid) (a .0) ts) rest (inv-next p s k ts rest r a v e))
   where
@@ -153,11 +156,12 @@ serves b p s k ts (r ∷ rest) v =
         ≡ ended b (plain rest (withAddress p (a .0)) (set s (a .0) (boundSlot r)) (suc k) (resolve (r .udid) (a .0) ts)))
         → run (suc (turns rest)) (record { now = issued (state b p s (suc k) GetUdid) (r .udid) (plainChoice p r); targets = ts })
         ≡ ended b (serve (λ p′ s′ k′ ts′. plain rest p′ s′ k′ ts′) r p s k ts (plainChoice p r))
-    go AllUsed e ih = rw e (run-ended (turns rest) b p s (suc k) (noneFree (r .udid)) ts)
+    go AllUsed e ih = rw e (run-ended (suc (turns rest)) b p s (suc k) (noneFree (r .udid)) ts)
     go (At a) e ih =
         let f = ready-free p r rest a (v .ready) e in
         rw e
-        (ap₂ (λ (x : Stepped) (us : List Target). run (turns rest) (world x us))
+        (ap (run (turns rest)) (turn-takes (out b p s (suc k) (Assign (r .udid) a)) ts (Assign (r .udid) a) refl)
+        ∙ ap₂ (λ (x : Stepped) (us : List Target). run (turns rest) (world x us))
         (ap (stepped (state b p s (suc k) (Assign (r .udid) a))) (on-bus.assign-whole ts (r .udid) a r (v .waits .there r (inl refl)) refl)
         ∙ assign-bound b p s (suc k) (r .udid) a (omega (arith, v .few)) (v .ready .sized r (inl refl) .udid) (f .0)
         ∙ simp (f .1, add-one (suc k)))

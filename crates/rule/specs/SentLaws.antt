@@ -3,11 +3,10 @@ use Prim.Native.Nat.{ℕ, zero, suc, _+_, _<_}
 use mathlib.Core.Path.{_≡_, refl, sym, ap, ap₂, _∙_, subst}
 use mathlib.Core.List.{List, [], _∷_}
 use native.Mathlib.Omega.{arith}
-use lib.ListN.{length, replicate}
+use lib.ListN.{length, drop, replicate}
 use Rattle.pool.specs.Start.{startingPool}
 use Rattle.pool.specs.declared.Pool.{Pool}
 use Rattle.targets.specs.Admission.{AdmittedTargets}
-use Rattle.targets.specs.RecordLaws.{length-map}
 use Rattle.targets.specs.Target.{Target}
 use Rattle.arp.specs.HandingLaws.{Handed, prepare-handed, get-handed, assign-handed}
 use Rattle.arp.specs.Controller.{afterPrepare, afterGet, afterAssign, byCommand, stepped}
@@ -16,10 +15,10 @@ use Rattle.arp.specs.History.{oneGet}
 use Rattle.arp.specs.declared.command.Command.{Command}
 use Rattle.arp.specs.declared.command.Command.the-variants.{Nothing, Prepare, GetUdid, Assign, Ended, NoneFree, Abandoned, NotOutstanding}
 use Rattle.arp.specs.declared.state.Controller.{Controller}
-use Rattle.rule.specs.Acknowledge.{begins, acknowledges, somebody, answered, standing, onBus}
-use Rattle.rule.specs.Bus.{World, turnBy, turn, run, beginning, pass}
+use Rattle.rule.specs.Acknowledge.{begins, acknowledges, somebody, answered, standing, sentPart, onBus}
+use Rattle.rule.specs.Bus.{World, took, turn, run, beginning, pass}
+use Rattle.rule.specs.BusLaws.{turn-still, turn-takes, took-length}
 use Rattle.rule.specs.Demand3.{demand-3, nobody-first}
-use Rattle.rule.specs.Effect.{effect}
 use Rattle.rule.specs.PassEnd.{lastCommand, nobodyThere, passEnd}
 use Rattle.rule.specs.PlainRule.{Ending, served, noneFree, ruled}
 use Rattle.rule.specs.TraceLaws as on-bus
@@ -47,36 +46,30 @@ turn-handed w e = go (w .now .command) e
     c : Controller
     c = w .now .state
 
-    heard : (k : Command) → c .last ≡ k → Handed c (byCommand c (onBus k (w .targets)) k) → Handed c (stepped c (onBus k (w .targets)))
-    heard k q h = subst (λ (x : Command). Handed c (byCommand c (onBus k (w .targets)) x)) (sym q) h
+    sent : (k : Command) → sentPart k ≡ 256 ∷ drop 1 (sentPart k) → c .last ≡ k → Handed c (byCommand c (onBus k (w .targets)) k)
+        → Handed c (took (w .now) (w .targets) (onBus k (w .targets)) .now)
+    sent k p q h =
+        subst (λ (x : World). Handed c (x .now)) (sym (turn-takes (w .now) (w .targets) k p))
+        (subst (λ (x : Command). Handed c (byCommand c (onBus k (w .targets)) x)) (sym q) h)
 
-    still : (k : Command) → c .last ≡ k → oneGet k ≡ 0 → Handed c (w .now)
-    still k q n = record { last = e; gets = omega (arith, ap oneGet (sym e ∙ q), n) }
+    still : (k : Command) → sentPart k ≡ [] → c .last ≡ k → oneGet k ≡ 0 → Handed c (took (w .now) (w .targets) (onBus k (w .targets)) .now)
+    still k p q n =
+        subst (λ (x : World). Handed c (x .now)) (sym (turn-still (w .now) (w .targets) k p)) (record { last = e; gets = omega (arith, ap oneGet (sym e ∙ q), n) })
 
-    go : (k : Command) → c .last ≡ k → Handed c (turnBy (w .now) (w .targets) k .now)
-    go Prepare q = heard Prepare q (prepare-handed c (answer sendByte (onBus Prepare (w .targets))) (sentIn sendByte (onBus Prepare (w .targets))))
-    go GetUdid q = heard GetUdid q (get-handed c (answer blockRead (onBus GetUdid (w .targets))) (receivedIn blockRead (onBus GetUdid (w .targets))))
+    go : (k : Command) → c .last ≡ k → Handed c (took (w .now) (w .targets) (onBus k (w .targets)) .now)
+    go Prepare q = sent Prepare refl q (prepare-handed c (answer sendByte (onBus Prepare (w .targets))) (sentIn sendByte (onBus Prepare (w .targets))))
+    go GetUdid q = sent GetUdid refl q (get-handed c (answer blockRead (onBus GetUdid (w .targets))) (receivedIn blockRead (onBus GetUdid (w .targets))))
     go (Assign u a) q =
-        heard (Assign u a) q (assign-handed c u (a .0) (answer blockWrite (onBus (Assign u a) (w .targets))) (sentIn blockWrite (onBus (Assign u a) (w .targets))))
-    go Nothing q = still Nothing q refl
-    go Ended q = still Ended q refl
-    go (NoneFree u) q = still (NoneFree u) q refl
-    go Abandoned q = still Abandoned q refl
-    go NotOutstanding q = still NotOutstanding q refl
+        sent (Assign u a) refl q (assign-handed c u (a .0) (answer blockWrite (onBus (Assign u a) (w .targets))) (sentIn blockWrite (onBus (Assign u a) (w .targets))))
+    go Nothing q = still Nothing refl q refl
+    go Ended q = still Ended refl q refl
+    go (NoneFree u) q = still (NoneFree u) refl q refl
+    go Abandoned q = still Abandoned refl q refl
+    go NotOutstanding q = still NotOutstanding refl q refl
 
 -- nobody leaves the bus
 turn-present : (w : World) → length (turn w .targets) ≡ length (w .targets)
-turn-present w = go (w .now .command)
-  where
-    go : (k : Command) → length (turnBy (w .now) (w .targets) k .targets) ≡ length (w .targets)
-    go Prepare = length-map (effect (onBus Prepare (w .targets))) (w .targets)
-    go GetUdid = length-map (effect (onBus GetUdid (w .targets))) (w .targets)
-    go (Assign u a) = length-map (effect (onBus (Assign u a) (w .targets))) (w .targets)
-    go Nothing = refl
-    go Ended = refl
-    go (NoneFree u) = refl
-    go Abandoned = refl
-    go NotOutstanding = refl
+turn-present w = took-length (w .now) (w .targets) (onBus (w .now .command) (w .targets))
 
 stands-one : (k : Command) (ts : List Target) → 0 < length ts → oneIn (onBus k ts) ≡ oneGet k
 stands-one k [] h = absurd (omega arith)
@@ -132,7 +125,9 @@ end-counts (noneFree u) = refl
 
 still : (n : ℕ) (b : Pool) → traces n (nobodyThere b) ≡ replicate n []
 still zero b = refl
-still (suc n) b = ap₂ (λ (x : List ℕ) (l : List (List ℕ)). x ∷ l) (end-silent served []) (still n b)
+still (suc n) b =
+    ap₂ (λ (x : List ℕ) (l : List (List ℕ)). x ∷ l) (end-silent served [])
+    (ap (traces n) (turn-still (nobodyThere b .now) [] Ended refl) ∙ still n b)
 
 module _ (occupied : Pool) where
   -- WITH NO TARGET: Prepare To ARP, whose first byte gets NACK, and nothing after it

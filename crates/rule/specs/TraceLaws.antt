@@ -28,6 +28,7 @@ use Rattle.arp.specs.Requests.{traceOf}
 use Rattle.arp.specs.declared.command.Command.{Command}
 use Rattle.arp.specs.declared.command.Command.the-variants.{Prepare, GetUdid, Assign}
 use Rattle.rule.specs.Acknowledge.{begins, assigningBytes, acknowledges, somebody, answered, received, asking, standing, sentPart, onBus}
+use Rattle.rule.specs.AcknowledgeLaws.{assign-by-target, assign-stop}
 use Rattle.rule.specs.Effect.{same}
 
 -- ---- who acknowledges
@@ -115,7 +116,8 @@ sent-assign : (u : Udid) (a : Address) → sentPart (Assign u a) ≡ 256 ∷ ack
 sent-assign u a =
     let d : List ℕ = udidBytes u ++ 2 * (a .0 % 128) ∷ [] in
     let e : length (udidBytes u ++ 2 * (a .0 % 128) ∷ []) ≡ 17 = length-append (udidBytes u) (2 * (a .0 % 128) ∷ []) ∙ omega (arith, length-udid u) in
-    ap₂ (λ (n : ℕ) (l : List ℕ). 256 ∷ 194 ∷ 258 ∷ 4 ∷ 258 ∷ n ∷ 258 ∷ (acked d ++ pecOf (194 ∷ 4 ∷ n ∷ l) ∷ 258 ∷ [])) e (append-nil d)
+    assign-by-target u a
+    ∙ ap₂ (λ (n : ℕ) (l : List ℕ). 256 ∷ 194 ∷ 258 ∷ 4 ∷ 258 ∷ n ∷ 258 ∷ (acked d ++ pecOf (194 ∷ 4 ∷ n ∷ l) ∷ 258 ∷ [])) e (append-nil d)
     ∙ ap (λ (l : List ℕ). 256 ∷ 194 ∷ 258 ∷ 4 ∷ 258 ∷ 17 ∷ 258 ∷ l) (acked-two (udidBytes u) (2 * (a .0 % 128)) (pecOf (194 ∷ 4 ∷ 17 ∷ d)))
 
 bytes-assigned : (u : Udid) (b : ℕ) → b < 256 → Bytes (assigned u b)
@@ -200,3 +202,4 @@ assign-whole ts u a t m e =
     (answered-acked ack (256 ∷ []) (assigned u b) (STOP ∷ []) (bytes-assigned u b (omega arith))
     (ack-all ack (256 ∷ assigned u b) (λ p q f. somebody-is (acknowledges p) ts t m (assign-own u b t e p q f)) (256 ∷ []) (assigned u b) refl))
     ∙ ap (λ (l : List ℕ). l ++ STOP ∷ []) (sym (sent-assign u a))
+    ∙ assign-stop u a
