@@ -13,17 +13,13 @@ use Rattle.lists.specs.Choice.{pick}
 use Rattle.lists.specs.Each.{Each}
 use Rattle.udid.specs.Udids.{Fits, value, isBelow}
 use Rattle.udid.specs.declared.Udid.{Udid}
-use Rattle.arbitration.specs.Bits.{udidBits}
+use Rattle.arbitration.specs.Bits.{udidBits, sent}
 use Rattle.arbitration.specs.BitLaws.{length-udid-bits}
 use Rattle.arbitration.specs.Wire.{heard, sending}
-use Rattle.arbitration.specs.DropOut.{shared, noLater}
+use Rattle.arbitration.specs.DropOut.{shared, noLater, Stays}
 use Rattle.arbitration.specs.OrderLaws.{noLater-refl, same-front}
 use Rattle.arbitration.specs.WinLaws.{udid-order, drop-out-within}
-use Rattle.arbitration.specs.WireLaws.{Stays, heard-is, sending-is, shared-all}
-
--- the same first bits, an identifier, and what follows it
-abbrev pub sent : List Bool → Udid → List Bool → List Bool
-sent p u x = p ++ (udidBits u ++ x)
+use Rattle.arbitration.specs.WireLaws.{heard-is, sending-is, shared-all}
 
 pub length-sent : (p : List Bool) (u : Udid) (x : List Bool) → length (sent p u x) ≡ length p + (128 + length x)
 length-sent p u x = length-append p (udidBits u ++ x) ∙ ap (λ (n : ℕ). length p + n) (length-append (udidBits u) x ∙ ap (λ (n : ℕ). n + length x) (length-udid-bits u))

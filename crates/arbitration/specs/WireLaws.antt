@@ -14,11 +14,7 @@ use Rattle.lists.specs.Choice.{pick, and, not}
 use Rattle.lists.specs.Each.{Each}
 use Rattle.arbitration.specs.Among.{Among}
 use Rattle.arbitration.specs.Wire.{next, level, staying, heard, sending}
-use Rattle.arbitration.specs.DropOut.{shared, noLater, sharing}
-
--- m does not drop out against t, which is as long
-abbrev pub Stays : List Bool → List Bool → Type 0
-Stays m t = (noLater m t ≡ true) × (length t ≡ length m)
+use Rattle.arbitration.specs.DropOut.{shared, noLater, sharing, Stays, Other}
 
 -- ---- the next bit on the wire is m's
 
@@ -110,10 +106,6 @@ pub shared-all : (m : List Bool) → shared m m ≡ length m
 shared-all [] = refl
 shared-all (true ∷ m) = ap suc (shared-all m)
 shared-all (false ∷ m) = ap suc (shared-all m)
-
--- t is as long as m, and sends something else
-abbrev pub Other : List Bool → List Bool → Type 0
-Other m t = (length t ≡ length m) × (t ≡ m → ⊥)
 
 shared-less : (m t : List Bool) → Other m t → shared m t < length m
 shared-less [] [] h = absurd (h .1 refl)

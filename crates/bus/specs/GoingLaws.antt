@@ -27,7 +27,7 @@ use Rattle.targets.specs.RefusalLaws.{given-exactly}
 use Rattle.targets.specs.Target.{Target, prepared, assignedTo}
 use Rattle.targets.specs.Winner.{winnerOf}
 use Rattle.targets.specs.WinnerLaws.{winner-exactly, least-of}
-use Rattle.targets.specs.ReplyLaws.{Least}
+use Rattle.targets.specs.Members.{Least}
 use Rattle.targets.specs.declared.admit.Checked.the-variants.{Admitted}
 use Rattle.targets.specs.declared.winner.Winner.{Winner}
 use Rattle.targets.specs.declared.winner.Winner.the-variants as winner

@@ -30,8 +30,8 @@ use Rattle.targets.specs.RefusalLaws.{given-exactly}
 use Rattle.targets.specs.Reply.{replyData}
 use Rattle.targets.specs.ReplyLaws.{length-data, bytes-data}
 use Rattle.targets.specs.Target.{Target, isResolved, mapTargets, prepared, assignedTo}
-use Rattle.targets.specs.Winner.{winnerOf}
-use Rattle.targets.specs.WinnerLaws.{Unresolved, Wins, Won, winner-exactly, least-of, flag-is}
+use Rattle.targets.specs.Winner.{winnerOf, Unresolved, Wins, Won}
+use Rattle.targets.specs.WinnerLaws.{winner-exactly, least-of, flag-is}
 use Rattle.targets.specs.declared.admit.Checked.the-variants.{Admitted}
 use Rattle.targets.specs.declared.winner.Winner.{Winner}
 use Rattle.targets.specs.declared.winner.Winner.the-variants as winner

@@ -15,9 +15,8 @@ use Rattle.pool.specs.Start.{startingPool}
 use Rattle.pool.specs.declared.Pool.{Pool}
 use Rattle.udid.specs.Udids.{isFixed}
 use Rattle.arbitration.specs.Among.{Among}
-use Rattle.targets.specs.Target.{Target}
+use Rattle.targets.specs.Target.{Target, Sized}
 use Rattle.targets.specs.Members.{Pairs}
-use Rattle.targets.specs.ReplyLaws.{Sized}
 use Rattle.targets.specs.Admission.{FixedApart, FixedFree, AdmittedTargets}
 use Rattle.rule.specs.PlainRule.{served, ruled}
 use Rattle.rule.specs.Demand3.{served-exactly, served-each, given-served}

@@ -22,10 +22,9 @@ use Rattle.pool.specs.declared.free.Free.the-variants.{At, AllUsed}
 use Rattle.udid.specs.Udids.{isFixed, value}
 use Rattle.udid.specs.declared.Udid.{Udid}
 use Rattle.arbitration.specs.Among.{Among}
-use Rattle.targets.specs.Target.{Target, isResolved, prepared, cleared, resolve}
+use Rattle.targets.specs.Target.{Target, isResolved, prepared, cleared, resolve, Sized}
 use Rattle.targets.specs.Members.{Pairs}
 use Rattle.targets.specs.RecordLaws.{length-map}
-use Rattle.targets.specs.ReplyLaws.{Sized}
 use Rattle.targets.specs.Admission.{Differ, FixedApart, FixedFree, AdmittedTargets}
 use Rattle.arp.specs.SoundLaws.{open-all}
 use Rattle.arp.specs.Bindings.{openSlot, boundTo}

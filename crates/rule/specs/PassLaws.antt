@@ -19,10 +19,10 @@ use Rattle.udid.specs.Udids.{Fits, sameUdid, value}
 use Rattle.udid.specs.UdidLaws.{other-udid}
 use Rattle.udid.specs.declared.Udid.{Udid}
 use Rattle.arbitration.specs.Among.{Among}
-use Rattle.targets.specs.Target.{Target, isResolved, assignedTo, resolve}
-use Rattle.targets.specs.Members.{Waits, waits-next}
+use Rattle.targets.specs.Target.{Target, isResolved, assignedTo, resolve, Sized}
+use Rattle.targets.specs.MembersLaws.{waits-next}
+use Rattle.targets.specs.Members.{Waits, Least}
 use Rattle.targets.specs.RecordLaws.{length-map, assigned-keeps}
-use Rattle.targets.specs.ReplyLaws.{Sized, Least}
 use Rattle.arp.specs.Bindings.{openSlot, heldAt, boundTo, slotFor}
 use Rattle.arp.specs.Controller.{issued, stepped}
 use Rattle.arp.specs.declared.command.Command.the-variants.{GetUdid, Assign}

@@ -15,7 +15,8 @@ use Rattle.udid.specs.Udids.{sameUdid}
 use Rattle.udid.specs.UdidLaws.{bytes-back, same-bytes, other-udid}
 use Rattle.arbitration.specs.Among.{Among}
 use Rattle.targets.specs.Admission.{AdmittedTargets}
-use Rattle.targets.specs.ChangeLaws.{Changed, changed-exactly}
+use Rattle.targets.specs.Change.{Changed}
+use Rattle.targets.specs.ChangeLaws.{changed-exactly}
 use Rattle.targets.specs.IndexLaws.{in-targets, sized-at}
 use Rattle.targets.specs.Records.{targetAt, recordCount, targetsOf, recordsWith}
 use Rattle.targets.specs.RecordLaws.{assigned-keeps}

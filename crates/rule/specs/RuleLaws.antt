@@ -22,9 +22,8 @@ use Rattle.pool.specs.declared.free.Free.the-variants.{At, AllUsed}
 use Rattle.udid.specs.UdidLaws.{fixed-is}
 use Rattle.udid.specs.Udids.{topBits, isFixed, value}
 use Rattle.arbitration.specs.Among.{Among}
-use Rattle.targets.specs.Target.{Target}
+use Rattle.targets.specs.Target.{Target, Sized}
 use Rattle.targets.specs.Members.{Pairs}
-use Rattle.targets.specs.ReplyLaws.{Sized}
 use Rattle.arp.specs.Controller.{chosen}
 use Rattle.rule.specs.PlainRule.{held, plainChoice, Ending, served, noneFree, Given, next, rule, FreeIn, Distinct}
 

@@ -20,9 +20,9 @@ use Rattle.udid.specs.Bytes.{udidBytes, udidAt}
 use Rattle.udid.specs.UdidLaws.{length-udid, udid-back}
 use Rattle.udid.specs.Udids.{Fits}
 use Rattle.udid.specs.declared.Udid.{Udid}
-use Rattle.targets.specs.Target.{Target}
+use Rattle.targets.specs.Target.{Target, Sized}
 use Rattle.targets.specs.Reply.{replyData}
-use Rattle.targets.specs.ReplyLaws.{Sized, length-data, bytes-data}
+use Rattle.targets.specs.ReplyLaws.{length-data, bytes-data}
 use Rattle.arp.specs.Bindings.{openSlot, heldAt, boundTo, findFrom, freed, slotFor, bound}
 use Rattle.arp.specs.Controller.{handed, asked, chosen, issued, replied, afterPrepare, afterGet, byCommand, stepped}
 use Rattle.arp.specs.Heard.{sendByte, blockRead, blockWrite}

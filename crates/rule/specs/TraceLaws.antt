@@ -22,7 +22,8 @@ use Rattle.udid.specs.declared.Udid.{Udid}
 use Rattle.wire.specs.declared.address.Address.{Address}
 use Rattle.targets.specs.Target.{Target, isResolved}
 use Rattle.targets.specs.Reply.{replyData, replyBytes, waiting, OnWire, silence, shown, onWire}
-use Rattle.targets.specs.ReplyLaws.{Least, least-on-wire}
+use Rattle.targets.specs.Members.{Least}
+use Rattle.targets.specs.ReplyLaws.{least-on-wire}
 use Rattle.targets.specs.TraceLaws.{reply-trace}
 use Rattle.arp.specs.Requests.{traceOf}
 use Rattle.arp.specs.declared.command.Command.{Command}

@@ -14,7 +14,7 @@ use Rattle.udid.specs.Udids.{value}
 use Rattle.udid.specs.UdidLaws.{fits-at, value-same}
 use Rattle.targets.specs.Records.{udidOf, addressByte, flagOf, targetAt, recordCount, targetsOf}
 use Rattle.targets.specs.Refusals.{checkedList}
-use Rattle.targets.specs.ReplyLaws.{Sized}
+use Rattle.targets.specs.Target.{Sized}
 use Rattle.targets.specs.Cases.{LengthIsBad, Given}
 use Rattle.targets.specs.RefusalLaws.{given-exactly}
 use Rattle.targets.specs.IndexLaws.{in-targets, pairs-from, length-targets, sized-at}

@@ -11,11 +11,10 @@ use Rattle.lists.specs.Each.{Bytes}
 use Rattle.udid.specs.UdidLaws.{fits-at, bytes-back}
 use Rattle.udid.specs.WindowLaws.{byte-at}
 use Rattle.arbitration.specs.Among.{Among}
-use Rattle.targets.specs.Target.{Target}
+use Rattle.targets.specs.Target.{Target, Sized}
 use Rattle.targets.specs.Records.{addressByte, targetAt, targetsFrom}
 use Rattle.targets.specs.Members.{Pairs}
 use Rattle.targets.specs.Reply.{replyData}
-use Rattle.targets.specs.ReplyLaws.{Sized}
 
 pub in-targets : (s : List ℕ) (n i : ℕ) (t : Target) → Among t (targetsFrom s n i) → (j : ℕ) × (i ≤ j) × (j < i + n) × (targetAt s j ≡ t)
 in-targets s (suc n) i t (inl e) = (i, omega arith, omega arith, e)

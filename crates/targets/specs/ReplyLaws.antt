@@ -15,21 +15,17 @@ use Rattle.udid.specs.Bytes.{udidBytes}
 use Rattle.udid.specs.Udids.{Fits, value, isBelow}
 use Rattle.udid.specs.UdidLaws.{length-udid, udid-bytes}
 use Rattle.arbitration.specs.Among.{Among}
-use Rattle.arbitration.specs.Bits.{bits, udidBits, byteBits, bytesRead}
+use Rattle.arbitration.specs.Bits.{bits, udidBits, byteBits, bytesRead, sent}
 use Rattle.arbitration.specs.BitLaws.{length-bits, length-byte-bits, byte-bits-append, read-bytes, udid-bits}
 use Rattle.arbitration.specs.Wire.{heard, sending}
-use Rattle.arbitration.specs.DropOut.{shared, noLater, sharing}
+use Rattle.arbitration.specs.DropOut.{shared, noLater, sharing, Stays}
 use Rattle.arbitration.specs.OrderLaws.{noLater-refl}
 use Rattle.arbitration.specs.WinLaws.{drop-out-within}
-use Rattle.arbitration.specs.WireLaws.{Stays, heard-is, sending-is}
-use Rattle.arbitration.specs.PairLaws.{sent, sent-order}
-use Rattle.targets.specs.Target.{Target, isResolved}
+use Rattle.arbitration.specs.WireLaws.{heard-is, sending-is}
+use Rattle.arbitration.specs.PairLaws.{sent-order}
+use Rattle.targets.specs.Target.{Target, isResolved, Sized}
 use Rattle.targets.specs.Reply.{replyData, coveredBytes, replyPec, replyBytes, sends, waiting, silence, shown, onWire}
-
--- the numbers of a target fit their places
-pub record Sized (t : Target) : Type 0 where
-  pub udid : Fits (t .udid)
-  pub addressByte : t .addressByte < 256
+use Rattle.targets.specs.Members.{Least}
 
 -- ---- the bytes
 
@@ -122,13 +118,6 @@ none-waiting (t ∷ ts) h = go (isResolved t) refl (none-waiting ts (λ x m e. h
 -- all are resolved: nobody answers
 pub nobody-on-wire : (ts : List Target) → ((t : Target) → Among t ts → isResolved t ≡ false → ⊥) → onWire (waiting ts) ≡ silence
 nobody-on-wire ts h = ap onWire (none-waiting ts h)
-
--- r is unresolved, and each other unresolved target has a greater identifier
-pub record Least (ts : List Target) (r : Target) : Type 0 where
-  pub among : Among r ts
-  pub unresolved : isResolved r ≡ false
-  pub sized : Sized r
-  pub below : (t : Target) → Among t ts → isResolved t ≡ false → (r ≡ t) ⊎ (Sized t × (value (r .udid) < value (t .udid)))
 
 module _ (ts : List Target) (r : Target) (l : Least ts r) where
   stays : Each (Stays (sends r)) (waiting ts)

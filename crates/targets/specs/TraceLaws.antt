@@ -8,12 +8,8 @@ use Rattle.wire.specs.Pec.{pecOf}
 use Rattle.trace.specs.Shapes.{shapeOf}
 use Rattle.trace.specs.Trace.{Message, trace, nacked}
 use Rattle.targets.specs.Target.{Target}
-use Rattle.targets.specs.Reply.{replyData, coveredBytes, replyPec, replyBytes}
+use Rattle.targets.specs.Reply.{replyData, coveredBytes, replyPec, replyBytes, gotUdid}
 use Rattle.targets.specs.ReplyLaws.{length-data}
-
--- Get UDID with these 17 bytes of data received
-abbrev pub gotUdid : List ℕ → Message
-gotUdid received = record { address = 0x61; direction = 0; command = 0x03; sent = []; received = received }
 
 counted : List ℕ → ℕ → ℕ → List ℕ
 counted ds n c = START ∷ 0xC2 ∷ ACK ∷ 0x03 ∷ ACK ∷ START ∷ 0xC3 ∷ ACK ∷ (nacked (n ∷ (ds ++ c ∷ [])) ++ STOP ∷ [])

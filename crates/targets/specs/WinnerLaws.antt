@@ -14,31 +14,16 @@ use Rattle.udid.specs.Udids.{value, isBelow}
 use Rattle.udid.specs.UdidLaws.{fits-at, value-same}
 use Rattle.arbitration.specs.Wire.{sending}
 use Rattle.arbitration.specs.DropOut.{sharing}
-use Rattle.targets.specs.Target.{Target, isResolved}
+use Rattle.targets.specs.Target.{Target, isResolved, Sized}
 use Rattle.targets.specs.Records.{udidOf, flagOf, targetAt, recordCount, targetsOf}
 use Rattle.targets.specs.Cases.{RepeatedAt, None}
-use Rattle.targets.specs.Winner.{betterOf, bestFrom, leastOf, winnerOf}
+use Rattle.targets.specs.Winner.{betterOf, bestFrom, leastOf, winnerOf, Unresolved, Wins, Won, shownBy}
 use Rattle.targets.specs.Reply.{replyBytes, sends, waiting, OnWire, silence, shown, onWire}
-use Rattle.targets.specs.ReplyLaws.{Sized, Least, nobody-on-wire, least-on-wire, least-sending}
+use Rattle.targets.specs.Members.{Least}
+use Rattle.targets.specs.ReplyLaws.{nobody-on-wire, least-on-wire, least-sending}
 use Rattle.targets.specs.IndexLaws.{in-targets, of-targets, sized-at}
 use Rattle.targets.specs.declared.winner.Winner.{Winner}
 use Rattle.targets.specs.declared.winner.Winner.the-variants.{At, AllResolved}
-
--- ---- what the winner is
-
-abbrev pub Unresolved : List ℕ → ℕ → Type 0
-Unresolved s i = flagOf s i ≡ 1 → ⊥
-
--- of the first n records, w is the unresolved one with the least identifier, and the first of those that have it
-pub record Wins (s : List ℕ) (n w : ℕ) : Type 0 where
-  pub below : w < n
-  pub unresolved : Unresolved s w
-  pub least : (j : ℕ) → j < n → Unresolved s j → value (udidOf s w) ≤ value (udidOf s j)
-  pub earliest : (j : ℕ) → j < w → Unresolved s j → value (udidOf s w) < value (udidOf s j)
-
-abbrev pub Won : List ℕ → Winner → Type 0
-Won s (At w) = Wins s (recordCount s) w
-Won s AllResolved = None (Unresolved s) (recordCount s)
 
 -- ---- the search finds it
 
@@ -145,10 +130,6 @@ module _ (s : List ℕ) where
   winner-exactly r = (λ e. subst (Won s) (sym e) won-holds, λ h. won-unique r (winnerOf s) h won-holds)
 
 -- ---- what stands on the wire
-
-abbrev pub shownBy : List ℕ → Winner → OnWire
-shownBy s AllResolved = silence
-shownBy s (At w) = shown (replyBytes (targetAt s w))
 
 module _ (s : List ℕ) (b : Bytes s) (differ : None (RepeatedAt s) (recordCount s)) where
   pub flag-is : (i : ℕ) (t : Target) → targetAt s i ≡ t → isResolved t ≡ false → Unresolved s i
