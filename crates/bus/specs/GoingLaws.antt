@@ -21,12 +21,12 @@ use Rattle.udid.specs.declared.Udid.{Udid}
 use Rattle.targets.specs.AdmissionLaws.{admitted-length}
 use Rattle.targets.specs.IndexLaws.{length-targets}
 use Rattle.targets.specs.Records.{udidOf, recordCount, targetAt, targetsFrom, targetsOf, recordsWith}
-use Rattle.targets.specs.RecordLaws.{put-again, udid-put-from, length-put-from, length-map}
+use Rattle.targets.specs.RecordLaws.{put-again, put-from-keeps-udid, length-put-from, length-map}
 use Rattle.targets.specs.Refusals.{checkedList}
 use Rattle.targets.specs.RefusalLaws.{given-exactly}
 use Rattle.targets.specs.Target.{Target, prepared, assignedTo}
 use Rattle.targets.specs.Winner.{winnerOf}
-use Rattle.targets.specs.WinnerLaws.{winner-exactly, least-of}
+use Rattle.targets.specs.WinnerLaws.{winner-exactly, winner-least}
 use Rattle.targets.specs.Members.{Least}
 use Rattle.targets.specs.declared.admit.Checked.the-variants.{Admitted}
 use Rattle.targets.specs.declared.winner.Winner.{Winner}
@@ -109,7 +109,7 @@ fine-get c s b f e h = go (winnerOf s) refl
         subst (λ (x : Stepped). Fine x (targetsOf s))
         (sym (ap (byCommand c (onBus GetUdid (targetsOf s))) e ∙ ap (afterGet c) (get-silence s b f h q) ∙ get-unheard c)) (refl, tt)
     go (winner.At w) q =
-        let l : Least (targetsOf s) (targetAt s w) = least-of s b (f .apart) w (winner-exactly s (winner.At w) .0 q) in
+        let l : Least (targetsOf s) (targetAt s w) = winner-least s b (f .apart) w (winner-exactly s (winner.At w) .0 q) in
         subst (λ (x : Stepped). Fine x (targetsOf s))
         (sym (ap (stepped c) (on-bus.get-whole (targetsOf s) (targetAt s w) l) ∙ get-replied c (targetAt s w) e (l .sized)))
         (fine-replied c (targetsOf s) (targetAt s w) (l .among) (l .sized .addressByte))
@@ -198,7 +198,7 @@ run-still (suc n) w e = ap (run n) (turn-ended (w .now) (w .targets) (w .now .co
 fit-put : (ts : List Target) (s after : List ℕ) → Fit s → after ≡ recordsWith ts s → Fit after
 fit-put ts s after f e = subst Fit (sym e) (record {
   whole = length-put-from ts 0 s ∙ f .whole ∙ ap (λ (n : ℕ). n / 18 * 18) (sym (length-put-from ts 0 s));
-  apart = λ i h r. f .apart i (omega (arith, h, ap (λ (n : ℕ). n / 18) (length-put-from ts 0 s))) (r .0, r .1, sym (udid-put-from ts 0 s (r .0)) ∙ r .2 ∙ udid-put-from ts 0 s i);
+  apart = λ i h r. f .apart i (omega (arith, h, ap (λ (n : ℕ). n / 18) (length-put-from ts 0 s))) (r .0, r .1, sym (put-from-keeps-udid ts 0 s (r .0)) ∙ r .2 ∙ put-from-keeps-udid ts 0 s i);
 })
 
 -- what holds of the records and the controller after some turns of a run from the world w, m of 300 left

@@ -12,11 +12,11 @@ use Rattle.pool.specs.Start.{startingPool}
 use Rattle.pool.specs.declared.Pool.{Pool}
 use Rattle.lists.specs.Each.{Bytes}
 use Rattle.targets.specs.ByteCases.{EvenOrFlag, SameAsEarlier, FixedOnTaken, GivenByBytes}
-use Rattle.targets.specs.ByteCasesLaws.{given-bytes}
+use Rattle.targets.specs.ByteCasesLaws.{given-by-bytes}
 use Rattle.targets.specs.Cases.{LengthIsBad, None, FirstOf, Given}
 use Rattle.targets.specs.Numbers.{answerOf}
 use Rattle.targets.specs.Refusals.{checkedList}
-use Rattle.targets.specs.RefusalLaws.{given-exactly, answers-differ}
+use Rattle.targets.specs.RefusalLaws.{given-exactly, answers-tell-apart}
 use Rattle.targets.specs.declared.admit.Checked.{Checked}
 use Rattle.targets.specs.declared.admit.Checked.the-variants.{Admitted, BadLength, Malformed, Repeated, Taken}
 use Rattle.arp.specs.Numbers.{commandNumber}
@@ -73,7 +73,7 @@ same-pair : (k j : Checked) → _≡_ {A = ℕ × ℕ} (answerOf k .number, answ
 same-pair k j e =
     let a : answerOf k .number ≡ answerOf j .number = ap (λ (p : ℕ × ℕ). p .0) e in
     let v : answerOf k .value ≡ answerOf j .value = ap (λ (p : ℕ × ℕ). p .1) e in
-    answers-differ k j (λ i. record { number = a i; value = v i })
+    answers-tell-apart k j (λ i. record { number = a i; value = v i })
 
 is-admitted : (k : Checked) → (k ≡ Admitted) ⊎ (k ≡ Admitted → ⊥)
 is-admitted Admitted = inl refl
@@ -159,7 +159,7 @@ module _ (occupied : Pool) (s b : List ℕ) (r : ModelAnswer) (s′ b′ : List 
     by-bytes : (k : Checked) → (k ≡ Admitted → ⊥) → (modelNumber r ≡ (answerOf k .number, answerOf k .value)) ↔ ((2048 ≤ length b) × GivenByBytes (startingPool occupied) s k)
     by-bytes k n =
         let m = model-refused k n in
-        let g = given-bytes (startingPool occupied) s bytes k in
+        let g = given-by-bytes (startingPool occupied) s bytes k in
         (λ e. (m .0 e .0, g .0 (m .0 e .1)), λ h. m .1 (h .0, g .1 (h .1)))
 
     -- 9: over 2,160 bytes, or no multiple of 18

@@ -22,16 +22,16 @@ use Rattle.wire.specs.declared.address.Address.{Address}
 use Rattle.targets.specs.AdmissionLaws.{admitted-length}
 use Rattle.targets.specs.ChangeLaws.{assigned-below}
 use Rattle.targets.specs.Cases.{None, RepeatedAt}
-use Rattle.targets.specs.IndexLaws.{in-targets, length-targets, sized-at, record-reply}
+use Rattle.targets.specs.IndexLaws.{target-has-record, length-targets, sized-at, record-reply}
 use Rattle.targets.specs.Records.{udidOf, targetAt, recordCount, targetsFrom, targetsOf, putFrom, recordsWith, assignedIn}
-use Rattle.targets.specs.RecordLaws.{changed-targets, put-all-self, put-again, udid-put-from, length-put-from, prepared-keeps, assigned-keeps}
+use Rattle.targets.specs.RecordLaws.{changed-targets, put-all-self, put-again, put-from-keeps-udid, length-put-from, prepared-keeps-udid, assigned-keeps-udid}
 use Rattle.targets.specs.Refusals.{checkedList}
 use Rattle.targets.specs.RefusalLaws.{given-exactly}
 use Rattle.targets.specs.Reply.{replyData}
-use Rattle.targets.specs.ReplyLaws.{length-data, bytes-data}
+use Rattle.targets.specs.ReplyLaws.{length-reply-data, bytes-reply-data}
 use Rattle.targets.specs.Target.{Target, isResolved, mapTargets, prepared, assignedTo}
 use Rattle.targets.specs.Winner.{winnerOf, Unresolved, Wins, Won}
-use Rattle.targets.specs.WinnerLaws.{winner-exactly, least-of, flag-is}
+use Rattle.targets.specs.WinnerLaws.{winner-exactly, winner-least, unresolved-by-flag}
 use Rattle.targets.specs.declared.admit.Checked.the-variants.{Admitted}
 use Rattle.targets.specs.declared.winner.Winner.{Winner}
 use Rattle.targets.specs.declared.winner.Winner.the-variants as winner
@@ -74,7 +74,7 @@ prepare-all s n = go (targetsOf s) (length-targets s (recordCount s) 0)
 pub get-winner : (s : List ℕ) → Bytes s → Fit s → (w : ℕ) → winner.At w ≡ winnerOf s → onBus GetUdid (targetsOf s) ≡ traceOf GetUdid (take 17 (drop (w * 18) s))
 get-winner s b f w e =
     let v : Wins s (recordCount s) w = winner-exactly s (winner.At w) .0 e in
-    on-bus.get-whole (targetsOf s) (targetAt s w) (least-of s b (f .apart) w v)
+    on-bus.get-whole (targetsOf s) (targetAt s w) (winner-least s b (f .apart) w v)
     ∙ ap (traceOf GetUdid) (sym (record-reply s w b (omega (arith, v .below, f .whole))))
 
 all-resolved : (s : List ℕ) → Bytes s → Fit s → winner.AllResolved ≡ winnerOf s → (t : Target) → Among t (targetsOf s) → isResolved t ≡ true
@@ -83,8 +83,8 @@ all-resolved s b f e t m = go (isResolved t) refl
     go : (c : Bool) → isResolved t ≡ c → isResolved t ≡ true
     go true q = q
     go false q =
-        let r = in-targets s (recordCount s) 0 t m in
-        absurd (winner-exactly s winner.AllResolved .0 e (r .0) (omega (arith, r .2)) (flag-is s b (f .apart) (r .0) t (r .3) q))
+        let r = target-has-record s (recordCount s) 0 t m in
+        absurd (winner-exactly s winner.AllResolved .0 e (r .0) (omega (arith, r .2)) (unresolved-by-flag s b (f .apart) (r .0) t (r .3) q))
 
 pub get-silence : (s : List ℕ) → Bytes s → Fit s → 0 < length (targetsOf s) → winner.AllResolved ≡ winnerOf s → onBus GetUdid (targetsOf s) ≡ silence
 get-silence s b f h e = go (targetsOf s) h (all-resolved s b f e)
@@ -133,7 +133,7 @@ acted-is NotOutstanding ts = map-same ts
 changes-keeps : (k : Command) (t : Target) → changes k t .udid ≡ t .udid
 unfolding changes
 changes-keeps Prepare t = refl
-changes-keeps (Assign u a) t = assigned-keeps u (a .0) t
+changes-keeps (Assign u a) t = assigned-keeps-udid u (a .0) t
 changes-keeps GetUdid t = refl
 changes-keeps Nothing t = refl
 changes-keeps Ended t = refl
@@ -153,7 +153,7 @@ acted-targets k s f =
 
 -- the identifiers of records are numbers of 128 bits, and so is that of a command which reaches one of them
 fits-targets : (s : List ℕ) → Bytes s → (t : Target) → Among t (targetsOf s) → Fits (t .udid)
-fits-targets s b t m = let r = in-targets s (recordCount s) 0 t m in subst (λ (x : Target). Fits (x .udid)) (r .3) (sized-at s b (r .0) .udid)
+fits-targets s b t m = let r = target-has-record s (recordCount s) 0 t m in subst (λ (x : Target). Fits (x .udid)) (r .3) (sized-at s b (r .0) .udid)
 
 names-one : (k : Command) (s : List ℕ) → Bytes s → Reaches k (targetsOf s) → Names k
 names-one (Assign u a) s b r = subst Fits (r .2) (fits-targets s b (r .0) (r .1))
@@ -203,7 +203,7 @@ pub record Lent (xs : List ℕ) : Type 0 where
 pub winner-data : (s : List ℕ) → Bytes s → Fit s → (w : ℕ) → winner.At w ≡ winnerOf s → Lent (lentPart s w)
 winner-data s b f w e =
     subst Lent (sym (part s (w * 18) ∙ record-reply s w b (omega (arith, winner-inside s f w e))))
-    (record { bytes = bytes-data (targetAt s w) (sized-at s b w .addressByte); long = length-data (targetAt s w) })
+    (record { bytes = bytes-reply-data (targetAt s w) (sized-at s b w .addressByte); long = length-reply-data (targetAt s w) })
 
 pub get-part : (s : List ℕ) → Bytes s → Fit s → (w : ℕ) → winner.At w ≡ winnerOf s
     → onBus GetUdid (targetsOf s) ≡ traceOf GetUdid (lentPart s w)

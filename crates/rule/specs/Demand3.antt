@@ -114,7 +114,7 @@ admitted-cleared b ts v = record {
   differ = pairs-cleared ts (λ x y h. h) (v .differ);
   fixed-apart = pairs-cleared ts (λ x y h. h) (v .fixed-apart);
   fixed-free = λ y m. let r = of-cleared ts y m in subst (FixedFree b) (r .2) (v .fixed-free (r .0) (r .1));
-  few = omega (arith, length-cleared ts, v .few);
+  at-most-120 = omega (arith, length-cleared ts, v .at-most-120);
 }
 
 -- ---- where a pass begins
@@ -157,7 +157,7 @@ module _ (b : Pool) (last : member b 127 ≡ true) (ts : List Target) (v : Admit
     };
     unbound = λ t m. open-slots (t .udid);
     room = length-replicate 128 openSlot;
-    few = omega (arith, length-ascending ts, v .few);
+    below-128 = omega (arith, length-ascending ts, v .at-most-120);
     present = some;
     fits = λ t m. v .sized t m .udid;
   }
@@ -197,7 +197,7 @@ module _ (occupied : Pool) where
       let us : List Target = cleared (t ∷ ts) in
       let v′ = admitted-cleared start (t ∷ ts) v in
       let n : ℕ = turns (ascending us) in
-      let e : 300 ≡ suc (n + (299 - n)) = omega (arith, length-turns (ascending us), length-ascending us, v′ .few) in
+      let e : 300 ≡ suc (n + (299 - n)) = omega (arith, length-turns (ascending us), length-ascending us, v′ .at-most-120) in
       ap (λ (k : ℕ). run k (beginning occupied (t ∷ ts))) e
       ∙ ap (run (n + (299 - n))) (first-turn t ts v)
       ∙ run-add n (299 - n) (asking start start (replicate 128 openSlot) 1 us)

@@ -22,7 +22,7 @@ use Rattle.arbitration.specs.Among.{Among}
 use Rattle.targets.specs.Target.{Target, isResolved, assignedTo, resolve, Sized}
 use Rattle.targets.specs.MembersLaws.{waits-next}
 use Rattle.targets.specs.Members.{Waits, Least}
-use Rattle.targets.specs.RecordLaws.{length-map, assigned-keeps}
+use Rattle.targets.specs.RecordLaws.{length-map, assigned-keeps-udid}
 use Rattle.arp.specs.Bindings.{openSlot, heldAt, boundTo, slotFor}
 use Rattle.arp.specs.Controller.{issued, stepped}
 use Rattle.arp.specs.declared.command.Command.the-variants.{GetUdid, Assign}
@@ -57,7 +57,7 @@ pub record Inv (p : Pool) (s : List Slot) (k : ℕ) (ts rest : List Target) : Ty
   pub waits : Waits ts rest
   pub unbound : (t : Target) → Among t rest → Unbound (t .udid) s
   pub room : length s ≡ 128
-  pub few : k + length rest < 128
+  pub below-128 : k + length rest < 128
   pub present : 0 < length ts
   pub fits : (t : Target) → Among t ts → Fits (t .udid)
 
@@ -72,7 +72,7 @@ unbound-set u t s a l n h i = go (ℕ-discrete i a)
 
 -- an Assign keeps the identifiers
 fits-next : (u : Udid) (a : ℕ) (ts : List Target) → ((t : Target) → Among t ts → Fits (t .udid)) → (t : Target) → Among t (resolve u a ts) → Fits (t .udid)
-fits-next u a (x ∷ ts) h t (inl e) = subst Fits (sym (assigned-keeps u a x) ∙ ap (λ (y : Target). y .udid) e) (h x (inl refl))
+fits-next u a (x ∷ ts) h t (inl e) = subst Fits (sym (assigned-keeps-udid u a x) ∙ ap (λ (y : Target). y .udid) e) (h x (inl refl))
 fits-next u a (x ∷ ts) h t (inr m) = fits-next u a ts (λ y k. h y (inr k)) t m
 
 inv-next : (p : Pool) (s : List Slot) (k : ℕ) (ts rest : List Target) (r : Target) (a : Address) → Inv p s k ts (r ∷ rest) → plainChoice p r ≡ At a
@@ -83,7 +83,7 @@ inv-next p s k ts rest r a v e =
       waits = waits-next ts rest r (a .0) (v .waits) (λ x m. v .ready .apart .0 x m .lower);
       unbound = λ t m. unbound-set (t .udid) r s (a .0) (omega (arith, free .0, v .room)) (other-udid (r .udid) (t .udid) (λ q. above t (v .ready .apart .0 t m .lower) (ap value q))) (v .unbound t (inr m));
       room = length-set s (a .0) (boundSlot r) ∙ v .room;
-      few = omega (arith, v .few);
+      below-128 = omega (arith, v .below-128);
       present = omega (arith, length-map (assignedTo (r .udid) (a .0)) ts, v .present);
       fits = fits-next (r .udid) (a .0) ts (v .fits);
     }
@@ -163,7 +163,7 @@ serves b p s k ts (r ∷ rest) v =
         (ap (run (turns rest)) (turn-takes (out b p s (suc k) (Assign (r .udid) a)) ts (Assign (r .udid) a) refl)
         ∙ ap₂ (λ (x : Stepped) (us : List Target). run (turns rest) (world x us))
         (ap (stepped (state b p s (suc k) (Assign (r .udid) a))) (on-bus.assign-whole ts (r .udid) a r (v .waits .there r (inl refl)) refl)
-        ∙ assign-bound b p s (suc k) (r .udid) a (omega (arith, v .few)) (v .ready .sized r (inl refl) .udid) (f .0)
+        ∙ assign-bound b p s (suc k) (r .udid) a (omega (arith, v .below-128)) (v .ready .sized r (inl refl) .udid) (f .0)
         ∙ simp (f .1, add-one (suc k)))
         (effect-is (Assign (r .udid) a) ts (v .ready .sized r (inl refl) .udid) (v .fits))
         ∙ ih a e)

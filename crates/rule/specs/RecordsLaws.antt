@@ -17,9 +17,9 @@ use Rattle.arbitration.specs.Among.{Among}
 use Rattle.targets.specs.Admission.{AdmittedTargets}
 use Rattle.targets.specs.Change.{Changed}
 use Rattle.targets.specs.ChangeLaws.{changed-exactly}
-use Rattle.targets.specs.IndexLaws.{in-targets, sized-at}
+use Rattle.targets.specs.IndexLaws.{target-has-record, sized-at}
 use Rattle.targets.specs.Records.{targetAt, recordCount, targetsOf, recordsWith}
-use Rattle.targets.specs.RecordLaws.{assigned-keeps}
+use Rattle.targets.specs.RecordLaws.{assigned-keeps-udid}
 use Rattle.targets.specs.Target.{Target, prepared, assignedTo}
 use Rattle.rule.specs.Demand3.{given-addresses, given-targets}
 use Rattle.rule.specs.PassEnd.{passEnd}
@@ -29,7 +29,7 @@ use Rattle.rule.specs.RuleLaws.{each-map}
 
 served-keeps : (gs : List Given) (t : Target) → servedBy gs t .udid ≡ t .udid
 served-keeps [] t = refl
-served-keeps (g ∷ gs) t = served-keeps gs (assignedTo (g .who .udid) (g .address) t) ∙ assigned-keeps (g .who .udid) (g .address) t
+served-keeps (g ∷ gs) t = served-keeps gs (assignedTo (g .who .udid) (g .address) t) ∙ assigned-keeps-udid (g .who .udid) (g .address) t
 
 -- the identifier of a record by its bytes
 record-bytes : (s : List ℕ) (i : ℕ) → Bytes s → i < length s / 18 → take 16 (drop (18 * i) s) ≡ udidBytes (targetAt s i .udid)
@@ -67,7 +67,7 @@ module _ (occupied : Pool) (s : List ℕ) (b : Bytes s) (v : AdmittedTargets (st
     where
       at : (g : Given) → Among (g .who) (targetsOf s) → (i : ℕ) × (i < length s / 18) × RecordOf s i g
       at g m =
-          let r = in-targets s (recordCount s) 0 (g .who) m in
+          let r = target-has-record s (recordCount s) 0 (g .who) m in
           let h : r .0 < length s / 18 = omega (arith, r .2) in
           (r .0, h, record-bytes s (r .0) b h ∙ ap (λ (t : Target). udidBytes (t .udid)) (r .3))
 

@@ -22,7 +22,7 @@ use Rattle.udid.specs.Udids.{Fits}
 use Rattle.udid.specs.declared.Udid.{Udid}
 use Rattle.targets.specs.Target.{Target, Sized}
 use Rattle.targets.specs.Reply.{replyData}
-use Rattle.targets.specs.ReplyLaws.{length-data, bytes-data}
+use Rattle.targets.specs.ReplyLaws.{length-reply-data, bytes-reply-data}
 use Rattle.arp.specs.Bindings.{openSlot, heldAt, boundTo, findFrom, freed, slotFor, bound}
 use Rattle.arp.specs.Controller.{handed, asked, chosen, issued, replied, afterPrepare, afterGet, byCommand, stepped}
 use Rattle.arp.specs.Heard.{sendByte, blockRead, blockWrite}
@@ -94,7 +94,7 @@ get-replied c t e z =
     let i : udidAt (replyData t) 0 ≡ t .udid = udid-back [] (t .addressByte ∷ []) 0 (t .udid) (z .udid) refl in
     let a : getD (replyData t) 16 0 ≡ t .addressByte = getD-at (udidBytes (t .udid)) (t .addressByte) [] 0 16 (length-udid (t .udid)) in
     ap (byCommand c (traceOf GetUdid (replyData t))) e
-    ∙ get-reply c (traceOf GetUdid (replyData t)) (replyData t) (bytes-data t (z .addressByte)) (omega (arith, length-data t)) refl (length-data t)
+    ∙ get-reply c (traceOf GetUdid (replyData t)) (replyData t) (bytes-reply-data t (z .addressByte)) (omega (arith, length-reply-data t)) refl (length-reply-data t)
     ∙ ap₂ (replied c) i a
 
 -- nobody is bound under this identifier

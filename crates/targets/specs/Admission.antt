@@ -28,4 +28,4 @@ pub record AdmittedTargets (starting : Pool) (ts : List Target) : Type 0 where
   pub differ : Pairs Differ ts
   pub fixed-apart : Pairs FixedApart ts
   pub fixed-free : (t : Target) → Among t ts → FixedFree starting t
-  pub few : length ts ≤ 120
+  pub at-most-120 : length ts ≤ 120

@@ -15,9 +15,9 @@ use Rattle.targets.specs.Members.{Waits}
 use Rattle.targets.specs.Target.{Target, isResolved, resolve}
 
 -- who is unresolved after a resolve was so before, and has another identifier
-back : (u : Udid) (a : ℕ) (ts : List Target) (t : Target) → Among t (resolve u a ts) → isResolved t ≡ false → Among t ts × (sameUdid (t .udid) u ≡ false)
-back u a (x ∷ ts) t (inr h) e = let r = back u a ts t h e in (inr (r .0), r .1)
-back u a (x ∷ ts) t (inl h) e = go (sameUdid (x .udid) u) refl h
+unresolved-before : (u : Udid) (a : ℕ) (ts : List Target) (t : Target) → Among t (resolve u a ts) → isResolved t ≡ false → Among t ts × (sameUdid (t .udid) u ≡ false)
+unresolved-before u a (x ∷ ts) t (inr h) e = let r = unresolved-before u a ts t h e in (inr (r .0), r .1)
+unresolved-before u a (x ∷ ts) t (inl h) e = go (sameUdid (x .udid) u) refl h
   where
     go : (b : Bool) → sameUdid (x .udid) u ≡ b → pick b (record { udid = x .udid; addressByte = 2 * (a % 128) + 1; flag = 1 }) x ≡ t
         → Among t (x ∷ ts) × (sameUdid (t .udid) u ≡ false)
@@ -25,9 +25,9 @@ back u a (x ∷ ts) t (inl h) e = go (sameUdid (x .udid) u) refl h
     go false p q = (inl q, ap (λ (y : Target). sameUdid (y .udid) u) (sym q) ∙ p)
 
 -- who has another identifier is left as it was
-kept : (u : Udid) (a : ℕ) (ts : List Target) (t : Target) → Among t ts → sameUdid (t .udid) u ≡ false → Among t (resolve u a ts)
-kept u a (x ∷ ts) t (inr h) e = inr (kept u a ts t h e)
-kept u a (x ∷ ts) t (inl h) e =
+others-kept : (u : Udid) (a : ℕ) (ts : List Target) (t : Target) → Among t ts → sameUdid (t .udid) u ≡ false → Among t (resolve u a ts)
+others-kept u a (x ∷ ts) t (inr h) e = inr (others-kept u a ts t h e)
+others-kept u a (x ∷ ts) t (inl h) e =
     let f : sameUdid (x .udid) u ≡ false = ap (λ (y : Target). sameUdid (y .udid) u) h ∙ e in
     inl (simp f h)
 
@@ -35,8 +35,8 @@ kept u a (x ∷ ts) t (inl h) e =
 pub waits-next : (ts rest : List Target) (r : Target) (a : ℕ) → Waits ts (r ∷ rest) → ((x : Target) → Among x rest → value (r .udid) < value (x .udid))
     → Waits (resolve (r .udid) a ts) rest
 waits-next ts rest r a w lt = record {
-  known = λ t m e. let b = back (r .udid) a ts t m e in at t (b .1) (w .known t (b .0) e);
-  there = λ t m. kept (r .udid) a ts t (w .there t (inr m)) (other-udid (t .udid) (r .udid) (λ q. above t (lt t m) (ap value q)));
+  known = λ t m e. let b = unresolved-before (r .udid) a ts t m e in at t (b .1) (w .known t (b .0) e);
+  there = λ t m. others-kept (r .udid) a ts t (w .there t (inr m)) (other-udid (t .udid) (r .udid) (λ q. above t (lt t m) (ap value q)));
   unresolved = λ t m. w .unresolved t (inr m);
 }
   where

@@ -21,7 +21,7 @@ use Rattle.targets.specs.Winner.{betterOf, bestFrom, leastOf, winnerOf, 
 use Rattle.targets.specs.Reply.{replyBytes, sends, waiting, OnWire, silence, shown, onWire}
 use Rattle.targets.specs.Members.{Least}
 use Rattle.targets.specs.ReplyLaws.{nobody-on-wire, least-on-wire, least-sending}
-use Rattle.targets.specs.IndexLaws.{in-targets, of-targets, sized-at}
+use Rattle.targets.specs.IndexLaws.{target-has-record, record-has-target, sized-at}
 use Rattle.targets.specs.declared.winner.Winner.{Winner}
 use Rattle.targets.specs.declared.winner.Winner.the-variants.{At, AllResolved}
 
@@ -132,29 +132,29 @@ module _ (s : List ℕ) where
 -- ---- what stands on the wire
 
 module _ (s : List ℕ) (b : Bytes s) (differ : None (RepeatedAt s) (recordCount s)) where
-  pub flag-is : (i : ℕ) (t : Target) → targetAt s i ≡ t → isResolved t ≡ false → Unresolved s i
+  pub unresolved-by-flag : (i : ℕ) (t : Target) → targetAt s i ≡ t → isResolved t ≡ false → Unresolved s i
   unfolding targetAt
-  flag-is i t e o = eqb-false (flagOf s i) 1 (ap isResolved e ∙ o)
+  unresolved-by-flag i t e o = eqb-false (flagOf s i) 1 (ap isResolved e ∙ o)
 
-  other : (i j : ℕ) → i < recordCount s → j < recordCount s → (i ≡ j → ⊥) → udidOf s i ≡ udidOf s j → ⊥
-  other i j h g n e = go (decLt i j)
+  others-differ : (i j : ℕ) → i < recordCount s → j < recordCount s → (i ≡ j → ⊥) → udidOf s i ≡ udidOf s j → ⊥
+  others-differ i j h g n e = go (decLt i j)
     where
       go : Dec (i < j) → ⊥
       go (yes l) = differ j g (i, l, e)
       go (no l) = differ i h (j, omega arith, sym e)
 
   -- the winner is the least of the unresolved targets
-  pub least-of : (w : ℕ) → Wins s (recordCount s) w → Least (targetsOf s) (targetAt s w)
+  pub winner-least : (w : ℕ) → Wins s (recordCount s) w → Least (targetsOf s) (targetAt s w)
   unfolding targetAt
-  least-of w v = record {
-    among = of-targets s (recordCount s) 0 w (omega arith) (omega (arith, v .below));
+  winner-least w v = record {
+    among = record-has-target s (recordCount s) 0 w (omega arith) (omega (arith, v .below));
     unresolved = ne-eqb (flagOf s w) 1 (v .unresolved);
     sized = sized-at s b w;
-    below = λ t m o. let r = in-targets s (recordCount s) 0 t m in at t (r .0) (omega (arith, r .2)) (r .3) o (ℕ-discrete w (r .0));
+    below = λ t m o. let r = target-has-record s (recordCount s) 0 t m in at t (r .0) (omega (arith, r .2)) (r .3) o (ℕ-discrete w (r .0));
   }
     where
       lower : (j : ℕ) → j < recordCount s → value (udidOf s w) ≤ value (udidOf s j) → (w ≡ j → ⊥) → value (udidOf s w) < value (udidOf s j)
-      lower j l h n = strict (value (udidOf s w)) (value (udidOf s j)) h (λ e. other w j (v .below) l n (value-same (udidOf s w) (udidOf s j) (fits-at s (w * 18) b .low) (fits-at s (j * 18) b .low) e))
+      lower j l h n = strict (value (udidOf s w)) (value (udidOf s j)) h (λ e. others-differ w j (v .below) l n (value-same (udidOf s w) (udidOf s j) (fits-at s (w * 18) b .low) (fits-at s (j * 18) b .low) e))
         where
           strict : (x y : ℕ) → x ≤ y → (x ≡ y → ⊥) → x < y
           strict x y p q = omega arith
@@ -163,7 +163,7 @@ module _ (s : List ℕ) (b : Bytes s) (differ : None (RepeatedAt s) (recordCount
       at t j l e o (yes q) = inl (ap (targetAt s) q ∙ e)
       at t j l e o (no q) = inr (
         subst Sized e (sized-at s b j),
-        subst (λ (x : Target). value (udidOf s w) < value (x .udid)) e (lower j l (v .least j l (flag-is j t e o)) q),
+        subst (λ (x : Target). value (udidOf s w) < value (x .udid)) e (lower j l (v .least j l (unresolved-by-flag j t e o)) q),
       )
 
   -- THE WIRE SHOWS THE WINNER'S REPLY, or silence where all are resolved
@@ -171,9 +171,9 @@ module _ (s : List ℕ) (b : Bytes s) (differ : None (RepeatedAt s) (recordCount
   winner-on-wire = go (winnerOf s) (winner-exactly s (winnerOf s) .0 refl)
     where
       go : (r : Winner) → Won s r → onWire (waiting (targetsOf s)) ≡ shownBy s r
-      go AllResolved v = nobody-on-wire (targetsOf s) (λ t m o. let r = in-targets s (recordCount s) 0 t m in v (r .0) (omega (arith, r .2)) (flag-is (r .0) t (r .3) o))
-      go (At w) v = least-on-wire (targetsOf s) (targetAt s w) (least-of w v)
+      go AllResolved v = nobody-on-wire (targetsOf s) (λ t m o. let r = target-has-record s (recordCount s) 0 t m in v (r .0) (omega (arith, r .2)) (unresolved-by-flag (r .0) t (r .3) o))
+      go (At w) v = least-on-wire (targetsOf s) (targetAt s w) (winner-least w v)
 
   -- after n bits those targets still send that share n bits with the winner
   pub winner-sending : (w : ℕ) → At w ≡ winnerOf s → (n : ℕ) → n ≤ 152 → sending n (waiting (targetsOf s)) ≡ sharing n (sends (targetAt s w)) (waiting (targetsOf s))
-  winner-sending w e n h = least-sending (targetsOf s) (targetAt s w) (least-of w (winner-exactly s (At w) .0 e)) n h
+  winner-sending w e n h = least-sending (targetsOf s) (targetAt s w) (winner-least w (winner-exactly s (At w) .0 e)) n h
