@@ -13,7 +13,7 @@ use Rattle.arp.proofs.command.Command as command
 use Rattle.arp.specs.declared.command.Command.{Command}
 use Rattle.arp.specs.declared.command.Command.the-variants.{Nothing, Prepare, GetUdid, Assign, Ended, NoneFree, Abandoned, NotOutstanding}
 use Rattle.rule.specs.Acknowledge.{standing, onBus}
-use Rattle.rule.specs.EffectLaws.{acted}
+use Rattle.rule.specs.Acted.{acted}
 use Rattle.bus.specs.Turn.{isSent}
 
 pub ends : (k : Command) → OneOf not-sent (tagOf command.the-type k) → isSent k ≡ false

@@ -29,10 +29,11 @@ use Rattle.bindings.specs.BufferLaws.{bytes-there, rest-there, nobody-bytes}
 use Rattle.bindings.specs.Entries as entries
 use Rattle.bindings.specs.declared.entry.Entry.the-variants.{Nobody}
 use Rattle.rule.specs.AnyLaws.{any-map, each-both, any-each, any-constant}
-use Rattle.rule.specs.Demand3.{given-addresses}
+use Rattle.rule.specs.PassEndLaws.{given-addresses}
 use Rattle.rule.specs.PassEnd.{passEnd}
 use Rattle.rule.specs.PlainRule.{Given, ruled, FreeIn, Distinct}
-use Rattle.rule.specs.Reading.{Any, RecordOf, isBound, boundAt, OnePerUdid, bound-given, given-bound, served-once}
+use Rattle.rule.specs.ReadingLaws.{bound-given, given-bound, served-once}
+use Rattle.rule.specs.Reading.{Any, RecordOf, isBound, boundAt, OnePerUdid}
 use Rattle.rule.specs.RecordsLaws as records
 use Rattle.rule.specs.RuleLaws.{each-map}
 use Rattle.bus.specs.EndLaws.{entry-bound, leaves-rule}

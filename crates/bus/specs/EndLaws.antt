@@ -25,13 +25,15 @@ use Rattle.targets.specs.Target.{Target}
 use Rattle.targets.specs.declared.admit.Checked.the-variants.{Admitted}
 use Rattle.bindings.specs.BoundLaws.{bound-set-count}
 use Rattle.bindings.specs.Entries as entries
-use Rattle.rule.specs.AllBound.{movable, leftFree, all-served, all-given}
+use Rattle.rule.specs.AllBoundLaws.{all-served, all-given}
+use Rattle.rule.specs.AllBound.{movable, leftFree}
 use Rattle.rule.specs.Bus.{World, pass}
-use Rattle.rule.specs.Demand3.{demand-3}
+use Rattle.rule.specs.PassEndLaws.{demand-3}
 use Rattle.rule.specs.EndAnswer.{numberOf, askerOf, getsFor}
 use Rattle.rule.specs.PassEnd.{lastCommand, passEnd}
 use Rattle.rule.specs.PlainRule.{Ending, served, noneFree, ruled}
-use Rattle.rule.specs.Reading.{isBound, boundAt, bound-count}
+use Rattle.rule.specs.ReadingLaws.{bound-count}
+use Rattle.rule.specs.Reading.{isBound, boundAt}
 use Rattle.rule.specs.Sent.{getsOnBus}
 use Rattle.rule.specs.SentLaws.{counted-on-bus}
 use Rattle.bus.specs.PassLaws.{leaves-pass, answer-of-pass, asker-of-pass, gets-of-pass}

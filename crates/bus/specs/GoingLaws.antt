@@ -44,7 +44,7 @@ use Rattle.arp.specs.declared.state.Stepped.{Stepped}
 use Rattle.rule.specs.Acknowledge.{onBus}
 use Rattle.rule.specs.Bus.{World, reached, took, turn, run, beginning, pass}
 use Rattle.rule.specs.BusLaws.{turn-still, turn-takes}
-use Rattle.rule.specs.EffectLaws.{acted}
+use Rattle.rule.specs.Acted.{acted}
 use Rattle.rule.specs.TraceLaws as on-bus
 use Rattle.rule.specs.StepLaws.{prepare-unheard, get-unheard, get-replied}
 use Rattle.bus.specs.Turn.{Fit, Reaches, isSent, silence, worldOf, sentTo, Going, Matches}

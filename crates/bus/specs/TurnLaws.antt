@@ -46,7 +46,8 @@ use Rattle.arp.specs.declared.state.Controller.{Controller}
 use Rattle.arp.specs.declared.state.Stepped.{Stepped}
 use Rattle.rule.specs.Acknowledge.{onBus}
 use Rattle.rule.specs.Bus.{World, reached, took, turn, run, beginning, pass}
-use Rattle.rule.specs.EffectLaws.{acted, Names, effect-is}
+use Rattle.rule.specs.Acted.{acted, Names}
+use Rattle.rule.specs.EffectLaws.{effect-is}
 use Rattle.rule.specs.TraceLaws as on-bus
 use Rattle.bus.specs.Turn.{Fit, Reaches, isSent, silence, Writes, worldOf, sentTo, Going, Matches}
 

@@ -31,6 +31,7 @@ use Rattle.rule.specs.Acknowledge.{begins, acknowledges, somebody, answe
 use Rattle.rule.specs.AcknowledgeLaws.{assign-stop}
 use Rattle.rule.specs.Effect.{preparing, assigning, addressIn, same, effect}
 use Rattle.rule.specs.TraceLaws as on-bus
+use Rattle.rule.specs.Acted.{acted, Names}
 
 -- ---- the test of lists
 
@@ -167,28 +168,6 @@ answered-quiet ack sent (x ∷ xs) rest q =
     go false e c i j q = ap (λ (l : List ℕ). x ∷ l) (j (q .1))
 
 -- ---- THE COMMANDS' TRACES DO WHAT THE COMMANDS MEAN
-
--- what a command means for the targets
-abbrev pub acted : Command → List Target → List Target
-acted Prepare ts = cleared ts
-acted (Assign u a) ts = resolve u (a .0) ts
-acted GetUdid ts = ts
-acted Nothing ts = ts
-acted Ended ts = ts
-acted (NoneFree u) ts = ts
-acted Abandoned ts = ts
-acted NotOutstanding ts = ts
-
--- the identifier that it names is a number of 128 bits
-abbrev pub Names : Command → Type 0
-Names (Assign u a) = Fits u
-Names Prepare = Unit
-Names GetUdid = Unit
-Names Nothing = Unit
-Names Ended = Unit
-Names (NoneFree u) = Unit
-Names Abandoned = Unit
-Names NotOutstanding = Unit
 
 -- Get UDID: its fourth symbol is 03h
 get-fourth : (x : Target) (ts : List Target) → getD (onBus GetUdid (x ∷ ts)) 3 0 ≡ 3

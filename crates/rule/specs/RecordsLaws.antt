@@ -21,10 +21,11 @@ use Rattle.targets.specs.IndexLaws.{target-has-record, sized-at}
 use Rattle.targets.specs.Records.{targetAt, recordCount, targetsOf, recordsWith}
 use Rattle.targets.specs.RecordLaws.{assigned-keeps-udid}
 use Rattle.targets.specs.Target.{Target, prepared, assignedTo}
-use Rattle.rule.specs.Demand3.{given-addresses, given-targets}
+use Rattle.rule.specs.PassEndLaws.{given-addresses, given-targets}
 use Rattle.rule.specs.PassEnd.{passEnd}
 use Rattle.rule.specs.PlainRule.{Given, ruled, FreeIn}
-use Rattle.rule.specs.Reading.{Any, RecordOf, servedBy, taken, TakenBy, end-targets, unserved, served-target}
+use Rattle.rule.specs.ReadingLaws.{end-targets, unserved, served-target}
+use Rattle.rule.specs.Reading.{Any, RecordOf, servedBy, taken, TakenBy}
 use Rattle.rule.specs.RuleLaws.{each-map}
 
 served-keeps : (gs : List Given) (t : Target) → servedBy gs t .udid ≡ t .udid

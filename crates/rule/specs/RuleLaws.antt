@@ -26,6 +26,7 @@ use Rattle.targets.specs.Target.{Target, Sized}
 use Rattle.targets.specs.Members.{Pairs}
 use Rattle.arp.specs.Controller.{chosen}
 use Rattle.rule.specs.PlainRule.{held, plainChoice, Ending, served, noneFree, Given, next, rule, FreeIn, Distinct}
+use Rattle.rule.specs.Ready.{Apart, Ready}
 
 -- ---- the choice
 
@@ -66,18 +67,6 @@ unfolding plainChoice
 choice-own p t a f e = let q : At (held t) ≡ At a = simp f at e in sym (ap (λ (x : Address). x .0) (address-inj (held t) a q))
 
 -- ---- what the rule needs of the targets that are left
-
--- the first comes before the second, and where both are fixed they stand at different addresses
-pub record Apart (r t : Target) : Type 0 where
-  pub lower : value (r .udid) < value (t .udid)
-  pub elsewhere : isFixed (r .udid) ≡ true → isFixed (t .udid) ≡ true → r .addressByte / 2 ≡ t .addressByte / 2 → ⊥
-
-pub record Ready (p : Pool) (rest : List Target) : Type 0 where
-  pub apart : Pairs Apart rest
-  pub sized : (t : Target) → Among t rest → Sized t
-  pub fixed-free : (t : Target) → Among t rest → isFixed (t .udid) ≡ true → member p (t .addressByte / 2) ≡ false
-  pub fixed-some : (t : Target) → Among t rest → isFixed (t .udid) ≡ true → t .addressByte ≡ 255 → ⊥
-  pub last-used : member p 127 ≡ true
 
 pub ready-free : (p : Pool) (r : Target) (rest : List Target) (a : Address) → Ready p (r ∷ rest) → plainChoice p r ≡ At a → (a .0 < 128) × (member p (a .0) ≡ false)
 ready-free p r rest a v e = choice-free p r a (v .sized r (inl refl) .addressByte) (v .fixed-free r (inl refl)) e

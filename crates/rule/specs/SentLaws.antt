@@ -18,7 +18,7 @@ use Rattle.arp.specs.declared.state.Controller.{Controller}
 use Rattle.rule.specs.Acknowledge.{begins, acknowledges, somebody, answered, standing, sentPart, onBus}
 use Rattle.rule.specs.Bus.{World, took, turn, run, beginning, pass}
 use Rattle.rule.specs.BusLaws.{turn-still, turn-takes, took-length}
-use Rattle.rule.specs.Demand3.{demand-3, nobody-first}
+use Rattle.rule.specs.PassEndLaws.{demand-3, nobody-first}
 use Rattle.rule.specs.PassEnd.{lastCommand, nobodyThere, passEnd}
 use Rattle.rule.specs.PlainRule.{Ending, served, noneFree, ruled}
 use Rattle.rule.specs.TraceLaws as on-bus

@@ -15,6 +15,7 @@ use Rattle.targets.specs.Target.{Target}
 use Rattle.targets.specs.Members.{Pairs}
 use Rattle.targets.specs.Admission.{Differ}
 use Rattle.rule.specs.PlainRule.{insert, ascending}
+use Rattle.rule.specs.Ready.{Lower}
 
 -- who is in a list with one inserted
 in-insert : (t : Target) (xs : List Target) (y : Target) → Among y (insert t xs) → (t ≡ y) ⊎ Among y xs
@@ -54,9 +55,6 @@ length-insert t (x ∷ xs) = go (ltb (value (t .udid)) (value (x .udid))) (lengt
 pub length-ascending : (ts : List Target) → length (ascending ts) ≡ length ts
 length-ascending [] = refl
 length-ascending (t ∷ ts) = length-insert t (ascending ts) ∙ ap suc (length-ascending ts)
-
-abbrev pub Lower : Target → Target → Type 0
-Lower r t = value (r .udid) < value (t .udid)
 
 insert-lower : (t : Target) (xs : List Target) → ((x : Target) → Among x xs → Differ t x) → Pairs Lower xs → Pairs Lower (insert t xs)
 insert-lower t [] d h = ((λ x m. absurd m), tt)

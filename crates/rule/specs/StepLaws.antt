@@ -33,6 +33,7 @@ use Rattle.arp.specs.declared.command.Command.the-variants.{Prepare, GetUdid, A
 use Rattle.arp.specs.declared.state.Controller.{Controller}
 use Rattle.arp.specs.declared.state.Slot.{Slot}
 use Rattle.rule.specs.PassEnd.{state, out}
+use Rattle.rule.specs.Serving.{Unbound}
 
 -- ---- Prepare To ARP
 
@@ -96,10 +97,6 @@ get-replied c t e z =
     ap (byCommand c (traceOf GetUdid (replyData t))) e
     ∙ get-reply c (traceOf GetUdid (replyData t)) (replyData t) (bytes-reply-data t (z .addressByte)) (omega (arith, length-reply-data t)) refl (length-reply-data t)
     ∙ ap₂ (replied c) i a
-
--- nobody is bound under this identifier
-abbrev pub Unbound : Udid → List Slot → Type 0
-Unbound u s = (i : ℕ) → boundTo u (heldAt s i) ≡ false
 
 not-found : (u : Udid) (s : List Slot) → Unbound u s → (n a : ℕ) → findFrom u s n a ≡ 128
 unfolding findFrom

@@ -4,7 +4,7 @@ use denote.Ref.{now}
 use Rattle.arp.specs.declared.command.Command.{Command}
 use Rattle.targets.specs.Records.{targetsOf, recordsWith}
 use Rattle.targets.specs.Target.{Target}
-use Rattle.rule.specs.EffectLaws.{acted}
+use Rattle.rule.specs.Acted.{acted}
 use Rattle.bus.specs.TurnLaws.{same-records, assign-acted}
 use Rattle.bus.proofs.Tags.{unacted}
 use borrow.Author.Needs.{needs}

@@ -35,31 +35,10 @@ use Rattle.rule.specs.PlainRule.{Ending, served, noneFree, plainChoice}
 use Rattle.rule.specs.PassEnd.{lastCommand, Outcome, state, out, boundSlot, ended}
 use Rattle.rule.specs.EffectLaws.{effect-is}
 use Rattle.rule.specs.TraceLaws as on-bus
-use Rattle.rule.specs.RuleLaws.{choice-same, Ready, ready-free, ready-next}
-use Rattle.rule.specs.StepLaws.{Unbound, get-silent, get-issued, assign-bound}
-
--- ---- the plain rule with all that it changes carried along
-
--- one target served, and then the others; or the end
-abbrev pub serve : (Pool → List Slot → ℕ → List Target → Outcome) → Target → Pool → List Slot → ℕ → List Target → Free → Outcome
-serve next t p s k ts AllUsed = record { pool = p; slots = s; bound = k; targets = ts; ending = noneFree (t .udid) }
-serve next t p s k ts (At a) = next (withAddress p (a .0)) (set s (a .0) (boundSlot t)) (suc k) (resolve (t .udid) (a .0) ts)
-
--- the targets to serve, in ascending order; the pool, the bindings, how many are bound, and all targets
-abbrev pub plain : List Target → Pool → List Slot → ℕ → List Target → Outcome
-plain [] p s k ts = record { pool = p; slots = s; bound = k; targets = ts; ending = served }
-plain (t ∷ rest) p s k ts = serve (λ p′ s′ k′ ts′. plain rest p′ s′ k′ ts′) t p s k ts (plainChoice p t)
-
--- ---- what holds whenever Get UDID is out: `rest` are the unresolved targets in ascending order, and somebody is on the bus
-
-pub record Inv (p : Pool) (s : List Slot) (k : ℕ) (ts rest : List Target) : Type 0 where
-  pub ready : Ready p rest
-  pub waits : Waits ts rest
-  pub unbound : (t : Target) → Among t rest → Unbound (t .udid) s
-  pub room : length s ≡ 128
-  pub below-128 : k + length rest < 128
-  pub present : 0 < length ts
-  pub fits : (t : Target) → Among t ts → Fits (t .udid)
+use Rattle.rule.specs.Ready.{Ready}
+use Rattle.rule.specs.RuleLaws.{choice-same, ready-free, ready-next}
+use Rattle.rule.specs.Serving.{Unbound, serve, plain, Inv, turns, asking}
+use Rattle.rule.specs.StepLaws.{get-silent, get-issued, assign-bound}
 
 -- binding another leaves an identifier unbound
 unbound-set : (u : Udid) (t : Target) (s : List Slot) (a : ℕ) → a < length s → sameUdid (t .udid) u ≡ false → Unbound u s → Unbound u (set s a (boundSlot t))
@@ -92,14 +71,6 @@ inv-next p s k ts rest r a v e =
     above t l q = omega arith
 
 -- ---- the run
-
--- commands that a pass sends from a Get UDID on: one to learn that nobody is left, and two for each target
-abbrev pub turns : List Target → ℕ
-turns [] = 1
-turns (t ∷ ts) = suc (suc (turns ts))
-
-abbrev pub asking : Pool → Pool → List Slot → ℕ → List Target → World
-asking b p s n ts = record { now = out b p s n GetUdid; targets = ts }
 
 -- a world of the controller and the targets
 abbrev world : Stepped → List Target → World

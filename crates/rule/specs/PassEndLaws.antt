@@ -38,10 +38,12 @@ use Rattle.rule.specs.PlainRule.{insert, ascending, plainChoice, Ending,
 use Rattle.rule.specs.PassEnd.{Outcome, state, out, boundSlot, ended, outcome, nobodyThere, passEnd}
 use Rattle.rule.specs.EffectLaws.{effect-is}
 use Rattle.rule.specs.TraceLaws as on-bus
-use Rattle.rule.specs.RuleLaws.{Apart, Ready, rule-free, rule-all, rule-all-only, given-all, each-map, rule-who}
-use Rattle.rule.specs.SortLaws.{Lower, in-ascending, of-ascending, length-ascending, ascending-lower, pairs-of, pairs-more}
-use Rattle.rule.specs.StepLaws.{Unbound, prepare-done, prepare-silent}
-use Rattle.rule.specs.PassLaws.{serve, plain, Inv, turns, asking, run-ended, serves}
+use Rattle.rule.specs.Ready.{Apart, Ready, Lower}
+use Rattle.rule.specs.RuleLaws.{rule-free, rule-all, rule-all-only, given-all, each-map, rule-who}
+use Rattle.rule.specs.SortLaws.{in-ascending, of-ascending, length-ascending, ascending-lower, pairs-of, pairs-more}
+use Rattle.rule.specs.Serving.{Unbound, serve, plain, Inv, turns, asking}
+use Rattle.rule.specs.StepLaws.{prepare-done, prepare-silent}
+use Rattle.rule.specs.ServingLaws.{run-ended, serves}
 
 -- ---- the rule with all that it changes is the rule
 
