@@ -32,7 +32,7 @@ use Rattle.rule.specs.PassEndLaws.{demand-3}
 use Rattle.rule.specs.EndAnswer.{numberOf, askerOf, getsFor}
 use Rattle.rule.specs.PassEnd.{lastCommand, passEnd}
 use Rattle.rule.specs.PlainRule.{Ending, served, noneFree, ruled}
-use Rattle.rule.specs.ReadingLaws.{bound-count}
+use Rattle.rule.specs.ReadingLaws.{bound-as-many-as-given}
 use Rattle.rule.specs.Reading.{isBound, boundAt}
 use Rattle.rule.specs.Sent.{getsOnBus}
 use Rattle.rule.specs.SentLaws.{counted-on-bus}
@@ -104,7 +104,7 @@ module _ (occupied : Pool) (s b : List ℕ) (bytes : Bytes s) (long : 2048 ≤ l
       ap (λ (x : ModelAnswer). x .count) (leaves-rule .answered)
       ∙ bound-set-count (entryAt slots)
       ∙ count-cong (λ (a : ℕ). entries.isBound (entryAt slots a)) (boundAt slots) 128 (λ a h. entry-bound (heldAt slots a))
-      ∙ bound-count occupied (targetsOf s) admitted
+      ∙ bound-as-many-as-given occupied (targetsOf s) admitted
 
   -- the Get UDIDs: as many as stood on the bus, counted by their symbols; one more than targets are bound, or none on an empty bus
   pub gets-on-bus : r .gets ≡ getsOnBus occupied (targetsOf s)

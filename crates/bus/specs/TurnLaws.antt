@@ -47,7 +47,7 @@ use Rattle.arp.specs.declared.state.Stepped.{Stepped}
 use Rattle.rule.specs.Acknowledge.{onBus}
 use Rattle.rule.specs.Bus.{World, reached, took, turn, run, beginning, pass}
 use Rattle.rule.specs.Acted.{acted, Names}
-use Rattle.rule.specs.EffectLaws.{effect-is}
+use Rattle.rule.specs.EffectLaws.{effect-as-meant}
 use Rattle.rule.specs.TraceLaws as on-bus
 use Rattle.bus.specs.Turn.{Fit, Reaches, isSent, silence, Writes, worldOf, sentTo, Going, Matches}
 
@@ -168,7 +168,7 @@ names-one NotOutstanding s b r = tt
 
 -- the symbols on the bus do to the targets what the command means
 pub reached-is : (k : Command) (s : List ℕ) → Bytes s → Reaches k (targetsOf s) → reached (onBus k (targetsOf s)) (targetsOf s) ≡ acted k (targetsOf s)
-reached-is k s b r = effect-is k (targetsOf s) (names-one k s b r) (fits-targets s b)
+reached-is k s b r = effect-as-meant k (targetsOf s) (names-one k s b r) (fits-targets s b)
 
 -- a command sent: the controller's step took what stood on the bus, and the targets acted
 pub sent-matches : (st r : Stepped) (s after tr : List ℕ) → Bytes s → Fit s → Going st s → tr ≡ onBus (st .command) (targetsOf s) → r ≡ stepped (st .state) tr

@@ -19,7 +19,7 @@ use Rattle.targets.specs.Target.{Target, Sized}
 use Rattle.targets.specs.Members.{Pairs}
 use Rattle.targets.specs.Admission.{FixedApart, FixedFree, AdmittedTargets}
 use Rattle.rule.specs.PlainRule.{served, ruled}
-use Rattle.rule.specs.PassEndLaws.{served-exactly, served-each, given-served}
+use Rattle.rule.specs.PassEndLaws.{served-exactly, room-gives-each, each-given-served}
 use Rattle.rule.specs.AllBound.{movable, withFixed, leftFree}
 
 -- each fixed target has an address of its own that is free in the pool
@@ -28,9 +28,9 @@ record Own (p : Pool) (ts : List Target) : Type 0 where
   free : (t : Target) → Among t ts → FixedFree p t
   apart : Pairs FixedApart ts
 
-counts : (ts : List Target) (p : Pool) → Own p ts → used (withFixed p ts) + movable ts ≡ used p + length ts
-counts [] p v = refl
-counts (t ∷ ts) p v = go (isFixed (t .udid)) refl (λ w. counts ts (withAddress p (t .addressByte / 2)) w) (λ w. counts ts p w)
+used-and-movable : (ts : List Target) (p : Pool) → Own p ts → used (withFixed p ts) + movable ts ≡ used p + length ts
+used-and-movable [] p v = refl
+used-and-movable (t ∷ ts) p v = go (isFixed (t .udid)) refl (λ w. used-and-movable ts (withAddress p (t .addressByte / 2)) w) (λ w. used-and-movable ts p w)
   where
     go : (b : Bool) → isFixed (t .udid) ≡ b
         → (Own (withAddress p (t .addressByte / 2)) ts → used (withFixed (withAddress p (t .addressByte / 2)) ts) + movable ts ≡ used (withAddress p (t .addressByte / 2)) + length ts)
@@ -52,16 +52,16 @@ module _ (occupied : Pool) (ts : List Target) (v : AdmittedTargets (startingPool
   own : Own (startingPool occupied) ts
   own = record { sized = λ t m. v .sized t m .addressByte; free = v .fixed-free; apart = v .fixed-apart }
 
-  room : (movable ts ≤ leftFree (startingPool occupied) ts) ↔ (used (startingPool occupied) + length ts ≤ 128)
-  room =
-      let e = counts ts (startingPool occupied) own in
+  room-exactly : (movable ts ≤ leftFree (startingPool occupied) ts) ↔ (used (startingPool occupied) + length ts ≤ 128)
+  room-exactly =
+      let e = used-and-movable ts (startingPool occupied) own in
       let l = used-le (withFixed (startingPool occupied) ts) in
       (λ h. omega (arith, e, l, h), λ h. omega (arith, e, l, h))
 
   -- ALL ARE SERVED IF AND ONLY IF the movable ones do not outnumber the addresses left free
   pub all-served : (ruled (startingPool occupied) ts .ending ≡ served) ↔ (movable ts ≤ leftFree (startingPool occupied) ts)
-  all-served = (λ e. room .1 (served-exactly occupied ts v .0 e), λ h. served-exactly occupied ts v .1 (room .0 h))
+  all-served = (λ e. room-exactly .1 (served-exactly occupied ts v .0 e), λ h. served-exactly occupied ts v .1 (room-exactly .0 h))
 
   -- AND THEN, AND ONLY THEN, each is given an address
   pub all-given : (length (ruled (startingPool occupied) ts .given) ≡ length ts) ↔ (movable ts ≤ leftFree (startingPool occupied) ts)
-  all-given = (λ e. all-served .0 (given-served occupied ts v e), λ h. served-each occupied ts v (room .0 h))
+  all-given = (λ e. all-served .0 (each-given-served occupied ts v e), λ h. room-gives-each occupied ts v (room-exactly .0 h))

@@ -31,11 +31,11 @@ use Rattle.targets.specs.Target.{Target, mapTargets, prepared, assignedTo, clea
 use Rattle.targets.specs.Members.{Pairs}
 use Rattle.targets.specs.Admission.{AdmittedTargets}
 use Rattle.rule.specs.PlainRule.{plainChoice, Given, Ruled, next, rule, FreeIn, Distinct, ascending, ruled}
-use Rattle.rule.specs.RuleLaws.{rule-who}
+use Rattle.rule.specs.RuleLaws.{rule-serves-these}
 use Rattle.rule.specs.Ready.{Lower}
-use Rattle.rule.specs.SortLaws.{in-ascending, ascending-lower}
+use Rattle.rule.specs.SortLaws.{ascending-adds-none, ascending-is-lower-first}
 use Rattle.rule.specs.PassEnd.{boundSlot, putAll, resolveAll, passEnd}
-use Rattle.rule.specs.PassEndLaws.{given-addresses}
+use Rattle.rule.specs.PassEndLaws.{given-free-distinct}
 use Rattle.rule.specs.Reading.{Any, isBound, boundAt, GivenAt, OnePerUdid, servedBy, taken, TakenBy}
 
 -- ---- HOW MANY are bound
@@ -95,20 +95,20 @@ held-given (g ∷ gs) s a u l f e =
         ∙ ap (heldAt (set s (g .address) (boundSlot (g .who)))) (sym q) ∙ k in
         inr (inl (sym q, cc m))
 
-small : (b : Pool) (gs : List Given) → Each (FreeIn b) gs → Each (λ (g : Given). g .address < 128) gs
-small b [] h = tt
-small b (g ∷ gs) h = (h .0 .0, small b gs (h .1))
+given-below-128 : (b : Pool) (gs : List Given) → Each (FreeIn b) gs → Each (λ (g : Given). g .address < 128) gs
+given-below-128 b [] h = tt
+given-below-128 b (g ∷ gs) h = (h .0 .0, given-below-128 b gs (h .1))
 
-stays : (gs : List Given) (s : List Slot) (a : ℕ) → Each (λ (h : Given). h .address ≡ a → ⊥) gs → heldAt (putAll gs s) a ≡ heldAt s a
-stays [] s a d = refl
-stays (g ∷ gs) s a d = stays gs (set s (g .address) (boundSlot (g .who))) a (d .1) ∙ held-other s (g .address) a (boundSlot (g .who)) (λ q. d .0 (sym q))
+others-keep-slot : (gs : List Given) (s : List Slot) (a : ℕ) → Each (λ (h : Given). h .address ≡ a → ⊥) gs → heldAt (putAll gs s) a ≡ heldAt s a
+others-keep-slot [] s a d = refl
+others-keep-slot (g ∷ gs) s a d = others-keep-slot gs (set s (g .address) (boundSlot (g .who))) a (d .1) ∙ held-other s (g .address) a (boundSlot (g .who)) (λ q. d .0 (sym q))
 
 -- and all that was given
 given-held : (gs : List Given) (s : List Slot) → length s ≡ 128 → Each (λ (g : Given). g .address < 128) gs → Distinct gs
     → Each (λ (g : Given). heldAt (putAll gs s) (g .address) ≡ Bound (g .who .udid)) gs
 given-held [] s l f d = tt
 given-held (g ∷ gs) s l f d = (
-  stays gs (set s (g .address) (boundSlot (g .who))) (g .address) (d .0) ∙ held-same s (g .address) (boundSlot (g .who)) (omega (arith, l, f .0)),
+  others-keep-slot gs (set s (g .address) (boundSlot (g .who))) (g .address) (d .0) ∙ held-same s (g .address) (boundSlot (g .who)) (omega (arith, l, f .0)),
   given-held gs (set s (g .address) (boundSlot (g .who))) (length-set s (g .address) _ ∙ l) (f .1) (d .1),
 )
 
@@ -130,9 +130,9 @@ open-unclaimed a e = let q : Open ≡ Claimed = sym (open-all a) ∙ e in let z 
 
 module _ (occupied : Pool) (ts : List Target) (v : AdmittedTargets (startingPool occupied) ts) where
   -- as many are bound as the plain rule serves
-  pub bound-count : count (boundAt (passEnd (startingPool occupied) ts .now .state .slots)) 128 ≡ length (ruled (startingPool occupied) ts .given)
-  bound-count =
-      let r = given-addresses occupied ts v in
+  pub bound-as-many-as-given : count (boundAt (passEnd (startingPool occupied) ts .now .state .slots)) 128 ≡ length (ruled (startingPool occupied) ts .given)
+  bound-as-many-as-given =
+      let r = given-free-distinct occupied ts v in
       ap (λ (s : List Slot). count (boundAt s) 128) (end-slots (startingPool occupied) ts)
       ∙ count-given (ruled (startingPool occupied) ts .given) (replicate 128 openSlot) (length-replicate 128 openSlot) (free-room (startingPool occupied) (ruled (startingPool occupied) ts .given) (r .0)) (r .1)
       ∙ omega (arith, open-count)
@@ -141,7 +141,7 @@ module _ (occupied : Pool) (ts : List Target) (v : AdmittedTargets (startingPool
   pub bound-given : (a : ℕ) (u : Udid) → heldAt (passEnd (startingPool occupied) ts .now .state .slots) a ≡ Bound u → Any (GivenAt a u) (ruled (startingPool occupied) ts .given)
   bound-given a u e =
       go (held-given (ruled (startingPool occupied) ts .given) (replicate 128 openSlot) a u (length-replicate 128 openSlot)
-      (small (startingPool occupied) (ruled (startingPool occupied) ts .given) (given-addresses occupied ts v .0))
+      (given-below-128 (startingPool occupied) (ruled (startingPool occupied) ts .given) (given-free-distinct occupied ts v .0))
       (ap (λ (s : List Slot). heldAt s a) (sym (end-slots (startingPool occupied) ts)) ∙ e))
     where
       go : (heldAt (replicate 128 openSlot) a ≡ Bound u) ⊎ Any (GivenAt a u) (ruled (startingPool occupied) ts .given) → Any (GivenAt a u) (ruled (startingPool occupied) ts .given)
@@ -151,48 +151,48 @@ module _ (occupied : Pool) (ts : List Target) (v : AdmittedTargets (startingPool
   -- who was given an address is bound there
   pub given-bound : Each (λ (g : Given). heldAt (passEnd (startingPool occupied) ts .now .state .slots) (g .address) ≡ Bound (g .who .udid)) (ruled (startingPool occupied) ts .given)
   given-bound =
-      let r = given-addresses occupied ts v in
+      let r = given-free-distinct occupied ts v in
       rw (end-slots (startingPool occupied) ts)
       (given-held (ruled (startingPool occupied) ts .given) (replicate 128 openSlot) (length-replicate 128 openSlot)
-      (small (startingPool occupied) (ruled (startingPool occupied) ts .given) (r .0)) (r .1))
+      (given-below-128 (startingPool occupied) (ruled (startingPool occupied) ts .given) (r .0)) (r .1))
 
   -- no address is claimed by two
   pub none-claimed : (a : ℕ) → heldAt (passEnd (startingPool occupied) ts .now .state .slots) a ≡ Claimed → ⊥
   none-claimed a e =
-      let r = given-addresses occupied ts v in
+      let r = given-free-distinct occupied ts v in
       unclaimed (ruled (startingPool occupied) ts .given) (replicate 128 openSlot) open-unclaimed (length-replicate 128 openSlot)
-      (small (startingPool occupied) (ruled (startingPool occupied) ts .given) (r .0)) a
+      (given-below-128 (startingPool occupied) (ruled (startingPool occupied) ts .given) (r .0)) a
       (ap (λ (s : List Slot). heldAt s a) (sym (end-slots (startingPool occupied) ts)) ∙ e)
 
 -- ---- WHAT EACH TARGET ends with
 
-same : (ts : List Target) → mapTargets (λ (t : Target). t) ts ≡ ts
-same [] = refl
-same (t ∷ ts) = ap (λ (l : List Target). t ∷ l) (same ts)
+map-identity : (ts : List Target) → mapTargets (λ (t : Target). t) ts ≡ ts
+map-identity [] = refl
+map-identity (t ∷ ts) = ap (λ (l : List Target). t ∷ l) (map-identity ts)
 
-twice : (f h : Target → Target) (ts : List Target) → mapTargets f (mapTargets h ts) ≡ mapTargets (λ (t : Target). f (h t)) ts
-twice f h [] = refl
-twice f h (t ∷ ts) = ap (λ (l : List Target). f (h t) ∷ l) (twice f h ts)
+map-twice : (f h : Target → Target) (ts : List Target) → mapTargets f (mapTargets h ts) ≡ mapTargets (λ (t : Target). f (h t)) ts
+map-twice f h [] = refl
+map-twice f h (t ∷ ts) = ap (λ (l : List Target). f (h t) ∷ l) (map-twice f h ts)
 
-resolved-are : (gs : List Given) (ts : List Target) → resolveAll gs ts ≡ mapTargets (servedBy gs) ts
-resolved-are [] ts = sym (same ts)
-resolved-are (g ∷ gs) ts = resolved-are gs (resolve (g .who .udid) (g .address) ts) ∙ twice (servedBy gs) (assignedTo (g .who .udid) (g .address)) ts
+resolved-as-served : (gs : List Given) (ts : List Target) → resolveAll gs ts ≡ mapTargets (servedBy gs) ts
+resolved-as-served [] ts = sym (map-identity ts)
+resolved-as-served (g ∷ gs) ts = resolved-as-served gs (resolve (g .who .udid) (g .address) ts) ∙ map-twice (servedBy gs) (assignedTo (g .who .udid) (g .address)) ts
 
 -- every target, in its place
 pub end-targets : (b : Pool) (ts : List Target) → passEnd b ts .targets ≡ mapTargets (λ (t : Target). servedBy (ruled b ts .given) (prepared t)) ts
 end-targets b [] = refl
-end-targets b (t ∷ ts) = resolved-are (ruled b (t ∷ ts) .given) (cleared (t ∷ ts)) ∙ twice (servedBy (ruled b (t ∷ ts) .given)) prepared (t ∷ ts)
+end-targets b (t ∷ ts) = resolved-as-served (ruled b (t ∷ ts) .given) (cleared (t ∷ ts)) ∙ map-twice (servedBy (ruled b (t ∷ ts) .given)) prepared (t ∷ ts)
 
 -- one that is not served keeps its address byte
-pub unserved : (gs : List Given) (t : Target) → Each (λ (g : Given). sameUdid (t .udid) (g .who .udid) ≡ false) gs → servedBy gs t ≡ t
-unserved [] t h = refl
-unserved (g ∷ gs) t h = ap (servedBy gs) (other (h .0)) ∙ unserved gs t (h .1)
+pub unserved-stays : (gs : List Given) (t : Target) → Each (λ (g : Given). sameUdid (t .udid) (g .who .udid) ≡ false) gs → servedBy gs t ≡ t
+unserved-stays [] t h = refl
+unserved-stays (g ∷ gs) t h = ap (servedBy gs) (other (h .0)) ∙ unserved-stays gs t (h .1)
   where
     other : sameUdid (t .udid) (g .who .udid) ≡ false → assignedTo (g .who .udid) (g .address) t ≡ t
     other e = rw e
 
-other-way : (u v : Udid) → sameUdid u v ≡ false → sameUdid v u ≡ false
-other-way u v e = go (sameUdid v u) refl
+other-udid-turned : (u v : Udid) → sameUdid u v ≡ false → sameUdid v u ≡ false
+other-udid-turned u v e = go (sameUdid v u) refl
   where
     go : (t : Bool) → sameUdid v u ≡ t → sameUdid v u ≡ false
     go false k = k
@@ -206,43 +206,43 @@ lower-other t rest (g ∷ gs) l h = (other-udid (t .udid) (g .who .udid) (λ e. 
     apart : value (t .udid) < value (g .who .udid) → value (t .udid) ≡ value (g .who .udid) → ⊥
     apart k e = omega arith
 
-rule-one : (rest : List Target) (p : Pool) → Pairs Lower rest → OnePerUdid (rule rest p .given)
-rule-one [] p l = tt
-rule-one (t ∷ rest) p l = go (plainChoice p t) (λ a. rule-one rest (withAddress p (a .0)) (l .1))
+rule-serves-once : (rest : List Target) (p : Pool) → Pairs Lower rest → OnePerUdid (rule rest p .given)
+rule-serves-once [] p l = tt
+rule-serves-once (t ∷ rest) p l = go (plainChoice p t) (λ a. rule-serves-once rest (withAddress p (a .0)) (l .1))
   where
     go : (c : Free) → ((a : Address) → OnePerUdid (rule rest (withAddress p (a .0)) .given)) → OnePerUdid (next (λ q. rule rest q) t p c .given)
     go AllUsed ih = tt
-    go (At a) ih = (lower-other t rest (rule rest (withAddress p (a .0)) .given) (l .0) (rule-who rest (withAddress p (a .0))), ih a)
+    go (At a) ih = (lower-other t rest (rule rest (withAddress p (a .0)) .given) (l .0) (rule-serves-these rest (withAddress p (a .0))), ih a)
 
 each-equal : (hs : List Given) (u v : Udid) → u ≡ v → Each (λ (h : Given). sameUdid u (h .who .udid) ≡ false) hs → Each (λ (h : Given). sameUdid v (h .who .udid) ≡ false) hs
 each-equal [] u v e a = tt
 each-equal (h ∷ hs) u v e a = (ap (λ (x : Udid). sameUdid x (h .who .udid)) (sym e) ∙ a .0, each-equal hs u v e (a .1))
 
 -- an Assign of another identifier leaves the target
-pass-on : (g : Given) (gs : List Given) (t : Target) (hs : List Given) → Each (TakenBy gs t) hs → Each (λ (h : Given). sameUdid (g .who .udid) (h .who .udid) ≡ false) hs
+taken-by-more : (g : Given) (gs : List Given) (t : Target) (hs : List Given) → Each (TakenBy gs t) hs → Each (λ (h : Given). sameUdid (g .who .udid) (h .who .udid) ≡ false) hs
     → Each (TakenBy (g ∷ gs) t) hs
-pass-on g gs t [] a d = tt
-pass-on g gs t (h ∷ hs) a d = (at, pass-on g gs t hs (a .1) (d .1))
+taken-by-more g gs t [] a d = tt
+taken-by-more g gs t (h ∷ hs) a d = (at, taken-by-more g gs t hs (a .1) (d .1))
   where
     at : t .udid ≡ h .who .udid → servedBy gs (assignedTo (g .who .udid) (g .address) t) ≡ taken t (h .address)
     at e =
-        let n : sameUdid (t .udid) (g .who .udid) ≡ false = ap (λ (x : Udid). sameUdid x (g .who .udid)) e ∙ other-way (g .who .udid) (h .who .udid) (d .0) in
+        let n : sameUdid (t .udid) (g .who .udid) ≡ false = ap (λ (x : Udid). sameUdid x (g .who .udid)) e ∙ other-udid-turned (g .who .udid) (h .who .udid) (d .0) in
         rw n (a .0 e)
 
 taken-by : (gs : List Given) (t : Target) → OnePerUdid gs → Each (TakenBy gs t) gs
 taken-by [] t o = tt
-taken-by (g ∷ gs) t o = (first, pass-on g gs t gs (taken-by gs t (o .1)) (o .0))
+taken-by (g ∷ gs) t o = (first, taken-by-more g gs t gs (taken-by gs t (o .1)) (o .0))
   where
     first : t .udid ≡ g .who .udid → servedBy gs (assignedTo (g .who .udid) (g .address) t) ≡ taken t (g .address)
     first e =
         let q : sameUdid (t .udid) (g .who .udid) ≡ true = ap (λ (x : Udid). sameUdid x (g .who .udid)) e ∙ same-refl (g .who .udid) in
-        rw q (unserved gs (taken t (g .address)) (each-equal gs (g .who .udid) (t .udid) (sym e) (o .0)))
+        rw q (unserved-stays gs (taken t (g .address)) (each-equal gs (g .who .udid) (t .udid) (sym e) (o .0)))
 
 module _ (b : Pool) (ts : List Target) (v : AdmittedTargets b ts) where
   -- A SERVED TARGET ends with its address and flag 1
-  pub served-target : (t : Target) → Each (TakenBy (ruled b ts .given) (prepared t)) (ruled b ts .given)
-  served-target t = taken-by (ruled b ts .given) (prepared t) (rule-one (ascending ts) b (ascending-lower ts (v .differ)))
+  pub served-takes-address : (t : Target) → Each (TakenBy (ruled b ts .given) (prepared t)) (ruled b ts .given)
+  served-takes-address t = taken-by (ruled b ts .given) (prepared t) (rule-serves-once (ascending ts) b (ascending-is-lower-first ts (v .differ)))
 
-  -- no identifier is served twice
+  -- no identifier is served map-twice
   pub served-once : OnePerUdid (ruled b ts .given)
-  served-once = rule-one (ascending ts) b (ascending-lower ts (v .differ))
+  served-once = rule-serves-once (ascending ts) b (ascending-is-lower-first ts (v .differ))
