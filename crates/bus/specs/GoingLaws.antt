@@ -47,14 +47,11 @@ use Rattle.rule.specs.BusLaws.{turn-still, turn-takes}
 use Rattle.rule.specs.Acted.{acted}
 use Rattle.rule.specs.TraceLaws as on-bus
 use Rattle.rule.specs.StepLaws.{prepare-unheard, get-unheard, get-replied}
-use Rattle.bus.specs.Turn.{Fit, Reaches, isSent, silence, worldOf, sentTo, Going, Matches}
-use Rattle.bus.specs.TurnLaws.{get-silence, same-records, reached-is}
+use Rattle.bus.specs.Going.{Going, Fine, Running}
+use Rattle.bus.specs.Turn.{Fit, Reaches, isSent, silence, worldOf, sentTo, Matches}
+use Rattle.bus.specs.TurnLaws.{get-silence, own-targets-stored, reached-as-meant}
 
 -- ---- what is handed out reaches somebody
-
--- the command that is out is the state's, and it reaches one of the targets
-abbrev Fine : Stepped → List Target → Type 0
-Fine x ts = (x .state .last ≡ x .command) × Reaches (x .command) ts
 
 fine-asked : (c : Controller) (ts : List Target) → 0 < length ts → Fine (asked c) ts
 unfolding asked
@@ -152,7 +149,7 @@ going-next st r s after b f g e m =
     let x = fine-next st s b f g e in
     record {
       handed = subst (λ (y : Stepped). y .state .last ≡ y .command) (sym (m .controller)) (x .0);
-      reaches = subst (λ (ts : List Target). Reaches (r .command) ts) (sym (m .targets ∙ reached-is (st .command) s b (g .reaches))) (subst (λ (y : Stepped). Reaches (y .command) (acted (st .command) (targetsOf s))) (sym (m .controller)) (x .1));
+      reaches = subst (λ (ts : List Target). Reaches (r .command) ts) (sym (m .targets ∙ reached-as-meant (st .command) s b (g .reaches))) (subst (λ (y : Stepped). Reaches (y .command) (acted (st .command) (targetsOf s))) (sym (m .controller)) (x .1));
     }
 
 -- what is sent is taken by the controller and by the targets
@@ -201,15 +198,6 @@ fit-put ts s after f e = subst Fit (sym e) (record {
   apart = λ i h r. f .apart i (omega (arith, h, ap (λ (n : ℕ). n / 18) (length-put-from ts 0 s))) (r .0, r .1, sym (put-from-keeps-udid ts 0 s (r .0)) ∙ r .2 ∙ put-from-keeps-udid ts 0 s i);
 })
 
--- what holds of the records and the controller after some turns of a run from the world w, m of 300 left
-pub record Running (w : World) (first : List ℕ) (m : ℕ) (st : Stepped) (s : List ℕ) : Type 0 where
-  pub bytes : Bytes s
-  pub fit : Fit s
-  pub going : Going st s
-  pub leads : run 300 w ≡ run m (worldOf st s)
-  pub stored : s ≡ recordsWith (targetsOf s) first
-  pub same-size : length s ≡ length first
-
 pub running-first : (occupied : Pool) (st : Stepped) (s : List ℕ) → st ≡ started (newController occupied) → Bytes s → checkedList (startingPool occupied) s ≡ Admitted
     → Running (worldOf st s) s 300 st s
 running-first occupied st s q b e = record {
@@ -217,7 +205,7 @@ running-first occupied st s q b e = record {
   fit = record { whole = admitted-length (startingPool occupied) s b e .1; apart = given-exactly (startingPool occupied) s Admitted .0 (sym e) .2 };
   going = subst (λ (x : Stepped). Going x s) (sym q) (record { handed = refl; reaches = tt });
   leads = refl;
-  stored = same-records s;
+  stored = own-targets-stored s;
   same-size = refl;
 }
 
@@ -247,14 +235,14 @@ running-ended w first m st s v e = record {
 }
 
 -- the run from the start of a pass is the pass
-passed : (occupied : Pool) (first : List ℕ) (st₀ st : Stepped) (s : List ℕ) → st₀ ≡ started (newController occupied) → Matches (run 300 (worldOf st₀ first)) st first s
+run-is-pass : (occupied : Pool) (first : List ℕ) (st₀ st : Stepped) (s : List ℕ) → st₀ ≡ started (newController occupied) → Matches (run 300 (worldOf st₀ first)) st first s
     → Matches (pass occupied (targetsOf first)) st first s
 unfolding pass
-passed occupied first st₀ st s q m = subst (λ (x : Stepped). Matches (run 300 (worldOf x first)) st first s) q m
+run-is-pass occupied first st₀ st s q m = subst (λ (x : Stepped). Matches (run 300 (worldOf x first)) st first s) q m
 
 module _ (occupied : Pool) (first : List ℕ) (st₀ : Stepped) (q : st₀ ≡ started (newController occupied)) where
   pub running-last : (m : ℕ) (st : Stepped) (s : List ℕ) → m ≡ 0 → Running (worldOf st₀ first) first m st s → Matches (pass occupied (targetsOf first)) st first s
-  running-last m st s e v = passed occupied first st₀ st s q (running-ended (worldOf st₀ first) first m st s v (ap (λ (n : ℕ). run n (worldOf st s)) e))
+  running-last m st s e v = run-is-pass occupied first st₀ st s q (running-ended (worldOf st₀ first) first m st s v (ap (λ (n : ℕ). run n (worldOf st s)) e))
 
   pub running-still : (m : ℕ) (st : Stepped) (s : List ℕ) → isSent (st .command) ≡ false → Running (worldOf st₀ first) first m st s → Matches (pass occupied (targetsOf first)) st first s
-  running-still m st s e v = passed occupied first st₀ st s q (running-ended (worldOf st₀ first) first m st s v (run-still m (worldOf st s) e))
+  running-still m st s e v = run-is-pass occupied first st₀ st s q (running-ended (worldOf st₀ first) first m st s v (run-still m (worldOf st s) e))

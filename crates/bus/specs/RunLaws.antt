@@ -13,16 +13,8 @@ use Rattle.targets.specs.Refusals.{checkedList}
 use Rattle.targets.specs.declared.admit.Checked.{Checked}
 use Rattle.targets.specs.declared.admit.Checked.the-variants.{Admitted, BadLength, Malformed, Repeated, Taken}
 use Rattle.rule.specs.Bus.{pass}
-use Rattle.bus.specs.Run.{refusedAnswer, ModelEnd, Leaves, refusedEnd, endedEnd, endChecked, modelEnd}
+use Rattle.bus.specs.Run.{refusedAnswer, ModelEnd, Leaves, refusedEnd, endedEnd, endChecked, modelEnd, Refused}
 use Rattle.bus.specs.declared.answer.ModelAnswer.{ModelAnswer}
-
--- the answer of a refusal, in the scope's number and value
-abbrev pub Refused : Checked → ModelAnswer → Type 0
-Refused Admitted r = ⊥
-Refused BadLength r = r ≡ refusedAnswer 9 0
-Refused (Malformed i) r = r ≡ refusedAnswer 10 i
-Refused (Repeated i) r = r ≡ refusedAnswer 11 i
-Refused (Taken i) r = r ≡ refusedAnswer 12 i
 
 module _ (occupied : Pool) (s b : List ℕ) where
   -- 2

@@ -49,7 +49,8 @@ use Rattle.rule.specs.Bus.{World, reached, took, turn, run, beginning, pass}
 use Rattle.rule.specs.Acted.{acted, Names}
 use Rattle.rule.specs.EffectLaws.{effect-as-meant}
 use Rattle.rule.specs.TraceLaws as on-bus
-use Rattle.bus.specs.Turn.{Fit, Reaches, isSent, silence, Writes, worldOf, sentTo, Going, Matches}
+use Rattle.bus.specs.Going.{Going}
+use Rattle.bus.specs.Turn.{Fit, Reaches, isSent, silence, Writes, worldOf, sentTo, Matches, lentPart, Lent}
 
 -- ---- the traces
 
@@ -116,65 +117,65 @@ changes (NoneFree u) t = t
 changes Abandoned t = t
 changes NotOutstanding t = t
 
-map-same : (ts : List Target) → ts ≡ mapTargets (λ (t : Target). t) ts
-map-same [] = refl
-map-same (t ∷ ts) = ap (λ (l : List Target). t ∷ l) (map-same ts)
+map-identity : (ts : List Target) → ts ≡ mapTargets (λ (t : Target). t) ts
+map-identity [] = refl
+map-identity (t ∷ ts) = ap (λ (l : List Target). t ∷ l) (map-identity ts)
 
-acted-is : (k : Command) (ts : List Target) → acted k ts ≡ mapTargets (changes k) ts
+acted-changes-each : (k : Command) (ts : List Target) → acted k ts ≡ mapTargets (changes k) ts
 unfolding changes
-acted-is Prepare ts = refl
-acted-is (Assign u a) ts = refl
-acted-is GetUdid ts = map-same ts
-acted-is Nothing ts = map-same ts
-acted-is Ended ts = map-same ts
-acted-is (NoneFree u) ts = map-same ts
-acted-is Abandoned ts = map-same ts
-acted-is NotOutstanding ts = map-same ts
+acted-changes-each Prepare ts = refl
+acted-changes-each (Assign u a) ts = refl
+acted-changes-each GetUdid ts = map-identity ts
+acted-changes-each Nothing ts = map-identity ts
+acted-changes-each Ended ts = map-identity ts
+acted-changes-each (NoneFree u) ts = map-identity ts
+acted-changes-each Abandoned ts = map-identity ts
+acted-changes-each NotOutstanding ts = map-identity ts
 
-changes-keeps : (k : Command) (t : Target) → changes k t .udid ≡ t .udid
+changes-keep-udid : (k : Command) (t : Target) → changes k t .udid ≡ t .udid
 unfolding changes
-changes-keeps Prepare t = refl
-changes-keeps (Assign u a) t = assigned-keeps-udid u (a .0) t
-changes-keeps GetUdid t = refl
-changes-keeps Nothing t = refl
-changes-keeps Ended t = refl
-changes-keeps (NoneFree u) t = refl
-changes-keeps Abandoned t = refl
-changes-keeps NotOutstanding t = refl
+changes-keep-udid Prepare t = refl
+changes-keep-udid (Assign u a) t = assigned-keeps-udid u (a .0) t
+changes-keep-udid GetUdid t = refl
+changes-keep-udid Nothing t = refl
+changes-keep-udid Ended t = refl
+changes-keep-udid (NoneFree u) t = refl
+changes-keep-udid Abandoned t = refl
+changes-keep-udid NotOutstanding t = refl
 
 count-put : (ts : List Target) (s : List ℕ) → recordCount (recordsWith ts s) ≡ recordCount s
 count-put ts s = ap (λ (n : ℕ). n / 18) (length-put-from ts 0 s)
 
 acted-targets : (k : Command) (s : List ℕ) → Fit s → targetsOf (recordsWith (acted k (targetsOf s)) s) ≡ acted k (targetsOf s)
 acted-targets k s f =
-    ap (λ (ts : List Target). targetsOf (recordsWith ts s)) (acted-is k (targetsOf s))
+    ap (λ (ts : List Target). targetsOf (recordsWith ts s)) (acted-changes-each k (targetsOf s))
     ∙ ap (λ (n : ℕ). targetsFrom (recordsWith (mapTargets (changes k) (targetsOf s)) s) n 0) (count-put (mapTargets (changes k) (targetsOf s)) s)
-    ∙ changed-targets (changes k) (changes-keeps k) (recordCount s) 0 s (omega (arith, f .whole))
-    ∙ sym (acted-is k (targetsOf s))
+    ∙ changed-targets (changes k) (changes-keep-udid k) (recordCount s) 0 s (omega (arith, f .whole))
+    ∙ sym (acted-changes-each k (targetsOf s))
 
 -- the identifiers of records are numbers of 128 bits, and so is that of a command which reaches one of them
 fits-targets : (s : List ℕ) → Bytes s → (t : Target) → Among t (targetsOf s) → Fits (t .udid)
 fits-targets s b t m = let r = target-has-record s (recordCount s) 0 t m in subst (λ (x : Target). Fits (x .udid)) (r .3) (sized-at s b (r .0) .udid)
 
-names-one : (k : Command) (s : List ℕ) → Bytes s → Reaches k (targetsOf s) → Names k
-names-one (Assign u a) s b r = subst Fits (r .2) (fits-targets s b (r .0) (r .1))
-names-one Prepare s b r = tt
-names-one GetUdid s b r = tt
-names-one Nothing s b r = tt
-names-one Ended s b r = tt
-names-one (NoneFree u) s b r = tt
-names-one Abandoned s b r = tt
-names-one NotOutstanding s b r = tt
+reached-names-fit : (k : Command) (s : List ℕ) → Bytes s → Reaches k (targetsOf s) → Names k
+reached-names-fit (Assign u a) s b r = subst Fits (r .2) (fits-targets s b (r .0) (r .1))
+reached-names-fit Prepare s b r = tt
+reached-names-fit GetUdid s b r = tt
+reached-names-fit Nothing s b r = tt
+reached-names-fit Ended s b r = tt
+reached-names-fit (NoneFree u) s b r = tt
+reached-names-fit Abandoned s b r = tt
+reached-names-fit NotOutstanding s b r = tt
 
 -- the symbols on the bus do to the targets what the command means
-pub reached-is : (k : Command) (s : List ℕ) → Bytes s → Reaches k (targetsOf s) → reached (onBus k (targetsOf s)) (targetsOf s) ≡ acted k (targetsOf s)
-reached-is k s b r = effect-as-meant k (targetsOf s) (names-one k s b r) (fits-targets s b)
+pub reached-as-meant : (k : Command) (s : List ℕ) → Bytes s → Reaches k (targetsOf s) → reached (onBus k (targetsOf s)) (targetsOf s) ≡ acted k (targetsOf s)
+reached-as-meant k s b r = effect-as-meant k (targetsOf s) (reached-names-fit k s b r) (fits-targets s b)
 
 -- a command sent: the controller's step took what stood on the bus, and the targets acted
 pub sent-matches : (st r : Stepped) (s after tr : List ℕ) → Bytes s → Fit s → Going st s → tr ≡ onBus (st .command) (targetsOf s) → r ≡ stepped (st .state) tr
     → after ≡ recordsWith (acted (st .command) (targetsOf s)) s → Matches (sentTo st (targetsOf s) (st .command)) r s after
 sent-matches st r s after tr b f n e q g =
-    let x = reached-is (st .command) s b (n .reaches) in
+    let x = reached-as-meant (st .command) s b (n .reaches) in
     record {
       controller = q ∙ ap (stepped (st .state)) e;
       targets = ap targetsOf g ∙ acted-targets (st .command) s f ∙ sym x;
@@ -182,33 +183,24 @@ sent-matches st r s after tr b f n e q g =
     }
 
 -- records that stay as they are
-pub same-records : (s : List ℕ) → s ≡ recordsWith (targetsOf s) s
-same-records s = sym (put-all-self (recordCount s) 0 s)
+pub own-targets-stored : (s : List ℕ) → s ≡ recordsWith (targetsOf s) s
+own-targets-stored s = sym (put-all-self (recordCount s) 0 s)
 
 -- the winner's record is one of the list
 pub winner-inside : (s : List ℕ) → Fit s → (w : ℕ) → winner.At w ≡ winnerOf s → w * 18 + 18 ≤ length s
 winner-inside s f w e = let v : Wins s (recordCount s) w = winner-exactly s (winner.At w) .0 e in omega (arith, v .below, f .whole)
 
-part : (s : List ℕ) (at : ℕ) → take (at + 17 - at) (drop at s) ≡ take 17 (drop at s)
-part s at = let e : at + 17 - at ≡ 17 = omega arith in ap (λ (n : ℕ). take n (drop at s)) e
+part-of-17 : (s : List ℕ) (at : ℕ) → take (at + 17 - at) (drop at s) ≡ take 17 (drop at s)
+part-of-17 s at = let e : at + 17 - at ≡ 17 = omega arith in ap (λ (n : ℕ). take n (drop at s)) e
 
--- its first 17 bytes, lent as a part
-abbrev pub lentPart : List ℕ → ℕ → List ℕ
-lentPart s w = take (w * 18 + 17 - w * 18) (drop (w * 18) s)
-
--- bytes, 17 of them
-pub record Lent (xs : List ℕ) : Type 0 where
-  pub bytes : Bytes xs
-  pub long : length xs ≡ 17
-
-pub winner-data : (s : List ℕ) → Bytes s → Fit s → (w : ℕ) → winner.At w ≡ winnerOf s → Lent (lentPart s w)
-winner-data s b f w e =
-    subst Lent (sym (part s (w * 18) ∙ record-reply s w b (omega (arith, winner-inside s f w e))))
+pub winner-part-lent : (s : List ℕ) → Bytes s → Fit s → (w : ℕ) → winner.At w ≡ winnerOf s → Lent (lentPart s w)
+winner-part-lent s b f w e =
+    subst Lent (sym (part-of-17 s (w * 18) ∙ record-reply s w b (omega (arith, winner-inside s f w e))))
     (record { bytes = bytes-reply-data (targetAt s w) (sized-at s b w .addressByte); long = length-reply-data (targetAt s w) })
 
-pub get-part : (s : List ℕ) → Bytes s → Fit s → (w : ℕ) → winner.At w ≡ winnerOf s
+pub get-winner-part : (s : List ℕ) → Bytes s → Fit s → (w : ℕ) → winner.At w ≡ winnerOf s
     → onBus GetUdid (targetsOf s) ≡ traceOf GetUdid (lentPart s w)
-get-part s b f w e = get-winner s b f w e ∙ ap (traceOf GetUdid) (sym (part s (w * 18)))
+get-winner-part s b f w e = get-winner s b f w e ∙ ap (traceOf GetUdid) (sym (part-of-17 s (w * 18)))
 
 -- ---- an Assign, by the command that it is
 
@@ -217,8 +209,8 @@ assign-on-bus k u a e ts h =
     let r : Reaches (Assign u a) ts = subst (λ (x : Command). Reaches x ts) e h in
     ap (λ (x : Command). onBus x ts) e ∙ on-bus.assign-whole ts u a (r .0) (r .1) (r .2) ∙ ap (λ (x : Command). traceOf x []) (sym e)
 
-pub assign-long : (k : Command) (u : Udid) (a : Address) → k ≡ Assign u a → length (traceOf k []) ≡ 44
-assign-long k u a e = ap (λ (x : Command). length (traceOf x [])) e ∙ assign-length u a
+pub assign-length-44 : (k : Command) (u : Udid) (a : Address) → k ≡ Assign u a → length (traceOf k []) ≡ 44
+assign-length-44 k u a e = ap (λ (x : Command). length (traceOf x [])) e ∙ assign-length u a
 
 pub assign-written : (k : Command) (u : Udid) (a : Address) → k ≡ Assign u a → (ts : List Target) → Reaches k ts → (before : List ℕ) → 64 ≤ length before → Writes k [] before
 assign-written k u a e ts h before l =
