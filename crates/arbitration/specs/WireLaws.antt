@@ -10,11 +10,11 @@ use lib.Dec.{leb, leb·zero, leb·suc-zero, leb·suc-suc}
 use lib.ListN.{length, drop}
 use lib.Seq.{drop-length}
 use borrow.Author.Tests.{le-leb, lt-leb}
-use Rattle.lists.specs.Choice.{pick, and, not}
+use Rattle.lists.specs.Choice.{pick}
 use Rattle.lists.specs.Each.{Each}
 use Rattle.arbitration.specs.Among.{Among}
-use Rattle.arbitration.specs.Wire.{next, level, staying, heard, sending}
-use Rattle.arbitration.specs.DropOut.{shared, noLater, sharing, Stays, Other}
+use Rattle.arbitration.specs.Wire.{level, staying, heard, sending}
+use Rattle.arbitration.specs.DropOut.{shared, sharing, Stays, Other}
 
 -- ---- the next bit on the wire is m's
 

@@ -2,7 +2,6 @@
 -- and when all are bound.
 use Prim.Native.Nat.{ℕ, zero, suc, _*_, _/_, _≤_, _<_}
 use mathlib.Core.Path.{_≡_, refl, sym, ap, _∙_, subst}
-use mathlib.Core.Bool.{Bool, true, false}
 use mathlib.Core.Logic.{_↔_}
 use mathlib.Core.List.{List, [], _∷_}
 use native.Mathlib.Omega.{arith}
@@ -27,7 +26,7 @@ use Rattle.bindings.specs.BoundLaws.{bound-set-count}
 use Rattle.bindings.specs.Entries as entries
 use Rattle.rule.specs.AllBoundLaws.{all-served, all-given}
 use Rattle.rule.specs.AllBound.{movable, leftFree}
-use Rattle.rule.specs.Bus.{World, pass}
+use Rattle.rule.specs.Bus.{World}
 use Rattle.rule.specs.PassEndLaws.{demand-3}
 use Rattle.rule.specs.EndAnswer.{numberOf, askerOf, getsFor}
 use Rattle.rule.specs.PassEnd.{lastCommand, passEnd}
@@ -36,8 +35,8 @@ use Rattle.rule.specs.ReadingLaws.{bound-as-many-as-given}
 use Rattle.rule.specs.Reading.{isBound, boundAt}
 use Rattle.rule.specs.Sent.{getsOnBus}
 use Rattle.rule.specs.SentLaws.{counted-on-bus}
-use Rattle.bus.specs.PassLaws.{leaves-pass, answer-of-pass, asker-of-pass, gets-of-pass}
-use Rattle.bus.specs.Run.{numberIn, udidIn, entryOf, entryAt, ModelEnd, Leaves, endedEnd, modelEnd}
+use Rattle.bus.specs.PassLaws.{leaves-pass, gets-of-pass}
+use Rattle.bus.specs.Run.{numberIn, udidIn, entryOf, entryAt, Leaves, endedEnd, modelEnd}
 use Rattle.bus.specs.declared.answer.ModelAnswer.{ModelAnswer}
 
 -- ---- the last command of the rule's end, in the scope's numbers

@@ -1,5 +1,5 @@
 -- Every command of a pass is the state's own and reaches somebody, and so the code's run over the records is the pass bit by bit.
-use Prim.Native.Nat.{ℕ, zero, suc, _+_, _-_, _*_, _/_, _≤_, _<_}
+use Prim.Native.Nat.{ℕ, zero, suc, _-_, _*_, _/_, _<_}
 use mathlib.Core.Path.{_≡_, refl, sym, ap, _∙_, subst}
 use mathlib.Core.Bool.{Bool, true, false}
 use mathlib.Core.List.{List, [], _∷_}
@@ -16,15 +16,14 @@ use Rattle.pool.specs.declared.free.Free.{Free}
 use Rattle.pool.specs.declared.free.Free.the-variants.{At, AllUsed}
 use Rattle.step.specs.declared.answer.Decoded.{Decoded}
 use Rattle.step.specs.declared.answer.Decoded.the-variants.{Done, Forbidden, BufferTooShort, NoSymbol, EndsEarly, Unexpected, NotAcknowledged, PecDiffers, AfterStop}
-use Rattle.trace.specs.declared.transaction.Transaction.{Transaction}
 use Rattle.udid.specs.declared.Udid.{Udid}
 use Rattle.targets.specs.AdmissionLaws.{admitted-length}
 use Rattle.targets.specs.IndexLaws.{length-targets}
-use Rattle.targets.specs.Records.{udidOf, recordCount, targetAt, targetsFrom, targetsOf, recordsWith}
+use Rattle.targets.specs.Records.{recordCount, targetAt, targetsOf, recordsWith}
 use Rattle.targets.specs.RecordLaws.{put-again, put-from-keeps-udid, length-put-from, length-map}
 use Rattle.targets.specs.Refusals.{checkedList}
 use Rattle.targets.specs.RefusalLaws.{given-exactly}
-use Rattle.targets.specs.Target.{Target, prepared, assignedTo}
+use Rattle.targets.specs.Target.{Target, assignedTo}
 use Rattle.targets.specs.Winner.{winnerOf}
 use Rattle.targets.specs.WinnerLaws.{winner-exactly, winner-least}
 use Rattle.targets.specs.Members.{Least}
@@ -42,13 +41,13 @@ use Rattle.arp.specs.declared.command.Command.the-variants.{Nothing, Prepare, G
 use Rattle.arp.specs.declared.state.Controller.{Controller}
 use Rattle.arp.specs.declared.state.Stepped.{Stepped}
 use Rattle.rule.specs.Acknowledge.{onBus}
-use Rattle.rule.specs.Bus.{World, reached, took, turn, run, beginning, pass}
+use Rattle.rule.specs.Bus.{World, reached, took, run, pass}
 use Rattle.rule.specs.BusLaws.{turn-still, turn-takes}
 use Rattle.rule.specs.Acted.{acted}
 use Rattle.rule.specs.TraceLaws as on-bus
 use Rattle.rule.specs.StepLaws.{prepare-unheard, get-unheard, get-replied}
 use Rattle.bus.specs.Going.{Going, Fine, Running}
-use Rattle.bus.specs.Turn.{Fit, Reaches, isSent, silence, worldOf, sentTo, Matches}
+use Rattle.bus.specs.Turn.{Fit, Reaches, isSent, worldOf, sentTo, Matches}
 use Rattle.bus.specs.TurnLaws.{get-silence, own-targets-stored, reached-as-meant}
 
 -- ---- what is handed out reaches somebody

@@ -2,7 +2,6 @@
 -- changes and every other part of the answer is zero.
 use Prim.Native.Nat.{ℕ, _/_, _%_, _≤_, _<_}
 use mathlib.Core.Path.{_≡_, refl, sym, ap, _∙_, subst}
-use mathlib.Core.Bool.{Bool, true, false}
 use mathlib.Core.Logic.{_⊎_, inl, inr, _↔_}
 use mathlib.Core.List.{List}
 use native.Mathlib.Decide.{decLt}
@@ -24,7 +23,7 @@ use Rattle.arp.specs.declared.command.Command.{Command}
 use Rattle.arp.specs.declared.command.Command.the-variants.{Nothing, Prepare, GetUdid, Assign, Ended, NoneFree, Abandoned, NotOutstanding}
 use Rattle.targets.specs.Records.{targetsOf}
 use Rattle.rule.specs.Bus.{pass}
-use Rattle.bus.specs.Run.{numberIn, modelNumber, refusedAnswer, ModelEnd, Leaves, refusedEnd, endedEnd, endChecked, modelEnd}
+use Rattle.bus.specs.Run.{numberIn, modelNumber, refusedAnswer, ModelEnd, Leaves, refusedEnd, endChecked, modelEnd}
 use Rattle.bus.specs.RunLaws.{end-short, end-checked}
 use Rattle.bus.specs.declared.answer.ModelAnswer.{ModelAnswer}
 

@@ -11,7 +11,6 @@ use Rattle.pool.specs.declared.Pool.{Pool}
 use Rattle.udid.specs.declared.Udid.{Udid}
 use Rattle.arp.specs.Bindings.{heldAt}
 use Rattle.arp.specs.Numbers.{commandNumber}
-use Rattle.arp.specs.declared.command.Command.{Command}
 use Rattle.arp.specs.declared.state.Binding.{Binding}
 use Rattle.arp.specs.declared.state.Binding.the-variants as binding
 use Rattle.arp.specs.declared.state.Slot.{Slot}

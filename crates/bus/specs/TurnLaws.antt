@@ -1,56 +1,42 @@
 -- The code's turn over the records' bytes is the bus's turn over their targets.
-use Prim.Native.Nat.{ℕ, zero, suc, _+_, _*_, _-_, _/_, _%_, _≤_, _<_}
-use mathlib.Core.Path.{_≡_, refl, sym, ap, ap₂, _∙_, subst}
+use Prim.Native.Nat.{ℕ, _+_, _*_, _-_, _/_, _≤_, _<_}
+use mathlib.Core.Path.{_≡_, refl, sym, ap, _∙_, subst}
 use mathlib.Core.Bool.{Bool, true, false}
-use mathlib.Core.Logic.{inl, inr}
 use mathlib.Core.List.{List, [], _∷_}
 use native.Mathlib.Omega.{arith}
 use lib.ListN.{length, take, drop}
-use Rattle.lists.specs.Choice.{pick}
 use Rattle.lists.specs.Each.{Bytes}
 use Rattle.trace.specs.Shapes.{shapeOf}
 use Rattle.trace.specs.Lengths.{traceLength}
 use Rattle.trace.specs.LengthLaws.{trace-length}
 use Rattle.arbitration.specs.Among.{Among}
-use Rattle.pool.specs.Start.{startingPool}
-use Rattle.pool.specs.declared.Pool.{Pool}
-use Rattle.pool.specs.declared.free.Free.{Free}
-use Rattle.pool.specs.declared.free.Free.the-variants.{At, AllUsed}
+use Rattle.pool.specs.declared.free.Free.the-variants.{At}
 use Rattle.udid.specs.Udids.{Fits}
 use Rattle.udid.specs.declared.Udid.{Udid}
 use Rattle.wire.specs.declared.address.Address.{Address}
-use Rattle.targets.specs.AdmissionLaws.{admitted-length}
 use Rattle.targets.specs.ChangeLaws.{assigned-below}
-use Rattle.targets.specs.Cases.{None, RepeatedAt}
 use Rattle.targets.specs.IndexLaws.{target-has-record, length-targets, sized-at, record-reply}
-use Rattle.targets.specs.Records.{udidOf, targetAt, recordCount, targetsFrom, targetsOf, putFrom, recordsWith, assignedIn}
-use Rattle.targets.specs.RecordLaws.{changed-targets, put-all-self, put-again, put-from-keeps-udid, length-put-from, prepared-keeps-udid, assigned-keeps-udid}
-use Rattle.targets.specs.Refusals.{checkedList}
-use Rattle.targets.specs.RefusalLaws.{given-exactly}
-use Rattle.targets.specs.Reply.{replyData}
+use Rattle.targets.specs.Records.{targetAt, recordCount, targetsFrom, targetsOf, recordsWith, assignedIn}
+use Rattle.targets.specs.RecordLaws.{changed-targets, put-all-self, length-put-from, assigned-keeps-udid}
 use Rattle.targets.specs.ReplyLaws.{length-reply-data, bytes-reply-data}
 use Rattle.targets.specs.Target.{Target, isResolved, mapTargets, prepared, assignedTo}
-use Rattle.targets.specs.Winner.{winnerOf, Unresolved, Wins, Won}
+use Rattle.targets.specs.Winner.{winnerOf, Wins}
 use Rattle.targets.specs.WinnerLaws.{winner-exactly, winner-least, unresolved-by-flag}
-use Rattle.targets.specs.declared.admit.Checked.the-variants.{Admitted}
-use Rattle.targets.specs.declared.winner.Winner.{Winner}
 use Rattle.targets.specs.declared.winner.Winner.the-variants as winner
 use Rattle.arp.specs.SendingLaws.{assign-sent}
 use Rattle.arp.specs.TraceLaws.{assign-length}
-use Rattle.arp.specs.Bindings.{bound, freed}
-use Rattle.arp.specs.Controller.{handed, counted, asked, issued, chosen, replied, afterPrepare, afterGet, afterAssign, byCommand, stepped, started, newController}
+use Rattle.arp.specs.Controller.{stepped}
 use Rattle.arp.specs.Requests.{messageOf, traceOf}
 use Rattle.arp.specs.declared.command.Command.{Command}
 use Rattle.arp.specs.declared.command.Command.the-variants.{Nothing, Prepare, GetUdid, Assign, Ended, NoneFree, Abandoned, NotOutstanding}
-use Rattle.arp.specs.declared.state.Controller.{Controller}
 use Rattle.arp.specs.declared.state.Stepped.{Stepped}
 use Rattle.rule.specs.Acknowledge.{onBus}
-use Rattle.rule.specs.Bus.{World, reached, took, turn, run, beginning, pass}
+use Rattle.rule.specs.Bus.{reached}
 use Rattle.rule.specs.Acted.{acted, Names}
 use Rattle.rule.specs.EffectLaws.{effect-as-meant}
 use Rattle.rule.specs.TraceLaws as on-bus
 use Rattle.bus.specs.Going.{Going}
-use Rattle.bus.specs.Turn.{Fit, Reaches, isSent, silence, Writes, worldOf, sentTo, Matches, lentPart, Lent}
+use Rattle.bus.specs.Turn.{Fit, Reaches, silence, Writes, sentTo, Matches, lentPart, Lent}
 
 -- ---- the traces
 

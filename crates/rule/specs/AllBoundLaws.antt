@@ -1,6 +1,6 @@
 -- When all targets are bound: if and only if the movable ones do not outnumber the addresses that the fixed ones leave free.
-use Prim.Native.Nat.{ℕ, zero, suc, _+_, _-_, _/_, _≤_, _<_}
-use mathlib.Core.Path.{_≡_, refl, sym, ap, _∙_}
+use Prim.Native.Nat.{suc, _+_, _-_, _/_, _≤_, _<_}
+use mathlib.Core.Path.{_≡_, refl, sym, _∙_}
 use mathlib.Core.Bool.{Bool, true, false}
 use mathlib.Core.Logic.{inl, inr, _↔_}
 use mathlib.Core.List.{List, [], _∷_}
@@ -9,13 +9,13 @@ use lib.ListN.{length}
 use Rattle.lists.specs.Choice.{pick}
 use Rattle.pool.specs.Free.{used}
 use Rattle.pool.specs.FreeLaws.{used-le, used-with-new}
-use Rattle.pool.specs.Pools.{member, withAddress}
+use Rattle.pool.specs.Pools.{withAddress}
 use Rattle.pool.specs.MemberLaws.{has-with-other}
 use Rattle.pool.specs.Start.{startingPool}
 use Rattle.pool.specs.declared.Pool.{Pool}
 use Rattle.udid.specs.Udids.{isFixed}
 use Rattle.arbitration.specs.Among.{Among}
-use Rattle.targets.specs.Target.{Target, Sized}
+use Rattle.targets.specs.Target.{Target}
 use Rattle.targets.specs.Members.{Pairs}
 use Rattle.targets.specs.Admission.{FixedApart, FixedFree, AdmittedTargets}
 use Rattle.rule.specs.PlainRule.{served, ruled}

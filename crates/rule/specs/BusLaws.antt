@@ -1,6 +1,6 @@
 -- A turn by the command that is out: an end leaves all as it is, and what is sent is taken by the controller's step and by each target.
 use Prim.Native.Nat.{ℕ}
-use mathlib.Core.Path.{_≡_, refl, sym, ap, _∙_, subst}
+use mathlib.Core.Path.{_≡_, refl, sym, ap, subst}
 use mathlib.Core.List.{List, [], _∷_}
 use lib.ListN.{length, drop}
 use Rattle.arp.specs.Controller.{stepped}
@@ -10,7 +10,7 @@ use Rattle.targets.specs.RecordLaws.{length-map}
 use Rattle.targets.specs.Target.{Target}
 use Rattle.rule.specs.Acknowledge.{sentPart, onBus}
 use Rattle.rule.specs.AcknowledgeLaws.{nothing-on-bus, start-on-bus}
-use Rattle.rule.specs.Bus.{World, reached, took}
+use Rattle.rule.specs.Bus.{reached, took}
 use Rattle.rule.specs.Effect.{effect}
 
 -- nothing is sent

@@ -22,7 +22,7 @@ use Rattle.udid.specs.Bytes.{udidBytes}
 use Rattle.udid.specs.UdidLaws.{length-udid, udid-bytes, same-equal, same-refl, same-bytes}
 use Rattle.udid.specs.Udids.{Fits, sameUdid}
 use Rattle.udid.specs.declared.Udid.{Udid}
-use Rattle.targets.specs.Target.{Target, mapTargets, prepared, assignedTo, cleared, resolve}
+use Rattle.targets.specs.Target.{Target, mapTargets, prepared, assignedTo}
 use Rattle.arp.specs.TraceLaws.{prepare-trace, assign-row}
 use Rattle.arp.specs.Requests.{traceOf}
 use Rattle.arp.specs.declared.command.Command.{Command}

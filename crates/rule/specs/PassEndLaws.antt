@@ -19,23 +19,23 @@ use Rattle.pool.specs.StartLaws.{member-starting}
 use Rattle.pool.specs.declared.Pool.{Pool}
 use Rattle.pool.specs.declared.free.Free.{Free}
 use Rattle.pool.specs.declared.free.Free.the-variants.{At, AllUsed}
-use Rattle.udid.specs.Udids.{isFixed, value}
+use Rattle.udid.specs.Udids.{value}
 use Rattle.udid.specs.declared.Udid.{Udid}
 use Rattle.arbitration.specs.Among.{Among}
 use Rattle.targets.specs.Target.{Target, isResolved, prepared, cleared, resolve, Sized}
 use Rattle.targets.specs.Members.{Pairs}
 use Rattle.targets.specs.RecordLaws.{length-map}
-use Rattle.targets.specs.Admission.{Differ, FixedApart, FixedFree, AdmittedTargets}
+use Rattle.targets.specs.Admission.{FixedApart, FixedFree, AdmittedTargets}
 use Rattle.arp.specs.SoundLaws.{open-all}
 use Rattle.arp.specs.Bindings.{openSlot, boundTo}
-use Rattle.arp.specs.Controller.{stepped, started, newController}
+use Rattle.arp.specs.Controller.{stepped}
 use Rattle.arp.specs.declared.command.Command.the-variants.{Prepare}
 use Rattle.arp.specs.declared.state.Slot.{Slot}
 use Rattle.arp.specs.declared.state.Stepped.{Stepped}
 use Rattle.rule.specs.Bus.{World, turn, run, beginning, pass}
 use Rattle.rule.specs.BusLaws.{turn-takes}
-use Rattle.rule.specs.PlainRule.{insert, ascending, plainChoice, Ending, served, noneFree, Given, Ruled, next, rule, ruled, FreeIn, Distinct}
-use Rattle.rule.specs.PassEnd.{Outcome, state, out, boundSlot, ended, outcome, nobodyThere, passEnd}
+use Rattle.rule.specs.PlainRule.{insert, ascending, plainChoice, served, noneFree, Given, next, rule, ruled, FreeIn, Distinct}
+use Rattle.rule.specs.PassEnd.{state, boundSlot, ended, outcome, nobodyThere, passEnd}
 use Rattle.rule.specs.EffectLaws.{effect-as-meant}
 use Rattle.rule.specs.TraceLaws as on-bus
 use Rattle.rule.specs.Ready.{Apart, Ready, Lower}

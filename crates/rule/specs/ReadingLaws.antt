@@ -1,5 +1,5 @@
 -- How the end of a pass reads: who is bound where, how many, and what each target ends with.
-use Prim.Native.Nat.{ℕ, zero, suc, _+_, _*_, _/_, _%_, _≤_, _<_}
+use Prim.Native.Nat.{ℕ, zero, suc, _+_, _<_}
 use mathlib.Core.Path.{_≡_, refl, sym, ap, ap₂, _∙_}
 use mathlib.Core.Bool.{Bool, true, false}
 use mathlib.Core.Logic.{_⊎_, inl, inr}
@@ -7,7 +7,7 @@ use mathlib.Core.List.{List, [], _∷_}
 use native.Mathlib.Nat.{zero-add}
 use native.Mathlib.Decide.{ℕ-discrete}
 use native.Mathlib.Omega.{arith}
-use lib.ListN.{length, set, take, drop, replicate, length-set, length-replicate}
+use lib.ListN.{length, set, replicate, length-set, length-replicate}
 use Rattle.lists.specs.Each.{Each}
 use Rattle.wire.specs.declared.address.Address.{Address}
 use Rattle.pool.specs.Counts.{count}
@@ -17,23 +17,21 @@ use Rattle.pool.specs.Start.{startingPool}
 use Rattle.pool.specs.declared.Pool.{Pool}
 use Rattle.pool.specs.declared.free.Free.{Free}
 use Rattle.pool.specs.declared.free.Free.the-variants.{At, AllUsed}
-use Rattle.udid.specs.Bytes.{udidBytes}
 use Rattle.udid.specs.Udids.{sameUdid, value}
 use Rattle.udid.specs.UdidLaws.{same-refl, same-equal, other-udid}
 use Rattle.udid.specs.declared.Udid.{Udid}
 use Rattle.arbitration.specs.Among.{Among}
 use Rattle.arp.specs.SoundLaws.{held-same, held-other, open-all}
 use Rattle.arp.specs.Bindings.{openSlot, heldAt}
-use Rattle.arp.specs.declared.state.Binding.{Binding}
 use Rattle.arp.specs.declared.state.Binding.the-variants.{Open, Bound, Claimed}
 use Rattle.arp.specs.declared.state.Slot.{Slot}
 use Rattle.targets.specs.Target.{Target, mapTargets, prepared, assignedTo, cleared, resolve}
 use Rattle.targets.specs.Members.{Pairs}
 use Rattle.targets.specs.Admission.{AdmittedTargets}
-use Rattle.rule.specs.PlainRule.{plainChoice, Given, Ruled, next, rule, FreeIn, Distinct, ascending, ruled}
+use Rattle.rule.specs.PlainRule.{plainChoice, Given, next, rule, FreeIn, Distinct, ascending, ruled}
 use Rattle.rule.specs.RuleLaws.{rule-serves-these}
 use Rattle.rule.specs.Ready.{Lower}
-use Rattle.rule.specs.SortLaws.{ascending-adds-none, ascending-is-lower-first}
+use Rattle.rule.specs.SortLaws.{ascending-is-lower-first}
 use Rattle.rule.specs.PassEnd.{boundSlot, putAll, resolveAll, passEnd}
 use Rattle.rule.specs.PassEndLaws.{given-free-distinct}
 use Rattle.rule.specs.Reading.{Any, isBound, boundAt, GivenAt, OnePerUdid, servedBy, taken, TakenBy}

@@ -1,15 +1,13 @@
 -- The plain rule: its choice, what it needs of the targets, and what its bindings are.
-use Prim.Native.Nat.{ℕ, zero, suc, _+_, _*_, _-_, _/_, _%_, _^_, _≤_, _<_}
-use mathlib.Core.Path.{_≡_, refl, sym, ap, ap₂, _∙_, subst}
+use Prim.Native.Nat.{ℕ, suc, _+_, _*_, _-_, _/_, _^_, _≤_, _<_}
+use mathlib.Core.Path.{_≡_, refl, sym, ap, _∙_}
 use mathlib.Core.Bool.{Bool, true, false}
-use mathlib.Core.Logic.{_⊎_, inl, inr}
-use mathlib.Core.List.{List, [], _∷_, _++_}
+use mathlib.Core.Logic.{inl, inr}
+use mathlib.Core.List.{List, [], _∷_}
 use native.Mathlib.Decide.{ℕ-discrete}
 use native.Mathlib.Omega.{arith}
-use lib.Dec.{ltb, eqb}
 use lib.ListN.{length}
-use borrow.Author.Tests.{ne-eqb, ltb-false, le-ltb, eqb-true, eqb-false}
-use Rattle.lists.specs.Choice.{pick}
+use borrow.Author.Tests.{ne-eqb, eqb-false}
 use Rattle.lists.specs.Each.{Each}
 use Rattle.wire.specs.declared.address.Address.{Address}
 use Rattle.pool.specs.Free.{used, lowestFree}
@@ -23,10 +21,9 @@ use Rattle.udid.specs.UdidLaws.{fixed-is}
 use Rattle.udid.specs.Udids.{topBits, isFixed, value}
 use Rattle.arbitration.specs.Among.{Among}
 use Rattle.targets.specs.Target.{Target, Sized}
-use Rattle.targets.specs.Members.{Pairs}
 use Rattle.arp.specs.Controller.{chosen}
-use Rattle.rule.specs.PlainRule.{held, plainChoice, Ending, served, noneFree, Given, next, rule, FreeIn, Distinct}
-use Rattle.rule.specs.Ready.{Apart, Ready}
+use Rattle.rule.specs.PlainRule.{held, plainChoice, served, Given, next, rule, FreeIn, Distinct}
+use Rattle.rule.specs.Ready.{Ready}
 
 -- ---- the choice
 

@@ -1,5 +1,5 @@
 -- From a Get UDID on, the pass run-serves-rest the unresolved targets in ascending order, and ends as the plain rule says.
-use Prim.Native.Nat.{ℕ, zero, suc, _+_, _%_, _≤_, _<_}
+use Prim.Native.Nat.{ℕ, zero, suc, _<_}
 use mathlib.Core.Path.{_≡_, refl, sym, ap, ap₂, _∙_, subst}
 use mathlib.Core.Bool.{Bool, true, false}
 use mathlib.Core.Logic.{_⊎_, inl, inr}
@@ -7,11 +7,10 @@ use mathlib.Core.List.{List, [], _∷_}
 use native.Mathlib.Numerals.{add-one}
 use native.Mathlib.Decide.{ℕ-discrete}
 use native.Mathlib.Omega.{arith}
-use lib.ListN.{length, getD, set, length-set}
+use lib.ListN.{length, set, length-set}
 use lib.Seq.{getD-set-same, getD-set-other}
-use Rattle.lists.specs.Choice.{pick}
 use Rattle.wire.specs.declared.address.Address.{Address}
-use Rattle.pool.specs.Pools.{member, withAddress}
+use Rattle.pool.specs.Pools.{withAddress}
 use Rattle.pool.specs.declared.Pool.{Pool}
 use Rattle.pool.specs.declared.free.Free.{Free}
 use Rattle.pool.specs.declared.free.Free.the-variants.{At, AllUsed}
@@ -21,9 +20,9 @@ use Rattle.udid.specs.declared.Udid.{Udid}
 use Rattle.arbitration.specs.Among.{Among}
 use Rattle.targets.specs.Target.{Target, isResolved, assignedTo, resolve, Sized}
 use Rattle.targets.specs.MembersLaws.{waits-next}
-use Rattle.targets.specs.Members.{Waits, Least}
+use Rattle.targets.specs.Members.{Least}
 use Rattle.targets.specs.RecordLaws.{length-map, assigned-keeps-udid}
-use Rattle.arp.specs.Bindings.{openSlot, heldAt, boundTo, slotFor}
+use Rattle.arp.specs.Bindings.{openSlot, heldAt, boundTo}
 use Rattle.arp.specs.Controller.{issued, stepped}
 use Rattle.arp.specs.declared.command.Command.the-variants.{GetUdid, Assign}
 use Rattle.arp.specs.declared.state.Slot.{Slot}
@@ -32,10 +31,9 @@ use Rattle.rule.specs.Acknowledge.{onBus}
 use Rattle.rule.specs.Bus.{World, run}
 use Rattle.rule.specs.BusLaws.{turn-still, turn-takes}
 use Rattle.rule.specs.PlainRule.{Ending, served, noneFree, plainChoice}
-use Rattle.rule.specs.PassEnd.{lastCommand, Outcome, state, out, boundSlot, ended}
+use Rattle.rule.specs.PassEnd.{lastCommand, state, out, boundSlot, ended}
 use Rattle.rule.specs.EffectLaws.{effect-as-meant}
 use Rattle.rule.specs.TraceLaws as on-bus
-use Rattle.rule.specs.Ready.{Ready}
 use Rattle.rule.specs.RuleLaws.{controller-chooses-as-rule, ready-choice-free, ready-next}
 use Rattle.rule.specs.Serving.{Unbound, serve, plain, Inv, turns, asking}
 use Rattle.rule.specs.StepLaws.{get-silence-ends, get-issued, assign-bound}

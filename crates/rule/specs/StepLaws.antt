@@ -1,21 +1,18 @@
 -- The controller's steps on the traces of the bus: the only place that cites what the decoder makes of them.
-use Prim.Native.Nat.{ℕ, zero, suc, _+_, _*_, _%_, _≤_, _<_}
-use mathlib.Core.Path.{_≡_, refl, sym, ap, ap₂, _∙_}
-use mathlib.Core.Bool.{Bool, true, false}
-use mathlib.Core.List.{List, [], _∷_, _++_}
+use Prim.Native.Nat.{ℕ, zero, suc, _+_, _<_}
+use mathlib.Core.Path.{_≡_, refl, ap, ap₂, _∙_}
+use mathlib.Core.Bool.{true}
+use mathlib.Core.List.{List, [], _∷_}
 use native.Mathlib.Omega.{arith}
-use lib.Dec.{leb, ltb}
-use lib.ListN.{length, getD, set}
+use lib.ListN.{getD, set}
 use lib.Seq.{getD-at}
 use borrow.Author.Tests.{lt-leb, le-ltb}
-use Rattle.lists.specs.Choice.{pick}
 use Rattle.wire.specs.Symbols.{START, STOP, ACK, NACK}
 use Rattle.wire.specs.declared.address.Address.{Address}
 use Rattle.trace.specs.Shapes.{shapeOf}
 use Rattle.step.specs.Answers.{CutAt}
 use Rattle.pool.specs.Pools.{member, withAddress}
 use Rattle.pool.specs.declared.Pool.{Pool}
-use Rattle.pool.specs.declared.free.Free.{Free}
 use Rattle.udid.specs.Bytes.{udidBytes, udidAt}
 use Rattle.udid.specs.UdidLaws.{length-udid, udid-back}
 use Rattle.udid.specs.Udids.{Fits}
@@ -23,9 +20,9 @@ use Rattle.udid.specs.declared.Udid.{Udid}
 use Rattle.targets.specs.Target.{Target, Sized}
 use Rattle.targets.specs.Reply.{replyData}
 use Rattle.targets.specs.ReplyLaws.{length-reply-data, bytes-reply-data}
-use Rattle.arp.specs.Bindings.{openSlot, heldAt, boundTo, findFrom, freed, slotFor, bound}
+use Rattle.arp.specs.Bindings.{findFrom, freed, slotFor, bound}
 use Rattle.arp.specs.Controller.{handed, asked, chosen, issued, replied, afterPrepare, afterGet, byCommand, stepped}
-use Rattle.arp.specs.Heard.{sendByte, blockRead, blockWrite}
+use Rattle.arp.specs.Heard.{sendByte, blockRead}
 use Rattle.arp.specs.Requests.{messageOf, traceOf}
 use Rattle.arp.specs.TraceLaws.{valid-prepare, valid-get, prepare-accepted, prepare-nobody, get-reply, get-nobody, assign-whole}
 use Rattle.arp.specs.declared.command.Command.{Command}

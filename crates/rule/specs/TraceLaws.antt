@@ -9,7 +9,7 @@ use native.Mathlib.Omega.{arith}
 use lib.ListN.{length, getD, length-append}
 use lib.Seq.{getD-at}
 use borrow.Author.Tests.{eq-eqb, ne-eqb}
-use Rattle.lists.specs.Choice.{pick, or, and}
+use Rattle.lists.specs.Choice.{pick, or}
 use Rattle.lists.specs.Each.{Bytes, append-bytes}
 use Rattle.wire.specs.Pec.{bitStep, pecStep, pecFrom, pecOf}
 use Rattle.wire.specs.PecLaws.{pec-byte}
@@ -21,12 +21,11 @@ use Rattle.udid.specs.UdidLaws.{length-udid, udid-bytes}
 use Rattle.udid.specs.declared.Udid.{Udid}
 use Rattle.wire.specs.declared.address.Address.{Address}
 use Rattle.targets.specs.Target.{Target, isResolved}
-use Rattle.targets.specs.Reply.{replyData, replyBytes, waiting, OnWire, silence, shown, onWire}
+use Rattle.targets.specs.Reply.{replyData, OnWire}
 use Rattle.targets.specs.Members.{Least}
 use Rattle.targets.specs.ReplyLaws.{least-on-wire}
 use Rattle.targets.specs.TraceLaws.{reply-trace}
 use Rattle.arp.specs.Requests.{traceOf}
-use Rattle.arp.specs.declared.command.Command.{Command}
 use Rattle.arp.specs.declared.command.Command.the-variants.{Prepare, GetUdid, Assign}
 use Rattle.rule.specs.Acknowledge.{begins, assigningBytes, acknowledges, somebody, answered, received, asking, standing, sentPart, onBus}
 use Rattle.rule.specs.AcknowledgeLaws.{assign-by-target, assign-stop}

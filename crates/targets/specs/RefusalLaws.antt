@@ -41,11 +41,11 @@ and-true-exactly true b = (λ e. (refl, e), λ h. h .1)
 and-true-exactly false b = (λ e. absurd (clash e refl), λ h. absurd (clash (h .0) refl))
 
 module _ (test : ℕ → Bool) (P : ℕ → Type 0) (decides : (i : ℕ) → (test i ≡ true) ↔ P i) where
-  failed : (i : ℕ) → test i ≡ false → P i → ⊥
-  failed i e h = clash (decides i .1 h) e
+  false-then-not : (i : ℕ) → test i ≡ false → P i → ⊥
+  false-then-not i e h = clash (decides i .1 h) e
 
-  not-failed : (i : ℕ) → (P i → ⊥) → test i ≡ false
-  not-failed i n = go (test i) refl
+  not-then-false : (i : ℕ) → (P i → ⊥) → test i ≡ false
+  not-then-false i n = go (test i) refl
     where
       go : (t : Bool) → test i ≡ t → test i ≡ false
       go true e = absurd (n (decides i .0 e))
@@ -54,10 +54,10 @@ module _ (test : ℕ → Bool) (P : ℕ → Type 0) (decides : (i : ℕ) → (te
   some-first : (n : ℕ) → some test n ≡ true → FirstOf P n (first test n)
   some-first n e =
       let l = ltb-true (first test n) n e in
-      record { below = l; holds = decides (first test n) .0 (first-passes test n l); none-before = λ j h. failed j (first-before test n j h) }
+      record { below = l; holds = decides (first test n) .0 (first-passes test n l); none-before = λ j h. false-then-not j (first-before test n j h) }
 
   some-none : (n : ℕ) → some test n ≡ false → None P n
-  some-none n e i h = failed i (none-below test n e i h)
+  some-none n e i h = false-then-not i (none-below test n e i h)
 
   none-some : (n : ℕ) → None P n → some test n ≡ false
   none-some n h = go (decLt (first test n) n)
@@ -168,11 +168,11 @@ taken-exactly starting s i = (
 -- ---- the answer
 
 module _ (starting : Pool) (s : List ℕ) where
-  good-length : isBadLength (length s) ≡ false → LengthIsBad s → ⊥
-  good-length e h = clash (bad-length-exactly s .1 h) e
+  good-length-not-bad : isBadLength (length s) ≡ false → LengthIsBad s → ⊥
+  good-length-not-bad e h = clash (bad-length-exactly s .1 h) e
 
-  not-bad : (LengthIsBad s → ⊥) → isBadLength (length s) ≡ false
-  not-bad n = go (isBadLength (length s)) refl
+  not-bad-length : (LengthIsBad s → ⊥) → isBadLength (length s) ≡ false
+  not-bad-length n = go (isBadLength (length s)) refl
     where
       go : (t : Bool) → isBadLength (length s) ≡ t → isBadLength (length s) ≡ false
       go true e = absurd (n (bad-length-exactly s .0 e))
@@ -191,20 +191,20 @@ module _ (starting : Pool) (s : List ℕ) where
           (pick a BadLength
           (pick b (Malformed (first (isMalformed s) n)) (pick c (Repeated (first (isRepeated s) n)) (pick d (Taken (first (isTaken starting s) n)) Admitted))))
       go true e b f c g d h = bad-length-exactly s .0 e
-      go false e true f c g d h = (good-length e, some-first (isMalformed s) (MalformedAt s) (malformed-exactly s) n f)
+      go false e true f c g d h = (good-length-not-bad e, some-first (isMalformed s) (MalformedAt s) (malformed-exactly s) n f)
       go false e false f true g d h = (
-        good-length e,
+        good-length-not-bad e,
         some-none (isMalformed s) (MalformedAt s) (malformed-exactly s) n f,
         some-first (isRepeated s) (RepeatedAt s) (repeated-exactly s) n g,
       )
       go false e false f false g true h = (
-        good-length e,
+        good-length-not-bad e,
         some-none (isMalformed s) (MalformedAt s) (malformed-exactly s) n f,
         some-none (isRepeated s) (RepeatedAt s) (repeated-exactly s) n g,
         some-first (isTaken starting s) (TakenAt starting s) (taken-exactly starting s) n h,
       )
       go false e false f false g false h = (
-        good-length e,
+        good-length-not-bad e,
         some-none (isMalformed s) (MalformedAt s) (malformed-exactly s) n f,
         some-none (isRepeated s) (RepeatedAt s) (repeated-exactly s) n g,
         some-none (isTaken starting s) (TakenAt starting s) (taken-exactly starting s) n h,
@@ -215,13 +215,13 @@ module _ (starting : Pool) (s : List ℕ) where
   unfolding checkedList amongRecords
   given-then-checked BadLength h = rw (bad-length-exactly s .1 h)
   given-then-checked (Malformed i) h =
-      rw (not-bad (h .0), first-some (isMalformed s) (MalformedAt s) (malformed-exactly s) (recordCount s) i (h .1), first-unique (isMalformed s) (MalformedAt s) (malformed-exactly s) (recordCount s) i (h .1))
+      rw (not-bad-length (h .0), first-some (isMalformed s) (MalformedAt s) (malformed-exactly s) (recordCount s) i (h .1), first-unique (isMalformed s) (MalformedAt s) (malformed-exactly s) (recordCount s) i (h .1))
   given-then-checked (Repeated i) h =
-      rw (not-bad (h .0), none-some (isMalformed s) (MalformedAt s) (malformed-exactly s) (recordCount s) (h .1), first-some (isRepeated s) (RepeatedAt s) (repeated-exactly s) (recordCount s) i (h .2), first-unique (isRepeated s) (RepeatedAt s) (repeated-exactly s) (recordCount s) i (h .2))
+      rw (not-bad-length (h .0), none-some (isMalformed s) (MalformedAt s) (malformed-exactly s) (recordCount s) (h .1), first-some (isRepeated s) (RepeatedAt s) (repeated-exactly s) (recordCount s) i (h .2), first-unique (isRepeated s) (RepeatedAt s) (repeated-exactly s) (recordCount s) i (h .2))
   given-then-checked (Taken i) h =
-      rw (not-bad (h .0), none-some (isMalformed s) (MalformedAt s) (malformed-exactly s) (recordCount s) (h .1), none-some (isRepeated s) (RepeatedAt s) (repeated-exactly s) (recordCount s) (h .2), first-some (isTaken starting s) (TakenAt starting s) (taken-exactly starting s) (recordCount s) i (h .3), first-unique (isTaken starting s) (TakenAt starting s) (taken-exactly starting s) (recordCount s) i (h .3))
+      rw (not-bad-length (h .0), none-some (isMalformed s) (MalformedAt s) (malformed-exactly s) (recordCount s) (h .1), none-some (isRepeated s) (RepeatedAt s) (repeated-exactly s) (recordCount s) (h .2), first-some (isTaken starting s) (TakenAt starting s) (taken-exactly starting s) (recordCount s) i (h .3), first-unique (isTaken starting s) (TakenAt starting s) (taken-exactly starting s) (recordCount s) i (h .3))
   given-then-checked Admitted h =
-      rw (not-bad (h .0), none-some (isMalformed s) (MalformedAt s) (malformed-exactly s) (recordCount s) (h .1), none-some (isRepeated s) (RepeatedAt s) (repeated-exactly s) (recordCount s) (h .2), none-some (isTaken starting s) (TakenAt starting s) (taken-exactly starting s) (recordCount s) (h .3))
+      rw (not-bad-length (h .0), none-some (isMalformed s) (MalformedAt s) (malformed-exactly s) (recordCount s) (h .1), none-some (isRepeated s) (RepeatedAt s) (repeated-exactly s) (recordCount s) (h .2), none-some (isTaken starting s) (TakenAt starting s) (taken-exactly starting s) (recordCount s) (h .3))
 
   -- EACH OF 9, 10, 11 AND 12 IS GIVEN EXACTLY IN ITS LISTED CASE, with the first record, and in that order
   pub given-exactly : (r : Checked) → (r ≡ checkedList starting s) ↔ Given starting s r

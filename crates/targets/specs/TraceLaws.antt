@@ -6,7 +6,7 @@ use mathlib.Core.List.{List, [], _∷_, _++_}
 use Rattle.wire.specs.Symbols.{START, STOP, ACK}
 use Rattle.wire.specs.Pec.{pecOf}
 use Rattle.trace.specs.Shapes.{shapeOf}
-use Rattle.trace.specs.Trace.{Message, trace, nacked}
+use Rattle.trace.specs.Trace.{trace, nacked}
 use Rattle.targets.specs.Target.{Target}
 use Rattle.targets.specs.Reply.{replyData, coveredBytes, replyPec, replyBytes, gotUdid}
 use Rattle.targets.specs.ReplyLaws.{length-reply-data}

@@ -18,7 +18,7 @@ use Rattle.targets.specs.Target.{Target, isResolved, Sized}
 use Rattle.targets.specs.Records.{udidOf, flagOf, targetAt, recordCount, targetsOf}
 use Rattle.targets.specs.Cases.{RepeatedAt, None}
 use Rattle.targets.specs.Winner.{betterOf, bestFrom, leastOf, winnerOf, Unresolved, Wins, Won, shownBy}
-use Rattle.targets.specs.Reply.{replyBytes, sends, waiting, OnWire, silence, shown, onWire}
+use Rattle.targets.specs.Reply.{sends, waiting, onWire}
 use Rattle.targets.specs.Members.{Least}
 use Rattle.targets.specs.ReplyLaws.{nobody-on-wire, least-on-wire, least-sending}
 use Rattle.targets.specs.IndexLaws.{target-has-record, record-has-target, sized-at}
@@ -35,24 +35,24 @@ module _ (s : List ℕ) where
   Val j = value (udidOf s j)
 
   -- a number below i + 1 is below i, or i
-  split : (i j : ℕ) → j < suc i → (j ≡ i) ⊎ (j < i)
-  split i j l = at (decLt j i)
+  below-or-last : (i j : ℕ) → j < suc i → (j ≡ i) ⊎ (j < i)
+  below-or-last i j l = at (decLt j i)
     where
       at : Dec (j < i) → (j ≡ i) ⊎ (j < i)
       at (yes q) = inr q
       at (no q) = inl (omega arith)
 
   -- record i is resolved: what held of the others holds
-  passed : (i best n : ℕ) → flagOf s i ≡ 1 → Best s n i best → Best s n (suc i) best
-  passed i best n e (inl w) = inl (w .0, λ j l u. at j u (split i j l))
+  resolved-skipped : (i best n : ℕ) → flagOf s i ≡ 1 → Best s n i best → Best s n (suc i) best
+  resolved-skipped i best n e (inl w) = inl (w .0, λ j l u. at j u (below-or-last i j l))
     where
       at : (j : ℕ) → Unresolved s j → (j ≡ i) ⊎ (j < i) → ⊥
       at j u (inl q) = u (ap (flagOf s) q ∙ e)
       at j u (inr q) = w .1 j q u
-  passed i best n e (inr w) = inr (record {
+  resolved-skipped i best n e (inr w) = inr (record {
     below = omega (arith, w .below);
     unresolved = w .unresolved;
-    least = λ j l u. at j u (split i j l);
+    least = λ j l u. at j u (below-or-last i j l);
     earliest = w .earliest;
   })
     where
@@ -61,19 +61,19 @@ module _ (s : List ℕ) where
       at j u (inr q) = w .least j q u
 
   -- record i is lower than all unresolved ones before it
-  newly : (i n : ℕ) → Unresolved s i → ((j : ℕ) → j < i → Unresolved s j → Val i < Val j) → Best s n (suc i) i
-  newly i n e h = inr (record { below = omega arith; unresolved = e; least = λ j l u. at j u (split i j l); earliest = h })
+  first-is-best : (i n : ℕ) → Unresolved s i → ((j : ℕ) → j < i → Unresolved s j → Val i < Val j) → Best s n (suc i) i
+  first-is-best i n e h = inr (record { below = omega arith; unresolved = e; least = λ j l u. at j u (below-or-last i j l); earliest = h })
     where
       at : (j : ℕ) → Unresolved s j → (j ≡ i) ⊎ (j < i) → Val i ≤ Val j
       at j u (inl q) = omega (arith, ap Val q)
       at j u (inr q) = omega (arith, h j q u)
 
   -- record i is not lower than the best
-  remains : (i best n : ℕ) → Val best ≤ Val i → Wins s i best → Best s n (suc i) best
-  remains i best n h w = inr (record {
+  best-remains : (i best n : ℕ) → Val best ≤ Val i → Wins s i best → Best s n (suc i) best
+  best-remains i best n h w = inr (record {
     below = omega (arith, w .below);
     unresolved = w .unresolved;
-    least = λ j l u. at j u (split i j l);
+    least = λ j l u. at j u (below-or-last i j l);
     earliest = w .earliest;
   })
     where
@@ -86,14 +86,14 @@ module _ (s : List ℕ) where
   better-best n i best h v = go (eqb (flagOf s i) 1) refl v
     where
       go : (t : Bool) → eqb (flagOf s i) 1 ≡ t → Best s n i best → Best s n (suc i) (pick t best (pick (ltb best n) (pick (isBelow (udidOf s i) (udidOf s best)) i best) i))
-      go true e w = passed i best n (eqb-true (flagOf s i) 1 e) w
+      go true e w = resolved-skipped i best n (eqb-true (flagOf s i) 1 e) w
       go false e (inl w) =
-          rw (le-ltb best n (omega (arith, w .0))) (newly i n (eqb-false (flagOf s i) 1 e) (λ j l u. absurd (w .1 j l u)))
+          rw (le-ltb best n (omega (arith, w .0))) (first-is-best i n (eqb-false (flagOf s i) 1 e) (λ j l u. absurd (w .1 j l u)))
       go false e (inr w) = rw (lt-ltb best n (omega (arith, w .below))) (at (isBelow (udidOf s i) (udidOf s best)) refl)
         where
           at : (t : Bool) → isBelow (udidOf s i) (udidOf s best) ≡ t → Best s n (suc i) (pick t i best)
-          at true f = newly i n (eqb-false (flagOf s i) 1 e) (λ j l u. omega (arith, ltb-true (Val i) (Val best) f, w .least j l u))
-          at false f = remains i best n (ltb-false (Val i) (Val best) f) w
+          at true f = first-is-best i n (eqb-false (flagOf s i) 1 e) (λ j l u. omega (arith, ltb-true (Val i) (Val best) f, w .least j l u))
+          at false f = best-remains i best n (ltb-false (Val i) (Val best) f) w
 
   from-best : (n k i best : ℕ) → i + k ≡ n → Best s n i best → Best s n n (bestFrom s n k i best)
   unfolding bestFrom
