@@ -16,6 +16,10 @@ bits (suc k) n = digit n k ∷ bits k n
 abbrev pub udidBits : Udid → List Bool
 udidBits u = bits 64 (u .high) ++ bits 64 (u .low)
 
+-- the same first bits, an identifier, and what follows it
+abbrev pub sent : List Bool → Udid → List Bool → List Bool
+sent p u x = p ++ (udidBits u ++ x)
+
 -- the bits of bytes, byte after byte
 abbrev pub byteBits : List ℕ → List Bool
 byteBits [] = []

@@ -1,9 +1,10 @@
 -- Two senders: how many leading bits they share, and which of them has the zero at the first bit in which they differ.
 use Prim.Native.Nat.{ℕ, suc}
+use mathlib.Core.Path.{_≡_}
 use mathlib.Core.Bool.{Bool, true, false}
 use mathlib.Core.List.{List, [], _∷_}
 use lib.Dec.{leb}
-use lib.ListN.{drop}
+use lib.ListN.{length, drop}
 use Rattle.lists.specs.Choice.{pick}
 
 -- how many leading bits they share: the number of the bit at which one drops out
@@ -28,3 +29,11 @@ noLater (true ∷ xs) (true ∷ ys) = noLater xs ys
 abbrev pub sharing : ℕ → List Bool → List (List Bool) → List (List Bool)
 sharing n m [] = []
 sharing n m (t ∷ ts) = pick (leb n (shared m t)) (drop n t ∷ sharing n m ts) (sharing n m ts)
+
+-- m does not drop out against t, which is as long
+abbrev pub Stays : List Bool → List Bool → Type 0
+Stays m t = (noLater m t ≡ true) × (length t ≡ length m)
+
+-- t is as long as m, and sends something else
+abbrev pub Other : List Bool → List Bool → Type 0
+Other m t = (length t ≡ length m) × (t ≡ m → ⊥)

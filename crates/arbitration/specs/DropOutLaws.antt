@@ -20,19 +20,19 @@ use Rattle.arbitration.specs.DropOut.{shared}
 
 -- ---- leading bits that are shared
 
-pub shared-same : (xs ys zs : List Bool) → shared (xs ++ ys) (xs ++ zs) ≡ length xs + shared ys zs
-shared-same [] ys zs = sym (zero-add (shared ys zs))
-shared-same (true ∷ xs) ys zs = ap suc (shared-same xs ys zs) ∙ sym (suc-add (length xs) (shared ys zs))
-shared-same (false ∷ xs) ys zs = ap suc (shared-same xs ys zs) ∙ sym (suc-add (length xs) (shared ys zs))
+pub shared-after-same-front : (xs ys zs : List Bool) → shared (xs ++ ys) (xs ++ zs) ≡ length xs + shared ys zs
+shared-after-same-front [] ys zs = sym (zero-add (shared ys zs))
+shared-after-same-front (true ∷ xs) ys zs = ap suc (shared-after-same-front xs ys zs) ∙ sym (suc-add (length xs) (shared ys zs))
+shared-after-same-front (false ∷ xs) ys zs = ap suc (shared-after-same-front xs ys zs) ∙ sym (suc-add (length xs) (shared ys zs))
 
 -- what follows the first bit that differs does not count
-pub shared-first : (xs ys zs ws : List Bool) → length xs ≡ length ys → shared xs ys < length xs → shared (xs ++ zs) (ys ++ ws) ≡ shared xs ys
-shared-first [] ys zs ws e h = absurd (omega arith)
-shared-first (x ∷ xs) [] zs ws e h = absurd (omega arith)
-shared-first (true ∷ xs) (true ∷ ys) zs ws e h = ap suc (shared-first xs ys zs ws (omega arith) (omega arith))
-shared-first (false ∷ xs) (false ∷ ys) zs ws e h = ap suc (shared-first xs ys zs ws (omega arith) (omega arith))
-shared-first (true ∷ xs) (false ∷ ys) zs ws e h = refl
-shared-first (false ∷ xs) (true ∷ ys) zs ws e h = refl
+pub shared-whatever-follows : (xs ys zs ws : List Bool) → length xs ≡ length ys → shared xs ys < length xs → shared (xs ++ zs) (ys ++ ws) ≡ shared xs ys
+shared-whatever-follows [] ys zs ws e h = absurd (omega arith)
+shared-whatever-follows (x ∷ xs) [] zs ws e h = absurd (omega arith)
+shared-whatever-follows (true ∷ xs) (true ∷ ys) zs ws e h = ap suc (shared-whatever-follows xs ys zs ws (omega arith) (omega arith))
+shared-whatever-follows (false ∷ xs) (false ∷ ys) zs ws e h = ap suc (shared-whatever-follows xs ys zs ws (omega arith) (omega arith))
+shared-whatever-follows (true ∷ xs) (false ∷ ys) zs ws e h = refl
+shared-whatever-follows (false ∷ xs) (true ∷ ys) zs ws e h = refl
 
 -- ---- of two numbers
 
@@ -44,10 +44,10 @@ leading-more k x h =
 leading-none : (k x : ℕ) → 2 ^ k ≤ x → x < 2 ^ suc k → leadingZeros (suc k) x ≡ 0
 leading-none k x h l = sym (leading-unique (suc k) x 0 (suc k) (omega arith) l (omega (arith, pow-suc 2 k)))
 
-shared-mod : (k n m : ℕ) → shared (bits k n) (bits k m) ≡ leadingZeros k (bitXor n m % 2 ^ k)
+shared-leading-mod : (k n m : ℕ) → shared (bits k n) (bits k m) ≡ leadingZeros k (bitXor n m % 2 ^ k)
 unfolding bits leadingZeros
-shared-mod zero n m = refl
-shared-mod (suc k) n m = go (digit n k) (digit m k) refl refl (top-digit (bitXor n m) k) (shared-mod k n m) (digit-xor n m k)
+shared-leading-mod zero n m = refl
+shared-leading-mod (suc k) n m = go (digit n k) (digit m k) refl refl (top (bitXor n m) k) (shared-leading-mod k n m) (digit-xor n m k)
   where
     x : ℕ
     x = bitXor n m
@@ -71,23 +71,23 @@ shared-mod (suc k) n m = go (digit n k) (digit m k) refl refl (top-digit (bitXor
     go false true p q t ih d = rw (p, q) (sym (other t (simp (p, q) at d)))
 
 pub shared-leading : (k n m : ℕ) → n < 2 ^ k → m < 2 ^ k → shared (bits k n) (bits k m) ≡ leadingZeros k (bitXor n m)
-shared-leading k n m h l = shared-mod k n m ∙ ap (leadingZeros k) (mod-eq-of-lt (xor-lt k n m h l))
+shared-leading k n m h l = shared-leading-mod k n m ∙ ap (leadingZeros k) (mod-eq-of-lt (xor-lt k n m h l))
 
 -- ---- of two identifiers, by halves
 
 pub xor-pos : (a b : ℕ) → (a ≡ b → ⊥) → 0 < bitXor a b
 xor-pos a b n = omega (arith, xor-add-and a b, and-le-l a b, and-le-r a b, n)
 
-pub drop-high : (a b : Udid) → a .high < 2 ^ 64 → b .high < 2 ^ 64 → (a .high ≡ b .high → ⊥)
+pub drop-out-in-high-half : (a b : Udid) → a .high < 2 ^ 64 → b .high < 2 ^ 64 → (a .high ≡ b .high → ⊥)
     → leadingZeros 64 (bitXor (a .high) (b .high)) ≡ shared (udidBits a) (udidBits b)
-drop-high a b ha hb n =
+drop-out-in-high-half a b ha hb n =
     let e = shared-leading 64 (a .high) (b .high) ha hb in
     let t = leading-top 64 (bitXor (a .high) (b .high)) (xor-pos (a .high) (b .high) n) (xor-lt 64 (a .high) (b .high) ha hb) in
-    sym (shared-first (bits 64 (a .high)) (bits 64 (b .high)) _ _ (length-bits 64 (a .high) ∙ sym (length-bits 64 (b .high))) (omega (arith, e, t .1, length-bits 64 (a .high))) ∙ e)
+    sym (shared-whatever-follows (bits 64 (a .high)) (bits 64 (b .high)) _ _ (length-bits 64 (a .high) ∙ sym (length-bits 64 (b .high))) (omega (arith, e, t .1, length-bits 64 (a .high))) ∙ e)
 
-pub drop-low : (a b : Udid) → a .low < 2 ^ 64 → b .low < 2 ^ 64 → a .high ≡ b .high
+pub drop-out-in-low-half : (a b : Udid) → a .low < 2 ^ 64 → b .low < 2 ^ 64 → a .high ≡ b .high
     → 64 + leadingZeros 64 (bitXor (a .low) (b .low)) ≡ shared (udidBits a) (udidBits b)
-drop-low a b ha hb h =
+drop-out-in-low-half a b ha hb h =
     sym (ap (λ (x : ℕ). shared (bits 64 x ++ bits 64 (a .low)) (bits 64 (b .high) ++ bits 64 (b .low))) h
-    ∙ shared-same (bits 64 (b .high)) _ _
+    ∙ shared-after-same-front (bits 64 (b .high)) _ _
     ∙ ap₂ (λ (x y : ℕ). x + y) (length-bits 64 (b .high)) (shared-leading 64 (a .low) (b .low) ha hb))

@@ -13,24 +13,20 @@ use Rattle.lists.specs.Choice.{pick}
 use Rattle.lists.specs.Each.{Each}
 use Rattle.udid.specs.Udids.{Fits, value, isBelow}
 use Rattle.udid.specs.declared.Udid.{Udid}
-use Rattle.arbitration.specs.Bits.{udidBits}
+use Rattle.arbitration.specs.Bits.{udidBits, sent}
 use Rattle.arbitration.specs.BitLaws.{length-udid-bits}
 use Rattle.arbitration.specs.Wire.{heard, sending}
-use Rattle.arbitration.specs.DropOut.{shared, noLater}
-use Rattle.arbitration.specs.OrderLaws.{noLater-refl, same-front}
+use Rattle.arbitration.specs.DropOut.{shared, noLater, Stays}
+use Rattle.arbitration.specs.OrderLaws.{noLater-refl, noLater-same-front}
 use Rattle.arbitration.specs.WinLaws.{udid-order, drop-out-within}
-use Rattle.arbitration.specs.WireLaws.{Stays, heard-is, sending-is, shared-all}
-
--- the same first bits, an identifier, and what follows it
-abbrev pub sent : List Bool → Udid → List Bool → List Bool
-sent p u x = p ++ (udidBits u ++ x)
+use Rattle.arbitration.specs.WireLaws.{heard-who-stays, sending-who-share, shared-with-itself}
 
 pub length-sent : (p : List Bool) (u : Udid) (x : List Bool) → length (sent p u x) ≡ length p + (128 + length x)
 length-sent p u x = length-append p (udidBits u ++ x) ∙ ap (λ (n : ℕ). length p + n) (length-append (udidBits u) x ∙ ap (λ (n : ℕ). n + length x) (length-udid-bits u))
 
 module _ (a b : Udid) (f : Fits a) (g : Fits b) (p x y : List Bool) where
   pub sent-order : (a ≡ b → ⊥) → noLater (sent p a x) (sent p b y) ≡ isBelow a b
-  sent-order n = same-front p (udidBits a ++ x) (udidBits b ++ y) ∙ udid-order a b f g x y n
+  sent-order n = noLater-same-front p (udidBits a ++ x) (udidBits b ++ y) ∙ udid-order a b f g x y n
 
   -- a beats b
   module _ (e : isBelow a b ≡ true) (l : length x ≡ length y) where
@@ -42,11 +38,11 @@ module _ (a b : Udid) (f : Fits a) (g : Fits b) (p x y : List Bool) where
 
     -- what stands on the wire is what a sends
     pub pair-heard : heard (length (sent p a x)) (sent p a x ∷ sent p b y ∷ []) ≡ sent p a x
-    pair-heard = heard-is (sent p a x) (sent p a x ∷ sent p b y ∷ []) both (inl refl)
+    pair-heard = heard-who-stays (sent p a x) (sent p a x ∷ sent p b y ∷ []) both (inl refl)
 
     -- and b sends as long as the bits are those before and at the drop-out bit, which comes after the p that both send
     pub pair-sending : (n : ℕ) → n ≤ length (sent p a x) → sending n (sent p a x ∷ sent p b y ∷ [])
         ≡ drop n (sent p a x) ∷ pick (leb n (length p + shared (udidBits a) (udidBits b))) (drop n (sent p b y) ∷ []) []
     pair-sending n h =
-        sending-is n (sent p a x) (sent p a x ∷ sent p b y ∷ []) both (inl refl) h
-        ∙ rw (le-leb n (shared (sent p a x) (sent p a x)) (omega (arith, shared-all (sent p a x))), drop-out-within a b f g p x y differ)
+        sending-who-share n (sent p a x) (sent p a x ∷ sent p b y ∷ []) both (inl refl) h
+        ∙ rw (le-leb n (shared (sent p a x) (sent p a x)) (omega (arith, shared-with-itself (sent p a x))), drop-out-within a b f g p x y differ)

@@ -18,35 +18,35 @@ use Rattle.udid.specs.UdidLaws.{same-equal, same-refl, below-halves}
 use Rattle.udid.specs.declared.Udid.{Udid}
 use Rattle.arbitration.specs.Bits.{bits, udidBits}
 use Rattle.arbitration.specs.BitLaws.{length-bits, length-udid-bits}
-use Rattle.arbitration.specs.OrderLaws.{lower-bits, higher-bits, same-front}
+use Rattle.arbitration.specs.OrderLaws.{lower-number-stays, higher-number-leaves, noLater-same-front}
 use Rattle.arbitration.specs.DropOut.{shared, noLater}
-use Rattle.arbitration.specs.DropOutLaws.{shared-same, shared-first, drop-high, drop-low, xor-pos}
+use Rattle.arbitration.specs.DropOutLaws.{shared-after-same-front, shared-whatever-follows, drop-out-in-high-half, drop-out-in-low-half, xor-pos}
 
--- the first bit in which two senders differ decides
-pub decides : (xs ys : List Bool) → length xs ≡ length ys → shared xs ys < length xs → not (getD xs (shared xs ys) false) ≡ noLater xs ys
-decides [] ys e h = absurd (omega arith)
-decides (x ∷ xs) [] e h = absurd (omega arith)
-decides (true ∷ xs) (true ∷ ys) e h = decides xs ys (omega arith) (omega arith)
-decides (false ∷ xs) (false ∷ ys) e h = decides xs ys (omega arith) (omega arith)
-decides (true ∷ xs) (false ∷ ys) e h = refl
-decides (false ∷ xs) (true ∷ ys) e h = refl
+-- the first bit in which two senders differ drop-out-bit-decides
+pub drop-out-bit-decides : (xs ys : List Bool) → length xs ≡ length ys → shared xs ys < length xs → not (getD xs (shared xs ys) false) ≡ noLater xs ys
+drop-out-bit-decides [] ys e h = absurd (omega arith)
+drop-out-bit-decides (x ∷ xs) [] e h = absurd (omega arith)
+drop-out-bit-decides (true ∷ xs) (true ∷ ys) e h = drop-out-bit-decides xs ys (omega arith) (omega arith)
+drop-out-bit-decides (false ∷ xs) (false ∷ ys) e h = drop-out-bit-decides xs ys (omega arith) (omega arith)
+drop-out-bit-decides (true ∷ xs) (false ∷ ys) e h = refl
+drop-out-bit-decides (false ∷ xs) (true ∷ ys) e h = refl
 
 -- the bit at a place
-bit-at : (n v k : ℕ) → k < n → getD (bits n v) k false ≡ digit v (n - suc k)
+number-bit-digit : (n v k : ℕ) → k < n → getD (bits n v) k false ≡ digit v (n - suc k)
 unfolding bits
-bit-at zero v k h = absurd (omega arith)
-bit-at (suc n) v zero h = let e : suc n - 1 ≡ n = omega arith in ap (digit v) (sym e)
-bit-at (suc n) v (suc k) h = let e : suc n - suc (suc k) ≡ n - suc k = omega arith in bit-at n v k (omega arith) ∙ ap (digit v) (sym e)
+number-bit-digit zero v k h = absurd (omega arith)
+number-bit-digit (suc n) v zero h = let e : suc n - 1 ≡ n = omega arith in ap (digit v) (sym e)
+number-bit-digit (suc n) v (suc k) h = let e : suc n - suc (suc k) ≡ n - suc k = omega arith in number-bit-digit n v k (omega arith) ∙ ap (digit v) (sym e)
 
-pub bit-of : (u : Udid) (j : ℕ) → j < 128 → getD (udidBits u) j false ≡ pick (ltb j 64) (digit (u .high) (63 - j)) (digit (u .low) (127 - j))
-bit-of u j h = go (decLt j 64)
+pub udid-bit-digit : (u : Udid) (j : ℕ) → j < 128 → getD (udidBits u) j false ≡ pick (ltb j 64) (digit (u .high) (63 - j)) (digit (u .low) (127 - j))
+udid-bit-digit u j h = go (decLt j 64)
   where
     go : Dec (j < 64) → getD (udidBits u) j false ≡ pick (ltb j 64) (digit (u .high) (63 - j)) (digit (u .low) (127 - j))
     go (yes l) =
         let e : 64 - suc j ≡ 63 - j = omega arith in
         rw (lt-ltb j 64 l)
         (List·getD-append (bits 64 (u .high)) (bits 64 (u .low)) false j (omega (arith, length-bits 64 (u .high)))
-        ∙ bit-at 64 (u .high) j l
+        ∙ number-bit-digit 64 (u .high) j l
         ∙ ap (digit (u .high)) e)
     go (no l) =
         let d : j ≡ length (bits 64 (u .high)) + (j - 64) = omega (arith, length-bits 64 (u .high)) in
@@ -54,7 +54,7 @@ bit-of u j h = go (decLt j 64)
         rw (le-ltb j 64 (omega arith))
         (ap (λ (i : ℕ). getD (udidBits u) i false) d
         ∙ getD-append-add (bits 64 (u .high)) (bits 64 (u .low)) (j - 64) false
-        ∙ bit-at 64 (u .low) (j - 64) (omega arith)
+        ∙ number-bit-digit 64 (u .low) (j - 64) (omega arith)
         ∙ ap (digit (u .low)) e)
 
 module _ (a b : Udid) (f : Fits a) (g : Fits b) where
@@ -74,55 +74,55 @@ module _ (a b : Udid) (f : Fits a) (g : Fits b) where
       q = bits 64 (b .low) ++ y
 
       low : Dec (a .low < b .low) → a .high ≡ b .high → noLater p q ≡ ltb (a .low) (b .low)
-      low (yes l) e = lower-bits 64 (a .low) (b .low) x y l (g .low) ∙ sym (lt-ltb (a .low) (b .low) l)
+      low (yes l) e = lower-number-stays 64 (a .low) (b .low) x y l (g .low) ∙ sym (lt-ltb (a .low) (b .low) l)
       low (no l) e =
           let o : b .low < a .low = above (a .low) (b .low) l (λ (i : a .low ≡ b .low). n (by-halves e i)) in
-          higher-bits 64 (a .low) (b .low) x y o (f .low) ∙ sym (le-ltb (a .low) (b .low) (omega arith))
+          higher-number-leaves 64 (a .low) (b .low) x y o (f .low) ∙ sym (le-ltb (a .low) (b .low) (omega arith))
         where
           above : (i j : ℕ) → ¬ (i < j) → (i ≡ j → ⊥) → j < i
           above i j s t = omega arith
 
       high : Dec (a .high < b .high) → (a .high ≡ b .high → ⊥) → noLater (bits 64 (a .high) ++ p) (bits 64 (b .high) ++ q) ≡ ltb (a .high) (b .high)
-      high (yes l) e = lower-bits 64 (a .high) (b .high) p q l (g .high) ∙ sym (lt-ltb (a .high) (b .high) l)
-      high (no l) e = higher-bits 64 (a .high) (b .high) p q (omega arith) (f .high) ∙ sym (le-ltb (a .high) (b .high) (omega arith))
+      high (yes l) e = lower-number-stays 64 (a .high) (b .high) p q l (g .high) ∙ sym (lt-ltb (a .high) (b .high) l)
+      high (no l) e = higher-number-leaves 64 (a .high) (b .high) p q (omega arith) (f .high) ∙ sym (le-ltb (a .high) (b .high) (omega arith))
 
       go : Dec (a .high ≡ b .high) → noLater (bits 64 (a .high) ++ p) (bits 64 (b .high) ++ q) ≡ pick (eqb (a .high) (b .high)) (ltb (a .low) (b .low)) (ltb (a .high) (b .high))
       go (yes e) =
           rw (eq-eqb (a .high) (b .high) e)
-          (ap (λ (z : ℕ). noLater (bits 64 z ++ p) (bits 64 (b .high) ++ q)) e ∙ same-front (bits 64 (b .high)) p q ∙ low (decLt (a .low) (b .low)) e)
+          (ap (λ (z : ℕ). noLater (bits 64 z ++ p) (bits 64 (b .high) ++ q)) e ∙ noLater-same-front (bits 64 (b .high)) p q ∙ low (decLt (a .low) (b .low)) e)
       go (no e) = rw (ne-eqb (a .high) (b .high) e) (high (decLt (a .high) (b .high)) e)
 
   -- different identifiers drop out within their 128 bits
-  pub drops-out : (a ≡ b → ⊥) → shared (udidBits a) (udidBits b) < 128
-  drops-out n = go (ℕ-discrete (a .high) (b .high))
+  pub drop-out-below-128 : (a ≡ b → ⊥) → shared (udidBits a) (udidBits b) < 128
+  drop-out-below-128 n = go (ℕ-discrete (a .high) (b .high))
     where
       go : Dec (a .high ≡ b .high) → shared (udidBits a) (udidBits b) < 128
       go (yes e) =
           let d : a .low ≡ b .low → ⊥ = λ q. n (by-halves e q) in
-          omega (arith, drop-low a b (f .low) (g .low) e, leading-top 64 (bitXor (a .low) (b .low)) (xor-pos (a .low) (b .low) d) (xor-lt 64 (a .low) (b .low) (f .low) (g .low)) .1)
+          omega (arith, drop-out-in-low-half a b (f .low) (g .low) e, leading-top 64 (bitXor (a .low) (b .low)) (xor-pos (a .low) (b .low) d) (xor-lt 64 (a .low) (b .low) (f .low) (g .low)) .1)
       go (no d) =
-          omega (arith, drop-high a b (f .high) (g .high) d, leading-top 64 (bitXor (a .high) (b .high)) (xor-pos (a .high) (b .high) d) (xor-lt 64 (a .high) (b .high) (f .high) (g .high)) .1)
+          omega (arith, drop-out-in-high-half a b (f .high) (g .high) d, leading-top 64 (bitXor (a .high) (b .high)) (xor-pos (a .high) (b .high) d) (xor-lt 64 (a .high) (b .high) (f .high) (g .high)) .1)
 
   -- whatever is sent before and after them, the same before
   pub drop-out-within : (p x y : List Bool) → (a ≡ b → ⊥) → shared (p ++ (udidBits a ++ x)) (p ++ (udidBits b ++ y)) ≡ length p + shared (udidBits a) (udidBits b)
   drop-out-within p x y n =
-      shared-same p (udidBits a ++ x) (udidBits b ++ y)
+      shared-after-same-front p (udidBits a ++ x) (udidBits b ++ y)
       ∙ ap (λ (k : ℕ). length p + k)
-      (shared-first (udidBits a) (udidBits b) x y (length-udid-bits a ∙ sym (length-udid-bits b)) (omega (arith, drops-out n, length-udid-bits a)))
+      (shared-whatever-follows (udidBits a) (udidBits b) x y (length-udid-bits a ∙ sym (length-udid-bits b)) (omega (arith, drop-out-below-128 n, length-udid-bits a)))
 
   -- equal ones never do
-  pub all-shared : a ≡ b → shared (udidBits a) (udidBits b) ≡ 128
-  all-shared e =
+  pub equal-share-128 : a ≡ b → shared (udidBits a) (udidBits b) ≡ 128
+  equal-share-128 e =
       let x : bitXor (a .low) (b .low) ≡ 0 = ap (λ (u : Udid). bitXor (u .low) (b .low)) e ∙ xor-self (b .low) in
-      sym (drop-low a b (f .low) (g .low) (ap (λ (u : Udid). u .high) e))
+      sym (drop-out-in-low-half a b (f .low) (g .low) (ap (λ (u : Udid). u .high) e))
       ∙ ap (λ (y : ℕ). 64 + leadingZeros 64 y) x
       ∙ ap (λ (y : ℕ). 64 + y) (leading-of-zero 64)
 
   -- the test at the drop-out bit, as the code makes it
-  pub beats-law : pick (ltb 127 (shared (udidBits a) (udidBits b))) false
+  pub drop-out-test-below : pick (ltb 127 (shared (udidBits a) (udidBits b))) false
       (pick (ltb (shared (udidBits a) (udidBits b)) 64) (not (digit (a .high) (63 - shared (udidBits a) (udidBits b)))) (not (digit (a .low) (127 - shared (udidBits a) (udidBits b)))))
       ≡ isBelow a b
-  beats-law = go (sameUdid a b) refl
+  drop-out-test-below = go (sameUdid a b) refl
     where
       s : ℕ
       s = shared (udidBits a) (udidBits b)
@@ -139,17 +139,17 @@ module _ (a b : Udid) (f : Fits a) (g : Fits b) where
 
       differ : (a ≡ b → ⊥) → tested ≡ isBelow a b
       differ n =
-          let h : shared (udidBits a) (udidBits b) < 128 = drops-out n in
+          let h : shared (udidBits a) (udidBits b) < 128 = drop-out-below-128 n in
           rw (le-ltb 127 s (omega arith))
           (push (ltb s 64)
-          ∙ ap not (sym (bit-of a s h))
-          ∙ decides (udidBits a) (udidBits b) (length-udid-bits a ∙ sym (length-udid-bits b)) (omega (arith, length-udid-bits a))
+          ∙ ap not (sym (udid-bit-digit a s h))
+          ∙ drop-out-bit-decides (udidBits a) (udidBits b) (length-udid-bits a ∙ sym (length-udid-bits b)) (omega (arith, length-udid-bits a))
           ∙ ordered n)
 
       equal : a ≡ b → tested ≡ isBelow a b
       equal e =
           let v : value a ≡ value b = ap value e in
-          rw (lt-ltb 127 s (omega (arith, all-shared e))) (sym (le-ltb (value a) (value b) (omega arith)))
+          rw (lt-ltb 127 s (omega (arith, equal-share-128 e))) (sym (le-ltb (value a) (value b) (omega arith)))
 
       go : (t : Bool) → sameUdid a b ≡ t → tested ≡ isBelow a b
       go true e = equal (same-equal a b e)

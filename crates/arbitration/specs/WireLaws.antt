@@ -10,15 +10,11 @@ use lib.Dec.{leb, leb·zero, leb·suc-zero, leb·suc-suc}
 use lib.ListN.{length, drop}
 use lib.Seq.{drop-length}
 use borrow.Author.Tests.{le-leb, lt-leb}
-use Rattle.lists.specs.Choice.{pick, and, not}
+use Rattle.lists.specs.Choice.{pick}
 use Rattle.lists.specs.Each.{Each}
 use Rattle.arbitration.specs.Among.{Among}
-use Rattle.arbitration.specs.Wire.{next, level, staying, heard, sending}
-use Rattle.arbitration.specs.DropOut.{shared, noLater, sharing}
-
--- m does not drop out against t, which is as long
-abbrev pub Stays : List Bool → List Bool → Type 0
-Stays m t = (noLater m t ≡ true) × (length t ≡ length m)
+use Rattle.arbitration.specs.Wire.{level, staying, heard, sending}
+use Rattle.arbitration.specs.DropOut.{shared, sharing, Stays, Other}
 
 -- ---- the next bit on the wire is m's
 
@@ -34,9 +30,9 @@ level-zero m ([] ∷ ts) (inr h) = level-zero m ts h
 level-zero m ((true ∷ t) ∷ ts) (inr h) = level-zero m ts h
 level-zero m ((false ∷ t) ∷ ts) (inr h) = refl
 
-level-is : (b : Bool) (m : List Bool) (ts : List (List Bool)) → Each (Stays (b ∷ m)) ts → Among (b ∷ m) ts → level ts ≡ b
-level-is true m ts h a = level-one m ts h
-level-is false m ts h a = level-zero m ts a
+level-of-who-stays : (b : Bool) (m : List Bool) (ts : List (List Bool)) → Each (Stays (b ∷ m)) ts → Among (b ∷ m) ts → level ts ≡ b
+level-of-who-stays true m ts h a = level-one m ts h
+level-of-who-stays false m ts h a = level-zero m ts a
 
 -- ---- those that go on, and m among them
 
@@ -63,11 +59,11 @@ staying-among false m ((true ∷ t) ∷ ts) (inr h) = staying-among false m ts h
 staying-among false m ((false ∷ t) ∷ ts) (inr h) = inr (staying-among false m ts h)
 
 -- THE WIRE SHOWS m
-pub heard-is : (m : List Bool) (ts : List (List Bool)) → Each (Stays m) ts → Among m ts → heard (length m) ts ≡ m
-heard-is [] ts h a = refl
-heard-is (b ∷ m) ts h a =
-    let w = level-is b m ts h a in
-    ap₂ _∷_ w (ap (λ (x : Bool). heard (length m) (staying x ts)) w ∙ heard-is m (staying b ts) (staying-each b m ts h) (staying-among b m ts a))
+pub heard-who-stays : (m : List Bool) (ts : List (List Bool)) → Each (Stays m) ts → Among m ts → heard (length m) ts ≡ m
+heard-who-stays [] ts h a = refl
+heard-who-stays (b ∷ m) ts h a =
+    let w = level-of-who-stays b m ts h a in
+    ap₂ _∷_ w (ap (λ (x : Bool). heard (length m) (staying x ts)) w ∙ heard-who-stays m (staying b ts) (staying-each b m ts h) (staying-among b m ts a))
 
 -- ---- who still sends
 
@@ -96,24 +92,20 @@ sharing-one n false m ((false ∷ t) ∷ ts) h = rw (leb·suc-suc n (shared m t)
     go false e = e
 
 -- WHERE ONE DROPS OUT: after n bits those still send that share n bits with m, and no others
-pub sending-is : (n : ℕ) (m : List Bool) (ts : List (List Bool)) → Each (Stays m) ts → Among m ts → n ≤ length m → sending n ts ≡ sharing n m ts
-sending-is zero m ts h a l = sym (sharing-none m ts)
-sending-is (suc n) [] ts h a l = absurd (omega arith)
-sending-is (suc n) (b ∷ m) ts h a l =
-    ap (λ (w : Bool). sending n (staying w ts)) (level-is b m ts h a)
-    ∙ sending-is n m (staying b ts) (staying-each b m ts h) (staying-among b m ts a) (omega arith)
+pub sending-who-share : (n : ℕ) (m : List Bool) (ts : List (List Bool)) → Each (Stays m) ts → Among m ts → n ≤ length m → sending n ts ≡ sharing n m ts
+sending-who-share zero m ts h a l = sym (sharing-none m ts)
+sending-who-share (suc n) [] ts h a l = absurd (omega arith)
+sending-who-share (suc n) (b ∷ m) ts h a l =
+    ap (λ (w : Bool). sending n (staying w ts)) (level-of-who-stays b m ts h a)
+    ∙ sending-who-share n m (staying b ts) (staying-each b m ts h) (staying-among b m ts a) (omega arith)
     ∙ sharing-one n b m ts h
 
 -- ---- at the end one is left
 
-pub shared-all : (m : List Bool) → shared m m ≡ length m
-shared-all [] = refl
-shared-all (true ∷ m) = ap suc (shared-all m)
-shared-all (false ∷ m) = ap suc (shared-all m)
-
--- t is as long as m, and sends something else
-abbrev pub Other : List Bool → List Bool → Type 0
-Other m t = (length t ≡ length m) × (t ≡ m → ⊥)
+pub shared-with-itself : (m : List Bool) → shared m m ≡ length m
+shared-with-itself [] = refl
+shared-with-itself (true ∷ m) = ap suc (shared-with-itself m)
+shared-with-itself (false ∷ m) = ap suc (shared-with-itself m)
 
 shared-less : (m t : List Bool) → Other m t → shared m t < length m
 shared-less [] [] h = absurd (h .1 refl)
@@ -128,12 +120,12 @@ others-out : (m : List Bool) (ts us : List (List Bool)) → Each (Other m) ts �
 others-out m [] us h = refl
 others-out m (t ∷ ts) us h = rw (lt-leb (length m) (shared m t) (shared-less m t (h .0))) (others-out m ts us (h .1))
 
--- after its last bit m alone still sends, where nobody else sends the same
-pub alone : (m : List Bool) (us vs : List (List Bool)) → Each (Stays m) (us ++ (m ∷ vs)) → Each (Other m) us → Each (Other m) vs → sending (length m) (us ++ (m ∷ vs)) ≡ [] ∷ []
-alone m us vs h k l =
-    sending-is (length m) m (us ++ (m ∷ vs)) h (inside us) (omega arith)
+-- after its last bit m one-left-sending still sends, where nobody else sends the same
+pub one-left-sending : (m : List Bool) (us vs : List (List Bool)) → Each (Stays m) (us ++ (m ∷ vs)) → Each (Other m) us → Each (Other m) vs → sending (length m) (us ++ (m ∷ vs)) ≡ [] ∷ []
+one-left-sending m us vs h k l =
+    sending-who-share (length m) m (us ++ (m ∷ vs)) h (inside us) (omega arith)
     ∙ others-out m us (m ∷ vs) k
-    ∙ rw (le-leb (length m) (shared m m) (omega (arith, shared-all m)), drop-length m) (ap (_∷_ []) (nobody vs l))
+    ∙ rw (le-leb (length m) (shared m m) (omega (arith, shared-with-itself m)), drop-length m) (ap (_∷_ []) (nobody vs l))
   where
     inside : (ts : List (List Bool)) → Among m (ts ++ (m ∷ vs))
     inside [] = inl refl

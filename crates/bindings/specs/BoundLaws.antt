@@ -26,15 +26,15 @@ with-bound set a u = refl
 pub with-nobody : (set : Pool) (a : ℕ) → withEntry set a Nobody ≡ set
 with-nobody set a = refl
 
-step-other : (set : Pool) (a : ℕ) (e : Entry) (j : ℕ) → (j ≡ a → ⊥) → member (withEntry set a e) j ≡ member set j
-step-other set a e j n = go (isBound e)
+with-entry-other : (set : Pool) (a : ℕ) (e : Entry) (j : ℕ) → (j ≡ a → ⊥) → member (withEntry set a e) j ≡ member set j
+with-entry-other set a e j n = go (isBound e)
   where
     go : (t : Bool) → member (pick t (withAddress set a) set) j ≡ member set j
     go true = has-with-other set a j n
     go false = refl
 
-step-same : (set : Pool) (a : ℕ) (e : Entry) → a < 128 → member set a ≡ false → member (withEntry set a e) a ≡ isBound e
-step-same set a e l f = go (isBound e)
+with-entry-same : (set : Pool) (a : ℕ) (e : Entry) → a < 128 → member set a ≡ false → member (withEntry set a e) a ≡ isBound e
+with-entry-same set a e l f = go (isBound e)
   where
     go : (t : Bool) → member (pick t (withAddress set a) set) a ≡ t
     go true = has-with-same set a l
@@ -42,51 +42,51 @@ step-same set a e l f = go (isBound e)
 
 module _ (held : ℕ → Entry) where
   -- those before a are not touched
-  from-before : (n a : ℕ) (set : Pool) (j : ℕ) → j < a → member (boundFrom held n a set) j ≡ member set j
+  bound-from-leaves-earlier : (n a : ℕ) (set : Pool) (j : ℕ) → j < a → member (boundFrom held n a set) j ≡ member set j
   unfolding boundFrom
-  from-before zero a set j l = refl
-  from-before (suc n) a set j l =
-      from-before n (suc a) (withEntry set a (held a)) j (omega arith) ∙ step-other set a (held a) j (λ e. omega (arith, e))
+  bound-from-leaves-earlier zero a set j l = refl
+  bound-from-leaves-earlier (suc n) a set j l =
+      bound-from-leaves-earlier n (suc a) (withEntry set a (held a)) j (omega arith) ∙ with-entry-other set a (held a) j (λ e. omega (arith, e))
 
-  from-in : (n a : ℕ) (set : Pool) → a + n ≤ 128 → ((j : ℕ) → a ≤ j → member set j ≡ false) → (j : ℕ) → a ≤ j → j < a + n → member (boundFrom held n a set) j ≡ isBound (held j)
+  bound-from-has : (n a : ℕ) (set : Pool) → a + n ≤ 128 → ((j : ℕ) → a ≤ j → member set j ≡ false) → (j : ℕ) → a ≤ j → j < a + n → member (boundFrom held n a set) j ≡ isBound (held j)
   unfolding boundFrom
-  from-in zero a set h e j l m = absurd (omega arith)
-  from-in (suc n) a set h e j l m =
+  bound-from-has zero a set h e j l m = absurd (omega arith)
+  bound-from-has (suc n) a set h e j l m =
       go (ℕ-discrete j a)
-      (λ k. from-in n (suc a) (withEntry set a (held a)) (omega arith) (λ i b. step-other set a (held a) i (λ q. omega (arith, q)) ∙ e i (omega arith)) j k (omega arith))
-      (from-before n (suc a) (withEntry set a (held a)) a (omega arith))
+      (λ k. bound-from-has n (suc a) (withEntry set a (held a)) (omega arith) (λ i b. with-entry-other set a (held a) i (λ q. omega (arith, q)) ∙ e i (omega arith)) j k (omega arith))
+      (bound-from-leaves-earlier n (suc a) (withEntry set a (held a)) a (omega arith))
     where
       next : Pool
       next = boundFrom held n (suc a) (withEntry set a (held a))
 
       go : Dec (j ≡ a) → (suc a ≤ j → member next j ≡ isBound (held j)) → member next a ≡ member (withEntry set a (held a)) a → member next j ≡ isBound (held j)
       go (yes q) ih b =
-          ap (member next) q ∙ b ∙ step-same set a (held a) (omega arith) (e a (omega arith)) ∙ ap (λ (x : ℕ). isBound (held x)) (sym q)
+          ap (member next) q ∙ b ∙ with-entry-same set a (held a) (omega arith) (e a (omega arith)) ∙ ap (λ (x : ℕ). isBound (held x)) (sym q)
       go (no q) ih b = ih (omega arith)
 
   -- THE SET HAS THE BOUND ADDRESSES
   pub bound-set-has : (a : ℕ) → a < 128 → member (boundSet held) a ≡ isBound (held a)
-  bound-set-has a h = from-in 128 0 emptyPool (omega arith) (λ j l. member-empty j) a (omega arith) (omega arith)
+  bound-set-has a h = bound-from-has 128 0 emptyPool (omega arith) (λ j l. member-empty j) a (omega arith) (omega arith)
 
   pub bound-set-count : used (boundSet held) ≡ count (λ (a : ℕ). isBound (held a)) 128
   unfolding used
   bound-set-count = count-cong (member (boundSet held)) (λ (a : ℕ). isBound (held a)) 128 (λ j l. bound-set-has j l)
 
-  from-fits : (n a : ℕ) (set : Pool) → Fits set → Fits (boundFrom held n a set)
+  bound-from-fits : (n a : ℕ) (set : Pool) → Fits set → Fits (boundFrom held n a set)
   unfolding boundFrom
-  from-fits zero a set f = f
-  from-fits (suc n) a set f = from-fits n (suc a) (withEntry set a (held a)) (go (isBound (held a)))
+  bound-from-fits zero a set f = f
+  bound-from-fits (suc n) a set f = bound-from-fits n (suc a) (withEntry set a (held a)) (go (isBound (held a)))
     where
       go : (t : Bool) → Fits (pick t (withAddress set a) set)
       go true = fits-with set a f
       go false = f
 
   pub bound-set-fits : Fits (boundSet held)
-  bound-set-fits = from-fits 128 0 emptyPool (record { low = omega arith; high = omega arith })
+  bound-set-fits = bound-from-fits 128 0 emptyPool (record { low = omega arith; high = omega arith })
 
   -- and no other set has just these
-  pub bound-set-only : (r : Pool) → Fits r → (r ≡ boundSet held) ↔ ((a : ℕ) → a < 128 → member r a ≡ isBound (held a))
-  bound-set-only r f = (
+  pub bound-set-exactly : (r : Pool) → Fits r → (r ≡ boundSet held) ↔ ((a : ℕ) → a < 128 → member r a ≡ isBound (held a))
+  bound-set-exactly r f = (
     λ e a h. ap (λ (x : Pool). member x a) e ∙ bound-set-has a h,
     λ k. same-members r (boundSet held) f bound-set-fits (λ a h. k a h ∙ sym (bound-set-has a h)),
   )

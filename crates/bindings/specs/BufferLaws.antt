@@ -85,8 +85,8 @@ split-rows held a (suc k) =
     )
 
 module _ (held : ℕ → Entry) (rest : List ℕ) (a : ℕ) (h : a < 128) where
-  parts : (q : List ℕ) × (bufferOf held ++ rest ≡ rowsOf held a ++ (entryBytes (held a) ++ q))
-  parts =
+  buffer-split : (q : List ℕ) × (bufferOf held ++ rest ≡ rowsOf held a ++ (entryBytes (held a) ++ q))
+  buffer-split =
       let r = split-rows held a (127 - a) in
       let m : 128 ≡ suc a + (127 - a) = omega arith in (
         r .0 ++ rest,
@@ -99,7 +99,7 @@ module _ (held : ℕ → Entry) (rest : List ℕ) (a : ℕ) (h : a < 128) where
   -- the 16 bytes at 16 a are those of what is bound to a
   pub bytes-there : take 16 (drop (16 * a) (bufferOf held ++ rest)) ≡ entryBytes (held a)
   bytes-there =
-      let p = parts in
+      let p = buffer-split in
       ap (λ (x : List ℕ). take 16 (drop (16 * a) x)) (p .1)
       ∙ ap (take 16) (drop-at (rowsOf held a) (entryBytes (held a) ++ p .0) (16 * a) (omega (arith, length-rows held a)))
       ∙ take-at (entryBytes (held a)) (p .0) 16 (length-entry (held a))
@@ -107,7 +107,7 @@ module _ (held : ℕ → Entry) (rest : List ℕ) (a : ℕ) (h : a < 128) where
   -- and read as an identifier they are that one
   pub udid-there : Fits (entryUdid (held a)) → udidAt (bufferOf held ++ rest) (16 * a) ≡ entryUdid (held a)
   udid-there f =
-      let p = parts in
+      let p = buffer-split in
       ap (λ (x : List ℕ). udidAt x (16 * a)) (p .1) ∙ udid-back (rowsOf held a) (p .0) (16 * a) (entryUdid (held a)) f (omega (arith, length-rows held a))
 
 -- after the 2,048 bytes stands what was there
@@ -116,22 +116,22 @@ rest-there held rest = drop-at (bufferOf held) rest 2048 (omega (arith, length-r
 
 -- ---- a list is that buffer if and only if its bytes are these
 
-rows-are : (held : ℕ → Entry) (l : List ℕ) (n : ℕ) → ((a : ℕ) → a < n → take 16 (drop (16 * a) l) ≡ entryBytes (held a)) → take (n * 16) l ≡ rowsOf held n
+rows-by-bytes : (held : ℕ → Entry) (l : List ℕ) (n : ℕ) → ((a : ℕ) → a < n → take 16 (drop (16 * a) l) ≡ entryBytes (held a)) → take (n * 16) l ≡ rowsOf held n
 unfolding rowsOf
-rows-are held l zero h = refl
-rows-are held l (suc n) h =
+rows-by-bytes held l zero h = refl
+rows-by-bytes held l (suc n) h =
     let m : suc n * 16 ≡ n * 16 + 16 = omega arith in
     let k : n * 16 ≡ 16 * n = omega arith in
     ap (λ (x : ℕ). take x l) m
     ∙ take-add (n * 16) 16 l
-    ∙ ap₂ (λ (x y : List ℕ). x ++ y) (rows-are held l n (λ a i. h a (omega arith))) (ap (λ (x : ℕ). take 16 (drop x l)) k ∙ h n (omega arith))
+    ∙ ap₂ (λ (x y : List ℕ). x ++ y) (rows-by-bytes held l n (λ a i. h a (omega arith))) (ap (λ (x : ℕ). take 16 (drop x l)) k ∙ h n (omega arith))
 
-pub buffer-only : (held : ℕ → Entry) (old l : List ℕ)
+pub buffer-exactly : (held : ℕ → Entry) (old l : List ℕ)
     → (l ≡ bufferOf held ++ drop 2048 old) ↔ (((a : ℕ) → a < 128 → take 16 (drop (16 * a) l) ≡ entryBytes (held a)) × (drop 2048 l ≡ drop 2048 old))
-buffer-only held old l = (
+buffer-exactly held old l = (
   λ e. (
     (λ a h. ap (λ (x : List ℕ). take 16 (drop (16 * a) x)) e ∙ bytes-there held (drop 2048 old) a h),
     ap (drop 2048) e ∙ rest-there held (drop 2048 old),
   ),
-  λ h. sym (take-append-drop 2048 l) ∙ ap₂ (λ (x y : List ℕ). x ++ y) (rows-are held l 128 (h .0)) (h .1),
+  λ h. sym (take-append-drop 2048 l) ∙ ap₂ (λ (x y : List ℕ). x ++ y) (rows-by-bytes held l 128 (h .0)) (h .1),
 )

@@ -30,21 +30,21 @@ pub sent-roomy : (k : Command) (reply before : List ℕ) (r : Encoded) (after : 
 sent-roomy k reply before r after s e = let z : _≡_ {A = ℕ} 0 1 = cc (s .0, e) in omega arith
 
 -- symbols stored one after the other at the front
-pub four : (l : List ℕ) → 4 ≤ length l → take 4 (set (set (set (set l 0 256) 1 0xC2) 2 259) 3 257) ≡ 256 ∷ 0xC2 ∷ 259 ∷ 257 ∷ []
-four [] h = absurd (omega arith)
-four (x0 ∷ []) h = absurd (omega arith)
-four (x0 ∷ x1 ∷ []) h = absurd (omega arith)
-four (x0 ∷ x1 ∷ x2 ∷ []) h = absurd (omega arith)
-four (x0 ∷ x1 ∷ x2 ∷ x3 ∷ l) h = refl
+pub four-stored : (l : List ℕ) → 4 ≤ length l → take 4 (set (set (set (set l 0 256) 1 0xC2) 2 259) 3 257) ≡ 256 ∷ 0xC2 ∷ 259 ∷ 257 ∷ []
+four-stored [] h = absurd (omega arith)
+four-stored (x0 ∷ []) h = absurd (omega arith)
+four-stored (x0 ∷ x1 ∷ []) h = absurd (omega arith)
+four-stored (x0 ∷ x1 ∷ x2 ∷ []) h = absurd (omega arith)
+four-stored (x0 ∷ x1 ∷ x2 ∷ x3 ∷ l) h = refl
 
-pub nine : (l : List ℕ) → 9 ≤ length l → take 9 (set (set (set (set (set (set (set (set (set l 0 256) 1 0xC2) 2 258) 3 0x03) 4 258) 5 256) 6 0xC3) 7 259) 8 257) ≡ 256 ∷ 0xC2 ∷ 258 ∷ 0x03 ∷ 258 ∷ 256 ∷ 0xC3 ∷ 259 ∷ 257 ∷ []
-nine [] h = absurd (omega arith)
-nine (x0 ∷ []) h = absurd (omega arith)
-nine (x0 ∷ x1 ∷ []) h = absurd (omega arith)
-nine (x0 ∷ x1 ∷ x2 ∷ []) h = absurd (omega arith)
-nine (x0 ∷ x1 ∷ x2 ∷ x3 ∷ []) h = absurd (omega arith)
-nine (x0 ∷ x1 ∷ x2 ∷ x3 ∷ x4 ∷ []) h = absurd (omega arith)
-nine (x0 ∷ x1 ∷ x2 ∷ x3 ∷ x4 ∷ x5 ∷ []) h = absurd (omega arith)
-nine (x0 ∷ x1 ∷ x2 ∷ x3 ∷ x4 ∷ x5 ∷ x6 ∷ []) h = absurd (omega arith)
-nine (x0 ∷ x1 ∷ x2 ∷ x3 ∷ x4 ∷ x5 ∷ x6 ∷ x7 ∷ []) h = absurd (omega arith)
-nine (x0 ∷ x1 ∷ x2 ∷ x3 ∷ x4 ∷ x5 ∷ x6 ∷ x7 ∷ x8 ∷ l) h = refl
+pub nine-stored : (l : List ℕ) → 9 ≤ length l → take 9 (set (set (set (set (set (set (set (set (set l 0 256) 1 0xC2) 2 258) 3 0x03) 4 258) 5 256) 6 0xC3) 7 259) 8 257) ≡ 256 ∷ 0xC2 ∷ 258 ∷ 0x03 ∷ 258 ∷ 256 ∷ 0xC3 ∷ 259 ∷ 257 ∷ []
+nine-stored [] h = absurd (omega arith)
+nine-stored (x0 ∷ []) h = absurd (omega arith)
+nine-stored (x0 ∷ x1 ∷ []) h = absurd (omega arith)
+nine-stored (x0 ∷ x1 ∷ x2 ∷ []) h = absurd (omega arith)
+nine-stored (x0 ∷ x1 ∷ x2 ∷ x3 ∷ []) h = absurd (omega arith)
+nine-stored (x0 ∷ x1 ∷ x2 ∷ x3 ∷ x4 ∷ []) h = absurd (omega arith)
+nine-stored (x0 ∷ x1 ∷ x2 ∷ x3 ∷ x4 ∷ x5 ∷ []) h = absurd (omega arith)
+nine-stored (x0 ∷ x1 ∷ x2 ∷ x3 ∷ x4 ∷ x5 ∷ x6 ∷ []) h = absurd (omega arith)
+nine-stored (x0 ∷ x1 ∷ x2 ∷ x3 ∷ x4 ∷ x5 ∷ x6 ∷ x7 ∷ []) h = absurd (omega arith)
+nine-stored (x0 ∷ x1 ∷ x2 ∷ x3 ∷ x4 ∷ x5 ∷ x6 ∷ x7 ∷ x8 ∷ l) h = refl

@@ -29,10 +29,11 @@ use Rattle.bindings.specs.BufferLaws.{bytes-there, rest-there, nobody-bytes}
 use Rattle.bindings.specs.Entries as entries
 use Rattle.bindings.specs.declared.entry.Entry.the-variants.{Nobody}
 use Rattle.rule.specs.AnyLaws.{any-map, each-both, any-each, any-constant}
-use Rattle.rule.specs.Demand3.{given-addresses}
+use Rattle.rule.specs.PassEndLaws.{given-free-distinct}
 use Rattle.rule.specs.PassEnd.{passEnd}
 use Rattle.rule.specs.PlainRule.{Given, ruled, FreeIn, Distinct}
-use Rattle.rule.specs.Reading.{Any, RecordOf, isBound, boundAt, OnePerUdid, bound-given, given-bound, served-once}
+use Rattle.rule.specs.ReadingLaws.{bound-given, given-bound, served-once}
+use Rattle.rule.specs.Reading.{Any, RecordOf, isBound, boundAt, OnePerUdid}
 use Rattle.rule.specs.RecordsLaws as records
 use Rattle.rule.specs.RuleLaws.{each-map}
 use Rattle.bus.specs.EndLaws.{entry-bound, leaves-rule}
@@ -60,7 +61,7 @@ module _ (occupied : Pool) (s : List ℕ) (bytes : Bytes s) (e : checkedList (st
 
   -- each address is below 128, not reserved and not occupied
   pub given-assignable : Each (λ (g : Given). (g .address < 128) × (isReserved (g .address) ≡ false) × (member occupied (g .address) ≡ false)) (ruled (startingPool occupied) (targetsOf s) .given)
-  given-assignable = each-map (ruled (startingPool occupied) (targetsOf s) .given) at (given-addresses occupied (targetsOf s) admitted .0)
+  given-assignable = each-map (ruled (startingPool occupied) (targetsOf s) .given) at (given-free-distinct occupied (targetsOf s) admitted .0)
     where
       at : (g : Given) → FreeIn (startingPool occupied) g → (g .address < 128) × (isReserved (g .address) ≡ false) × (member occupied (g .address) ≡ false)
       at g f =
@@ -69,7 +70,7 @@ module _ (occupied : Pool) (s : List ℕ) (bytes : Bytes s) (e : checkedList (st
 
   -- no two addresses are alike, and each identifier is given one once
   pub given-distinct : Distinct (ruled (startingPool occupied) (targetsOf s) .given)
-  given-distinct = given-addresses occupied (targetsOf s) admitted .1
+  given-distinct = given-free-distinct occupied (targetsOf s) admitted .1
 
   pub given-once : OnePerUdid (ruled (startingPool occupied) (targetsOf s) .given)
   given-once = served-once (startingPool occupied) (targetsOf s) admitted
@@ -105,7 +106,7 @@ module _ (occupied : Pool) (s b : List ℕ) (bytes : Bytes s) (long : 2048 ≤ l
   pub bytes-of-bound : Each (λ (g : Given). take 16 (drop (16 * g .address) b′) ≡ udidBytes (g .who .udid)) given
   bytes-of-bound =
       each-both given (λ g k f. buffer-at (g .address) (f .0) ∙ ap (λ (h : Binding). entries.entryBytes (entryOf h)) k)
-      (given-bound occupied (targetsOf s) (admitted occupied s bytes e)) (given-addresses occupied (targetsOf s) (admitted occupied s bytes e) .0)
+      (given-bound occupied (targetsOf s) (admitted occupied s bytes e)) (given-free-distinct occupied (targetsOf s) (admitted occupied s bytes e) .0)
 
   -- zeros where nobody is
   pub bytes-of-free : (a : ℕ) → a < 128 → (Any (λ (g : Given). g .address ≡ a) given → ⊥) → take 16 (drop (16 * a) b′) ≡ replicate 16 0

@@ -2,7 +2,6 @@
 -- and when all are bound.
 use Prim.Native.Nat.{ℕ, zero, suc, _*_, _/_, _≤_, _<_}
 use mathlib.Core.Path.{_≡_, refl, sym, ap, _∙_, subst}
-use mathlib.Core.Bool.{Bool, true, false}
 use mathlib.Core.Logic.{_↔_}
 use mathlib.Core.List.{List, [], _∷_}
 use native.Mathlib.Omega.{arith}
@@ -25,17 +24,19 @@ use Rattle.targets.specs.Target.{Target}
 use Rattle.targets.specs.declared.admit.Checked.the-variants.{Admitted}
 use Rattle.bindings.specs.BoundLaws.{bound-set-count}
 use Rattle.bindings.specs.Entries as entries
-use Rattle.rule.specs.AllBound.{movable, leftFree, all-served, all-given}
-use Rattle.rule.specs.Bus.{World, pass}
-use Rattle.rule.specs.Demand3.{demand-3}
+use Rattle.rule.specs.AllBoundLaws.{all-served, all-given}
+use Rattle.rule.specs.AllBound.{movable, leftFree}
+use Rattle.rule.specs.Bus.{World}
+use Rattle.rule.specs.PassEndLaws.{demand-3}
 use Rattle.rule.specs.EndAnswer.{numberOf, askerOf, getsFor}
 use Rattle.rule.specs.PassEnd.{lastCommand, passEnd}
 use Rattle.rule.specs.PlainRule.{Ending, served, noneFree, ruled}
-use Rattle.rule.specs.Reading.{isBound, boundAt, bound-count}
+use Rattle.rule.specs.ReadingLaws.{bound-as-many-as-given}
+use Rattle.rule.specs.Reading.{isBound, boundAt}
 use Rattle.rule.specs.Sent.{getsOnBus}
 use Rattle.rule.specs.SentLaws.{counted-on-bus}
-use Rattle.bus.specs.PassLaws.{leaves-pass, answer-of-pass, asker-of-pass, gets-of-pass}
-use Rattle.bus.specs.Run.{numberIn, udidIn, entryOf, entryAt, ModelEnd, Leaves, endedEnd, modelEnd}
+use Rattle.bus.specs.PassLaws.{leaves-pass, gets-of-pass}
+use Rattle.bus.specs.Run.{numberIn, udidIn, entryOf, entryAt, Leaves, endedEnd, modelEnd}
 use Rattle.bus.specs.declared.answer.ModelAnswer.{ModelAnswer}
 
 -- ---- the last command of the rule's end, in the scope's numbers
@@ -102,7 +103,7 @@ module _ (occupied : Pool) (s b : List ℕ) (bytes : Bytes s) (long : 2048 ≤ l
       ap (λ (x : ModelAnswer). x .count) (leaves-rule .answered)
       ∙ bound-set-count (entryAt slots)
       ∙ count-cong (λ (a : ℕ). entries.isBound (entryAt slots a)) (boundAt slots) 128 (λ a h. entry-bound (heldAt slots a))
-      ∙ bound-count occupied (targetsOf s) admitted
+      ∙ bound-as-many-as-given occupied (targetsOf s) admitted
 
   -- the Get UDIDs: as many as stood on the bus, counted by their symbols; one more than targets are bound, or none on an empty bus
   pub gets-on-bus : r .gets ≡ getsOnBus occupied (targetsOf s)

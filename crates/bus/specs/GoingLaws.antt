@@ -1,5 +1,5 @@
 -- Every command of a pass is the state's own and reaches somebody, and so the code's run over the records is the pass bit by bit.
-use Prim.Native.Nat.{ℕ, zero, suc, _+_, _-_, _*_, _/_, _≤_, _<_}
+use Prim.Native.Nat.{ℕ, zero, suc, _-_, _*_, _/_, _<_}
 use mathlib.Core.Path.{_≡_, refl, sym, ap, _∙_, subst}
 use mathlib.Core.Bool.{Bool, true, false}
 use mathlib.Core.List.{List, [], _∷_}
@@ -16,18 +16,17 @@ use Rattle.pool.specs.declared.free.Free.{Free}
 use Rattle.pool.specs.declared.free.Free.the-variants.{At, AllUsed}
 use Rattle.step.specs.declared.answer.Decoded.{Decoded}
 use Rattle.step.specs.declared.answer.Decoded.the-variants.{Done, Forbidden, BufferTooShort, NoSymbol, EndsEarly, Unexpected, NotAcknowledged, PecDiffers, AfterStop}
-use Rattle.trace.specs.declared.transaction.Transaction.{Transaction}
 use Rattle.udid.specs.declared.Udid.{Udid}
 use Rattle.targets.specs.AdmissionLaws.{admitted-length}
 use Rattle.targets.specs.IndexLaws.{length-targets}
-use Rattle.targets.specs.Records.{udidOf, recordCount, targetAt, targetsFrom, targetsOf, recordsWith}
-use Rattle.targets.specs.RecordLaws.{put-again, udid-put-from, length-put-from, length-map}
+use Rattle.targets.specs.Records.{recordCount, targetAt, targetsOf, recordsWith}
+use Rattle.targets.specs.RecordLaws.{put-again, put-from-keeps-udid, length-put-from, length-map}
 use Rattle.targets.specs.Refusals.{checkedList}
 use Rattle.targets.specs.RefusalLaws.{given-exactly}
-use Rattle.targets.specs.Target.{Target, prepared, assignedTo}
+use Rattle.targets.specs.Target.{Target, assignedTo}
 use Rattle.targets.specs.Winner.{winnerOf}
-use Rattle.targets.specs.WinnerLaws.{winner-exactly, least-of}
-use Rattle.targets.specs.ReplyLaws.{Least}
+use Rattle.targets.specs.WinnerLaws.{winner-exactly, winner-least}
+use Rattle.targets.specs.Members.{Least}
 use Rattle.targets.specs.declared.admit.Checked.the-variants.{Admitted}
 use Rattle.targets.specs.declared.winner.Winner.{Winner}
 use Rattle.targets.specs.declared.winner.Winner.the-variants as winner
@@ -42,18 +41,16 @@ use Rattle.arp.specs.declared.command.Command.the-variants.{Nothing, Prepare, G
 use Rattle.arp.specs.declared.state.Controller.{Controller}
 use Rattle.arp.specs.declared.state.Stepped.{Stepped}
 use Rattle.rule.specs.Acknowledge.{onBus}
-use Rattle.rule.specs.Bus.{World, reached, sentTo, turnBy, turn, run, beginning, pass}
-use Rattle.rule.specs.EffectLaws.{acted}
+use Rattle.rule.specs.Bus.{World, reached, took, run, pass}
+use Rattle.rule.specs.BusLaws.{turn-still, turn-takes}
+use Rattle.rule.specs.Acted.{acted}
 use Rattle.rule.specs.TraceLaws as on-bus
 use Rattle.rule.specs.StepLaws.{prepare-unheard, get-unheard, get-replied}
-use Rattle.bus.specs.Turn.{Fit, Reaches, isSent, silence, worldOf, Going, Matches}
-use Rattle.bus.specs.TurnLaws.{get-silence, same-records, reached-is}
+use Rattle.bus.specs.Going.{Going, Fine, Running}
+use Rattle.bus.specs.Turn.{Fit, Reaches, isSent, worldOf, sentTo, Matches}
+use Rattle.bus.specs.TurnLaws.{get-silence, own-targets-stored, reached-as-meant}
 
 -- ---- what is handed out reaches somebody
-
--- the command that is out is the state's, and it reaches one of the targets
-abbrev Fine : Stepped → List Target → Type 0
-Fine x ts = (x .state .last ≡ x .command) × Reaches (x .command) ts
 
 fine-asked : (c : Controller) (ts : List Target) → 0 < length ts → Fine (asked c) ts
 unfolding asked
@@ -108,7 +105,7 @@ fine-get c s b f e h = go (winnerOf s) refl
         subst (λ (x : Stepped). Fine x (targetsOf s))
         (sym (ap (byCommand c (onBus GetUdid (targetsOf s))) e ∙ ap (afterGet c) (get-silence s b f h q) ∙ get-unheard c)) (refl, tt)
     go (winner.At w) q =
-        let l : Least (targetsOf s) (targetAt s w) = least-of s b (f .apart) w (winner-exactly s (winner.At w) .0 q) in
+        let l : Least (targetsOf s) (targetAt s w) = winner-least s b (f .apart) w (winner-exactly s (winner.At w) .0 q) in
         subst (λ (x : Stepped). Fine x (targetsOf s))
         (sym (ap (stepped c) (on-bus.get-whole (targetsOf s) (targetAt s w) l) ∙ get-replied c (targetAt s w) e (l .sized)))
         (fine-replied c (targetsOf s) (targetAt s w) (l .among) (l .sized .addressByte))
@@ -151,41 +148,42 @@ going-next st r s after b f g e m =
     let x = fine-next st s b f g e in
     record {
       handed = subst (λ (y : Stepped). y .state .last ≡ y .command) (sym (m .controller)) (x .0);
-      reaches = subst (λ (ts : List Target). Reaches (r .command) ts) (sym (m .targets ∙ reached-is (st .command) s b (g .reaches))) (subst (λ (y : Stepped). Reaches (y .command) (acted (st .command) (targetsOf s))) (sym (m .controller)) (x .1));
+      reaches = subst (λ (ts : List Target). Reaches (r .command) ts) (sym (m .targets ∙ reached-as-meant (st .command) s b (g .reaches))) (subst (λ (y : Stepped). Reaches (y .command) (acted (st .command) (targetsOf s))) (sym (m .controller)) (x .1));
     }
 
-turn-sent : (st : Stepped) (ts : List Target) (k : Command) → isSent k ≡ true → turnBy st ts k ≡ sentTo st ts k
+-- what is sent is taken by the controller and by the targets
+turn-sent : (st : Stepped) (ts : List Target) (k : Command) → isSent k ≡ true → took st ts (onBus k ts) ≡ sentTo st ts k
 turn-sent st ts k e = go k e
   where
-    never : (w : World) → false ≡ true → record { now = st; targets = ts } ≡ w
-    never w q = absurd (let z : _≡_ {A = ℕ} 0 1 = cc q in omega arith)
+    never : (k : Command) → false ≡ true → took st ts (onBus k ts) ≡ sentTo st ts k
+    never k q = absurd (let z : _≡_ {A = ℕ} 0 1 = cc q in omega arith)
 
-    go : (k : Command) → isSent k ≡ true → turnBy st ts k ≡ sentTo st ts k
-    go Prepare i = refl
-    go GetUdid i = refl
-    go (Assign u a) i = refl
-    go Nothing i = never _ i
-    go Ended i = never _ i
-    go (NoneFree u) i = never _ i
-    go Abandoned i = never _ i
-    go NotOutstanding i = never _ i
+    go : (k : Command) → isSent k ≡ true → took st ts (onBus k ts) ≡ sentTo st ts k
+    go Prepare i = turn-takes st ts Prepare refl
+    go GetUdid i = turn-takes st ts GetUdid refl
+    go (Assign u a) i = turn-takes st ts (Assign u a) refl
+    go Nothing i = never Nothing i
+    go Ended i = never Ended i
+    go (NoneFree u) i = never (NoneFree u) i
+    go Abandoned i = never Abandoned i
+    go NotOutstanding i = never NotOutstanding i
 
 -- an end stays
-turn-ended : (st : Stepped) (ts : List Target) (k : Command) → isSent k ≡ false → turnBy st ts k ≡ record { now = st; targets = ts }
+turn-ended : (st : Stepped) (ts : List Target) (k : Command) → isSent k ≡ false → took st ts (onBus k ts) ≡ record { now = st; targets = ts }
 turn-ended st ts k e = go k e
   where
-    never : (w : World) → true ≡ false → w ≡ record { now = st; targets = ts }
-    never w q = absurd (let z : _≡_ {A = ℕ} 0 1 = cc q in omega arith)
+    never : (k : Command) → true ≡ false → took st ts (onBus k ts) ≡ record { now = st; targets = ts }
+    never k q = absurd (let z : _≡_ {A = ℕ} 0 1 = cc q in omega arith)
 
-    go : (k : Command) → isSent k ≡ false → turnBy st ts k ≡ record { now = st; targets = ts }
-    go Prepare i = never _ i
-    go GetUdid i = never _ i
-    go (Assign u a) i = never _ i
-    go Nothing i = refl
-    go Ended i = refl
-    go (NoneFree u) i = refl
-    go Abandoned i = refl
-    go NotOutstanding i = refl
+    go : (k : Command) → isSent k ≡ false → took st ts (onBus k ts) ≡ record { now = st; targets = ts }
+    go Prepare i = never Prepare i
+    go GetUdid i = never GetUdid i
+    go (Assign u a) i = never (Assign u a) i
+    go Nothing i = turn-still st ts Nothing refl
+    go Ended i = turn-still st ts Ended refl
+    go (NoneFree u) i = turn-still st ts (NoneFree u) refl
+    go Abandoned i = turn-still st ts Abandoned refl
+    go NotOutstanding i = turn-still st ts NotOutstanding refl
 
 run-still : (n : ℕ) (w : World) → isSent (w .now .command) ≡ false → run n w ≡ w
 run-still zero w e = refl
@@ -196,17 +194,8 @@ run-still (suc n) w e = ap (run n) (turn-ended (w .now) (w .targets) (w .now .co
 fit-put : (ts : List Target) (s after : List ℕ) → Fit s → after ≡ recordsWith ts s → Fit after
 fit-put ts s after f e = subst Fit (sym e) (record {
   whole = length-put-from ts 0 s ∙ f .whole ∙ ap (λ (n : ℕ). n / 18 * 18) (sym (length-put-from ts 0 s));
-  apart = λ i h r. f .apart i (omega (arith, h, ap (λ (n : ℕ). n / 18) (length-put-from ts 0 s))) (r .0, r .1, sym (udid-put-from ts 0 s (r .0)) ∙ r .2 ∙ udid-put-from ts 0 s i);
+  apart = λ i h r. f .apart i (omega (arith, h, ap (λ (n : ℕ). n / 18) (length-put-from ts 0 s))) (r .0, r .1, sym (put-from-keeps-udid ts 0 s (r .0)) ∙ r .2 ∙ put-from-keeps-udid ts 0 s i);
 })
-
--- what holds of the records and the controller after some turns of a run from the world w, m of 300 left
-pub record Running (w : World) (first : List ℕ) (m : ℕ) (st : Stepped) (s : List ℕ) : Type 0 where
-  pub bytes : Bytes s
-  pub fit : Fit s
-  pub going : Going st s
-  pub leads : run 300 w ≡ run m (worldOf st s)
-  pub stored : s ≡ recordsWith (targetsOf s) first
-  pub same-size : length s ≡ length first
 
 pub running-first : (occupied : Pool) (st : Stepped) (s : List ℕ) → st ≡ started (newController occupied) → Bytes s → checkedList (startingPool occupied) s ≡ Admitted
     → Running (worldOf st s) s 300 st s
@@ -215,7 +204,7 @@ running-first occupied st s q b e = record {
   fit = record { whole = admitted-length (startingPool occupied) s b e .1; apart = given-exactly (startingPool occupied) s Admitted .0 (sym e) .2 };
   going = subst (λ (x : Stepped). Going x s) (sym q) (record { handed = refl; reaches = tt });
   leads = refl;
-  stored = same-records s;
+  stored = own-targets-stored s;
   same-size = refl;
 }
 
@@ -245,14 +234,14 @@ running-ended w first m st s v e = record {
 }
 
 -- the run from the start of a pass is the pass
-passed : (occupied : Pool) (first : List ℕ) (st₀ st : Stepped) (s : List ℕ) → st₀ ≡ started (newController occupied) → Matches (run 300 (worldOf st₀ first)) st first s
+run-is-pass : (occupied : Pool) (first : List ℕ) (st₀ st : Stepped) (s : List ℕ) → st₀ ≡ started (newController occupied) → Matches (run 300 (worldOf st₀ first)) st first s
     → Matches (pass occupied (targetsOf first)) st first s
 unfolding pass
-passed occupied first st₀ st s q m = subst (λ (x : Stepped). Matches (run 300 (worldOf x first)) st first s) q m
+run-is-pass occupied first st₀ st s q m = subst (λ (x : Stepped). Matches (run 300 (worldOf x first)) st first s) q m
 
 module _ (occupied : Pool) (first : List ℕ) (st₀ : Stepped) (q : st₀ ≡ started (newController occupied)) where
   pub running-last : (m : ℕ) (st : Stepped) (s : List ℕ) → m ≡ 0 → Running (worldOf st₀ first) first m st s → Matches (pass occupied (targetsOf first)) st first s
-  running-last m st s e v = passed occupied first st₀ st s q (running-ended (worldOf st₀ first) first m st s v (ap (λ (n : ℕ). run n (worldOf st s)) e))
+  running-last m st s e v = run-is-pass occupied first st₀ st s q (running-ended (worldOf st₀ first) first m st s v (ap (λ (n : ℕ). run n (worldOf st s)) e))
 
   pub running-still : (m : ℕ) (st : Stepped) (s : List ℕ) → isSent (st .command) ≡ false → Running (worldOf st₀ first) first m st s → Matches (pass occupied (targetsOf first)) st first s
-  running-still m st s e v = passed occupied first st₀ st s q (running-ended (worldOf st₀ first) first m st s v (run-still m (worldOf st s) e))
+  running-still m st s e v = run-is-pass occupied first st₀ st s q (running-ended (worldOf st₀ first) first m st s v (run-still m (worldOf st s) e))

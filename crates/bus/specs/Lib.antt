@@ -1,4 +1,5 @@
 pub mod Turn
+pub mod Going
 pub mod Run
 pub mod TurnLaws
 pub mod GoingLaws

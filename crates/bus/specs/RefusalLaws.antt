@@ -2,7 +2,6 @@
 -- changes and every other part of the answer is zero.
 use Prim.Native.Nat.{ℕ, _/_, _%_, _≤_, _<_}
 use mathlib.Core.Path.{_≡_, refl, sym, ap, _∙_, subst}
-use mathlib.Core.Bool.{Bool, true, false}
 use mathlib.Core.Logic.{_⊎_, inl, inr, _↔_}
 use mathlib.Core.List.{List}
 use native.Mathlib.Decide.{decLt}
@@ -12,11 +11,11 @@ use Rattle.pool.specs.Start.{startingPool}
 use Rattle.pool.specs.declared.Pool.{Pool}
 use Rattle.lists.specs.Each.{Bytes}
 use Rattle.targets.specs.ByteCases.{EvenOrFlag, SameAsEarlier, FixedOnTaken, GivenByBytes}
-use Rattle.targets.specs.ByteCasesLaws.{given-bytes}
+use Rattle.targets.specs.ByteCasesLaws.{given-by-bytes}
 use Rattle.targets.specs.Cases.{LengthIsBad, None, FirstOf, Given}
 use Rattle.targets.specs.Numbers.{answerOf}
 use Rattle.targets.specs.Refusals.{checkedList}
-use Rattle.targets.specs.RefusalLaws.{given-exactly, answers-differ}
+use Rattle.targets.specs.RefusalLaws.{given-exactly, answers-tell-apart}
 use Rattle.targets.specs.declared.admit.Checked.{Checked}
 use Rattle.targets.specs.declared.admit.Checked.the-variants.{Admitted, BadLength, Malformed, Repeated, Taken}
 use Rattle.arp.specs.Numbers.{commandNumber}
@@ -24,7 +23,7 @@ use Rattle.arp.specs.declared.command.Command.{Command}
 use Rattle.arp.specs.declared.command.Command.the-variants.{Nothing, Prepare, GetUdid, Assign, Ended, NoneFree, Abandoned, NotOutstanding}
 use Rattle.targets.specs.Records.{targetsOf}
 use Rattle.rule.specs.Bus.{pass}
-use Rattle.bus.specs.Run.{numberIn, modelNumber, refusedAnswer, ModelEnd, Leaves, refusedEnd, endedEnd, endChecked, modelEnd}
+use Rattle.bus.specs.Run.{numberIn, modelNumber, refusedAnswer, ModelEnd, Leaves, refusedEnd, endChecked, modelEnd}
 use Rattle.bus.specs.RunLaws.{end-short, end-checked}
 use Rattle.bus.specs.declared.answer.ModelAnswer.{ModelAnswer}
 
@@ -54,33 +53,33 @@ not-in-pass k n e (inr h) = some k n e (h .0) (h .1)
     some Abandoned n e h l = omega arith
     some NotOutstanding n e h l = omega arith
 
-between : (k : Checked) → (k ≡ Admitted → ⊥) → (9 ≤ answerOf k .number) × (answerOf k .number ≤ 12)
-between Admitted n = absurd (n refl)
-between BadLength n = (omega arith, omega arith)
-between (Malformed i) n = (omega arith, omega arith)
-between (Repeated i) n = (omega arith, omega arith)
-between (Taken i) n = (omega arith, omega arith)
+refusal-9-to-12 : (k : Checked) → (k ≡ Admitted → ⊥) → (9 ≤ answerOf k .number) × (answerOf k .number ≤ 12)
+refusal-9-to-12 Admitted n = absurd (n refl)
+refusal-9-to-12 BadLength n = (omega arith, omega arith)
+refusal-9-to-12 (Malformed i) n = (omega arith, omega arith)
+refusal-9-to-12 (Repeated i) n = (omega arith, omega arith)
+refusal-9-to-12 (Taken i) n = (omega arith, omega arith)
 
 -- a refused list: the answer's number and record are those of the refusal
-refused-number : (k : Checked) → (k ≡ Admitted → ⊥) → (occupied : Pool) (s b : List ℕ) → endChecked k occupied s b ≡ refusedEnd (answerOf k .number) (answerOf k .value) s b
-refused-number Admitted n occupied s b = absurd (n refl)
-refused-number BadLength n occupied s b = refl
-refused-number (Malformed i) n occupied s b = refl
-refused-number (Repeated i) n occupied s b = refl
-refused-number (Taken i) n occupied s b = refl
+refused-end-of-check : (k : Checked) → (k ≡ Admitted → ⊥) → (occupied : Pool) (s b : List ℕ) → endChecked k occupied s b ≡ refusedEnd (answerOf k .number) (answerOf k .value) s b
+refused-end-of-check Admitted n occupied s b = absurd (n refl)
+refused-end-of-check BadLength n occupied s b = refl
+refused-end-of-check (Malformed i) n occupied s b = refl
+refused-end-of-check (Repeated i) n occupied s b = refl
+refused-end-of-check (Taken i) n occupied s b = refl
 
-same-pair : (k j : Checked) → _≡_ {A = ℕ × ℕ} (answerOf k .number, answerOf k .value) (answerOf j .number, answerOf j .value) → k ≡ j
-same-pair k j e =
+pairs-tell-apart : (k j : Checked) → _≡_ {A = ℕ × ℕ} (answerOf k .number, answerOf k .value) (answerOf j .number, answerOf j .value) → k ≡ j
+pairs-tell-apart k j e =
     let a : answerOf k .number ≡ answerOf j .number = ap (λ (p : ℕ × ℕ). p .0) e in
     let v : answerOf k .value ≡ answerOf j .value = ap (λ (p : ℕ × ℕ). p .1) e in
-    answers-differ k j (λ i. record { number = a i; value = v i })
+    answers-tell-apart k j (λ i. record { number = a i; value = v i })
 
-is-admitted : (k : Checked) → (k ≡ Admitted) ⊎ (k ≡ Admitted → ⊥)
-is-admitted Admitted = inl refl
-is-admitted BadLength = inr (λ e. let z : _≡_ {A = ℕ} 0 1 = cc e in omega arith)
-is-admitted (Malformed i) = inr (λ e. let z : _≡_ {A = ℕ} 0 1 = cc e in omega arith)
-is-admitted (Repeated i) = inr (λ e. let z : _≡_ {A = ℕ} 0 1 = cc e in omega arith)
-is-admitted (Taken i) = inr (λ e. let z : _≡_ {A = ℕ} 0 1 = cc e in omega arith)
+admitted-or-not : (k : Checked) → (k ≡ Admitted) ⊎ (k ≡ Admitted → ⊥)
+admitted-or-not Admitted = inl refl
+admitted-or-not BadLength = inr (λ e. let z : _≡_ {A = ℕ} 0 1 = cc e in omega arith)
+admitted-or-not (Malformed i) = inr (λ e. let z : _≡_ {A = ℕ} 0 1 = cc e in omega arith)
+admitted-or-not (Repeated i) = inr (λ e. let z : _≡_ {A = ℕ} 0 1 = cc e in omega arith)
+admitted-or-not (Taken i) = inr (λ e. let z : _≡_ {A = ℕ} 0 1 = cc e in omega arith)
 
 -- what run_model's contract says of an answer and of what the lent lists hold then
 module _ (occupied : Pool) (s b : List ℕ) (r : ModelAnswer) (s′ b′ : List ℕ) (l : Leaves (modelEnd occupied s b) r s′ b′) where
@@ -93,7 +92,7 @@ module _ (occupied : Pool) (s b : List ℕ) (r : ModelAnswer) (s′ b′ : List 
 
   refused-end : 2048 ≤ length b → (checkedList (startingPool occupied) s ≡ Admitted → ⊥)
       → Leaves (refusedEnd (answerOf (checkedList (startingPool occupied) s) .number) (answerOf (checkedList (startingPool occupied) s) .value) s b) r s′ b′
-  refused-end h n = subst (λ (x : ModelEnd). Leaves x r s′ b′) (refused-number (checkedList (startingPool occupied) s) n occupied s b) (checked-end h)
+  refused-end h n = subst (λ (x : ModelEnd). Leaves x r s′ b′) (refused-end-of-check (checkedList (startingPool occupied) s) n occupied s b) (checked-end h)
 
   pass-number : 2048 ≤ length b → checkedList (startingPool occupied) s ≡ Admitted → (r .answer ≡ 2) ⊎ ((9 ≤ r .answer) × (r .answer ≤ 12)) → ⊥
   pass-number h e =
@@ -106,7 +105,7 @@ module _ (occupied : Pool) (s b : List ℕ) (r : ModelAnswer) (s′ b′ : List 
     where
       there : modelNumber r ≡ (2, 0) → Dec (length b < 2048) → length b < 2048
       there e (yes h) = h
-      there e (no h) = absurd (go (is-admitted (checkedList (startingPool occupied) s)))
+      there e (no h) = absurd (go (admitted-or-not (checkedList (startingPool occupied) s)))
         where
           two : r .answer ≡ 2
           two = ap (λ (p : ℕ × ℕ). p .0) e
@@ -114,22 +113,22 @@ module _ (occupied : Pool) (s b : List ℕ) (r : ModelAnswer) (s′ b′ : List 
           go : (checkedList (startingPool occupied) s ≡ Admitted) ⊎ (checkedList (startingPool occupied) s ≡ Admitted → ⊥) → ⊥
           go (inl a) = pass-number (omega arith) a (inl two)
           go (inr n) =
-              let q = between (checkedList (startingPool occupied) s) n in
+              let q = refusal-9-to-12 (checkedList (startingPool occupied) s) n in
               omega (arith, q .0, ap (λ (x : ModelAnswer). x .answer) (refused-end (omega arith) n .answered), two)
 
   -- 9, 10, 11 and 12: the buffer is long enough, and the list is what the scope lists for that number and record
   pub model-refused : (k : Checked) → (k ≡ Admitted → ⊥) → (modelNumber r ≡ (answerOf k .number, answerOf k .value)) ↔ ((2048 ≤ length b) × Given (startingPool occupied) s k)
-  model-refused k n = (λ e. there e (decLt (length b) 2048) (is-admitted (checkedList (startingPool occupied) s)), back)
+  model-refused k n = (λ e. there e (decLt (length b) 2048) (admitted-or-not (checkedList (startingPool occupied) s)), back)
     where
       there : modelNumber r ≡ (answerOf k .number, answerOf k .value) → Dec (length b < 2048) → (checkedList (startingPool occupied) s ≡ Admitted) ⊎ (checkedList (startingPool occupied) s ≡ Admitted → ⊥)
           → (2048 ≤ length b) × Given (startingPool occupied) s k
       there e (yes h) c =
-          absurd (omega (arith, between k n .0, ap (λ (p : ℕ × ℕ). p .0) e, ap (λ (x : ModelAnswer). x .answer) (short-end h .answered)))
+          absurd (omega (arith, refusal-9-to-12 k n .0, ap (λ (p : ℕ × ℕ). p .0) e, ap (λ (x : ModelAnswer). x .answer) (short-end h .answered)))
       there e (no h) (inl a) =
           let q : r .answer ≡ answerOf k .number = ap (λ (p : ℕ × ℕ). p .0) e in
-          absurd (pass-number (omega arith) a (inr (omega (arith, q, between k n .0), omega (arith, q, between k n .1))))
+          absurd (pass-number (omega arith) a (inr (omega (arith, q, refusal-9-to-12 k n .0), omega (arith, q, refusal-9-to-12 k n .1))))
       there e (no h) (inr c) =
-          let q = same-pair k (checkedList (startingPool occupied) s) (sym e ∙ ap modelNumber (refused-end (omega arith) c .answered)) in
+          let q = pairs-tell-apart k (checkedList (startingPool occupied) s) (sym e ∙ ap modelNumber (refused-end (omega arith) c .answered)) in
           (omega arith, given-exactly (startingPool occupied) s k .0 q)
 
       back : (2048 ≤ length b) × Given (startingPool occupied) s k → modelNumber r ≡ (answerOf k .number, answerOf k .value)
@@ -140,7 +139,7 @@ module _ (occupied : Pool) (s b : List ℕ) (r : ModelAnswer) (s′ b′ : List 
 
   -- and then nothing that was lent has changed, and all else in the answer is zero
   pub model-untouched : (r .answer ≡ 2) ⊎ ((9 ≤ r .answer) × (r .answer ≤ 12)) → (s′ ≡ s) × (b′ ≡ b) × (r ≡ refusedAnswer (r .answer) (r .place))
-  model-untouched h = go (decLt (length b) 2048) (is-admitted (checkedList (startingPool occupied) s))
+  model-untouched h = go (decLt (length b) 2048) (admitted-or-not (checkedList (startingPool occupied) s))
     where
       same : (n i : ℕ) → Leaves (refusedEnd n i s b) r s′ b′ → (s′ ≡ s) × (b′ ≡ b) × (r ≡ refusedAnswer (r .answer) (r .place))
       same n i q = (
@@ -156,28 +155,28 @@ module _ (occupied : Pool) (s b : List ℕ) (r : ModelAnswer) (s′ b′ : List 
 
   -- the numbers, each if and only if its case, by the bytes of the records: record i is the 18 bytes from 18 i on
   module _ (bytes : Bytes s) where
-    by-bytes : (k : Checked) → (k ≡ Admitted → ⊥) → (modelNumber r ≡ (answerOf k .number, answerOf k .value)) ↔ ((2048 ≤ length b) × GivenByBytes (startingPool occupied) s k)
-    by-bytes k n =
+    refused-by-bytes : (k : Checked) → (k ≡ Admitted → ⊥) → (modelNumber r ≡ (answerOf k .number, answerOf k .value)) ↔ ((2048 ≤ length b) × GivenByBytes (startingPool occupied) s k)
+    refused-by-bytes k n =
         let m = model-refused k n in
-        let g = given-bytes (startingPool occupied) s bytes k in
+        let g = given-by-bytes (startingPool occupied) s bytes k in
         (λ e. (m .0 e .0, g .0 (m .0 e .1)), λ h. m .1 (h .0, g .1 (h .1)))
 
     -- 9: over 2,160 bytes, or no multiple of 18
     pub model-9 : (modelNumber r ≡ (9, 0)) ↔ ((2048 ≤ length b) × ((2160 < length s) ⊎ (length s % 18 ≡ 0 → ⊥)))
-    model-9 = by-bytes BadLength (λ e. let z : _≡_ {A = ℕ} 0 1 = cc e in omega arith)
+    model-9 = refused-by-bytes BadLength (λ e. let z : _≡_ {A = ℕ} 0 1 = cc e in omega arith)
 
     -- 10: the first record whose byte 16 is even or byte 17 above 1
     pub model-10 : (i : ℕ) → (modelNumber r ≡ (10, i)) ↔ ((2048 ≤ length b) × ((LengthIsBad s → ⊥) × FirstOf (EvenOrFlag s) (length s / 18) i))
-    model-10 i = by-bytes (Malformed i) (λ e. let z : _≡_ {A = ℕ} 0 1 = cc e in omega arith)
+    model-10 i = refused-by-bytes (Malformed i) (λ e. let z : _≡_ {A = ℕ} 0 1 = cc e in omega arith)
 
     -- 11: the first record whose 16 bytes of identifier are those of an earlier one
     pub model-11 : (i : ℕ) → (modelNumber r ≡ (11, i)) ↔ ((2048 ≤ length b) × ((LengthIsBad s → ⊥) × None (EvenOrFlag s) (length s / 18) × FirstOf (SameAsEarlier s) (length s / 18) i))
-    model-11 i = by-bytes (Repeated i) (λ e. let z : _≡_ {A = ℕ} 0 1 = cc e in omega arith)
+    model-11 i = refused-by-bytes (Repeated i) (λ e. let z : _≡_ {A = ℕ} 0 1 = cc e in omega arith)
 
     -- 12: the first fixed target whose address is in the starting pool or is that of an earlier fixed one
     pub model-12 : (i : ℕ) → (modelNumber r ≡ (12, i))
         ↔ ((2048 ≤ length b) × ((LengthIsBad s → ⊥) × None (EvenOrFlag s) (length s / 18) × None (SameAsEarlier s) (length s / 18) × FirstOf (FixedOnTaken (startingPool occupied) s) (length s / 18) i))
-    model-12 i = by-bytes (Taken i) (λ e. let z : _≡_ {A = ℕ} 0 1 = cc e in omega arith)
+    model-12 i = refused-by-bytes (Taken i) (λ e. let z : _≡_ {A = ℕ} 0 1 = cc e in omega arith)
 
   -- every other part of a refusal is zero
   pub model-zero : (r .answer ≡ 2) ⊎ ((9 ≤ r .answer) × (r .answer ≤ 12)) → (r .udid .high ≡ 0) × (r .udid .low ≡ 0) × (r .bound .low ≡ 0) × (r .bound .high ≡ 0) × (r .count ≡ 0) × (r .gets ≡ 0)

@@ -11,7 +11,6 @@ use Rattle.pool.specs.declared.Pool.{Pool}
 use Rattle.udid.specs.declared.Udid.{Udid}
 use Rattle.arp.specs.Bindings.{heldAt}
 use Rattle.arp.specs.Numbers.{commandNumber}
-use Rattle.arp.specs.declared.command.Command.{Command}
 use Rattle.arp.specs.declared.state.Binding.{Binding}
 use Rattle.arp.specs.declared.state.Binding.the-variants as binding
 use Rattle.arp.specs.declared.state.Slot.{Slot}
@@ -64,6 +63,14 @@ modelNumber r = (r .answer, r .place)
 -- a refusal: its number and the record, and all else zero
 abbrev pub refusedAnswer : ℕ → ℕ → ModelAnswer
 refusedAnswer n i = record { answer = n; place = i; udid = noUdid; bound = emptyPool; count = 0; gets = 0 }
+
+-- the answer of a refusal, in the scope's number and value
+abbrev pub Refused : Checked → ModelAnswer → Type 0
+Refused Admitted r = ⊥
+Refused BadLength r = r ≡ refusedAnswer 9 0
+Refused (Malformed i) r = r ≡ refusedAnswer 10 i
+Refused (Repeated i) r = r ≡ refusedAnswer 11 i
+Refused (Taken i) r = r ≡ refusedAnswer 12 i
 
 -- a pass: its number, the identifier that asked, the bound addresses and how many they are, and the Get UDIDs
 abbrev pub reported : Stepped → ModelAnswer

@@ -1,27 +1,19 @@
--- The model run by its cases.
+-- The model run by its cases, and that it has one answer.
 use Prim.Native.Nat.{ℕ, _≤_, _<_}
-use mathlib.Core.Path.{_≡_, refl, sym, ap, _∙_, subst}
+use mathlib.Core.Path.{_≡_, refl, sym, subst}
 use mathlib.Core.List.{List}
 use lib.ListN.{length}
 use borrow.Author.Tests.{lt-ltb, le-ltb}
+use Rattle.lists.specs.UniqueLaws.{one-answer}
 use Rattle.pool.specs.Start.{startingPool}
 use Rattle.pool.specs.declared.Pool.{Pool}
-use Rattle.targets.specs.Numbers.{answerOf}
 use Rattle.targets.specs.Records.{targetsOf}
 use Rattle.targets.specs.Refusals.{checkedList}
 use Rattle.targets.specs.declared.admit.Checked.{Checked}
 use Rattle.targets.specs.declared.admit.Checked.the-variants.{Admitted, BadLength, Malformed, Repeated, Taken}
 use Rattle.rule.specs.Bus.{pass}
-use Rattle.bus.specs.Run.{refusedAnswer, ModelEnd, Leaves, refusedEnd, endedEnd, endChecked, modelEnd}
+use Rattle.bus.specs.Run.{refusedAnswer, ModelEnd, Leaves, refusedEnd, endedEnd, endChecked, modelEnd, Refused}
 use Rattle.bus.specs.declared.answer.ModelAnswer.{ModelAnswer}
-
--- the answer of a refusal, in the scope's number and value
-abbrev pub Refused : Checked → ModelAnswer → Type 0
-Refused Admitted r = ⊥
-Refused BadLength r = r ≡ refusedAnswer 9 0
-Refused (Malformed i) r = r ≡ refusedAnswer 10 i
-Refused (Repeated i) r = r ≡ refusedAnswer 11 i
-Refused (Taken i) r = r ≡ refusedAnswer 12 i
 
 module _ (occupied : Pool) (s b : List ℕ) where
   -- 2
@@ -52,3 +44,10 @@ module _ (occupied : Pool) (s b : List ℕ) where
   pub leaves-run : (r : ModelAnswer) (s′ b′ : List ℕ) → 2048 ≤ length b → checkedList (startingPool occupied) s ≡ Admitted → Leaves (endedEnd (pass occupied (targetsOf s)) s b) r s′ b′
       → Leaves (modelEnd occupied s b) r s′ b′
   leaves-run r s′ b′ h e v = subst (λ (x : ModelEnd). Leaves x r s′ b′) (sym (end-checked Admitted h e)) v
+
+-- ---- one answer, one content of the records, one of the binding buffer
+
+pub one-model : (occupied : Pool) (s b : List ℕ) (r q : ModelAnswer) (s′ t′ b′ c′ : List ℕ) → Leaves (modelEnd occupied s b) r s′ b′ → Leaves (modelEnd occupied s b) q t′ c′
+    → (r ≡ q) × (s′ ≡ t′) × (b′ ≡ c′)
+one-model occupied s b r q s′ t′ b′ c′ v w =
+    (one-answer (v .answered) (w .answered), one-answer (v .records-hold) (w .records-hold), one-answer (v .bindings-hold) (w .bindings-hold))

@@ -1,9 +1,10 @@
 -- One command on the bus, over the records' bytes.
-use Prim.Native.Nat.{ℕ, _*_, _<_}
+use Prim.Native.Nat.{ℕ, _+_, _-_, _*_, _<_}
 use mathlib.Core.Path.{_≡_}
 use mathlib.Core.Bool.{Bool, true, false}
 use mathlib.Core.List.{List, [], _∷_}
-use lib.ListN.{length}
+use lib.ListN.{length, take, drop}
+use Rattle.lists.specs.Each.{Bytes}
 use Rattle.wire.specs.Symbols.{START, STOP, ACK, NACK}
 use Rattle.encode.specs.Encode.{Wrote}
 use Rattle.encode.specs.declared.Encoded.{Encoded}
@@ -11,12 +12,14 @@ use Rattle.arbitration.specs.Among.{Among}
 use Rattle.targets.specs.Cases.{RepeatedAt, None}
 use Rattle.targets.specs.Records.{recordCount, targetsOf, recordsWith}
 use Rattle.targets.specs.Target.{Target}
-use Rattle.arp.specs.Sending.{Sent}
+use Rattle.arp.specs.Controller.{stepped}
+use Rattle.arp.specs.SendingLaws.{Sent}
 use Rattle.arp.specs.Requests.{protocolFor, messageOf}
 use Rattle.arp.specs.declared.command.Command.{Command}
 use Rattle.arp.specs.declared.command.Command.the-variants.{Nothing, Prepare, GetUdid, Assign, Ended, NoneFree, Abandoned, NotOutstanding}
 use Rattle.arp.specs.declared.state.Stepped.{Stepped}
-use Rattle.rule.specs.Bus.{World}
+use Rattle.rule.specs.Acknowledge.{onBus}
+use Rattle.rule.specs.Bus.{World, reached}
 
 -- records that a pass can run over: whole ones, no identifier twice
 pub record Fit (s : List ℕ) : Type 0 where
@@ -48,6 +51,15 @@ isSent NotOutstanding = false
 abbrev pub silence : List ℕ
 silence = START ∷ 0xC2 ∷ ACK ∷ 0x03 ∷ ACK ∷ START ∷ 0xC3 ∷ NACK ∷ STOP ∷ []
 
+-- the first 17 bytes of record w, lent as a part
+abbrev pub lentPart : List ℕ → ℕ → List ℕ
+lentPart s w = take (w * 18 + 17 - w * 18) (drop (w * 18) s)
+
+-- bytes, 17 of them
+pub record Lent (xs : List ℕ) : Type 0 where
+  pub bytes : Bytes xs
+  pub long : length xs ≡ 17
+
 -- the encoder has room for the command and writes it
 abbrev pub Writes : Command → List ℕ → List ℕ → Type 0
 Writes k reply before =
@@ -57,10 +69,9 @@ Writes k reply before =
 abbrev pub worldOf : Stepped → List ℕ → World
 worldOf st s = record { now = st; targets = targetsOf s }
 
--- the command that is out is the state's, and it reaches somebody
-pub record Going (st : Stepped) (s : List ℕ) : Type 0 where
-  pub handed : st .state .last ≡ st .command
-  pub reaches : Reaches (st .command) (targetsOf s)
+-- a command on the bus: the controller's step takes the trace that stands there, and so does each target
+abbrev pub sentTo : Stepped → List Target → Command → World
+sentTo s ts k = record { now = stepped (s .state) (onBus k ts); targets = reached (onBus k ts) ts }
 
 -- the code's result r and records after s are those of the world w
 pub record Matches (w : World) (r : Stepped) (s after : List ℕ) : Type 0 where

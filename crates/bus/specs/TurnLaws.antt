@@ -1,54 +1,43 @@
 -- The code's turn over the records' bytes is the bus's turn over their targets.
-use Prim.Native.Nat.{ℕ, zero, suc, _+_, _*_, _-_, _/_, _%_, _≤_, _<_}
-use mathlib.Core.Path.{_≡_, refl, sym, ap, ap₂, _∙_, subst}
+use Prim.Native.Nat.{ℕ, _+_, _*_, _-_, _/_, _≤_, _<_}
+use mathlib.Core.Path.{_≡_, refl, sym, ap, _∙_, subst}
 use mathlib.Core.Bool.{Bool, true, false}
-use mathlib.Core.Logic.{inl, inr}
 use mathlib.Core.List.{List, [], _∷_}
 use native.Mathlib.Omega.{arith}
 use lib.ListN.{length, take, drop}
-use Rattle.lists.specs.Choice.{pick}
 use Rattle.lists.specs.Each.{Bytes}
 use Rattle.trace.specs.Shapes.{shapeOf}
 use Rattle.trace.specs.Lengths.{traceLength}
 use Rattle.trace.specs.LengthLaws.{trace-length}
 use Rattle.arbitration.specs.Among.{Among}
-use Rattle.pool.specs.Start.{startingPool}
-use Rattle.pool.specs.declared.Pool.{Pool}
-use Rattle.pool.specs.declared.free.Free.{Free}
-use Rattle.pool.specs.declared.free.Free.the-variants.{At, AllUsed}
+use Rattle.pool.specs.declared.free.Free.the-variants.{At}
 use Rattle.udid.specs.Udids.{Fits}
 use Rattle.udid.specs.declared.Udid.{Udid}
 use Rattle.wire.specs.declared.address.Address.{Address}
-use Rattle.targets.specs.AdmissionLaws.{admitted-length}
 use Rattle.targets.specs.ChangeLaws.{assigned-below}
-use Rattle.targets.specs.Cases.{None, RepeatedAt}
-use Rattle.targets.specs.IndexLaws.{in-targets, length-targets, sized-at, record-reply}
-use Rattle.targets.specs.Records.{udidOf, targetAt, recordCount, targetsFrom, targetsOf, putFrom, recordsWith, assignedIn}
-use Rattle.targets.specs.RecordLaws.{changed-targets, put-all-self, put-again, udid-put-from, length-put-from, prepared-keeps, assigned-keeps}
-use Rattle.targets.specs.Refusals.{checkedList}
-use Rattle.targets.specs.RefusalLaws.{given-exactly}
-use Rattle.targets.specs.Reply.{replyData}
-use Rattle.targets.specs.ReplyLaws.{length-data, bytes-data}
+use Rattle.targets.specs.IndexLaws.{target-has-record, length-targets, sized-at, record-reply}
+use Rattle.targets.specs.Records.{targetAt, recordCount, targetsFrom, targetsOf, recordsWith, assignedIn}
+use Rattle.targets.specs.RecordLaws.{changed-targets, put-all-self, length-put-from, assigned-keeps-udid}
+use Rattle.targets.specs.ReplyLaws.{length-reply-data, bytes-reply-data}
 use Rattle.targets.specs.Target.{Target, isResolved, mapTargets, prepared, assignedTo}
-use Rattle.targets.specs.Winner.{winnerOf}
-use Rattle.targets.specs.WinnerLaws.{Unresolved, Wins, Won, winner-exactly, least-of, flag-is}
-use Rattle.targets.specs.declared.admit.Checked.the-variants.{Admitted}
-use Rattle.targets.specs.declared.winner.Winner.{Winner}
+use Rattle.targets.specs.Winner.{winnerOf, Wins}
+use Rattle.targets.specs.WinnerLaws.{winner-exactly, winner-least, unresolved-by-flag}
 use Rattle.targets.specs.declared.winner.Winner.the-variants as winner
 use Rattle.arp.specs.RequestLaws.{assign-has-44-symbols}
 use Rattle.arp.specs.SendingLaws.{assign-sent}
-use Rattle.arp.specs.Bindings.{bound, freed}
-use Rattle.arp.specs.Controller.{handed, counted, asked, issued, chosen, replied, afterPrepare, afterGet, afterAssign, byCommand, stepped, started, newController}
+use Rattle.arp.specs.TraceLaws.{assign-length}
+use Rattle.arp.specs.Controller.{stepped}
 use Rattle.arp.specs.Requests.{messageOf, traceOf}
 use Rattle.arp.specs.declared.command.Command.{Command}
 use Rattle.arp.specs.declared.command.Command.the-variants.{Nothing, Prepare, GetUdid, Assign, Ended, NoneFree, Abandoned, NotOutstanding}
-use Rattle.arp.specs.declared.state.Controller.{Controller}
 use Rattle.arp.specs.declared.state.Stepped.{Stepped}
 use Rattle.rule.specs.Acknowledge.{onBus}
-use Rattle.rule.specs.Bus.{World, reached, sentTo, turnBy, turn, run, beginning, pass}
-use Rattle.rule.specs.EffectLaws.{acted, Names, effect-is}
+use Rattle.rule.specs.Bus.{reached}
+use Rattle.rule.specs.Acted.{acted, Names}
+use Rattle.rule.specs.EffectLaws.{effect-as-meant}
 use Rattle.rule.specs.TraceLaws as on-bus
-use Rattle.bus.specs.Turn.{Fit, Reaches, isSent, silence, Writes, worldOf, Going, Matches}
+use Rattle.bus.specs.Going.{Going}
+use Rattle.bus.specs.Turn.{Fit, Reaches, silence, Writes, sentTo, Matches, lentPart, Lent}
 
 -- ---- the traces
 
@@ -74,7 +63,7 @@ prepare-all s n = go (targetsOf s) (length-targets s (recordCount s) 0)
 pub get-winner : (s : List ℕ) → Bytes s → Fit s → (w : ℕ) → winner.At w ≡ winnerOf s → onBus GetUdid (targetsOf s) ≡ traceOf GetUdid (take 17 (drop (w * 18) s))
 get-winner s b f w e =
     let v : Wins s (recordCount s) w = winner-exactly s (winner.At w) .0 e in
-    on-bus.get-whole (targetsOf s) (targetAt s w) (least-of s b (f .apart) w v)
+    on-bus.get-whole (targetsOf s) (targetAt s w) (winner-least s b (f .apart) w v)
     ∙ ap (traceOf GetUdid) (sym (record-reply s w b (omega (arith, v .below, f .whole))))
 
 all-resolved : (s : List ℕ) → Bytes s → Fit s → winner.AllResolved ≡ winnerOf s → (t : Target) → Among t (targetsOf s) → isResolved t ≡ true
@@ -83,8 +72,8 @@ all-resolved s b f e t m = go (isResolved t) refl
     go : (c : Bool) → isResolved t ≡ c → isResolved t ≡ true
     go true q = q
     go false q =
-        let r = in-targets s (recordCount s) 0 t m in
-        absurd (winner-exactly s winner.AllResolved .0 e (r .0) (omega (arith, r .2)) (flag-is s b (f .apart) (r .0) t (r .3) q))
+        let r = target-has-record s (recordCount s) 0 t m in
+        absurd (winner-exactly s winner.AllResolved .0 e (r .0) (omega (arith, r .2)) (unresolved-by-flag s b (f .apart) (r .0) t (r .3) q))
 
 pub get-silence : (s : List ℕ) → Bytes s → Fit s → 0 < length (targetsOf s) → winner.AllResolved ≡ winnerOf s → onBus GetUdid (targetsOf s) ≡ silence
 get-silence s b f h e = go (targetsOf s) h (all-resolved s b f e)
@@ -115,65 +104,65 @@ changes (NoneFree u) t = t
 changes Abandoned t = t
 changes NotOutstanding t = t
 
-map-same : (ts : List Target) → ts ≡ mapTargets (λ (t : Target). t) ts
-map-same [] = refl
-map-same (t ∷ ts) = ap (λ (l : List Target). t ∷ l) (map-same ts)
+map-identity : (ts : List Target) → ts ≡ mapTargets (λ (t : Target). t) ts
+map-identity [] = refl
+map-identity (t ∷ ts) = ap (λ (l : List Target). t ∷ l) (map-identity ts)
 
-acted-is : (k : Command) (ts : List Target) → acted k ts ≡ mapTargets (changes k) ts
+acted-changes-each : (k : Command) (ts : List Target) → acted k ts ≡ mapTargets (changes k) ts
 unfolding changes
-acted-is Prepare ts = refl
-acted-is (Assign u a) ts = refl
-acted-is GetUdid ts = map-same ts
-acted-is Nothing ts = map-same ts
-acted-is Ended ts = map-same ts
-acted-is (NoneFree u) ts = map-same ts
-acted-is Abandoned ts = map-same ts
-acted-is NotOutstanding ts = map-same ts
+acted-changes-each Prepare ts = refl
+acted-changes-each (Assign u a) ts = refl
+acted-changes-each GetUdid ts = map-identity ts
+acted-changes-each Nothing ts = map-identity ts
+acted-changes-each Ended ts = map-identity ts
+acted-changes-each (NoneFree u) ts = map-identity ts
+acted-changes-each Abandoned ts = map-identity ts
+acted-changes-each NotOutstanding ts = map-identity ts
 
-changes-keeps : (k : Command) (t : Target) → changes k t .udid ≡ t .udid
+changes-keep-udid : (k : Command) (t : Target) → changes k t .udid ≡ t .udid
 unfolding changes
-changes-keeps Prepare t = refl
-changes-keeps (Assign u a) t = assigned-keeps u (a .0) t
-changes-keeps GetUdid t = refl
-changes-keeps Nothing t = refl
-changes-keeps Ended t = refl
-changes-keeps (NoneFree u) t = refl
-changes-keeps Abandoned t = refl
-changes-keeps NotOutstanding t = refl
+changes-keep-udid Prepare t = refl
+changes-keep-udid (Assign u a) t = assigned-keeps-udid u (a .0) t
+changes-keep-udid GetUdid t = refl
+changes-keep-udid Nothing t = refl
+changes-keep-udid Ended t = refl
+changes-keep-udid (NoneFree u) t = refl
+changes-keep-udid Abandoned t = refl
+changes-keep-udid NotOutstanding t = refl
 
 count-put : (ts : List Target) (s : List ℕ) → recordCount (recordsWith ts s) ≡ recordCount s
 count-put ts s = ap (λ (n : ℕ). n / 18) (length-put-from ts 0 s)
 
 acted-targets : (k : Command) (s : List ℕ) → Fit s → targetsOf (recordsWith (acted k (targetsOf s)) s) ≡ acted k (targetsOf s)
 acted-targets k s f =
-    ap (λ (ts : List Target). targetsOf (recordsWith ts s)) (acted-is k (targetsOf s))
+    ap (λ (ts : List Target). targetsOf (recordsWith ts s)) (acted-changes-each k (targetsOf s))
     ∙ ap (λ (n : ℕ). targetsFrom (recordsWith (mapTargets (changes k) (targetsOf s)) s) n 0) (count-put (mapTargets (changes k) (targetsOf s)) s)
-    ∙ changed-targets (changes k) (changes-keeps k) (recordCount s) 0 s (omega (arith, f .whole))
-    ∙ sym (acted-is k (targetsOf s))
+    ∙ changed-targets (changes k) (changes-keep-udid k) (recordCount s) 0 s (omega (arith, f .whole))
+    ∙ sym (acted-changes-each k (targetsOf s))
 
 -- the identifiers of records are numbers of 128 bits, and so is that of a command which reaches one of them
 fits-targets : (s : List ℕ) → Bytes s → (t : Target) → Among t (targetsOf s) → Fits (t .udid)
-fits-targets s b t m = let r = in-targets s (recordCount s) 0 t m in subst (λ (x : Target). Fits (x .udid)) (r .3) (sized-at s b (r .0) .udid)
+fits-targets s b t m = let r = target-has-record s (recordCount s) 0 t m in subst (λ (x : Target). Fits (x .udid)) (r .3) (sized-at s b (r .0) .udid)
 
-names-one : (k : Command) (s : List ℕ) → Bytes s → Reaches k (targetsOf s) → Names k
-names-one (Assign u a) s b r = subst Fits (r .2) (fits-targets s b (r .0) (r .1))
-names-one Prepare s b r = tt
-names-one GetUdid s b r = tt
-names-one Nothing s b r = tt
-names-one Ended s b r = tt
-names-one (NoneFree u) s b r = tt
-names-one Abandoned s b r = tt
-names-one NotOutstanding s b r = tt
+reached-names-fit : (k : Command) (s : List ℕ) → Bytes s → Reaches k (targetsOf s) → Names k
+reached-names-fit (Assign u a) s b r = subst Fits (r .2) (fits-targets s b (r .0) (r .1))
+reached-names-fit Prepare s b r = tt
+reached-names-fit GetUdid s b r = tt
+reached-names-fit Nothing s b r = tt
+reached-names-fit Ended s b r = tt
+reached-names-fit (NoneFree u) s b r = tt
+reached-names-fit Abandoned s b r = tt
+reached-names-fit NotOutstanding s b r = tt
 
 -- the symbols on the bus do to the targets what the command means
-pub reached-is : (k : Command) (s : List ℕ) → Bytes s → Reaches k (targetsOf s) → reached (onBus k (targetsOf s)) (targetsOf s) ≡ acted k (targetsOf s)
-reached-is k s b r = effect-is k (targetsOf s) (names-one k s b r) (fits-targets s b)
+pub reached-as-meant : (k : Command) (s : List ℕ) → Bytes s → Reaches k (targetsOf s) → reached (onBus k (targetsOf s)) (targetsOf s) ≡ acted k (targetsOf s)
+reached-as-meant k s b r = effect-as-meant k (targetsOf s) (reached-names-fit k s b r) (fits-targets s b)
 
 -- a command sent: the controller's step took what stood on the bus, and the targets acted
 pub sent-matches : (st r : Stepped) (s after tr : List ℕ) → Bytes s → Fit s → Going st s → tr ≡ onBus (st .command) (targetsOf s) → r ≡ stepped (st .state) tr
     → after ≡ recordsWith (acted (st .command) (targetsOf s)) s → Matches (sentTo st (targetsOf s) (st .command)) r s after
 sent-matches st r s after tr b f n e q g =
-    let x = reached-is (st .command) s b (n .reaches) in
+    let x = reached-as-meant (st .command) s b (n .reaches) in
     record {
       controller = q ∙ ap (stepped (st .state)) e;
       targets = ap targetsOf g ∙ acted-targets (st .command) s f ∙ sym x;
@@ -181,33 +170,24 @@ sent-matches st r s after tr b f n e q g =
     }
 
 -- records that stay as they are
-pub same-records : (s : List ℕ) → s ≡ recordsWith (targetsOf s) s
-same-records s = sym (put-all-self (recordCount s) 0 s)
+pub own-targets-stored : (s : List ℕ) → s ≡ recordsWith (targetsOf s) s
+own-targets-stored s = sym (put-all-self (recordCount s) 0 s)
 
 -- the winner's record is one of the list
 pub winner-inside : (s : List ℕ) → Fit s → (w : ℕ) → winner.At w ≡ winnerOf s → w * 18 + 18 ≤ length s
 winner-inside s f w e = let v : Wins s (recordCount s) w = winner-exactly s (winner.At w) .0 e in omega (arith, v .below, f .whole)
 
-part : (s : List ℕ) (at : ℕ) → take (at + 17 - at) (drop at s) ≡ take 17 (drop at s)
-part s at = let e : at + 17 - at ≡ 17 = omega arith in ap (λ (n : ℕ). take n (drop at s)) e
+part-of-17 : (s : List ℕ) (at : ℕ) → take (at + 17 - at) (drop at s) ≡ take 17 (drop at s)
+part-of-17 s at = let e : at + 17 - at ≡ 17 = omega arith in ap (λ (n : ℕ). take n (drop at s)) e
 
--- its first 17 bytes, lent as a part
-abbrev pub lentPart : List ℕ → ℕ → List ℕ
-lentPart s w = take (w * 18 + 17 - w * 18) (drop (w * 18) s)
+pub winner-part-lent : (s : List ℕ) → Bytes s → Fit s → (w : ℕ) → winner.At w ≡ winnerOf s → Lent (lentPart s w)
+winner-part-lent s b f w e =
+    subst Lent (sym (part-of-17 s (w * 18) ∙ record-reply s w b (omega (arith, winner-inside s f w e))))
+    (record { bytes = bytes-reply-data (targetAt s w) (sized-at s b w .addressByte); long = length-reply-data (targetAt s w) })
 
--- bytes, 17 of them
-pub record Lent (xs : List ℕ) : Type 0 where
-  pub bytes : Bytes xs
-  pub long : length xs ≡ 17
-
-pub winner-data : (s : List ℕ) → Bytes s → Fit s → (w : ℕ) → winner.At w ≡ winnerOf s → Lent (lentPart s w)
-winner-data s b f w e =
-    subst Lent (sym (part s (w * 18) ∙ record-reply s w b (omega (arith, winner-inside s f w e))))
-    (record { bytes = bytes-data (targetAt s w) (sized-at s b w .addressByte); long = length-data (targetAt s w) })
-
-pub get-part : (s : List ℕ) → Bytes s → Fit s → (w : ℕ) → winner.At w ≡ winnerOf s
+pub get-winner-part : (s : List ℕ) → Bytes s → Fit s → (w : ℕ) → winner.At w ≡ winnerOf s
     → onBus GetUdid (targetsOf s) ≡ traceOf GetUdid (lentPart s w)
-get-part s b f w e = get-winner s b f w e ∙ ap (traceOf GetUdid) (sym (part s (w * 18)))
+get-winner-part s b f w e = get-winner s b f w e ∙ ap (traceOf GetUdid) (sym (part-of-17 s (w * 18)))
 
 -- ---- an Assign, by the command that it is
 
@@ -216,8 +196,8 @@ assign-on-bus k u a e ts h =
     let r : Reaches (Assign u a) ts = subst (λ (x : Command). Reaches x ts) e h in
     ap (λ (x : Command). onBus x ts) e ∙ on-bus.assign-whole ts u a (r .0) (r .1) (r .2) ∙ ap (λ (x : Command). traceOf x []) (sym e)
 
-pub assign-long : (k : Command) (u : Udid) (a : Address) → k ≡ Assign u a → length (traceOf k []) ≡ 44
-assign-long k u a e = ap (λ (x : Command). length (traceOf x [])) e ∙ assign-has-44-symbols u a
+pub assign-length-44 : (k : Command) (u : Udid) (a : Address) → k ≡ Assign u a → length (traceOf k []) ≡ 44
+assign-length-44 k u a e = ap (λ (x : Command). length (traceOf x [])) e ∙ assign-length u a
 
 pub assign-written : (k : Command) (u : Udid) (a : Address) → k ≡ Assign u a → (ts : List Target) → Reaches k ts → (before : List ℕ) → 64 ≤ length before → Writes k [] before
 assign-written k u a e ts h before l =

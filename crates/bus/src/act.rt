@@ -1,7 +1,7 @@
-// What a command means for the targets; that its symbols on the bus do just that is effect-is in rule/specs/EffectLaws. Rests on targets.
+// What a command means for the targets; that its symbols on the bus do just that is effect-as-meant in rule/specs/EffectLaws. Rests on targets.
 ghost use mathlib.Core.Path.{_≡_};
 ghost use Rattle.targets.specs.Records.{targetsOf, recordsWith};
-ghost use Rattle.rule.specs.EffectLaws.{acted};
+ghost use Rattle.rule.specs.Acted.{acted};
 ghost use Rattle.bus.specs.Turn.{Reaches};
 use arp::command::Command;
 use targets::assign;

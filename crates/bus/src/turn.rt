@@ -1,7 +1,7 @@
 // One command on the bus: its trace stands there, the targets act on it, and the controller's step takes the trace. Rests on traces and act.
 ghost use Rattle.targets.specs.Records.{targetsOf};
-ghost use Rattle.rule.specs.Bus.{sentTo};
-ghost use Rattle.bus.specs.Turn.{Fit, Going, Matches};
+ghost use Rattle.bus.specs.Going.{Going};
+ghost use Rattle.bus.specs.Turn.{Fit, sentTo, Matches};
 use super::act::act;
 use super::traces::put_trace;
 use arp::state::Stepped;

@@ -13,7 +13,7 @@ pub mod Commands
 pub mod PutCommand
 pub mod Pass
 pub mod TraceLists
-pub mod Unique
+pub mod UniqueLaws
 pub mod ExportsLaws
 pub mod PartLaws
 pub mod PassLaws

@@ -37,7 +37,7 @@ use Rattle.targets.specs.Cases.{LengthIsBad, MalformedAt, RepeatedAt, TakenAt, 
 use Rattle.targets.specs.Numbers.{answerOf}
 use Rattle.targets.specs.Records.{recordCount}
 use Rattle.targets.specs.Refusals.{checkedList}
-use Rattle.targets.specs.RefusalLaws.{given-exactly, answers-differ}
+use Rattle.targets.specs.RefusalLaws.{given-exactly, answers-tell-apart}
 use Rattle.targets.specs.declared.admit.Checked.{Checked}
 use Rattle.targets.specs.declared.admit.Checked.the-variants.{Admitted, BadLength, Malformed, Repeated, Taken}
 use Rattle.exports.specs.declared.check.HbChecked.{HbChecked}
@@ -228,7 +228,7 @@ module _ (low high : ℕ) (s : List ℕ) (r : HbChecked) (e : r ≡ toldChecked 
       there (a, p) =
           let x : answerOf k .number ≡ answerOf (checkedList start s) .number = en ∙ sym a ∙ ap (λ (q : HbChecked). q .answer) e in
           let y : answerOf k .value ≡ answerOf (checkedList start s) .value = ei ∙ sym p ∙ ap (λ (q : HbChecked). q .place) e in
-          answers-differ k (checkedList start s) (λ j. record { number = x j; value = y j })
+          answers-tell-apart k (checkedList start s) (λ j. record { number = x j; value = y j })
 
       back : k ≡ checkedList start s → (r .answer ≡ n) × (r .place ≡ i)
       back q = (

@@ -1,7 +1,5 @@
 pub mod Choice
 pub mod ChoiceLaws
 pub mod Each
-pub mod EachLaws
-pub mod Onto
-pub mod OntoLaws
-pub mod Passing
+pub mod ListLaws
+pub mod UniqueLaws

@@ -1,5 +1,4 @@
 pub mod Marked
-pub mod Unique
 pub mod Demand1
 pub mod Demand2
 pub mod Demand3

@@ -36,7 +36,7 @@ use Rattle.bindings.specs.BufferLaws.{bytes-there}
 use Rattle.bindings.specs.Entries.{entryBytes, bufferOf, boundFrom, boundSet}
 use Rattle.bindings.specs.declared.entry.Entry.{Entry}
 use Rattle.rule.specs.Bus.{World}
-use Rattle.rule.specs.Demand3.{demand-3}
+use Rattle.rule.specs.PassEndLaws.{demand-3}
 use Rattle.rule.specs.PassEnd.{passEnd}
 use Rattle.rule.specs.PlainRule.{plainChoice}
 use Rattle.bus.specs.Run.{noUdid, numberIn, udidIn, entryAt, ModelEnd, endedEnd, modelEnd}

@@ -4,17 +4,16 @@ use Prim.Native.Nat.{ℕ}
 use mathlib.Core.Bool.{Bool, true, false}
 use mathlib.Core.List.{List, [], _∷_, _++_}
 use lib.Dec.{eqb}
-use lib.ListN.{getD}
+use lib.ListN.{getD, take}
 use Rattle.lists.specs.Choice.{pick, or, and}
-use Rattle.wire.specs.Pec as Pec
+use Rattle.wire.specs.Pec.{pecOf}
 use Rattle.wire.specs.Symbols.{STOP, ACK, NACK}
-use Rattle.trace.specs.Shapes.{shapeOf}
-use Rattle.trace.specs.Trace.{nacked, pecOf, byTarget}
+use Rattle.trace.specs.Trace.{nacked}
 use Rattle.udid.specs.Bytes.{udidBytes}
 use Rattle.targets.specs.Target.{Target, isResolved}
 use Rattle.targets.specs.Reply.{waiting, OnWire, silence, shown, onWire}
 use Rattle.rule.specs.Effect.{same}
-use Rattle.arp.specs.Requests.{protocolOf, messageOf}
+use Rattle.arp.specs.Requests.{traceOf}
 use Rattle.arp.specs.declared.command.Command.{Command}
 use Rattle.arp.specs.declared.command.Command.the-variants.{Nothing, Prepare, GetUdid, Assign, Ended, NoneFree, Abandoned, NotOutstanding}
 
@@ -35,7 +34,7 @@ abbrev pub gettingBytes : Bool → List ℕ
 gettingBytes resolved = 256 ∷ 194 ∷ 3 ∷ pick resolved [] (256 ∷ 195 ∷ [])
 
 abbrev pub assigningBytes : List ℕ → ℕ → List ℕ
-assigningBytes id b = 256 ∷ 194 ∷ 4 ∷ 17 ∷ (id ++ b ∷ Pec.pecOf (194 ∷ 4 ∷ 17 ∷ (id ++ b ∷ [])) ∷ [])
+assigningBytes id b = 256 ∷ 194 ∷ 4 ∷ 17 ∷ (id ++ b ∷ pecOf (194 ∷ 4 ∷ 17 ∷ (id ++ b ∷ [])) ∷ [])
 
 unfoldable pub acknowledges : List ℕ → Target → Bool
 acknowledges sent t =
@@ -71,15 +70,12 @@ unfoldable pub standing : List ℕ → List Target → List ℕ
 standing [] ts = []
 standing (x ∷ xs) ts = answered (λ (sent : List ℕ). somebody (acknowledges sent) ts) [] (x ∷ xs) (afterwards (x ∷ xs) ts)
 
--- the symbols that the controller sends, with an ACK behind each byte: as the encoder writes them
-abbrev pub sending : Command → List ℕ
-sending k = byTarget (shapeOf (protocolOf k)) (messageOf k []) (pecOf (shapeOf (protocolOf k)) (messageOf k []) ∷ [])
-
--- an end is no command: nothing is sent
+-- the symbols that the controller sends, with an ACK behind each byte: the beginning of the trace that put_command writes, up to the
+-- STOP, or of Get UDID up to the reply. An end is no command: nothing is sent
 abbrev pub sentPart : Command → List ℕ
-sentPart Prepare = sending Prepare
-sentPart GetUdid = sending GetUdid
-sentPart (Assign u a) = sending (Assign u a)
+sentPart Prepare = take 7 (traceOf Prepare [])
+sentPart GetUdid = take 8 (traceOf GetUdid [])
+sentPart (Assign u a) = take 43 (traceOf (Assign u a) [])
 sentPart Nothing = []
 sentPart Ended = []
 sentPart (NoneFree u) = []

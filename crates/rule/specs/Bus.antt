@@ -1,10 +1,8 @@
 -- A run of the controller's steps against the targets of a bus: each command is what the steps give for the traces so far, and each trace
 -- is what stands on the bus, bit by bit.
 use Prim.Native.Nat.{ℕ, zero, suc}
-use mathlib.Core.List.{List}
+use mathlib.Core.List.{List, [], _∷_}
 use Rattle.arp.specs.Controller.{stepped, started, newController}
-use Rattle.arp.specs.declared.command.Command.{Command}
-use Rattle.arp.specs.declared.command.Command.the-variants.{Nothing, Prepare, GetUdid, Assign, Ended, NoneFree, Abandoned, NotOutstanding}
 use Rattle.arp.specs.declared.state.Stepped.{Stepped}
 use Rattle.pool.specs.declared.Pool.{Pool}
 use Rattle.targets.specs.Target.{Target, mapTargets}
@@ -20,23 +18,13 @@ pub record World : Type 0 where
 abbrev pub reached : List ℕ → List Target → List Target
 reached tr ts = mapTargets (effect tr) ts
 
--- a command on the bus: the controller's step takes the trace that stands there, and so does each target
-abbrev pub sentTo : Stepped → List Target → Command → World
-sentTo s ts k = record { now = stepped (s .state) (onBus k ts); targets = reached (onBus k ts) ts }
-
-abbrev pub turnBy : Stepped → List Target → Command → World
-turnBy s ts Prepare = sentTo s ts Prepare
-turnBy s ts GetUdid = sentTo s ts GetUdid
-turnBy s ts (Assign u a) = sentTo s ts (Assign u a)
--- an end is no command: all stays
-turnBy s ts Nothing = record { now = s; targets = ts }
-turnBy s ts Ended = record { now = s; targets = ts }
-turnBy s ts (NoneFree u) = record { now = s; targets = ts }
-turnBy s ts Abandoned = record { now = s; targets = ts }
-turnBy s ts NotOutstanding = record { now = s; targets = ts }
+-- A TURN, by what stands on the bus: nothing leaves all as it is, any other trace is taken by the controller's step and by each target
+abbrev pub took : Stepped → List Target → List ℕ → World
+took s ts [] = record { now = s; targets = ts }
+took s ts (x ∷ xs) = record { now = stepped (s .state) (x ∷ xs); targets = reached (x ∷ xs) ts }
 
 abbrev pub turn : World → World
-turn w = turnBy (w .now) (w .targets) (w .now .command)
+turn w = took (w .now) (w .targets) (onBus (w .now .command) (w .targets))
 
 abbrev pub run : ℕ → World → World
 run zero w = w

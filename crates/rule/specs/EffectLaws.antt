@@ -24,15 +24,16 @@ use Rattle.udid.specs.Bytes.{udidBytes}
 use Rattle.udid.specs.UdidLaws.{length-udid, udid-bytes, same-equal, same-refl, same-bytes}
 use Rattle.udid.specs.Udids.{Fits, sameUdid}
 use Rattle.udid.specs.declared.Udid.{Udid}
-use Rattle.targets.specs.Target.{Target, mapTargets, prepared, assignedTo, cleared, resolve}
-use Rattle.arp.specs.RequestLaws.{prepare-symbols, assign-symbols}
-use Rattle.arp.specs.CommandTraces.{prepareTrace, assignTrace}
+use Rattle.targets.specs.Target.{Target, mapTargets, prepared, assignedTo}
+use Rattle.arp.specs.TraceLaws.{prepare-trace, assign-row}
 use Rattle.arp.specs.Requests.{traceOf}
 use Rattle.arp.specs.declared.command.Command.{Command}
 use Rattle.arp.specs.declared.command.Command.the-variants.{Nothing, Prepare, GetUdid, Assign, Ended, NoneFree, Abandoned, NotOutstanding}
 use Rattle.rule.specs.Acknowledge.{begins, acknowledges, somebody, answered, standing, sentPart, onBus}
-use Rattle.rule.specs.Effect.{addressIn, same, effect}
+use Rattle.rule.specs.AcknowledgeLaws.{assign-stop}
+use Rattle.rule.specs.Effect.{preparing, assigning, addressIn, same, effect}
 use Rattle.rule.specs.TraceLaws as on-bus
+use Rattle.rule.specs.Acted.{acted, Names}
 
 -- ---- the test of lists
 
@@ -62,8 +63,8 @@ same-false xs ys n = go (same xs ys) refl
 -- ---- THE THREE CASES
 
 -- the address byte of an Assign Address
-address-in : (id : List ℕ) (b : ℕ) → length id ≡ 16 → addressIn (assignTrace id b) ≡ b
-address-in id b e =
+assigning-address : (id : List ℕ) (b : ℕ) → length id ≡ 16 → addressIn (assigning id b) ≡ b
+assigning-address id b e =
     getD-at (256 ∷ 194 ∷ 258 ∷ 4 ∷ 258 ∷ 17 ∷ 258 ∷ acked id) b (258 ∷ pecOf (194 ∷ 4 ∷ 17 ∷ (id ++ b ∷ [])) ∷ 258 ∷ 257 ∷ []) 0 39 (omega (arith, length-acked id))
 
 -- Prepare To ARP clears the flag
@@ -75,9 +76,9 @@ effect-prepare t = refl
 pub effect-assign : (t : Target) (b : ℕ) → b < 256 → effect (assignTrace (udidBytes (t .udid)) b) t ≡ record { udid = t .udid; addressByte = 2 * (b / 2) + 1; flag = 1 }
 unfolding effect
 effect-assign t b h =
-    let e : addressIn (assignTrace (udidBytes (t .udid)) b) ≡ b = address-in (udidBytes (t .udid)) b (length-udid (t .udid)) in
-    let p : same (assignTrace (udidBytes (t .udid)) b) prepareTrace ≡ false = same-false _ _ (λ q. other (ap (λ (l : List ℕ). getD l 3 0) q)) in
-    rw (p, e, lt-ltb b 256 h, same-self (assignTrace (udidBytes (t .udid)) b))
+    let e : addressIn (assigning (udidBytes (t .udid)) b) ≡ b = assigning-address (udidBytes (t .udid)) b (length-udid (t .udid)) in
+    let p : same (assigning (udidBytes (t .udid)) b) preparing ≡ false = same-false _ _ (λ q. other (ap (λ (l : List ℕ). getD l 3 0) q)) in
+    rw (p, e, lt-ltb b 256 h, same-self (assigning (udidBytes (t .udid)) b))
   where
     other : _≡_ {A = ℕ} 4 1 → ⊥
     other q = omega arith
@@ -104,15 +105,15 @@ bytesIn (suc n) [] = []
 bytesIn (suc n) (x ∷ []) = []
 bytesIn (suc n) (x ∷ a ∷ l) = x ∷ bytesIn n l
 
-bytes-in : (id l : List ℕ) → bytesIn (length id) (acked id ++ l) ≡ id
+acked-bytes : (id l : List ℕ) → bytesIn (length id) (acked id ++ l) ≡ id
 unfolding bytesIn
-bytes-in [] l = refl
-bytes-in (x ∷ id) l = ap (λ (r : List ℕ). x ∷ r) (bytes-in id l)
+acked-bytes [] l = refl
+acked-bytes (x ∷ id) l = ap (λ (r : List ℕ). x ∷ r) (acked-bytes id l)
 
-identifier-in : (id : List ℕ) (b : ℕ) → length id ≡ 16 → bytesIn 16 (drop 7 (assignTrace id b)) ≡ id
-identifier-in id b e =
+assigning-identifier : (id : List ℕ) (b : ℕ) → length id ≡ 16 → bytesIn 16 (drop 7 (assigning id b)) ≡ id
+assigning-identifier id b e =
     let l : List ℕ = b ∷ 258 ∷ pecOf (194 ∷ 4 ∷ 17 ∷ (id ++ b ∷ [])) ∷ 258 ∷ 257 ∷ [] in
-    ap (λ (n : ℕ). bytesIn n (acked id ++ l)) (sym e) ∙ bytes-in id l
+    ap (λ (n : ℕ). bytesIn n (acked id ++ l)) (sym e) ∙ acked-bytes id l
 
 -- ---- a trace without NACK was not cut
 
@@ -151,11 +152,11 @@ quiet-assigning id b h g =
       ),
     )
 
-answered-quiet : (ack : List ℕ → Bool) (sent xs rest : List ℕ) → Quiet (answered ack sent xs rest) → answered ack sent xs rest ≡ xs ++ rest
+answered-without-nack : (ack : List ℕ → Bool) (sent xs rest : List ℕ) → Quiet (answered ack sent xs rest) → answered ack sent xs rest ≡ xs ++ rest
 unfolding answered
-answered-quiet ack sent [] rest q = refl
-answered-quiet ack sent (x ∷ xs) rest q =
-    go (eqb x ACK) refl (ack sent) (λ r. answered-quiet ack sent xs rest r) (λ r. answered-quiet ack (sent ++ x ∷ []) xs rest r) q
+answered-without-nack ack sent [] rest q = refl
+answered-without-nack ack sent (x ∷ xs) rest q =
+    go (eqb x ACK) refl (ack sent) (λ r. answered-without-nack ack sent xs rest r) (λ r. answered-without-nack ack (sent ++ x ∷ []) xs rest r) q
   where
     go : (b : Bool) → eqb x ACK ≡ b → (c : Bool) → (Quiet (answered ack sent xs rest) → answered ack sent xs rest ≡ xs ++ rest)
         → (Quiet (answered ack (sent ++ x ∷ []) xs rest) → answered ack (sent ++ x ∷ []) xs rest ≡ xs ++ rest)
@@ -166,28 +167,6 @@ answered-quiet ack sent (x ∷ xs) rest q =
     go false e c i j q = ap (λ (l : List ℕ). x ∷ l) (j (q .1))
 
 -- ---- THE COMMANDS' TRACES DO WHAT THE COMMANDS MEAN
-
--- what a command means for the targets
-abbrev pub acted : Command → List Target → List Target
-acted Prepare ts = cleared ts
-acted (Assign u a) ts = resolve u (a .0) ts
-acted GetUdid ts = ts
-acted Nothing ts = ts
-acted Ended ts = ts
-acted (NoneFree u) ts = ts
-acted Abandoned ts = ts
-acted NotOutstanding ts = ts
-
--- the identifier that it names is a number of 128 bits
-abbrev pub Names : Command → Type 0
-Names (Assign u a) = Fits u
-Names Prepare = Unit
-Names GetUdid = Unit
-Names Nothing = Unit
-Names Ended = Unit
-Names (NoneFree u) = Unit
-Names Abandoned = Unit
-Names NotOutstanding = Unit
 
 -- Get UDID: its fourth symbol is 03h
 get-fourth : (x : Target) (ts : List Target) → getD (onBus GetUdid (x ∷ ts)) 3 0 ≡ 3
@@ -222,13 +201,13 @@ effect-own u a ts t m e =
     ∙ ap (λ (b : ℕ). record { udid = t .udid; addressByte = b; flag = 1 }) n
 
 -- a trace that is an Assign Address of some identifier is that of the command's
-assign-only : (u : Udid) (a : Address) (ts : List Target) (id : List ℕ) (b : ℕ) → Bytes id → length id ≡ 16 → b < 256 → onBus (Assign u a) ts ≡ assignTrace id b → udidBytes u ≡ id
+assign-names-one : (u : Udid) (a : Address) (ts : List Target) (id : List ℕ) (b : ℕ) → Bytes id → length id ≡ 16 → b < 256 → onBus (Assign u a) ts ≡ assigning id b → udidBytes u ≡ id
 unfolding onBus standing same
-assign-only u a ts id b h l g q =
+assign-names-one u a ts id b h l g q =
     let w : onBus (Assign u a) ts ≡ traceOf (Assign u a) [] =
-    answered-quiet (λ (sent : List ℕ). somebody (acknowledges sent) ts) [] (sentPart (Assign u a)) (STOP ∷ []) (subst Quiet (sym q) (quiet-assigning id b h g)) in
-    let r : assignTrace (udidBytes u) (2 * (a .0 % 128)) ≡ assignTrace id b = sym (assign-symbols u a) ∙ sym w ∙ q in
-    sym (identifier-in (udidBytes u) (2 * (a .0 % 128)) (length-udid u)) ∙ ap (λ (x : List ℕ). bytesIn 16 (drop 7 x)) r ∙ identifier-in id b l
+    answered-without-nack (λ (sent : List ℕ). somebody (acknowledges sent) ts) [] (sentPart (Assign u a)) (STOP ∷ []) (subst Quiet (sym q) (quiet-assigning id b h g)) ∙ assign-stop u a in
+    let r : assigning (udidBytes u) (2 * (a .0 % 128)) ≡ assigning id b = sym (assign-row u a) ∙ sym w ∙ q in
+    sym (assigning-identifier (udidBytes u) (2 * (a .0 % 128)) (length-udid u)) ∙ ap (λ (x : List ℕ). bytesIn 16 (drop 7 x)) r ∙ assigning-identifier id b l
 
 -- any other target
 effect-other : (u : Udid) (a : Address) (ts : List Target) (t : Target) → Among t ts → Fits u → Fits (t .udid) → sameUdid (t .udid) u ≡ false
@@ -237,7 +216,7 @@ effect-other u a [] t m f g e = absurd m
 effect-other u a (x ∷ ts) t m f g e =
     effect-none (onBus (Assign u a) (x ∷ ts)) t
     (λ q. fourth (sym (assign-fourth u a x ts) ∙ ap (λ (l : List ℕ). getD l 3 0) q))
-    (λ b h q. named (same-bytes u (t .udid) f g .0 (assign-only u a (x ∷ ts) (udidBytes (t .udid)) b (udid-bytes (t .udid)) (length-udid (t .udid)) h q)))
+    (λ b h q. named (same-bytes u (t .udid) f g .0 (assign-names-one u a (x ∷ ts) (udidBytes (t .udid)) b (udid-bytes (t .udid)) (length-udid (t .udid)) h q)))
   where
     fourth : _≡_ {A = ℕ} 4 1 → ⊥
     fourth q = omega arith
@@ -264,22 +243,22 @@ effect-nothing : (t : Target) → effect [] t ≡ t
 unfolding effect same
 effect-nothing t = refl
 
-map-among : (f g : Target → Target) (ts : List Target) → ((t : Target) → Among t ts → f t ≡ g t) → mapTargets f ts ≡ mapTargets g ts
-map-among f g [] h = refl
-map-among f g (t ∷ ts) h = ap₂ (λ (x : Target) (l : List Target). x ∷ l) (h t (inl refl)) (map-among f g ts (λ x m. h x (inr m)))
+map-cong : (f g : Target → Target) (ts : List Target) → ((t : Target) → Among t ts → f t ≡ g t) → mapTargets f ts ≡ mapTargets g ts
+map-cong f g [] h = refl
+map-cong f g (t ∷ ts) h = ap₂ (λ (x : Target) (l : List Target). x ∷ l) (h t (inl refl)) (map-cong f g ts (λ x m. h x (inr m)))
 
-map-left : (f : Target → Target) (ts : List Target) → ((t : Target) → Among t ts → f t ≡ t) → mapTargets f ts ≡ ts
-map-left f [] h = refl
-map-left f (t ∷ ts) h = ap₂ (λ (x : Target) (l : List Target). x ∷ l) (h t (inl refl)) (map-left f ts (λ x m. h x (inr m)))
+map-identity : (f : Target → Target) (ts : List Target) → ((t : Target) → Among t ts → f t ≡ t) → mapTargets f ts ≡ ts
+map-identity f [] h = refl
+map-identity f (t ∷ ts) h = ap₂ (λ (x : Target) (l : List Target). x ∷ l) (h t (inl refl)) (map-identity f ts (λ x m. h x (inr m)))
 
 -- whatever the command and whoever is on the bus, as long as identifiers are numbers of 128 bits
-pub effect-is : (k : Command) (ts : List Target) → Names k → ((t : Target) → Among t ts → Fits (t .udid)) → mapTargets (effect (onBus k ts)) ts ≡ acted k ts
+pub effect-as-meant : (k : Command) (ts : List Target) → Names k → ((t : Target) → Among t ts → Fits (t .udid)) → mapTargets (effect (onBus k ts)) ts ≡ acted k ts
 unfolding onBus standing
-effect-is Prepare ts n h = map-among (effect (onBus Prepare ts)) prepared ts (effect-prepared ts)
-effect-is (Assign u a) ts n h = map-among (effect (onBus (Assign u a) ts)) (assignedTo u (a .0)) ts (λ t m. effect-assigned u a ts t m n (h t m))
-effect-is GetUdid ts n h = map-left (effect (onBus GetUdid ts)) ts (effect-get ts)
-effect-is Nothing ts n h = map-left (effect []) ts (λ t m. effect-nothing t)
-effect-is Ended ts n h = map-left (effect []) ts (λ t m. effect-nothing t)
-effect-is (NoneFree u) ts n h = map-left (effect []) ts (λ t m. effect-nothing t)
-effect-is Abandoned ts n h = map-left (effect []) ts (λ t m. effect-nothing t)
-effect-is NotOutstanding ts n h = map-left (effect []) ts (λ t m. effect-nothing t)
+effect-as-meant Prepare ts n h = map-cong (effect (onBus Prepare ts)) prepared ts (effect-prepared ts)
+effect-as-meant (Assign u a) ts n h = map-cong (effect (onBus (Assign u a) ts)) (assignedTo u (a .0)) ts (λ t m. effect-assigned u a ts t m n (h t m))
+effect-as-meant GetUdid ts n h = map-identity (effect (onBus GetUdid ts)) ts (effect-get ts)
+effect-as-meant Nothing ts n h = map-identity (effect []) ts (λ t m. effect-nothing t)
+effect-as-meant Ended ts n h = map-identity (effect []) ts (λ t m. effect-nothing t)
+effect-as-meant (NoneFree u) ts n h = map-identity (effect []) ts (λ t m. effect-nothing t)
+effect-as-meant Abandoned ts n h = map-identity (effect []) ts (λ t m. effect-nothing t)
+effect-as-meant NotOutstanding ts n h = map-identity (effect []) ts (λ t m. effect-nothing t)

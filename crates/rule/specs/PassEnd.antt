@@ -1,5 +1,5 @@
 -- How a pass ends that serves as the plain rule says: the controller's state and last command, and the targets.
-use Prim.Native.Nat.{ℕ, zero, suc, _+_}
+use Prim.Native.Nat.{ℕ, suc, _+_}
 use mathlib.Core.List.{List, [], _∷_}
 use lib.ListN.{length, set, replicate}
 use Rattle.pool.specs.Pools.{withAddress}

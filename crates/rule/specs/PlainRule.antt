@@ -1,7 +1,7 @@
 -- THE PLAIN RULE: the targets in ascending order of their identifiers, each served in turn, until one cannot be.
 use Prim.Native.Nat.{ℕ, _/_, _<_}
 use mathlib.Core.Path.{_≡_}
-use mathlib.Core.Bool.{Bool, true, false}
+use mathlib.Core.Bool.{false}
 use mathlib.Core.List.{List, [], _∷_}
 use lib.Dec.{ltb}
 use Rattle.lists.specs.Choice.{pick}

@@ -15,20 +15,22 @@ use Rattle.udid.specs.Udids.{sameUdid}
 use Rattle.udid.specs.UdidLaws.{bytes-back, same-bytes, other-udid}
 use Rattle.arbitration.specs.Among.{Among}
 use Rattle.targets.specs.Admission.{AdmittedTargets}
-use Rattle.targets.specs.ChangeLaws.{Changed, changed-exactly}
-use Rattle.targets.specs.IndexLaws.{in-targets, sized-at}
+use Rattle.targets.specs.Change.{Changed}
+use Rattle.targets.specs.ChangeLaws.{changed-exactly}
+use Rattle.targets.specs.IndexLaws.{target-has-record, sized-at}
 use Rattle.targets.specs.Records.{targetAt, recordCount, targetsOf, recordsWith}
-use Rattle.targets.specs.RecordLaws.{assigned-keeps}
+use Rattle.targets.specs.RecordLaws.{assigned-keeps-udid}
 use Rattle.targets.specs.Target.{Target, prepared, assignedTo}
-use Rattle.rule.specs.Demand3.{given-addresses, given-targets}
+use Rattle.rule.specs.PassEndLaws.{given-free-distinct, given-among-targets}
 use Rattle.rule.specs.PassEnd.{passEnd}
 use Rattle.rule.specs.PlainRule.{Given, ruled, FreeIn}
-use Rattle.rule.specs.Reading.{Any, RecordOf, servedBy, taken, TakenBy, end-targets, unserved, served-target}
+use Rattle.rule.specs.ReadingLaws.{end-targets, unserved-stays, served-takes-address}
+use Rattle.rule.specs.Reading.{Any, RecordOf, servedBy, taken, TakenBy}
 use Rattle.rule.specs.RuleLaws.{each-map}
 
 served-keeps : (gs : List Given) (t : Target) → servedBy gs t .udid ≡ t .udid
 served-keeps [] t = refl
-served-keeps (g ∷ gs) t = served-keeps gs (assignedTo (g .who .udid) (g .address) t) ∙ assigned-keeps (g .who .udid) (g .address) t
+served-keeps (g ∷ gs) t = served-keeps gs (assignedTo (g .who .udid) (g .address) t) ∙ assigned-keeps-udid (g .who .udid) (g .address) t
 
 -- the identifier of a record by its bytes
 record-bytes : (s : List ℕ) (i : ℕ) → Bytes s → i < length s / 18 → take 16 (drop (18 * i) s) ≡ udidBytes (targetAt s i .udid)
@@ -62,18 +64,18 @@ module _ (occupied : Pool) (s : List ℕ) (b : Bytes s) (v : AdmittedTargets (st
 
   -- each who was given an address is a record of the list
   pub given-records : Each (λ (g : Given). (i : ℕ) × (i < length s / 18) × RecordOf s i g) given
-  given-records = each-map given at (given-targets occupied (targetsOf s) v)
+  given-records = each-map given at (given-among-targets occupied (targetsOf s) v)
     where
       at : (g : Given) → Among (g .who) (targetsOf s) → (i : ℕ) × (i < length s / 18) × RecordOf s i g
       at g m =
-          let r = in-targets s (recordCount s) 0 (g .who) m in
+          let r = target-has-record s (recordCount s) 0 (g .who) m in
           let h : r .0 < length s / 18 = omega (arith, r .2) in
           (r .0, h, record-bytes s (r .0) b h ∙ ap (λ (t : Target). udidBytes (t .udid)) (r .3))
 
-  left : (i : ℕ) → i < length s / 18 → (t : Target) → servedBy given (prepared (targetAt s i)) ≡ t
+  last-two-bytes : (i : ℕ) → i < length s / 18 → (t : Target) → servedBy given (prepared (targetAt s i)) ≡ t
       → (getD after (18 * i + 16) 0 ≡ t .addressByte) × (getD after (18 * i + 17) 0 ≡ t .flag)
   unfolding targetAt
-  left i h t e =
+  last-two-bytes i h t e =
       let a : 18 * i + 16 ≡ i * 18 + 16 = omega arith in
       let f : 18 * i + 17 ≡ i * 18 + 17 = omega arith in (
         ap (λ (k : ℕ). getD after k 0) a ∙ ap (λ (x : Target). x .addressByte) (changed .records i h ∙ e),
@@ -84,13 +86,13 @@ module _ (occupied : Pool) (s : List ℕ) (b : Bytes s) (v : AdmittedTargets (st
   pub bound-record : (i : ℕ) → i < length s / 18
       → Each (λ (g : Given). RecordOf s i g → (getD after (18 * i + 16) 0 ≡ 2 * g .address + 1) × (getD after (18 * i + 17) 0 ≡ 1)) given
   bound-record i h =
-      each-three given at (given-addresses occupied (targetsOf s) v .0) (given-targets occupied (targetsOf s) v) (served-target (startingPool occupied) (targetsOf s) v (targetAt s i))
+      each-three given at (given-free-distinct occupied (targetsOf s) v .0) (given-among-targets occupied (targetsOf s) v) (served-takes-address (startingPool occupied) (targetsOf s) v (targetAt s i))
     where
       at : (g : Given) → FreeIn (startingPool occupied) g → Among (g .who) (targetsOf s) → TakenBy given (prepared (targetAt s i)) g → RecordOf s i g
           → (getD after (18 * i + 16) 0 ≡ 2 * g .address + 1) × (getD after (18 * i + 17) 0 ≡ 1)
       at g f m t r =
           let u : targetAt s i .udid ≡ g .who .udid = same-bytes (targetAt s i .udid) (g .who .udid) (sized-at s b i .udid) (v .sized (g .who) m .udid) .0 (sym (record-bytes s i b h) ∙ r) in
-          let l = left i h (taken (prepared (targetAt s i)) (g .address)) (t u) in
+          let l = last-two-bytes i h (taken (prepared (targetAt s i)) (g .address)) (t u) in
           (l .0 ∙ ap (λ (a : ℕ). 2 * a + 1) (mod-eq-of-lt (f .0)), l .1)
 
   -- EVERY OTHER RECORD keeps its address byte, and has flag 0
@@ -99,7 +101,7 @@ module _ (occupied : Pool) (s : List ℕ) (b : Bytes s) (v : AdmittedTargets (st
   unfolding targetAt
   other-record i h n =
       let e : 18 * i + 16 ≡ i * 18 + 16 = omega arith in
-      let l = left i h (prepared (targetAt s i)) (unserved given (prepared (targetAt s i)) (not-any given at n)) in
+      let l = last-two-bytes i h (prepared (targetAt s i)) (unserved-stays given (prepared (targetAt s i)) (not-any given at n)) in
       (l .0 ∙ ap (λ (k : ℕ). getD s k 0) (sym e), l .1)
     where
       at : (g : Given) → (RecordOf s i g → ⊥) → sameUdid (targetAt s i .udid) (g .who .udid) ≡ false

@@ -1,15 +1,13 @@
 -- The plain rule: its choice, what it needs of the targets, and what its bindings are.
-use Prim.Native.Nat.{ℕ, zero, suc, _+_, _*_, _-_, _/_, _%_, _^_, _≤_, _<_}
-use mathlib.Core.Path.{_≡_, refl, sym, ap, ap₂, _∙_, subst}
+use Prim.Native.Nat.{ℕ, suc, _+_, _*_, _-_, _/_, _^_, _≤_, _<_}
+use mathlib.Core.Path.{_≡_, refl, sym, ap, _∙_}
 use mathlib.Core.Bool.{Bool, true, false}
-use mathlib.Core.Logic.{_⊎_, inl, inr}
-use mathlib.Core.List.{List, [], _∷_, _++_}
+use mathlib.Core.Logic.{inl, inr}
+use mathlib.Core.List.{List, [], _∷_}
 use native.Mathlib.Decide.{ℕ-discrete}
 use native.Mathlib.Omega.{arith}
-use lib.Dec.{ltb, eqb}
 use lib.ListN.{length}
-use borrow.Author.Tests.{ne-eqb, ltb-false, le-ltb, eqb-true, eqb-false}
-use Rattle.lists.specs.Choice.{pick}
+use borrow.Author.Tests.{ne-eqb, eqb-false}
 use Rattle.lists.specs.Each.{Each}
 use Rattle.wire.specs.declared.address.Address.{Address}
 use Rattle.pool.specs.Free.{used, lowestFree}
@@ -23,19 +21,18 @@ use Rattle.pool.specs.declared.free.Free.the-variants.{At, AllUsed}
 use Rattle.udid.specs.UdidLaws.{fixed-is}
 use Rattle.udid.specs.Udids.{topBits, isFixed, value}
 use Rattle.arbitration.specs.Among.{Among}
-use Rattle.targets.specs.Target.{Target}
-use Rattle.targets.specs.Members.{Pairs}
-use Rattle.targets.specs.ReplyLaws.{Sized}
+use Rattle.targets.specs.Target.{Target, Sized}
 use Rattle.arp.specs.Controller.{chosen}
-use Rattle.rule.specs.PlainRule.{held, plainChoice, Ending, served, noneFree, Given, next, rule, FreeIn, Distinct}
+use Rattle.rule.specs.PlainRule.{held, plainChoice, served, Given, next, rule, FreeIn, Distinct}
+use Rattle.rule.specs.Ready.{Ready}
 
 -- ---- the choice
 
 -- the controller chooses as the rule does
-pub choice-same : (p : Pool) (t : Target) → member p 127 ≡ true → (isFixed (t .udid) ≡ true → t .addressByte ≡ 255 → ⊥)
+pub controller-chooses-as-rule : (p : Pool) (t : Target) → member p 127 ≡ true → (isFixed (t .udid) ≡ true → t .addressByte ≡ 255 → ⊥)
     → chosen p (t .udid) (t .addressByte) ≡ plainChoice p t
 unfolding chosen plainChoice
-choice-same p t h n = go (ℕ-discrete (t .addressByte) 255) (isFixed (t .udid)) refl
+controller-chooses-as-rule p t h n = go (ℕ-discrete (t .addressByte) 255) (isFixed (t .udid)) refl
   where
     go : Dec (t .addressByte ≡ 255) → (b : Bool) → isFixed (t .udid) ≡ b → chosen p (t .udid) (t .addressByte) ≡ plainChoice p t
     go (yes e) true f = absurd (n f e)
@@ -63,26 +60,14 @@ choice-free p t a z f e = go (isFixed (t .udid)) refl (member p (t .addressByte 
     go false q false h = own (simp (q, h) at e) h
 
 -- a fixed target is given its own
-choice-own : (p : Pool) (t : Target) (a : Address) → isFixed (t .udid) ≡ true → plainChoice p t ≡ At a → a .0 ≡ t .addressByte / 2
+fixed-choice-own : (p : Pool) (t : Target) (a : Address) → isFixed (t .udid) ≡ true → plainChoice p t ≡ At a → a .0 ≡ t .addressByte / 2
 unfolding plainChoice
-choice-own p t a f e = let q : At (held t) ≡ At a = simp f at e in sym (ap (λ (x : Address). x .0) (address-inj (held t) a q))
+fixed-choice-own p t a f e = let q : At (held t) ≡ At a = simp f at e in sym (ap (λ (x : Address). x .0) (address-inj (held t) a q))
 
 -- ---- what the rule needs of the targets that are left
 
--- the first comes before the second, and where both are fixed they stand at different addresses
-pub record Apart (r t : Target) : Type 0 where
-  pub lower : value (r .udid) < value (t .udid)
-  pub elsewhere : isFixed (r .udid) ≡ true → isFixed (t .udid) ≡ true → r .addressByte / 2 ≡ t .addressByte / 2 → ⊥
-
-pub record Ready (p : Pool) (rest : List Target) : Type 0 where
-  pub apart : Pairs Apart rest
-  pub sized : (t : Target) → Among t rest → Sized t
-  pub fixed-free : (t : Target) → Among t rest → isFixed (t .udid) ≡ true → member p (t .addressByte / 2) ≡ false
-  pub fixed-some : (t : Target) → Among t rest → isFixed (t .udid) ≡ true → t .addressByte ≡ 255 → ⊥
-  pub last-used : member p 127 ≡ true
-
-pub ready-free : (p : Pool) (r : Target) (rest : List Target) (a : Address) → Ready p (r ∷ rest) → plainChoice p r ≡ At a → (a .0 < 128) × (member p (a .0) ≡ false)
-ready-free p r rest a v e = choice-free p r a (v .sized r (inl refl) .addressByte) (v .fixed-free r (inl refl)) e
+pub ready-choice-free : (p : Pool) (r : Target) (rest : List Target) (a : Address) → Ready p (r ∷ rest) → plainChoice p r ≡ At a → (a .0 < 128) × (member p (a .0) ≡ false)
+ready-choice-free p r rest a v e = choice-free p r a (v .sized r (inl refl) .addressByte) (v .fixed-free r (inl refl)) e
 
 high-le : (a b c d : ℕ) → d < 2 ^ 64 → a * 2 ^ 64 + b < c * 2 ^ 64 + d → a ≤ c
 high-le a b c d h l = omega arith
@@ -111,11 +96,11 @@ ready-next p r rest a v e = record {
 }
   where
     free : (a .0 < 128) × (member p (a .0) ≡ false)
-    free = ready-free p r rest a v e
+    free = ready-choice-free p r rest a v e
 
     still : (t : Target) → Among t rest → isFixed (t .udid) ≡ true → (b : Bool) → isFixed (r .udid) ≡ b → member (withAddress p (a .0)) (t .addressByte / 2) ≡ false
     still t m f true q =
-        has-with-other p (a .0) (t .addressByte / 2) (λ d. v .apart .0 t m .elsewhere q f (sym (choice-own p r a q e) ∙ sym d)) ∙ v .fixed-free t (inr m) f
+        has-with-other p (a .0) (t .addressByte / 2) (λ d. v .apart .0 t m .elsewhere q f (sym (fixed-choice-own p r a q e) ∙ sym d)) ∙ v .fixed-free t (inr m) f
     still t m f false q =
         absurd (let z : _≡_ {A = ℕ} 0 1 = cc (f, movable-after r t (v .sized r (inl refl)) (v .sized t (inr m)) (v .apart .0 t m .lower) q) in omega arith)
 
@@ -126,33 +111,33 @@ each-map [] f h = tt
 each-map (a ∷ l) f h = (f a (h .0), each-map l f (h .1))
 
 -- who is given an address in the larger pool finds it free in the smaller, and elsewhere than the one just given
-shrink : (p : Pool) (a : ℕ) → a < 128 → (g : Given) → FreeIn (withAddress p a) g → FreeIn p g × (g .address ≡ a → ⊥)
-shrink p a l g f =
+free-before : (p : Pool) (a : ℕ) → a < 128 → (g : Given) → FreeIn (withAddress p a) g → FreeIn p g × (g .address ≡ a → ⊥)
+free-before p a l g f =
     let n : g .address ≡ a → ⊥ = λ q. absurd (let z : _≡_ {A = ℕ} 0 1 = cc (f .1, ap (member (withAddress p a)) q, has-with-same p a l) in omega arith) in
     ((f .0, sym (has-with-other p a (g .address) n) ∙ f .1), n)
 
 -- every address given is an assignable one that is free, and none is given twice
-pub rule-free : (rest : List Target) (p : Pool) → Ready p rest → Each (FreeIn p) (rule rest p .given) × Distinct (rule rest p .given)
-rule-free [] p v = (tt, tt)
-rule-free (t ∷ rest) p v = go (plainChoice p t) refl (λ a e. rule-free rest (withAddress p (a .0)) (ready-next p t rest a v e))
+pub rule-gives-free : (rest : List Target) (p : Pool) → Ready p rest → Each (FreeIn p) (rule rest p .given) × Distinct (rule rest p .given)
+rule-gives-free [] p v = (tt, tt)
+rule-gives-free (t ∷ rest) p v = go (plainChoice p t) refl (λ a e. rule-gives-free rest (withAddress p (a .0)) (ready-next p t rest a v e))
   where
     go : (c : Free) → plainChoice p t ≡ c
         → ((a : Address) → plainChoice p t ≡ At a → Each (FreeIn (withAddress p (a .0))) (rule rest (withAddress p (a .0)) .given) × Distinct (rule rest (withAddress p (a .0)) .given))
         → Each (FreeIn p) (next (λ q. rule rest q) t p c .given) × Distinct (next (λ q. rule rest q) t p c .given)
     go AllUsed e ih = (tt, tt)
     go (At a) e ih =
-        let f = ready-free p t rest a v e in
+        let f = ready-choice-free p t rest a v e in
         let r = ih a e in (
-          (f, each-map (rule rest (withAddress p (a .0)) .given) (λ g x. shrink p (a .0) (f .0) g x .0) (r .0)),
-          (each-map (rule rest (withAddress p (a .0)) .given) (λ g x. shrink p (a .0) (f .0) g x .1) (r .0), r .1),
+          (f, each-map (rule rest (withAddress p (a .0)) .given) (λ g x. free-before p (a .0) (f .0) g x .0) (r .0)),
+          (each-map (rule rest (withAddress p (a .0)) .given) (λ g x. free-before p (a .0) (f .0) g x .1) (r .0), r .1),
         )
 
 -- ---- when all are served
 
 -- the choice is empty-handed only where all addresses are used
-choice-room : (p : Pool) (t : Target) → used p < 128 → plainChoice p t ≡ AllUsed → ⊥
+choice-finds-room : (p : Pool) (t : Target) → used p < 128 → plainChoice p t ≡ AllUsed → ⊥
 unfolding plainChoice
-choice-room p t h e = go (isFixed (t .udid)) refl (member p (t .addressByte / 2)) refl
+choice-finds-room p t h e = go (isFixed (t .udid)) refl (member p (t .addressByte / 2)) refl
   where
     never-at : (a : Address) → At a ≡ AllUsed → ⊥
     never-at a q = let z : _≡_ {A = ℕ} 0 1 = cc q in omega arith
@@ -165,37 +150,37 @@ choice-room p t h e = go (isFixed (t .udid)) refl (member p (t .addressByte / 2)
         omega (arith, full-count p .0 x)
 
 -- ALL ARE SERVED if and only if the targets do not outnumber the free addresses
-pub rule-all : (rest : List Target) (p : Pool) → Ready p rest → used p + length rest ≤ 128
+pub room-serves-all : (rest : List Target) (p : Pool) → Ready p rest → used p + length rest ≤ 128
     → (rule rest p .ending ≡ served) × (length (rule rest p .given) ≡ length rest)
-rule-all [] p v h = (refl, refl)
-rule-all (t ∷ rest) p v h = go (plainChoice p t) refl (λ a e l. rule-all rest (withAddress p (a .0)) (ready-next p t rest a v e) l)
+room-serves-all [] p v h = (refl, refl)
+room-serves-all (t ∷ rest) p v h = go (plainChoice p t) refl (λ a e l. room-serves-all rest (withAddress p (a .0)) (ready-next p t rest a v e) l)
   where
     go : (c : Free) → plainChoice p t ≡ c
         → ((a : Address) → plainChoice p t ≡ At a → used (withAddress p (a .0)) + length rest ≤ 128
         → (rule rest (withAddress p (a .0)) .ending ≡ served) × (length (rule rest (withAddress p (a .0)) .given) ≡ length rest))
         → (next (λ q. rule rest q) t p c .ending ≡ served) × (length (next (λ q. rule rest q) t p c .given) ≡ suc (length rest))
-    go AllUsed e ih = absurd (choice-room p t (omega arith) e)
+    go AllUsed e ih = absurd (choice-finds-room p t (omega arith) e)
     go (At a) e ih =
-        let f = ready-free p t rest a v e in
+        let f = ready-choice-free p t rest a v e in
         let r = ih a e (omega (arith, used-with-new p (a .0) (f .0) (f .1))) in
         (r .0, ap suc (r .1))
 
-pub rule-all-only : (rest : List Target) (p : Pool) → Ready p rest → rule rest p .ending ≡ served → used p + length rest ≤ 128
-rule-all-only [] p v h = omega (arith, used-le p)
-rule-all-only (t ∷ rest) p v h = go (plainChoice p t) refl h (λ a e l. rule-all-only rest (withAddress p (a .0)) (ready-next p t rest a v e) l)
+pub served-has-room : (rest : List Target) (p : Pool) → Ready p rest → rule rest p .ending ≡ served → used p + length rest ≤ 128
+served-has-room [] p v h = omega (arith, used-le p)
+served-has-room (t ∷ rest) p v h = go (plainChoice p t) refl h (λ a e l. served-has-room rest (withAddress p (a .0)) (ready-next p t rest a v e) l)
   where
     go : (c : Free) → plainChoice p t ≡ c → next (λ q. rule rest q) t p c .ending ≡ served
         → ((a : Address) → plainChoice p t ≡ At a → rule rest (withAddress p (a .0)) .ending ≡ served → used (withAddress p (a .0)) + length rest ≤ 128)
         → used p + suc (length rest) ≤ 128
     go AllUsed e k ih = absurd (let z : _≡_ {A = ℕ} 0 1 = cc k in omega arith)
     go (At a) e k ih =
-        let f = ready-free p t rest a v e in
+        let f = ready-choice-free p t rest a v e in
         omega (arith, used-with-new p (a .0) (f .0) (f .1), ih a e k)
 
 -- who serves all has not ended early
-pub given-all : (rest : List Target) (p : Pool) → length (rule rest p .given) ≡ length rest → rule rest p .ending ≡ served
-given-all [] p e = refl
-given-all (t ∷ rest) p e = go (plainChoice p t) e (λ a k. given-all rest (withAddress p (a .0)) k)
+pub all-given-served : (rest : List Target) (p : Pool) → length (rule rest p .given) ≡ length rest → rule rest p .ending ≡ served
+all-given-served [] p e = refl
+all-given-served (t ∷ rest) p e = go (plainChoice p t) e (λ a k. all-given-served rest (withAddress p (a .0)) k)
   where
     go : (c : Free) → length (next (λ q. rule rest q) t p c .given) ≡ suc (length rest)
         → ((a : Address) → length (rule rest (withAddress p (a .0)) .given) ≡ length rest → rule rest (withAddress p (a .0)) .ending ≡ served)
@@ -205,16 +190,16 @@ given-all (t ∷ rest) p e = go (plainChoice p t) e (λ a k. given-all rest (wit
 
 -- ---- whom it serves
 
-later : (t : Target) (rest : List Target) (gs : List Given) → Each (λ (g : Given). Among (g .who) rest) gs → Each (λ (g : Given). Among (g .who) (t ∷ rest)) gs
-later t rest [] h = tt
-later t rest (g ∷ gs) h = (inr (h .0), later t rest gs (h .1))
+among-later : (t : Target) (rest : List Target) (gs : List Given) → Each (λ (g : Given). Among (g .who) rest) gs → Each (λ (g : Given). Among (g .who) (t ∷ rest)) gs
+among-later t rest [] h = tt
+among-later t rest (g ∷ gs) h = (inr (h .0), among-later t rest gs (h .1))
 
 -- those served are among the targets to serve
-pub rule-who : (rest : List Target) (p : Pool) → Each (λ (g : Given). Among (g .who) rest) (rule rest p .given)
-rule-who [] p = tt
-rule-who (t ∷ rest) p = go (plainChoice p t) (λ a. rule-who rest (withAddress p (a .0)))
+pub rule-serves-these : (rest : List Target) (p : Pool) → Each (λ (g : Given). Among (g .who) rest) (rule rest p .given)
+rule-serves-these [] p = tt
+rule-serves-these (t ∷ rest) p = go (plainChoice p t) (λ a. rule-serves-these rest (withAddress p (a .0)))
   where
     go : (c : Free) → ((a : Address) → Each (λ (g : Given). Among (g .who) rest) (rule rest (withAddress p (a .0)) .given))
         → Each (λ (g : Given). Among (g .who) (t ∷ rest)) (next (λ q. rule rest q) t p c .given)
     go AllUsed ih = tt
-    go (At a) ih = (inl refl, later t rest (rule rest (withAddress p (a .0)) .given) (ih a))
+    go (At a) ih = (inl refl, among-later t rest (rule rest (withAddress p (a .0)) .given) (ih a))

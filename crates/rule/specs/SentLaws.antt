@@ -3,11 +3,10 @@ use Prim.Native.Nat.{ℕ, zero, suc, _+_, _<_}
 use mathlib.Core.Path.{_≡_, refl, sym, ap, ap₂, _∙_, subst}
 use mathlib.Core.List.{List, [], _∷_}
 use native.Mathlib.Omega.{arith}
-use lib.ListN.{length, replicate}
+use lib.ListN.{length, drop, replicate}
 use Rattle.pool.specs.Start.{startingPool}
 use Rattle.pool.specs.declared.Pool.{Pool}
 use Rattle.targets.specs.Admission.{AdmittedTargets}
-use Rattle.targets.specs.RecordLaws.{length-map}
 use Rattle.targets.specs.Target.{Target}
 use Rattle.arp.specs.Handing.{Handed}
 use Rattle.arp.specs.HandingLaws.{prepare-handed, get-handed, assign-handed}
@@ -17,26 +16,26 @@ use Rattle.arp.specs.History.{oneGet}
 use Rattle.arp.specs.declared.command.Command.{Command}
 use Rattle.arp.specs.declared.command.Command.the-variants.{Nothing, Prepare, GetUdid, Assign, Ended, NoneFree, Abandoned, NotOutstanding}
 use Rattle.arp.specs.declared.state.Controller.{Controller}
-use Rattle.rule.specs.Acknowledge.{begins, acknowledges, somebody, answered, standing, onBus}
-use Rattle.rule.specs.Bus.{World, turnBy, turn, run, beginning, pass}
-use Rattle.rule.specs.Demand3.{demand-3, nobody-first}
-use Rattle.rule.specs.Effect.{effect}
+use Rattle.rule.specs.Acknowledge.{begins, acknowledges, somebody, answered, standing, sentPart, onBus}
+use Rattle.rule.specs.Bus.{World, took, turn, run, beginning, pass}
+use Rattle.rule.specs.BusLaws.{turn-still, turn-takes, took-length}
+use Rattle.rule.specs.PassEndLaws.{demand-3, nobody-ends-first-turn}
 use Rattle.rule.specs.PassEnd.{lastCommand, nobodyThere, passEnd}
 use Rattle.rule.specs.PlainRule.{Ending, served, noneFree, ruled}
 use Rattle.rule.specs.TraceLaws as on-bus
 use Rattle.rule.specs.Sent.{stands, traces, oneIn, getsAmong, getsOnBus}
 
 -- on a bus with a target, a command is a Get UDID by its symbols if and only if it was handed out as one
-pub one-on-bus : (k : Command) (t : Target) (ts : List Target) → oneIn (onBus k (t ∷ ts)) ≡ oneGet k
+pub get-by-symbols : (k : Command) (t : Target) (ts : List Target) → oneIn (onBus k (t ∷ ts)) ≡ oneGet k
 unfolding onBus standing answered somebody acknowledges begins
-one-on-bus Prepare t ts = refl
-one-on-bus GetUdid t ts = refl
-one-on-bus (Assign u a) t ts = refl
-one-on-bus Nothing t ts = refl
-one-on-bus Ended t ts = refl
-one-on-bus (NoneFree u) t ts = refl
-one-on-bus Abandoned t ts = refl
-one-on-bus NotOutstanding t ts = refl
+get-by-symbols Prepare t ts = refl
+get-by-symbols GetUdid t ts = refl
+get-by-symbols (Assign u a) t ts = refl
+get-by-symbols Nothing t ts = refl
+get-by-symbols Ended t ts = refl
+get-by-symbols (NoneFree u) t ts = refl
+get-by-symbols Abandoned t ts = refl
+get-by-symbols NotOutstanding t ts = refl
 
 -- ---- one turn
 
@@ -48,40 +47,34 @@ turn-handed w e = go (w .now .command) e
     c : Controller
     c = w .now .state
 
-    heard : (k : Command) → c .last ≡ k → Handed c (byCommand c (onBus k (w .targets)) k) → Handed c (stepped c (onBus k (w .targets)))
-    heard k q h = subst (λ (x : Command). Handed c (byCommand c (onBus k (w .targets)) x)) (sym q) h
+    sent : (k : Command) → sentPart k ≡ 256 ∷ drop 1 (sentPart k) → c .last ≡ k → Handed c (byCommand c (onBus k (w .targets)) k)
+        → Handed c (took (w .now) (w .targets) (onBus k (w .targets)) .now)
+    sent k p q h =
+        subst (λ (x : World). Handed c (x .now)) (sym (turn-takes (w .now) (w .targets) k p))
+        (subst (λ (x : Command). Handed c (byCommand c (onBus k (w .targets)) x)) (sym q) h)
 
-    still : (k : Command) → c .last ≡ k → oneGet k ≡ 0 → Handed c (w .now)
-    still k q n = record { last = e; gets = omega (arith, ap oneGet (sym e ∙ q), n) }
+    not-sent : (k : Command) → sentPart k ≡ [] → c .last ≡ k → oneGet k ≡ 0 → Handed c (took (w .now) (w .targets) (onBus k (w .targets)) .now)
+    not-sent k p q n =
+        subst (λ (x : World). Handed c (x .now)) (sym (turn-still (w .now) (w .targets) k p)) (record { last = e; gets = omega (arith, ap oneGet (sym e ∙ q), n) })
 
-    go : (k : Command) → c .last ≡ k → Handed c (turnBy (w .now) (w .targets) k .now)
-    go Prepare q = heard Prepare q (prepare-handed c (answer sendByte (onBus Prepare (w .targets))) (sentIn sendByte (onBus Prepare (w .targets))))
-    go GetUdid q = heard GetUdid q (get-handed c (answer blockRead (onBus GetUdid (w .targets))) (receivedIn blockRead (onBus GetUdid (w .targets))))
+    go : (k : Command) → c .last ≡ k → Handed c (took (w .now) (w .targets) (onBus k (w .targets)) .now)
+    go Prepare q = sent Prepare refl q (prepare-handed c (answer sendByte (onBus Prepare (w .targets))) (sentIn sendByte (onBus Prepare (w .targets))))
+    go GetUdid q = sent GetUdid refl q (get-handed c (answer blockRead (onBus GetUdid (w .targets))) (receivedIn blockRead (onBus GetUdid (w .targets))))
     go (Assign u a) q =
-        heard (Assign u a) q (assign-handed c u (a .0) (answer blockWrite (onBus (Assign u a) (w .targets))) (sentIn blockWrite (onBus (Assign u a) (w .targets))))
-    go Nothing q = still Nothing q refl
-    go Ended q = still Ended q refl
-    go (NoneFree u) q = still (NoneFree u) q refl
-    go Abandoned q = still Abandoned q refl
-    go NotOutstanding q = still NotOutstanding q refl
+        sent (Assign u a) refl q (assign-handed c u (a .0) (answer blockWrite (onBus (Assign u a) (w .targets))) (sentIn blockWrite (onBus (Assign u a) (w .targets))))
+    go Nothing q = not-sent Nothing refl q refl
+    go Ended q = not-sent Ended refl q refl
+    go (NoneFree u) q = not-sent (NoneFree u) refl q refl
+    go Abandoned q = not-sent Abandoned refl q refl
+    go NotOutstanding q = not-sent NotOutstanding refl q refl
 
 -- nobody leaves the bus
 turn-present : (w : World) → length (turn w .targets) ≡ length (w .targets)
-turn-present w = go (w .now .command)
-  where
-    go : (k : Command) → length (turnBy (w .now) (w .targets) k .targets) ≡ length (w .targets)
-    go Prepare = length-map (effect (onBus Prepare (w .targets))) (w .targets)
-    go GetUdid = length-map (effect (onBus GetUdid (w .targets))) (w .targets)
-    go (Assign u a) = length-map (effect (onBus (Assign u a) (w .targets))) (w .targets)
-    go Nothing = refl
-    go Ended = refl
-    go (NoneFree u) = refl
-    go Abandoned = refl
-    go NotOutstanding = refl
+turn-present w = took-length (w .now) (w .targets) (onBus (w .now .command) (w .targets))
 
-stands-one : (k : Command) (ts : List Target) → 0 < length ts → oneIn (onBus k ts) ≡ oneGet k
-stands-one k [] h = absurd (omega arith)
-stands-one k (t ∷ ts) h = one-on-bus k t ts
+stands-get : (k : Command) (ts : List Target) → 0 < length ts → oneIn (onBus k ts) ≡ oneGet k
+stands-get k [] h = absurd (omega arith)
+stands-get k (t ∷ ts) h = get-by-symbols k t ts
 
 -- ---- several turns
 
@@ -92,7 +85,7 @@ gets-counted zero w e h = omega arith
 gets-counted (suc n) w e h =
     let t = turn-handed w e in
     let r = gets-counted n (turn w) (t .last) (omega (arith, turn-present w, h)) in
-    omega (arith, stands-one (w .now .command) (w .targets) h, t .gets, r)
+    omega (arith, stands-get (w .now .command) (w .targets) h, t .gets, r)
 
 -- from a start to an end: those counted are those that stood on the bus
 gets-whole : (n : ℕ) (w : World) → w .now .state .last ≡ w .now .command → 0 < length (w .targets) → oneGet (w .now .command) ≡ 0 → w .now .state .gets ≡ 0
@@ -131,14 +124,16 @@ end-counts : (e : Ending) → oneGet (lastCommand e) ≡ 0
 end-counts served = refl
 end-counts (noneFree u) = refl
 
-still : (n : ℕ) (b : Pool) → traces n (nobodyThere b) ≡ replicate n []
-still zero b = refl
-still (suc n) b = ap₂ (λ (x : List ℕ) (l : List (List ℕ)). x ∷ l) (end-silent served []) (still n b)
+nobody-there-silent : (n : ℕ) (b : Pool) → traces n (nobodyThere b) ≡ replicate n []
+nobody-there-silent zero b = refl
+nobody-there-silent (suc n) b =
+    ap₂ (λ (x : List ℕ) (l : List (List ℕ)). x ∷ l) (end-silent served [])
+    (ap (traces n) (turn-still (nobodyThere b .now) [] Ended refl) ∙ nobody-there-silent n b)
 
 module _ (occupied : Pool) where
   -- WITH NO TARGET: Prepare To ARP, whose first byte gets NACK, and nothing after it
-  pub nobody-there : (n : ℕ) → traces (suc n) (beginning occupied []) ≡ (256 ∷ 194 ∷ 259 ∷ 257 ∷ []) ∷ replicate n []
-  nobody-there n = ap₂ (λ (x : List ℕ) (l : List (List ℕ)). x ∷ l) on-bus.prepare-cut (ap (traces n) (nobody-first occupied) ∙ still n (startingPool occupied))
+  pub nobody-there-traces : (n : ℕ) → traces (suc n) (beginning occupied []) ≡ (256 ∷ 194 ∷ 259 ∷ 257 ∷ []) ∷ replicate n []
+  nobody-there-traces n = ap₂ (λ (x : List ℕ) (l : List (List ℕ)). x ∷ l) on-bus.prepare-cut (ap (traces n) (nobody-ends-first-turn occupied) ∙ nobody-there-silent n (startingPool occupied))
 
   -- AFTER THE PASS THE BUS IS SILENT: no Get UDID follows those that are counted
   pub silent-after : (ts : List Target) → AdmittedTargets (startingPool occupied) ts → stands (pass occupied ts) ≡ []
@@ -157,9 +152,9 @@ module _ (occupied : Pool) where
       (ap (λ (w : World). oneGet (w .now .command)) (demand-3 occupied (t ∷ ts) v) ∙ end-counts (ruled (startingPool occupied) (t ∷ ts) .ending))
 
   -- ONE MORE THAN TARGETS ARE BOUND, where there is a target; with none, no Get UDID
-  pub gets-are : (t : Target) (ts : List Target) → AdmittedTargets (startingPool occupied) (t ∷ ts) → getsOnBus occupied (t ∷ ts) ≡ suc (length (ruled (startingPool occupied) (t ∷ ts) .given))
-  gets-are t ts v = sym (counted-on-bus (t ∷ ts) v) ∙ ap (λ (w : World). w .now .state .gets) (demand-3 occupied (t ∷ ts) v) ∙ omega arith
+  pub gets-one-more-than-bound : (t : Target) (ts : List Target) → AdmittedTargets (startingPool occupied) (t ∷ ts) → getsOnBus occupied (t ∷ ts) ≡ suc (length (ruled (startingPool occupied) (t ∷ ts) .given))
+  gets-one-more-than-bound t ts v = sym (counted-on-bus (t ∷ ts) v) ∙ ap (λ (w : World). w .now .state .gets) (demand-3 occupied (t ∷ ts) v) ∙ omega arith
 
-  pub gets-without : getsOnBus occupied [] ≡ 0
+  pub no-gets-without-target : getsOnBus occupied [] ≡ 0
   unfolding getsOnBus
-  gets-without = gets-none 300 (beginning occupied []) refl
+  no-gets-without-target = gets-none 300 (beginning occupied []) refl

@@ -1,32 +1,28 @@
 -- The controller's steps on the traces of the bus: the only place that cites what the decoder makes of them.
-use Prim.Native.Nat.{ℕ, zero, suc, _+_, _*_, _%_, _≤_, _<_}
-use mathlib.Core.Path.{_≡_, refl, sym, ap, ap₂, _∙_}
-use mathlib.Core.Bool.{Bool, true, false}
-use mathlib.Core.List.{List, [], _∷_, _++_}
+use Prim.Native.Nat.{ℕ, zero, suc, _+_, _<_}
+use mathlib.Core.Path.{_≡_, refl, ap, ap₂, _∙_}
+use mathlib.Core.Bool.{true}
+use mathlib.Core.List.{List, [], _∷_}
 use native.Mathlib.Omega.{arith}
-use lib.Dec.{leb, ltb}
-use lib.ListN.{length, getD, set}
+use lib.ListN.{getD, set}
 use lib.Seq.{getD-at}
 use borrow.Author.Tests.{lt-leb, le-ltb}
-use Rattle.lists.specs.Choice.{pick}
 use Rattle.wire.specs.Symbols.{START, STOP, ACK, NACK}
 use Rattle.wire.specs.declared.address.Address.{Address}
 use Rattle.trace.specs.Shapes.{shapeOf}
 use Rattle.step.specs.Answers.{CutAt}
 use Rattle.pool.specs.Pools.{member, withAddress}
 use Rattle.pool.specs.declared.Pool.{Pool}
-use Rattle.pool.specs.declared.free.Free.{Free}
 use Rattle.udid.specs.Bytes.{udidBytes, udidAt}
 use Rattle.udid.specs.UdidLaws.{length-udid, udid-back}
 use Rattle.udid.specs.Udids.{Fits}
 use Rattle.udid.specs.declared.Udid.{Udid}
-use Rattle.targets.specs.Target.{Target}
+use Rattle.targets.specs.Target.{Target, Sized}
 use Rattle.targets.specs.Reply.{replyData}
-use Rattle.targets.specs.ReplyLaws.{Sized, length-data, bytes-data}
-use Rattle.arp.specs.RequestLaws.{valid-prepare, valid-get}
-use Rattle.arp.specs.Bindings.{openSlot, heldAt, boundTo, findFrom, freed, slotFor, bound}
+use Rattle.targets.specs.ReplyLaws.{length-reply-data, bytes-reply-data}
+use Rattle.arp.specs.Bindings.{findFrom, freed, slotFor, bound}
 use Rattle.arp.specs.Controller.{handed, asked, chosen, issued, replied, afterPrepare, afterGet, byCommand, stepped}
-use Rattle.arp.specs.Heard.{sendByte, blockRead, blockWrite}
+use Rattle.arp.specs.Heard.{sendByte, blockRead}
 use Rattle.arp.specs.Requests.{messageOf, traceOf}
 use Rattle.arp.specs.TraceLaws.{prepare-accepted, prepare-nobody, get-reply, get-nobody, assign-whole}
 use Rattle.arp.specs.declared.command.Command.{Command}
@@ -34,13 +30,14 @@ use Rattle.arp.specs.declared.command.Command.the-variants.{Prepare, GetUdid, A
 use Rattle.arp.specs.declared.state.Controller.{Controller}
 use Rattle.arp.specs.declared.state.Slot.{Slot}
 use Rattle.rule.specs.PassEnd.{state, out}
+use Rattle.rule.specs.Serving.{Unbound}
 
 -- ---- Prepare To ARP
 
 -- accepted: the first Get UDID
-pub prepare-done : (b p : Pool) (s : List Slot) → stepped (state b p s 0 Prepare) (traceOf Prepare []) ≡ out b p s 1 GetUdid
+pub prepare-asks-first : (b p : Pool) (s : List Slot) → stepped (state b p s 0 Prepare) (traceOf Prepare []) ≡ out b p s 1 GetUdid
 unfolding stepped asked
-prepare-done b p s = prepare-accepted (state b p s 0 Prepare) (traceOf Prepare []) refl
+prepare-asks-first b p s = prepare-accepted (state b p s 0 Prepare) (traceOf Prepare []) refl
 
 -- S C2 N P: byte 0 was not acknowledged
 cut-prepare : CutAt (shapeOf sendByte) true (START ∷ 0xC2 ∷ NACK ∷ STOP ∷ []) 0
@@ -60,9 +57,9 @@ cut-prepare = record {
 pub prepare-unheard : (c : Controller) → afterPrepare c (START ∷ 0xC2 ∷ NACK ∷ STOP ∷ []) ≡ handed c Ended
 prepare-unheard c = prepare-nobody c (START ∷ 0xC2 ∷ NACK ∷ STOP ∷ []) 0 cut-prepare
 
-pub prepare-silent : (b p : Pool) (s : List Slot) → stepped (state b p s 0 Prepare) (START ∷ 0xC2 ∷ NACK ∷ STOP ∷ []) ≡ out b p s 0 Ended
+pub prepare-silence-ends : (b p : Pool) (s : List Slot) → stepped (state b p s 0 Prepare) (START ∷ 0xC2 ∷ NACK ∷ STOP ∷ []) ≡ out b p s 0 Ended
 unfolding stepped
-prepare-silent b p s = prepare-unheard (state b p s 0 Prepare)
+prepare-silence-ends b p s = prepare-unheard (state b p s 0 Prepare)
 
 -- ---- Get UDID
 
@@ -83,10 +80,10 @@ cut-get = record {
 pub get-unheard : (c : Controller) → afterGet c (START ∷ 0xC2 ∷ ACK ∷ 0x03 ∷ ACK ∷ START ∷ 0xC3 ∷ NACK ∷ STOP ∷ []) ≡ handed c Ended
 get-unheard c = get-nobody c (START ∷ 0xC2 ∷ ACK ∷ 0x03 ∷ ACK ∷ START ∷ 0xC3 ∷ NACK ∷ STOP ∷ []) 2 cut-get (omega arith)
 
-pub get-silent : (b p : Pool) (s : List Slot) (n : ℕ)
+pub get-silence-ends : (b p : Pool) (s : List Slot) (n : ℕ)
     → stepped (state b p s n GetUdid) (START ∷ 0xC2 ∷ ACK ∷ 0x03 ∷ ACK ∷ START ∷ 0xC3 ∷ NACK ∷ STOP ∷ []) ≡ out b p s n Ended
 unfolding stepped
-get-silent b p s n = get-unheard (state b p s n GetUdid)
+get-silence-ends b p s n = get-unheard (state b p s n GetUdid)
 
 -- a reply is read as its target's identifier and address byte
 pub get-replied : (c : Controller) (t : Target) → c .last ≡ GetUdid → Sized t → stepped c (traceOf GetUdid (replyData t)) ≡ replied c (t .udid) (t .addressByte)
@@ -95,21 +92,17 @@ get-replied c t e z =
     let i : udidAt (replyData t) 0 ≡ t .udid = udid-back [] (t .addressByte ∷ []) 0 (t .udid) (z .udid) refl in
     let a : getD (replyData t) 16 0 ≡ t .addressByte = getD-at (udidBytes (t .udid)) (t .addressByte) [] 0 16 (length-udid (t .udid)) in
     ap (byCommand c (traceOf GetUdid (replyData t))) e
-    ∙ get-reply c (traceOf GetUdid (replyData t)) (replyData t) (bytes-data t (z .addressByte)) (omega (arith, length-data t)) refl (length-data t)
+    ∙ get-reply c (traceOf GetUdid (replyData t)) (replyData t) (bytes-reply-data t (z .addressByte)) (omega (arith, length-reply-data t)) refl (length-reply-data t)
     ∙ ap₂ (replied c) i a
 
--- nobody is bound under this identifier
-abbrev pub Unbound : Udid → List Slot → Type 0
-Unbound u s = (i : ℕ) → boundTo u (heldAt s i) ≡ false
-
-not-found : (u : Udid) (s : List Slot) → Unbound u s → (n a : ℕ) → findFrom u s n a ≡ 128
+unbound-not-found : (u : Udid) (s : List Slot) → Unbound u s → (n a : ℕ) → findFrom u s n a ≡ 128
 unfolding findFrom
-not-found u s h zero a = refl
-not-found u s h (suc n) a = rw (h a) (not-found u s h n (suc a))
+unbound-not-found u s h zero a = refl
+unbound-not-found u s h (suc n) a = rw (h a) (unbound-not-found u s h n (suc a))
 
-nothing-freed : (b p : Pool) (s : List Slot) (n : ℕ) (k : Command) (u : Udid) → Unbound u s → freed (state b p s n k) u ≡ state b p s n k
+unbound-frees-nothing : (b p : Pool) (s : List Slot) (n : ℕ) (k : Command) (u : Udid) → Unbound u s → freed (state b p s n k) u ≡ state b p s n k
 unfolding freed
-nothing-freed b p s n k u h = rw (not-found u s h 128 0)
+unbound-frees-nothing b p s n k u h = rw (unbound-not-found u s h 128 0)
 
 -- who is not bound yet is issued the address chosen
 pub get-issued : (b p : Pool) (s : List Slot) (n : ℕ) (t : Target) → Sized t → Unbound (t .udid) s
@@ -117,7 +110,7 @@ pub get-issued : (b p : Pool) (s : List Slot) (n : ℕ) (t : Target) → Sized t
 unfolding replied
 get-issued b p s n t z h =
     get-replied (state b p s n GetUdid) t refl z
-    ∙ ap (λ (c : Controller). issued c (t .udid) (chosen (c .pool) (t .udid) (t .addressByte))) (nothing-freed b p s n GetUdid (t .udid) h)
+    ∙ ap (λ (c : Controller). issued c (t .udid) (chosen (c .pool) (t .udid) (t .addressByte))) (unbound-frees-nothing b p s n GetUdid (t .udid) h)
 
 -- ---- Assign Address
 

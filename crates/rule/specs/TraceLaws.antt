@@ -9,9 +9,8 @@ use native.Mathlib.Omega.{arith}
 use lib.ListN.{length, getD, length-append}
 use lib.Seq.{getD-at}
 use borrow.Author.Tests.{eq-eqb, ne-eqb}
-use Rattle.lists.specs.Choice.{pick, or, and}
-use Rattle.lists.specs.EachLaws.{append-bytes}
-use Rattle.lists.specs.Each.{Bytes}
+use Rattle.lists.specs.Choice.{pick, or}
+use Rattle.lists.specs.Each.{Bytes, append-bytes}
 use Rattle.wire.specs.Pec.{bitStep, pecStep, pecFrom, pecOf}
 use Rattle.wire.specs.PecLaws.{pec-byte}
 use Rattle.wire.specs.Symbols.{START, STOP, ACK, NACK}
@@ -22,35 +21,36 @@ use Rattle.udid.specs.UdidLaws.{length-udid, udid-bytes}
 use Rattle.udid.specs.declared.Udid.{Udid}
 use Rattle.wire.specs.declared.address.Address.{Address}
 use Rattle.targets.specs.Target.{Target, isResolved}
-use Rattle.targets.specs.Reply.{replyData, replyBytes, waiting, OnWire, silence, shown, onWire}
-use Rattle.targets.specs.ReplyLaws.{Least, least-on-wire}
+use Rattle.targets.specs.Reply.{replyData, OnWire}
+use Rattle.targets.specs.Members.{Least}
+use Rattle.targets.specs.ReplyLaws.{least-on-wire}
 use Rattle.targets.specs.TraceLaws.{reply-trace}
 use Rattle.arp.specs.Requests.{traceOf}
-use Rattle.arp.specs.declared.command.Command.{Command}
 use Rattle.arp.specs.declared.command.Command.the-variants.{Prepare, GetUdid, Assign}
 use Rattle.rule.specs.Acknowledge.{begins, assigningBytes, acknowledges, somebody, answered, received, asking, standing, sentPart, onBus}
+use Rattle.rule.specs.AcknowledgeLaws.{assign-by-target, assign-stop}
 use Rattle.rule.specs.Effect.{same}
 
 -- ---- who acknowledges
 
 -- one who does is enough
-pub somebody-is : (f : Target → Bool) (ts : List Target) (t : Target) → Among t ts → f t ≡ true → somebody f ts ≡ true
+pub one-acknowledges : (f : Target → Bool) (ts : List Target) (t : Target) → Among t ts → f t ≡ true → somebody f ts ≡ true
 unfolding somebody
-somebody-is f (x ∷ ts) t (inl m) e =
+one-acknowledges f (x ∷ ts) t (inl m) e =
     let g : f x ≡ true = ap f m ∙ e in
     rw g
-somebody-is f (x ∷ ts) t (inr m) e = go (f x) (somebody-is f ts t m e)
+one-acknowledges f (x ∷ ts) t (inr m) e = go (f x) (one-acknowledges f ts t m e)
   where
     go : (b : Bool) → somebody f ts ≡ true → or b (somebody f ts) ≡ true
     go true h = refl
     go false h = h
 
-pub nobody-is : (f : Target → Bool) (ts : List Target) → ((t : Target) → Among t ts → f t ≡ false) → somebody f ts ≡ false
+pub none-acknowledges : (f : Target → Bool) (ts : List Target) → ((t : Target) → Among t ts → f t ≡ false) → somebody f ts ≡ false
 unfolding somebody
-nobody-is f [] h = refl
-nobody-is f (t ∷ ts) h =
+none-acknowledges f [] h = refl
+none-acknowledges f (t ∷ ts) h =
     let g : f t ≡ false = h t (inl refl) in
-    rw g (nobody-is f ts (λ x m. h x (inr m)))
+    rw g (none-acknowledges f ts (λ x m. h x (inr m)))
 
 -- ---- Prepare To ARP
 
@@ -69,11 +69,11 @@ module _ (ts : List Target) (t : Target) (m : Among t ts) where
   -- whoever is there acknowledges the address and the command
   get-first : somebody (acknowledges (256 ∷ 194 ∷ [])) ts ≡ true
   unfolding acknowledges begins
-  get-first = somebody-is (acknowledges (256 ∷ 194 ∷ [])) ts t m refl
+  get-first = one-acknowledges (acknowledges (256 ∷ 194 ∷ [])) ts t m refl
 
   get-second : somebody (acknowledges (256 ∷ 194 ∷ 3 ∷ [])) ts ≡ true
   unfolding acknowledges begins
-  get-second = somebody-is (acknowledges (256 ∷ 194 ∷ 3 ∷ [])) ts t m refl
+  get-second = one-acknowledges (acknowledges (256 ∷ 194 ∷ 3 ∷ [])) ts t m refl
 
 -- the read address whoever is not resolved
 get-read : (t : Target) → acknowledges (256 ∷ 194 ∷ 3 ∷ 256 ∷ 195 ∷ []) t ≡ pick (isResolved t) false true
@@ -89,7 +89,7 @@ pub get-whole : (ts : List Target) (r : Target) → Least ts r → onBus GetUdid
 unfolding onBus standing answered same
 get-whole ts r l =
     let c : somebody (acknowledges (256 ∷ 194 ∷ 3 ∷ 256 ∷ 195 ∷ [])) ts ≡ true =
-    somebody-is (acknowledges (256 ∷ 194 ∷ 3 ∷ 256 ∷ 195 ∷ [])) ts r (l .among) (get-read r ∙ ap (λ (b : Bool). pick b false true) (l .unresolved)) in
+    one-acknowledges (acknowledges (256 ∷ 194 ∷ 3 ∷ 256 ∷ 195 ∷ [])) ts r (l .among) (get-read r ∙ ap (λ (b : Bool). pick b false true) (l .unresolved)) in
     rw (get-first ts r (l .among), get-second ts r (l .among), c)
     (ap (λ (w : OnWire). asking ++ (received w ++ STOP ∷ [])) (least-on-wire ts r l) ∙ sym (reply-trace r))
 
@@ -99,7 +99,7 @@ pub get-cut : (t : Target) (ts : List Target) → ((x : Target) → Among x (t �
 unfolding onBus standing answered
 get-cut t ts h =
     let c : somebody (acknowledges (256 ∷ 194 ∷ 3 ∷ 256 ∷ 195 ∷ [])) (t ∷ ts) ≡ false =
-    nobody-is (acknowledges (256 ∷ 194 ∷ 3 ∷ 256 ∷ 195 ∷ [])) (t ∷ ts) (λ x m. get-read x ∙ ap (λ (b : Bool). pick b false true) (h x m)) in
+    none-acknowledges (acknowledges (256 ∷ 194 ∷ 3 ∷ 256 ∷ 195 ∷ [])) (t ∷ ts) (λ x m. get-read x ∙ ap (λ (b : Bool). pick b false true) (h x m)) in
     rw (get-first (t ∷ ts) t (inl refl), get-second (t ∷ ts) t (inl refl), c)
 
 -- ---- Assign Address
@@ -112,11 +112,12 @@ acked-two (x ∷ xs) b p = ap (λ (l : List ℕ). x ∷ 258 ∷ l) (acked-two xs
 abbrev assigned : Udid → ℕ → List ℕ
 assigned u b = 194 ∷ 4 ∷ 17 ∷ (udidBytes u ++ b ∷ pecOf (194 ∷ 4 ∷ 17 ∷ (udidBytes u ++ b ∷ [])) ∷ [])
 
-sent-assign : (u : Udid) (a : Address) → sentPart (Assign u a) ≡ 256 ∷ acked (assigned u (2 * (a .0 % 128)))
-sent-assign u a =
+assign-sends-bytes : (u : Udid) (a : Address) → sentPart (Assign u a) ≡ 256 ∷ acked (assigned u (2 * (a .0 % 128)))
+assign-sends-bytes u a =
     let d : List ℕ = udidBytes u ++ 2 * (a .0 % 128) ∷ [] in
     let e : length (udidBytes u ++ 2 * (a .0 % 128) ∷ []) ≡ 17 = length-append (udidBytes u) (2 * (a .0 % 128) ∷ []) ∙ omega (arith, length-udid u) in
-    ap₂ (λ (n : ℕ) (l : List ℕ). 256 ∷ 194 ∷ 258 ∷ 4 ∷ 258 ∷ n ∷ 258 ∷ (acked d ++ pecOf (194 ∷ 4 ∷ n ∷ l) ∷ 258 ∷ [])) e (append-nil d)
+    assign-by-target u a
+    ∙ ap₂ (λ (n : ℕ) (l : List ℕ). 256 ∷ 194 ∷ 258 ∷ 4 ∷ 258 ∷ n ∷ 258 ∷ (acked d ++ pecOf (194 ∷ 4 ∷ n ∷ l) ∷ 258 ∷ [])) e (append-nil d)
     ∙ ap (λ (l : List ℕ). 256 ∷ 194 ∷ 258 ∷ 4 ∷ 258 ∷ 17 ∷ 258 ∷ l) (acked-two (udidBytes u) (2 * (a .0 % 128)) (pecOf (194 ∷ 4 ∷ 17 ∷ d)))
 
 bytes-assigned : (u : Udid) (b : ℕ) → b < 256 → Bytes (assigned u b)
@@ -180,9 +181,9 @@ own-begins u b p q e = go (decLt 20 (length p))
         let f : getD p 20 0 ≡ b = sym (getD-front p q 20 h) ∙ ap (λ (l : List ℕ). getD l 20 0) e ∙ getD-at front b (pec b ∷ []) 0 20 (omega (arith, length-udid u)) in
         ap (λ (c : ℕ). begins p (assigningBytes (udidBytes u) c)) f ∙ ap (begins p) (sym e) ∙ begins-own p q
 
-assign-own : (u : Udid) (b : ℕ) (t : Target) → t .udid ≡ u → (p q : List ℕ) → p ++ q ≡ 256 ∷ assigned u b → acknowledges p t ≡ true
+own-acknowledges : (u : Udid) (b : ℕ) (t : Target) → t .udid ≡ u → (p q : List ℕ) → p ++ q ≡ 256 ∷ assigned u b → acknowledges p t ≡ true
 unfolding acknowledges
-assign-own u b t e p q f =
+own-acknowledges u b t e p q f =
     let h : begins p (assigningBytes (udidBytes (t .udid)) (getD p 20 0)) ≡ true = ap (λ (v : Udid). begins p (assigningBytes (udidBytes v) (getD p 20 0))) e ∙ own-begins u b p q f in
     rw h (last (begins p (256 ∷ 194 ∷ 1 ∷ 192 ∷ [])) (begins p (256 ∷ 194 ∷ 3 ∷ pick (isResolved t) [] (256 ∷ 195 ∷ []))))
   where
@@ -196,8 +197,9 @@ unfolding onBus standing answered same
 assign-whole ts u a t m e =
     let b : ℕ = 2 * (a .0 % 128) in
     let ack : List ℕ → Bool = λ (sent : List ℕ). somebody (acknowledges sent) ts in
-    ap (λ (l : List ℕ). standing l ts) (sent-assign u a)
+    ap (λ (l : List ℕ). standing l ts) (assign-sends-bytes u a)
     ∙ ap (λ (l : List ℕ). 256 ∷ l)
     (answered-acked ack (256 ∷ []) (assigned u b) (STOP ∷ []) (bytes-assigned u b (omega arith))
-    (ack-all ack (256 ∷ assigned u b) (λ p q f. somebody-is (acknowledges p) ts t m (assign-own u b t e p q f)) (256 ∷ []) (assigned u b) refl))
-    ∙ ap (λ (l : List ℕ). l ++ STOP ∷ []) (sym (sent-assign u a))
+    (ack-all ack (256 ∷ assigned u b) (λ p q f. one-acknowledges (acknowledges p) ts t m (own-acknowledges u b t e p q f)) (256 ∷ []) (assigned u b) refl))
+    ∙ ap (λ (l : List ℕ). l ++ STOP ∷ []) (sym (assign-sends-bytes u a))
+    ∙ assign-stop u a

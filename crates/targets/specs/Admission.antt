@@ -8,9 +8,8 @@ use Rattle.pool.specs.Pools.{member}
 use Rattle.pool.specs.declared.Pool.{Pool}
 use Rattle.udid.specs.Udids.{isFixed, value}
 use Rattle.arbitration.specs.Among.{Among}
-use Rattle.targets.specs.Target.{Target}
+use Rattle.targets.specs.Target.{Target, Sized}
 use Rattle.targets.specs.Members.{Pairs}
-use Rattle.targets.specs.ReplyLaws.{Sized}
 
 -- different identifiers
 abbrev pub Differ : Target → Target → Type 0
@@ -29,4 +28,4 @@ pub record AdmittedTargets (starting : Pool) (ts : List Target) : Type 0 where
   pub differ : Pairs Differ ts
   pub fixed-apart : Pairs FixedApart ts
   pub fixed-free : (t : Target) → Among t ts → FixedFree starting t
-  pub few : length ts ≤ 120
+  pub at-most-120 : length ts ≤ 120

@@ -14,16 +14,16 @@ use Rattle.udid.specs.Udids.{value}
 use Rattle.udid.specs.UdidLaws.{fits-at, value-same}
 use Rattle.targets.specs.Records.{udidOf, addressByte, flagOf, targetAt, recordCount, targetsOf}
 use Rattle.targets.specs.Refusals.{checkedList}
-use Rattle.targets.specs.ReplyLaws.{Sized}
+use Rattle.targets.specs.Target.{Sized}
 use Rattle.targets.specs.Cases.{LengthIsBad, Given}
 use Rattle.targets.specs.RefusalLaws.{given-exactly}
-use Rattle.targets.specs.IndexLaws.{in-targets, pairs-from, length-targets, sized-at}
+use Rattle.targets.specs.IndexLaws.{target-has-record, pairs-from, length-targets, sized-at}
 use Rattle.targets.specs.Admission.{Differ, FixedApart, FixedFree, AdmittedTargets}
 use Rattle.targets.specs.declared.admit.Checked.the-variants.{Admitted}
 
 -- the list is whole records, 120 at most
-pub good-length : (s : List ℕ) → (LengthIsBad s → ⊥) → (length s ≤ 2160) × (length s ≡ recordCount s * 18)
-good-length s n = go (decLt 2160 (length s)) (ℕ-discrete (length s % 18) 0)
+pub good-length-whole : (s : List ℕ) → (LengthIsBad s → ⊥) → (length s ≤ 2160) × (length s ≡ recordCount s * 18)
+good-length-whole s n = go (decLt 2160 (length s)) (ℕ-discrete (length s % 18) 0)
   where
     go : Dec (2160 < length s) → Dec (length s % 18 ≡ 0) → (length s ≤ 2160) × (length s ≡ recordCount s * 18)
     go (yes h) d = absurd (n (inl h))
@@ -36,7 +36,7 @@ module _ (starting : Pool) (s : List ℕ) (b : Bytes s) (e : checkedList startin
 
   -- every record is whole, with its flag 0 or 1 and an odd address byte
   pub admitted-length : (length s ≤ 2160) × (length s ≡ recordCount s * 18)
-  admitted-length = good-length s (given .0)
+  admitted-length = good-length-whole s (given .0)
 
   pub admitted-form : (i : ℕ) → i < recordCount s → (addressByte s i % 2 ≡ 1) × (flagOf s i ≤ 1)
   admitted-form i h = go (ℕ-discrete (addressByte s i % 2) 0) (decLt 1 (flagOf s i))
@@ -67,9 +67,9 @@ module _ (starting : Pool) (s : List ℕ) (b : Bytes s) (e : checkedList startin
 
   pub admitted-targets : AdmittedTargets starting (targetsOf s)
   admitted-targets = record {
-    sized = λ t m. let r = in-targets s (recordCount s) 0 t m in subst Sized (r .3) (sized-at s b (r .0));
+    sized = λ t m. let r = target-has-record s (recordCount s) 0 t m in subst Sized (r .3) (sized-at s b (r .0));
     differ = pairs-from Differ s (recordCount s) 0 (λ j k a h l. apart j k h (omega arith));
     fixed-apart = pairs-from FixedApart s (recordCount s) 0 (λ j k a h l. fixed-apart j k h (omega arith));
-    fixed-free = λ t m. let r = in-targets s (recordCount s) 0 t m in subst (FixedFree starting) (r .3) (fixed-free (r .0) (omega (arith, r .2)));
-    few = omega (arith, length-targets s (recordCount s) 0, admitted-length .0);
+    fixed-free = λ t m. let r = target-has-record s (recordCount s) 0 t m in subst (FixedFree starting) (r .3) (fixed-free (r .0) (omega (arith, r .2)));
+    at-most-120 = omega (arith, length-targets s (recordCount s) 0, admitted-length .0);
   }

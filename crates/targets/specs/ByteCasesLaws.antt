@@ -1,6 +1,6 @@
 -- The cases of the refusals by the bytes of the list are the cases of Cases.
 use Prim.Native.Nat.{ℕ, _+_, _*_, _/_, _%_, _<_, _≤_}
-use mathlib.Core.Path.{_≡_, sym, ap, ap₂, _∙_}
+use mathlib.Core.Path.{_≡_, sym, ap, _∙_}
 use mathlib.Core.Bool.{true}
 use mathlib.Core.Logic.{_⊎_, inl, inr, _↔_}
 use mathlib.Core.List.{List}
@@ -17,46 +17,46 @@ use Rattle.targets.specs.ByteCases.{EvenOrFlag, SameAsEarlier, FixedAt, 
 use Rattle.targets.specs.Cases.{MalformedAt, RepeatedAt, TakenAt, None, FirstOf, Given}
 use Rattle.targets.specs.declared.admit.Checked.{Checked}
 use Rattle.targets.specs.declared.admit.Checked.the-variants.{Admitted, BadLength, Malformed, Repeated, Taken}
-use Rattle.targets.specs.FieldLaws.{same-records, fixed-byte}
+use Rattle.targets.specs.FieldLaws.{same-udid-bytes, fixed-by-first-byte}
 
-eighteen : (i k : ℕ) → i * 18 + k ≡ 18 * i + k
-eighteen i k = omega arith
+record-place : (i k : ℕ) → i * 18 + k ≡ 18 * i + k
+record-place i k = omega arith
 
 -- the fields of record i, whatever i is: byte 16 and byte 17 of it, zero past the end of the list
-pub byte-16 : (s : List ℕ) (i : ℕ) → addressByte s i ≡ getD s (18 * i + 16) 0
-byte-16 s i = ap (λ (k : ℕ). getD s k 0) (eighteen i 16)
+pub address-byte-16 : (s : List ℕ) (i : ℕ) → addressByte s i ≡ getD s (18 * i + 16) 0
+address-byte-16 s i = ap (λ (k : ℕ). getD s k 0) (record-place i 16)
 
-pub byte-17 : (s : List ℕ) (i : ℕ) → flagOf s i ≡ getD s (18 * i + 17) 0
-byte-17 s i = ap (λ (k : ℕ). getD s k 0) (eighteen i 17)
+pub flag-byte-17 : (s : List ℕ) (i : ℕ) → flagOf s i ≡ getD s (18 * i + 17) 0
+flag-byte-17 s i = ap (λ (k : ℕ). getD s k 0) (record-place i 17)
 
-pub malformed-is : (s : List ℕ) (i : ℕ) → MalformedAt s i ↔ EvenOrFlag s i
-malformed-is s i = (there, back)
+pub malformed-by-bytes : (s : List ℕ) (i : ℕ) → MalformedAt s i ↔ EvenOrFlag s i
+malformed-by-bytes s i = (there, back)
   where
     there : MalformedAt s i → EvenOrFlag s i
-    there (inl e) = inl (ap (λ (x : ℕ). x % 2) (sym (byte-16 s i)) ∙ e)
-    there (inr h) = inr (omega (arith, h, byte-17 s i))
+    there (inl e) = inl (ap (λ (x : ℕ). x % 2) (sym (address-byte-16 s i)) ∙ e)
+    there (inr h) = inr (omega (arith, h, flag-byte-17 s i))
 
     back : EvenOrFlag s i → MalformedAt s i
-    back (inl e) = inl (ap (λ (x : ℕ). x % 2) (byte-16 s i) ∙ e)
-    back (inr h) = inr (omega (arith, h, byte-17 s i))
+    back (inl e) = inl (ap (λ (x : ℕ). x % 2) (address-byte-16 s i) ∙ e)
+    back (inr h) = inr (omega (arith, h, flag-byte-17 s i))
 
 module _ (s : List ℕ) (b : Bytes s) where
   -- record i is whole
   inside : (i : ℕ) → i < length s / 18 → i * 18 + 16 ≤ length s
   inside i h = omega arith
 
-  part : (i : ℕ) → take 16 (drop (i * 18) s) ≡ take 16 (drop (18 * i) s)
-  part i = let e : i * 18 ≡ 18 * i = omega arith in ap (λ (k : ℕ). take 16 (drop k s)) e
+  udid-window : (i : ℕ) → take 16 (drop (i * 18) s) ≡ take 16 (drop (18 * i) s)
+  udid-window i = let e : i * 18 ≡ 18 * i = omega arith in ap (λ (k : ℕ). take 16 (drop k s)) e
 
-  pub repeated-is : (i : ℕ) → i < length s / 18 → RepeatedAt s i ↔ SameAsEarlier s i
-  repeated-is i h = (
-    λ r. (r .0, r .1, sym (part (r .0)) ∙ same-records s b (r .0) i (inside (r .0) (omega (arith, r .1, h))) (inside i h) .1 (r .2) ∙ part i),
-    λ r. (r .0, r .1, same-records s b (r .0) i (inside (r .0) (omega (arith, r .1, h))) (inside i h) .0 (part (r .0) ∙ r .2 ∙ sym (part i))),
+  pub repeated-by-bytes : (i : ℕ) → i < length s / 18 → RepeatedAt s i ↔ SameAsEarlier s i
+  repeated-by-bytes i h = (
+    λ r. (r .0, r .1, sym (udid-window (r .0)) ∙ same-udid-bytes s b (r .0) i (inside (r .0) (omega (arith, r .1, h))) (inside i h) .1 (r .2) ∙ udid-window i),
+    λ r. (r .0, r .1, same-udid-bytes s b (r .0) i (inside (r .0) (omega (arith, r .1, h))) (inside i h) .0 (udid-window (r .0) ∙ r .2 ∙ sym (udid-window i))),
   )
 
-  fixed-is : (i : ℕ) → i < length s / 18 → (isFixed (udidOf s i) ≡ true) ↔ FixedAt s i
-  fixed-is i h =
-      let e : isFixed (udidOf s i) ≡ eqb (getD s (18 * i) 0 / 64) 0 = fixed-byte s b i (inside i h) ∙ (let k : i * 18 ≡ 18 * i = omega arith in ap (λ (k : ℕ). eqb (getD s k 0 / 64) 0) k) in (
+  fixed-by-bytes : (i : ℕ) → i < length s / 18 → (isFixed (udidOf s i) ≡ true) ↔ FixedAt s i
+  fixed-by-bytes i h =
+      let e : isFixed (udidOf s i) ≡ eqb (getD s (18 * i) 0 / 64) 0 = fixed-by-first-byte s b i (inside i h) ∙ (let k : i * 18 ≡ 18 * i = omega arith in ap (λ (k : ℕ). eqb (getD s k 0 / 64) 0) k) in (
         λ f. small (eqb-true (getD s (18 * i) 0 / 64) 0 (sym e ∙ f)),
         λ l. e ∙ eq-eqb (getD s (18 * i) 0 / 64) 0 (zero l),
       )
@@ -67,24 +67,24 @@ module _ (s : List ℕ) (b : Bytes s) where
       zero : getD s (18 * i) 0 < 64 → getD s (18 * i) 0 / 64 ≡ 0
       zero l = omega arith
 
-  halved : (i : ℕ) → addressByte s i / 2 ≡ addressAt s i
-  halved i = ap (λ (x : ℕ). x / 2) (byte-16 s i)
+  address-by-bytes : (i : ℕ) → addressByte s i / 2 ≡ addressAt s i
+  address-by-bytes i = ap (λ (x : ℕ). x / 2) (address-byte-16 s i)
 
-  pub taken-is : (starting : Pool) (i : ℕ) → i < length s / 18 → TakenAt starting s i ↔ FixedOnTaken starting s i
-  taken-is starting i h = (λ t. (fixed-is i h .0 (t .0), there (t .1)), λ t. (fixed-is i h .1 (t .0), back (t .1)))
+  pub taken-by-bytes : (starting : Pool) (i : ℕ) → i < length s / 18 → TakenAt starting s i ↔ FixedOnTaken starting s i
+  taken-by-bytes starting i h = (λ t. (fixed-by-bytes i h .0 (t .0), there (t .1)), λ t. (fixed-by-bytes i h .1 (t .0), back (t .1)))
     where
       before : (j : ℕ) → j < i → j < length s / 18
       before j l = omega arith
 
       there : (member starting (addressByte s i / 2) ≡ true) ⊎ ((j : ℕ) × (j < i) × (isFixed (udidOf s j) ≡ true) × (addressByte s j / 2 ≡ addressByte s i / 2))
           → (member starting (addressAt s i) ≡ true) ⊎ ((j : ℕ) × (j < i) × FixedAt s j × (addressAt s j ≡ addressAt s i))
-      there (inl m) = inl (ap (member starting) (sym (halved i)) ∙ m)
-      there (inr r) = inr (r .0, r .1, fixed-is (r .0) (before (r .0) (r .1)) .0 (r .2), sym (halved (r .0)) ∙ r .3 ∙ halved i)
+      there (inl m) = inl (ap (member starting) (sym (address-by-bytes i)) ∙ m)
+      there (inr r) = inr (r .0, r .1, fixed-by-bytes (r .0) (before (r .0) (r .1)) .0 (r .2), sym (address-by-bytes (r .0)) ∙ r .3 ∙ address-by-bytes i)
 
       back : (member starting (addressAt s i) ≡ true) ⊎ ((j : ℕ) × (j < i) × FixedAt s j × (addressAt s j ≡ addressAt s i))
           → (member starting (addressByte s i / 2) ≡ true) ⊎ ((j : ℕ) × (j < i) × (isFixed (udidOf s j) ≡ true) × (addressByte s j / 2 ≡ addressByte s i / 2))
-      back (inl m) = inl (ap (member starting) (halved i) ∙ m)
-      back (inr r) = inr (r .0, r .1, fixed-is (r .0) (before (r .0) (r .1)) .1 (r .2), halved (r .0) ∙ r .3 ∙ sym (halved i))
+      back (inl m) = inl (ap (member starting) (address-by-bytes i) ∙ m)
+      back (inr r) = inr (r .0, r .1, fixed-by-bytes (r .0) (before (r .0) (r .1)) .1 (r .2), address-by-bytes (r .0) ∙ r .3 ∙ sym (address-by-bytes i))
 
 -- ---- over the whole list
 
@@ -102,17 +102,17 @@ first-same : {P Q : ℕ → Type 0} (n i : ℕ) → Same P Q n → FirstOf P n i
 first-same n i e f = let l = f .below in record { below = l; holds = e i l .0 (f .holds); none-before = none-same n i (omega arith) e (f .none-before) }
 
 -- each answer says the same of the list by bytes
-pub given-bytes : (starting : Pool) (s : List ℕ) → Bytes s → (k : Checked) → Given starting s k ↔ GivenByBytes starting s k
-given-bytes starting s b k = go k
+pub given-by-bytes : (starting : Pool) (s : List ℕ) → Bytes s → (k : Checked) → Given starting s k ↔ GivenByBytes starting s k
+given-by-bytes starting s b k = go k
   where
     malformed : Same (MalformedAt s) (EvenOrFlag s) (length s / 18)
-    malformed = λ i h. malformed-is s i
+    malformed = λ i h. malformed-by-bytes s i
 
     repeated : Same (RepeatedAt s) (SameAsEarlier s) (length s / 18)
-    repeated = repeated-is s b
+    repeated = repeated-by-bytes s b
 
     taken : Same (TakenAt starting s) (FixedOnTaken starting s) (length s / 18)
-    taken = taken-is s b starting
+    taken = taken-by-bytes s b starting
 
     all : {P Q : ℕ → Type 0} → Same P Q (length s / 18) → None P (length s / 18) → None Q (length s / 18)
     all e h = none-same (length s / 18) (length s / 18) (omega arith) e h

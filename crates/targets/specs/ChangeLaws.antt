@@ -15,23 +15,14 @@ use Rattle.udid.specs.Udids.{sameUdid}
 use Rattle.udid.specs.declared.Udid.{Udid}
 use Rattle.targets.specs.Target.{Target, prepared, assignedTo, mapTargets, cleared, resolve}
 use Rattle.targets.specs.Records.{addressByte, flagOf, targetAt, targetsFrom, recordCount, targetsOf, putTarget, putFrom, recordsWith, assignedIn}
-use Rattle.targets.specs.RecordLaws.{other-byte, length-put-from, changed-targets, prepared-keeps, assigned-keeps}
-
--- place k is neither the address byte nor the flag of record i
-abbrev pub Elsewhere : ℕ → ℕ → Type 0
-Elsewhere k i = (k ≡ i * 18 + 16 → ⊥) × (k ≡ i * 18 + 17 → ⊥)
-
--- each target of s is changed by f, and every byte that is no address byte or flag of a record is as it was
-pub record Changed (f : Target → Target) (s t : List ℕ) : Type 0 where
-  pub same-length : length t ≡ length s
-  pub records : (i : ℕ) → i < recordCount s → targetAt t i ≡ f (targetAt s i)
-  pub others : (k : ℕ) → ((i : ℕ) → i < recordCount s → Elsewhere k i) → getD t k 0 ≡ getD s k 0
+use Rattle.targets.specs.RecordLaws.{put-keeps-byte, length-put-from, changed-targets, prepared-keeps-udid, assigned-keeps-udid}
+use Rattle.targets.specs.Change.{Elsewhere, Changed, FlagsCleared, Assigned}
 
 other-bytes : (ts : List Target) (i : ℕ) (s : List ℕ) (k : ℕ) → ((j : ℕ) → i ≤ j → j < i + length ts → Elsewhere k j) → getD (putFrom ts i s) k 0 ≡ getD s k 0
 other-bytes [] i s k h = refl
 other-bytes (t ∷ ts) i s k h =
     let e = h i (omega arith) (omega arith) in
-    other-bytes ts (suc i) (putTarget i t s) k (λ j a b. h j (omega arith) (omega arith)) ∙ other-byte i t s k (e .0) (e .1)
+    other-bytes ts (suc i) (putTarget i t s) k (λ j a b. h j (omega arith) (omega arith)) ∙ put-keeps-byte i t s k (e .0) (e .1)
 
 at-index : (f : Target → Target) (s t : List ℕ) (n i : ℕ) → targetsFrom t n i ≡ mapTargets f (targetsFrom s n i) → (j : ℕ) → i ≤ j → j < i + n → targetAt t j ≡ f (targetAt s j)
 at-index f s t zero i e j a b = absurd (omega arith)
@@ -83,12 +74,6 @@ module _ (f : Target → Target) (keeps : (t : Target) → f t .udid ≡ t .udid
   pub changed-exactly : (t : List ℕ) → (t ≡ recordsWith (mapTargets f (targetsOf s)) s) ↔ Changed f s t
   changed-exactly t = (λ e. subst (Changed f s) (sym e) changed-holds, λ c. changed-unique t (recordsWith (mapTargets f (targetsOf s)) s) c changed-holds)
 
--- byte 17 of each record is 0, and every other byte of the list is as it was
-pub record FlagsCleared (s t : List ℕ) : Type 0 where
-  pub same-length : length t ≡ length s
-  pub flags : (i : ℕ) → i < length s / 18 → getD t (18 * i + 17) 0 ≡ 0
-  pub others : (k : ℕ) → ((i : ℕ) → i < length s / 18 → k ≡ 18 * i + 17 → ⊥) → getD t k 0 ≡ getD s k 0
-
 cleared-unique : (s t u : List ℕ) → FlagsCleared s t → FlagsCleared s u → t ≡ u
 cleared-unique s t u c d = ext-getD 0 t u (c .same-length ∙ sym (d .same-length)) (λ k h. go k (decLt (k / 18) (length s / 18)) (ℕ-discrete (k % 18) 17))
   where
@@ -124,7 +109,7 @@ cleared-bytes s t c = record {
         ap (λ (x : ℕ). getD t x 0) e ∙ ap (λ (x : Target). x .addressByte) (c .records (k / 18) l) ∙ ap (λ (x : ℕ). getD s x 0) (sym e)
 
 cleared-holds : (s : List ℕ) → FlagsCleared s (recordsWith (cleared (targetsOf s)) s)
-cleared-holds s = cleared-bytes s (recordsWith (cleared (targetsOf s)) s) (changed-exactly prepared prepared-keeps s (recordsWith (cleared (targetsOf s)) s) .0 refl)
+cleared-holds s = cleared-bytes s (recordsWith (cleared (targetsOf s)) s) (changed-exactly prepared prepared-keeps-udid s (recordsWith (cleared (targetsOf s)) s) .0 refl)
 
 -- PREPARE CLEARS THE FLAG OF EVERY RECORD, and nothing else changes
 pub prepared-exactly : (s t : List ℕ) → (t ≡ recordsWith (cleared (targetsOf s)) s) ↔ FlagsCleared s t
@@ -137,17 +122,12 @@ assigned-above u a s h = rw (lt-ltb 127 a h)
 pub assigned-below : (u : Udid) (a : ℕ) (s : List ℕ) → a ≤ 127 → assignedIn u a s ≡ recordsWith (resolve u a (targetsOf s)) s
 assigned-below u a s h = rw (le-ltb 127 a h)
 
--- what Assign leaves: of a number above 127 all as it was; of an address, each target with that identifier takes it and sets the flag
-pub record Assigned (u : Udid) (a : ℕ) (s t : List ℕ) : Type 0 where
-  pub above-127 : 127 < a → t ≡ s
-  pub taken : a ≤ 127 → Changed (assignedTo u a) s t
-
 -- ASSIGN REACHES THE TARGETS WITH THAT IDENTIFIER, and with a number above 127 none; nothing else changes
 pub assigned-exactly : (u : Udid) (a : ℕ) (s t : List ℕ) → (t ≡ assignedIn u a s) ↔ Assigned u a s t
 assigned-exactly u a s t = (
   λ e. record {
     above-127 = λ h. e ∙ assigned-above u a s h;
-    taken = λ h. changed-exactly (assignedTo u a) (assigned-keeps u a) s t .0 (e ∙ assigned-below u a s h);
+    taken = λ h. changed-exactly (assignedTo u a) (assigned-keeps-udid u a) s t .0 (e ∙ assigned-below u a s h);
   },
   λ c. back c (decLt 127 a),
 )
@@ -155,7 +135,7 @@ assigned-exactly u a s t = (
     back : Assigned u a s t → Dec (127 < a) → t ≡ assignedIn u a s
     back c (yes h) = c .above-127 h ∙ sym (assigned-above u a s h)
     back c (no h) =
-        changed-exactly (assignedTo u a) (assigned-keeps u a) s t .1 (c .taken (omega arith)) ∙ sym (assigned-below u a s (omega arith))
+        changed-exactly (assignedTo u a) (assigned-keeps-udid u a) s t .1 (c .taken (omega arith)) ∙ sym (assigned-below u a s (omega arith))
 
 -- what a target takes: twice the address plus 1, and flag 1; a target with another identifier stays
 pub takes-address : (u : Udid) (a : ℕ) (t : Target) → a ≤ 127 → sameUdid (t .udid) u ≡ true → assignedTo u a t ≡ record { udid = t .udid; addressByte = 2 * a + 1; flag = 1 }

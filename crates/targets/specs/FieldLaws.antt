@@ -33,9 +33,9 @@ zeros : number (replicate 8 0) ≡ 0
 unfolding numberFrom
 zeros = refl
 
-pub udid-past : (s : List ℕ) (i : ℕ) → length s ≤ i → udidAt s i ≡ record { high = 0; low = 0 }
+pub udid-past-end : (s : List ℕ) (i : ℕ) → length s ≤ i → udidAt s i ≡ record { high = 0; low = 0 }
 unfolding udidAt
-udid-past s i h =
+udid-past-end s i h =
     let a : number (bytesFrom s i 8) ≡ 0 = ap number (from-past 8 s i h) ∙ zeros in
     let b : number (bytesFrom s (i + 8) 8) ≡ 0 = ap number (from-past 8 s (i + 8) (omega arith)) ∙ zeros in
     λ k. record { high = a k; low = b k }
@@ -44,8 +44,8 @@ udid-past s i h =
 
 module _ (s : List ℕ) (b : Bytes s) where
   -- two records have equal identifiers if and only if their first 16 bytes are the same
-  pub same-records : (i j : ℕ) → i * 18 + 16 ≤ length s → j * 18 + 16 ≤ length s → (take 16 (drop (i * 18) s) ≡ take 16 (drop (j * 18) s)) ↔ (udidOf s i ≡ udidOf s j)
-  same-records i j h g =
+  pub same-udid-bytes : (i j : ℕ) → i * 18 + 16 ≤ length s → j * 18 + 16 ≤ length s → (take 16 (drop (i * 18) s) ≡ take 16 (drop (j * 18) s)) ↔ (udidOf s i ≡ udidOf s j)
+  same-udid-bytes i j h g =
       let r = same-bytes (udidOf s i) (udidOf s j) (fits-at s (i * 18) b) (fits-at s (j * 18) b) in
       let p = bytes-back s (i * 18) b h in
       let q = bytes-back s (j * 18) b g in (
@@ -54,16 +54,16 @@ module _ (s : List ℕ) (b : Bytes s) where
       )
 
   -- a target is fixed if and only if the top two bits of its first byte are zero
-  pub fixed-byte : (i : ℕ) → i * 18 + 16 ≤ length s → isFixed (udidOf s i) ≡ eqb (getD s (i * 18) 0 / 64) 0
-  fixed-byte i h =
+  pub fixed-by-first-byte : (i : ℕ) → i * 18 + 16 ≤ length s → isFixed (udidOf s i) ≡ eqb (getD s (i * 18) 0 / 64) 0
+  fixed-by-first-byte i h =
       ap (λ (x : ℕ). eqb x 0)
       (top-of-first (udidOf s i) (fits-at s (i * 18) b)
       ∙ ap (λ (l : List ℕ). getD l 0 0 / 64) (bytes-back s (i * 18) b h)
       ∙ ap (λ (x : ℕ). x / 64) (getD-take 16 (drop (i * 18) s) 0 0 (omega arith) ∙ getD-drop (i * 18) s 0 0 ∙ ap (λ (k : ℕ). getD s k 0) (add-zero (i * 18))))
 
 -- a fixed target with no address, FFh, counts as one at 7Fh, which is reserved: it is refused
-pub none-is-taken : (occupied : Pool) (s : List ℕ) (i : ℕ) → isFixed (udidOf s i) ≡ true → addressByte s i ≡ 0xFF → TakenAt (startingPool occupied) s i
+pub fixed-without-address-taken : (occupied : Pool) (s : List ℕ) (i : ℕ) → isFixed (udidOf s i) ≡ true → addressByte s i ≡ 0xFF → TakenAt (startingPool occupied) s i
 unfolding isReserved
-none-is-taken occupied s i f e =
+fixed-without-address-taken occupied s i f e =
     let k : addressByte s i / 2 ≡ 127 = omega arith in
     (f, inl (ap (member (startingPool occupied)) k ∙ member-starting occupied 127))

@@ -11,19 +11,18 @@ use Rattle.lists.specs.Each.{Bytes}
 use Rattle.udid.specs.UdidLaws.{fits-at, bytes-back}
 use Rattle.udid.specs.WindowLaws.{byte-at}
 use Rattle.arbitration.specs.Among.{Among}
-use Rattle.targets.specs.Target.{Target}
+use Rattle.targets.specs.Target.{Target, Sized}
 use Rattle.targets.specs.Records.{addressByte, targetAt, targetsFrom}
 use Rattle.targets.specs.Members.{Pairs}
 use Rattle.targets.specs.Reply.{replyData}
-use Rattle.targets.specs.ReplyLaws.{Sized}
 
-pub in-targets : (s : List ℕ) (n i : ℕ) (t : Target) → Among t (targetsFrom s n i) → (j : ℕ) × (i ≤ j) × (j < i + n) × (targetAt s j ≡ t)
-in-targets s (suc n) i t (inl e) = (i, omega arith, omega arith, e)
-in-targets s (suc n) i t (inr m) = let r = in-targets s n (suc i) t m in (r .0, omega (arith, r .1), omega (arith, r .2), r .3)
+pub target-has-record : (s : List ℕ) (n i : ℕ) (t : Target) → Among t (targetsFrom s n i) → (j : ℕ) × (i ≤ j) × (j < i + n) × (targetAt s j ≡ t)
+target-has-record s (suc n) i t (inl e) = (i, omega arith, omega arith, e)
+target-has-record s (suc n) i t (inr m) = let r = target-has-record s n (suc i) t m in (r .0, omega (arith, r .1), omega (arith, r .2), r .3)
 
-pub of-targets : (s : List ℕ) (n i j : ℕ) → i ≤ j → j < i + n → Among (targetAt s j) (targetsFrom s n i)
-of-targets s zero i j a b = absurd (omega arith)
-of-targets s (suc n) i j a b = go (ℕ-discrete i j) (λ c d. of-targets s n (suc i) j c d)
+pub record-has-target : (s : List ℕ) (n i j : ℕ) → i ≤ j → j < i + n → Among (targetAt s j) (targetsFrom s n i)
+record-has-target s zero i j a b = absurd (omega arith)
+record-has-target s (suc n) i j a b = go (ℕ-discrete i j) (λ c d. record-has-target s n (suc i) j c d)
   where
     go : Dec (i ≡ j) → (suc i ≤ j → j < suc i + n → Among (targetAt s j) (targetsFrom s n (suc i))) → Among (targetAt s j) (targetsFrom s (suc n) i)
     go (yes e) ih = inl (ap (targetAt s) e)
@@ -32,7 +31,7 @@ of-targets s (suc n) i j a b = go (ℕ-discrete i j) (λ c d. of-targets s n (su
 pub pairs-from : (R : Target → Target → Type 0) (s : List ℕ) (n i : ℕ) → ((j k : ℕ) → i ≤ j → j < k → k < i + n → R (targetAt s j) (targetAt s k)) → Pairs R (targetsFrom s n i)
 pairs-from R s zero i h = tt
 pairs-from R s (suc n) i h = (
-  (λ x m. let r = in-targets s n (suc i) x m in subst (R (targetAt s i)) (r .3) (h i (r .0) (omega arith) (omega (arith, r .1)) (omega (arith, r .2)))),
+  (λ x m. let r = target-has-record s n (suc i) x m in subst (R (targetAt s i)) (r .3) (h i (r .0) (omega arith) (omega (arith, r .1)) (omega (arith, r .2)))),
   pairs-from R s n (suc i) (λ j k a b c. h j k (omega arith) b (omega arith)),
 )
 

@@ -11,9 +11,11 @@ pub mod ByteCases
 pub mod ByteCasesLaws
 pub mod Numbers
 pub mod RefusalLaws
+pub mod Change
 pub mod ChangeLaws
 pub mod Reply
 pub mod Members
+pub mod MembersLaws
 pub mod ReplyLaws
 pub mod IndexLaws
 pub mod WinnerLaws

@@ -1,17 +1,12 @@
--- Lists of targets: pairs of them, and what a resolve leaves unresolved.
-use Prim.Native.Nat.{ℕ, _+_, _*_, _%_, _<_}
-use mathlib.Core.Path.{_≡_, refl, sym, ap, _∙_}
-use mathlib.Core.Bool.{Bool, true, false}
-use mathlib.Core.Logic.{inl, inr}
+-- Lists of targets: pairs of them, the unresolved ones, and the one of these with the least identifier.
+use Prim.Native.Nat.{_<_}
+use mathlib.Core.Path.{_≡_}
+use mathlib.Core.Bool.{false}
+use mathlib.Core.Logic.{_⊎_}
 use mathlib.Core.List.{List, [], _∷_}
-use native.Mathlib.Omega.{arith}
-use lib.Dec.{eqb}
-use Rattle.lists.specs.Choice.{pick}
-use Rattle.udid.specs.Udids.{sameUdid, value}
-use Rattle.udid.specs.UdidLaws.{same-refl, other-udid}
-use Rattle.udid.specs.declared.Udid.{Udid}
+use Rattle.udid.specs.Udids.{value}
 use Rattle.arbitration.specs.Among.{Among}
-use Rattle.targets.specs.Target.{Target, isResolved, resolve}
+use Rattle.targets.specs.Target.{Target, Sized, isResolved}
 
 -- each is in R to each later one
 abbrev pub Pairs : (Target → Target → Type 0) → List Target → Type 0
@@ -24,35 +19,9 @@ pub record Waits (ts rest : List Target) : Type 0 where
   pub there : (t : Target) → Among t rest → Among t ts
   pub unresolved : (t : Target) → Among t rest → isResolved t ≡ false
 
--- who is unresolved after a resolve was so before, and has another identifier
-back : (u : Udid) (a : ℕ) (ts : List Target) (t : Target) → Among t (resolve u a ts) → isResolved t ≡ false → Among t ts × (sameUdid (t .udid) u ≡ false)
-back u a (x ∷ ts) t (inr h) e = let r = back u a ts t h e in (inr (r .0), r .1)
-back u a (x ∷ ts) t (inl h) e = go (sameUdid (x .udid) u) refl h
-  where
-    go : (b : Bool) → sameUdid (x .udid) u ≡ b → pick b (record { udid = x .udid; addressByte = 2 * (a % 128) + 1; flag = 1 }) x ≡ t
-        → Among t (x ∷ ts) × (sameUdid (t .udid) u ≡ false)
-    go true p q = absurd (let z : _≡_ {A = ℕ} 0 1 = cc (ap (λ (y : Target). eqb (y .flag) 1) q, e) in omega arith)
-    go false p q = (inl q, ap (λ (y : Target). sameUdid (y .udid) u) (sym q) ∙ p)
-
--- who has another identifier is left as it was
-kept : (u : Udid) (a : ℕ) (ts : List Target) (t : Target) → Among t ts → sameUdid (t .udid) u ≡ false → Among t (resolve u a ts)
-kept u a (x ∷ ts) t (inr h) e = inr (kept u a ts t h e)
-kept u a (x ∷ ts) t (inl h) e =
-    let f : sameUdid (x .udid) u ≡ false = ap (λ (y : Target). sameUdid (y .udid) u) h ∙ e in
-    inl (simp f h)
-
--- the lowest of those that wait is resolved: the others wait on
-pub waits-next : (ts rest : List Target) (r : Target) (a : ℕ) → Waits ts (r ∷ rest) → ((x : Target) → Among x rest → value (r .udid) < value (x .udid))
-    → Waits (resolve (r .udid) a ts) rest
-waits-next ts rest r a w lt = record {
-  known = λ t m e. let b = back (r .udid) a ts t m e in at t (b .1) (w .known t (b .0) e);
-  there = λ t m. kept (r .udid) a ts t (w .there t (inr m)) (other-udid (t .udid) (r .udid) (λ q. above t (lt t m) (ap value q)));
-  unresolved = λ t m. w .unresolved t (inr m);
-}
-  where
-    above : (t : Target) → value (r .udid) < value (t .udid) → value (t .udid) ≡ value (r .udid) → ⊥
-    above t l e = omega arith
-
-    at : (t : Target) → sameUdid (t .udid) (r .udid) ≡ false → Among t (r ∷ rest) → Among t rest
-    at t e (inl h) = absurd (let z : _≡_ {A = ℕ} 0 1 = cc (e, ap (λ (y : Target). sameUdid (y .udid) (r .udid)) h, same-refl (r .udid)) in omega arith)
-    at t e (inr h) = h
+-- r is unresolved, and each other unresolved target has a greater identifier
+pub record Least (ts : List Target) (r : Target) : Type 0 where
+  pub among : Among r ts
+  pub unresolved : isResolved r ≡ false
+  pub sized : Sized r
+  pub below : (t : Target) → Among t ts → isResolved t ≡ false → (r ≡ t) ⊎ (Sized t × (value (r .udid) < value (t .udid)))

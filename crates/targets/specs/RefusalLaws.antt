@@ -28,24 +28,24 @@ use Rattle.targets.specs.declared.admit.Checked.the-variants.{Admitted, 
 clash : {t : Bool} → t ≡ true → t ≡ false → ⊥
 clash e f = let z : _≡_ {A = ℕ} 0 1 = cc (e, f) in omega arith
 
-or-is : (a b : Bool) → (or a b ≡ true) ↔ ((a ≡ true) ⊎ (b ≡ true))
-or-is true b = (λ e. inl refl, λ h. refl)
-or-is false b = (λ e. inr e, λ h. at h)
+or-true-exactly : (a b : Bool) → (or a b ≡ true) ↔ ((a ≡ true) ⊎ (b ≡ true))
+or-true-exactly true b = (λ e. inl refl, λ h. refl)
+or-true-exactly false b = (λ e. inr e, λ h. at h)
   where
     at : (false ≡ true) ⊎ (b ≡ true) → b ≡ true
     at (inl e) = absurd (clash e refl)
     at (inr e) = e
 
-and-is : (a b : Bool) → (and a b ≡ true) ↔ ((a ≡ true) × (b ≡ true))
-and-is true b = (λ e. (refl, e), λ h. h .1)
-and-is false b = (λ e. absurd (clash e refl), λ h. absurd (clash (h .0) refl))
+and-true-exactly : (a b : Bool) → (and a b ≡ true) ↔ ((a ≡ true) × (b ≡ true))
+and-true-exactly true b = (λ e. (refl, e), λ h. h .1)
+and-true-exactly false b = (λ e. absurd (clash e refl), λ h. absurd (clash (h .0) refl))
 
 module _ (test : ℕ → Bool) (P : ℕ → Type 0) (decides : (i : ℕ) → (test i ≡ true) ↔ P i) where
-  failed : (i : ℕ) → test i ≡ false → P i → ⊥
-  failed i e h = clash (decides i .1 h) e
+  false-then-not : (i : ℕ) → test i ≡ false → P i → ⊥
+  false-then-not i e h = clash (decides i .1 h) e
 
-  not-failed : (i : ℕ) → (P i → ⊥) → test i ≡ false
-  not-failed i n = go (test i) refl
+  not-then-false : (i : ℕ) → (P i → ⊥) → test i ≡ false
+  not-then-false i n = go (test i) refl
     where
       go : (t : Bool) → test i ≡ t → test i ≡ false
       go true e = absurd (n (decides i .0 e))
@@ -54,10 +54,10 @@ module _ (test : ℕ → Bool) (P : ℕ → Type 0) (decides : (i : ℕ) → (te
   some-first : (n : ℕ) → some test n ≡ true → FirstOf P n (first test n)
   some-first n e =
       let l = ltb-true (first test n) n e in
-      record { below = l; holds = decides (first test n) .0 (first-passes test n l); none-before = λ j h. failed j (first-before test n j h) }
+      record { below = l; holds = decides (first test n) .0 (first-passes test n l); none-before = λ j h. false-then-not j (first-before test n j h) }
 
   some-none : (n : ℕ) → some test n ≡ false → None P n
-  some-none n e i h = failed i (none-below test n e i h)
+  some-none n e i h = false-then-not i (none-below test n e i h)
 
   none-some : (n : ℕ) → None P n → some test n ≡ false
   none-some n h = go (decLt (first test n) n)
@@ -66,8 +66,8 @@ module _ (test : ℕ → Bool) (P : ℕ → Type 0) (decides : (i : ℕ) → (te
       go (yes l) = absurd (h (first test n) l (decides (first test n) .0 (first-passes test n l)))
       go (no l) = le-ltb (first test n) n (omega arith)
 
-  first-is : (n i : ℕ) → FirstOf P n i → first test n ≡ i
-  first-is n i h = go (decLt (first test n) i) (decLt i (first test n))
+  first-unique : (n i : ℕ) → FirstOf P n i → first test n ≡ i
+  first-unique n i h = go (decLt (first test n) i) (decLt i (first test n))
     where
       go : Dec (first test n < i) → Dec (i < first test n) → first test n ≡ i
       go (yes l) d =
@@ -77,12 +77,12 @@ module _ (test : ℕ → Bool) (P : ℕ → Type 0) (decides : (i : ℕ) → (te
       go (no l) (no k) = omega arith
 
   first-some : (n i : ℕ) → FirstOf P n i → some test n ≡ true
-  first-some n i h = lt-ltb (first test n) n (omega (arith, first-is n i h, h .below))
+  first-some n i h = lt-ltb (first test n) n (omega (arith, first-unique n i h, h .below))
 
 -- ---- the four tests
 
-bad-length : (s : List ℕ) → (isBadLength (length s) ≡ true) ↔ LengthIsBad s
-bad-length s = go (decLt 2160 (length s)) (eqb (length s % 18) 0) refl
+bad-length-exactly : (s : List ℕ) → (isBadLength (length s) ≡ true) ↔ LengthIsBad s
+bad-length-exactly s = go (decLt 2160 (length s)) (eqb (length s % 18) 0) refl
   where
     go : Dec (2160 < length s) → (t : Bool) → eqb (length s % 18) 0 ≡ t → (or (ltb 2160 (length s)) (not (eqb (length s % 18) 0)) ≡ true) ↔ LengthIsBad s
     go (yes h) t e = (λ q. inl h, λ q. rw (lt-ltb 2160 (length s) h))
@@ -96,8 +96,8 @@ bad-length s = go (decLt 2160 (length s)) (eqb (length s % 18) 0) refl
         at (inr n) = absurd (n (eqb-true (length s % 18) 0 e))
     go (no h) false e = (λ q. inr (eqb-false (length s % 18) 0 e), λ q. rw (le-ltb 2160 (length s) (omega arith), e))
 
-malformed : (s : List ℕ) (i : ℕ) → (isMalformed s i ≡ true) ↔ MalformedAt s i
-malformed s i = (λ e. there (or-is a b .0 e), λ h. or-is a b .1 (back h))
+malformed-exactly : (s : List ℕ) (i : ℕ) → (isMalformed s i ≡ true) ↔ MalformedAt s i
+malformed-exactly s i = (λ e. there (or-true-exactly a b .0 e), λ h. or-true-exactly a b .1 (back h))
   where
     a : Bool
     a = eqb (addressByte s i % 2) 0
@@ -114,8 +114,8 @@ malformed s i = (λ e. there (or-is a b .0 e), λ h. or-is a b .1 (back h))
     back (inr e) = inr (lt-ltb 1 (flagOf s i) e)
 
 -- some number below n passes a test
-some-is : (test : ℕ → Bool) (n : ℕ) → (some test n ≡ true) ↔ ((j : ℕ) × (j < n) × (test j ≡ true))
-some-is test n = (
+some-exactly : (test : ℕ → Bool) (n : ℕ) → (some test n ≡ true) ↔ ((j : ℕ) × (j < n) × (test j ≡ true))
+some-exactly test n = (
   λ e. let l = ltb-true (first test n) n e in (first test n, l, first-passes test n l),
   λ h. go (some test n) refl h,
 )
@@ -124,22 +124,22 @@ some-is test n = (
     go true e h = e
     go false e h = absurd (clash (h .2) (none-below test n e (h .0) (h .1)))
 
-repeated : (s : List ℕ) (i : ℕ) → (isRepeated s i ≡ true) ↔ RepeatedAt s i
-repeated s i = (
-  λ e. let r = some-is (isSameAs s i) i .0 e in (r .0, r .1, same-is (udidOf s (r .0)) (udidOf s i) .0 (r .2)),
-  λ h. some-is (isSameAs s i) i .1 (h .0, h .1, same-is (udidOf s (h .0)) (udidOf s i) .1 (h .2)),
+repeated-exactly : (s : List ℕ) (i : ℕ) → (isRepeated s i ≡ true) ↔ RepeatedAt s i
+repeated-exactly s i = (
+  λ e. let r = some-exactly (isSameAs s i) i .0 e in (r .0, r .1, same-is (udidOf s (r .0)) (udidOf s i) .0 (r .2)),
+  λ h. some-exactly (isSameAs s i) i .1 (h .0, h .1, same-is (udidOf s (h .0)) (udidOf s i) .1 (h .2)),
 )
 
-fixed-as : (s : List ℕ) (i j : ℕ) → (isFixedAs s i j ≡ true) ↔ ((isFixed (udidOf s j) ≡ true) × (addressByte s j / 2 ≡ addressByte s i / 2))
-fixed-as s i j = (
-  λ e. let r = and-is (isFixed (udidOf s j)) (eqb (addressByte s j / 2) (addressByte s i / 2)) .0 e in (r .0, eqb-true _ _ (r .1)),
-  λ h. and-is (isFixed (udidOf s j)) (eqb (addressByte s j / 2) (addressByte s i / 2)) .1 (h .0, eq-eqb _ _ (h .1)),
+fixed-as-exactly : (s : List ℕ) (i j : ℕ) → (isFixedAs s i j ≡ true) ↔ ((isFixed (udidOf s j) ≡ true) × (addressByte s j / 2 ≡ addressByte s i / 2))
+fixed-as-exactly s i j = (
+  λ e. let r = and-true-exactly (isFixed (udidOf s j)) (eqb (addressByte s j / 2) (addressByte s i / 2)) .0 e in (r .0, eqb-true _ _ (r .1)),
+  λ h. and-true-exactly (isFixed (udidOf s j)) (eqb (addressByte s j / 2) (addressByte s i / 2)) .1 (h .0, eq-eqb _ _ (h .1)),
 )
 
-taken : (starting : Pool) (s : List ℕ) (i : ℕ) → (isTaken starting s i ≡ true) ↔ TakenAt starting s i
-taken starting s i = (
-  λ e. let r = and-is f (or m o) .0 e in (r .0, there (or-is m o .0 (r .1))),
-  λ h. and-is f (or m o) .1 (h .0, or-is m o .1 (back (h .1))),
+taken-exactly : (starting : Pool) (s : List ℕ) (i : ℕ) → (isTaken starting s i ≡ true) ↔ TakenAt starting s i
+taken-exactly starting s i = (
+  λ e. let r = and-true-exactly f (or m o) .0 e in (r .0, there (or-true-exactly m o .0 (r .1))),
+  λ h. and-true-exactly f (or m o) .1 (h .0, or-true-exactly m o .1 (back (h .1))),
 )
   where
     f : Bool
@@ -157,31 +157,31 @@ taken starting s i = (
     there : (m ≡ true) ⊎ (o ≡ true) → (m ≡ true) ⊎ Earlier
     there (inl e) = inl e
     there (inr e) =
-        let r = some-is (isFixedAs s i) i .0 e in
-        let q = fixed-as s i (r .0) .0 (r .2) in
+        let r = some-exactly (isFixedAs s i) i .0 e in
+        let q = fixed-as-exactly s i (r .0) .0 (r .2) in
         inr (r .0, r .1, q .0, q .1)
 
     back : (m ≡ true) ⊎ Earlier → (m ≡ true) ⊎ (o ≡ true)
     back (inl e) = inl e
-    back (inr h) = inr (some-is (isFixedAs s i) i .1 (h .0, h .1, fixed-as s i (h .0) .1 (h .2, h .3)))
+    back (inr h) = inr (some-exactly (isFixedAs s i) i .1 (h .0, h .1, fixed-as-exactly s i (h .0) .1 (h .2, h .3)))
 
 -- ---- the answer
 
 module _ (starting : Pool) (s : List ℕ) where
-  good-length : isBadLength (length s) ≡ false → LengthIsBad s → ⊥
-  good-length e h = clash (bad-length s .1 h) e
+  good-length-not-bad : isBadLength (length s) ≡ false → LengthIsBad s → ⊥
+  good-length-not-bad e h = clash (bad-length-exactly s .1 h) e
 
-  not-bad : (LengthIsBad s → ⊥) → isBadLength (length s) ≡ false
-  not-bad n = go (isBadLength (length s)) refl
+  not-bad-length : (LengthIsBad s → ⊥) → isBadLength (length s) ≡ false
+  not-bad-length n = go (isBadLength (length s)) refl
     where
       go : (t : Bool) → isBadLength (length s) ≡ t → isBadLength (length s) ≡ false
-      go true e = absurd (n (bad-length s .0 e))
+      go true e = absurd (n (bad-length-exactly s .0 e))
       go false e = e
 
   -- what the check answers is so
-  pub given-holds : Given starting s (checkedList starting s)
+  pub checked-then-given : Given starting s (checkedList starting s)
   unfolding checkedList amongRecords
-  given-holds = go (isBadLength (length s)) refl (some (isMalformed s) n) refl (some (isRepeated s) n) refl (some (isTaken starting s) n) refl
+  checked-then-given = go (isBadLength (length s)) refl (some (isMalformed s) n) refl (some (isRepeated s) n) refl (some (isTaken starting s) n) refl
     where
       n : ℕ
       n = recordCount s
@@ -190,42 +190,42 @@ module _ (starting : Pool) (s : List ℕ) where
           → Given starting s
           (pick a BadLength
           (pick b (Malformed (first (isMalformed s) n)) (pick c (Repeated (first (isRepeated s) n)) (pick d (Taken (first (isTaken starting s) n)) Admitted))))
-      go true e b f c g d h = bad-length s .0 e
-      go false e true f c g d h = (good-length e, some-first (isMalformed s) (MalformedAt s) (malformed s) n f)
+      go true e b f c g d h = bad-length-exactly s .0 e
+      go false e true f c g d h = (good-length-not-bad e, some-first (isMalformed s) (MalformedAt s) (malformed-exactly s) n f)
       go false e false f true g d h = (
-        good-length e,
-        some-none (isMalformed s) (MalformedAt s) (malformed s) n f,
-        some-first (isRepeated s) (RepeatedAt s) (repeated s) n g,
+        good-length-not-bad e,
+        some-none (isMalformed s) (MalformedAt s) (malformed-exactly s) n f,
+        some-first (isRepeated s) (RepeatedAt s) (repeated-exactly s) n g,
       )
       go false e false f false g true h = (
-        good-length e,
-        some-none (isMalformed s) (MalformedAt s) (malformed s) n f,
-        some-none (isRepeated s) (RepeatedAt s) (repeated s) n g,
-        some-first (isTaken starting s) (TakenAt starting s) (taken starting s) n h,
+        good-length-not-bad e,
+        some-none (isMalformed s) (MalformedAt s) (malformed-exactly s) n f,
+        some-none (isRepeated s) (RepeatedAt s) (repeated-exactly s) n g,
+        some-first (isTaken starting s) (TakenAt starting s) (taken-exactly starting s) n h,
       )
       go false e false f false g false h = (
-        good-length e,
-        some-none (isMalformed s) (MalformedAt s) (malformed s) n f,
-        some-none (isRepeated s) (RepeatedAt s) (repeated s) n g,
-        some-none (isTaken starting s) (TakenAt starting s) (taken starting s) n h,
+        good-length-not-bad e,
+        some-none (isMalformed s) (MalformedAt s) (malformed-exactly s) n f,
+        some-none (isRepeated s) (RepeatedAt s) (repeated-exactly s) n g,
+        some-none (isTaken starting s) (TakenAt starting s) (taken-exactly starting s) n h,
       )
 
   -- and what is so is what it answers
-  pub given-only : (r : Checked) → Given starting s r → r ≡ checkedList starting s
+  pub given-then-checked : (r : Checked) → Given starting s r → r ≡ checkedList starting s
   unfolding checkedList amongRecords
-  given-only BadLength h = rw (bad-length s .1 h)
-  given-only (Malformed i) h =
-      rw (not-bad (h .0), first-some (isMalformed s) (MalformedAt s) (malformed s) (recordCount s) i (h .1), first-is (isMalformed s) (MalformedAt s) (malformed s) (recordCount s) i (h .1))
-  given-only (Repeated i) h =
-      rw (not-bad (h .0), none-some (isMalformed s) (MalformedAt s) (malformed s) (recordCount s) (h .1), first-some (isRepeated s) (RepeatedAt s) (repeated s) (recordCount s) i (h .2), first-is (isRepeated s) (RepeatedAt s) (repeated s) (recordCount s) i (h .2))
-  given-only (Taken i) h =
-      rw (not-bad (h .0), none-some (isMalformed s) (MalformedAt s) (malformed s) (recordCount s) (h .1), none-some (isRepeated s) (RepeatedAt s) (repeated s) (recordCount s) (h .2), first-some (isTaken starting s) (TakenAt starting s) (taken starting s) (recordCount s) i (h .3), first-is (isTaken starting s) (TakenAt starting s) (taken starting s) (recordCount s) i (h .3))
-  given-only Admitted h =
-      rw (not-bad (h .0), none-some (isMalformed s) (MalformedAt s) (malformed s) (recordCount s) (h .1), none-some (isRepeated s) (RepeatedAt s) (repeated s) (recordCount s) (h .2), none-some (isTaken starting s) (TakenAt starting s) (taken starting s) (recordCount s) (h .3))
+  given-then-checked BadLength h = rw (bad-length-exactly s .1 h)
+  given-then-checked (Malformed i) h =
+      rw (not-bad-length (h .0), first-some (isMalformed s) (MalformedAt s) (malformed-exactly s) (recordCount s) i (h .1), first-unique (isMalformed s) (MalformedAt s) (malformed-exactly s) (recordCount s) i (h .1))
+  given-then-checked (Repeated i) h =
+      rw (not-bad-length (h .0), none-some (isMalformed s) (MalformedAt s) (malformed-exactly s) (recordCount s) (h .1), first-some (isRepeated s) (RepeatedAt s) (repeated-exactly s) (recordCount s) i (h .2), first-unique (isRepeated s) (RepeatedAt s) (repeated-exactly s) (recordCount s) i (h .2))
+  given-then-checked (Taken i) h =
+      rw (not-bad-length (h .0), none-some (isMalformed s) (MalformedAt s) (malformed-exactly s) (recordCount s) (h .1), none-some (isRepeated s) (RepeatedAt s) (repeated-exactly s) (recordCount s) (h .2), first-some (isTaken starting s) (TakenAt starting s) (taken-exactly starting s) (recordCount s) i (h .3), first-unique (isTaken starting s) (TakenAt starting s) (taken-exactly starting s) (recordCount s) i (h .3))
+  given-then-checked Admitted h =
+      rw (not-bad-length (h .0), none-some (isMalformed s) (MalformedAt s) (malformed-exactly s) (recordCount s) (h .1), none-some (isRepeated s) (RepeatedAt s) (repeated-exactly s) (recordCount s) (h .2), none-some (isTaken starting s) (TakenAt starting s) (taken-exactly starting s) (recordCount s) (h .3))
 
   -- EACH OF 9, 10, 11 AND 12 IS GIVEN EXACTLY IN ITS LISTED CASE, with the first record, and in that order
   pub given-exactly : (r : Checked) → (r ≡ checkedList starting s) ↔ Given starting s r
-  given-exactly r = (λ e. subst (Given starting s) (sym e) given-holds, given-only r)
+  given-exactly r = (λ e. subst (Given starting s) (sym e) checked-then-given, given-then-checked r)
 
 -- number and value tell the cases apart
 caseOf : Answer → Checked
@@ -242,5 +242,5 @@ case-back (Malformed i) = refl
 case-back (Repeated i) = refl
 case-back (Taken i) = refl
 
-pub answers-differ : (r t : Checked) → answerOf r ≡ answerOf t → r ≡ t
-answers-differ r t e = sym (case-back r) ∙ ap caseOf e ∙ case-back t
+pub answers-tell-apart : (r t : Checked) → answerOf r ≡ answerOf t → r ≡ t
+answers-tell-apart r t e = sym (case-back r) ∙ ap caseOf e ∙ case-back t

@@ -4,6 +4,7 @@ use mathlib.Core.Bool.{Bool}
 use mathlib.Core.List.{List, [], _∷_, _++_}
 use Rattle.lists.specs.Choice.{pick}
 use Rattle.wire.specs.Pec.{pecOf}
+use Rattle.trace.specs.Trace.{Message}
 use Rattle.udid.specs.Bytes.{udidBytes}
 use Rattle.arbitration.specs.Bits.{byteBits, bytesRead}
 use Rattle.arbitration.specs.Wire.{heard}
@@ -41,3 +42,7 @@ pub data OnWire : Type 0 where
 abbrev pub onWire : List (List Bool) → OnWire
 onWire [] = silence
 onWire (s ∷ ss) = shown (bytesRead 19 (heard 152 (s ∷ ss)))
+
+-- Get UDID with these 17 bytes of data received
+abbrev pub gotUdid : List ℕ → Message
+gotUdid received = record { address = 0x61; direction = 0; command = 0x03; sent = []; received = received }

@@ -16,45 +16,41 @@ use Rattle.udid.specs.Bytes.{udidBytes}
 use Rattle.udid.specs.Udids.{Fits, value, isBelow}
 use Rattle.udid.specs.UdidLaws.{length-udid, udid-bytes}
 use Rattle.arbitration.specs.Among.{Among}
-use Rattle.arbitration.specs.Bits.{bits, udidBits, byteBits, bytesRead}
+use Rattle.arbitration.specs.Bits.{bits, udidBits, byteBits, bytesRead, sent}
 use Rattle.arbitration.specs.BitLaws.{length-bits, length-byte-bits, byte-bits-append, read-bytes, udid-bits}
 use Rattle.arbitration.specs.Wire.{heard, sending}
-use Rattle.arbitration.specs.DropOut.{shared, noLater, sharing}
+use Rattle.arbitration.specs.DropOut.{shared, noLater, sharing, Stays}
 use Rattle.arbitration.specs.OrderLaws.{noLater-refl}
 use Rattle.arbitration.specs.WinLaws.{drop-out-within}
-use Rattle.arbitration.specs.WireLaws.{Stays, heard-is, sending-is}
-use Rattle.arbitration.specs.PairLaws.{sent, sent-order}
-use Rattle.targets.specs.Target.{Target, isResolved}
+use Rattle.arbitration.specs.WireLaws.{heard-who-stays, sending-who-share}
+use Rattle.arbitration.specs.PairLaws.{sent-order}
+use Rattle.targets.specs.Target.{Target, isResolved, Sized}
 use Rattle.targets.specs.Reply.{replyData, coveredBytes, replyPec, replyBytes, sends, waiting, silence, shown, onWire}
-
--- the numbers of a target fit their places
-pub record Sized (t : Target) : Type 0 where
-  pub udid : Fits (t .udid)
-  pub addressByte : t .addressByte < 256
+use Rattle.targets.specs.Members.{Least}
 
 -- ---- the bytes
 
-pub length-data : (t : Target) → length (replyData t) ≡ 17
+pub length-reply-data : (t : Target) → length (replyData t) ≡ 17
 unfolding replyData
-length-data t = length-append (udidBytes (t .udid)) (t .addressByte ∷ []) ∙ omega (arith, length-udid (t .udid))
+length-reply-data t = length-append (udidBytes (t .udid)) (t .addressByte ∷ []) ∙ omega (arith, length-udid (t .udid))
 
 pub length-reply : (t : Target) → length (replyBytes t) ≡ 19
 unfolding replyBytes
-length-reply t = ap suc (length-append (replyData t) (replyPec t ∷ []) ∙ omega (arith, length-data t))
+length-reply t = ap suc (length-append (replyData t) (replyPec t ∷ []) ∙ omega (arith, length-reply-data t))
 
-pub bytes-data : (t : Target) → t .addressByte < 256 → Bytes (replyData t)
+pub bytes-reply-data : (t : Target) → t .addressByte < 256 → Bytes (replyData t)
 unfolding replyData
-bytes-data t h = append-bytes (udidBytes (t .udid)) (t .addressByte ∷ []) (udid-bytes (t .udid)) (h, tt)
+bytes-reply-data t h = append-bytes (udidBytes (t .udid)) (t .addressByte ∷ []) (udid-bytes (t .udid)) (h, tt)
 
 bytes-covered : (t : Target) → t .addressByte < 256 → Bytes (coveredBytes t)
 unfolding coveredBytes
-bytes-covered t h = (omega arith, (omega arith, (omega arith, (omega arith, bytes-data t h))))
+bytes-covered t h = (omega arith, (omega arith, (omega arith, (omega arith, bytes-reply-data t h))))
 
 pub bytes-reply : (t : Target) → t .addressByte < 256 → Bytes (replyBytes t)
 unfolding replyBytes replyPec
 bytes-reply t h =
     let p : replyPec t < 256 = pec-byte 0 (coveredBytes t) (omega arith) (bytes-covered t h) in
-    (omega arith, append-bytes (replyData t) (replyPec t ∷ []) (bytes-data t h) (p, tt))
+    (omega arith, append-bytes (replyData t) (replyPec t ∷ []) (bytes-reply-data t h) (p, tt))
 
 -- ---- the bits
 
@@ -72,9 +68,9 @@ after : Target → List Bool
 after t = byteBits (t .addressByte ∷ replyPec t ∷ [])
 
 -- all send the count first, then each its identifier
-sends-parts : (t : Target) → sends t ≡ sent (bits 8 17) (t .udid) (after t)
+sends-count-udid-rest : (t : Target) → sends t ≡ sent (bits 8 17) (t .udid) (after t)
 unfolding sends replyBytes replyData after
-sends-parts t =
+sends-count-udid-rest t =
     ap (λ (x : List Bool). bits 8 17 ++ x)
     (ap byteBits (append-assoc (udidBytes (t .udid)) (t .addressByte ∷ []) (replyPec t ∷ []))
     ∙ byte-bits-append (udidBytes (t .udid)) (t .addressByte ∷ replyPec t ∷ [])
@@ -83,12 +79,12 @@ sends-parts t =
 module _ (r t : Target) (f : Fits (r .udid)) (g : Fits (t .udid)) (n : r .udid ≡ t .udid → ⊥) where
   -- of two targets the one with the lower identifier stays on the wire
   pub sends-order : noLater (sends r) (sends t) ≡ isBelow (r .udid) (t .udid)
-  sends-order = rw (sends-parts r, sends-parts t) (sent-order (r .udid) (t .udid) f g (bits 8 17) (after r) (after t) n)
+  sends-order = rw (sends-count-udid-rest r, sends-count-udid-rest t) (sent-order (r .udid) (t .udid) f g (bits 8 17) (after r) (after t) n)
 
   -- THE DROP-OUT BIT OF A REPLY is that of the identifiers, after the eight bits of the count
   pub sends-drop-out : shared (sends r) (sends t) ≡ 8 + shared (udidBits (r .udid)) (udidBits (t .udid))
   sends-drop-out =
-      rw (sends-parts r, sends-parts t)
+      rw (sends-count-udid-rest r, sends-count-udid-rest t)
       (drop-out-within (r .udid) (t .udid) f g (bits 8 17) (after r) (after t) n
       ∙ ap (λ (k : ℕ). k + shared (udidBits (r .udid)) (udidBits (t .udid))) (length-bits 8 17))
 
@@ -124,13 +120,6 @@ none-waiting (t ∷ ts) h = go (isResolved t) refl (none-waiting ts (λ x m e. h
 pub nobody-on-wire : (ts : List Target) → ((t : Target) → Among t ts → isResolved t ≡ false → ⊥) → onWire (waiting ts) ≡ silence
 nobody-on-wire ts h = ap onWire (none-waiting ts h)
 
--- r is unresolved, and each other unresolved target has a greater identifier
-pub record Least (ts : List Target) (r : Target) : Type 0 where
-  pub among : Among r ts
-  pub unresolved : isResolved r ≡ false
-  pub sized : Sized r
-  pub below : (t : Target) → Among t ts → isResolved t ≡ false → (r ≡ t) ⊎ (Sized t × (value (r .udid) < value (t .udid)))
-
 module _ (ts : List Target) (r : Target) (l : Least ts r) where
   stays : Each (Stays (sends r)) (waiting ts)
   stays = each-waiting (Stays (sends r)) ts (λ t k f. at t (l .below t k f))
@@ -151,9 +140,9 @@ module _ (ts : List Target) (r : Target) (l : Least ts r) where
     where
       go : (ss : List (List Bool)) → Each (Stays (sends r)) ss → Among (sends r) ss → onWire ss ≡ shown (replyBytes r)
       go (s ∷ ss) k a =
-          let q : heard 152 (s ∷ ss) ≡ sends r = ap (λ (n : ℕ). heard n (s ∷ ss)) (sym (length-sends r)) ∙ heard-is (sends r) (s ∷ ss) k a in
+          let q : heard 152 (s ∷ ss) ≡ sends r = ap (λ (n : ℕ). heard n (s ∷ ss)) (sym (length-sends r)) ∙ heard-who-stays (sends r) (s ∷ ss) k a in
           ap shown (ap (bytesRead 19) q ∙ read-sends r (l .sized .addressByte))
 
   -- and after n bits those still send that share n bits with it
   pub least-sending : (n : ℕ) → n ≤ 152 → sending n (waiting ts) ≡ sharing n (sends r) (waiting ts)
-  least-sending n h = sending-is n (sends r) (waiting ts) stays (among-waiting ts r (l .among) (l .unresolved)) (omega (arith, length-sends r))
+  least-sending n h = sending-who-share n (sends r) (waiting ts) stays (among-waiting ts r (l .among) (l .unresolved)) (omega (arith, length-sends r))

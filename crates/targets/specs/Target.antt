@@ -1,10 +1,10 @@
 -- A target, and what the ARP commands do to targets.
-use Prim.Native.Nat.{ℕ, _+_, _*_, _%_}
+use Prim.Native.Nat.{ℕ, _+_, _*_, _%_, _<_}
 use mathlib.Core.Bool.{Bool}
 use mathlib.Core.List.{List, [], _∷_}
 use lib.Dec.{eqb}
 use Rattle.lists.specs.Choice.{pick}
-use Rattle.udid.specs.Udids.{sameUdid}
+use Rattle.udid.specs.Udids.{Fits, sameUdid}
 use Rattle.udid.specs.declared.Udid.{Udid}
 
 -- its identifier, its device address byte, and its resolved flag
@@ -12,6 +12,11 @@ pub record Target : Type 0 where
   pub udid : Udid
   pub addressByte : ℕ
   pub flag : ℕ
+
+-- the numbers of a target fit their places
+pub record Sized (t : Target) : Type 0 where
+  pub udid : Fits (t .udid)
+  pub addressByte : t .addressByte < 256
 
 -- a resolved target does not answer Get UDID
 abbrev pub isResolved : Target → Bool

@@ -6,14 +6,10 @@ use mathlib.Core.List.{List, [], _∷_, _++_}
 use Rattle.wire.specs.Symbols.{START, STOP, ACK}
 use Rattle.wire.specs.Pec.{pecOf}
 use Rattle.trace.specs.Shapes.{shapeOf}
-use Rattle.trace.specs.Trace.{Message, trace, nacked}
+use Rattle.trace.specs.Trace.{trace, nacked}
 use Rattle.targets.specs.Target.{Target}
-use Rattle.targets.specs.Reply.{replyData, coveredBytes, replyPec, replyBytes}
-use Rattle.targets.specs.ReplyLaws.{length-data}
-
--- Get UDID with these 17 bytes of data received
-abbrev pub gotUdid : List ℕ → Message
-gotUdid received = record { address = 0x61; direction = 0; command = 0x03; sent = []; received = received }
+use Rattle.targets.specs.Reply.{replyData, coveredBytes, replyPec, replyBytes, gotUdid}
+use Rattle.targets.specs.ReplyLaws.{length-reply-data}
 
 counted : List ℕ → ℕ → ℕ → List ℕ
 counted ds n c = START ∷ 0xC2 ∷ ACK ∷ 0x03 ∷ ACK ∷ START ∷ 0xC3 ∷ ACK ∷ (nacked (n ∷ (ds ++ c ∷ [])) ++ STOP ∷ [])
@@ -21,4 +17,4 @@ counted ds n c = START ∷ 0xC2 ∷ ACK ∷ 0x03 ∷ ACK ∷ START ∷ 0xC3 ∷ 
 pub reply-trace : (t : Target) → trace (shapeOf 9) true (gotUdid (replyData t))
     ≡ START ∷ 0xC2 ∷ ACK ∷ 0x03 ∷ ACK ∷ START ∷ 0xC3 ∷ ACK ∷ (nacked (replyBytes t) ++ STOP ∷ [])
 unfolding replyBytes replyPec coveredBytes counted
-reply-trace t = ap (λ (n : ℕ). counted (replyData t) n (pecOf (0xC2 ∷ 0x03 ∷ 0xC3 ∷ n ∷ replyData t))) (length-data t)
+reply-trace t = ap (λ (n : ℕ). counted (replyData t) n (pecOf (0xC2 ∷ 0x03 ∷ 0xC3 ∷ n ∷ replyData t))) (length-reply-data t)

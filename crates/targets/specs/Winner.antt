@@ -1,10 +1,13 @@
--- Who wins on the wire, found over the records one after the other.
-use Prim.Native.Nat.{ℕ, zero, suc}
+-- Who wins on the wire, found over the records one after the other, and what a winner is.
+use Prim.Native.Nat.{ℕ, zero, suc, _≤_, _<_}
+use mathlib.Core.Path.{_≡_}
 use mathlib.Core.List.{List}
 use lib.Dec.{eqb, ltb}
 use Rattle.lists.specs.Choice.{pick}
-use Rattle.udid.specs.Udids.{isBelow}
-use Rattle.targets.specs.Records.{udidOf, flagOf, recordCount}
+use Rattle.udid.specs.Udids.{value, isBelow}
+use Rattle.targets.specs.Cases.{None}
+use Rattle.targets.specs.Records.{udidOf, flagOf, targetAt, recordCount}
+use Rattle.targets.specs.Reply.{replyBytes, OnWire, silence, shown}
 use Rattle.targets.specs.declared.winner.Winner.{Winner}
 use Rattle.targets.specs.declared.winner.Winner.the-variants.{At, AllResolved}
 
@@ -28,3 +31,24 @@ winnerAmong s n = pick (ltb (leastOf s n) n) (At (leastOf s n)) AllResolved
 
 unfoldable pub winnerOf : List ℕ → Winner
 winnerOf s = winnerAmong s (recordCount s)
+
+-- ---- what the winner is
+
+abbrev pub Unresolved : List ℕ → ℕ → Type 0
+Unresolved s i = flagOf s i ≡ 1 → ⊥
+
+-- of the first n records, w is the unresolved one with the least identifier, and the first of those that have it
+pub record Wins (s : List ℕ) (n w : ℕ) : Type 0 where
+  pub below : w < n
+  pub unresolved : Unresolved s w
+  pub least : (j : ℕ) → j < n → Unresolved s j → value (udidOf s w) ≤ value (udidOf s j)
+  pub earliest : (j : ℕ) → j < w → Unresolved s j → value (udidOf s w) < value (udidOf s j)
+
+abbrev pub Won : List ℕ → Winner → Type 0
+Won s (At w) = Wins s (recordCount s) w
+Won s AllResolved = None (Unresolved s) (recordCount s)
+
+-- what stands on the wire: the reply of the winner
+abbrev pub shownBy : List ℕ → Winner → OnWire
+shownBy s AllResolved = silence
+shownBy s (At w) = shown (replyBytes (targetAt s w))

@@ -14,31 +14,16 @@ use Rattle.udid.specs.Udids.{value, isBelow}
 use Rattle.udid.specs.UdidLaws.{fits-at, value-same}
 use Rattle.arbitration.specs.Wire.{sending}
 use Rattle.arbitration.specs.DropOut.{sharing}
-use Rattle.targets.specs.Target.{Target, isResolved}
+use Rattle.targets.specs.Target.{Target, isResolved, Sized}
 use Rattle.targets.specs.Records.{udidOf, flagOf, targetAt, recordCount, targetsOf}
 use Rattle.targets.specs.Cases.{RepeatedAt, None}
-use Rattle.targets.specs.Winner.{betterOf, bestFrom, leastOf, winnerOf}
-use Rattle.targets.specs.Reply.{replyBytes, sends, waiting, OnWire, silence, shown, onWire}
-use Rattle.targets.specs.ReplyLaws.{Sized, Least, nobody-on-wire, least-on-wire, least-sending}
-use Rattle.targets.specs.IndexLaws.{in-targets, of-targets, sized-at}
+use Rattle.targets.specs.Winner.{betterOf, bestFrom, leastOf, winnerOf, Unresolved, Wins, Won, shownBy}
+use Rattle.targets.specs.Reply.{sends, waiting, onWire}
+use Rattle.targets.specs.Members.{Least}
+use Rattle.targets.specs.ReplyLaws.{nobody-on-wire, least-on-wire, least-sending}
+use Rattle.targets.specs.IndexLaws.{target-has-record, record-has-target, sized-at}
 use Rattle.targets.specs.declared.winner.Winner.{Winner}
 use Rattle.targets.specs.declared.winner.Winner.the-variants.{At, AllResolved}
-
--- ---- what the winner is
-
-abbrev pub Unresolved : List ℕ → ℕ → Type 0
-Unresolved s i = flagOf s i ≡ 1 → ⊥
-
--- of the first n records, w is the unresolved one with the least identifier, and the first of those that have it
-pub record Wins (s : List ℕ) (n w : ℕ) : Type 0 where
-  pub below : w < n
-  pub unresolved : Unresolved s w
-  pub least : (j : ℕ) → j < n → Unresolved s j → value (udidOf s w) ≤ value (udidOf s j)
-  pub earliest : (j : ℕ) → j < w → Unresolved s j → value (udidOf s w) < value (udidOf s j)
-
-abbrev pub Won : List ℕ → Winner → Type 0
-Won s (At w) = Wins s (recordCount s) w
-Won s AllResolved = None (Unresolved s) (recordCount s)
 
 -- ---- the search finds it
 
@@ -50,24 +35,24 @@ module _ (s : List ℕ) where
   Val j = value (udidOf s j)
 
   -- a number below i + 1 is below i, or i
-  split : (i j : ℕ) → j < suc i → (j ≡ i) ⊎ (j < i)
-  split i j l = at (decLt j i)
+  below-or-last : (i j : ℕ) → j < suc i → (j ≡ i) ⊎ (j < i)
+  below-or-last i j l = at (decLt j i)
     where
       at : Dec (j < i) → (j ≡ i) ⊎ (j < i)
       at (yes q) = inr q
       at (no q) = inl (omega arith)
 
   -- record i is resolved: what held of the others holds
-  passed : (i best n : ℕ) → flagOf s i ≡ 1 → Best s n i best → Best s n (suc i) best
-  passed i best n e (inl w) = inl (w .0, λ j l u. at j u (split i j l))
+  resolved-skipped : (i best n : ℕ) → flagOf s i ≡ 1 → Best s n i best → Best s n (suc i) best
+  resolved-skipped i best n e (inl w) = inl (w .0, λ j l u. at j u (below-or-last i j l))
     where
       at : (j : ℕ) → Unresolved s j → (j ≡ i) ⊎ (j < i) → ⊥
       at j u (inl q) = u (ap (flagOf s) q ∙ e)
       at j u (inr q) = w .1 j q u
-  passed i best n e (inr w) = inr (record {
+  resolved-skipped i best n e (inr w) = inr (record {
     below = omega (arith, w .below);
     unresolved = w .unresolved;
-    least = λ j l u. at j u (split i j l);
+    least = λ j l u. at j u (below-or-last i j l);
     earliest = w .earliest;
   })
     where
@@ -76,19 +61,19 @@ module _ (s : List ℕ) where
       at j u (inr q) = w .least j q u
 
   -- record i is lower than all unresolved ones before it
-  newly : (i n : ℕ) → Unresolved s i → ((j : ℕ) → j < i → Unresolved s j → Val i < Val j) → Best s n (suc i) i
-  newly i n e h = inr (record { below = omega arith; unresolved = e; least = λ j l u. at j u (split i j l); earliest = h })
+  first-is-best : (i n : ℕ) → Unresolved s i → ((j : ℕ) → j < i → Unresolved s j → Val i < Val j) → Best s n (suc i) i
+  first-is-best i n e h = inr (record { below = omega arith; unresolved = e; least = λ j l u. at j u (below-or-last i j l); earliest = h })
     where
       at : (j : ℕ) → Unresolved s j → (j ≡ i) ⊎ (j < i) → Val i ≤ Val j
       at j u (inl q) = omega (arith, ap Val q)
       at j u (inr q) = omega (arith, h j q u)
 
   -- record i is not lower than the best
-  remains : (i best n : ℕ) → Val best ≤ Val i → Wins s i best → Best s n (suc i) best
-  remains i best n h w = inr (record {
+  best-remains : (i best n : ℕ) → Val best ≤ Val i → Wins s i best → Best s n (suc i) best
+  best-remains i best n h w = inr (record {
     below = omega (arith, w .below);
     unresolved = w .unresolved;
-    least = λ j l u. at j u (split i j l);
+    least = λ j l u. at j u (below-or-last i j l);
     earliest = w .earliest;
   })
     where
@@ -101,14 +86,14 @@ module _ (s : List ℕ) where
   better-best n i best h v = go (eqb (flagOf s i) 1) refl v
     where
       go : (t : Bool) → eqb (flagOf s i) 1 ≡ t → Best s n i best → Best s n (suc i) (pick t best (pick (ltb best n) (pick (isBelow (udidOf s i) (udidOf s best)) i best) i))
-      go true e w = passed i best n (eqb-true (flagOf s i) 1 e) w
+      go true e w = resolved-skipped i best n (eqb-true (flagOf s i) 1 e) w
       go false e (inl w) =
-          rw (le-ltb best n (omega (arith, w .0))) (newly i n (eqb-false (flagOf s i) 1 e) (λ j l u. absurd (w .1 j l u)))
+          rw (le-ltb best n (omega (arith, w .0))) (first-is-best i n (eqb-false (flagOf s i) 1 e) (λ j l u. absurd (w .1 j l u)))
       go false e (inr w) = rw (lt-ltb best n (omega (arith, w .below))) (at (isBelow (udidOf s i) (udidOf s best)) refl)
         where
           at : (t : Bool) → isBelow (udidOf s i) (udidOf s best) ≡ t → Best s n (suc i) (pick t i best)
-          at true f = newly i n (eqb-false (flagOf s i) 1 e) (λ j l u. omega (arith, ltb-true (Val i) (Val best) f, w .least j l u))
-          at false f = remains i best n (ltb-false (Val i) (Val best) f) w
+          at true f = first-is-best i n (eqb-false (flagOf s i) 1 e) (λ j l u. omega (arith, ltb-true (Val i) (Val best) f, w .least j l u))
+          at false f = best-remains i best n (ltb-false (Val i) (Val best) f) w
 
   from-best : (n k i best : ℕ) → i + k ≡ n → Best s n i best → Best s n n (bestFrom s n k i best)
   unfolding bestFrom
@@ -146,34 +131,30 @@ module _ (s : List ℕ) where
 
 -- ---- what stands on the wire
 
-abbrev pub shownBy : List ℕ → Winner → OnWire
-shownBy s AllResolved = silence
-shownBy s (At w) = shown (replyBytes (targetAt s w))
-
 module _ (s : List ℕ) (b : Bytes s) (differ : None (RepeatedAt s) (recordCount s)) where
-  pub flag-is : (i : ℕ) (t : Target) → targetAt s i ≡ t → isResolved t ≡ false → Unresolved s i
+  pub unresolved-by-flag : (i : ℕ) (t : Target) → targetAt s i ≡ t → isResolved t ≡ false → Unresolved s i
   unfolding targetAt
-  flag-is i t e o = eqb-false (flagOf s i) 1 (ap isResolved e ∙ o)
+  unresolved-by-flag i t e o = eqb-false (flagOf s i) 1 (ap isResolved e ∙ o)
 
-  other : (i j : ℕ) → i < recordCount s → j < recordCount s → (i ≡ j → ⊥) → udidOf s i ≡ udidOf s j → ⊥
-  other i j h g n e = go (decLt i j)
+  others-differ : (i j : ℕ) → i < recordCount s → j < recordCount s → (i ≡ j → ⊥) → udidOf s i ≡ udidOf s j → ⊥
+  others-differ i j h g n e = go (decLt i j)
     where
       go : Dec (i < j) → ⊥
       go (yes l) = differ j g (i, l, e)
       go (no l) = differ i h (j, omega arith, sym e)
 
   -- the winner is the least of the unresolved targets
-  pub least-of : (w : ℕ) → Wins s (recordCount s) w → Least (targetsOf s) (targetAt s w)
+  pub winner-least : (w : ℕ) → Wins s (recordCount s) w → Least (targetsOf s) (targetAt s w)
   unfolding targetAt
-  least-of w v = record {
-    among = of-targets s (recordCount s) 0 w (omega arith) (omega (arith, v .below));
+  winner-least w v = record {
+    among = record-has-target s (recordCount s) 0 w (omega arith) (omega (arith, v .below));
     unresolved = ne-eqb (flagOf s w) 1 (v .unresolved);
     sized = sized-at s b w;
-    below = λ t m o. let r = in-targets s (recordCount s) 0 t m in at t (r .0) (omega (arith, r .2)) (r .3) o (ℕ-discrete w (r .0));
+    below = λ t m o. let r = target-has-record s (recordCount s) 0 t m in at t (r .0) (omega (arith, r .2)) (r .3) o (ℕ-discrete w (r .0));
   }
     where
       lower : (j : ℕ) → j < recordCount s → value (udidOf s w) ≤ value (udidOf s j) → (w ≡ j → ⊥) → value (udidOf s w) < value (udidOf s j)
-      lower j l h n = strict (value (udidOf s w)) (value (udidOf s j)) h (λ e. other w j (v .below) l n (value-same (udidOf s w) (udidOf s j) (fits-at s (w * 18) b .low) (fits-at s (j * 18) b .low) e))
+      lower j l h n = strict (value (udidOf s w)) (value (udidOf s j)) h (λ e. others-differ w j (v .below) l n (value-same (udidOf s w) (udidOf s j) (fits-at s (w * 18) b .low) (fits-at s (j * 18) b .low) e))
         where
           strict : (x y : ℕ) → x ≤ y → (x ≡ y → ⊥) → x < y
           strict x y p q = omega arith
@@ -182,7 +163,7 @@ module _ (s : List ℕ) (b : Bytes s) (differ : None (RepeatedAt s) (recordCount
       at t j l e o (yes q) = inl (ap (targetAt s) q ∙ e)
       at t j l e o (no q) = inr (
         subst Sized e (sized-at s b j),
-        subst (λ (x : Target). value (udidOf s w) < value (x .udid)) e (lower j l (v .least j l (flag-is j t e o)) q),
+        subst (λ (x : Target). value (udidOf s w) < value (x .udid)) e (lower j l (v .least j l (unresolved-by-flag j t e o)) q),
       )
 
   -- THE WIRE SHOWS THE WINNER'S REPLY, or silence where all are resolved
@@ -190,9 +171,9 @@ module _ (s : List ℕ) (b : Bytes s) (differ : None (RepeatedAt s) (recordCount
   winner-on-wire = go (winnerOf s) (winner-exactly s (winnerOf s) .0 refl)
     where
       go : (r : Winner) → Won s r → onWire (waiting (targetsOf s)) ≡ shownBy s r
-      go AllResolved v = nobody-on-wire (targetsOf s) (λ t m o. let r = in-targets s (recordCount s) 0 t m in v (r .0) (omega (arith, r .2)) (flag-is (r .0) t (r .3) o))
-      go (At w) v = least-on-wire (targetsOf s) (targetAt s w) (least-of w v)
+      go AllResolved v = nobody-on-wire (targetsOf s) (λ t m o. let r = target-has-record s (recordCount s) 0 t m in v (r .0) (omega (arith, r .2)) (unresolved-by-flag (r .0) t (r .3) o))
+      go (At w) v = least-on-wire (targetsOf s) (targetAt s w) (winner-least w v)
 
   -- after n bits those targets still send that share n bits with the winner
   pub winner-sending : (w : ℕ) → At w ≡ winnerOf s → (n : ℕ) → n ≤ 152 → sending n (waiting (targetsOf s)) ≡ sharing n (sends (targetAt s w)) (waiting (targetsOf s))
-  winner-sending w e n h = least-sending (targetsOf s) (targetAt s w) (least-of w (winner-exactly s (At w) .0 e)) n h
+  winner-sending w e n h = least-sending (targetsOf s) (targetAt s w) (winner-least w (winner-exactly s (At w) .0 e)) n h

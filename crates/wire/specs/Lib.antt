@@ -6,4 +6,4 @@ pub mod WordsLaws
 pub mod Pec
 pub mod PecLaws
 pub mod PecDivision
-pub mod PecDivisionLaws
+pub mod UniqueLaws

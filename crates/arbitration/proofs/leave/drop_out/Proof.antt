@@ -2,7 +2,7 @@ use lib.Bits.{bitXor}
 use lib.Count.{leading-le}
 use native.Mathlib.Omega.{arith}
 use borrow.Author.Needs.{needs}
-use Rattle.arbitration.specs.DropOutLaws.{drop-high, drop-low}
+use Rattle.arbitration.specs.DropOutLaws.{drop-out-in-high-half, drop-out-in-low-half}
 use Rattle.arbitration.proofs.leave.drop_out.Statement.{statement}
 use Rattle.arbitration.proofs.leave.drop_out.Tie as tie
 use Rattle.arbitration.proofs.leave.drop_out.Reads as reads
@@ -14,11 +14,11 @@ add-result c = omega (arith, leading-le 64 (bitXor (c .before .before .before .b
 
 -- src/leave.rt:9:1
 returns : tie.Need-returns
-returns c = drop-low (c .before .before .before .before .before .args .a) (c .before .before .before .before .before .args .b) (search needs) (search needs) (c .before .before .if1 .taken)
+returns c = drop-out-in-low-half (c .before .before .before .before .before .args .a) (c .before .before .before .before .before .args .b) (search needs) (search needs) (c .before .before .if1 .taken)
 
 -- src/leave.rt:9:1
 returns-2 : tie.Need-returns-2
-returns-2 c = drop-high (c .before .before .before .before .before .args .a) (c .before .before .before .before .before .args .b) (search needs) (search needs) (c .before .before .if1 .left)
+returns-2 c = drop-out-in-high-half (c .before .before .before .before .before .args .a) (c .before .before .before .before .before .args .b) (search needs) (search needs) (c .before .before .if1 .left)
 
 pub drop-out-spec : {M : Type 1} → statement M
 drop-out-spec = tie.close (tie.spec add-result returns returns-2)

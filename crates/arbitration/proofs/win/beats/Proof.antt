@@ -1,7 +1,7 @@
 use mathlib.Core.Path.{_∙_}
 use borrow.Author.Needs.{needs}
 use borrow.Author.Tests.{lt-ltb, le-ltb}
-use Rattle.arbitration.specs.WinLaws.{beats-law}
+use Rattle.arbitration.specs.WinLaws.{drop-out-test-below}
 use Rattle.arbitration.proofs.win.beats.Statement.{statement}
 use Rattle.arbitration.proofs.win.beats.Tie as tie
 use Rattle.arbitration.proofs.win.beats.Reads as reads
@@ -18,7 +18,7 @@ returns : tie.Need-returns
 returns c =
     let s = c .before .before .args in
     let e = c .before .drop-out .ensures in
-    simp (← e, lt-ltb _ _ (c .if1 .taken)) at (beats-law (s .a) (s .b) (record { high = search needs; low = search needs }) (record { high = search needs; low = search needs }))
+    simp (← e, lt-ltb _ _ (c .if1 .taken)) at (drop-out-test-below (s .a) (s .b) (record { high = search needs; low = search needs }) (record { high = search needs; low = search needs }))
 
 -- src/win.rt:27:25
 sub-is-zero : tie.Need-sub-is-zero
@@ -37,14 +37,14 @@ returns-2 : tie.Need-returns-2
 returns-2 c =
     let s = c .before .before .before .before .args in
     let e = c .before .before .before .drop-out .ensures in
-    c .is-zero .ensures ∙ (simp (← e, le-ltb _ _ (c .before .before .if1 .left), lt-ltb _ _ (c .before .if2 .taken)) at (beats-law (s .a) (s .b) (record { high = search needs; low = search needs }) (record { high = search needs; low = search needs })))
+    c .is-zero .ensures ∙ (simp (← e, le-ltb _ _ (c .before .before .if1 .left), lt-ltb _ _ (c .before .if2 .taken)) at (drop-out-test-below (s .a) (s .b) (record { high = search needs; low = search needs }) (record { high = search needs; low = search needs })))
 
 -- src/win.rt:19:1
 returns-3 : tie.Need-returns-3
 returns-3 c =
     let s = c .before .before .before .before .args in
     let e = c .before .before .before .drop-out .ensures in
-    c .is-zero2 .ensures ∙ (simp (← e, le-ltb _ _ (c .before .before .if1 .left), le-ltb _ _ (c .before .if2 .left)) at (beats-law (s .a) (s .b) (record { high = search needs; low = search needs }) (record { high = search needs; low = search needs })))
+    c .is-zero2 .ensures ∙ (simp (← e, le-ltb _ _ (c .before .before .if1 .left), le-ltb _ _ (c .before .if2 .left)) at (drop-out-test-below (s .a) (s .b) (record { high = search needs; low = search needs }) (record { high = search needs; low = search needs })))
 
 pub beats-spec : {M : Type 1} → statement M
 beats-spec =

@@ -4,9 +4,9 @@ use denote.Ref.{now}
 use Rattle.arp.specs.declared.command.Command.{Command}
 use Rattle.targets.specs.Records.{targetsOf, recordsWith}
 use Rattle.targets.specs.Target.{Target}
-use Rattle.rule.specs.EffectLaws.{acted}
-use Rattle.bus.specs.TurnLaws.{same-records, assign-acted}
-use Rattle.bus.proofs.Tags.{unacted}
+use Rattle.rule.specs.Acted.{acted}
+use Rattle.bus.specs.TurnLaws.{own-targets-stored, assign-acted}
+use Rattle.bus.proofs.Tags.{not-acting-leaves}
 use borrow.Author.Needs.{needs}
 use Rattle.bus.proofs.act.act.Statement.{statement}
 use Rattle.bus.proofs.act.act.Tie as tie
@@ -49,7 +49,7 @@ returns-2 c = let s = c .before .before .before .before .before .before .before 
 
 -- src/act.rt:10:1
 returns-3 : tie.Need-returns-3
-returns-3 c = same-records (now (c .before .before .args .records)) ∙ ap (λ (ts : List Target). recordsWith ts (now (c .before .before .args .records))) (sym (unacted (c .before .before .args .k) (c .match .keys3) (targetsOf (now (c .before .before .args .records)))))
+returns-3 c = own-targets-stored (now (c .before .before .args .records)) ∙ ap (λ (ts : List Target). recordsWith ts (now (c .before .before .args .records))) (sym (not-acting-leaves (c .before .before .args .k) (c .match .keys3) (targetsOf (now (c .before .before .args .records)))))
 
 pub act-spec : {M : Type 1} → statement M
 act-spec =

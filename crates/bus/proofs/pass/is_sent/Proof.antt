@@ -1,5 +1,5 @@
 use mathlib.Core.Path.{sym}
-use Rattle.bus.proofs.Tags.{ends}
+use Rattle.bus.proofs.Tags.{not-sent-ends}
 use borrow.Author.Needs.{needs}
 use Rattle.bus.proofs.pass.is_sent.Statement.{statement}
 use Rattle.bus.proofs.pass.is_sent.Tie as tie
@@ -32,7 +32,7 @@ returns-3 c = search needs
 
 -- src/pass.rt:16:1
 returns-4 : tie.Need-returns-4
-returns-4 c = sym (ends (c .before .args .k) (c .match .keys4))
+returns-4 c = sym (not-sent-ends (c .before .args .k) (c .match .keys4))
 
 pub is-sent-spec : {M : Type 1} → statement M
 is-sent-spec =

@@ -9,7 +9,8 @@ use denote.Ref.{now}
 use Rattle.arp.specs.Controller.{started}
 use Rattle.lists.specs.EachLaws.{all-bytes}
 use Rattle.bus.specs.Turn.{isSent, worldOf}
-use Rattle.bus.specs.GoingLaws.{Running, running-first, running-next, running-last, running-still}
+use Rattle.bus.specs.Going.{Running}
+use Rattle.bus.specs.GoingLaws.{running-first, running-next, running-last, running-still}
 use Rattle.bus.proofs.pass.run_pass.Statement.{statement}
 use Rattle.bus.proofs.pass.run_pass.Tie as tie
 use Rattle.bus.proofs.pass.run_pass.Reads as reads

@@ -7,8 +7,9 @@ use denote.Ref.{now}
 use Rattle.arp.specs.SendingLaws.{get-sent}
 use Rattle.arp.specs.Requests.{traceOf}
 use Rattle.arp.specs.declared.command.Command.the-variants.{GetUdid}
-use Rattle.lists.specs.EachLaws.{all-bytes}
-use Rattle.bus.specs.TurnLaws.{get-silence, get-winner, get-part, get-length, lentPart, winner-inside, winner-data}
+use Rattle.lists.specs.Each.{all-bytes}
+use Rattle.bus.specs.Turn.{lentPart}
+use Rattle.bus.specs.TurnLaws.{get-silence, get-winner, get-winner-part, get-length, winner-inside, winner-part-lent}
 use borrow.Author.Needs.{needs}
 use Rattle.bus.proofs.traces.put_get.Statement.{statement}
 use Rattle.bus.proofs.traces.put_get.Tie as tie
@@ -68,7 +69,7 @@ part-put-whole-end c = omega (arith, winner-inside (now (c .before .before .befo
 -- src/traces.rt:72:5
 put-whole-requires : tie.Need-put-whole-requires
 put-whole-requires c κs =
-    let x = winner-data (now (c .before .before .before .before .before .before .before .before .args .records)) (all-bytes (now (c .before .before .before .before .before .before .before .before .args .records)) (λ i. omega (arith, c .before .before .before .before .before .before .before .shared-slice-known .given i))) (c .before .before .before .before .before .before .before .before .pre .0) (c .before .before .before .w .given .0 .0) (sym (c .before .before .before .w .given .1) ∙ c .before .before .before .before .before .find .ensures) in
+    let x = winner-part-lent (now (c .before .before .before .before .before .before .before .before .args .records)) (all-bytes (now (c .before .before .before .before .before .before .before .before .args .records)) (λ i. omega (arith, c .before .before .before .before .before .before .before .shared-slice-known .given i))) (c .before .before .before .before .before .before .before .before .pre .0) (c .before .before .before .w .given .0 .0) (sym (c .before .before .before .w .given .1) ∙ c .before .before .before .before .before .find .ensures) in
     let xs : List ℕ = lentPart (now (c .before .before .before .before .before .before .before .before .args .records)) (c .before .before .before .w .given .0 .0) in
     λ r after w. get-sent (lentPart (now (c .before .before .before .before .before .before .before .before .args .records)) (c .before .before .before .w .given .0 .0)) (now (c .before .before .before .before .before .before .before .before .args .out)) r after (x .bytes) (omega (arith, x .long)) w (omega (arith, get-length xs (x .long), c .before .before .before .before .before .before .before .before .pre .2))
 
@@ -79,8 +80,8 @@ same-length-2 c = search needs
 -- src/traces.rt:63:1
 returns-2 : tie.Need-returns-2
 returns-2 c =
-    let x = winner-data (now (c .before .before .before .before .before .before .before .before .before .before .before .args .records)) (all-bytes (now (c .before .before .before .before .before .before .before .before .before .before .before .args .records)) (λ i. omega (arith, c .before .before .before .before .before .before .before .before .before .before .shared-slice-known .given i))) (c .before .before .before .before .before .before .before .before .before .before .before .pre .0) (c .before .before .before .before .before .before .w .given .0 .0) (sym (c .before .before .before .before .before .before .w .given .1) ∙ c .before .before .before .before .before .before .before .before .find .ensures) in
-    (omega (arith, c .before .before .put-whole .ensures .0, get-length (lentPart (now (c .before .before .before .before .before .before .before .before .before .before .before .args .records)) (c .before .before .before .before .before .before .w .given .0 .0)) (x .long)), c .before .before .put-whole .ensures .1 ∙ sym (get-part (now (c .before .before .before .before .before .before .before .before .before .before .before .args .records)) (all-bytes (now (c .before .before .before .before .before .before .before .before .before .before .before .args .records)) (λ i. omega (arith, c .before .before .before .before .before .before .before .before .before .before .shared-slice-known .given i))) (c .before .before .before .before .before .before .before .before .before .before .before .pre .0) (c .before .before .before .before .before .before .w .given .0 .0) (sym (c .before .before .before .before .before .before .w .given .1) ∙ c .before .before .before .before .before .before .before .before .find .ensures)))
+    let x = winner-part-lent (now (c .before .before .before .before .before .before .before .before .before .before .before .args .records)) (all-bytes (now (c .before .before .before .before .before .before .before .before .before .before .before .args .records)) (λ i. omega (arith, c .before .before .before .before .before .before .before .before .before .before .shared-slice-known .given i))) (c .before .before .before .before .before .before .before .before .before .before .before .pre .0) (c .before .before .before .before .before .before .w .given .0 .0) (sym (c .before .before .before .before .before .before .w .given .1) ∙ c .before .before .before .before .before .before .before .before .find .ensures) in
+    (omega (arith, c .before .before .put-whole .ensures .0, get-length (lentPart (now (c .before .before .before .before .before .before .before .before .before .before .before .args .records)) (c .before .before .before .before .before .before .w .given .0 .0)) (x .long)), c .before .before .put-whole .ensures .1 ∙ sym (get-winner-part (now (c .before .before .before .before .before .before .before .before .before .before .before .args .records)) (all-bytes (now (c .before .before .before .before .before .before .before .before .before .before .before .args .records)) (λ i. omega (arith, c .before .before .before .before .before .before .before .before .before .before .shared-slice-known .given i))) (c .before .before .before .before .before .before .before .before .before .before .before .pre .0) (c .before .before .before .before .before .before .w .given .0 .0) (sym (c .before .before .before .before .before .before .w .given .1) ∙ c .before .before .before .before .before .before .before .before .find .ensures)))
 
 pub put-get-spec : {M : Type 1} → statement M
 put-get-spec =

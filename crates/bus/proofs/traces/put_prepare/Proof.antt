@@ -6,7 +6,7 @@ use lib.ListN.{length-set}
 use denote.Ref.{now}
 use Rattle.arp.specs.SendingLaws.{prepare-sent}
 use Rattle.bus.specs.TurnLaws.{prepare-nobody, prepare-all, prepare-length}
-use Rattle.bus.proofs.Laws.{four}
+use Rattle.bus.proofs.Laws.{four-stored}
 use borrow.Author.Needs.{needs}
 use Rattle.bus.proofs.traces.put_prepare.Statement.{statement}
 use Rattle.bus.proofs.traces.put_prepare.Tie as tie
@@ -41,7 +41,7 @@ same-length c = search needs
 
 -- src/traces.rt:40:9
 returns : tie.Need-returns
-returns c = (omega arith, four (now (c .before .before .before .before .args .out)) (omega (arith, c .before .before .before .before .pre)) ∙ sym (prepare-nobody (now (c .before .before .before .before .args .records)) (sym (c .before .count .ensures) ∙ c .if1 .taken)))
+returns c = (omega arith, four-stored (now (c .before .before .before .before .args .out)) (omega (arith, c .before .before .before .before .pre)) ∙ sym (prepare-nobody (now (c .before .before .before .before .args .records)) (sym (c .before .count .ensures) ∙ c .if1 .taken)))
 
 -- src/traces.rt:42:33
 slice-aggregate-put-whole : tie.Need-slice-aggregate-put-whole

@@ -2,7 +2,7 @@ use native.Mathlib.Omega.{arith}
 use lib.ListN.{length-set}
 use mathlib.Core.Path.{refl}
 use denote.Ref.{now}
-use Rattle.bus.proofs.Laws.{nine}
+use Rattle.bus.proofs.Laws.{nine-stored}
 use borrow.Author.Needs.{needs}
 use Rattle.bus.proofs.traces.put_silence.Statement.{statement}
 use Rattle.bus.proofs.traces.put_silence.Tie as tie
@@ -51,7 +51,7 @@ same-length c = search needs
 
 -- src/traces.rt:46:1
 returns : tie.Need-returns
-returns c = (refl, nine (now (c .args .out)) (omega (arith, c .pre)))
+returns c = (refl, nine-stored (now (c .args .out)) (omega (arith, c .pre)))
 
 pub put-silence-spec : {M : Type 1} → statement M
 put-silence-spec =

@@ -9,7 +9,7 @@ use Rattle.targets.specs.Records.{targetsOf}
 use Rattle.arp.specs.declared.command.Command.{Command}
 use Rattle.rule.specs.Acknowledge.{onBus}
 use Rattle.bus.specs.Turn.{Reaches, Writes}
-use Rattle.bus.specs.TurnLaws.{assign-on-bus, assign-written, assign-long}
+use Rattle.bus.specs.TurnLaws.{assign-on-bus, assign-written, assign-length-44}
 use Rattle.bus.proofs.Tags.{nothing-on-bus}
 use borrow.Author.Needs.{needs}
 use Rattle.bus.proofs.traces.put_trace.Statement.{statement}
@@ -70,7 +70,7 @@ same-length-3 c = search needs
 
 -- src/traces.rt:76:1
 returns-3 : tie.Need-returns-3
-returns-3 c = (omega (arith, c .before .before .put-whole .ensures .0, assign-long (c .before .before .before .before .before .before .before .before .before .args .k) _ _ (c .before .before .before .before .before .enum-told3 .given .1)), c .before .before .put-whole .ensures .1 ∙ sym (assign-on-bus (c .before .before .before .before .before .before .before .before .before .args .k) _ _ (c .before .before .before .before .before .enum-told3 .given .1) (targetsOf (now (c .before .before .before .before .before .before .before .before .before .args .records))) (c .before .before .before .before .before .before .before .before .before .pre .1)))
+returns-3 c = (omega (arith, c .before .before .put-whole .ensures .0, assign-length-44 (c .before .before .before .before .before .before .before .before .before .args .k) _ _ (c .before .before .before .before .before .enum-told3 .given .1)), c .before .before .put-whole .ensures .1 ∙ sym (assign-on-bus (c .before .before .before .before .before .before .before .before .before .args .k) _ _ (c .before .before .before .before .before .enum-told3 .given .1) (targetsOf (now (c .before .before .before .before .before .before .before .before .before .args .records))) (c .before .before .before .before .before .before .before .before .before .pre .1)))
 
 -- src/traces.rt:76:1
 returns-4 : tie.Need-returns-4

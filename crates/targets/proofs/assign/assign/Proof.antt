@@ -9,7 +9,7 @@ use Rattle.udid.specs.declared.Udid.{Udid}
 use Rattle.targets.specs.Records.{targetAt, targetsFrom, putTarget, putFrom}
 use Rattle.targets.specs.Target.{assignedTo, resolve}
 use Rattle.targets.specs.ChangeLaws.{assigned-above, assigned-below}
-use Rattle.targets.specs.RecordLaws.{change-more, length-put}
+use Rattle.targets.specs.RecordLaws.{change-one-more, length-put}
 use Rattle.targets.proofs.assign.assign.Statement.{statement}
 use Rattle.targets.proofs.assign.assign.Tie as tie
 use Rattle.targets.proofs.assign.assign.Reads as reads
@@ -21,7 +21,7 @@ onward : (u : Udid) (a : ℕ) (s : List ℕ) (n i : ℕ) → i < n
     ≡ putFrom (resolve u a (targetsFrom (putTarget i (assignedTo u a (targetAt s i)) s) (n - (i + 1)) (i + 1))) (i + 1) (putTarget i (assignedTo u a (targetAt s i)) s)
 onward u a s n i h =
     let m : n - i ≡ suc (n - (i + 1)) = omega arith in
-    rw (m, add-one i) (change-more (assignedTo u a) (n - suc i) i s)
+    rw (m, add-one i) (change-one-more (assignedTo u a) (n - suc i) i s)
 
 abbrev Inv-loop : tie.InvT-loop
 Inv-loop records₀ u a n i₀ records i = (i ≤ n) × (length records ≡ length records₀) × (putFrom (resolve u (a .0) (targetsFrom records₀ n 0)) 0 records₀ ≡ putFrom (resolve u (a .0) (targetsFrom records (n - i) i)) i records)

@@ -1,7 +1,7 @@
 use mathlib.Core.Path.{sym}
 use native.Mathlib.Omega.{arith}
 use Prim.Native.Nat.{_*_}
-use Rattle.targets.specs.FieldLaws.{udid-past}
+use Rattle.targets.specs.FieldLaws.{udid-past-end}
 use borrow.Author.Needs.{needs}
 use Rattle.targets.proofs.fields.udid_of.Statement.{statement}
 use Rattle.targets.proofs.fields.udid_of.Tie as tie
@@ -11,7 +11,7 @@ use Rattle.udid.proofs.Udid.from_bytes.Reads as from-bytes-reads
 
 -- src/fields.rt:36:9
 returns : tie.Need-returns
-returns c = sym (udid-past (c .before .before .args .records .now) (c .before .before .args .i * 18) (omega arith))
+returns c = sym (udid-past-end (c .before .before .args .records .now) (c .before .before .args .i * 18) (omega arith))
 
 -- src/fields.rt:38:31
 mul-from-bytes : tie.Need-mul-from-bytes

@@ -7,7 +7,7 @@ use native.Mathlib.Numerals.{add-one}
 use lib.ListN.{length, set, length-set}
 use Rattle.targets.specs.Records.{targetsFrom, putFrom}
 use Rattle.targets.specs.Target.{prepared, cleared}
-use Rattle.targets.specs.RecordLaws.{change-more, put-prepared}
+use Rattle.targets.specs.RecordLaws.{change-one-more, put-prepared}
 use Rattle.targets.proofs.prepare.prepare.Statement.{statement}
 use Rattle.targets.proofs.prepare.prepare.Tie as tie
 use Rattle.targets.proofs.prepare.prepare.Reads as reads
@@ -18,7 +18,7 @@ onward : (s : List ℕ) (n i : ℕ) → i < n
 onward s n i h =
     let m : n - i ≡ suc (n - (i + 1)) = omega arith in
     rw (m, add-one i)
-    (change-more prepared (n - suc i) i s ∙ ap (λ (x : List ℕ). putFrom (cleared (targetsFrom x (n - suc i) (suc i))) (suc i) x) (put-prepared i s))
+    (change-one-more prepared (n - suc i) i s ∙ ap (λ (x : List ℕ). putFrom (cleared (targetsFrom x (n - suc i) (suc i))) (suc i) x) (put-prepared i s))
 
 abbrev Inv-loop : tie.InvT-loop
 Inv-loop records₀ n i₀ records i = (i ≤ n) × (length records ≡ length records₀) × (putFrom (cleared (targetsFrom records₀ n 0)) 0 records₀ ≡ putFrom (cleared (targetsFrom records (n - i) i)) i records)

@@ -19,36 +19,38 @@ use Rattle.pool.specs.StartLaws.{member-starting}
 use Rattle.pool.specs.declared.Pool.{Pool}
 use Rattle.pool.specs.declared.free.Free.{Free}
 use Rattle.pool.specs.declared.free.Free.the-variants.{At, AllUsed}
-use Rattle.udid.specs.Udids.{isFixed, value}
+use Rattle.udid.specs.Udids.{value}
 use Rattle.udid.specs.declared.Udid.{Udid}
 use Rattle.arbitration.specs.Among.{Among}
-use Rattle.targets.specs.Target.{Target, isResolved, prepared, cleared, resolve}
+use Rattle.targets.specs.Target.{Target, isResolved, prepared, cleared, resolve, Sized}
 use Rattle.targets.specs.Members.{Pairs}
 use Rattle.targets.specs.RecordLaws.{length-map}
-use Rattle.targets.specs.ReplyLaws.{Sized}
-use Rattle.targets.specs.Admission.{Differ, FixedApart, FixedFree, AdmittedTargets}
+use Rattle.targets.specs.Admission.{FixedApart, FixedFree, AdmittedTargets}
 use Rattle.arp.specs.SoundLaws.{open-all}
 use Rattle.arp.specs.Bindings.{openSlot, boundTo}
-use Rattle.arp.specs.Controller.{stepped, started, newController}
+use Rattle.arp.specs.Controller.{stepped}
 use Rattle.arp.specs.declared.command.Command.the-variants.{Prepare}
 use Rattle.arp.specs.declared.state.Slot.{Slot}
 use Rattle.arp.specs.declared.state.Stepped.{Stepped}
 use Rattle.rule.specs.Bus.{World, turn, run, beginning, pass}
-use Rattle.rule.specs.PlainRule.{insert, ascending, plainChoice, Ending, served, noneFree, Given, Ruled, next, rule, ruled, FreeIn, Distinct}
-use Rattle.rule.specs.PassEnd.{Outcome, state, out, boundSlot, ended, outcome, nobodyThere, passEnd}
-use Rattle.rule.specs.EffectLaws.{effect-is}
+use Rattle.rule.specs.BusLaws.{turn-takes}
+use Rattle.rule.specs.PlainRule.{insert, ascending, plainChoice, served, noneFree, Given, next, rule, ruled, FreeIn, Distinct}
+use Rattle.rule.specs.PassEnd.{state, boundSlot, ended, outcome, nobodyThere, passEnd}
+use Rattle.rule.specs.EffectLaws.{effect-as-meant}
 use Rattle.rule.specs.TraceLaws as on-bus
-use Rattle.rule.specs.RuleLaws.{Apart, Ready, rule-free, rule-all, rule-all-only, given-all, each-map, rule-who}
-use Rattle.rule.specs.SortLaws.{Lower, in-ascending, of-ascending, length-ascending, ascending-lower, pairs-of, pairs-more}
-use Rattle.rule.specs.StepLaws.{Unbound, prepare-done, prepare-silent}
-use Rattle.rule.specs.PassLaws.{serve, plain, Inv, turns, asking, run-ended, serves}
+use Rattle.rule.specs.Ready.{Apart, Ready, Lower}
+use Rattle.rule.specs.RuleLaws.{rule-gives-free, room-serves-all, served-has-room, all-given-served, each-map, rule-serves-these}
+use Rattle.rule.specs.SortLaws.{ascending-adds-none, ascending-keeps, length-ascending, ascending-is-lower-first, pairs-any-two, pairs-map}
+use Rattle.rule.specs.Serving.{Unbound, serve, plain, Inv, turns, asking}
+use Rattle.rule.specs.StepLaws.{prepare-asks-first, prepare-silence-ends}
+use Rattle.rule.specs.ServingLaws.{ended-run-stays, run-serves-rest}
 
 -- ---- the rule with all that it changes is the rule
 
-plain-rule : (rest : List Target) (p : Pool) (s : List Slot) (k : ℕ) (ts : List Target) → plain rest p s k ts ≡ outcome (rule rest p) p s k ts
-plain-rule [] p s k ts = ap (λ (n : ℕ). record { pool = p; slots = s; bound = n; targets = ts; ending = served }) (sym (zero-add k))
-plain-rule (t ∷ rest) p s k ts =
-    go (plainChoice p t) (λ a. plain-rule rest (withAddress p (a .0)) (set s (a .0) (boundSlot t)) (suc k) (resolve (t .udid) (a .0) ts))
+plain-outcome : (rest : List Target) (p : Pool) (s : List Slot) (k : ℕ) (ts : List Target) → plain rest p s k ts ≡ outcome (rule rest p) p s k ts
+plain-outcome [] p s k ts = ap (λ (n : ℕ). record { pool = p; slots = s; bound = n; targets = ts; ending = served }) (sym (zero-add k))
+plain-outcome (t ∷ rest) p s k ts =
+    go (plainChoice p t) (λ a. plain-outcome rest (withAddress p (a .0)) (set s (a .0) (boundSlot t)) (suc k) (resolve (t .udid) (a .0) ts))
   where
     go : (c : Free)
         → ((a : Address) → plain rest (withAddress p (a .0)) (set s (a .0) (boundSlot t)) (suc k) (resolve (t .udid) (a .0) ts)
@@ -91,13 +93,13 @@ plain-cleared (t ∷ rest) p s k ts =
 
 -- ---- clearing the flags leaves what is admitted
 
-of-cleared : (ts : List Target) (y : Target) → Among y (cleared ts) → (x : Target) × Among x ts × (prepared x ≡ y)
-of-cleared (t ∷ ts) y (inl e) = (t, inl refl, e)
-of-cleared (t ∷ ts) y (inr m) = let r = of-cleared ts y m in (r .0, inr (r .1), r .2)
+cleared-was : (ts : List Target) (y : Target) → Among y (cleared ts) → (x : Target) × Among x ts × (prepared x ≡ y)
+cleared-was (t ∷ ts) y (inl e) = (t, inl refl, e)
+cleared-was (t ∷ ts) y (inr m) = let r = cleared-was ts y m in (r .0, inr (r .1), r .2)
 
 pairs-cleared : {R : Target → Target → Type 0} (ts : List Target) → ((x y : Target) → R x y → R (prepared x) (prepared y)) → Pairs R ts → Pairs R (cleared ts)
 pairs-cleared [] f h = tt
-pairs-cleared {R} (t ∷ ts) f h = ((λ y m. let r = of-cleared ts y m in rw (r .2) at (f t (r .0) (h .0 (r .0) (r .1)))), pairs-cleared ts f (h .1))
+pairs-cleared {R} (t ∷ ts) f h = ((λ y m. let r = cleared-was ts y m in rw (r .2) at (f t (r .0) (h .0 (r .0) (r .1)))), pairs-cleared ts f (h .1))
 
 length-cleared : (ts : List Target) → length (cleared ts) ≡ length ts
 length-cleared ts = length-map prepared ts
@@ -106,15 +108,15 @@ sized-prepared : (t : Target) → Sized t → Sized (prepared t)
 sized-prepared t z = record { udid = z .udid; addressByte = z .addressByte }
 
 open-cleared : (ts : List Target) (y : Target) → Among y (cleared ts) → isResolved y ≡ false
-open-cleared ts y m = ap isResolved (sym (of-cleared ts y m .2))
+open-cleared ts y m = ap isResolved (sym (cleared-was ts y m .2))
 
 admitted-cleared : (b : Pool) (ts : List Target) → AdmittedTargets b ts → AdmittedTargets b (cleared ts)
 admitted-cleared b ts v = record {
-  sized = λ y m. let r = of-cleared ts y m in subst Sized (r .2) (sized-prepared (r .0) (v .sized (r .0) (r .1)));
+  sized = λ y m. let r = cleared-was ts y m in subst Sized (r .2) (sized-prepared (r .0) (v .sized (r .0) (r .1)));
   differ = pairs-cleared ts (λ x y h. h) (v .differ);
   fixed-apart = pairs-cleared ts (λ x y h. h) (v .fixed-apart);
-  fixed-free = λ y m. let r = of-cleared ts y m in subst (FixedFree b) (r .2) (v .fixed-free (r .0) (r .1));
-  few = omega (arith, length-cleared ts, v .few);
+  fixed-free = λ y m. let r = cleared-was ts y m in subst (FixedFree b) (r .2) (v .fixed-free (r .0) (r .1));
+  at-most-120 = omega (arith, length-cleared ts, v .at-most-120);
 }
 
 -- ---- where a pass begins
@@ -123,17 +125,17 @@ open-slots : (u : Udid) → Unbound u (replicate 128 openSlot)
 open-slots u i = ap (boundTo u) (open-all i)
 
 -- 7Fh is reserved
-pub last-starting : (occupied : Pool) → member (startingPool occupied) 127 ≡ true
+pub last-address-used : (occupied : Pool) → member (startingPool occupied) 127 ≡ true
 unfolding isReserved
-last-starting occupied = member-starting occupied 127
+last-address-used occupied = member-starting occupied 127
 
 module _ (b : Pool) (last : member b 127 ≡ true) (ts : List Target) (v : AdmittedTargets b ts) where
   ready-first : Ready b (ascending ts)
   ready-first = record {
-    apart = pairs-more (ascending ts) apart′ (ascending-lower ts (v .differ));
-    sized = λ t m. v .sized t (in-ascending ts t m);
-    fixed-free = λ t m. v .fixed-free t (in-ascending ts t m);
-    fixed-some = λ t m f e. absurd (let z : _≡_ {A = ℕ} 0 1 = cc (v .fixed-free t (in-ascending ts t m) f, ap (λ (n : ℕ). member b (n / 2)) e, last) in omega arith);
+    apart = pairs-map (ascending ts) apart′ (ascending-is-lower-first ts (v .differ));
+    sized = λ t m. v .sized t (ascending-adds-none ts t m);
+    fixed-free = λ t m. v .fixed-free t (ascending-adds-none ts t m);
+    fixed-some = λ t m f e. absurd (let z : _≡_ {A = ℕ} 0 1 = cc (v .fixed-free t (ascending-adds-none ts t m) f, ap (λ (n : ℕ). member b (n / 2)) e, last) in omega arith);
     last-used = last;
   }
     where
@@ -144,20 +146,20 @@ module _ (b : Pool) (last : member b 127 ≡ true) (ts : List Target) (v : Admit
       apart′ : (x y : Target) → Among x (ascending ts) → Among y (ascending ts) → Lower x y → Apart x y
       apart′ x y m k l = record {
         lower = l;
-        elsewhere = elsewhere′ x y (pairs-of ts (λ p q h f g e. h g f (sym e)) (v .fixed-apart) x y (in-ascending ts x m) (in-ascending ts y k)) l;
+        elsewhere = elsewhere′ x y (pairs-any-two ts (λ p q h f g e. h g f (sym e)) (v .fixed-apart) x y (ascending-adds-none ts x m) (ascending-adds-none ts y k)) l;
       }
 
   inv-first : 0 < length ts → ((t : Target) → Among t ts → isResolved t ≡ false) → Inv b (replicate 128 openSlot) 0 ts (ascending ts)
   inv-first some open-all = record {
     ready = ready-first;
     waits = record {
-      known = λ t m e. of-ascending ts t m;
-      there = λ t m. in-ascending ts t m;
-      unresolved = λ t m. open-all t (in-ascending ts t m);
+      known = λ t m e. ascending-keeps ts t m;
+      there = λ t m. ascending-adds-none ts t m;
+      unresolved = λ t m. open-all t (ascending-adds-none ts t m);
     };
     unbound = λ t m. open-slots (t .udid);
     room = length-replicate 128 openSlot;
-    few = omega (arith, length-ascending ts, v .few);
+    below-128 = omega (arith, length-ascending ts, v .at-most-120);
     present = some;
     fits = λ t m. v .sized t m .udid;
   }
@@ -179,15 +181,17 @@ module _ (occupied : Pool) where
   first-turn : (t : Target) (ts : List Target) → AdmittedTargets start (t ∷ ts) → turn (beginning occupied (t ∷ ts)) ≡ asking start start (replicate 128 openSlot) 1 (cleared (t ∷ ts))
   unfolding start
   first-turn t ts v =
-      ap₂ (λ (x : Stepped) (us : List Target). record { now = x; targets = us })
-      (ap (stepped (state start start (replicate 128 openSlot) 0 Prepare)) (on-bus.prepare-whole t ts) ∙ prepare-done start start (replicate 128 openSlot))
-      (effect-is Prepare (t ∷ ts) tt (λ x m. v .sized x m .udid))
+      turn-takes (beginning occupied (t ∷ ts) .now) (t ∷ ts) Prepare refl
+      ∙ ap₂ (λ (x : Stepped) (us : List Target). record { now = x; targets = us })
+      (ap (stepped (state start start (replicate 128 openSlot) 0 Prepare)) (on-bus.prepare-whole t ts) ∙ prepare-asks-first start start (replicate 128 openSlot))
+      (effect-as-meant Prepare (t ∷ ts) tt (λ x m. v .sized x m .udid))
 
   nobody-turn : turn (beginning occupied []) ≡ nobodyThere start
   unfolding start
   nobody-turn =
-      ap (λ (x : Stepped). record { now = x; targets = [] })
-      (ap (stepped (state start start (replicate 128 openSlot) 0 Prepare)) on-bus.prepare-cut ∙ prepare-silent start start (replicate 128 openSlot))
+      turn-takes (beginning occupied [] .now) [] Prepare refl
+      ∙ ap (λ (x : Stepped). record { now = x; targets = [] })
+      (ap (stepped (state start start (replicate 128 openSlot) 0 Prepare)) on-bus.prepare-cut ∙ prepare-silence-ends start start (replicate 128 openSlot))
 
   some-targets : (t : Target) (ts : List Target) → AdmittedTargets start (t ∷ ts) → run 300 (beginning occupied (t ∷ ts)) ≡ passEnd start (t ∷ ts)
   unfolding start
@@ -195,53 +199,53 @@ module _ (occupied : Pool) where
       let us : List Target = cleared (t ∷ ts) in
       let v′ = admitted-cleared start (t ∷ ts) v in
       let n : ℕ = turns (ascending us) in
-      let e : 300 ≡ suc (n + (299 - n)) = omega (arith, length-turns (ascending us), length-ascending us, v′ .few) in
+      let e : 300 ≡ suc (n + (299 - n)) = omega (arith, length-turns (ascending us), length-ascending us, v′ .at-most-120) in
       ap (λ (k : ℕ). run k (beginning occupied (t ∷ ts))) e
       ∙ ap (run (n + (299 - n))) (first-turn t ts v)
       ∙ run-add n (299 - n) (asking start start (replicate 128 openSlot) 1 us)
       ∙ ap (run (299 - n))
-      (serves start start (replicate 128 openSlot) 0 us (ascending us) (inv-first start (last-starting occupied) us v′ (omega arith) (open-cleared (t ∷ ts)))
+      (run-serves-rest start start (replicate 128 openSlot) 0 us (ascending us) (inv-first start (last-address-used occupied) us v′ (omega arith) (open-cleared (t ∷ ts)))
       ∙ ap (ended start)
       (ap (λ (l : List Target). plain l start (replicate 128 openSlot) 0 us) (ascending-cleared (t ∷ ts))
       ∙ plain-cleared (ascending (t ∷ ts)) start (replicate 128 openSlot) 0 us
-      ∙ plain-rule (ascending (t ∷ ts)) start (replicate 128 openSlot) 0 us))
-      ∙ run-ended (299 - n) _ _ _ _ (rule (ascending (t ∷ ts)) start .ending) _
+      ∙ plain-outcome (ascending (t ∷ ts)) start (replicate 128 openSlot) 0 us))
+      ∙ ended-run-stays (299 - n) _ _ _ _ (rule (ascending (t ∷ ts)) start .ending) _
 
 -- THE PASS ENDS AS THE PLAIN RULE SAYS: bindings, pool and last command of the controller, and every target
 pub demand-3 : (occupied : Pool) (ts : List Target) → AdmittedTargets (startingPool occupied) ts → pass occupied ts ≡ passEnd (startingPool occupied) ts
 unfolding pass start
-demand-3 occupied [] v = ap (run 299) (nobody-turn occupied) ∙ run-ended 299 (startingPool occupied) (startingPool occupied) (replicate 128 openSlot) 0 served []
+demand-3 occupied [] v = ap (run 299) (nobody-turn occupied) ∙ ended-run-stays 299 (startingPool occupied) (startingPool occupied) (replicate 128 openSlot) 0 served []
 demand-3 occupied (t ∷ ts) v = some-targets occupied t ts v
 
 -- with no target, the pass ends when nobody acknowledges Prepare To ARP
-pub nobody-first : (occupied : Pool) → turn (beginning occupied []) ≡ nobodyThere (startingPool occupied)
+pub nobody-ends-first-turn : (occupied : Pool) → turn (beginning occupied []) ≡ nobodyThere (startingPool occupied)
 unfolding start
-nobody-first occupied = nobody-turn occupied
+nobody-ends-first-turn occupied = nobody-turn occupied
 
 module _ (occupied : Pool) (ts : List Target) (v : AdmittedTargets (startingPool occupied) ts) where
   ready : Ready (startingPool occupied) (ascending ts)
-  ready = ready-first (startingPool occupied) (last-starting occupied) ts v
+  ready = ready-first (startingPool occupied) (last-address-used occupied) ts v
 
-  count : length (ascending ts) ≡ length ts
-  count = length-ascending ts
+  ascending-count : length (ascending ts) ≡ length ts
+  ascending-count = length-ascending ts
 
   -- the addresses given are below 128, neither reserved nor occupied, and none is given twice
-  pub given-addresses : Each (FreeIn (startingPool occupied)) (ruled (startingPool occupied) ts .given) × Distinct (ruled (startingPool occupied) ts .given)
-  given-addresses = rule-free (ascending ts) (startingPool occupied) ready
+  pub given-free-distinct : Each (FreeIn (startingPool occupied)) (ruled (startingPool occupied) ts .given) × Distinct (ruled (startingPool occupied) ts .given)
+  given-free-distinct = rule-gives-free (ascending ts) (startingPool occupied) ready
 
   -- all are served if and only if the targets do not outnumber the free addresses, and then each is given one
   pub served-exactly : (ruled (startingPool occupied) ts .ending ≡ served) ↔ (used (startingPool occupied) + length ts ≤ 128)
   served-exactly = (
-    λ e. omega (arith, count, rule-all-only (ascending ts) (startingPool occupied) ready e),
-    λ h. rule-all (ascending ts) (startingPool occupied) ready (omega (arith, count)) .0,
+    λ e. omega (arith, ascending-count, served-has-room (ascending ts) (startingPool occupied) ready e),
+    λ h. room-serves-all (ascending ts) (startingPool occupied) ready (omega (arith, ascending-count)) .0,
   )
 
-  pub served-each : used (startingPool occupied) + length ts ≤ 128 → length (ruled (startingPool occupied) ts .given) ≡ length ts
-  served-each h = rule-all (ascending ts) (startingPool occupied) ready (omega (arith, count)) .1 ∙ count
+  pub room-gives-each : used (startingPool occupied) + length ts ≤ 128 → length (ruled (startingPool occupied) ts .given) ≡ length ts
+  room-gives-each h = room-serves-all (ascending ts) (startingPool occupied) ready (omega (arith, ascending-count)) .1 ∙ ascending-count
 
-  pub given-served : length (ruled (startingPool occupied) ts .given) ≡ length ts → ruled (startingPool occupied) ts .ending ≡ served
-  given-served e = given-all (ascending ts) (startingPool occupied) (e ∙ sym count)
+  pub each-given-served : length (ruled (startingPool occupied) ts .given) ≡ length ts → ruled (startingPool occupied) ts .ending ≡ served
+  each-given-served e = all-given-served (ascending ts) (startingPool occupied) (e ∙ sym ascending-count)
 
   -- those served are targets of the bus
-  pub given-targets : Each (λ (g : Given). Among (g .who) ts) (ruled (startingPool occupied) ts .given)
-  given-targets = each-map (ruled (startingPool occupied) ts .given) (λ g m. in-ascending ts (g .who) m) (rule-who (ascending ts) (startingPool occupied))
+  pub given-among-targets : Each (λ (g : Given). Among (g .who) ts) (ruled (startingPool occupied) ts .given)
+  given-among-targets = each-map (ruled (startingPool occupied) ts .given) (λ g m. ascending-adds-none ts (g .who) m) (rule-serves-these (ascending ts) (startingPool occupied))
