@@ -47,7 +47,7 @@ leading-none k x h l = sym (leading-unique (suc k) x 0 (suc k) (omega arith) l (
 shared-leading-mod : (k n m : ℕ) → shared (bits k n) (bits k m) ≡ leadingZeros k (bitXor n m % 2 ^ k)
 unfolding bits leadingZeros
 shared-leading-mod zero n m = refl
-shared-leading-mod (suc k) n m = go (digit n k) (digit m k) refl refl (top (bitXor n m) k) (shared-leading-mod k n m) (digit-xor n m k)
+shared-leading-mod (suc k) n m = go (digit n k) (digit m k) refl refl (top-digit (bitXor n m) k) (shared-leading-mod k n m) (digit-xor n m k)
   where
     x : ℕ
     x = bitXor n m

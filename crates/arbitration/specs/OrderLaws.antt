@@ -31,7 +31,7 @@ Top k n = ((digit n k ≡ false) × (n % 2 ^ suc k ≡ n % 2 ^ k)) ⊎ ((digit n
 lower-rest-stays : (k n m : ℕ) (xs ys : List Bool) → n % 2 ^ k < m % 2 ^ k → noLater (bits k n ++ xs) (bits k m ++ ys) ≡ true
 unfolding bits
 lower-rest-stays zero n m xs ys h = absurd (omega arith)
-lower-rest-stays (suc k) n m xs ys h = go (λ q. lower-rest-stays k n m xs ys q) (top n k) (top m k)
+lower-rest-stays (suc k) n m xs ys h = go (λ q. lower-rest-stays k n m xs ys q) (top-digit n k) (top-digit m k)
   where
     go : (n % 2 ^ k < m % 2 ^ k → noLater (bits k n ++ xs) (bits k m ++ ys) ≡ true) → Top k n → Top k m
         → noLater (digit n k ∷ (bits k n ++ xs)) (digit m k ∷ (bits k m ++ ys)) ≡ true
@@ -43,7 +43,7 @@ lower-rest-stays (suc k) n m xs ys h = go (λ q. lower-rest-stays k n m xs ys q)
 higher-rest-leaves : (k n m : ℕ) (xs ys : List Bool) → m % 2 ^ k < n % 2 ^ k → noLater (bits k n ++ xs) (bits k m ++ ys) ≡ false
 unfolding bits
 higher-rest-leaves zero n m xs ys h = absurd (omega arith)
-higher-rest-leaves (suc k) n m xs ys h = go (λ q. higher-rest-leaves k n m xs ys q) (top n k) (top m k)
+higher-rest-leaves (suc k) n m xs ys h = go (λ q. higher-rest-leaves k n m xs ys q) (top-digit n k) (top-digit m k)
   where
     go : (m % 2 ^ k < n % 2 ^ k → noLater (bits k n ++ xs) (bits k m ++ ys) ≡ false) → Top k n → Top k m
         → noLater (digit n k ∷ (bits k n ++ xs)) (digit m k ∷ (bits k m ++ ys)) ≡ false

@@ -13,7 +13,7 @@ use Rattle.targets.specs.Cases.{RepeatedAt, None}
 use Rattle.targets.specs.Records.{recordCount, targetsOf, recordsWith}
 use Rattle.targets.specs.Target.{Target}
 use Rattle.arp.specs.Controller.{stepped}
-use Rattle.arp.specs.SendingLaws.{Sent}
+use Rattle.arp.specs.Sending.{Sent}
 use Rattle.arp.specs.Requests.{protocolFor, messageOf}
 use Rattle.arp.specs.declared.command.Command.{Command}
 use Rattle.arp.specs.declared.command.Command.the-variants.{Nothing, Prepare, GetUdid, Assign, Ended, NoneFree, Abandoned, NotOutstanding}

@@ -25,7 +25,7 @@ use Rattle.targets.specs.WinnerLaws.{winner-exactly, winner-least, unresolved-b
 use Rattle.targets.specs.declared.winner.Winner.the-variants as winner
 use Rattle.arp.specs.RequestLaws.{assign-has-44-symbols}
 use Rattle.arp.specs.SendingLaws.{assign-sent}
-use Rattle.arp.specs.TraceLaws.{assign-length}
+use Rattle.arp.specs.RequestLaws.{assign-has-44-symbols}
 use Rattle.arp.specs.Controller.{stepped}
 use Rattle.arp.specs.Requests.{messageOf, traceOf}
 use Rattle.arp.specs.declared.command.Command.{Command}
@@ -197,7 +197,7 @@ assign-on-bus k u a e ts h =
     ap (λ (x : Command). onBus x ts) e ∙ on-bus.assign-whole ts u a (r .0) (r .1) (r .2) ∙ ap (λ (x : Command). traceOf x []) (sym e)
 
 pub assign-length-44 : (k : Command) (u : Udid) (a : Address) → k ≡ Assign u a → length (traceOf k []) ≡ 44
-assign-length-44 k u a e = ap (λ (x : Command). length (traceOf x [])) e ∙ assign-length u a
+assign-length-44 k u a e = ap (λ (x : Command). length (traceOf x [])) e ∙ assign-has-44-symbols u a
 
 pub assign-written : (k : Command) (u : Udid) (a : Address) → k ≡ Assign u a → (ts : List Target) → Reaches k ts → (before : List ℕ) → 64 ≤ length before → Writes k [] before
 assign-written k u a e ts h before l =

@@ -37,8 +37,7 @@ module _ (protocol : ℕ) (pec : Bool) (t : Message) (command : t .command < 256
     -- 0 with n: the table has a trace of the message, of n symbols, and there is room
     pub encode-0 : (n : ℕ) → (encodeNumber r ≡ (0, n)) ↔ ((x : List ℕ) × TraceOf protocol pec t x × (length x ≡ n) × (n ≤ length before))
     encode-0 n =
-        let a = answer-0 protocol pec t before r after w n in
-        (
+        let a = answer-0 protocol pec t before r after w n in (
           λ e. (let k = a .0 e in (tr, unlisted-listed (k .0), sym (k .1), k .2)),
           λ k. a .1 (listed-unlisted (k .0) (k .1), sym (k .2) ∙ ap length (listed-trace protocol pec t (k .0) (k .1) .2), k .3),
         )
@@ -46,8 +45,7 @@ module _ (protocol : ℕ) (pec : Bool) (t : Message) (command : t .command < 256
     -- 2: the table has a trace of the message, and it is longer than the output
     pub encode-2 : (encodeNumber r ≡ (2, 0)) ↔ ((x : List ℕ) × TraceOf protocol pec t x × (length before < length x))
     encode-2 =
-        let a = answer-2 protocol pec t before r after w in
-        (
+        let a = answer-2 protocol pec t before r after w in (
           λ e. (let k = a .0 e in (tr, unlisted-listed (k .0), k .1)),
           λ k. a .1 (listed-unlisted (k .0) (k .1), subst (λ (l : List ℕ). length before < length l) (listed-trace protocol pec t (k .0) (k .1) .2) (k .2)),
         )

@@ -1,5 +1,8 @@
 pub mod Choice
 pub mod ChoiceLaws
 pub mod Each
-pub mod ListLaws
 pub mod UniqueLaws
+pub mod EachLaws
+pub mod Onto
+pub mod OntoLaws
+pub mod Passing

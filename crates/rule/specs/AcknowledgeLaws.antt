@@ -16,7 +16,8 @@ use Rattle.udid.specs.declared.Udid.{Udid}
 use Rattle.targets.specs.Target.{Target}
 use Rattle.arp.specs.Heard.{blockWrite}
 use Rattle.arp.specs.Requests.{messageOf, traceOf}
-use Rattle.arp.specs.TraceLaws.{assign-length, assign-row}
+use Rattle.arp.specs.RequestLaws.{assign-symbols}
+use Rattle.arp.specs.RequestLaws.{assign-has-44-symbols}
 use Rattle.arp.specs.declared.command.Command.{Command}
 use Rattle.arp.specs.declared.command.Command.the-variants.{Prepare, GetUdid, Assign}
 use Rattle.rule.specs.Acknowledge.{answered, standing, sentPart, onBus}
@@ -39,14 +40,14 @@ pub assign-sends : (u : Udid) (a : Address) → sentPart (Assign u a)
     ≡ 256 ∷ 194 ∷ 258 ∷ 4 ∷ 258 ∷ 17 ∷ 258 ∷ (acked (udidBytes u) ++ 2 * (a .0 % 128) ∷ 258 ∷ pecOf (194 ∷ 4 ∷ 17 ∷ (udidBytes u ++ 2 * (a .0 % 128) ∷ [])) ∷ 258 ∷ [])
 assign-sends u a =
     but-stop (traceOf (Assign u a) []) _ 43
-    (assign-row u a
+    (assign-symbols u a
     ∙ ap (λ (l : List ℕ). 256 ∷ 194 ∷ 258 ∷ 4 ∷ 258 ∷ 17 ∷ 258 ∷ l)
     (sym (append-assoc (acked (udidBytes u)) (2 * (a .0 % 128) ∷ 258 ∷ pecOf (194 ∷ 4 ∷ 17 ∷ (udidBytes u ++ 2 * (a .0 % 128) ∷ [])) ∷ 258 ∷ []) (STOP ∷ []))))
-    (assign-length u a)
+    (assign-has-44-symbols u a)
 
 -- in the encoder's terms: the part of the trace whose ACKs are the target's, with the PEC
 pub assign-by-target : (u : Udid) (a : Address) → sentPart (Assign u a) ≡ byTarget (shapeOf blockWrite) (messageOf (Assign u a) []) (trace.pecOf (shapeOf blockWrite) (messageOf (Assign u a) []) ∷ [])
-assign-by-target u a = but-stop (traceOf (Assign u a) []) _ 43 refl (assign-length u a)
+assign-by-target u a = but-stop (traceOf (Assign u a) []) _ 43 refl (assign-has-44-symbols u a)
 
 pub assign-stop : (u : Udid) (a : Address) → sentPart (Assign u a) ++ STOP ∷ [] ≡ traceOf (Assign u a) []
 assign-stop u a = ap (λ (l : List ℕ). l ++ STOP ∷ []) (assign-by-target u a)

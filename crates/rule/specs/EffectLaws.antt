@@ -25,13 +25,14 @@ use Rattle.udid.specs.UdidLaws.{length-udid, udid-bytes, same-equal, same-refl,
 use Rattle.udid.specs.Udids.{Fits, sameUdid}
 use Rattle.udid.specs.declared.Udid.{Udid}
 use Rattle.targets.specs.Target.{Target, mapTargets, prepared, assignedTo}
-use Rattle.arp.specs.TraceLaws.{prepare-trace, assign-row}
+use Rattle.arp.specs.CommandTraces.{prepareTrace, assignTrace}
+use Rattle.arp.specs.RequestLaws.{prepare-symbols, assign-symbols}
 use Rattle.arp.specs.Requests.{traceOf}
 use Rattle.arp.specs.declared.command.Command.{Command}
 use Rattle.arp.specs.declared.command.Command.the-variants.{Nothing, Prepare, GetUdid, Assign, Ended, NoneFree, Abandoned, NotOutstanding}
 use Rattle.rule.specs.Acknowledge.{begins, acknowledges, somebody, answered, standing, sentPart, onBus}
 use Rattle.rule.specs.AcknowledgeLaws.{assign-stop}
-use Rattle.rule.specs.Effect.{preparing, assigning, addressIn, same, effect}
+use Rattle.rule.specs.Effect.{addressIn, same, effect}
 use Rattle.rule.specs.TraceLaws as on-bus
 use Rattle.rule.specs.Acted.{acted, Names}
 
@@ -63,7 +64,7 @@ same-false xs ys n = go (same xs ys) refl
 -- ---- THE THREE CASES
 
 -- the address byte of an Assign Address
-assigning-address : (id : List ℕ) (b : ℕ) → length id ≡ 16 → addressIn (assigning id b) ≡ b
+assigning-address : (id : List ℕ) (b : ℕ) → length id ≡ 16 → addressIn (assignTrace id b) ≡ b
 assigning-address id b e =
     getD-at (256 ∷ 194 ∷ 258 ∷ 4 ∷ 258 ∷ 17 ∷ 258 ∷ acked id) b (258 ∷ pecOf (194 ∷ 4 ∷ 17 ∷ (id ++ b ∷ [])) ∷ 258 ∷ 257 ∷ []) 0 39 (omega (arith, length-acked id))
 
@@ -76,9 +77,9 @@ effect-prepare t = refl
 pub effect-assign : (t : Target) (b : ℕ) → b < 256 → effect (assignTrace (udidBytes (t .udid)) b) t ≡ record { udid = t .udid; addressByte = 2 * (b / 2) + 1; flag = 1 }
 unfolding effect
 effect-assign t b h =
-    let e : addressIn (assigning (udidBytes (t .udid)) b) ≡ b = assigning-address (udidBytes (t .udid)) b (length-udid (t .udid)) in
-    let p : same (assigning (udidBytes (t .udid)) b) preparing ≡ false = same-false _ _ (λ q. other (ap (λ (l : List ℕ). getD l 3 0) q)) in
-    rw (p, e, lt-ltb b 256 h, same-self (assigning (udidBytes (t .udid)) b))
+    let e : addressIn (assignTrace (udidBytes (t .udid)) b) ≡ b = assigning-address (udidBytes (t .udid)) b (length-udid (t .udid)) in
+    let p : same (assignTrace (udidBytes (t .udid)) b) prepareTrace ≡ false = same-false _ _ (λ q. other (ap (λ (l : List ℕ). getD l 3 0) q)) in
+    rw (p, e, lt-ltb b 256 h, same-self (assignTrace (udidBytes (t .udid)) b))
   where
     other : _≡_ {A = ℕ} 4 1 → ⊥
     other q = omega arith
@@ -110,7 +111,7 @@ unfolding bytesIn
 acked-bytes [] l = refl
 acked-bytes (x ∷ id) l = ap (λ (r : List ℕ). x ∷ r) (acked-bytes id l)
 
-assigning-identifier : (id : List ℕ) (b : ℕ) → length id ≡ 16 → bytesIn 16 (drop 7 (assigning id b)) ≡ id
+assigning-identifier : (id : List ℕ) (b : ℕ) → length id ≡ 16 → bytesIn 16 (drop 7 (assignTrace id b)) ≡ id
 assigning-identifier id b e =
     let l : List ℕ = b ∷ 258 ∷ pecOf (194 ∷ 4 ∷ 17 ∷ (id ++ b ∷ [])) ∷ 258 ∷ 257 ∷ [] in
     ap (λ (n : ℕ). bytesIn n (acked id ++ l)) (sym e) ∙ acked-bytes id l
@@ -201,12 +202,12 @@ effect-own u a ts t m e =
     ∙ ap (λ (b : ℕ). record { udid = t .udid; addressByte = b; flag = 1 }) n
 
 -- a trace that is an Assign Address of some identifier is that of the command's
-assign-names-one : (u : Udid) (a : Address) (ts : List Target) (id : List ℕ) (b : ℕ) → Bytes id → length id ≡ 16 → b < 256 → onBus (Assign u a) ts ≡ assigning id b → udidBytes u ≡ id
+assign-names-one : (u : Udid) (a : Address) (ts : List Target) (id : List ℕ) (b : ℕ) → Bytes id → length id ≡ 16 → b < 256 → onBus (Assign u a) ts ≡ assignTrace id b → udidBytes u ≡ id
 unfolding onBus standing same
 assign-names-one u a ts id b h l g q =
     let w : onBus (Assign u a) ts ≡ traceOf (Assign u a) [] =
     answered-without-nack (λ (sent : List ℕ). somebody (acknowledges sent) ts) [] (sentPart (Assign u a)) (STOP ∷ []) (subst Quiet (sym q) (quiet-assigning id b h g)) ∙ assign-stop u a in
-    let r : assigning (udidBytes u) (2 * (a .0 % 128)) ≡ assigning id b = sym (assign-row u a) ∙ sym w ∙ q in
+    let r : assignTrace (udidBytes u) (2 * (a .0 % 128)) ≡ assignTrace id b = sym (assign-symbols u a) ∙ sym w ∙ q in
     sym (assigning-identifier (udidBytes u) (2 * (a .0 % 128)) (length-udid u)) ∙ ap (λ (x : List ℕ). bytesIn 16 (drop 7 x)) r ∙ assigning-identifier id b l
 
 -- any other target

@@ -23,6 +23,7 @@ use Rattle.targets.specs.ReplyLaws.{length-reply-data, bytes-reply-data}
 use Rattle.arp.specs.Bindings.{findFrom, freed, slotFor, bound}
 use Rattle.arp.specs.Controller.{handed, asked, chosen, issued, replied, afterPrepare, afterGet, byCommand, stepped}
 use Rattle.arp.specs.Heard.{sendByte, blockRead}
+use Rattle.arp.specs.RequestLaws.{valid-prepare, valid-get}
 use Rattle.arp.specs.Requests.{messageOf, traceOf}
 use Rattle.arp.specs.TraceLaws.{prepare-accepted, prepare-nobody, get-reply, get-nobody, assign-whole}
 use Rattle.arp.specs.declared.command.Command.{Command}

@@ -10,7 +10,8 @@ use lib.ListN.{length, getD, length-append}
 use lib.Seq.{getD-at}
 use borrow.Author.Tests.{eq-eqb, ne-eqb}
 use Rattle.lists.specs.Choice.{pick, or}
-use Rattle.lists.specs.Each.{Bytes, append-bytes}
+use Rattle.lists.specs.Each.{Bytes}
+use Rattle.lists.specs.EachLaws.{append-bytes}
 use Rattle.wire.specs.Pec.{bitStep, pecStep, pecFrom, pecOf}
 use Rattle.wire.specs.PecLaws.{pec-byte}
 use Rattle.wire.specs.Symbols.{START, STOP, ACK, NACK}

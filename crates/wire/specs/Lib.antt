@@ -7,3 +7,4 @@ pub mod Pec
 pub mod PecLaws
 pub mod PecDivision
 pub mod UniqueLaws
+pub mod PecDivisionLaws

@@ -7,7 +7,7 @@ use denote.Ref.{now}
 use Rattle.arp.specs.SendingLaws.{get-sent}
 use Rattle.arp.specs.Requests.{traceOf}
 use Rattle.arp.specs.declared.command.Command.the-variants.{GetUdid}
-use Rattle.lists.specs.Each.{all-bytes}
+use Rattle.lists.specs.EachLaws.{all-bytes}
 use Rattle.bus.specs.Turn.{lentPart}
 use Rattle.bus.specs.TurnLaws.{get-silence, get-winner, get-winner-part, get-length, winner-inside, winner-part-lent}
 use borrow.Author.Needs.{needs}
