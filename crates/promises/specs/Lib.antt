@@ -1,8 +1,9 @@
-pub mod Marked
 pub mod Demand1
 pub mod Demand2
 pub mod Demand3
-pub mod Steps
 pub mod Words
 pub mod MarkedWords
 pub mod Demands
+pub mod StepsLaws
+pub mod DemandsLaws
+pub mod MarkedLaws

@@ -1,4 +1,4 @@
--- The marked cases, on the definitions: one table under one statement. M8 to M10 are computed on the end that demand 3 gives.
+-- The marked cases are so. M1 to M7 are computed on the definitions. M8 to M10 are computed on the end that demand 3 gives.
 use mathlib.Core.Path.{_≡_, refl, ap, ap₂, _∙_}
 use mathlib.Core.Bool.{Bool, true, false}
 use mathlib.Core.List.{List, [], _∷_, _++_}
@@ -10,9 +10,9 @@ use borrow.Author.Tests.{ltb-true}
 use Rattle.lists.specs.Choice.{pick}
 use Rattle.lists.specs.Each.{Each, Bytes}
 use Rattle.wire.specs.Pec.{bitStep, pecStep, pecFrom, pecOf}
-use Rattle.trace.specs.Shapes.{shapeOf}
-use Rattle.trace.specs.Trace.{Message, trace}
 use Rattle.trace.specs.Allowed.{lengthsFit, allowed}
+use Rattle.trace.specs.ShapeLaws.{by-row}
+use Rattle.trace.specs.Table.{receive-byte, block-read}
 use Rattle.encode.specs.Encode.{encodeNumber, refused, encoded}
 use Rattle.step.specs.Numbers.{decodeNumber}
 use Rattle.step.specs.Run.{run, finish, decodedBy}
@@ -25,8 +25,6 @@ use Rattle.pool.specs.Start.{emptyPool, reservedPool, startingPool}
 use Rattle.pool.specs.declared.Pool.{Pool}
 use Rattle.udid.specs.Bytes.{numberFrom, bytesOf, bytesFrom, udidBytes, udidAt}
 use Rattle.arp.specs.Numbers.{commandNumber}
-use Rattle.arp.specs.Requests.{traceOf}
-use Rattle.arp.specs.declared.command.Command.the-variants.{Prepare}
 use Rattle.targets.specs.AdmissionLaws.{admitted-targets}
 use Rattle.targets.specs.First.{firstFrom}
 use Rattle.targets.specs.Records.{targetAt, targetsOf, putTarget, recordsWith}
@@ -42,73 +40,10 @@ use Rattle.rule.specs.PlainRule.{plainChoice}
 use Rattle.bus.specs.Run.{noUdid, numberIn, udidIn, entryAt, ModelEnd, endedEnd, modelEnd}
 use Rattle.bus.specs.RunLaws.{end-checked}
 use Rattle.bus.specs.declared.answer.ModelAnswer.{ModelAnswer}
+use Rattle.promises.specs.Demands.{Marked}
+use Rattle.promises.specs.MarkedWords.{message, identifier, holding, windows, Shows}
 
--- what the definitions give, and what the scope gives; the model's cases have a binding buffer, whatever it holds
-pub record Case : Type 0 where
-  pub got : List ℕ → List ℕ
-  pub want : List ℕ
-
--- a number and what comes with it; the lists of some numbers, one after another
-abbrev pair : ℕ × ℕ → List ℕ
-pair q = q .0 ∷ q .1 ∷ []
-
-abbrev joined : (ℕ → List ℕ) → List ℕ → List ℕ
-joined f [] = []
-joined f (x ∷ xs) = f x ++ joined f xs
-
-abbrev message : ℕ → ℕ → List ℕ → List ℕ → Message
-message a c s r = record { address = a; direction = 0; command = c; sent = s; received = r }
-
--- PEC of no bytes, of 01h and of 80h
-abbrev pub m1 : Case
-m1 = record { got = λ b. pecOf [] ∷ pecOf (0x01 ∷ []) ∷ pecOf (0x80 ∷ []) ∷ []; want = 0x00 ∷ 0x07 ∷ 0x89 ∷ [] }
-
--- Prepare To ARP, whole: the trace that the controller sends
-abbrev pub m2 : Case
-m2 = record { got = λ b. traceOf Prepare []; want = 256 ∷ 194 ∷ 258 ∷ 1 ∷ 258 ∷ 192 ∷ 258 ∷ 257 ∷ [] }
-
--- Receive Byte from 0Ch giving 4Fh with PEC
-abbrev pub m3 : Case
-m3 = record { got = λ b. trace (shapeOf 2) true (message 0x0C 0 [] (0x4F ∷ [])); want = 256 ∷ 25 ∷ 258 ∷ 79 ∷ 258 ∷ 0 ∷ 259 ∷ 257 ∷ [] }
-
--- PEC of C2h 02h
-abbrev pub m4 : Case
-m4 = record { got = λ b. pecOf (0xC2 ∷ 0x02 ∷ []) ∷ []; want = 0xC9 ∷ [] }
-
--- Block Read, n = 0, no PEC: the length, then the symbols; the count is NACKed
-abbrev pub m5 : Case
-m5 =
-    record {
-      got = λ b. length (trace (shapeOf 9) false (message 0x10 0x07 [] [])) ∷ trace (shapeOf 9) false (message 0x10 0x07 [] []);
-      want = 11 ∷ 256 ∷ 32 ∷ 258 ∷ 7 ∷ 258 ∷ 256 ∷ 33 ∷ 258 ∷ 0 ∷ 259 ∷ 257 ∷ [];
-    }
-
--- Block Process Call 200 and 55 is written, without PEC and with it, into room for the longest trace; 200 and 56 is refused with 1
-abbrev blocks : Bool → ℕ → ℕ → List ℕ
-blocks p m n = pair (encodeNumber (encoded 10 p (message 0x10 0x07 (replicate m 0) (replicate n 0)) 525))
-
-abbrev pub m6 : Case
-m6 = record { got = λ b. blocks false 200 55 ++ blocks true 200 55 ++ blocks false 200 56 ++ blocks true 200 56; want = 0 ∷ 523 ∷ 0 ∷ 525 ∷ 1 ∷ 0 ∷ 1 ∷ 0 ∷ [] }
-
--- the empty trace: 4 with 0, for each protocol without PEC and with it; Quick has none with it
-abbrev empty : ℕ → Bool → List ℕ
-empty protocol p = pair (decodeNumber (answered protocol p [] 255 255))
-
-abbrev pub m7 : Case
-m7 =
-    record {
-      got = λ b. joined (λ (k : ℕ). empty k false) (0 ∷ 1 ∷ 2 ∷ 3 ∷ 4 ∷ 5 ∷ 6 ∷ 7 ∷ 8 ∷ 9 ∷ 10 ∷ []) ++ joined (λ (k : ℕ). empty k true) (1 ∷ 2 ∷ 3 ∷ 4 ∷ 5 ∷ 6 ∷ 7 ∷ 8 ∷ 9 ∷ 10 ∷ []);
-      want = joined (λ (k : ℕ). 4 ∷ 0 ∷ []) (replicate 21 0);
-    }
-
--- ---- the model
-
--- a record: an identifier that begins with this byte and ends with 1; the address byte; the flag
-abbrev udid : ℕ → List ℕ
-udid first = first ∷ replicate 14 0 ++ 1 ∷ []
-
-abbrev holding : ℕ → ℕ → ℕ → List ℕ
-holding first byte flag = udid first ++ byte ∷ flag ∷ []
+-- ---- the model's cases
 
 -- a run: the occupied addresses and the records lent; the answer, the records after it, and whose bytes stand at which addresses
 record Run : Type 0 where
@@ -119,20 +54,6 @@ record Run : Type 0 where
   places : List ℕ
   buffer : List ℕ
 
-abbrev answerList : ModelAnswer → List ℕ
-answerList r = r .answer ∷ r .place ∷ r .udid .high ∷ r .udid .low ∷ r .bound .low ∷ r .bound .high ∷ r .count ∷ r .gets ∷ []
-
--- the 16 bytes of some addresses
-abbrev windows : List ℕ → List ℕ → List ℕ
-windows l [] = []
-windows l (a ∷ as′) = take 16 (drop (16 * a) l) ++ windows l as′
-
-abbrev caseOf : Run → Case
-caseOf m = record {
-  got = λ b. answerList (modelEnd (m .occupied) (m .records) b .answer) ++ modelEnd (m .occupied) (m .records) b .records ++ windows (modelEnd (m .occupied) (m .records) b .bindings) (m .places);
-  want = answerList (m .answer) ++ m .after ++ m .buffer;
-}
-
 -- 80h.. with FFh, 00h.. fixed at 09h, 40h.. holding 20h, nothing occupied: 09h fixed, 20h kept, 0Ah given to 80h..; four Get UDIDs
 abbrev run8 : Run
 run8 = record {
@@ -141,7 +62,7 @@ run8 = record {
   answer = record { answer = 0; place = 0; udid = noUdid; bound = record { low = 2 ^ 0x09 + 2 ^ 0x0A + 2 ^ 0x20; high = 0 }; count = 3; gets = 4 };
   after = holding 0x80 0x15 1 ++ holding 0x00 0x13 1 ++ holding 0x40 0x41 1;
   places = 0x09 ∷ 0x0A ∷ 0x0B ∷ 0x20 ∷ [];
-  buffer = udid 0x00 ++ udid 0x80 ++ replicate 16 0 ++ udid 0x40;
+  buffer = identifier 0x00 ++ identifier 0x80 ++ replicate 16 0 ++ identifier 0x40;
 }
 
 -- two movable targets, the smaller with none, the larger holding 09h: 09h and 0Ah
@@ -152,7 +73,7 @@ run9 = record {
   answer = record { answer = 0; place = 0; udid = noUdid; bound = record { low = 2 ^ 0x09 + 2 ^ 0x0A; high = 0 }; count = 2; gets = 3 };
   after = holding 0x40 0x13 1 ++ holding 0x80 0x15 1;
   places = 0x09 ∷ 0x0A ∷ 0x0B ∷ [];
-  buffer = udid 0x40 ++ udid 0x80 ++ replicate 16 0;
+  buffer = identifier 0x40 ++ identifier 0x80 ++ replicate 16 0;
 }
 
 -- all 128 occupied, one movable target: 13, none bound, one Get UDID
@@ -165,15 +86,6 @@ run10 = record {
   places = 0x09 ∷ 0x20 ∷ [];
   buffer = replicate 32 0;
 }
-
-abbrev pub m8 : Case
-m8 = caseOf run8
-
-abbrev pub m9 : Case
-m9 = caseOf run9
-
-abbrev pub m10 : Case
-m10 = caseOf run10
 
 -- bytes, by computing
 abbrev areBytes : List ℕ → Bool
@@ -193,6 +105,11 @@ computed (x ∷ xs) h = go (ltb x 256) refl h (λ k. computed xs k)
 abbrev endOf : Run → World
 endOf m = passEnd (startingPool (m .occupied)) (targetsOf (m .records))
 
+-- the lists of some numbers, one after another
+abbrev joined : (ℕ → List ℕ) → List ℕ → List ℕ
+joined f [] = []
+joined f (x ∷ xs) = f x ++ joined f xs
+
 record Comes (m : Run) : Type 0 where
   bytes : Bytes (m .records)
   admitted : checkedList (startingPool (m .occupied)) (m .records) ≡ Admitted
@@ -210,16 +127,17 @@ windows-are : (held : ℕ → Entry) (rest as′ : List ℕ) → Each (λ (a : �
 windows-are held rest [] h = refl
 windows-are held rest (a ∷ as′) h = ap₂ (λ (x y : List ℕ). x ++ y) (bytes-there held rest a (h .0)) (windows-are held rest as′ (h .1))
 
-comes : (m : Run) → Comes m → (b : List ℕ) → 2048 ≤ length b → caseOf m .got b ≡ caseOf m .want
-comes m v b h =
-    ap (λ (x : ModelEnd). answerList (x .answer) ++ x .records ++ windows (x .bindings) (m .places))
-    (end-checked (m .occupied) (m .records) b Admitted h (v .admitted)
-    ∙ ap (λ (w : World). endedEnd w (m .records) b) (demand-3 (m .occupied) (targetsOf (m .records)) (admitted-targets (startingPool (m .occupied)) (m .records) (v .bytes) (v .admitted))))
-    ∙ ap₂ (λ (x y : List ℕ). x ++ y)
-    (ap₂ (λ (x : ModelAnswer) (y : List ℕ). answerList x ++ y)
-    (λ i. record { answer = v .number i; place = v .nowhere i; udid = v .asker i; bound = v .bound i; count = (ap used (v .bound) ∙ v .counted) i; gets = v .gets i })
-    (v .stored))
-    (windows-are (entryAt (endOf m .now .state .slots)) (drop 2048 b) (m .places) (v .small) ∙ v .shown)
+shows : (m : Run) → Comes m → (b : List ℕ) → 2048 ≤ length b → Shows (modelEnd (m .occupied) (m .records) b) (m .answer) (m .after) (m .places) (m .buffer)
+shows m v b h =
+    let e : modelEnd (m .occupied) (m .records) b ≡ endedEnd (endOf m) (m .records) b =
+    end-checked (m .occupied) (m .records) b Admitted h (v .admitted)
+    ∙ ap (λ (w : World). endedEnd w (m .records) b) (demand-3 (m .occupied) (targetsOf (m .records)) (admitted-targets (startingPool (m .occupied)) (m .records) (v .bytes) (v .admitted))) in (
+      ap (λ (x : ModelEnd). x .answer) e
+      ∙ (λ i. record { answer = v .number i; place = v .nowhere i; udid = v .asker i; bound = v .bound i; count = (ap used (v .bound) ∙ v .counted) i; gets = v .gets i }),
+      ap (λ (x : ModelEnd). x .records) e ∙ v .stored,
+      ap (λ (x : ModelEnd). windows (x .bindings) (m .places)) e
+      ∙ windows-are (entryAt (endOf m .now .state .slots)) (drop 2048 b) (m .places) (v .small) ∙ v .shown,
+    )
 
 comes-8 : Comes run8
 unfolding amongRecords checkedList firstFrom startingPool unionOf reservedPool member digit withAddress plus freeFrom numberFrom bytesFrom bytesOf udidAt udidBytes targetAt plainChoice putTarget boundFrom used count
@@ -269,15 +187,44 @@ comes-10 = record {
   shown = refl;
 }
 
--- ---- THE TABLE
+-- ---- the codec's cases
 
-abbrev pub marked : List Case
-marked = m1 ∷ m2 ∷ m3 ∷ m4 ∷ m5 ∷ m6 ∷ m7 ∷ m8 ∷ m9 ∷ m10 ∷ []
+-- every protocol, without PEC and with it; Quick has none with it
+abbrev Empty : ℕ → Type 0
+Empty protocol = (pec : Bool) → (protocol ≡ 0 → pec ≡ false) → decodeNumber (answered protocol pec [] 255 255) ≡ (4, 0)
+
+plain : (protocol : ℕ) → decodeNumber (answered protocol false [] 255 255) ≡ (4, 0) → decodeNumber (answered protocol true [] 255 255) ≡ (4, 0) → Empty protocol
+plain protocol f t true z = t
+plain protocol f t false z = f
+
+quick : Empty 0
+unfolding answered decodedBy run finish
+quick true z = absurd (let q : _≡_ {A = ℕ} 0 1 = cc (z refl) in omega arith)
+quick false z = refl
+
+empty-trace : (protocol : ℕ) → protocol ≤ 10 → Empty protocol
+unfolding answered decodedBy run finish
+empty-trace =
+    by-row Empty quick (plain 1 refl refl) (plain 2 refl refl) (plain 3 refl refl) (plain 4 refl refl) (plain 5 refl refl) (plain 6 refl refl) (plain 7 refl refl) (plain 8 refl refl)
+    (plain 9 refl refl) (plain 10 refl refl)
+
+too-many : (pec : Bool) → encodeNumber (encoded 10 pec (message 0x10 7 (replicate 200 0) (replicate 56 0)) 525) ≡ (1, 0)
+unfolding encoded refused allowed lengthsFit
+too-many true = refl
+too-many false = refl
 
 -- whatever binding buffer of at least 2,048 bytes is lent
-pub marked-cases : Each (λ (c : Case). (b : List ℕ) → 2048 ≤ length b → c .got b ≡ c .want) marked
-unfolding pecFrom pecStep bitStep encoded refused allowed lengthsFit answered decodedBy run finish
-marked-cases = (
-  (λ b h. refl),
-  ((λ b h. refl), ((λ b h. refl), ((λ b h. refl), ((λ b h. refl), ((λ b h. refl), ((λ b h. refl), (comes run8 comes-8, (comes run9 comes-9, (comes run10 comes-10, tt))))))))),
-)
+pub marked : (b : List ℕ) (room : 2048 ≤ length b) → Marked b room
+unfolding pecFrom pecStep bitStep encoded refused allowed lengthsFit
+marked b room = record {
+  m1 = (refl, refl, refl);
+  m2 = refl;
+  m3 = (_, receive-byte 0x0C 0x4F (omega arith) (omega arith) refl, refl, refl, refl);
+  m4 = refl;
+  m5 = (_, block-read 0x10 0x07 [] (omega arith) (omega arith) tt (omega arith) refl, refl, refl, refl);
+  m6 = (refl, refl, too-many);
+  m7 = λ protocol pec h z. empty-trace protocol h pec z;
+  m8 = shows run8 comes-8 b room;
+  m9 = shows run9 comes-9 b room;
+  m10 = shows run10 comes-10 b room;
+}

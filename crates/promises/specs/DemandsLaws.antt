@@ -1,0 +1,253 @@
+-- THE PROOFS of the page (Demands): one inhabitant of each record, put together from the laws of the crates whose definitions they are about.
+use mathlib.Core.Path.{_≡_, refl, sym, ap, _∙_, subst}
+use mathlib.Core.Bool.{Bool, true, false}
+use mathlib.Core.List.{List, [], _∷_, _++_}
+use mathlib.Core.Logic.{_⊎_, inl, inr, _↔_}
+use Prim.Native.Nat.{ℕ, _+_, _*_, _%_, _≤_, _<_}
+use native.Mathlib.Decide.{decLt}
+use native.Mathlib.Nat.{mod-eq-of-lt}
+use native.Mathlib.Omega.{arith}
+use lib.ListN.{length, take, drop}
+use lib.Seq.{take-at}
+use Rattle.lists.specs.Choice.{pick}
+use Rattle.lists.specs.Each.{Bytes}
+use Rattle.wire.specs.declared.address.Address.{Address}
+use Rattle.trace.specs.ShapeLaws.{sane}
+use Rattle.trace.specs.Shapes.{shapeOf}
+use Rattle.trace.specs.Table.{TraceOf}
+use Rattle.trace.specs.TableLaws.{listed-trace, quick-plain}
+use Rattle.trace.specs.Trace.{Message, trace, Valid}
+use Rattle.encode.specs.Encode.{encodeNumber, Wrote}
+use Rattle.encode.specs.EncodeLaws.{answer-0, answer-1, answer-2, refusal-untouched}
+use Rattle.encode.specs.NumberLaws as encode
+use Rattle.encode.specs.Listed.{Listed}
+use Rattle.encode.specs.declared.Encoded.{Encoded}
+use Rattle.encode.specs.declared.Encoded.the-variants.{Written, Forbidden, OutputTooShort}
+use Rattle.step.specs.Answers.{summary}
+use Rattle.step.specs.AnswersLaws.{one-message}
+use Rattle.step.specs.Numbers.{decodeNumber}
+use Rattle.step.specs.declared.answer.Decoded.{Decoded}
+use Rattle.step.specs.declared.answer.Decoded.the-variants.{Done}
+use Rattle.decode.specs.NumberLaws as decode
+use Rattle.decode.specs.Outcome.{Outcome}
+use Rattle.pool.specs.Start.{emptyPool, startingPool}
+use Rattle.pool.specs.declared.Pool.{Pool}
+use Rattle.udid.specs.Bytes.{udidBytes}
+use Rattle.udid.specs.declared.Udid.{Udid}
+use Rattle.arp.specs.AssignedLaws.{found-acknowledged, claim-stays}
+use Rattle.arp.specs.CommandTraces.{prepareTrace, replyTrace, assignTrace}
+use Rattle.arp.specs.HistoryLaws.{reached-good, reached-invariant, new-controller-is-new}
+use Rattle.arp.specs.LookupLaws as arp
+use Rattle.arp.specs.RequestLaws.{prepare-symbols, reply-symbols, assign-symbols-small}
+use Rattle.arp.specs.Requests.{protocolFor, messageOf}
+use Rattle.arp.specs.SendingLaws.{refused-exactly, small-address-protocol}
+use Rattle.arp.specs.Sound.{PendingIn}
+use Rattle.arp.specs.SoundLaws.{open-all}
+use Rattle.arp.specs.Controller.{stepped}
+use Rattle.arp.specs.History.{run}
+use Rattle.arp.specs.declared.command.Command.{Command}
+use Rattle.arp.specs.declared.command.Command.the-variants.{Prepare, GetUdid, Assign}
+use Rattle.arp.specs.declared.state.Controller.{Controller}
+use Rattle.targets.specs.Refusals.{checkedList}
+use Rattle.targets.specs.declared.admit.Checked.the-variants.{Admitted}
+use Rattle.bus.specs.BindingsEndLaws.{given-in-records, given-assignable, given-distinct, given-once, bound-exactly, bytes-of-bound, bytes-of-free, bytes-after-kept}
+use Rattle.bus.specs.EndLaws.{answer-of-rule, asker-of-rule, place-zero, count-of-rule, gets-on-bus, gets-of-rule, all-counted}
+use Rattle.bus.specs.PassLaws.{answer-of-pass, records-of-pass, bindings-of-pass}
+use Rattle.bus.specs.RecordsEndLaws.{records-length, record-of-bound, record-of-unbound, other-bytes-kept}
+use Rattle.bus.specs.RefusalLaws as bus
+use Rattle.bus.specs.Run.{Leaves, modelEnd}
+use Rattle.bus.specs.declared.answer.ModelAnswer.{ModelAnswer}
+use Rattle.promises.specs.Demands.{OfBytes, Encodes, Decodes, Puts, Commands, LooksUp, Refused, Checks, Demand2, Demand3, Sound, Control}
+use Rattle.promises.specs.StepsLaws.{sentences, one-step, each-number-exactly}
+
+-- ---- demand 1
+
+pub encodes : (protocol : ℕ) (pec : Bool) (m : Message) (bytes : OfBytes m) (before : List ℕ) (r : Encoded) (after : List ℕ) (contract : Wrote protocol pec m before r after)
+    → Encodes protocol pec m bytes before r after contract
+encodes protocol pec m (c, s, v) before r after w = record {
+  encode-0 = encode.encode-0 protocol pec m c s v before r after w;
+  encode-1 = answer-1 protocol pec m before r after w;
+  encode-2 = encode.encode-2 protocol pec m c s v before r after w;
+  written = encode.encode-writes protocol pec m c s v before r after w;
+  untouched = refusal-untouched protocol pec m before r after w;
+}
+
+pub decodes : (protocol : ℕ) (pec : Bool) (tr sent₀ received₀ : List ℕ) (a : Decoded) (sent received : List ℕ) (contract : Outcome protocol pec tr sent₀ received₀ a sent received)
+    → Decodes protocol pec tr sent₀ received₀ a sent received contract
+decodes protocol pec tr sent₀ received₀ a sent received o = record {
+  decode-0 = decode.decode-0 protocol pec tr sent₀ received₀ a sent received o;
+  decode-1 = decode.decode-1 protocol pec tr sent₀ received₀ a sent received o;
+  decode-2 = decode.decode-2 protocol pec tr sent₀ received₀ a sent received o;
+  decode-3 = decode.decode-3 protocol pec tr sent₀ received₀ a sent received o;
+  decode-4 = decode.decode-4 protocol pec tr sent₀ received₀ a sent received o;
+  decode-5 = decode.decode-5 protocol pec tr sent₀ received₀ a sent received o;
+  decode-6 = decode.decode-6 protocol pec tr sent₀ received₀ a sent received o;
+  decode-7 = decode.decode-7 protocol pec tr sent₀ received₀ a sent received o;
+  decode-8 = decode.decode-8 protocol pec tr sent₀ received₀ a sent received o;
+  handed = decode.decode-hands-over protocol pec tr sent₀ received₀ a sent received o;
+  untouched = decode.decode-refusal protocol pec tr sent₀ received₀ a sent received o;
+}
+
+-- what put_command writes for a command whose trace is tr, and which is refused in the case Bad
+written-trace : (protocol : ℕ) (pec : Bool) (t : Message) (before : List ℕ) (r : Encoded) (after : List ℕ) → Wrote protocol pec t before r after → encodeNumber r .0 ≡ 0
+    → after ≡ trace (shapeOf protocol) pec t ++ drop (length (trace (shapeOf protocol) pec t)) before
+written-trace protocol pec t before (Written n) after w e = w .output
+written-trace protocol pec t before Forbidden after w e = absurd (omega (arith, e))
+written-trace protocol pec t before OutputTooShort after w e = absurd (omega (arith, e))
+
+module _ (k : Command) (reply tr before : List ℕ) (r : Encoded) (after : List ℕ) (Bad : Type 0) (w : Wrote (protocolFor k) true (messageOf k reply) before r after)
+    (one : (encodeNumber r ≡ (1, 0)) ↔ Bad) (same : (Bad → ⊥) → trace (shapeOf (protocolFor k)) true (messageOf k reply) ≡ tr) where
+  -- refused with 1 exactly in the listed cases, which are Bad
+  good : (Listed (protocolFor k) true (messageOf k reply) → ⊥) ↔ (Bad → ⊥)
+  good =
+      let l = answer-1 (protocolFor k) true (messageOf k reply) before r after w in
+      (λ n b. n (l .0 (one .1 b)), λ n q. n (one .0 (l .1 q)))
+
+  done-good : encodeNumber r .0 ≡ 0 → Bad → ⊥
+  done-good e b = let z : _≡_ {A = ℕ} 0 1 = sym e ∙ ap (λ (x : ℕ × ℕ). x .0) (one .1 b) in omega arith
+
+  puts : Puts Bad tr before r after
+  puts =
+      let z = answer-0 (protocolFor k) true (messageOf k reply) before r after w in
+      let s = answer-2 (protocolFor k) true (messageOf k reply) before r after w in
+      record {
+        put-0 = λ n. (
+          λ e. (let q = z n .0 e in let b : Bad → ⊥ = good .0 (q .0) in (b, q .1 ∙ ap length (same b), q .2)),
+          λ h. z n .1 (good .1 (h .0), h .1 ∙ sym (ap length (same (h .0))), h .2),
+        );
+        put-1 = one;
+        put-2 = (
+          λ e. (let q = s .0 e in let b : Bad → ⊥ = good .0 (q .0) in (b, subst (λ (x : List ℕ). length before < length x) (same b) (q .1))),
+          λ h. s .1 (good .1 (h .0), subst (λ (x : List ℕ). length before < length x) (sym (same (h .0))) (h .1)),
+        );
+        written = λ e.
+            written-trace (protocolFor k) true (messageOf k reply) before r after w e ∙ ap (λ (x : List ℕ). x ++ drop (length x) before) (same (done-good e));
+        untouched = refusal-untouched (protocolFor k) true (messageOf k reply) before r after w;
+      }
+
+pub commands : (reply before : List ℕ) (r : Encoded) (after : List ℕ) → Commands reply before r after
+commands reply before r after = record {
+  prepare = λ w. puts Prepare reply prepareTrace before r after ⊥ w (refused-exactly Prepare reply before r after w) (λ b. prepare-symbols reply);
+  get = λ w. puts GetUdid reply (replyTrace reply) before r after (255 < length reply) w (refused-exactly GetUdid reply before r after w) (λ b. reply-symbols reply);
+  assign = λ u a w.
+      puts (Assign u a) reply (assignTrace (udidBytes u) (2 * a .0)) before r after (127 < a .0) w (refused-exactly (Assign u a) reply before r after w)
+      (λ b. assigned u a b (decLt (a .0) 128));
+}
+  where
+    assigned : (u : Udid) (a : Address) → (127 < a .0 → ⊥) → Dec (a .0 < 128) → trace (shapeOf (protocolFor (Assign u a))) true (messageOf (Assign u a) reply) ≡ assignTrace (udidBytes u) (2 * a .0)
+    assigned u a b (yes l) = ap (λ (p : ℕ). trace (shapeOf p) true (messageOf (Assign u a) reply)) (small-address-protocol u a l) ∙ assign-symbols-small u a l
+    assigned u a b (no l) = absurd (b (omega arith))
+
+pub looks-up : (s : Controller) (a : ℕ) → LooksUp s a
+looks-up s a = record { lookup-0 = arp.lookup-0 s a; lookup-1 = arp.lookup-1 s a; lookup-15 = arp.lookup-15 s a; lookup-16 = arp.lookup-16 s a }
+
+pub checks : (occupied : Pool) (s b : List ℕ) (bytes : Bytes s) (r : ModelAnswer) (s′ b′ : List ℕ) (contract : Leaves (modelEnd occupied s b) r s′ b′)
+    → Checks occupied s b bytes r s′ b′ contract
+checks occupied s b bytes r s′ b′ l = record {
+  model-2 = bus.model-2 occupied s b r s′ b′ l;
+  model-9 = bus.model-9 occupied s b r s′ b′ l bytes;
+  model-10 = bus.model-10 occupied s b r s′ b′ l bytes;
+  model-11 = bus.model-11 occupied s b r s′ b′ l bytes;
+  model-12 = bus.model-12 occupied s b r s′ b′ l bytes;
+  untouched = λ h. (let u = bus.model-untouched occupied s b r s′ b′ l h in (
+    u .0,
+    u .1,
+    ap (λ (x : ModelAnswer). x .udid) (u .2),
+    ap (λ (x : ModelAnswer). x .bound) (u .2),
+    ap (λ (x : ModelAnswer). x .count) (u .2),
+    ap (λ (x : ModelAnswer). x .gets) (u .2),
+  ));
+}
+
+-- ---- demand 2
+
+command-byte : (b o : Bool) (c : ℕ) → pick b ((c < 256) × pick o (c % 2 ≡ 0) Unit) (c ≡ 0) → c < 256
+command-byte true o c h = h .0
+command-byte false o c h = let e : c ≡ 0 = h in omega arith
+
+-- a message of the table is one of bytes
+of-bytes : (protocol : ℕ) (pec : Bool) (m : Message) (tr : List ℕ) → TraceOf protocol pec m tr → OfBytes m
+of-bytes protocol pec m tr w =
+    let v = listed-trace protocol pec m tr w .1 in
+    (command-byte (shapeOf protocol .command) (shapeOf protocol .tohost) (m .command) (v .command), v .sent-bytes, v .received-bytes)
+
+pub demand-2 : (protocol : ℕ) (pec : Bool) → Demand2 protocol pec
+demand-2 protocol pec = record { there = there; back = back; one = one }
+  where
+    there : (m : Message) (before : List ℕ) (r : Encoded) (after : List ℕ) → OfBytes m → Wrote protocol pec m before r after → (n : ℕ) → encodeNumber r ≡ (0, n)
+        → (sent₀ received₀ : List ℕ) (a : Decoded) (sent received : List ℕ) → 255 ≤ length sent₀ → 255 ≤ length received₀ → Outcome protocol pec (take n after) sent₀ received₀ a sent received
+        → (a ≡ Done (summary protocol m)) × (sent ≡ m .sent ++ drop (length (m .sent)) sent₀) × (received ≡ m .received ++ drop (length (m .received)) received₀)
+    there m before r after (c, s, v) w n e sent₀ received₀ a sent received hs hr o =
+        let k = encode.encode-0 protocol pec m c s v before r after w n .0 e in
+        let x = k .0 in
+        let t = k .1 in
+        let f : take n after ≡ x = ap (take n) (encode.encode-writes protocol pec m c s v before r after w (ap (λ (q : ℕ × ℕ). q .0) e) x t) ∙ take-at x (drop (length x) before) n (k .2) in
+        decode.decode-hands-over protocol pec (take n after) sent₀ received₀ a sent received o
+        (listed-trace protocol pec m x t .0, λ z. quick-plain pec _ (t .0) (t .1) (t .2 ∙ z), hs, hr) m (subst (TraceOf protocol pec m) (sym f) t)
+
+    back : (tr sent₀ received₀ : List ℕ) (a : Decoded) (sent received : List ℕ) → Outcome protocol pec tr sent₀ received₀ a sent received → decodeNumber a ≡ (0, 0)
+        → (m : Message) × OfBytes m × (a ≡ Done (summary protocol m)) × ((before : List ℕ) (r : Encoded) (after : List ℕ) → length tr ≤ length before
+        → Wrote protocol pec m before r after → (encodeNumber r ≡ (0, length tr)) × (take (length tr) after ≡ tr))
+    back tr sent₀ received₀ a sent received o e =
+        let k = decode.decode-0 protocol pec tr sent₀ received₀ a sent received o .0 e in
+        let m = k .1 .0 in
+        let t = k .1 .1 in
+        let b = of-bytes protocol pec m tr t in
+        (
+          m,
+          b,
+          decode.decode-hands-over protocol pec tr sent₀ received₀ a sent received o (k .0) m t .0,
+          λ before r after room w. (
+            let z = encode.encode-0 protocol pec m (b .0) (b .1) (b .2) before r after w (length tr) .1 (tr, t, refl, room) in (
+              z,
+              ap (take (length tr)) (encode.encode-writes protocol pec m (b .0) (b .1) (b .2) before r after w (ap (λ (q : ℕ × ℕ). q .0) z) tr t)
+              ∙ take-at tr (drop (length tr) before) (length tr) refl,
+            )),
+        )
+
+    one : (m t : Message) (tr : List ℕ) → TraceOf protocol pec m tr → TraceOf protocol pec t tr → m ≡ t
+    one m t tr x y =
+        let v = listed-trace protocol pec m tr x in
+        let w = listed-trace protocol pec t tr y in
+        one-message protocol (shapeOf protocol) (sane protocol) pec m t (v .1) (w .1) (sym (v .2) ∙ w .2)
+
+-- ---- demand 3
+
+pub demand-3 : (occupied : Pool) (s b : List ℕ) (bytes : Bytes s) (r : ModelAnswer) (s′ b′ : List ℕ) (contract : Leaves (modelEnd occupied s b) r s′ b′)
+    → Demand3 occupied s b bytes r s′ b′ contract
+demand-3 occupied s b bytes r s′ b′ l = record {
+  meets = λ n. (let k = bus.run-admitted occupied s b r s′ b′ l n in let long = k .0 in let e = k .1 in record {
+    answer = (answer-of-rule occupied s b bytes long e r s′ b′ l, asker-of-rule occupied s b bytes long e r s′ b′ l, place-zero occupied s b bytes long e r s′ b′ l);
+    counted = count-of-rule occupied s b bytes long e r s′ b′ l;
+    gets = (gets-on-bus occupied s b bytes long e r s′ b′ l, gets-of-rule occupied s b bytes long e r s′ b′ l);
+    who = given-in-records occupied s bytes e;
+    assignable = given-assignable occupied s bytes e;
+    distinct = (given-distinct occupied s bytes e, given-once occupied s bytes e);
+    bound = bound-exactly occupied s b bytes long e r s′ b′ l;
+    bound-bytes = bytes-of-bound occupied s b bytes long e r s′ b′ l;
+    free-bytes = bytes-of-free occupied s b bytes long e r s′ b′ l;
+    rest = bytes-after-kept occupied s b bytes long e r s′ b′ l;
+    same-length = records-length occupied s b bytes long e r s′ b′ l;
+    bound-record = record-of-bound occupied s b bytes long e r s′ b′ l;
+    unbound-record = record-of-unbound occupied s b bytes long e r s′ b′ l;
+    others = other-bytes-kept occupied s b bytes long e r s′ b′ l;
+    all-bound = all-counted occupied s b bytes long e r s′ b′ l;
+    of-pass = (sym (answer-of-pass occupied s b long e r s′ b′ l), records-of-pass occupied s b long e r s′ b′ l, bindings-of-pass occupied s b long e r s′ b′ l);
+  });
+}
+
+-- ---- the controller
+
+pub control : Control
+control = record {
+  new = λ occupied. (new-controller-is-new occupied .starting, new-controller-is-new occupied .last);
+  start = λ s. (refl, refl, refl, refl, refl, open-all);
+  step = λ s tr f. (sentences s tr (f .0), each-number-exactly s tr (f .1) (stepped s tr) (sentences s tr (f .0)));
+  one-step = λ s tr r q f h g. one-step s tr r q (f .1) h g;
+  reached = λ occupied es. (
+    (reached-good occupied es .0 .sound .size, λ u a e. subst (PendingIn (run occupied es)) e (reached-good occupied es .1) .fits),
+    reached-invariant occupied es,
+  );
+  acknowledged = found-acknowledged;
+  claim-stays = λ occupied es tr a e. claim-stays occupied es (tr ∷ []) a e;
+}
