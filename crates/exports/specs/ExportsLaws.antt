@@ -12,6 +12,8 @@ use lib.Seq.{take-at, getD-take, length-take-le}
 use Rattle.lists.specs.Each.{Bytes}
 use Rattle.lists.specs.Onto.{onto}
 use Rattle.trace.specs.Shapes.{shapeOf, forbidden}
+use Rattle.trace.specs.Table.{TraceOf}
+use Rattle.trace.specs.TableLaws.{listed-trace, quick-plain}
 use Rattle.trace.specs.Trace.{Message, trace}
 use Rattle.trace.specs.declared.shape.Shape.{Shape}
 use Rattle.trace.specs.declared.transaction.Transaction.{Transaction}
@@ -19,11 +21,13 @@ use Rattle.encode.specs.declared.Encoded.{Encoded}
 use Rattle.encode.specs.declared.Encoded.the-variants.{Written}
 use Rattle.encode.specs.Encode.{message, encoded, symbolsOf, Wrote}
 use Rattle.encode.specs.Listed.{Listed}
-use Rattle.encode.specs.EncodeLaws.{written-exactly, front-is-trace}
+use Rattle.encode.specs.EncodeLaws.{written-exactly, written-valid}
 use Rattle.step.specs.declared.answer.Decoded.the-variants.{Done}
-use Rattle.step.specs.Answers.{Breaks, CutAt, Fits, Member, OtherPec, summary}
+use Rattle.step.specs.Answers.{summary}
+use Rattle.step.specs.Fitting.{Breaks, CutAt, Fits, Member, OtherPec}
 use Rattle.step.specs.Numbers.{decodeNumber}
-use Rattle.decode.specs.Outcome.{short, Outcome}
+use Rattle.decode.specs.NumberLaws.{short-cases, decode-0, decode-1, decode-3, decode-4, decode-5, decode-6, decode-7, decode-8, decode-hands-over, decode-refusal}
+use Rattle.decode.specs.Outcome.{short, Entered, Outcome}
 use Rattle.decode.specs.OutcomeLaws as decode
 use Rattle.pool.specs.declared.Pool.{Pool}
 use Rattle.pool.specs.Start.{startingPool}
@@ -43,16 +47,15 @@ use Rattle.exports.specs.declared.model.HbModel.{HbModel}
 use Rattle.exports.specs.NumberLaws.{truth-is}
 use Rattle.exports.specs.Numbers.{truth}
 use Rattle.exports.specs.Parts.{poolOf}
-use Rattle.exports.specs.Model.{RanModel}
+use Rattle.exports.specs.Model.{toldModel, RanModel}
 use Rattle.exports.specs.Pairs.{pairsOf, symbolsIn, length-symbols}
 use Rattle.exports.specs.PairLaws.{symbols-are, bytes-back}
 use Rattle.exports.specs.Codec.{told, toldDecoded, WrotePairs, WroteSymbols, ReadSymbols}
 use Rattle.exports.specs.WrittenLaws as written
 use Rattle.exports.specs.DecodedLaws.{OthersZero, pair-parts, read-carries, read-number, read-zeros, read-done}
-use Rattle.promises.specs.Demand1.{short-cases, Entered, HandedOver, decode-0, decode-1, decode-3, decode-4, decode-5, decode-6, decode-7, decode-8, decode-refusal}
-use Rattle.promises.specs.Demand2.{Accepted, encode-then-decode, decode-then-encode}
-use Rattle.promises.specs.Demand3.{Meets, model-meets}
-use Rattle.promises.specs.Marked.{marked-cases}
+use Rattle.promises.specs.Demands.{OfBytes, Meets}
+use Rattle.promises.specs.DemandsLaws.{of-bytes, demand-2, demand-3}
+use Rattle.promises.specs.MarkedLaws.{marked}
 
 -- ---- the encoder
 
@@ -225,35 +228,32 @@ module _ (protocol pec : ℕ) (tr sent₀ received₀ : List ℕ) (h : HbDecoded
       back : ((10 < protocol) ⊎ ((protocol ≡ 0) × (pec ≡ 0 → ⊥)) → ⊥) × ((length sent₀ < 255) ⊎ (length received₀ < 255)) → decodeNumber (d .answer) ≡ (2, 0)
       back (n, c) = two .1 (allowed n (forbidden protocol (truth pec)) refl, short-cases (length sent₀) (length received₀) .1 c)
 
-  abbrev sh : Shape
-  sh = shapeOf protocol
-
   -- 3: a number above 259 at the first place that does not fit
-  pub hb-decode-3 : (place : ℕ) → ((h .answer ≡ 3) × (h .value ≡ place)) ↔ (Entered protocol (truth pec) sent₀ received₀ × (Breaks sh (truth pec) tr place × (259 < getD tr place 0)))
+  pub hb-decode-3 : (place : ℕ) → ((h .answer ≡ 3) × (h .value ≡ place)) ↔ (Entered protocol (truth pec) sent₀ received₀ × (Breaks protocol (truth pec) tr place × (259 < getD tr place 0)))
   hb-decode-3 k = hb-decode-number 3 k (decode-3 protocol (truth pec) tr sent₀ received₀ (d .answer) sent received (d .outcome) k)
 
   -- 4: the trace ends while it still fits
-  pub hb-decode-4 : (len : ℕ) → ((h .answer ≡ 4) × (h .value ≡ len)) ↔ (Entered protocol (truth pec) sent₀ received₀ × (Fits sh (truth pec) tr × (Member sh (truth pec) tr → ⊥) × (len ≡ length tr)))
+  pub hb-decode-4 : (len : ℕ) → ((h .answer ≡ 4) × (h .value ≡ len)) ↔ (Entered protocol (truth pec) sent₀ received₀ × (Fits protocol (truth pec) tr × (Member protocol (truth pec) tr → ⊥) × (len ≡ length tr)))
   hb-decode-4 k = hb-decode-number 4 k (decode-4 protocol (truth pec) tr sent₀ received₀ (d .answer) sent received (d .outcome) k)
 
   -- 5: a symbol that can't stand there, and not after the last STOP
-  pub hb-decode-5 : (place : ℕ) → ((h .answer ≡ 5) × (h .value ≡ place)) ↔ (Entered protocol (truth pec) sent₀ received₀ × (Breaks sh (truth pec) tr place × (Member sh (truth pec) (take place tr) → ⊥) × (getD tr place 0 ≤ 259)))
+  pub hb-decode-5 : (place : ℕ) → ((h .answer ≡ 5) × (h .value ≡ place)) ↔ (Entered protocol (truth pec) sent₀ received₀ × (Breaks protocol (truth pec) tr place × (Member protocol (truth pec) (take place tr) → ⊥) × (getD tr place 0 ≤ 259)))
   hb-decode-5 k = hb-decode-number 5 k (decode-5 protocol (truth pec) tr sent₀ received₀ (d .answer) sent received (d .outcome) k)
 
   -- 6: the target gave NACK where ACK is due, then STOP, then the end
-  pub hb-decode-6 : (byte : ℕ) → ((h .answer ≡ 6) × (h .value ≡ byte)) ↔ (Entered protocol (truth pec) sent₀ received₀ × CutAt sh (truth pec) tr byte)
+  pub hb-decode-6 : (byte : ℕ) → ((h .answer ≡ 6) × (h .value ≡ byte)) ↔ (Entered protocol (truth pec) sent₀ received₀ × CutAt protocol (truth pec) tr byte)
   hb-decode-6 k = hb-decode-number 6 k (decode-6 protocol (truth pec) tr sent₀ received₀ (d .answer) sent received (d .outcome) k)
 
   -- 7: the whole trace fits, to its end, but the PEC differs
-  pub hb-decode-7 : (place : ℕ) → ((h .answer ≡ 7) × (h .value ≡ place)) ↔ (Entered protocol (truth pec) sent₀ received₀ × OtherPec sh (truth pec) tr place)
+  pub hb-decode-7 : (place : ℕ) → ((h .answer ≡ 7) × (h .value ≡ place)) ↔ (Entered protocol (truth pec) sent₀ received₀ × OtherPec protocol (truth pec) tr place)
   hb-decode-7 k = hb-decode-number 7 k (decode-7 protocol (truth pec) tr sent₀ received₀ (d .answer) sent received (d .outcome) k)
 
   -- 8: symbols after STOP
-  pub hb-decode-8 : (place : ℕ) → ((h .answer ≡ 8) × (h .value ≡ place)) ↔ (Entered protocol (truth pec) sent₀ received₀ × ((place < length tr) × Member sh (truth pec) (take place tr) × (getD tr place 0 ≤ 259)))
+  pub hb-decode-8 : (place : ℕ) → ((h .answer ≡ 8) × (h .value ≡ place)) ↔ (Entered protocol (truth pec) sent₀ received₀ × ((place < length tr) × Member protocol (truth pec) (take place tr) × (getD tr place 0 ≤ 259)))
   hb-decode-8 k = hb-decode-number 8 k (decode-8 protocol (truth pec) tr sent₀ received₀ (d .answer) sent received (d .outcome) k)
 
   -- 0: the trace of a message of one of the rows
-  pub hb-decode-whole : ((h .answer ≡ 0) × (h .value ≡ 0)) ↔ (Entered protocol (truth pec) sent₀ received₀ × HandedOver protocol (truth pec) tr sent₀ received₀ (d .answer) sent received)
+  pub hb-decode-whole : ((h .answer ≡ 0) × (h .value ≡ 0)) ↔ (Entered protocol (truth pec) sent₀ received₀ × ((m : Message) × TraceOf protocol (truth pec) m tr))
   hb-decode-whole = hb-decode-number 0 0 (decode-0 protocol (truth pec) tr sent₀ received₀ (d .answer) sent received (d .outcome))
 
   -- a refusal: both buffers as they were, and every other part zero
@@ -263,15 +263,15 @@ module _ (protocol pec : ℕ) (tr sent₀ received₀ : List ℕ) (h : HbDecoded
       (λ q. z (read-number protocol (truth pec) tr sent₀ received₀ h sent received d ∙ q)) in
       (k .0, k .1, read-zeros protocol (truth pec) tr sent₀ received₀ h sent received d z)
 
-  -- 0: the parts are those of one message, whose trace this is and which the encoder writes for it alone
+  -- 0: the parts are those of a message, whose trace this is
   pub hb-decode-0 : h .answer ≡ 0
-      → (u : Transaction)
-      × (a : Accepted protocol (truth pec) tr sent₀ received₀ u sent received)
-      × GivesBack (a .message .address) (a .message .direction) (a .message .command) (a .message .sent) (a .message .received) sent₀ received₀ h sent received
+      → (m : Message) × TraceOf protocol (truth pec) m tr × GivesBack (m .address) (m .direction) (m .command) (m .sent) (m .received) sent₀ received₀ h sent received
   hb-decode-0 q =
       let k = read-done protocol (truth pec) tr sent₀ received₀ h sent received d q in
-      let a = decode-then-encode protocol (truth pec) tr sent₀ received₀ (k .0) sent received (k .2) in
-      (k .0, a, gives-back protocol (a .message) sent₀ received₀ h sent received (k .1 ∙ ap (λ (u : Transaction). toldDecoded (Done u)) (a .fields)) (a .data-sent) (a .data-received))
+      let n = decode-0 protocol (truth pec) tr sent₀ received₀ (Done (k .0)) sent received (k .2) .0 refl in
+      let m = n .1 .0 in
+      let g = decode-hands-over protocol (truth pec) tr sent₀ received₀ (Done (k .0)) sent received (k .2) (n .0) m (n .1 .1) in
+      (m, n .1 .1, gives-back protocol m sent₀ received₀ h sent received (k .1 ∙ ap toldDecoded (g .0)) (g .1) (g .2))
 
 -- ---- demand 2
 
@@ -297,7 +297,7 @@ module _ (protocol pec address direction command : ℕ) (sent received : List �
       let w : Wrote protocol (truth pec) asks zeros (Written (length wrote)) (onto wrote zeros) = record { answer = sym e; output = refl } in
       let f : take (length wrote) (onto wrote zeros) ≡ wrote = take-at wrote (drop (length wrote) zeros) (length wrote) refl in
       let g =
-      encode-then-decode protocol (truth pec) asks (record { command = c; sent = bs; received = br }) zeros (length wrote) (onto wrote zeros) w sent₀ received₀ hs hr (d .answer) sent₁ received₁
+      demand-2 protocol (truth pec) .there asks zeros (Written (length wrote)) (onto wrote zeros) (c, bs, br) w (length wrote) refl sent₀ received₀ (d .answer) sent₁ received₁ hs hr
       (subst (λ (l : List ℕ). Outcome protocol (truth pec) l sent₀ received₀ (d .answer) sent₁ received₁) (sym f) (d .outcome)) in
       gives-back protocol asks sent₀ received₀ k sent₁ received₁ (d .is-told ∙ ap toldDecoded (g .0)) (g .1) (g .2)
 
@@ -335,27 +335,27 @@ module _ (protocol pec : ℕ) (tr sent₀ received₀ : List ℕ) (h : HbDecoded
   abbrev handed : Message
   handed = message (h .address) (h .direction) (h .command) (take (h .sent) sent) (take (h .received) received)
 
-  accepted : (u : Transaction) × (a : Accepted protocol (truth pec) tr sent₀ received₀ u sent received) × (handed ≡ a .message)
+  accepted : (m : Message) × TraceOf protocol (truth pec) m tr × (handed ≡ m)
   accepted =
       let k = hb-decode-0 protocol pec tr sent₀ received₀ h sent received d q in
-      let a = k .1 in
+      let m = k .0 in
       let g = k .2 in
-      let m = a .message in
       let s : take (h .sent) sent ≡ m .sent = ap₂ take (g .sent-length) (g .sent-data) ∙ take-at (m .sent) (drop (length (m .sent)) sent₀) (length (m .sent)) refl in
       let r : take (h .received) received ≡ m .received = ap₂ take (g .received-length) (g .received-data) ∙ take-at (m .received) (drop (length (m .received)) received₀) (length (m .received)) refl in
-      (k .0, a, λ i. record { address = g .address-is i; direction = g .direction-is i; command = g .command-is i; sent = s i; received = r i })
+      (m, k .1, λ i. record { address = g .address-is i; direction = g .direction-is i; command = g .command-is i; sent = s i; received = r i })
 
   -- the encoder's answer for it, and its trace
   again : (room : ℕ) → length tr ≤ room → (encoded protocol (truth pec) handed room ≡ Written (length tr)) × (trace (shapeOf protocol) (truth pec) handed ≡ tr)
   again room l =
       let a = accepted in
-      let zeros : List ℕ = replicate room 0 in
-      let n : length zeros ≡ room = length-replicate {A = ℕ} room 0 in
-      let x : Encoded = encoded protocol (truth pec) handed (length zeros) in
-      let w : Wrote protocol (truth pec) handed zeros x (onto (symbolsOf x (trace (shapeOf protocol) (truth pec) handed)) zeros) = record { answer = refl; output = refl } in
-      let v = a .1 .written zeros (omega (arith, n)) x _ (subst (λ (m : Message). Wrote protocol (truth pec) m zeros x (onto (symbolsOf x (trace (shapeOf protocol) (truth pec) handed)) zeros)) (a .2) w) in
-      let f = front-is-trace protocol (truth pec) handed zeros (length tr) _ (subst (λ (y : Encoded). Wrote protocol (truth pec) handed zeros y (onto (symbolsOf x (trace (shapeOf protocol) (truth pec) handed)) zeros)) (v .0) w) in
-      (ap (encoded protocol (truth pec) handed) (sym n) ∙ v .0, sym (f .0) ∙ v .1)
+      let m = a .0 in
+      let t = a .1 in
+      let v = listed-trace protocol (truth pec) m tr t in
+      let b = of-bytes protocol (truth pec) m tr t in (
+        ap (λ (x : Message). encoded protocol (truth pec) x room) (a .2)
+            ∙ written-valid protocol (truth pec) m room (length tr) (b .0) (b .1) (b .2) .1 (v .0, λ z. quick-plain (truth pec) _ (t .0) (t .1) (t .2 ∙ z), v .1, ap length (v .2), l),
+        ap (trace (shapeOf protocol) (truth pec)) (a .2) ∙ sym (v .2),
+      )
 
   pub hb-symbols-again : (before : List ℕ) → length tr ≤ length before → (w : HbWritten) (after : List ℕ)
       → WroteSymbols protocol (truth pec) (message (h .address) (h .direction) (h .command) (take (h .sent) sent) (take (h .received) received)) before w after
@@ -415,7 +415,7 @@ module _ (low high : ℕ) (s b : List ℕ) (h : HbModel) (s′ b′ : List ℕ) 
   abbrev occupied : Pool
   occupied = record { low = low; high = high }
 
-  -- what run_model's contract says, so that every theorem on it holds of this call: the demands 1 and 3 of Refusals and Demand3
+  -- what run_model's contract says, so that every theorem on it holds of this call: Checks and Demand3 of the page
   pub hb-model-leaves : Leaves (modelEnd occupied s b) (answerIn h) s′ b′
   hb-model-leaves = record { answered = ap answerIn (v .answered); records-hold = v .records-hold; bindings-hold = v .bindings-hold }
 
@@ -464,21 +464,10 @@ module _ (low high : ℕ) (s b : List ℕ) (h : HbModel) (s′ b′ : List ℕ) 
         },
       )
 
-  -- DEMAND 3: any other list ends as the plain rule does
-  pub hb-model-meets : Bytes s → 2048 ≤ length b → checkedList (startingPool occupied) s ≡ Admitted
+  -- DEMAND 3: any other run ends as the plain rule does
+  pub hb-model-meets : Bytes s → ((h .answer ≡ 2) ⊎ ((9 ≤ h .answer) × (h .answer ≤ 12)) → ⊥)
       → Meets occupied s b (ruled (startingPool occupied) (targetsOf s) .given) (ruled (startingPool occupied) (targetsOf s) .ending) (answerIn h) s′ b′
-  hb-model-meets bytes long e = model-meets occupied s b bytes long e (answerIn h) s′ b′ hb-model-leaves
-
--- the struct whose parts a list tells
-abbrev structOf : List ℕ → HbModel
-structOf l = record {
-  answer = getD l 0 0;
-  count = getD l 6 0;
-  gets = getD l 7 0;
-  place = getD l 1 0;
-  udid = record { high = getD l 2 0; low = getD l 3 0 };
-  bound = record { low = getD l 4 0; high = getD l 5 0 };
-}
+  hb-model-meets bytes n = demand-3 occupied s b bytes (answerIn h) s′ b′ hb-model-leaves .meets n
 
 -- M8: 09h, 0Ah and 20h are bound, four Get UDIDs are sent
 pub hb-model-m8 : (b : List ℕ) → 2048 ≤ length b → (h : HbModel) (s′ b′ : List ℕ)
@@ -488,10 +477,10 @@ pub hb-model-m8 : (b : List ℕ) → 2048 ≤ length b → (h : HbModel) (s′ b
     ++ (0x40 ∷ 0 ∷ 0 ∷ 0 ∷ 0 ∷ 0 ∷ 0 ∷ 0 ∷ 0 ∷ 0 ∷ 0 ∷ 0 ∷ 0 ∷ 0 ∷ 0 ∷ 1 ∷ 0x41 ∷ 0 ∷ []))
     b h s′ b′
     → h ≡ record { answer = 0; count = 3; gets = 4; place = 0; udid = record { high = 0; low = 0 }; bound = record { low = 2 ^ 0x09 + 2 ^ 0x0A + 2 ^ 0x20; high = 0 } }
-hb-model-m8 b l h s′ b′ v = v .answered ∙ ap structOf (marked-cases .1 .1 .1 .1 .1 .1 .1 .0 b l)
+hb-model-m8 b l h s′ b′ v = v .answered ∙ ap toldModel (marked b l .m8 .0)
 
 -- M10: all 128 are occupied, so one movable target ends the pass with 13 and its identifier; none is bound, one Get UDID is sent
 pub hb-model-m10 : (b : List ℕ) → 2048 ≤ length b → (h : HbModel) (s′ b′ : List ℕ)
     → RanModel (poolOf 0xFFFFFFFFFFFFFFFF 0xFFFFFFFFFFFFFFFF) (0x80 ∷ 0 ∷ 0 ∷ 0 ∷ 0 ∷ 0 ∷ 0 ∷ 0 ∷ 0 ∷ 0 ∷ 0 ∷ 0 ∷ 0 ∷ 0 ∷ 0 ∷ 1 ∷ 0x41 ∷ 1 ∷ []) b h s′ b′
     → h ≡ record { answer = 13; count = 0; gets = 1; place = 0; udid = record { high = 0x8000000000000000; low = 1 }; bound = record { low = 0; high = 0 } }
-hb-model-m10 b l h s′ b′ v = v .answered ∙ ap structOf (marked-cases .1 .1 .1 .1 .1 .1 .1 .1 .1 .0 b l)
+hb-model-m10 b l h s′ b′ v = v .answered ∙ ap toldModel (marked b l .m10 .0)

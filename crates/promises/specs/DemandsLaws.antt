@@ -166,7 +166,7 @@ command-byte true o c h = h .0
 command-byte false o c h = let e : c ≡ 0 = h in omega arith
 
 -- a message of the table is one of bytes
-of-bytes : (protocol : ℕ) (pec : Bool) (m : Message) (tr : List ℕ) → TraceOf protocol pec m tr → OfBytes m
+pub of-bytes : (protocol : ℕ) (pec : Bool) (m : Message) (tr : List ℕ) → TraceOf protocol pec m tr → OfBytes m
 of-bytes protocol pec m tr w =
     let v = listed-trace protocol pec m tr w .1 in
     (command-byte (shapeOf protocol .command) (shapeOf protocol .tohost) (m .command) (v .command), v .sent-bytes, v .received-bytes)
@@ -192,17 +192,16 @@ demand-2 protocol pec = record { there = there; back = back; one = one }
         let k = decode.decode-0 protocol pec tr sent₀ received₀ a sent received o .0 e in
         let m = k .1 .0 in
         let t = k .1 .1 in
-        let b = of-bytes protocol pec m tr t in
-        (
+        let b = of-bytes protocol pec m tr t in (
           m,
           b,
           decode.decode-hands-over protocol pec tr sent₀ received₀ a sent received o (k .0) m t .0,
           λ before r after room w. (
-            let z = encode.encode-0 protocol pec m (b .0) (b .1) (b .2) before r after w (length tr) .1 (tr, t, refl, room) in (
-              z,
-              ap (take (length tr)) (encode.encode-writes protocol pec m (b .0) (b .1) (b .2) before r after w (ap (λ (q : ℕ × ℕ). q .0) z) tr t)
-              ∙ take-at tr (drop (length tr) before) (length tr) refl,
-            )),
+              let z = encode.encode-0 protocol pec m (b .0) (b .1) (b .2) before r after w (length tr) .1 (tr, t, refl, room) in (
+                z,
+                ap (take (length tr)) (encode.encode-writes protocol pec m (b .0) (b .1) (b .2) before r after w (ap (λ (q : ℕ × ℕ). q .0) z) tr t)
+                    ∙ take-at tr (drop (length tr) before) (length tr) refl,
+              )),
         )
 
     one : (m t : Message) (tr : List ℕ) → TraceOf protocol pec m tr → TraceOf protocol pec t tr → m ≡ t

@@ -1,6 +1,3 @@
-pub mod Demand1
-pub mod Demand2
-pub mod Demand3
 pub mod Words
 pub mod MarkedWords
 pub mod Demands

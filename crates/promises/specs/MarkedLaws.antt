@@ -133,10 +133,10 @@ shows m v b h =
     end-checked (m .occupied) (m .records) b Admitted h (v .admitted)
     ∙ ap (λ (w : World). endedEnd w (m .records) b) (demand-3 (m .occupied) (targetsOf (m .records)) (admitted-targets (startingPool (m .occupied)) (m .records) (v .bytes) (v .admitted))) in (
       ap (λ (x : ModelEnd). x .answer) e
-      ∙ (λ i. record { answer = v .number i; place = v .nowhere i; udid = v .asker i; bound = v .bound i; count = (ap used (v .bound) ∙ v .counted) i; gets = v .gets i }),
+          ∙ (λ i. record { answer = v .number i; place = v .nowhere i; udid = v .asker i; bound = v .bound i; count = (ap used (v .bound) ∙ v .counted) i; gets = v .gets i }),
       ap (λ (x : ModelEnd). x .records) e ∙ v .stored,
       ap (λ (x : ModelEnd). windows (x .bindings) (m .places)) e
-      ∙ windows-are (entryAt (endOf m .now .state .slots)) (drop 2048 b) (m .places) (v .small) ∙ v .shown,
+          ∙ windows-are (entryAt (endOf m .now .state .slots)) (drop 2048 b) (m .places) (v .small) ∙ v .shown,
     )
 
 comes-8 : Comes run8
