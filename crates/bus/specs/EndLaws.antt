@@ -26,13 +26,14 @@ use Rattle.bindings.specs.BoundLaws.{bound-set-count}
 use Rattle.bindings.specs.Entries as entries
 use Rattle.rule.specs.AllBoundLaws.{all-served, all-given}
 use Rattle.rule.specs.AllBound.{movable, leftFree}
-use Rattle.rule.specs.Bus.{World}
+use Rattle.rule.specs.Bus.{World, pass}
 use Rattle.rule.specs.PassEndLaws.{demand-3}
 use Rattle.rule.specs.EndAnswer.{numberOf, askerOf, getsFor}
 use Rattle.rule.specs.PassEnd.{lastCommand, passEnd}
 use Rattle.rule.specs.PlainRule.{Ending, served, noneFree, ruled}
 use Rattle.rule.specs.ReadingLaws.{bound-as-many-as-given}
 use Rattle.rule.specs.Reading.{isBound, boundAt}
+use Rattle.rule.specs.RecordsLaws.{end-targets-stored}
 use Rattle.rule.specs.Sent.{getsOnBus}
 use Rattle.rule.specs.SentLaws.{counted-on-bus}
 use Rattle.bus.specs.PassLaws.{leaves-pass, gets-of-pass}
@@ -74,6 +75,10 @@ entry-bound binding.Open = refl
 entry-bound (binding.Bound u) = refl
 entry-bound binding.Claimed = refl
 
+last-command : (p : Pool) (ts : List Target) → commandNumber (passEnd p ts .now .command) ≡ commandNumber (lastCommand (ruled p ts .ending))
+last-command p [] = refl
+last-command p (t ∷ ts) = refl
+
 -- a list that is not refused, a buffer that is long enough, and what run_model's contract says of an answer and of the lists left
 module _ (occupied : Pool) (s b : List ℕ) (bytes : Bytes s) (long : 2048 ≤ length b) (e : checkedList (startingPool occupied) s ≡ Admitted) (r : ModelAnswer) (s′ b′ : List ℕ)
     (l : Leaves (modelEnd occupied s b) r s′ b′) where
@@ -90,6 +95,16 @@ module _ (occupied : Pool) (s b : List ℕ) (bytes : Bytes s) (long : 2048 ≤ l
 
   pub asker-of-rule : r .udid ≡ askerOf (ruled (startingPool occupied) (targetsOf s) .ending)
   asker-of-rule = ap (λ (x : ModelAnswer). x .udid) (leaves-rule .answered) ∙ end-asker (startingPool occupied) (targetsOf s)
+
+  -- the last command of the pass over the bus has that number too
+  pub command-of-rule : commandNumber (pass occupied (targetsOf s) .now .command) ≡ commandNumber (lastCommand (ruled (startingPool occupied) (targetsOf s) .ending))
+  command-of-rule = ap (λ (w : World). commandNumber (w .now .command)) (demand-3 occupied (targetsOf s) admitted) ∙ last-command (startingPool occupied) (targetsOf s)
+
+  -- and the targets of the records that are left are those of the pass
+  pub targets-of-pass : targetsOf s′ ≡ pass occupied (targetsOf s) .targets
+  targets-of-pass =
+      ap targetsOf (leaves-rule .records-hold) ∙ end-targets-stored (startingPool occupied) s
+      ∙ sym (ap (λ (w : World). w .targets) (demand-3 occupied (targetsOf s) admitted))
 
   pub place-zero : r .place ≡ 0
   place-zero = ap (λ (x : ModelAnswer). x .place) (leaves-rule .answered)

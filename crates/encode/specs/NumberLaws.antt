@@ -1,21 +1,31 @@
 -- The encoder's numbers, each if and only if its case, over the table of the protocols (trace/specs/Table), and what the output holds then.
 use mathlib.Core.Path.{_≡_, refl, sym, ap, _∙_, subst}
-use mathlib.Core.Bool.{Bool, false}
+use mathlib.Core.Bool.{Bool, true, false}
 use mathlib.Core.List.{List, _++_}
 use mathlib.Core.Logic.{_↔_}
 use Prim.Native.Nat.{ℕ, _≤_, _<_}
 use native.Mathlib.Omega.{arith}
 use lib.ListN.{length, take, drop}
+use Rattle.lists.specs.ChoiceLaws.{not-both}
 use Rattle.lists.specs.Each.{Bytes}
 use Rattle.trace.specs.Shapes.{shapeOf}
 use Rattle.trace.specs.Table.{TraceOf}
 use Rattle.trace.specs.TableLaws.{listed-trace, trace-listed, quick-plain}
 use Rattle.trace.specs.Trace.{Message, trace, Valid}
-use Rattle.encode.specs.Encode.{encodeNumber, encoded, Wrote}
-use Rattle.encode.specs.EncodeLaws.{unlisted-valid, answer-0, answer-2}
+use Rattle.encode.specs.Encode.{encodeNumber, refused, Wrote}
+use Rattle.encode.specs.EncodeLaws.{unlisted-valid, answer-0, answer-1, answer-2}
 use Rattle.encode.specs.Listed.{Listed}
+use Rattle.encode.specs.ListedLaws.{refused-listed, listed-refused}
 use Rattle.encode.specs.declared.Encoded.{Encoded}
 use Rattle.encode.specs.declared.Encoded.the-variants.{Written, Forbidden, OutputTooShort}
+
+-- whether a case is listed is decided by the tests
+not-unlisted : (protocol : ℕ) (pec : Bool) (t : Message) → ((Listed protocol pec t → ⊥) → ⊥) → Listed protocol pec t
+not-unlisted protocol pec t n = go (refused protocol pec t) refl
+  where
+    go : (b : Bool) → refused protocol pec t ≡ b → Listed protocol pec t
+    go true e = refused-listed protocol pec t e
+    go false e = absurd (n (λ l. not-both e (listed-refused protocol pec t l)))
 
 module _ (protocol : ℕ) (pec : Bool) (t : Message) (command : t .command < 256) (sent : Bytes (t .sent)) (received : Bytes (t .received)) where
   abbrev tr : List ℕ
@@ -41,6 +51,12 @@ module _ (protocol : ℕ) (pec : Bool) (t : Message) (command : t .command < 256
           λ e. (let k = a .0 e in (tr, unlisted-listed (k .0), sym (k .1), k .2)),
           λ k. a .1 (listed-unlisted (k .0) (k .1), sym (k .2) ∙ ap length (listed-trace protocol pec t (k .0) (k .1) .2), k .3),
         )
+
+    -- 1: the table has no trace of the message; Listed has the cases one by one
+    pub encode-1 : (encodeNumber r ≡ (1, 0)) ↔ ((x : List ℕ) → TraceOf protocol pec t x → ⊥)
+    encode-1 =
+        let a = answer-1 protocol pec t before r after w in
+        (λ e x l. listed-unlisted x l (a .0 e), λ n. a .1 (not-unlisted protocol pec t (λ m. n tr (unlisted-listed m))))
 
     -- 2: the table has a trace of the message, and it is longer than the output
     pub encode-2 : (encodeNumber r ≡ (2, 0)) ↔ ((x : List ℕ) × TraceOf protocol pec t x × (length before < length x))

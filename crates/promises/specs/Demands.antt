@@ -8,11 +8,11 @@ use mathlib.Core.List.{List, [], _∷_, _++_}
 use mathlib.Core.Logic.{_⊎_, _↔_}
 use Prim.Native.Nat.{ℕ, suc, _+_, _*_, _/_, _%_, _^_, _≤_, _<_}
 use lib.ListN.{length, take, drop, getD, replicate}
-use Rattle.promises.specs.MarkedWords.{message, identifier, holding, Shows}
-use Rattle.promises.specs.Words.{Each, Bytes, isReserved, pecOf, Address, TraceOf, Message, encodeNumber, encoded, Wrote, Listed, Encoded, summary, Member, Fits, Breaks, CutAt, OtherPec, decodeNumber, Decoded, Done, Entered, answered, Outcome}
-use Rattle.promises.specs.Words.{member, emptyPool, startingPool, Pool, udidBytes, In128, Udid, heldAt, prepareTrace, replyTrace, assignTrace, newController, started, stepped, Event, Received, run, Acknowledged, Invariant, lookedUp, commandNumber, lookupNumber}
-use Rattle.promises.specs.Words.{Asks, Binds, Continues, EndsWith, Replies, Alike, protocolFor, messageOf, traceOf, Nothing, Prepare, GetUdid, Assign, Ended, Abandoned, NotOutstanding, Open, Bound, Claimed, Controller, Stepped}
-use Rattle.promises.specs.Words.{EvenOrFlag, SameAsEarlier, FixedOnTaken, LengthIsBad, None, FirstOf, targetsOf, recordsWith, movable, leftFree, pass, numberOf, askerOf, getsFor, Given, Ending, Distinct, ruled, Any, RecordOf, OnePerUdid, getsOnBus, noUdid, numberIn, modelNumber, Leaves, modelEnd, ModelAnswer}
+use Rattle.promises.specs.MarkedWords.{identifier, holding, Shows}
+use Rattle.promises.specs.Words.{Each, Bytes, isReserved, pecOf, Address, TraceOf, Message, message, encodeNumber, Wrote, Encoded, summary, Member, Fits, Breaks, CutAt, OtherPec, decodeNumber, Decoded, Done, Entered, Outcome}
+use Rattle.promises.specs.Words.{member, emptyPool, startingPool, Pool, udidBytes, In128, Udid, heldAt, prepareTrace, replyTrace, assignTrace, newController, started, stepped, Event, Received, run, Acknowledged, lookedUp, commandNumber, lookupNumber}
+use Rattle.promises.specs.Words.{Asks, Binds, Continues, EndsWith, Replies, protocolFor, messageOf, traceOf, Command, Nothing, Prepare, GetUdid, Assign, Ended, Abandoned, NotOutstanding, Open, Bound, Claimed, Controller, Stepped}
+use Rattle.promises.specs.Words.{EvenOrFlag, SameAsEarlier, FixedOnTaken, LengthIsBad, None, FirstOf, targetsOf, movable, leftFree, pass, Given, Ending, served, noneFree, Distinct, ruled, Any, RecordOf, OnePerUdid, getsOnBus, noUdid, modelNumber, Leaves, modelEnd, ModelAnswer}
 
 -- ---- DEMAND 1: EACH NUMBER, IF AND ONLY IF ITS CASE; A REFUSAL CHANGES NOTHING THAT WAS LENT
 
@@ -23,7 +23,7 @@ OfBytes m = (m .command < 256) × Bytes (m .sent) × Bytes (m .received)
 -- encode of the message m, into an output that holds `before`: the answer r, and what the output holds after
 pub record Encodes (protocol : ℕ) (pec : Bool) (m : Message) (bytes : OfBytes m) (before : List ℕ) (r : Encoded) (after : List ℕ) (contract : Wrote protocol pec m before r after) : Type 0 where
   pub encode-0 : (n : ℕ) → (encodeNumber r ≡ (0, n)) ↔ ((tr : List ℕ) × TraceOf protocol pec m tr × (length tr ≡ n) × (n ≤ length before))
-  pub encode-1 : (encodeNumber r ≡ (1, 0)) ↔ Listed protocol pec m
+  pub encode-1 : (encodeNumber r ≡ (1, 0)) ↔ ((tr : List ℕ) → TraceOf protocol pec m tr → ⊥)
   pub encode-2 : (encodeNumber r ≡ (2, 0)) ↔ ((tr : List ℕ) × TraceOf protocol pec m tr × (length before < length tr))
   -- with 0 the trace stands at the front, and the rest is as it was
   pub written : encodeNumber r .0 ≡ 0 → (tr : List ℕ) → TraceOf protocol pec m tr → after ≡ tr ++ drop (length tr) before
@@ -55,10 +55,14 @@ pub record Puts (Bad : Type 0) (tr before : List ℕ) (r : Encoded) (after : Lis
   pub untouched : (encodeNumber r .0 ≡ 0 → ⊥) → after ≡ before
 
 pub record Commands (reply before : List ℕ) (r : Encoded) (after : List ℕ) : Type 0 where
+  pub traces : (traceOf Prepare reply ≡ prepareTrace) × (traceOf GetUdid reply ≡ replyTrace reply) × ((u : Udid) (a : Address) → a .0 < 128 → traceOf (Assign u a) [] ≡ assignTrace (udidBytes u) (2 * a .0))
   pub prepare : Wrote (protocolFor Prepare) true (messageOf Prepare reply) before r after → Puts ⊥ prepareTrace before r after
   pub get : Wrote (protocolFor GetUdid) true (messageOf GetUdid reply) before r after → Puts (255 < length reply) (replyTrace reply) before r after
   pub assign : (u : Udid) (a : Address) → Wrote (protocolFor (Assign u a)) true (messageOf (Assign u a) reply) before r after
       → Puts (127 < a .0) (assignTrace (udidBytes u) (2 * a .0)) before r after
+  -- what is no command is refused
+  pub none : (k : Command) → (k ≡ Prepare → ⊥) → (k ≡ GetUdid → ⊥) → ((u : Udid) (a : Address) → k ≡ Assign u a → ⊥)
+      → Wrote (protocolFor k) true (messageOf k reply) before r after → Puts Unit [] before r after
 
 -- lookup of the address a in the state s
 pub record LooksUp (s : Controller) (a : ℕ) : Type 0 where
@@ -99,10 +103,12 @@ pub record Demand2 (protocol : ℕ) (pec : Bool) : Type 0 where
 
 -- `given` are the bindings of the plain rule over the targets of the records s, `ending` is its end
 pub record Meets (occupied : Pool) (s b : List ℕ) (given : List Given) (ending : Ending) (r : ModelAnswer) (s′ b′ : List ℕ) : Type 0 where
-  -- the answer: 0, or 13 with the identifier that asked; how many are bound; the Get UDIDs that stood on the bus, one more than that
-  pub answer : (r .answer ≡ numberOf ending) × (r .udid ≡ askerOf ending) × (r .place ≡ 0)
-  pub counted : r .count ≡ length given
-  pub gets : (r .gets ≡ getsOnBus occupied (targetsOf s)) × (r .gets ≡ getsFor (length s) (length given))
+  -- the answer: 0, or 13 with the identifier that asked; it is the number of the last command of the pass over the bus
+  pub answer-0 : ending ≡ served → (r .answer ≡ 0) × (r .udid ≡ noUdid) × (commandNumber (pass occupied (targetsOf s) .now .command) ≡ (0, []) ∷ [])
+  pub answer-13 : (u : Udid) → ending ≡ noneFree u → (r .answer ≡ 13) × (r .udid ≡ u) × (commandNumber (pass occupied (targetsOf s) .now .command) ≡ (13, u ∷ []) ∷ [])
+  -- no record; how many are bound; the Get UDIDs that stood on the bus: one more than are bound, none on an empty bus
+  pub counted : (r .place ≡ 0) × (r .count ≡ length given)
+  pub gets : (r .gets ≡ getsOnBus occupied (targetsOf s)) × (0 < length s → r .gets ≡ suc (r .count)) × (length s ≡ 0 → r .gets ≡ 0)
   -- who is bound: targets of the records, to addresses that are neither reserved nor occupied, no two to one, each identifier once
   pub who : Each (λ (g : Given). (i : ℕ) × (i < length s / 18) × RecordOf s i g) given
   pub assignable : Each (λ (g : Given). (g .address < 128) × (isReserved (g .address) ≡ false) × (member occupied (g .address) ≡ false)) given
@@ -120,8 +126,8 @@ pub record Meets (occupied : Pool) (s b : List ℕ) (given : List Given) (ending
   pub others : (j : ℕ) → j % 18 < 16 → getD s′ j 0 ≡ getD s j 0
   -- all are bound if and only if the movable targets do not outnumber the addresses that the fixed ones leave free
   pub all-bound : (r .count ≡ length (targetsOf s)) ↔ (movable (targetsOf s) ≤ leftFree (startingPool occupied) (targetsOf s))
-  -- and it is the end of the pass over the bus: the delivered steps and the targets, trace by trace
-  pub of-pass : (numberIn (commandNumber (pass occupied (targetsOf s) .now .command)) ≡ r .answer) × (s′ ≡ recordsWith (pass occupied (targetsOf s) .targets) s)
+  -- and this is the end of the pass over the bus, the delivered steps and the targets trace by trace: its targets, and whom its state has bound
+  pub of-pass : (targetsOf s′ ≡ pass occupied (targetsOf s) .targets)
       × ((a : ℕ) (u : Udid) → a < 128 → heldAt (pass occupied (targetsOf s) .now .state .slots) a ≡ Bound u → take 16 (drop (16 * a) b′) ≡ udidBytes u)
 
 pub record Demand3 (occupied : Pool) (s b : List ℕ) (bytes : Bytes s) (r : ModelAnswer) (s′ b′ : List ℕ) (contract : Leaves (modelEnd occupied s b) r s′ b′) : Type 0 where
@@ -170,16 +176,30 @@ pub record StepNumbers (s : Controller) (tr : List ℕ) (r : Stepped) : Type 0 w
 abbrev pub Sound : Controller → Type 0
 Sound s = (length (s .slots) ≡ 128) × ((u : Udid) (a : Address) → s .last ≡ Assign u a → In128 u)
 
+-- what holds in every state that starts and traces reach
+pub record Reached (occupied : Pool) (s : Controller) : Type 0 where
+  pub sound : Sound s
+  -- the pool is the starting pool and the addresses that are bound or claimed; none that is bound was in the starting pool
+  pub starting : s .starting ≡ startingPool occupied
+  pub pool : (a : ℕ) → (member (s .pool) a ≡ true) ↔ ((member (s .starting) a ≡ true) ⊎ (heldAt (s .slots) a ≡ Open → ⊥))
+  pub new : (a : ℕ) (u : Udid) → heldAt (s .slots) a ≡ Bound u → member (s .starting) a ≡ false
+  -- no identifier is bound twice; an address holds one, or is claimed, or open: that is the form of a slot
+  pub once : (a b : ℕ) (u : Udid) → heldAt (s .slots) a ≡ Bound u → heldAt (s .slots) b ≡ Bound u → a ≡ b
+  pub gets : s .gets ≤ 128
+
 pub record Control : Type 0 where
-  pub new : (occupied : Pool) → (newController occupied .starting ≡ startingPool occupied) × (newController occupied .last ≡ Nothing)
+  pub new : (occupied : Pool) → (newController occupied .starting ≡ startingPool occupied) × (newController occupied .pool ≡ startingPool occupied)
+      × (newController occupied .last ≡ Nothing) × (newController occupied .gets ≡ 0) × ((a : ℕ) → heldAt (newController occupied .slots) a ≡ Open)
   pub start : (s : Controller) → (started s .command ≡ Prepare) × (started s .state .last ≡ Prepare) × (started s .state .gets ≡ 0)
       × (started s .state .pool ≡ s .starting) × (started s .state .starting ≡ s .starting) × ((a : ℕ) → heldAt (started s .state .slots) a ≡ Open)
-  -- every step is as the sentences say; they leave one result; and its number is given in its case alone
+  -- every step is as the sentences say, and its number is given in its case alone; the sentences leave one result
   pub step : (s : Controller) (tr : List ℕ) → Sound s → Steps s tr (stepped s tr) × StepNumbers s tr (stepped s tr)
-  pub one-step : (s : Controller) (tr : List ℕ) (r q : Stepped) → Sound s → Steps s tr r → Steps s tr q → Alike r q
-  -- over any starts and traces, the latest first: the state is sound, no address is bound to two, no identifier is bound twice ..
-  pub reached : (occupied : Pool) (es : List Event) → Sound (run occupied es) × Invariant occupied (run occupied es)
-  -- .. what lookup answers was assigned in this pass, and acknowledged byte for byte; a claim stays
+  pub one-step : (s : Controller) (tr : List ℕ) (r q : Stepped) → Sound s → Steps s tr r → Steps s tr q
+      → (r .command ≡ q .command) × (r .state .last ≡ q .state .last) × (r .state .gets ≡ q .state .gets) × (r .state .starting ≡ q .state .starting)
+      × ((a : ℕ) → (heldAt (r .state .slots) a ≡ heldAt (q .state .slots) a) × (member (r .state .pool) a ≡ member (q .state .pool) a))
+  -- over any starts and traces, the latest first
+  pub reached : (occupied : Pool) (es : List Event) → Reached occupied (run occupied es)
+  -- what lookup answers was assigned in this pass, and acknowledged byte for byte; a claim stays for the rest of the pass
   pub acknowledged : (occupied : Pool) (es : List Event) (a : ℕ) (u : Udid) → lookupNumber (lookedUp (run occupied es) a) ≡ (0, u ∷ []) → Acknowledged occupied es u a
   pub claim-stays : (occupied : Pool) (es : List Event) (tr : List ℕ) (a : ℕ) → heldAt (run occupied es .slots) a ≡ Claimed → heldAt (run occupied (Received tr ∷ es) .slots) a ≡ Claimed
 
@@ -188,12 +208,14 @@ pub record Control : Type 0 where
 pub record Marked (b : List ℕ) (room : 2048 ≤ length b) : Type 0 where
   pub m1 : (pecOf [] ≡ 0x00) × (pecOf (0x01 ∷ []) ≡ 0x07) × (pecOf (0x80 ∷ []) ≡ 0x89)
   pub m2 : traceOf Prepare [] ≡ 256 ∷ 194 ∷ 258 ∷ 1 ∷ 258 ∷ 192 ∷ 258 ∷ 257 ∷ []
-  pub m3 : TraceOf 2 true (message 0x0C 0 [] (0x4F ∷ [])) (256 ∷ 25 ∷ 258 ∷ 79 ∷ 258 ∷ 0 ∷ 259 ∷ 257 ∷ [])
+  pub m3 : TraceOf 2 true (message 0x0C 0 0 [] (0x4F ∷ [])) (256 ∷ 25 ∷ 258 ∷ 79 ∷ 258 ∷ 0 ∷ 259 ∷ 257 ∷ [])
   pub m4 : pecOf (0xC2 ∷ 0x02 ∷ []) ≡ 0xC9
-  pub m5 : TraceOf 9 false (message 0x10 0x07 [] []) (256 ∷ 32 ∷ 258 ∷ 7 ∷ 258 ∷ 256 ∷ 33 ∷ 258 ∷ 0 ∷ 259 ∷ 257 ∷ [])
-  pub m6 : (encodeNumber (encoded 10 false (message 0x10 7 (replicate 200 0) (replicate 55 0)) 525) ≡ (0, 523)) × (encodeNumber (encoded 10 true (message 0x10 7 (replicate 200 0) (replicate 55 0)) 525) ≡ (0, 525))
-      × ((pec : Bool) → encodeNumber (encoded 10 pec (message 0x10 7 (replicate 200 0) (replicate 56 0)) 525) ≡ (1, 0))
-  pub m7 : (protocol : ℕ) (pec : Bool) → protocol ≤ 10 → (protocol ≡ 0 → pec ≡ false) → decodeNumber (answered protocol pec [] 255 255) ≡ (4, 0)
+  pub m5 : TraceOf 9 false (message 0x10 0 0x07 [] []) (256 ∷ 32 ∷ 258 ∷ 7 ∷ 258 ∷ 256 ∷ 33 ∷ 258 ∷ 0 ∷ 259 ∷ 257 ∷ [])
+  pub m6 : (before : List ℕ) (r : Encoded) (after : List ℕ) → length before ≡ 525 → (Wrote 10 false (message 0x10 0 7 (replicate 200 0) (replicate 55 0)) before r after → encodeNumber r ≡ (0, 523))
+      × (Wrote 10 true (message 0x10 0 7 (replicate 200 0) (replicate 55 0)) before r after → encodeNumber r ≡ (0, 525))
+      × ((pec : Bool) → Wrote 10 pec (message 0x10 0 7 (replicate 200 0) (replicate 56 0)) before r after → encodeNumber r ≡ (1, 0))
+  pub m7 : (protocol : ℕ) (pec : Bool) (sent₀ received₀ : List ℕ) (a : Decoded) (sent received : List ℕ) → Entered protocol pec sent₀ received₀
+      → Outcome protocol pec [] sent₀ received₀ a sent received → decodeNumber a ≡ (4, 0)
   -- 80h.. with FFh, 00h.. fixed at 09h, 40h.. holding 20h, nothing occupied: 09h fixed, 20h kept, 0Ah given to 80h..; four Get UDIDs
   pub m8 : Shows (modelEnd emptyPool (holding 0x80 0xFF 0 ++ holding 0x00 0x13 0 ++ holding 0x40 0x41 0) b)
       (record { answer = 0; place = 0; udid = noUdid; bound = record { low = 2 ^ 0x09 + 2 ^ 0x0A + 2 ^ 0x20; high = 0 }; count = 3; gets = 4 })

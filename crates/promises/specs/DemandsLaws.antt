@@ -9,7 +9,8 @@ use native.Mathlib.Nat.{mod-eq-of-lt}
 use native.Mathlib.Omega.{arith}
 use lib.ListN.{length, take, drop}
 use lib.Seq.{take-at}
-use Rattle.lists.specs.Choice.{pick}
+use Rattle.lists.specs.Choice.{pick, or}
+use Rattle.lists.specs.ChoiceLaws.{false-not-true}
 use Rattle.lists.specs.Each.{Bytes}
 use Rattle.wire.specs.declared.address.Address.{Address}
 use Rattle.trace.specs.ShapeLaws.{sane}
@@ -30,13 +31,16 @@ use Rattle.step.specs.declared.answer.Decoded.{Decoded}
 use Rattle.step.specs.declared.answer.Decoded.the-variants.{Done}
 use Rattle.decode.specs.NumberLaws as decode
 use Rattle.decode.specs.Outcome.{Outcome}
-use Rattle.pool.specs.Start.{emptyPool, startingPool}
+use Rattle.pool.specs.Pools.{member}
+use Rattle.pool.specs.Start.{startingPool}
 use Rattle.pool.specs.declared.Pool.{Pool}
 use Rattle.udid.specs.Bytes.{udidBytes}
 use Rattle.udid.specs.declared.Udid.{Udid}
+use Rattle.arp.specs.Bindings.{heldAt}
+use Rattle.arp.specs.Numbers.{commandNumber}
 use Rattle.arp.specs.AssignedLaws.{found-acknowledged, claim-stays}
 use Rattle.arp.specs.CommandTraces.{prepareTrace, replyTrace, assignTrace}
-use Rattle.arp.specs.HistoryLaws.{reached-good, reached-invariant, new-controller-is-new}
+use Rattle.arp.specs.HistoryLaws.{reached-good, new-controller-is-new}
 use Rattle.arp.specs.LookupLaws as arp
 use Rattle.arp.specs.RequestLaws.{prepare-symbols, reply-symbols, assign-symbols-small}
 use Rattle.arp.specs.Requests.{protocolFor, messageOf}
@@ -44,20 +48,25 @@ use Rattle.arp.specs.SendingLaws.{refused-exactly, small-address-protocol}
 use Rattle.arp.specs.Sound.{PendingIn}
 use Rattle.arp.specs.SoundLaws.{open-all}
 use Rattle.arp.specs.Controller.{stepped}
-use Rattle.arp.specs.History.{run}
+use Rattle.arp.specs.History.{Event, run, isHeld}
 use Rattle.arp.specs.declared.command.Command.{Command}
-use Rattle.arp.specs.declared.command.Command.the-variants.{Prepare, GetUdid, Assign}
+use Rattle.arp.specs.declared.command.Command.the-variants.{Nothing, Prepare, GetUdid, Assign, Ended, NoneFree, Abandoned, NotOutstanding}
+use Rattle.arp.specs.declared.state.Binding.{Binding}
+use Rattle.arp.specs.declared.state.Binding.the-variants.{Open, Bound, Claimed}
 use Rattle.arp.specs.declared.state.Controller.{Controller}
 use Rattle.targets.specs.Refusals.{checkedList}
 use Rattle.targets.specs.declared.admit.Checked.the-variants.{Admitted}
 use Rattle.bus.specs.BindingsEndLaws.{given-in-records, given-assignable, given-distinct, given-once, bound-exactly, bytes-of-bound, bytes-of-free, bytes-after-kept}
-use Rattle.bus.specs.EndLaws.{answer-of-rule, asker-of-rule, place-zero, count-of-rule, gets-on-bus, gets-of-rule, all-counted}
-use Rattle.bus.specs.PassLaws.{answer-of-pass, records-of-pass, bindings-of-pass}
+use Rattle.rule.specs.EndAnswer.{numberOf, askerOf}
+use Rattle.rule.specs.PassEnd.{lastCommand}
+use Rattle.rule.specs.PlainRule.{Ending}
+use Rattle.bus.specs.EndLaws.{answer-of-rule, asker-of-rule, command-of-rule, targets-of-pass, place-zero, count-of-rule, gets-on-bus, gets-are, all-counted}
+use Rattle.bus.specs.PassLaws.{bindings-of-pass}
 use Rattle.bus.specs.RecordsEndLaws.{records-length, record-of-bound, record-of-unbound, other-bytes-kept}
 use Rattle.bus.specs.RefusalLaws as bus
 use Rattle.bus.specs.Run.{Leaves, modelEnd}
 use Rattle.bus.specs.declared.answer.ModelAnswer.{ModelAnswer}
-use Rattle.promises.specs.Demands.{OfBytes, Encodes, Decodes, Puts, Commands, LooksUp, Refused, Checks, Demand2, Demand3, Sound, Control}
+use Rattle.promises.specs.Demands.{OfBytes, Encodes, Decodes, Puts, Commands, LooksUp, Refused, Checks, Demand2, Demand3, Reached, Control}
 use Rattle.promises.specs.StepsLaws.{sentences, one-step, each-number-exactly}
 
 -- ---- demand 1
@@ -66,7 +75,7 @@ pub encodes : (protocol : ℕ) (pec : Bool) (m : Message) (bytes : OfBytes m) (b
     → Encodes protocol pec m bytes before r after contract
 encodes protocol pec m (c, s, v) before r after w = record {
   encode-0 = encode.encode-0 protocol pec m c s v before r after w;
-  encode-1 = answer-1 protocol pec m before r after w;
+  encode-1 = encode.encode-1 protocol pec m c s v before r after w;
   encode-2 = encode.encode-2 protocol pec m c s v before r after w;
   written = encode.encode-writes protocol pec m c s v before r after w;
   untouched = refusal-untouched protocol pec m before r after w;
@@ -125,13 +134,30 @@ module _ (k : Command) (reply tr before : List ℕ) (r : Encoded) (after : List 
         untouched = refusal-untouched (protocolFor k) true (messageOf k reply) before r after w;
       }
 
+-- what is no command is always refused
+abbrev Always : Type 0
+Always = Unit
+
+no-command : (reply before : List ℕ) (r : Encoded) (after : List ℕ) (k : Command) → (k ≡ Prepare → ⊥) → (k ≡ GetUdid → ⊥) → ((u : Udid) (a : Address) → k ≡ Assign u a → ⊥) → Wrote (protocolFor k) true (messageOf k reply) before r after
+    → (encodeNumber r ≡ (1, 0)) ↔ Always
+no-command reply before r after Prepare p g a w = absurd (p refl)
+no-command reply before r after GetUdid p g a w = absurd (g refl)
+no-command reply before r after (Assign u x) p g a w = absurd (a u x refl)
+no-command reply before r after Nothing p g a w = refused-exactly Nothing reply before r after w
+no-command reply before r after Ended p g a w = refused-exactly Ended reply before r after w
+no-command reply before r after (NoneFree u) p g a w = refused-exactly (NoneFree u) reply before r after w
+no-command reply before r after Abandoned p g a w = refused-exactly Abandoned reply before r after w
+no-command reply before r after NotOutstanding p g a w = refused-exactly NotOutstanding reply before r after w
+
 pub commands : (reply before : List ℕ) (r : Encoded) (after : List ℕ) → Commands reply before r after
 commands reply before r after = record {
+  traces = (prepare-symbols reply, reply-symbols reply, assign-symbols-small);
   prepare = λ w. puts Prepare reply prepareTrace before r after ⊥ w (refused-exactly Prepare reply before r after w) (λ b. prepare-symbols reply);
   get = λ w. puts GetUdid reply (replyTrace reply) before r after (255 < length reply) w (refused-exactly GetUdid reply before r after w) (λ b. reply-symbols reply);
   assign = λ u a w.
       puts (Assign u a) reply (assignTrace (udidBytes u) (2 * a .0)) before r after (127 < a .0) w (refused-exactly (Assign u a) reply before r after w)
       (λ b. assigned u a b (decLt (a .0) 128));
+  none = λ k p g a w. puts k reply [] before r after Unit w (no-command reply before r after k p g a w) (λ b. absurd (b tt));
 }
   where
     assigned : (u : Udid) (a : Address) → (127 < a .0 → ⊥) → Dec (a .0 < 128) → trace (shapeOf (protocolFor (Assign u a))) true (messageOf (Assign u a) reply) ≡ assignTrace (udidBytes u) (2 * a .0)
@@ -216,9 +242,22 @@ pub demand-3 : (occupied : Pool) (s b : List ℕ) (bytes : Bytes s) (r : ModelAn
     → Demand3 occupied s b bytes r s′ b′ contract
 demand-3 occupied s b bytes r s′ b′ l = record {
   meets = λ n. (let k = bus.run-admitted occupied s b r s′ b′ l n in let long = k .0 in let e = k .1 in record {
-    answer = (answer-of-rule occupied s b bytes long e r s′ b′ l, asker-of-rule occupied s b bytes long e r s′ b′ l, place-zero occupied s b bytes long e r s′ b′ l);
-    counted = count-of-rule occupied s b bytes long e r s′ b′ l;
-    gets = (gets-on-bus occupied s b bytes long e r s′ b′ l, gets-of-rule occupied s b bytes long e r s′ b′ l);
+    answer-0 = λ q. (
+      answer-of-rule occupied s b bytes long e r s′ b′ l ∙ ap numberOf q,
+      asker-of-rule occupied s b bytes long e r s′ b′ l ∙ ap askerOf q,
+      command-of-rule occupied s b bytes long e r s′ b′ l ∙ ap (λ (x : Ending). commandNumber (lastCommand x)) q,
+    );
+    answer-13 = λ u q. (
+      answer-of-rule occupied s b bytes long e r s′ b′ l ∙ ap numberOf q,
+      asker-of-rule occupied s b bytes long e r s′ b′ l ∙ ap askerOf q,
+      command-of-rule occupied s b bytes long e r s′ b′ l ∙ ap (λ (x : Ending). commandNumber (lastCommand x)) q,
+    );
+    counted = (place-zero occupied s b bytes long e r s′ b′ l, count-of-rule occupied s b bytes long e r s′ b′ l);
+    gets = (
+      gets-on-bus occupied s b bytes long e r s′ b′ l,
+      gets-are occupied s b bytes long e r s′ b′ l .0,
+      λ z. gets-are occupied s b bytes long e r s′ b′ l .1 z .0,
+    );
     who = given-in-records occupied s bytes e;
     assignable = given-assignable occupied s bytes e;
     distinct = (given-distinct occupied s bytes e, given-once occupied s bytes e);
@@ -231,22 +270,42 @@ demand-3 occupied s b bytes r s′ b′ l = record {
     unbound-record = record-of-unbound occupied s b bytes long e r s′ b′ l;
     others = other-bytes-kept occupied s b bytes long e r s′ b′ l;
     all-bound = all-counted occupied s b bytes long e r s′ b′ l;
-    of-pass = (sym (answer-of-pass occupied s b long e r s′ b′ l), records-of-pass occupied s b long e r s′ b′ l, bindings-of-pass occupied s b long e r s′ b′ l);
+    of-pass = (targets-of-pass occupied s b bytes long e r s′ b′ l, bindings-of-pass occupied s b long e r s′ b′ l);
   });
 }
 
 -- ---- the controller
 
+-- the pool of a reached state
+pool-exactly : (x y : Bool) (h : Binding) → y ≡ or x (isHeld h) → (y ≡ true) ↔ ((x ≡ true) ⊎ (h ≡ Open → ⊥))
+pool-exactly true y h e = (λ q. inl refl, λ q. e)
+pool-exactly false y Open e = (λ q. false-not-true (sym e ∙ q), back)
+  where
+    back : (false ≡ true) ⊎ (Open ≡ Open → ⊥) → y ≡ true
+    back (inl z) = false-not-true z
+    back (inr n) = absurd (n refl)
+pool-exactly false y (Bound u) e = (λ q. inr (λ z. let n : _≡_ {A = ℕ} 0 1 = cc z in omega arith), λ q. e)
+pool-exactly false y Claimed e = (λ q. inr (λ z. let n : _≡_ {A = ℕ} 0 1 = cc z in omega arith), λ q. e)
+
+pub reached : (occupied : Pool) (es : List Event) → Reached occupied (run occupied es)
+reached occupied es =
+    let g = reached-good occupied es in
+    record {
+      sound = (g .0 .sound .size, λ u a e. subst (PendingIn (run occupied es)) e (g .1) .fits);
+      starting = g .0 .starting;
+      pool = λ a. pool-exactly (member (run occupied es .starting) a) (member (run occupied es .pool) a) (heldAt (run occupied es .slots) a) (g .0 .sound .exact a);
+      new = g .0 .sound .new;
+      once = g .0 .sound .once;
+      gets = g .0 .gets;
+    }
+
 pub control : Control
 control = record {
-  new = λ occupied. (new-controller-is-new occupied .starting, new-controller-is-new occupied .last);
+  new = λ occupied. (let n = new-controller-is-new occupied in (n .starting, n .pool, n .last, n .gets, n .held));
   start = λ s. (refl, refl, refl, refl, refl, open-all);
   step = λ s tr f. (sentences s tr (f .0), each-number-exactly s tr (f .1) (stepped s tr) (sentences s tr (f .0)));
-  one-step = λ s tr r q f h g. one-step s tr r q (f .1) h g;
-  reached = λ occupied es. (
-    (reached-good occupied es .0 .sound .size, λ u a e. subst (PendingIn (run occupied es)) e (reached-good occupied es .1) .fits),
-    reached-invariant occupied es,
-  );
+  one-step = λ s tr r q f h g. (let a = one-step s tr r q (f .1) h g in (a .command, a .last, a .gets, a .starting, a .same));
+  reached = reached;
   acknowledged = found-acknowledged;
   claim-stays = λ occupied es tr a e. claim-stays occupied es (tr ∷ []) a e;
 }

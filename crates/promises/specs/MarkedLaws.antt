@@ -11,12 +11,17 @@ use Rattle.lists.specs.Choice.{pick}
 use Rattle.lists.specs.Each.{Each, Bytes}
 use Rattle.wire.specs.Pec.{bitStep, pecStep, pecFrom, pecOf}
 use Rattle.trace.specs.Allowed.{lengthsFit, allowed}
+use Rattle.trace.specs.Rows.{message}
 use Rattle.trace.specs.ShapeLaws.{by-row}
+use Rattle.trace.specs.Shapes.{shapeOf}
 use Rattle.trace.specs.Table.{receive-byte, block-read}
-use Rattle.encode.specs.Encode.{encodeNumber, refused, encoded}
+use Rattle.trace.specs.Trace.{Message}
+use Rattle.encode.specs.Encode.{encodeNumber, refused, encoded, Wrote}
+use Rattle.encode.specs.declared.Encoded.{Encoded}
 use Rattle.step.specs.Numbers.{decodeNumber}
 use Rattle.step.specs.Run.{run, finish, decodedBy}
-use Rattle.decode.specs.Outcome.{answered}
+use Rattle.decode.specs.NumberLaws.{entered-taken, entered-long}
+use Rattle.decode.specs.OutcomeLaws.{answer-by-trace}
 use Rattle.pool.specs.Counts.{count}
 use Rattle.pool.specs.Digits.{digit, plus}
 use Rattle.pool.specs.Free.{used, freeFrom}
@@ -41,7 +46,7 @@ use Rattle.bus.specs.Run.{noUdid, numberIn, udidIn, entryAt, ModelEnd, endedEnd
 use Rattle.bus.specs.RunLaws.{end-checked}
 use Rattle.bus.specs.declared.answer.ModelAnswer.{ModelAnswer}
 use Rattle.promises.specs.Demands.{Marked}
-use Rattle.promises.specs.MarkedWords.{message, identifier, holding, windows, Shows}
+use Rattle.promises.specs.MarkedWords.{identifier, holding, windows, Shows}
 
 -- ---- the model's cases
 
@@ -189,41 +194,55 @@ comes-10 = record {
 
 -- ---- the codec's cases
 
--- every protocol, without PEC and with it; Quick has none with it
+-- every protocol, without PEC and with it
 abbrev Empty : ℕ → Type 0
-Empty protocol = (pec : Bool) → (protocol ≡ 0 → pec ≡ false) → decodeNumber (answered protocol pec [] 255 255) ≡ (4, 0)
+Empty protocol = (pec : Bool) → decodeNumber (decodedBy protocol (shapeOf protocol) pec []) ≡ (4, 0)
 
-plain : (protocol : ℕ) → decodeNumber (answered protocol false [] 255 255) ≡ (4, 0) → decodeNumber (answered protocol true [] 255 255) ≡ (4, 0) → Empty protocol
-plain protocol f t true z = t
-plain protocol f t false z = f
-
-quick : Empty 0
-unfolding answered decodedBy run finish
-quick true z = absurd (let q : _≡_ {A = ℕ} 0 1 = cc (z refl) in omega arith)
-quick false z = refl
+either : (protocol : ℕ) → decodeNumber (decodedBy protocol (shapeOf protocol) false []) ≡ (4, 0) → decodeNumber (decodedBy protocol (shapeOf protocol) true []) ≡ (4, 0) → Empty protocol
+either protocol f t true = t
+either protocol f t false = f
 
 empty-trace : (protocol : ℕ) → protocol ≤ 10 → Empty protocol
-unfolding answered decodedBy run finish
+unfolding decodedBy run finish
 empty-trace =
-    by-row Empty quick (plain 1 refl refl) (plain 2 refl refl) (plain 3 refl refl) (plain 4 refl refl) (plain 5 refl refl) (plain 6 refl refl) (plain 7 refl refl) (plain 8 refl refl)
-    (plain 9 refl refl) (plain 10 refl refl)
+    by-row Empty (either 0 refl refl) (either 1 refl refl) (either 2 refl refl) (either 3 refl refl) (either 4 refl refl) (either 5 refl refl) (either 6 refl refl) (either 7 refl refl)
+    (either 8 refl refl) (either 9 refl refl) (either 10 refl refl)
 
-too-many : (pec : Bool) → encodeNumber (encoded 10 pec (message 0x10 7 (replicate 200 0) (replicate 56 0)) 525) ≡ (1, 0)
+abbrev block : ℕ → Message
+block n = message 0x10 0 7 (replicate 200 0) (replicate n 0)
+
+-- the number by the room
+numbered : (pec : Bool) (t : Message) (n v : ℕ) → encodeNumber (encoded 10 pec t 525) ≡ (n, v) → (before : List ℕ) (r : Encoded) (after : List ℕ) → length before ≡ 525
+    → Wrote 10 pec t before r after → encodeNumber r ≡ (n, v)
+numbered pec t n v e before r after l w = ap encodeNumber (w .answer) ∙ ap (λ (k : ℕ). encodeNumber (encoded 10 pec t k)) l ∙ e
+
+too-many : (pec : Bool) → encodeNumber (encoded 10 pec (block 56) 525) ≡ (1, 0)
 unfolding encoded refused allowed lengthsFit
 too-many true = refl
 too-many false = refl
 
+just-enough : (encodeNumber (encoded 10 false (block 55) 525) ≡ (0, 523)) × (encodeNumber (encoded 10 true (block 55) 525) ≡ (0, 525))
+unfolding encoded refused allowed lengthsFit
+just-enough = (refl, refl)
+
 -- whatever binding buffer of at least 2,048 bytes is lent
 pub marked : (b : List ℕ) (room : 2048 ≤ length b) → Marked b room
-unfolding pecFrom pecStep bitStep encoded refused allowed lengthsFit
+unfolding pecFrom pecStep bitStep
 marked b room = record {
   m1 = (refl, refl, refl);
   m2 = refl;
   m3 = (_, receive-byte 0x0C 0x4F (omega arith) (omega arith) refl, refl, refl, refl);
   m4 = refl;
   m5 = (_, block-read 0x10 0x07 [] (omega arith) (omega arith) tt (omega arith) refl, refl, refl, refl);
-  m6 = (refl, refl, too-many);
-  m7 = λ protocol pec h z. empty-trace protocol h pec z;
+  m6 = λ before r after l. (
+    numbered false (block 55) 0 523 (just-enough .0) before r after l,
+    numbered true (block 55) 0 525 (just-enough .1) before r after l,
+    λ pec. numbered pec (block 56) 1 0 (too-many pec) before r after l,
+  );
+  m7 = λ protocol pec sent₀ received₀ a sent received h o.
+      ap decodeNumber
+      (answer-by-trace protocol pec [] sent₀ received₀ a sent received o (entered-taken protocol pec [] sent₀ received₀ a sent received o h) (entered-long protocol pec [] sent₀ received₀ a sent received o h))
+      ∙ empty-trace protocol (h .0) pec;
   m8 = shows run8 comes-8 b room;
   m9 = shows run9 comes-9 b room;
   m10 = shows run10 comes-10 b room;

@@ -1,14 +1,10 @@
--- The words of the marked cases: a message, a record of the model, what a run shows.
+-- The words of the marked cases: a record of the model, and what a run shows.
 use mathlib.Core.Path.{_≡_}
 use mathlib.Core.List.{List, [], _∷_, _++_}
 use Prim.Native.Nat.{ℕ, _*_}
 use lib.ListN.{take, drop, replicate}
-use Rattle.trace.specs.Trace.{Message}
 use Rattle.bus.specs.Run.{ModelEnd}
 use Rattle.bus.specs.declared.answer.ModelAnswer.{ModelAnswer}
-
-abbrev pub message : ℕ → ℕ → List ℕ → List ℕ → Message
-message a c s r = record { address = a; direction = 0; command = c; sent = s; received = r }
 
 -- the identifier that begins with this byte and ends with 1; a record: identifier, address byte, flag
 abbrev pub identifier : ℕ → List ℕ

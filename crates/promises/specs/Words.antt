@@ -4,17 +4,17 @@ pub use Rattle.lists.specs.Each.{Each, Bytes}
 pub use Rattle.wire.specs.Addresses.{isReserved}
 pub use Rattle.wire.specs.Pec.{pecOf}
 pub use Rattle.wire.specs.declared.address.Address.{Address}
+pub use Rattle.trace.specs.Rows.{message}
 pub use Rattle.trace.specs.Table.{TraceOf}
 pub use Rattle.trace.specs.Trace.{Message}
-pub use Rattle.encode.specs.Encode.{encodeNumber, encoded, Wrote}
-pub use Rattle.encode.specs.Listed.{Listed}
+pub use Rattle.encode.specs.Encode.{encodeNumber, Wrote}
 pub use Rattle.encode.specs.declared.Encoded.{Encoded}
 pub use Rattle.step.specs.Answers.{summary}
 pub use Rattle.step.specs.Fitting.{Member, Fits, Breaks, CutAt, OtherPec}
 pub use Rattle.step.specs.Numbers.{decodeNumber}
 pub use Rattle.step.specs.declared.answer.Decoded.{Decoded}
 pub use Rattle.step.specs.declared.answer.Decoded.the-variants.{Done}
-pub use Rattle.decode.specs.Outcome.{Entered, answered, Outcome}
+pub use Rattle.decode.specs.Outcome.{Entered, Outcome}
 -- the controller
 pub use Rattle.pool.specs.Pools.{member}
 pub use Rattle.pool.specs.Start.{emptyPool, startingPool}
@@ -25,10 +25,10 @@ pub use Rattle.udid.specs.declared.Udid.{Udid}
 pub use Rattle.arp.specs.Bindings.{heldAt}
 pub use Rattle.arp.specs.CommandTraces.{prepareTrace, replyTrace, assignTrace}
 pub use Rattle.arp.specs.Controller.{newController, started, stepped}
-pub use Rattle.arp.specs.History.{Event, Received, run, Acknowledged, Invariant}
+pub use Rattle.arp.specs.History.{Event, Received, run, Acknowledged}
 pub use Rattle.arp.specs.Lookup.{lookedUp}
 pub use Rattle.arp.specs.Numbers.{commandNumber, lookupNumber}
-pub use Rattle.arp.specs.OneStep.{Asks, Binds, Continues, EndsWith, Replies, Alike}
+pub use Rattle.arp.specs.OneStep.{Asks, Binds, Continues, EndsWith, Replies}
 pub use Rattle.arp.specs.Requests.{protocolFor, messageOf, traceOf}
 pub use Rattle.arp.specs.declared.command.Command.{Command}
 pub use Rattle.arp.specs.declared.command.Command.the-variants.{Nothing, Prepare, GetUdid, Assign, Ended, Abandoned, NotOutstanding}
@@ -38,12 +38,11 @@ pub use Rattle.arp.specs.declared.state.Stepped.{Stepped}
 -- the model
 pub use Rattle.targets.specs.ByteCases.{EvenOrFlag, SameAsEarlier, FixedOnTaken}
 pub use Rattle.targets.specs.Cases.{LengthIsBad, None, FirstOf}
-pub use Rattle.targets.specs.Records.{targetsOf, recordsWith}
+pub use Rattle.targets.specs.Records.{targetsOf}
 pub use Rattle.rule.specs.AllBound.{movable, leftFree}
 pub use Rattle.rule.specs.Bus.{pass}
-pub use Rattle.rule.specs.EndAnswer.{numberOf, askerOf, getsFor}
-pub use Rattle.rule.specs.PlainRule.{Given, Ending, Distinct, ruled}
+pub use Rattle.rule.specs.PlainRule.{Given, Ending, served, noneFree, Distinct, ruled}
 pub use Rattle.rule.specs.Reading.{Any, RecordOf, OnePerUdid}
 pub use Rattle.rule.specs.Sent.{getsOnBus}
-pub use Rattle.bus.specs.Run.{noUdid, numberIn, modelNumber, Leaves, modelEnd}
+pub use Rattle.bus.specs.Run.{noUdid, modelNumber, Leaves, modelEnd}
 pub use Rattle.bus.specs.declared.answer.ModelAnswer.{ModelAnswer}

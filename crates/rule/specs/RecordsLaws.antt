@@ -18,9 +18,9 @@ use Rattle.targets.specs.Admission.{AdmittedTargets}
 use Rattle.targets.specs.Change.{Changed}
 use Rattle.targets.specs.ChangeLaws.{changed-exactly}
 use Rattle.targets.specs.IndexLaws.{target-has-record, sized-at}
-use Rattle.targets.specs.Records.{targetAt, recordCount, targetsOf, recordsWith}
-use Rattle.targets.specs.RecordLaws.{assigned-keeps-udid}
-use Rattle.targets.specs.Target.{Target, prepared, assignedTo}
+use Rattle.targets.specs.Records.{targetAt, targetsFrom, recordCount, targetsOf, recordsWith}
+use Rattle.targets.specs.RecordLaws.{length-put-from, changed-targets, assigned-keeps-udid}
+use Rattle.targets.specs.Target.{Target, mapTargets, prepared, assignedTo}
 use Rattle.rule.specs.PassEndLaws.{given-free-distinct, given-among-targets}
 use Rattle.rule.specs.PassEnd.{passEnd}
 use Rattle.rule.specs.PlainRule.{Given, ruled, FreeIn}
@@ -110,3 +110,14 @@ module _ (occupied : Pool) (s : List ℕ) (b : Bytes s) (v : AdmittedTargets (st
   -- NO OTHER BYTE of the list changes
   pub other-bytes : (j : ℕ) → j % 18 < 16 → getD after j 0 ≡ getD s j 0
   other-bytes j h = changed .others j (λ i l. (λ e. omega (arith, e), λ e. omega (arith, e)))
+
+-- the records that the pass leaves are those of its targets
+pub end-targets-stored : (b : Pool) (s : List ℕ) → targetsOf (recordsWith (passEnd b (targetsOf s) .targets) s) ≡ passEnd b (targetsOf s) .targets
+end-targets-stored b s =
+    let f : Target → Target = λ t. servedBy (ruled b (targetsOf s) .given) (prepared t) in
+    let e : passEnd b (targetsOf s) .targets ≡ mapTargets f (targetsOf s) = end-targets b (targetsOf s) in
+    let n : recordCount (recordsWith (mapTargets f (targetsOf s)) s) ≡ recordCount s = ap (λ (k : ℕ). k / 18) (length-put-from (mapTargets f (targetsOf s)) 0 s) in
+    ap (λ (ts : List Target). targetsOf (recordsWith ts s)) e
+    ∙ ap (λ (k : ℕ). targetsFrom (recordsWith (mapTargets f (targetsOf s)) s) k 0) n
+    ∙ changed-targets f (λ t. served-keeps (ruled b (targetsOf s) .given) (prepared t)) (recordCount s) 0 s (omega arith)
+    ∙ sym e

@@ -8,8 +8,9 @@ use Prim.Native.Nat.{ℕ, _+_, _*_, _≤_, _<_}
 use lib.ListN.{length}
 use Rattle.lists.specs.Each.{Bytes}
 use Rattle.wire.specs.Pec.{pecOf}
+use Rattle.wire.specs.Symbols.{START as S, STOP as P, ACK as A}
 use Rattle.trace.specs.Trace.{Message, acked, nacked, inPlace}
-use Rattle.trace.specs.Rows.{S, P, A, message}
+use Rattle.trace.specs.Rows.{message}
 
 -- a line of the table: the protocol, the message, every byte that PEC covers, the symbols up to the target's last ACK, and the rest, whose
 -- ACKs are the controller's
