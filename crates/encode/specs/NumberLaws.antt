@@ -11,7 +11,7 @@ use Rattle.lists.specs.Each.{Bytes}
 use Rattle.trace.specs.Shapes.{shapeOf}
 use Rattle.trace.specs.Table.{TraceOf}
 use Rattle.trace.specs.TableLaws.{listed-trace, trace-listed, quick-plain}
-use Rattle.trace.specs.Trace.{Message, trace, Valid}
+use Rattle.trace.specs.Trace.{Message, trace}
 use Rattle.encode.specs.Encode.{encodeNumber, refused, Wrote}
 use Rattle.encode.specs.EncodeLaws.{unlisted-valid, answer-0, answer-1, answer-2}
 use Rattle.encode.specs.Listed.{Listed}

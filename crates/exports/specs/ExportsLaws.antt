@@ -15,11 +15,8 @@ use Rattle.trace.specs.Shapes.{shapeOf, forbidden}
 use Rattle.trace.specs.Table.{TraceOf}
 use Rattle.trace.specs.TableLaws.{listed-trace, quick-plain}
 use Rattle.trace.specs.Trace.{Message, trace}
-use Rattle.trace.specs.declared.shape.Shape.{Shape}
-use Rattle.trace.specs.declared.transaction.Transaction.{Transaction}
-use Rattle.encode.specs.declared.Encoded.{Encoded}
 use Rattle.encode.specs.declared.Encoded.the-variants.{Written}
-use Rattle.encode.specs.Encode.{message, encoded, symbolsOf, Wrote}
+use Rattle.encode.specs.Encode.{message, encoded, Wrote}
 use Rattle.encode.specs.Listed.{Listed}
 use Rattle.encode.specs.EncodeLaws.{written-exactly, written-valid}
 use Rattle.step.specs.declared.answer.Decoded.the-variants.{Done}
@@ -34,7 +31,6 @@ use Rattle.pool.specs.Start.{startingPool}
 use Rattle.targets.specs.Cases.{LengthIsBad, MalformedAt, RepeatedAt, TakenAt, None, FirstOf, Given}
 use Rattle.targets.specs.Numbers.{answerOf}
 use Rattle.targets.specs.Records.{targetsOf, recordCount}
-use Rattle.targets.specs.Refusals.{checkedList}
 use Rattle.targets.specs.declared.admit.Checked.{Checked}
 use Rattle.targets.specs.declared.admit.Checked.the-variants.{Admitted, BadLength, Malformed, Repeated, Taken}
 use Rattle.rule.specs.PlainRule.{ruled}
@@ -53,7 +49,7 @@ use Rattle.exports.specs.PairLaws.{symbols-are, bytes-back}
 use Rattle.exports.specs.Codec.{told, toldDecoded, WrotePairs, WroteSymbols, ReadSymbols}
 use Rattle.exports.specs.WrittenLaws as written
 use Rattle.exports.specs.DecodedLaws.{OthersZero, pair-parts, read-carries, read-number, read-zeros, read-done}
-use Rattle.promises.specs.Demands.{OfBytes, Meets}
+use Rattle.promises.specs.Demands.{Meets}
 use Rattle.promises.specs.DemandsLaws.{of-bytes, demand-2, demand-3}
 use Rattle.promises.specs.MarkedLaws.{marked}
 

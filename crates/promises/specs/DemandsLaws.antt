@@ -17,7 +17,7 @@ use Rattle.trace.specs.ShapeLaws.{sane}
 use Rattle.trace.specs.Shapes.{shapeOf}
 use Rattle.trace.specs.Table.{TraceOf}
 use Rattle.trace.specs.TableLaws.{listed-trace, quick-plain}
-use Rattle.trace.specs.Trace.{Message, trace, Valid}
+use Rattle.trace.specs.Trace.{Message, trace}
 use Rattle.encode.specs.Encode.{encodeNumber, Wrote}
 use Rattle.encode.specs.EncodeLaws.{answer-0, answer-1, answer-2, refusal-untouched}
 use Rattle.encode.specs.NumberLaws as encode
@@ -32,7 +32,6 @@ use Rattle.step.specs.declared.answer.Decoded.the-variants.{Done}
 use Rattle.decode.specs.NumberLaws as decode
 use Rattle.decode.specs.Outcome.{Outcome}
 use Rattle.pool.specs.Pools.{member}
-use Rattle.pool.specs.Start.{startingPool}
 use Rattle.pool.specs.declared.Pool.{Pool}
 use Rattle.udid.specs.Bytes.{udidBytes}
 use Rattle.udid.specs.declared.Udid.{Udid}
@@ -54,8 +53,6 @@ use Rattle.arp.specs.declared.command.Command.the-variants.{Nothing, Prepare, G
 use Rattle.arp.specs.declared.state.Binding.{Binding}
 use Rattle.arp.specs.declared.state.Binding.the-variants.{Open, Bound, Claimed}
 use Rattle.arp.specs.declared.state.Controller.{Controller}
-use Rattle.targets.specs.Refusals.{checkedList}
-use Rattle.targets.specs.declared.admit.Checked.the-variants.{Admitted}
 use Rattle.bus.specs.BindingsEndLaws.{given-in-records, given-assignable, given-distinct, given-once, bound-exactly, bytes-of-bound, bytes-of-free, bytes-after-kept}
 use Rattle.rule.specs.EndAnswer.{numberOf, askerOf}
 use Rattle.rule.specs.PassEnd.{lastCommand}
@@ -66,7 +63,7 @@ use Rattle.bus.specs.RecordsEndLaws.{records-length, record-of-bound, record-of
 use Rattle.bus.specs.RefusalLaws as bus
 use Rattle.bus.specs.Run.{Leaves, modelEnd}
 use Rattle.bus.specs.declared.answer.ModelAnswer.{ModelAnswer}
-use Rattle.promises.specs.Demands.{OfBytes, Encodes, Decodes, Puts, Commands, LooksUp, Refused, Checks, Demand2, Demand3, Reached, Control}
+use Rattle.promises.specs.Demands.{OfBytes, Encodes, Decodes, Puts, Commands, LooksUp, Checks, Demand2, Demand3, Reached, Control}
 use Rattle.promises.specs.StepsLaws.{sentences, one-step, each-number-exactly}
 
 -- ---- demand 1

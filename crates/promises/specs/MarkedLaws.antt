@@ -9,7 +9,7 @@ use lib.ListN.{length, take, drop, replicate}
 use borrow.Author.Tests.{ltb-true}
 use Rattle.lists.specs.Choice.{pick}
 use Rattle.lists.specs.Each.{Each, Bytes}
-use Rattle.wire.specs.Pec.{bitStep, pecStep, pecFrom, pecOf}
+use Rattle.wire.specs.Pec.{bitStep, pecStep, pecFrom}
 use Rattle.trace.specs.Allowed.{lengthsFit, allowed}
 use Rattle.trace.specs.Rows.{message}
 use Rattle.trace.specs.ShapeLaws.{by-row}

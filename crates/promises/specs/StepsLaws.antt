@@ -30,7 +30,7 @@ use Rattle.arp.specs.HeardLaws.{six-exactly}
 use Rattle.arp.specs.NoneFreeLaws.{number-13-is-none-free}
 use Rattle.arp.specs.Numbers.{commandNumber}
 use Rattle.arp.specs.OneResultLaws.{same-trace-or-not, six-or-not, six-once, reply-or-not, continues-alike, ends-alike, binds-alike, replies-alike, chooses-address-or-none}
-use Rattle.arp.specs.OneStep.{Gives, Asks, Binds, Chooses, Continues, EndsWith, Replies, Alike}
+use Rattle.arp.specs.OneStep.{Gives, Asks, Chooses, Continues, Replies, Alike}
 use Rattle.arp.specs.OneStepLaws as arp
 use Rattle.arp.specs.Replay.{noCommand}
 use Rattle.arp.specs.RequestLaws.{seventeen-bytes-are-udid-and-byte}
@@ -38,7 +38,7 @@ use Rattle.arp.specs.declared.command.Command.{Command}
 use Rattle.arp.specs.declared.command.Command.the-variants.{Nothing, Prepare, GetUdid, Assign, Ended, NoneFree, Abandoned, NotOutstanding}
 use Rattle.arp.specs.declared.state.Controller.{Controller}
 use Rattle.arp.specs.declared.state.Stepped.{Stepped}
-use Rattle.promises.specs.Demands.{Idle, NoReply, NobodyLeft, Steps, StepNumbers, Sound}
+use Rattle.promises.specs.Demands.{Idle, NoReply, NobodyLeft, Steps, StepNumbers}
 
 -- ---- the words of the page and those of arp
 

@@ -11,8 +11,8 @@ use Rattle.lists.specs.Each.{Bytes}
 use Rattle.wire.specs.Pec as Pec
 use Rattle.trace.specs.CoveredLaws.{rows-cover}
 use Rattle.trace.specs.Shapes.{shapeOf}
-use Rattle.trace.specs.Table.{Line, line, Row, InTable, symbols}
-use Rattle.trace.specs.TableLaws.{Means, row-means, row-of}
+use Rattle.trace.specs.Table.{Line, line, InTable}
+use Rattle.trace.specs.TableLaws.{row-means, row-of}
 use Rattle.trace.specs.Trace.{Message, inPlace, pecOf, bytes, byTarget, byController, traceAt, Valid}
 use Rattle.trace.specs.declared.shape.Shape.{Shape}
 use Rattle.step.specs.Answers as shaped

@@ -7,14 +7,13 @@ use mathlib.Core.Logic.{_↔_}
 use Prim.Native.Nat.{ℕ, _+_, _*_, _≤_, _<_}
 use native.Mathlib.Omega.{arith}
 use lib.ListN.{length, length-append}
-use Rattle.lists.specs.Each.{Bytes}
 use Rattle.lists.specs.EachLaws.{append-bytes}
 use Rattle.trace.specs.Covered.{Covered}
 use Rattle.trace.specs.Covered as covered
 use Rattle.trace.specs.CoveredLaws.{rows-cover}
 use Rattle.trace.specs.Rows.{message}
 use Rattle.trace.specs.Shapes.{shapeOf}
-use Rattle.trace.specs.Table.{Line, line, Row, quick, send-byte, receive-byte, write-byte, write-word, read-byte, read-word, process-call, block-write, block-read, block-process-call, symbols, TraceOf}
+use Rattle.trace.specs.Table.{Line, line, Row, quick, send-byte, receive-byte, write-byte, write-word, read-byte, read-word, process-call, block-write, block-read, block-process-call, TraceOf}
 use Rattle.trace.specs.Trace.{Message, acked, byTarget, byController, bytes, inPlace, pecOf, traceAt, trace, Valid}
 use Rattle.trace.specs.declared.shape.Shape.{Shape}
 use Rattle.wire.specs.Pec as Pec
