@@ -15,7 +15,7 @@ use std::process::exit;
 const PAGE: &str = "promises/specs/Demands.antt";
 const PAGE_LINES: usize = 250;
 const BELIEVED_LINES: usize = 600;
-const WIDTH: usize = 190;
+const WIDTH: usize = 230;
 
 /// A crate and a file of its specs.
 type Place = (String, String);

@@ -188,16 +188,3 @@ module _ (occupied : Pool) (s b : List ℕ) (r : ModelAnswer) (s′ b′ : List 
     ap (λ (x : ModelAnswer). x .count) (model-untouched h .2),
     ap (λ (x : ModelAnswer). x .gets) (model-untouched h .2),
   )
-
-  -- a run that is refused with none of these numbers has a buffer that is long enough, and a list that is admitted
-  pub run-admitted : ((r .answer ≡ 2) ⊎ ((9 ≤ r .answer) × (r .answer ≤ 12)) → ⊥) → (2048 ≤ length b) × (checkedList (startingPool occupied) s ≡ Admitted)
-  run-admitted n = go (decLt (length b) 2048) (admitted-or-not (checkedList (startingPool occupied) s))
-    where
-      go : Dec (length b < 2048) → (checkedList (startingPool occupied) s ≡ Admitted) ⊎ (checkedList (startingPool occupied) s ≡ Admitted → ⊥)
-          → (2048 ≤ length b) × (checkedList (startingPool occupied) s ≡ Admitted)
-      go (yes k) c = absurd (n (inl (ap (λ (p : ℕ × ℕ). p .0) (model-2 .1 k))))
-      go (no k) (inl a) = (omega arith, a)
-      go (no k) (inr c) =
-          let q = refusal-9-to-12 (checkedList (startingPool occupied) s) c in
-          let m : r .answer ≡ answerOf (checkedList (startingPool occupied) s) .number = ap (λ (x : ModelAnswer). x .answer) (refused-end (omega arith) c .answered) in
-          absurd (n (inr (omega (arith, m, q .0), omega (arith, m, q .1))))

@@ -28,6 +28,7 @@ use Rattle.decode.specs.Outcome.{short, Entered, Outcome}
 use Rattle.decode.specs.OutcomeLaws as decode
 use Rattle.pool.specs.declared.Pool.{Pool}
 use Rattle.pool.specs.Start.{startingPool}
+use Rattle.targets.specs.ByteCases.{EvenOrFlag, SameAsEarlier, FixedOnTaken}
 use Rattle.targets.specs.Cases.{LengthIsBad, MalformedAt, RepeatedAt, TakenAt, None, FirstOf, Given}
 use Rattle.targets.specs.Numbers.{answerOf}
 use Rattle.targets.specs.Records.{targetsOf, recordCount}
@@ -461,9 +462,10 @@ module _ (low high : ℕ) (s b : List ℕ) (h : HbModel) (s′ b′ : List ℕ) 
       )
 
   -- DEMAND 3: any other run ends as the plain rule does
-  pub hb-model-meets : Bytes s → ((h .answer ≡ 2) ⊎ ((9 ≤ h .answer) × (h .answer ≤ 12)) → ⊥)
+  pub hb-model-meets : Bytes s → 2048 ≤ length b → (LengthIsBad s → ⊥) → None (EvenOrFlag s) (length s / 18) → None (SameAsEarlier s) (length s / 18)
+      → None (FixedOnTaken (startingPool occupied) s) (length s / 18)
       → Meets occupied s b (ruled (startingPool occupied) (targetsOf s) .given) (ruled (startingPool occupied) (targetsOf s) .ending) (answerIn h) s′ b′
-  hb-model-meets bytes n = demand-3 occupied s b bytes (answerIn h) s′ b′ hb-model-leaves .meets n
+  hb-model-meets bytes = demand-3 occupied s b bytes (answerIn h) s′ b′ hb-model-leaves .meets
 
 -- M8: 09h, 0Ah and 20h are bound, four Get UDIDs are sent
 pub hb-model-m8 : (b : List ℕ) → 2048 ≤ length b → (h : HbModel) (s′ b′ : List ℕ)

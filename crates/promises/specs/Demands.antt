@@ -3,36 +3,31 @@
 -- A parameter such as (contract : Wrote ..) is what a function's `ensures` says, word for word. It need not be believed: the code meets it.
 -- CONTRACTS: Leaves, Outcome, Wrote, lookedUp, messageOf, modelEnd, newController, protocolFor, started, stepped, traceOf.
 -- BELIEVED: 588 lines, without imports, comments and blanks. Crate/file, then the lines of each definition; src is a type of the code. tests/programs/believed.rs counts them.
--- lists/Choice: and 3, not 3, or 3, pick 3; lists/Each: Bytes 3, Each 3; wire/Addresses: isReserved 2; wire/Pec: bitStep 2, pecFrom 3, pecOf 2, pecStep 2; wire/Symbols: ACK 2, NACK 2,
--- START 2, STOP 2; wire/src: Address 1; trace/Rows: message 2; trace/Table: InTable 2, Line 6, Row 22, TraceOf 2, line 2, symbols 2; trace/Trace: Message 6, ackOf 3, acked 3, inPlace 2,
--- nacked 3; trace/src: Transaction 8; encode/Encode: encodeNumber 4; encode/src: Encoded 5; step/Answers: summary 3; step/BytesIn: bytesIn 3; step/Fitting: Breaks 4, CutAt 9, Fits 2,
--- Member 2, OtherPec 3, Whole 2; step/Numbers: decodeNumber 10; step/src: Decoded 11; decode/Outcome: Entered 2; pool/Counts: count 3, one 2; pool/Digits: digit 2, plus 2;
--- pool/Free: Lowest 4, freeFrom 3, lowestFree 2, used 2; pool/Pools: member 2, unionOf 2, withAddress 4; pool/Start: emptyPool 2, reservedPool 2, startingPool 2; pool/src: Free 4, Pool 4;
--- udid/Bytes: bytesFrom 3, bytesOf 3, number 2, numberFrom 3, udidAt 2, udidBytes 2; udid/Udids: Fits 3, isFixed 2, sameUdid 2, topBits 2, value 2; udid/src: Udid 4; arp/Bindings: heldAt 2,
--- openSlot 2; arp/CommandTraces: assignTrace 2, prepareTrace 2, replyTrace 3; arp/History: Acknowledged 5, Event 3, run 4; arp/Numbers: commandNumber 9, lookupNumber 5; arp/OneStep: Asks 3,
--- Binds 5, BoundAt 3, Chooses 5, Continues 2, EndsWith 2, Hands 5, Keeps 3, Replies 4, Same 2, Unbinds 3; arp/src: Binding 5, Command 10, Controller 7, Found 6, Slot 3, Stepped 4;
--- arbitration/Bits: bits 3, byteBits 3, bytesRead 3, numberOf 3; arbitration/Wire: heard 3, later 3, level 3, next 3, staying 3; targets/ByteCases: EvenOrFlag 2, FixedAt 2, FixedOnTaken 2,
--- SameAsEarlier 2, addressAt 2; targets/Cases: FirstOf 4, LengthIsBad 2, None 2; targets/Records: addressByte 2, flagOf 2, recordCount 2, targetAt 2, targetsFrom 3, targetsOf 2, udidOf 2;
--- targets/Reply: OnWire 3, coveredBytes 2, onWire 3, replyBytes 2, replyData 2, replyPec 2, sends 2, waiting 3; targets/Target: Target 4, isResolved 2, mapTargets 3;
--- rule/Acknowledge: acknowledges 4, afterwards 2, answered 4, asking 2, assigningBytes 2, begins 4, gettingBytes 2, onBus 2, preparingBytes 2, received 3, sentPart 9, somebody 3,
--- standing 3; rule/AllBound: leftFree 2, movable 3, withFixed 3; rule/Bus: World 3, beginning 2, pass 2, reached 2, run 3, took 3, turn 2; rule/Effect: addressIn 2, effect 5, isForMe 2,
--- same 5; rule/PlainRule: Distinct 3, Ending 3, Given 3, Ruled 3, ascending 3, held 2, insert 3, next 3, plainChoice 4, rule 3, ruled 2; rule/Reading: Any 3, OnePerUdid 3, RecordOf 2;
--- rule/Sent: getsAmong 3, getsOnBus 2, oneIn 2, stands 2, traces 3; bus/Run: ModelEnd 4, modelNumber 2, noUdid 2; bus/src: ModelAnswer 8; promises/MarkedWords: Shows 2, holding 2,
--- identifier 2, windows 3.
+-- lists/Choice: and 3, not 3, or 3, pick 3; lists/Each: Bytes 3, Each 3; wire/Addresses: isReserved 2; wire/Pec: bitStep 2, pecFrom 3, pecOf 2, pecStep 2; wire/Symbols: ACK 2, NACK 2, START 2, STOP 2; wire/src: Address 1;
+-- trace/Rows: message 2; trace/Table: InTable 2, Line 6, Row 22, TraceOf 2, line 2, symbols 2; trace/Trace: Message 6, ackOf 3, acked 3, inPlace 2, nacked 3; trace/src: Transaction 8; encode/Encode: encodeNumber 4;
+-- encode/src: Encoded 5; step/Answers: summary 3; step/BytesIn: bytesIn 3; step/Fitting: Breaks 4, CutAt 9, Fits 2, Member 2, OtherPec 3, Whole 2; step/Numbers: decodeNumber 10; step/src: Decoded 11; decode/Outcome: Entered 2;
+-- pool/Counts: count 3, one 2; pool/Digits: digit 2, plus 2; pool/Free: Lowest 4, freeFrom 3, lowestFree 2, used 2; pool/Pools: member 2, unionOf 2, withAddress 4; pool/Start: emptyPool 2, reservedPool 2, startingPool 2;
+-- pool/src: Free 4, Pool 4; udid/Bytes: bytesFrom 3, bytesOf 3, number 2, numberFrom 3, udidAt 2, udidBytes 2; udid/Udids: Fits 3, isFixed 2, sameUdid 2, topBits 2, value 2; udid/src: Udid 4; arp/Bindings: heldAt 2, openSlot 2;
+-- arp/CommandTraces: assignTrace 2, prepareTrace 2, replyTrace 3; arp/History: Acknowledged 5, Event 3, run 4; arp/Numbers: commandNumber 9, lookupNumber 5; arp/OneStep: Asks 3, Binds 5, BoundAt 3, Chooses 5, Continues 2,
+-- EndsWith 2, Hands 5, Keeps 3, Replies 4, Same 2, Unbinds 3; arp/src: Binding 5, Command 10, Controller 7, Found 6, Slot 3, Stepped 4; arbitration/Bits: bits 3, byteBits 3, bytesRead 3, numberOf 3; arbitration/Wire: heard 3,
+-- later 3, level 3, next 3, staying 3; targets/ByteCases: EvenOrFlag 2, FixedAt 2, FixedOnTaken 2, SameAsEarlier 2, addressAt 2; targets/Cases: FirstOf 4, LengthIsBad 2, None 2; targets/Records: addressByte 2, flagOf 2,
+-- recordCount 2, targetAt 2, targetsFrom 3, targetsOf 2, udidOf 2; targets/Reply: OnWire 3, coveredBytes 2, onWire 3, replyBytes 2, replyData 2, replyPec 2, sends 2, waiting 3; targets/Target: Target 4, isResolved 2,
+-- mapTargets 3; rule/Acknowledge: acknowledges 4, afterwards 2, answered 4, asking 2, assigningBytes 2, begins 4, gettingBytes 2, onBus 2, preparingBytes 2, received 3, sentPart 9, somebody 3, standing 3;
+-- rule/AllBound: leftFree 2, movable 3, withFixed 3; rule/Bus: World 3, beginning 2, pass 2, reached 2, run 3, took 3, turn 2; rule/Effect: addressIn 2, effect 5, isForMe 2, same 5; rule/PlainRule: Distinct 3, Ending 3, Given 3,
+-- Ruled 3, ascending 3, held 2, insert 3, next 3, plainChoice 4, rule 3, ruled 2; rule/Reading: Any 3, OnePerUdid 3, RecordOf 2; rule/Sent: getsAmong 3, getsOnBus 2, oneIn 2, stands 2, traces 3; bus/Run: ModelEnd 4,
+-- modelNumber 2, noUdid 2; bus/src: ModelAnswer 8; promises/MarkedWords: Shows 2, holding 2, identifier 2, windows 3.
 use mathlib.Core.Path.{_≡_}
 use mathlib.Core.Bool.{Bool, true, false}
 use mathlib.Core.List.{List, [], _∷_, _++_}
 use mathlib.Core.Logic.{_⊎_, _↔_}
 use Prim.Native.Nat.{ℕ, suc, _+_, _*_, _/_, _%_, _^_, _≤_, _<_}
 use lib.ListN.{length, take, drop, getD, replicate}
-use Rattle.promises.specs.MarkedWords.{identifier, holding, Shows}
 use Rattle.promises.specs.Words.{Each, Bytes, isReserved, pecOf, Address, TraceOf, Message, message, encodeNumber, Wrote, Encoded, summary, Member, Fits, Breaks, CutAt, OtherPec, decodeNumber, Decoded, Done, Entered, Outcome}
 use Rattle.promises.specs.Words.{member, emptyPool, startingPool, Pool, udidBytes, In128, Udid, heldAt, prepareTrace, replyTrace, assignTrace, newController, started, stepped, Event, Received, run, Acknowledged, lookedUp, commandNumber, lookupNumber}
 use Rattle.promises.specs.Words.{Asks, Binds, Continues, EndsWith, Replies, protocolFor, messageOf, traceOf, Command, Nothing, Prepare, GetUdid, Assign, Ended, Abandoned, NotOutstanding, Open, Bound, Claimed, Controller, Stepped}
-use Rattle.promises.specs.Words.{EvenOrFlag, SameAsEarlier, FixedOnTaken, LengthIsBad, None, FirstOf, targetsOf, movable, leftFree, pass, Given, Ending, served, noneFree, Distinct, ruled, Any, RecordOf, OnePerUdid, getsOnBus, noUdid, modelNumber, Leaves, modelEnd, ModelAnswer}
+use Rattle.promises.specs.Words.{EvenOrFlag, SameAsEarlier, FixedOnTaken, LengthIsBad, None, FirstOf, targetsOf, movable, leftFree, pass, Given, Ending, served, noneFree, Distinct, ruled, Any, RecordOf, OnePerUdid, getsOnBus, noUdid, modelNumber, Leaves, modelEnd, ModelAnswer, identifier, holding, Shows}
 
 -- ---- DEMAND 1: EACH NUMBER, IF AND ONLY IF ITS CASE; A REFUSAL CHANGES NOTHING THAT WAS LENT
-
 -- a message as the encoder's types have it: its command and its data are bytes
 abbrev pub OfBytes : Message → Type 0
 OfBytes m = (m .command < 256) × Bytes (m .sent) × Bytes (m .received)
@@ -40,13 +35,15 @@ OfBytes m = (m .command < 256) × Bytes (m .sent) × Bytes (m .received)
 -- encode of the message m, into an output that holds `before`: the answer r, and what the output holds after
 pub record Encodes (protocol : ℕ) (pec : Bool) (m : Message) (bytes : OfBytes m) (before : List ℕ) (r : Encoded) (after : List ℕ) (contract : Wrote protocol pec m before r after) : Type 0 where
   pub encode-0 : (n : ℕ) → (encodeNumber r ≡ (0, n)) ↔ ((tr : List ℕ) × TraceOf protocol pec m tr × (length tr ≡ n) × (n ≤ length before))
+  -- 1: no row of the table has such a message: protocol, address, direction, a field that is lacking, a length or a count is not as it has to be
   pub encode-1 : (encodeNumber r ≡ (1, 0)) ↔ ((tr : List ℕ) → TraceOf protocol pec m tr → ⊥)
   pub encode-2 : (encodeNumber r ≡ (2, 0)) ↔ ((tr : List ℕ) × TraceOf protocol pec m tr × (length before < length tr))
   -- with 0 the trace stands at the front, and the rest is as it was
   pub written : encodeNumber r .0 ≡ 0 → (tr : List ℕ) → TraceOf protocol pec m tr → after ≡ tr ++ drop (length tr) before
   pub untouched : (encodeNumber r .0 ≡ 0 → ⊥) → after ≡ before
 
--- decode of the trace tr, with two buffers that hold sent₀ and received₀: the answer a, and what they hold after. k is a place, b a byte's number
+-- decode of the trace tr, with two buffers that hold sent₀ and received₀: the answer a, and what they hold after. k is a place, b a byte's number, take k tr
+-- what stands before k. Member: a whole trace, with any byte in PEC's place, or one that the target cut short with NACK and STOP. Fits: the beginning of one
 pub record Decodes (protocol : ℕ) (pec : Bool) (tr sent₀ received₀ : List ℕ) (a : Decoded) (sent received : List ℕ) (contract : Outcome protocol pec tr sent₀ received₀ a sent received) : Type 0 where
   pub decode-0 : (decodeNumber a ≡ (0, 0)) ↔ (Entered protocol pec sent₀ received₀ × ((m : Message) × TraceOf protocol pec m tr))
   pub decode-1 : (decodeNumber a ≡ (1, 0)) ↔ ((10 < protocol) ⊎ ((protocol ≡ 0) × (pec ≡ true)))
@@ -72,6 +69,9 @@ pub record Puts (Bad : Type 0) (tr before : List ℕ) (r : Encoded) (after : Lis
   pub untouched : (encodeNumber r .0 ≡ 0 → ⊥) → after ≡ before
 
 pub record Commands (reply before : List ℕ) (r : Encoded) (after : List ℕ) : Type 0 where
+  -- the commands' traces are lines of the table, with their PEC, to 61h; traceOf gives them
+  pub lines : TraceOf 1 true (message 0x61 0 0 (0x01 ∷ []) []) prepareTrace × (Bytes reply → length reply ≤ 255 → TraceOf 9 true (message 0x61 0 0x03 [] reply) (replyTrace reply))
+      × ((u : Udid) (a : ℕ) → a < 128 → TraceOf 8 true (message 0x61 0 0x04 (udidBytes u ++ 2 * a ∷ []) []) (assignTrace (udidBytes u) (2 * a)))
   pub traces : (traceOf Prepare reply ≡ prepareTrace) × (traceOf GetUdid reply ≡ replyTrace reply) × ((u : Udid) (a : Address) → a .0 < 128 → traceOf (Assign u a) [] ≡ assignTrace (udidBytes u) (2 * a .0))
   pub prepare : Wrote (protocolFor Prepare) true (messageOf Prepare reply) before r after → Puts ⊥ prepareTrace before r after
   pub get : Wrote (protocolFor GetUdid) true (messageOf GetUdid reply) before r after → Puts (255 < length reply) (replyTrace reply) before r after
@@ -103,7 +103,6 @@ pub record Checks (occupied : Pool) (s b : List ℕ) (bytes : Bytes s) (r : Mode
   pub untouched : Refused r → (s′ ≡ s) × (b′ ≡ b) × (r .udid ≡ noUdid) × (r .bound ≡ emptyPool) × (r .count ≡ 0) × (r .gets ≡ 0)
 
 -- ---- DEMAND 2: THE DECODER READS WHAT THE ENCODER WRITES, AND NOTHING ELSE
-
 pub record Demand2 (protocol : ℕ) (pec : Bool) : Type 0 where
   -- what a call of the encoder wrote, a call of the decoder reads
   pub there : (m : Message) (before : List ℕ) (r : Encoded) (after : List ℕ) → OfBytes m → Wrote protocol pec m before r after → (n : ℕ) → encodeNumber r ≡ (0, n)
@@ -117,7 +116,6 @@ pub record Demand2 (protocol : ℕ) (pec : Bool) : Type 0 where
   pub one : (m t : Message) (tr : List ℕ) → TraceOf protocol pec m tr → TraceOf protocol pec t tr → m ≡ t
 
 -- ---- DEMAND 3: THE RUN OVER THE BUS, BIT BY BIT, ENDS AS THE PLAIN RULE DOES
-
 -- `given` are the bindings of the plain rule over the targets of the records s, `ending` is its end
 pub record Meets (occupied : Pool) (s b : List ℕ) (given : List Given) (ending : Ending) (r : ModelAnswer) (s′ b′ : List ℕ) : Type 0 where
   -- the answer: 0, or 13 with the identifier that asked; it is the number of the last command of the pass over the bus
@@ -143,22 +141,24 @@ pub record Meets (occupied : Pool) (s b : List ℕ) (given : List Given) (ending
   pub others : (j : ℕ) → j % 18 < 16 → getD s′ j 0 ≡ getD s j 0
   -- all are bound if and only if the movable targets do not outnumber the addresses that the fixed ones leave free
   pub all-bound : (r .count ≡ length (targetsOf s)) ↔ (movable (targetsOf s) ≤ leftFree (startingPool occupied) (targetsOf s))
-  -- and this is the end of the pass over the bus, the delivered steps and the targets trace by trace: its targets, and whom its state has bound
+  -- and this is the end of the pass, which runs the delivered start and steps against the targets, trace by trace: its targets, and whom its controller has bound
   pub of-pass : (targetsOf s′ ≡ pass occupied (targetsOf s) .targets)
       × ((a : ℕ) (u : Udid) → a < 128 → heldAt (pass occupied (targetsOf s) .now .state .slots) a ≡ Bound u → take 16 (drop (16 * a) b′) ≡ udidBytes u)
 
 pub record Demand3 (occupied : Pool) (s b : List ℕ) (bytes : Bytes s) (r : ModelAnswer) (s′ b′ : List ℕ) (contract : Leaves (modelEnd occupied s b) r s′ b′) : Type 0 where
-  pub meets : (Refused r → ⊥) → Meets occupied s b (ruled (startingPool occupied) (targetsOf s) .given) (ruled (startingPool occupied) (targetsOf s) .ending) r s′ b′
+  pub meets : 2048 ≤ length b → (LengthIsBad s → ⊥) → None (EvenOrFlag s) (length s / 18) → None (SameAsEarlier s) (length s / 18) → None (FixedOnTaken (startingPool occupied) s) (length s / 18)
+      → Meets occupied s b (ruled (startingPool occupied) (targetsOf s) .given) (ruled (startingPool occupied) (targetsOf s) .ending) r s′ b′
 
 -- ---- THE CONTROLLER
-
--- no command of a pass is outstanding; the trace is no complete reply; nobody is left to answer Get UDID
+-- no command of a pass is outstanding
 abbrev pub Idle : Controller → Type 0
 Idle s = (s .last ≡ Prepare → ⊥) × (s .last ≡ GetUdid → ⊥) × ((u : Udid) (a : Address) → s .last ≡ Assign u a → ⊥)
 
+-- the trace is no complete reply
 abbrev pub NoReply : List ℕ → Type 0
 NoReply tr = (xs : List ℕ) → Bytes xs → length xs ≤ 255 → tr ≡ replyTrace xs → ⊥
 
+-- answer 6 at byte 0, 1 or 2 of Get UDID: nobody is left to answer
 abbrev pub NobodyLeft : List ℕ → Type 0
 NobodyLeft tr = (b : ℕ) × (b < 3) × CutAt 9 true tr b
 
@@ -179,7 +179,8 @@ pub record Steps (s : Controller) (tr : List ℕ) (r : Stepped) : Type 0 where
   -- no command outstanding: 21, and the state stays as it is
   pub none-outstanding : Idle s → (r .state ≡ s) × (r .command ≡ NotOutstanding)
 
--- the numbers of a step, each if and only if its case
+-- the numbers of a step, each if and only if its case; commandNumber gives a list, empty for a command to send. 13: one has to be picked (the reply has FFh, or the
+-- target is movable, its first byte 64 or more, and its own address b / 2 is in the pool), and with its old address freed all 128 are in the pool
 pub record StepNumbers (s : Controller) (tr : List ℕ) (r : Stepped) : Type 0 where
   pub step-0 : (commandNumber (r .command) ≡ (0, []) ∷ []) ↔ (((s .last ≡ Prepare) × ((b : ℕ) × CutAt 1 true tr b))
       ⊎ ((s .last ≡ GetUdid) × (NobodyLeft tr ⊎ ((xs : List ℕ) × Bytes xs × (length xs ≤ 255) × (length xs ≡ 17 → ⊥) × (tr ≡ replyTrace xs)))))
@@ -205,6 +206,8 @@ pub record Reached (occupied : Pool) (s : Controller) : Type 0 where
   pub gets : s .gets ≤ 128
 
 pub record Control : Type 0 where
+  -- the starting pool: the reserved and the occupied addresses. A new controller has nothing bound, claimed or outstanding; a start, at any time, makes it so again
+  pub starting-pool : (occupied : Pool) (a : ℕ) → (member (startingPool occupied) a ≡ true) ↔ ((isReserved a ≡ true) ⊎ (member occupied a ≡ true))
   pub new : (occupied : Pool) → (newController occupied .starting ≡ startingPool occupied) × (newController occupied .pool ≡ startingPool occupied)
       × (newController occupied .last ≡ Nothing) × (newController occupied .gets ≡ 0) × ((a : ℕ) → heldAt (newController occupied .slots) a ≡ Open)
   pub start : (s : Controller) → (started s .command ≡ Prepare) × (started s .state .last ≡ Prepare) × (started s .state .gets ≡ 0)
@@ -221,7 +224,6 @@ pub record Control : Type 0 where
   pub claim-stays : (occupied : Pool) (es : List Event) (tr : List ℕ) (a : ℕ) → heldAt (run occupied es .slots) a ≡ Claimed → heldAt (run occupied (Received tr ∷ es) .slots) a ≡ Claimed
 
 -- ---- THE MARKED CASES, whatever binding buffer of at least 2,048 bytes is lent
-
 pub record Marked (b : List ℕ) (room : 2048 ≤ length b) : Type 0 where
   pub m1 : (pecOf [] ≡ 0x00) × (pecOf (0x01 ∷ []) ≡ 0x07) × (pecOf (0x80 ∷ []) ≡ 0x89)
   pub m2 : traceOf Prepare [] ≡ 256 ∷ 194 ∷ 258 ∷ 1 ∷ 258 ∷ 192 ∷ 258 ∷ 257 ∷ []

@@ -3,7 +3,7 @@ use mathlib.Core.Path.{_≡_, refl, sym, ap, _∙_, subst}
 use mathlib.Core.Bool.{Bool, true, false}
 use mathlib.Core.List.{List, [], _∷_, _++_}
 use mathlib.Core.Logic.{_⊎_, inl, inr, _↔_}
-use Prim.Native.Nat.{ℕ, _+_, _*_, _%_, _≤_, _<_}
+use Prim.Native.Nat.{ℕ, _+_, _*_, _/_, _%_, _≤_, _<_}
 use native.Mathlib.Decide.{decLt}
 use native.Mathlib.Nat.{mod-eq-of-lt}
 use native.Mathlib.Omega.{arith}
@@ -12,11 +12,13 @@ use lib.Seq.{take-at}
 use Rattle.lists.specs.Choice.{pick, or}
 use Rattle.lists.specs.ChoiceLaws.{false-not-true}
 use Rattle.lists.specs.Each.{Bytes}
+use Rattle.wire.specs.Addresses.{isReserved}
 use Rattle.wire.specs.declared.address.Address.{Address}
 use Rattle.trace.specs.ShapeLaws.{sane}
 use Rattle.trace.specs.Shapes.{shapeOf}
 use Rattle.trace.specs.Table.{TraceOf}
-use Rattle.trace.specs.TableLaws.{listed-trace, quick-plain}
+use Rattle.trace.specs.Rows.{message}
+use Rattle.trace.specs.TableLaws.{listed-trace, trace-listed, quick-plain}
 use Rattle.trace.specs.Trace.{Message, trace}
 use Rattle.encode.specs.Encode.{encodeNumber, Wrote}
 use Rattle.encode.specs.EncodeLaws.{answer-0, answer-1, answer-2, refusal-untouched}
@@ -32,6 +34,8 @@ use Rattle.step.specs.declared.answer.Decoded.the-variants.{Done}
 use Rattle.decode.specs.NumberLaws as decode
 use Rattle.decode.specs.Outcome.{Outcome}
 use Rattle.pool.specs.Pools.{member}
+use Rattle.pool.specs.Start.{startingPool}
+use Rattle.pool.specs.StartLaws.{member-starting}
 use Rattle.pool.specs.declared.Pool.{Pool}
 use Rattle.udid.specs.Bytes.{udidBytes}
 use Rattle.udid.specs.declared.Udid.{Udid}
@@ -41,8 +45,8 @@ use Rattle.arp.specs.AssignedLaws.{found-acknowledged, claim-stays}
 use Rattle.arp.specs.CommandTraces.{prepareTrace, replyTrace, assignTrace}
 use Rattle.arp.specs.HistoryLaws.{reached-good, new-controller-is-new}
 use Rattle.arp.specs.LookupLaws as arp
-use Rattle.arp.specs.RequestLaws.{prepare-symbols, reply-symbols, assign-symbols-small}
-use Rattle.arp.specs.Requests.{protocolFor, messageOf}
+use Rattle.arp.specs.RequestLaws.{valid-prepare, valid-get, valid-assign, prepare-symbols, reply-symbols, assign-symbols-small}
+use Rattle.arp.specs.Requests.{assignData, protocolFor, messageOf}
 use Rattle.arp.specs.SendingLaws.{refused-exactly, small-address-protocol}
 use Rattle.arp.specs.Sound.{PendingIn}
 use Rattle.arp.specs.SoundLaws.{open-all}
@@ -53,6 +57,12 @@ use Rattle.arp.specs.declared.command.Command.the-variants.{Nothing, Prepare, G
 use Rattle.arp.specs.declared.state.Binding.{Binding}
 use Rattle.arp.specs.declared.state.Binding.the-variants.{Open, Bound, Claimed}
 use Rattle.arp.specs.declared.state.Controller.{Controller}
+use Rattle.targets.specs.ByteCases.{EvenOrFlag, SameAsEarlier, FixedOnTaken}
+use Rattle.targets.specs.ByteCasesLaws.{given-by-bytes}
+use Rattle.targets.specs.Cases.{LengthIsBad, None}
+use Rattle.targets.specs.RefusalLaws.{given-exactly}
+use Rattle.targets.specs.Refusals.{checkedList}
+use Rattle.targets.specs.declared.admit.Checked.the-variants.{Admitted}
 use Rattle.bus.specs.BindingsEndLaws.{given-in-records, given-assignable, given-distinct, given-once, bound-exactly, bytes-of-bound, bytes-of-free, bytes-after-kept}
 use Rattle.rule.specs.EndAnswer.{numberOf, askerOf}
 use Rattle.rule.specs.PassEnd.{lastCommand}
@@ -148,6 +158,11 @@ no-command reply before r after NotOutstanding p g a w = refused-exactly NotOuts
 
 pub commands : (reply before : List ℕ) (r : Encoded) (after : List ℕ) → Commands reply before r after
 commands reply before r after = record {
+  lines = (
+    trace-listed 1 true (messageOf Prepare []) prepareTrace (omega arith) (λ e. absurd (omega (arith, e))) valid-prepare (sym (prepare-symbols [])),
+    λ b k. trace-listed 9 true (messageOf GetUdid reply) (replyTrace reply) (omega arith) (λ e. absurd (omega (arith, e))) (valid-get reply b k) (sym (reply-symbols reply)),
+    assign-line,
+  );
   traces = (prepare-symbols reply, reply-symbols reply, assign-symbols-small);
   prepare = λ w. puts Prepare reply prepareTrace before r after ⊥ w (refused-exactly Prepare reply before r after w) (λ b. prepare-symbols reply);
   get = λ w. puts GetUdid reply (replyTrace reply) before r after (255 < length reply) w (refused-exactly GetUdid reply before r after w) (λ b. reply-symbols reply);
@@ -157,6 +172,14 @@ commands reply before r after = record {
   none = λ k p g a w. puts k reply [] before r after Unit w (no-command reply before r after k p g a w) (λ b. absurd (b tt));
 }
   where
+    assign-line : (u : Udid) (a : ℕ) → a < 128 → TraceOf 8 true (message 0x61 0 0x04 (udidBytes u ++ 2 * a ∷ []) []) (assignTrace (udidBytes u) (2 * a))
+    assign-line u a h =
+        let k : Address = record { 0 = a } in
+        let d : assignData u a ≡ udidBytes u ++ 2 * a ∷ [] = ap (λ (n : ℕ). udidBytes u ++ 2 * n ∷ []) (mod-eq-of-lt h) in
+        subst (λ (l : List ℕ). TraceOf 8 true (message 0x61 0 0x04 l []) (assignTrace (udidBytes u) (2 * a))) d
+        (trace-listed 8 true (messageOf (Assign u k) []) (assignTrace (udidBytes u) (2 * a)) (omega arith) (λ e. absurd (omega (arith, e))) (valid-assign u k)
+        (sym (assign-symbols-small u k h)))
+
     assigned : (u : Udid) (a : Address) → (127 < a .0 → ⊥) → Dec (a .0 < 128) → trace (shapeOf (protocolFor (Assign u a))) true (messageOf (Assign u a) reply) ≡ assignTrace (udidBytes u) (2 * a .0)
     assigned u a b (yes l) = ap (λ (p : ℕ). trace (shapeOf p) true (messageOf (Assign u a) reply)) (small-address-protocol u a l) ∙ assign-symbols-small u a l
     assigned u a b (no l) = absurd (b (omega arith))
@@ -235,10 +258,16 @@ demand-2 protocol pec = record { there = there; back = back; one = one }
 
 -- ---- demand 3
 
+-- a list in none of the cases of 9 to 12 is admitted
+pub admitted : (occupied : Pool) (s : List ℕ) → Bytes s → (LengthIsBad s → ⊥) → None (EvenOrFlag s) (length s / 18) → None (SameAsEarlier s) (length s / 18)
+    → None (FixedOnTaken (startingPool occupied) s) (length s / 18) → checkedList (startingPool occupied) s ≡ Admitted
+admitted occupied s bytes n m k f =
+    sym (given-exactly (startingPool occupied) s Admitted .1 (given-by-bytes (startingPool occupied) s bytes Admitted .1 (n, m, k, f)))
+
 pub demand-3 : (occupied : Pool) (s b : List ℕ) (bytes : Bytes s) (r : ModelAnswer) (s′ b′ : List ℕ) (contract : Leaves (modelEnd occupied s b) r s′ b′)
     → Demand3 occupied s b bytes r s′ b′ contract
 demand-3 occupied s b bytes r s′ b′ l = record {
-  meets = λ n. (let k = bus.run-admitted occupied s b r s′ b′ l n in let long = k .0 in let e = k .1 in record {
+  meets = λ long n m k f. (let e = admitted occupied s bytes n m k f in record {
     answer-0 = λ q. (
       answer-of-rule occupied s b bytes long e r s′ b′ l ∙ ap numberOf q,
       asker-of-rule occupied s b bytes long e r s′ b′ l ∙ ap askerOf q,
@@ -296,8 +325,17 @@ reached occupied es =
       gets = g .0 .gets;
     }
 
+either-true : (x y z : Bool) → x ≡ or y z → (x ≡ true) ↔ ((y ≡ true) ⊎ (z ≡ true))
+either-true x true z e = (λ h. inl refl, λ h. e)
+either-true x false z e = (λ h. inr (sym e ∙ h), back)
+  where
+    back : (false ≡ true) ⊎ (z ≡ true) → x ≡ true
+    back (inl q) = false-not-true q
+    back (inr q) = e ∙ q
+
 pub control : Control
 control = record {
+  starting-pool = λ occupied a. either-true (member (startingPool occupied) a) (isReserved a) (member occupied a) (member-starting occupied a);
   new = λ occupied. (let n = new-controller-is-new occupied in (n .starting, n .pool, n .last, n .gets, n .held));
   start = λ s. (refl, refl, refl, refl, refl, open-all);
   step = λ s tr f. (sentences s tr (f .0), each-number-exactly s tr (f .1) (stepped s tr) (sentences s tr (f .0)));

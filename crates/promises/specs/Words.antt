@@ -46,3 +46,5 @@ pub use Rattle.rule.specs.Reading.{Any, RecordOf, OnePerUdid}
 pub use Rattle.rule.specs.Sent.{getsOnBus}
 pub use Rattle.bus.specs.Run.{noUdid, modelNumber, Leaves, modelEnd}
 pub use Rattle.bus.specs.declared.answer.ModelAnswer.{ModelAnswer}
+-- the marked cases
+pub use Rattle.promises.specs.MarkedWords.{identifier, holding, Shows}
