@@ -91,7 +91,7 @@ sentences s tr size = record {
 
 -- ---- every trace falls under one of the sentences
 
-pub data Case (s : Controller) (tr : List ℕ) : Type 0 where
+data Case (s : Controller) (tr : List ℕ) : Type 0 where
   Accepted : s .last ≡ Prepare → tr ≡ prepareTrace → Case s tr
   Nobody : s .last ≡ Prepare → (b : ℕ) → CutAt 1 true tr b → Case s tr
   Refused : s .last ≡ Prepare → (tr ≡ prepareTrace → ⊥) → ((b : ℕ) → CutAt 1 true tr b → ⊥) → Case s tr
@@ -107,7 +107,7 @@ pub data Case (s : Controller) (tr : List ℕ) : Type 0 where
 abbrev FitsLast : Controller → Type 0
 FitsLast s = (u : Udid) (a : Address) → s .last ≡ Assign u a → Fits u
 
-pub every-case : (s : Controller) (tr : List ℕ) → FitsLast s → Case s tr
+every-case : (s : Controller) (tr : List ℕ) → FitsLast s → Case s tr
 every-case s tr f = go (s .last) refl
   where
     prepare : s .last ≡ Prepare → Dec (tr ≡ prepareTrace) → ((b : ℕ) × Gives 1 tr 6 b) ⊎ ((b : ℕ) → Gives 1 tr 6 b → ⊥) → Case s tr

@@ -26,4 +26,5 @@ pub mod AckedLaws
 pub mod PecPlaceLaws
 pub mod RoomLaws
 pub mod Table
+pub mod Shaped
 pub mod TableLaws

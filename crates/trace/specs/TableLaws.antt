@@ -12,6 +12,7 @@ use Rattle.trace.specs.Covered.{Covered}
 use Rattle.trace.specs.Covered as covered
 use Rattle.trace.specs.CoveredLaws.{rows-cover}
 use Rattle.trace.specs.Rows.{message}
+use Rattle.trace.specs.Shaped.{Shaped}
 use Rattle.trace.specs.Shapes.{shapeOf}
 use Rattle.trace.specs.Table.{Line, line, Row, quick, send-byte, receive-byte, write-byte, write-word, read-byte, read-word, process-call, block-write, block-read, block-process-call, TraceOf}
 use Rattle.trace.specs.Trace.{Message, acked, byTarget, byController, bytes, inPlace, pecOf, traceAt, trace, Valid}
@@ -20,17 +21,9 @@ use Rattle.wire.specs.Pec as Pec
 
 -- ---- a line of the table is a valid message with its symbols
 
-pub record Means (q : List ℕ) (x : Line) : Type 0 where
-  pub known : x .protocol ≤ 10
-  pub plain : x .protocol ≡ 0 → q ≡ []
-  pub valid : Valid (shapeOf (x .protocol)) (x .message)
-  pub covers : x .covered ≡ bytes (shapeOf (x .protocol)) (x .message)
-  pub target : x .byTarget ≡ byTarget (shapeOf (x .protocol)) (x .message) q
-  pub controller : x .byController ≡ byController (shapeOf (x .protocol)) (x .message) q
-
-pub row-means : (q : List ℕ) (x : Line) → Row q x → Means q x
+pub row-means : (q : List ℕ) (x : Line) → Row q x → Shaped q x
 row-means q x (quick a b ha hb hq e) =
-    subst (Means q) (sym e)
+    subst (Shaped q) (sym e)
     (record {
       known = omega arith;
       plain = λ z. hq;
@@ -40,7 +33,7 @@ row-means q x (quick a b ha hb hq e) =
       controller = refl;
     })
 row-means q x (send-byte a d ha hd e) =
-    subst (Means q) (sym e)
+    subst (Shaped q) (sym e)
     (record {
       known = omega arith;
       plain = λ z. absurd (omega (arith, z));
@@ -50,7 +43,7 @@ row-means q x (send-byte a d ha hd e) =
       controller = refl;
     })
 row-means q x (receive-byte a r ha hr e) =
-    subst (Means q) (sym e)
+    subst (Shaped q) (sym e)
     (record {
       known = omega arith;
       plain = λ z. absurd (omega (arith, z));
@@ -60,7 +53,7 @@ row-means q x (receive-byte a r ha hr e) =
       controller = refl;
     })
 row-means q x (write-byte a c d ha hc hd e) =
-    subst (Means q) (sym e)
+    subst (Shaped q) (sym e)
     (record {
       known = omega arith;
       plain = λ z. absurd (omega (arith, z));
@@ -70,7 +63,7 @@ row-means q x (write-byte a c d ha hc hd e) =
       controller = refl;
     })
 row-means q x (write-word a c l h ha hc hl hh e) =
-    subst (Means q) (sym e)
+    subst (Shaped q) (sym e)
     (record {
       known = omega arith;
       plain = λ z. absurd (omega (arith, z));
@@ -80,7 +73,7 @@ row-means q x (write-word a c l h ha hc hl hh e) =
       controller = refl;
     })
 row-means q x (read-byte a c r ha hc hr e) =
-    subst (Means q) (sym e)
+    subst (Shaped q) (sym e)
     (record {
       known = omega arith;
       plain = λ z. absurd (omega (arith, z));
@@ -90,7 +83,7 @@ row-means q x (read-byte a c r ha hc hr e) =
       controller = refl;
     })
 row-means q x (read-word a c l h ha hc hl hh e) =
-    subst (Means q) (sym e)
+    subst (Shaped q) (sym e)
     (record {
       known = omega arith;
       plain = λ z. absurd (omega (arith, z));
@@ -100,7 +93,7 @@ row-means q x (read-word a c l h ha hc hl hh e) =
       controller = refl;
     })
 row-means q x (process-call a c l h m n ha hc hl hh hm hn e) =
-    subst (Means q) (sym e)
+    subst (Shaped q) (sym e)
     (record {
       known = omega arith;
       plain = λ z. absurd (omega (arith, z));
@@ -110,7 +103,7 @@ row-means q x (process-call a c l h m n ha hc hl hh hm hn e) =
       controller = refl;
     })
 row-means q x (block-write a c d ha hc hd hl e) =
-    subst (Means q) (sym e)
+    subst (Shaped q) (sym e)
     (record {
       known = omega arith;
       plain = λ z. absurd (omega (arith, z));
@@ -120,7 +113,7 @@ row-means q x (block-write a c d ha hc hd hl e) =
       controller = refl;
     })
 row-means q x (block-read a c r ha hc hr hl e) =
-    subst (Means q) (sym e)
+    subst (Shaped q) (sym e)
     (record {
       known = omega arith;
       plain = λ z. absurd (omega (arith, z));
@@ -130,7 +123,7 @@ row-means q x (block-read a c r ha hc hr hl e) =
       controller = refl;
     })
 row-means q x (block-process-call a c d r ha hc hd hr hl e) =
-    subst (Means q) (sym e)
+    subst (Shaped q) (sym e)
     (record {
       known = omega arith;
       plain = λ z. absurd (omega (arith, z));
