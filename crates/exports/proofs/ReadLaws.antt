@@ -13,7 +13,8 @@ use Rattle.lists.specs.Onto.{onto}
 use Rattle.step.specs.declared.answer.Decoded.{Decoded}
 use Rattle.decode.specs.Outcome.{Outcome}
 use Rattle.exports.specs.declared.answer.HbDecoded.{HbDecoded}
-use Rattle.exports.specs.Pairs.{symbolsIn, length-symbols, fewer}
+use Rattle.exports.specs.Pairs.{symbolsIn}
+use Rattle.exports.specs.PairLaws.{length-symbols, fewer-symbols-front}
 use Rattle.exports.specs.Codec.{toldDecoded, ReadSymbols}
 use Rattle.exports.proofs.LongTraces.{of-front}
 
@@ -35,7 +36,7 @@ module _ (protocol : ℕ) (pec : Bool) (bytes zeros filled s₀ r₀ : List ℕ)
       go false h o =
           let l : 526 ≤ length bytes / 2 = ltb-false (length bytes / 2) 526 h in
           let t : symbolsIn (pick (ltb (length bytes / 2) 526) (length bytes / 2) 526) bytes ≡ take 526 whole =
-          ap (λ (b : Bool). symbolsIn (pick b (length bytes / 2) 526) bytes) h ∙ sym (fewer 526 (length bytes / 2) bytes l) in
+          ap (λ (b : Bool). symbolsIn (pick b (length bytes / 2) 526) bytes) h ∙ sym (fewer-symbols-front 526 (length bytes / 2) bytes l) in
           of-front protocol pec whole (omega (arith, length-symbols (length bytes / 2) bytes)) s₀ r₀ a s r
           (subst (λ (q : List ℕ). Outcome protocol pec q s₀ r₀ a s r) t o)
 

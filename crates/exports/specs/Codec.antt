@@ -1,6 +1,6 @@
 -- The codec for C: the same answers as numbers; over byte pairs, the room in pairs and the symbols as pairs.
-use mathlib.Core.Path.{_≡_, refl, sym, _∙_}
-use mathlib.Core.Bool.{Bool, true, false}
+use mathlib.Core.Path.{_≡_}
+use mathlib.Core.Bool.{Bool}
 use mathlib.Core.List.{List}
 use Prim.Native.Nat.{ℕ, _/_}
 use lib.ListN.{length}
@@ -11,7 +11,6 @@ use Rattle.encode.specs.declared.Encoded.{Encoded}
 use Rattle.encode.specs.Encode.{encodeNumber, encoded, symbolsOf}
 use Rattle.step.specs.declared.answer.Decoded.{Decoded}
 use Rattle.step.specs.declared.answer.Decoded.the-variants.{Done, Forbidden, BufferTooShort, NoSymbol, EndsEarly, Unexpected, NotAcknowledged, PecDiffers, AfterStop}
-use Rattle.step.specs.Numbers.{decodeNumber}
 use Rattle.decode.specs.Outcome.{Outcome}
 use Rattle.exports.specs.declared.answer.HbDecoded.{HbDecoded}
 use Rattle.exports.specs.declared.codec.HbWritten.{HbWritten}
@@ -27,20 +26,10 @@ pub record WrotePairs (protocol : ℕ) (pec : Bool) (t : Message) (before : List
   pub answer : r ≡ told (encoded protocol pec t (length before / 2))
   pub output : after ≡ onto (pairsOf (symbolsOf (encoded protocol pec t (length before / 2)) (trace (shapeOf protocol) pec t))) before
 
--- one answer and one output alone
-pub one-written : (protocol : ℕ) (pec : Bool) (t : Message) (before : List ℕ) (r r′ : HbWritten) (after after′ : List ℕ) → WrotePairs protocol pec t before r after
-    → WrotePairs protocol pec t before r′ after′ → (r ≡ r′) × (after ≡ after′)
-one-written protocol pec t before r r′ after after′ x y = (x .answer ∙ sym (y .answer), x .output ∙ sym (y .output))
-
 -- the same on symbols as they are
 pub record WroteSymbols (protocol : ℕ) (pec : Bool) (t : Message) (before : List ℕ) (r : HbWritten) (after : List ℕ) : Type 0 where
   pub answer : r ≡ told (encoded protocol pec t (length before))
   pub output : after ≡ onto (symbolsOf (encoded protocol pec t (length before)) (trace (shapeOf protocol) pec t)) before
-
--- one answer and one output alone
-pub one-written-symbols : (protocol : ℕ) (pec : Bool) (t : Message) (before : List ℕ) (r r′ : HbWritten) (after after′ : List ℕ)
-    → WroteSymbols protocol pec t before r after → WroteSymbols protocol pec t before r′ after′ → (r ≡ r′) × (after ≡ after′)
-one-written-symbols protocol pec t before r r′ after after′ x y = (x .answer ∙ sym (y .answer), x .output ∙ sym (y .output))
 
 -- the decoder's answer as numbers
 abbrev pub refusalOf : ℕ → ℕ → HbDecoded
@@ -57,18 +46,6 @@ toldDecoded (Unexpected place) = refusalOf 5 place
 toldDecoded (NotAcknowledged byte) = refusalOf 6 byte
 toldDecoded (PecDiffers place) = refusalOf 7 place
 toldDecoded (AfterStop place) = refusalOf 8 place
-
--- those are the scope's
-pub told-number : (a : Decoded) → (toldDecoded a .answer, toldDecoded a .value) ≡ decodeNumber a
-told-number (Done t) = refl
-told-number Forbidden = refl
-told-number BufferTooShort = refl
-told-number (NoSymbol place) = refl
-told-number (EndsEarly len) = refl
-told-number (Unexpected place) = refl
-told-number (NotAcknowledged byte) = refl
-told-number (PecDiffers place) = refl
-told-number (AfterStop place) = refl
 
 -- a call of the decoder on symbols tr: the answer as numbers of an outcome of decode
 pub record ReadSymbols (protocol : ℕ) (pec : Bool) (tr sent₀ received₀ : List ℕ) (h : HbDecoded) (sent received : List ℕ) : Type 0 where

@@ -1,14 +1,12 @@
 -- Commands of the controller as numbers.
 use Prim.Native.Nat.{ℕ}
-use mathlib.Core.Path.{_≡_, refl}
 use lib.Dec.{eqb}
 use Rattle.lists.specs.Choice.{pick}
 use Rattle.wire.specs.declared.address.Address.{Address}
 use Rattle.udid.specs.declared.Udid.{Udid}
-use Rattle.arp.specs.Numbers.{commandNumber}
 use Rattle.arp.specs.declared.command.Command.{Command}
 use Rattle.arp.specs.declared.command.Command.the-variants.{Nothing, Prepare, GetUdid, Assign, Ended, NoneFree, Abandoned, NotOutstanding}
-use Rattle.bus.specs.Run.{noUdid, numberIn}
+use Rattle.bus.specs.Run.{noUdid}
 use Rattle.exports.specs.declared.commands.HbCommand.{HbCommand}
 use Rattle.exports.specs.Parts.{toldUdid}
 
@@ -28,14 +26,3 @@ toldCommand (NoneFree u) gets = saidOf 4 13 u 0 gets
 toldCommand Abandoned gets = saidOf 5 14 noUdid 0 gets
 toldCommand NotOutstanding gets = saidOf 6 21 noUdid 0 0
 toldCommand Nothing gets = saidOf 7 0 noUdid 0 gets
-
--- the answer is the scope's number, 0 where there is none
-pub number-told : (k : Command) (gets : ℕ) → toldCommand k gets .answer ≡ numberIn (commandNumber k)
-number-told Prepare gets = refl
-number-told GetUdid gets = refl
-number-told (Assign u a) gets = refl
-number-told Ended gets = refl
-number-told (NoneFree u) gets = refl
-number-told Abandoned gets = refl
-number-told NotOutstanding gets = refl
-number-told Nothing gets = refl

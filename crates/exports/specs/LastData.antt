@@ -1,12 +1,11 @@
 -- The last data phase for C: its bytes at the front of a buffer.
 use Prim.Native.Nat.{ℕ}
-use mathlib.Core.Path.{_≡_, sym, _∙_}
+use mathlib.Core.Path.{_≡_}
 use mathlib.Core.List.{List}
 use lib.Dec.{ltb}
 use lib.ListN.{length}
 use Rattle.lists.specs.Choice.{pick}
 use Rattle.lists.specs.Onto.{onto}
-use Rattle.trace.specs.declared.transaction.Transaction.{Transaction}
 use Rattle.last.specs.Last.{lastData}
 use Rattle.exports.specs.declared.last_data.HbPart.{HbPart}
 
@@ -22,8 +21,3 @@ phaseOf protocol m n sent received =
 pub record Copied (bytes before : List ℕ) (r : HbPart) (after : List ℕ) : Type 0 where
   pub answer : r ≡ pick (ltb (length before) (length bytes)) (partOf 2 0) (partOf 0 (length bytes))
   pub output : after ≡ pick (ltb (length before) (length bytes)) before (onto bytes before)
-
--- one answer and one content of the buffer alone
-pub one-copy : (bytes before : List ℕ) (r r′ : HbPart) (after after′ : List ℕ) → Copied bytes before r after → Copied bytes before r′ after′
-    → (r ≡ r′) × (after ≡ after′)
-one-copy bytes before r r′ after after′ x y = (x .answer ∙ sym (y .answer), x .output ∙ sym (y .output))

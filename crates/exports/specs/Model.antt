@@ -1,6 +1,6 @@
 -- The model run for C: the same answer as numbers, and the same bytes in both buffers.
 use Prim.Native.Nat.{ℕ}
-use mathlib.Core.Path.{_≡_, sym, _∙_}
+use mathlib.Core.Path.{_≡_}
 use mathlib.Core.List.{List}
 use Rattle.pool.specs.declared.Pool.{Pool}
 use Rattle.bus.specs.Run.{modelEnd}
@@ -23,9 +23,3 @@ pub record RanModel (occupied : Pool) (records₀ bindings₀ : List ℕ) (h : H
   pub answered : h ≡ toldModel (modelEnd occupied records₀ bindings₀ .answer)
   pub records-hold : records ≡ modelEnd occupied records₀ bindings₀ .records
   pub bindings-hold : bindings ≡ modelEnd occupied records₀ bindings₀ .bindings
-
--- one answer and one content of each buffer alone
-pub one-model : (occupied : Pool) (s b : List ℕ) (h h′ : HbModel) (s₁ s₂ b₁ b₂ : List ℕ) → RanModel occupied s b h s₁ b₁ → RanModel occupied s b h′ s₂ b₂
-    → (h ≡ h′) × (s₁ ≡ s₂) × (b₁ ≡ b₂)
-one-model occupied s b h h′ s₁ s₂ b₁ b₂ x y =
-    (x .answered ∙ sym (y .answered), x .records-hold ∙ sym (y .records-hold), x .bindings-hold ∙ sym (y .bindings-hold))

@@ -17,8 +17,8 @@ use Rattle.encode.specs.Encode.{encoded, symbolsOf}
 use Rattle.encode.specs.Listed.{Listed}
 use Rattle.encode.specs.EncodeLaws.{forbidden-exactly, too-short-exactly, written-exactly}
 use Rattle.exports.specs.declared.codec.HbWritten.{HbWritten}
-use Rattle.exports.specs.Pairs.{pairsOf, length-pairs}
-use Rattle.exports.specs.PairLaws.{pair-at}
+use Rattle.exports.specs.Pairs.{pairsOf}
+use Rattle.exports.specs.PairLaws.{pair-at, length-pairs}
 use Rattle.exports.specs.Codec.{told, WrotePairs, WroteSymbols}
 
 -- the case of each number

@@ -7,7 +7,8 @@ use native.Mathlib.Omega.{arith}
 use lib.ListN.{length, take, length-set}
 use lib.Seq.{take-all}
 use Rattle.lists.specs.Onto.{onto}
-use Rattle.exports.specs.Pairs.{pairsOf, symbolsIn, pairs-turn, symbols-turn}
+use Rattle.exports.specs.Pairs.{pairsOf, symbolsIn}
+use Rattle.exports.specs.PairLaws.{pairs-turn, symbols-turn}
 use Rattle.exports.proofs.codec.get_pairs.Statement.{statement}
 use Rattle.exports.proofs.codec.get_pairs.Tie as tie
 use Rattle.exports.proofs.codec.get_pairs.Reads as reads
