@@ -1,6 +1,5 @@
 // The ARP controller: which command comes next for each trace received, which addresses are bound, and what a command is on the wire.
 // Rests on decode, encode, pool and udid.
-pub mod bindings;
 pub mod choose;
 pub mod command;
 pub mod heard;
@@ -8,5 +7,6 @@ pub mod issue;
 pub mod lookup;
 pub mod next;
 pub mod request;
+pub mod slots;
 pub mod start;
 pub mod state;

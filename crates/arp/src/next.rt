@@ -1,5 +1,5 @@
 // The step: what a received trace says of the command that is outstanding, and what comes next.
-// Rests on decode for the trace, heard for whether it is the command sent, bindings, choose and issue.
+// Rests on decode for the trace, heard for whether it is the command sent, slots, choose and issue.
 ghost use mathlib.Core.Path.{_≡_};
 ghost use Rattle.arp.specs.Controller.{replied, onReply, afterPrepare, afterGet, afterAssign, stepped};
 use super::choose::choose;

@@ -17,40 +17,33 @@ use Rattle.encode.proofs.put_trace.Reads as put-trace-reads
 use Rattle.trace.proofs.length.room_for.Reads as room-for-reads
 use Rattle.trace.proofs.protocol.shape_of.Reads as shape-of-reads
 
--- src/lib.rt:78:9
 room-for-requires : tie.Need-room-for-requires
 room-for-requires c κs = search needs
 
--- src/lib.rt:80:9
 returns : tie.Need-returns
 returns c =
     let a = c .before .before .before .before .before .args in
     let t : Message = message (a .address .0) (a .direction) (a .command) (a .sent .now) (a .received .now) in
     refused-wrote (a .protocol) (a .pec) t (a .out .now) (room-zero (a .protocol) (a .pec) t (sym (c .before .room-for .ensures) ∙ c .if1 .taken))
 
--- src/lib.rt:82:9
 shape-of-requires : tie.Need-shape-of-requires
 shape-of-requires c κs = search needs
 
--- src/lib.rt:83:9
 fields-fit-requires : tie.Need-fields-fit-requires
 fields-fit-requires c κs = search needs
 
--- src/lib.rt:84:9
 returns-2 : tie.Need-returns-2
 returns-2 c =
     let a = c .before .before .before .before .before .before .before .before .args in
     let t : Message = message (a .address .0) (a .direction) (a .command) (a .sent .now) (a .received .now) in
     refused-wrote (a .protocol) (a .pec) t (a .out .now) (fields-refused (a .protocol) (a .pec) t _ _ (c .before .before .before .before .room-for .ensures) (c .before .before .before .if1 .left) (c .before .before .shape-of .ensures) (sym (c .before .fields-fit .ensures) ∙ not-true _ (c .if2 .taken)))
 
--- src/lib.rt:87:9
 returns-3 : tie.Need-returns-3
 returns-3 c =
     let a = c .before .before .before .before .before .before .before .before .before .args in
     let t : Message = message (a .address .0) (a .direction) (a .command) (a .sent .now) (a .received .now) in
     short-wrote (a .protocol) (a .pec) t _ _ (c .before .before .before .before .before .room-for .ensures) (c .before .before .before .before .if1 .left) (c .before .before .before .shape-of .ensures) (sym (c .before .before .fields-fit .ensures) ∙ not-false _ (c .before .if2 .left)) (a .out .now) (c .if3 .taken)
 
--- src/lib.rt:89:5
 put-trace-requires : tie.Need-put-trace-requires
 put-trace-requires c κs =
     let a = c .before .before .before .before .before .before .before .before .before .before .args in
@@ -60,11 +53,9 @@ put-trace-requires c κs =
     let rb = all-bytes (a .received .now) (λ i. c .before .before .before .before .before .before .before .before .shared-slice-known2 .given i .fits) in
     is-ready (a .protocol) (a .pec) t _ _ (c .before .before .before .before .before .before .room-for .ensures) (c .before .before .before .before .before .if1 .left) (c .before .before .before .before .shape-of .ensures) (sym (c .before .before .before .fields-fit .ensures) ∙ not-false _ (c .before .before .if2 .left)) cb sb rb (length (a .out .now)) (c .before .if3 .left)
 
--- src/lib.rt:65:1
 same-length : tie.Need-same-length
 same-length c = search needs
 
--- src/lib.rt:65:1
 returns-4 : tie.Need-returns-4
 returns-4 c =
     let a = c .before .before .before .before .before .before .before .before .before .before .before .before .before .args in

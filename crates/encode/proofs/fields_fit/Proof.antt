@@ -9,28 +9,22 @@ use Rattle.trace.proofs.valid.address_fits.Reads as address-fits-reads
 use Rattle.trace.proofs.valid.command_fits.Reads as command-fits-reads
 use Rattle.trace.proofs.valid.direction_fits.Reads as direction-fits-reads
 
--- src/lib.rt:33:9
 address-fits-requires : tie.Need-address-fits-requires
 address-fits-requires c κs = search needs
 
--- src/lib.rt:34:9
 returns : tie.Need-returns
 returns c = rw (sym (c .before .address-fits .ensures) ∙ not-true _ (c .if1 .taken))
 
--- src/lib.rt:36:9
 direction-fits-requires : tie.Need-direction-fits-requires
 direction-fits-requires c κs = search needs
 
--- src/lib.rt:37:9
 returns-2 : tie.Need-returns-2
 returns-2 c =
     rw (sym (c .before .before .before .address-fits .ensures) ∙ not-false _ (c .before .before .if1 .left), sym (c .before .direction-fits .ensures) ∙ not-true _ (c .if2 .taken))
 
--- src/lib.rt:39:5
 command-fits-requires : tie.Need-command-fits-requires
 command-fits-requires c κs = search needs
 
--- src/lib.rt:30:1
 returns-3 : tie.Need-returns-3
 returns-3 c =
     rw (sym (c .before .before .before .before .address-fits .ensures) ∙ not-false _ (c .before .before .before .if1 .left), sym (c .before .before .direction-fits .ensures) ∙ not-false _ (c .before .if2 .left)) (c .command-fits .ensures)

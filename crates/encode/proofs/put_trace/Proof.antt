@@ -13,62 +13,51 @@ use Rattle.encode.proofs.write.first_byte.Reads as first-byte-reads
 use Rattle.encode.proofs.write.put_write_phase.Reads as put-write-phase-reads
 use Rattle.wire.proofs.address.Address.for_read.Reads as for-read-reads
 
--- src/lib.rt:56:9
 first-byte-requires : tie.Need-first-byte-requires
 first-byte-requires c κs = search needs
 
--- src/lib.rt:57:9
 for-read-requires : tie.Need-for-read-requires
 for-read-requires c κs = search needs
 
--- src/lib.rt:58:9
 code-of-requires : tie.Need-code-of-requires
 code-of-requires c κs = search needs
 
--- src/lib.rt:59:9
 put-write-phase-requires : tie.Need-put-write-phase-requires
 put-write-phase-requires c κs =
     let a = c .before .before .before .before .before .before .before .args in
     let t : Message = message (a .address .0) (a .direction) (a .command) (a .sent .now) (a .received .now) in
     write-asks (a .sh) (a .pec) t (a .out .now) (c .before .before .before .before .before .before .before .pre) _ _ _ (c .before .before .before .first-byte .ensures) (c .before .before .for-read .ensures) (c .before .code-of .ensures)
 
--- src/lib.rt:61:20
 mul-put-rest : tie.Need-mul-put-rest
 mul-put-rest c =
     let a = c .before .before .before .before .before .before .before .before .before .before .args in
     let t : Message = message (a .address .0) (a .direction) (a .command) (a .sent .now) (a .received .now) in
     let h = place-fits (a .sh) (a .pec) t (a .out .now) (c .before .before .before .before .before .before .before .before .before .before .pre) _ _ _ (c .before .before .before .before .before .before .first-byte .ensures) (c .before .before .before .before .before .for-read .ensures) (c .before .before .before .before .code-of .ensures) _ (c .before .before .put-write-phase .last .0) (c .before .before .put-write-phase .ensures .0) (c .before .before .put-write-phase .ensures .1) (c .before .before .put-write-phase .kept .0) in omega arith
 
--- src/lib.rt:61:20
 sub-put-rest : tie.Need-sub-put-rest
 sub-put-rest c =
     let a = c .before .before .before .before .before .before .before .before .before .before .args in
     let t : Message = message (a .address .0) (a .direction) (a .command) (a .sent .now) (a .received .now) in
     let h = place-fits (a .sh) (a .pec) t (a .out .now) (c .before .before .before .before .before .before .before .before .before .before .pre) _ _ _ (c .before .before .before .before .before .before .first-byte .ensures) (c .before .before .before .before .before .for-read .ensures) (c .before .before .before .before .code-of .ensures) _ (c .before .before .put-write-phase .last .0) (c .before .before .put-write-phase .ensures .0) (c .before .before .put-write-phase .ensures .1) (c .before .before .put-write-phase .kept .0) in omega arith
 
--- src/lib.rt:61:20
 part-put-rest-start : tie.Need-part-put-rest-start
 part-put-rest-start c =
     let a = c .before .before .before .before .before .before .before .before .before .before .args in
     let t : Message = message (a .address .0) (a .direction) (a .command) (a .sent .now) (a .received .now) in
     let h = place-fits (a .sh) (a .pec) t (a .out .now) (c .before .before .before .before .before .before .before .before .before .before .pre) _ _ _ (c .before .before .before .before .before .before .first-byte .ensures) (c .before .before .before .before .before .for-read .ensures) (c .before .before .before .before .code-of .ensures) _ (c .before .before .put-write-phase .last .0) (c .before .before .put-write-phase .ensures .0) (c .before .before .put-write-phase .ensures .1) (c .before .before .put-write-phase .kept .0) in omega arith
 
--- src/lib.rt:61:20
 part-put-rest-end : tie.Need-part-put-rest-end
 part-put-rest-end c = search needs
 
--- src/lib.rt:61:5
 put-rest-requires : tie.Need-put-rest-requires
 put-rest-requires c κs =
     let a = c .before .before .before .before .before .before .before .before .before .before .before .args in
     let t : Message = message (a .address .0) (a .direction) (a .command) (a .sent .now) (a .received .now) in
     rest-asks (a .sh) (a .pec) t (a .out .now) (c .before .before .before .before .before .before .before .before .before .before .before .pre) _ _ _ (c .before .before .before .before .before .before .before .first-byte .ensures) (c .before .before .before .before .before .before .for-read .ensures) (c .before .before .before .before .before .code-of .ensures) _ (c .before .before .before .put-write-phase .last .0) (c .before .before .before .put-write-phase .ensures .0) (c .before .before .before .put-write-phase .ensures .1) (c .before .before .before .put-write-phase .kept .0)
 
--- src/lib.rt:43:1
 same-length : tie.Need-same-length
 same-length c = search needs
 
--- src/lib.rt:43:1
 returns : tie.Need-returns
 returns c =
     let a = c .before .before .before .before .before .before .before .before .before .before .before .before .before .before .args in

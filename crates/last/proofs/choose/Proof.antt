@@ -12,27 +12,21 @@ use Rattle.last.proofs.is_whole.Reads as is-whole-reads
 use Rattle.trace.proofs.protocol.shape_of.Reads as shape-of-reads
 use Rattle.trace.proofs.shape.has_read.Reads as has-read-reads
 
--- src/lib.rt:41:9
 is-whole-requires : tie.Need-is-whole-requires
 is-whole-requires c κs = search needs
 
--- src/lib.rt:42:9
 returns : tie.Need-returns
 returns c = (chosen-is (c .before .before .args .t) (c .before .before .args .sent) (c .before .before .args .received) _ false _ refl (sym (c .before .is-whole .ensures) ∙ not-true _ (c .if1 .taken)) refl, search needs)
 
--- src/lib.rt:47:9
 shape-of-requires : tie.Need-shape-of-requires
 shape-of-requires c κs = search needs
 
--- src/lib.rt:48:8
 has-read-requires : tie.Need-has-read-requires
 has-read-requires c κs = search needs
 
--- src/lib.rt:38:1
 returns-2 : tie.Need-returns-2
 returns-2 c = (chosen-is (c .before .before .before .before .before .args .t) (c .before .before .before .before .before .args .sent) (c .before .before .before .before .before .args .received) _ true true (c .before .before .shape-of .ensures) (sym (c .before .before .before .before .is-whole .ensures) ∙ not-false _ (c .before .before .before .if1 .left)) (sym (c .before .has-read .ensures) ∙ c .if2 .taken), belongs-in-buffers (c .before .before .before .before .before .args .t) (c .before .before .before .before .before .args .sent) (c .before .before .before .before .before .args .received) (sym (c .before .before .before .before .is-whole .ensures) ∙ not-false _ (c .before .before .before .if1 .left)) .1)
 
--- src/lib.rt:38:1
 returns-3 : tie.Need-returns-3
 returns-3 c = (chosen-is (c .before .before .before .before .before .args .t) (c .before .before .before .before .before .args .sent) (c .before .before .before .before .before .args .received) _ true false (c .before .before .shape-of .ensures) (sym (c .before .before .before .before .is-whole .ensures) ∙ not-false _ (c .before .before .before .if1 .left)) (sym (c .before .has-read .ensures) ∙ c .if2 .left), belongs-in-buffers (c .before .before .before .before .before .args .t) (c .before .before .before .before .before .args .sent) (c .before .before .before .before .before .args .received) (sym (c .before .before .before .before .is-whole .ensures) ∙ not-false _ (c .before .before .before .if1 .left)) .0)
 

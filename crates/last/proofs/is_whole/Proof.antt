@@ -10,27 +10,21 @@ use Rattle.last.proofs.is_whole.Lts as lts
 use Rattle.trace.proofs.protocol.shape_of.Reads as shape-of-reads
 use Rattle.trace.proofs.valid.lengths_fit.Reads as lengths-fit-reads
 
--- src/lib.rt:25:9
 returns : tie.Need-returns
 returns c = belongs-is (c .before .before .args .t) (c .before .before .args .sent) (c .before .before .args .received) _ false _ _ refl (lt-leb _ _ (c .if1 .taken)) refl refl
 
--- src/lib.rt:27:9
 shape-of-requires : tie.Need-shape-of-requires
 shape-of-requires c κs = search needs
 
--- src/lib.rt:28:9
 lengths-fit-requires : tie.Need-lengths-fit-requires
 lengths-fit-requires c κs = search needs
 
--- src/lib.rt:29:9
 returns-2 : tie.Need-returns-2
 returns-2 c = belongs-is (c .before .before .before .before .before .args .t) (c .before .before .before .before .before .args .sent) (c .before .before .before .before .before .args .received) _ true false _ (c .before .before .shape-of .ensures) (le-leb _ _ (c .before .before .before .if1 .left)) (sym (c .before .lengths-fit .ensures) ∙ not-true _ (c .if2 .taken)) refl
 
--- src/lib.rt:32:9
 returns-3 : tie.Need-returns-3
 returns-3 c = belongs-is (c .before .before .before .before .before .before .args .t) (c .before .before .before .before .before .before .args .sent) (c .before .before .before .before .before .before .args .received) _ true true false (c .before .before .before .shape-of .ensures) (le-leb _ _ (c .before .before .before .before .if1 .left)) (sym (c .before .before .lengths-fit .ensures) ∙ not-false _ (c .before .if2 .left)) (lt-leb _ _ (c .if3 .taken))
 
--- src/lib.rt:19:1
 returns-4 : tie.Need-returns-4
 returns-4 c = belongs-is (c .before .before .before .before .before .before .args .t) (c .before .before .before .before .before .before .args .sent) (c .before .before .before .before .before .before .args .received) _ true true true (c .before .before .before .shape-of .ensures) (le-leb _ _ (c .before .before .before .before .if1 .left)) (sym (c .before .before .lengths-fit .ensures) ∙ not-false _ (c .before .if2 .left)) (le-leb _ _ (c .if3 .left))
 

@@ -10,23 +10,18 @@ use Rattle.last.proofs.last_data.Reads as reads
 use Rattle.last.proofs.last_data.Lts as lts
 use Rattle.last.proofs.choose.Reads as choose-reads
 
--- src/lib.rt:67:9
 choose-requires : tie.Need-choose-requires
 choose-requires c κs = search needs
 
--- src/lib.rt:70:9
 slice-aggregate-result : tie.Need-slice-aggregate-result
 slice-aggregate-result c = sym (length-take-le _ (c .before .before .before .before .before .args .received .now) (fits-part true _ _ (length (c .before .before .before .before .before .args .sent .now)) (length (c .before .before .before .before .before .args .received .now)) (c .before .if1 .taken) (c .before .before .choose .ensures .1)))
 
--- src/lib.rt:72:9
 slice-aggregate-result-2 : tie.Need-slice-aggregate-result-2
 slice-aggregate-result-2 c = sym (length-take-le _ (c .before .before .before .before .before .args .sent .now) (fits-part false _ _ (length (c .before .before .before .before .before .args .sent .now)) (length (c .before .before .before .before .before .args .received .now)) (c .before .if1 .left) (c .before .before .choose .ensures .1)))
 
--- src/lib.rt:63:1
 returns : tie.Need-returns
 returns c = (the-part _ _ true (c .before .before .before .before .before .args .sent .now) (c .before .before .before .before .before .args .received .now) (c .before .before .choose .ensures .0) (c .before .if1 .taken), the-place _ _ true _ _ (c .before .before .choose .ensures .0) (c .before .if1 .taken))
 
--- src/lib.rt:63:1
 returns-2 : tie.Need-returns-2
 returns-2 c = (the-part _ _ false (c .before .before .before .before .before .args .sent .now) (c .before .before .before .before .before .args .received .now) (c .before .before .choose .ensures .0) (c .before .if1 .left), the-place _ _ false _ _ (c .before .before .choose .ensures .0) (c .before .if1 .left))
 

@@ -8,15 +8,12 @@ use Rattle.arbitration.proofs.leave.drop_out.Tie as tie
 use Rattle.arbitration.proofs.leave.drop_out.Reads as reads
 use Rattle.arbitration.proofs.leave.drop_out.Lts as lts
 
--- src/leave.rt:13:9
 add-result : tie.Need-add-result
 add-result c = omega (arith, leading-le 64 (bitXor (c .before .before .before .before .before .args .a .low) (c .before .before .before .before .before .args .b .low)))
 
--- src/leave.rt:9:1
 returns : tie.Need-returns
 returns c = drop-out-in-low-half (c .before .before .before .before .before .args .a) (c .before .before .before .before .before .args .b) (search needs) (search needs) (c .before .before .if1 .taken)
 
--- src/leave.rt:9:1
 returns-2 : tie.Need-returns-2
 returns-2 c = drop-out-in-high-half (c .before .before .before .before .before .args .a) (c .before .before .before .before .before .args .b) (search needs) (search needs) (c .before .before .if1 .left)
 

@@ -9,37 +9,30 @@ use Rattle.arbitration.proofs.win.beats.Lts as lts
 use Rattle.arbitration.proofs.leave.drop_out.Reads as drop-out-reads
 use Rattle.arbitration.proofs.win.is_zero.Reads as is-zero-reads
 
--- src/win.rt:22:9
 drop-out-requires : tie.Need-drop-out-requires
 drop-out-requires c κs = search needs
 
--- src/win.rt:24:9
 returns : tie.Need-returns
 returns c =
     let s = c .before .before .args in
     let e = c .before .drop-out .ensures in
     simp (← e, lt-ltb _ _ (c .if1 .taken)) at (drop-out-test-below (s .a) (s .b) (record { high = search needs; low = search needs }) (record { high = search needs; low = search needs }))
 
--- src/win.rt:27:25
 sub-is-zero : tie.Need-sub-is-zero
 sub-is-zero c = search needs
 
--- src/win.rt:27:9
 is-zero-requires : tie.Need-is-zero-requires
 is-zero-requires c κs = search needs
 
--- src/win.rt:29:9
 is-zero-requires-2 : tie.Need-is-zero-requires-2
 is-zero-requires-2 c κs = search needs
 
--- src/win.rt:19:1
 returns-2 : tie.Need-returns-2
 returns-2 c =
     let s = c .before .before .before .before .args in
     let e = c .before .before .before .drop-out .ensures in
     c .is-zero .ensures ∙ (simp (← e, le-ltb _ _ (c .before .before .if1 .left), lt-ltb _ _ (c .before .if2 .taken)) at (drop-out-test-below (s .a) (s .b) (record { high = search needs; low = search needs }) (record { high = search needs; low = search needs })))
 
--- src/win.rt:19:1
 returns-3 : tie.Need-returns-3
 returns-3 c =
     let s = c .before .before .before .before .args in

@@ -10,11 +10,9 @@ use Rattle.arbitration.proofs.win.is_zero.Tie as tie
 use Rattle.arbitration.proofs.win.is_zero.Reads as reads
 use Rattle.arbitration.proofs.win.is_zero.Lts as lts
 
--- src/win.rt:15:6
 shr-result : tie.Need-shr-result
 shr-result c = search needs
 
--- src/win.rt:11:1
 zero-digit : (x : ℕ) → x < 2 → eqb x 0 ≡ not (eqb x 1)
 zero-digit zero h = refl
 zero-digit (suc zero) h = refl

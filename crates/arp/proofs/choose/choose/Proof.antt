@@ -38,40 +38,31 @@ module _ (p : Pool) (u : Udid) (b : ℕ) (a : Address) (own : a .0 ≡ b / 2) (g
   unfolding chosen
   untaken e h = let m : member p (b / 2) ≡ false = ap (member p) (sym own) ∙ h in rw (ne-eqb b 255 given, e, m) its-own
 
--- src/choose.rt:16:9
 lowest-free-requires : tie.Need-lowest-free-requires
 lowest-free-requires c κs = search needs
 
--- src/choose.rt:16:9
 returns : tie.Need-returns
 unfolding chosen
 returns c = simp (eq-eqb _ _ (c .before .if1 .taken)) (c .lowest-free .ensures)
 
--- src/choose.rt:18:9
 from-wire-requires : tie.Need-from-wire-requires
 from-wire-requires c κs = search needs
 
--- src/choose.rt:19:8
 is-fixed-requires : tie.Need-is-fixed-requires
 is-fixed-requires c κs = search needs
 
--- src/choose.rt:20:9
 returns-2 : tie.Need-returns-2
 returns-2 c = let s = c .before .before .before .before .args in fixed (s .pool) (s .u) (s .b) _ (c .before .before .from-wire .ensures) (c .before .before .before .if1 .left) (sym (c .before .is-fixed .ensures) ∙ c .if2 .taken)
 
--- src/choose.rt:22:8
 has-requires : tie.Need-has-requires
 has-requires c κs = search needs
 
--- src/choose.rt:23:9
 lowest-free-requires-2 : tie.Need-lowest-free-requires-2
 lowest-free-requires-2 c κs = search needs
 
--- src/choose.rt:23:9
 returns-3 : tie.Need-returns-3
 returns-3 c = let s = c .before .before .before .before .before .before .before .args in taken (s .pool) (s .u) (s .b) (c .before .before .before .before .before .from-wire .result) (c .before .before .before .before .before .from-wire .ensures) (c .before .before .before .before .before .before .if1 .left) _ (c .lowest-free2 .ensures) (sym (c .before .before .before .before .is-fixed .ensures) ∙ c .before .before .before .if2 .left) (sym (c .before .before .has .ensures) ∙ c .before .if3 .taken)
 
--- src/choose.rt:12:1
 returns-4 : tie.Need-returns-4
 returns-4 c = let s = c .before .before .before .before .before .before .args in untaken (s .pool) (s .u) (s .b) (c .before .before .before .before .from-wire .result) (c .before .before .before .before .from-wire .ensures) (c .before .before .before .before .before .if1 .left) (sym (c .before .before .before .is-fixed .ensures) ∙ c .before .before .if2 .left) (sym (c .before .has .ensures) ∙ c .if3 .left)
 

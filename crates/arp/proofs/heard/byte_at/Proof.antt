@@ -8,15 +8,12 @@ use Rattle.arp.proofs.heard.byte_at.Tie as tie
 use Rattle.arp.proofs.heard.byte_at.Reads as reads
 use Rattle.arp.proofs.heard.byte_at.Lts as lts
 
--- src/heard.rt:14:22
 shared-slice-read-result : tie.Need-shared-slice-read-result
 shared-slice-read-result c = search needs
 
--- src/heard.rt:11:1
 returns : tie.Need-returns
 returns c = search needs
 
--- src/heard.rt:11:1
 returns-2 : tie.Need-returns-2
 returns-2 c = sym (List·getD-eq-default (now (c .before .args .s)) 0 (omega arith))
 

@@ -8,23 +8,18 @@ use Rattle.arp.proofs.heard.is_assign.Lts as lts
 use Rattle.arp.proofs.heard.is_command.Reads as is-command-reads
 use Rattle.arp.proofs.heard.names_both.Reads as names-both-reads
 
--- src/heard.rt:58:9
 is-command-requires : tie.Need-is-command-requires
 is-command-requires c κs = search needs
 
--- src/heard.rt:59:9
 returns : tie.Need-returns
 returns c = let e = sym (c .before .is-command .ensures) ∙ not-true _ (c .if1 .taken) in simp e
 
--- src/heard.rt:62:9
 names-both-requires : tie.Need-names-both-requires
 names-both-requires c κs = search needs
 
--- src/heard.rt:55:1
 returns-2 : tie.Need-returns-2
 returns-2 c = let e = sym (c .before .before .before .before .is-command .ensures) ∙ not-false _ (c .before .before .before .if1 .left) in simp (e, eq-eqb _ _ (c .before .if2 .taken)) (c .names-both .ensures)
 
--- src/heard.rt:55:1
 returns-3 : tie.Need-returns-3
 returns-3 c = let e = sym (c .before .before .before .is-command .ensures) ∙ not-false _ (c .before .before .if1 .left) in simp (e, ne-eqb _ _ (c .if2 .left))
 

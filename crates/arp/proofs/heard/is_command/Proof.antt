@@ -6,15 +6,12 @@ use Rattle.arp.proofs.heard.is_command.Reads as reads
 use Rattle.arp.proofs.heard.is_command.Lts as lts
 use Rattle.wire.proofs.address.Address.is_default.Reads as is-default-reads
 
--- src/heard.rt:22:8
 is-default-requires : tie.Need-is-default-requires
 is-default-requires c κs = search needs
 
--- src/heard.rt:18:1
 returns : tie.Need-returns
 returns c = let e = sym (c .before .before .is-default .ensures) ∙ c .before .if1 .taken in simp e
 
--- src/heard.rt:18:1
 returns-2 : tie.Need-returns-2
 returns-2 c = let e = sym (c .before .is-default .ensures) ∙ c .if1 .left in simp e
 

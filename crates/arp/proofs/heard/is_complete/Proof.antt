@@ -10,19 +10,15 @@ use Rattle.arp.proofs.heard.is_complete.Reads as reads
 use Rattle.arp.proofs.heard.is_complete.Lts as lts
 use Rattle.arp.proofs.heard.is_assign.Reads as is-assign-reads
 
--- src/heard.rt:72:23
 enum-known-answer : tie.Need-enum-known-answer
 enum-known-answer c = search needs
 
--- src/heard.rt:73:9
 returns : tie.Need-returns
 returns c = sym (not-done-is-incomplete (c .before .before .args .u) (c .before .before .args .a .0) (c .before .before .args .answer) (now (c .before .before .args .sent)) (c .match .keys2))
 
--- src/heard.rt:75:5
 is-assign-requires : tie.Need-is-assign-requires
 is-assign-requires c κs = search needs
 
--- src/heard.rt:69:1
 returns-2 : tie.Need-returns-2
 returns-2 c = c .is-assign .ensures ∙ sym (ap (λ (x : Decoded). completes (c .before .before .before .before .before .args .u) (c .before .before .before .before .before .args .a .0) x (now (c .before .before .before .before .before .args .sent))) (c .before .before .answer .given .1))
 

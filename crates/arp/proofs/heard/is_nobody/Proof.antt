@@ -7,15 +7,12 @@ use Rattle.arp.proofs.heard.is_nobody.Tie as tie
 use Rattle.arp.proofs.heard.is_nobody.Reads as reads
 use Rattle.arp.proofs.heard.is_nobody.Lts as lts
 
--- src/heard.rt:72:37
 enum-known-a : tie.Need-enum-known-a
 enum-known-a c = search needs
 
--- src/heard.rt:69:1
 returns : tie.Need-returns
 returns c = sym (ap nobody (c .before .a .given .1))
 
--- src/heard.rt:69:1
 returns-2 : tie.Need-returns-2
 returns-2 c = sym (other-answers-are-somebody (c .before .args .a) (c .match .keys2))
 

@@ -7,19 +7,15 @@ use Rattle.arp.proofs.heard.is_prepare.Lts as lts
 use Rattle.arp.proofs.heard.byte_at.Reads as byte-at-reads
 use Rattle.wire.proofs.address.Address.is_default.Reads as is-default-reads
 
--- src/heard.rt:34:8
 is-default-requires : tie.Need-is-default-requires
 is-default-requires c κs = search needs
 
--- src/heard.rt:35:9
 byte-at-requires : tie.Need-byte-at-requires
 byte-at-requires c κs = search needs
 
--- src/heard.rt:30:1
 returns : tie.Need-returns
 returns c = let e = sym (c .before .before .is-default .ensures) ∙ c .before .if1 .taken in simp (e, c .byte-at .ensures)
 
--- src/heard.rt:30:1
 returns-2 : tie.Need-returns-2
 returns-2 c = let e = sym (c .before .is-default .ensures) ∙ c .if1 .left in simp e
 

@@ -14,30 +14,24 @@ use Rattle.udid.proofs.Udid.from_bytes.Reads as from-bytes-reads
 use Rattle.udid.proofs.Udid.is_same.Reads as is-same-reads
 use Rattle.wire.proofs.address.Address.for_write.Reads as for-write-reads
 
--- src/heard.rt:45:9
 from-bytes-requires : tie.Need-from-bytes-requires
 from-bytes-requires c κs = search needs
 
--- src/heard.rt:46:8
 is-same-requires : tie.Need-is-same-requires
 is-same-requires c κs = search needs
 
--- src/heard.rt:47:13
 for-write-requires : tie.Need-for-write-requires
 for-write-requires c κs = search needs
 
--- src/heard.rt:48:9
 byte-at-requires : tie.Need-byte-at-requires
 byte-at-requires c κs = search needs
 
--- src/heard.rt:42:1
 returns : tie.Need-returns
 returns c =
     let s = c .before .before .before .before .before .before .before .args in
     let e : sameUdid (udidAt (now (s .sent)) 0) (s .u) ≡ true = ap (λ (x : Udid). sameUdid x (s .u)) (sym (c .before .before .before .before .before .from-bytes .ensures)) ∙ sym (c .before .before .before .before .is-same .ensures) ∙ c .before .before .before .if1 .taken in
     simp (e, c .before .byte-at .ensures, c .before .before .for-write .ensures)
 
--- src/heard.rt:42:1
 returns-2 : tie.Need-returns-2
 returns-2 c =
     let s = c .before .before .before .before .args in

@@ -11,23 +11,18 @@ use Rattle.arp.proofs.request.assign_data.Lts as lts
 use Rattle.udid.proofs.Udid.put_bytes.Reads as put-bytes-reads
 use Rattle.wire.proofs.address.Address.for_write.Reads as for-write-reads
 
--- src/request.rt:18:17
 slice-aggregate-put-bytes : tie.Need-slice-aggregate-put-bytes
 slice-aggregate-put-bytes c = search needs
 
--- src/request.rt:18:5
 put-bytes-requires : tie.Need-put-bytes-requires
 put-bytes-requires c κs = search needs
 
--- src/request.rt:19:9
 for-write-requires : tie.Need-for-write-requires
 for-write-requires c κs = search needs
 
--- src/request.rt:20:5
 array-write-data : tie.Need-array-write-data
 array-write-data c = search needs
 
--- src/request.rt:14:1
 returns : tie.Need-returns
 returns c = let s = c .before .before .before .before .args in udid-and-byte-written (s .u) _ _ (c .before .before .put-bytes .ensures) ∙ ap (λ (w : ℕ). udidBytes (s .u) ++ (w ∷ [])) (c .for-write .ensures)
 

@@ -9,35 +9,27 @@ use Rattle.arp.proofs.request.put_assign.Lts as lts
 use Rattle.arp.proofs.request.assign_data.Reads as assign-data-reads
 use Rattle.encode.proofs.encode.Reads as encode-reads
 
--- src/request.rt:41:16
 assign-data-requires : tie.Need-assign-data-requires
 assign-data-requires c κs = search needs
 
--- src/request.rt:43:45
 slice-aggregate-encode : tie.Need-slice-aggregate-encode
 slice-aggregate-encode c = search needs
 
--- src/request.rt:43:52
 array-share-prefix-none : tie.Need-array-share-prefix-none
 array-share-prefix-none c = search needs
 
--- src/request.rt:43:52
 slice-aggregate-encode-2 : tie.Need-slice-aggregate-encode-2
 slice-aggregate-encode-2 c = search needs
 
--- src/request.rt:43:5
 encode-requires : tie.Need-encode-requires
 encode-requires c κs = search needs
 
--- src/request.rt:38:1
 same-length : tie.Need-same-length
 same-length c = search needs
 
--- src/request.rt:38:1
 returns : tie.Need-returns
 returns c = no-address-refused _ _ _ (omega (arith, c .if1 .taken))
 
--- src/request.rt:38:1
 returns-2 : tie.Need-returns-2
 returns-2 c = let s = c .before .before .before .before .before .before .before .before .before .before .args in assign-data-written (s .u) (s .a) _ (now (s .out)) (c .before .before .encode .result) _ (omega (arith, c .before .before .before .before .before .before .before .if1 .left)) (c .before .before .before .before .before .before .assign-data .ensures) (c .before .before .encode .ensures)
 

@@ -10,55 +10,42 @@ use Rattle.arp.proofs.request.put_assign.Reads as put-assign-reads
 use Rattle.arp.proofs.request.put_get.Reads as put-get-reads
 use Rattle.arp.proofs.request.put_prepare.Reads as put-prepare-reads
 
--- src/request.rt:52:41
 enum-told : tie.Need-enum-told
 enum-told c = search needs
 
--- src/request.rt:52:29
 put-prepare-requires : tie.Need-put-prepare-requires
 put-prepare-requires c κs = search needs
 
--- src/request.rt:53:44
 enum-told-2 : tie.Need-enum-told-2
 enum-told-2 c = search needs
 
--- src/request.rt:53:29
 put-get-requires : tie.Need-put-get-requires
 put-get-requires c κs = search needs
 
--- src/request.rt:54:25
 enum-known-k : tie.Need-enum-known-k
 enum-known-k c = search needs
 
--- src/request.rt:54:34
 put-assign-requires : tie.Need-put-assign-requires
 put-assign-requires c κs = search needs
 
--- src/request.rt:48:1
 same-length : tie.Need-same-length
 same-length c = search needs
 
--- src/request.rt:48:1
 returns : tie.Need-returns
 returns c = let s = c .before .before .before .before .before .before .before .before .args in wrote-same-command (s .k) Prepare (now (s .reply)) _ _ _ (c .before .before .before .before .enum-told .given .1) (c .before .before .put-prepare .ensures)
 
--- src/request.rt:48:1
 same-length-2 : tie.Need-same-length-2
 same-length-2 c = search needs
 
--- src/request.rt:48:1
 returns-2 : tie.Need-returns-2
 returns-2 c = let s = c .before .before .before .before .before .before .before .before .args in wrote-same-command (s .k) GetUdid (now (s .reply)) _ _ _ (c .before .before .before .before .enum-told2 .given .1) (c .before .before .put-get .ensures)
 
--- src/request.rt:48:1
 same-length-3 : tie.Need-same-length-3
 same-length-3 c = search needs
 
--- src/request.rt:48:1
 returns-3 : tie.Need-returns-3
 returns-3 c = let s = c .before .before .before .before .before .before .before .before .before .args in wrote-same-command (s .k) _ (now (s .reply)) _ _ _ (c .before .before .before .before .before .k .given .1) (c .before .before .put-assign .ensures)
 
--- src/request.rt:48:1
 returns-4 : tie.Need-returns-4
 returns-4 c = let s = c .before .before .before .args in no-command-refused (s .k) (now (s .reply)) (now (s .out)) (c .match .keys4)
 

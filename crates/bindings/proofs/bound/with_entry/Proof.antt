@@ -6,19 +6,15 @@ use Rattle.bindings.proofs.bound.with_entry.Lts as lts
 use Rattle.bindings.proofs.entry.Entry.is_bound.Reads as is-bound-reads
 use Rattle.pool.proofs.Pool.with.Reads as with-reads
 
--- src/bound.rt:12:8
 is-bound-requires : tie.Need-is-bound-requires
 is-bound-requires c κs = search needs
 
--- src/bound.rt:12:23
 with-requires : tie.Need-with-requires
 with-requires c κs = search needs
 
--- src/bound.rt:9:1
 returns : tie.Need-returns
 returns c = simp (← c .before .before .is-bound .ensures, c .before .if1 .taken, c .with .ensures)
 
--- src/bound.rt:9:1
 returns-2 : tie.Need-returns-2
 returns-2 c = simp (← c .before .is-bound .ensures, c .if1 .left)
 

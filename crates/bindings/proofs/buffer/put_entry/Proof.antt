@@ -11,31 +11,24 @@ use Rattle.bindings.proofs.buffer.put_entry.Lts as lts
 use Rattle.bindings.proofs.entry.Entry.udid.Reads as udid-reads
 use Rattle.udid.proofs.Udid.put_bytes.Reads as put-bytes-reads
 
--- src/buffer.rt:14:9
 returns : tie.Need-returns
 returns c = let s = c .before .before .before .args in sym (put-above (s .out .now) (s .a .0) (s .e) (c .if1 .taken))
 
--- src/buffer.rt:16:9
 udid-requires : tie.Need-udid-requires
 udid-requires c κs = search needs
 
--- src/buffer.rt:17:13
 cast-n : tie.Need-cast-n
 cast-n c = search needs
 
--- src/buffer.rt:18:31
 mul-put-bytes : tie.Need-mul-put-bytes
 mul-put-bytes c = search needs
 
--- src/buffer.rt:18:5
 put-bytes-requires : tie.Need-put-bytes-requires
 put-bytes-requires c κs = search needs
 
--- src/buffer.rt:10:1
 same-length : tie.Need-same-length
 same-length c = search needs
 
--- src/buffer.rt:10:1
 returns-2 : tie.Need-returns-2
 returns-2 c = let s = c .before .before .before .before .before .before .before .before .before .args in
     c .before .before .put-bytes .ensures

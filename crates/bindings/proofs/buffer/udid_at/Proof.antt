@@ -7,23 +7,18 @@ use Rattle.bindings.proofs.buffer.udid_at.Reads as reads
 use Rattle.bindings.proofs.buffer.udid_at.Lts as lts
 use Rattle.udid.proofs.Udid.from_bytes.Reads as from-bytes-reads
 
--- src/buffer.rt:26:9
 returns : tie.Need-returns
 returns c = sym (read-above _ _ (c .if1 .taken))
 
--- src/buffer.rt:28:13
 cast-n : tie.Need-cast-n
 cast-n c = search needs
 
--- src/buffer.rt:29:30
 mul-from-bytes : tie.Need-mul-from-bytes
 mul-from-bytes c = search needs
 
--- src/buffer.rt:29:5
 from-bytes-requires : tie.Need-from-bytes-requires
 from-bytes-requires c κs = search needs
 
--- src/buffer.rt:22:1
 returns-2 : tie.Need-returns-2
 returns-2 c = let s = c .before .before .before .before .before .args in c .from-bytes .ensures ∙ sym (read-below (s .buffer .now) (s .a .0) (c .before .before .if1 .left))
 

@@ -15,39 +15,30 @@ use Rattle.bus.proofs.act.act.Lts as lts
 use Rattle.targets.proofs.assign.assign.Reads as assign-reads
 use Rattle.targets.proofs.prepare.prepare.Reads as prepare-reads
 
--- src/act.rt:14:46
 enum-told : tie.Need-enum-told
 enum-told c = search needs
 
--- src/act.rt:14:29
 prepare-requires : tie.Need-prepare-requires
 prepare-requires c κs = search needs
 
--- src/act.rt:15:25
 enum-known-k : tie.Need-enum-known-k
 enum-known-k c = search needs
 
--- src/act.rt:15:34
 assign-requires : tie.Need-assign-requires
 assign-requires c κs = search needs
 
--- src/act.rt:10:1
 same-length : tie.Need-same-length
 same-length c = search needs
 
--- src/act.rt:10:1
 returns : tie.Need-returns
 returns c = c .before .before .prepare .ensures ∙ ap (λ (k : Command). recordsWith (acted k (targetsOf (now (c .before .before .before .before .before .before .before .args .records)))) (now (c .before .before .before .before .before .before .before .args .records))) (sym (c .before .before .before .before .enum-told .given .1))
 
--- src/act.rt:10:1
 same-length-2 : tie.Need-same-length-2
 same-length-2 c = search needs
 
--- src/act.rt:10:1
 returns-2 : tie.Need-returns-2
 returns-2 c = let s = c .before .before .before .before .before .before .before .before .args in c .before .before .assign .ensures ∙ assign-acted (s .k) _ _ (c .before .before .before .before .before .k .given .1) (now (s .records)) (c .before .before .before .before .before .before .before .before .pre)
 
--- src/act.rt:10:1
 returns-3 : tie.Need-returns-3
 returns-3 c = own-targets-stored (now (c .before .before .args .records)) ∙ ap (λ (ts : List Target). recordsWith ts (now (c .before .before .args .records))) (sym (not-acting-leaves (c .before .before .args .k) (c .match .keys3) (targetsOf (now (c .before .before .args .records)))))
 

@@ -8,67 +8,51 @@ use Rattle.bus.proofs.answer.asked_by.Tie as tie
 use Rattle.bus.proofs.answer.asked_by.Reads as reads
 use Rattle.bus.proofs.answer.asked_by.Lts as lts
 
--- src/answer.rt:58:29
 enum-told : tie.Need-enum-told
 enum-told c = search needs
 
--- src/answer.rt:59:29
 enum-told-2 : tie.Need-enum-told-2
 enum-told-2 c = search needs
 
--- src/answer.rt:60:29
 enum-told-3 : tie.Need-enum-told-3
 enum-told-3 c = search needs
 
--- src/answer.rt:61:34
 enum-told-4 : tie.Need-enum-told-4
 enum-told-4 c = search needs
 
--- src/answer.rt:62:27
 enum-told-5 : tie.Need-enum-told-5
 enum-told-5 c = search needs
 
--- src/answer.rt:63:27
 enum-known-k : tie.Need-enum-known-k
 enum-known-k c = search needs
 
--- src/answer.rt:64:31
 enum-told-6 : tie.Need-enum-told-6
 enum-told-6 c = search needs
 
--- src/answer.rt:65:36
 enum-told-7 : tie.Need-enum-told-7
 enum-told-7 c = search needs
 
--- src/answer.rt:54:1
 returns : tie.Need-returns
 returns c = sym (ap (λ (k : Command). udidIn (commandNumber k)) (c .enum-told .given .1))
 
--- src/answer.rt:54:1
 returns-2 : tie.Need-returns-2
 returns-2 c = sym (ap (λ (k : Command). udidIn (commandNumber k)) (c .enum-told2 .given .1))
 
--- src/answer.rt:54:1
 returns-3 : tie.Need-returns-3
 returns-3 c = sym (ap (λ (k : Command). udidIn (commandNumber k)) (c .enum-told3 .given .1))
 
--- src/answer.rt:54:1
 returns-4 : tie.Need-returns-4
 returns-4 c = sym (ap (λ (k : Command). udidIn (commandNumber k)) (c .enum-told4 .given .1))
 
--- src/answer.rt:54:1
 returns-5 : tie.Need-returns-5
 returns-5 c = sym (ap (λ (k : Command). udidIn (commandNumber k)) (c .enum-told5 .given .1))
 
--- src/answer.rt:54:1
 returns-6 : tie.Need-returns-6
 returns-6 c = search needs
 
--- src/answer.rt:54:1
 returns-7 : tie.Need-returns-7
 returns-7 c = sym (ap (λ (k : Command). udidIn (commandNumber k)) (c .enum-told6 .given .1))
 
--- src/answer.rt:54:1
 returns-8 : tie.Need-returns-8
 returns-8 c = sym (ap (λ (k : Command). udidIn (commandNumber k)) (c .enum-told7 .given .1))
 

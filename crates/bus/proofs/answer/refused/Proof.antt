@@ -8,11 +8,9 @@ use Rattle.bus.proofs.answer.refused.Reads as reads
 use Rattle.bus.proofs.answer.refused.Lts as lts
 use Rattle.pool.proofs.Pool.empty.Reads as empty-reads
 
--- src/answer.rt:33:16
 empty-requires : tie.Need-empty-requires
 empty-requires c κs = search needs
 
--- src/answer.rt:26:1
 returns : tie.Need-returns
 returns c = ap (λ (p : Pool). record { answer = c .before .args .n; place = c .before .args .i; udid = noUdid; bound = p; count = 0; gets = 0 }) (c .empty .ensures)
 

@@ -11,27 +11,21 @@ use Rattle.bus.proofs.answer.number_of.Reads as number-of-reads
 use Rattle.bus.proofs.bindings_of.bound_set.Reads as bound-set-reads
 use Rattle.pool.proofs.Pool.used.Reads as used-reads
 
--- src/answer.rt:84:9
 bound-set-requires : tie.Need-bound-set-requires
 bound-set-requires c κs = search needs
 
--- src/answer.rt:86:17
 number-of-requires : tie.Need-number-of-requires
 number-of-requires c κs = search needs
 
--- src/answer.rt:88:15
 asked-by-requires : tie.Need-asked-by-requires
 asked-by-requires c κs = search needs
 
--- src/answer.rt:90:16
 used-requires : tie.Need-used-requires
 used-requires c κs = search needs
 
--- src/answer.rt:91:15
 gets-sent-requires : tie.Need-gets-sent-requires
 gets-sent-requires c κs = search needs
 
--- src/answer.rt:78:1
 returns : tie.Need-returns
 returns c = λ j. record { answer = c .before .before .before .number-of .ensures j; place = 0; udid = c .before .before .asked-by .ensures j; bound = c .before .before .before .before .bound-set .ensures j; count = (c .before .used .ensures ∙ ap used (c .before .before .before .before .bound-set .ensures)) j; gets = c .gets-sent .ensures j }
 

@@ -27,43 +27,33 @@ Inv-loop slots bound₀ n₀ bound n = (n ≤ 128) × (boundFrom (entryAt slots)
 abbrev μ-loop : tie.MeasureT-loop
 μ-loop slots bound₀ n₀ bound n = 128 - n
 
--- src/bindings_of.rt:46:9
 empty-requires : tie.Need-empty-requires Inv-loop μ-loop
 empty-requires c κs = search needs
 
--- src/bindings_of.rt:48:5
 loop-holds : tie.Need-loop-holds Inv-loop μ-loop
 loop-holds c = (omega arith, refl)
 
--- src/bindings_of.rt:49:23
 cast-s : tie.Need-cast-s Inv-loop μ-loop
 cast-s c = omega arith
 
--- src/bindings_of.rt:49:17
 mul-s : tie.Need-mul-s Inv-loop μ-loop
 mul-s c = omega arith
 
--- src/bindings_of.rt:49:17
 array-copy-out-s : tie.Need-array-copy-out-s Inv-loop μ-loop
 array-copy-out-s c = omega arith
 
--- src/bindings_of.rt:50:47
 entry-of-requires : tie.Need-entry-of-requires Inv-loop μ-loop
 entry-of-requires c κs = search needs
 
--- src/bindings_of.rt:50:9
 with-entry-requires : tie.Need-with-entry-requires Inv-loop μ-loop
 with-entry-requires c κs = search needs
 
--- src/bindings_of.rt:51:9
 add-n : tie.Need-add-n Inv-loop μ-loop
 add-n c = omega arith
 
--- src/bindings_of.rt:48:5
 loop-less : tie.Need-loop-less Inv-loop μ-loop
 loop-less c = omega arith
 
--- src/bindings_of.rt:48:5
 loop-again : tie.Need-loop-again Inv-loop μ-loop
 loop-again c =
     let l = c .before .before .before .before .loop in
@@ -75,7 +65,6 @@ loop-again c =
           ∙ ap (boundFrom held (128 - (l .n + 1)) (l .n + 1)) (sym (c .with-entry .ensures)),
     )
 
--- src/bindings_of.rt:43:1
 returns : tie.Need-returns Inv-loop μ-loop
 unfolding boundFrom
 returns c =

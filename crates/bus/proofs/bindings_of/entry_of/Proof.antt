@@ -6,27 +6,21 @@ use Rattle.bus.proofs.bindings_of.entry_of.Tie as tie
 use Rattle.bus.proofs.bindings_of.entry_of.Reads as reads
 use Rattle.bus.proofs.bindings_of.entry_of.Lts as lts
 
--- src/bindings_of.rt:22:26
 enum-told : tie.Need-enum-told
 enum-told c = search needs
 
--- src/bindings_of.rt:23:24
 enum-known-held : tie.Need-enum-known-held
 enum-known-held c = search needs
 
--- src/bindings_of.rt:24:29
 enum-told-2 : tie.Need-enum-told-2
 enum-told-2 c = search needs
 
--- src/bindings_of.rt:17:1
 returns : tie.Need-returns
 returns c = search needs
 
--- src/bindings_of.rt:17:1
 returns-2 : tie.Need-returns-2
 returns-2 c = sym (ap entryOf (c .before .held .given .1))
 
--- src/bindings_of.rt:17:1
 returns-3 : tie.Need-returns-3
 returns-3 c = search needs
 

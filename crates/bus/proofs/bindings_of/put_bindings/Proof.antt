@@ -22,39 +22,30 @@ Inv-loop out₀ slots a₀ out a = (a ≤ 128) × (length out ≡ length out₀)
 abbrev μ-loop : tie.MeasureT-loop
 μ-loop out₀ slots a₀ out a = 128 - a
 
--- src/bindings_of.rt:34:5
 loop-holds : tie.Need-loop-holds Inv-loop μ-loop
 loop-holds c = (omega arith, refl, rows-none (entryAt (c .before .args .t2)) (now (c .before .args .out)))
 
--- src/bindings_of.rt:35:23
 cast-s : tie.Need-cast-s Inv-loop μ-loop
 cast-s c = omega arith
 
--- src/bindings_of.rt:35:17
 mul-s : tie.Need-mul-s Inv-loop μ-loop
 mul-s c = omega arith
 
--- src/bindings_of.rt:35:17
 array-copy-out-s : tie.Need-array-copy-out-s Inv-loop μ-loop
 array-copy-out-s c = omega arith
 
--- src/bindings_of.rt:36:13
 entry-of-requires : tie.Need-entry-of-requires Inv-loop μ-loop
 entry-of-requires c κs = search needs
 
--- src/bindings_of.rt:37:9
 put-entry-requires : tie.Need-put-entry-requires Inv-loop μ-loop
 put-entry-requires c κs = search needs
 
--- src/bindings_of.rt:38:9
 add-a : tie.Need-add-a Inv-loop μ-loop
 add-a c = omega arith
 
--- src/bindings_of.rt:34:5
 loop-less : tie.Need-loop-less Inv-loop μ-loop
 loop-less c = omega arith
 
--- src/bindings_of.rt:34:5
 loop-again : tie.Need-loop-again Inv-loop μ-loop
 loop-again c =
     let l = c .before .before .before .before .before .before .before .loop in
@@ -67,11 +58,9 @@ loop-again c =
           ∙ ap (λ (n : ℕ). rowsOf held n ++ drop (n * 16) (now (c .before .before .before .before .before .before .before .before .before .args .out))) (sym (add-one (l .a))),
     )
 
--- src/bindings_of.rt:29:1
 same-length : tie.Need-same-length Inv-loop μ-loop
 same-length c = c .before .loop .inv .1
 
--- src/bindings_of.rt:29:1
 returns : tie.Need-returns Inv-loop μ-loop
 returns c =
     let l = c .before .loop in

@@ -6,31 +6,24 @@ use Rattle.bus.proofs.pass.is_sent.Tie as tie
 use Rattle.bus.proofs.pass.is_sent.Reads as reads
 use Rattle.bus.proofs.pass.is_sent.Lts as lts
 
--- src/pass.rt:20:29
 enum-told : tie.Need-enum-told
 enum-told c = search needs
 
--- src/pass.rt:21:29
 enum-told-2 : tie.Need-enum-told-2
 enum-told-2 c = search needs
 
--- src/pass.rt:22:34
 enum-told-3 : tie.Need-enum-told-3
 enum-told-3 c = search needs
 
--- src/pass.rt:16:1
 returns : tie.Need-returns
 returns c = search needs
 
--- src/pass.rt:16:1
 returns-2 : tie.Need-returns-2
 returns-2 c = search needs
 
--- src/pass.rt:16:1
 returns-3 : tie.Need-returns-3
 returns-3 c = search needs
 
--- src/pass.rt:16:1
 returns-4 : tie.Need-returns-4
 returns-4 c = sym (not-sent-ends (c .before .args .k) (c .match .keys4))
 

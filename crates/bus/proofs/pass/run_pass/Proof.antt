@@ -26,53 +26,41 @@ Inv-loop records₀ st₀ i₀ records st i = (i ≤ 300) × Running (worldOf st
 abbrev μ-loop : tie.MeasureT-loop
 μ-loop records₀ st₀ i₀ records st i = 300 - i
 
--- src/pass.rt:31:9
 new-requires : tie.Need-new-requires Inv-loop μ-loop
 new-requires c κs = search needs
 
--- src/pass.rt:32:9
 start-requires : tie.Need-start-requires Inv-loop μ-loop
 start-requires c κs = search needs
 
--- src/pass.rt:34:5
 loop-holds : tie.Need-loop-holds Inv-loop μ-loop
 loop-holds c = (omega arith, running-first (c .before .before .before .args .occupied) (c .start .result) (now (c .before .before .before .args .records)) (c .start .ensures ∙ ap started (c .before .new .ensures)) (all-bytes (now (c .before .before .before .args .records)) (λ j. omega (arith, c .before .before .slice-known .given j))) (c .before .before .before .pre))
 
--- src/pass.rt:36:13
 is-sent-requires : tie.Need-is-sent-requires Inv-loop μ-loop
 is-sent-requires c κs = search needs
 
--- src/pass.rt:37:13
 same-length : tie.Need-same-length Inv-loop μ-loop
 same-length c = c .before .before .before .loop .inv .1 .same-size
 
--- src/pass.rt:37:13
 returns : tie.Need-returns Inv-loop μ-loop
 returns c = let l = c .before .before .before .loop in running-still (c .before .before .before .before .before .before .before .args .occupied) (now (c .before .before .before .before .before .before .before .args .records)) (c .before .before .before .before .start .result) (c .before .before .before .before .start .ensures ∙ ap started (c .before .before .before .before .before .new .ensures)) (300 - l .i) (l .st) (l .records) (sym (c .before .is-sent .ensures) ∙ not-true _ (c .if1 .taken)) (l .inv .1)
 
--- src/pass.rt:39:9
 send-requires : tie.Need-send-requires Inv-loop μ-loop
 send-requires c κs = (c .before .before .before .before .loop .inv .1 .fit, c .before .before .before .before .loop .inv .1 .going)
 
--- src/pass.rt:40:9
 add-i : tie.Need-add-i Inv-loop μ-loop
 add-i c = omega arith
 
--- src/pass.rt:34:5
 loop-less : tie.Need-loop-less Inv-loop μ-loop
 loop-less c = omega arith
 
--- src/pass.rt:34:5
 loop-again : tie.Need-loop-again Inv-loop μ-loop
 loop-again c = let l = c .before .before .before .before .before .before .before .loop in
     let e : 300 - l .i ≡ suc (300 - (l .i + 1)) = omega arith in
     (omega arith, running-next _ (now (c .before .before .before .before .before .before .before .before .before .before .before .args .records)) (300 - (l .i + 1)) (l .st) _ (l .records) (c .before .before .send .last .1 .0) (rw e at (l .inv .1)) (all-bytes (c .before .before .send .last .1 .0) (λ j. omega (arith, c .slice-known2 .given j))) (sym (c .before .before .before .before .before .is-sent .ensures) ∙ not-false _ (c .before .before .before .before .if1 .left)) (c .before .before .send .ensures))
 
--- src/pass.rt:27:1
 same-length-2 : tie.Need-same-length-2 Inv-loop μ-loop
 same-length-2 c = c .before .loop .inv .1 .same-size
 
--- src/pass.rt:27:1
 returns-2 : tie.Need-returns-2 Inv-loop μ-loop
 returns-2 c = let l = c .before .loop in running-last (c .before .before .before .before .before .args .occupied) (now (c .before .before .before .before .before .args .records)) (c .before .before .start .result) (c .before .before .start .ensures ∙ ap started (c .before .before .before .new .ensures)) (300 - l .i) (l .st) (l .records) (omega arith) (l .inv .1)
 

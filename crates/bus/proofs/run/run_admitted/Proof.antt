@@ -14,27 +14,21 @@ use Rattle.bus.proofs.answer.report.Reads as report-reads
 use Rattle.bus.proofs.bindings_of.put_bindings.Reads as put-bindings-reads
 use Rattle.bus.proofs.pass.run_pass.Reads as run-pass-reads
 
--- src/run.rt:25:9
 run-pass-requires : tie.Need-run-pass-requires
 run-pass-requires c κs = search needs
 
--- src/run.rt:28:5
 put-bindings-requires : tie.Need-put-bindings-requires
 put-bindings-requires c κs = search needs
 
--- src/run.rt:29:5
 report-requires : tie.Need-report-requires
 report-requires c κs = search needs
 
--- src/run.rt:21:1
 same-length : tie.Need-same-length
 same-length c = search needs
 
--- src/run.rt:21:1
 same-length-2 : tie.Need-same-length-2
 same-length-2 c = search needs
 
--- src/run.rt:21:1
 returns : tie.Need-returns
 returns c = record {
   answered = c .report .ensures ∙ ap reported (c .before .before .before .before .before .before .before .before .before .run-pass .ensures .controller);

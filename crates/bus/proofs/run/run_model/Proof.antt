@@ -11,99 +11,75 @@ use Rattle.bus.proofs.answer.refused.Reads as refused-reads
 use Rattle.bus.proofs.run.run_admitted.Reads as run-admitted-reads
 use Rattle.targets.proofs.admit.check.Reads as check-reads
 
--- src/run.rt:37:9
 refused-requires : tie.Need-refused-requires
 refused-requires c κs = search needs
 
--- src/run.rt:37:9
 returns : tie.Need-returns
 returns c = leaves-short (c .before .before .before .before .args .occupied) (now (c .before .before .before .before .args .records)) (now (c .before .before .before .before .args .bindings)) _ (c .before .if1 .taken) (c .refused .ensures)
 
--- src/run.rt:39:9
 check-requires : tie.Need-check-requires
 check-requires c κs = search needs
 
--- src/run.rt:41:31
 enum-told : tie.Need-enum-told
 enum-told c = search needs
 
--- src/run.rt:41:31
 refused-requires-2 : tie.Need-refused-requires-2
 refused-requires-2 c κs = search needs
 
--- src/run.rt:42:28
 enum-known-checked : tie.Need-enum-known-checked
 enum-known-checked c = search needs
 
--- src/run.rt:42:34
 refused-requires-3 : tie.Need-refused-requires-3
 refused-requires-3 c κs = search needs
 
--- src/run.rt:43:27
 enum-known-checked-2 : tie.Need-enum-known-checked-2
 enum-known-checked-2 c = search needs
 
--- src/run.rt:43:33
 refused-requires-4 : tie.Need-refused-requires-4
 refused-requires-4 c κs = search needs
 
--- src/run.rt:44:24
 enum-known-checked-3 : tie.Need-enum-known-checked-3
 enum-known-checked-3 c = search needs
 
--- src/run.rt:44:30
 refused-requires-5 : tie.Need-refused-requires-5
 refused-requires-5 c κs = search needs
 
--- src/run.rt:45:53
 enum-told-2 : tie.Need-enum-told-2
 enum-told-2 c = search needs
 
--- src/run.rt:45:30
 run-admitted-requires : tie.Need-run-admitted-requires
 run-admitted-requires c κs = (sym (c .before .before .before .before .check .ensures) ∙ c .before .before .enum-told2 .given .1, c .before .before .before .before .before .before .if1 .left)
 
--- src/run.rt:33:1
 same-length : tie.Need-same-length
 same-length c = search needs
 
--- src/run.rt:33:1
 returns-2 : tie.Need-returns-2
 returns-2 c = leaves-refused (c .before .before .before .before .before .before .before .before .args .occupied) (now (c .before .before .before .before .before .before .before .before .args .records)) (now (c .before .before .before .before .before .before .before .before .args .bindings)) BadLength _ (c .before .before .before .before .before .if1 .left) (sym (c .before .before .before .check .ensures) ∙ c .before .enum-told .given .1) (c .refused2 .ensures)
 
--- src/run.rt:33:1
 same-length-2 : tie.Need-same-length-2
 same-length-2 c = search needs
 
--- src/run.rt:33:1
 returns-3 : tie.Need-returns-3
 returns-3 c = leaves-refused (c .before .before .before .before .before .before .before .before .before .args .occupied) (now (c .before .before .before .before .before .before .before .before .before .args .records)) (now (c .before .before .before .before .before .before .before .before .before .args .bindings)) (Malformed (c .before .before .checked .given .0 .0)) _ (c .before .before .before .before .before .before .if1 .left) (sym (c .before .before .before .before .check .ensures) ∙ c .before .before .checked .given .1) (c .refused3 .ensures)
 
--- src/run.rt:33:1
 same-length-3 : tie.Need-same-length-3
 same-length-3 c = search needs
 
--- src/run.rt:33:1
 returns-4 : tie.Need-returns-4
 returns-4 c = leaves-refused (c .before .before .before .before .before .before .before .before .before .args .occupied) (now (c .before .before .before .before .before .before .before .before .before .args .records)) (now (c .before .before .before .before .before .before .before .before .before .args .bindings)) (Repeated (c .before .before .checked2 .given .0 .0)) _ (c .before .before .before .before .before .before .if1 .left) (sym (c .before .before .before .before .check .ensures) ∙ c .before .before .checked2 .given .1) (c .refused4 .ensures)
 
--- src/run.rt:33:1
 same-length-4 : tie.Need-same-length-4
 same-length-4 c = search needs
 
--- src/run.rt:33:1
 returns-5 : tie.Need-returns-5
 returns-5 c = leaves-refused (c .before .before .before .before .before .before .before .before .before .args .occupied) (now (c .before .before .before .before .before .before .before .before .before .args .records)) (now (c .before .before .before .before .before .before .before .before .before .args .bindings)) (Taken (c .before .before .checked3 .given .0 .0)) _ (c .before .before .before .before .before .before .if1 .left) (sym (c .before .before .before .before .check .ensures) ∙ c .before .before .checked3 .given .1) (c .refused5 .ensures)
 
--- src/run.rt:33:1
 same-length-5 : tie.Need-same-length-5
 same-length-5 c = search needs
 
--- src/run.rt:33:1
 same-length-6 : tie.Need-same-length-6
 same-length-6 c = search needs
 
--- src/run.rt:33:1
 returns-6 : tie.Need-returns-6
 returns-6 c = leaves-run (c .before .before .before .before .before .before .before .before .before .before .before .before .before .before .args .occupied) (now (c .before .before .before .before .before .before .before .before .before .before .before .before .before .before .args .records)) (now (c .before .before .before .before .before .before .before .before .before .before .before .before .before .before .args .bindings)) _ _ _ (c .before .before .before .before .before .before .before .before .before .before .before .if1 .left) (sym (c .before .before .before .before .before .before .before .before .before .check .ensures) ∙ c .before .before .before .before .before .before .before .enum-told2 .given .1) (c .before .before .before .before .run-admitted .ensures)
 

@@ -22,62 +22,48 @@ use Rattle.targets.proofs.winner.find.Reads as find-reads
 front : (r : ℕ) (l : List ℕ) → r ≡ 9 → take r l ≡ take 9 l
 front r l e = ap (λ (n : ℕ). take n l) e
 
--- src/traces.rt:67:25
 find-requires : tie.Need-find-requires
 find-requires c κs = search needs
 
--- src/traces.rt:67:20
 enum-known-w : tie.Need-enum-known-w
 enum-known-w c = search needs
 
--- src/traces.rt:68:28
 enum-told : tie.Need-enum-told
 enum-told c = search needs
 
--- src/traces.rt:68:9
 put-silence-requires : tie.Need-put-silence-requires
 put-silence-requires c κs = search needs
 
--- src/traces.rt:68:9
 same-length : tie.Need-same-length
 same-length c = search needs
 
--- src/traces.rt:68:9
 returns : tie.Need-returns
 returns c = (omega (arith, c .before .before .put-silence .ensures .0), front (c .before .before .put-silence .result) (c .before .before .put-silence .last .0) (c .before .before .put-silence .ensures .0) ∙ c .before .before .put-silence .ensures .1 ∙ sym (get-silence (now (c .before .before .before .before .before .before .before .before .before .args .records)) (all-bytes (now (c .before .before .before .before .before .before .before .before .before .args .records)) (λ i. omega (arith, c .before .before .before .before .before .before .before .before .shared-slice-known .given i))) (c .before .before .before .before .before .before .before .before .before .pre .0) (c .before .before .before .before .before .before .before .before .before .pre .1) (sym (c .before .before .before .before .enum-told .given .1) ∙ c .before .before .before .before .before .before .find .ensures)))
 
--- src/traces.rt:70:14
 mul-at : tie.Need-mul-at
 mul-at c = omega (arith, winner-inside (now (c .before .before .before .before .before .before .args .records)) (c .before .before .before .before .before .before .pre .0) _ (sym (c .before .w .given .1) ∙ c .before .before .before .find .ensures))
 
--- src/traces.rt:71:15
 add-end : tie.Need-add-end
 add-end c = omega (arith, winner-inside (now (c .before .before .before .before .before .before .args .records)) (c .before .before .before .before .before .before .pre .0) _ (sym (c .before .w .given .1) ∙ c .before .before .before .find .ensures))
 
--- src/traces.rt:72:33
 sub-put-whole : tie.Need-sub-put-whole
 sub-put-whole c = search needs
 
--- src/traces.rt:72:33
 part-put-whole-start : tie.Need-part-put-whole-start
 part-put-whole-start c = search needs
 
--- src/traces.rt:72:33
 part-put-whole-end : tie.Need-part-put-whole-end
 part-put-whole-end c = omega (arith, winner-inside (now (c .before .before .before .before .before .before .args .records)) (c .before .before .before .before .before .before .pre .0) _ (sym (c .before .w .given .1) ∙ c .before .before .before .find .ensures))
 
--- src/traces.rt:72:5
 put-whole-requires : tie.Need-put-whole-requires
 put-whole-requires c κs =
     let x = winner-part-lent (now (c .before .before .before .before .before .before .before .before .args .records)) (all-bytes (now (c .before .before .before .before .before .before .before .before .args .records)) (λ i. omega (arith, c .before .before .before .before .before .before .before .shared-slice-known .given i))) (c .before .before .before .before .before .before .before .before .pre .0) (c .before .before .before .w .given .0 .0) (sym (c .before .before .before .w .given .1) ∙ c .before .before .before .before .before .find .ensures) in
     let xs : List ℕ = lentPart (now (c .before .before .before .before .before .before .before .before .args .records)) (c .before .before .before .w .given .0 .0) in
     λ r after w. get-sent (lentPart (now (c .before .before .before .before .before .before .before .before .args .records)) (c .before .before .before .w .given .0 .0)) (now (c .before .before .before .before .before .before .before .before .args .out)) r after (x .bytes) (omega (arith, x .long)) w (omega (arith, get-length xs (x .long), c .before .before .before .before .before .before .before .before .pre .2))
 
--- src/traces.rt:63:1
 same-length-2 : tie.Need-same-length-2
 same-length-2 c = search needs
 
--- src/traces.rt:63:1
 returns-2 : tie.Need-returns-2
 returns-2 c =
     let x = winner-part-lent (now (c .before .before .before .before .before .before .before .before .before .before .before .args .records)) (all-bytes (now (c .before .before .before .before .before .before .before .before .before .before .before .args .records)) (λ i. omega (arith, c .before .before .before .before .before .before .before .before .before .before .shared-slice-known .given i))) (c .before .before .before .before .before .before .before .before .before .before .before .pre .0) (c .before .before .before .before .before .before .w .given .0 .0) (sym (c .before .before .before .before .before .before .w .given .1) ∙ c .before .before .before .before .before .before .before .before .find .ensures) in

@@ -15,47 +15,36 @@ use Rattle.bus.proofs.traces.put_prepare.Lts as lts
 use Rattle.bus.proofs.traces.put_whole.Reads as put-whole-reads
 use Rattle.targets.proofs.fields.count.Reads as count-reads
 
--- src/traces.rt:35:8
 count-requires : tie.Need-count-requires
 count-requires c κs = search needs
 
--- src/traces.rt:36:9
 slice-write-out : tie.Need-slice-write-out
 slice-write-out c = search needs
 
--- src/traces.rt:37:9
 slice-write-out-2 : tie.Need-slice-write-out-2
 slice-write-out-2 c = simp length-set (omega (arith, c .before .before .before .before .pre))
 
--- src/traces.rt:38:9
 slice-write-out-3 : tie.Need-slice-write-out-3
 slice-write-out-3 c = simp length-set (omega (arith, c .before .before .before .before .pre))
 
--- src/traces.rt:39:9
 slice-write-out-4 : tie.Need-slice-write-out-4
 slice-write-out-4 c = simp length-set (omega (arith, c .before .before .before .before .pre))
 
--- src/traces.rt:40:9
 same-length : tie.Need-same-length
 same-length c = search needs
 
--- src/traces.rt:40:9
 returns : tie.Need-returns
 returns c = (omega arith, four-stored (now (c .before .before .before .before .args .out)) (omega (arith, c .before .before .before .before .pre)) ∙ sym (prepare-nobody (now (c .before .before .before .before .args .records)) (sym (c .before .count .ensures) ∙ c .if1 .taken)))
 
--- src/traces.rt:42:33
 slice-aggregate-put-whole : tie.Need-slice-aggregate-put-whole
 slice-aggregate-put-whole c = search needs
 
--- src/traces.rt:42:5
 put-whole-requires : tie.Need-put-whole-requires
 put-whole-requires c κs = λ r after w. prepare-sent [] (now (c .before .before .before .before .before .before .args .out)) r after w (omega (arith, prepare-length, c .before .before .before .before .before .before .pre))
 
--- src/traces.rt:31:1
 same-length-2 : tie.Need-same-length-2
 same-length-2 c = search needs
 
--- src/traces.rt:31:1
 returns-2 : tie.Need-returns-2
 returns-2 c = (omega (arith, c .before .before .put-whole .ensures .0, prepare-length), c .before .before .put-whole .ensures .1 ∙ sym (prepare-all (now (c .before .before .before .before .before .before .before .before .before .args .records)) (λ e. c .before .before .before .before .before .if1 .left (c .before .before .before .before .before .before .count .ensures ∙ e))))
 

@@ -9,47 +9,36 @@ use Rattle.bus.proofs.traces.put_silence.Tie as tie
 use Rattle.bus.proofs.traces.put_silence.Reads as reads
 use Rattle.bus.proofs.traces.put_silence.Lts as lts
 
--- src/traces.rt:50:5
 slice-write-out : tie.Need-slice-write-out
 slice-write-out c = search needs
 
--- src/traces.rt:51:5
 slice-write-out-2 : tie.Need-slice-write-out-2
 slice-write-out-2 c = simp length-set (omega (arith, c .pre))
 
--- src/traces.rt:52:5
 slice-write-out-3 : tie.Need-slice-write-out-3
 slice-write-out-3 c = simp length-set (omega (arith, c .pre))
 
--- src/traces.rt:53:5
 slice-write-out-4 : tie.Need-slice-write-out-4
 slice-write-out-4 c = simp length-set (omega (arith, c .pre))
 
--- src/traces.rt:54:5
 slice-write-out-5 : tie.Need-slice-write-out-5
 slice-write-out-5 c = simp length-set (omega (arith, c .pre))
 
--- src/traces.rt:55:5
 slice-write-out-6 : tie.Need-slice-write-out-6
 slice-write-out-6 c = simp length-set (omega (arith, c .pre))
 
--- src/traces.rt:56:5
 slice-write-out-7 : tie.Need-slice-write-out-7
 slice-write-out-7 c = simp length-set (omega (arith, c .pre))
 
--- src/traces.rt:57:5
 slice-write-out-8 : tie.Need-slice-write-out-8
 slice-write-out-8 c = simp length-set (omega (arith, c .pre))
 
--- src/traces.rt:58:5
 slice-write-out-9 : tie.Need-slice-write-out-9
 slice-write-out-9 c = simp length-set (omega (arith, c .pre))
 
--- src/traces.rt:46:1
 same-length : tie.Need-same-length
 same-length c = search needs
 
--- src/traces.rt:46:1
 returns : tie.Need-returns
 returns c = (refl, nine-stored (now (c .args .out)) (omega (arith, c .pre)))
 

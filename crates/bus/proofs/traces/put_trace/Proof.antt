@@ -20,59 +20,45 @@ use Rattle.bus.proofs.traces.put_get.Reads as put-get-reads
 use Rattle.bus.proofs.traces.put_prepare.Reads as put-prepare-reads
 use Rattle.bus.proofs.traces.put_whole.Reads as put-whole-reads
 
--- src/traces.rt:81:50
 enum-told : tie.Need-enum-told
 enum-told c = search needs
 
--- src/traces.rt:81:29
 put-prepare-requires : tie.Need-put-prepare-requires
 put-prepare-requires c κs = search needs
 
--- src/traces.rt:82:46
 enum-told-2 : tie.Need-enum-told-2
 enum-told-2 c = search needs
 
--- src/traces.rt:82:29
 put-get-requires : tie.Need-put-get-requires
 put-get-requires c κs = (c .before .before .before .before .before .pre .0, subst (λ (k : Command). Reaches k (targetsOf (now (c .before .before .before .before .before .args .records)))) (c .before .enum-told2 .given .1) (c .before .before .before .before .before .pre .1), c .before .before .before .before .before .pre .2)
 
--- src/traces.rt:83:47
 enum-told-3 : tie.Need-enum-told-3
 enum-told-3 c = search needs
 
--- src/traces.rt:83:47
 slice-aggregate-put-whole : tie.Need-slice-aggregate-put-whole
 slice-aggregate-put-whole c = search needs
 
--- src/traces.rt:83:34
 put-whole-requires : tie.Need-put-whole-requires
 put-whole-requires c κs = let s = c .before .before .before .before .before .before .args in assign-written (s .k) _ _ (c .before .before .enum-told3 .given .1) (targetsOf (now (s .records))) (c .before .before .before .before .before .before .pre .1) (now (s .out)) (c .before .before .before .before .before .before .pre .2)
 
--- src/traces.rt:76:1
 same-length : tie.Need-same-length
 same-length c = search needs
 
--- src/traces.rt:76:1
 returns : tie.Need-returns
 returns c = (c .before .before .put-prepare .ensures .0, c .before .before .put-prepare .ensures .1 ∙ ap (λ (k : Command). onBus k (targetsOf (now (c .before .before .before .before .before .before .before .before .args .records)))) (sym (c .before .before .before .before .enum-told .given .1)))
 
--- src/traces.rt:76:1
 same-length-2 : tie.Need-same-length-2
 same-length-2 c = search needs
 
--- src/traces.rt:76:1
 returns-2 : tie.Need-returns-2
 returns-2 c = (c .before .before .put-get .ensures .0, c .before .before .put-get .ensures .1 ∙ ap (λ (k : Command). onBus k (targetsOf (now (c .before .before .before .before .before .before .before .before .args .records)))) (sym (c .before .before .before .before .enum-told2 .given .1)))
 
--- src/traces.rt:76:1
 same-length-3 : tie.Need-same-length-3
 same-length-3 c = search needs
 
--- src/traces.rt:76:1
 returns-3 : tie.Need-returns-3
 returns-3 c = (omega (arith, c .before .before .put-whole .ensures .0, assign-length-44 (c .before .before .before .before .before .before .before .before .before .args .k) _ _ (c .before .before .before .before .before .enum-told3 .given .1)), c .before .before .put-whole .ensures .1 ∙ sym (assign-on-bus (c .before .before .before .before .before .before .before .before .before .args .k) _ _ (c .before .before .before .before .before .enum-told3 .given .1) (targetsOf (now (c .before .before .before .before .before .before .before .before .before .args .records))) (c .before .before .before .before .before .before .before .before .before .pre .1)))
 
--- src/traces.rt:76:1
 returns-4 : tie.Need-returns-4
 returns-4 c = (omega arith, sym (nothing-on-bus (c .before .before .before .args .k) (c .match .keys4) (targetsOf (now (c .before .before .before .args .records)))))
 

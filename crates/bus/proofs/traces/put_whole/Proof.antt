@@ -7,43 +7,33 @@ use Rattle.bus.proofs.traces.put_whole.Reads as reads
 use Rattle.bus.proofs.traces.put_whole.Lts as lts
 use Rattle.arp.proofs.request.put_command.Reads as put-command-reads
 
--- src/traces.rt:22:9
 put-command-requires : tie.Need-put-command-requires
 put-command-requires c κs = search needs
 
--- src/traces.rt:24:26
 enum-known-answer : tie.Need-enum-known-answer
 enum-known-answer c = search needs
 
--- src/traces.rt:25:31
 enum-told : tie.Need-enum-told
 enum-told c = search needs
 
--- src/traces.rt:26:36
 enum-told-2 : tie.Need-enum-told-2
 enum-told-2 c = search needs
 
--- src/traces.rt:18:1
 same-length : tie.Need-same-length
 same-length c = search needs
 
--- src/traces.rt:18:1
 returns : tie.Need-returns
 returns c = sent-front (c .before .before .before .before .before .before .before .before .before .args .k) (now (c .before .before .before .before .before .before .before .before .before .args .reply)) (now (c .before .before .before .before .before .before .before .before .before .args .out)) (c .before .before .before .before .before .put-command .result) _ _ (c .before .before .before .before .before .before .before .before .before .pre (c .before .before .before .before .before .put-command .result) _ (c .before .before .before .before .before .put-command .ensures)) (c .before .answer .given .1)
 
--- src/traces.rt:18:1
 same-length-2 : tie.Need-same-length-2
 same-length-2 c = search needs
 
--- src/traces.rt:18:1
 returns-2 : tie.Need-returns-2
 returns-2 c = absurd (sent-allowed (c .before .before .before .before .before .before .before .before .args .k) (now (c .before .before .before .before .before .before .before .before .args .reply)) (now (c .before .before .before .before .before .before .before .before .args .out)) (c .before .before .before .before .put-command .result) _ (c .before .before .before .before .before .before .before .before .pre (c .before .before .before .before .put-command .result) _ (c .before .before .before .before .put-command .ensures)) (c .enum-told .given .1))
 
--- src/traces.rt:18:1
 same-length-3 : tie.Need-same-length-3
 same-length-3 c = search needs
 
--- src/traces.rt:18:1
 returns-3 : tie.Need-returns-3
 returns-3 c = absurd (sent-roomy (c .before .before .before .before .before .before .before .before .args .k) (now (c .before .before .before .before .before .before .before .before .args .reply)) (now (c .before .before .before .before .before .before .before .before .args .out)) (c .before .before .before .before .put-command .result) _ (c .before .before .before .before .before .before .before .before .pre (c .before .before .before .before .put-command .result) _ (c .before .before .before .before .put-command .ensures)) (c .enum-told2 .given .1))
 

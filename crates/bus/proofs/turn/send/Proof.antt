@@ -14,35 +14,27 @@ use Rattle.arp.proofs.state.Controller.step.Reads as step-reads
 use Rattle.bus.proofs.act.act.Reads as act-reads
 use Rattle.bus.proofs.traces.put_trace.Reads as put-trace-reads
 
--- src/turn.rt:16:40
 slice-aggregate-put-trace : tie.Need-slice-aggregate-put-trace
 slice-aggregate-put-trace c = search needs
 
--- src/turn.rt:16:9
 put-trace-requires : tie.Need-put-trace-requires
 put-trace-requires c κs = search needs
 
--- src/turn.rt:17:5
 act-requires : tie.Need-act-requires
 act-requires c κs = search needs
 
--- src/turn.rt:18:16
 array-share-prefix-out : tie.Need-array-share-prefix-out
 array-share-prefix-out c = search needs
 
--- src/turn.rt:18:16
 slice-aggregate-step : tie.Need-slice-aggregate-step
 slice-aggregate-step c = sym (length-take-le _ _ (omega (arith, c .before .before .before .before .before .before .put-trace .kept, c .before .before .before .before .before .before .put-trace .ensures .0)))
 
--- src/turn.rt:18:5
 step-requires : tie.Need-step-requires
 step-requires c κs = search needs
 
--- src/turn.rt:9:1
 same-length : tie.Need-same-length
 same-length c = search needs
 
--- src/turn.rt:9:1
 returns : tie.Need-returns
 returns c = sent-matches (c .before .before .before .before .before .before .before .before .before .before .before .before .args .st) (c .step .result) (now (c .before .before .before .before .before .before .before .before .before .before .before .before .args .records)) _ _ (all-bytes (now (c .before .before .before .before .before .before .before .before .before .before .before .before .args .records)) (λ j. omega (arith, c .before .before .before .before .before .before .before .before .before .before .before .slice-known .given j))) (c .before .before .before .before .before .before .before .before .before .before .before .before .pre .0) (c .before .before .before .before .before .before .before .before .before .before .before .before .pre .1) (c .before .before .before .before .before .before .before .put-trace .ensures .1) (c .step .ensures) (c .before .before .before .before .act .ensures)
 

@@ -20,51 +20,39 @@ Inv-loop out₀ at s i₀ j₀ out i j = (i ≤ length s) × (j ≡ at + 2 * i) 
 abbrev μ-loop : tie.MeasureT-loop
 μ-loop out₀ at s i₀ j₀ out i j = length s - i
 
--- src/bytes.rt:20:5
 loop-holds : tie.Need-loop-holds Inv-loop μ-loop
 loop-holds c = (search needs, omega arith, refl, onto-front (c .args .out .now) (c .args .at) (omega arith))
 
--- src/bytes.rt:21:18
 shared-slice-read-out : tie.Need-shared-slice-read-out Inv-loop μ-loop
 shared-slice-read-out c = omega arith
 
--- src/bytes.rt:21:18
 cast-out : tie.Need-cast-out Inv-loop μ-loop
 cast-out c = record { fits = byte-below-65536 _ (c .shared-slice-known .given _ .fits) }
 
--- src/bytes.rt:21:9
 mul-out : tie.Need-mul-out Inv-loop μ-loop
 mul-out c = omega arith
 
--- src/bytes.rt:21:9
 slice-write-out : tie.Need-slice-write-out Inv-loop μ-loop
 slice-write-out c = omega arith
 
--- src/bytes.rt:22:13
 add-out : tie.Need-add-out Inv-loop μ-loop
 add-out c = omega arith
 
--- src/bytes.rt:22:9
 mul-out-2 : tie.Need-mul-out-2 Inv-loop μ-loop
 mul-out-2 c = omega arith
 
--- src/bytes.rt:22:9
 slice-write-out-2 : tie.Need-slice-write-out-2 Inv-loop μ-loop
 slice-write-out-2 c = simp length-set (omega arith)
 
--- src/bytes.rt:23:9
 add-j : tie.Need-add-j Inv-loop μ-loop
 add-j c = omega arith
 
--- src/bytes.rt:24:9
 add-i : tie.Need-add-i Inv-loop μ-loop
 add-i c = omega arith
 
--- src/bytes.rt:20:5
 loop-less : tie.Need-loop-less Inv-loop μ-loop
 loop-less c = omega arith
 
--- src/bytes.rt:20:5
 loop-again : tie.Need-loop-again Inv-loop μ-loop
 loop-again c =
     let l = c .before .before .loop in
@@ -77,11 +65,9 @@ loop-again c =
           (c .before .loop-test .taken) (c .before .before .before .pre) (l .inv .1)),
     )
 
--- src/bytes.rt:14:1
 same-length : tie.Need-same-length Inv-loop μ-loop
 same-length c = c .before .loop .inv .2
 
--- src/bytes.rt:14:1
 returns : tie.Need-returns Inv-loop μ-loop
 returns c =
     let l = c .before .loop in

@@ -9,53 +9,44 @@ use Rattle.encode.proofs.bytes.put_byte_if.Tie as tie
 use Rattle.encode.proofs.bytes.put_byte_if.Reads as reads
 use Rattle.encode.proofs.bytes.put_byte_if.Lts as lts
 
--- src/bytes.rt:35:9
 mul-out : tie.Need-mul-out
 mul-out c =
     let h : c .before .args .at + 2 ≤ length (c .before .args .out .now) = yes-room _ _ _ _ (c .if1 .taken) (c .before .pre) in
     omega arith
 
--- src/bytes.rt:35:9
 slice-write-out : tie.Need-slice-write-out
 slice-write-out c =
     let h : c .before .args .at + 2 ≤ length (c .before .args .out .now) = yes-room _ _ _ _ (c .if1 .taken) (c .before .pre) in
     omega arith
 
--- src/bytes.rt:36:13
 add-out : tie.Need-add-out
 add-out c =
     let h : c .before .args .at + 2 ≤ length (c .before .args .out .now) = yes-room _ _ _ _ (c .if1 .taken) (c .before .pre) in
     omega arith
 
--- src/bytes.rt:36:9
 mul-out-2 : tie.Need-mul-out-2
 mul-out-2 c =
     let h : c .before .args .at + 2 ≤ length (c .before .args .out .now) = yes-room _ _ _ _ (c .if1 .taken) (c .before .pre) in
     omega arith
 
--- src/bytes.rt:36:9
 slice-write-out-2 : tie.Need-slice-write-out-2
 slice-write-out-2 c =
     let h : c .before .args .at + 2 ≤ length (c .before .args .out .now) = yes-room _ _ _ _ (c .if1 .taken) (c .before .pre) in
     simp length-set (omega arith)
 
--- src/bytes.rt:37:9
 add-result : tie.Need-add-result
 add-result c =
     let h : c .before .args .at + 2 ≤ length (c .before .args .out .now) = yes-room _ _ _ _ (c .if1 .taken) (c .before .pre) in
     omega arith
 
--- src/bytes.rt:30:1
 same-length : tie.Need-same-length
 same-length c = search needs
 
--- src/bytes.rt:30:1
 returns : tie.Need-returns
 returns c =
     let h : c .before .args .at + 2 ≤ length (c .before .args .out .now) = yes-room _ _ _ _ (c .if1 .taken) (c .before .pre) in
     rw (c .if1 .taken) (omega arith, put-byte (c .before .args .out .now) (c .before .args .at) (c .before .args .b) h)
 
--- src/bytes.rt:30:1
 returns-2 : tie.Need-returns-2
 returns-2 c = rw (c .if1 .left) (omega arith, onto-front (c .before .args .out .now) (c .before .args .at) (omega (arith, c .before .pre)))
 

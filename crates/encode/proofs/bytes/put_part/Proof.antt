@@ -9,29 +9,23 @@ use Rattle.encode.proofs.bytes.put_acked.Reads as put-acked-reads
 use Rattle.encode.proofs.bytes.put_byte_if.Reads as put-byte-if-reads
 use Rattle.trace.proofs.shape.is_counted.Reads as is-counted-reads
 
--- src/bytes.rt:55:34
 is-counted-requires : tie.Need-is-counted-requires
 is-counted-requires c κs = search needs
 
--- src/bytes.rt:55:49
 count-of-requires : tie.Need-count-of-requires
 count-of-requires c κs = search needs
 
--- src/bytes.rt:55:9
 put-byte-if-requires : tie.Need-put-byte-if-requires
 put-byte-if-requires c κs =
     count-asks (c .before .before .before .before .before .args .out .now) (c .before .before .before .before .before .args .s .now) (c .before .before .before .before .before .args .at) (c .before .before .before .before .before .args .a) _ _ (c .before .is-counted .ensures) (c .count-of .ensures) (c .before .before .before .before .before .pre)
 
--- src/bytes.rt:56:5
 put-acked-requires : tie.Need-put-acked-requires
 put-acked-requires c κs =
     data-asks (c .before .before .before .before .before .before .before .before .before .args .out .now) (c .before .before .before .before .before .before .before .before .before .args .s .now) (c .before .before .before .before .before .before .before .before .before .args .at) (c .before .before .before .before .before .before .before .before .before .args .a) _ _ (c .before .before .before .before .before .is-counted .ensures) (c .before .before .before .before .count-of .ensures) (c .before .before .before .before .before .before .before .before .before .pre) _ _ (c .before .before .before .put-byte-if .ensures .0) (c .before .before .before .put-byte-if .ensures .1) (c .before .before .before .put-byte-if .kept .0)
 
--- src/bytes.rt:51:1
 same-length : tie.Need-same-length
 same-length c = search needs
 
--- src/bytes.rt:51:1
 returns : tie.Need-returns
 returns c =
     part-put (c .before .before .before .before .before .before .before .before .before .before .before .before .args .out .now) (c .before .before .before .before .before .before .before .before .before .before .before .before .args .s .now) (c .before .before .before .before .before .before .before .before .before .before .before .before .args .at) (c .before .before .before .before .before .before .before .before .before .before .before .before .args .a) _ _ (c .before .before .before .before .before .before .before .before .is-counted .ensures) (c .before .before .before .before .before .before .before .count-of .ensures) (c .before .before .before .before .before .before .before .before .before .before .before .before .pre) _ _ (c .before .before .before .before .before .before .put-byte-if .ensures .0) (c .before .before .before .before .before .before .put-byte-if .ensures .1) (c .before .before .before .before .before .before .put-byte-if .kept .0) _ _ (c .before .before .put-acked .ensures .0) (c .before .before .put-acked .ensures .1)

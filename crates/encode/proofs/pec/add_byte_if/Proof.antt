@@ -6,16 +6,13 @@ use Rattle.encode.proofs.pec.add_byte_if.Reads as reads
 use Rattle.encode.proofs.pec.add_byte_if.Lts as lts
 use Rattle.wire.proofs.pec.add_byte.Reads as add-byte-reads
 
--- src/pec.rt:21:16
 add-byte-requires : tie.Need-add-byte-requires
 add-byte-requires c κs = search needs
 
--- src/pec.rt:18:1
 returns : tie.Need-returns
 unfolding pecFrom
 returns c = rw (c .add-byte .ensures, c .before .if1 .taken)
 
--- src/pec.rt:18:1
 returns-2 : tie.Need-returns-2
 unfolding pecFrom
 returns-2 c = rw (c .if1 .left)

@@ -9,23 +9,18 @@ use Rattle.encode.proofs.pec.add_byte_if.Reads as add-byte-if-reads
 use Rattle.trace.proofs.shape.is_counted.Reads as is-counted-reads
 use Rattle.wire.proofs.pec.add_bytes.Reads as add-bytes-reads
 
--- src/pec.rt:28:30
 is-counted-requires : tie.Need-is-counted-requires
 is-counted-requires c κs = search needs
 
--- src/pec.rt:28:45
 count-of-requires : tie.Need-count-of-requires
 count-of-requires c κs = search needs
 
--- src/pec.rt:28:15
 add-byte-if-requires : tie.Need-add-byte-if-requires
 add-byte-if-requires c κs = search needs
 
--- src/pec.rt:28:5
 add-bytes-requires : tie.Need-add-bytes-requires
 add-bytes-requires c κs = search needs
 
--- src/pec.rt:25:1
 returns : tie.Need-returns
 returns c =
     part-code _ _ _ (c .before .before .before .before .before .args .a) (c .before .before .before .before .before .args .s .now) _ _ (c .before .before .before .is-counted .ensures) (c .before .before .count-of .ensures) (c .before .add-byte-if .ensures) (c .add-bytes .ensures)

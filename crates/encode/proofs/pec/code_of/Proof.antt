@@ -11,19 +11,15 @@ use Rattle.encode.proofs.pec.code_of.Lts as lts
 use Rattle.encode.proofs.pec.read_code.Reads as read-code-reads
 use Rattle.encode.proofs.pec.write_code.Reads as write-code-reads
 
--- src/pec.rt:67:9
 returns : tie.Need-returns
 returns c = rw (not-true (c .before .before .before .args .pec) (c .if1 .taken))
 
--- src/pec.rt:69:15
 write-code-requires : tie.Need-write-code-requires
 write-code-requires c κs = search needs
 
--- src/pec.rt:69:5
 read-code-requires : tie.Need-read-code-requires
 read-code-requires c κs = search needs
 
--- src/pec.rt:55:1
 returns-2 : tie.Need-returns-2
 returns-2 c =
     rw (not-false (c .before .before .before .before .before .args .pec) (c .before .before .if1 .left)) (c .read-code .ensures ∙ ap (λ (x : ℕ). pecFrom x (bytesAfter (c .before .before .before .before .before .args .sh) (c .before .before .before .before .before .args .second .0) (c .before .before .before .before .before .args .received .now))) (c .before .write-code .ensures))

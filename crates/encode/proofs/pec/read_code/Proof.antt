@@ -11,28 +11,22 @@ use Rattle.encode.proofs.pec.add_part.Reads as add-part-reads
 use Rattle.trace.proofs.shape.has_read.Reads as has-read-reads
 use Rattle.trace.proofs.shape.has_write.Reads as has-write-reads
 
--- src/pec.rt:48:9
 has-read-requires : tie.Need-has-read-requires
 has-read-requires c κs = search needs
 
--- src/pec.rt:49:9
 returns : tie.Need-returns
 returns c =
     no-read-code (c .before .before .before .args .sh) (c .before .before .before .args .second .0) (c .before .before .before .args .received .now) (c .before .before .before .args .c) (sym (c .before .has-read .ensures) ∙ not-true _ (c .if1 .taken))
 
--- src/pec.rt:51:29
 has-write-requires : tie.Need-has-write-requires
 has-write-requires c κs = search needs
 
--- src/pec.rt:51:14
 add-byte-if-requires : tie.Need-add-byte-if-requires
 add-byte-if-requires c κs = search needs
 
--- src/pec.rt:51:5
 add-part-requires : tie.Need-add-part-requires
 add-part-requires c κs = search needs
 
--- src/pec.rt:44:1
 returns-2 : tie.Need-returns-2
 returns-2 c =
     read-code (c .before .before .before .before .before .before .args .sh) (c .before .before .before .before .before .before .args .second .0) (c .before .before .before .before .before .before .args .received .now) (c .before .before .before .before .before .before .args .c) _ _ _ (sym (c .before .before .before .before .has-read .ensures) ∙ not-false _ (c .before .before .before .if1 .left)) (c .before .before .has-write .ensures) (c .before .add-byte-if .ensures) (c .add-part .ensures)

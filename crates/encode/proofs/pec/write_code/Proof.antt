@@ -8,19 +8,15 @@ use Rattle.encode.proofs.pec.add_byte_if.Reads as add-byte-if-reads
 use Rattle.encode.proofs.pec.add_part.Reads as add-part-reads
 use Rattle.wire.proofs.pec.add_byte.Reads as add-byte-reads
 
--- src/pec.rt:37:21
 add-byte-requires : tie.Need-add-byte-requires
 add-byte-requires c κs = search needs
 
--- src/pec.rt:37:9
 add-byte-if-requires : tie.Need-add-byte-if-requires
 add-byte-if-requires c κs = search needs
 
--- src/pec.rt:36:5
 add-part-requires : tie.Need-add-part-requires
 add-part-requires c κs = search needs
 
--- src/pec.rt:32:1
 returns : tie.Need-returns
 returns c =
     write-code (c .before .before .before .before .args .sh) (c .before .before .before .before .args .first .0) (c .before .before .before .before .args .command) (c .before .before .before .before .args .sent .now) _ _ _ (c .before .before .add-byte .ensures) (c .before .add-byte-if .ensures) (c .add-part .ensures)

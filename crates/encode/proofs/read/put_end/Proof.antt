@@ -9,23 +9,18 @@ use Rattle.encode.proofs.read.put_end.Reads as reads
 use Rattle.encode.proofs.read.put_end.Lts as lts
 use Rattle.encode.proofs.bytes.put_byte_if.Reads as put-byte-if-reads
 
--- src/read.rt:72:9
 put-byte-if-requires : tie.Need-put-byte-if-requires
 put-byte-if-requires c κs = omega arith
 
--- src/read.rt:73:5
 mul-out : tie.Need-mul-out
 mul-out c = search needs
 
--- src/read.rt:73:5
 slice-write-out : tie.Need-slice-write-out
 slice-write-out c = search needs
 
--- src/read.rt:68:1
 same-length : tie.Need-same-length
 same-length c = search needs
 
--- src/read.rt:68:1
 returns : tie.Need-returns
 returns c =
     let e = c .before .before .put-byte-if .ensures in

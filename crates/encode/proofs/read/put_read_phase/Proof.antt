@@ -9,31 +9,25 @@ use Rattle.encode.proofs.bytes.put_part.Reads as put-part-reads
 use Rattle.encode.proofs.read.put_nack_stop.Reads as put-nack-stop-reads
 use Rattle.encode.proofs.read.put_repeated_start.Reads as put-repeated-start-reads
 
--- src/read.rt:61:9
 put-repeated-start-requires : tie.Need-put-repeated-start-requires
 put-repeated-start-requires c κs =
     turn-asks (c .before .before .before .args .out .now) (c .before .before .before .args .received .now) (c .before .before .before .args .repeated) (c .before .before .before .args .second .0) (c .before .before .before .args .a) (c .before .before .before .args .pec) (c .before .before .before .args .code) (c .before .before .before .pre .0)
 
--- src/read.rt:62:9
 put-part-requires : tie.Need-put-part-requires
 put-part-requires c κs =
     received-asks (c .before .before .before .before .before .before .before .args .out .now) (c .before .before .before .before .before .before .before .args .received .now) (c .before .before .before .before .before .before .before .args .repeated) (c .before .before .before .before .before .before .before .args .second .0) (c .before .before .before .before .before .before .before .args .a) (c .before .before .before .before .before .before .before .args .pec) (c .before .before .before .before .before .before .before .args .code) (c .before .before .before .before .before .before .before .pre .0) _ _ (c .before .before .before .put-repeated-start .ensures .0) (c .before .before .before .put-repeated-start .ensures .1) (c .before .before .before .put-repeated-start .kept .0)
 
--- src/read.rt:63:9
 put-byte-if-requires : tie.Need-put-byte-if-requires
 put-byte-if-requires c κs =
     code-asks (c .before .before .before .before .before .before .before .before .before .before .before .args .out .now) (c .before .before .before .before .before .before .before .before .before .before .before .args .received .now) (c .before .before .before .before .before .before .before .before .before .before .before .args .repeated) (c .before .before .before .before .before .before .before .before .before .before .before .args .second .0) (c .before .before .before .before .before .before .before .before .before .before .before .args .a) (c .before .before .before .before .before .before .before .before .before .before .before .args .pec) (c .before .before .before .before .before .before .before .before .before .before .before .args .code) (c .before .before .before .before .before .before .before .before .before .before .before .pre .0) _ _ (c .before .before .before .before .before .before .before .put-repeated-start .ensures .0) (c .before .before .before .before .before .before .before .put-repeated-start .ensures .1) (c .before .before .before .before .before .before .before .put-repeated-start .kept .0) _ _ (c .before .before .before .put-part .ensures .0) (c .before .before .before .put-part .ensures .1) (c .before .before .before .put-part .kept .0)
 
--- src/read.rt:64:5
 put-nack-stop-requires : tie.Need-put-nack-stop-requires
 put-nack-stop-requires c κs =
     stop-asks (c .before .before .before .before .before .before .before .before .before .before .before .before .before .before .before .args .out .now) (c .before .before .before .before .before .before .before .before .before .before .before .before .before .before .before .args .received .now) (c .before .before .before .before .before .before .before .before .before .before .before .before .before .before .before .args .repeated) (c .before .before .before .before .before .before .before .before .before .before .before .before .before .before .before .args .second .0) (c .before .before .before .before .before .before .before .before .before .before .before .before .before .before .before .args .a) (c .before .before .before .before .before .before .before .before .before .before .before .before .before .before .before .args .pec) (c .before .before .before .before .before .before .before .before .before .before .before .before .before .before .before .args .code) (c .before .before .before .before .before .before .before .before .before .before .before .before .before .before .before .pre .0) _ _ (c .before .before .before .before .before .before .before .before .before .before .before .put-repeated-start .ensures .0) (c .before .before .before .before .before .before .before .before .before .before .before .put-repeated-start .ensures .1) (c .before .before .before .before .before .before .before .before .before .before .before .put-repeated-start .kept .0) _ _ (c .before .before .before .before .before .before .before .put-part .ensures .0) (c .before .before .before .before .before .before .before .put-part .ensures .1) (c .before .before .before .before .before .before .before .put-part .kept .0) _ _ (c .before .before .before .put-byte-if .ensures .0) (c .before .before .before .put-byte-if .ensures .1) (c .before .before .before .put-byte-if .kept .0) (c .before .before .before .before .before .before .before .before .before .before .before .before .before .before .before .pre .1)
 
--- src/read.rt:49:1
 same-length : tie.Need-same-length
 same-length c = search needs
 
--- src/read.rt:49:1
 returns : tie.Need-returns
 returns c =
     read-put (c .before .before .before .before .before .before .before .before .before .before .before .before .before .before .before .before .before .before .args .out .now) (c .before .before .before .before .before .before .before .before .before .before .before .before .before .before .before .before .before .before .args .received .now) (c .before .before .before .before .before .before .before .before .before .before .before .before .before .before .before .before .before .before .args .repeated) (c .before .before .before .before .before .before .before .before .before .before .before .before .before .before .before .before .before .before .args .second .0) (c .before .before .before .before .before .before .before .before .before .before .before .before .before .before .before .before .before .before .args .a) (c .before .before .before .before .before .before .before .before .before .before .before .before .before .before .before .before .before .before .args .pec) (c .before .before .before .before .before .before .before .before .before .before .before .before .before .before .before .before .before .before .args .code) (c .before .before .before .before .before .before .before .before .before .before .before .before .before .before .before .before .before .before .pre .0) _ _ (c .before .before .before .before .before .before .before .before .before .before .before .before .before .before .put-repeated-start .ensures .0) (c .before .before .before .before .before .before .before .before .before .before .before .before .before .before .put-repeated-start .ensures .1) (c .before .before .before .before .before .before .before .before .before .before .before .before .before .before .put-repeated-start .kept .0) _ _ (c .before .before .before .before .before .before .before .before .before .before .put-part .ensures .0) (c .before .before .before .before .before .before .before .before .before .before .put-part .ensures .1) (c .before .before .before .before .before .before .before .before .before .before .put-part .kept .0) _ _ (c .before .before .before .before .before .before .put-byte-if .ensures .0) (c .before .before .before .before .before .before .put-byte-if .ensures .1) (c .before .before .before .before .before .before .put-byte-if .kept .0) (c .before .before .before .before .before .before .before .before .before .before .before .before .before .before .before .before .before .before .pre .1) _ (c .before .before .put-nack-stop .ensures)

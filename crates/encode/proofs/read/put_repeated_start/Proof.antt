@@ -9,39 +9,32 @@ use Rattle.encode.proofs.read.put_repeated_start.Tie as tie
 use Rattle.encode.proofs.read.put_repeated_start.Reads as reads
 use Rattle.encode.proofs.read.put_repeated_start.Lts as lts
 
--- src/read.rt:30:9
 slice-write-out : tie.Need-slice-write-out
 slice-write-out c =
     let h : 3 ≤ length (c .before .args .out .now) = turn-room _ _ _ (c .if1 .taken) (c .before .pre) in
     omega arith
 
--- src/read.rt:31:18
 cast-out : tie.Need-cast-out
 cast-out c = search needs
 
--- src/read.rt:31:9
 slice-write-out-2 : tie.Need-slice-write-out-2
 slice-write-out-2 c =
     let h : 3 ≤ length (c .before .before .args .out .now) = turn-room _ _ _ (c .before .if1 .taken) (c .before .before .pre) in
     simp length-set (omega arith)
 
--- src/read.rt:32:9
 slice-write-out-3 : tie.Need-slice-write-out-3
 slice-write-out-3 c =
     let h : 3 ≤ length (c .before .before .args .out .now) = turn-room _ _ _ (c .before .if1 .taken) (c .before .before .pre) in
     simp length-set (omega arith)
 
--- src/read.rt:25:1
 same-length : tie.Need-same-length
 same-length c = search needs
 
--- src/read.rt:25:1
 returns : tie.Need-returns
 returns c =
     let h : 3 ≤ length (c .before .before .args .out .now) = turn-room _ _ _ (c .before .if1 .taken) (c .before .before .pre) in
     rw (c .before .if1 .taken) (refl, put-start (c .before .before .args .out .now) (c .before .before .args .second .0) h)
 
--- src/read.rt:25:1
 returns-2 : tie.Need-returns-2
 returns-2 c = rw (c .if1 .left) (refl, refl)
 

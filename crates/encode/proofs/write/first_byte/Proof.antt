@@ -10,45 +10,35 @@ use Rattle.trace.proofs.shape.has_write.Reads as has-write-reads
 use Rattle.wire.proofs.address.Address.for_read.Reads as for-read-reads
 use Rattle.wire.proofs.address.Address.for_write.Reads as for-write-reads
 
--- src/write.rt:21:8
 has-write-requires : tie.Need-has-write-requires
 has-write-requires c κs = search needs
 
--- src/write.rt:22:9
 for-write-requires : tie.Need-for-write-requires
 for-write-requires c κs = search needs
 
--- src/write.rt:22:9
 returns : tie.Need-returns
 returns c = rw (sym (c .before .before .has-write .ensures) ∙ c .before .if1 .taken) (c .for-write .ensures)
 
--- src/write.rt:24:8
 has-read-requires : tie.Need-has-read-requires
 has-read-requires c κs = search needs
 
--- src/write.rt:25:9
 for-read-requires : tie.Need-for-read-requires
 for-read-requires c κs = search needs
 
--- src/write.rt:25:9
 returns-2 : tie.Need-returns-2
 returns-2 c =
     rw (sym (c .before .before .before .before .has-write .ensures) ∙ c .before .before .before .if1 .left, sym (c .before .before .has-read .ensures) ∙ c .before .if2 .taken) (c .for-read .ensures)
 
--- src/write.rt:28:9
 for-write-requires-2 : tie.Need-for-write-requires-2
 for-write-requires-2 c κs = search needs
 
--- src/write.rt:28:9
 returns-3 : tie.Need-returns-3
 returns-3 c =
     rw (sym (c .before .before .before .before .before .has-write .ensures) ∙ c .before .before .before .before .if1 .left, sym (c .before .before .before .has-read .ensures) ∙ c .before .before .if2 .left, eq-eqb _ _ (c .before .if3 .taken)) (c .for-write2 .ensures)
 
--- src/write.rt:30:5
 for-read-requires-2 : tie.Need-for-read-requires-2
 for-read-requires-2 c κs = search needs
 
--- src/write.rt:18:1
 returns-4 : tie.Need-returns-4
 returns-4 c =
     rw (sym (c .before .before .before .before .before .has-write .ensures) ∙ c .before .before .before .before .if1 .left, sym (c .before .before .before .has-read .ensures) ∙ c .before .before .if2 .left, ne-eqb _ _ (c .before .if3 .left)) (c .for-read2 .ensures)

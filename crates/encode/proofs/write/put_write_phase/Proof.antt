@@ -10,41 +10,33 @@ use Rattle.encode.proofs.write.put_write_phase.Lts as lts
 use Rattle.encode.proofs.bytes.put_byte_if.Reads as put-byte-if-reads
 use Rattle.encode.proofs.bytes.put_part.Reads as put-part-reads
 
--- src/write.rt:45:5
 slice-write-out : tie.Need-slice-write-out
 slice-write-out c =
     let h = start-asks (c .before .before .args .out .now) (c .before .before .args .sent .now) (c .before .before .args .sh) (c .before .before .args .first .0) (c .before .before .args .command) (c .before .before .pre) in omega arith
 
--- src/write.rt:46:14
 cast-out : tie.Need-cast-out
 cast-out c = search needs
 
--- src/write.rt:46:5
 slice-write-out-2 : tie.Need-slice-write-out-2
 slice-write-out-2 c =
     let h = start-asks (c .before .before .before .args .out .now) (c .before .before .before .args .sent .now) (c .before .before .before .args .sh) (c .before .before .before .args .first .0) (c .before .before .before .args .command) (c .before .before .before .pre) in simp length-set (omega arith)
 
--- src/write.rt:47:5
 slice-write-out-3 : tie.Need-slice-write-out-3
 slice-write-out-3 c =
     let h = start-asks (c .before .before .before .args .out .now) (c .before .before .before .args .sent .now) (c .before .before .before .args .sh) (c .before .before .before .args .first .0) (c .before .before .before .args .command) (c .before .before .before .pre) in simp length-set (omega arith)
 
--- src/write.rt:48:9
 put-byte-if-requires : tie.Need-put-byte-if-requires
 put-byte-if-requires c κs =
     command-asks (c .before .before .before .before .args .out .now) (c .before .before .before .before .args .sent .now) (c .before .before .before .before .args .sh) (c .before .before .before .before .args .first .0) (c .before .before .before .before .args .command) (c .before .before .before .before .pre)
 
--- src/write.rt:49:5
 put-part-requires : tie.Need-put-part-requires
 put-part-requires c κs =
     sent-asks (c .before .before .before .before .before .before .before .before .args .out .now) (c .before .before .before .before .before .before .before .before .args .sent .now) (c .before .before .before .before .before .before .before .before .args .sh) (c .before .before .before .before .before .before .before .before .args .first .0) (c .before .before .before .before .before .before .before .before .args .command) (c .before .before .before .before .before .before .before .before .pre) _ _ (c .before .before .before .put-byte-if .ensures .0) (c .before .before .before .put-byte-if .ensures .1) (c .before .before .before .put-byte-if .kept .0)
 
--- src/write.rt:34:1
 same-length : tie.Need-same-length
 same-length c =
     c .before .before .put-part .kept .0 ∙ c .before .before .before .before .before .before .put-byte-if .kept .0 ∙ opened-length (c .before .before .before .before .before .before .before .before .before .before .before .args .out .now) (c .before .before .before .before .before .before .before .before .before .before .before .args .sent .now) (c .before .before .before .before .before .before .before .before .before .before .before .args .sh) (c .before .before .before .before .before .before .before .before .before .before .before .args .first .0) (c .before .before .before .before .before .before .before .before .before .before .before .args .command) (c .before .before .before .before .before .before .before .before .before .before .before .pre)
 
--- src/write.rt:34:1
 returns : tie.Need-returns
 returns c =
     phase-put (c .before .before .before .before .before .before .before .before .before .before .before .args .out .now) (c .before .before .before .before .before .before .before .before .before .before .before .args .sent .now) (c .before .before .before .before .before .before .before .before .before .before .before .args .sh) (c .before .before .before .before .before .before .before .before .before .before .before .args .first .0) (c .before .before .before .before .before .before .before .before .before .before .before .args .command) (c .before .before .before .before .before .before .before .before .before .before .before .pre) _ _ (c .before .before .before .before .before .before .put-byte-if .ensures .0) (c .before .before .before .before .before .before .put-byte-if .ensures .1) (c .before .before .before .before .before .before .put-byte-if .kept .0) _ _ (c .before .before .put-part .ensures .0) (c .before .before .put-part .ensures .1)

@@ -8,67 +8,51 @@ use Rattle.exports.proofs.check.hb_check_targets.Lts as lts
 use Rattle.exports.proofs.check.checked.Reads as checked-reads
 use Rattle.targets.proofs.admit.check.Reads as check-reads
 
--- src/check.rt:29:9
 check-requires : tie.Need-check-requires
 check-requires c κs = search needs
 
--- src/check.rt:31:30
 enum-told : tie.Need-enum-told
 enum-told c = search needs
 
--- src/check.rt:31:30
 checked-requires : tie.Need-checked-requires
 checked-requires c κs = search needs
 
--- src/check.rt:32:31
 enum-told-2 : tie.Need-enum-told-2
 enum-told-2 c = search needs
 
--- src/check.rt:32:31
 checked-requires-2 : tie.Need-checked-requires-2
 checked-requires-2 c κs = search needs
 
--- src/check.rt:33:28
 enum-known-c : tie.Need-enum-known-c
 enum-known-c c = search needs
 
--- src/check.rt:33:34
 checked-requires-3 : tie.Need-checked-requires-3
 checked-requires-3 c κs = search needs
 
--- src/check.rt:34:27
 enum-known-c-2 : tie.Need-enum-known-c-2
 enum-known-c-2 c = search needs
 
--- src/check.rt:34:33
 checked-requires-4 : tie.Need-checked-requires-4
 checked-requires-4 c κs = search needs
 
--- src/check.rt:35:24
 enum-known-c-3 : tie.Need-enum-known-c-3
 enum-known-c-3 c = search needs
 
--- src/check.rt:35:30
 checked-requires-5 : tie.Need-checked-requires-5
 checked-requires-5 c κs = search needs
 
--- src/check.rt:25:1
 returns : tie.Need-returns
 returns c = c .checked .ensures ∙ ap toldChecked (sym (c .before .enum-told .given .1) ∙ c .before .before .before .check .ensures)
 
--- src/check.rt:25:1
 returns-2 : tie.Need-returns-2
 returns-2 c = c .checked2 .ensures ∙ ap toldChecked (sym (c .before .enum-told2 .given .1) ∙ c .before .before .before .check .ensures)
 
--- src/check.rt:25:1
 returns-3 : tie.Need-returns-3
 returns-3 c = c .checked3 .ensures ∙ ap toldChecked (sym (c .before .before .c .given .1) ∙ c .before .before .before .before .check .ensures)
 
--- src/check.rt:25:1
 returns-4 : tie.Need-returns-4
 returns-4 c = c .checked4 .ensures ∙ ap toldChecked (sym (c .before .before .c2 .given .1) ∙ c .before .before .before .before .check .ensures)
 
--- src/check.rt:25:1
 returns-5 : tie.Need-returns-5
 returns-5 c = c .checked5 .ensures ∙ ap toldChecked (sym (c .before .before .c3 .given .1) ∙ c .before .before .before .before .check .ensures)
 

@@ -20,75 +20,58 @@ Inv-loop symbols₀ bytes n i₀ symbols i = (i ≤ n) × (length symbols ≡ le
 abbrev μ-loop : tie.MeasureT-loop
 μ-loop symbols₀ bytes n i₀ symbols i = n - i
 
--- src/codec.rt:28:5
 loop-holds : tie.Need-loop-holds Inv-loop μ-loop
 unfolding symbolsIn
 loop-holds c = search needs
 
--- src/codec.rt:29:25
 mul-low : tie.Need-mul-low Inv-loop μ-loop
 mul-low c = search needs
 
--- src/codec.rt:29:19
 shared-slice-read-low : tie.Need-shared-slice-read-low Inv-loop μ-loop
 shared-slice-read-low c = search needs
 
--- src/codec.rt:29:19
 cast-low : tie.Need-cast-low Inv-loop μ-loop
 cast-low c = omega (arith, c .shared-slice-known .given (2 * c .before .before .loop .i) .fits)
 
--- src/codec.rt:30:26
 mul-high : tie.Need-mul-high Inv-loop μ-loop
 mul-high c = search needs
 
--- src/codec.rt:30:26
 add-high : tie.Need-add-high Inv-loop μ-loop
 add-high c = search needs
 
--- src/codec.rt:30:20
 shared-slice-read-high : tie.Need-shared-slice-read-high Inv-loop μ-loop
 shared-slice-read-high c = search needs
 
--- src/codec.rt:30:20
 cast-high : tie.Need-cast-high Inv-loop μ-loop
 cast-high c = omega (arith, c .shared-slice-known2 .given (2 * c .before .before .before .loop .i + 1) .fits)
 
--- src/codec.rt:31:28
 mul-symbols : tie.Need-mul-symbols Inv-loop μ-loop
 mul-symbols c = omega (arith, c .shared-slice-known2 .given (2 * c .before .before .before .loop .i + 1) .fits)
 
--- src/codec.rt:31:22
 add-symbols : tie.Need-add-symbols Inv-loop μ-loop
 add-symbols c = omega (arith, c .before .shared-slice-known .given (2 * c .before .before .before .loop .i) .fits, c .shared-slice-known2 .given (2 * c .before .before .before .loop .i + 1) .fits)
 
--- src/codec.rt:31:9
 mul-symbols-2 : tie.Need-mul-symbols-2 Inv-loop μ-loop
 mul-symbols-2 c = search needs
 
--- src/codec.rt:31:9
 slice-write-symbols : tie.Need-slice-write-symbols Inv-loop μ-loop
 slice-write-symbols c = search needs
 
--- src/codec.rt:32:9
 add-i : tie.Need-add-i Inv-loop μ-loop
 add-i c = search needs
 
--- src/codec.rt:28:5
 loop-less : tie.Need-loop-less Inv-loop μ-loop
 loop-less c = search needs
 
--- src/codec.rt:28:5
 loop-again : tie.Need-loop-again Inv-loop μ-loop
 loop-again c =
     let l = c .before .before .before .loop in
     let a = c .before .before .before .before .args in
     (omega arith, simp length-set (l .inv .1), rw (l .inv .2) (symbols-turn (a .symbols .now) (a .bytes .now) (l .i) (omega arith)))
 
--- src/codec.rt:23:1
 same-length : tie.Need-same-length Inv-loop μ-loop
 same-length c = search needs
 
--- src/codec.rt:23:1
 returns : tie.Need-returns Inv-loop μ-loop
 returns c =
     let l = c .before .loop in

@@ -13,43 +13,33 @@ use Rattle.exports.proofs.answer.decoded.Reads as decoded-reads
 use Rattle.exports.proofs.codec.get_pairs.Reads as get-pairs-reads
 use Rattle.exports.proofs.codec.smaller.Reads as smaller-reads
 
--- src/codec.rt:112:9
 smaller-requires : tie.Need-smaller-requires
 smaller-requires c κs = search needs
 
--- src/codec.rt:113:15
 slice-aggregate-get-pairs : tie.Need-slice-aggregate-get-pairs
 slice-aggregate-get-pairs c = search needs
 
--- src/codec.rt:113:5
 get-pairs-requires : tie.Need-get-pairs-requires
 get-pairs-requires c κs = search needs
 
--- src/codec.rt:114:48
 array-share-prefix-buf : tie.Need-array-share-prefix-buf
 array-share-prefix-buf c = search needs
 
--- src/codec.rt:114:48
 slice-aggregate-decode : tie.Need-slice-aggregate-decode
 slice-aggregate-decode c = sym (length-take-le _ _ (omega (arith, c .before .before .before .before .smaller .ensures .2, c .before .buf2 .given)))
 
--- src/codec.rt:114:13
 decode-requires : tie.Need-decode-requires
 decode-requires c κs = search needs
 
--- src/codec.rt:114:5
 decoded-requires : tie.Need-decoded-requires
 decoded-requires c κs = search needs
 
--- src/codec.rt:101:1
 same-length : tie.Need-same-length
 same-length c = search needs
 
--- src/codec.rt:101:1
 same-length-2 : tie.Need-same-length-2
 same-length-2 c = search needs
 
--- src/codec.rt:101:1
 returns : tie.Need-returns
 returns c =
     let a = c .before .before .before .before .before .before .before .before .before .before .before .before .before .before .before .before .args in

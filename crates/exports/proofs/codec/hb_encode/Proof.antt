@@ -17,23 +17,18 @@ use Rattle.encode.proofs.encode.Reads as encode-reads
 use Rattle.exports.proofs.codec.put_pairs.Reads as put-pairs-reads
 use Rattle.exports.proofs.codec.written.Reads as written-reads
 
--- src/codec.rt:77:9
 slice-aggregate-encode : tie.Need-slice-aggregate-encode
 slice-aggregate-encode c = search needs
 
--- src/codec.rt:69:9
 encode-requires : tie.Need-encode-requires
 encode-requires c κs = search needs
 
--- src/codec.rt:79:26
 enum-known-r : tie.Need-enum-known-r
 enum-known-r c = search needs
 
--- src/codec.rt:80:9
 written-requires : tie.Need-written-requires
 written-requires c κs = search needs
 
--- src/codec.rt:80:9
 returns : tie.Need-returns
 returns c =
     let a = c .before .before .before .before .before .before .before .before .args in
@@ -43,11 +38,9 @@ returns c =
     let rb = all-bytes (a .received .now) (λ i. c .before .before .before .before .before .before .shared-slice-known2 .given i .fits) in
     refused-pairs (a .protocol) (truth (a .pec)) t cb sb rb _ refl _ _ (c .before .before .before .encode .ensures) (a .out .now) (c .before .match .keys2) _ (c .written .ensures)
 
--- src/codec.rt:83:9
 written-requires-2 : tie.Need-written-requires-2
 written-requires-2 c κs = search needs
 
--- src/codec.rt:83:9
 returns-2 : tie.Need-returns-2
 returns-2 c =
     let a = c .before .before .before .before .before .before .before .before .before .before .before .args in
@@ -57,7 +50,6 @@ returns-2 c =
     let rb = all-bytes (a .received .now) (λ i. c .before .before .before .before .before .before .before .before .before .shared-slice-known2 .given i .fits) in
     short-pairs (a .protocol) (truth (a .pec)) t cb sb rb _ refl _ _ (c .before .before .before .before .before .before .encode .ensures) (a .out .now) _ (c .before .before .before .r .given .1) (c .before .if1 .taken) _ (c .written2 .ensures)
 
--- src/codec.rt:85:20
 array-share-prefix-buf : tie.Need-array-share-prefix-buf
 array-share-prefix-buf c =
     let a = c .before .before .before .before .before .before .before .before .before .before .before .args in
@@ -67,7 +59,6 @@ array-share-prefix-buf c =
     let rb = all-bytes (a .received .now) (λ i. c .before .before .before .before .before .before .before .before .before .shared-slice-known2 .given i .fits) in
     omega (arith, small (a .protocol) (truth (a .pec)) t cb sb rb _ refl _ _ (c .before .before .before .before .before .before .encode .ensures) _ (c .before .before .before .r .given .1), c .before .before .before .before .before .buf2 .given)
 
--- src/codec.rt:85:20
 slice-aggregate-put-pairs : tie.Need-slice-aggregate-put-pairs
 slice-aggregate-put-pairs c =
     let a = c .before .before .before .before .before .before .before .before .before .before .before .before .args in
@@ -77,7 +68,6 @@ slice-aggregate-put-pairs c =
     let rb = all-bytes (a .received .now) (λ i. c .before .before .before .before .before .before .before .before .before .before .shared-slice-known2 .given i .fits) in
     sym (length-take-le _ _ (omega (arith, small (a .protocol) (truth (a .pec)) t cb sb rb _ refl _ _ (c .before .before .before .before .before .before .before .encode .ensures) _ (c .before .before .before .before .r .given .1), c .before .before .before .before .before .before .buf2 .given)))
 
--- src/codec.rt:85:5
 put-pairs-requires : tie.Need-put-pairs-requires
 put-pairs-requires c κs =
     let a = c .before .before .before .before .before .before .before .before .before .before .before .before .args in
@@ -88,7 +78,6 @@ put-pairs-requires c κs =
     let k : length (take (c .before .before .before .before .r .given .0 .0) (c .before .before .before .before .before .before .before .encode .last .1 .1 .1 .1 .1 .1 .1 .0)) ≡ c .before .before .before .before .r .given .0 .0 = length-take-le _ _ (omega (arith, small (a .protocol) (truth (a .pec)) t cb sb rb _ refl _ _ (c .before .before .before .before .before .before .before .encode .ensures) _ (c .before .before .before .before .r .given .1), c .before .before .before .before .before .before .buf2 .given)) in
     omega (arith, k, c .before .before .if1 .left)
 
--- src/codec.rt:86:16
 cast-written : tie.Need-cast-written
 cast-written c =
     let a = c .before .before .before .before .before .before .before .before .before .before .before .before .before .before .before .args in
@@ -98,15 +87,12 @@ cast-written c =
     let rb = all-bytes (a .received .now) (λ i. c .before .before .before .before .before .before .before .before .before .before .before .before .before .shared-slice-known2 .given i .fits) in
     omega (arith, small (a .protocol) (truth (a .pec)) t cb sb rb _ refl _ _ (c .before .before .before .before .before .before .before .before .before .before .encode .ensures) _ (c .before .before .before .before .before .before .before .r .given .1))
 
--- src/codec.rt:86:5
 written-requires-3 : tie.Need-written-requires-3
 written-requires-3 c κs = search needs
 
--- src/codec.rt:55:1
 same-length : tie.Need-same-length
 same-length c = search needs
 
--- src/codec.rt:55:1
 returns-3 : tie.Need-returns-3
 returns-3 c =
     let a = c .before .before .before .before .before .before .before .before .before .before .before .before .before .before .before .before .args in

@@ -20,67 +20,52 @@ Inv-loop out₀ symbols i₀ out i = (i ≤ length symbols) × (length out ≡ l
 abbrev μ-loop : tie.MeasureT-loop
 μ-loop out₀ symbols i₀ out i = length symbols - i
 
--- src/codec.rt:14:5
 loop-holds : tie.Need-loop-holds Inv-loop μ-loop
 unfolding pairsOf
 loop-holds c = search needs
 
--- src/codec.rt:15:17
 mul-x : tie.Need-mul-x Inv-loop μ-loop
 mul-x c = search needs
 
--- src/codec.rt:15:17
 shared-slice-read-x : tie.Need-shared-slice-read-x Inv-loop μ-loop
 shared-slice-read-x c = search needs
 
--- src/codec.rt:16:22
 cast-out : tie.Need-cast-out Inv-loop μ-loop
 cast-out c = omega (arith, c .shared-slice-known .given (c .before .before .loop .i) .fits)
 
--- src/codec.rt:16:13
 mul-out : tie.Need-mul-out Inv-loop μ-loop
 mul-out c = search needs
 
--- src/codec.rt:16:9
 slice-write-out : tie.Need-slice-write-out Inv-loop μ-loop
 slice-write-out c = search needs
 
--- src/codec.rt:17:26
 cast-out-2 : tie.Need-cast-out-2 Inv-loop μ-loop
 cast-out-2 c = omega (arith, c .shared-slice-known .given (c .before .before .loop .i) .fits)
 
--- src/codec.rt:17:13
 mul-out-2 : tie.Need-mul-out-2 Inv-loop μ-loop
 mul-out-2 c = search needs
 
--- src/codec.rt:17:13
 add-out : tie.Need-add-out Inv-loop μ-loop
 add-out c = search needs
 
--- src/codec.rt:17:9
 slice-write-out-2 : tie.Need-slice-write-out-2 Inv-loop μ-loop
 slice-write-out-2 c = simp length-set (omega arith)
 
--- src/codec.rt:18:9
 add-i : tie.Need-add-i Inv-loop μ-loop
 add-i c = search needs
 
--- src/codec.rt:14:5
 loop-less : tie.Need-loop-less Inv-loop μ-loop
 loop-less c = search needs
 
--- src/codec.rt:14:5
 loop-again : tie.Need-loop-again Inv-loop μ-loop
 loop-again c =
     let l = c .before .before .loop in
     let a = c .before .before .before .args in
     (omega arith, simp length-set (l .inv .1), rw (l .inv .2) (pairs-turn (a .out .now) (a .symbols .now) (l .i) (c .before .loop-test .taken) (c .before .before .before .pre)))
 
--- src/codec.rt:9:1
 same-length : tie.Need-same-length Inv-loop μ-loop
 same-length c = search needs
 
--- src/codec.rt:9:1
 returns : tie.Need-returns Inv-loop μ-loop
 returns c =
     let l = c .before .loop in

@@ -6,11 +6,9 @@ use Rattle.exports.proofs.codec.smaller.Tie as tie
 use Rattle.exports.proofs.codec.smaller.Reads as reads
 use Rattle.exports.proofs.codec.smaller.Lts as lts
 
--- src/codec.rt:94:1
 returns : tie.Need-returns
 returns c = rw (lt-ltb _ _ (c .if1 .taken)) (search needs)
 
--- src/codec.rt:94:1
 returns-2 : tie.Need-returns-2
 returns-2 c = rw (le-ltb _ _ (c .if1 .left)) (search needs)
 

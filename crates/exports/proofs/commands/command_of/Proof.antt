@@ -5,19 +5,15 @@ use Rattle.exports.proofs.commands.command_of.Tie as tie
 use Rattle.exports.proofs.commands.command_of.Reads as reads
 use Rattle.exports.proofs.commands.command_of.Lts as lts
 
--- src/commands.rt:25:9
 returns : tie.Need-returns
 returns c = rw (eq-eqb _ _ (c .if1 .taken))
 
--- src/commands.rt:28:9
 returns-2 : tie.Need-returns-2
 returns-2 c = rw (ne-eqb _ _ (c .before .if1 .left), eq-eqb _ _ (c .if2 .taken))
 
--- src/commands.rt:31:9
 returns-3 : tie.Need-returns-3
 returns-3 c = rw (ne-eqb _ _ (c .before .before .if1 .left), ne-eqb _ _ (c .before .if2 .left), eq-eqb _ _ (c .if3 .taken))
 
--- src/commands.rt:21:1
 returns-4 : tie.Need-returns-4
 returns-4 c = rw (ne-eqb _ _ (c .before .before .if1 .left), ne-eqb _ _ (c .before .if2 .left), ne-eqb _ _ (c .if3 .left))
 

@@ -14,65 +14,50 @@ use Rattle.exports.proofs.codec.put_pairs.Reads as put-pairs-reads
 use Rattle.exports.proofs.codec.written.Reads as written-reads
 use Rattle.exports.proofs.commands.command_of.Reads as command-of-reads
 
--- src/commands.rt:87:9
 command-of-requires : tie.Need-command-of-requires
 command-of-requires c κs = search needs
 
--- src/commands.rt:89:35
 slice-aggregate-put-command : tie.Need-slice-aggregate-put-command
 slice-aggregate-put-command c = search needs
 
--- src/commands.rt:89:9
 put-command-requires : tie.Need-put-command-requires
 put-command-requires c κs = search needs
 
--- src/commands.rt:90:26
 enum-known-r : tie.Need-enum-known-r
 enum-known-r c = search needs
 
--- src/commands.rt:91:9
 written-requires : tie.Need-written-requires
 written-requires c κs = search needs
 
--- src/commands.rt:91:9
 returns : tie.Need-returns
 returns c = command-refused _ _ (c .before .before .before .before .before .command-of .ensures) (c .before .before .before .before .before .before .before .before .args .reply .now) (all-bytes (c .before .before .before .before .before .before .before .before .args .reply .now) (λ i. c .before .before .before .before .before .before .before .shared-slice-known .given i .fits)) _ refl _ _ (c .before .before .before .put-command .ensures) _ (c .before .match .keys2) _ (c .written .ensures)
 
--- src/commands.rt:94:9
 written-requires-2 : tie.Need-written-requires-2
 written-requires-2 c κs = search needs
 
--- src/commands.rt:94:9
 returns-2 : tie.Need-returns-2
 returns-2 c = command-short _ _ (c .before .before .before .before .before .before .before .before .command-of .ensures) (c .before .before .before .before .before .before .before .before .before .before .before .args .reply .now) (all-bytes (c .before .before .before .before .before .before .before .before .before .before .before .args .reply .now) (λ i. c .before .before .before .before .before .before .before .before .before .before .shared-slice-known .given i .fits)) _ refl _ _ (c .before .before .before .before .before .before .put-command .ensures) _ _ (c .before .before .before .r .given .1) (c .before .if1 .taken) _ (c .written2 .ensures)
 
--- src/commands.rt:96:20
 array-share-prefix-buf : tie.Need-array-share-prefix-buf
 array-share-prefix-buf c = omega (arith, command-small _ _ (c .before .before .before .before .before .before .before .before .command-of .ensures) (c .before .before .before .before .before .before .before .before .before .before .before .args .reply .now) (all-bytes (c .before .before .before .before .before .before .before .before .before .before .before .args .reply .now) (λ i. c .before .before .before .before .before .before .before .before .before .before .shared-slice-known .given i .fits)) _ refl _ _ (c .before .before .before .before .before .before .put-command .ensures) _ (c .before .before .before .r .given .1), c .before .before .before .before .before .buf2 .given)
 
--- src/commands.rt:96:20
 slice-aggregate-put-pairs : tie.Need-slice-aggregate-put-pairs
 slice-aggregate-put-pairs c = sym (length-take-le _ _ (omega (arith, command-small _ _ (c .before .before .before .before .before .before .before .before .before .command-of .ensures) (c .before .before .before .before .before .before .before .before .before .before .before .before .args .reply .now) (all-bytes (c .before .before .before .before .before .before .before .before .before .before .before .before .args .reply .now) (λ i. c .before .before .before .before .before .before .before .before .before .before .before .shared-slice-known .given i .fits)) _ refl _ _ (c .before .before .before .before .before .before .before .put-command .ensures) _ (c .before .before .before .before .r .given .1), c .before .before .before .before .before .before .buf2 .given)))
 
--- src/commands.rt:96:5
 put-pairs-requires : tie.Need-put-pairs-requires
 put-pairs-requires c κs =
     let k : length (take (c .before .before .before .before .r .given .0 .0) (c .before .before .before .before .before .before .before .put-command .last .1 .1 .0)) ≡ c .before .before .before .before .r .given .0 .0 = length-take-le _ _ (omega (arith, command-small _ _ (c .before .before .before .before .before .before .before .before .before .command-of .ensures) (c .before .before .before .before .before .before .before .before .before .before .before .before .args .reply .now) (all-bytes (c .before .before .before .before .before .before .before .before .before .before .before .before .args .reply .now) (λ i. c .before .before .before .before .before .before .before .before .before .before .before .shared-slice-known .given i .fits)) _ refl _ _ (c .before .before .before .before .before .before .before .put-command .ensures) _ (c .before .before .before .before .r .given .1), c .before .before .before .before .before .before .buf2 .given)) in
     omega (arith, k, c .before .before .if1 .left)
 
--- src/commands.rt:97:16
 cast-written : tie.Need-cast-written
 cast-written c = omega (arith, command-small _ _ (c .before .before .before .before .before .before .before .before .before .before .before .before .command-of .ensures) (c .before .before .before .before .before .before .before .before .before .before .before .before .before .before .before .args .reply .now) (all-bytes (c .before .before .before .before .before .before .before .before .before .before .before .before .before .before .before .args .reply .now) (λ i. c .before .before .before .before .before .before .before .before .before .before .before .before .before .before .shared-slice-known .given i .fits)) _ refl _ _ (c .before .before .before .before .before .before .before .before .before .before .put-command .ensures) _ (c .before .before .before .before .before .before .before .r .given .1))
 
--- src/commands.rt:97:5
 written-requires-3 : tie.Need-written-requires-3
 written-requires-3 c κs = search needs
 
--- src/commands.rt:76:1
 same-length : tie.Need-same-length
 same-length c = search needs
 
--- src/commands.rt:76:1
 returns-3 : tie.Need-returns-3
 returns-3 c = command-done _ _ (c .before .before .before .before .before .before .before .before .before .before .before .before .before .command-of .ensures) (c .before .before .before .before .before .before .before .before .before .before .before .before .before .before .before .before .args .reply .now) (all-bytes (c .before .before .before .before .before .before .before .before .before .before .before .before .before .before .before .before .args .reply .now) (λ i. c .before .before .before .before .before .before .before .before .before .before .before .before .before .before .before .shared-slice-known .given i .fits)) _ refl _ _ (c .before .before .before .before .before .before .before .before .before .before .before .put-command .ensures) _ _ (c .before .before .before .before .before .before .before .before .r .given .1) (c .before .before .before .before .before .before .if1 .left) _ (c .written3 .ensures) _ (c .before .before .before .put-pairs .ensures)
 

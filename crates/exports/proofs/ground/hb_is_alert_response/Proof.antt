@@ -8,15 +8,12 @@ use Rattle.exports.proofs.ground.hb_is_alert_response.Lts as lts
 use Rattle.exports.proofs.parts.as_number.Reads as as-number-reads
 use Rattle.wire.proofs.address.Address.is_alert_response.Reads as is-alert-response-reads
 
--- src/ground.rt:98:15
 is-alert-response-requires : tie.Need-is-alert-response-requires
 is-alert-response-requires c κs = search needs
 
--- src/ground.rt:98:5
 as-number-requires : tie.Need-as-number-requires
 as-number-requires c κs = search needs
 
--- src/ground.rt:94:1
 returns : tie.Need-returns
 returns c = c .as-number .ensures ∙ ap bit (c .before .is-alert-response .ensures)
 

@@ -8,15 +8,12 @@ use Rattle.exports.proofs.ground.hb_is_default.Lts as lts
 use Rattle.exports.proofs.parts.as_number.Reads as as-number-reads
 use Rattle.wire.proofs.address.Address.is_default.Reads as is-default-reads
 
--- src/ground.rt:82:15
 is-default-requires : tie.Need-is-default-requires
 is-default-requires c κs = search needs
 
--- src/ground.rt:82:5
 as-number-requires : tie.Need-as-number-requires
 as-number-requires c κs = search needs
 
--- src/ground.rt:78:1
 returns : tie.Need-returns
 returns c = c .as-number .ensures ∙ ap bit (c .before .is-default .ensures)
 

@@ -8,15 +8,12 @@ use Rattle.exports.proofs.ground.hb_is_host.Lts as lts
 use Rattle.exports.proofs.parts.as_number.Reads as as-number-reads
 use Rattle.wire.proofs.address.Address.is_host.Reads as is-host-reads
 
--- src/ground.rt:90:15
 is-host-requires : tie.Need-is-host-requires
 is-host-requires c κs = search needs
 
--- src/ground.rt:90:5
 as-number-requires : tie.Need-as-number-requires
 as-number-requires c κs = search needs
 
--- src/ground.rt:86:1
 returns : tie.Need-returns
 returns c = c .as-number .ensures ∙ ap bit (c .before .is-host .ensures)
 

@@ -8,15 +8,12 @@ use Rattle.exports.proofs.ground.hb_is_reserved.Lts as lts
 use Rattle.exports.proofs.parts.as_number.Reads as as-number-reads
 use Rattle.wire.proofs.address.Address.is_reserved.Reads as is-reserved-reads
 
--- src/ground.rt:106:15
 is-reserved-requires : tie.Need-is-reserved-requires
 is-reserved-requires c κs = search needs
 
--- src/ground.rt:106:5
 as-number-requires : tie.Need-as-number-requires
 as-number-requires c κs = search needs
 
--- src/ground.rt:102:1
 returns : tie.Need-returns
 returns c = c .as-number .ensures ∙ ap bit (c .before .is-reserved .ensures)
 

@@ -8,15 +8,12 @@ use Rattle.exports.proofs.ground.hb_is_seven_bit.Lts as lts
 use Rattle.exports.proofs.parts.as_number.Reads as as-number-reads
 use Rattle.wire.proofs.address.Address.is_seven_bit.Reads as is-seven-bit-reads
 
--- src/ground.rt:74:15
 is-seven-bit-requires : tie.Need-is-seven-bit-requires
 is-seven-bit-requires c κs = search needs
 
--- src/ground.rt:74:5
 as-number-requires : tie.Need-as-number-requires
 as-number-requires c κs = search needs
 
--- src/ground.rt:70:1
 returns : tie.Need-returns
 returns c = c .as-number .ensures ∙ ap bit (c .before .is-seven-bit .ensures)
 

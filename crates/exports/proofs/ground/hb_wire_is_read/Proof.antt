@@ -8,15 +8,12 @@ use Rattle.exports.proofs.ground.hb_wire_is_read.Lts as lts
 use Rattle.exports.proofs.parts.as_number.Reads as as-number-reads
 use Rattle.wire.proofs.address.WireByte.is_read.Reads as is-read-reads
 
--- src/ground.rt:66:15
 is-read-requires : tie.Need-is-read-requires
 is-read-requires c κs = search needs
 
--- src/ground.rt:66:5
 as-number-requires : tie.Need-as-number-requires
 as-number-requires c κs = search needs
 
--- src/ground.rt:62:1
 returns : tie.Need-returns
 returns c = c .as-number .ensures ∙ ap bit (c .before .is-read .ensures)
 

@@ -8,31 +8,24 @@ use Rattle.exports.proofs.last_data.copy.Reads as copy-reads
 use Rattle.exports.proofs.last_data.part.Reads as part-reads
 use Rattle.last.proofs.last_data.Reads as last-data-reads
 
--- src/last_data.rt:56:9
 last-data-requires : tie.Need-last-data-requires
 last-data-requires c κs = search needs
 
--- src/last_data.rt:58:9
 part-requires : tie.Need-part-requires
 part-requires c κs = search needs
 
--- src/last_data.rt:58:9
 returns : tie.Need-returns
 returns c = copied-short _ _ _ _ (c .before .before .last-data .ensures .0) (c .before .if1 .taken) (c .part .ensures)
 
--- src/last_data.rt:60:5
 copy-requires : tie.Need-copy-requires
 copy-requires c κs = search needs
 
--- src/last_data.rt:61:5
 part-requires-2 : tie.Need-part-requires-2
 part-requires-2 c κs = search needs
 
--- src/last_data.rt:37:1
 same-length : tie.Need-same-length
 same-length c = search needs
 
--- src/last_data.rt:37:1
 returns-2 : tie.Need-returns-2
 returns-2 c = copied-done _ _ _ _ _ (c .before .before .before .before .before .before .last-data .ensures .0) (c .before .before .before .before .before .if1 .left) (c .part2 .ensures) (c .before .before .before .copy .ensures)
 

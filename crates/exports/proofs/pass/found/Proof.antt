@@ -5,11 +5,9 @@ use Rattle.exports.proofs.pass.found.Reads as reads
 use Rattle.exports.proofs.pass.found.Lts as lts
 use Rattle.exports.proofs.parts.identifier.Reads as identifier-reads
 
--- src/pass.rt:96:15
 identifier-requires : tie.Need-identifier-requires
 identifier-requires c κs = search needs
 
--- src/pass.rt:91:1
 returns : tie.Need-returns
 returns c = rw (c .identifier .ensures)
 

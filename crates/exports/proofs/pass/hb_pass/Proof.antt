@@ -9,15 +9,12 @@ use Rattle.exports.proofs.pass.hb_pass.Lts as lts
 use Rattle.exports.proofs.commands.told_command.Reads as told-command-reads
 use Rattle.exports.proofs.pass.run_pass.Reads as run-pass-reads
 
--- src/pass.rt:78:9
 run-pass-requires : tie.Need-run-pass-requires
 run-pass-requires c κs = search needs
 
--- src/pass.rt:81:5
 told-command-requires : tie.Need-told-command-requires
 told-command-requires c κs = search needs
 
--- src/pass.rt:74:1
 returns : tie.Need-returns
 returns c = c .told-command .ensures ∙ ap (λ (x : Stepped). toldCommand (x .command) (x .state .gets)) (c .before .before .run-pass .ensures)
 

@@ -11,19 +11,15 @@ use Rattle.arp.proofs.state.Controller.lookup.Reads as lookup-reads
 use Rattle.exports.proofs.pass.run_pass.Reads as run-pass-reads
 use Rattle.exports.proofs.pass.told_found.Reads as told-found-reads
 
--- src/pass.rt:117:9
 run-pass-requires : tie.Need-run-pass-requires
 run-pass-requires c κs = search needs
 
--- src/pass.rt:119:16
 lookup-requires : tie.Need-lookup-requires
 lookup-requires c κs = search needs
 
--- src/pass.rt:119:5
 told-found-requires : tie.Need-told-found-requires
 told-found-requires c κs = search needs
 
--- src/pass.rt:113:1
 returns : tie.Need-returns
 returns c = c .told-found .ensures ∙ ap toldFound (c .before .lookup .ensures ∙ ap (λ (x : Stepped). lookedUp (x .state) (c .before .before .before .before .before .args .address)) (c .before .before .before .run-pass .ensures))
 

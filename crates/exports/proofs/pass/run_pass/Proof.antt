@@ -19,63 +19,48 @@ Inv-loop bytes st₀ at₀ st at = (at ≤ length bytes) × Leads bytes (stepsOv
 abbrev μ-loop : tie.MeasureT-loop
 μ-loop bytes st₀ at₀ st at = length bytes - at
 
--- src/pass.rt:57:9
 new-requires : tie.Need-new-requires Inv-loop μ-loop
 new-requires c κs = search needs
 
--- src/pass.rt:58:9
 start-requires : tie.Need-start-requires Inv-loop μ-loop
 start-requires c κs = search needs
 
--- src/pass.rt:60:5
 loop-holds : tie.Need-loop-holds Inv-loop μ-loop
 loop-holds c = (omega arith, leads-first _ _)
 
--- src/pass.rt:61:13
 symbols-at-requires : tie.Need-symbols-at-requires Inv-loop μ-loop
 symbols-at-requires c κs = c .before .loop .inv .0
 
--- src/pass.rt:63:13
 returns : tie.Need-returns Inv-loop μ-loop
 returns c = from-start _ (c .before .before .before .before .before .before .before .args .bytes .now) _ _ _ (c .before .before .before .before .before .new .ensures) (c .before .before .before .before .start .ensures) (leads-stop _ _ _ _ _ (c .before .before .before .loop .inv .1) (c .before .symbols-at .ensures) (c .if1 .taken))
 
--- src/pass.rt:66:20
 add-from : tie.Need-add-from Inv-loop μ-loop
 add-from c = omega (arith, c .before .before .symbols-at .ensures .room (omega (arith, c .before .if1 .left)))
 
--- src/pass.rt:67:29
 sub-step-on : tie.Need-sub-step-on Inv-loop μ-loop
 sub-step-on c = omega (arith, c .before .before .symbols-at .ensures .room (omega (arith, c .before .if1 .left)))
 
--- src/pass.rt:67:29
 part-step-on-start : tie.Need-part-step-on-start Inv-loop μ-loop
 part-step-on-start c = omega (arith, c .before .before .symbols-at .ensures .room (omega (arith, c .before .if1 .left)))
 
--- src/pass.rt:67:29
 part-step-on-end : tie.Need-part-step-on-end Inv-loop μ-loop
 part-step-on-end c = search needs
 
--- src/pass.rt:67:9
 step-on-requires : tie.Need-step-on-requires Inv-loop μ-loop
 step-on-requires c κs = lent-room _ _ _ (c .before .before .before .symbols-at .ensures) (omega (arith, c .before .before .if1 .left))
 
--- src/pass.rt:68:21
 mul-at : tie.Need-mul-at Inv-loop μ-loop
 mul-at c = omega (arith, c .before .before .before .before .symbols-at .ensures .room (omega (arith, c .before .before .before .if1 .left)))
 
--- src/pass.rt:68:14
 add-at : tie.Need-add-at Inv-loop μ-loop
 add-at c = omega (arith, c .before .before .before .before .symbols-at .ensures .room (omega (arith, c .before .before .before .if1 .left)))
 
--- src/pass.rt:60:5
 loop-less : tie.Need-loop-less Inv-loop μ-loop
 loop-less c = omega (arith, c .before .before .before .before .symbols-at .ensures .room (omega (arith, c .before .before .before .if1 .left)))
 
--- src/pass.rt:60:5
 loop-again : tie.Need-loop-again Inv-loop μ-loop
 loop-again c = (omega (arith, c .before .before .before .before .symbols-at .ensures .room (omega (arith, c .before .before .before .if1 .left))), leads-turn _ _ _ _ _ (c .before .before .before .before .before .loop-test .taken) (c .before .before .before .before .before .before .loop .inv .1) (c .before .before .before .before .symbols-at .ensures) (omega (arith, c .before .before .before .if1 .left)) _ (c .step-on .ensures))
 
--- src/pass.rt:54:1
 returns-2 : tie.Need-returns-2 Inv-loop μ-loop
 returns-2 c = from-start _ (c .before .before .before .before .before .args .bytes .now) _ _ _ (c .before .before .before .new .ensures) (c .before .before .start .ensures) (leads-end _ _ _ _ (c .before .loop .inv .1) (c .loop-test .left))
 

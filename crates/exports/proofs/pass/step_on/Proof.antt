@@ -11,27 +11,21 @@ use Rattle.exports.proofs.pass.step_on.Lts as lts
 use Rattle.arp.proofs.state.Controller.step.Reads as step-reads
 use Rattle.exports.proofs.codec.get_pairs.Reads as get-pairs-reads
 
--- src/pass.rt:49:15
 slice-aggregate-get-pairs : tie.Need-slice-aggregate-get-pairs
 slice-aggregate-get-pairs c = search needs
 
--- src/pass.rt:49:5
 get-pairs-requires : tie.Need-get-pairs-requires
 get-pairs-requires c κs = search needs
 
--- src/pass.rt:50:16
 array-share-prefix-buf : tie.Need-array-share-prefix-buf
 array-share-prefix-buf c = search needs
 
--- src/pass.rt:50:16
 slice-aggregate-step : tie.Need-slice-aggregate-step
 slice-aggregate-step c = sym (length-take-le _ _ (omega (arith, c .before .before .before .before .before .pre .0, c .before .buf2 .given)))
 
--- src/pass.rt:50:5
 step-requires : tie.Need-step-requires
 step-requires c κs = search needs
 
--- src/pass.rt:44:1
 returns : tie.Need-returns
 returns c = c .step .ensures ∙ ap (stepped (c .before .before .before .before .before .before .args .state)) (front-is _ _ _ _ (c .before .before .before .get-pairs .ensures))
 

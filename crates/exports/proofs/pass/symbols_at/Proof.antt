@@ -7,47 +7,36 @@ use Rattle.exports.proofs.pass.symbols_at.Tie as tie
 use Rattle.exports.proofs.pass.symbols_at.Reads as reads
 use Rattle.exports.proofs.pass.symbols_at.Lts as lts
 
--- src/pass.rt:30:16
 sub-left : tie.Need-sub-left
 sub-left c = search needs
 
--- src/pass.rt:32:9
 returns : tie.Need-returns
 returns c = counted-end _ _ (c .if1 .taken)
 
--- src/pass.rt:34:15
 shared-slice-read-low : tie.Need-shared-slice-read-low
 shared-slice-read-low c = search needs
 
--- src/pass.rt:34:15
 cast-low : tie.Need-cast-low
 cast-low c = omega (arith, c .shared-slice-known .given (c .before .before .args .at) .fits)
 
--- src/pass.rt:35:22
 add-high : tie.Need-add-high
 add-high c = search needs
 
--- src/pass.rt:35:16
 shared-slice-read-high : tie.Need-shared-slice-read-high
 shared-slice-read-high c = search needs
 
--- src/pass.rt:35:16
 cast-high : tie.Need-cast-high
 cast-high c = omega (arith, c .shared-slice-known2 .given (c .before .before .before .args .at + 1) .fits)
 
--- src/pass.rt:36:19
 mul-n : tie.Need-mul-n
 mul-n c = omega (arith, c .shared-slice-known2 .given (c .before .before .before .args .at + 1) .fits)
 
--- src/pass.rt:36:13
 add-n : tie.Need-add-n
 add-n c = omega (arith, c .before .shared-slice-known .given (c .before .before .before .args .at) .fits, c .shared-slice-known2 .given (c .before .before .before .args .at + 1) .fits)
 
--- src/pass.rt:38:9
 returns-2 : tie.Need-returns-2
 returns-2 c = counted-cut _ _ (c .before .before .before .if1 .left) (c .if2 .taken)
 
--- src/pass.rt:26:1
 returns-3 : tie.Need-returns-3
 returns-3 c = counted-whole _ _ (c .before .before .shared-slice-known .given (c .before .before .before .before .args .at) .fits) (c .before .shared-slice-known2 .given (c .before .before .before .before .args .at + 1) .fits) (c .before .before .before .if1 .left) (c .if2 .left)
 

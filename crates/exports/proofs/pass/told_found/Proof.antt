@@ -5,51 +5,39 @@ use Rattle.exports.proofs.pass.told_found.Reads as reads
 use Rattle.exports.proofs.pass.told_found.Lts as lts
 use Rattle.exports.proofs.pass.found.Reads as found-reads
 
--- src/pass.rt:105:22
 enum-known-f : tie.Need-enum-known-f
 enum-known-f c = search needs
 
--- src/pass.rt:105:28
 found-requires : tie.Need-found-requires
 found-requires c κs = search needs
 
--- src/pass.rt:106:26
 enum-told : tie.Need-enum-told
 enum-told c = search needs
 
--- src/pass.rt:106:26
 found-requires-2 : tie.Need-found-requires-2
 found-requires-2 c κs = search needs
 
--- src/pass.rt:107:23
 enum-told-2 : tie.Need-enum-told-2
 enum-told-2 c = search needs
 
--- src/pass.rt:107:23
 found-requires-3 : tie.Need-found-requires-3
 found-requires-3 c κs = search needs
 
--- src/pass.rt:108:29
 enum-told-3 : tie.Need-enum-told-3
 enum-told-3 c = search needs
 
--- src/pass.rt:108:29
 found-requires-4 : tie.Need-found-requires-4
 found-requires-4 c κs = search needs
 
--- src/pass.rt:100:1
 returns : tie.Need-returns
 returns c = rw (c .found .ensures, c .before .before .f .given .1)
 
--- src/pass.rt:100:1
 returns-2 : tie.Need-returns-2
 returns-2 c = rw (c .found2 .ensures, c .before .enum-told .given .1)
 
--- src/pass.rt:100:1
 returns-3 : tie.Need-returns-3
 returns-3 c = rw (c .found3 .ensures, c .before .enum-told2 .given .1)
 
--- src/pass.rt:100:1
 returns-4 : tie.Need-returns-4
 returns-4 c = rw (c .found4 .ensures, c .before .enum-told3 .given .1)
 

@@ -8,15 +8,12 @@ use Rattle.exports.proofs.pools.hb_pool_has.Lts as lts
 use Rattle.exports.proofs.parts.as_number.Reads as as-number-reads
 use Rattle.pool.proofs.Pool.has.Reads as has-reads
 
--- src/pools.rt:22:15
 has-requires : tie.Need-has-requires
 has-requires c κs = search needs
 
--- src/pools.rt:22:5
 as-number-requires : tie.Need-as-number-requires
 as-number-requires c κs = search needs
 
--- src/pools.rt:17:1
 returns : tie.Need-returns
 returns c = c .as-number .ensures ∙ ap bit (c .before .has .ensures)
 

@@ -7,23 +7,18 @@ use Rattle.exports.proofs.pools.hb_pool_lowest_free.Reads as reads
 use Rattle.exports.proofs.pools.hb_pool_lowest_free.Lts as lts
 use Rattle.pool.proofs.Pool.lowest_free.Reads as lowest-free-reads
 
--- src/pools.rt:74:9
 lowest-free-requires : tie.Need-lowest-free-requires
 lowest-free-requires c κs = search needs
 
--- src/pools.rt:76:18
 enum-known-f : tie.Need-enum-known-f
 enum-known-f c = search needs
 
--- src/pools.rt:77:26
 enum-told : tie.Need-enum-told
 enum-told c = search needs
 
--- src/pools.rt:69:1
 returns : tie.Need-returns
 returns c = ap freeNumber (sym (c .before .f .given .1) ∙ c .before .before .before .lowest-free .ensures)
 
--- src/pools.rt:69:1
 returns-2 : tie.Need-returns-2
 returns-2 c = ap freeNumber (sym (c .enum-told .given .1) ∙ c .before .before .lowest-free .ensures)
 

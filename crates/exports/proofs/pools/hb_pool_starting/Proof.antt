@@ -8,15 +8,12 @@ use Rattle.exports.proofs.pools.hb_pool_starting.Lts as lts
 use Rattle.exports.proofs.parts.addresses.Reads as addresses-reads
 use Rattle.pool.proofs.Pool.starting.Reads as starting-reads
 
--- src/pools.rt:56:15
 starting-requires : tie.Need-starting-requires
 starting-requires c κs = search needs
 
--- src/pools.rt:56:5
 addresses-requires : tie.Need-addresses-requires
 addresses-requires c κs = search needs
 
--- src/pools.rt:52:1
 returns : tie.Need-returns
 returns c = c .addresses .ensures ∙ ap toldPool (c .before .starting .ensures)
 

@@ -8,15 +8,12 @@ use Rattle.exports.proofs.pools.hb_pool_union.Lts as lts
 use Rattle.exports.proofs.parts.addresses.Reads as addresses-reads
 use Rattle.pool.proofs.Pool.union.Reads as union-reads
 
--- src/pools.rt:48:15
 union-requires : tie.Need-union-requires
 union-requires c κs = search needs
 
--- src/pools.rt:48:5
 addresses-requires : tie.Need-addresses-requires
 addresses-requires c κs = search needs
 
--- src/pools.rt:42:1
 returns : tie.Need-returns
 returns c = c .addresses .ensures ∙ ap toldPool (c .before .union .ensures)
 

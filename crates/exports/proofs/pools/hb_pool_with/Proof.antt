@@ -8,15 +8,12 @@ use Rattle.exports.proofs.pools.hb_pool_with.Lts as lts
 use Rattle.exports.proofs.parts.addresses.Reads as addresses-reads
 use Rattle.pool.proofs.Pool.with.Reads as with-reads
 
--- src/pools.rt:30:15
 with-requires : tie.Need-with-requires
 with-requires c κs = search needs
 
--- src/pools.rt:30:5
 addresses-requires : tie.Need-addresses-requires
 addresses-requires c κs = search needs
 
--- src/pools.rt:25:1
 returns : tie.Need-returns
 returns c = c .addresses .ensures ∙ ap toldPool (c .before .with .ensures)
 

@@ -8,15 +8,12 @@ use Rattle.exports.proofs.pools.hb_pool_without.Lts as lts
 use Rattle.exports.proofs.parts.addresses.Reads as addresses-reads
 use Rattle.pool.proofs.Pool.without.Reads as without-reads
 
--- src/pools.rt:38:15
 without-requires : tie.Need-without-requires
 without-requires c κs = search needs
 
--- src/pools.rt:38:5
 addresses-requires : tie.Need-addresses-requires
 addresses-requires c κs = search needs
 
--- src/pools.rt:33:1
 returns : tie.Need-returns
 returns c = c .addresses .ensures ∙ ap toldPool (c .before .without .ensures)
 

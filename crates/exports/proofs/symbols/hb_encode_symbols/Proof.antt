@@ -14,15 +14,12 @@ use Rattle.exports.proofs.symbols.hb_encode_symbols.Reads as reads
 use Rattle.exports.proofs.symbols.hb_encode_symbols.Lts as lts
 use Rattle.encode.proofs.encode.Reads as encode-reads
 
--- src/symbols.rt:24:9
 encode-requires : tie.Need-encode-requires
 encode-requires c κs = search needs
 
--- src/symbols.rt:35:26
 enum-known-r : tie.Need-enum-known-r
 enum-known-r c = search needs
 
--- src/symbols.rt:37:22
 cast-t16 : tie.Need-cast-t16
 cast-t16 c =
     let a = c .before .before .before .before .before .before .before .before .before .before .args in
@@ -32,19 +29,15 @@ cast-t16 c =
     let rb = all-bytes (a .received .now) (λ i. c .before .before .before .before .before .before .before .before .shared-slice-known2 .given i .fits) in
     omega (arith, small-symbols (a .protocol) (truth (a .pec)) t cb sb rb _ _ _ (c .before .before .before .before .before .encode .ensures) _ (c .before .r .given .1))
 
--- src/symbols.rt:39:31
 enum-told : tie.Need-enum-told
 enum-told c = search needs
 
--- src/symbols.rt:43:36
 enum-told-2 : tie.Need-enum-told-2
 enum-told-2 c = search needs
 
--- src/symbols.rt:11:1
 same-length : tie.Need-same-length
 same-length c = search needs
 
--- src/symbols.rt:11:1
 returns : tie.Need-returns
 returns c =
     let a = c .before .before .before .before .before .before .before .before .before .before .args in
@@ -54,11 +47,9 @@ returns c =
     let rb = all-bytes (a .received .now) (λ i. c .before .before .before .before .before .before .before .before .shared-slice-known2 .given i .fits) in
     wrote-symbols (a .protocol) (truth (a .pec)) t cb sb rb _ _ _ (c .before .before .before .before .before .encode .ensures) _ (ap told (sym (c .before .r .given .1)))
 
--- src/symbols.rt:11:1
 same-length-2 : tie.Need-same-length-2
 same-length-2 c = search needs
 
--- src/symbols.rt:11:1
 returns-2 : tie.Need-returns-2
 returns-2 c =
     let a = c .before .before .before .before .before .before .before .before .before .args in
@@ -68,11 +59,9 @@ returns-2 c =
     let rb = all-bytes (a .received .now) (λ i. c .before .before .before .before .before .before .before .shared-slice-known2 .given i .fits) in
     wrote-symbols (a .protocol) (truth (a .pec)) t cb sb rb _ _ _ (c .before .before .before .before .encode .ensures) _ (ap told (sym (c .enum-told .given .1)))
 
--- src/symbols.rt:11:1
 same-length-3 : tie.Need-same-length-3
 same-length-3 c = search needs
 
--- src/symbols.rt:11:1
 returns-3 : tie.Need-returns-3
 returns-3 c =
     let a = c .before .before .before .before .before .before .before .before .before .args in

@@ -8,15 +8,12 @@ use Rattle.exports.proofs.udids.hb_udid_from_bytes.Lts as lts
 use Rattle.exports.proofs.parts.identifier.Reads as identifier-reads
 use Rattle.udid.proofs.Udid.from_bytes.Reads as from-bytes-reads
 
--- src/udids.rt:17:16
 from-bytes-requires : tie.Need-from-bytes-requires
 from-bytes-requires c κs = search needs
 
--- src/udids.rt:17:5
 identifier-requires : tie.Need-identifier-requires
 identifier-requires c κs = search needs
 
--- src/udids.rt:13:1
 returns : tie.Need-returns
 returns c = c .identifier .ensures ∙ ap toldUdid (c .before .from-bytes .ensures)
 

@@ -8,15 +8,12 @@ use Rattle.exports.proofs.udids.hb_udid_is_below.Lts as lts
 use Rattle.exports.proofs.parts.as_number.Reads as as-number-reads
 use Rattle.udid.proofs.Udid.is_below.Reads as is-below-reads
 
--- src/udids.rt:46:15
 is-below-requires : tie.Need-is-below-requires
 is-below-requires c κs = search needs
 
--- src/udids.rt:46:5
 as-number-requires : tie.Need-as-number-requires
 as-number-requires c κs = search needs
 
--- src/udids.rt:40:1
 returns : tie.Need-returns
 returns c = c .as-number .ensures ∙ ap bit (c .before .is-below .ensures)
 

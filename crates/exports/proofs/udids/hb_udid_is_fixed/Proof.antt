@@ -8,15 +8,12 @@ use Rattle.exports.proofs.udids.hb_udid_is_fixed.Lts as lts
 use Rattle.exports.proofs.parts.as_number.Reads as as-number-reads
 use Rattle.udid.proofs.Udid.is_fixed.Reads as is-fixed-reads
 
--- src/udids.rt:55:15
 is-fixed-requires : tie.Need-is-fixed-requires
 is-fixed-requires c κs = search needs
 
--- src/udids.rt:55:5
 as-number-requires : tie.Need-as-number-requires
 as-number-requires c κs = search needs
 
--- src/udids.rt:50:1
 returns : tie.Need-returns
 returns c = c .as-number .ensures ∙ ap bit (c .before .is-fixed .ensures)
 

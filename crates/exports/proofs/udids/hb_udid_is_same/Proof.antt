@@ -8,15 +8,12 @@ use Rattle.exports.proofs.udids.hb_udid_is_same.Lts as lts
 use Rattle.exports.proofs.parts.as_number.Reads as as-number-reads
 use Rattle.udid.proofs.Udid.is_same.Reads as is-same-reads
 
--- src/udids.rt:36:15
 is-same-requires : tie.Need-is-same-requires
 is-same-requires c κs = search needs
 
--- src/udids.rt:36:5
 as-number-requires : tie.Need-as-number-requires
 as-number-requires c κs = search needs
 
--- src/udids.rt:30:1
 returns : tie.Need-returns
 returns c = c .as-number .ensures ∙ ap bit (c .before .is-same .ensures)
 

@@ -4,59 +4,45 @@ use borrow.Author.Needs.{needs}
 use Rattle.headboarded.proofs.checking.pec.Statement.{statement}
 use Rattle.headboarded.proofs.checking.pec.Tie as tie
 
--- src/codec.rt:50:31
 slice-aggregate-bytes : tie.Need-slice-aggregate-bytes
 slice-aggregate-bytes c = search needs
 
--- src/codec.rt:50:9
 bytes-requires : tie.Need-bytes-requires
 bytes-requires c κs = search needs
 
--- src/codec.rt:53:9
 refuse-requires : tie.Need-refuse-requires
 refuse-requires c κs = search needs
 
--- src/codec.rt:53:9
 same-length : tie.Need-same-length
 same-length c = search needs
 
--- src/codec.rt:53:9
 returns : tie.Need-returns
 returns c = search needs
 
--- src/codec.rt:55:26
 slice-aggregate-put : tie.Need-slice-aggregate-put
 slice-aggregate-put c = search needs
 
--- src/codec.rt:55:9
 put-requires : tie.Need-put-requires
 put-requires c κs = search needs
 
--- src/codec.rt:56:49
 array-share-prefix-data : tie.Need-array-share-prefix-data
 array-share-prefix-data c = search needs
 
--- src/codec.rt:56:49
 slice-aggregate-of-bytes : tie.Need-slice-aggregate-of-bytes
 slice-aggregate-of-bytes c = simp length-take (omega arith)
 
--- src/codec.rt:56:29
 of-bytes-requires : tie.Need-of-bytes-requires
 of-bytes-requires c κs = search needs
 
--- src/codec.rt:56:9
 put-hex-requires : tie.Need-put-hex-requires
 put-hex-requires c κs = search needs
 
--- src/codec.rt:57:5
 put-end-requires : tie.Need-put-end-requires
 put-end-requires c κs = search needs
 
--- src/codec.rt:48:1
 same-length-2 : tie.Need-same-length-2
 same-length-2 c = search needs
 
--- src/codec.rt:48:1
 returns-2 : tie.Need-returns-2
 returns-2 c = search needs
 

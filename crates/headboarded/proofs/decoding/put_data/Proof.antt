@@ -4,23 +4,18 @@ use borrow.Author.Needs.{needs}
 use Rattle.headboarded.proofs.decoding.put_data.Statement.{statement}
 use Rattle.headboarded.proofs.decoding.put_data.Tie as tie
 
--- src/decoding.rt:30:9
 put-requires : tie.Need-put-requires
 put-requires c κs = search needs
 
--- src/decoding.rt:31:22
 slice-aggregate-put-list : tie.Need-slice-aggregate-put-list
 slice-aggregate-put-list c = simp length-take (omega arith)
 
--- src/decoding.rt:31:5
 put-list-requires : tie.Need-put-list-requires
 put-list-requires c κs = search needs
 
--- src/decoding.rt:27:1
 same-length : tie.Need-same-length
 same-length c = search needs
 
--- src/decoding.rt:27:1
 returns : tie.Need-returns
 returns c = search needs
 

@@ -4,71 +4,54 @@ use borrow.Author.Needs.{needs}
 use Rattle.headboarded.proofs.encoding.encode_data.Statement.{statement}
 use Rattle.headboarded.proofs.encoding.encode_data.Tie as tie
 
--- src/codec.rt:218:35
 slice-aggregate-sent-data : tie.Need-slice-aggregate-sent-data
 slice-aggregate-sent-data c = search needs
 
--- src/codec.rt:218:9
 sent-data-requires : tie.Need-sent-data-requires
 sent-data-requires c κs = search needs
 
--- src/codec.rt:220:9
 refuse-requires : tie.Need-refuse-requires
 refuse-requires c κs = search needs
 
--- src/codec.rt:220:9
 same-length : tie.Need-same-length
 same-length c = search needs
 
--- src/codec.rt:220:9
 returns : tie.Need-returns
 returns c = search needs
 
--- src/codec.rt:223:39
 slice-aggregate-received-data : tie.Need-slice-aggregate-received-data
 slice-aggregate-received-data c = search needs
 
--- src/codec.rt:223:9
 received-data-requires : tie.Need-received-data-requires
 received-data-requires c κs = search needs
 
--- src/codec.rt:225:9
 refuse-requires-2 : tie.Need-refuse-requires-2
 refuse-requires-2 c κs = search needs
 
--- src/codec.rt:225:9
 same-length-2 : tie.Need-same-length-2
 same-length-2 c = search needs
 
--- src/codec.rt:225:9
 returns-2 : tie.Need-returns-2
 returns-2 c = search needs
 
--- src/codec.rt:229:21
 array-share-prefix-sent : tie.Need-array-share-prefix-sent
 array-share-prefix-sent c = search needs
 
--- src/codec.rt:229:21
 slice-aggregate-put-trace : tie.Need-slice-aggregate-put-trace
 slice-aggregate-put-trace c = simp length-take (omega arith)
 
--- src/codec.rt:229:33
 array-share-prefix-received : tie.Need-array-share-prefix-received
 array-share-prefix-received c = search needs
 
--- src/codec.rt:229:33
 slice-aggregate-put-trace-2 : tie.Need-slice-aggregate-put-trace-2
 slice-aggregate-put-trace-2 c = simp length-take (omega arith)
 
--- src/codec.rt:229:5
 put-trace-requires : tie.Need-put-trace-requires
 put-trace-requires c κs = search needs
 
--- src/codec.rt:216:1
 same-length-3 : tie.Need-same-length-3
 same-length-3 c = search needs
 
--- src/codec.rt:216:1
 returns-3 : tie.Need-returns-3
 returns-3 c = search needs
 

@@ -4,71 +4,54 @@ use borrow.Author.Needs.{needs}
 use Rattle.headboarded.proofs.encoding.put_trace.Statement.{statement}
 use Rattle.headboarded.proofs.encoding.put_trace.Tie as tie
 
--- src/encoding.rt:72:9
 slice-aggregate-encode : tie.Need-slice-aggregate-encode
 slice-aggregate-encode c = search needs
 
--- src/encoding.rt:64:9
 encode-requires : tie.Need-encode-requires
 encode-requires c κs = search needs
 
--- src/encoding.rt:75:26
 enum-known-e : tie.Need-enum-known-e
 enum-known-e c = search needs
 
--- src/encoding.rt:75:44
 slice-aggregate-put-written : tie.Need-slice-aggregate-put-written
 slice-aggregate-put-written c = search needs
 
--- src/encoding.rt:75:32
 put-written-requires : tie.Need-put-written-requires
 put-written-requires c κs = let f = written-fits _ _ _ _ (c .before .before .before .e .given .0 .0) _ (c .before .before .before .before .before .before .encode .ensures .answer) (c .before .before .before .e .given .1) in omega (arith, f, c .before .before .before .before .before .before .encode .kept .1 .1 .1 .1 .1 .1 .1 .0)
 
--- src/encoding.rt:76:40
 enum-told : tie.Need-enum-told
 enum-told c = search needs
 
--- src/encoding.rt:76:49
 slice-aggregate-put-line : tie.Need-slice-aggregate-put-line
 slice-aggregate-put-line c = search needs
 
--- src/encoding.rt:76:31
 put-line-requires : tie.Need-put-line-requires
 put-line-requires c κs = search needs
 
--- src/encoding.rt:77:45
 enum-told-2 : tie.Need-enum-told-2
 enum-told-2 c = search needs
 
--- src/encoding.rt:77:54
 slice-aggregate-put-line-2 : tie.Need-slice-aggregate-put-line-2
 slice-aggregate-put-line-2 c = search needs
 
--- src/encoding.rt:77:36
 put-line-requires-2 : tie.Need-put-line-requires-2
 put-line-requires-2 c κs = search needs
 
--- src/encoding.rt:62:1
 same-length : tie.Need-same-length
 same-length c = search needs
 
--- src/encoding.rt:62:1
 returns : tie.Need-returns
 returns c = search needs
 
--- src/encoding.rt:62:1
 same-length-2 : tie.Need-same-length-2
 same-length-2 c = search needs
 
--- src/encoding.rt:62:1
 returns-2 : tie.Need-returns-2
 returns-2 c = search needs
 
--- src/encoding.rt:62:1
 same-length-3 : tie.Need-same-length-3
 same-length-3 c = search needs
 
--- src/encoding.rt:62:1
 returns-3 : tie.Need-returns-3
 returns-3 c = search needs
 

@@ -4,31 +4,24 @@ use borrow.Author.Needs.{needs}
 use Rattle.headboarded.proofs.encoding.put_written.Statement.{statement}
 use Rattle.headboarded.proofs.encoding.put_written.Tie as tie
 
--- src/encoding.rt:85:26
 slice-aggregate-put : tie.Need-slice-aggregate-put
 slice-aggregate-put c = search needs
 
--- src/encoding.rt:85:9
 put-requires : tie.Need-put-requires
 put-requires c κs = search needs
 
--- src/encoding.rt:86:33
 slice-aggregate-put-symbols : tie.Need-slice-aggregate-put-symbols
 slice-aggregate-put-symbols c = simp length-take (omega arith)
 
--- src/encoding.rt:86:9
 put-symbols-requires : tie.Need-put-symbols-requires
 put-symbols-requires c κs = search needs
 
--- src/encoding.rt:87:5
 put-end-requires : tie.Need-put-end-requires
 put-end-requires c κs = search needs
 
--- src/encoding.rt:82:1
 same-length : tie.Need-same-length
 same-length c = search needs
 
--- src/encoding.rt:82:1
 returns : tie.Need-returns
 returns c = search needs
 

@@ -11,39 +11,30 @@ Inv-loop c out₀ at to₀ row₀ out to row = (row ≤ 8) × (length out ≡ le
 abbrev μ-loop : tie.MeasureT-loop
 μ-loop c out₀ at to₀ row₀ out to row = 8 - row
 
--- src/grid.rt:53:5
 loop-holds : tie.Need-loop-holds Inv-loop μ-loop
 loop-holds c = search needs
 
--- src/grid.rt:54:25
 mul-put-row : tie.Need-mul-put-row Inv-loop μ-loop
 mul-put-row c = search needs
 
--- src/grid.rt:54:9
 put-row-requires : tie.Need-put-row-requires Inv-loop μ-loop
 put-row-requires c κs = search needs
 
--- src/grid.rt:55:9
 add-row : tie.Need-add-row Inv-loop μ-loop
 add-row c = search needs
 
--- src/grid.rt:53:5
 loop-less : tie.Need-loop-less Inv-loop μ-loop
 loop-less c = search needs
 
--- src/grid.rt:53:5
 loop-again : tie.Need-loop-again Inv-loop μ-loop
 loop-again c = search needs
 
--- src/grid.rt:57:5
 room-requires : tie.Need-room-requires Inv-loop μ-loop
 room-requires c κs = search needs
 
--- src/grid.rt:50:1
 same-length : tie.Need-same-length Inv-loop μ-loop
 same-length c = search needs
 
--- src/grid.rt:50:1
 returns : tie.Need-returns Inv-loop μ-loop
 returns c = search needs
 

@@ -5,19 +5,15 @@ use borrow.Author.Needs.{needs}
 use Rattle.headboarded.proofs.print.flush.Statement.{statement}
 use Rattle.headboarded.proofs.print.flush.Tie as tie
 
--- src/print.rt:14:31
 slice-aggregate-write-all : tie.Need-slice-aggregate-write-all
 slice-aggregate-write-all c = simp length-take (omega arith)
 
--- src/print.rt:14:9
 write-all-requires : tie.Need-write-all-requires
 write-all-requires c κs = search needs
 
--- src/print.rt:12:1
 returns : tie.Need-returns
 returns c = search needs
 
--- src/print.rt:12:1
 returns-2 : tie.Need-returns-2
 returns-2 c = search needs
 

@@ -11,43 +11,33 @@ Inv-loop out₀ at s to₀ i₀ out to i = length out ≡ length out₀
 abbrev μ-loop : tie.MeasureT-loop
 μ-loop out₀ at s to₀ i₀ out to i = length s - i
 
--- src/print.rt:53:5
 loop-holds : tie.Need-loop-holds Inv-loop μ-loop
 loop-holds c = search needs
 
--- src/print.rt:54:27
 room-requires : tie.Need-room-requires Inv-loop μ-loop
 room-requires c κs = search needs
 
--- src/print.rt:54:42
 shared-slice-read-put-hex : tie.Need-shared-slice-read-put-hex Inv-loop μ-loop
 shared-slice-read-put-hex c = search needs
 
--- src/print.rt:54:9
 put-hex-requires : tie.Need-put-hex-requires Inv-loop μ-loop
 put-hex-requires c κs = search needs
 
--- src/print.rt:55:9
 add-i : tie.Need-add-i Inv-loop μ-loop
 add-i c = search needs
 
--- src/print.rt:53:5
 loop-less : tie.Need-loop-less Inv-loop μ-loop
 loop-less c = search needs
 
--- src/print.rt:53:5
 loop-again : tie.Need-loop-again Inv-loop μ-loop
 loop-again c = search needs
 
--- src/print.rt:57:5
 room-requires-2 : tie.Need-room-requires-2 Inv-loop μ-loop
 room-requires-2 c κs = search needs
 
--- src/print.rt:50:1
 same-length : tie.Need-same-length Inv-loop μ-loop
 same-length c = search needs
 
--- src/print.rt:50:1
 returns : tie.Need-returns Inv-loop μ-loop
 returns c = search needs
 

@@ -11,31 +11,24 @@ Inv-loop bound bindings out₀ at to₀ a₀ out to a = (a ≤ 128) × (length o
 abbrev μ-loop : tie.MeasureT-loop
 μ-loop bound bindings out₀ at to₀ a₀ out to a = 128 - a
 
--- src/run.rt:53:5
 loop-holds : tie.Need-loop-holds Inv-loop μ-loop
 loop-holds c = search needs
 
--- src/run.rt:54:9
 put-address-requires : tie.Need-put-address-requires Inv-loop μ-loop
 put-address-requires c κs = search needs
 
--- src/run.rt:55:9
 add-a : tie.Need-add-a Inv-loop μ-loop
 add-a c = search needs
 
--- src/run.rt:53:5
 loop-less : tie.Need-loop-less Inv-loop μ-loop
 loop-less c = search needs
 
--- src/run.rt:53:5
 loop-again : tie.Need-loop-again Inv-loop μ-loop
 loop-again c = search needs
 
--- src/run.rt:50:1
 same-length : tie.Need-same-length Inv-loop μ-loop
 same-length c = search needs
 
--- src/run.rt:50:1
 returns : tie.Need-returns Inv-loop μ-loop
 returns c = search needs
 

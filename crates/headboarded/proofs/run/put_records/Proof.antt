@@ -11,39 +11,30 @@ Inv-loop records n out₀ at to₀ i₀ out to i = length out ≡ length out₀
 abbrev μ-loop : tie.MeasureT-loop
 μ-loop records n out₀ at to₀ i₀ out to i = n - i
 
--- src/run.rt:78:5
 loop-holds : tie.Need-loop-holds Inv-loop μ-loop
 loop-holds c = search needs
 
--- src/run.rt:79:42
 room-requires : tie.Need-room-requires Inv-loop μ-loop
 room-requires c κs = search needs
 
--- src/run.rt:79:9
 put-record-requires : tie.Need-put-record-requires Inv-loop μ-loop
 put-record-requires c κs = search needs
 
--- src/run.rt:80:9
 add-i : tie.Need-add-i Inv-loop μ-loop
 add-i c = search needs
 
--- src/run.rt:78:5
 loop-less : tie.Need-loop-less Inv-loop μ-loop
 loop-less c = search needs
 
--- src/run.rt:78:5
 loop-again : tie.Need-loop-again Inv-loop μ-loop
 loop-again c = search needs
 
--- src/run.rt:82:5
 room-requires-2 : tie.Need-room-requires-2 Inv-loop μ-loop
 room-requires-2 c κs = search needs
 
--- src/run.rt:73:1
 same-length : tie.Need-same-length Inv-loop μ-loop
 same-length c = search needs
 
--- src/run.rt:73:1
 returns : tie.Need-returns Inv-loop μ-loop
 returns c = search needs
 

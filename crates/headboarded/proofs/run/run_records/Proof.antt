@@ -4,43 +4,33 @@ use borrow.Author.Needs.{needs}
 use Rattle.headboarded.proofs.run.run_records.Statement.{statement}
 use Rattle.headboarded.proofs.run.run_records.Tie as tie
 
--- src/run.rt:136:15
 mul-end : tie.Need-mul-end
 mul-end c = search needs
 
--- src/run.rt:137:33
 slice-relend-prefix-run-model : tie.Need-slice-relend-prefix-run-model
 slice-relend-prefix-run-model c = search needs
 
--- src/run.rt:137:33
 slice-aggregate-run-model : tie.Need-slice-aggregate-run-model
 slice-aggregate-run-model c = simp length-take (omega arith)
 
--- src/run.rt:137:54
 slice-aggregate-run-model-2 : tie.Need-slice-aggregate-run-model-2
 slice-aggregate-run-model-2 c = search needs
 
--- src/run.rt:137:9
 run-model-requires : tie.Need-run-model-requires
 run-model-requires c κs = search needs
 
--- src/run.rt:148:18
 slice-aggregate-put-run : tie.Need-slice-aggregate-put-run
 slice-aggregate-put-run c = search needs
 
--- src/run.rt:148:5
 put-run-requires : tie.Need-put-run-requires
 put-run-requires c κs = search needs
 
--- src/run.rt:132:1
 same-length : tie.Need-same-length
 same-length c = search needs
 
--- src/run.rt:132:1
 same-length-2 : tie.Need-same-length-2
 same-length-2 c = search needs
 
--- src/run.rt:132:1
 returns : tie.Need-returns
 returns c = search needs
 

@@ -4,35 +4,27 @@ use borrow.Author.Needs.{needs}
 use Rattle.headboarded.proofs.setup.put_record.Statement.{statement}
 use Rattle.headboarded.proofs.setup.put_record.Tie as tie
 
--- src/setup.rt:129:14
 mul-at : tie.Need-mul-at
 mul-at c = search needs
 
--- src/setup.rt:130:5
 put-bytes-requires : tie.Need-put-bytes-requires
 put-bytes-requires c κs = search needs
 
--- src/setup.rt:131:13
 add-records : tie.Need-add-records
 add-records c = search needs
 
--- src/setup.rt:131:5
 slice-write-records : tie.Need-slice-write-records
 slice-write-records c = search needs
 
--- src/setup.rt:132:13
 add-records-2 : tie.Need-add-records-2
 add-records-2 c = search needs
 
--- src/setup.rt:132:5
 slice-write-records-2 : tie.Need-slice-write-records-2
 slice-write-records-2 c = simp length-set (omega arith)
 
--- src/setup.rt:126:1
 same-length : tie.Need-same-length
 same-length c = search needs
 
--- src/setup.rt:126:1
 returns : tie.Need-returns
 returns c = search needs
 

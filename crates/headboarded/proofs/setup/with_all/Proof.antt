@@ -10,31 +10,24 @@ Inv-loop s now₀ i₀ now i = Unit
 abbrev μ-loop : tie.MeasureT-loop
 μ-loop s now₀ i₀ now i = length s - i
 
--- src/setup.rt:40:5
 loop-holds : tie.Need-loop-holds Inv-loop μ-loop
 loop-holds c = search needs
 
--- src/setup.rt:41:32
 shared-slice-read-t8 : tie.Need-shared-slice-read-t8 Inv-loop μ-loop
 shared-slice-read-t8 c = search needs
 
--- src/setup.rt:41:9
 with-requires : tie.Need-with-requires Inv-loop μ-loop
 with-requires c κs = search needs
 
--- src/setup.rt:42:9
 add-i : tie.Need-add-i Inv-loop μ-loop
 add-i c = search needs
 
--- src/setup.rt:40:5
 loop-less : tie.Need-loop-less Inv-loop μ-loop
 loop-less c = search needs
 
--- src/setup.rt:40:5
 loop-again : tie.Need-loop-again Inv-loop μ-loop
 loop-again c = search needs
 
--- src/setup.rt:37:1
 returns : tie.Need-returns Inv-loop μ-loop
 returns c = search needs
 

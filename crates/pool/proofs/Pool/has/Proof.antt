@@ -7,25 +7,20 @@ use Rattle.pool.proofs.Pool.has.Reads as reads
 use Rattle.pool.proofs.Pool.has.Lts as lts
 use Rattle.pool.proofs.bit.is_one.Reads as is-one-reads
 
--- src/members.rt:16:13
 is-one-requires : tie.Need-is-one-requires
 is-one-requires c κs = search needs
 
--- src/members.rt:16:13
 returns : tie.Need-returns
 unfolding member
 returns c = simp (lt-ltb _ _ (c .before .if1 .taken)) (c .is-one .ensures)
 
--- src/members.rt:19:13
 is-one-requires-2 : tie.Need-is-one-requires-2
 is-one-requires-2 c κs = search needs
 
--- src/members.rt:19:13
 returns-2 : tie.Need-returns-2
 unfolding member
 returns-2 c = simp (le-ltb _ _ (c .before .before .if1 .left), lt-ltb _ _ (c .before .if2 .taken)) (c .is-one2 .ensures)
 
--- src/members.rt:11:5
 returns-3 : tie.Need-returns-3
 unfolding member
 returns-3 c = simp (le-ltb _ _ (c .before .if1 .left), le-ltb _ _ (c .if2 .left))

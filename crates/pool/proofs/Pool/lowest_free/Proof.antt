@@ -30,35 +30,28 @@ Inv-loop self n₀ n = (n ≤ 128) × (freeFrom self 128 0 ≡ freeFrom self (12
 abbrev μ-loop : tie.MeasureT-loop
 μ-loop self n₀ n = 128 - n
 
--- src/free.rt:25:9
 loop-holds : tie.Need-loop-holds Inv-loop μ-loop
 loop-holds c = search needs
 
--- src/free.rt:26:17
 has-requires : tie.Need-has-requires Inv-loop μ-loop
 has-requires c κs = search needs
 
--- src/free.rt:27:17
 returns : tie.Need-returns Inv-loop μ-loop
 returns c =
     let l = c .before .before .before .loop in
     sym (l .inv .1 ∙ found (c .before .before .before .before .args .self) (l .n) (omega arith) (sym (c .before .has .ensures) ∙ not-true _ (c .if1 .taken)))
 
--- src/free.rt:29:13
 add-n : tie.Need-add-n Inv-loop μ-loop
 add-n c = omega arith
 
--- src/free.rt:25:9
 loop-less : tie.Need-loop-less Inv-loop μ-loop
 loop-less c = omega arith
 
--- src/free.rt:25:9
 loop-again : tie.Need-loop-again Inv-loop μ-loop
 loop-again c =
     let l = c .before .before .before .loop in
     (omega arith, l .inv .1 ∙ onward (c .before .before .before .before .args .self) (l .n) (omega arith) (sym (c .before .has .ensures) ∙ not-false _ (c .if1 .left)))
 
--- src/free.rt:21:5
 returns-2 : tie.Need-returns-2 Inv-loop μ-loop
 unfolding freeFrom
 returns-2 c =

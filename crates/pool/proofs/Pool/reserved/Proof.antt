@@ -5,7 +5,6 @@ use Rattle.pool.proofs.Pool.reserved.Tie as tie
 use Rattle.pool.proofs.Pool.reserved.Reads as reads
 use Rattle.pool.proofs.Pool.reserved.Lts as lts
 
--- src/start.rt:19:5
 returns : tie.Need-returns
 unfolding reservedPool
 returns c = search needs

@@ -7,15 +7,12 @@ use Rattle.pool.proofs.Pool.starting.Lts as lts
 use Rattle.pool.proofs.Pool.reserved.Reads as reserved-reads
 use Rattle.pool.proofs.Pool.union.Reads as union-reads
 
--- src/start.rt:32:13
 reserved-requires : tie.Need-reserved-requires
 reserved-requires c κs = search needs
 
--- src/start.rt:33:9
 union-requires : tie.Need-union-requires
 union-requires c κs = search needs
 
--- src/start.rt:29:5
 returns : tie.Need-returns
 unfolding startingPool
 returns c = rw (c .union .ensures, c .before .reserved .ensures)

@@ -5,7 +5,6 @@ use Rattle.pool.proofs.Pool.union.Tie as tie
 use Rattle.pool.proofs.Pool.union.Reads as reads
 use Rattle.pool.proofs.Pool.union.Lts as lts
 
--- src/members.rt:66:5
 returns : tie.Need-returns
 unfolding unionOf
 returns c = search needs

@@ -7,11 +7,9 @@ use Rattle.pool.proofs.Pool.used.Tie as tie
 use Rattle.pool.proofs.Pool.used.Reads as reads
 use Rattle.pool.proofs.Pool.used.Lts as lts
 
--- src/free.rt:17:9
 add-result : tie.Need-add-result
 add-result c = let s = c .before .before .args .self in omega (arith, ones-le 64 (s .low) (search needs), ones-le 64 (s .high) (search needs))
 
--- src/free.rt:14:5
 returns : tie.Need-returns
 returns c = let s = c .before .before .args .self in used-ones s (record { low = search needs; high = search needs })
 

@@ -7,25 +7,20 @@ use Rattle.pool.proofs.Pool.with.Reads as reads
 use Rattle.pool.proofs.Pool.with.Lts as lts
 use Rattle.pool.proofs.bit.with_one.Reads as with-one-reads
 
--- src/members.rt:31:22
 with-one-requires : tie.Need-with-one-requires
 with-one-requires c κs = search needs
 
--- src/members.rt:30:13
 returns : tie.Need-returns
 unfolding withAddress
 returns c = simp (lt-ltb _ _ (c .before .if1 .taken), c .with-one .ensures)
 
--- src/members.rt:38:23
 with-one-requires-2 : tie.Need-with-one-requires-2
 with-one-requires-2 c κs = search needs
 
--- src/members.rt:36:13
 returns-2 : tie.Need-returns-2
 unfolding withAddress
 returns-2 c = simp (le-ltb _ _ (c .before .before .if1 .left), lt-ltb _ _ (c .before .if2 .taken), c .with-one2 .ensures)
 
--- src/members.rt:25:5
 returns-3 : tie.Need-returns-3
 unfolding withAddress
 returns-3 c = simp (le-ltb _ _ (c .before .if1 .left), le-ltb _ _ (c .if2 .left))

@@ -10,11 +10,9 @@ use Rattle.pool.proofs.Pool.without.Lts as lts
 use Rattle.pool.proofs.Pool.has.Reads as has-reads
 use Rattle.pool.proofs.bit.turned.Reads as turned-reads
 
--- src/members.rt:48:13
 has-requires : tie.Need-has-requires
 has-requires c κs = search needs
 
--- src/members.rt:49:13
 returns : tie.Need-returns
 unfolding withoutAddress
 returns c =
@@ -22,15 +20,12 @@ returns c =
     let h : member (s .self) (s .a .0) ≡ false = sym (c .before .has .ensures) ∙ not-true _ (c .if1 .taken) in
     simp h
 
--- src/members.rt:54:22
 turned-requires : tie.Need-turned-requires
 turned-requires c κs = search needs
 
--- src/members.rt:60:23
 turned-requires-2 : tie.Need-turned-requires-2
 turned-requires-2 c κs = search needs
 
--- src/members.rt:45:5
 returns-2 : tie.Need-returns-2
 unfolding withoutAddress
 returns-2 c =
@@ -38,7 +33,6 @@ returns-2 c =
     let h : member (s .self) (s .a .0) ≡ true = sym (c .before .before .before .has .ensures) ∙ not-false _ (c .before .before .if1 .left) in
     simp (h, lt-ltb _ _ (c .before .if2 .taken), c .turned .ensures)
 
--- src/members.rt:45:5
 returns-3 : tie.Need-returns-3
 unfolding withoutAddress
 returns-3 c =

@@ -11,15 +11,12 @@ use Rattle.pool.proofs.bit.turned.Tie as tie
 use Rattle.pool.proofs.bit.turned.Reads as reads
 use Rattle.pool.proofs.bit.turned.Lts as lts
 
--- src/bit.rt:24:16
 cast-result : tie.Need-cast-result
 cast-result c = search needs
 
--- src/bit.rt:24:10
 shl-result : tie.Need-shl-result
 shl-result c = search needs
 
--- src/bit.rt:21:1
 returns : tie.Need-returns
 unfolding flip
 returns c =

@@ -11,15 +11,12 @@ use Rattle.pool.proofs.bit.with_one.Tie as tie
 use Rattle.pool.proofs.bit.with_one.Reads as reads
 use Rattle.pool.proofs.bit.with_one.Lts as lts
 
--- src/bit.rt:17:16
 cast-result : tie.Need-cast-result
 cast-result c = search needs
 
--- src/bit.rt:17:10
 shl-result : tie.Need-shl-result
 shl-result c = search needs
 
--- src/bit.rt:14:1
 returns : tie.Need-returns
 unfolding plus
 returns c =

@@ -11,38 +11,30 @@ use Rattle.targets.proofs.malformed.first_malformed.Reads as first-malf
 use Rattle.targets.proofs.same.first_repeated.Reads as first-repeated-reads
 use Rattle.targets.proofs.taken.first_taken.Reads as first-taken-reads
 
--- src/admit.rt:39:9
 count-requires : tie.Need-count-requires
 count-requires c κs = search needs
 
--- src/admit.rt:40:9
 first-malformed-requires : tie.Need-first-malformed-requires
 first-malformed-requires c κs = search needs
 
--- src/admit.rt:42:9
 returns : tie.Need-returns
 unfolding amongRecords
 returns c = simp (← c .before .before .count .ensures, ← c .before .first-malformed .ensures, lt-ltb _ _ (c .if1 .taken))
 
--- src/admit.rt:44:9
 first-repeated-requires : tie.Need-first-repeated-requires
 first-repeated-requires c κs = search needs
 
--- src/admit.rt:46:9
 returns-2 : tie.Need-returns-2
 unfolding amongRecords
 returns-2 c = simp (← c .before .before .before .before .count .ensures, ← c .before .before .before .first-malformed .ensures, le-ltb _ _ (c .before .before .if1 .left), ← c .before .first-repeated .ensures, lt-ltb _ _ (c .if2 .taken))
 
--- src/admit.rt:48:9
 first-taken-requires : tie.Need-first-taken-requires
 first-taken-requires c κs = search needs
 
--- src/admit.rt:50:9
 returns-3 : tie.Need-returns-3
 unfolding amongRecords
 returns-3 c = simp (← c .before .before .before .before .before .before .count .ensures, ← c .before .before .before .before .before .first-malformed .ensures, le-ltb _ _ (c .before .before .before .before .if1 .left), ← c .before .before .before .first-repeated .ensures, le-ltb _ _ (c .before .before .if2 .left), ← c .before .first-taken .ensures, lt-ltb _ _ (c .if3 .taken))
 
--- src/admit.rt:36:1
 returns-4 : tie.Need-returns-4
 unfolding amongRecords
 returns-4 c = simp (← c .before .before .before .before .before .before .count .ensures, ← c .before .before .before .before .before .first-malformed .ensures, le-ltb _ _ (c .before .before .before .before .if1 .left), ← c .before .before .before .first-repeated .ensures, le-ltb _ _ (c .before .before .if2 .left), ← c .before .first-taken .ensures, le-ltb _ _ (c .if3 .left))

@@ -9,24 +9,19 @@ use Rattle.pool.proofs.Pool.starting.Reads as starting-reads
 use Rattle.targets.proofs.admit.among_records.Reads as among-records-reads
 use Rattle.targets.proofs.admit.is_bad_length.Reads as is-bad-length-reads
 
--- src/admit.rt:59:8
 is-bad-length-requires : tie.Need-is-bad-length-requires
 is-bad-length-requires c κs = search needs
 
--- src/admit.rt:60:9
 returns : tie.Need-returns
 unfolding checkedList
 returns c = simp (← c .before .is-bad-length .ensures, c .if1 .taken)
 
--- src/admit.rt:62:28
 starting-requires : tie.Need-starting-requires
 starting-requires c κs = search needs
 
--- src/admit.rt:62:5
 among-records-requires : tie.Need-among-records-requires
 among-records-requires c κs = search needs
 
--- src/admit.rt:56:1
 returns-2 : tie.Need-returns-2
 unfolding checkedList
 returns-2 c = simp (← c .before .before .before .is-bad-length .ensures, c .before .before .if1 .left, c .among-records .ensures, c .before .starting .ensures)

@@ -4,11 +4,9 @@ use Rattle.targets.proofs.admit.is_bad_length.Tie as tie
 use Rattle.targets.proofs.admit.is_bad_length.Reads as reads
 use Rattle.targets.proofs.admit.is_bad_length.Lts as lts
 
--- src/admit.rt:31:9
 returns : tie.Need-returns
 returns c = rw (lt-ltb _ _ (c .if1 .taken))
 
--- src/admit.rt:27:1
 returns-2 : tie.Need-returns-2
 returns-2 c = rw (le-ltb _ _ (c .if1 .left))
 

@@ -29,27 +29,21 @@ Inv-loop records₀ u a n i₀ records i = (i ≤ n) × (length records ≡ leng
 abbrev μ-loop : tie.MeasureT-loop
 μ-loop records₀ u a n i₀ records i = n - i
 
--- src/assign.rt:26:1
 returns : tie.Need-returns Inv-loop μ-loop
 returns c = sym (assigned-above _ _ _ (c .if1 .taken))
 
--- src/assign.rt:31:5
 loop-holds : tie.Need-loop-holds Inv-loop μ-loop
 loop-holds c = (omega arith, refl, simp sub-zero)
 
--- src/assign.rt:32:9
 assign-one-requires : tie.Need-assign-one-requires Inv-loop μ-loop
 assign-one-requires c κs = omega (arith, c .before .before .loop .inv .1, c .before .loop-test .taken)
 
--- src/assign.rt:33:9
 add-i : tie.Need-add-i Inv-loop μ-loop
 add-i c = omega arith
 
--- src/assign.rt:31:5
 loop-less : tie.Need-loop-less Inv-loop μ-loop
 loop-less c = omega arith
 
--- src/assign.rt:31:5
 loop-again : tie.Need-loop-again Inv-loop μ-loop
 loop-again c = let l = c .before .before .before .before .before .loop in
     let s = c .before .before .before .before .before .before .before .before .before .args in
@@ -60,11 +54,9 @@ loop-again c = let l = c .before .before .before .before .before .loop in
           ∙ ap (λ (x : List ℕ). putFrom (resolve (s .u) (s .a .0) (targetsFrom x (length (s .records .now) / 18 - (l .i + 1)) (l .i + 1))) (l .i + 1) x) (sym e),
     )
 
--- src/assign.rt:26:1
 same-length : tie.Need-same-length Inv-loop μ-loop
 same-length c = c .before .loop .inv .1
 
--- src/assign.rt:26:1
 returns-2 : tie.Need-returns-2 Inv-loop μ-loop
 returns-2 c = let s = c .before .before .before .before .before .args in
     let z : (length (s .records .now) / 18) - c .before .loop .i ≡ 0 = omega arith in

@@ -27,55 +27,42 @@ left-by : (i : ℕ) (u : Udid) (a : ℕ) (s : List ℕ) → sameUdid (udidOf s i
 unfolding targetAt
 left-by i u a s e = rw e (put-self i s)
 
--- src/assign.rt:16:9
 udid-of-requires : tie.Need-udid-of-requires
 udid-of-requires c κs = search needs
 
--- src/assign.rt:17:8
 is-same-requires : tie.Need-is-same-requires
 is-same-requires c κs = search needs
 
--- src/assign.rt:18:13
 for-read-requires : tie.Need-for-read-requires
 for-read-requires c κs = search needs
 
--- src/assign.rt:19:17
 mul-records : tie.Need-mul-records
 mul-records c = search needs
 
--- src/assign.rt:19:17
 add-records : tie.Need-add-records
 add-records c = search needs
 
--- src/assign.rt:19:9
 slice-write-records : tie.Need-slice-write-records
 slice-write-records c = search needs
 
--- src/assign.rt:20:17
 mul-records-2 : tie.Need-mul-records-2
 mul-records-2 c = search needs
 
--- src/assign.rt:20:17
 add-records-2 : tie.Need-add-records-2
 add-records-2 c = search needs
 
--- src/assign.rt:20:9
 slice-write-records-2 : tie.Need-slice-write-records-2
 slice-write-records-2 c = simp length-set (omega arith)
 
--- src/assign.rt:12:1
 same-length : tie.Need-same-length
 same-length c = search needs
 
--- src/assign.rt:12:1
 returns : tie.Need-returns
 returns c = let e : sameUdid (udidOf (c .before .before .before .before .before .before .args .records .now) (c .before .before .before .before .before .before .args .i)) (c .before .before .before .before .before .before .args .u) ≡ true = ap (λ (x : Udid). sameUdid x (c .before .before .before .before .before .before .args .u)) (sym (c .before .before .before .udid-of .ensures)) ∙ sym (c .before .before .is-same .ensures) ∙ c .before .if1 .taken in sym (taken-by (c .before .before .before .before .before .before .args .i) (c .before .before .before .before .before .before .args .u) (c .before .before .before .before .before .before .args .a .0) (c .before .before .before .before .before .before .args .records .now) (c .for-read .result .0) e (c .for-read .ensures))
 
--- src/assign.rt:12:1
 same-length-2 : tie.Need-same-length-2
 same-length-2 c = search needs
 
--- src/assign.rt:12:1
 returns-2 : tie.Need-returns-2
 returns-2 c = let e : sameUdid (udidOf (c .before .before .before .before .before .args .records .now) (c .before .before .before .before .before .args .i)) (c .before .before .before .before .before .args .u) ≡ false = ap (λ (x : Udid). sameUdid x (c .before .before .before .before .before .args .u)) (sym (c .before .before .udid-of .ensures)) ∙ sym (c .before .is-same .ensures) ∙ c .if1 .left in sym (left-by (c .before .before .before .before .before .args .i) (c .before .before .before .before .before .args .u) (c .before .before .before .before .before .args .a .0) (c .before .before .before .before .before .args .records .now) e)
 

@@ -9,19 +9,15 @@ use Rattle.targets.proofs.fields.udid_of.Reads as reads
 use Rattle.targets.proofs.fields.udid_of.Lts as lts
 use Rattle.udid.proofs.Udid.from_bytes.Reads as from-bytes-reads
 
--- src/fields.rt:36:9
 returns : tie.Need-returns
 returns c = sym (udid-past-end (c .before .before .args .records .now) (c .before .before .args .i * 18) (omega arith))
 
--- src/fields.rt:38:31
 mul-from-bytes : tie.Need-mul-from-bytes
 mul-from-bytes c = search needs
 
--- src/fields.rt:38:5
 from-bytes-requires : tie.Need-from-bytes-requires
 from-bytes-requires c κs = search needs
 
--- src/fields.rt:32:1
 returns-2 : tie.Need-returns-2
 returns-2 c = search needs
 

@@ -17,31 +17,24 @@ Inv-loop records n i₀ i = (i ≤ n) × (first (isMalformed (records)) n ≡ fi
 abbrev μ-loop : tie.MeasureT-loop
 μ-loop records n i₀ i = n - i
 
--- src/malformed.rt:21:5
 loop-holds : tie.Need-loop-holds Inv-loop μ-loop
 loop-holds c = (omega arith, first-start (isMalformed (c .before .args .records .now)) (c .before .args .n))
 
--- src/malformed.rt:22:12
 is-malformed-requires : tie.Need-is-malformed-requires Inv-loop μ-loop
 is-malformed-requires c κs = search needs
 
--- src/malformed.rt:23:13
 returns : tie.Need-returns Inv-loop μ-loop
 returns c = sym (c .before .before .before .loop .inv .1 ∙ first-found (isMalformed (c .before .before .before .before .before .args .records .now)) (c .before .before .before .before .before .args .n) (c .before .before .before .loop .i) (c .before .before .loop-test .taken) (sym (c .before .is-malformed .ensures) ∙ c .if1 .taken))
 
--- src/malformed.rt:25:9
 add-i : tie.Need-add-i Inv-loop μ-loop
 add-i c = omega arith
 
--- src/malformed.rt:21:5
 loop-less : tie.Need-loop-less Inv-loop μ-loop
 loop-less c = omega arith
 
--- src/malformed.rt:21:5
 loop-again : tie.Need-loop-again Inv-loop μ-loop
 loop-again c = (omega arith, c .before .before .before .loop .inv .1 ∙ first-onward (isMalformed (c .before .before .before .before .before .args .records .now)) (c .before .before .before .before .before .args .n) (c .before .before .before .loop .i) (c .before .before .loop-test .taken) (sym (c .before .is-malformed .ensures) ∙ c .if1 .left))
 
--- src/malformed.rt:17:1
 returns-2 : tie.Need-returns-2 Inv-loop μ-loop
 returns-2 c = let e : c .before .loop .i ≡ c .before .before .before .args .n = omega arith in sym (c .before .loop .inv .1 ∙ first-end (isMalformed (c .before .before .before .args .records .now)) (c .before .before .before .args .n) (c .before .loop .i) e)
 

@@ -7,19 +7,15 @@ use Rattle.targets.proofs.malformed.is_malformed.Lts as lts
 use Rattle.targets.proofs.fields.address_byte.Reads as address-byte-reads
 use Rattle.targets.proofs.fields.flag_of.Reads as flag-of-reads
 
--- src/malformed.rt:10:8
 address-byte-requires : tie.Need-address-byte-requires
 address-byte-requires c κs = search needs
 
--- src/malformed.rt:11:9
 returns : tie.Need-returns
 returns c = simp (← c .before .address-byte .ensures, eq-eqb _ _ (c .if1 .taken))
 
--- src/malformed.rt:13:5
 flag-of-requires : tie.Need-flag-of-requires
 flag-of-requires c κs = search needs
 
--- src/malformed.rt:7:1
 returns-2 : tie.Need-returns-2
 returns-2 c = simp (← c .before .before .address-byte .ensures, ne-eqb _ _ (c .before .if1 .left), c .flag-of .ensures)
 

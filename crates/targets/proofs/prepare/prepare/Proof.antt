@@ -26,39 +26,30 @@ Inv-loop records₀ n i₀ records i = (i ≤ n) × (length records ≡ length r
 abbrev μ-loop : tie.MeasureT-loop
 μ-loop records₀ n i₀ records i = n - i
 
--- src/prepare.rt:12:5
 loop-holds : tie.Need-loop-holds Inv-loop μ-loop
 loop-holds c = (omega arith, refl, simp sub-zero)
 
--- src/prepare.rt:13:17
 mul-records : tie.Need-mul-records Inv-loop μ-loop
 mul-records c = omega arith
 
--- src/prepare.rt:13:17
 add-records : tie.Need-add-records Inv-loop μ-loop
 add-records c = omega arith
 
--- src/prepare.rt:13:9
 slice-write-records : tie.Need-slice-write-records Inv-loop μ-loop
 slice-write-records c = omega (arith, c .before .loop .inv .1)
 
--- src/prepare.rt:14:9
 add-i : tie.Need-add-i Inv-loop μ-loop
 add-i c = omega arith
 
--- src/prepare.rt:12:5
 loop-less : tie.Need-loop-less Inv-loop μ-loop
 loop-less c = omega arith
 
--- src/prepare.rt:12:5
 loop-again : tie.Need-loop-again Inv-loop μ-loop
 loop-again c = (omega arith, length-set (c .before .loop .records) _ _ ∙ c .before .loop .inv .1, c .before .loop .inv .2 ∙ onward (c .before .loop .records) (length (c .before .before .args .records .now) / 18) (c .before .loop .i) (c .loop-test .taken))
 
--- src/prepare.rt:7:1
 same-length : tie.Need-same-length Inv-loop μ-loop
 same-length c = c .before .loop .inv .1
 
--- src/prepare.rt:7:1
 returns : tie.Need-returns Inv-loop μ-loop
 returns c = let z : (length (c .before .before .args .records .now) / 18) - c .before .loop .i ≡ 0 = omega arith in sym (c .before .loop .inv .2 ∙ ap (λ (x : ℕ). putFrom (cleared (targetsFrom (c .before .loop .records) x (c .before .loop .i))) (c .before .loop .i) (c .before .loop .records)) z)
 

@@ -19,31 +19,24 @@ Inv-loop records n i₀ i = (i ≤ n) × (first (isRepeated (records)) n ≡ fir
 abbrev μ-loop : tie.MeasureT-loop
 μ-loop records n i₀ i = n - i
 
--- src/same.rt:28:5
 loop-holds : tie.Need-loop-holds Inv-loop μ-loop
 loop-holds c = (omega arith, first-start (isRepeated (c .before .args .records .now)) (c .before .args .n))
 
--- src/same.rt:29:12
 first-same-requires : tie.Need-first-same-requires Inv-loop μ-loop
 first-same-requires c κs = search needs
 
--- src/same.rt:30:13
 returns : tie.Need-returns Inv-loop μ-loop
 returns c = sym (c .before .before .before .loop .inv .1 ∙ first-found (isRepeated (c .before .before .before .before .before .args .records .now)) (c .before .before .before .before .before .args .n) (c .before .before .before .loop .i) (c .before .before .loop-test .taken) (ap (λ (x : ℕ). ltb x (c .before .before .before .loop .i)) (sym (c .before .first-same .ensures)) ∙ lt-ltb _ _ (c .if1 .taken)))
 
--- src/same.rt:32:9
 add-i : tie.Need-add-i Inv-loop μ-loop
 add-i c = omega arith
 
--- src/same.rt:28:5
 loop-less : tie.Need-loop-less Inv-loop μ-loop
 loop-less c = omega arith
 
--- src/same.rt:28:5
 loop-again : tie.Need-loop-again Inv-loop μ-loop
 loop-again c = (omega arith, c .before .before .before .loop .inv .1 ∙ first-onward (isRepeated (c .before .before .before .before .before .args .records .now)) (c .before .before .before .before .before .args .n) (c .before .before .before .loop .i) (c .before .before .loop-test .taken) (ap (λ (x : ℕ). ltb x (c .before .before .before .loop .i)) (sym (c .before .first-same .ensures)) ∙ le-ltb _ _ (c .if1 .left)))
 
--- src/same.rt:24:1
 returns-2 : tie.Need-returns-2 Inv-loop μ-loop
 returns-2 c = let e : c .before .loop .i ≡ c .before .before .before .args .n = omega arith in sym (c .before .loop .inv .1 ∙ first-end (isRepeated (c .before .before .before .args .records .now)) (c .before .before .before .args .n) (c .before .loop .i) e)
 

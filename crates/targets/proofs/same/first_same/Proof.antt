@@ -19,39 +19,30 @@ Inv-loop records i u j₀ j = (j ≤ i) × (first (isSameAs (records) (i)) i ≡
 abbrev μ-loop : tie.MeasureT-loop
 μ-loop records i u j₀ j = i - j
 
--- src/same.rt:11:9
 udid-of-requires : tie.Need-udid-of-requires Inv-loop μ-loop
 udid-of-requires c κs = search needs
 
--- src/same.rt:13:5
 loop-holds : tie.Need-loop-holds Inv-loop μ-loop
 loop-holds c = (omega arith, first-start (isSameAs (c .before .before .args .records .now) (c .before .before .args .i)) (c .before .before .args .i))
 
--- src/same.rt:14:13
 udid-of-requires-2 : tie.Need-udid-of-requires-2 Inv-loop μ-loop
 udid-of-requires-2 c κs = search needs
 
--- src/same.rt:15:12
 is-same-requires : tie.Need-is-same-requires Inv-loop μ-loop
 is-same-requires c κs = search needs
 
--- src/same.rt:16:13
 returns : tie.Need-returns Inv-loop μ-loop
 returns c = sym (c .before .before .before .before .loop .inv .1 ∙ first-found (isSameAs (c .before .before .before .before .before .before .before .args .records .now) (c .before .before .before .before .before .before .before .args .i)) (c .before .before .before .before .before .before .before .args .i) (c .before .before .before .before .loop .j) (c .before .before .before .loop-test .taken) (ap₂ sameUdid (sym (c .before .before .udid-of2 .ensures)) (sym (c .before .before .before .before .before .udid-of .ensures)) ∙ sym (c .before .is-same .ensures) ∙ c .if1 .taken))
 
--- src/same.rt:18:9
 add-j : tie.Need-add-j Inv-loop μ-loop
 add-j c = omega arith
 
--- src/same.rt:13:5
 loop-less : tie.Need-loop-less Inv-loop μ-loop
 loop-less c = omega arith
 
--- src/same.rt:13:5
 loop-again : tie.Need-loop-again Inv-loop μ-loop
 loop-again c = (omega arith, c .before .before .before .before .loop .inv .1 ∙ first-onward (isSameAs (c .before .before .before .before .before .before .before .args .records .now) (c .before .before .before .before .before .before .before .args .i)) (c .before .before .before .before .before .before .before .args .i) (c .before .before .before .before .loop .j) (c .before .before .before .loop-test .taken) (ap₂ sameUdid (sym (c .before .before .udid-of2 .ensures)) (sym (c .before .before .before .before .before .udid-of .ensures)) ∙ sym (c .before .is-same .ensures) ∙ c .if1 .left))
 
--- src/same.rt:8:1
 returns-2 : tie.Need-returns-2 Inv-loop μ-loop
 returns-2 c = let e : c .before .loop .j ≡ c .before .before .before .before .args .i = omega arith in sym (c .before .loop .inv .1 ∙ first-end (isSameAs (c .before .before .before .before .args .records .now) (c .before .before .before .before .args .i)) (c .before .before .before .before .args .i) (c .before .loop .j) e)
 

@@ -17,31 +17,24 @@ Inv-loop records i j₀ j = (j ≤ i) × (first (isFixedAs (records) (i)) i ≡ 
 abbrev μ-loop : tie.MeasureT-loop
 μ-loop records i j₀ j = i - j
 
--- src/taken.rt:26:5
 loop-holds : tie.Need-loop-holds Inv-loop μ-loop
 loop-holds c = (omega arith, first-start (isFixedAs (c .before .args .records .now) (c .before .args .i)) (c .before .args .i))
 
--- src/taken.rt:27:12
 is-fixed-as-requires : tie.Need-is-fixed-as-requires Inv-loop μ-loop
 is-fixed-as-requires c κs = search needs
 
--- src/taken.rt:28:13
 returns : tie.Need-returns Inv-loop μ-loop
 returns c = sym (c .before .before .before .loop .inv .1 ∙ first-found (isFixedAs (c .before .before .before .before .before .args .records .now) (c .before .before .before .before .before .args .i)) (c .before .before .before .before .before .args .i) (c .before .before .before .loop .j) (c .before .before .loop-test .taken) (sym (c .before .is-fixed-as .ensures) ∙ c .if1 .taken))
 
--- src/taken.rt:30:9
 add-j : tie.Need-add-j Inv-loop μ-loop
 add-j c = omega arith
 
--- src/taken.rt:26:5
 loop-less : tie.Need-loop-less Inv-loop μ-loop
 loop-less c = omega arith
 
--- src/taken.rt:26:5
 loop-again : tie.Need-loop-again Inv-loop μ-loop
 loop-again c = (omega arith, c .before .before .before .loop .inv .1 ∙ first-onward (isFixedAs (c .before .before .before .before .before .args .records .now) (c .before .before .before .before .before .args .i)) (c .before .before .before .before .before .args .i) (c .before .before .before .loop .j) (c .before .before .loop-test .taken) (sym (c .before .is-fixed-as .ensures) ∙ c .if1 .left))
 
--- src/taken.rt:22:1
 returns-2 : tie.Need-returns-2 Inv-loop μ-loop
 returns-2 c = let e : c .before .loop .j ≡ c .before .before .before .args .i = omega arith in sym (c .before .loop .inv .1 ∙ first-end (isFixedAs (c .before .before .before .args .records .now) (c .before .before .before .args .i)) (c .before .before .before .args .i) (c .before .loop .j) e)
 

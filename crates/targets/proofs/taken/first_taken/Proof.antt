@@ -17,31 +17,24 @@ Inv-loop records n starting i₀ i = (i ≤ n) × (first (isTaken (starting) (re
 abbrev μ-loop : tie.MeasureT-loop
 μ-loop records n starting i₀ i = n - i
 
--- src/taken.rt:53:5
 loop-holds : tie.Need-loop-holds Inv-loop μ-loop
 loop-holds c = (omega arith, first-start (isTaken (c .before .args .starting) (c .before .args .records .now)) (c .before .args .n))
 
--- src/taken.rt:54:12
 is-taken-requires : tie.Need-is-taken-requires Inv-loop μ-loop
 is-taken-requires c κs = search needs
 
--- src/taken.rt:55:13
 returns : tie.Need-returns Inv-loop μ-loop
 returns c = sym (c .before .before .before .loop .inv .1 ∙ first-found (isTaken (c .before .before .before .before .before .args .starting) (c .before .before .before .before .before .args .records .now)) (c .before .before .before .before .before .args .n) (c .before .before .before .loop .i) (c .before .before .loop-test .taken) (sym (c .before .is-taken .ensures) ∙ c .if1 .taken))
 
--- src/taken.rt:57:9
 add-i : tie.Need-add-i Inv-loop μ-loop
 add-i c = omega arith
 
--- src/taken.rt:53:5
 loop-less : tie.Need-loop-less Inv-loop μ-loop
 loop-less c = omega arith
 
--- src/taken.rt:53:5
 loop-again : tie.Need-loop-again Inv-loop μ-loop
 loop-again c = (omega arith, c .before .before .before .loop .inv .1 ∙ first-onward (isTaken (c .before .before .before .before .before .args .starting) (c .before .before .before .before .before .args .records .now)) (c .before .before .before .before .before .args .n) (c .before .before .before .loop .i) (c .before .before .loop-test .taken) (sym (c .before .is-taken .ensures) ∙ c .if1 .left))
 
--- src/taken.rt:49:1
 returns-2 : tie.Need-returns-2 Inv-loop μ-loop
 returns-2 c = let e : c .before .loop .i ≡ c .before .before .before .args .n = omega arith in sym (c .before .loop .inv .1 ∙ first-end (isTaken (c .before .before .before .args .starting) (c .before .before .before .args .records .now)) (c .before .before .before .args .n) (c .before .loop .i) e)
 

@@ -13,27 +13,21 @@ use Rattle.targets.proofs.fields.address_of.Reads as address-of-reads
 use Rattle.targets.proofs.fields.udid_of.Reads as udid-of-reads
 use Rattle.udid.proofs.Udid.is_fixed.Reads as is-fixed-reads
 
--- src/taken.rt:12:9
 udid-of-requires : tie.Need-udid-of-requires
 udid-of-requires c κs = search needs
 
--- src/taken.rt:13:9
 is-fixed-requires : tie.Need-is-fixed-requires
 is-fixed-requires c κs = search needs
 
--- src/taken.rt:14:9
 returns : tie.Need-returns
 returns c = let e : isFixed (udidOf (c .before .before .before .before .args .records .now) (c .before .before .before .before .args .j)) ≡ false = ap isFixed (sym (c .before .before .udid-of .ensures)) ∙ sym (c .before .is-fixed .ensures) ∙ not-true _ (c .if1 .taken) in simp e
 
--- src/taken.rt:16:9
 address-of-requires : tie.Need-address-of-requires
 address-of-requires c κs = search needs
 
--- src/taken.rt:17:9
 address-of-requires-2 : tie.Need-address-of-requires-2
 address-of-requires-2 c κs = search needs
 
--- src/taken.rt:9:1
 returns-2 : tie.Need-returns-2
 returns-2 c = let e : isFixed (udidOf (c .before .before .before .before .before .before .before .before .args .records .now) (c .before .before .before .before .before .before .before .before .args .j)) ≡ true = ap isFixed (sym (c .before .before .before .before .before .before .udid-of .ensures)) ∙ sym (c .before .before .before .before .before .is-fixed .ensures) ∙ not-false _ (c .before .before .before .before .if1 .left) in simp (e, c .before .before .before .address-of .ensures, c .before .before .address-of2 .ensures)
 

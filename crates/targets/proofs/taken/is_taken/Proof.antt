@@ -16,35 +16,27 @@ use Rattle.targets.proofs.fields.udid_of.Reads as udid-of-reads
 use Rattle.targets.proofs.taken.first_fixed_as.Reads as first-fixed-as-reads
 use Rattle.udid.proofs.Udid.is_fixed.Reads as is-fixed-reads
 
--- src/taken.rt:38:9
 udid-of-requires : tie.Need-udid-of-requires
 udid-of-requires c κs = search needs
 
--- src/taken.rt:39:9
 is-fixed-requires : tie.Need-is-fixed-requires
 is-fixed-requires c κs = search needs
 
--- src/taken.rt:40:9
 returns : tie.Need-returns
 returns c = let e : isFixed (udidOf (c .before .before .before .before .args .records .now) (c .before .before .before .before .args .i)) ≡ false = ap isFixed (sym (c .before .before .udid-of .ensures)) ∙ sym (c .before .is-fixed .ensures) ∙ not-true _ (c .if1 .taken) in simp e
 
--- src/taken.rt:42:21
 address-of-requires : tie.Need-address-of-requires
 address-of-requires c κs = search needs
 
--- src/taken.rt:42:8
 has-requires : tie.Need-has-requires
 has-requires c κs = search needs
 
--- src/taken.rt:43:9
 returns-2 : tie.Need-returns-2
 returns-2 c = let e : isFixed (udidOf (c .before .before .before .before .before .before .before .args .records .now) (c .before .before .before .before .before .before .before .args .i)) ≡ true = ap isFixed (sym (c .before .before .before .before .before .udid-of .ensures)) ∙ sym (c .before .before .before .before .is-fixed .ensures) ∙ not-false _ (c .before .before .before .if1 .left) in let h : member (c .before .before .before .before .before .before .before .args .starting) (addressByte (c .before .before .before .before .before .before .before .args .records .now) (c .before .before .before .before .before .before .before .args .i) / 2) ≡ true = ap (member (c .before .before .before .before .before .before .before .args .starting)) (sym (c .before .before .address-of .ensures)) ∙ sym (c .before .has .ensures) ∙ c .if2 .taken in simp (e, h)
 
--- src/taken.rt:45:5
 first-fixed-as-requires : tie.Need-first-fixed-as-requires
 first-fixed-as-requires c κs = search needs
 
--- src/taken.rt:35:1
 returns-3 : tie.Need-returns-3
 returns-3 c = let e : isFixed (udidOf (c .before .before .before .before .before .before .before .before .args .records .now) (c .before .before .before .before .before .before .before .before .args .i)) ≡ true = ap isFixed (sym (c .before .before .before .before .before .before .udid-of .ensures)) ∙ sym (c .before .before .before .before .before .is-fixed .ensures) ∙ not-false _ (c .before .before .before .before .if1 .left) in let h : member (c .before .before .before .before .before .before .before .before .args .starting) (addressByte (c .before .before .before .before .before .before .before .before .args .records .now) (c .before .before .before .before .before .before .before .before .args .i) / 2) ≡ false = ap (member (c .before .before .before .before .before .before .before .before .args .starting)) (sym (c .before .before .before .address-of .ensures)) ∙ sym (c .before .before .has .ensures) ∙ c .before .if2 .left in simp (e, h, c .first-fixed-as .ensures)
 

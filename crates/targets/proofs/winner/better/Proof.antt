@@ -14,38 +14,30 @@ use Rattle.arbitration.proofs.win.beats.Reads as beats-reads
 use Rattle.targets.proofs.fields.flag_of.Reads as flag-of-reads
 use Rattle.targets.proofs.fields.udid_of.Reads as udid-of-reads
 
--- src/winner.rt:18:8
 flag-of-requires : tie.Need-flag-of-requires
 flag-of-requires c κs = search needs
 
--- src/winner.rt:19:9
 returns : tie.Need-returns
 unfolding betterOf
 returns c = simp (← c .before .flag-of .ensures, eq-eqb _ _ (c .if1 .taken))
 
--- src/winner.rt:22:23
 udid-of-requires : tie.Need-udid-of-requires
 udid-of-requires c κs = search needs
 
--- src/winner.rt:22:52
 udid-of-requires-2 : tie.Need-udid-of-requires-2
 udid-of-requires-2 c κs = search needs
 
--- src/winner.rt:22:12
 beats-requires : tie.Need-beats-requires
 beats-requires c κs = search needs
 
--- src/winner.rt:23:13
 returns-2 : tie.Need-returns-2
 unfolding betterOf
 returns-2 c = let e : isBelow (udidOf (c .before .before .before .before .before .before .before .before .args .records .now) (c .before .before .before .before .before .before .before .before .args .i)) (udidOf (c .before .before .before .before .before .before .before .before .args .records .now) (c .before .before .before .before .before .before .before .before .args .best)) ≡ true = ap₂ isBelow (sym (c .before .before .before .udid-of .ensures)) (sym (c .before .before .udid-of2 .ensures)) ∙ sym (c .before .beats .ensures) ∙ c .if3 .taken in simp (← c .before .before .before .before .before .before .flag-of .ensures, ne-eqb _ _ (c .before .before .before .before .before .if1 .left), lt-ltb _ _ (c .before .before .before .before .if2 .taken), e)
 
--- src/winner.rt:25:9
 returns-3 : tie.Need-returns-3
 unfolding betterOf
 returns-3 c = let e : isBelow (udidOf (c .before .before .before .before .before .before .before .before .args .records .now) (c .before .before .before .before .before .before .before .before .args .i)) (udidOf (c .before .before .before .before .before .before .before .before .args .records .now) (c .before .before .before .before .before .before .before .before .args .best)) ≡ false = ap₂ isBelow (sym (c .before .before .before .udid-of .ensures)) (sym (c .before .before .udid-of2 .ensures)) ∙ sym (c .before .beats .ensures) ∙ c .if3 .left in simp (← c .before .before .before .before .before .before .flag-of .ensures, ne-eqb _ _ (c .before .before .before .before .before .if1 .left), lt-ltb _ _ (c .before .before .before .before .if2 .taken), e)
 
--- src/winner.rt:15:1
 returns-4 : tie.Need-returns-4
 unfolding betterOf
 returns-4 c = simp (← c .before .before .flag-of .ensures, ne-eqb _ _ (c .before .if1 .left), le-ltb _ _ (c .if2 .left))

@@ -9,20 +9,16 @@ use Rattle.targets.proofs.winner.find.Lts as lts
 use Rattle.targets.proofs.fields.count.Reads as count-reads
 use Rattle.targets.proofs.winner.least.Reads as least-reads
 
--- src/winner.rt:47:9
 count-requires : tie.Need-count-requires
 count-requires c κs = search needs
 
--- src/winner.rt:48:9
 least-requires : tie.Need-least-requires
 least-requires c κs = search needs
 
--- src/winner.rt:44:1
 returns : tie.Need-returns
 unfolding winnerOf
 returns c = simp (← c .before .before .count .ensures, ← c .before .least .ensures, lt-ltb _ _ (c .if1 .taken))
 
--- src/winner.rt:44:1
 returns-2 : tie.Need-returns-2
 unfolding winnerOf
 returns-2 c = simp (← c .before .before .count .ensures, ← c .before .least .ensures, le-ltb _ _ (c .if1 .left))

@@ -26,27 +26,21 @@ Inv-loop records n best₀ i₀ best i = (i ≤ n) × (bestFrom records n n 0 n 
 abbrev μ-loop : tie.MeasureT-loop
 μ-loop records n best₀ i₀ best i = n - i
 
--- src/winner.rt:36:5
 loop-holds : tie.Need-loop-holds Inv-loop μ-loop
 loop-holds c = (omega arith, simp sub-zero)
 
--- src/winner.rt:37:9
 better-requires : tie.Need-better-requires Inv-loop μ-loop
 better-requires c κs = search needs
 
--- src/winner.rt:38:9
 add-i : tie.Need-add-i Inv-loop μ-loop
 add-i c = omega arith
 
--- src/winner.rt:36:5
 loop-less : tie.Need-loop-less Inv-loop μ-loop
 loop-less c = omega arith
 
--- src/winner.rt:36:5
 loop-again : tie.Need-loop-again Inv-loop μ-loop
 loop-again c = (omega arith, c .before .before .loop .inv .1 ∙ onward (c .before .before .before .before .args .records .now) (c .before .before .before .before .args .n) (c .before .before .loop .i) (c .before .before .loop .best) (c .before .loop-test .taken) ∙ ap (bestFrom (c .before .before .before .before .args .records .now) (c .before .before .before .before .args .n) (c .before .before .before .before .args .n - (c .before .before .loop .i + 1)) (c .before .before .loop .i + 1)) (sym (c .better .ensures)))
 
--- src/winner.rt:31:1
 returns : tie.Need-returns Inv-loop μ-loop
 returns c = let z : c .before .before .before .args .n - c .before .loop .i ≡ 0 = omega arith in sym (c .before .loop .inv .1 ∙ ap (λ (x : ℕ). bestFrom (c .before .before .before .args .records .now) (c .before .before .before .args .n) x (c .before .loop .i) (c .before .loop .best)) z ∙ at-end (c .before .before .before .args .records .now) (c .before .before .before .args .n) (c .before .loop .i) (c .before .loop .best))
 

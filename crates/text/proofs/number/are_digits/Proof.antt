@@ -14,39 +14,30 @@ Inv-loop s at hex i₀ i = areDigits (baseOf hex) (drop at s) ≡ areDigits (bas
 abbrev μ-loop : tie.MeasureT-loop
 μ-loop s at hex i₀ i = length s - i
 
--- src/number.rt:61:5
 loop-holds : tie.Need-loop-holds Inv-loop μ-loop
 loop-holds c = refl
 
--- src/number.rt:62:12
 base-requires : tie.Need-base-requires Inv-loop μ-loop
 base-requires c κs = search needs
 
--- src/number.rt:62:31
 shared-slice-read-digit : tie.Need-shared-slice-read-digit Inv-loop μ-loop
 shared-slice-read-digit c = search needs
 
--- src/number.rt:62:25
 digit-requires : tie.Need-digit-requires Inv-loop μ-loop
 digit-requires c κs = search needs
 
--- src/number.rt:63:13
 returns : tie.Need-returns Inv-loop μ-loop
 returns c = sym (c .before .before .before .before .before .loop .inv ∙ digits-not (baseOf (c .before .before .before .before .before .before .before .args .hex)) (c .before .before .before .before .before .before .before .args .s .now) (c .before .before .before .before .before .loop .i) (omega arith) (omega (arith, c .before .before .before .base .ensures, c .before .digit .ensures)))
 
--- src/number.rt:65:9
 add-i : tie.Need-add-i Inv-loop μ-loop
 add-i c = search needs
 
--- src/number.rt:61:5
 loop-less : tie.Need-loop-less Inv-loop μ-loop
 loop-less c = search needs
 
--- src/number.rt:61:5
 loop-again : tie.Need-loop-again Inv-loop μ-loop
 loop-again c = c .before .before .before .before .before .loop .inv ∙ digits-on (baseOf (c .before .before .before .before .before .before .before .args .hex)) (c .before .before .before .before .before .before .before .args .s .now) (c .before .before .before .before .before .loop .i) (omega arith) (omega (arith, c .before .before .before .base .ensures, c .before .digit .ensures))
 
--- src/number.rt:57:1
 returns-2 : tie.Need-returns-2 Inv-loop μ-loop
 returns-2 c = sym (c .before .loop .inv ∙ digits-over (baseOf (c .before .before .before .args .hex)) (c .before .before .before .args .s .now) (c .before .loop .i) (omega arith))
 

@@ -4,11 +4,9 @@ use Rattle.text.specs.NumberLaws.{capped-low, capped-high}
 use Rattle.text.proofs.number.cap.Statement.{statement}
 use Rattle.text.proofs.number.cap.Tie as tie
 
--- src/number.rt:77:1
 returns : tie.Need-returns
 returns c = (sym (capped-low (c .before .args .n) (omega arith)), omega arith)
 
--- src/number.rt:77:1
 returns-2 : tie.Need-returns-2
 returns-2 c = (sym (capped-high (c .before .args .n) (omega arith)), omega arith)
 

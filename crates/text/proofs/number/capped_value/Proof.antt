@@ -14,35 +14,27 @@ Inv-loop s at hex v₀ i₀ v i = (v ≤ 65536) × (capped (valueFrom (baseOf he
 abbrev μ-loop : tie.MeasureT-loop
 μ-loop s at hex v₀ i₀ v i = length s - i
 
--- src/number.rt:100:5
 loop-holds : tie.Need-loop-holds Inv-loop μ-loop
 loop-holds c = (omega arith, refl)
 
--- src/number.rt:101:33
 shared-slice-read-digit : tie.Need-shared-slice-read-digit Inv-loop μ-loop
 shared-slice-read-digit c = search needs
 
--- src/number.rt:101:27
 digit-requires : tie.Need-digit-requires Inv-loop μ-loop
 digit-requires c κs = search needs
 
--- src/number.rt:101:9
 digit-more-requires : tie.Need-digit-more-requires Inv-loop μ-loop
 digit-more-requires c κs = search needs
 
--- src/number.rt:102:9
 add-i : tie.Need-add-i Inv-loop μ-loop
 add-i c = search needs
 
--- src/number.rt:100:5
 loop-less : tie.Need-loop-less Inv-loop μ-loop
 loop-less c = search needs
 
--- src/number.rt:100:5
 loop-again : tie.Need-loop-again Inv-loop μ-loop
 loop-again c = (c .digit-more .ensures .1, c .before .before .before .before .loop .inv .1 ∙ capped-on (c .before .before .before .before .before .before .args .hex) (c .before .before .before .before .loop .v) (c .before .before .before .before .before .before .args .s .now) (c .before .before .before .before .loop .i) (omega arith) ∙ rw (sym (c .before .digit .ensures), sym (c .digit-more .ensures .0)))
 
--- src/number.rt:95:1
 returns : tie.Need-returns Inv-loop μ-loop
 returns c = sym (c .before .loop .inv .1 ∙ ap capped (value-over (baseOf (c .before .before .before .args .hex)) (c .before .loop .v) (c .before .before .before .args .s .now) (c .before .loop .i) (omega arith)) ∙ capped-within (c .before .loop .v) (c .before .loop .inv .0))
 

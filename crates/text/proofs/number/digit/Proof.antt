@@ -5,39 +5,30 @@ use borrow.Author.Needs.{needs}
 use Rattle.text.proofs.number.digit.Statement.{statement}
 use Rattle.text.proofs.number.digit.Tie as tie
 
--- src/number.rt:30:9
 returns : tie.Need-returns
 returns c = sym (digit-before (c .before .args .c) (omega arith))
 
--- src/number.rt:33:9
 returns-2 : tie.Need-returns-2
 returns-2 c = sym (digit-decimal (c .before .before .args .c) (omega arith) (omega arith))
 
--- src/number.rt:36:9
 returns-3 : tie.Need-returns-3
 returns-3 c = sym (digit-between (c .before .before .before .args .c) (omega arith) (omega arith))
 
--- src/number.rt:39:16
 sub-result : tie.Need-sub-result
 sub-result c = search needs
 
--- src/number.rt:39:9
 returns-4 : tie.Need-returns-4
 returns-4 c = sym (digit-upper (c .before .before .before .before .args .c) (omega arith) (omega arith))
 
--- src/number.rt:42:9
 returns-5 : tie.Need-returns-5
 returns-5 c = sym (digit-behind (c .before .before .before .before .before .args .c) (omega arith) (omega arith))
 
--- src/number.rt:45:16
 sub-result-2 : tie.Need-sub-result-2
 sub-result-2 c = search needs
 
--- src/number.rt:45:9
 returns-6 : tie.Need-returns-6
 returns-6 c = sym (digit-lower (c .before .before .before .before .before .before .args .c) (omega arith) (omega arith))
 
--- src/number.rt:26:1
 returns-7 : tie.Need-returns-7
 returns-7 c = sym (digit-after (c .before .before .before .before .before .before .args .c) (omega arith))
 

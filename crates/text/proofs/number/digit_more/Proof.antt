@@ -3,43 +3,33 @@ use borrow.Author.Needs.{needs}
 use Rattle.text.proofs.number.digit_more.Statement.{statement}
 use Rattle.text.proofs.number.digit_more.Tie as tie
 
--- src/number.rt:89:20
 mul-cap : tie.Need-mul-cap
 mul-cap c = search needs
 
--- src/number.rt:89:29
 wide-requires : tie.Need-wide-requires
 wide-requires c κs = search needs
 
--- src/number.rt:89:20
 add-cap : tie.Need-add-cap
 add-cap c = search needs
 
--- src/number.rt:89:9
 cap-requires : tie.Need-cap-requires
 cap-requires c κs = search needs
 
--- src/number.rt:89:9
 returns : tie.Need-returns
 returns c = (rw (c .before .before .if1 .taken, sym (c .before .wide .ensures .0)) (c .cap .ensures .0), c .cap .ensures .1)
 
--- src/number.rt:91:9
 mul-cap-2 : tie.Need-mul-cap-2
 mul-cap-2 c = search needs
 
--- src/number.rt:91:18
 wide-requires-2 : tie.Need-wide-requires-2
 wide-requires-2 c κs = search needs
 
--- src/number.rt:91:9
 add-cap-2 : tie.Need-add-cap-2
 add-cap-2 c = search needs
 
--- src/number.rt:91:5
 cap-requires-2 : tie.Need-cap-requires-2
 cap-requires-2 c κs = search needs
 
--- src/number.rt:84:1
 returns-2 : tie.Need-returns-2
 returns-2 c = (rw (c .before .before .if1 .left, sym (c .before .wide2 .ensures .0)) (c .cap2 .ensures .0), c .cap2 .ensures .1)
 

@@ -14,45 +14,35 @@ Inv-loop s at v₀ k₀ v k = (k ≤ 16) × (v < 2 ^ (4 * k)) × (valueFrom 16 0
 abbrev μ-loop : tie.MeasureT-loop
 μ-loop s at v₀ k₀ v k = 16 - k
 
--- src/number.rt:142:5
 loop-holds : tie.Need-loop-holds Inv-loop μ-loop
 loop-holds c = (omega arith, omega arith, half-start (c .before .args .s .now) (c .before .args .at))
 
--- src/number.rt:143:13
 mul-v : tie.Need-mul-v Inv-loop μ-loop
 mul-v c = record { fits = (omega (arith, half-fits (c .before .loop .v) 0 (c .before .loop .k) (omega arith) (c .before .loop .inv .1) (omega arith))) }
 
--- src/number.rt:143:35
 add-digit : tie.Need-add-digit Inv-loop μ-loop
 add-digit c = search needs
 
--- src/number.rt:143:33
 shared-slice-read-digit : tie.Need-shared-slice-read-digit Inv-loop μ-loop
 shared-slice-read-digit c = search needs
 
--- src/number.rt:143:27
 digit-requires : tie.Need-digit-requires Inv-loop μ-loop
 digit-requires c κs = search needs
 
--- src/number.rt:143:22
 wide-requires : tie.Need-wide-requires Inv-loop μ-loop
 wide-requires c κs = search needs
 
--- src/number.rt:143:13
 add-v : tie.Need-add-v Inv-loop μ-loop
 add-v c =
     let d : c .wide .result < 16 = omega (arith, c .wide .ensures .0, c .before .digit .ensures, digit-at 16 (c .before .before .before .before .before .before .args .s .now) ((c .before .before .before .before .before .before .args .at) + c .before .before .before .before .loop .k) (c .before .before .before .before .before .before .pre .1) (omega (arith, c .before .before .before .before .before .before .pre .0))) in
     record { fits = half-fits (c .before .before .before .before .loop .v) (c .wide .result) (c .before .before .before .before .loop .k) (omega arith) (c .before .before .before .before .loop .inv .1) d }
 
--- src/number.rt:144:9
 add-k : tie.Need-add-k Inv-loop μ-loop
 add-k c = search needs
 
--- src/number.rt:142:5
 loop-less : tie.Need-loop-less Inv-loop μ-loop
 loop-less c = search needs
 
--- src/number.rt:142:5
 loop-again : tie.Need-loop-again Inv-loop μ-loop
 loop-again c =
     let d : c .wide .result ≡ digitOf (getD (c .before .before .before .before .before .before .args .s .now) ((c .before .before .before .before .before .before .args .at) + c .before .before .before .before .loop .k) 0) = c .wide .ensures .0 ∙ c .before .digit .ensures in
@@ -62,7 +52,6 @@ loop-again c =
       c .before .before .before .before .loop .inv .2 ∙ half-on (c .before .before .before .before .before .before .args .s .now) (c .before .before .before .before .loop .v) (c .before .before .before .before .before .before .args .at) (c .before .before .before .before .loop .k) (omega arith) (omega (arith, c .before .before .before .before .before .before .pre .0)) ∙ rw (sym d),
     )
 
--- src/number.rt:136:1
 returns : tie.Need-returns Inv-loop μ-loop
 returns c = sym (c .before .loop .inv .2 ∙ half-over (c .before .before .before .args .s .now) (c .before .loop .v) (c .before .before .before .args .at) (c .before .loop .k) (omega arith))
 

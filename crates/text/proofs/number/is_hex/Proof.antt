@@ -4,25 +4,20 @@ use borrow.Author.Needs.{needs}
 use Rattle.text.proofs.number.is_hex.Statement.{statement}
 use Rattle.text.proofs.number.is_hex.Tie as tie
 
--- src/number.rt:101:9
 returns : tie.Need-returns
 unfolding isHex
 returns c = simp (lt-leb 2 _ (c .if1 .taken))
 
--- src/number.rt:103:8
 shared-slice-read-if2 : tie.Need-shared-slice-read-if2
 shared-slice-read-if2 c = search needs
 
--- src/number.rt:103:23
 shared-slice-read-result : tie.Need-shared-slice-read-result
 shared-slice-read-result c = search needs
 
--- src/number.rt:97:1
 returns-2 : tie.Need-returns-2
 unfolding isHex
 returns-2 c = simp (le-leb 2 _ (c .before .before .before .if1 .left), eq-eqb _ _ (c .before .if2 .taken))
 
--- src/number.rt:97:1
 returns-3 : tie.Need-returns-3
 unfolding isHex
 returns-3 c = simp (le-leb 2 _ (c .before .before .if1 .left), ne-eqb _ _ (c .if2 .left))

@@ -10,30 +10,24 @@ use borrow.Author.Needs.{needs}
 use Rattle.text.proofs.number.number_from.Statement.{statement}
 use Rattle.text.proofs.number.number_from.Tie as tie
 
--- src/number.rt:122:9
 returns : tie.Need-returns
 returns c = sym (no-digits-no-number (baseOf (c .before .before .args .hex)) (c .before .before .args .s .now) (c .before .before .args .at) (omega arith))
 
--- src/number.rt:124:9
 are-digits-requires : tie.Need-are-digits-requires
 are-digits-requires c κs = search needs
 
--- src/number.rt:125:9
 returns-2 : tie.Need-returns-2
 returns-2 c = sym (other-characters-no-number (baseOf (c .before .before .before .before .args .hex)) (drop (c .before .before .before .before .args .at) (c .before .before .before .before .args .s .now)) (sym (c .before .are-digits .ensures) ∙ not-true _ (c .if2 .taken)))
 
--- src/number.rt:127:9
 capped-value-requires : tie.Need-capped-value-requires
 capped-value-requires c κs = search needs
 
--- src/number.rt:118:1
 returns-3 : tie.Need-returns-3
 returns-3 c =
     let e : valueOf (baseOf (c .before .before .before .before .before .before .args .hex)) (drop (c .before .before .before .before .before .before .args .at) (c .before .before .before .before .before .before .args .s .now)) ≡ c .before .capped-value .result = below-cap _ _ (c .before .capped-value .ensures) (omega arith) in
     let l : 0 < length (drop (c .before .before .before .before .before .before .args .at) (c .before .before .before .before .before .before .args .s .now)) = omega (arith, length-drop (c .before .before .before .before .before .before .args .at) (c .before .before .before .before .before .before .args .s .now)) in
     sym (digits-say-number (baseOf (c .before .before .before .before .before .before .args .hex)) (drop (c .before .before .before .before .before .before .args .at) (c .before .before .before .before .before .before .args .s .now)) l (sym (c .before .before .before .are-digits .ensures) ∙ not-false _ (c .before .before .if2 .left)) (omega arith) ∙ ap Is e)
 
--- src/number.rt:118:1
 returns-4 : tie.Need-returns-4
 returns-4 c =
     let e : 65536 ≤ valueOf (baseOf (c .before .before .before .before .before .before .args .hex)) (drop (c .before .before .before .before .before .before .args .at) (c .before .before .before .before .before .before .args .s .now)) = at-cap _ _ (c .before .capped-value .ensures) (omega arith) in

@@ -6,27 +6,21 @@ use borrow.Author.Needs.{needs}
 use Rattle.text.proofs.number.read_halves.Statement.{statement}
 use Rattle.text.proofs.number.read_halves.Tie as tie
 
--- src/number.rt:165:9
 returns : tie.Need-returns
 returns c = sym (halves-length (c .before .before .args .s .now) (c .if1 .taken))
 
--- src/number.rt:167:9
 are-digits-requires : tie.Need-are-digits-requires
 are-digits-requires c κs = search needs
 
--- src/number.rt:168:9
 returns-2 : tie.Need-returns-2
 returns-2 c = sym (halves-digits (c .before .before .before .before .args .s .now) (c .before .before .if1 .left) (sym (c .before .are-digits .ensures) ∙ not-true _ (c .if2 .taken)))
 
--- src/number.rt:170:9
 half-requires : tie.Need-half-requires
 half-requires c κs = (omega arith, sym (c .before .are-digits .ensures) ∙ not-false _ (c .if2 .left))
 
--- src/number.rt:171:9
 half-requires-2 : tie.Need-half-requires-2
 half-requires-2 c κs = (omega arith, sym (c .before .before .are-digits .ensures) ∙ not-false _ (c .before .if2 .left))
 
--- src/number.rt:161:1
 returns-3 : tie.Need-returns-3
 returns-3 c = sym (halves-are (c .before .before .before .before .before .before .args .s .now) (c .before .before .before .before .if1 .left) (sym (c .before .before .before .are-digits .ensures) ∙ not-false _ (c .before .before .if2 .left)) ∙ rw (c .before .half .ensures, c .half2 .ensures))
 

@@ -4,23 +4,18 @@ use borrow.Author.Needs.{needs}
 use Rattle.text.proofs.number.read_number.Statement.{statement}
 use Rattle.text.proofs.number.read_number.Tie as tie
 
--- src/number.rt:139:8
 is-hex-requires : tie.Need-is-hex-requires
 is-hex-requires c κs = search needs
 
--- src/number.rt:140:9
 number-from-requires : tie.Need-number-from-requires
 number-from-requires c κs = search needs
 
--- src/number.rt:142:9
 number-from-requires-2 : tie.Need-number-from-requires-2
 number-from-requires-2 c κs = search needs
 
--- src/number.rt:136:1
 returns : tie.Need-returns
 returns c = c .number-from .ensures ∙ sym (number-hex (c .before .before .before .before .args .s .now) (sym (c .before .before .is-hex .ensures) ∙ c .before .if1 .taken))
 
--- src/number.rt:136:1
 returns-2 : tie.Need-returns-2
 returns-2 c = c .number-from2 .ensures ∙ sym (number-decimal (c .before .before .before .before .args .s .now) (sym (c .before .before .is-hex .ensures) ∙ c .before .if1 .left))
 

@@ -16,31 +16,24 @@ Inv-loop s i₀ i = before hash s ≡ i + before hash (drop i s)
 abbrev μ-loop : tie.MeasureT-loop
 μ-loop s i₀ i = length s - i
 
--- src/word.rt:47:5
 loop-holds : tie.Need-loop-holds Inv-loop μ-loop
 loop-holds c = search needs
 
--- src/word.rt:48:12
 shared-slice-read-if1 : tie.Need-shared-slice-read-if1 Inv-loop μ-loop
 shared-slice-read-if1 c = search needs
 
--- src/word.rt:49:13
 returns : tie.Need-returns Inv-loop μ-loop
 returns c = search-found hash (c .before .before .before .before .args .s .now) 0 (c .before .before .before .loop .i) (zero-add _ ∙ c .before .before .before .loop .inv) (omega arith) (eq-eqb _ _ (c .if1 .taken)) ∙ zero-add _
 
--- src/word.rt:51:9
 add-i : tie.Need-add-i Inv-loop μ-loop
 add-i c = search needs
 
--- src/word.rt:47:5
 loop-less : tie.Need-loop-less Inv-loop μ-loop
 loop-less c = search needs
 
--- src/word.rt:47:5
 loop-again : tie.Need-loop-again Inv-loop μ-loop
 loop-again c = sym (zero-add _) ∙ search-on hash (c .before .before .before .before .args .s .now) 0 (c .before .before .before .loop .i) (zero-add _ ∙ c .before .before .before .loop .inv) (omega arith) (ne-eqb _ _ (c .if1 .left))
 
--- src/word.rt:43:1
 returns-2 : tie.Need-returns-2 Inv-loop μ-loop
 returns-2 c = search-over hash (c .before .before .args .s .now) 0 (c .before .loop .i) (zero-add _ ∙ c .before .loop .inv) (omega arith) ∙ zero-add _
 

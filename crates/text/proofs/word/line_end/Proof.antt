@@ -15,31 +15,24 @@ Inv-loop s at i₀ i = at + before feed (drop at s) ≡ i + before feed (drop i 
 abbrev μ-loop : tie.MeasureT-loop
 μ-loop s at i₀ i = length s - i
 
--- src/word.rt:33:5
 loop-holds : tie.Need-loop-holds Inv-loop μ-loop
 loop-holds c = refl
 
--- src/word.rt:34:12
 shared-slice-read-if1 : tie.Need-shared-slice-read-if1 Inv-loop μ-loop
 shared-slice-read-if1 c = search needs
 
--- src/word.rt:35:13
 returns : tie.Need-returns Inv-loop μ-loop
 returns c = search-found feed (c .before .before .before .before .args .s .now) (c .before .before .before .before .args .at) (c .before .before .before .loop .i) (c .before .before .before .loop .inv) (omega arith) (eq-eqb _ _ (c .if1 .taken))
 
--- src/word.rt:37:9
 add-i : tie.Need-add-i Inv-loop μ-loop
 add-i c = search needs
 
--- src/word.rt:33:5
 loop-less : tie.Need-loop-less Inv-loop μ-loop
 loop-less c = search needs
 
--- src/word.rt:33:5
 loop-again : tie.Need-loop-again Inv-loop μ-loop
 loop-again c = search-on feed (c .before .before .before .before .args .s .now) (c .before .before .before .before .args .at) (c .before .before .before .loop .i) (c .before .before .before .loop .inv) (omega arith) (ne-eqb _ _ (c .if1 .left))
 
--- src/word.rt:29:1
 returns-2 : tie.Need-returns-2 Inv-loop μ-loop
 returns-2 c = search-over feed (c .before .before .args .s .now) (c .before .before .args .at) (c .before .loop .i) (c .before .loop .inv) (omega arith)
 

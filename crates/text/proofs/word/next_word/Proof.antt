@@ -3,15 +3,12 @@ use borrow.Author.Needs.{needs}
 use Rattle.text.proofs.word.next_word.Statement.{statement}
 use Rattle.text.proofs.word.next_word.Tie as tie
 
--- src/word.rt:88:9
 word-start-requires : tie.Need-word-start-requires
 word-start-requires c κs = search needs
 
--- src/word.rt:89:9
 word-end-requires : tie.Need-word-end-requires
 word-end-requires c κs = search needs
 
--- src/word.rt:85:1
 returns : tie.Need-returns
 unfolding startFrom wordFrom
 returns c = rw (c .word-end .ensures, c .before .word-start .ensures)

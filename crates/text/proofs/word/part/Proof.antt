@@ -5,31 +5,24 @@ use borrow.Author.Needs.{needs}
 use Rattle.text.proofs.word.part.Statement.{statement}
 use Rattle.text.proofs.word.part.Tie as tie
 
--- src/word.rt:98:9
 slice-aggregate-result : tie.Need-slice-aggregate-result
 slice-aggregate-result c = search needs
 
--- src/word.rt:98:9
 returns : tie.Need-returns
 returns c = sym (part-turned (c .before .before .args .s .now) (c .before .before .args .from) (c .before .before .args .to) (omega arith))
 
--- src/word.rt:101:9
 slice-aggregate-result-2 : tie.Need-slice-aggregate-result-2
 slice-aggregate-result-2 c = search needs
 
--- src/word.rt:101:9
 returns-2 : tie.Need-returns-2
 returns-2 c = sym (part-past (c .before .before .before .args .s .now) (c .before .before .before .args .from) (c .before .before .before .args .to) (omega arith) (omega arith))
 
--- src/word.rt:103:5
 part-result-start : tie.Need-part-result-start
 part-result-start c = search needs
 
--- src/word.rt:103:5
 part-result-end : tie.Need-part-result-end
 part-result-end c = search needs
 
--- src/word.rt:94:1
 returns-3 : tie.Need-returns-3
 returns-3 c = sym (part-in (c .before .before .before .args .s .now) (c .before .before .before .args .from) (c .before .before .before .args .to) (omega arith) (omega arith))
 

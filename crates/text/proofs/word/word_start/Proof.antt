@@ -14,35 +14,27 @@ Inv-loop s at i₀ i = at + before outside (drop at s) ≡ i + before outside (d
 abbrev μ-loop : tie.MeasureT-loop
 μ-loop s at i₀ i = length s - i
 
--- src/word.rt:61:5
 loop-holds : tie.Need-loop-holds Inv-loop μ-loop
 loop-holds c = refl
 
--- src/word.rt:62:22
 shared-slice-read-is-blank : tie.Need-shared-slice-read-is-blank Inv-loop μ-loop
 shared-slice-read-is-blank c = search needs
 
--- src/word.rt:62:13
 is-blank-requires : tie.Need-is-blank-requires Inv-loop μ-loop
 is-blank-requires c κs = search needs
 
--- src/word.rt:63:13
 returns : tie.Need-returns Inv-loop μ-loop
 returns c = search-found outside (c .before .before .before .before .before .before .args .s .now) (c .before .before .before .before .before .before .args .at) (c .before .before .before .before .loop .i) (c .before .before .before .before .loop .inv) (omega arith) (rw (sym (c .before .is-blank .ensures)) (c .if1 .taken))
 
--- src/word.rt:65:9
 add-i : tie.Need-add-i Inv-loop μ-loop
 add-i c = search needs
 
--- src/word.rt:61:5
 loop-less : tie.Need-loop-less Inv-loop μ-loop
 loop-less c = search needs
 
--- src/word.rt:61:5
 loop-again : tie.Need-loop-again Inv-loop μ-loop
 loop-again c = search-on outside (c .before .before .before .before .before .before .args .s .now) (c .before .before .before .before .before .before .args .at) (c .before .before .before .before .loop .i) (c .before .before .before .before .loop .inv) (omega arith) (rw (sym (c .before .is-blank .ensures)) (c .if1 .left))
 
--- src/word.rt:57:1
 returns-2 : tie.Need-returns-2 Inv-loop μ-loop
 returns-2 c = search-over outside (c .before .before .before .args .s .now) (c .before .before .before .args .at) (c .before .loop .i) (c .before .loop .inv) (omega arith)
 

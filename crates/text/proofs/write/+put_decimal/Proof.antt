@@ -24,7 +24,6 @@ abbrev put-decimal-below : ℕ → In 1 put-decimal-kinds.ps
 put-decimal-below t =
     and 1 put-decimal-kinds.ps (falls 1 put-decimal-kinds.ps _<_ μ-put-decimal t) put-decimal.Pre
 
--- src/write.rt:54:34
 put-decimal-last-digit-requires : (t : ℕ) → put-decimal-lts.Need-last-digit-requires (
   last-digit-reads.Asked,
   last-digit-reads.Learnt,
@@ -35,7 +34,6 @@ put-decimal-last-digit-requires : (t : ℕ) → put-decimal-lts.Need-last-digit-
 ) (put-decimal-at t) put-decimal.Post
 put-decimal-last-digit-requires t c κs = search needs
 
--- src/write.rt:54:9
 put-decimal-put-byte-requires : (t : ℕ) → put-decimal-lts.Need-put-byte-requires (
   last-digit-reads.Asked,
   last-digit-reads.Learnt,
@@ -46,7 +44,6 @@ put-decimal-put-byte-requires : (t : ℕ) → put-decimal-lts.Need-put-byte-requ
 ) (put-decimal-at t) put-decimal.Post
 put-decimal-put-byte-requires t c κs = search needs
 
--- src/write.rt:54:9
 put-decimal-same-length : (t : ℕ) → put-decimal-lts.Need-same-length (
   last-digit-reads.Asked,
   last-digit-reads.Learnt,
@@ -57,7 +54,6 @@ put-decimal-same-length : (t : ℕ) → put-decimal-lts.Need-same-length (
 ) (put-decimal-at t) put-decimal.Post
 put-decimal-same-length t c = c .before .before .put-byte .kept .0
 
--- src/write.rt:54:9
 put-decimal-returns : (t : ℕ) → put-decimal-lts.Need-returns (
   last-digit-reads.Asked,
   last-digit-reads.Learnt,
@@ -71,7 +67,6 @@ put-decimal-returns t c =
     put-digit (a .out .now) (c .before .before .put-byte .last .0) (a .at) (c .before .before .put-byte .result) (a .n) (c .before .before .before .last-digit .result) (omega arith) (c .before .before .before .last-digit .ensures)
     (c .before .before .put-byte .ensures .0) (c .before .before .put-byte .ensures .1)
 
--- src/write.rt:56:9
 put-decimal-put-decimal-requires : (t : ℕ) → put-decimal-lts.Need-put-decimal-requires (
   last-digit-reads.Asked,
   last-digit-reads.Learnt,
@@ -82,7 +77,6 @@ put-decimal-put-decimal-requires : (t : ℕ) → put-decimal-lts.Need-put-decima
 ) (put-decimal-at t) put-decimal.Post
 put-decimal-put-decimal-requires t c κs = (omega (arith, c .before .before .before .pre .0), tt)
 
--- src/write.rt:57:23
 put-decimal-last-digit-requires-2 : (t : ℕ) → put-decimal-lts.Need-last-digit-requires-2 (
   last-digit-reads.Asked,
   last-digit-reads.Learnt,
@@ -93,7 +87,6 @@ put-decimal-last-digit-requires-2 : (t : ℕ) → put-decimal-lts.Need-last-digi
 ) (put-decimal-at t) put-decimal.Post
 put-decimal-last-digit-requires-2 t c κs = search needs
 
--- src/write.rt:57:5
 put-decimal-put-byte-requires-2 : (t : ℕ) → put-decimal-lts.Need-put-byte-requires-2 (
   last-digit-reads.Asked,
   last-digit-reads.Learnt,
@@ -104,7 +97,6 @@ put-decimal-put-byte-requires-2 : (t : ℕ) → put-decimal-lts.Need-put-byte-re
 ) (put-decimal-at t) put-decimal.Post
 put-decimal-put-byte-requires-2 t c κs = search needs
 
--- src/write.rt:50:1
 put-decimal-same-length-2 : (t : ℕ) → put-decimal-lts.Need-same-length-2 (
   last-digit-reads.Asked,
   last-digit-reads.Learnt,
@@ -115,7 +107,6 @@ put-decimal-same-length-2 : (t : ℕ) → put-decimal-lts.Need-same-length-2 (
 ) (put-decimal-at t) put-decimal.Post
 put-decimal-same-length-2 t c = c .before .before .put-byte2 .kept .0 ∙ c .before .before .before .before .before .before .before .put-decimal .kept .0
 
--- src/write.rt:50:1
 put-decimal-returns-2 : (t : ℕ) → put-decimal-lts.Need-returns-2 (
   last-digit-reads.Asked,
   last-digit-reads.Learnt,

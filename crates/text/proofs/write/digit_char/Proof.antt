@@ -3,19 +3,15 @@ use borrow.Author.Needs.{needs}
 use Rattle.text.proofs.write.digit_char.Statement.{statement}
 use Rattle.text.proofs.write.digit_char.Tie as tie
 
--- src/write.rt:39:19
 add-result : tie.Need-add-result
 add-result c = search needs
 
--- src/write.rt:39:37
 add-result-2 : tie.Need-add-result-2
 add-result-2 c = search needs
 
--- src/write.rt:35:1
 returns : tie.Need-returns
 returns c = simp (lt-ltb _ _ (c .if1 .taken))
 
--- src/write.rt:35:1
 returns-2 : tie.Need-returns-2
 returns-2 c = simp (le-ltb _ _ (c .if1 .left))
 

@@ -5,15 +5,12 @@ use borrow.Author.Needs.{needs}
 use Rattle.text.proofs.write.last_digit.Statement.{statement}
 use Rattle.text.proofs.write.last_digit.Tie as tie
 
--- src/write.rt:46:10
 cast-result : tie.Need-cast-result
 cast-result c = search needs
 
--- src/write.rt:46:5
 add-result : tie.Need-add-result
 add-result c = search needs
 
--- src/write.rt:43:1
 returns : tie.Need-returns
 returns c = simp (lt-ltb (c .args .n % 10) 10 (omega arith))
 

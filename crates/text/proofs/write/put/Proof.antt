@@ -15,38 +15,30 @@ Inv-loop out₀ at s to₀ i₀ out to i = Came out₀ at s out to (drop i s)
 abbrev μ-loop : tie.MeasureT-loop
 μ-loop out₀ at s to₀ i₀ out to i = length s - i
 
--- src/write.rt:27:5
 loop-holds : tie.Need-loop-holds Inv-loop μ-loop
 loop-holds c = came-start (c .before .before .args .out .now) (c .before .before .args .at) (c .before .before .args .s .now)
 
--- src/write.rt:28:32
 shared-slice-read-put-byte : tie.Need-shared-slice-read-put-byte Inv-loop μ-loop
 shared-slice-read-put-byte c = search needs
 
--- src/write.rt:28:9
 put-byte-requires : tie.Need-put-byte-requires Inv-loop μ-loop
 put-byte-requires c κs = search needs
 
--- src/write.rt:29:9
 add-i : tie.Need-add-i Inv-loop μ-loop
 add-i c = search needs
 
--- src/write.rt:27:5
 loop-less : tie.Need-loop-less Inv-loop μ-loop
 loop-less c = search needs
 
--- src/write.rt:27:5
 loop-again : tie.Need-loop-again Inv-loop μ-loop
 loop-again c =
     came-on (c .before .before .before .before .before .before .before .before .before .args .out .now) (c .before .before .before .before .before .before .before .before .before .args .at) (c .before .before .before .before .before .before .before .before .before .args .s .now) (c .before .before .before .before .before .before .loop .out) (c .before .before .before .before .before .before .loop .to) (getD (c .before .before .before .before .before .before .before .before .before .args .s .now) (c .before .before .before .before .before .before .loop .i) 0 ∷ []) (drop (c .before .before .before .before .before .before .loop .i + 1) (c .before .before .before .before .before .before .before .before .before .args .s .now)) _ _
     (subst (λ (r : List ℕ). Came (c .before .before .before .before .before .before .before .before .before .args .out .now) (c .before .before .before .before .before .before .before .before .before .args .at) (c .before .before .before .before .before .before .before .before .before .args .s .now) (c .before .before .before .before .before .before .loop .out) (c .before .before .before .before .before .before .loop .to) r) (rest-on (c .before .before .before .before .before .before .before .before .before .args .s .now) (c .before .before .before .before .before .before .loop .i) (omega arith)) (c .before .before .before .before .before .before .loop .inv))
     (c .before .before .put-byte .ensures .0 ∙ sym (after-one _ _ _)) (c .before .before .put-byte .ensures .1 ∙ sym (written-one _ _ _))
 
--- src/write.rt:22:1
 same-length : tie.Need-same-length Inv-loop μ-loop
 same-length c = c .before .loop .inv .size
 
--- src/write.rt:22:1
 returns : tie.Need-returns Inv-loop μ-loop
 returns c = came-end (c .before .before .before .before .args .out .now) (c .before .before .before .before .args .at) (c .before .before .before .before .args .s .now) (c .before .loop .out) (c .before .loop .to) (subst (λ (r : List ℕ). Came (c .before .before .before .before .args .out .now) (c .before .before .before .before .args .at) (c .before .before .before .before .args .s .now) (c .before .loop .out) (c .before .loop .to) r) (drop-of-length-le (c .before .before .before .before .args .s .now) {i = c .before .loop .i} (omega arith)) (c .before .loop .inv))
 

@@ -8,27 +8,21 @@ use borrow.Author.Needs.{needs}
 use Rattle.text.proofs.write.put_pair.Statement.{statement}
 use Rattle.text.proofs.write.put_pair.Tie as tie
 
--- src/write.rt:64:32
 digit-char-requires : tie.Need-digit-char-requires
 digit-char-requires c κs = search needs
 
--- src/write.rt:64:9
 put-byte-requires : tie.Need-put-byte-requires
 put-byte-requires c κs = search needs
 
--- src/write.rt:65:23
 digit-char-requires-2 : tie.Need-digit-char-requires-2
 digit-char-requires-2 c κs = search needs
 
--- src/write.rt:65:5
 put-byte-requires-2 : tie.Need-put-byte-requires-2
 put-byte-requires-2 c κs = search needs
 
--- src/write.rt:61:1
 same-length : tie.Need-same-length
 same-length c = search needs
 
--- src/write.rt:61:1
 returns : tie.Need-returns
 returns c =
     put-two (c .before .before .before .before .before .before .before .before .before .before .before .args .out .now) (c .before .before .before .before .before .before .before .put-byte .last .0) (c .before .before .put-byte2 .last .0) (c .before .before .before .before .before .before .before .before .before .before .before .args .at) (c .before .before .before .before .before .before .before .put-byte .result) (c .before .before .put-byte2 .result) (glyph (c .before .before .before .before .before .before .before .before .before .before .before .args .b / 16)) (glyph (c .before .before .before .before .before .before .before .before .before .before .before .args .b % 16))

@@ -16,38 +16,30 @@ Inv-loop out₀ at s to₀ i₀ out to i = Came out₀ at (pairsOf s) out to (pa
 abbrev μ-loop : tie.MeasureT-loop
 μ-loop out₀ at s to₀ i₀ out to i = length s - i
 
--- src/write.rt:74:5
 loop-holds : tie.Need-loop-holds Inv-loop μ-loop
 loop-holds c = came-start (c .before .before .args .out .now) (c .before .before .args .at) (pairsOf (c .before .before .args .s .now))
 
--- src/write.rt:75:32
 shared-slice-read-put-pair : tie.Need-shared-slice-read-put-pair Inv-loop μ-loop
 shared-slice-read-put-pair c = search needs
 
--- src/write.rt:75:9
 put-pair-requires : tie.Need-put-pair-requires Inv-loop μ-loop
 put-pair-requires c κs = search needs
 
--- src/write.rt:76:9
 add-i : tie.Need-add-i Inv-loop μ-loop
 add-i c = search needs
 
--- src/write.rt:74:5
 loop-less : tie.Need-loop-less Inv-loop μ-loop
 loop-less c = search needs
 
--- src/write.rt:74:5
 loop-again : tie.Need-loop-again Inv-loop μ-loop
 loop-again c =
     came-on (c .before .before .before .before .before .before .before .before .before .args .out .now) (c .before .before .before .before .before .before .before .before .before .args .at) (pairsOf (c .before .before .before .before .before .before .before .before .before .args .s .now)) (c .before .before .before .before .before .before .loop .out) (c .before .before .before .before .before .before .loop .to) (pairOf (getD (c .before .before .before .before .before .before .before .before .before .args .s .now) (c .before .before .before .before .before .before .loop .i) 0)) (pairsOf (drop (c .before .before .before .before .before .before .loop .i + 1) (c .before .before .before .before .before .before .before .before .before .args .s .now))) _ _
     (subst (λ (r : List ℕ). Came (c .before .before .before .before .before .before .before .before .before .args .out .now) (c .before .before .before .before .before .before .before .before .before .args .at) (pairsOf (c .before .before .before .before .before .before .before .before .before .args .s .now)) (c .before .before .before .before .before .before .loop .out) (c .before .before .before .before .before .before .loop .to) r) (pairs-on (c .before .before .before .before .before .before .before .before .before .args .s .now) (c .before .before .before .before .before .before .loop .i) (omega arith)) (c .before .before .before .before .before .before .loop .inv))
     (c .before .before .put-pair .ensures .0) (c .before .before .put-pair .ensures .1)
 
--- src/write.rt:69:1
 same-length : tie.Need-same-length Inv-loop μ-loop
 same-length c = c .before .loop .inv .size
 
--- src/write.rt:69:1
 returns : tie.Need-returns Inv-loop μ-loop
 returns c = came-end (c .before .before .before .before .args .out .now) (c .before .before .before .before .args .at) (pairsOf (c .before .before .before .before .args .s .now)) (c .before .loop .out) (c .before .loop .to) (subst (λ (r : List ℕ). Came (c .before .before .before .before .args .out .now) (c .before .before .before .before .args .at) (pairsOf (c .before .before .before .before .args .s .now)) (c .before .loop .out) (c .before .loop .to) r) (pairs-over (c .before .before .before .before .args .s .now) (c .before .loop .i) (omega arith)) (c .before .loop .inv))
 

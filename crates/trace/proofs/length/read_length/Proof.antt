@@ -13,53 +13,41 @@ use Rattle.trace.proofs.shape.has_read.Reads as has-read-reads
 use Rattle.trace.proofs.shape.has_write.Reads as has-write-reads
 use Rattle.trace.proofs.shape.is_counted.Reads as is-counted-reads
 
--- src/length.rt:27:9
 has-read-requires : tie.Need-has-read-requires
 has-read-requires c κs = search needs
 
--- src/length.rt:28:9
 returns : tie.Need-returns
 returns c = rw (sym (c .before .has-read .ensures) ∙ not-true _ (c .if1 .taken)) (refl, omega arith)
 
--- src/length.rt:30:20
 is-counted-requires : tie.Need-is-counted-requires
 is-counted-requires c κs = search needs
 
--- src/length.rt:30:9
 one-if-requires : tie.Need-one-if-requires
 one-if-requires c κs = search needs
 
--- src/length.rt:31:8
 has-write-requires : tie.Need-has-write-requires
 has-write-requires c κs = search needs
 
--- src/length.rt:32:18
 add-result : tie.Need-add-result
 add-result c = search needs
 
--- src/length.rt:32:13
 mul-result : tie.Need-mul-result
 mul-result c = search needs
 
--- src/length.rt:32:9
 add-result-2 : tie.Need-add-result-2
 add-result-2 c = search needs
 
--- src/length.rt:34:14
 add-result-3 : tie.Need-add-result-3
 add-result-3 c = search needs
 
--- src/length.rt:34:9
 mul-result-2 : tie.Need-mul-result-2
 mul-result-2 c = search needs
 
--- src/length.rt:22:1
 returns-2 : tie.Need-returns-2
 returns-2 c =
     let e = read-length-is (c .before .before .before .before .before .before .args .sh) (c .before .before .before .before .before .before .args .n) _ _ true (sym (c .before .before .before .before .before .has-read .ensures) ∙ not-false _ (c .before .before .before .before .if1 .left)) (sym (c .before .has-write .ensures) ∙ c .if2 .taken) (c .before .before .before .is-counted .ensures) (c .before .before .one-if .ensures .0) in
     (e, omega (arith, c .before .before .one-if .ensures .1, c .before .before .before .before .before .before .pre))
 
--- src/length.rt:22:1
 returns-3 : tie.Need-returns-3
 returns-3 c =
     let e = read-length-is (c .before .before .before .before .before .before .args .sh) (c .before .before .before .before .before .before .args .n) _ _ false (sym (c .before .before .before .before .before .has-read .ensures) ∙ not-false _ (c .before .before .before .before .if1 .left)) (sym (c .before .has-write .ensures) ∙ c .if2 .left) (c .before .before .before .is-counted .ensures) (c .before .before .one-if .ensures .0) in

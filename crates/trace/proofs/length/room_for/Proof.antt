@@ -15,33 +15,26 @@ use Rattle.trace.proofs.protocol.is_forbidden.Reads as is-forbidden-rea
 use Rattle.trace.proofs.protocol.shape_of.Reads as shape-of-reads
 use Rattle.trace.proofs.valid.lengths_fit.Reads as lengths-fit-reads
 
--- src/length.rt:53:8
 is-forbidden-requires : tie.Need-is-forbidden-requires
 is-forbidden-requires c κs = search needs
 
--- src/length.rt:54:9
 returns : tie.Need-returns
 returns c = room-is (c .before .before .args .protocol) (c .before .before .args .pec) (c .before .before .args .m) (c .before .before .args .n) _ true _ refl (sym (c .before .is-forbidden .ensures) ∙ c .if1 .taken) refl
 
--- src/length.rt:56:9
 shape-of-requires : tie.Need-shape-of-requires
 shape-of-requires c κs = search needs
 
--- src/length.rt:57:9
 lengths-fit-requires : tie.Need-lengths-fit-requires
 lengths-fit-requires c κs = search needs
 
--- src/length.rt:58:9
 returns-2 : tie.Need-returns-2
 returns-2 c =
     room-is (c .before .before .before .before .before .args .protocol) (c .before .before .before .before .before .args .pec) (c .before .before .before .before .before .args .m) (c .before .before .before .before .before .args .n) _ false false (c .before .before .shape-of .ensures) (sym (c .before .before .before .before .is-forbidden .ensures) ∙ c .before .before .before .if1 .left) (sym (c .before .lengths-fit .ensures) ∙ not-true _ (c .if2 .taken))
 
--- src/length.rt:60:5
 trace-length-requires : tie.Need-trace-length-requires
 trace-length-requires c κs =
     lengths-small _ _ _ (subst Sane (sym (c .before .before .shape-of .ensures)) (sane (c .before .before .before .before .before .args .protocol))) (sym (c .before .lengths-fit .ensures) ∙ not-false _ (c .if2 .left))
 
--- src/length.rt:50:1
 returns-3 : tie.Need-returns-3
 returns-3 c =
     c .trace-length .ensures ∙ room-is (c .before .before .before .before .before .before .args .protocol) (c .before .before .before .before .before .before .args .pec) (c .before .before .before .before .before .before .args .m) (c .before .before .before .before .before .before .args .n) _ false true (c .before .before .before .shape-of .ensures) (sym (c .before .before .before .before .before .is-forbidden .ensures) ∙ c .before .before .before .before .if1 .left) (sym (c .before .before .lengths-fit .ensures) ∙ not-false _ (c .before .if2 .left))

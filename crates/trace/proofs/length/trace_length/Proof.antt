@@ -9,55 +9,42 @@ use Rattle.trace.proofs.length.one_if.Reads as one-if-reads
 use Rattle.trace.proofs.length.read_length.Reads as read-length-reads
 use Rattle.trace.proofs.shape.is_counted.Reads as is-counted-reads
 
--- src/length.rt:44:9
 one-if-requires : tie.Need-one-if-requires
 one-if-requires c κs = search needs
 
--- src/length.rt:45:20
 is-counted-requires : tie.Need-is-counted-requires
 is-counted-requires c κs = search needs
 
--- src/length.rt:45:9
 one-if-requires-2 : tie.Need-one-if-requires-2
 one-if-requires-2 c κs = search needs
 
--- src/length.rt:46:14
 add-result : tie.Need-add-result
 add-result c = search needs
 
--- src/length.rt:46:14
 add-result-2 : tie.Need-add-result-2
 add-result-2 c = search needs
 
--- src/length.rt:46:9
 mul-result : tie.Need-mul-result
 mul-result c = search needs
 
--- src/length.rt:46:5
 add-result-3 : tie.Need-add-result-3
 add-result-3 c = search needs
 
--- src/length.rt:46:27
 read-length-requires : tie.Need-read-length-requires
 read-length-requires c κs = search needs
 
--- src/length.rt:46:5
 add-result-4 : tie.Need-add-result-4
 add-result-4 c = search needs
 
--- src/length.rt:46:52
 one-if-requires-3 : tie.Need-one-if-requires-3
 one-if-requires-3 c κs = search needs
 
--- src/length.rt:46:48
 mul-result-2 : tie.Need-mul-result-2
 mul-result-2 c = search needs
 
--- src/length.rt:46:5
 add-result-5 : tie.Need-add-result-5
 add-result-5 c = search needs
 
--- src/length.rt:39:1
 returns : tie.Need-returns
 returns c = trace-length-is (c .before .before .before .before .before .args .sh) (c .before .before .before .before .before .args .pec) (c .before .before .before .before .before .args .m) (c .before .before .before .before .before .args .n) _ _ _ _ _ (c .before .before .before .before .one-if .ensures .0) (c .before .before .before .is-counted .ensures) (c .before .before .one-if2 .ensures .0) (c .before .read-length .ensures .0) (c .one-if3 .ensures .0)
 

@@ -9,19 +9,15 @@ use Rattle.trace.proofs.protocol.is_forbidden.Reads as reads
 use Rattle.trace.proofs.protocol.is_forbidden.Lts as lts
 use Rattle.trace.proofs.protocol.shape_of.Reads as shape-of-reads
 
--- src/protocol.rt:48:9
 returns : tie.Need-returns
 returns c = rw (lt-ltb _ _ (c .if1 .taken))
 
--- src/protocol.rt:50:9
 shape-of-requires : tie.Need-shape-of-requires
 shape-of-requires c κs = search needs
 
--- src/protocol.rt:44:1
 returns-2 : tie.Need-returns-2
 returns-2 c = forbidden-is (c .before .before .before .before .args .protocol) (c .before .before .before .before .args .pec) _ false true (c .before .before .shape-of .ensures) (le-ltb _ _ (c .before .before .before .if1 .left)) (c .before .if2 .taken)
 
--- src/protocol.rt:44:1
 returns-3 : tie.Need-returns-3
 returns-3 c = forbidden-is (c .before .before .before .args .protocol) (c .before .before .before .args .pec) _ false false (c .before .shape-of .ensures) (le-ltb _ _ (c .before .before .if1 .left)) (c .if2 .left)
 

@@ -12,99 +12,75 @@ use Rattle.trace.proofs.protocol.shape_of.Reads as reads
 use Rattle.trace.proofs.protocol.shape_of.Lts as lts
 use Rattle.trace.proofs.protocol.row.Reads as row-reads
 
--- src/protocol.rt:28:14
 row-requires : tie.Need-row-requires
 row-requires c κs = search needs
 
--- src/protocol.rt:29:14
 row-requires-2 : tie.Need-row-requires-2
 row-requires-2 c κs = search needs
 
--- src/protocol.rt:30:14
 row-requires-3 : tie.Need-row-requires-3
 row-requires-3 c κs = search needs
 
--- src/protocol.rt:31:14
 row-requires-4 : tie.Need-row-requires-4
 row-requires-4 c κs = search needs
 
--- src/protocol.rt:32:14
 row-requires-5 : tie.Need-row-requires-5
 row-requires-5 c κs = search needs
 
--- src/protocol.rt:33:14
 row-requires-6 : tie.Need-row-requires-6
 row-requires-6 c κs = search needs
 
--- src/protocol.rt:34:14
 row-requires-7 : tie.Need-row-requires-7
 row-requires-7 c κs = search needs
 
--- src/protocol.rt:35:14
 row-requires-8 : tie.Need-row-requires-8
 row-requires-8 c κs = search needs
 
--- src/protocol.rt:36:14
 row-requires-9 : tie.Need-row-requires-9
 row-requires-9 c κs = search needs
 
--- src/protocol.rt:37:14
 row-requires-10 : tie.Need-row-requires-10
 row-requires-10 c κs = search needs
 
--- src/protocol.rt:38:15
 row-requires-11 : tie.Need-row-requires-11
 row-requires-11 c κs = search needs
 
--- src/protocol.rt:39:14
 row-requires-12 : tie.Need-row-requires-12
 row-requires-12 c κs = search needs
 
--- src/protocol.rt:24:1
 returns : tie.Need-returns
 returns c = rw (c .row .ensures, c .before .match .keys1)
 
--- src/protocol.rt:24:1
 returns-2 : tie.Need-returns-2
 returns-2 c = rw (c .row2 .ensures, c .before .match .keys2)
 
--- src/protocol.rt:24:1
 returns-3 : tie.Need-returns-3
 returns-3 c = rw (c .row3 .ensures, c .before .match .keys3)
 
--- src/protocol.rt:24:1
 returns-4 : tie.Need-returns-4
 returns-4 c = rw (c .row4 .ensures, c .before .match .keys4)
 
--- src/protocol.rt:24:1
 returns-5 : tie.Need-returns-5
 returns-5 c = rw (c .row5 .ensures, c .before .match .keys5)
 
--- src/protocol.rt:24:1
 returns-6 : tie.Need-returns-6
 returns-6 c = rw (c .row6 .ensures, c .before .match .keys6)
 
--- src/protocol.rt:24:1
 returns-7 : tie.Need-returns-7
 returns-7 c = rw (c .row7 .ensures, c .before .match .keys7)
 
--- src/protocol.rt:24:1
 returns-8 : tie.Need-returns-8
 returns-8 c = rw (c .row8 .ensures, c .before .match .keys8)
 
--- src/protocol.rt:24:1
 returns-9 : tie.Need-returns-9
 returns-9 c = rw (c .row9 .ensures, c .before .match .keys9)
 
--- src/protocol.rt:24:1
 returns-10 : tie.Need-returns-10
 returns-10 c = rw (c .row10 .ensures, c .before .match .keys10)
 
--- src/protocol.rt:24:1
 returns-11 : tie.Need-returns-11
 returns-11 c = rw (c .row11 .ensures, c .before .match .keys11)
 
--- src/protocol.rt:24:1
 returns-12 : tie.Need-returns-12
 returns-12 c =
     let r = c .before .match .rest in

@@ -9,19 +9,15 @@ use Rattle.trace.proofs.valid.address_fits.Lts as lts
 use Rattle.wire.proofs.address.Address.is_host.Reads as is-host-reads
 use Rattle.wire.proofs.address.Address.is_seven_bit.Reads as is-seven-bit-reads
 
--- src/valid.rt:47:9
 is-host-requires : tie.Need-is-host-requires
 is-host-requires c κs = search needs
 
--- src/valid.rt:47:9
 returns : tie.Need-returns
 returns c = c .is-host .ensures ∙ address-is (c .before .before .args .sh) (c .before .before .args .a .0) true (c .before .if1 .taken)
 
--- src/valid.rt:49:5
 is-seven-bit-requires : tie.Need-is-seven-bit-requires
 is-seven-bit-requires c κs = search needs
 
--- src/valid.rt:43:1
 returns-2 : tie.Need-returns-2
 returns-2 c = c .is-seven-bit .ensures ∙ address-is (c .before .before .args .sh) (c .before .before .args .a .0) false (c .before .if1 .left)
 

@@ -8,15 +8,12 @@ use Rattle.trace.proofs.valid.command_fits.Reads as reads
 use Rattle.trace.proofs.valid.command_fits.Lts as lts
 use Rattle.trace.proofs.valid.sender_fits.Reads as sender-fits-reads
 
--- src/valid.rt:74:9
 sender-fits-requires : tie.Need-sender-fits-requires
 sender-fits-requires c κs = search needs
 
--- src/valid.rt:74:9
 returns : tie.Need-returns
 returns c = c .sender-fits .ensures ∙ command-is (c .before .before .args .sh) (c .before .before .args .c) true (c .before .if1 .taken)
 
--- src/valid.rt:70:1
 returns-2 : tie.Need-returns-2
 returns-2 c = command-is (c .before .args .sh) (c .before .args .c) false (c .if1 .left)
 

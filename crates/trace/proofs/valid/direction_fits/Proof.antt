@@ -7,23 +7,18 @@ use Rattle.trace.proofs.valid.direction_fits.Lts as lts
 use Rattle.trace.proofs.shape.has_read.Reads as has-read-reads
 use Rattle.trace.proofs.shape.has_write.Reads as has-write-reads
 
--- src/valid.rt:56:8
 has-write-requires : tie.Need-has-write-requires
 has-write-requires c κs = search needs
 
--- src/valid.rt:57:9
 returns : tie.Need-returns
 returns c = rw (sym (c .before .has-write .ensures) ∙ c .if1 .taken)
 
--- src/valid.rt:59:8
 has-read-requires : tie.Need-has-read-requires
 has-read-requires c κs = search needs
 
--- src/valid.rt:53:1
 returns-2 : tie.Need-returns-2
 returns-2 c = rw (sym (c .before .before .before .has-write .ensures) ∙ c .before .before .if1 .left, sym (c .before .has-read .ensures) ∙ c .if2 .taken)
 
--- src/valid.rt:53:1
 returns-3 : tie.Need-returns-3
 returns-3 c = rw (sym (c .before .before .before .has-write .ensures) ∙ c .before .before .if1 .left, sym (c .before .has-read .ensures) ∙ c .if2 .left)
 

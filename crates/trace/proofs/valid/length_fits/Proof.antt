@@ -5,31 +5,24 @@ use Rattle.trace.proofs.valid.length_fits.Tie as tie
 use Rattle.trace.proofs.valid.length_fits.Reads as reads
 use Rattle.trace.proofs.valid.length_fits.Lts as lts
 
--- src/valid.rt:16:26
 enum-told : tie.Need-enum-told
 enum-told c = search needs
 
--- src/valid.rt:17:21
 enum-known-a : tie.Need-enum-known-a
 enum-known-a c = search needs
 
--- src/valid.rt:17:32
 cast-result : tie.Need-cast-result
 cast-result c = search needs
 
--- src/valid.rt:18:31
 enum-told-2 : tie.Need-enum-told-2
 enum-told-2 c = search needs
 
--- src/valid.rt:12:1
 returns : tie.Need-returns
 returns c = rw (c .enum-told .given .1)
 
--- src/valid.rt:12:1
 returns-2 : tie.Need-returns-2
 returns-2 c = rw (c .before .a .given .1)
 
--- src/valid.rt:12:1
 returns-3 : tie.Need-returns-3
 returns-3 c = rw (c .enum-told2 .given .1)
 

@@ -10,42 +10,33 @@ use Rattle.trace.proofs.valid.lengths_fit.Lts as lts
 use Rattle.trace.proofs.shape.count_in.Reads as count-in-reads
 use Rattle.trace.proofs.valid.length_fits.Reads as length-fits-reads
 
--- src/valid.rt:28:16
 cast-most : tie.Need-cast-most
 cast-most c = search needs
 
--- src/valid.rt:29:9
 length-fits-requires : tie.Need-length-fits-requires
 length-fits-requires c κs = search needs
 
--- src/valid.rt:30:9
 returns : tie.Need-returns
 unfolding lengthsFit
 returns c = rw (sym (c .before .length-fits .ensures) ∙ not-true _ (c .if1 .taken))
 
--- src/valid.rt:32:9
 length-fits-requires-2 : tie.Need-length-fits-requires-2
 length-fits-requires-2 c κs = search needs
 
--- src/valid.rt:33:9
 returns-2 : tie.Need-returns-2
 unfolding lengthsFit
 returns-2 c = rw (sym (c .before .before .before .length-fits .ensures) ∙ not-false _ (c .before .before .if1 .left), sym (c .before .length-fits2 .ensures) ∙ not-true _ (c .if2 .taken))
 
--- src/valid.rt:35:9
 count-in-requires : tie.Need-count-in-requires
 count-in-requires c κs = search needs
 
--- src/valid.rt:36:9
 count-in-requires-2 : tie.Need-count-in-requires-2
 count-in-requires-2 c κs = search needs
 
--- src/valid.rt:38:9
 returns-3 : tie.Need-returns-3
 unfolding lengthsFit
 returns-3 c = rw (sym (c .before .before .before .before .before .before .length-fits .ensures) ∙ not-false _ (c .before .before .before .before .before .if1 .left), sym (c .before .before .before .before .length-fits2 .ensures) ∙ not-false _ (c .before .before .before .if2 .left), sym (c .before .before .count-in .ensures .0)) (sym (sum-over _ _ _ (c .if3 .taken)))
 
--- src/valid.rt:23:1
 returns-4 : tie.Need-returns-4
 unfolding lengthsFit
 returns-4 c = rw (sym (c .before .before .before .before .before .before .length-fits .ensures) ∙ not-false _ (c .before .before .before .before .before .if1 .left), sym (c .before .before .before .before .length-fits2 .ensures) ∙ not-false _ (c .before .before .before .if2 .left), sym (c .before .before .count-in .ensures .0), sym (c .before .count-in2 .ensures .0)) (sum-is _ _ _ (c .if3 .left))

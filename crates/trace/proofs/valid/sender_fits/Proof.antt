@@ -7,11 +7,9 @@ use Rattle.trace.proofs.valid.sender_fits.Tie as tie
 use Rattle.trace.proofs.valid.sender_fits.Reads as reads
 use Rattle.trace.proofs.valid.sender_fits.Lts as lts
 
--- src/valid.rt:63:1
 returns : tie.Need-returns
 returns c = sender-is (c .before .args .sh) (c .before .args .c) true (c .if1 .taken)
 
--- src/valid.rt:63:1
 returns-2 : tie.Need-returns-2
 returns-2 c = search needs
 

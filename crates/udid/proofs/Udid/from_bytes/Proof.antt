@@ -10,15 +10,12 @@ use Rattle.udid.proofs.Udid.from_bytes.Reads as reads
 use Rattle.udid.proofs.Udid.from_bytes.Lts as lts
 use Rattle.udid.proofs.read.word.Reads as word-reads
 
--- src/read.rt:45:13
 word-requires : tie.Need-word-requires
 word-requires c κs = search needs
 
--- src/read.rt:46:13
 word-requires-2 : tie.Need-word-requires-2
 word-requires-2 c κs = search needs
 
--- src/read.rt:42:5
 returns : tie.Need-returns
 unfolding udidAt
 returns c =

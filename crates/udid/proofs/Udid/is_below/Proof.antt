@@ -7,13 +7,11 @@ use Rattle.udid.proofs.Udid.is_below.Tie as tie
 use Rattle.udid.proofs.Udid.is_below.Reads as reads
 use Rattle.udid.proofs.Udid.is_below.Lts as lts
 
--- src/compare.rt:18:5
 returns : tie.Need-returns
 returns c =
     let s = c .before .before .before .before .before .args in
     sym (below-halves (s .self) (s .other) (search needs) (search needs) ∙ simp (eq-eqb _ _ (c .before .before .if1 .taken)))
 
--- src/compare.rt:18:5
 returns-2 : tie.Need-returns-2
 returns-2 c =
     let s = c .before .before .before .before .before .args in

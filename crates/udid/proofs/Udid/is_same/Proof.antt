@@ -5,11 +5,9 @@ use Rattle.udid.proofs.Udid.is_same.Tie as tie
 use Rattle.udid.proofs.Udid.is_same.Reads as reads
 use Rattle.udid.proofs.Udid.is_same.Lts as lts
 
--- src/compare.rt:7:5
 returns : tie.Need-returns
 returns c = simp (eq-eqb _ _ (c .before .before .if1 .taken))
 
--- src/compare.rt:7:5
 returns-2 : tie.Need-returns-2
 returns-2 c = simp (ne-eqb _ _ (c .if1 .left))
 

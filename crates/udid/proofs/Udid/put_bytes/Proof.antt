@@ -12,39 +12,31 @@ use Rattle.udid.proofs.Udid.put_bytes.Reads as reads
 use Rattle.udid.proofs.Udid.put_bytes.Lts as lts
 use Rattle.udid.proofs.write.put_word.Reads as put-word-reads
 
--- src/write.rt:29:13
 returns : tie.Need-returns
 returns c =
     let a = c .before .before .args in
     sym (put-short (now (a .out)) (udidBytes (a .self)) (a .at) (omega (arith, length-udid (a .self))))
 
--- src/write.rt:31:17
 sub-if2 : tie.Need-sub-if2
 sub-if2 c = search needs
 
--- src/write.rt:32:13
 returns-2 : tie.Need-returns-2
 returns-2 c =
     let a = c .before .before .before .args in
     sym (put-short (now (a .out)) (udidBytes (a .self)) (a .at) (omega (arith, length-udid (a .self))))
 
--- src/write.rt:34:9
 put-word-requires : tie.Need-put-word-requires
 put-word-requires c κs = search needs
 
--- src/write.rt:35:23
 add-put-word : tie.Need-add-put-word
 add-put-word c = search needs
 
--- src/write.rt:35:9
 put-word-requires-2 : tie.Need-put-word-requires-2
 put-word-requires-2 c κs = search needs
 
--- src/write.rt:25:5
 same-length : tie.Need-same-length
 same-length c = search needs
 
--- src/write.rt:25:5
 returns-3 : tie.Need-returns-3
 unfolding udidBytes
 returns-3 c =

@@ -9,31 +9,24 @@ use Rattle.udid.proofs.read.byte.Reads as reads
 use Rattle.udid.proofs.read.byte.Lts as lts
 use Rattle.udid.proofs.read.wide.Reads as wide-reads
 
--- src/read.rt:19:9
 returns : tie.Need-returns
 returns c = (sym (List·getD-eq-default (now (c .before .before .args .s)) 0 (omega arith)), omega arith)
 
--- src/read.rt:21:13
 sub-if2 : tie.Need-sub-if2
 sub-if2 c = search needs
 
--- src/read.rt:22:9
 returns-2 : tie.Need-returns-2
 returns-2 c = (sym (List·getD-eq-default (now (c .before .before .before .args .s)) 0 (omega arith)), omega arith)
 
--- src/read.rt:24:12
 add-wide : tie.Need-add-wide
 add-wide c = search needs
 
--- src/read.rt:24:10
 shared-slice-read-wide : tie.Need-shared-slice-read-wide
 shared-slice-read-wide c = search needs
 
--- src/read.rt:24:5
 wide-requires : tie.Need-wide-requires
 wide-requires c κs = search needs
 
--- src/read.rt:15:1
 returns-3 : tie.Need-returns-3
 returns-3 c = search needs
 

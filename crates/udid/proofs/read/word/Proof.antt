@@ -43,37 +43,29 @@ Inv-loop s at from n₀ k₀ n k = (k ≤ 8) × (n < 2 ^ (8 * k)) × (numberFrom
 abbrev μ-loop : tie.MeasureT-loop
 μ-loop s at from n₀ k₀ n k = 8 - k
 
--- src/read.rt:33:5
 loop-holds : tie.Need-loop-holds Inv-loop μ-loop
 loop-holds c =
     let a = c .before .args in
     (omega arith, omega arith, ap (λ (x : ℕ). number (bytesFrom (now (a .s)) (a .at + x) 8)) (omega arith))
 
--- src/read.rt:34:13
 mul-n : tie.Need-mul-n Inv-loop μ-loop
 mul-n c = record { fits = (let l = c .before .loop in omega (arith, within (l .n) 0 (l .k) (omega arith) (l .inv .1) (omega arith))) }
 
--- src/read.rt:34:35
 add-byte : tie.Need-add-byte Inv-loop μ-loop
 add-byte c = omega arith
 
--- src/read.rt:34:23
 byte-requires : tie.Need-byte-requires Inv-loop μ-loop
 byte-requires c κs = search needs
 
--- src/read.rt:34:13
 add-n : tie.Need-add-n Inv-loop μ-loop
 add-n c = record { fits = (let l = c .before .before .loop in within (l .n) (c .byte .result) (l .k) (omega arith) (l .inv .1) (c .byte .ensures .1)) }
 
--- src/read.rt:35:9
 add-k : tie.Need-add-k Inv-loop μ-loop
 add-k c = omega arith
 
--- src/read.rt:33:5
 loop-less : tie.Need-loop-less Inv-loop μ-loop
 loop-less c = omega arith
 
--- src/read.rt:33:5
 loop-again : tie.Need-loop-again Inv-loop μ-loop
 loop-again c =
     let l = c .before .before .loop in
@@ -86,7 +78,6 @@ loop-again c =
           ∙ l .inv .2,
     )
 
--- src/read.rt:28:1
 returns : tie.Need-returns Inv-loop μ-loop
 returns c =
     let l = c .before .loop in

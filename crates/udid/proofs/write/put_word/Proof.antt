@@ -50,23 +50,18 @@ Inv-loop out₀ at n rest₀ k₀ out rest k = (k ≤ 8) × (rest ≡ n / 256 ^ 
 abbrev μ-loop : tie.MeasureT-loop
 μ-loop out₀ at n rest₀ k₀ out rest k = k
 
--- src/write.rt:16:5
 loop-holds : tie.Need-loop-holds Inv-loop μ-loop
 loop-holds c = let a = c .args in (omega arith, sym (div-one (a .n)), start (now (a .out)) (a .at + 8) (a .n))
 
--- src/write.rt:17:9
 sub-k : tie.Need-sub-k Inv-loop μ-loop
 sub-k c = search needs
 
--- src/write.rt:18:23
 cast-out : tie.Need-cast-out Inv-loop μ-loop
 cast-out c = search needs
 
--- src/write.rt:18:13
 add-out : tie.Need-add-out Inv-loop μ-loop
 add-out c = search needs
 
--- src/write.rt:18:9
 slice-write-out : tie.Need-slice-write-out Inv-loop μ-loop
 slice-write-out c =
     let l = c .before .loop in
@@ -74,11 +69,9 @@ slice-write-out c =
     let e : length (l .out) ≡ length (now (a .out)) = ap length (l .inv .2) ∙ kept (now (a .out)) (a .n) (a .at) (l .k) (omega arith) (c .before .before .pre) in
     omega arith
 
--- src/write.rt:16:5
 loop-less : tie.Need-loop-less Inv-loop μ-loop
 loop-less c = search needs
 
--- src/write.rt:16:5
 loop-again : tie.Need-loop-again Inv-loop μ-loop
 loop-again c =
     let l = c .before .loop in
@@ -89,14 +82,12 @@ loop-again c =
           ∙ next (now (a .out)) (drop (a .at + 8) (now (a .out))) (a .n) (a .at) (l .k) (l .rest) (omega arith) (omega arith) (omega arith) (l .inv .1),
     )
 
--- src/write.rt:10:1
 same-length : tie.Need-same-length Inv-loop μ-loop
 same-length c =
     let l = c .before .loop in
     let a = c .before .before .args in
     ap length (l .inv .2) ∙ kept (now (a .out)) (a .n) (a .at) (l .k) (omega arith) (c .before .before .pre)
 
--- src/write.rt:10:1
 returns : tie.Need-returns Inv-loop μ-loop
 returns c =
     let l = c .before .loop in

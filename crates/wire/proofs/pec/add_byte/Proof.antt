@@ -6,39 +6,30 @@ use Rattle.wire.proofs.pec.add_byte.Reads as reads
 use Rattle.wire.proofs.pec.add_byte.Lts as lts
 use Rattle.wire.proofs.pec.bit.Reads as bit-reads
 
--- src/pec.rt:16:33
 bit-requires : tie.Need-bit-requires
 bit-requires c κs = search needs
 
--- src/pec.rt:16:29
 bit-requires-2 : tie.Need-bit-requires-2
 bit-requires-2 c κs = search needs
 
--- src/pec.rt:16:25
 bit-requires-3 : tie.Need-bit-requires-3
 bit-requires-3 c κs = search needs
 
--- src/pec.rt:16:21
 bit-requires-4 : tie.Need-bit-requires-4
 bit-requires-4 c κs = search needs
 
--- src/pec.rt:16:17
 bit-requires-5 : tie.Need-bit-requires-5
 bit-requires-5 c κs = search needs
 
--- src/pec.rt:16:13
 bit-requires-6 : tie.Need-bit-requires-6
 bit-requires-6 c κs = search needs
 
--- src/pec.rt:16:9
 bit-requires-7 : tie.Need-bit-requires-7
 bit-requires-7 c κs = search needs
 
--- src/pec.rt:16:5
 bit-requires-8 : tie.Need-bit-requires-8
 bit-requires-8 c κs = search needs
 
--- src/pec.rt:13:1
 returns : tie.Need-returns
 unfolding pecStep
 returns c = cc

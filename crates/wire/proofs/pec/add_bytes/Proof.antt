@@ -16,31 +16,24 @@ Inv-loop c s z₀ i₀ z i = (i ≤ length s) × (pecFrom c s ≡ pecFrom z (dro
 abbrev μ-loop : tie.MeasureT-loop
 μ-loop c s z₀ i₀ z i = length s - i
 
--- src/pec.rt:25:5
 loop-holds : tie.Need-loop-holds Inv-loop μ-loop
 loop-holds c = search needs
 
--- src/pec.rt:26:25
 shared-slice-read-add-byte : tie.Need-shared-slice-read-add-byte Inv-loop μ-loop
 shared-slice-read-add-byte c = search needs
 
--- src/pec.rt:26:9
 add-byte-requires : tie.Need-add-byte-requires Inv-loop μ-loop
 add-byte-requires c κs = search needs
 
--- src/pec.rt:27:9
 add-i : tie.Need-add-i Inv-loop μ-loop
 add-i c = search needs
 
--- src/pec.rt:25:5
 loop-less : tie.Need-loop-less Inv-loop μ-loop
 loop-less c = search needs
 
--- src/pec.rt:25:5
 loop-again : tie.Need-loop-again Inv-loop μ-loop
 loop-again c = (search needs, cc (pec-turn (c .before .before .before .before .before .args .s .now) (c .before .before .before .loop .z) (c .before .before .before .loop .i) (search needs)))
 
--- src/pec.rt:20:1
 returns : tie.Need-returns Inv-loop μ-loop
 returns c = cc (pec-end (c .before .before .before .args .s .now) (c .before .loop .z) (c .before .loop .i) (search needs))
 

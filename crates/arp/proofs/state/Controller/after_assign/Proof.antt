@@ -13,43 +13,33 @@ use Rattle.arp.proofs.state.Controller.ask.Reads as ask-reads
 use Rattle.arp.proofs.state.Controller.bind.Reads as bind-reads
 use Rattle.decode.proofs.decode.Reads as decode-reads
 
--- src/next.rt:90:53
 slice-aggregate-decode : tie.Need-slice-aggregate-decode
 slice-aggregate-decode c = search needs
 
--- src/next.rt:90:64
 slice-aggregate-decode-2 : tie.Need-slice-aggregate-decode-2
 slice-aggregate-decode-2 c = search needs
 
--- src/next.rt:90:13
 decode-requires : tie.Need-decode-requires
 decode-requires c κs = search needs
 
--- src/next.rt:91:39
 slice-aggregate-is-complete : tie.Need-slice-aggregate-is-complete
 slice-aggregate-is-complete c = search needs
 
--- src/next.rt:91:13
 is-complete-requires : tie.Need-is-complete-requires
 is-complete-requires c κs = search needs
 
--- src/next.rt:92:13
 ask-requires : tie.Need-ask-requires
 ask-requires c κs = search needs
 
--- src/next.rt:92:13
 returns : tie.Need-returns
 returns c = let s = c .before .before .before .before .before .before .before .before .before .before .args in c .ask .ensures ∙ assign-again (s .self) (s .u) (s .a .0) (now (s .trace)) (c .before .before .before .before .before .before .decode .result) _ _ (c .before .before .before .before .before .before .decode .ensures) (sym (c .before .before .is-complete .ensures) ∙ not-true _ (c .before .if1 .taken))
 
--- src/next.rt:94:13
 bind-requires : tie.Need-bind-requires
 bind-requires c κs = search needs
 
--- src/next.rt:95:9
 ask-requires-2 : tie.Need-ask-requires-2
 ask-requires-2 c κs = search needs
 
--- src/next.rt:85:5
 returns-2 : tie.Need-returns-2
 returns-2 c =
     let s = c .before .before .before .before .before .before .before .before .before .before .before .args in

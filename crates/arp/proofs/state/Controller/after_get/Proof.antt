@@ -12,51 +12,39 @@ use Rattle.arp.proofs.state.Controller.hand.Reads as hand-reads
 use Rattle.arp.proofs.state.Controller.on_complete.Reads as on-complete-reads
 use Rattle.decode.proofs.decode.Reads as decode-reads
 
--- src/next.rt:74:53
 slice-aggregate-decode : tie.Need-slice-aggregate-decode
 slice-aggregate-decode c = search needs
 
--- src/next.rt:74:64
 slice-aggregate-decode-2 : tie.Need-slice-aggregate-decode-2
 slice-aggregate-decode-2 c = search needs
 
--- src/next.rt:74:13
 decode-requires : tie.Need-decode-requires
 decode-requires c κs = search needs
 
--- src/next.rt:75:12
 is-nobody-requires : tie.Need-is-nobody-requires
 is-nobody-requires c κs = search needs
 
--- src/next.rt:76:13
 hand-requires : tie.Need-hand-requires
 hand-requires c κs = search needs
 
--- src/next.rt:76:13
 returns : tie.Need-returns
 returns c = let s = c .before .before .before .before .before .before .before .before .before .args in c .hand .ensures ∙ get-nobody (s .self) (now (s .trace)) (c .before .before .before .before .before .decode .result) _ _ (c .before .before .before .before .before .decode .ensures) (sym (c .before .before .is-nobody .ensures) ∙ c .before .if1 .taken)
 
--- src/next.rt:78:27
 enum-known-answer : tie.Need-enum-known-answer
 enum-known-answer c = search needs
 
--- src/next.rt:79:13
 ask-requires : tie.Need-ask-requires
 ask-requires c κs = search needs
 
--- src/next.rt:79:13
 returns-2 : tie.Need-returns-2
 returns-2 c = let s = c .before .before .before .before .before .before .before .before .before .before .args in c .ask .ensures ∙ get-again (s .self) (now (s .trace)) (c .before .before .before .before .before .before .decode .result) _ _ (c .before .before .before .before .before .before .decode .ensures) (sym (c .before .before .before .is-nobody .ensures) ∙ c .before .before .if1 .left) (c .before .match .keys2)
 
--- src/next.rt:81:29
 slice-aggregate-on-complete : tie.Need-slice-aggregate-on-complete
 slice-aggregate-on-complete c = search needs
 
--- src/next.rt:81:9
 on-complete-requires : tie.Need-on-complete-requires
 on-complete-requires c κs = search needs
 
--- src/next.rt:69:5
 returns-3 : tie.Need-returns-3
 returns-3 c = let s = c .before .before .before .before .before .before .before .before .before .before .before .before .before .args in c .on-complete .ensures ∙ get-done (s .self) (now (s .trace)) (c .before .before .before .before .before .before .before .before .before .decode .result) _ _ (c .before .before .before .before .before .before .before .before .before .decode .ensures) _ (c .before .before .before .answer .given .1)
 

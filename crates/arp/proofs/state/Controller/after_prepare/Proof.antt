@@ -11,63 +11,48 @@ use Rattle.arp.proofs.state.Controller.ask.Reads as ask-reads
 use Rattle.arp.proofs.state.Controller.hand.Reads as hand-reads
 use Rattle.decode.proofs.decode.Reads as decode-reads
 
--- src/next.rt:54:53
 slice-aggregate-decode : tie.Need-slice-aggregate-decode
 slice-aggregate-decode c = search needs
 
--- src/next.rt:54:64
 slice-aggregate-decode-2 : tie.Need-slice-aggregate-decode-2
 slice-aggregate-decode-2 c = search needs
 
--- src/next.rt:54:13
 decode-requires : tie.Need-decode-requires
 decode-requires c κs = search needs
 
--- src/next.rt:56:30
 enum-told : tie.Need-enum-told
 enum-told c = search needs
 
--- src/next.rt:56:13
 hand-requires : tie.Need-hand-requires
 hand-requires c κs = search needs
 
--- src/next.rt:56:13
 returns : tie.Need-returns
 returns c = let s = c .before .before .before .before .before .before .before .before .before .args in c .hand .ensures ∙ prepare-nack (s .self) (now (s .trace)) (c .before .before .before .before .before .decode .result) _ _ (c .before .before .before .before .before .decode .ensures) _ (c .before .enum-told .given .1)
 
--- src/next.rt:58:27
 enum-known-answer : tie.Need-enum-known-answer
 enum-known-answer c = search needs
 
--- src/next.rt:59:13
 hand-requires-2 : tie.Need-hand-requires-2
 hand-requires-2 c κs = search needs
 
--- src/next.rt:59:13
 returns-2 : tie.Need-returns-2
 returns-2 c = let s = c .before .before .before .before .before .before .before .before .before .args in c .hand2 .ensures ∙ prepare-other (s .self) (now (s .trace)) (c .before .before .before .before .before .decode .result) _ _ (c .before .before .before .before .before .decode .ensures) (c .before .before .match .keys2) (c .before .match2 .keys2)
 
--- src/next.rt:61:26
 slice-aggregate-is-prepare : tie.Need-slice-aggregate-is-prepare
 slice-aggregate-is-prepare c = search needs
 
--- src/next.rt:61:12
 is-prepare-requires : tie.Need-is-prepare-requires
 is-prepare-requires c κs = search needs
 
--- src/next.rt:62:13
 ask-requires : tie.Need-ask-requires
 ask-requires c κs = search needs
 
--- src/next.rt:64:13
 hand-requires-3 : tie.Need-hand-requires-3
 hand-requires-3 c κs = search needs
 
--- src/next.rt:49:5
 returns-3 : tie.Need-returns-3
 returns-3 c = let s = c .before .before .before .before .before .before .before .before .before .before .before .before .before .before .args in c .ask .ensures ∙ prepare-accepted (s .self) (now (s .trace)) (c .before .before .before .before .before .before .before .before .before .before .decode .result) _ _ (c .before .before .before .before .before .before .before .before .before .before .decode .ensures) _ (c .before .before .before .before .before .answer .given .1) (sym (c .before .before .is-prepare .ensures) ∙ c .before .if1 .taken)
 
--- src/next.rt:49:5
 returns-4 : tie.Need-returns-4
 returns-4 c = let s = c .before .before .before .before .before .before .before .before .before .before .before .before .before .before .args in c .hand3 .ensures ∙ prepare-another (s .self) (now (s .trace)) (c .before .before .before .before .before .before .before .before .before .before .decode .result) _ _ (c .before .before .before .before .before .before .before .before .before .before .decode .ensures) _ (c .before .before .before .before .before .answer .given .1) (sym (c .before .before .is-prepare .ensures) ∙ c .before .if1 .left)
 

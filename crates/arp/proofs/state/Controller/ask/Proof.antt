@@ -8,24 +8,19 @@ use Rattle.arp.proofs.state.Controller.ask.Reads as reads
 use Rattle.arp.proofs.state.Controller.ask.Lts as lts
 use Rattle.arp.proofs.state.Controller.hand.Reads as hand-reads
 
--- src/issue.rt:34:13
 hand-requires : tie.Need-hand-requires
 hand-requires c κs = search needs
 
--- src/issue.rt:34:13
 returns : tie.Need-returns
 unfolding asked
 returns c = simp (le-leb 128 (c .before .before .before .args .self .gets) (omega arith)) (c .hand .ensures)
 
--- src/issue.rt:36:21
 add-self : tie.Need-add-self
 add-self c = search needs
 
--- src/issue.rt:37:9
 hand-requires-2 : tie.Need-hand-requires-2
 hand-requires-2 c κs = search needs
 
--- src/issue.rt:30:5
 returns-2 : tie.Need-returns-2
 unfolding asked
 returns-2 c = simp (lt-leb 128 (c .before .before .before .before .args .self .gets) (omega arith)) (c .hand2 .ensures)

@@ -5,40 +5,32 @@ use Rattle.arp.proofs.state.Controller.bind.Statement.{statement}
 use Rattle.arp.proofs.state.Controller.bind.Tie as tie
 use Rattle.arp.proofs.state.Controller.bind.Reads as reads
 use Rattle.arp.proofs.state.Controller.bind.Lts as lts
-use Rattle.arp.proofs.bindings.slot_for.Reads as slot-for-reads
+use Rattle.arp.proofs.slots.slot_for.Reads as slot-for-reads
 use Rattle.pool.proofs.Pool.has.Reads as has-reads
 use Rattle.pool.proofs.Pool.with.Reads as with-reads
 
--- src/bindings.rt:78:13
 returns : tie.Need-returns
 unfolding bound
 returns c = simp (lt-ltb _ _ (c .if1 .taken))
 
--- src/bindings.rt:80:18
 cast-at : tie.Need-cast-at
 cast-at c = search needs
 
--- src/bindings.rt:82:13
 has-requires : tie.Need-has-requires
 has-requires c κs = search needs
 
--- src/bindings.rt:83:13
 slot-for-requires : tie.Need-slot-for-requires
 slot-for-requires c κs = search needs
 
--- src/bindings.rt:84:9
 mul-slot : tie.Need-mul-slot
 mul-slot c = search needs
 
--- src/bindings.rt:84:9
 element-set-from-slot : tie.Need-element-set-from-slot
 element-set-from-slot c = search needs
 
--- src/bindings.rt:85:13
 with-requires : tie.Need-with-requires
 with-requires c κs = search needs
 
--- src/bindings.rt:73:5
 returns-2 : tie.Need-returns-2
 unfolding bound
 returns-2 c = simp (le-ltb _ _ (c .before .before .before .before .if1 .left), c .with .ensures, c .before .slot-for .ensures, c .before .before .has .ensures)

@@ -12,7 +12,7 @@ use Rattle.arp.proofs.state.Controller.find.Statement.{statement}
 use Rattle.arp.proofs.state.Controller.find.Tie as tie
 use Rattle.arp.proofs.state.Controller.find.Reads as reads
 use Rattle.arp.proofs.state.Controller.find.Lts as lts
-use Rattle.arp.proofs.bindings.is_bound_to.Reads as is-bound-to-reads
+use Rattle.arp.proofs.slots.is_bound_to.Reads as is-bound-to-reads
 
 here : (u : Udid) (s : List Slot) (a : ℕ) → a < 128 → boundTo u (heldAt s a) ≡ true → findFrom u s (128 - a) a ≡ a
 unfolding findFrom
@@ -28,49 +28,39 @@ Inv-loop u self n₀ n = (n ≤ 128) × (findFrom u (self .slots) 128 0 ≡ find
 abbrev μ-loop : tie.MeasureT-loop
 μ-loop u self n₀ n = 128 - n
 
--- src/bindings.rt:43:9
 loop-holds : tie.Need-loop-holds Inv-loop μ-loop
 loop-holds c = search needs
 
--- src/bindings.rt:44:22
 cast-at : tie.Need-cast-at Inv-loop μ-loop
 cast-at c = omega arith
 
--- src/bindings.rt:45:21
 mul-s : tie.Need-mul-s Inv-loop μ-loop
 mul-s c = omega arith
 
--- src/bindings.rt:45:21
 element-copy-out-s : tie.Need-element-copy-out-s Inv-loop μ-loop
 element-copy-out-s c = omega arith
 
--- src/bindings.rt:46:16
 is-bound-to-requires : tie.Need-is-bound-to-requires Inv-loop μ-loop
 is-bound-to-requires c κs = search needs
 
--- src/bindings.rt:47:17
 returns : tie.Need-returns Inv-loop μ-loop
 returns c =
     let l = c .before .before .before .before .loop in
     let s = c .before .before .before .before .before .args in
     sym (l .inv .1 ∙ here (s .u) (s .t1 .slots) (l .n) (omega arith) (sym (c .before .is-bound-to .ensures) ∙ c .if1 .taken))
 
--- src/bindings.rt:49:13
 add-n : tie.Need-add-n Inv-loop μ-loop
 add-n c = omega arith
 
--- src/bindings.rt:43:9
 loop-less : tie.Need-loop-less Inv-loop μ-loop
 loop-less c = omega arith
 
--- src/bindings.rt:43:9
 loop-again : tie.Need-loop-again Inv-loop μ-loop
 loop-again c =
     let l = c .before .before .before .before .loop in
     let s = c .before .before .before .before .before .args in
     (omega arith, l .inv .1 ∙ onward (s .u) (s .t1 .slots) (l .n) (omega arith) (sym (c .before .is-bound-to .ensures) ∙ c .if1 .left))
 
--- src/bindings.rt:39:5
 returns-2 : tie.Need-returns-2 Inv-loop μ-loop
 unfolding findFrom
 returns-2 c =

@@ -8,32 +8,25 @@ use Rattle.arp.proofs.state.Controller.free.Lts as lts
 use Rattle.arp.proofs.state.Controller.find.Reads as find-reads
 use Rattle.pool.proofs.Pool.without.Reads as without-reads
 
--- src/bindings.rt:58:13
 find-requires : tie.Need-find-requires
 find-requires c κs = search needs
 
--- src/bindings.rt:60:13
 returns : tie.Need-returns
 unfolding freed
 returns c = simp (← c .before .find .ensures, lt-ltb _ _ (c .if1 .taken))
 
--- src/bindings.rt:62:18
 cast-at : tie.Need-cast-at
 cast-at c = search needs
 
--- src/bindings.rt:63:9
 mul-t12 : tie.Need-mul-t12
 mul-t12 c = search needs
 
--- src/bindings.rt:63:9
 element-set-from-self : tie.Need-element-set-from-self
 element-set-from-self c = search needs
 
--- src/bindings.rt:67:13
 without-requires : tie.Need-without-requires
 without-requires c κs = search needs
 
--- src/bindings.rt:55:5
 returns-2 : tie.Need-returns-2
 unfolding freed
 returns-2 c = simp (← c .before .before .before .find .ensures, le-ltb _ _ (c .before .before .if1 .left), c .without .ensures)

@@ -7,43 +7,33 @@ use Rattle.arp.proofs.state.Controller.lookup.Tie as tie
 use Rattle.arp.proofs.state.Controller.lookup.Reads as reads
 use Rattle.arp.proofs.state.Controller.lookup.Lts as lts
 
--- src/lookup.rt:26:13
 returns : tie.Need-returns
 returns c = simp (lt-ltb _ _ (c .if1 .taken))
 
--- src/lookup.rt:28:18
 cast-at : tie.Need-cast-at
 cast-at c = search needs
 
--- src/lookup.rt:29:17
 mul-s : tie.Need-mul-s
 mul-s c = search needs
 
--- src/lookup.rt:29:17
 element-copy-out-s : tie.Need-element-copy-out-s
 element-copy-out-s c = search needs
 
--- src/lookup.rt:32:30
 enum-told : tie.Need-enum-told
 enum-told c = search needs
 
--- src/lookup.rt:33:28
 enum-known-held : tie.Need-enum-known-held
 enum-known-held c = search needs
 
--- src/lookup.rt:34:33
 enum-told-2 : tie.Need-enum-told-2
 enum-told-2 c = search needs
 
--- src/lookup.rt:21:5
 returns-2 : tie.Need-returns-2
 returns-2 c = simp (le-ltb _ _ (c .before .before .before .if1 .left)) (sym (ap seen (c .enum-told .given .1)))
 
--- src/lookup.rt:21:5
 returns-3 : tie.Need-returns-3
 returns-3 c = simp (le-ltb _ _ (c .before .before .before .before .if1 .left)) (sym (ap seen (c .before .held .given .1)))
 
--- src/lookup.rt:21:5
 returns-4 : tie.Need-returns-4
 returns-4 c = simp (le-ltb _ _ (c .before .before .before .if1 .left)) (sym (ap seen (c .enum-told2 .given .1)))
 

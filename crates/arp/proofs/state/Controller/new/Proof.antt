@@ -5,11 +5,9 @@ use Rattle.arp.proofs.state.Controller.new.Reads as reads
 use Rattle.arp.proofs.state.Controller.new.Lts as lts
 use Rattle.pool.proofs.Pool.starting.Reads as starting-reads
 
--- src/start.rt:16:13
 starting-requires : tie.Need-starting-requires
 starting-requires c κs = search needs
 
--- src/start.rt:13:5
 returns : tie.Need-returns
 returns c = simp (c .starting .ensures)
 

@@ -14,39 +14,30 @@ use Rattle.arp.proofs.state.Controller.hand.Reads as hand-reads
 use Rattle.arp.proofs.state.Controller.on_reply.Reads as on-reply-reads
 use Rattle.udid.proofs.Udid.from_bytes.Reads as from-bytes-reads
 
--- src/next.rt:37:13
 is-command-requires : tie.Need-is-command-requires
 is-command-requires c κs = search needs
 
--- src/next.rt:38:13
 ask-requires : tie.Need-ask-requires
 ask-requires c κs = search needs
 
--- src/next.rt:38:13
 returns : tie.Need-returns
 returns c = let s = c .before .before .before .before .args in reply-other (s .self) (s .t) (now (s .received)) _ (sym (c .before .before .is-command .ensures) ∙ not-true _ (c .before .if1 .taken)) (c .ask .ensures)
 
--- src/next.rt:41:13
 hand-requires : tie.Need-hand-requires
 hand-requires c κs = search needs
 
--- src/next.rt:41:13
 returns-2 : tie.Need-returns-2
 returns-2 c = let s = c .before .before .before .before .before .before .args in reply-count (s .self) (s .t) (now (s .received)) _ (sym (c .before .before .before .before .is-command .ensures) ∙ not-false _ (c .before .before .before .if1 .left)) (c .before .if2 .taken) (c .hand .ensures)
 
--- src/next.rt:43:13
 from-bytes-requires : tie.Need-from-bytes-requires
 from-bytes-requires c κs = search needs
 
--- src/next.rt:44:13
 byte-at-requires : tie.Need-byte-at-requires
 byte-at-requires c κs = search needs
 
--- src/next.rt:45:9
 on-reply-requires : tie.Need-on-reply-requires
 on-reply-requires c κs = search needs
 
--- src/next.rt:34:5
 returns-3 : tie.Need-returns-3
 returns-3 c = let s = c .before .before .before .before .before .before .before .before .args in reply-whole (s .self) (s .t) (now (s .received)) _ (sym (c .before .before .before .before .before .before .is-command .ensures) ∙ not-false _ (c .before .before .before .before .before .if1 .left)) (c .before .before .before .if2 .left) _ _ (c .before .before .from-bytes .ensures) (c .before .byte-at .ensures) (c .on-reply .ensures)
 

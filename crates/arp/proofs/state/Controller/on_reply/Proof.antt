@@ -8,35 +8,27 @@ use Rattle.arp.proofs.choose.choose.Reads as choose-reads
 use Rattle.arp.proofs.state.Controller.free.Reads as free-reads
 use Rattle.arp.proofs.state.Controller.hand.Reads as hand-reads
 
--- src/next.rt:25:13
 free-requires : tie.Need-free-requires
 free-requires c κs = search needs
 
--- src/next.rt:27:27
 choose-requires : tie.Need-choose-requires
 choose-requires c κs = search needs
 
--- src/next.rt:27:22
 enum-known-a : tie.Need-enum-known-a
 enum-known-a c = search needs
 
--- src/next.rt:28:30
 enum-told : tie.Need-enum-told
 enum-told c = search needs
 
--- src/next.rt:28:13
 hand-requires : tie.Need-hand-requires
 hand-requires c κs = search needs
 
--- src/next.rt:28:13
 returns : tie.Need-returns
 returns c = let s = c .before .before .before .before .before .before .args in reply-none (s .self) (s .u) (s .b) (c .before .before .before .before .before .free .result) (c .before .before .before .choose .result) _ (c .before .before .before .before .before .free .ensures) (c .before .before .before .choose .ensures) (c .before .enum-told .given .1) (c .hand .ensures)
 
--- src/next.rt:30:9
 hand-requires-2 : tie.Need-hand-requires-2
 hand-requires-2 c κs = search needs
 
--- src/next.rt:22:5
 returns-2 : tie.Need-returns-2
 returns-2 c = let s = c .before .before .before .before .before .before .before .args in reply-at (s .self) (s .u) (s .b) (c .before .before .before .before .before .before .free .result) (c .before .before .before .before .choose .result) _ (c .before .before .before .before .before .before .free .ensures) (c .before .before .before .before .choose .ensures) _ (c .before .before .a .given .1) (c .hand2 .ensures)
 

@@ -29,46 +29,36 @@ none-out s t (NoneFree u) h = refl
 none-out s t Abandoned h = refl
 none-out s t NotOutstanding h = refl
 
--- src/next.rt:107:33
 enum-told : tie.Need-enum-told
 enum-told c = search needs
 
--- src/next.rt:107:33
 after-prepare-requires : tie.Need-after-prepare-requires
 after-prepare-requires c κs = search needs
 
--- src/next.rt:108:33
 enum-told-2 : tie.Need-enum-told-2
 enum-told-2 c = search needs
 
--- src/next.rt:108:33
 after-get-requires : tie.Need-after-get-requires
 after-get-requires c κs = search needs
 
--- src/next.rt:109:29
 enum-known-last : tie.Need-enum-known-last
 enum-known-last c = search needs
 
--- src/next.rt:109:38
 after-assign-requires : tie.Need-after-assign-requires
 after-assign-requires c κs = search needs
 
--- src/next.rt:102:5
 returns : tie.Need-returns
 unfolding stepped
 returns c = let s = c .before .before .before .before .args in c .after-prepare .ensures ∙ sym (ap (byCommand (s .self) (now (s .trace))) (c .before .enum-told .given .1))
 
--- src/next.rt:102:5
 returns-2 : tie.Need-returns-2
 unfolding stepped
 returns-2 c = let s = c .before .before .before .before .args in c .after-get .ensures ∙ sym (ap (byCommand (s .self) (now (s .trace))) (c .before .enum-told2 .given .1))
 
--- src/next.rt:102:5
 returns-3 : tie.Need-returns-3
 unfolding stepped
 returns-3 c = let s = c .before .before .before .before .before .args in c .after-assign .ensures ∙ sym (ap (byCommand (s .self) (now (s .trace))) (c .before .before .last .given .1))
 
--- src/next.rt:102:5
 returns-4 : tie.Need-returns-4
 unfolding stepped
 returns-4 c = let s = c .before .before .args in sym (none-out (s .self) (now (s .trace)) (s .self .last) (c .match .keys4))

@@ -6,19 +6,15 @@ use Rattle.bindings.proofs.entry.Entry.is_bound.Tie as tie
 use Rattle.bindings.proofs.entry.Entry.is_bound.Reads as reads
 use Rattle.bindings.proofs.entry.Entry.is_bound.Lts as lts
 
--- src/entry.rt:16:30
 enum-told : tie.Need-enum-told
 enum-told c = search needs
 
--- src/entry.rt:17:32
 enum-told-2 : tie.Need-enum-told-2
 enum-told-2 c = search needs
 
--- src/entry.rt:12:5
 returns : tie.Need-returns
 returns c = sym (ap isBound (c .enum-told .given .1))
 
--- src/entry.rt:12:5
 returns-2 : tie.Need-returns-2
 returns-2 c = search needs
 

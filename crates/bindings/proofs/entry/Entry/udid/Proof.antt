@@ -6,19 +6,15 @@ use Rattle.bindings.proofs.entry.Entry.udid.Tie as tie
 use Rattle.bindings.proofs.entry.Entry.udid.Reads as reads
 use Rattle.bindings.proofs.entry.Entry.udid.Lts as lts
 
--- src/entry.rt:26:30
 enum-told : tie.Need-enum-told
 enum-told c = search needs
 
--- src/entry.rt:27:26
 enum-known-self : tie.Need-enum-known-self
 enum-known-self c = search needs
 
--- src/entry.rt:22:5
 returns : tie.Need-returns
 returns c = sym (ap entryUdid (c .enum-told .given .1))
 
--- src/entry.rt:22:5
 returns-2 : tie.Need-returns-2
 returns-2 c = search needs
 

@@ -5,37 +5,30 @@ use Rattle.wire.proofs.address.Address.is_reserved.Tie as tie
 use Rattle.wire.proofs.address.Address.is_reserved.Reads as reads
 use Rattle.wire.proofs.address.Address.is_reserved.Lts as lts
 
--- src/address.rt:75:13
 returns : tie.Need-returns
 unfolding isReserved
 returns c = simp (le-leb _ _ (c .if1 .taken))
 
--- src/address.rt:78:13
 returns-2 : tie.Need-returns-2
 unfolding isReserved
 returns-2 c = simp (lt-leb _ _ (c .before .if1 .left), eq-eqb _ _ (c .if2 .taken))
 
--- src/address.rt:81:13
 returns-3 : tie.Need-returns-3
 unfolding isReserved
 returns-3 c = simp (lt-leb _ _ (c .before .before .if1 .left), ne-eqb _ _ (c .before .if2 .left), eq-eqb _ _ (c .if3 .taken))
 
--- src/address.rt:84:13
 returns-4 : tie.Need-returns-4
 unfolding isReserved
 returns-4 c = simp (lt-leb _ _ (c .before .before .before .if1 .left), ne-eqb _ _ (c .before .before .if2 .left), ne-eqb _ _ (c .before .if3 .left), eq-eqb _ _ (c .if4 .taken))
 
--- src/address.rt:87:13
 returns-5 : tie.Need-returns-5
 unfolding isReserved
 returns-5 c = simp (lt-leb _ _ (c .before .before .before .before .if1 .left), ne-eqb _ _ (c .before .before .before .if2 .left), ne-eqb _ _ (c .before .before .if3 .left), ne-eqb _ _ (c .before .if4 .left), eq-eqb _ _ (c .if5 .taken))
 
--- src/address.rt:90:13
 returns-6 : tie.Need-returns-6
 unfolding isReserved
 returns-6 c = simp (lt-leb _ _ (c .before .before .before .before .before .if1 .left), ne-eqb _ _ (c .before .before .before .before .if2 .left), ne-eqb _ _ (c .before .before .before .if3 .left), ne-eqb _ _ (c .before .before .if4 .left), ne-eqb _ _ (c .before .if5 .left), lt-leb _ _ (c .if6 .taken))
 
--- src/address.rt:70:5
 returns-7 : tie.Need-returns-7
 unfolding isReserved
 returns-7 c = rw (lt-leb _ _ (c .before .before .before .before .before .if1 .left), ne-eqb _ _ (c .before .before .before .before .if2 .left), ne-eqb _ _ (c .before .before .before .if3 .left), ne-eqb _ _ (c .before .before .if4 .left), ne-eqb _ _ (c .before .if5 .left), le-leb _ _ (c .if6 .left))

@@ -1,4 +1,4 @@
-// The bindings: where a target is bound, the state with it unbound, and the state with it bound. Rests on crate pool.
+// The slots of the addresses: where a target is bound, the state with it unbound, and the state with it bound. Rests on crate pool.
 ghost use mathlib.Core.Path.{_≡_};
 ghost use Prim.Native.Nat.{_≤_};
 ghost use Rattle.arp.specs.Bindings.{boundTo, findFrom, freed, slotFor, bound};
