@@ -1,5 +1,6 @@
 pub mod Effect
 pub mod Acknowledge
+pub mod AnyBus
 pub mod Bus
 pub mod PlainRule
 pub mod EndAnswer
@@ -18,6 +19,8 @@ pub mod ServingLaws
 pub mod PassEndLaws
 pub mod Sent
 pub mod SentLaws
+pub mod SameBus
+pub mod SameBusLaws
 pub mod Reading
 pub mod ReadingLaws
 pub mod AnyLaws

@@ -5,17 +5,14 @@ use mathlib.Core.List.{List, [], _∷_}
 use Rattle.lists.specs.Choice.{pick}
 use Rattle.pool.specs.declared.Pool.{Pool}
 use Rattle.targets.specs.Target.{Target}
-use Rattle.rule.specs.Acknowledge.{begins, onBus}
-use Rattle.rule.specs.Bus.{World, turn, beginning}
+use Rattle.rule.specs.Acknowledge.{begins}
+use Rattle.rule.specs.AnyBus.{Bus, WorldOver, turnOver, beginningOver}
+use Rattle.rule.specs.Bus.{World, modelBus}
 
--- the trace of a turn: that of the command that is out; after the end of a pass, no symbol
-abbrev pub stands : World → List ℕ
-stands w = onBus (w .now .command) (w .targets)
-
--- the traces of so many turns, in order
-abbrev pub traces : ℕ → World → List (List ℕ)
-traces zero w = []
-traces (suc n) w = stands w ∷ traces n (turn w)
+-- the traces of so many turns, in order: each is that of the command that is out; after the end of a pass, no symbol
+abbrev pub tracesOver : {A : Type 0} → Bus A → ℕ → WorldOver A → List (List ℕ)
+tracesOver bus zero w = []
+tracesOver bus (suc n) w = bus .stands (w .now .command) (w .targets) ∷ tracesOver bus n (turnOver bus w)
 
 -- one of them is a Get UDID if it begins with S, C2h A, 03h: the default address for writing, acknowledged, and the command
 abbrev pub oneIn : List ℕ → ℕ
@@ -25,6 +22,17 @@ abbrev pub getsAmong : List (List ℕ) → ℕ
 getsAmong [] = 0
 getsAmong (tr ∷ trs) = oneIn tr + getsAmong trs
 
--- HOW MANY GET UDIDS STOOD ON THE BUS in the turns of `pass`
+-- HOW MANY GET UDIDS STOOD ON THE BUS in the turns of a pass
+abbrev pub getsOver : {A : Type 0} → Bus A → Pool → A → ℕ
+getsOver bus occupied ts = getsAmong (tracesOver bus 300 (beginningOver occupied ts))
+
+-- ---- on the model's bus
+
+abbrev pub stands : World → List ℕ
+stands w = modelBus .stands (w .now .command) (w .targets)
+
+abbrev pub traces : ℕ → World → List (List ℕ)
+traces n w = tracesOver modelBus n w
+
 unfoldable pub getsOnBus : Pool → List Target → ℕ
-getsOnBus occupied ts = getsAmong (traces 300 (beginning occupied ts))
+getsOnBus occupied ts = getsOver modelBus occupied ts
