@@ -1,12 +1,13 @@
 -- Every command of a pass is the state's own and reaches somebody, and so the code's run over the records is the pass bit by bit.
-use Prim.Native.Nat.{ℕ, zero, suc, _-_, _*_, _/_, _<_}
+use Prim.Native.Nat.{ℕ, suc, _*_, _/_, _<_}
 use mathlib.Core.Path.{_≡_, refl, sym, ap, _∙_, subst}
 use mathlib.Core.Bool.{Bool, true, false}
 use mathlib.Core.List.{List, [], _∷_}
 use native.Mathlib.Omega.{arith}
 use lib.Dec.{leb}
-use lib.ListN.{length}
+use lib.ListN.{length, drop}
 use Rattle.lists.specs.Choice.{pick}
+use Rattle.lists.specs.ChoiceLaws.{false-not-true}
 use Rattle.lists.specs.Each.{Bytes}
 use Rattle.wire.specs.declared.address.Address.{Address}
 use Rattle.arbitration.specs.Among.{Among}
@@ -18,9 +19,8 @@ use Rattle.step.specs.declared.answer.Decoded.{Decoded}
 use Rattle.step.specs.declared.answer.Decoded.the-variants.{Done, Forbidden, BufferTooShort, NoSymbol, EndsEarly, Unexpected, NotAcknowledged, PecDiffers, AfterStop}
 use Rattle.udid.specs.declared.Udid.{Udid}
 use Rattle.targets.specs.AdmissionLaws.{admitted-length}
-use Rattle.targets.specs.IndexLaws.{length-targets}
-use Rattle.targets.specs.Records.{recordCount, targetAt, targetsOf, recordsWith}
-use Rattle.targets.specs.RecordLaws.{put-again, put-from-keeps-udid, length-put-from, length-map}
+use Rattle.targets.specs.Records.{targetAt, targetsOf, recordsWith}
+use Rattle.targets.specs.RecordLaws.{put-from-keeps-udid, length-put-from, length-map}
 use Rattle.targets.specs.Refusals.{checkedList}
 use Rattle.targets.specs.RefusalLaws.{given-exactly}
 use Rattle.targets.specs.Target.{Target, assignedTo}
@@ -41,14 +41,19 @@ use Rattle.arp.specs.declared.command.Command.the-variants.{Nothing, Prepare, G
 use Rattle.arp.specs.declared.state.Controller.{Controller}
 use Rattle.arp.specs.declared.state.Stepped.{Stepped}
 use Rattle.rule.specs.Acknowledge.{onBus}
-use Rattle.rule.specs.Bus.{World, reached, took, run, pass}
-use Rattle.rule.specs.BusLaws.{turn-still, turn-takes}
+use Rattle.rule.specs.AcknowledgeLaws.{nothing-on-bus, start-on-bus}
+use Rattle.rule.specs.AnyBus.{WorldOver, runOver, passOver}
+use Rattle.rule.specs.AnyBusLaws.{took-trace, silent-run}
+use Rattle.rule.specs.Bus.{reached, pass}
+use Rattle.rule.specs.SameBus.{Same}
 use Rattle.rule.specs.Acted.{acted}
 use Rattle.rule.specs.TraceLaws as on-bus
 use Rattle.rule.specs.StepLaws.{prepare-unheard, get-unheard, get-replied}
 use Rattle.bus.specs.Going.{Going, Fine, Running}
+use Rattle.bus.specs.RecordsBus.{recordsBus, Holds}
+use Rattle.bus.specs.RecordsBusLaws.{records-pass}
 use Rattle.bus.specs.Turn.{Fit, Reaches, isSent, worldOf, sentTo, Matches}
-use Rattle.bus.specs.TurnLaws.{get-silence, own-targets-stored, reached-as-meant}
+use Rattle.bus.specs.TurnLaws.{get-silence, reached-as-meant}
 
 -- ---- what is handed out reaches somebody
 
@@ -129,18 +134,15 @@ fine-next : (st : Stepped) (s : List ℕ) → Bytes s → Fit s → Going st s �
     → Fine (stepped (st .state) (onBus (st .command) (targetsOf s))) (acted (st .command) (targetsOf s))
 fine-next st s b f g e = go (st .command) (g .handed) (g .reaches) e
   where
-    never : false ≡ true → ⊥
-    never q = let z : _≡_ {A = ℕ} 0 1 = cc q in omega arith
-
     go : (k : Command) → st .state .last ≡ k → Reaches k (targetsOf s) → isSent k ≡ true → Fine (stepped (st .state) (onBus k (targetsOf s))) (acted k (targetsOf s))
     go Prepare q r i = fine-prepare (st .state) (targetsOf s) q
     go GetUdid q r i = fine-get (st .state) s b f q r
     go (Assign u a) q r i = fine-assign (st .state) u a (targetsOf s) q r
-    go Nothing q r i = absurd (never i)
-    go Ended q r i = absurd (never i)
-    go (NoneFree u) q r i = absurd (never i)
-    go Abandoned q r i = absurd (never i)
-    go NotOutstanding q r i = absurd (never i)
+    go Nothing q r i = false-not-true i
+    go Ended q r i = false-not-true i
+    go (NoneFree u) q r i = false-not-true i
+    go Abandoned q r i = false-not-true i
+    go NotOutstanding q r i = false-not-true i
 
 going-next : (st r : Stepped) (s after : List ℕ) → Bytes s → Fit s → Going st s → isSent (st .command) ≡ true
     → Matches (sentTo st (targetsOf s) (st .command)) r s after → Going r after
@@ -151,43 +153,26 @@ going-next st r s after b f g e m =
       reaches = subst (λ (ts : List Target). Reaches (r .command) ts) (sym (m .targets ∙ reached-as-meant (st .command) s b (g .reaches))) (subst (λ (y : Stepped). Reaches (y .command) (acted (st .command) (targetsOf s))) (sym (m .controller)) (x .1));
     }
 
--- what is sent is taken by the controller and by the targets
-turn-sent : (st : Stepped) (ts : List Target) (k : Command) → isSent k ≡ true → took st ts (onBus k ts) ≡ sentTo st ts k
-turn-sent st ts k e = go k e
-  where
-    never : (k : Command) → false ≡ true → took st ts (onBus k ts) ≡ sentTo st ts k
-    never k q = absurd (let z : _≡_ {A = ℕ} 0 1 = cc q in omega arith)
+-- a START stands on the bus where something is sent, and nothing after an end
+sent-starts : (k : Command) (ts : List Target) → isSent k ≡ true → onBus k ts ≡ 256 ∷ drop 1 (onBus k ts)
+sent-starts Prepare ts e = start-on-bus Prepare ts refl
+sent-starts GetUdid ts e = start-on-bus GetUdid ts refl
+sent-starts (Assign u a) ts e = start-on-bus (Assign u a) ts refl
+sent-starts Nothing ts e = false-not-true e
+sent-starts Ended ts e = false-not-true e
+sent-starts (NoneFree u) ts e = false-not-true e
+sent-starts Abandoned ts e = false-not-true e
+sent-starts NotOutstanding ts e = false-not-true e
 
-    go : (k : Command) → isSent k ≡ true → took st ts (onBus k ts) ≡ sentTo st ts k
-    go Prepare i = turn-takes st ts Prepare refl
-    go GetUdid i = turn-takes st ts GetUdid refl
-    go (Assign u a) i = turn-takes st ts (Assign u a) refl
-    go Nothing i = never Nothing i
-    go Ended i = never Ended i
-    go (NoneFree u) i = never (NoneFree u) i
-    go Abandoned i = never Abandoned i
-    go NotOutstanding i = never NotOutstanding i
-
--- an end stays
-turn-ended : (st : Stepped) (ts : List Target) (k : Command) → isSent k ≡ false → took st ts (onBus k ts) ≡ record { now = st; targets = ts }
-turn-ended st ts k e = go k e
-  where
-    never : (k : Command) → true ≡ false → took st ts (onBus k ts) ≡ record { now = st; targets = ts }
-    never k q = absurd (let z : _≡_ {A = ℕ} 0 1 = cc q in omega arith)
-
-    go : (k : Command) → isSent k ≡ false → took st ts (onBus k ts) ≡ record { now = st; targets = ts }
-    go Prepare i = never Prepare i
-    go GetUdid i = never GetUdid i
-    go (Assign u a) i = never (Assign u a) i
-    go Nothing i = turn-still st ts Nothing refl
-    go Ended i = turn-still st ts Ended refl
-    go (NoneFree u) i = turn-still st ts (NoneFree u) refl
-    go Abandoned i = turn-still st ts Abandoned refl
-    go NotOutstanding i = turn-still st ts NotOutstanding refl
-
-run-still : (n : ℕ) (w : World) → isSent (w .now .command) ≡ false → run n w ≡ w
-run-still zero w e = refl
-run-still (suc n) w e = ap (run n) (turn-ended (w .now) (w .targets) (w .now .command) e) ∙ run-still n w e
+end-silent : (k : Command) (ts : List Target) → isSent k ≡ false → onBus k ts ≡ []
+end-silent Prepare ts e = false-not-true (sym e)
+end-silent GetUdid ts e = false-not-true (sym e)
+end-silent (Assign u a) ts e = false-not-true (sym e)
+end-silent Nothing ts e = nothing-on-bus Nothing ts refl
+end-silent Ended ts e = nothing-on-bus Ended ts refl
+end-silent (NoneFree u) ts e = nothing-on-bus (NoneFree u) ts refl
+end-silent Abandoned ts e = nothing-on-bus Abandoned ts refl
+end-silent NotOutstanding ts e = nothing-on-bus NotOutstanding ts refl
 
 -- ---- the run, turn by turn
 
@@ -204,44 +189,33 @@ running-first occupied st s q b e = record {
   fit = record { whole = admitted-length (startingPool occupied) s b e .1; apart = given-exactly (startingPool occupied) s Admitted .0 (sym e) .2 };
   going = subst (λ (x : Stepped). Going x s) (sym q) (record { handed = refl; reaches = tt });
   leads = refl;
-  stored = own-targets-stored s;
   same-size = refl;
 }
 
-pub running-next : (w : World) (first : List ℕ) (m : ℕ) (st r : Stepped) (s after : List ℕ) → Running w first (suc m) st s → Bytes after → isSent (st .command) ≡ true
+pub running-next : (w : WorldOver (List ℕ)) (first : List ℕ) (m : ℕ) (st r : Stepped) (s after : List ℕ) → Running w first (suc m) st s → Bytes after → isSent (st .command) ≡ true
     → Matches (sentTo st (targetsOf s) (st .command)) r s after → Running w first m r after
 running-next w first m st r s after v b e q =
     record {
       bytes = b;
       fit = fit-put (reached (onBus (st .command) (targetsOf s)) (targetsOf s)) s after (v .fit) (q .stored);
       going = going-next st r s after (v .bytes) (v .fit) (v .going) e q;
-      leads = v .leads ∙ ap (run m) (turn-sent st (targetsOf s) (st .command) e ∙ (λ j. record { now = sym (q .controller) j; targets = sym (q .targets) j }));
-      stored = q .stored ∙ ap (λ (x : List Target). recordsWith x s) (sym (q .targets))
-          ∙ ap (recordsWith (targetsOf after)) (v .stored)
-          ∙ put-again (targetsOf after) (targetsOf s) 0 first (length-targets s (recordCount s) 0 ∙ ap (λ (n : ℕ). n / 18) (sym size) ∙ sym (length-targets after (recordCount after) 0));
-      same-size = size ∙ v .same-size;
+      leads = v .leads ∙ ap (runOver recordsBus m) (took-trace recordsBus st s (onBus (st .command) (targetsOf s)) 256 _ (sent-starts (st .command) (targetsOf s) e)
+          ∙ (λ j. record { now = sym (q .controller) j; targets = sym (q .stored) j }));
+      same-size = ap length (q .stored) ∙ length-put-from (reached (onBus (st .command) (targetsOf s)) (targetsOf s)) 0 s ∙ v .same-size;
     }
-  where
-    size : length after ≡ length s
-    size = ap length (q .stored) ∙ length-put-from (reached (onBus (st .command) (targetsOf s)) (targetsOf s)) 0 s
 
--- no turn is left, or none is taken any more
-running-ended : (w : World) (first : List ℕ) (m : ℕ) (st : Stepped) (s : List ℕ) → Running w first m st s → run m (worldOf st s) ≡ worldOf st s → Matches (run 300 w) st first s
-running-ended w first m st s v e = record {
-  controller = ap (λ (x : World). x .now) (sym (v .leads ∙ e));
-  targets = ap (λ (x : World). x .targets) (sym (v .leads ∙ e));
-  stored = v .stored ∙ ap (λ (x : World). recordsWith (x .targets) first) (sym (v .leads ∙ e));
-}
-
--- the run from the start of a pass is the pass
-run-is-pass : (occupied : Pool) (first : List ℕ) (st₀ st : Stepped) (s : List ℕ) → st₀ ≡ started (newController occupied) → Matches (run 300 (worldOf st₀ first)) st first s
-    → Matches (pass occupied (targetsOf first)) st first s
-unfolding pass
-run-is-pass occupied first st₀ st s q m = subst (λ (x : Stepped). Matches (run 300 (worldOf x first)) st first s) q m
-
+-- the run over the records from the start of a pass is the pass
 module _ (occupied : Pool) (first : List ℕ) (st₀ : Stepped) (q : st₀ ≡ started (newController occupied)) where
+  -- no turn is left, or none is taken any more
+  running-ended : (m : ℕ) (st : Stepped) (s : List ℕ) → Running (worldOf st₀ first) first m st s → runOver recordsBus m (worldOf st s) ≡ worldOf st s
+      → Matches (pass occupied (targetsOf first)) st first s
+  running-ended m st s v e =
+      let x : passOver recordsBus occupied first ≡ worldOf st s = ap (λ (y : Stepped). runOver recordsBus 300 (worldOf y first)) (sym q) ∙ v .leads ∙ e in
+      let w = subst (λ (y : WorldOver (List ℕ)). Same (Holds first) y (pass occupied (targetsOf first))) x (records-pass first occupied) in
+      record { controller = w .now; targets = w .targets .targets; stored = w .targets .stored }
+
   pub running-last : (m : ℕ) (st : Stepped) (s : List ℕ) → m ≡ 0 → Running (worldOf st₀ first) first m st s → Matches (pass occupied (targetsOf first)) st first s
-  running-last m st s e v = run-is-pass occupied first st₀ st s q (running-ended (worldOf st₀ first) first m st s v (ap (λ (n : ℕ). run n (worldOf st s)) e))
+  running-last m st s e v = running-ended m st s v (ap (λ (n : ℕ). runOver recordsBus n (worldOf st s)) e)
 
   pub running-still : (m : ℕ) (st : Stepped) (s : List ℕ) → isSent (st .command) ≡ false → Running (worldOf st₀ first) first m st s → Matches (pass occupied (targetsOf first)) st first s
-  running-still m st s e v = run-is-pass occupied first st₀ st s q (running-ended (worldOf st₀ first) first m st s v (run-still m (worldOf st s) e))
+  running-still m st s e v = running-ended m st s v (silent-run recordsBus m (worldOf st s) (end-silent (st .command) (targetsOf s) e))

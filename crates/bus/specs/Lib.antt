@@ -1,6 +1,8 @@
+pub mod RecordsBus
 pub mod Turn
 pub mod Going
 pub mod Run
+pub mod RecordsBusLaws
 pub mod TurnLaws
 pub mod GoingLaws
 pub mod RunLaws

@@ -19,6 +19,7 @@ use Rattle.arp.specs.declared.command.Command.{Command}
 use Rattle.arp.specs.declared.command.Command.the-variants.{Nothing, Prepare, GetUdid, Assign, Ended, NoneFree, Abandoned, NotOutstanding}
 use Rattle.arp.specs.declared.state.Stepped.{Stepped}
 use Rattle.rule.specs.Acknowledge.{onBus}
+use Rattle.rule.specs.AnyBus.{WorldOver}
 use Rattle.rule.specs.Bus.{World, reached}
 
 -- records that a pass can run over: whole ones, no identifier twice
@@ -65,9 +66,9 @@ abbrev pub Writes : Command → List ℕ → List ℕ → Type 0
 Writes k reply before =
     (r : Encoded) (after : List ℕ) → Wrote (protocolFor k) true (messageOf k reply) before r after → Sent k reply before r after
 
--- the world over the targets of the records
-abbrev pub worldOf : Stepped → List ℕ → World
-worldOf st s = record { now = st; targets = targetsOf s }
+-- the controller over the records
+abbrev pub worldOf : Stepped → List ℕ → WorldOver (List ℕ)
+worldOf st s = record { now = st; targets = s }
 
 -- a command on the bus: the controller's step takes the trace that stands there, and so does each target
 abbrev pub sentTo : Stepped → List Target → Command → World

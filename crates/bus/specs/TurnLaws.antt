@@ -1,5 +1,5 @@
 -- The code's turn over the records' bytes is the bus's turn over their targets.
-use Prim.Native.Nat.{ℕ, _+_, _*_, _-_, _/_, _≤_, _<_}
+use Prim.Native.Nat.{ℕ, _+_, _*_, _-_, _≤_, _<_}
 use mathlib.Core.Path.{_≡_, refl, sym, ap, _∙_, subst}
 use mathlib.Core.Bool.{Bool, true, false}
 use mathlib.Core.List.{List, [], _∷_}
@@ -16,16 +16,15 @@ use Rattle.udid.specs.declared.Udid.{Udid}
 use Rattle.wire.specs.declared.address.Address.{Address}
 use Rattle.targets.specs.ChangeLaws.{assigned-below}
 use Rattle.targets.specs.IndexLaws.{target-has-record, length-targets, sized-at, record-reply}
-use Rattle.targets.specs.Records.{targetAt, recordCount, targetsFrom, targetsOf, recordsWith, assignedIn}
-use Rattle.targets.specs.RecordLaws.{changed-targets, put-all-self, length-put-from, assigned-keeps-udid}
+use Rattle.targets.specs.Records.{targetAt, recordCount, targetsOf, recordsWith, assignedIn}
+use Rattle.targets.specs.RecordLaws.{put-all-self}
 use Rattle.targets.specs.ReplyLaws.{length-reply-data, bytes-reply-data}
-use Rattle.targets.specs.Target.{Target, isResolved, mapTargets, prepared, assignedTo}
+use Rattle.targets.specs.Target.{Target, isResolved}
 use Rattle.targets.specs.Winner.{winnerOf, Wins}
 use Rattle.targets.specs.WinnerLaws.{winner-exactly, winner-least, unresolved-by-flag}
 use Rattle.targets.specs.declared.winner.Winner.the-variants as winner
 use Rattle.arp.specs.RequestLaws.{assign-has-44-symbols}
 use Rattle.arp.specs.SendingLaws.{assign-sent}
-use Rattle.arp.specs.RequestLaws.{assign-has-44-symbols}
 use Rattle.arp.specs.Controller.{stepped}
 use Rattle.arp.specs.Requests.{messageOf, traceOf}
 use Rattle.arp.specs.declared.command.Command.{Command}
@@ -37,6 +36,7 @@ use Rattle.rule.specs.Acted.{acted, Names}
 use Rattle.rule.specs.EffectLaws.{effect-as-meant}
 use Rattle.rule.specs.TraceLaws as on-bus
 use Rattle.bus.specs.Going.{Going}
+use Rattle.bus.specs.RecordsBusLaws.{reached-stored}
 use Rattle.bus.specs.Turn.{Fit, Reaches, silence, Writes, sentTo, Matches, lentPart, Lent}
 
 -- ---- the traces
@@ -94,52 +94,6 @@ get-length xs e = trace-length (shapeOf 9) true (messageOf GetUdid xs) ∙ omega
 
 -- ---- what a command does to the records
 
-changes : Command → Target → Target
-changes Prepare t = prepared t
-changes (Assign u a) t = assignedTo u (a .0) t
-changes GetUdid t = t
-changes Nothing t = t
-changes Ended t = t
-changes (NoneFree u) t = t
-changes Abandoned t = t
-changes NotOutstanding t = t
-
-map-identity : (ts : List Target) → ts ≡ mapTargets (λ (t : Target). t) ts
-map-identity [] = refl
-map-identity (t ∷ ts) = ap (λ (l : List Target). t ∷ l) (map-identity ts)
-
-acted-changes-each : (k : Command) (ts : List Target) → acted k ts ≡ mapTargets (changes k) ts
-unfolding changes
-acted-changes-each Prepare ts = refl
-acted-changes-each (Assign u a) ts = refl
-acted-changes-each GetUdid ts = map-identity ts
-acted-changes-each Nothing ts = map-identity ts
-acted-changes-each Ended ts = map-identity ts
-acted-changes-each (NoneFree u) ts = map-identity ts
-acted-changes-each Abandoned ts = map-identity ts
-acted-changes-each NotOutstanding ts = map-identity ts
-
-changes-keep-udid : (k : Command) (t : Target) → changes k t .udid ≡ t .udid
-unfolding changes
-changes-keep-udid Prepare t = refl
-changes-keep-udid (Assign u a) t = assigned-keeps-udid u (a .0) t
-changes-keep-udid GetUdid t = refl
-changes-keep-udid Nothing t = refl
-changes-keep-udid Ended t = refl
-changes-keep-udid (NoneFree u) t = refl
-changes-keep-udid Abandoned t = refl
-changes-keep-udid NotOutstanding t = refl
-
-count-put : (ts : List Target) (s : List ℕ) → recordCount (recordsWith ts s) ≡ recordCount s
-count-put ts s = ap (λ (n : ℕ). n / 18) (length-put-from ts 0 s)
-
-acted-targets : (k : Command) (s : List ℕ) → Fit s → targetsOf (recordsWith (acted k (targetsOf s)) s) ≡ acted k (targetsOf s)
-acted-targets k s f =
-    ap (λ (ts : List Target). targetsOf (recordsWith ts s)) (acted-changes-each k (targetsOf s))
-    ∙ ap (λ (n : ℕ). targetsFrom (recordsWith (mapTargets (changes k) (targetsOf s)) s) n 0) (count-put (mapTargets (changes k) (targetsOf s)) s)
-    ∙ changed-targets (changes k) (changes-keep-udid k) (recordCount s) 0 s (omega (arith, f .whole))
-    ∙ sym (acted-changes-each k (targetsOf s))
-
 -- the identifiers of records are numbers of 128 bits, and so is that of a command which reaches one of them
 fits-targets : (s : List ℕ) → Bytes s → (t : Target) → Among t (targetsOf s) → Fits (t .udid)
 fits-targets s b t m = let r = target-has-record s (recordCount s) 0 t m in subst (λ (x : Target). Fits (x .udid)) (r .3) (sized-at s b (r .0) .udid)
@@ -162,12 +116,9 @@ reached-as-meant k s b r = effect-as-meant k (targetsOf s) (reached-names-fit k 
 pub sent-matches : (st r : Stepped) (s after tr : List ℕ) → Bytes s → Fit s → Going st s → tr ≡ onBus (st .command) (targetsOf s) → r ≡ stepped (st .state) tr
     → after ≡ recordsWith (acted (st .command) (targetsOf s)) s → Matches (sentTo st (targetsOf s) (st .command)) r s after
 sent-matches st r s after tr b f n e q g =
-    let x = reached-as-meant (st .command) s b (n .reaches) in
-    record {
-      controller = q ∙ ap (stepped (st .state)) e;
-      targets = ap targetsOf g ∙ acted-targets (st .command) s f ∙ sym x;
-      stored = g ∙ ap (λ (ts : List Target). recordsWith ts s) (sym x);
-    }
+    let w : after ≡ recordsWith (reached (onBus (st .command) (targetsOf s)) (targetsOf s)) s =
+    g ∙ ap (λ (ts : List Target). recordsWith ts s) (sym (reached-as-meant (st .command) s b (n .reaches))) in
+    record { controller = q ∙ ap (stepped (st .state)) e; targets = ap targetsOf w ∙ reached-stored (onBus (st .command) (targetsOf s)) s; stored = w }
 
 -- records that stay as they are
 pub own-targets-stored : (s : List ℕ) → s ≡ recordsWith (targetsOf s) s

@@ -1,5 +1,5 @@
 -- When all targets are bound: if and only if the movable ones do not outnumber the addresses that the fixed ones leave free.
-use Prim.Native.Nat.{suc, _+_, _-_, _/_, _≤_, _<_}
+use Prim.Native.Nat.{suc, _+_, _/_, _≤_, _<_}
 use mathlib.Core.Path.{_≡_, refl, sym, _∙_}
 use mathlib.Core.Bool.{Bool, true, false}
 use mathlib.Core.Logic.{inl, inr, _↔_}

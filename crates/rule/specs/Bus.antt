@@ -8,17 +8,21 @@ use Rattle.rule.specs.Acknowledge.{onBus}
 use Rattle.rule.specs.AnyBus.{Bus, WorldOver, tookOver, turnOver, runOver, beginningOver, passOver}
 use Rattle.rule.specs.Effect.{effect}
 
--- the symbols on the bus act on each target
-abbrev pub reached : List ℕ → List Target → List Target
-reached tr ts = mapTargets (effect tr) ts
-
--- THE MODEL'S BUS
+-- THE MODEL'S BUS: the symbols on it act on each target
 abbrev pub modelBus : Bus (List Target)
-modelBus = record { stands = onBus; acts = reached }
+modelBus = record { stands = onBus; acts = λ tr ts. mapTargets (effect tr) ts }
 
--- a run over it
+-- A PASS over it
+unfoldable pub pass : Pool → List Target → WorldOver (List Target)
+pass occupied ts = passOver modelBus occupied ts
+
+-- ---- what the laws of a run over it speak of
+
 abbrev pub World : Type 0
 World = WorldOver (List Target)
+
+abbrev pub reached : List ℕ → List Target → List Target
+reached tr ts = modelBus .acts tr ts
 
 abbrev pub took : Stepped → List Target → List ℕ → World
 took s ts tr = tookOver modelBus s ts tr
@@ -31,7 +35,3 @@ run n w = runOver modelBus n w
 
 abbrev pub beginning : Pool → List Target → World
 beginning occupied ts = beginningOver occupied ts
-
--- A PASS over it
-unfoldable pub pass : Pool → List Target → World
-pass occupied ts = passOver modelBus occupied ts

@@ -6,6 +6,7 @@ pub mod PlainRule
 pub mod EndAnswer
 pub mod PassEnd
 pub mod AcknowledgeLaws
+pub mod AnyBusLaws
 pub mod BusLaws
 pub mod TraceLaws
 pub mod Acted

@@ -1,5 +1,5 @@
 -- THE THIRD DEMAND: a pass of the controller's steps over the bus bit by bit ends as the plain rule says.
-use Prim.Native.Nat.{ℕ, zero, suc, _+_, _*_, _-_, _/_, _≤_, _<_}
+use Prim.Native.Nat.{ℕ, suc, _+_, _*_, _-_, _/_, _≤_, _<_}
 use mathlib.Core.Path.{_≡_, refl, sym, ap, ap₂, _∙_, subst}
 use mathlib.Core.Bool.{Bool, true, false}
 use mathlib.Core.Logic.{_⊎_, inl, inr, _↔_}
@@ -32,7 +32,8 @@ use Rattle.arp.specs.Controller.{stepped}
 use Rattle.arp.specs.declared.command.Command.the-variants.{Prepare}
 use Rattle.arp.specs.declared.state.Slot.{Slot}
 use Rattle.arp.specs.declared.state.Stepped.{Stepped}
-use Rattle.rule.specs.Bus.{World, turn, run, beginning, pass}
+use Rattle.rule.specs.AnyBusLaws.{run-add}
+use Rattle.rule.specs.Bus.{modelBus, turn, run, beginning, pass}
 use Rattle.rule.specs.BusLaws.{turn-takes}
 use Rattle.rule.specs.PlainRule.{insert, ascending, plainChoice, served, noneFree, Given, next, rule, ruled, FreeIn, Distinct}
 use Rattle.rule.specs.PassEnd.{state, boundSlot, ended, outcome, nobodyThere, passEnd}
@@ -170,10 +171,6 @@ length-turns : (l : List Target) → turns l ≡ suc (2 * length l)
 length-turns [] = refl
 length-turns (t ∷ l) = omega (arith, length-turns l)
 
-run-add : (n m : ℕ) (w : World) → run (n + m) w ≡ run m (run n w)
-run-add zero m w = ap (λ (k : ℕ). run k w) (zero-add m)
-run-add (suc n) m w = ap (λ (k : ℕ). run k w) (suc-add n m) ∙ run-add n m (turn w)
-
 module _ (occupied : Pool) where
   start : Pool
   start = startingPool occupied
@@ -202,7 +199,7 @@ module _ (occupied : Pool) where
       let e : 300 ≡ suc (n + (299 - n)) = omega (arith, length-turns (ascending us), length-ascending us, v′ .at-most-120) in
       ap (λ (k : ℕ). run k (beginning occupied (t ∷ ts))) e
       ∙ ap (run (n + (299 - n))) (first-turn t ts v)
-      ∙ run-add n (299 - n) (asking start start (replicate 128 openSlot) 1 us)
+      ∙ run-add modelBus n (299 - n) (asking start start (replicate 128 openSlot) 1 us)
       ∙ ap (run (299 - n))
       (run-serves-rest start start (replicate 128 openSlot) 0 us (ascending us) (inv-first start (last-address-used occupied) us v′ (omega arith) (open-cleared (t ∷ ts)))
       ∙ ap (ended start)

@@ -1,5 +1,5 @@
--- From a Get UDID on, the pass run-serves-rest the unresolved targets in ascending order, and ends as the plain rule says.
-use Prim.Native.Nat.{ℕ, zero, suc, _<_}
+-- From a Get UDID on, the pass serves the unresolved targets in ascending order, and ends as the plain rule says.
+use Prim.Native.Nat.{ℕ, suc, _<_}
 use mathlib.Core.Path.{_≡_, refl, sym, ap, ap₂, _∙_, subst}
 use mathlib.Core.Bool.{Bool, true, false}
 use mathlib.Core.Logic.{_⊎_, inl, inr}
@@ -28,8 +28,10 @@ use Rattle.arp.specs.declared.command.Command.the-variants.{GetUdid, Assign}
 use Rattle.arp.specs.declared.state.Slot.{Slot}
 use Rattle.arp.specs.declared.state.Stepped.{Stepped}
 use Rattle.rule.specs.Acknowledge.{onBus}
-use Rattle.rule.specs.Bus.{World, run}
-use Rattle.rule.specs.BusLaws.{turn-still, turn-takes}
+use Rattle.rule.specs.AcknowledgeLaws.{nothing-on-bus}
+use Rattle.rule.specs.AnyBusLaws.{silent-run}
+use Rattle.rule.specs.Bus.{World, modelBus, run}
+use Rattle.rule.specs.BusLaws.{turn-takes}
 use Rattle.rule.specs.PlainRule.{Ending, served, noneFree, plainChoice}
 use Rattle.rule.specs.PassEnd.{lastCommand, state, out, boundSlot, ended}
 use Rattle.rule.specs.EffectLaws.{effect-as-meant}
@@ -77,10 +79,8 @@ world x ts = record { now = x; targets = ts }
 -- an ended pass stays as it is
 pub ended-run-stays : (n : ℕ) (b p : Pool) (s : List Slot) (m : ℕ) (e : Ending) (ts : List Target)
     → run n (record { now = out b p s m (lastCommand e); targets = ts }) ≡ record { now = out b p s m (lastCommand e); targets = ts }
-ended-run-stays zero b p s m e ts = refl
-ended-run-stays (suc n) b p s m served ts = ap (run n) (turn-still (out b p s m (lastCommand served)) ts (lastCommand served) refl) ∙ ended-run-stays n b p s m served ts
-ended-run-stays (suc n) b p s m (noneFree u) ts =
-    ap (run n) (turn-still (out b p s m (lastCommand (noneFree u))) ts (lastCommand (noneFree u)) refl) ∙ ended-run-stays n b p s m (noneFree u) ts
+ended-run-stays n b p s m served ts = silent-run modelBus n (world (out b p s m (lastCommand served)) ts) (nothing-on-bus (lastCommand served) ts refl)
+ended-run-stays n b p s m (noneFree u) ts = silent-run modelBus n (world (out b p s m (lastCommand (noneFree u))) ts) (nothing-on-bus (lastCommand (noneFree u)) ts refl)
 
 -- nobody is left
 all-resolved-ends : (b p : Pool) (s : List Slot) (n : ℕ) (ts : List Target) → 0 < length ts → ((t : Target) → Among t ts → isResolved t ≡ false → ⊥)
