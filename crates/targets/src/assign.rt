@@ -1,10 +1,9 @@
-// Assign Address: it reaches the target with that identifier. Rests on fields; specs/ChangeLaws says what it does byte by byte.
+// Assign Address: it reaches the target with that identifier. Rests on udid; specs/ChangeLaws says what it does byte by byte.
 ghost use mathlib.Core.Path.{_≡_};
 ghost use Prim.Native.Nat.{_+_, _*_, _≤_};
 ghost use lib.ListN.{length};
 ghost use Rattle.targets.specs.Target.{assignedTo};
 ghost use Rattle.targets.specs.Records.{targetAt, putTarget, assignedIn};
-use super::fields;
 use udid::Udid;
 use wire::address::Address;
 
@@ -13,8 +12,7 @@ fn assign_one(records: &mut [u8], i: usize, u: Udid, a: Address)
     requires { ⌜ i * 18 + 18 ≤ length (now records) ⌝ }
     ensures { λ r. ⌜ now (records .exit) ≡ putTarget i (assignedTo u (a .0) (targetAt (now (records .entry)) i)) (now (records .entry)) ⌝ }
 {
-    let own = fields::udid_of(&records[..], i);
-    if own.is_same(u) {
+    if u.stands_at(&records[..], i * 18) {
         let w = a.for_read();
         records[i * 18 + 16] = w.0;
         records[i * 18 + 17] = 1;

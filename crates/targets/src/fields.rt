@@ -2,6 +2,7 @@
 ghost use mathlib.Core.Path.{_≡_};
 ghost use Prim.Native.Nat.{_+_, _*_, _/_};
 ghost use lib.ListN.{length, getD};
+ghost use Rattle.udid.specs.Udids.{sameUdid};
 ghost use Rattle.targets.specs.Records.{udidOf, addressByte, flagOf};
 use udid::Udid;
 use wire::address::Address;
@@ -14,8 +15,8 @@ pub fn count(records: &[u8]) -> usize
     records.len() / 18
 }
 
-// Byte k of record i.
-fn byte(records: &[u8], i: usize, k: usize) -> u8
+// Byte k after the start of record i, where the list may end before it.
+fn far_byte(records: &[u8], i: usize, k: usize) -> u8
     ensures { λ r. ⌜ r ≡ getD (now (records .entry)) (i * 18 + k) 0 ⌝ }
 {
     if i > records.len() / 18 {
@@ -28,6 +29,18 @@ fn byte(records: &[u8], i: usize, k: usize) -> u8
     records[at + k]
 }
 
+// Byte k of record i. Of a whole record one test is enough.
+fn byte(records: &[u8], i: usize, k: usize) -> u8
+    ensures { λ r. ⌜ r ≡ getD (now (records .entry)) (i * 18 + k) 0 ⌝ }
+{
+    if k < 18 {
+        if i < records.len() / 18 {
+            return records[i * 18 + k];
+        }
+    }
+    far_byte(records, i, k)
+}
+
 // The identifier of record i.
 pub fn udid_of(records: &[u8], i: usize) -> Udid
     ensures { λ r. ⌜ r ≡ udidOf (now (records .entry)) i ⌝ }
@@ -36,6 +49,27 @@ pub fn udid_of(records: &[u8], i: usize) -> Udid
         return Udid { high: 0, low: 0 };
     }
     Udid::from_bytes(records, i * 18)
+}
+
+// The high half of it.
+pub fn high_of(records: &[u8], i: usize) -> u64
+    ensures { λ r. ⌜ r ≡ udidOf (now (records .entry)) i .high ⌝ }
+{
+    if i > records.len() / 18 {
+        return 0;
+    }
+    Udid::high_at(records, i * 18)
+}
+
+// It is this one.
+pub fn is_of(records: &[u8], i: usize, u: Udid) -> bool
+    ensures { λ r. ⌜ r ≡ sameUdid (udidOf (now (records .entry)) i) u ⌝ }
+{
+    if i > records.len() / 18 {
+        let none = Udid { high: 0, low: 0 };
+        return none.is_same(u);
+    }
+    u.stands_at(records, i * 18)
 }
 
 // Its device address byte: the address in the upper seven bits, FFh for none.

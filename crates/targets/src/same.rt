@@ -11,8 +11,7 @@ fn first_same(records: &[u8], i: usize) -> usize
     let u = fields::udid_of(records, i);
     let mut j: usize = 0;
     while j < i {
-        let v = fields::udid_of(records, j);
-        if v.is_same(u) {
+        if fields::is_of(records, j, u) {
             return j;
         }
         j += 1;

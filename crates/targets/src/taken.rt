@@ -9,13 +9,13 @@ use pool::Pool;
 fn is_fixed_as(records: &[u8], i: usize, j: usize) -> bool
     ensures { λ r. ⌜ r ≡ isFixedAs (now (records .entry)) i j ⌝ }
 {
-    let v = fields::udid_of(records, j);
-    if !v.is_fixed() {
-        return false;
-    }
     let a = fields::address_of(records, i);
     let b = fields::address_of(records, j);
-    b.0 == a.0
+    if b.0 != a.0 {
+        return false;
+    }
+    let v = fields::udid_of(records, j);
+    v.is_fixed()
 }
 
 // The first fixed record before i at the address of record i, or i.

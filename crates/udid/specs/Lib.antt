@@ -3,3 +3,4 @@ pub mod Bytes
 pub mod ByteLaws
 pub mod WindowLaws
 pub mod UdidLaws
+pub mod WriteLaws

@@ -1,5 +1,5 @@
 -- Bytes that stand in a list from a place on: what is read there, zeros past the end, and what a write changes and leaves.
-use Prim.Native.Nat.{ℕ, zero, suc, _+_, _-_, _<_, _≤_}
+use Prim.Native.Nat.{ℕ, zero, suc, _+_, _*_, _-_, _<_, _≤_}
 use mathlib.Core.Path.{_≡_, refl, sym, ap, ap₂, _∙_}
 use mathlib.Core.Bool.{Bool, true, false}
 use mathlib.Core.List.{List, [], _∷_, _++_, append-assoc}
@@ -10,7 +10,7 @@ use lib.Seq.{drop-cons, drop-drop, drop-at, take-at, length-take-le, getD-append
 use borrow.Author.Tests.{le-leb, lt-leb}
 use Rattle.lists.specs.Choice.{pick}
 use Rattle.lists.specs.Each.{Bytes}
-use Rattle.udid.specs.Bytes.{bytesFrom, putAt}
+use Rattle.udid.specs.Bytes.{number, numberFrom, bytesFrom, putAt}
 
 -- a byte of a list of bytes, zero past its end
 pub byte-at : (s : List ℕ) (i : ℕ) → Bytes s → getD s i 0 < 256
@@ -27,6 +27,11 @@ pub bytes-from : (s : List ℕ) (i n : ℕ) → Bytes s → Bytes (bytesFrom s i
 unfolding bytesFrom
 bytes-from s i zero h = tt
 bytes-from s i (suc n) h = (byte-at s i h, bytes-from s (suc i) n h)
+
+-- the number of eight bytes is that of the first four, and of the four after them
+pub number-halves : (s : List ℕ) (i : ℕ) → 4294967296 * number (bytesFrom s i 4) + number (bytesFrom s (i + 4) 4) ≡ number (bytesFrom s i 8)
+unfolding numberFrom bytesFrom
+number-halves s i = let e : i + 4 ≡ suc (suc (suc (suc i))) = omega arith in rw e (omega arith)
 
 -- where the list has them all, they are a part of it
 pub from-part : (s : List ℕ) (i n : ℕ) → i + n ≤ length s → bytesFrom s i n ≡ take n (drop i s)

@@ -14,8 +14,7 @@ use Rattle.targets.proofs.assign.assign_one.Statement.{statement}
 use Rattle.targets.proofs.assign.assign_one.Tie as tie
 use Rattle.targets.proofs.assign.assign_one.Reads as reads
 use Rattle.targets.proofs.assign.assign_one.Lts as lts
-use Rattle.targets.proofs.fields.udid_of.Reads as udid-of-reads
-use Rattle.udid.proofs.Udid.is_same.Reads as is-same-reads
+use Rattle.udid.proofs.Udid.stands_at.Reads as stands-at-reads
 use Rattle.wire.proofs.address.Address.for_read.Reads as for-read-reads
 
 taken-by : (i : ℕ) (u : Udid) (a : ℕ) (s : List ℕ) (b : ℕ) → sameUdid (udidOf s i) u ≡ true → b ≡ 2 * (a % 128) + 1
@@ -27,11 +26,11 @@ left-by : (i : ℕ) (u : Udid) (a : ℕ) (s : List ℕ) → sameUdid (udidOf s i
 unfolding targetAt
 left-by i u a s e = rw e (put-self i s)
 
-udid-of-requires : tie.Need-udid-of-requires
-udid-of-requires c κs = search needs
+mul-stands-at : tie.Need-mul-stands-at
+mul-stands-at c = search needs
 
-is-same-requires : tie.Need-is-same-requires
-is-same-requires c κs = search needs
+stands-at-requires : tie.Need-stands-at-requires
+stands-at-requires c κs = search needs
 
 for-read-requires : tie.Need-for-read-requires
 for-read-requires c κs = search needs
@@ -58,20 +57,20 @@ same-length : tie.Need-same-length
 same-length c = search needs
 
 returns : tie.Need-returns
-returns c = let e : sameUdid (udidOf (c .before .before .before .before .before .before .args .records .now) (c .before .before .before .before .before .before .args .i)) (c .before .before .before .before .before .before .args .u) ≡ true = ap (λ (x : Udid). sameUdid x (c .before .before .before .before .before .before .args .u)) (sym (c .before .before .before .udid-of .ensures)) ∙ sym (c .before .before .is-same .ensures) ∙ c .before .if1 .taken in sym (taken-by (c .before .before .before .before .before .before .args .i) (c .before .before .before .before .before .before .args .u) (c .before .before .before .before .before .before .args .a .0) (c .before .before .before .before .before .before .args .records .now) (c .for-read .result .0) e (c .for-read .ensures))
+returns c = sym (taken-by (c .before .before .before .before .before .args .i) (c .before .before .before .before .before .args .u) (c .before .before .before .before .before .args .a .0) (c .before .before .before .before .before .args .records .now) (c .for-read .result .0) (sym (c .before .before .stands-at .ensures) ∙ c .before .if1 .taken) (c .for-read .ensures))
 
 same-length-2 : tie.Need-same-length-2
 same-length-2 c = search needs
 
 returns-2 : tie.Need-returns-2
-returns-2 c = let e : sameUdid (udidOf (c .before .before .before .before .before .args .records .now) (c .before .before .before .before .before .args .i)) (c .before .before .before .before .before .args .u) ≡ false = ap (λ (x : Udid). sameUdid x (c .before .before .before .before .before .args .u)) (sym (c .before .before .udid-of .ensures)) ∙ sym (c .before .is-same .ensures) ∙ c .if1 .left in sym (left-by (c .before .before .before .before .before .args .i) (c .before .before .before .before .before .args .u) (c .before .before .before .before .before .args .a .0) (c .before .before .before .before .before .args .records .now) e)
+returns-2 c = sym (left-by (c .before .before .before .before .args .i) (c .before .before .before .before .args .u) (c .before .before .before .before .args .a .0) (c .before .before .before .before .args .records .now) (sym (c .before .stands-at .ensures) ∙ c .if1 .left))
 
 pub assign-one-spec : {M : Type 1} → statement M
 assign-one-spec =
     tie.close
     (tie.spec
-    udid-of-requires
-    is-same-requires
+    mul-stands-at
+    stands-at-requires
     for-read-requires
     mul-records
     add-records

@@ -1,20 +1,22 @@
 use Prim.Native.Nat.{_-_, _/_, _≤_}
-use mathlib.Core.Path.{_≡_, sym, ap₂, _∙_}
+use mathlib.Core.Path.{_≡_, sym, ap, _∙_}
 use native.Mathlib.Omega.{arith}
 use Rattle.targets.specs.First.{firstFrom, first}
 use Rattle.targets.specs.FirstLaws.{first-start, first-found, first-onward, first-end}
 use Rattle.targets.specs.Refusals.{isSameAs}
+use Rattle.targets.specs.Records.{udidOf}
 use Rattle.udid.specs.Udids.{sameUdid}
+use Rattle.udid.specs.declared.Udid.{Udid}
 use borrow.Author.Needs.{needs}
 use Rattle.targets.proofs.same.first_same.Statement.{statement}
 use Rattle.targets.proofs.same.first_same.Tie as tie
 use Rattle.targets.proofs.same.first_same.Reads as reads
 use Rattle.targets.proofs.same.first_same.Lts as lts
+use Rattle.targets.proofs.fields.is_of.Reads as is-of-reads
 use Rattle.targets.proofs.fields.udid_of.Reads as udid-of-reads
-use Rattle.udid.proofs.Udid.is_same.Reads as is-same-reads
 
 abbrev Inv-loop : tie.InvT-loop
-Inv-loop records i u j₀ j = (j ≤ i) × (first (isSameAs (records) (i)) i ≡ firstFrom (isSameAs (records) (i)) (i - j) j)
+Inv-loop records i u j₀ j = (j ≤ i) × (u ≡ udidOf records i) × (first (isSameAs records i) i ≡ firstFrom (isSameAs records i) (i - j) j)
 
 abbrev μ-loop : tie.MeasureT-loop
 μ-loop records i u j₀ j = i - j
@@ -23,16 +25,13 @@ udid-of-requires : tie.Need-udid-of-requires Inv-loop μ-loop
 udid-of-requires c κs = search needs
 
 loop-holds : tie.Need-loop-holds Inv-loop μ-loop
-loop-holds c = (omega arith, first-start (isSameAs (c .before .before .args .records .now) (c .before .before .args .i)) (c .before .before .args .i))
+loop-holds c = (omega arith, c .udid-of .ensures, first-start (isSameAs (c .before .before .args .records .now) (c .before .before .args .i)) (c .before .before .args .i))
 
-udid-of-requires-2 : tie.Need-udid-of-requires-2 Inv-loop μ-loop
-udid-of-requires-2 c κs = search needs
-
-is-same-requires : tie.Need-is-same-requires Inv-loop μ-loop
-is-same-requires c κs = search needs
+is-of-requires : tie.Need-is-of-requires Inv-loop μ-loop
+is-of-requires c κs = search needs
 
 returns : tie.Need-returns Inv-loop μ-loop
-returns c = sym (c .before .before .before .before .loop .inv .1 ∙ first-found (isSameAs (c .before .before .before .before .before .before .before .args .records .now) (c .before .before .before .before .before .before .before .args .i)) (c .before .before .before .before .before .before .before .args .i) (c .before .before .before .before .loop .j) (c .before .before .before .loop-test .taken) (ap₂ sameUdid (sym (c .before .before .udid-of2 .ensures)) (sym (c .before .before .before .before .before .udid-of .ensures)) ∙ sym (c .before .is-same .ensures) ∙ c .if1 .taken))
+returns c = sym (c .before .before .before .loop .inv .2 ∙ first-found (isSameAs (c .before .before .before .before .before .before .args .records .now) (c .before .before .before .before .before .before .args .i)) (c .before .before .before .before .before .before .args .i) (c .before .before .before .loop .j) (c .before .before .loop-test .taken) (ap (sameUdid (udidOf (c .before .before .before .before .before .before .args .records .now) (c .before .before .before .loop .j))) (sym (c .before .before .before .loop .inv .1)) ∙ sym (c .before .is-of .ensures) ∙ c .if1 .taken))
 
 add-j : tie.Need-add-j Inv-loop μ-loop
 add-j c = omega arith
@@ -41,10 +40,10 @@ loop-less : tie.Need-loop-less Inv-loop μ-loop
 loop-less c = omega arith
 
 loop-again : tie.Need-loop-again Inv-loop μ-loop
-loop-again c = (omega arith, c .before .before .before .before .loop .inv .1 ∙ first-onward (isSameAs (c .before .before .before .before .before .before .before .args .records .now) (c .before .before .before .before .before .before .before .args .i)) (c .before .before .before .before .before .before .before .args .i) (c .before .before .before .before .loop .j) (c .before .before .before .loop-test .taken) (ap₂ sameUdid (sym (c .before .before .udid-of2 .ensures)) (sym (c .before .before .before .before .before .udid-of .ensures)) ∙ sym (c .before .is-same .ensures) ∙ c .if1 .left))
+loop-again c = (omega arith, c .before .before .before .loop .inv .1, c .before .before .before .loop .inv .2 ∙ first-onward (isSameAs (c .before .before .before .before .before .before .args .records .now) (c .before .before .before .before .before .before .args .i)) (c .before .before .before .before .before .before .args .i) (c .before .before .before .loop .j) (c .before .before .loop-test .taken) (ap (sameUdid (udidOf (c .before .before .before .before .before .before .args .records .now) (c .before .before .before .loop .j))) (sym (c .before .before .before .loop .inv .1)) ∙ sym (c .before .is-of .ensures) ∙ c .if1 .left))
 
 returns-2 : tie.Need-returns-2 Inv-loop μ-loop
-returns-2 c = let e : c .before .loop .j ≡ c .before .before .before .before .args .i = omega arith in sym (c .before .loop .inv .1 ∙ first-end (isSameAs (c .before .before .before .before .args .records .now) (c .before .before .before .before .args .i)) (c .before .before .before .before .args .i) (c .before .loop .j) e)
+returns-2 c = let e : c .before .loop .j ≡ c .before .before .before .before .args .i = omega arith in sym (c .before .loop .inv .2 ∙ first-end (isSameAs (c .before .before .before .before .args .records .now) (c .before .before .before .before .args .i)) (c .before .before .before .before .args .i) (c .before .loop .j) e)
 
 pub first-same-spec : {M : Type 1} → statement M
 first-same-spec =
@@ -54,8 +53,7 @@ first-same-spec =
     μ-loop
     udid-of-requires
     loop-holds
-    udid-of-requires-2
-    is-same-requires
+    is-of-requires
     returns
     add-j
     loop-less

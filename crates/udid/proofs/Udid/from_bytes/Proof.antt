@@ -1,27 +1,42 @@
-use Prim.Native.Nat.{ℕ, _+_}
-use mathlib.Core.Path.{_≡_, refl, sym, ap, _∙_}
-use denote.Ref.{now}
-use native.Mathlib.Nat.{add-zero}
-use Rattle.udid.specs.Bytes.{number, bytesFrom, udidAt}
+use Rattle.udid.specs.Bytes.{udidAt}
 use borrow.Author.Needs.{needs}
 use Rattle.udid.proofs.Udid.from_bytes.Statement.{statement}
 use Rattle.udid.proofs.Udid.from_bytes.Tie as tie
 use Rattle.udid.proofs.Udid.from_bytes.Reads as reads
 use Rattle.udid.proofs.Udid.from_bytes.Lts as lts
-use Rattle.udid.proofs.read.word.Reads as word-reads
+use Rattle.udid.proofs.Udid.from_few.Reads as from-few-reads
+use Rattle.udid.proofs.read.whole.Reads as whole-reads
 
-word-requires : tie.Need-word-requires
-word-requires c κs = search needs
+sub-if2 : tie.Need-sub-if2
+sub-if2 c = search needs
 
-word-requires-2 : tie.Need-word-requires-2
-word-requires-2 c κs = search needs
+whole-requires : tie.Need-whole-requires
+whole-requires c κs = search needs
+
+add-whole : tie.Need-add-whole
+add-whole c = search needs
+
+whole-requires-2 : tie.Need-whole-requires-2
+whole-requires-2 c κs = search needs
 
 returns : tie.Need-returns
 unfolding udidAt
-returns c =
-    let a = c .before .before .before .args in
-    let h : c .before .word .result ≡ number (bytesFrom (now (a .s)) (a .at) 8) = c .before .word .ensures ∙ ap (λ (x : ℕ). number (bytesFrom (now (a .s)) x 8)) (add-zero (a .at)) in
-    rw (h, c .word2 .ensures)
+returns c = rw (c .before .whole .ensures, c .whole2 .ensures)
+
+from-few-requires : tie.Need-from-few-requires
+from-few-requires c κs = search needs
+
+returns-2 : tie.Need-returns-2
+returns-2 c = search needs
 
 pub from-bytes-spec : {M : Type 1} → statement M
-from-bytes-spec = tie.close (tie.spec word-requires word-requires-2 returns)
+from-bytes-spec =
+    tie.close
+    (tie.spec
+    sub-if2
+    whole-requires
+    add-whole
+    whole-requires-2
+    returns
+    from-few-requires
+    returns-2)

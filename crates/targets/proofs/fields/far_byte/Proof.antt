@@ -2,10 +2,10 @@ use mathlib.Core.Path.{sym}
 use native.Mathlib.Omega.{arith}
 use lib.ListN.{List·getD-eq-default}
 use borrow.Author.Needs.{needs}
-use Rattle.targets.proofs.fields.byte.Statement.{statement}
-use Rattle.targets.proofs.fields.byte.Tie as tie
-use Rattle.targets.proofs.fields.byte.Reads as reads
-use Rattle.targets.proofs.fields.byte.Lts as lts
+use Rattle.targets.proofs.fields.far_byte.Statement.{statement}
+use Rattle.targets.proofs.fields.far_byte.Tie as tie
+use Rattle.targets.proofs.fields.far_byte.Reads as reads
+use Rattle.targets.proofs.fields.far_byte.Lts as lts
 
 returns : tie.Need-returns
 returns c = sym (List·getD-eq-default (c .before .args .records .now) 0 (omega arith))
@@ -28,7 +28,7 @@ shared-slice-read-result c = search needs
 returns-3 : tie.Need-returns-3
 returns-3 c = search needs
 
-pub byte-spec : {M : Type 1} → statement M
-byte-spec =
+pub far-byte-spec : {M : Type 1} → statement M
+far-byte-spec =
     tie.close
     (tie.spec returns mul-at sub-if2 returns-2 add-result shared-slice-read-result returns-3)
