@@ -1,13 +1,14 @@
 -- Which addresses are bound at the end of the model run, to whom, and what the binding buffer shows, in terms of the plain rule alone.
 use Prim.Native.Nat.{ℕ, _*_, _/_, _≤_, _<_}
 use mathlib.Core.Path.{_≡_, refl, sym, ap, _∙_}
-use mathlib.Core.Bool.{Bool, true, false}
+use mathlib.Core.Bool.{true, false}
 use mathlib.Core.Logic.{_↔_}
 use mathlib.Core.List.{List}
-use native.Mathlib.Omega.{arith}
 use lib.ListN.{length, take, drop, replicate}
-use Rattle.lists.specs.Choice.{or}
+use Rattle.lists.specs.AbsurdLaws.{zero-is-one}
+use Rattle.lists.specs.ChoiceLaws.{neither}
 use Rattle.lists.specs.Each.{Each, Bytes}
+use Rattle.lists.specs.EachLaws.{each-map, each-both}
 use Rattle.wire.specs.Addresses.{isReserved}
 use Rattle.pool.specs.Pools.{member}
 use Rattle.pool.specs.Start.{startingPool}
@@ -28,26 +29,21 @@ use Rattle.bindings.specs.BoundLaws.{bound-set-has}
 use Rattle.bindings.specs.BufferLaws.{bytes-there, rest-there, nobody-bytes}
 use Rattle.bindings.specs.Entries as entries
 use Rattle.bindings.specs.declared.entry.Entry.the-variants.{Nobody}
-use Rattle.rule.specs.AnyLaws.{any-map, each-both, any-each, any-constant}
+use Rattle.rule.specs.AnyLaws.{any-map, any-each, any-constant}
 use Rattle.rule.specs.PassEndLaws.{given-free-distinct}
 use Rattle.rule.specs.PassEnd.{passEnd}
 use Rattle.rule.specs.PlainRule.{Given, ruled, FreeIn, Distinct}
 use Rattle.rule.specs.ReadingLaws.{bound-given, given-bound, served-once}
 use Rattle.rule.specs.Reading.{Any, RecordOf, isBound, boundAt, OnePerUdid}
 use Rattle.rule.specs.RecordsLaws as records
-use Rattle.rule.specs.RuleLaws.{each-map}
 use Rattle.bus.specs.EndLaws.{entry-bound, leaves-rule}
 use Rattle.bus.specs.Run.{entryOf, entryAt, Leaves, modelEnd}
 use Rattle.bus.specs.declared.answer.ModelAnswer.{ModelAnswer}
 
 bound-some : (h : Binding) → isBound h ≡ true → (u : Udid) × (h ≡ binding.Bound u)
-bound-some binding.Open e = absurd (let z : _≡_ {A = ℕ} 0 1 = cc e in omega arith)
+bound-some binding.Open e = zero-is-one (cc e)
 bound-some (binding.Bound u) e = (u, refl)
-bound-some binding.Claimed e = absurd (let z : _≡_ {A = ℕ} 0 1 = cc e in omega arith)
-
-neither : (x y : Bool) → or x y ≡ false → (x ≡ false) × (y ≡ false)
-neither true y e = absurd (let z : _≡_ {A = ℕ} 0 1 = cc e in omega arith)
-neither false y e = (refl, e)
+bound-some binding.Claimed e = zero-is-one (cc e)
 
 -- ---- whom the plain rule gives which address
 

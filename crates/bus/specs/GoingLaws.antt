@@ -42,10 +42,10 @@ use Rattle.arp.specs.declared.state.Controller.{Controller}
 use Rattle.arp.specs.declared.state.Stepped.{Stepped}
 use Rattle.rule.specs.Acknowledge.{onBus}
 use Rattle.rule.specs.AcknowledgeLaws.{nothing-on-bus, start-on-bus}
-use Rattle.rule.specs.AnyBus.{WorldOver, runOver, passOver}
+use Rattle.rule.specs.AnyBus.{WorldOver, runOver, passOf}
 use Rattle.rule.specs.AnyBusLaws.{took-trace, silent-run}
 use Rattle.rule.specs.Bus.{reached, pass}
-use Rattle.rule.specs.SameBus.{Same}
+use Rattle.rule.specs.SameBus.{SameWorld}
 use Rattle.rule.specs.Acted.{acted}
 use Rattle.rule.specs.TraceLaws as on-bus
 use Rattle.rule.specs.StepLaws.{prepare-unheard, get-unheard, get-replied}
@@ -210,8 +210,8 @@ module _ (occupied : Pool) (first : List ℕ) (st₀ : Stepped) (q : st₀ ≡ s
   running-ended : (m : ℕ) (st : Stepped) (s : List ℕ) → Running (worldOf st₀ first) first m st s → runOver recordsBus m (worldOf st s) ≡ worldOf st s
       → Matches (pass occupied (targetsOf first)) st first s
   running-ended m st s v e =
-      let x : passOver recordsBus occupied first ≡ worldOf st s = ap (λ (y : Stepped). runOver recordsBus 300 (worldOf y first)) (sym q) ∙ v .leads ∙ e in
-      let w = subst (λ (y : WorldOver (List ℕ)). Same (Holds first) y (pass occupied (targetsOf first))) x (records-pass first occupied) in
+      let x : passOf recordsBus occupied first ≡ worldOf st s = ap (λ (y : Stepped). runOver recordsBus 300 (worldOf y first)) (sym q) ∙ v .leads ∙ e in
+      let w = subst (λ (y : WorldOver (List ℕ)). SameWorld (Holds first) y (pass occupied (targetsOf first))) x (records-pass first occupied) in
       record { controller = w .now; targets = w .targets .targets; stored = w .targets .stored }
 
   pub running-last : (m : ℕ) (st : Stepped) (s : List ℕ) → m ≡ 0 → Running (worldOf st₀ first) first m st s → Matches (pass occupied (targetsOf first)) st first s

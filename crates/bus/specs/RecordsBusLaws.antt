@@ -10,11 +10,11 @@ use Rattle.targets.specs.Target.{Target}
 use Rattle.arp.specs.Controller.{started, newController}
 use Rattle.arp.specs.declared.state.Stepped.{Stepped}
 use Rattle.rule.specs.Acknowledge.{onBus}
-use Rattle.rule.specs.AnyBus.{passOver}
+use Rattle.rule.specs.AnyBus.{passOf}
 use Rattle.rule.specs.Bus.{modelBus, reached, pass}
 use Rattle.rule.specs.BusLaws.{effect-keeps-udid}
 use Rattle.rule.specs.Effect.{effect}
-use Rattle.rule.specs.SameBus.{Agree, Same}
+use Rattle.rule.specs.SameBus.{Agree, SameWorld}
 use Rattle.rule.specs.SameBusLaws.{same-pass, same-gets}
 use Rattle.rule.specs.Sent.{getsOver, getsOnBus}
 use Rattle.bus.specs.RecordsBus.{recordsBus, Holds}
@@ -43,7 +43,7 @@ module _ (first : List ℕ) where
   }
 
   -- ONE CONTROLLER AT THE END, and the records of the targets at the end
-  pub records-pass : (occupied : Pool) → Same (Holds first) (passOver recordsBus occupied first) (pass occupied (targetsOf first))
+  pub records-pass : (occupied : Pool) → SameWorld (Holds first) (passOf recordsBus occupied first) (pass occupied (targetsOf first))
   unfolding pass
   records-pass occupied = same-pass recordsBus modelBus (Holds first) records-agree occupied first (targetsOf first) (holds-first (started (newController occupied)))
 

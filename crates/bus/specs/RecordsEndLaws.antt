@@ -7,6 +7,7 @@ use native.Mathlib.Omega.{arith}
 use lib.ListN.{length, getD, take, drop}
 use lib.Seq.{ext-getD}
 use Rattle.lists.specs.Each.{Each, Bytes}
+use Rattle.lists.specs.EachLaws.{each-both}
 use Rattle.pool.specs.Start.{startingPool}
 use Rattle.pool.specs.declared.Pool.{Pool}
 use Rattle.udid.specs.Bytes.{udidBytes}
@@ -15,7 +16,7 @@ use Rattle.targets.specs.AdmissionLaws.{admitted-targets}
 use Rattle.targets.specs.Records.{targetsOf}
 use Rattle.targets.specs.Refusals.{checkedList}
 use Rattle.targets.specs.declared.admit.Checked.the-variants.{Admitted}
-use Rattle.rule.specs.AnyLaws.{each-both, any-each, any-constant, any-decided}
+use Rattle.rule.specs.AnyLaws.{any-each, any-constant, any-decided}
 use Rattle.rule.specs.PlainRule.{Given, ruled}
 use Rattle.rule.specs.Reading.{Any, RecordOf}
 use Rattle.rule.specs.RecordsLaws as records

@@ -9,6 +9,7 @@ use native.Mathlib.Omega.{arith}
 use lib.ListN.{length}
 use Rattle.pool.specs.Start.{startingPool}
 use Rattle.pool.specs.declared.Pool.{Pool}
+use Rattle.lists.specs.AbsurdLaws.{zero-is-one}
 use Rattle.lists.specs.Each.{Bytes}
 use Rattle.targets.specs.ByteCases.{EvenOrFlag, SameAsEarlier, FixedOnTaken, GivenByBytes}
 use Rattle.targets.specs.ByteCasesLaws.{given-by-bytes}
@@ -76,10 +77,10 @@ pairs-tell-apart k j e =
 
 admitted-or-not : (k : Checked) → (k ≡ Admitted) ⊎ (k ≡ Admitted → ⊥)
 admitted-or-not Admitted = inl refl
-admitted-or-not BadLength = inr (λ e. let z : _≡_ {A = ℕ} 0 1 = cc e in omega arith)
-admitted-or-not (Malformed i) = inr (λ e. let z : _≡_ {A = ℕ} 0 1 = cc e in omega arith)
-admitted-or-not (Repeated i) = inr (λ e. let z : _≡_ {A = ℕ} 0 1 = cc e in omega arith)
-admitted-or-not (Taken i) = inr (λ e. let z : _≡_ {A = ℕ} 0 1 = cc e in omega arith)
+admitted-or-not BadLength = inr (λ e. zero-is-one (cc e))
+admitted-or-not (Malformed i) = inr (λ e. zero-is-one (cc e))
+admitted-or-not (Repeated i) = inr (λ e. zero-is-one (cc e))
+admitted-or-not (Taken i) = inr (λ e. zero-is-one (cc e))
 
 -- what run_model's contract says of an answer and of what the lent lists hold then
 module _ (occupied : Pool) (s b : List ℕ) (r : ModelAnswer) (s′ b′ : List ℕ) (l : Leaves (modelEnd occupied s b) r s′ b′) where
@@ -163,20 +164,20 @@ module _ (occupied : Pool) (s b : List ℕ) (r : ModelAnswer) (s′ b′ : List 
 
     -- 9: over 2,160 bytes, or no multiple of 18
     pub model-9 : (modelNumber r ≡ (9, 0)) ↔ ((2048 ≤ length b) × ((2160 < length s) ⊎ (length s % 18 ≡ 0 → ⊥)))
-    model-9 = refused-by-bytes BadLength (λ e. let z : _≡_ {A = ℕ} 0 1 = cc e in omega arith)
+    model-9 = refused-by-bytes BadLength (λ e. zero-is-one (cc e))
 
     -- 10: the first record whose byte 16 is even or byte 17 above 1
     pub model-10 : (i : ℕ) → (modelNumber r ≡ (10, i)) ↔ ((2048 ≤ length b) × ((LengthIsBad s → ⊥) × FirstOf (EvenOrFlag s) (length s / 18) i))
-    model-10 i = refused-by-bytes (Malformed i) (λ e. let z : _≡_ {A = ℕ} 0 1 = cc e in omega arith)
+    model-10 i = refused-by-bytes (Malformed i) (λ e. zero-is-one (cc e))
 
     -- 11: the first record whose 16 bytes of identifier are those of an earlier one
     pub model-11 : (i : ℕ) → (modelNumber r ≡ (11, i)) ↔ ((2048 ≤ length b) × ((LengthIsBad s → ⊥) × None (EvenOrFlag s) (length s / 18) × FirstOf (SameAsEarlier s) (length s / 18) i))
-    model-11 i = refused-by-bytes (Repeated i) (λ e. let z : _≡_ {A = ℕ} 0 1 = cc e in omega arith)
+    model-11 i = refused-by-bytes (Repeated i) (λ e. zero-is-one (cc e))
 
     -- 12: the first fixed target whose address is in the starting pool or is that of an earlier fixed one
     pub model-12 : (i : ℕ) → (modelNumber r ≡ (12, i))
         ↔ ((2048 ≤ length b) × ((LengthIsBad s → ⊥) × None (EvenOrFlag s) (length s / 18) × None (SameAsEarlier s) (length s / 18) × FirstOf (FixedOnTaken (startingPool occupied) s) (length s / 18) i))
-    model-12 i = refused-by-bytes (Taken i) (λ e. let z : _≡_ {A = ℕ} 0 1 = cc e in omega arith)
+    model-12 i = refused-by-bytes (Taken i) (λ e. zero-is-one (cc e))
 
   -- every other part of a refusal is zero
   pub model-zero : (r .answer ≡ 2) ⊎ ((9 ≤ r .answer) × (r .answer ≤ 12)) → (r .udid .high ≡ 0) × (r .udid .low ≡ 0) × (r .bound .low ≡ 0) × (r .bound .high ≡ 0) × (r .count ≡ 0) × (r .gets ≡ 0)

@@ -6,6 +6,7 @@ use mathlib.Core.List.{List, [], _∷_}
 use native.Mathlib.Omega.{arith}
 use lib.ListN.{length, take, drop}
 use Rattle.lists.specs.Each.{Bytes}
+use Rattle.lists.specs.LengthLaws.{empty-of-length}
 use Rattle.trace.specs.Shapes.{shapeOf}
 use Rattle.trace.specs.Lengths.{traceLength}
 use Rattle.trace.specs.LengthLaws.{trace-length}
@@ -42,11 +43,7 @@ use Rattle.bus.specs.Turn.{Fit, Reaches, silence, Writes, sentTo, Matche
 -- ---- the traces
 
 pub no-targets : (s : List ℕ) → recordCount s ≡ 0 → targetsOf s ≡ []
-no-targets s e = empty (targetsOf s) (length-targets s (recordCount s) 0 ∙ e)
-  where
-    empty : (ts : List Target) → length ts ≡ 0 → ts ≡ []
-    empty [] h = refl
-    empty (t ∷ ts) h = absurd (omega arith)
+no-targets s e = empty-of-length (targetsOf s) (length-targets s (recordCount s) 0 ∙ e)
 
 -- Prepare To ARP, with no target and with some
 pub prepare-nobody : (s : List ℕ) → recordCount s ≡ 0 → onBus Prepare (targetsOf s) ≡ 256 ∷ 0xC2 ∷ 259 ∷ 257 ∷ []

@@ -1,9 +1,9 @@
--- The choices are what they are, case by case; both of two tests pass where their `and` does; false is not true.
+-- The choices are what they are, case by case; both of two tests pass where their `and` does, and both fail where their `or` does; false
+-- is not true.
 use mathlib.Core.Path.{_≡_, refl, sym, _∙_}
 use mathlib.Core.Bool.{Bool, true, false}
-use Prim.Native.Nat.{ℕ}
-use native.Mathlib.Omega.{arith}
-use Rattle.lists.specs.Choice.{and, Choices}
+use Rattle.lists.specs.AbsurdLaws.{zero-is-one}
+use Rattle.lists.specs.Choice.{or, and, Choices}
 
 pub choices : Choices
 choices =
@@ -24,8 +24,21 @@ both-true false b h = (h, cc)
 
 -- anything follows if they are equal
 pub false-not-true : {A : Type 0} → false ≡ true → A
-false-not-true e = let z : _≡_ {A = ℕ} 0 1 = cc in absurd (omega arith)
+false-not-true e = zero-is-one (cc e)
 
 -- no test both fails and passes
 pub not-both : {A : Type 0} {b : Bool} → b ≡ false → b ≡ true → A
 not-both f t = false-not-true (sym f ∙ t)
+
+pub neither : (a b : Bool) → or a b ≡ false → (a ≡ false) × (b ≡ false)
+neither true b e = not-both e refl
+neither false b e = (refl, e)
+
+-- the second of two tests passes, or fails
+pub or-last : (b : Bool) → or b true ≡ true
+or-last true = refl
+or-last false = refl
+
+pub or-none : (b : Bool) → or b false ≡ b
+or-none true = refl
+or-none false = refl

@@ -1,8 +1,9 @@
--- Two lists of bytes in a row are one, a list whose every place holds a byte is one, and what holds of each element holds of the one at an
--- index.
+-- Two lists of bytes in a row are one, a list whose every place holds a byte is one, and so are zeros. What holds of each element holds of
+-- the one at an index, and what follows from it holds of each.
 use mathlib.Core.List.{List, [], _∷_, _++_}
 use Prim.Native.Nat.{ℕ, zero, suc, _<_}
-use lib.ListN.{getD}
+use native.Mathlib.Omega.{arith}
+use lib.ListN.{getD, replicate}
 use Rattle.lists.specs.Each.{Each, Bytes}
 
 pub append-bytes : (xs ys : List ℕ) → Bytes xs → Bytes ys → Bytes (xs ++ ys)
@@ -14,8 +15,22 @@ pub all-bytes : (s : List ℕ) → ((i : ℕ) → getD s i 0 < 256) → Bytes s
 all-bytes [] h = tt
 all-bytes (x ∷ s) h = (h 0, all-bytes s (λ i. h (suc i)))
 
+pub zeros-bytes : (n : ℕ) → Bytes (replicate n 0)
+zeros-bytes zero = tt
+zeros-bytes (suc n) = (omega arith, zeros-bytes n)
+
 -- what holds of each, and of the default, holds of whatever an index finds
 pub each-at {ℓ} : {A : Type 0} (P : A → Type ℓ) (l : List A) (d : A) (n : ℕ) → Each P l → P d → P (getD l n d)
 each-at P [] d n h g = g
 each-at P (x ∷ xs) d zero h g = h .0
 each-at P (x ∷ xs) d (suc n) h g = each-at P xs d n (h .1) g
+
+-- something holds of each, and so what follows from it
+pub each-map : {A : Type 0} {P Q : A → Type 0} (l : List A) → ((x : A) → P x → Q x) → Each P l → Each Q l
+each-map [] f h = tt
+each-map (x ∷ l) f h = (f x (h .0), each-map l f (h .1))
+
+-- two things hold of each, and so a third
+pub each-both : {A : Type 0} {P Q R : A → Type 0} (l : List A) → ((x : A) → P x → Q x → R x) → Each P l → Each Q l → Each R l
+each-both [] f p q = tt
+each-both (x ∷ l) f p q = (f x (p .0) (q .0), each-both l f (p .1) (q .1))

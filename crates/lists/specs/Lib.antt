@@ -1,8 +1,11 @@
+pub mod AbsurdLaws
 pub mod Choice
 pub mod ChoiceLaws
+pub mod TestLaws
 pub mod Each
 pub mod UniqueLaws
 pub mod EachLaws
+pub mod LengthLaws
 pub mod Onto
 pub mod OntoLaws
 pub mod Passing

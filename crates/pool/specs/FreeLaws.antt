@@ -1,6 +1,6 @@
 -- The count of the addresses in use is that of the ones of both halves, and follows each address more or fewer. The lowest free address is
 -- answered exactly if it is the lowest that is free, and none exactly if all 128 are in use.
-use Prim.Native.Nat.{ℕ, zero, suc, _+_, _-_, _<_, _≤_}
+use Prim.Native.Nat.{ℕ, zero, suc, _+_, _<_, _≤_}
 use mathlib.Core.Path.{_≡_, refl, sym, ap, ap₂, _∙_}
 use mathlib.Core.Bool.{Bool, true, false}
 use mathlib.Core.Logic.{_↔_}
@@ -9,6 +9,7 @@ use native.Mathlib.Omega.{arith}
 use lib.Count.{ones}
 use lib.ListN.{length}
 use native.Mathlib.Nat.{zero-add}
+use Rattle.lists.specs.AbsurdLaws.{zero-is-one}
 use Rattle.lists.specs.Choice.{pick}
 use Rattle.lists.specs.Passing.{passing}
 use Rattle.wire.specs.declared.address.Address.{Address}
@@ -65,7 +66,7 @@ used-without p a h e = sym (count-more (member (withoutAddress p a)) (member p) 
 
 from-free : (p : Pool) (n a b : ℕ) → freeFrom p n a ≡ At (address b) → (member p b ≡ false) × (a ≤ b) × (b < a + n) × ((j : ℕ) → a ≤ j → j < b → member p j ≡ true)
 unfolding freeFrom
-from-free p zero a b e = absurd (let z : _≡_ {A = ℕ} 0 1 = cc in omega arith)
+from-free p zero a b e = zero-is-one cc
 from-free p (suc n) a b e = go (λ q. from-free p n (suc a) b q) (member p a) refl
   where
     go : (freeFrom p n (suc a) ≡ At (address b) → (member p b ≡ false) × (suc a ≤ b) × (b < suc a + n) × ((j : ℕ) → suc a ≤ j → j < b → member p j ≡ true))
@@ -92,7 +93,7 @@ from-full p (suc n) a j e l h = go (λ q m k. from-full p n (suc a) j q m k) (me
     go : (freeFrom p n (suc a) ≡ AllUsed → suc a ≤ j → j < suc a + n → member p j ≡ true) → (t : Bool) → member p a ≡ t → Dec (a ≡ j) → member p j ≡ true
     go ih true k (yes d) = ap (member p) (sym d) ∙ k
     go ih true k (no d) = let q : freeFrom p n (suc a) ≡ AllUsed = simp k at e in ih q (omega arith) (omega arith)
-    go ih false k d = let q : At (address a) ≡ AllUsed = simp k at e in absurd (let z : _≡_ {A = ℕ} 0 1 = cc in omega arith)
+    go ih false k d = let q : At (address a) ≡ AllUsed = simp k at e in zero-is-one cc
 
 -- either all n from a on are in use, or one of them is found
 from-cases : (p : Pool) (n a b : ℕ) → a ≤ b → b < a + n → member p b ≡ false → ((j : ℕ) → a ≤ j → j < b → member p j ≡ true) → freeFrom p n a ≡ At (address b)

@@ -1,11 +1,12 @@
 -- The starting pool has the reserved addresses and the occupied ones, and no others.
-use Prim.Native.Nat.{ℕ, zero, suc, _+_, _-_, _%_, _^_, _<_, _≤_}
+use Prim.Native.Nat.{ℕ, zero, suc, _+_, _<_, _≤_}
 use mathlib.Core.Path.{_≡_, refl, sym, ap, _∙_}
 use mathlib.Core.Bool.{Bool, true, false}
 use mathlib.Core.Logic.{_↔_}
 use native.Mathlib.Decide.{decLt, ℕ-discrete}
 use native.Mathlib.Omega.{arith}
 use lib.Dec.{leb}
+use Rattle.lists.specs.AbsurdLaws.{zero-is-one}
 use Rattle.lists.specs.Choice.{pick, or, and}
 use Rattle.wire.specs.Addresses.{isReserved}
 use Rattle.wire.specs.AddressLaws.{reserved-above}
@@ -14,7 +15,7 @@ use Rattle.pool.specs.DigitLaws.{digit-of-zero}
 use Rattle.pool.specs.Counts.{count}
 use Rattle.pool.specs.Free.{used}
 use Rattle.pool.specs.MemberLaws.{member-above, member-union, fits-union, same-members}
-use Rattle.pool.specs.Pools.{Fits, member, unionOf}
+use Rattle.pool.specs.Pools.{Fits, member}
 use Rattle.pool.specs.Start.{emptyPool, reservedPool, startingPool}
 use Rattle.pool.specs.declared.Pool.{Pool}
 
@@ -55,7 +56,7 @@ each-at test a (suc n) b e l h = go (test a) refl (each test (suc a) n) refl e (
         → (each test (suc a) n ≡ true → suc a ≤ b → test b ≡ true) → test b ≡ true
     go true p t q r (yes d) ih = ap test (sym d) ∙ p
     go true p t q r (no d) ih = ih (q ∙ r) (omega arith)
-    go false p t q r d ih = absurd (let z : _≡_ {A = ℕ} 0 1 = cc r in omega arith)
+    go false p t q r d ih = zero-is-one (cc r)
 
 all-reserved : each (λ a. same (member reservedPool a) (isReserved a)) 0 128 ≡ true
 unfolding each member digit reservedPool isReserved

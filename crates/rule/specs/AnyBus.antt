@@ -34,5 +34,5 @@ runOver bus (suc n) w = runOver bus n (turnOver bus w)
 abbrev pub beginningOver : {A : Type 0} → Pool → A → WorldOver A
 beginningOver occupied ts = record { now = started (newController occupied); targets = ts }
 
-abbrev pub passOver : {A : Type 0} → Bus A → Pool → A → WorldOver A
-passOver bus occupied ts = runOver bus 300 (beginningOver occupied ts)
+abbrev pub passOf : {A : Type 0} → Bus A → Pool → A → WorldOver A
+passOf bus occupied ts = runOver bus 300 (beginningOver occupied ts)

@@ -8,11 +8,6 @@ pub any-map : {A : Type 0} {P Q : A → Type 0} (l : List A) → ((x : A) → P 
 any-map (x ∷ l) f (inl p) = inl (f x p)
 any-map (x ∷ l) f (inr p) = inr (any-map l f p)
 
--- two things hold of each, and so a third
-pub each-both : {A : Type 0} {P Q R : A → Type 0} (l : List A) → ((x : A) → P x → Q x → R x) → Each P l → Each Q l → Each R l
-each-both [] f p q = tt
-each-both (x ∷ l) f p q = (f x (p .0) (q .0), each-both l f (p .1) (q .1))
-
 -- one thing holds of one, another of each, and so a third of one
 pub any-each : {A : Type 0} {P Q R : A → Type 0} (l : List A) → ((x : A) → P x → Q x → R x) → Any P l → Each Q l → Any R l
 any-each (x ∷ l) f (inl p) q = inl (f x p (q .0))

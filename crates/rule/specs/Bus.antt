@@ -5,7 +5,7 @@ use Rattle.arp.specs.declared.state.Stepped.{Stepped}
 use Rattle.pool.specs.declared.Pool.{Pool}
 use Rattle.targets.specs.Target.{Target, mapTargets}
 use Rattle.rule.specs.Acknowledge.{onBus}
-use Rattle.rule.specs.AnyBus.{Bus, WorldOver, tookOver, turnOver, runOver, beginningOver, passOver}
+use Rattle.rule.specs.AnyBus.{Bus, WorldOver, tookOver, turnOver, runOver, beginningOver, passOf}
 use Rattle.rule.specs.Effect.{effect}
 
 -- THE MODEL'S BUS: the symbols on it act on each target
@@ -14,7 +14,7 @@ modelBus = record { stands = onBus; acts = λ tr ts. mapTargets (effect tr) ts }
 
 -- A PASS over it
 unfoldable pub pass : Pool → List Target → WorldOver (List Target)
-pass occupied ts = passOver modelBus occupied ts
+pass occupied ts = passOf modelBus occupied ts
 
 -- ---- what the laws of a run over it speak of
 

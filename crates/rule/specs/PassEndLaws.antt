@@ -8,8 +8,10 @@ use native.Mathlib.Nat.{suc-add, add-suc, zero-add}
 use native.Mathlib.Omega.{arith}
 use lib.Dec.{ltb}
 use lib.ListN.{length, set, replicate, length-replicate}
+use Rattle.lists.specs.AbsurdLaws.{zero-is-one}
 use Rattle.lists.specs.Choice.{pick}
 use Rattle.lists.specs.Each.{Each}
+use Rattle.lists.specs.EachLaws.{each-map}
 use Rattle.wire.specs.Addresses.{isReserved}
 use Rattle.wire.specs.declared.address.Address.{Address}
 use Rattle.pool.specs.Free.{used}
@@ -40,7 +42,7 @@ use Rattle.rule.specs.PassEnd.{state, boundSlot, ended, outcome, nobodyT
 use Rattle.rule.specs.EffectLaws.{effect-as-meant}
 use Rattle.rule.specs.TraceLaws as on-bus
 use Rattle.rule.specs.Ready.{Apart, Ready, Lower}
-use Rattle.rule.specs.RuleLaws.{rule-gives-free, room-serves-all, served-has-room, all-given-served, each-map, rule-serves-these}
+use Rattle.rule.specs.RuleLaws.{rule-gives-free, room-serves-all, served-has-room, all-given-served, rule-serves-these}
 use Rattle.rule.specs.SortLaws.{ascending-adds-none, ascending-keeps, length-ascending, ascending-is-lower-first, pairs-any-two, pairs-map}
 use Rattle.rule.specs.Serving.{Unbound, serve, plain, Inv, turns, asking}
 use Rattle.rule.specs.StepLaws.{prepare-asks-first, prepare-silence-ends}
@@ -136,7 +138,7 @@ module _ (b : Pool) (last : member b 127 ≡ true) (ts : List Target) (v : Admit
     apart = pairs-map (ascending ts) apart′ (ascending-is-lower-first ts (v .differ));
     sized = λ t m. v .sized t (ascending-adds-none ts t m);
     fixed-free = λ t m. v .fixed-free t (ascending-adds-none ts t m);
-    fixed-some = λ t m f e. absurd (let z : _≡_ {A = ℕ} 0 1 = cc (v .fixed-free t (ascending-adds-none ts t m) f, ap (λ (n : ℕ). member b (n / 2)) e, last) in omega arith);
+    fixed-some = λ t m f e. zero-is-one (cc (v .fixed-free t (ascending-adds-none ts t m) f, ap (λ (n : ℕ). member b (n / 2)) e, last));
     last-used = last;
   }
     where

@@ -8,6 +8,7 @@ use native.Mathlib.Nat.{zero-add}
 use native.Mathlib.Decide.{ℕ-discrete}
 use native.Mathlib.Omega.{arith}
 use lib.ListN.{length, set, replicate, length-set, length-replicate}
+use Rattle.lists.specs.AbsurdLaws.{zero-is-one}
 use Rattle.lists.specs.Each.{Each}
 use Rattle.wire.specs.declared.address.Address.{Address}
 use Rattle.pool.specs.Counts.{count}
@@ -121,10 +122,10 @@ unclaimed (g ∷ gs) s h l f a = unclaimed gs (set s (g .address) (boundSlot (g 
     go i (yes q) k =
         let m : Bound (g .who .udid) ≡ Claimed = sym (held-same s (g .address) (boundSlot (g .who)) (omega (arith, l, f .0)))
         ∙ ap (heldAt (set s (g .address) (boundSlot (g .who)))) (sym q) ∙ k in
-        let z : _≡_ {A = ℕ} 0 1 = cc m in omega arith
+        zero-is-one (cc m)
 
 open-unclaimed : (a : ℕ) → heldAt (replicate 128 openSlot) a ≡ Claimed → ⊥
-open-unclaimed a e = let q : Open ≡ Claimed = sym (open-all a) ∙ e in let z : _≡_ {A = ℕ} 0 1 = cc q in omega arith
+open-unclaimed a e = let q : Open ≡ Claimed = sym (open-all a) ∙ e in zero-is-one (cc q)
 
 module _ (occupied : Pool) (ts : List Target) (v : AdmittedTargets (startingPool occupied) ts) where
   -- as many are bound as the plain rule serves
@@ -143,7 +144,7 @@ module _ (occupied : Pool) (ts : List Target) (v : AdmittedTargets (startingPool
       (ap (λ (s : List Slot). heldAt s a) (sym (end-slots (startingPool occupied) ts)) ∙ e))
     where
       go : (heldAt (replicate 128 openSlot) a ≡ Bound u) ⊎ Any (GivenAt a u) (ruled (startingPool occupied) ts .given) → Any (GivenAt a u) (ruled (startingPool occupied) ts .given)
-      go (inl k) = absurd (let z : _≡_ {A = ℕ} 0 1 = cc (open-none a, ap isBound k) in omega arith)
+      go (inl k) = zero-is-one (cc (open-none a, ap isBound k))
       go (inr k) = k
 
   -- who was given an address is bound there
@@ -194,7 +195,7 @@ other-udid-turned u v e = go (sameUdid v u) refl
   where
     go : (t : Bool) → sameUdid v u ≡ t → sameUdid v u ≡ false
     go false k = k
-    go true k = absurd (let z : _≡_ {A = ℕ} 0 1 = cc (e, ap₂ sameUdid (sym (same-equal v u k)) (same-equal v u k), k) in omega arith)
+    go true k = zero-is-one (cc (e, ap₂ sameUdid (sym (same-equal v u k)) (same-equal v u k), k))
 
 lower-other : (t : Target) (rest : List Target) (gs : List Given) → ((x : Target) → Among x rest → Lower t x) → Each (λ (g : Given). Among (g .who) rest) gs
     → Each (λ (h : Given). sameUdid (t .udid) (h .who .udid) ≡ false) gs

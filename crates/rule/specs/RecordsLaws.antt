@@ -8,6 +8,7 @@ use native.Mathlib.Nat.{mod-eq-of-lt}
 use native.Mathlib.Omega.{arith}
 use lib.ListN.{length, getD, take, drop}
 use Rattle.lists.specs.Each.{Each, Bytes}
+use Rattle.lists.specs.EachLaws.{each-map, each-both}
 use Rattle.pool.specs.Start.{startingPool}
 use Rattle.pool.specs.declared.Pool.{Pool}
 use Rattle.udid.specs.Bytes.{udidBytes}
@@ -26,7 +27,6 @@ use Rattle.rule.specs.PassEnd.{passEnd}
 use Rattle.rule.specs.PlainRule.{Given, ruled, FreeIn}
 use Rattle.rule.specs.ReadingLaws.{end-targets, unserved-stays, served-takes-address}
 use Rattle.rule.specs.Reading.{Any, RecordOf, servedBy, taken, TakenBy}
-use Rattle.rule.specs.RuleLaws.{each-map}
 
 served-keeps : (gs : List Given) (t : Target) → servedBy gs t .udid ≡ t .udid
 served-keeps [] t = refl
@@ -42,10 +42,6 @@ record-bytes s i b h =
 not-any : {P Q : Given → Type 0} (gs : List Given) → ((g : Given) → (P g → ⊥) → Q g) → (Any P gs → ⊥) → Each Q gs
 not-any [] f n = tt
 not-any (g ∷ gs) f n = (f g (λ p. n (inl p)), not-any gs f (λ p. n (inr p)))
-
-each-three : {P Q R S : Given → Type 0} (gs : List Given) → ((g : Given) → P g → Q g → R g → S g) → Each P gs → Each Q gs → Each R gs → Each S gs
-each-three [] f p q r = tt
-each-three (g ∷ gs) f p q r = (f g (p .0) (q .0) (r .0), each-three gs f (p .1) (q .1) (r .1))
 
 module _ (occupied : Pool) (s : List ℕ) (b : Bytes s) (v : AdmittedTargets (startingPool occupied) (targetsOf s)) where
   abbrev given : List Given
@@ -86,7 +82,7 @@ module _ (occupied : Pool) (s : List ℕ) (b : Bytes s) (v : AdmittedTargets (st
   pub bound-record : (i : ℕ) → i < length s / 18
       → Each (λ (g : Given). RecordOf s i g → (getD after (18 * i + 16) 0 ≡ 2 * g .address + 1) × (getD after (18 * i + 17) 0 ≡ 1)) given
   bound-record i h =
-      each-three given at (given-free-distinct occupied (targetsOf s) v .0) (given-among-targets occupied (targetsOf s) v) (served-takes-address (startingPool occupied) (targetsOf s) v (targetAt s i))
+      each-both given (λ g f. f) (each-both given at (given-free-distinct occupied (targetsOf s) v .0) (given-among-targets occupied (targetsOf s) v)) (served-takes-address (startingPool occupied) (targetsOf s) v (targetAt s i))
     where
       at : (g : Given) → FreeIn (startingPool occupied) g → Among (g .who) (targetsOf s) → TakenBy given (prepared (targetAt s i)) g → RecordOf s i g
           → (getD after (18 * i + 16) 0 ≡ 2 * g .address + 1) × (getD after (18 * i + 17) 0 ≡ 1)

@@ -8,7 +8,9 @@ use native.Mathlib.Decide.{ℕ-discrete}
 use native.Mathlib.Omega.{arith}
 use lib.ListN.{length}
 use borrow.Author.Tests.{ne-eqb, eqb-false}
+use Rattle.lists.specs.AbsurdLaws.{zero-is-one}
 use Rattle.lists.specs.Each.{Each}
+use Rattle.lists.specs.EachLaws.{each-map}
 use Rattle.wire.specs.declared.address.Address.{Address}
 use Rattle.pool.specs.Free.{used, lowestFree}
 use Rattle.pool.specs.Free.{Lowest}
@@ -92,7 +94,7 @@ ready-next p r rest a v e = record {
   sized = λ t m. v .sized t (inr m);
   fixed-free = λ t m f. still t m f (isFixed (r .udid)) refl;
   fixed-some = λ t m. v .fixed-some t (inr m);
-  last-used = has-with-other p (a .0) 127 (λ q. absurd (let z : _≡_ {A = ℕ} 0 1 = cc (q, free .1, v .last-used) in omega arith)) ∙ v .last-used;
+  last-used = has-with-other p (a .0) 127 (λ q. zero-is-one (cc (q, free .1, v .last-used))) ∙ v .last-used;
 }
   where
     free : (a .0 < 128) × (member p (a .0) ≡ false)
@@ -102,18 +104,14 @@ ready-next p r rest a v e = record {
     still t m f true q =
         has-with-other p (a .0) (t .addressByte / 2) (λ d. v .apart .0 t m .elsewhere q f (sym (fixed-choice-own p r a q e) ∙ sym d)) ∙ v .fixed-free t (inr m) f
     still t m f false q =
-        absurd (let z : _≡_ {A = ℕ} 0 1 = cc (f, movable-after r t (v .sized r (inl refl)) (v .sized t (inr m)) (v .apart .0 t m .lower) q) in omega arith)
+        zero-is-one (cc (f, movable-after r t (v .sized r (inl refl)) (v .sized t (inr m)) (v .apart .0 t m .lower) q))
 
 -- ---- the bindings that it gives
-
-pub each-map : {A : Type 0} {P Q : A → Type 0} (l : List A) → ((a : A) → P a → Q a) → Each P l → Each Q l
-each-map [] f h = tt
-each-map (a ∷ l) f h = (f a (h .0), each-map l f (h .1))
 
 -- who is given an address in the larger pool finds it free in the smaller, and elsewhere than the one just given
 free-before : (p : Pool) (a : ℕ) → a < 128 → (g : Given) → FreeIn (withAddress p a) g → FreeIn p g × (g .address ≡ a → ⊥)
 free-before p a l g f =
-    let n : g .address ≡ a → ⊥ = λ q. absurd (let z : _≡_ {A = ℕ} 0 1 = cc (f .1, ap (member (withAddress p a)) q, has-with-same p a l) in omega arith) in
+    let n : g .address ≡ a → ⊥ = λ q. zero-is-one (cc (f .1, ap (member (withAddress p a)) q, has-with-same p a l)) in
     ((f .0, sym (has-with-other p a (g .address) n) ∙ f .1), n)
 
 -- every address given is an assignable one that is free, and none is given twice
@@ -140,7 +138,7 @@ unfolding plainChoice
 choice-finds-room p t h e = go (isFixed (t .udid)) refl (member p (t .addressByte / 2)) refl
   where
     never-at : (a : Address) → At a ≡ AllUsed → ⊥
-    never-at a q = let z : _≡_ {A = ℕ} 0 1 = cc q in omega arith
+    never-at a q = zero-is-one (cc q)
 
     go : (b : Bool) → isFixed (t .udid) ≡ b → (c : Bool) → member p (t .addressByte / 2) ≡ c → ⊥
     go true q c k = never-at (held t) (simp q at e)
@@ -172,7 +170,7 @@ served-has-room (t ∷ rest) p v h = go (plainChoice p t) refl h (λ a e l. serv
     go : (c : Free) → plainChoice p t ≡ c → next (λ q. rule rest q) t p c .ending ≡ served
         → ((a : Address) → plainChoice p t ≡ At a → rule rest (withAddress p (a .0)) .ending ≡ served → used (withAddress p (a .0)) + length rest ≤ 128)
         → used p + suc (length rest) ≤ 128
-    go AllUsed e k ih = absurd (let z : _≡_ {A = ℕ} 0 1 = cc k in omega arith)
+    go AllUsed e k ih = zero-is-one (cc k)
     go (At a) e k ih =
         let f = ready-choice-free p t rest a v e in
         omega (arith, used-with-new p (a .0) (f .0) (f .1), ih a e k)

@@ -14,6 +14,6 @@ pub record Agree {A B : Type 0} (a : Bus A) (b : Bus B) (R : Stepped → A → B
       → R (stepped (s .state) (t ∷ tr)) (a .acts (t ∷ tr) x) (b .acts (t ∷ tr) y)
 
 -- one controller over both, and related targets
-pub record Same {A B : Type 0} (R : Stepped → A → B → Type 0) (v : WorldOver A) (w : WorldOver B) : Type 0 where
+pub record SameWorld {A B : Type 0} (R : Stepped → A → B → Type 0) (v : WorldOver A) (w : WorldOver B) : Type 0 where
   pub now : v .now ≡ w .now
   pub targets : R (v .now) (v .targets) (w .targets)

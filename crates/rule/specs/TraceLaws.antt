@@ -10,6 +10,7 @@ use lib.ListN.{length, getD, length-append}
 use lib.Seq.{getD-at}
 use borrow.Author.Tests.{eq-eqb, ne-eqb}
 use Rattle.lists.specs.Choice.{pick, or}
+use Rattle.lists.specs.ChoiceLaws.{or-last}
 use Rattle.lists.specs.Each.{Bytes}
 use Rattle.lists.specs.EachLaws.{append-bytes}
 use Rattle.wire.specs.Pec.{bitStep, pecStep, pecFrom, pecOf}
@@ -189,9 +190,7 @@ own-acknowledges u b t e p q f =
     rw h (last (begins p (256 ∷ 194 ∷ 1 ∷ 192 ∷ [])) (begins p (256 ∷ 194 ∷ 3 ∷ pick (isResolved t) [] (256 ∷ 195 ∷ []))))
   where
     last : (x y : Bool) → or x (or y true) ≡ true
-    last true y = refl
-    last false true = refl
-    last false false = refl
+    last x y = ap (or x) (or-last y) ∙ or-last x
 
 pub assign-whole : (ts : List Target) (u : Udid) (a : Address) (t : Target) → Among t ts → t .udid ≡ u → onBus (Assign u a) ts ≡ traceOf (Assign u a) []
 unfolding onBus standing answered same

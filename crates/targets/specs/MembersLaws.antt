@@ -3,9 +3,10 @@ use Prim.Native.Nat.{ℕ, _+_, _*_, _%_, _<_}
 use mathlib.Core.Path.{_≡_, refl, sym, ap, _∙_}
 use mathlib.Core.Bool.{Bool, true, false}
 use mathlib.Core.Logic.{inl, inr}
-use mathlib.Core.List.{List, [], _∷_}
+use mathlib.Core.List.{List, _∷_}
 use native.Mathlib.Omega.{arith}
 use lib.Dec.{eqb}
+use Rattle.lists.specs.AbsurdLaws.{zero-is-one}
 use Rattle.lists.specs.Choice.{pick}
 use Rattle.udid.specs.Udids.{sameUdid, value}
 use Rattle.udid.specs.UdidLaws.{same-refl, other-udid}
@@ -21,7 +22,7 @@ unresolved-before u a (x ∷ ts) t (inl h) e = go (sameUdid (x .udid) u) refl h
   where
     go : (b : Bool) → sameUdid (x .udid) u ≡ b → pick b (record { udid = x .udid; addressByte = 2 * (a % 128) + 1; flag = 1 }) x ≡ t
         → Among t (x ∷ ts) × (sameUdid (t .udid) u ≡ false)
-    go true p q = absurd (let z : _≡_ {A = ℕ} 0 1 = cc (ap (λ (y : Target). eqb (y .flag) 1) q, e) in omega arith)
+    go true p q = zero-is-one (cc (ap (λ (y : Target). eqb (y .flag) 1) q, e))
     go false p q = (inl q, ap (λ (y : Target). sameUdid (y .udid) u) (sym q) ∙ p)
 
 -- who has another identifier is left as it was
@@ -44,5 +45,5 @@ waits-next ts rest r a w lt = record {
     above t l e = omega arith
 
     at : (t : Target) → sameUdid (t .udid) (r .udid) ≡ false → Among t (r ∷ rest) → Among t rest
-    at t e (inl h) = absurd (let z : _≡_ {A = ℕ} 0 1 = cc (e, ap (λ (y : Target). sameUdid (y .udid) (r .udid)) h, same-refl (r .udid)) in omega arith)
+    at t e (inl h) = zero-is-one (cc (e, ap (λ (y : Target). sameUdid (y .udid) (r .udid)) h, same-refl (r .udid)))
     at t e (inr h) = h

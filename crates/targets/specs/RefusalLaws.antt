@@ -2,14 +2,16 @@
 use Prim.Native.Nat.{ℕ, _/_, _%_, _<_}
 use mathlib.Core.Path.{_≡_, refl, sym, ap, _∙_, subst}
 use mathlib.Core.Bool.{Bool, true, false}
-use mathlib.Core.Logic.{_⊎_, inl, inr, _↔_}
+use mathlib.Core.Logic.{_↔_}
 use mathlib.Core.List.{List}
 use native.Mathlib.Decide.{decLt}
 use native.Mathlib.Omega.{arith}
 use lib.Dec.{eqb, ltb}
 use lib.ListN.{length}
-use borrow.Author.Tests.{eqb-true, eqb-false, eq-eqb, ltb-true, lt-ltb, le-ltb}
-use Rattle.lists.specs.Choice.{pick, or, and, not}
+use borrow.Author.Tests.{ltb-true, lt-ltb, le-ltb}
+use Rattle.lists.specs.Choice.{pick, or, not}
+use Rattle.lists.specs.ChoiceLaws.{not-both}
+use Rattle.lists.specs.TestLaws.{eqb-is, ltb-is, or-is, and-is, not-is, false-is}
 use Rattle.pool.specs.Pools.{member}
 use Rattle.pool.specs.declared.Pool.{Pool}
 use Rattle.udid.specs.Udids.{isFixed}
@@ -25,31 +27,9 @@ use Rattle.targets.specs.declared.admit.Checked.the-variants.{Admitted, 
 
 -- ---- a test and what it is a test of
 
-clash : {t : Bool} → t ≡ true → t ≡ false → ⊥
-clash e f = let z : _≡_ {A = ℕ} 0 1 = cc (e, f) in omega arith
-
-or-true-exactly : (a b : Bool) → (or a b ≡ true) ↔ ((a ≡ true) ⊎ (b ≡ true))
-or-true-exactly true b = (λ e. inl refl, λ h. refl)
-or-true-exactly false b = (λ e. inr e, λ h. at h)
-  where
-    at : (false ≡ true) ⊎ (b ≡ true) → b ≡ true
-    at (inl e) = absurd (clash e refl)
-    at (inr e) = e
-
-and-true-exactly : (a b : Bool) → (and a b ≡ true) ↔ ((a ≡ true) × (b ≡ true))
-and-true-exactly true b = (λ e. (refl, e), λ h. h .1)
-and-true-exactly false b = (λ e. absurd (clash e refl), λ h. absurd (clash (h .0) refl))
-
 module _ (test : ℕ → Bool) (P : ℕ → Type 0) (decides : (i : ℕ) → (test i ≡ true) ↔ P i) where
   false-then-not : (i : ℕ) → test i ≡ false → P i → ⊥
-  false-then-not i e h = clash (decides i .1 h) e
-
-  not-then-false : (i : ℕ) → (P i → ⊥) → test i ≡ false
-  not-then-false i n = go (test i) refl
-    where
-      go : (t : Bool) → test i ≡ t → test i ≡ false
-      go true e = absurd (n (decides i .0 e))
-      go false e = e
+  false-then-not i e h = false-is (test i) (decides i) .0 e h
 
   some-first : (n : ℕ) → some test n ≡ true → FirstOf P n (first test n)
   some-first n e =
@@ -73,7 +53,7 @@ module _ (test : ℕ → Bool) (P : ℕ → Type 0) (decides : (i : ℕ) → (te
       go (yes l) d =
           let k : i < n = h .below in
           absurd (h .none-before (first test n) l (decides (first test n) .0 (first-passes test n (omega arith))))
-      go (no l) (yes k) = absurd (clash (decides i .1 (h .holds)) (first-before test n i k))
+      go (no l) (yes k) = not-both (first-before test n i k) (decides i .1 (h .holds))
       go (no l) (no k) = omega arith
 
   first-some : (n i : ℕ) → FirstOf P n i → some test n ≡ true
@@ -82,36 +62,10 @@ module _ (test : ℕ → Bool) (P : ℕ → Type 0) (decides : (i : ℕ) → (te
 -- ---- the four tests
 
 bad-length-exactly : (s : List ℕ) → (isBadLength (length s) ≡ true) ↔ LengthIsBad s
-bad-length-exactly s = go (decLt 2160 (length s)) (eqb (length s % 18) 0) refl
-  where
-    go : Dec (2160 < length s) → (t : Bool) → eqb (length s % 18) 0 ≡ t → (or (ltb 2160 (length s)) (not (eqb (length s % 18) 0)) ≡ true) ↔ LengthIsBad s
-    go (yes h) t e = (λ q. inl h, λ q. rw (lt-ltb 2160 (length s) h))
-    go (no h) true e = (
-      λ q. absurd (clash (simp (le-ltb 2160 (length s) (omega arith), e) at q) refl),
-      λ q. at q,
-    )
-      where
-        at : LengthIsBad s → or (ltb 2160 (length s)) (not (eqb (length s % 18) 0)) ≡ true
-        at (inl l) = absurd (h l)
-        at (inr n) = absurd (n (eqb-true (length s % 18) 0 e))
-    go (no h) false e = (λ q. inr (eqb-false (length s % 18) 0 e), λ q. rw (le-ltb 2160 (length s) (omega arith), e))
+bad-length-exactly s = or-is (ltb 2160 (length s)) (not (eqb (length s % 18) 0)) (ltb-is 2160 (length s)) (not-is (eqb (length s % 18) 0) (eqb-is (length s % 18) 0))
 
 malformed-exactly : (s : List ℕ) (i : ℕ) → (isMalformed s i ≡ true) ↔ MalformedAt s i
-malformed-exactly s i = (λ e. there (or-true-exactly a b .0 e), λ h. or-true-exactly a b .1 (back h))
-  where
-    a : Bool
-    a = eqb (addressByte s i % 2) 0
-
-    b : Bool
-    b = ltb 1 (flagOf s i)
-
-    there : (a ≡ true) ⊎ (b ≡ true) → MalformedAt s i
-    there (inl e) = inl (eqb-true (addressByte s i % 2) 0 e)
-    there (inr e) = inr (ltb-true 1 (flagOf s i) e)
-
-    back : MalformedAt s i → (a ≡ true) ⊎ (b ≡ true)
-    back (inl e) = inl (eq-eqb (addressByte s i % 2) 0 e)
-    back (inr e) = inr (lt-ltb 1 (flagOf s i) e)
+malformed-exactly s i = or-is (eqb (addressByte s i % 2) 0) (ltb 1 (flagOf s i)) (eqb-is (addressByte s i % 2) 0) (ltb-is 1 (flagOf s i))
 
 -- some number below n passes a test
 some-exactly : (test : ℕ → Bool) (n : ℕ) → (some test n ≡ true) ↔ ((j : ℕ) × (j < n) × (test j ≡ true))
@@ -122,7 +76,7 @@ some-exactly test n = (
   where
     go : (t : Bool) → some test n ≡ t → (j : ℕ) × (j < n) × (test j ≡ true) → some test n ≡ true
     go true e h = e
-    go false e h = absurd (clash (h .2) (none-below test n e (h .0) (h .1)))
+    go false e h = not-both (none-below test n e (h .0) (h .1)) (h .2)
 
 repeated-exactly : (s : List ℕ) (i : ℕ) → (isRepeated s i ≡ true) ↔ RepeatedAt s i
 repeated-exactly s i = (
@@ -131,52 +85,29 @@ repeated-exactly s i = (
 )
 
 fixed-as-exactly : (s : List ℕ) (i j : ℕ) → (isFixedAs s i j ≡ true) ↔ ((isFixed (udidOf s j) ≡ true) × (addressByte s j / 2 ≡ addressByte s i / 2))
-fixed-as-exactly s i j = (
-  λ e. let r = and-true-exactly (isFixed (udidOf s j)) (eqb (addressByte s j / 2) (addressByte s i / 2)) .0 e in (r .0, eqb-true _ _ (r .1)),
-  λ h. and-true-exactly (isFixed (udidOf s j)) (eqb (addressByte s j / 2) (addressByte s i / 2)) .1 (h .0, eq-eqb _ _ (h .1)),
-)
+fixed-as-exactly s i j = and-is (isFixed (udidOf s j)) (eqb (addressByte s j / 2) (addressByte s i / 2)) (λ e. e, λ e. e) (eqb-is (addressByte s j / 2) (addressByte s i / 2))
 
 taken-exactly : (starting : Pool) (s : List ℕ) (i : ℕ) → (isTaken starting s i ≡ true) ↔ TakenAt starting s i
-taken-exactly starting s i = (
-  λ e. let r = and-true-exactly f (or m o) .0 e in (r .0, there (or-true-exactly m o .0 (r .1))),
-  λ h. and-true-exactly f (or m o) .1 (h .0, or-true-exactly m o .1 (back (h .1))),
-)
+taken-exactly starting s i =
+    and-is (isFixed (udidOf s i)) (or m (some (isFixedAs s i) i)) (λ e. e, λ e. e) (or-is m (some (isFixedAs s i) i) (λ e. e, λ e. e) earlier)
   where
-    f : Bool
-    f = isFixed (udidOf s i)
-
     m : Bool
     m = member starting (addressByte s i / 2)
 
-    o : Bool
-    o = some (isFixedAs s i) i
-
-    Earlier : Type 0
-    Earlier = (j : ℕ) × (j < i) × (isFixed (udidOf s j) ≡ true) × (addressByte s j / 2 ≡ addressByte s i / 2)
-
-    there : (m ≡ true) ⊎ (o ≡ true) → (m ≡ true) ⊎ Earlier
-    there (inl e) = inl e
-    there (inr e) =
-        let r = some-exactly (isFixedAs s i) i .0 e in
-        let q = fixed-as-exactly s i (r .0) .0 (r .2) in
-        inr (r .0, r .1, q .0, q .1)
-
-    back : (m ≡ true) ⊎ Earlier → (m ≡ true) ⊎ (o ≡ true)
-    back (inl e) = inl e
-    back (inr h) = inr (some-exactly (isFixedAs s i) i .1 (h .0, h .1, fixed-as-exactly s i (h .0) .1 (h .2, h .3)))
+    earlier : (some (isFixedAs s i) i ≡ true) ↔ ((j : ℕ) × (j < i) × (isFixed (udidOf s j) ≡ true) × (addressByte s j / 2 ≡ addressByte s i / 2))
+    earlier = (
+      λ e. let r = some-exactly (isFixedAs s i) i .0 e in let q = fixed-as-exactly s i (r .0) .0 (r .2) in (r .0, r .1, q .0, q .1),
+      λ h. some-exactly (isFixedAs s i) i .1 (h .0, h .1, fixed-as-exactly s i (h .0) .1 (h .2, h .3)),
+    )
 
 -- ---- the answer
 
 module _ (starting : Pool) (s : List ℕ) where
   good-length-not-bad : isBadLength (length s) ≡ false → LengthIsBad s → ⊥
-  good-length-not-bad e h = clash (bad-length-exactly s .1 h) e
+  good-length-not-bad e h = false-is (isBadLength (length s)) (bad-length-exactly s) .0 e h
 
   not-bad-length : (LengthIsBad s → ⊥) → isBadLength (length s) ≡ false
-  not-bad-length n = go (isBadLength (length s)) refl
-    where
-      go : (t : Bool) → isBadLength (length s) ≡ t → isBadLength (length s) ≡ false
-      go true e = absurd (n (bad-length-exactly s .0 e))
-      go false e = e
+  not-bad-length n = false-is (isBadLength (length s)) (bad-length-exactly s) .1 n
 
   -- what the check answers is so
   pub checked-then-given : Given starting s (checkedList starting s)
