@@ -1,3 +1,4 @@
+pub mod Sizes
 pub mod Turn
 pub mod Going
 pub mod Run

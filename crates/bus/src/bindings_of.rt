@@ -3,7 +3,7 @@ ghost use mathlib.Core.Path.{_≡_};
 ghost use mathlib.Core.List.{_++_};
 ghost use Prim.Native.Nat.{_≤_};
 ghost use lib.ListN.{length, drop};
-ghost use Rattle.bindings.specs.Entries.{bufferOf, boundSet};
+ghost use Rattle.bindings.specs.Entries.{bufferSize, bufferOf, boundSet};
 ghost use Rattle.bus.specs.Run.{entryOf, entryAt};
 use arp::state::Binding;
 use arp::state::Slot;
@@ -27,8 +27,8 @@ fn entry_of(s: Slot) -> Entry
 
 // The first 2,048 bytes: the identifier of address a at 16 a, zeros where none is bound.
 pub(crate) fn put_bindings(out: &mut [u8], slots: [Slot; 128])
-    requires { ⌜ 2048 ≤ length (now out) ⌝ }
-    ensures { λ r. ⌜ now (out .exit) ≡ bufferOf (entryAt slots) ++ drop 2048 (now (out .entry)) ⌝ }
+    requires { ⌜ bufferSize ≤ length (now out) ⌝ }
+    ensures { λ r. ⌜ now (out .exit) ≡ bufferOf (entryAt slots) ++ drop bufferSize (now (out .entry)) ⌝ }
 {
     let mut a: u8 = 0;
     while a < 128 {
