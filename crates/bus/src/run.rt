@@ -27,8 +27,8 @@ fn run_admitted(occupied: Pool, records: &mut [u8], bindings: &mut [u8]) -> Mode
     let last = run_pass(occupied, &mut records[..]);
     let state = last.state;
     let slots = state.slots;
-    put_bindings(&mut bindings[..], slots);
-    report(last)
+    let bound = put_bindings(&mut bindings[..], slots);
+    report(last, bound)
 }
 
 // The records take each target's address byte and flag, the first 2,048 bytes of the binding buffer the identifier of address a at 16 a.
