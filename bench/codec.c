@@ -1,6 +1,7 @@
 /* Calls the library's and the plain encoder and decoder on each protocol, with and without PEC,
-   checks that they agree, and dumps callgrind's count after each. A dump's label is
-   WORK library|plain PROTOCOL PEC SENT RECEIVED SYMBOLS */
+   checks that they agree, and dumps callgrind's count after each. Of the library both entries are called: library takes
+   16-bit symbols, pairs takes a symbol as two bytes. A dump's label is
+   WORK library|pairs|plain PROTOCOL PEC SENT RECEIVED SYMBOLS */
 #include "baseline.h"
 
 #include <stdio.h>
@@ -26,7 +27,7 @@ static const struct transaction transactions[] = {
 
 static const uint8_t ADDRESS = 0x2c;
 static uint8_t sent[ROOM], received[ROOM];
-/* The library takes 16-bit symbols, plain C pairs of bytes, low byte first: the same memory on this kind of machine. */
+/* 16-bit symbols, and pairs of bytes with the low byte first: the same memory on this kind of machine. */
 static uint16_t symbols_out[TRACE_ROOM / 2], other_out[TRACE_ROOM / 2];
 static uint8_t *const trace = (uint8_t *)symbols_out;
 static uint8_t *const other_trace = (uint8_t *)other_out;
@@ -114,10 +115,14 @@ static void measure(const struct transaction *t, uint8_t pec)
     uint32_t symbols = plain_encode(t->protocol, pec, ADDRESS, 0, t->command, sent, t->sent, received, t->received,
                                     trace, TRACE_ROOM).symbols;
     measure_encode("library", library_encode, t, pec, symbols, trace);
+    measure_encode("pairs", hb_encode, t, pec, symbols, other_trace);
+    if (memcmp(trace, other_trace, TRACE_ROOM) != 0)
+        stop("the library's two encoders differ");
     measure_encode("plain", plain_encode, t, pec, symbols, other_trace);
     if (memcmp(trace, other_trace, TRACE_ROOM) != 0)
         stop("the encoders differ");
     measure_decode("library", library_decode, t, pec, symbols);
+    measure_decode("pairs", hb_decode, t, pec, symbols);
     measure_decode("plain", plain_decode, t, pec, symbols);
     if (pec) {
         measure_pec("library", hb_pec, t, symbols);

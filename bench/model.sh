@@ -1,11 +1,13 @@
 #!/bin/sh
 # Instructions of a model run with 1, 10, 60 and 120 targets, by callgrind: the library, and plain C beside it that applies the
-# plain rule and writes and reads the same traces. Their answers and buffers are compared first. Fails above the limit.
+# plain rule and writes and reads the same traces. Their answers and buffers are compared first. Fails where the ratio is above the
+# limit of its size, or where a target among 120 costs more than its limit times what it costs among 10.
 # What it makes goes to build/.
 #   bench/model.sh [LIBRARY]
 set -eu
 cd "$(dirname "$0")/.."
-limit=20
+limits='1:1.50 10:1.30 60:1.30 120:1.30'
+growth=1.30
 out=build/bench
 library=${1:-target/staticlib/libexports.a}
 mkdir -p "$out"
@@ -20,7 +22,7 @@ valgrind --tool=callgrind --combine-dumps=yes --callgrind-out-file="$out/model.c
     cat "$out/model.log"
     exit 1
 }
-awk -v limit="$limit" '
+awk -v limits="$limits" -v growth="$growth" '
 /^desc: Trigger: Client Request:/ {
     sub(/^desc: Trigger: Client Request: */, "")
     split($0, word, " ")
@@ -33,19 +35,26 @@ awk -v limit="$limit" '
     word[2] = ""
 }
 END {
-    print "model run, instructions; limit of the ratio " limit
-    printf "%8s %7s %6s %9s %12s %12s %6s\n", "targets", "answer", "bound", "Get UDIDs", "library", "plain C", "ratio"
-    rows = split("1 10 60 120", targets, " ")
+    print "model run, instructions"
+    printf "%8s %7s %6s %9s %12s %12s %6s %6s\n", "targets", "answer", "bound", "Get UDIDs", "library", "plain C", "ratio", "limit"
+    rows = split(limits, row, " ")
     for (k = 1; k <= rows; k++) {
-        n = targets[k]
+        split(row[k], word, ":")
+        n = word[1]
+        limit = word[2]
         ours = cost["library", n]
         plain = cost["plain", n]
         if (!(ours > 0 && plain > 0 && ours <= limit * plain))
             above = above " " n
         ratio = plain ? ours / plain : 0
-        form = "%8d %7d %6d %9d %12d %12d %6.2f\n"
-        printf form, n, answer[n], bound[n], gets[n], ours, plain, ratio
+        form = "%8d %7d %6d %9d %12d %12d %6.2f %6s\n"
+        printf form, n, answer[n], bound[n], gets[n], ours, plain, ratio, limit
     }
+    few = cost["library", 10] / 10
+    many = cost["library", 120] / 120
+    printf "a target among 120 costs %.2f times what it costs among 10, limit %s\n", few ? many / few : 0, growth
+    if (!(few > 0 && many <= growth * few))
+        above = above " growth"
     if (above != "") {
         print "bench: above the limit, or nothing counted:" above
         exit 1

@@ -37,6 +37,11 @@ file == 4 && $1 ~ /^[0-9]+$/ {
     gets[$1] = $4
     run["library", $1] = $5
     run["plain", $1] = $6
+    limit[$1] = $8
+}
+
+file == 4 && /^a target among/ {
+    grows = $0
 }
 
 function ratio(a, b) {
@@ -72,33 +77,39 @@ function pec_table(lengths, n, k) {
             ratio(pec["library", lengths[k]], pec["plain", lengths[k]]), pec["library", lengths[k]] / lengths[k]
 }
 
-function codec_table(k, word) {
-    print "\n## Encode and decode\n"
-    print "A whole call each, PEC work included.\n"
+function codec_table(who, k, word) {
     print "|protocol|PEC|sent|received|symbols|encode|plain C|ratio|decode|plain C|ratio|\n|-:|-|-:|-:|-:|-:|-:|-:|-:|-:|-:|"
     for (k = 1; k <= count; k++) {
         split(rows[k], word, " ")
         printf "|%s|%s|%s|%s|%s|%d|%d|%s|%d|%d|%s|\n", word[1], word[2] == "p" ? "yes" : "no", word[3], word[4], word[5], \
-            cost["encode", "library", rows[k]], cost["encode", "plain", rows[k]], \
-            ratio(cost["encode", "library", rows[k]], cost["encode", "plain", rows[k]]), \
-            cost["decode", "library", rows[k]], cost["decode", "plain", rows[k]], \
-            ratio(cost["decode", "library", rows[k]], cost["decode", "plain", rows[k]])
+            cost["encode", who, rows[k]], cost["encode", "plain", rows[k]], \
+            ratio(cost["encode", who, rows[k]], cost["encode", "plain", rows[k]]), \
+            cost["decode", who, rows[k]], cost["decode", "plain", rows[k]], \
+            ratio(cost["decode", who, rows[k]], cost["decode", "plain", rows[k]])
     }
+}
+
+function codec_tables() {
+    print "\n## Encode and decode\n"
+    print "A whole call each, PEC work included, of `hb_encode_symbols` and `hb_decode_symbols`.\n"
+    codec_table("library")
+    print "\nThe same of `hb_encode` and `hb_decode`, which write and read a symbol as two bytes.\n"
+    codec_table("pairs")
 }
 
 function run_table(k, n) {
     print "\n## Model run\n"
     print "Plain C sorts the targets, applies the plain rule, and writes and reads the same traces.\n"
-    print "|targets|answer|bound|Get UDIDs|library|plain C|ratio|\n|-:|-:|-:|-:|-:|-:|-:|"
+    print "|targets|answer|bound|Get UDIDs|library|plain C|ratio|limit|\n|-:|-:|-:|-:|-:|-:|-:|-:|"
     for (k = 1; k <= runs; k++) {
         n = sizes[k]
-        printf "|%d|%d|%d|%d|%d|%d|%s|\n", n, answer[n], bound[n], gets[n], run["library", n], run["plain", n], \
-            ratio(run["library", n], run["plain", n])
+        printf "|%d|%d|%d|%d|%d|%d|%s|%s|\n", n, answer[n], bound[n], gets[n], run["library", n], run["plain", n], \
+            ratio(run["library", n], run["plain", n]), limit[n]
     }
 }
 
 END {
-    if (file != 4 || count == 0 || runs == 0 || step == "" || pec["plain", 65536] == 0) {
+    if (file != 4 || count == 0 || runs == 0 || step == "" || grows == "" || pec["plain", 65536] == 0) {
         print "bench: nothing counted" >"/dev/stderr"
         exit 1
     }
@@ -106,7 +117,7 @@ END {
     print "Written by `bench/run`. Plain C is `bench/baseline.c` and `bench/plain_model.c`, with gcc " compiler " -O2. Both sides'"
     print "results are compared before anything is counted.\n"
     pec_table()
-    codec_table()
+    codec_tables()
     print "\n## A controller step\n"
     print step "."
     run_table()
@@ -121,4 +132,5 @@ END {
         each_target("plain", 60) " and " each_target("plain", 120) "). The traces and the controller's steps cost the same"
     print "  for each target. The search for the winner looks at every record for each Get UDID. The check of the list compares"
     print "  every two records. 120 targets are more than the 107 addresses there are, so that run ends with 13."
+    print "  Held to a limit: " grows "."
 }

@@ -12,7 +12,7 @@ use Rattle.udid.specs.Bytes.{bytesOf, udidBytes, udidAt, putAt}
 use Rattle.udid.specs.Udids.{Fits}
 use Rattle.udid.specs.UdidLaws.{length-udid, udid-back}
 use Rattle.udid.specs.WindowLaws.{put-fits}
-use Rattle.bindings.specs.Entries.{entryUdid, entryBytes, putEntry, readUdid, rowsOf, bufferOf}
+use Rattle.bindings.specs.Entries.{bufferSize, entryUdid, entryBytes, putEntry, readUdid, rowsOf, bufferOf}
 use Rattle.bindings.specs.declared.entry.Entry.{Entry}
 use Rattle.bindings.specs.declared.entry.Entry.the-variants.{Nobody}
 
@@ -49,7 +49,7 @@ pub rows-none : (held : ℕ → Entry) (l : List ℕ) → l ≡ rowsOf held 0 ++
 unfolding rowsOf
 rows-none held l = refl
 
-pub rows-more : (held : ℕ → Entry) (n : ℕ) (old now : List ℕ) → 2048 ≤ length old → n < 128 → now ≡ rowsOf held n ++ drop (n * 16) old
+pub rows-more : (held : ℕ → Entry) (n : ℕ) (old now : List ℕ) → bufferSize ≤ length old → n < 128 → now ≡ rowsOf held n ++ drop (n * 16) old
     → putEntry now n (held n) ≡ rowsOf held (suc n) ++ drop (suc n * 16) old
 unfolding rowsOf
 rows-more held n old now h l e =
@@ -111,8 +111,8 @@ module _ (held : ℕ → Entry) (rest : List ℕ) (a : ℕ) (h : a < 128) where
       ap (λ (x : List ℕ). udidAt x (16 * a)) (p .1) ∙ udid-back (rowsOf held a) (p .0) (16 * a) (entryUdid (held a)) f (omega (arith, length-rows held a))
 
 -- after the 2,048 bytes stands what was there
-pub rest-there : (held : ℕ → Entry) (rest : List ℕ) → drop 2048 (bufferOf held ++ rest) ≡ rest
-rest-there held rest = drop-at (bufferOf held) rest 2048 (omega (arith, length-rows held 128))
+pub rest-there : (held : ℕ → Entry) (rest : List ℕ) → drop bufferSize (bufferOf held ++ rest) ≡ rest
+rest-there held rest = drop-at (bufferOf held) rest bufferSize (omega (arith, length-rows held 128))
 
 -- ---- a list is that buffer if and only if its bytes are these
 
@@ -127,11 +127,11 @@ rows-by-bytes held l (suc n) h =
     ∙ ap₂ (λ (x y : List ℕ). x ++ y) (rows-by-bytes held l n (λ a i. h a (omega arith))) (ap (λ (x : ℕ). take 16 (drop x l)) k ∙ h n (omega arith))
 
 pub buffer-exactly : (held : ℕ → Entry) (old l : List ℕ)
-    → (l ≡ bufferOf held ++ drop 2048 old) ↔ (((a : ℕ) → a < 128 → take 16 (drop (16 * a) l) ≡ entryBytes (held a)) × (drop 2048 l ≡ drop 2048 old))
+    → (l ≡ bufferOf held ++ drop bufferSize old) ↔ (((a : ℕ) → a < 128 → take 16 (drop (16 * a) l) ≡ entryBytes (held a)) × (drop bufferSize l ≡ drop bufferSize old))
 buffer-exactly held old l = (
   λ e. (
-    (λ a h. ap (λ (x : List ℕ). take 16 (drop (16 * a) x)) e ∙ bytes-there held (drop 2048 old) a h),
-    ap (drop 2048) e ∙ rest-there held (drop 2048 old),
+    (λ a h. ap (λ (x : List ℕ). take 16 (drop (16 * a) x)) e ∙ bytes-there held (drop bufferSize old) a h),
+    ap (drop bufferSize) e ∙ rest-there held (drop bufferSize old),
   ),
-  λ h. sym (take-append-drop 2048 l) ∙ ap₂ (λ (x y : List ℕ). x ++ y) (rows-by-bytes held l 128 (h .0)) (h .1),
+  λ h. sym (take-append-drop bufferSize l) ∙ ap₂ (λ (x y : List ℕ). x ++ y) (rows-by-bytes held l 128 (h .0)) (h .1),
 )

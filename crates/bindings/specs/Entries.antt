@@ -38,6 +38,9 @@ rowsOf held zero = []
 rowsOf held (suc n) = rowsOf held n ++ entryBytes (held n)
 
 -- the 2,048 bytes of all 128
+abbrev pub bufferSize : ℕ
+bufferSize = 2048
+
 abbrev pub bufferOf : (ℕ → Entry) → List ℕ
 bufferOf held = rowsOf held 128
 

@@ -5,6 +5,9 @@ use super::entry::Entry;
 use udid::Udid;
 use wire::address::Address;
 
+// The bytes of the whole buffer, 16 for each of the 128 addresses.
+pub const BUFFER: usize = 2048;
+
 // The 16 bytes of an address. A buffer that ends before them stays as it is, and so it does where the number is above 127: that is no
 // address.
 pub fn put_entry(out: &mut [u8], a: Address, e: Entry)

@@ -1,4 +1,5 @@
 pub mod RecordsBus
+pub mod Sizes
 pub mod Turn
 pub mod Going
 pub mod Run

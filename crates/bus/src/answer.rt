@@ -1,8 +1,8 @@
 // What a model run answers. Rests on arp for how a pass ended; the scope's numbers are in arp's and targets' specs/Numbers.
 ghost use mathlib.Core.Path.{_≡_};
 ghost use Rattle.arp.specs.Numbers.{commandNumber};
-ghost use Rattle.bus.specs.Run.{numberIn, udidIn, refusedAnswer, reported};
-use super::bindings_of::bound_set;
+ghost use Rattle.bindings.specs.Entries.{boundSet};
+ghost use Rattle.bus.specs.Run.{entryAt, numberIn, udidIn, refusedAnswer, reported};
 use arp::command::Command;
 use arp::state::Stepped;
 use pool::Pool;
@@ -74,14 +74,12 @@ fn gets_sent(last: Stepped) -> u32
     state.gets
 }
 
-// What a pass that ended so answers.
-pub(crate) fn report(last: Stepped) -> ModelAnswer
+// What a pass answers that ended so, and bound these addresses.
+pub(crate) fn report(last: Stepped, bound: Pool) -> ModelAnswer
+    requires { ⌜ bound ≡ boundSet (entryAt (last .state .slots)) ⌝ }
     ensures { λ r. ⌜ r ≡ reported last ⌝ }
 {
-    let state = last.state;
-    let slots = state.slots;
     let command = last.command;
-    let bound = bound_set(slots);
     ModelAnswer {
         answer: number_of(command),
         place: 0,

@@ -3,7 +3,7 @@ ghost use mathlib.Core.Path.{_≡_};
 ghost use mathlib.Core.List.{_++_};
 ghost use Prim.Native.Nat.{_≤_};
 ghost use lib.ListN.{length, drop};
-ghost use Rattle.bindings.specs.Entries.{bufferOf, boundSet};
+ghost use Rattle.bindings.specs.Entries.{bufferSize, bufferOf, boundSet};
 ghost use Rattle.bus.specs.Run.{entryOf, entryAt};
 use arp::state::Binding;
 use arp::state::Slot;
@@ -25,30 +25,19 @@ fn entry_of(s: Slot) -> Entry
     }
 }
 
-// The first 2,048 bytes: the identifier of address a at 16 a, zeros where none is bound.
-pub(crate) fn put_bindings(out: &mut [u8], slots: [Slot; 128])
-    requires { ⌜ 2048 ≤ length (now out) ⌝ }
-    ensures { λ r. ⌜ now (out .exit) ≡ bufferOf (entryAt slots) ++ drop 2048 (now (out .entry)) ⌝ }
+// The first 2,048 bytes: the identifier of address a at 16 a, zeros where none is bound. The addresses to which somebody is bound.
+pub(crate) fn put_bindings(out: &mut [u8], slots: [Slot; 128]) -> Pool
+    requires { ⌜ bufferSize ≤ length (now out) ⌝ }
+    ensures { λ r. ⌜ (now (out .exit) ≡ bufferOf (entryAt slots) ++ drop bufferSize (now (out .entry))) × (r ≡ boundSet (entryAt slots)) ⌝ }
 {
+    let mut bound = Pool::empty();
     let mut a: u8 = 0;
     while a < 128 {
         let s = slots[a as usize];
         let e = entry_of(s);
         put_entry(&mut out[..], Address(a), e);
+        bound = with_entry(bound, Address(a), e);
         a += 1;
-    }
-}
-
-// The addresses to which somebody is bound.
-pub(crate) fn bound_set(slots: [Slot; 128]) -> Pool
-    ensures { λ r. ⌜ r ≡ boundSet (entryAt slots) ⌝ }
-{
-    let mut bound = Pool::empty();
-    let mut n: u8 = 0;
-    while n < 128 {
-        let s = slots[n as usize];
-        bound = with_entry(bound, Address(n), entry_of(s));
-        n += 1;
     }
     bound
 }

@@ -6,6 +6,7 @@ ghost use Rattle.pool.specs.Start.{startingPool};
 ghost use Rattle.targets.specs.Records.{targetsOf};
 ghost use Rattle.targets.specs.Refusals.{checkedList};
 ghost use Rattle.targets.specs.declared.admit.Checked.the-variants.{Admitted};
+ghost use Rattle.bindings.specs.Entries.{bufferSize};
 ghost use Rattle.rule.specs.Bus.{pass};
 ghost use Rattle.bus.specs.Run.{Leaves, endedEnd, modelEnd};
 use super::answer::ModelAnswer;
@@ -13,27 +14,28 @@ use super::answer::refused;
 use super::answer::report;
 use super::bindings_of::put_bindings;
 use super::pass::run_pass;
+use bindings::buffer::BUFFER;
 use pool::Pool;
 use targets::admit;
 use targets::admit::Checked;
 
 // A list that is not refused.
 fn run_admitted(occupied: Pool, records: &mut [u8], bindings: &mut [u8]) -> ModelAnswer
-    requires { ⌜ (checkedList (startingPool occupied) (now records) ≡ Admitted) × (2048 ≤ length (now bindings)) ⌝ }
+    requires { ⌜ (checkedList (startingPool occupied) (now records) ≡ Admitted) × (bufferSize ≤ length (now bindings)) ⌝ }
     ensures { λ r. ⌜ Leaves (endedEnd (pass occupied (targetsOf (now (records .entry)))) (now (records .entry)) (now (bindings .entry))) r (now (records .exit)) (now (bindings .exit)) ⌝ }
 {
     let last = run_pass(occupied, &mut records[..]);
     let state = last.state;
     let slots = state.slots;
-    put_bindings(&mut bindings[..], slots);
-    report(last)
+    let bound = put_bindings(&mut bindings[..], slots);
+    report(last, bound)
 }
 
 // The records take each target's address byte and flag, the first 2,048 bytes of the binding buffer the identifier of address a at 16 a.
 pub fn run_model(occupied: Pool, records: &mut [u8], bindings: &mut [u8]) -> ModelAnswer
     ensures { λ r. ⌜ Leaves (modelEnd occupied (now (records .entry)) (now (bindings .entry))) r (now (records .exit)) (now (bindings .exit)) ⌝ }
 {
-    if bindings.len() < 2048 {
+    if bindings.len() < BUFFER {
         return refused(2, 0);
     }
     let checked = admit::check(&records[..], occupied);

@@ -6,13 +6,33 @@ ghost use lib.ListN.{length, take};
 ghost use Rattle.targets.specs.Records.{targetsOf};
 ghost use Rattle.arp.specs.Requests.{traceOf};
 ghost use Rattle.rule.specs.Acknowledge.{onBus};
+ghost use Rattle.bus.specs.Sizes.{traceRoom};
 ghost use Rattle.bus.specs.Turn.{Fit, Reaches, silence, Writes};
 use arp::command::Command;
 use arp::request::put_command;
 use encode::Encoded;
 use targets::fields;
+use targets::fields::RECORD;
 use targets::winner;
 use targets::winner::Winner;
+use wire::symbol::ACK;
+use wire::symbol::NACK;
+use wire::symbol::START;
+use wire::symbol::STOP;
+
+// Room in symbols for every trace of a pass.
+pub(crate) const TRACE_ROOM: usize = 64;
+
+// The default address on the wire, for writing and for reading.
+const DEFAULT_WRITE: u16 = 0xC2;
+
+const DEFAULT_READ: u16 = 0xC3;
+
+// The command code of Get UDID.
+const GET_UDID: u16 = 0x03;
+
+// The bytes of its reply: the identifier and the device address byte.
+const REPLY: usize = 17;
 
 // The trace of a command that is acknowledged whole.
 fn put_whole(k: Command, reply: &[u8], out: &mut [u16]) -> usize
@@ -29,14 +49,14 @@ fn put_whole(k: Command, reply: &[u8], out: &mut [u16]) -> usize
 
 // Prepare To ARP: all acknowledge; with no target the first byte gets NACK.
 fn put_prepare(records: &[u8], out: &mut [u16]) -> usize
-    requires { ⌜ 64 ≤ length (now out) ⌝ }
-    ensures { λ r. ⌜ (r ≤ 64) × (take r (now (out .exit)) ≡ onBus Command.Prepare (targetsOf (now (records .entry)))) ⌝ }
+    requires { ⌜ traceRoom ≤ length (now out) ⌝ }
+    ensures { λ r. ⌜ (r ≤ traceRoom) × (take r (now (out .exit)) ≡ onBus Command.Prepare (targetsOf (now (records .entry)))) ⌝ }
 {
     if fields::count(records) == 0 {
-        out[0] = 256;
-        out[1] = 0xC2;
-        out[2] = 259;
-        out[3] = 257;
+        out[0] = START;
+        out[1] = DEFAULT_WRITE;
+        out[2] = NACK;
+        out[3] = STOP;
         return 4;
     }
     put_whole(Command::Prepare, &records[..0], &mut out[..])
@@ -44,38 +64,38 @@ fn put_prepare(records: &[u8], out: &mut [u16]) -> usize
 
 // Get UDID where all are resolved: the read address gets NACK.
 fn put_silence(out: &mut [u16]) -> usize
-    requires { ⌜ 64 ≤ length (now out) ⌝ }
+    requires { ⌜ traceRoom ≤ length (now out) ⌝ }
     ensures { λ r. ⌜ (r ≡ 9) × (take 9 (now (out .exit)) ≡ silence) ⌝ }
 {
-    out[0] = 256;
-    out[1] = 0xC2;
-    out[2] = 258;
-    out[3] = 0x03;
-    out[4] = 258;
-    out[5] = 256;
-    out[6] = 0xC3;
-    out[7] = 259;
-    out[8] = 257;
+    out[0] = START;
+    out[1] = DEFAULT_WRITE;
+    out[2] = ACK;
+    out[3] = GET_UDID;
+    out[4] = ACK;
+    out[5] = START;
+    out[6] = DEFAULT_READ;
+    out[7] = NACK;
+    out[8] = STOP;
     9
 }
 
 // Get UDID: the reply of the target that wins on the wire.
 fn put_get(records: &[u8], out: &mut [u16]) -> usize
-    requires { ⌜ Fit (now records) × Reaches Command.GetUdid (targetsOf (now records)) × (64 ≤ length (now out)) ⌝ }
-    ensures { λ r. ⌜ (r ≤ 64) × (take r (now (out .exit)) ≡ onBus Command.GetUdid (targetsOf (now (records .entry)))) ⌝ }
+    requires { ⌜ Fit (now records) × Reaches Command.GetUdid (targetsOf (now records)) × (traceRoom ≤ length (now out)) ⌝ }
+    ensures { λ r. ⌜ (r ≤ traceRoom) × (take r (now (out .exit)) ≡ onBus Command.GetUdid (targetsOf (now (records .entry)))) ⌝ }
 {
     let Winner::At(w) = winner::find(records) else {
         return put_silence(&mut out[..]);
     };
-    let at = w * 18;
-    let end = at + 17;
+    let at = w * RECORD;
+    let end = at + REPLY;
     put_whole(Command::GetUdid, &records[at..end], &mut out[..])
 }
 
 // The trace on the bus of a command; of an end, nothing.
 pub(crate) fn put_trace(k: Command, records: &[u8], out: &mut [u16]) -> usize
-    requires { ⌜ Fit (now records) × Reaches k (targetsOf (now records)) × (64 ≤ length (now out)) ⌝ }
-    ensures { λ r. ⌜ (r ≤ 64) × (take r (now (out .exit)) ≡ onBus k (targetsOf (now (records .entry)))) ⌝ }
+    requires { ⌜ Fit (now records) × Reaches k (targetsOf (now records)) × (traceRoom ≤ length (now out)) ⌝ }
+    ensures { λ r. ⌜ (r ≤ traceRoom) × (take r (now (out .exit)) ≡ onBus k (targetsOf (now (records .entry)))) ⌝ }
 {
     match k {
         Command::Prepare => put_prepare(records, &mut out[..]),

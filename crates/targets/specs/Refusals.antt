@@ -1,6 +1,6 @@
 -- The check of a target list: the tests of the refusals 9 to 12, and the first record that fails one. Cases says in words of the scope
 -- when each is given, and RefusalLaws that it is given then and only then.
-use Prim.Native.Nat.{ℕ, _/_, _%_}
+use Prim.Native.Nat.{ℕ, _*_, _/_, _%_}
 use mathlib.Core.Bool.{Bool}
 use mathlib.Core.List.{List}
 use lib.Dec.{eqb, ltb}
@@ -10,13 +10,13 @@ use Rattle.pool.specs.Pools.{member}
 use Rattle.pool.specs.declared.Pool.{Pool}
 use Rattle.udid.specs.Udids.{sameUdid, isFixed}
 use Rattle.targets.specs.First.{first, some}
-use Rattle.targets.specs.Records.{udidOf, addressByte, flagOf, recordCount}
+use Rattle.targets.specs.Records.{recordSize, mostTargets, udidOf, addressByte, flagOf, recordCount}
 use Rattle.targets.specs.declared.admit.Checked.{Checked}
 use Rattle.targets.specs.declared.admit.Checked.the-variants.{Admitted, BadLength, Malformed, Repeated, Taken}
 
 -- 9: over 2,160 bytes, or no multiple of 18
 abbrev pub isBadLength : ℕ → Bool
-isBadLength l = or (ltb 2160 l) (not (eqb (l % 18) 0))
+isBadLength l = or (ltb (mostTargets * recordSize) l) (not (eqb (l % recordSize) 0))
 
 -- 10: byte 16 even, or byte 17 above 1
 abbrev pub isMalformed : List ℕ → ℕ → Bool

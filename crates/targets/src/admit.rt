@@ -4,8 +4,11 @@ ghost use mathlib.Core.Path.{_≡_};
 ghost use Prim.Native.Nat.{_/_};
 ghost use lib.ListN.{length};
 ghost use Rattle.pool.specs.Start.{startingPool};
+ghost use Rattle.targets.specs.Records.{recordSize};
 ghost use Rattle.targets.specs.Refusals.{isBadLength, amongRecords, checkedList};
 use super::fields;
+use super::fields::MOST_TARGETS;
+use super::fields::RECORD;
 use super::malformed;
 use super::same;
 use super::taken;
@@ -27,14 +30,14 @@ pub enum Checked {
 fn is_bad_length(n: usize) -> bool
     ensures { λ r. ⌜ r ≡ isBadLength n ⌝ }
 {
-    if n > 2160 {
+    if n > MOST_TARGETS * RECORD {
         return true;
     }
-    n % 18 != 0
+    n % RECORD != 0
 }
 
 fn among_records(records: &[u8], starting: Pool) -> Checked
-    ensures { λ r. ⌜ r ≡ amongRecords starting (now (records .entry)) (length (now (records .entry)) / 18) ⌝ }
+    ensures { λ r. ⌜ r ≡ amongRecords starting (now (records .entry)) (length (now (records .entry)) / recordSize) ⌝ }
 {
     let n = fields::count(records);
     let bad = malformed::first_malformed(records, n);

@@ -1,21 +1,24 @@
-// Assign Address: it reaches the target with that identifier. Rests on udid; specs/ChangeLaws says what it does byte by byte.
+// Assign Address: it reaches the target with that identifier. Rests on fields and udid; specs/ChangeLaws says what it does byte by byte.
 ghost use mathlib.Core.Path.{_≡_};
 ghost use Prim.Native.Nat.{_+_, _*_, _≤_};
 ghost use lib.ListN.{length};
 ghost use Rattle.targets.specs.Target.{assignedTo};
-ghost use Rattle.targets.specs.Records.{targetAt, putTarget, assignedIn};
+ghost use Rattle.targets.specs.Records.{recordSize, targetAt, putTarget, assignedIn};
+use super::fields::ADDRESS_AT;
+use super::fields::FLAG_AT;
+use super::fields::RECORD;
 use udid::Udid;
 use wire::address::Address;
 
 // Record i takes the address and sets its flag, where the identifier is its own.
 fn assign_one(records: &mut [u8], i: usize, u: Udid, a: Address)
-    requires { ⌜ i * 18 + 18 ≤ length (now records) ⌝ }
+    requires { ⌜ i * recordSize + recordSize ≤ length (now records) ⌝ }
     ensures { λ r. ⌜ now (records .exit) ≡ putTarget i (assignedTo u (a .0) (targetAt (now (records .entry)) i)) (now (records .entry)) ⌝ }
 {
-    if u.stands_at(&records[..], i * 18) {
+    if u.stands_at(&records[..], i * RECORD) {
         let w = a.for_read();
-        records[i * 18 + 16] = w.0;
-        records[i * 18 + 17] = 1;
+        records[i * RECORD + ADDRESS_AT] = w.0;
+        records[i * RECORD + FLAG_AT] = 1;
     }
 }
 
@@ -27,7 +30,7 @@ pub fn assign(records: &mut [u8], u: Udid, a: Address)
     if a.0 > 127 {
         return;
     }
-    let n = records.len() / 18;
+    let n = records.len() / RECORD;
     let mut i: usize = 0;
     while i < n {
         assign_one(&mut records[..], i, u, a);

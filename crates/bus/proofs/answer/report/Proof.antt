@@ -8,11 +8,7 @@ use Rattle.bus.proofs.answer.report.Lts as lts
 use Rattle.bus.proofs.answer.asked_by.Reads as asked-by-reads
 use Rattle.bus.proofs.answer.gets_sent.Reads as gets-sent-reads
 use Rattle.bus.proofs.answer.number_of.Reads as number-of-reads
-use Rattle.bus.proofs.bindings_of.bound_set.Reads as bound-set-reads
 use Rattle.pool.proofs.Pool.used.Reads as used-reads
-
-bound-set-requires : tie.Need-bound-set-requires
-bound-set-requires c κs = search needs
 
 number-of-requires : tie.Need-number-of-requires
 number-of-requires c κs = search needs
@@ -27,15 +23,9 @@ gets-sent-requires : tie.Need-gets-sent-requires
 gets-sent-requires c κs = search needs
 
 returns : tie.Need-returns
-returns c = λ j. record { answer = c .before .before .before .number-of .ensures j; place = 0; udid = c .before .before .asked-by .ensures j; bound = c .before .before .before .before .bound-set .ensures j; count = (c .before .used .ensures ∙ ap used (c .before .before .before .before .bound-set .ensures)) j; gets = c .gets-sent .ensures j }
+returns c = λ j. record { answer = c .before .before .before .number-of .ensures j; place = 0; udid = c .before .before .asked-by .ensures j; bound = c .before .before .before .before .pre j; count = (c .before .used .ensures ∙ ap used (c .before .before .before .before .pre)) j; gets = c .gets-sent .ensures j }
 
 pub report-spec : {M : Type 1} → statement M
 report-spec =
     tie.close
-    (tie.spec
-    bound-set-requires
-    number-of-requires
-    asked-by-requires
-    used-requires
-    gets-sent-requires
-    returns)
+    (tie.spec number-of-requires asked-by-requires used-requires gets-sent-requires returns)

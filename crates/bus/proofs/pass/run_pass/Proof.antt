@@ -5,10 +5,12 @@ use mathlib.Core.Bool.{Bool, true, false}
 use native.Mathlib.Omega.{arith}
 use borrow.Author.Needs.{needs}
 use lib.ListN.{length}
+use lib.Seq.{length-take-le}
 use denote.Ref.{now}
 use Rattle.arp.specs.Controller.{started}
 use Rattle.lists.specs.EachLaws.{all-bytes}
 use Rattle.bus.specs.Turn.{isSent, worldOf}
+use Rattle.bus.specs.TurnLaws.{sent-matches}
 use Rattle.bus.specs.Going.{Running}
 use Rattle.bus.specs.GoingLaws.{running-first, running-next, running-last, running-still}
 use Rattle.bus.proofs.pass.run_pass.Statement.{statement}
@@ -17,6 +19,7 @@ use Rattle.bus.proofs.pass.run_pass.Reads as reads
 use Rattle.bus.proofs.pass.run_pass.Lts as lts
 use Rattle.arp.proofs.state.Controller.new.Reads as new-reads
 use Rattle.arp.proofs.state.Controller.start.Reads as start-reads
+use Rattle.arp.proofs.state.Controller.step.Reads as step-reads
 use Rattle.bus.proofs.pass.is_sent.Reads as is-sent-reads
 use Rattle.bus.proofs.turn.send.Reads as send-reads
 
@@ -44,8 +47,20 @@ same-length c = c .before .before .before .loop .inv .1 .same-size
 returns : tie.Need-returns Inv-loop μ-loop
 returns c = let l = c .before .before .before .loop in running-still (c .before .before .before .before .before .before .before .args .occupied) (now (c .before .before .before .before .before .before .before .args .records)) (c .before .before .before .before .start .result) (c .before .before .before .before .start .ensures ∙ ap started (c .before .before .before .before .before .new .ensures)) (300 - l .i) (l .st) (l .records) (sym (c .before .is-sent .ensures) ∙ not-true _ (c .if1 .taken)) (l .inv .1)
 
+slice-aggregate-send : tie.Need-slice-aggregate-send Inv-loop μ-loop
+slice-aggregate-send c = search needs
+
 send-requires : tie.Need-send-requires Inv-loop μ-loop
-send-requires c κs = (c .before .before .before .before .loop .inv .1 .fit, c .before .before .before .before .loop .inv .1 .going)
+send-requires c κs = (c .before .before .before .before .before .loop .inv .1 .fit, c .before .before .before .before .before .loop .inv .1 .going .reaches, search needs)
+
+array-share-prefix-out : tie.Need-array-share-prefix-out Inv-loop μ-loop
+array-share-prefix-out c = search needs
+
+slice-aggregate-step : tie.Need-slice-aggregate-step Inv-loop μ-loop
+slice-aggregate-step c = sym (length-take-le _ _ (omega (arith, c .before .before .before .before .send .kept, c .before .before .before .before .send .ensures .0)))
+
+step-requires : tie.Need-step-requires Inv-loop μ-loop
+step-requires c κs = search needs
 
 add-i : tie.Need-add-i Inv-loop μ-loop
 add-i c = omega arith
@@ -54,9 +69,15 @@ loop-less : tie.Need-loop-less Inv-loop μ-loop
 loop-less c = omega arith
 
 loop-again : tie.Need-loop-again Inv-loop μ-loop
-loop-again c = let l = c .before .before .before .before .before .before .before .loop in
-    let e : 300 - l .i ≡ suc (300 - (l .i + 1)) = omega arith in
-    (omega arith, running-next _ (now (c .before .before .before .before .before .before .before .before .before .before .before .args .records)) (300 - (l .i + 1)) (l .st) _ (l .records) (c .before .before .send .last .1 .0) (rw e at (l .inv .1)) (all-bytes (c .before .before .send .last .1 .0) (λ j. omega (arith, c .slice-known2 .given j))) (sym (c .before .before .before .before .before .is-sent .ensures) ∙ not-false _ (c .before .before .before .before .if1 .left)) (c .before .before .send .ensures))
+loop-again c = let l = c .before .before .before .before .before .before .before .before .before .before .before .loop in
+    let after = c .before .before .before .before .before .send .last .1 .0 in
+    let e : 300 - l .i ≡ suc (300 - (l .i + 1)) = omega arith in (
+      omega arith,
+      running-next _ (now (c .before .before .before .before .before .before .before .before .before .before .before .before .before .before .before .args .records)) (300 - (l .i + 1)) (l .st) (c .step .result) (l .records) after (rw e at (l .inv .1))
+          (all-bytes after (λ j. omega (arith, c .before .before .before .slice-known2 .given j)))
+          (sym (c .before .before .before .before .before .before .before .before .before .is-sent .ensures) ∙ not-false _ (c .before .before .before .before .before .before .before .before .if1 .left))
+          (sent-matches (l .st) (c .step .result) (l .records) after _ (l .inv .1 .bytes) (l .inv .1 .fit) (l .inv .1 .going) (c .before .before .before .before .before .send .ensures .1) (c .step .ensures) (c .before .before .before .before .before .send .ensures .2)),
+    )
 
 same-length-2 : tie.Need-same-length-2 Inv-loop μ-loop
 same-length-2 c = c .before .loop .inv .1 .same-size
@@ -76,7 +97,11 @@ run-pass-spec =
     is-sent-requires
     same-length
     returns
+    slice-aggregate-send
     send-requires
+    array-share-prefix-out
+    slice-aggregate-step
+    step-requires
     add-i
     loop-less
     loop-again

@@ -3,7 +3,7 @@ use mathlib.Core.List.{_++_}
 use lib.ListN.{drop}
 use denote.Ref.{now}
 use Rattle.arp.specs.declared.state.Stepped.{Stepped}
-use Rattle.bindings.specs.Entries.{bufferOf}
+use Rattle.bindings.specs.Entries.{bufferSize, bufferOf}
 use Rattle.bus.specs.Run.{entryAt, reported}
 use borrow.Author.Needs.{needs}
 use Rattle.bus.proofs.run.run_admitted.Statement.{statement}
@@ -33,7 +33,7 @@ returns : tie.Need-returns
 returns c = record {
   answered = c .report .ensures ∙ ap reported (c .before .before .before .before .before .before .before .before .before .run-pass .ensures .controller);
   records-hold = c .before .before .before .before .before .before .before .before .before .run-pass .ensures .stored;
-  bindings-hold = c .before .before .before .put-bindings .ensures ∙ ap (λ (x : Stepped). bufferOf (entryAt (x .state .slots)) ++ drop 2048 (now (c .before .before .before .before .before .before .before .before .before .before .before .before .before .args .bindings))) (c .before .before .before .before .before .before .before .before .before .run-pass .ensures .controller);
+  bindings-hold = c .before .before .before .put-bindings .ensures .0 ∙ ap (λ (x : Stepped). bufferOf (entryAt (x .state .slots)) ++ drop bufferSize (now (c .before .before .before .before .before .before .before .before .before .before .before .before .before .args .bindings))) (c .before .before .before .before .before .before .before .before .before .run-pass .ensures .controller);
 }
 
 pub run-admitted-spec : {M : Type 1} → statement M
