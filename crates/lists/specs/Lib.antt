@@ -6,3 +6,5 @@ pub mod EachLaws
 pub mod Onto
 pub mod OntoLaws
 pub mod Passing
+pub mod All
+pub mod AllLaws
