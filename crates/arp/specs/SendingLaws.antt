@@ -16,13 +16,13 @@ use Rattle.lists.specs.Each.{Bytes}
 use Rattle.lists.specs.Onto.{onto}
 use Rattle.wire.specs.Pec.{pecOf}
 use Rattle.wire.specs.declared.address.Address.{Address}
-use Rattle.trace.specs.Shapes.{shapeOf}
+use Rattle.trace.specs.Shapes.{protocols, shapeOf}
 use Rattle.trace.specs.Trace.{Valid, Message, acked}
 use Rattle.trace.specs.DataFits.{DataFits, quick, send-byte, receive-byte, write-byte, write-word, read-byte, read-word, process-call, block-write, block-read, block-process-call}
 use Rattle.trace.specs.LengthLaws.{length-acked}
 use Rattle.encode.specs.Encode.{symbolsOf, Wrote, encodeNumber}
 use Rattle.encode.specs.EncodeLaws.{written-valid, one-outcome, answer-1, answer-2, refusal-untouched}
-use Rattle.encode.specs.Listed.{Listed, protocol-above-10, address-above-127, direction-above-1, quick-with-pec, lacking-command, lacking-direction, forbidden-length}
+use Rattle.encode.specs.Listed.{Listed, unknown-protocol, address-above-127, direction-above-1, quick-with-pec, lacking-command, lacking-direction, forbidden-length}
 use Rattle.encode.specs.declared.Encoded.{Encoded}
 use Rattle.encode.specs.declared.Encoded.the-variants.{Written}
 use Rattle.udid.specs.Bytes.{udidBytes}
@@ -39,7 +39,7 @@ use Rattle.arp.specs.declared.command.Command.the-variants.{Prepare, Get
 -- ---- each command that is sent
 
 module _ (k : Command) (reply before : List ℕ) (r : Encoded) (after : List ℕ) (w : Wrote (protocolOf k) true (messageOf k reply) before r after) (room : length (traceOf k reply) ≤ length before) where
-  written : protocolOf k ≤ 10 → (protocolOf k ≡ 0 → true ≡ false) → messageOf k reply .command < 256 → Valid (shapeOf (protocolOf k)) (messageOf k reply) → Sent k reply before r after
+  written : protocolOf k < protocols → (protocolOf k ≡ 0 → true ≡ false) → messageOf k reply .command < 256 → Valid (shapeOf (protocolOf k)) (messageOf k reply) → Sent k reply before r after
   written h z c v =
       let e : r ≡ Written (length (traceOf k reply))
       = w .answer ∙ written-valid (protocolOf k) true (messageOf k reply) (length before) (length (traceOf k reply)) c (v .sent-bytes) (v .received-bytes) .1 (h, z, v, refl, room) in
@@ -71,9 +71,9 @@ sending-is-unique k reply before r q after later w v = one-outcome (protocolFor 
 -- ---- number 1
 
 -- a message of a protocol with PEC is in no listed case of refusal 1 if its fields and its data fit
-unlisted : (protocol : ℕ) (t : Message) → 1 ≤ protocol → protocol ≤ 10 → t .address ≤ 127 → t .direction ≡ 0 → (protocol ≤ 2 → t .command ≡ 0)
+unlisted : (protocol : ℕ) (t : Message) → 1 ≤ protocol → protocol < protocols → t .address ≤ 127 → t .direction ≡ 0 → (protocol ≤ 2 → t .command ≡ 0)
     → DataFits protocol (length (t .sent)) (length (t .received)) → Listed protocol true t → ⊥
-unlisted protocol t l h a d c f (protocol-above-10 q) = omega arith
+unlisted protocol t l h a d c f (unknown-protocol q) = omega arith
 unlisted protocol t l h a d c f (address-above-127 q) = omega arith
 unlisted protocol t l h a d c f (direction-above-1 q) = omega arith
 unlisted protocol t l h a d c f (quick-with-pec q e) = omega arith
@@ -113,14 +113,14 @@ small-unlisted u a reply =
     (block-write refl (omega (arith, assign-data-has-17-bytes u (a .0))) refl)
 
 assign-listed : (u : Udid) (a : Address) (reply : List ℕ) → Listed (protocolFor (Assign u a)) true (messageOf (Assign u a) reply) ↔ (127 < a .0)
-assign-listed u a reply = (go (ltb 127 (a .0)) refl, λ h. protocol-above-10 (rw (lt-ltb 127 (a .0) h) (omega arith)))
+assign-listed u a reply = (go (ltb 127 (a .0)) refl, λ h. unknown-protocol (rw (lt-ltb 127 (a .0) h) (omega arith)))
   where
     go : (b : Bool) → ltb 127 (a .0) ≡ b → Listed (pick b 255 blockWrite) true (messageOf (Assign u a) reply) → 127 < a .0
     go true e l = ltb-true 127 (a .0) e
     go false e l = absurd (small-unlisted u a reply l)
 
 no-protocol : (t : Message) → Listed 255 true t
-no-protocol t = protocol-above-10 (omega arith)
+no-protocol t = unknown-protocol (omega arith)
 
 -- the listed cases of refusal 1 are these
 pub listed-exactly : (k : Command) (reply : List ℕ) → Listed (protocolFor k) true (messageOf k reply) ↔ Unsendable k reply

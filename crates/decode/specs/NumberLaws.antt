@@ -11,8 +11,8 @@ use lib.ListN.{length, take, drop, getD}
 use borrow.Author.Tests.{ltb-true, lt-ltb, le-ltb}
 use Rattle.lists.specs.Choice.{or}
 use Rattle.trace.specs.ForbiddenLaws.{forbidden-cases, taken-cases}
-use Rattle.trace.specs.ShapeLaws.{sane}
-use Rattle.trace.specs.Shapes.{shapeOf, forbidden}
+use Rattle.trace.specs.ShapeLaws.{sane, to-10-known, known-to-10}
+use Rattle.trace.specs.Shapes.{protocols, shapeOf, forbidden}
 use Rattle.trace.specs.Table.{TraceOf, send-byte}
 use Rattle.trace.specs.TableLaws.{listed-trace, trace-listed}
 use Rattle.trace.specs.Trace.{Message, trace, Valid}
@@ -69,16 +69,19 @@ module _ (protocol : ℕ) (pec : Bool) (tr sent₀ received₀ : List ℕ) (a : 
       let n = decode.number-2 protocol pec tr sent₀ received₀ a sent received o in
       let t = taken-cases protocol pec in
       let f = short-cases (length sent₀) (length received₀) in
-      (λ e. (t .0 (n .0 e .0) .0, t .0 (n .0 e .0) .1, f .0 (n .0 e .1)), λ h. n .1 (t .1 (h .0, h .1), f .1 (h .2)))
+      (λ e. (known-to-10 protocol (t .0 (n .0 e .0) .0), t .0 (n .0 e .0) .1, f .0 (n .0 e .1)), λ h. n .1 (t .1 (to-10-known protocol (h .0), h .1), f .1 (h .2)))
 
   entered : forbidden protocol pec ≡ false → short (length sent₀) (length received₀) ≡ false → Here
   entered f c =
       let t = taken-cases protocol pec .0 f in
       let l = long-cases (length sent₀) (length received₀) .0 c in
-      (t .0, t .1, l .0, l .1)
+      (known-to-10 protocol (t .0), t .1, l .0, l .1)
+
+  pub entered-known : Here → protocol < protocols
+  entered-known r = to-10-known protocol (r .0)
 
   pub entered-taken : Here → forbidden protocol pec ≡ false
-  entered-taken r = taken-cases protocol pec .1 (r .0, r .1)
+  entered-taken r = taken-cases protocol pec .1 (entered-known r, r .1)
 
   pub entered-long : Here → short (length sent₀) (length received₀) ≡ false
   entered-long r = long-cases (length sent₀) (length received₀) .1 (r .2, r .3)
@@ -96,14 +99,14 @@ module _ (protocol : ℕ) (pec : Bool) (tr sent₀ received₀ : List ℕ) (a : 
   pub decode-3 : (place : ℕ) → (decodeNumber a ≡ (3, place)) ↔ (Here × (Breaks protocol pec tr place × (259 < getD tr place 0)))
   decode-3 k =
       by-trace _ _ 3 k (λ e. omega (arith, e)) (λ e. omega (arith, e))
-      (λ h. let s = breaks-shaped protocol pec (h .0) (h .1) tr k in (λ b. (s .0 (b .0), b .1), λ b. (s .1 (b .0), b .1)))
+      (λ h. let s = breaks-shaped protocol pec (entered-known h) (h .1) tr k in (λ b. (s .0 (b .0), b .1), λ b. (s .1 (b .0), b .1)))
       (step.number-3 protocol shape (sane protocol) pec tr k)
 
   -- 4: the trace ends while it still fits
   pub decode-4 : (len : ℕ) → (decodeNumber a ≡ (4, len)) ↔ (Here × (Fits protocol pec tr × (Member protocol pec tr → ⊥) × (len ≡ length tr)))
   decode-4 n =
       by-trace _ _ 4 n (λ e. omega (arith, e)) (λ e. omega (arith, e))
-      (λ h. let s = fits-shaped protocol pec (h .0) (h .1) tr in let m = member-shaped protocol pec (h .0) (h .1) tr in (
+      (λ h. let s = fits-shaped protocol pec (entered-known h) (h .1) tr in let m = member-shaped protocol pec (entered-known h) (h .1) tr in (
         λ b. (s .0 (b .0), λ w. b .1 (m .1 w), b .2),
         λ b. (s .1 (b .0), λ w. b .1 (m .0 w), b .2),
       ))
@@ -114,7 +117,7 @@ module _ (protocol : ℕ) (pec : Bool) (tr sent₀ received₀ : List ℕ) (a : 
       ↔ (Here × (Breaks protocol pec tr place × (Member protocol pec (take place tr) → ⊥) × (getD tr place 0 ≤ 259)))
   decode-5 k =
       by-trace _ _ 5 k (λ e. omega (arith, e)) (λ e. omega (arith, e))
-      (λ h. let s = breaks-shaped protocol pec (h .0) (h .1) tr k in let m = member-shaped protocol pec (h .0) (h .1) (take k tr) in (
+      (λ h. let s = breaks-shaped protocol pec (entered-known h) (h .1) tr k in let m = member-shaped protocol pec (entered-known h) (h .1) (take k tr) in (
         λ b. (s .0 (b .0), λ w. b .1 (m .1 w), b .2),
         λ b. (s .1 (b .0), λ w. b .1 (m .0 w), b .2),
       ))
@@ -123,7 +126,7 @@ module _ (protocol : ℕ) (pec : Bool) (tr sent₀ received₀ : List ℕ) (a : 
   -- 6: the target gave NACK where ACK is due, then STOP, then the end
   pub decode-6 : (byte : ℕ) → (decodeNumber a ≡ (6, byte)) ↔ (Here × CutAt protocol pec tr byte)
   decode-6 b =
-      by-trace _ _ 6 b (λ e. omega (arith, e)) (λ e. omega (arith, e)) (λ h. cut-shaped protocol pec (h .0) (h .1) tr b)
+      by-trace _ _ 6 b (λ e. omega (arith, e)) (λ e. omega (arith, e)) (λ h. cut-shaped protocol pec (entered-known h) (h .1) tr b)
       (step.number-6 protocol shape (sane protocol) pec tr b)
 
   -- and which byte that is, by the length of the trace alone: two places a byte, one for START, one for a repeated START, NACK and STOP
@@ -135,20 +138,20 @@ module _ (protocol : ℕ) (pec : Bool) (tr sent₀ received₀ : List ℕ) (a : 
   -- 7: the whole trace fits, to its end, but the PEC differs
   pub decode-7 : (place : ℕ) → (decodeNumber a ≡ (7, place)) ↔ (Here × OtherPec protocol pec tr place)
   decode-7 k =
-      by-trace _ _ 7 k (λ e. omega (arith, e)) (λ e. omega (arith, e)) (λ h. other-pec-shaped protocol pec (h .0) (h .1) tr k)
+      by-trace _ _ 7 k (λ e. omega (arith, e)) (λ e. omega (arith, e)) (λ h. other-pec-shaped protocol pec (entered-known h) (h .1) tr k)
       (step.number-7 protocol shape (sane protocol) pec tr k)
 
   -- and that place is where the PEC stands
   pub decode-7-place : Here → (place : ℕ) (q : OtherPec protocol pec tr place) → getD tr place 0 ≡ q .1 .0
   decode-7-place h k q =
-      step.pec-there protocol shape (sane protocol) pec tr k (other-pec-shaped protocol pec (h .0) (h .1) tr k .0 q) ∙ other-pec-byte protocol pec (h .0) (h .1) tr k q
+      step.pec-there protocol shape (sane protocol) pec tr k (other-pec-shaped protocol pec (entered-known h) (h .1) tr k .0 q) ∙ other-pec-byte protocol pec (entered-known h) (h .1) tr k q
 
   -- 8: symbols after STOP
   pub decode-8 : (place : ℕ) → (decodeNumber a ≡ (8, place))
       ↔ (Here × ((place < length tr) × Member protocol pec (take place tr) × (getD tr place 0 ≤ 259)))
   decode-8 k =
       by-trace _ _ 8 k (λ e. omega (arith, e)) (λ e. omega (arith, e))
-      (λ h. let m = member-shaped protocol pec (h .0) (h .1) (take k tr) in (λ b. (b .0, m .0 (b .1), b .2), λ b. (b .0, m .1 (b .1), b .2)))
+      (λ h. let m = member-shaped protocol pec (entered-known h) (h .1) (take k tr) in (λ b. (b .0, m .0 (b .1), b .2), λ b. (b .0, m .1 (b .1), b .2)))
       (step.number-8 protocol shape (sane protocol) pec tr k)
 
   -- 0: the trace is that of a message in the table
@@ -157,7 +160,7 @@ module _ (protocol : ℕ) (pec : Bool) (tr sent₀ received₀ : List ℕ) (a : 
       by-trace _ ((m : Message) × Valid shape m × (tr ≡ trace shape pec m)) 0 0 (λ e. omega (arith, e)) (λ e. omega (arith, e))
       (λ h. (
         λ b. (b .0, listed-trace protocol pec (b .0) tr (b .1) .1, listed-trace protocol pec (b .0) tr (b .1) .2),
-        λ b. (b .0, trace-listed protocol pec (b .0) tr (h .0) (h .1) (b .1) (b .2)),
+        λ b. (b .0, trace-listed protocol pec (b .0) tr (entered-known h) (h .1) (b .1) (b .2)),
       ))
       (step.number-0 protocol shape (sane protocol) pec tr)
 

@@ -6,15 +6,15 @@ use mathlib.Core.Bool.{Bool, true, false}
 use mathlib.Core.List.{List, _++_}
 use Prim.Native.Nat.{ℕ, _≤_, _<_}
 use native.Mathlib.Omega.{arith}
-use lib.Dec.{ltb}
+use lib.Dec.{ltb, leb}
 use lib.ListN.{length, take, drop, take-append-drop}
 use lib.Seq.{take-at, drop-at}
-use borrow.Author.Tests.{ltb-true, ltb-false, lt-ltb, le-ltb}
+use borrow.Author.Tests.{ltb-true, ltb-false, leb-true, leb-false, lt-ltb, le-ltb}
 use Rattle.lists.specs.Choice.{pick, or, not}
 use Rattle.lists.specs.ChoiceLaws.{false-not-true, not-both}
 use Rattle.lists.specs.Each.{Bytes}
 use Rattle.lists.specs.Onto.{onto}
-use Rattle.trace.specs.Shapes.{shapeOf, forbidden}
+use Rattle.trace.specs.Shapes.{protocols, shapeOf, forbidden}
 use Rattle.trace.specs.ForbiddenLaws.{taken-cases}
 use Rattle.trace.specs.Trace.{Message, trace, Valid}
 use Rattle.trace.specs.Allowed.{allowed}
@@ -22,7 +22,7 @@ use Rattle.trace.specs.ValidLaws.{allowed-valid, valid-allowed}
 use Rattle.encode.specs.declared.Encoded.{Encoded}
 use Rattle.encode.specs.declared.Encoded.the-variants.{Written, Forbidden, OutputTooShort}
 use Rattle.encode.specs.Encode.{encodeNumber, message, refused, encoded, symbolsOf, Wrote, Means}
-use Rattle.encode.specs.Listed.{Listed, protocol-above-10, quick-with-pec}
+use Rattle.encode.specs.Listed.{Listed, unknown-protocol, quick-with-pec}
 use Rattle.encode.specs.ListedLaws.{refused-listed, listed-refused}
 
 -- ---- what a caller gives: each part is the field of its name
@@ -101,23 +101,23 @@ tests-passed : (protocol : ℕ) (pec : Bool) (t : Message) → forbidden protoco
 unfolding refused
 tests-passed protocol pec t e f = rw (e, f)
 
--- a message of bytes is in no listed case exactly if the protocol is one of the eleven, Quick goes without PEC, and it is valid for the protocol's shape
+-- a message of bytes is in no listed case exactly if the protocol is one of the table, Quick goes without PEC, and it is valid for the protocol's shape
 pub unlisted-valid : (protocol : ℕ) (pec : Bool) (t : Message) → t .command < 256 → Bytes (t .sent) → Bytes (t .received)
-    → (Listed protocol pec t → ⊥) ↔ ((protocol ≤ 10) × (protocol ≡ 0 → pec ≡ false) × Valid (shapeOf protocol) t)
+    → (Listed protocol pec t → ⊥) ↔ ((protocol < protocols) × (protocol ≡ 0 → pec ≡ false) × Valid (shapeOf protocol) t)
 unlisted-valid protocol pec t c s r = (there, back)
   where
-    there : (Listed protocol pec t → ⊥) → (protocol ≤ 10) × (protocol ≡ 0 → pec ≡ false) × Valid (shapeOf protocol) t
-    there n = (go (ltb 10 protocol) refl, λ z. free z pec refl, allowed-valid (shapeOf protocol) t c s r (tests-pass protocol pec t (unlisted-not-refused protocol pec t n) .1))
+    there : (Listed protocol pec t → ⊥) → (protocol < protocols) × (protocol ≡ 0 → pec ≡ false) × Valid (shapeOf protocol) t
+    there n = (go (leb protocols protocol) refl, λ z. free z pec refl, allowed-valid (shapeOf protocol) t c s r (tests-pass protocol pec t (unlisted-not-refused protocol pec t n) .1))
       where
-        go : (b : Bool) → ltb 10 protocol ≡ b → protocol ≤ 10
-        go true e = absurd (n (protocol-above-10 (ltb-true 10 protocol e)))
-        go false e = ltb-false 10 protocol e
+        go : (b : Bool) → leb protocols protocol ≡ b → protocol < protocols
+        go true e = absurd (n (unknown-protocol (leb-true protocols protocol e)))
+        go false e = leb-false protocols protocol e
 
         free : protocol ≡ 0 → (p : Bool) → pec ≡ p → pec ≡ false
         free z true e = absurd (n (quick-with-pec z e))
         free z false e = e
 
-    back : (protocol ≤ 10) × (protocol ≡ 0 → pec ≡ false) × Valid (shapeOf protocol) t → Listed protocol pec t → ⊥
+    back : (protocol < protocols) × (protocol ≡ 0 → pec ≡ false) × Valid (shapeOf protocol) t → Listed protocol pec t → ⊥
     back (h, q, v) l =
         not-both (tests-passed protocol pec t (taken-cases protocol pec .1 (h, q)) (valid-allowed (shapeOf protocol) t v))
         (listed-refused protocol pec t l)
@@ -125,7 +125,7 @@ unlisted-valid protocol pec t c s r = (there, back)
 -- the encoder writes exactly these, where there is room
 pub written-valid : (protocol : ℕ) (pec : Bool) (t : Message) (room n : ℕ) → t .command < 256 → Bytes (t .sent) → Bytes (t .received)
     → (encoded protocol pec t room ≡ Written n)
-    ↔ ((protocol ≤ 10) × (protocol ≡ 0 → pec ≡ false) × Valid (shapeOf protocol) t × (n ≡ length (trace (shapeOf protocol) pec t)) × (n ≤ room))
+    ↔ ((protocol < protocols) × (protocol ≡ 0 → pec ≡ false) × Valid (shapeOf protocol) t × (n ≡ length (trace (shapeOf protocol) pec t)) × (n ≤ room))
 written-valid protocol pec t room n c s r = (
   λ e. let w = written-exactly protocol pec t room n .0 e in let v = unlisted-valid protocol pec t c s r .0 (w .0) in (v .0, v .1, v .2, w .1, w .2),
   λ h. written-exactly protocol pec t room n .1 (unlisted-valid protocol pec t c s r .1 (h .0, h .1, h .2), h .3, h .4),

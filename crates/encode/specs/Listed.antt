@@ -4,11 +4,12 @@ use mathlib.Core.Bool.{Bool, true}
 use Prim.Native.Nat.{ℕ, _≤_, _<_}
 use lib.ListN.{length}
 use Rattle.trace.specs.DataFits.{DataFits}
+use Rattle.trace.specs.Shapes.{protocols}
 use Rattle.trace.specs.Trace.{Message}
 
--- the cases of refusal 1. A command is lacking in Quick, Send Byte and Receive Byte; a direction in all but Quick
+-- the cases of refusal 1. A protocol is unknown where the table has no row of that number; a command is lacking in Quick, Send Byte and Receive Byte; a direction in all but Quick
 pub data Listed (protocol : ℕ) (pec : Bool) (t : Message) : Type 0 where
-  protocol-above-10 : 10 < protocol → Listed protocol pec t
+  unknown-protocol : protocols ≤ protocol → Listed protocol pec t
   address-above-127 : 127 < t .address → Listed protocol pec t
   direction-above-1 : 1 < t .direction → Listed protocol pec t
   quick-with-pec : protocol ≡ 0 → pec ≡ true → Listed protocol pec t

@@ -6,17 +6,17 @@ use Prim.Native.Nat.{ℕ, _≤_, _<_}
 use native.Mathlib.Omega.{arith}
 use lib.Dec.{ltb, leb, eqb}
 use lib.ListN.{length}
-use borrow.Author.Tests.{ltb-true, ltb-false, leb-false, eqb-true, eqb-false, lt-ltb, le-ltb, lt-leb, ne-eqb}
+use borrow.Author.Tests.{ltb-false, leb-true, leb-false, eqb-true, eqb-false, le-ltb, le-leb, lt-leb, ne-eqb}
 use Rattle.lists.specs.Choice.{pick, or, and, not}
 use Rattle.trace.specs.declared.shape.Shape.{Shape}
-use Rattle.trace.specs.Shapes.{shapeOf, forbidden, writes, reads}
+use Rattle.trace.specs.Shapes.{protocols, shapeOf, forbidden, writes, reads}
 use Rattle.trace.specs.FieldLaws.{address-of-row, command-of-row, direction-of-row}
 use Rattle.trace.specs.ForbiddenLaws.{forbidden-is}
 use Rattle.trace.specs.DataFitsLaws.{listed-lengths-fit, fitting-lengths-listed}
 use Rattle.trace.specs.Trace.{Message}
 use Rattle.trace.specs.Allowed.{lengthsFit, addressFits, directionFits, commandFits, allowed}
 use Rattle.encode.specs.Encode.{refused}
-use Rattle.encode.specs.Listed.{Listed, protocol-above-10, address-above-127, direction-above-1, quick-with-pec, lacking-command, lacking-direction, forbidden-length}
+use Rattle.encode.specs.Listed.{Listed, unknown-protocol, address-above-127, direction-above-1, quick-with-pec, lacking-command, lacking-direction, forbidden-length}
 
 -- ---- the tests one by one
 
@@ -52,26 +52,26 @@ module _ (protocol : ℕ) (pec : Bool) (t : Message) where
       ∙ ap (λ (x : Bool). or b (not (and a (and d (and x (lengthsFit sh (length (t .sent)) (length (t .received)))))))) ec
       ∙ ap (λ (x : Bool). or b (not (and a (and d (and c x))))) el
 
-  above-refused : 10 < protocol → refused protocol pec t ≡ true
-  above-refused h = refused-by true _ _ _ _ (rw (lt-ltb 10 protocol h)) refl refl refl refl
+  above-refused : protocols ≤ protocol → refused protocol pec t ≡ true
+  above-refused h = refused-by true _ _ _ _ (rw (le-leb protocols protocol h)) refl refl refl refl
 
-  -- or the protocol is above 10
-  below-or-refused : (protocol ≤ 10 → refused protocol pec t ≡ true) → refused protocol pec t ≡ true
-  below-or-refused f = go (ltb 10 protocol) refl
+  -- or the protocol is unknown
+  below-or-refused : (protocol < protocols → refused protocol pec t ≡ true) → refused protocol pec t ≡ true
+  below-or-refused f = go (leb protocols protocol) refl
     where
-      go : (b : Bool) → ltb 10 protocol ≡ b → refused protocol pec t ≡ true
-      go true e = above-refused (ltb-true 10 protocol e)
-      go false e = f (ltb-false 10 protocol e)
+      go : (b : Bool) → leb protocols protocol ≡ b → refused protocol pec t ≡ true
+      go true e = above-refused (leb-true protocols protocol e)
+      go false e = f (leb-false protocols protocol e)
 
-  below-or-listed : (protocol ≤ 10 → Listed protocol pec t) → Listed protocol pec t
-  below-or-listed f = go (ltb 10 protocol) refl
+  below-or-listed : (protocol < protocols → Listed protocol pec t) → Listed protocol pec t
+  below-or-listed f = go (leb protocols protocol) refl
     where
-      go : (b : Bool) → ltb 10 protocol ≡ b → Listed protocol pec t
-      go true e = protocol-above-10 (ltb-true 10 protocol e)
-      go false e = f (ltb-false 10 protocol e)
+      go : (b : Bool) → leb protocols protocol ≡ b → Listed protocol pec t
+      go true e = unknown-protocol (leb-true protocols protocol e)
+      go false e = f (leb-false protocols protocol e)
 
   pub listed-refused : Listed protocol pec t → refused protocol pec t ≡ true
-  listed-refused (protocol-above-10 h) = above-refused h
+  listed-refused (unknown-protocol h) = above-refused h
   listed-refused (address-above-127 h) = refused-by _ false _ _ _ refl (address-of-row protocol (t .address) ∙ le-ltb (t .address) 128 h) refl refl refl ∙ fail-1 (forbidden protocol pec)
   listed-refused (direction-above-1 h) = refused-by _ _ false _ _ refl refl (go (or (writes sh) (reads sh))) refl refl ∙ fail-2 (forbidden protocol pec) (addressFits sh (t .address))
     where
@@ -84,13 +84,13 @@ module _ (protocol : ℕ) (pec : Bool) (t : Message) where
       refused-by _ _ _ false _ refl refl refl e refl ∙ fail-3 (forbidden protocol pec) (addressFits sh (t .address)) (directionFits sh (t .direction))
   listed-refused (lacking-direction q z) = below-or-refused go
     where
-      go : protocol ≤ 10 → refused protocol pec t ≡ true
+      go : protocol < protocols → refused protocol pec t ≡ true
       go h =
           let e : directionFits sh (t .direction) ≡ false = direction-of-row protocol (t .direction) h ∙ rw (ne-eqb protocol 0 q) (ne-eqb (t .direction) 0 z) in
           refused-by _ _ false _ _ refl refl e refl refl ∙ fail-2 (forbidden protocol pec) (addressFits sh (t .address))
   listed-refused (forbidden-length z) = below-or-refused (λ h. go h (lengthsFit sh (length (t .sent)) (length (t .received))) refl)
     where
-      go : protocol ≤ 10 → (l : Bool) → lengthsFit sh (length (t .sent)) (length (t .received)) ≡ l → refused protocol pec t ≡ true
+      go : protocol < protocols → (l : Bool) → lengthsFit sh (length (t .sent)) (length (t .received)) ≡ l → refused protocol pec t ≡ true
       go h true e = absurd (z (fitting-lengths-listed protocol h (length (t .sent)) (length (t .received)) e))
       go h false e =
           refused-by _ _ _ _ false refl refl refl refl e ∙ fail-4 (forbidden protocol pec) (addressFits sh (t .address)) (directionFits sh (t .direction)) (commandFits sh (t .command))

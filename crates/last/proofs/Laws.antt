@@ -4,31 +4,31 @@ use mathlib.Core.Bool.{Bool, true, false}
 use mathlib.Core.List.{List}
 use Prim.Native.Nat.{ℕ, _≤_}
 use lib.ListN.{length, take}
-use lib.Dec.{leb}
+use lib.Dec.{ltb, leb}
 use borrow.Author.Tests.{leb-true}
 use Rattle.lists.specs.Choice.{pick, and}
 use Rattle.lists.specs.ChoiceLaws.{both-true}
 use Rattle.trace.specs.declared.shape.Shape.{Shape}
 use Rattle.trace.specs.declared.transaction.Transaction.{Transaction}
-use Rattle.trace.specs.Shapes.{reads, shapeOf}
+use Rattle.trace.specs.Shapes.{protocols, reads, shapeOf}
 use Rattle.trace.specs.Allowed.{lengthsFit}
 use Rattle.last.specs.declared.Chosen.{Chosen}
 use Rattle.last.specs.Last.{belongs, part, chosen}
 
 pub belongs-is : (t : Transaction) (s r : ℕ) (sh : Shape) (a b c : Bool) → sh ≡ shapeOf (t .protocol)
-    → leb (t .protocol) 10 ≡ a → lengthsFit sh (t .sent) (t .received) ≡ b → leb (t .sent) s ≡ c
+    → ltb (t .protocol) protocols ≡ a → lengthsFit sh (t .sent) (t .received) ≡ b → leb (t .sent) s ≡ c
     → and a (and b (and c (leb (t .received) r))) ≡ belongs t s r
 unfolding belongs
 belongs-is t s r sh a b c e ea eb ec =
     ap (λ (x : Bool). and x (and b (and c (leb (t .received) r)))) (sym ea)
-    ∙ ap (λ (x : Bool). and (leb (t .protocol) 10) (and x (and c (leb (t .received) r)))) (sym eb)
-    ∙ ap (λ (x : Bool). and (leb (t .protocol) 10) (and (lengthsFit sh (t .sent) (t .received)) (and x (leb (t .received) r)))) (sym ec)
-    ∙ ap (λ (u : Shape). and (leb (t .protocol) 10) (and (lengthsFit u (t .sent) (t .received)) (and (leb (t .sent) s) (leb (t .received) r)))) e
+    ∙ ap (λ (x : Bool). and (ltb (t .protocol) protocols) (and x (and c (leb (t .received) r)))) (sym eb)
+    ∙ ap (λ (x : Bool). and (ltb (t .protocol) protocols) (and (lengthsFit sh (t .sent) (t .received)) (and x (leb (t .received) r)))) (sym ec)
+    ∙ ap (λ (u : Shape). and (ltb (t .protocol) protocols) (and (lengthsFit u (t .sent) (t .received)) (and (leb (t .sent) s) (leb (t .received) r)))) e
 
 pub belongs-in-buffers : (t : Transaction) (s r : ℕ) → belongs t s r ≡ true → (t .sent ≤ s) × (t .received ≤ r)
 unfolding belongs
 belongs-in-buffers t s r h =
-    let a = both-true (leb (t .protocol) 10) _ h in
+    let a = both-true (ltb (t .protocol) protocols) _ h in
     let b = both-true (lengthsFit (shapeOf (t .protocol)) (t .sent) (t .received)) _ (a .1) in
     let c = both-true (leb (t .sent) s) _ (b .1) in
     (leb-true (t .sent) s (c .0), leb-true (t .received) r (c .1))

@@ -2,12 +2,12 @@
 use mathlib.Core.Path.{_≡_}
 use mathlib.Core.Bool.{Bool, true, false}
 use mathlib.Core.List.{List}
-use Prim.Native.Nat.{ℕ, _≤_}
+use Prim.Native.Nat.{ℕ, _≤_, _<_}
 use lib.ListN.{length, take}
-use lib.Dec.{leb}
+use lib.Dec.{ltb, leb}
 use Rattle.lists.specs.Choice.{pick, and}
 use Rattle.trace.specs.declared.transaction.Transaction.{Transaction}
-use Rattle.trace.specs.Shapes.{reads, shapeOf}
+use Rattle.trace.specs.Shapes.{protocols, reads, shapeOf}
 use Rattle.trace.specs.Allowed.{lengthsFit}
 use Rattle.trace.specs.DataFits.{DataFits}
 use Rattle.last.specs.declared.Chosen.{Chosen}
@@ -15,7 +15,7 @@ use Rattle.last.specs.declared.Chosen.{Chosen}
 -- the protocol is known, both lengths belong to it, and buffers of s and r bytes have them
 unfoldable pub belongs : Transaction → ℕ → ℕ → Bool
 belongs t s r =
-    and (leb (t .protocol) 10) (and (lengthsFit (shapeOf (t .protocol)) (t .sent) (t .received)) (and (leb (t .sent) s) (leb (t .received) r)))
+    and (ltb (t .protocol) protocols) (and (lengthsFit (shapeOf (t .protocol)) (t .sent) (t .received)) (and (leb (t .sent) s) (leb (t .received) r)))
 
 abbrev pub part : Bool → ℕ → Chosen
 part b n = record { received = b; len = n }
@@ -39,7 +39,7 @@ receives protocol = reads (shapeOf protocol)
 
 -- a known protocol whose two lengths belong to it and are in their buffers
 pub record Whole (t : Transaction) (s r : ℕ) : Type 0 where
-  pub known : t .protocol ≤ 10
+  pub known : t .protocol < protocols
   pub lengths : DataFits (t .protocol) (t .sent) (t .received)
   pub sent : t .sent ≤ s
   pub received : t .received ≤ r

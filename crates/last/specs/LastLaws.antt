@@ -1,21 +1,21 @@
 -- What is handed back, case by case as the scope lists them: data received, data sent, or the empty part. The contract leaves one part.
 use mathlib.Core.Path.{_≡_, refl, sym, _∙_}
 use mathlib.Core.Bool.{Bool, true, false}
-use mathlib.Core.List.{List, [], _∷_}
+use mathlib.Core.List.{List, [], _∷_, map}
 use mathlib.Core.Logic.{_↔_}
 use Prim.Native.Nat.{ℕ}
 use lib.ListN.{length, take}
-use lib.Dec.{leb}
-use borrow.Author.Tests.{leb-true, le-leb}
+use lib.Dec.{ltb, leb}
+use borrow.Author.Tests.{ltb-true, leb-true, lt-ltb, le-leb}
 use Rattle.lists.specs.ChoiceLaws.{both-true}
 use Rattle.trace.specs.declared.transaction.Transaction.{Transaction}
-use Rattle.trace.specs.Shapes.{reads, shapeOf}
+use Rattle.trace.specs.Shapes.{shapes, protocols, reads, shapeOf}
 use Rattle.trace.specs.Allowed.{lengthsFit}
 use Rattle.trace.specs.DataFitsLaws.{listed-lengths-fit, fitting-lengths-listed}
 use Rattle.last.specs.Last.{belongs, chosen, lastData, lastPlace, receives, Whole, Gives}
 
 -- received for 2, 5, 6, 7, 9 and 10; sent for 1, 3, 4 and 8, and for Quick, which has nothing to send
-pub received-or-sent : receives 0 ∷ receives 1 ∷ receives 2 ∷ receives 3 ∷ receives 4 ∷ receives 5 ∷ receives 6 ∷ receives 7 ∷ receives 8 ∷ receives 9 ∷ receives 10 ∷ []
+pub received-or-sent : map reads shapes
     ≡ false ∷ false ∷ true ∷ false ∷ false ∷ true ∷ true ∷ true ∷ false ∷ true ∷ true ∷ []
 received-or-sent = refl
 
@@ -24,12 +24,12 @@ pub belongs-exactly : (t : Transaction) (s r : ℕ) → (belongs t s r ≡ true)
 unfolding belongs
 belongs-exactly t s r = (
   λ h. (
-      let a = both-true (leb (t .protocol) 10) _ h in
+      let a = both-true (ltb (t .protocol) protocols) _ h in
       let b = both-true (lengthsFit (shapeOf (t .protocol)) (t .sent) (t .received)) _ (a .1) in
       let c = both-true (leb (t .sent) s) _ (b .1) in
-      record { known = leb-true (t .protocol) 10 (a .0); lengths = fitting-lengths-listed (t .protocol) (leb-true (t .protocol) 10 (a .0)) (t .sent) (t .received) (b .0); sent = leb-true (t .sent) s (c .0); received = leb-true (t .received) r (c .1) }
+      record { known = ltb-true (t .protocol) protocols (a .0); lengths = fitting-lengths-listed (t .protocol) (ltb-true (t .protocol) protocols (a .0)) (t .sent) (t .received) (b .0); sent = leb-true (t .sent) s (c .0); received = leb-true (t .received) r (c .1) }
       ),
-  λ w. rw (le-leb (t .protocol) 10 (w .known), listed-lengths-fit (t .protocol) (t .sent) (t .received) (w .lengths), le-leb (t .sent) s (w .sent), le-leb (t .received) r (w .received)),
+  λ w. rw (lt-ltb (t .protocol) protocols (w .known), listed-lengths-fit (t .protocol) (t .sent) (t .received) (w .lengths), le-leb (t .sent) s (w .sent), le-leb (t .received) r (w .received)),
 )
 
 module _ (t : Transaction) (s r : List ℕ) (p q : ℕ × ℕ) where

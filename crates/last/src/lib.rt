@@ -4,6 +4,7 @@ ghost use Prim.Native.Nat.{_≤_};
 ghost use lib.ListN.{length};
 ghost use Rattle.lists.specs.Choice.{pick};
 ghost use Rattle.last.specs.Last.{belongs, chosen, lastData, lastPlace};
+use trace::protocol::PROTOCOLS;
 use trace::protocol::shape_of;
 use trace::shape::has_read;
 use trace::transaction::Transaction;
@@ -21,7 +22,7 @@ fn is_whole(t: Transaction, sent: usize, received: usize) -> bool
 {
     let m = t.sent;
     let n = t.received;
-    if t.protocol > 10 {
+    if t.protocol >= PROTOCOLS {
         return false;
     }
     let sh = shape_of(t.protocol);

@@ -18,7 +18,12 @@ abbrev pub not : Bool → Bool
 not true = false
 not false = true
 
--- the four, case by case
+-- two answers are the same
+abbrev pub same : Bool → Bool → Bool
+same true b = b
+same false b = not b
+
+-- the choices, case by case
 pub record Choices : Type 1 where
   pub pick-first : {A : Type 0} (a b : A) → pick true a b ≡ a
   pub pick-second : {A : Type 0} (a b : A) → pick false a b ≡ b

@@ -1,9 +1,9 @@
--- The choices are what they are, case by case; both of two tests pass where their `and` does, and both fail where their `or` does; false
--- is not true.
+-- The choices are what they are, case by case; both of two tests pass where their `and` does, and both fail where their `or` does; they are
+-- the same where `same` says so; false is not true.
 use mathlib.Core.Path.{_≡_, refl, sym, _∙_}
 use mathlib.Core.Bool.{Bool, true, false}
 use Rattle.lists.specs.AbsurdLaws.{zero-is-one}
-use Rattle.lists.specs.Choice.{or, and, Choices}
+use Rattle.lists.specs.Choice.{or, and, same, Choices}
 
 pub choices : Choices
 choices =
@@ -21,6 +21,12 @@ choices =
 pub both-true : (a b : Bool) → and a b ≡ true → (a ≡ true) × (b ≡ true)
 both-true true b h = (refl, h)
 both-true false b h = (h, cc)
+
+pub same-true : (a b : Bool) → same a b ≡ true → a ≡ b
+same-true true true h = refl
+same-true true false h = sym h
+same-true false true h = h
+same-true false false h = refl
 
 -- anything follows if they are equal
 pub false-not-true : {A : Type 0} → false ≡ true → A

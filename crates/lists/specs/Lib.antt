@@ -9,3 +9,5 @@ pub mod LengthLaws
 pub mod Onto
 pub mod OntoLaws
 pub mod Passing
+pub mod All
+pub mod AllLaws

@@ -14,7 +14,7 @@ use Rattle.lists.specs.ChoiceLaws.{false-not-true}
 use Rattle.lists.specs.Each.{Bytes}
 use Rattle.wire.specs.Addresses.{isReserved}
 use Rattle.wire.specs.declared.address.Address.{Address}
-use Rattle.trace.specs.ShapeLaws.{sane}
+use Rattle.trace.specs.ShapeLaws.{sane, known-to-10}
 use Rattle.trace.specs.Shapes.{shapeOf}
 use Rattle.trace.specs.Table.{TraceOf}
 use Rattle.trace.specs.Rows.{message}
@@ -229,7 +229,7 @@ demand-2 protocol pec = record { there = there; back = back; one = one }
         let t = k .1 in
         let f : take n after ≡ x = ap (take n) (encode.encode-writes protocol pec m c s v before r after w (ap (λ (q : ℕ × ℕ). q .0) e) x t) ∙ take-at x (drop (length x) before) n (k .2) in
         decode.decode-hands-over protocol pec (take n after) sent₀ received₀ a sent received o
-        (listed-trace protocol pec m x t .0, λ z. quick-plain pec _ (t .0) (t .1) (t .2 ∙ z), hs, hr) m (subst (TraceOf protocol pec m) (sym f) t)
+        (known-to-10 protocol (listed-trace protocol pec m x t .0), λ z. quick-plain pec _ (t .0) (t .1) (t .2 ∙ z), hs, hr) m (subst (TraceOf protocol pec m) (sym f) t)
 
     back : (tr sent₀ received₀ : List ℕ) (a : Decoded) (sent received : List ℕ) → Outcome protocol pec tr sent₀ received₀ a sent received → decodeNumber a ≡ (0, 0)
         → (m : Message) × OfBytes m × (a ≡ Done (summary protocol m)) × ((before : List ℕ) (r : Encoded) (after : List ℕ) → length tr ≤ length before

@@ -12,7 +12,7 @@ use Rattle.lists.specs.Each.{Each, Bytes}
 use Rattle.wire.specs.Pec.{bitStep, pecStep, pecFrom}
 use Rattle.trace.specs.Allowed.{lengthsFit, allowed}
 use Rattle.trace.specs.Rows.{message}
-use Rattle.trace.specs.ShapeLaws.{by-row}
+use Rattle.trace.specs.declared.shape.Shape.{Shape}
 use Rattle.trace.specs.Shapes.{shapeOf}
 use Rattle.trace.specs.Table.{receive-byte, block-read}
 use Rattle.trace.specs.Trace.{Message}
@@ -194,19 +194,10 @@ comes-10 = record {
 
 -- ---- the codec's cases
 
--- every protocol, without PEC and with it
-abbrev Empty : ℕ → Type 0
-Empty protocol = (pec : Bool) → decodeNumber (decodedBy protocol (shapeOf protocol) pec []) ≡ (4, 0)
-
-either : (protocol : ℕ) → decodeNumber (decodedBy protocol (shapeOf protocol) false []) ≡ (4, 0) → decodeNumber (decodedBy protocol (shapeOf protocol) true []) ≡ (4, 0) → Empty protocol
-either protocol f t true = t
-either protocol f t false = f
-
-empty-trace : (protocol : ℕ) → protocol ≤ 10 → Empty protocol
+-- whatever the shape, without PEC and with it
+empty-trace : (protocol : ℕ) (sh : Shape) (pec : Bool) → decodeNumber (decodedBy protocol sh pec []) ≡ (4, 0)
 unfolding decodedBy run finish
-empty-trace =
-    by-row Empty (either 0 refl refl) (either 1 refl refl) (either 2 refl refl) (either 3 refl refl) (either 4 refl refl) (either 5 refl refl) (either 6 refl refl) (either 7 refl refl)
-    (either 8 refl refl) (either 9 refl refl) (either 10 refl refl)
+empty-trace protocol sh pec = refl
 
 abbrev block : ℕ → Message
 block n = message 0x10 0 7 (replicate 200 0) (replicate n 0)
@@ -242,7 +233,7 @@ marked b room = record {
   m7 = λ protocol pec sent₀ received₀ a sent received h o.
       ap decodeNumber
       (answer-by-trace protocol pec [] sent₀ received₀ a sent received o (entered-taken protocol pec [] sent₀ received₀ a sent received o h) (entered-long protocol pec [] sent₀ received₀ a sent received o h))
-      ∙ empty-trace protocol (h .0) pec;
+      ∙ empty-trace protocol (shapeOf protocol) pec;
   m8 = shows run8 comes-8 b room;
   m9 = shows run9 comes-9 b room;
   m10 = shows run10 comes-10 b room;

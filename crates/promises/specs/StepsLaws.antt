@@ -11,7 +11,7 @@ use lib.ListN.{length, getD}
 use Rattle.lists.specs.ChoiceLaws.{false-not-true}
 use Rattle.lists.specs.Each.{Bytes}
 use Rattle.wire.specs.declared.address.Address.{Address}
-use Rattle.trace.specs.Shapes.{forbidden}
+use Rattle.trace.specs.Shapes.{protocols, forbidden}
 use Rattle.step.specs.Fitting.{CutAt}
 use Rattle.step.specs.FittingLaws.{cut-shaped}
 use Rattle.pool.specs.Free.{lowestFree}
@@ -43,7 +43,7 @@ use Rattle.promises.specs.Demands.{Idle, NoReply, NobodyLeft, Steps, Ste
 -- ---- the words of the page and those of arp
 
 -- answer 6 for a trace is the trace cut at that byte
-six-is-cut : (protocol : ℕ) (tr : List ℕ) (b : ℕ) → forbidden protocol true ≡ false → protocol ≤ 10 → (protocol ≡ 0 → ⊥) → Gives protocol tr 6 b ↔ CutAt protocol true tr b
+six-is-cut : (protocol : ℕ) (tr : List ℕ) (b : ℕ) → forbidden protocol true ≡ false → protocol < protocols → (protocol ≡ 0 → ⊥) → Gives protocol tr 6 b ↔ CutAt protocol true tr b
 six-is-cut protocol tr b f k z =
     let e = six-exactly protocol tr b f in
     let c = cut-shaped protocol true k (λ q. absurd (z q)) tr b in

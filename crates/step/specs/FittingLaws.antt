@@ -9,8 +9,7 @@ use native.Mathlib.Omega.{arith}
 use lib.ListN.{length, take}
 use Rattle.lists.specs.Each.{Bytes}
 use Rattle.wire.specs.Pec as Pec
-use Rattle.trace.specs.CoveredLaws.{rows-cover}
-use Rattle.trace.specs.Shapes.{shapeOf}
+use Rattle.trace.specs.Shapes.{protocols, shapeOf}
 use Rattle.trace.specs.Table.{Line, line, InTable}
 use Rattle.trace.specs.TableLaws.{row-means, row-of}
 use Rattle.trace.specs.Trace.{Message, inPlace, pecOf, bytes, byTarget, byController, traceAt, Valid}
@@ -55,7 +54,7 @@ placed-byte : (pec : Bool) (y : ℕ) → Bytes (inPlace pec y) → placed pec y 
 placed-byte true y h = h .0
 placed-byte false y h = omega arith
 
-module _ (p : ℕ) (pec : Bool) (k : p ≤ 10) (z : p ≡ 0 → pec ≡ false) where
+module _ (p : ℕ) (pec : Bool) (k : p < protocols) (z : p ≡ 0 → pec ≡ false) where
   abbrev sh : Shape
   sh = shapeOf p
 
@@ -63,7 +62,7 @@ module _ (p : ℕ) (pec : Bool) (k : p ≤ 10) (z : p ≡ 0 → pec ≡ false) w
   lineOf t y = line p t (bytes sh t) (byTarget sh t (inPlace pec y)) (byController sh t (inPlace pec y))
 
   in-table : (t : Message) (y : ℕ) → Valid sh t → Bytes (inPlace pec y) → InTable p pec (placed pec y) (lineOf t (placed pec y))
-  in-table t y v h = (row-of p t (inPlace pec (placed pec y)) (λ e. rw (z e)) (rows-cover p k t v), refl, placed-byte pec y h)
+  in-table t y v h = (row-of p k t (inPlace pec (placed pec y)) (λ e. rw (z e)) v, refl, placed-byte pec y h)
 
   pub whole-shaped : (tr : List ℕ) → Whole p pec tr ↔ shaped.Whole sh pec tr
   whole-shaped tr = (there, back)

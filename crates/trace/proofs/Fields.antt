@@ -8,7 +8,7 @@ use borrow.Author.Tests.{lt-leb, le-leb, leb-true, leb-false}
 use Rattle.lists.specs.Choice.{pick, or, and, not}
 use Rattle.wire.specs.Addresses.{hostAddress}
 use Rattle.trace.specs.declared.shape.Shape.{Shape}
-use Rattle.trace.specs.Shapes.{shapeOf, forbidden, isCounted, writes, reads}
+use Rattle.trace.specs.Shapes.{protocols, shapeOf, forbidden, isCounted, writes, reads}
 use Rattle.trace.specs.Allowed.{addressFits, senderFits, commandFits, lengthsFit}
 use Rattle.trace.specs.Lengths.{traceLength, roomFor}
 
@@ -36,12 +36,12 @@ sum-is j k most h = go (leb (j + k) most) refl
     go false e = let l = leb-false (j + k) most e in lt-leb k (most - j) (omega arith)
 
 -- a PEC where none may be used
-pub forbidden-is : (protocol : ℕ) (pec : Bool) (sh : Shape) (b c : Bool) → sh ≡ shapeOf protocol → ltb 10 protocol ≡ b → pec ≡ c
+pub forbidden-is : (protocol : ℕ) (pec : Bool) (sh : Shape) (b c : Bool) → sh ≡ shapeOf protocol → leb protocols protocol ≡ b → pec ≡ c
     → or b (and c (not (sh .checked))) ≡ forbidden protocol pec
 forbidden-is protocol pec sh b c e f g =
     ap (λ (x : Bool). or x (and c (not (sh .checked)))) (sym f)
-    ∙ ap (λ (x : Bool). or (ltb 10 protocol) (and x (not (sh .checked)))) (sym g)
-    ∙ ap (λ (u : Shape). or (ltb 10 protocol) (and pec (not (u .checked)))) e
+    ∙ ap (λ (x : Bool). or (leb protocols protocol) (and x (not (sh .checked)))) (sym g)
+    ∙ ap (λ (u : Shape). or (leb protocols protocol) (and pec (not (u .checked)))) e
 
 -- the lengths that the code adds up
 pub read-length-is : (sh : Shape) (n k : ℕ) (x w : Bool) → reads sh ≡ true → writes sh ≡ w → x ≡ isCounted (sh .received) → k ≡ pick x 1 0

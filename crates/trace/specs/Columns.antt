@@ -6,6 +6,7 @@ use Prim.Native.Nat.{ℕ, _+_, _*_, _≤_}
 use lib.ListN.{length}
 use Rattle.lists.specs.Choice.{pick}
 use Rattle.trace.specs.declared.shape.Shape.{Shape}
+use Rattle.trace.specs.Protocols.{longestTrace}
 use Rattle.trace.specs.Shapes.{shapeOf}
 use Rattle.trace.specs.Trace.{Message, Valid, trace}
 use Rattle.trace.specs.Lengths.{roomFor}
@@ -28,9 +29,9 @@ pub record Columns : Type 0 where
   pub block-read : Has 9 (λ m n. 11 + 2 * n)
   pub block-process-call : Has 10 (λ m n. 13 + 2 * (m + n))
 
--- no trace of a shape is longer than 525 symbols
+-- no trace of a shape is longer than the longest
 abbrev pub AtMost : Shape → Type 0
-AtMost sh = (p : Bool) (t : Message) → Valid sh t → length (trace sh p t) ≤ 525
+AtMost sh = (p : Bool) (t : Message) → Valid sh t → length (trace sh p t) ≤ longestTrace
 
 -- the room: m bytes sent, n received, two symbols more with PEC
 pub record Room : Type 0 where

@@ -1,14 +1,14 @@
 -- The tests on lengths pass exactly for the lengths that are listed.
 use mathlib.Core.Path.{_≡_, refl, sym, subst}
 use mathlib.Core.Bool.{Bool, true, false}
-use Prim.Native.Nat.{ℕ, _+_, _≤_}
+use Prim.Native.Nat.{ℕ, _+_, _≤_, _<_}
 use native.Mathlib.Omega.{arith}
 use lib.Dec.{leb, eqb}
 use borrow.Author.Tests.{leb-true, eqb-true, le-leb, eq-eqb}
 use Rattle.lists.specs.ChoiceLaws.{both-true}
 use Rattle.trace.specs.declared.shape.Part.{Part}
 use Rattle.trace.specs.declared.shape.Part.the-variants.{Nothing, Fixed, Counted}
-use Rattle.trace.specs.Shapes.{row, shapeOf, countIn}
+use Rattle.trace.specs.Shapes.{row, protocols, shapeOf, countIn}
 use Rattle.trace.specs.ShapeLaws.{by-row}
 use Rattle.trace.specs.Allowed.{lengthFits, lengthsFit}
 use Rattle.trace.specs.DataFits.{DataFits, quick, send-byte, receive-byte, write-byte, write-word, read-byte, read-word, process-call, block-write, block-read, block-process-call}
@@ -50,17 +50,38 @@ listed-lengths-fit protocol m n d = go d
 abbrev Fitting : ℕ → Type 0
 Fitting p = (m n : ℕ) → lengthsFit (shapeOf p) m n ≡ true → DataFits p m n
 
-pub fitting-lengths-listed : (protocol : ℕ) → protocol ≤ 10 → (m n : ℕ) → lengthsFit (shapeOf protocol) m n ≡ true → DataFits protocol m n
-fitting-lengths-listed =
-    by-row Fitting
-    (λ m n h. let x = row-lengths false false Nothing Nothing m n h in quick refl (eqb-true m 0 (x .0)) (eqb-true n 0 (x .1)))
-    (λ m n h. let x = row-lengths true false (Fixed 1) Nothing m n h in send-byte refl (eqb-true m 1 (x .0)) (eqb-true n 0 (x .1)))
-    (λ m n h. let x = row-lengths true false Nothing (Fixed 1) m n h in receive-byte refl (eqb-true m 0 (x .0)) (eqb-true n 1 (x .1)))
-    (λ m n h. let x = row-lengths true true (Fixed 1) Nothing m n h in write-byte refl (eqb-true m 1 (x .0)) (eqb-true n 0 (x .1)))
-    (λ m n h. let x = row-lengths true true (Fixed 2) Nothing m n h in write-word refl (eqb-true m 2 (x .0)) (eqb-true n 0 (x .1)))
-    (λ m n h. let x = row-lengths true true Nothing (Fixed 1) m n h in read-byte refl (eqb-true m 0 (x .0)) (eqb-true n 1 (x .1)))
-    (λ m n h. let x = row-lengths true true Nothing (Fixed 2) m n h in read-word refl (eqb-true m 0 (x .0)) (eqb-true n 2 (x .1)))
-    (λ m n h. let x = row-lengths true true (Fixed 2) (Fixed 2) m n h in process-call refl (eqb-true m 2 (x .0)) (eqb-true n 2 (x .1)))
-    (λ m n h. let x = row-lengths true true Counted Nothing m n h in block-write refl (omega (arith, x .2)) (eqb-true n 0 (x .1)))
-    (λ m n h. let x = row-lengths true true Nothing Counted m n h in block-read refl (eqb-true m 0 (x .0)) (omega (arith, x .2)))
-    (λ m n h. let x = row-lengths true true Counted Counted m n h in block-process-call refl (x .2))
+fits-quick : Fitting 0
+fits-quick m n h = let x = row-lengths false false Nothing Nothing m n h in quick refl (eqb-true m 0 (x .0)) (eqb-true n 0 (x .1))
+
+fits-send-byte : Fitting 1
+fits-send-byte m n h = let x = row-lengths true false (Fixed 1) Nothing m n h in send-byte refl (eqb-true m 1 (x .0)) (eqb-true n 0 (x .1))
+
+fits-receive-byte : Fitting 2
+fits-receive-byte m n h = let x = row-lengths true false Nothing (Fixed 1) m n h in receive-byte refl (eqb-true m 0 (x .0)) (eqb-true n 1 (x .1))
+
+fits-write-byte : Fitting 3
+fits-write-byte m n h = let x = row-lengths true true (Fixed 1) Nothing m n h in write-byte refl (eqb-true m 1 (x .0)) (eqb-true n 0 (x .1))
+
+fits-write-word : Fitting 4
+fits-write-word m n h = let x = row-lengths true true (Fixed 2) Nothing m n h in write-word refl (eqb-true m 2 (x .0)) (eqb-true n 0 (x .1))
+
+fits-read-byte : Fitting 5
+fits-read-byte m n h = let x = row-lengths true true Nothing (Fixed 1) m n h in read-byte refl (eqb-true m 0 (x .0)) (eqb-true n 1 (x .1))
+
+fits-read-word : Fitting 6
+fits-read-word m n h = let x = row-lengths true true Nothing (Fixed 2) m n h in read-word refl (eqb-true m 0 (x .0)) (eqb-true n 2 (x .1))
+
+fits-process-call : Fitting 7
+fits-process-call m n h = let x = row-lengths true true (Fixed 2) (Fixed 2) m n h in process-call refl (eqb-true m 2 (x .0)) (eqb-true n 2 (x .1))
+
+fits-block-write : Fitting 8
+fits-block-write m n h = let x = row-lengths true true Counted Nothing m n h in block-write refl (omega (arith, x .2)) (eqb-true n 0 (x .1))
+
+fits-block-read : Fitting 9
+fits-block-read m n h = let x = row-lengths true true Nothing Counted m n h in block-read refl (eqb-true m 0 (x .0)) (omega (arith, x .2))
+
+fits-block-process-call : Fitting 10
+fits-block-process-call m n h = let x = row-lengths true true Counted Counted m n h in block-process-call refl (x .2)
+
+pub fitting-lengths-listed : (protocol : ℕ) → protocol < protocols → (m n : ℕ) → lengthsFit (shapeOf protocol) m n ≡ true → DataFits protocol m n
+fitting-lengths-listed = by-row Fitting (fits-quick, (fits-send-byte, (fits-receive-byte, (fits-write-byte, (fits-write-word, (fits-read-byte, (fits-read-word, (fits-process-call, (fits-block-write, (fits-block-read, (fits-block-process-call, tt)))))))))))

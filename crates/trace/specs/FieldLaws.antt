@@ -1,7 +1,7 @@
 -- What the tests on parts and on fields say: for each kind of part, for shapes in general, and for each row of the table.
 use mathlib.Core.Path.{_≡_, refl, ap, _∙_}
 use mathlib.Core.Bool.{Bool, true, false}
-use mathlib.Core.List.{List, [], _∷_}
+use mathlib.Core.List.{[], _∷_, map}
 use mathlib.Core.Logic.{_↔_}
 use Prim.Native.Nat.{ℕ, _+_, _%_, _≤_, _<_}
 use lib.Dec.{ltb, leb, eqb}
@@ -9,9 +9,8 @@ use lib.ListN.{List·getD-eq-default}
 use borrow.Author.Tests.{leb-true, le-leb}
 use Rattle.lists.specs.Choice.{pick, or, not}
 use Rattle.lists.specs.ChoiceLaws.{both-true}
-use Rattle.trace.specs.declared.shape.Part.the-variants.{Nothing}
 use Rattle.trace.specs.declared.shape.Shape.{Shape}
-use Rattle.trace.specs.Shapes.{some, countIn, writes, reads, row, shapes, shapeOf, each}
+use Rattle.trace.specs.Shapes.{some, countIn, writes, reads, shapes, protocols, noRow, shapeOf}
 use Rattle.trace.specs.Parts.{Parts}
 use Rattle.trace.specs.Allowed.{lengthFits, lengthsFit, addressFits, directionFits, senderFits, commandFits}
 use Rattle.trace.specs.ShapeLaws.{row-is, none-to-host}
@@ -89,26 +88,26 @@ module _ (sh : Shape) where
     λ h. rw (h .0, h .1) (le-leb (countIn (sh .sent) m + countIn (sh .received) n) (sh .most) (h .2)),
   )
 
--- ---- rows: which of the eleven protocols have a write phase, and which a read phase
+-- ---- rows: which protocols have a write phase, and which a read phase
 
-pub which-write : each (λ n. writes (shapeOf n)) ≡ false ∷ true ∷ false ∷ true ∷ true ∷ true ∷ true ∷ true ∷ true ∷ true ∷ true ∷ []
+pub which-write : map writes shapes ≡ false ∷ true ∷ false ∷ true ∷ true ∷ true ∷ true ∷ true ∷ true ∷ true ∷ true ∷ []
 which-write = refl
 
-pub which-read : each (λ n. reads (shapeOf n)) ≡ false ∷ false ∷ true ∷ false ∷ false ∷ true ∷ true ∷ true ∷ false ∷ true ∷ true ∷ []
+pub which-read : map reads shapes ≡ false ∷ false ∷ true ∷ false ∷ false ∷ true ∷ true ∷ true ∷ false ∷ true ∷ true ∷ []
 which-read = refl
 
--- a number above 10 has Quick's shape
-pub shape-above : (n : ℕ) → 10 < n → shapeOf n ≡ shapeOf 0
-shape-above n h = List·getD-eq-default shapes (row false false Nothing Nothing) h
+-- a number that is in no row has Quick's shape
+pub shape-above : (n : ℕ) → protocols ≤ n → shapeOf n ≡ shapeOf 0
+shape-above n h = List·getD-eq-default shapes noRow h
 
 -- every row goes to any address; a command is lacking in Quick, Send Byte and Receive Byte; a direction in all but Quick
 pub address-of-row : (n a : ℕ) → addressFits (shapeOf n) a ≡ ltb a 128
 address-of-row n a = to-any (shapeOf n) a (none-to-host n)
 
-pub command-of-row : (n c : ℕ) → n ≤ 10 → commandFits (shapeOf n) c ≡ pick (ltb 2 n) true (eqb c 0)
+pub command-of-row : (n c : ℕ) → n < protocols → commandFits (shapeOf n) c ≡ pick (ltb 2 n) true (eqb c 0)
 command-of-row n c h =
     ap (λ (x : Bool). pick (shapeOf n .command) x (eqb c 0)) (any-sender (shapeOf n) c (none-to-host n))
     ∙ ap (λ (b : Bool). pick b true (eqb c 0)) (row-is n h .1)
 
-pub direction-of-row : (n d : ℕ) → n ≤ 10 → directionFits (shapeOf n) d ≡ pick (not (eqb n 0)) (eqb d 0) (leb d 1)
+pub direction-of-row : (n d : ℕ) → n < protocols → directionFits (shapeOf n) d ≡ pick (not (eqb n 0)) (eqb d 0) (leb d 1)
 direction-of-row n d h = ap (λ (b : Bool). pick b (eqb d 0) (leb d 1)) (row-is n h .2)

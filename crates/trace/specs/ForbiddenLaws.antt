@@ -1,21 +1,21 @@
--- Refused are the protocols above 10 and Quick with PEC, and no others.
+-- Refused are the protocols that the table lacks and Quick with PEC, and no others.
 use mathlib.Core.Path.{_≡_, refl, sym, ap, _∙_}
 use mathlib.Core.Bool.{Bool, true, false}
 use mathlib.Core.Logic.{_⊎_, inl, inr, _↔_}
 use Prim.Native.Nat.{ℕ, _≤_, _<_}
-use lib.Dec.{ltb, eqb}
-use borrow.Author.Tests.{ltb-true, ltb-false, lt-ltb, le-ltb, eqb-true}
+use lib.Dec.{leb, eqb}
+use borrow.Author.Tests.{leb-true, leb-false, le-leb, lt-leb, eqb-true}
 use Rattle.lists.specs.Choice.{and, not}
 use Rattle.lists.specs.ChoiceLaws.{false-not-true}
-use Rattle.trace.specs.Shapes.{forbidden}
+use Rattle.trace.specs.Shapes.{protocols, forbidden}
 use Rattle.trace.specs.ShapeLaws.{row-is}
 
-pub forbidden-is : (protocol : ℕ) (pec : Bool) → protocol ≤ 10 → forbidden protocol pec ≡ and pec (not (not (eqb protocol 0)))
-forbidden-is protocol pec h = rw (le-ltb 10 protocol h) (ap (λ (b : Bool). and pec (not b)) (row-is protocol h .0))
+pub forbidden-is : (protocol : ℕ) (pec : Bool) → protocol < protocols → forbidden protocol pec ≡ and pec (not (not (eqb protocol 0)))
+forbidden-is protocol pec h = rw (lt-leb protocols protocol h) (ap (λ (b : Bool). and pec (not b)) (row-is protocol h .0))
 
--- refused: a protocol above 10, or Quick with PEC
-pub forbidden-cases : (protocol : ℕ) (pec : Bool) → (forbidden protocol pec ≡ true) ↔ ((10 < protocol) ⊎ ((protocol ≡ 0) × (pec ≡ true)))
-forbidden-cases protocol pec = (λ f. there (ltb 10 protocol) refl f, back)
+-- refused: a protocol that the table lacks, or Quick with PEC
+pub forbidden-cases : (protocol : ℕ) (pec : Bool) → (forbidden protocol pec ≡ true) ↔ ((protocols ≤ protocol) ⊎ ((protocol ≡ 0) × (pec ≡ true)))
+forbidden-cases protocol pec = (λ f. there (leb protocols protocol) refl f, back)
   where
     quick : (b p : Bool) → eqb protocol 0 ≡ b → pec ≡ p → and p (not (not b)) ≡ true → (protocol ≡ 0) × (pec ≡ true)
     quick true true e g h = (eqb-true protocol 0 e, g)
@@ -23,21 +23,21 @@ forbidden-cases protocol pec = (λ f. there (ltb 10 protocol) refl f, back)
     quick false true e g h = false-not-true h
     quick false false e g h = false-not-true h
 
-    there : (b : Bool) → ltb 10 protocol ≡ b → forbidden protocol pec ≡ true → (10 < protocol) ⊎ ((protocol ≡ 0) × (pec ≡ true))
-    there true e f = inl (ltb-true 10 protocol e)
-    there false e f = inr (quick (eqb protocol 0) pec refl refl (sym (forbidden-is protocol pec (ltb-false 10 protocol e)) ∙ f))
+    there : (b : Bool) → leb protocols protocol ≡ b → forbidden protocol pec ≡ true → (protocols ≤ protocol) ⊎ ((protocol ≡ 0) × (pec ≡ true))
+    there true e f = inl (leb-true protocols protocol e)
+    there false e f = inr (quick (eqb protocol 0) pec refl refl (sym (forbidden-is protocol pec (leb-false protocols protocol e)) ∙ f))
 
-    back : (10 < protocol) ⊎ ((protocol ≡ 0) × (pec ≡ true)) → forbidden protocol pec ≡ true
-    back (inl h) = rw (lt-ltb 10 protocol h)
+    back : (protocols ≤ protocol) ⊎ ((protocol ≡ 0) × (pec ≡ true)) → forbidden protocol pec ≡ true
+    back (inl h) = rw (le-leb protocols protocol h)
     back (inr (e, g)) = ap (λ (k : ℕ). forbidden k pec) e ∙ ap (forbidden 0) g
 
--- taken: one of the eleven protocols, Quick without PEC
-pub taken-cases : (protocol : ℕ) (pec : Bool) → (forbidden protocol pec ≡ false) ↔ ((protocol ≤ 10) × (protocol ≡ 0 → pec ≡ false))
-taken-cases protocol pec = (λ f. (small (ltb 10 protocol) refl f, λ z. free z pec refl f), λ h. back (h .0) (h .1))
+-- taken: a protocol of the table, Quick without PEC
+pub taken-cases : (protocol : ℕ) (pec : Bool) → (forbidden protocol pec ≡ false) ↔ ((protocol < protocols) × (protocol ≡ 0 → pec ≡ false))
+taken-cases protocol pec = (λ f. (small (leb protocols protocol) refl f, λ z. free z pec refl f), λ h. back (h .0) (h .1))
   where
-    small : (b : Bool) → ltb 10 protocol ≡ b → forbidden protocol pec ≡ false → protocol ≤ 10
-    small true e f = false-not-true (sym f ∙ forbidden-cases protocol pec .1 (inl (ltb-true 10 protocol e)))
-    small false e f = ltb-false 10 protocol e
+    small : (b : Bool) → leb protocols protocol ≡ b → forbidden protocol pec ≡ false → protocol < protocols
+    small true e f = false-not-true (sym f ∙ forbidden-cases protocol pec .1 (inl (leb-true protocols protocol e)))
+    small false e f = leb-false protocols protocol e
 
     free : protocol ≡ 0 → (p : Bool) → pec ≡ p → forbidden protocol pec ≡ false → pec ≡ false
     free z false e f = e
@@ -48,5 +48,5 @@ taken-cases protocol pec = (λ f. (small (ltb 10 protocol) refl f, λ z. free z 
     go false e true f q = refl
     go true e true f q = false-not-true (sym (q (eqb-true protocol 0 e)) ∙ f)
 
-    back : protocol ≤ 10 → (protocol ≡ 0 → pec ≡ false) → forbidden protocol pec ≡ false
+    back : protocol < protocols → (protocol ≡ 0 → pec ≡ false) → forbidden protocol pec ≡ false
     back h q = forbidden-is protocol pec h ∙ go (eqb protocol 0) refl pec refl q

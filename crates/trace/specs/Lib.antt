@@ -1,3 +1,4 @@
+pub mod Protocols
 pub mod Shapes
 pub mod Sane
 pub mod Trace
@@ -7,7 +8,6 @@ pub mod DataFits
 pub mod Rows
 pub mod WordRows
 pub mod Borders
-pub mod Covered
 pub mod Columns
 pub mod Parts
 pub mod PecPlace
@@ -20,7 +20,6 @@ pub mod LengthLaws
 pub mod RowsLaws
 pub mod WordRowsLaws
 pub mod BordersLaws
-pub mod CoveredLaws
 pub mod ColumnsLaws
 pub mod AckedLaws
 pub mod PecPlaceLaws

@@ -8,7 +8,7 @@ use native.Mathlib.Omega.{arith}
 use lib.ListN.{length}
 use Rattle.lists.specs.Choice.{pick}
 use Rattle.lists.specs.ChoiceLaws.{false-not-true}
-use Rattle.trace.specs.Shapes.{shapeOf, forbidden}
+use Rattle.trace.specs.Shapes.{protocols, shapeOf, forbidden}
 use Rattle.trace.specs.Allowed.{lengthsFit}
 use Rattle.trace.specs.DataFits.{DataFits, quick, send-byte, receive-byte, write-byte, write-word, read-byte, read-word, process-call, block-write, block-read, block-process-call}
 use Rattle.trace.specs.DataFitsLaws.{listed-lengths-fit, fitting-lengths-listed}
@@ -32,13 +32,13 @@ some-length : (protocol : ℕ) (pec : Bool) (m n : ℕ) → 4 ≤ traceLength (s
 unfolding traceLength
 some-length protocol pec m n = omega arith
 
--- none: a protocol above 10, Quick with PEC, or lengths that the protocol does not allow
+-- none: a protocol that the table lacks, Quick with PEC, or lengths that the protocol does not allow
 pub no-room : (protocol : ℕ) (pec : Bool) (m n : ℕ)
-    → (roomFor protocol pec m n ≡ 0) ↔ (((10 < protocol) ⊎ ((protocol ≡ 0) × (pec ≡ true))) ⊎ (DataFits protocol m n → ⊥))
+    → (roomFor protocol pec m n ≡ 0) ↔ (((protocols ≤ protocol) ⊎ ((protocol ≡ 0) × (pec ≡ true))) ⊎ (DataFits protocol m n → ⊥))
 no-room protocol pec m n = (λ e. there (forbidden protocol pec) (lengthsFit (shapeOf protocol) m n) refl refl e, back)
   where
     there : (b h : Bool) → forbidden protocol pec ≡ b → lengthsFit (shapeOf protocol) m n ≡ h → roomFor protocol pec m n ≡ 0
-        → ((10 < protocol) ⊎ ((protocol ≡ 0) × (pec ≡ true))) ⊎ (DataFits protocol m n → ⊥)
+        → ((protocols ≤ protocol) ⊎ ((protocol ≡ 0) × (pec ≡ true))) ⊎ (DataFits protocol m n → ⊥)
     there true h eb eh e = inl (forbidden-cases protocol pec .0 eb)
     there false true eb eh e = absurd (omega (arith, some-length protocol pec m n, sym (room-by protocol pec m n false true eb eh) ∙ e))
     there false false eb eh e = inr (λ d. false-not-true (sym eh ∙ listed-lengths-fit protocol m n d))
@@ -48,7 +48,7 @@ no-room protocol pec m n = (λ e. there (forbidden protocol pec) (lengthsFit (sh
     unfit false false eb eh z = room-by protocol pec m n false false eb eh
     unfit false true eb eh z = absurd (z (fitting-lengths-listed protocol (taken-cases protocol pec .0 eb .0) m n eh))
 
-    back : ((10 < protocol) ⊎ ((protocol ≡ 0) × (pec ≡ true))) ⊎ (DataFits protocol m n → ⊥) → roomFor protocol pec m n ≡ 0
+    back : ((protocols ≤ protocol) ⊎ ((protocol ≡ 0) × (pec ≡ true))) ⊎ (DataFits protocol m n → ⊥) → roomFor protocol pec m n ≡ 0
     back (inl f) = room-by protocol pec m n true _ (forbidden-cases protocol pec .1 f) refl
     back (inr z) = unfit (forbidden protocol pec) (lengthsFit (shapeOf protocol) m n) refl refl z
 
@@ -57,7 +57,7 @@ room-fits : (protocol : ℕ) (pec : Bool) (m n : ℕ) → forbidden protocol pec
 room-fits protocol pec m n f d = room-by protocol pec m n false true f (listed-lengths-fit protocol m n d)
 
 -- with or without PEC
-not-forbidden : (k : ℕ) (p : Bool) → 0 < k → k ≤ 10 → forbidden k p ≡ false
+not-forbidden : (k : ℕ) (p : Bool) → 0 < k → k < protocols → forbidden k p ≡ false
 not-forbidden k p l h = taken-cases k p .1 (h, λ z. absurd (omega arith))
 
 -- the room is what the last two columns say
@@ -79,7 +79,7 @@ room-as-listed =
     }
 
 -- for a valid message it is the length of its trace
-pub room-of-valid : (protocol : ℕ) (pec : Bool) (t : Message) → protocol ≤ 10 → (protocol ≡ 0 → pec ≡ false) → Valid (shapeOf protocol) t
+pub room-of-valid : (protocol : ℕ) (pec : Bool) (t : Message) → protocol < protocols → (protocol ≡ 0 → pec ≡ false) → Valid (shapeOf protocol) t
     → roomFor protocol pec (length (t .sent)) (length (t .received)) ≡ length (trace (shapeOf protocol) pec t)
 room-of-valid protocol pec t h q v =
     room-by protocol pec (length (t .sent)) (length (t .received)) false true (taken-cases protocol pec .1 (h, q)) (lengths-of-valid (shapeOf protocol) t v)

@@ -2,13 +2,13 @@
 -- PEC's place.
 use mathlib.Core.Path.{_≡_}
 use mathlib.Core.List.{List, []}
-use Prim.Native.Nat.{ℕ, _≤_}
-use Rattle.trace.specs.Shapes.{shapeOf}
+use Prim.Native.Nat.{ℕ, _<_}
+use Rattle.trace.specs.Shapes.{protocols, shapeOf}
 use Rattle.trace.specs.Table.{Line}
 use Rattle.trace.specs.Trace.{byTarget, byController, bytes, Valid}
 
 pub record Shaped (q : List ℕ) (x : Line) : Type 0 where
-  pub known : x .protocol ≤ 10
+  pub known : x .protocol < protocols
   pub plain : x .protocol ≡ 0 → q ≡ []
   pub valid : Valid (shapeOf (x .protocol)) (x .message)
   pub covers : x .covered ≡ bytes (shapeOf (x .protocol)) (x .message)

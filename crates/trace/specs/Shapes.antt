@@ -1,18 +1,19 @@
--- The shapes of the eleven protocols: what each row of the scope's table has, as fields.
+-- The table of the protocols: the shape of each, which is what its row of the scope's table has, as fields.
 use mathlib.Core.Path.{_≡_}
 use mathlib.Core.Bool.{Bool, true, false}
 use mathlib.Core.List.{List, [], _∷_}
 use Prim.Native.Nat.{ℕ}
-use lib.ListN.{getD}
-use lib.Dec.{ltb, eqb}
-use Rattle.lists.specs.Choice.{or, and, not}
+use lib.ListN.{length, getD}
+use lib.Dec.{ltb, leb, eqb}
+use Rattle.lists.specs.Choice.{or, and, not, same}
 use Rattle.trace.specs.declared.shape.Part.{Part}
 use Rattle.trace.specs.declared.shape.Part.the-variants.{Nothing, Fixed, Counted}
 use Rattle.trace.specs.declared.shape.Shape.{Shape}
+use Rattle.trace.specs.Protocols.{mostCounted}
 
--- a row: may carry a PEC, has a command byte, sends, receives; to any address, counts 0 to 255, together at most 255
+-- a row: may carry a PEC, has a command byte, sends, receives; to any address, each count from 0 on, together at most 255
 abbrev pub row : Bool → Bool → Part → Part → Shape
-row k c s r = record { command = c; sent = s; received = r; checked = k; tohost = false; least = 0; most = 255 }
+row k c s r = record { command = c; sent = s; received = r; checked = k; tohost = false; least = 0; most = mostCounted }
 
 -- Quick, Send Byte, Receive Byte, Write Byte, Write Word, Read Byte, Read Word, Process Call, Block Write, Block Read, Block Process Call
 abbrev pub shapes : List Shape
@@ -30,12 +31,20 @@ shapes =
     ∷ row true true Counted Counted
     ∷ []
 
-abbrev pub shapeOf : ℕ → Shape
-shapeOf protocol = getD shapes protocol (row false false Nothing Nothing)
+-- how many protocols there are: each has the number of its row
+abbrev pub protocols : ℕ
+protocols = length shapes
 
--- 1: a protocol above 10, or a PEC where none may be used
+-- the shape of a protocol. A number that is in no row gets Quick's, and is forbidden
+abbrev pub noRow : Shape
+noRow = row false false Nothing Nothing
+
+abbrev pub shapeOf : ℕ → Shape
+shapeOf protocol = getD shapes protocol noRow
+
+-- 1: a protocol that the table lacks, or a PEC where none may be used
 abbrev pub forbidden : ℕ → Bool → Bool
-forbidden protocol pec = or (ltb 10 protocol) (and pec (not (shapeOf protocol .checked)))
+forbidden protocol pec = or (leb protocols protocol) (and pec (not (shapeOf protocol .checked)))
 
 abbrev pub some : Part → Bool
 some Nothing = false
@@ -67,6 +76,6 @@ reads sh = some (sh .received)
 abbrev pub Row : ℕ → Type 0
 Row n = (shapeOf n .checked ≡ not (eqb n 0)) × (shapeOf n .command ≡ ltb 2 n) × (or (writes (shapeOf n)) (reads (shapeOf n)) ≡ not (eqb n 0))
 
--- a test of each of the eleven protocols
-abbrev pub each : (ℕ → Bool) → List Bool
-each f = f 0 ∷ f 1 ∷ f 2 ∷ f 3 ∷ f 4 ∷ f 5 ∷ f 6 ∷ f 7 ∷ f 8 ∷ f 9 ∷ f 10 ∷ []
+-- the same as a test of a row with its number
+abbrev pub isRow : ℕ → Shape → Bool
+isRow n sh = and (same (sh .checked) (not (eqb n 0))) (and (same (sh .command) (ltb 2 n)) (same (or (writes sh) (reads sh)) (not (eqb n 0))))

@@ -6,14 +6,12 @@ use mathlib.Core.List.{List, [], _∷_, _++_, append-nil}
 use mathlib.Core.Logic.{_↔_}
 use Prim.Native.Nat.{ℕ, _+_, _*_, _≤_, _<_}
 use native.Mathlib.Omega.{arith}
-use lib.ListN.{length, length-append}
-use Rattle.lists.specs.EachLaws.{append-bytes}
-use Rattle.trace.specs.Covered.{Covered}
-use Rattle.trace.specs.Covered as covered
-use Rattle.trace.specs.CoveredLaws.{rows-cover}
+use lib.ListN.{length}
+use Rattle.lists.specs.Each.{Bytes}
 use Rattle.trace.specs.Rows.{message}
 use Rattle.trace.specs.Shaped.{Shaped}
-use Rattle.trace.specs.Shapes.{shapeOf}
+use Rattle.trace.specs.ShapeLaws.{by-row}
+use Rattle.trace.specs.Shapes.{protocols, shapeOf}
 use Rattle.trace.specs.Table.{Line, line, Row, quick, send-byte, receive-byte, write-byte, write-word, read-byte, read-word, process-call, block-write, block-read, block-process-call, TraceOf}
 use Rattle.trace.specs.Trace.{Message, acked, byTarget, byController, bytes, inPlace, pecOf, traceAt, trace, Valid}
 use Rattle.trace.specs.declared.shape.Shape.{Shape}
@@ -135,41 +133,125 @@ row-means q x (block-process-call a c d r ha hc hd hr hl e) =
 
 -- ---- a valid message is a line of the table
 
+empty-of-length : (l : List ℕ) → length l ≡ 0 → l ≡ []
+empty-of-length [] h = refl
+empty-of-length (x ∷ l) h = absurd (omega arith)
+
+one-of-length : (l : List ℕ) → length l ≡ 1 → (x : ℕ) × (l ≡ x ∷ [])
+one-of-length [] h = absurd (omega arith)
+one-of-length (x ∷ []) h = (x, refl)
+one-of-length (x ∷ y ∷ l) h = absurd (omega arith)
+
+two-of-length : (l : List ℕ) → length l ≡ 2 → (x : ℕ) × (y : ℕ) × (l ≡ x ∷ y ∷ [])
+two-of-length [] h = absurd (omega arith)
+two-of-length (x ∷ []) h = absurd (omega arith)
+two-of-length (x ∷ y ∷ []) h = (x, y, refl)
+two-of-length (x ∷ y ∷ z ∷ l) h = absurd (omega arith)
+
 abbrev lineOf : ℕ → Message → List ℕ → Line
 lineOf p t q = line p t (bytes (shapeOf p) t) (byTarget (shapeOf p) t q) (byController (shapeOf p) t q)
 
-at : (p k : ℕ) (t u : Message) (q : List ℕ) → p ≡ k → t ≡ u → Row q (lineOf k u q) → Row q (lineOf p t q)
-at p k t u q e f r = subst (λ (n : ℕ). Row q (lineOf n t q)) (sym e) (subst (λ (m : Message). Row q (lineOf k m q)) (sym f) r)
+-- the line of a message by its fields
+by-fields : (p : ℕ) (t : Message) (q : List ℕ) (b c : ℕ) (s r : List ℕ) → t .direction ≡ b → t .command ≡ c → t .sent ≡ s → t .received ≡ r
+    → Row q (lineOf p (message (t .address) b c s r) q) → Row q (lineOf p t q)
+by-fields p t q b c s r eb ec es er row =
+    let e : t ≡ message (t .address) b c s r = λ i. record { address = t .address; direction = eb i; command = ec i; sent = es i; received = er i } in
+    subst (λ (m : Message). Row q (lineOf p m q)) (sym e) row
 
-length-last : (r : List ℕ) (s : ℕ) → length (r ++ s ∷ []) ≡ length r + 1
-length-last r s = length-append r (s ∷ [])
+-- every valid message of a protocol is a line of it, with a PEC or none in PEC's place, but Quick with none
+abbrev InRow : ℕ → Type 0
+InRow p = (t : Message) (q : List ℕ) → (p ≡ 0 → q ≡ []) → Valid (shapeOf p) t → Row q (lineOf p t q)
 
-pub row-of : (p : ℕ) (t : Message) (q : List ℕ) → (p ≡ 0 → q ≡ []) → Covered p t → Row q (lineOf p t q)
-row-of p t q z (covered.quick-write a e ha f) = at p 0 t (message a 0 0 [] []) q e f (quick a 0 ha (omega arith) (z e) (ap (λ (l : List ℕ). line 0 (message a 0 0 [] []) ((2 * a + 0) ∷ []) (256 ∷ (2 * a + 0) ∷ 258 ∷ acked l) (257 ∷ [])) (z e)))
-row-of p t q z (covered.quick-read a e ha f) = at p 0 t (message a 1 0 [] []) q e f (quick a 1 ha (omega arith) (z e) (ap (λ (l : List ℕ). line 0 (message a 1 0 [] []) ((2 * a + 1) ∷ []) (256 ∷ (2 * a + 1) ∷ 258 ∷ acked l) (257 ∷ [])) (z e)))
-row-of p t q z (covered.send-byte a d e ha hd f) = at p 1 t (message a 0 0 (d ∷ []) []) q e f (send-byte a d ha hd refl)
-row-of p t q z (covered.receive-byte a r e ha hr f) = at p 2 t (message a 0 0 [] (r ∷ [])) q e f (receive-byte a r ha hr refl)
-row-of p t q z (covered.write-byte a c d e ha hc hd f) = at p 3 t (message a 0 c (d ∷ []) []) q e f (write-byte a c d ha hc hd refl)
-row-of p t q z (covered.write-word a c l h e ha hc hl hh f) = at p 4 t (message a 0 c (l ∷ h ∷ []) []) q e f (write-word a c l h ha hc hl hh refl)
-row-of p t q z (covered.read-byte a c r e ha hc hr f) = at p 5 t (message a 0 c [] (r ∷ [])) q e f (read-byte a c r ha hc hr refl)
-row-of p t q z (covered.read-word a c l h e ha hc hl hh f) = at p 6 t (message a 0 c [] (l ∷ h ∷ [])) q e f (read-word a c l h ha hc hl hh refl)
-row-of p t q z (covered.process-call a c l h m n e ha hc hl hh hm hn f) = at p 7 t (message a 0 c (l ∷ h ∷ []) (m ∷ n ∷ [])) q e f (process-call a c l h m n ha hc hl hh hm hn refl)
-row-of p t q z (covered.block-write a c d e ha hc hd k f) = at p 8 t (message a 0 c d []) q e f (block-write a c d ha hc hd k (ap (λ (l : List ℕ). line 8 (message a 0 c d []) (2 * a ∷ c ∷ length d ∷ l) (byTarget (shapeOf 8) (message a 0 c d []) q) (byController (shapeOf 8) (message a 0 c d []) q)) (append-nil d)))
-row-of p t q z (covered.block-read-none a c e ha hc f) = at p 9 t (message a 0 c [] []) q e f (block-read a c [] ha hc tt (omega arith) refl)
-row-of p t q z (covered.block-read a c r s e ha hc hr hs k f) = at p 9 t (message a 0 c [] (r ++ s ∷ [])) q e f (block-read a c (r ++ s ∷ []) ha hc (append-bytes r (s ∷ []) hr (hs, tt)) (omega (arith, length-last r s)) refl)
-row-of p t q z (covered.block-process-call-none a c d e ha hc hd k f) = at p 10 t (message a 0 c d []) q e f (block-process-call a c d [] ha hc hd tt (omega arith) refl)
-row-of p t q z (covered.block-process-call a c d r s e ha hc hd hr hs k f) = at p 10 t (message a 0 c d (r ++ s ∷ [])) q e f (block-process-call a c d (r ++ s ∷ []) ha hc hd (append-bytes r (s ∷ []) hr (hs, tt)) (omega (arith, length-last r s)) refl)
+in-quick : InRow 0
+in-quick t q z v =
+    by-fields 0 t q (t .direction) 0 [] [] refl (v .command) (empty-of-length _ (v .sent-length)) (empty-of-length _ (v .received-length))
+    (quick (t .address) (t .direction) (v .address) (v .direction) (z refl)
+    (ap (λ (l : List ℕ). line 0 (message (t .address) (t .direction) 0 [] []) ((2 * t .address + t .direction) ∷ []) (256 ∷ (2 * t .address + t .direction) ∷ 258 ∷ acked l) (257 ∷ [])) (z refl)))
+
+in-send-byte : InRow 1
+in-send-byte t q z v =
+    let d = one-of-length (t .sent) (v .sent-length) in
+    by-fields 1 t q 0 0 (d .0 ∷ []) [] (v .direction) (v .command) (d .1) (empty-of-length _ (v .received-length))
+    (send-byte (t .address) (d .0) (v .address) (subst Bytes (d .1) (v .sent-bytes) .0) refl)
+
+in-receive-byte : InRow 2
+in-receive-byte t q z v =
+    let r = one-of-length (t .received) (v .received-length) in
+    by-fields 2 t q 0 0 [] (r .0 ∷ []) (v .direction) (v .command) (empty-of-length _ (v .sent-length)) (r .1)
+    (receive-byte (t .address) (r .0) (v .address) (subst Bytes (r .1) (v .received-bytes) .0) refl)
+
+in-write-byte : InRow 3
+in-write-byte t q z v =
+    let d = one-of-length (t .sent) (v .sent-length) in
+    by-fields 3 t q 0 (t .command) (d .0 ∷ []) [] (v .direction) refl (d .1) (empty-of-length _ (v .received-length))
+    (write-byte (t .address) (t .command) (d .0) (v .address) (v .command .0) (subst Bytes (d .1) (v .sent-bytes) .0) refl)
+
+in-write-word : InRow 4
+in-write-word t q z v =
+    let d = two-of-length (t .sent) (v .sent-length) in
+    let k = subst Bytes (d .2) (v .sent-bytes) in
+    by-fields 4 t q 0 (t .command) (d .0 ∷ d .1 ∷ []) [] (v .direction) refl (d .2) (empty-of-length _ (v .received-length))
+    (write-word (t .address) (t .command) (d .0) (d .1) (v .address) (v .command .0) (k .0) (k .1 .0) refl)
+
+in-read-byte : InRow 5
+in-read-byte t q z v =
+    let r = one-of-length (t .received) (v .received-length) in
+    by-fields 5 t q 0 (t .command) [] (r .0 ∷ []) (v .direction) refl (empty-of-length _ (v .sent-length)) (r .1)
+    (read-byte (t .address) (t .command) (r .0) (v .address) (v .command .0) (subst Bytes (r .1) (v .received-bytes) .0) refl)
+
+in-read-word : InRow 6
+in-read-word t q z v =
+    let r = two-of-length (t .received) (v .received-length) in
+    let k = subst Bytes (r .2) (v .received-bytes) in
+    by-fields 6 t q 0 (t .command) [] (r .0 ∷ r .1 ∷ []) (v .direction) refl (empty-of-length _ (v .sent-length)) (r .2)
+    (read-word (t .address) (t .command) (r .0) (r .1) (v .address) (v .command .0) (k .0) (k .1 .0) refl)
+
+in-process-call : InRow 7
+in-process-call t q z v =
+    let d = two-of-length (t .sent) (v .sent-length) in
+    let r = two-of-length (t .received) (v .received-length) in
+    let k = subst Bytes (d .2) (v .sent-bytes) in
+    let j = subst Bytes (r .2) (v .received-bytes) in
+    by-fields 7 t q 0 (t .command) (d .0 ∷ d .1 ∷ []) (r .0 ∷ r .1 ∷ []) (v .direction) refl (d .2) (r .2)
+    (process-call (t .address) (t .command) (d .0) (d .1) (r .0) (r .1) (v .address) (v .command .0) (k .0) (k .1 .0) (j .0) (j .1 .0) refl)
+
+in-block-write : InRow 8
+in-block-write t q z v =
+    let u : Message = message (t .address) 0 (t .command) (t .sent) [] in
+    by-fields 8 t q 0 (t .command) (t .sent) [] (v .direction) refl refl (empty-of-length _ (v .received-length))
+    (block-write (t .address) (t .command) (t .sent) (v .address) (v .command .0) (v .sent-bytes) (omega (arith, v .counts))
+    (ap (λ (l : List ℕ). line 8 u (2 * t .address ∷ t .command ∷ length (t .sent) ∷ l) (byTarget (shapeOf 8) u q) (byController (shapeOf 8) u q)) (append-nil (t .sent))))
+
+in-block-read : InRow 9
+in-block-read t q z v =
+    by-fields 9 t q 0 (t .command) [] (t .received) (v .direction) refl (empty-of-length _ (v .sent-length)) refl
+    (block-read (t .address) (t .command) (t .received) (v .address) (v .command .0) (v .received-bytes) (omega (arith, v .counts)) refl)
+
+in-block-process-call : InRow 10
+in-block-process-call t q z v =
+    by-fields 10 t q 0 (t .command) (t .sent) (t .received) (v .direction) refl refl refl
+    (block-process-call (t .address) (t .command) (t .sent) (t .received) (v .address) (v .command .0) (v .sent-bytes) (v .received-bytes) (v .counts) refl)
+
+pub row-of : (p : ℕ) → p < protocols → InRow p
+row-of = by-row InRow (in-quick, (in-send-byte, (in-receive-byte, (in-write-byte, (in-write-word, (in-read-byte, (in-read-word, (in-process-call, (in-block-write, (in-block-read, (in-block-process-call, tt)))))))))))
+
+-- so the valid messages of a protocol are those of its lines, and no others
+pub valid-exactly : (p : ℕ) → p < protocols → (t : Message) → Valid (shapeOf p) t ↔ ((x : Line) × Row [] x × (x .protocol ≡ p) × (x .message ≡ t))
+valid-exactly p h t = (λ v. (lineOf p t [], row-of p h t [] (λ e. refl) v, refl, refl), back)
+  where
+    back : (x : Line) × Row [] x × (x .protocol ≡ p) × (x .message ≡ t) → Valid (shapeOf p) t
+    back (x, r, e, f) = subst (Valid (shapeOf p)) f (subst (λ (n : ℕ). Valid (shapeOf n) (x .message)) e (row-means [] x r .valid))
 
 -- ---- the traces of the table are those of the one definition
 
 module _ (p : ℕ) (pec : Bool) (t : Message) (tr : List ℕ) where
   -- a trace of the table is that of a valid message
-  pub listed-trace : TraceOf p pec t tr → (p ≤ 10) × Valid (shapeOf p) t × (tr ≡ trace (shapeOf p) pec t)
+  pub listed-trace : TraceOf p pec t tr → (p < protocols) × Valid (shapeOf p) t × (tr ≡ trace (shapeOf p) pec t)
   listed-trace (x, r, e, f, s) =
       let m = row-means (inPlace pec (Pec.pecOf (x .covered))) x r in
       let k : shapeOf (x .protocol) ≡ shapeOf p = ap shapeOf e in
       let g : inPlace pec (Pec.pecOf (x .covered)) ≡ inPlace pec (pecOf (shapeOf (x .protocol)) (x .message)) = ap (λ (l : List ℕ). inPlace pec (Pec.pecOf l)) (m .covers) in (
-        subst (λ (n : ℕ). n ≤ 10) e (m .known),
+        subst (λ (n : ℕ). n < protocols) e (m .known),
         subst (Valid (shapeOf p)) f (subst (λ (sh : Shape). Valid sh (x .message)) k (m .valid)),
         s ∙ ap₂ (λ (a b : List ℕ). a ++ b) (m .target) (m .controller)
             ∙ ap (λ (q : List ℕ). traceAt (shapeOf (x .protocol)) (x .message) q) g
@@ -177,9 +259,9 @@ module _ (p : ℕ) (pec : Bool) (t : Message) (tr : List ℕ) where
       )
 
   -- and the trace of a valid message is in the table
-  pub trace-listed : p ≤ 10 → (p ≡ 0 → pec ≡ false) → Valid (shapeOf p) t → tr ≡ trace (shapeOf p) pec t → TraceOf p pec t tr
+  pub trace-listed : p < protocols → (p ≡ 0 → pec ≡ false) → Valid (shapeOf p) t → tr ≡ trace (shapeOf p) pec t → TraceOf p pec t tr
   trace-listed k z v s =
-      (lineOf p t (inPlace pec (pecOf (shapeOf p) t)), row-of p t (inPlace pec (pecOf (shapeOf p) t)) (λ e. rw (z e)) (rows-cover p k t v), refl, refl, s)
+      (lineOf p t (inPlace pec (pecOf (shapeOf p) t)), row-of p k t (inPlace pec (pecOf (shapeOf p) t)) (λ e. rw (z e)) v, refl, refl, s)
 
 -- Quick has no PEC
 pub quick-plain : (pec : Bool) (y : ℕ) (x : Line) → Row (inPlace pec y) x → x .protocol ≡ 0 → pec ≡ false

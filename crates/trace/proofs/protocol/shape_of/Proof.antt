@@ -1,10 +1,8 @@
 use borrow.Author.Needs.{needs}
 use mathlib.Core.Path.{_≡_, refl, sym, _∙_, ap}
 use Prim.Native.Nat.{_≤_, zero-le}
-use mathlib.Core.Bool.{false}
-use lib.ListN.{List·getD-eq-default}
-use Rattle.trace.specs.declared.shape.Part.the-variants.{Nothing}
-use Rattle.trace.specs.Shapes.{shapes, row}
+use Rattle.trace.specs.FieldLaws.{shape-above}
+use Rattle.trace.specs.Shapes.{protocols}
 use Rattle.trace.proofs.Fields.{up}
 use Rattle.trace.proofs.protocol.shape_of.Statement.{statement}
 use Rattle.trace.proofs.protocol.shape_of.Tie as tie
@@ -85,8 +83,8 @@ returns-12 : tie.Need-returns-12
 returns-12 c =
     let r = c .before .match .rest in
     let p = c .before .before .args .protocol in
-    let h : 11 ≤ p = up 10 p (up 9 p (up 8 p (up 7 p (up 6 p (up 5 p (up 4 p (up 3 p (up 2 p (up 1 p (up 0 p (zero-le) (r .0 .0 .0 .0 .0 .0 .0 .0 .0 .0 .1)) (r .0 .0 .0 .0 .0 .0 .0 .0 .0 .1)) (r .0 .0 .0 .0 .0 .0 .0 .0 .1)) (r .0 .0 .0 .0 .0 .0 .0 .1)) (r .0 .0 .0 .0 .0 .0 .1)) (r .0 .0 .0 .0 .0 .1)) (r .0 .0 .0 .0 .1)) (r .0 .0 .0 .1)) (r .0 .0 .1)) (r .0 .1)) (r .1) in
-    rw (c .row12 .ensures) (sym (List·getD-eq-default shapes (row false false Nothing Nothing) h))
+    let h : protocols ≤ p = up 10 p (up 9 p (up 8 p (up 7 p (up 6 p (up 5 p (up 4 p (up 3 p (up 2 p (up 1 p (up 0 p (zero-le) (r .0 .0 .0 .0 .0 .0 .0 .0 .0 .0 .1)) (r .0 .0 .0 .0 .0 .0 .0 .0 .0 .1)) (r .0 .0 .0 .0 .0 .0 .0 .0 .1)) (r .0 .0 .0 .0 .0 .0 .0 .1)) (r .0 .0 .0 .0 .0 .0 .1)) (r .0 .0 .0 .0 .0 .1)) (r .0 .0 .0 .0 .1)) (r .0 .0 .0 .1)) (r .0 .0 .1)) (r .0 .1)) (r .1) in
+    rw (c .row12 .ensures) (sym (shape-above p h))
 
 pub shape-of-spec : {M : Type 1} → statement M
 shape-of-spec =
