@@ -3,12 +3,9 @@ use Prim.Native.Nat.{ℕ, zero, suc, _+_, _-_, _<_, _≤_}
 use mathlib.Core.Path.{_≡_, refl, sym, ap, ap₂, _∙_}
 use mathlib.Core.Bool.{Bool, true, false}
 use mathlib.Core.List.{List, [], _∷_, _++_}
-use mathlib.Core.Logic.{_⊎_, inl, inr}
 use native.Mathlib.Decide.{decLt}
 use native.Mathlib.Omega.{arith}
-use denote.Enum.Declared.{tagOf}
-use types.Run.{OneOf}
-use lib.Dec.{eqb}
+use lib.Dec.{ltb, eqb}
 use lib.ListN.{length, getD, drop, replicate, getD-replicate, length-replicate, List·getD-append, List·getD-eq-default}
 use lib.Seq.{getD-append-add, getD-drop}
 use borrow.Author.Tests.{eq-eqb, ne-eqb}
@@ -17,10 +14,11 @@ use Rattle.lists.specs.Onto.{onto}
 use Rattle.decode.specs.Outcome.{answered, Outcome}
 use Rattle.pool.specs.declared.free.Free.{Free}
 use Rattle.pool.specs.declared.free.Free.the-variants.{At, AllUsed}
-use Rattle.step.proofs.answer.Decoded as decoded
 use Rattle.step.specs.Handed.{sentData, receivedData}
+use Rattle.step.specs.Numbers.{isNack}
 use Rattle.step.specs.declared.answer.Decoded.{Decoded}
-use Rattle.step.specs.declared.answer.Decoded.the-variants.{Done, Forbidden, BufferTooShort, NoSymbol, EndsEarly, Unexpected, NotAcknowledged, PecDiffers, AfterStop}
+use Rattle.step.specs.declared.answer.Decoded.the-variants.{Done, Refused}
+use Rattle.step.specs.declared.answer.Refusal.{Refusal}
 use Rattle.trace.specs.Shapes.{shapeOf}
 use Rattle.trace.specs.declared.transaction.Transaction.{Transaction}
 use Rattle.udid.specs.Bytes.{number, bytesFrom, udidAt}
@@ -69,43 +67,8 @@ onto-udid xs = λ i. record { high = number (window xs 0 8 i); low = number (win
 
 -- ---- the decoder's answer
 
--- every tag but Done's, and every tag but that of a NACK
-abbrev pub not-done : List ℕ
-not-done = 1 ∷ 2 ∷ 3 ∷ 4 ∷ 5 ∷ 6 ∷ 7 ∷ 8 ∷ []
-
-abbrev pub not-nack : List ℕ
-not-nack = 0 ∷ 1 ∷ 2 ∷ 3 ∷ 4 ∷ 5 ∷ 7 ∷ 8 ∷ []
-
-done-is-not : OneOf not-done 0 → ⊥
-done-is-not (inl e) = omega arith
-done-is-not (inr (inl e)) = omega arith
-done-is-not (inr (inr (inl e))) = omega arith
-done-is-not (inr (inr (inr (inl e)))) = omega arith
-done-is-not (inr (inr (inr (inr (inl e))))) = omega arith
-done-is-not (inr (inr (inr (inr (inr (inl e)))))) = omega arith
-done-is-not (inr (inr (inr (inr (inr (inr (inl e))))))) = omega arith
-done-is-not (inr (inr (inr (inr (inr (inr (inr e))))))) = omega arith
-
-nack-is-not : OneOf not-nack 6 → ⊥
-nack-is-not (inl e) = omega arith
-nack-is-not (inr (inl e)) = omega arith
-nack-is-not (inr (inr (inl e))) = omega arith
-nack-is-not (inr (inr (inr (inl e)))) = omega arith
-nack-is-not (inr (inr (inr (inr (inl e))))) = omega arith
-nack-is-not (inr (inr (inr (inr (inr (inl e)))))) = omega arith
-nack-is-not (inr (inr (inr (inr (inr (inr (inl e))))))) = omega arith
-nack-is-not (inr (inr (inr (inr (inr (inr (inr e))))))) = omega arith
-
-pub other-answers-are-somebody : (a : Decoded) → OneOf not-nack (tagOf decoded.the-type a) → nobody a ≡ false
-other-answers-are-somebody (Done t) h = refl
-other-answers-are-somebody Forbidden h = refl
-other-answers-are-somebody BufferTooShort h = refl
-other-answers-are-somebody (NoSymbol k) h = refl
-other-answers-are-somebody (EndsEarly k) h = refl
-other-answers-are-somebody (Unexpected k) h = refl
-other-answers-are-somebody (NotAcknowledged b) h = absurd (nack-is-not h)
-other-answers-are-somebody (PecDiffers k) h = refl
-other-answers-are-somebody (AfterStop k) h = refl
+pub nobody-by-nack : (a : Decoded) (w : Refusal) (b : ℕ) (q : Bool) → a ≡ Refused w b → isNack w ≡ q → and q (ltb b 3) ≡ nobody a
+nobody-by-nack a w b q e h = sym (ap nobody e ∙ ap (λ (x : Bool). and x (ltb b 3)) h)
 
 -- ---- Prepare To ARP
 
@@ -121,23 +84,14 @@ module _ (s : Controller) (tr : List ℕ) (a : Decoded) (sent received : List �
   unfolding afterPrepare
   by-prepare = ap (λ (x : Decoded). onPrepare s x (sentData (shapeOf sendByte) tr x)) heard-1
 
-  pub prepare-nack : (b : ℕ) → a ≡ NotAcknowledged b → handed s Ended ≡ afterPrepare s tr
-  prepare-nack b e = sym (ap (λ (x : Decoded). onPrepare s x (sentData (shapeOf sendByte) tr a)) e) ∙ by-prepare
+  by-refusal : (w : Refusal) (k : ℕ) → a ≡ Refused w k → pick (isNack w) (handed s Ended) (handed s Abandoned) ≡ afterPrepare s tr
+  by-refusal w k e = sym (ap (λ (x : Decoded). onPrepare s x (sentData (shapeOf sendByte) tr a)) e) ∙ by-prepare
 
-  pub prepare-other : OneOf not-nack (tagOf decoded.the-type a) → OneOf not-done (tagOf decoded.the-type a) → handed s Abandoned ≡ afterPrepare s tr
-  prepare-other g h = go a g h ∙ by-prepare
-    where
-      go : (x : Decoded) → OneOf not-nack (tagOf decoded.the-type x) → OneOf not-done (tagOf decoded.the-type x)
-          → handed s Abandoned ≡ onPrepare s x (sentData (shapeOf sendByte) tr a)
-      go (Done t) g h = absurd (done-is-not h)
-      go Forbidden g h = refl
-      go BufferTooShort g h = refl
-      go (NoSymbol k) g h = refl
-      go (EndsEarly k) g h = refl
-      go (Unexpected k) g h = refl
-      go (NotAcknowledged b) g h = absurd (nack-is-not g)
-      go (PecDiffers k) g h = refl
-      go (AfterStop k) g h = refl
+  pub prepare-nack : (w : Refusal) (k : ℕ) → a ≡ Refused w k → isNack w ≡ true → handed s Ended ≡ afterPrepare s tr
+  prepare-nack w k e h = sym (ap (λ (b : Bool). pick b (handed s Ended) (handed s Abandoned)) h) ∙ by-refusal w k e
+
+  pub prepare-other : (w : Refusal) (k : ℕ) → a ≡ Refused w k → isNack w ≡ false → handed s Abandoned ≡ afterPrepare s tr
+  prepare-other w k e h = sym (ap (λ (b : Bool). pick b (handed s Ended) (handed s Abandoned)) h) ∙ by-refusal w k e
 
   prepare-done : (t : Transaction) → a ≡ Done t → pick (isPrepare t sent) (asked s) (handed s Abandoned) ≡ afterPrepare s tr
   prepare-done t e = ap (λ (b : Bool). pick b (asked s) (handed s Abandoned)) (is-prepare t) ∙ sym (ap (λ (x : Decoded). onPrepare s x (sentData (shapeOf sendByte) tr a)) e) ∙ by-prepare
@@ -168,28 +122,12 @@ module _ (s : Controller) (tr : List ℕ) (a : Decoded) (sent received : List �
     where
       go : (x : Decoded) → nobody x ≡ true → handed s Ended ≡ onGet s x (receivedData true tr a)
       go (Done t) k = absurd (let z : _≡_ {A = ℕ} 0 1 = cc k in omega arith)
-      go Forbidden k = absurd (let z : _≡_ {A = ℕ} 0 1 = cc k in omega arith)
-      go BufferTooShort k = absurd (let z : _≡_ {A = ℕ} 0 1 = cc k in omega arith)
-      go (NoSymbol i) k = absurd (let z : _≡_ {A = ℕ} 0 1 = cc k in omega arith)
-      go (EndsEarly i) k = absurd (let z : _≡_ {A = ℕ} 0 1 = cc k in omega arith)
-      go (Unexpected i) k = absurd (let z : _≡_ {A = ℕ} 0 1 = cc k in omega arith)
-      go (NotAcknowledged b) k = rw k
-      go (PecDiffers i) k = absurd (let z : _≡_ {A = ℕ} 0 1 = cc k in omega arith)
-      go (AfterStop i) k = absurd (let z : _≡_ {A = ℕ} 0 1 = cc k in omega arith)
+      go (Refused w i) k = rw k
 
-  pub get-again : nobody a ≡ false → OneOf not-done (tagOf decoded.the-type a) → asked s ≡ afterGet s tr
-  get-again e h = go a e h ∙ by-get
-    where
-      go : (x : Decoded) → nobody x ≡ false → OneOf not-done (tagOf decoded.the-type x) → asked s ≡ onGet s x (receivedData true tr a)
-      go (Done t) k g = absurd (done-is-not g)
-      go Forbidden k g = refl
-      go BufferTooShort k g = refl
-      go (NoSymbol i) k g = refl
-      go (EndsEarly i) k g = refl
-      go (Unexpected i) k g = refl
-      go (NotAcknowledged b) k g = rw k
-      go (PecDiffers i) k g = refl
-      go (AfterStop i) k g = refl
+  pub get-again : nobody a ≡ false → (w : Refusal) (k : ℕ) → a ≡ Refused w k → asked s ≡ afterGet s tr
+  get-again e w k h =
+      sym (ap (λ (b : Bool). pick b (handed s Ended) (asked s)) (sym (ap nobody h) ∙ e))
+      ∙ sym (ap (λ (x : Decoded). onGet s x (receivedData true tr a)) h) ∙ by-get
 
   pub get-done : (t : Transaction) → a ≡ Done t → onReply s t received ≡ afterGet s tr
   get-done t e =
@@ -200,28 +138,10 @@ module _ (s : Controller) (tr : List ℕ) (a : Decoded) (sent received : List �
 
 -- ---- Assign Address
 
-pub not-done-is-incomplete : (u : Udid) (n : ℕ) (a : Decoded) (sent : List ℕ) → OneOf not-done (tagOf decoded.the-type a) → completes u n a sent ≡ false
-not-done-is-incomplete u n (Done t) sent h = absurd (done-is-not h)
-not-done-is-incomplete u n Forbidden sent h = refl
-not-done-is-incomplete u n BufferTooShort sent h = refl
-not-done-is-incomplete u n (NoSymbol i) sent h = refl
-not-done-is-incomplete u n (EndsEarly i) sent h = refl
-not-done-is-incomplete u n (Unexpected i) sent h = refl
-not-done-is-incomplete u n (NotAcknowledged b) sent h = refl
-not-done-is-incomplete u n (PecDiffers i) sent h = refl
-not-done-is-incomplete u n (AfterStop i) sent h = refl
-
 -- bound where the Assign is complete, and Get UDID in either case
 on-assign : (s : Controller) (u : Udid) (n : ℕ) (a : Decoded) (sent : List ℕ) → pick (completes u n a sent) (asked (bound s u n)) (asked s) ≡ onAssign s u n a sent
 on-assign s u n (Done t) sent = refl
-on-assign s u n Forbidden sent = refl
-on-assign s u n BufferTooShort sent = refl
-on-assign s u n (NoSymbol i) sent = refl
-on-assign s u n (EndsEarly i) sent = refl
-on-assign s u n (Unexpected i) sent = refl
-on-assign s u n (NotAcknowledged b) sent = refl
-on-assign s u n (PecDiffers i) sent = refl
-on-assign s u n (AfterStop i) sent = refl
+on-assign s u n (Refused w k) sent = refl
 
 module _ (s : Controller) (u : Udid) (n : ℕ) (tr : List ℕ) (a : Decoded) (sent received : List ℕ) (o : Outcome blockWrite true tr zeros zeros a sent received) where
   heard-8 : a ≡ answer blockWrite tr
@@ -241,14 +161,7 @@ module _ (s : Controller) (u : Udid) (n : ℕ) (tr : List ℕ) (a : Decoded) (se
       go : (x : Decoded) → ((t : Transaction) → isAssign u n t sent ≡ isAssign u n t (sentData (shapeOf blockWrite) tr a))
           → completes u n x sent ≡ completes u n x (sentData (shapeOf blockWrite) tr a)
       go (Done t) h = h t
-      go Forbidden h = refl
-      go BufferTooShort h = refl
-      go (NoSymbol i) h = refl
-      go (EndsEarly i) h = refl
-      go (Unexpected i) h = refl
-      go (NotAcknowledged b) h = refl
-      go (PecDiffers i) h = refl
-      go (AfterStop i) h = refl
+      go (Refused w k) h = refl
 
   assign-by : pick (completes u n a sent) (asked (bound s u n)) (asked s) ≡ afterAssign s u n tr
   assign-by = ap (λ (b : Bool). pick b (asked (bound s u n)) (asked s)) complete-is ∙ on-assign s u n a (sentData (shapeOf blockWrite) tr a) ∙ by-assign

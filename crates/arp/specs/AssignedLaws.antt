@@ -10,11 +10,12 @@ use native.Mathlib.Omega.{arith}
 use lib.Dec.{ltb, leb, eqb}
 use lib.ListN.{length, getD}
 use borrow.Author.Tests.{ltb-false, lt-ltb, le-ltb}
-use Rattle.lists.specs.Choice.{pick, or}
+use Rattle.lists.specs.Choice.{pick, and, or}
 use Rattle.wire.specs.declared.address.Address.{Address}
 use Rattle.trace.specs.declared.transaction.Transaction.{Transaction}
+use Rattle.step.specs.Numbers.{isNack}
 use Rattle.step.specs.declared.answer.Decoded.{Decoded}
-use Rattle.step.specs.declared.answer.Decoded.the-variants.{Done, Forbidden, BufferTooShort, NoSymbol, EndsEarly, Unexpected, NotAcknowledged, PecDiffers, AfterStop}
+use Rattle.step.specs.declared.answer.Decoded.the-variants.{Done, Refused}
 use Rattle.pool.specs.Pools.{member}
 use Rattle.pool.specs.declared.Pool.{Pool}
 use Rattle.pool.specs.declared.free.Free.{Free}
@@ -123,18 +124,11 @@ module _ (P : List Slot → Type 0) (s : Controller) (p : P (s .slots)) (f : (u 
 
   get-slots : (a : Decoded) (xs : List ℕ) → P (onGet s a xs .state .slots)
   get-slots (Done t) xs = reply-slots t xs
-  get-slots (NotAcknowledged b) xs = go (ltb b 3)
+  get-slots (Refused w k) xs = go (and (isNack w) (ltb k 3))
     where
       go : (q : Bool) → P (pick q (handed s Ended) (asked s) .state .slots)
       go true = p
       go false = asked-has
-  get-slots Forbidden xs = asked-has
-  get-slots BufferTooShort xs = asked-has
-  get-slots (NoSymbol k) xs = asked-has
-  get-slots (EndsEarly k) xs = asked-has
-  get-slots (Unexpected k) xs = asked-has
-  get-slots (PecDiffers k) xs = asked-has
-  get-slots (AfterStop k) xs = asked-has
 
 prepare-slots : (s : Controller) (a : Decoded) (xs : List ℕ) → onPrepare s a xs .state .slots ≡ s .slots
 prepare-slots s (Done t) xs = go (isPrepare t xs)
@@ -142,14 +136,11 @@ prepare-slots s (Done t) xs = go (isPrepare t xs)
     go : (q : Bool) → pick q (asked s) (handed s Abandoned) .state .slots ≡ s .slots
     go true = asked-slots s
     go false = refl
-prepare-slots s (NotAcknowledged b) xs = refl
-prepare-slots s Forbidden xs = refl
-prepare-slots s BufferTooShort xs = refl
-prepare-slots s (NoSymbol k) xs = refl
-prepare-slots s (EndsEarly k) xs = refl
-prepare-slots s (Unexpected k) xs = refl
-prepare-slots s (PecDiffers k) xs = refl
-prepare-slots s (AfterStop k) xs = refl
+prepare-slots s (Refused w k) xs = go (isNack w)
+  where
+    go : (q : Bool) → pick q (handed s Ended) (handed s Abandoned) .state .slots ≡ s .slots
+    go true = refl
+    go false = refl
 
 -- through the answer to an Assign: the slots are as they were, or with the target bound by the trace of that Assign
 module _ (P : List Slot → Type 0) (s : Controller) (u : Udid) (a : Address) (tr : List ℕ) (p : P (s .slots)) (f : tr ≡ traceOf (Assign u a) [] → P (bound s u (a .0) .slots)) where
@@ -162,14 +153,7 @@ module _ (P : List Slot → Type 0) (s : Controller) (u : Udid) (a : Address) (t
       go : (q : Bool) → isAssign u (a .0) t (sentIn blockWrite tr) ≡ q → P (pick q (asked (bound s u (a .0))) (asked s) .state .slots)
       go true h = subst P (sym (asked-slots (bound s u (a .0)))) (f (complete-assign-is-its-trace s u a tr t e h))
       go false h = as-was
-  assign-slots (NotAcknowledged b) e = as-was
-  assign-slots Forbidden e = as-was
-  assign-slots BufferTooShort e = as-was
-  assign-slots (NoSymbol k) e = as-was
-  assign-slots (EndsEarly k) e = as-was
-  assign-slots (Unexpected k) e = as-was
-  assign-slots (PecDiffers k) e = as-was
-  assign-slots (AfterStop k) e = as-was
+  assign-slots (Refused w k) e = as-was
 
 module _ (occupied : Pool) (s : Controller) (tr : List ℕ) (g : GoodState occupied s) where
   -- what is bound after a step was bound before it, or comes from an Assign whose trace was received

@@ -6,8 +6,9 @@ use lib.ListN.{getD, replicate}
 use Rattle.lists.specs.Choice.{pick}
 use Rattle.wire.specs.declared.address.Address.{Address}
 use Rattle.trace.specs.declared.transaction.Transaction.{Transaction}
+use Rattle.step.specs.Numbers.{isNack}
 use Rattle.step.specs.declared.answer.Decoded.{Decoded}
-use Rattle.step.specs.declared.answer.Decoded.the-variants.{Done, Forbidden, BufferTooShort, NoSymbol, EndsEarly, Unexpected, NotAcknowledged, PecDiffers, AfterStop}
+use Rattle.step.specs.declared.answer.Decoded.the-variants.{Done, Refused}
 use Rattle.pool.specs.Free.{lowestFree}
 use Rattle.pool.specs.Pools.{member}
 use Rattle.pool.specs.Start.{startingPool}
@@ -76,38 +77,17 @@ onReply s t received =
 -- Prepare accepted: send Get UDID. Answer 6: the pass ends, nobody there. Any other: 14
 abbrev pub onPrepare : Controller → Decoded → List ℕ → Stepped
 onPrepare s (Done t) sent = pick (isPrepare t sent) (asked s) (handed s Abandoned)
-onPrepare s (NotAcknowledged b) sent = handed s Ended
-onPrepare s Forbidden sent = handed s Abandoned
-onPrepare s BufferTooShort sent = handed s Abandoned
-onPrepare s (NoSymbol k) sent = handed s Abandoned
-onPrepare s (EndsEarly k) sent = handed s Abandoned
-onPrepare s (Unexpected k) sent = handed s Abandoned
-onPrepare s (PecDiffers k) sent = handed s Abandoned
-onPrepare s (AfterStop k) sent = handed s Abandoned
+onPrepare s (Refused w k) sent = pick (isNack w) (handed s Ended) (handed s Abandoned)
 
 -- Get UDID: answer 6 at byte 0, 1 or 2: the pass ends. A complete reply: onReply. Any other refusal: Get UDID again
 abbrev pub onGet : Controller → Decoded → List ℕ → Stepped
 onGet s (Done t) received = onReply s t received
-onGet s (NotAcknowledged b) received = pick (nobody (NotAcknowledged b)) (handed s Ended) (asked s)
-onGet s Forbidden received = asked s
-onGet s BufferTooShort received = asked s
-onGet s (NoSymbol k) received = asked s
-onGet s (EndsEarly k) received = asked s
-onGet s (Unexpected k) received = asked s
-onGet s (PecDiffers k) received = asked s
-onGet s (AfterStop k) received = asked s
+onGet s (Refused w k) received = pick (nobody (Refused w k)) (handed s Ended) (asked s)
 
 -- Assign complete: bind, and add to the pool. Any other answer: no binding, Get UDID again
 abbrev pub onAssign : Controller → Udid → ℕ → Decoded → List ℕ → Stepped
 onAssign s u a (Done t) sent = pick (isAssign u a t sent) (asked (bound s u a)) (asked s)
-onAssign s u a (NotAcknowledged b) sent = asked s
-onAssign s u a Forbidden sent = asked s
-onAssign s u a BufferTooShort sent = asked s
-onAssign s u a (NoSymbol k) sent = asked s
-onAssign s u a (EndsEarly k) sent = asked s
-onAssign s u a (Unexpected k) sent = asked s
-onAssign s u a (PecDiffers k) sent = asked s
-onAssign s u a (AfterStop k) sent = asked s
+onAssign s u a (Refused w k) sent = asked s
 
 -- each for the trace
 unfoldable pub afterPrepare : Controller → List ℕ → Stepped

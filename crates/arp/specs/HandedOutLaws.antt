@@ -8,10 +8,11 @@ use mathlib.Core.Logic.{inl, inr}
 use native.Mathlib.Omega.{arith}
 use lib.Dec.{ltb, leb, eqb}
 use lib.ListN.{getD}
-use Rattle.lists.specs.Choice.{pick}
+use Rattle.lists.specs.Choice.{pick, and}
 use Rattle.trace.specs.declared.transaction.Transaction.{Transaction}
+use Rattle.step.specs.Numbers.{isNack}
 use Rattle.step.specs.declared.answer.Decoded.{Decoded}
-use Rattle.step.specs.declared.answer.Decoded.the-variants.{Done, Forbidden, BufferTooShort, NoSymbol, EndsEarly, Unexpected, NotAcknowledged, PecDiffers, AfterStop}
+use Rattle.step.specs.declared.answer.Decoded.the-variants.{Done, Refused}
 use Rattle.pool.specs.Pools.{member}
 use Rattle.pool.specs.Start.{startingPool}
 use Rattle.pool.specs.declared.Pool.{Pool}
@@ -54,14 +55,11 @@ module _ (s : Controller) where
       go : (q : Bool) → pick q (asked s) (handed s Abandoned) .command ≡ pick q (again (s .gets)) Abandoned
       go true = asked-command s
       go false = refl
-  prepare-command (NotAcknowledged b) xs = refl
-  prepare-command Forbidden xs = refl
-  prepare-command BufferTooShort xs = refl
-  prepare-command (NoSymbol k) xs = refl
-  prepare-command (EndsEarly k) xs = refl
-  prepare-command (Unexpected k) xs = refl
-  prepare-command (PecDiffers k) xs = refl
-  prepare-command (AfterStop k) xs = refl
+  prepare-command (Refused w k) xs = go (isNack w)
+    where
+      go : (q : Bool) → pick q (handed s Ended) (handed s Abandoned) .command ≡ pick q Ended Abandoned
+      go true = refl
+      go false = refl
 
   assign-command : (u : Udid) (n : ℕ) (d : Decoded) (xs : List ℕ) → onAssign s u n d xs .command ≡ again (s .gets)
   assign-command u n (Done t) xs = go (isAssign u n t xs)
@@ -69,14 +67,7 @@ module _ (s : Controller) where
       go : (q : Bool) → pick q (asked (bound s u n)) (asked s) .command ≡ again (s .gets)
       go true = asked-command (bound s u n) ∙ ap again (bound-keeps-gets s u n)
       go false = asked-command s
-  assign-command u n (NotAcknowledged b) xs = asked-command s
-  assign-command u n Forbidden xs = asked-command s
-  assign-command u n BufferTooShort xs = asked-command s
-  assign-command u n (NoSymbol k) xs = asked-command s
-  assign-command u n (EndsEarly k) xs = asked-command s
-  assign-command u n (Unexpected k) xs = asked-command s
-  assign-command u n (PecDiffers k) xs = asked-command s
-  assign-command u n (AfterStop k) xs = asked-command s
+  assign-command u n (Refused w k) xs = asked-command s
 
 module _ (s : Controller) (v : SoundIn s) where
   replied-command : (u : Udid) (b : ℕ) → replied s u b .command ≡ assigning u (picked (released u (view s) .used) u b)
@@ -98,18 +89,11 @@ module _ (s : Controller) (v : SoundIn s) where
 
   get-command : (d : Decoded) (xs : List ℕ) → onGet s d xs .command ≡ nextReply (view s) (s .gets) d xs
   get-command (Done t) xs = reply-command t xs
-  get-command (NotAcknowledged b) xs = go (ltb b 3)
+  get-command (Refused w k) xs = go (and (isNack w) (ltb k 3))
     where
       go : (q : Bool) → pick q (handed s Ended) (asked s) .command ≡ pick q Ended (again (s .gets))
       go true = refl
       go false = asked-command s
-  get-command Forbidden xs = asked-command s
-  get-command BufferTooShort xs = asked-command s
-  get-command (NoSymbol k) xs = asked-command s
-  get-command (EndsEarly k) xs = asked-command s
-  get-command (Unexpected k) xs = asked-command s
-  get-command (PecDiffers k) xs = asked-command s
-  get-command (AfterStop k) xs = asked-command s
 
   step-command : (tr : List ℕ) → stepped s tr .command ≡ nextCommand (view s) (s .gets) (s .last) tr
   unfolding stepped afterPrepare afterGet afterAssign

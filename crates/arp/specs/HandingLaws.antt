@@ -8,11 +8,12 @@ use native.Mathlib.Nat.{add-zero}
 use native.Mathlib.Omega.{arith}
 use lib.Dec.{ltb, leb, eqb}
 use lib.ListN.{getD}
-use Rattle.lists.specs.Choice.{pick}
+use Rattle.lists.specs.Choice.{pick, and}
 use Rattle.wire.specs.declared.address.Address.{Address}
 use Rattle.trace.specs.declared.transaction.Transaction.{Transaction}
+use Rattle.step.specs.Numbers.{isNack}
 use Rattle.step.specs.declared.answer.Decoded.{Decoded}
-use Rattle.step.specs.declared.answer.Decoded.the-variants.{Done, Forbidden, BufferTooShort, NoSymbol, EndsEarly, Unexpected, NotAcknowledged, PecDiffers, AfterStop}
+use Rattle.step.specs.declared.answer.Decoded.the-variants.{Done, Refused}
 use Rattle.pool.specs.Pools.{member}
 use Rattle.pool.specs.declared.Pool.{Pool}
 use Rattle.pool.specs.declared.free.Free.{Free}
@@ -83,29 +84,19 @@ module _ (s : Controller) where
       go : (q : Bool) → Handed s (pick q (asked s) (handed s Abandoned))
       go true = asked-handed s
       go false = plain s Abandoned refl
-  prepare-handed (NotAcknowledged b) xs = plain s Ended refl
-  prepare-handed Forbidden xs = plain s Abandoned refl
-  prepare-handed BufferTooShort xs = plain s Abandoned refl
-  prepare-handed (NoSymbol k) xs = plain s Abandoned refl
-  prepare-handed (EndsEarly k) xs = plain s Abandoned refl
-  prepare-handed (Unexpected k) xs = plain s Abandoned refl
-  prepare-handed (PecDiffers k) xs = plain s Abandoned refl
-  prepare-handed (AfterStop k) xs = plain s Abandoned refl
+  prepare-handed (Refused w k) xs = go (isNack w)
+    where
+      go : (q : Bool) → Handed s (pick q (handed s Ended) (handed s Abandoned))
+      go true = plain s Ended refl
+      go false = plain s Abandoned refl
 
   pub get-handed : (a : Decoded) (xs : List ℕ) → Handed s (onGet s a xs)
   get-handed (Done t) xs = reply-handed t xs
-  get-handed (NotAcknowledged b) xs = go (ltb b 3)
+  get-handed (Refused w k) xs = go (and (isNack w) (ltb k 3))
     where
       go : (q : Bool) → Handed s (pick q (handed s Ended) (asked s))
       go true = plain s Ended refl
       go false = asked-handed s
-  get-handed Forbidden xs = asked-handed s
-  get-handed BufferTooShort xs = asked-handed s
-  get-handed (NoSymbol k) xs = asked-handed s
-  get-handed (EndsEarly k) xs = asked-handed s
-  get-handed (Unexpected k) xs = asked-handed s
-  get-handed (PecDiffers k) xs = asked-handed s
-  get-handed (AfterStop k) xs = asked-handed s
 
   pub assign-handed : (u : Udid) (n : ℕ) (a : Decoded) (xs : List ℕ) → Handed s (onAssign s u n a xs)
   assign-handed u n (Done t) xs = go (isAssign u n t xs)
@@ -113,14 +104,7 @@ module _ (s : Controller) where
       go : (q : Bool) → Handed s (pick q (asked (bound s u n)) (asked s))
       go true = from s (bound s u n) (asked (bound s u n)) (bound-keeps-gets s u n) (asked-handed (bound s u n))
       go false = asked-handed s
-  assign-handed u n (NotAcknowledged b) xs = asked-handed s
-  assign-handed u n Forbidden xs = asked-handed s
-  assign-handed u n BufferTooShort xs = asked-handed s
-  assign-handed u n (NoSymbol k) xs = asked-handed s
-  assign-handed u n (EndsEarly k) xs = asked-handed s
-  assign-handed u n (Unexpected k) xs = asked-handed s
-  assign-handed u n (PecDiffers k) xs = asked-handed s
-  assign-handed u n (AfterStop k) xs = asked-handed s
+  assign-handed u n (Refused w k) xs = asked-handed s
 
   -- 21 with the state as it was, or something handed out and kept
   pub step-21-or-handed : (tr : List ℕ) → ((stepped s tr .command ≡ NotOutstanding) × (stepped s tr .state ≡ s)) ⊎ Handed s (stepped s tr)

@@ -9,9 +9,10 @@ use Rattle.wire.specs.Addresses.{defaultAddress}
 use Rattle.trace.specs.Shapes.{shapeOf}
 use Rattle.trace.specs.declared.transaction.Transaction.{Transaction}
 use Rattle.step.specs.Handed.{sentData, receivedData}
+use Rattle.step.specs.Numbers.{isNack}
 use Rattle.step.specs.Run.{decodedBy}
 use Rattle.step.specs.declared.answer.Decoded.{Decoded}
-use Rattle.step.specs.declared.answer.Decoded.the-variants.{Done, Forbidden, BufferTooShort, NoSymbol, EndsEarly, Unexpected, NotAcknowledged, PecDiffers, AfterStop}
+use Rattle.step.specs.declared.answer.Decoded.the-variants.{Done, Refused}
 use Rattle.udid.specs.Bytes.{udidAt}
 use Rattle.udid.specs.Udids.{sameUdid}
 use Rattle.udid.specs.declared.Udid.{Udid}
@@ -59,23 +60,9 @@ isAssign u a t sent = and (isCommand 0x04 t) (and (eqb (t .sent) 17) (names u a 
 -- an Assign of a to u is complete: answer 0, and the trace is that Assign
 abbrev pub completes : Udid → ℕ → Decoded → List ℕ → Bool
 completes u a (Done t) sent = isAssign u a t sent
-completes u a Forbidden sent = false
-completes u a BufferTooShort sent = false
-completes u a (NoSymbol k) sent = false
-completes u a (EndsEarly k) sent = false
-completes u a (Unexpected k) sent = false
-completes u a (NotAcknowledged b) sent = false
-completes u a (PecDiffers k) sent = false
-completes u a (AfterStop k) sent = false
+completes u a (Refused w k) sent = false
 
 -- answer 6 at byte 0, 1 or 2
 abbrev pub nobody : Decoded → Bool
 nobody (Done t) = false
-nobody Forbidden = false
-nobody BufferTooShort = false
-nobody (NoSymbol k) = false
-nobody (EndsEarly k) = false
-nobody (Unexpected k) = false
-nobody (NotAcknowledged b) = ltb b 3
-nobody (PecDiffers k) = false
-nobody (AfterStop k) = false
+nobody (Refused w b) = and (isNack w) (ltb b 3)

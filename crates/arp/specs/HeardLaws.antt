@@ -19,7 +19,7 @@ use Rattle.step.specs.Answers.{CutAt}
 use Rattle.step.specs.Handed.{lows, sentData, receivedData}
 use Rattle.step.specs.Numbers.{decodeNumber}
 use Rattle.step.specs.declared.answer.Decoded.{Decoded}
-use Rattle.step.specs.declared.answer.Decoded.the-variants.{Done, Forbidden, BufferTooShort, NoSymbol, EndsEarly, Unexpected, NotAcknowledged, PecDiffers, AfterStop}
+use Rattle.step.specs.declared.answer.Decoded.the-variants.{Done, Refused}
 use Rattle.decode.specs.OutcomeLaws.{answer-by-trace}
 use Rattle.decode.specs.Outcome.{short, answered, Outcome}
 use Rattle.udid.specs.Bytes.{number, bytesFrom, udidAt}
@@ -113,14 +113,7 @@ module _ (tr l : List ℕ) where
           ap (λ (u : Udid). pick (and (eqb (t .address .0) 0x61) (eqb (t .command) 0x03)) (pick (eqb (t .received) 17) (Replied u) Other) Other)
           (front-udid (receivedData true tr (Done t)) l (length-lows (t .received) _ ∙ eqb-true (t .received) 17 e))
       go false e = rw e
-  reply-front Forbidden = refl
-  reply-front BufferTooShort = refl
-  reply-front (NoSymbol k) = refl
-  reply-front (EndsEarly k) = refl
-  reply-front (Unexpected k) = refl
-  reply-front (NotAcknowledged b) = refl
-  reply-front (PecDiffers k) = refl
-  reply-front (AfterStop k) = refl
+  reply-front (Refused w k) = refl
 
   module _ (u : Udid) (a : ℕ) where
     assign-front : (d : Decoded) → assignIn u a d (onto (sentData (shapeOf 8) tr d) l) ≡ assignIn u a d (sentData (shapeOf 8) tr d)
@@ -137,14 +130,7 @@ module _ (tr l : List ℕ) where
             ap₂ (λ (v : Udid) (b : ℕ). result (and (eqb (t .sent) 17) (and (sameUdid v u) (eqb b (2 * a)))))
             (front-udid (sentData (shapeOf 8) tr (Done t)) l n) (front-at (sentData (shapeOf 8) tr (Done t)) l 16 (omega arith))
         go false e = rw e
-    assign-front Forbidden = refl
-    assign-front BufferTooShort = refl
-    assign-front (NoSymbol k) = refl
-    assign-front (EndsEarly k) = refl
-    assign-front (Unexpected k) = refl
-    assign-front (NotAcknowledged b) = refl
-    assign-front (PecDiffers k) = refl
-    assign-front (AfterStop k) = refl
+    assign-front (Refused w k) = refl
 
   next-reply-front : (t : Table) (n : ℕ) (d : Decoded) → nextReply t n d (onto (receivedData true tr d) l) ≡ nextReply t n d (receivedData true tr d)
   next-reply-front t n (Done x) = go (eqb (x .received) 17) refl
@@ -162,14 +148,7 @@ module _ (tr l : List ℕ) where
           let k : length (receivedData true tr (Done x)) ≡ 17 = length-lows (x .received) _ ∙ eqb-true (x .received) 17 e in
           ap₂ result (front-udid (receivedData true tr (Done x)) l k) (front-at (receivedData true tr (Done x)) l 16 (omega arith))
       go false e = rw e
-  next-reply-front t n Forbidden = refl
-  next-reply-front t n BufferTooShort = refl
-  next-reply-front t n (NoSymbol k) = refl
-  next-reply-front t n (EndsEarly k) = refl
-  next-reply-front t n (Unexpected k) = refl
-  next-reply-front t n (NotAcknowledged b) = refl
-  next-reply-front t n (PecDiffers k) = refl
-  next-reply-front t n (AfterStop k) = refl
+  next-reply-front t n (Refused w k) = refl
 
   -- a complete Send Byte has one byte
   next-prepare-front : (n : ℕ) (d : Decoded) → answer 1 tr ≡ d → nextPrepare n d (onto (sentData (shapeOf 1) tr d) l) ≡ nextPrepare n d (sentData (shapeOf 1) tr d)
@@ -177,14 +156,7 @@ module _ (tr l : List ℕ) where
       let c = step.answer-exactly 1 (shapeOf 1) (sane 1) true tr (Done t) .0 e in
       let k : length (sentData (shapeOf 1) tr (Done t)) ≡ 1 = ap length (c .data-sent) ∙ c .valid .sent-length in
       ap (λ (b : ℕ). pick (and (eqb (t .address .0) 0x61) (eqb b 0x01)) (again n) Abandoned) (front-at (sentData (shapeOf 1) tr (Done t)) l 0 (omega arith))
-  next-prepare-front n Forbidden e = refl
-  next-prepare-front n BufferTooShort e = refl
-  next-prepare-front n (NoSymbol k) e = refl
-  next-prepare-front n (EndsEarly k) e = refl
-  next-prepare-front n (Unexpected k) e = refl
-  next-prepare-front n (NotAcknowledged b) e = refl
-  next-prepare-front n (PecDiffers k) e = refl
-  next-prepare-front n (AfterStop k) e = refl
+  next-prepare-front n (Refused w k) e = refl
 
 -- THE EVENTS' READING IS DECODE'S: for every call of decode with buffers of at least 255 bytes
 module _ (tr sent₀ received₀ : List ℕ) (d : Decoded) (sent received : List ℕ) (l : 255 ≤ length sent₀) (m : 255 ≤ length received₀) where

@@ -7,12 +7,13 @@ use native.Mathlib.Omega.{arith}
 use lib.Dec.{ltb, leb, eqb}
 use lib.ListN.{length, getD, drop}
 use borrow.Author.Tests.{leb-false}
-use Rattle.lists.specs.Choice.{pick, or}
+use Rattle.lists.specs.Choice.{pick, and, or}
 use Rattle.lists.specs.Each.{Bytes}
 use Rattle.trace.specs.declared.transaction.Transaction.{Transaction}
 use Rattle.step.specs.Handed.{lows, receivedLength, receivedPlace}
+use Rattle.step.specs.Numbers.{isNack}
 use Rattle.step.specs.declared.answer.Decoded.{Decoded}
-use Rattle.step.specs.declared.answer.Decoded.the-variants.{Done, Forbidden, BufferTooShort, NoSymbol, EndsEarly, Unexpected, NotAcknowledged, PecDiffers, AfterStop}
+use Rattle.step.specs.declared.answer.Decoded.the-variants.{Done, Refused}
 use Rattle.pool.specs.CountLaws.{count-split}
 use Rattle.pool.specs.Free.{used}
 use Rattle.pool.specs.Pools.{member}
@@ -109,29 +110,19 @@ module _ (occupied : Pool) where
       go : (p : Bool) → GoodState occupied (pick p (asked s) (handed s Abandoned) .state)
       go true = good-asked s g
       go false = good-abandoned s g
-  good-prepare s (NotAcknowledged b) xs g = good-ended s g
-  good-prepare s Forbidden xs g = good-abandoned s g
-  good-prepare s BufferTooShort xs g = good-abandoned s g
-  good-prepare s (NoSymbol k) xs g = good-abandoned s g
-  good-prepare s (EndsEarly k) xs g = good-abandoned s g
-  good-prepare s (Unexpected k) xs g = good-abandoned s g
-  good-prepare s (PecDiffers k) xs g = good-abandoned s g
-  good-prepare s (AfterStop k) xs g = good-abandoned s g
+  good-prepare s (Refused w k) xs g = go (isNack w)
+    where
+      go : (p : Bool) → GoodState occupied (pick p (handed s Ended) (handed s Abandoned) .state)
+      go true = good-ended s g
+      go false = good-abandoned s g
 
   good-get : (s : Controller) (a : Decoded) (xs : List ℕ) → Good occupied s → Bytes xs → GoodState occupied (onGet s a xs .state)
   good-get s (Done t) xs g h = good-reply s t xs g h
-  good-get s (NotAcknowledged b) xs g h = go (ltb b 3)
+  good-get s (Refused w k) xs g h = go (and (isNack w) (ltb k 3))
     where
       go : (p : Bool) → GoodState occupied (pick p (handed s Ended) (asked s) .state)
       go true = good-ended s g
       go false = good-asked s g
-  good-get s Forbidden xs g h = good-asked s g
-  good-get s BufferTooShort xs g h = good-asked s g
-  good-get s (NoSymbol k) xs g h = good-asked s g
-  good-get s (EndsEarly k) xs g h = good-asked s g
-  good-get s (Unexpected k) xs g h = good-asked s g
-  good-get s (PecDiffers k) xs g h = good-asked s g
-  good-get s (AfterStop k) xs g h = good-asked s g
 
   good-assign : (s : Controller) (u : Udid) (n : ℕ) (a : Decoded) (xs : List ℕ) → Good occupied s → Pending s u n → GoodState occupied (onAssign s u n a xs .state)
   good-assign s u n (Done t) xs g p = go (isAssign u n t xs)
@@ -139,14 +130,7 @@ module _ (occupied : Pool) where
       go : (q : Bool) → GoodState occupied (pick q (asked (bound s u n)) (asked s) .state)
       go true = good-asked (bound s u n) (good-bound s u n g p)
       go false = good-asked s g
-  good-assign s u n (NotAcknowledged b) xs g p = good-asked s g
-  good-assign s u n Forbidden xs g p = good-asked s g
-  good-assign s u n BufferTooShort xs g p = good-asked s g
-  good-assign s u n (NoSymbol k) xs g p = good-asked s g
-  good-assign s u n (EndsEarly k) xs g p = good-asked s g
-  good-assign s u n (Unexpected k) xs g p = good-asked s g
-  good-assign s u n (PecDiffers k) xs g p = good-asked s g
-  good-assign s u n (AfterStop k) xs g p = good-asked s g
+  good-assign s u n (Refused w k) xs g p = good-asked s g
 
   pub step-keeps-good : (s : Controller) (tr : List ℕ) → GoodState occupied s → GoodState occupied (stepped s tr .state)
   unfolding stepped afterPrepare afterGet afterAssign

@@ -8,8 +8,9 @@ use native.Mathlib.Omega.{arith}
 use lib.Dec.{ltb, leb, eqb}
 use lib.ListN.{getD}
 use Rattle.lists.specs.Choice.{pick, and}
+use Rattle.step.specs.Numbers.{isNack}
 use Rattle.step.specs.declared.answer.Decoded.{Decoded}
-use Rattle.step.specs.declared.answer.Decoded.the-variants.{Done, Forbidden, BufferTooShort, NoSymbol, EndsEarly, Unexpected, NotAcknowledged, PecDiffers, AfterStop}
+use Rattle.step.specs.declared.answer.Decoded.the-variants.{Done, Refused}
 use Rattle.pool.specs.declared.Pool.{Pool}
 use Rattle.pool.specs.declared.free.Free.{Free}
 use Rattle.pool.specs.declared.free.Free.the-variants.{At, AllUsed}
@@ -43,14 +44,11 @@ module _ (t : Table) (n : ℕ) (u : Udid) where
       go : (b : Bool) → pick b (again n) Abandoned ≡ NoneFree u → ⊥
       go true k = again-none k
       go false k = let z : _≡_ {A = ℕ} 0 1 = cc k in omega arith
-  prepare-none (NotAcknowledged b) xs e = let z : _≡_ {A = ℕ} 0 1 = cc e in omega arith
-  prepare-none Forbidden xs e = let z : _≡_ {A = ℕ} 0 1 = cc e in omega arith
-  prepare-none BufferTooShort xs e = let z : _≡_ {A = ℕ} 0 1 = cc e in omega arith
-  prepare-none (NoSymbol k) xs e = let z : _≡_ {A = ℕ} 0 1 = cc e in omega arith
-  prepare-none (EndsEarly k) xs e = let z : _≡_ {A = ℕ} 0 1 = cc e in omega arith
-  prepare-none (Unexpected k) xs e = let z : _≡_ {A = ℕ} 0 1 = cc e in omega arith
-  prepare-none (PecDiffers k) xs e = let z : _≡_ {A = ℕ} 0 1 = cc e in omega arith
-  prepare-none (AfterStop k) xs e = let z : _≡_ {A = ℕ} 0 1 = cc e in omega arith
+  prepare-none (Refused w k) xs e = go (isNack w) e
+    where
+      go : (b : Bool) → pick b Ended Abandoned ≡ NoneFree u → ⊥
+      go true k = let z : _≡_ {A = ℕ} 0 1 = cc k in omega arith
+      go false k = let z : _≡_ {A = ℕ} 0 1 = cc k in omega arith
 
   abbrev Unserved : Happened → List ℕ → Type 0
   Unserved x xs = (x ≡ Replied u) × (picked (released u t .used) u (getD xs 16 0) ≡ AllUsed)
@@ -83,18 +81,11 @@ module _ (t : Table) (n : ℕ) (u : Udid) where
 
   reply-none-free : (d : Decoded) (xs : List ℕ) → (nextReply t n d xs ≡ NoneFree u) ↔ Unserved (replyIn d xs) xs
   reply-none-free (Done x) xs = done-none (and (eqb (x .address .0) 0x61) (eqb (x .command) 0x03)) (eqb (x .received) 17) (udidAt xs 0) xs
-  reply-none-free (NotAcknowledged b) xs = (λ e. absurd (go (ltb b 3) e), λ h. absurd (not-reply xs h))
+  reply-none-free (Refused w k) xs = (λ e. absurd (go (and (isNack w) (ltb k 3)) e), λ h. absurd (not-reply xs h))
     where
       go : (q : Bool) → pick q Ended (again n) ≡ NoneFree u → ⊥
       go true k = let z : _≡_ {A = ℕ} 0 1 = cc k in omega arith
       go false k = again-none k
-  reply-none-free Forbidden xs = neither xs
-  reply-none-free BufferTooShort xs = neither xs
-  reply-none-free (NoSymbol k) xs = neither xs
-  reply-none-free (EndsEarly k) xs = neither xs
-  reply-none-free (Unexpected k) xs = neither xs
-  reply-none-free (PecDiffers k) xs = neither xs
-  reply-none-free (AfterStop k) xs = neither xs
 
   assign-asks : (w : Udid) (a : ℕ) (d : Decoded) (xs ys : List ℕ) → Unserved (assignIn w a d xs) ys → ⊥
   assign-asks w a (Done x) xs ys h = go (and (and (eqb (x .address .0) 0x61) (eqb (x .command) 0x04)) (and (eqb (x .sent) 17) (assigns w a xs))) (h .0)
@@ -102,14 +93,7 @@ module _ (t : Table) (n : ℕ) (u : Udid) where
       go : (q : Bool) → pick q (Assigned w a) Other ≡ Replied u → ⊥
       go true k = let z : _≡_ {A = ℕ} 0 1 = cc k in omega arith
       go false k = let z : _≡_ {A = ℕ} 0 1 = cc k in omega arith
-  assign-asks w a (NotAcknowledged b) xs ys h = not-reply ys h
-  assign-asks w a Forbidden xs ys h = not-reply ys h
-  assign-asks w a BufferTooShort xs ys h = not-reply ys h
-  assign-asks w a (NoSymbol k) xs ys h = not-reply ys h
-  assign-asks w a (EndsEarly k) xs ys h = not-reply ys h
-  assign-asks w a (Unexpected k) xs ys h = not-reply ys h
-  assign-asks w a (PecDiffers k) xs ys h = not-reply ys h
-  assign-asks w a (AfterStop k) xs ys h = not-reply ys h
+  assign-asks w a (Refused v k) xs ys h = not-reply ys h
 
   idle-none : (xs : List ℕ) → (NotOutstanding ≡ NoneFree u) ↔ Unserved Other xs
   idle-none xs = (λ e. absurd (let z : _≡_ {A = ℕ} 0 1 = cc e in omega arith), λ h. absurd (not-reply xs h))

@@ -11,9 +11,10 @@ use Rattle.lists.specs.Each.{Bytes}
 use Rattle.wire.specs.declared.address.Address.{Address}
 use Rattle.trace.specs.Shapes.{forbidden}
 use Rattle.trace.specs.declared.transaction.Transaction.{Transaction}
-use Rattle.step.specs.Numbers.{decodeNumber}
+use Rattle.step.specs.NumberLaws.{refusal-is-not-0}
+use Rattle.step.specs.Numbers.{refusalNumber, decodeNumber}
 use Rattle.step.specs.declared.answer.Decoded.{Decoded}
-use Rattle.step.specs.declared.answer.Decoded.the-variants.{Done, Forbidden, BufferTooShort, NoSymbol, EndsEarly, Unexpected, NotAcknowledged, PecDiffers, AfterStop}
+use Rattle.step.specs.declared.answer.Decoded.the-variants.{Done, Refused}
 use Rattle.pool.specs.Free.{lowestFree}
 use Rattle.pool.specs.Free.{Lowest}
 use Rattle.pool.specs.FreeLaws.{lowest-is, none-free}
@@ -63,15 +64,12 @@ six-or-not protocol tr f = go (answer protocol tr) refl
     other d e n b g = n (ap (λ (x : Decoded). decodeNumber x .0) (sym e) ∙ ap (λ (p : ℕ × ℕ). p .0) (gives-exactly protocol tr 6 b f .0 g))
 
     go : (d : Decoded) → answer protocol tr ≡ d → ((b : ℕ) × Gives protocol tr 6 b) ⊎ ((b : ℕ) → Gives protocol tr 6 b → ⊥)
-    go (NotAcknowledged b) e = inl (b, gives-exactly protocol tr 6 b f .1 (ap decodeNumber e))
-    go (Done t) e = inr (other (Done t) e (λ k. omega arith))
-    go Forbidden e = inr (other Forbidden e (λ k. omega arith))
-    go BufferTooShort e = inr (other BufferTooShort e (λ k. omega arith))
-    go (NoSymbol k) e = inr (other (NoSymbol k) e (λ k. omega arith))
-    go (EndsEarly k) e = inr (other (EndsEarly k) e (λ k. omega arith))
-    go (Unexpected k) e = inr (other (Unexpected k) e (λ k. omega arith))
-    go (PecDiffers k) e = inr (other (PecDiffers k) e (λ k. omega arith))
-    go (AfterStop k) e = inr (other (AfterStop k) e (λ k. omega arith))
+    go (Done t) e = inr (other (Done t) e (λ q. omega arith))
+    go (Refused w k) e = nack (ℕ-discrete (refusalNumber w) 6)
+      where
+        nack : Dec (refusalNumber w ≡ 6) → ((b : ℕ) × Gives protocol tr 6 b) ⊎ ((b : ℕ) → Gives protocol tr 6 b → ⊥)
+        nack (yes q) = inl (k, gives-exactly protocol tr 6 k f .1 (ap decodeNumber e ∙ ap (λ (n : ℕ). (n, k)) q))
+        nack (no n) = inr (other (Refused w k) e n)
 
 -- and with one byte alone
 pub six-once : (protocol : ℕ) (tr : List ℕ) (b c : ℕ) → forbidden protocol true ≡ false → Gives protocol tr 6 b → Gives protocol tr 6 c → b ≡ c
@@ -101,14 +99,7 @@ reply-or-not s tr = go (answer blockRead tr) refl
 
     go : (d : Decoded) → answer blockRead tr ≡ d → Reply tr ⊎ ((xs : List ℕ) → Bytes xs → length xs ≤ 255 → tr ≡ replyTrace xs → ⊥)
     go (Done t) e = done t e (isGet t) refl
-    go (NotAcknowledged b) e = inr (other (NotAcknowledged b) e (λ k. omega arith))
-    go Forbidden e = inr (other Forbidden e (λ k. omega arith))
-    go BufferTooShort e = inr (other BufferTooShort e (λ k. omega arith))
-    go (NoSymbol k) e = inr (other (NoSymbol k) e (λ k. omega arith))
-    go (EndsEarly k) e = inr (other (EndsEarly k) e (λ k. omega arith))
-    go (Unexpected k) e = inr (other (Unexpected k) e (λ k. omega arith))
-    go (PecDiffers k) e = inr (other (PecDiffers k) e (λ k. omega arith))
-    go (AfterStop k) e = inr (other (AfterStop k) e (λ k. omega arith))
+    go (Refused w k) e = inr (other (Refused w k) e (λ q. omega (arith, refusal-is-not-0 w)))
 
 -- ---- what two results agree with
 

@@ -15,7 +15,7 @@ use Rattle.lists.specs.Each.{Bytes}
 use Rattle.lists.specs.EachLaws.{append-bytes}
 use Rattle.wire.specs.declared.address.Address.{Address}
 use Rattle.step.specs.declared.answer.Decoded.{Decoded}
-use Rattle.step.specs.declared.answer.Decoded.the-variants.{Done, Forbidden, BufferTooShort, NoSymbol, EndsEarly, Unexpected, NotAcknowledged, PecDiffers, AfterStop}
+use Rattle.step.specs.declared.answer.Decoded.the-variants.{Done, Refused}
 use Rattle.pool.specs.Free.{lowestFree}
 use Rattle.pool.specs.FreeLaws.{lowest-is, none-free}
 use Rattle.pool.specs.MemberLaws.{has-with-same, has-with-other, has-without-same, has-without-other}
@@ -246,14 +246,7 @@ module _ (s : Controller) (tr : List ℕ) where
 
       go : (d : Decoded) (xs : List ℕ) → onAssign s u n d xs ≡ asked s
       go (Done t) xs = either (isAssign u n t xs)
-      go (NotAcknowledged b) xs = refl
-      go Forbidden xs = refl
-      go BufferTooShort xs = refl
-      go (NoSymbol i) xs = refl
-      go (EndsEarly i) xs = refl
-      go (Unexpected i) xs = refl
-      go (PecDiffers i) xs = refl
-      go (AfterStop i) xs = refl
+      go (Refused w k) xs = refl
 
   -- Prepare accepted: send Get UDID
   pub prepare-accepted : s .last ≡ Prepare → tr ≡ prepareTrace → Continues s (stepped s tr)

@@ -8,10 +8,11 @@ use mathlib.Core.Logic.{inl, inr, _↔_}
 use native.Mathlib.Omega.{arith}
 use lib.Dec.{ltb, leb, eqb}
 use lib.ListN.{getD}
-use Rattle.lists.specs.Choice.{pick}
+use Rattle.lists.specs.Choice.{pick, and}
 use Rattle.trace.specs.declared.transaction.Transaction.{Transaction}
+use Rattle.step.specs.Numbers.{isNack}
 use Rattle.step.specs.declared.answer.Decoded.{Decoded}
-use Rattle.step.specs.declared.answer.Decoded.the-variants.{Done, Forbidden, BufferTooShort, NoSymbol, EndsEarly, Unexpected, NotAcknowledged, PecDiffers, AfterStop}
+use Rattle.step.specs.declared.answer.Decoded.the-variants.{Done, Refused}
 use Rattle.pool.specs.declared.Pool.{Pool}
 use Rattle.pool.specs.declared.free.Free.{Free}
 use Rattle.pool.specs.declared.free.Free.the-variants.{At, AllUsed}
@@ -139,14 +140,11 @@ module _ (s : Controller) where
       go : (q : Bool) → is-21 (pick q (asked s) (handed s Abandoned) .command) ≡ false
       go true = asked-not s
       go false = refl
-  prepare-not (NotAcknowledged b) xs = refl
-  prepare-not Forbidden xs = refl
-  prepare-not BufferTooShort xs = refl
-  prepare-not (NoSymbol k) xs = refl
-  prepare-not (EndsEarly k) xs = refl
-  prepare-not (Unexpected k) xs = refl
-  prepare-not (PecDiffers k) xs = refl
-  prepare-not (AfterStop k) xs = refl
+  prepare-not (Refused w k) xs = go (isNack w)
+    where
+      go : (q : Bool) → is-21 (pick q (handed s Ended) (handed s Abandoned) .command) ≡ false
+      go true = refl
+      go false = refl
 
   reply-not : (t : Transaction) (xs : List ℕ) → is-21 (onReply s t xs .command) ≡ false
   unfolding onReply replied
@@ -159,18 +157,11 @@ module _ (s : Controller) where
 
   get-not : (d : Decoded) (xs : List ℕ) → is-21 (onGet s d xs .command) ≡ false
   get-not (Done t) xs = reply-not t xs
-  get-not (NotAcknowledged b) xs = go (ltb b 3)
+  get-not (Refused w k) xs = go (and (isNack w) (ltb k 3))
     where
       go : (q : Bool) → is-21 (pick q (handed s Ended) (asked s) .command) ≡ false
       go true = refl
       go false = asked-not s
-  get-not Forbidden xs = asked-not s
-  get-not BufferTooShort xs = asked-not s
-  get-not (NoSymbol k) xs = asked-not s
-  get-not (EndsEarly k) xs = asked-not s
-  get-not (Unexpected k) xs = asked-not s
-  get-not (PecDiffers k) xs = asked-not s
-  get-not (AfterStop k) xs = asked-not s
 
   assign-not : (u : Udid) (n : ℕ) (d : Decoded) (xs : List ℕ) → is-21 (onAssign s u n d xs .command) ≡ false
   assign-not u n (Done t) xs = go (isAssign u n t xs)
@@ -178,14 +169,7 @@ module _ (s : Controller) where
       go : (q : Bool) → is-21 (pick q (asked (bound s u n)) (asked s) .command) ≡ false
       go true = asked-not (bound s u n)
       go false = asked-not s
-  assign-not u n (NotAcknowledged b) xs = asked-not s
-  assign-not u n Forbidden xs = asked-not s
-  assign-not u n BufferTooShort xs = asked-not s
-  assign-not u n (NoSymbol k) xs = asked-not s
-  assign-not u n (EndsEarly k) xs = asked-not s
-  assign-not u n (Unexpected k) xs = asked-not s
-  assign-not u n (PecDiffers k) xs = asked-not s
-  assign-not u n (AfterStop k) xs = asked-not s
+  assign-not u n (Refused w k) xs = asked-not s
 
   command-21 : (tr : List ℕ) → is-21 (stepped s tr .command) ≡ noCommand (s .last)
   unfolding stepped afterPrepare afterGet afterAssign

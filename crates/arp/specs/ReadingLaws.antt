@@ -19,7 +19,7 @@ use Rattle.trace.specs.declared.transaction.Transaction.{Transaction}
 use Rattle.step.specs.Answers.{summary}
 use Rattle.step.specs.Handed.{receivedLength}
 use Rattle.step.specs.declared.answer.Decoded.{Decoded}
-use Rattle.step.specs.declared.answer.Decoded.the-variants.{Done, Forbidden, BufferTooShort, NoSymbol, EndsEarly, Unexpected, NotAcknowledged, PecDiffers, AfterStop}
+use Rattle.step.specs.declared.answer.Decoded.the-variants.{Done, Refused}
 use Rattle.pool.specs.Start.{emptyPool}
 use Rattle.udid.specs.Bytes.{udidAt, udidBytes}
 use Rattle.udid.specs.UdidLaws.{length-udid, udid-bytes, udid-back}
@@ -70,14 +70,7 @@ reads-assign-exactly u a tr f h = (λ e. only (answer 8 tr) refl e, λ e. ap (re
     only : (d : Decoded) → answer 8 tr ≡ d → assignIn u (a .0) d (sentIn 8 tr) ≡ Assigned u (a .0) → tr ≡ traceOf (Assign u a) []
     only (Done t) e g =
         done t e (isAssign u (a .0) t (sentIn 8 tr)) refl (ap (λ (q : Bool). pick q (Assigned u (a .0)) Other) (is-assign-below-128 u (a .0) h t (sentIn 8 tr)) ∙ g)
-    only (NotAcknowledged b) e g = absurd (differ g)
-    only Forbidden e g = absurd (differ g)
-    only BufferTooShort e g = absurd (differ g)
-    only (NoSymbol k) e g = absurd (differ g)
-    only (EndsEarly k) e g = absurd (differ g)
-    only (Unexpected k) e g = absurd (differ g)
-    only (PecDiffers k) e g = absurd (differ g)
-    only (AfterStop k) e g = absurd (differ g)
+    only (Refused w k) e g = absurd (differ g)
 
 -- Get UDID outstanding: a whole trace of it with 17 bytes is read as a reply with the identifier of its first 16
 pub reads-reply : (xs : List ℕ) → Bytes xs → length xs ≡ 17 → readAs GetUdid (traceOf GetUdid xs) ≡ Replied (udidAt xs 0)
@@ -109,14 +102,7 @@ read-as-reply-is-get-udid tr u e = only (answer 9 tr) refl e
     only : (d : Decoded) → answer 9 tr ≡ d → replyIn d (receivedIn 9 tr) ≡ Replied u
         → (tr ≡ traceOf GetUdid (receivedIn 9 tr)) × (udidAt (receivedIn 9 tr) 0 ≡ u) × (length (receivedIn 9 tr) ≡ 17)
     only (Done t) k g = done t k (isGet t) refl (eqb (t .received) 17) refl g
-    only (NotAcknowledged b) k g = absurd (differ g)
-    only Forbidden k g = absurd (differ g)
-    only BufferTooShort k g = absurd (differ g)
-    only (NoSymbol i) k g = absurd (differ g)
-    only (EndsEarly i) k g = absurd (differ g)
-    only (Unexpected i) k g = absurd (differ g)
-    only (PecDiffers i) k g = absurd (differ g)
-    only (AfterStop i) k g = absurd (differ g)
+    only (Refused w i) k g = absurd (differ g)
 
 -- ---- no trace is a start
 
@@ -127,14 +113,7 @@ reply-not-started (Done t) xs e = go (and (eqb (t .address .0) 0x61) (eqb (t .co
     go true true k = let z : _≡_ {A = ℕ} 0 1 = cc k in omega arith
     go true false k = let z : _≡_ {A = ℕ} 0 1 = cc k in omega arith
     go false q k = let z : _≡_ {A = ℕ} 0 1 = cc k in omega arith
-reply-not-started (NotAcknowledged b) xs e = let z : _≡_ {A = ℕ} 0 1 = cc e in omega arith
-reply-not-started Forbidden xs e = let z : _≡_ {A = ℕ} 0 1 = cc e in omega arith
-reply-not-started BufferTooShort xs e = let z : _≡_ {A = ℕ} 0 1 = cc e in omega arith
-reply-not-started (NoSymbol k) xs e = let z : _≡_ {A = ℕ} 0 1 = cc e in omega arith
-reply-not-started (EndsEarly k) xs e = let z : _≡_ {A = ℕ} 0 1 = cc e in omega arith
-reply-not-started (Unexpected k) xs e = let z : _≡_ {A = ℕ} 0 1 = cc e in omega arith
-reply-not-started (PecDiffers k) xs e = let z : _≡_ {A = ℕ} 0 1 = cc e in omega arith
-reply-not-started (AfterStop k) xs e = let z : _≡_ {A = ℕ} 0 1 = cc e in omega arith
+reply-not-started (Refused w k) xs e = let z : _≡_ {A = ℕ} 0 1 = cc e in omega arith
 
 assign-not-started : (u : Udid) (a : ℕ) (d : Decoded) (xs : List ℕ) → assignIn u a d xs ≡ Started → ⊥
 assign-not-started u a (Done t) xs e = go (and (and (eqb (t .address .0) 0x61) (eqb (t .command) 0x04)) (and (eqb (t .sent) 17) (assigns u a xs))) e
@@ -142,14 +121,7 @@ assign-not-started u a (Done t) xs e = go (and (and (eqb (t .address .0) 0x61) (
     go : (p : Bool) → pick p (Assigned u a) Other ≡ Started → ⊥
     go true k = let z : _≡_ {A = ℕ} 0 1 = cc k in omega arith
     go false k = let z : _≡_ {A = ℕ} 0 1 = cc k in omega arith
-assign-not-started u a (NotAcknowledged b) xs e = let z : _≡_ {A = ℕ} 0 1 = cc e in omega arith
-assign-not-started u a Forbidden xs e = let z : _≡_ {A = ℕ} 0 1 = cc e in omega arith
-assign-not-started u a BufferTooShort xs e = let z : _≡_ {A = ℕ} 0 1 = cc e in omega arith
-assign-not-started u a (NoSymbol k) xs e = let z : _≡_ {A = ℕ} 0 1 = cc e in omega arith
-assign-not-started u a (EndsEarly k) xs e = let z : _≡_ {A = ℕ} 0 1 = cc e in omega arith
-assign-not-started u a (Unexpected k) xs e = let z : _≡_ {A = ℕ} 0 1 = cc e in omega arith
-assign-not-started u a (PecDiffers k) xs e = let z : _≡_ {A = ℕ} 0 1 = cc e in omega arith
-assign-not-started u a (AfterStop k) xs e = let z : _≡_ {A = ℕ} 0 1 = cc e in omega arith
+assign-not-started u a (Refused w k) xs e = let z : _≡_ {A = ℕ} 0 1 = cc e in omega arith
 
 pub trace-is-no-start : (k : Command) (tr : List ℕ) → readAs k tr ≡ Started → ⊥
 trace-is-no-start GetUdid tr e = reply-not-started (answer 9 tr) (receivedIn 9 tr) e
@@ -201,14 +173,7 @@ reply-cases (Done t) xs = go (and (eqb (t .address .0) 0x61) (eqb (t .command) 0
     go true true = inr refl
     go true false = inl refl
     go false q = inl refl
-reply-cases Forbidden xs = inl refl
-reply-cases BufferTooShort xs = inl refl
-reply-cases (NoSymbol k) xs = inl refl
-reply-cases (EndsEarly k) xs = inl refl
-reply-cases (Unexpected k) xs = inl refl
-reply-cases (NotAcknowledged k) xs = inl refl
-reply-cases (PecDiffers k) xs = inl refl
-reply-cases (AfterStop k) xs = inl refl
+reply-cases (Refused w k) xs = inl refl
 
 assign-cases : (v : Udid) (n : ℕ) (d : Decoded) (xs : List ℕ) → (assignIn v n d xs ≡ Other) ⊎ (assignIn v n d xs ≡ Assigned v n)
 assign-cases v n (Done t) xs = go (and (and (eqb (t .address .0) 0x61) (eqb (t .command) 0x04)) (and (eqb (t .sent) 17) (assigns v n xs)))
@@ -216,14 +181,7 @@ assign-cases v n (Done t) xs = go (and (and (eqb (t .address .0) 0x61) (eqb (t .
     go : (q : Bool) → (pick q (Assigned v n) Other ≡ Other) ⊎ (pick q (Assigned v n) Other ≡ Assigned v n)
     go true = inr refl
     go false = inl refl
-assign-cases v n Forbidden xs = inl refl
-assign-cases v n BufferTooShort xs = inl refl
-assign-cases v n (NoSymbol k) xs = inl refl
-assign-cases v n (EndsEarly k) xs = inl refl
-assign-cases v n (Unexpected k) xs = inl refl
-assign-cases v n (NotAcknowledged k) xs = inl refl
-assign-cases v n (PecDiffers k) xs = inl refl
-assign-cases v n (AfterStop k) xs = inl refl
+assign-cases v n (Refused w k) xs = inl refl
 
 -- A REPLY: Get UDID is outstanding, and the trace is Get UDID with 17 bytes, the identifier's first
 pub replied-exactly : (k : Command) (tr : List ℕ) (u : Udid) → Fits u → (readAs k tr ≡ Replied u) ↔ ((k ≡ GetUdid) × ReplyOf u tr)

@@ -9,8 +9,9 @@ use mathlib.Core.Logic.{_⊎_}
 use lib.Dec.{ltb, leb, eqb}
 use lib.ListN.{getD}
 use Rattle.lists.specs.Choice.{pick, and}
+use Rattle.step.specs.Numbers.{isNack}
 use Rattle.step.specs.declared.answer.Decoded.{Decoded}
-use Rattle.step.specs.declared.answer.Decoded.the-variants.{Done, Forbidden, BufferTooShort, NoSymbol, EndsEarly, Unexpected, NotAcknowledged, PecDiffers, AfterStop}
+use Rattle.step.specs.declared.answer.Decoded.the-variants.{Done, Refused}
 use Rattle.pool.specs.Pools.{member}
 use Rattle.pool.specs.Start.{startingPool}
 use Rattle.pool.specs.declared.Pool.{Pool}
@@ -85,14 +86,7 @@ after starting Other t = t
 -- where a reply is due: answer 0 for Block Read (protocol 9), from 61h with command 03h, of 17 bytes: the identifier in the first 16
 abbrev pub replyIn : Decoded → List ℕ → Happened
 replyIn (Done t) received = pick (and (eqb (t .address .0) 0x61) (eqb (t .command) 0x03)) (pick (eqb (t .received) 17) (Replied (udidAt received 0)) Other) Other
-replyIn Forbidden received = Other
-replyIn BufferTooShort received = Other
-replyIn (NoSymbol k) received = Other
-replyIn (EndsEarly k) received = Other
-replyIn (Unexpected k) received = Other
-replyIn (NotAcknowledged b) received = Other
-replyIn (PecDiffers k) received = Other
-replyIn (AfterStop k) received = Other
+replyIn (Refused w k) received = Other
 
 -- the bytes of Assign Address: u, and a in the upper seven bits of the last byte, bit 0 zero
 abbrev pub assigns : Udid → ℕ → List ℕ → Bool
@@ -102,14 +96,7 @@ assigns u a sent = and (sameUdid (udidAt sent 0) u) (eqb (getD sent 16 0) (2 * a
 abbrev pub assignIn : Udid → ℕ → Decoded → List ℕ → Happened
 assignIn u a (Done t) sent =
     pick (and (and (eqb (t .address .0) 0x61) (eqb (t .command) 0x04)) (and (eqb (t .sent) 17) (assigns u a sent))) (Assigned u a) Other
-assignIn u a Forbidden sent = Other
-assignIn u a BufferTooShort sent = Other
-assignIn u a (NoSymbol k) sent = Other
-assignIn u a (EndsEarly k) sent = Other
-assignIn u a (Unexpected k) sent = Other
-assignIn u a (NotAcknowledged b) sent = Other
-assignIn u a (PecDiffers k) sent = Other
-assignIn u a (AfterStop k) sent = Other
+assignIn u a (Refused w k) sent = Other
 
 -- by the command that is outstanding; a trace where none is, or where Prepare is, changes nothing
 abbrev pub readAs : Command → List ℕ → Happened
@@ -190,14 +177,7 @@ assigning u AllUsed = NoneFree u
 -- Prepare accepted (answer 0 for Send Byte, protocol 1, to 61h, of the byte 01h): Get UDID. Answer 6: the pass ends. Any other: 14
 abbrev pub nextPrepare : ℕ → Decoded → List ℕ → Command
 nextPrepare n (Done t) sent = pick (and (eqb (t .address .0) 0x61) (eqb (getD sent 0 0) 0x01)) (again n) Abandoned
-nextPrepare n (NotAcknowledged b) sent = Ended
-nextPrepare n Forbidden sent = Abandoned
-nextPrepare n BufferTooShort sent = Abandoned
-nextPrepare n (NoSymbol k) sent = Abandoned
-nextPrepare n (EndsEarly k) sent = Abandoned
-nextPrepare n (Unexpected k) sent = Abandoned
-nextPrepare n (PecDiffers k) sent = Abandoned
-nextPrepare n (AfterStop k) sent = Abandoned
+nextPrepare n (Refused w k) sent = pick (isNack w) Ended Abandoned
 
 -- a reply of 17 bytes: an address is assigned, picked from the pool with what the identifier was bound to freed. A complete reply of another
 -- count, or answer 6 at byte 0, 1 or 2: the pass ends. Another address or command, or any other refusal: Get UDID again
@@ -206,14 +186,7 @@ nextReply t n (Done x) received =
     pick (and (eqb (x .address .0) 0x61) (eqb (x .command) 0x03))
     (pick (eqb (x .received) 17) (assigning (udidAt received 0) (picked (released (udidAt received 0) t .used) (udidAt received 0) (getD received 16 0))) Ended)
     (again n)
-nextReply t n (NotAcknowledged b) received = pick (ltb b 3) Ended (again n)
-nextReply t n Forbidden received = again n
-nextReply t n BufferTooShort received = again n
-nextReply t n (NoSymbol k) received = again n
-nextReply t n (EndsEarly k) received = again n
-nextReply t n (Unexpected k) received = again n
-nextReply t n (PecDiffers k) received = again n
-nextReply t n (AfterStop k) received = again n
+nextReply t n (Refused w k) received = pick (and (isNack w) (ltb k 3)) Ended (again n)
 
 -- after an Assign, complete or not: Get UDID. With no command of a pass outstanding: 21
 abbrev pub nextCommand : Table → ℕ → Command → List ℕ → Command

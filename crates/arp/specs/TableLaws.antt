@@ -10,10 +10,11 @@ use native.Mathlib.Omega.{arith}
 use lib.Dec.{ltb, leb, eqb}
 use lib.ListN.{length, getD, set}
 use borrow.Author.Tests.{lt-ltb, le-ltb, eq-eqb, ne-eqb}
-use Rattle.lists.specs.Choice.{pick}
+use Rattle.lists.specs.Choice.{pick, and}
 use Rattle.trace.specs.declared.transaction.Transaction.{Transaction}
+use Rattle.step.specs.Numbers.{isNack}
 use Rattle.step.specs.declared.answer.Decoded.{Decoded}
-use Rattle.step.specs.declared.answer.Decoded.the-variants.{Done, Forbidden, BufferTooShort, NoSymbol, EndsEarly, Unexpected, NotAcknowledged, PecDiffers, AfterStop}
+use Rattle.step.specs.declared.answer.Decoded.the-variants.{Done, Refused}
 use Rattle.pool.specs.MemberLaws.{has-with-same, has-with-other, has-without-same, has-without-other}
 use Rattle.pool.specs.Pools.{member, withAddress, withoutAddress}
 use Rattle.pool.specs.Start.{startingPool}
@@ -157,14 +158,11 @@ module _ (starting : ℕ → Bool) (s : Controller) (v : SoundIn s) where
       go : (q : Bool) → view (pick q (asked s) (handed s Abandoned) .state) ≡ view s
       go true = asked-view s
       go false = refl
-  prepare-view (NotAcknowledged b) xs = refl
-  prepare-view Forbidden xs = refl
-  prepare-view BufferTooShort xs = refl
-  prepare-view (NoSymbol k) xs = refl
-  prepare-view (EndsEarly k) xs = refl
-  prepare-view (Unexpected k) xs = refl
-  prepare-view (PecDiffers k) xs = refl
-  prepare-view (AfterStop k) xs = refl
+  prepare-view (Refused w k) xs = go (isNack w)
+    where
+      go : (q : Bool) → view (pick q (handed s Ended) (handed s Abandoned) .state) ≡ view s
+      go true = refl
+      go false = refl
 
   reply-view : (t : Transaction) (xs : List ℕ) → view (onReply s t xs .state) ≡ after starting (replyIn (Done t) xs) (view s)
   unfolding onReply
@@ -178,18 +176,11 @@ module _ (starting : ℕ → Bool) (s : Controller) (v : SoundIn s) where
 
   get-view : (d : Decoded) (xs : List ℕ) → view (onGet s d xs .state) ≡ after starting (replyIn d xs) (view s)
   get-view (Done t) xs = reply-view t xs
-  get-view (NotAcknowledged b) xs = go (ltb b 3)
+  get-view (Refused w k) xs = go (and (isNack w) (ltb k 3))
     where
       go : (q : Bool) → view (pick q (handed s Ended) (asked s) .state) ≡ view s
       go true = refl
       go false = asked-view s
-  get-view Forbidden xs = asked-view s
-  get-view BufferTooShort xs = asked-view s
-  get-view (NoSymbol k) xs = asked-view s
-  get-view (EndsEarly k) xs = asked-view s
-  get-view (Unexpected k) xs = asked-view s
-  get-view (PecDiffers k) xs = asked-view s
-  get-view (AfterStop k) xs = asked-view s
 
   module _ (u : Udid) (n : ℕ) (h : n < 128) where
     assign-view : (d : Decoded) (xs : List ℕ) → view (onAssign s u n d xs .state) ≡ after starting (assignIn u n d xs) (view s)
@@ -199,14 +190,7 @@ module _ (starting : ℕ → Bool) (s : Controller) (v : SoundIn s) where
         go : (q : Bool) → view (pick q (asked (bound s u n)) (asked s) .state) ≡ after starting (pick q (Assigned u n) Other) (view s)
         go true = asked-view (bound s u n) ∙ bound-view starting s u n (v .size) h
         go false = asked-view s
-    assign-view (NotAcknowledged b) xs = asked-view s
-    assign-view Forbidden xs = asked-view s
-    assign-view BufferTooShort xs = asked-view s
-    assign-view (NoSymbol k) xs = asked-view s
-    assign-view (EndsEarly k) xs = asked-view s
-    assign-view (Unexpected k) xs = asked-view s
-    assign-view (PecDiffers k) xs = asked-view s
-    assign-view (AfterStop k) xs = asked-view s
+    assign-view (Refused w k) xs = asked-view s
 
   step-view : PendingIn s (s .last) → (tr : List ℕ) → view (stepped s tr .state) ≡ after starting (readAs (s .last) tr) (view s)
   unfolding stepped afterPrepare afterGet afterAssign

@@ -9,7 +9,7 @@ use lib.Dec.{ltb, eqb}
 use lib.ListN.{length, getD, drop, length-drop}
 use lib.Seq.{getD-at, split-at}
 use borrow.Author.Tests.{ltb-true, lt-ltb, eqb-true, eq-eqb, ne-eqb}
-use Rattle.lists.specs.Choice.{pick}
+use Rattle.lists.specs.Choice.{pick, and}
 use Rattle.lists.specs.Each.{Bytes}
 use Rattle.wire.specs.Addresses.{defaultAddress}
 use Rattle.wire.specs.declared.address.Address.{Address}
@@ -21,8 +21,12 @@ use Rattle.trace.specs.declared.transaction.Transaction.{Transaction}
 use Rattle.step.specs.AnswersLaws as step
 use Rattle.step.specs.Answers.{CutAt, Carries, summary}
 use Rattle.step.specs.Handed.{sentData, receivedData}
+use Rattle.step.specs.NumberLaws.{nack-is}
+use Rattle.step.specs.Numbers.{isNack}
 use Rattle.step.specs.declared.answer.Decoded.{Decoded}
-use Rattle.step.specs.declared.answer.Decoded.the-variants.{Done, Forbidden, BufferTooShort, NoSymbol, EndsEarly, Unexpected, NotAcknowledged, PecDiffers, AfterStop}
+use Rattle.step.specs.declared.answer.Decoded.the-variants.{Done, Refused}
+use Rattle.step.specs.declared.answer.Refusal.{Refusal}
+use Rattle.step.specs.declared.answer.Refusal.the-variants.{NotAcknowledged}
 use Rattle.udid.specs.Bytes.{udidBytes, udidAt}
 use Rattle.udid.specs.UdidLaws.{length-udid, udid-back, bytes-back, same-equal, same-refl}
 use Rattle.udid.specs.Udids.{Fits, sameUdid}
@@ -49,11 +53,12 @@ complete protocol tr t e =
     subst (λ (x : Decoded). Carries protocol (shapeOf protocol) true tr t (sentData (shapeOf protocol) tr x) (receivedData true tr x)) (sym e)
     (step.answer-exactly protocol (shapeOf protocol) (sane protocol) true tr (Done t) .0 e)
 
-cut : (protocol : ℕ) (tr : List ℕ) (b : ℕ) → CutAt (shapeOf protocol) true tr b → answer protocol tr ≡ NotAcknowledged b
-cut protocol tr b h = step.answer-exactly protocol (shapeOf protocol) (sane protocol) true tr (NotAcknowledged b) .1 (h, refl, refl)
+cut : (protocol : ℕ) (tr : List ℕ) (b : ℕ) → CutAt (shapeOf protocol) true tr b → answer protocol tr ≡ Refused NotAcknowledged b
+cut protocol tr b h = step.answer-exactly protocol (shapeOf protocol) (sane protocol) true tr (Refused NotAcknowledged b) .1 (h, refl, refl)
 
-cut-back : (protocol : ℕ) (tr : List ℕ) (b : ℕ) → answer protocol tr ≡ NotAcknowledged b → CutAt (shapeOf protocol) true tr b
-cut-back protocol tr b e = step.answer-exactly protocol (shapeOf protocol) (sane protocol) true tr (NotAcknowledged b) .0 e .0
+cut-back : (protocol : ℕ) (tr : List ℕ) (w : Refusal) (b : ℕ) → answer protocol tr ≡ Refused w b → isNack w ≡ true → CutAt (shapeOf protocol) true tr b
+cut-back protocol tr w b e h =
+    step.answer-exactly protocol (shapeOf protocol) (sane protocol) true tr (Refused NotAcknowledged b) .0 (e ∙ ap (λ (v : Refusal). Refused v b) (nack-is w h)) .0
 
 -- two messages with the same fields
 message-is : (m n : Message) → m .address ≡ n .address → m .direction ≡ n .direction → m .command ≡ n .command → m .sent ≡ n .sent → m .received ≡ n .received → m ≡ n
@@ -105,16 +110,13 @@ module _ (s : Controller) (tr : List ℕ) where
       done t e true h = absurd (n (prepare-only t e h))
       done t e false h = refl
 
+      nack : (w : Refusal) (b : ℕ) → answer sendByte tr ≡ Refused w b → (p : Bool) → isNack w ≡ p → pick p (handed s Ended) (handed s Abandoned) ≡ handed s Abandoned
+      nack w b e true g = absurd (k b (cut-back sendByte tr w b e g))
+      nack w b e false g = refl
+
       go : (x : Decoded) → answer sendByte tr ≡ x → onPrepare s x (sentIn sendByte tr) ≡ handed s Abandoned
       go (Done t) e = done t e (isPrepare t (sentIn sendByte tr)) refl
-      go (NotAcknowledged b) e = absurd (k b (cut-back sendByte tr b e))
-      go Forbidden e = refl
-      go BufferTooShort e = refl
-      go (NoSymbol i) e = refl
-      go (EndsEarly i) e = refl
-      go (Unexpected i) e = refl
-      go (PecDiffers i) e = refl
-      go (AfterStop i) e = refl
+      go (Refused w i) e = nack w i e (isNack w) refl
 
 -- ---- Get UDID
 
@@ -168,20 +170,14 @@ module _ (s : Controller) (tr : List ℕ) where
       done t e true h = let d = complete-get-data-fits t e in absurd (n (receivedIn blockRead tr) (d .0) (d .1) (complete-get-is-its-trace t e h))
       done t e false h = refl
 
-      nack : (b : ℕ) → answer blockRead tr ≡ NotAcknowledged b → (q : Bool) → ltb b 3 ≡ q → pick q (handed s Ended) (asked s) ≡ asked s
-      nack b e true h = absurd (k b (cut-back blockRead tr b e) (ltb-true b 3 h))
-      nack b e false h = refl
+      nack : (w : Refusal) (b : ℕ) → answer blockRead tr ≡ Refused w b → (p : Bool) → isNack w ≡ p → (q : Bool) → ltb b 3 ≡ q → pick (and p q) (handed s Ended) (asked s) ≡ asked s
+      nack w b e true g true h = absurd (k b (cut-back blockRead tr w b e g) (ltb-true b 3 h))
+      nack w b e true g false h = refl
+      nack w b e false g q h = refl
 
       go : (x : Decoded) → answer blockRead tr ≡ x → onGet s x (receivedIn blockRead tr) ≡ asked s
       go (Done t) e = done t e (isGet t) refl
-      go (NotAcknowledged b) e = nack b e (ltb b 3) refl
-      go Forbidden e = refl
-      go BufferTooShort e = refl
-      go (NoSymbol i) e = refl
-      go (EndsEarly i) e = refl
-      go (Unexpected i) e = refl
-      go (PecDiffers i) e = refl
-      go (AfterStop i) e = refl
+      go (Refused w i) e = nack w i e (isNack w) refl (ltb i 3) refl
 
 -- ---- Assign Address
 
@@ -238,11 +234,4 @@ module _ (s : Controller) (u : Udid) (a : Address) (tr : List ℕ) where
 
       go : (x : Decoded) → answer blockWrite tr ≡ x → onAssign s u (a .0) x (sentIn blockWrite tr) ≡ asked s
       go (Done t) e = done t e (isAssign u (a .0) t (sentIn blockWrite tr)) refl
-      go (NotAcknowledged b) e = refl
-      go Forbidden e = refl
-      go BufferTooShort e = refl
-      go (NoSymbol i) e = refl
-      go (EndsEarly i) e = refl
-      go (Unexpected i) e = refl
-      go (PecDiffers i) e = refl
-      go (AfterStop i) e = refl
+      go (Refused w k) e = refl

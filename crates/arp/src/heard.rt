@@ -3,6 +3,7 @@ ghost use mathlib.Core.Path.{_≡_};
 ghost use lib.ListN.{getD};
 ghost use Rattle.arp.specs.Heard.{isCommand, isPrepare, names, isAssign, completes, nobody};
 use step::answer::Decoded;
+use step::number::is_nack;
 use trace::transaction::Transaction;
 use udid::Udid;
 use wire::address::Address;
@@ -69,19 +70,18 @@ pub(crate) fn is_assign(u: Udid, a: Address, t: Transaction, sent: &[u8]) -> boo
 pub(crate) fn is_complete(u: Udid, a: Address, answer: Decoded, sent: &[u8]) -> bool
     ensures { λ r. ⌜ r ≡ completes u (a .0) answer (now (sent .entry)) ⌝ }
 {
-    let Decoded::Done(t) = answer else {
-        return false;
-    };
-    is_assign(u, a, t, sent)
+    match answer {
+        Decoded::Done(t) => is_assign(u, a, t, sent),
+        Decoded::Refused(_, _) => false,
+    }
 }
 
 // Nobody answers Get UDID any more: byte 0, 1 or 2 was not acknowledged.
 pub(crate) fn is_nobody(a: Decoded) -> bool
     ensures { λ r. ⌜ r ≡ nobody a ⌝ }
 {
-    if let Decoded::NotAcknowledged(b) = a {
-        b < 3
-    } else {
-        false
+    match a {
+        Decoded::Done(_) => false,
+        Decoded::Refused(w, b) => { if is_nack(w) { b < 3 } else { false } }
     }
 }

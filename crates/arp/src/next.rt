@@ -13,6 +13,7 @@ use super::state::Controller;
 use super::state::Stepped;
 use pool::free::Free;
 use step::answer::Decoded;
+use step::number::is_nack;
 use trace::transaction::Transaction;
 use udid::Udid;
 use wire::address::Address;
@@ -52,16 +53,21 @@ impl Controller {
         let mut sent = [0u8; 255];
         let mut received = [0u8; 255];
         let answer = decode::decode(1, true, trace, &mut sent, &mut received);
-        if let Decoded::NotAcknowledged(_) = answer {
-            return self.hand(Command::Ended);
-        }
-        let Decoded::Done(t) = answer else {
-            return self.hand(Command::Abandoned);
-        };
-        if is_prepare(t, &sent) {
-            self.ask()
-        } else {
-            self.hand(Command::Abandoned)
+        match answer {
+            Decoded::Done(t) => {
+                if is_prepare(t, &sent) {
+                    self.ask()
+                } else {
+                    self.hand(Command::Abandoned)
+                }
+            }
+            Decoded::Refused(w, _) => {
+                if is_nack(w) {
+                    self.hand(Command::Ended)
+                } else {
+                    self.hand(Command::Abandoned)
+                }
+            }
         }
     }
 
@@ -75,10 +81,10 @@ impl Controller {
         if is_nobody(answer) {
             return self.hand(Command::Ended);
         }
-        let Decoded::Done(t) = answer else {
-            return self.ask();
-        };
-        self.on_complete(t, &received)
+        match answer {
+            Decoded::Done(t) => self.on_complete(t, &received),
+            Decoded::Refused(_, _) => self.ask(),
+        }
     }
 
     // Assign Address is outstanding.

@@ -15,7 +15,7 @@ use Rattle.pool.specs.declared.Pool.{Pool}
 use Rattle.pool.specs.declared.free.Free.{Free}
 use Rattle.pool.specs.declared.free.Free.the-variants.{At, AllUsed}
 use Rattle.step.specs.declared.answer.Decoded.{Decoded}
-use Rattle.step.specs.declared.answer.Decoded.the-variants.{Done, Forbidden, BufferTooShort, NoSymbol, EndsEarly, Unexpected, NotAcknowledged, PecDiffers, AfterStop}
+use Rattle.step.specs.declared.answer.Decoded.the-variants.{Done, Refused}
 use Rattle.udid.specs.declared.Udid.{Udid}
 use Rattle.targets.specs.AdmissionLaws.{admitted-length}
 use Rattle.targets.specs.IndexLaws.{length-targets}
@@ -70,14 +70,7 @@ fine-assigned c u a (Done t) sent ts h = go (isAssign u a t sent)
     go : (b : Bool) → Fine (pick b (asked (bound c u a)) (asked c)) ts
     go true = fine-asked (bound c u a) ts h
     go false = fine-asked c ts h
-fine-assigned c u a (NotAcknowledged b) sent ts h = fine-asked c ts h
-fine-assigned c u a Forbidden sent ts h = fine-asked c ts h
-fine-assigned c u a BufferTooShort sent ts h = fine-asked c ts h
-fine-assigned c u a (NoSymbol k) sent ts h = fine-asked c ts h
-fine-assigned c u a (EndsEarly k) sent ts h = fine-asked c ts h
-fine-assigned c u a (Unexpected k) sent ts h = fine-asked c ts h
-fine-assigned c u a (PecDiffers k) sent ts h = fine-asked c ts h
-fine-assigned c u a (AfterStop k) sent ts h = fine-asked c ts h
+fine-assigned c u a (Refused w k) sent ts h = fine-asked c ts h
 
 -- Prepare To ARP
 fine-prepare : (c : Controller) (ts : List Target) → c .last ≡ Prepare → Fine (stepped c (onBus Prepare ts)) (acted Prepare ts)

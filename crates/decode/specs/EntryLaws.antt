@@ -15,7 +15,8 @@ use Rattle.trace.specs.Shapes.{shapeOf, forbidden}
 use Rattle.trace.specs.Sane.{Sane}
 use Rattle.trace.specs.ShapeLaws.{sane}
 use Rattle.step.specs.declared.answer.Decoded.{Decoded}
-use Rattle.step.specs.declared.answer.Decoded.the-variants.{Forbidden, BufferTooShort}
+use Rattle.step.specs.declared.answer.Decoded.the-variants.{Refused}
+use Rattle.step.specs.declared.answer.Refusal.the-variants.{Forbidden, BufferTooShort}
 use Rattle.step.specs.Run.{decodedBy}
 use Rattle.step.specs.Handed.{sentLength, receivedLength, sentPlace, receivedPlace, sentData, receivedData}
 use Rattle.step.specs.Sizes.{Sizes}
@@ -24,7 +25,7 @@ use Rattle.decode.specs.Outcome.{short, answered, Outcome}
 
 -- the answer, from the tests
 answered-is : (protocol : ℕ) (pec : Bool) (tr : List ℕ) (s r : ℕ) (b c : Bool) → forbidden protocol pec ≡ b → short s r ≡ c
-    → pick b Forbidden (pick c BufferTooShort (decodedBy protocol (shapeOf protocol) pec tr)) ≡ answered protocol pec tr s r
+    → pick b (Refused Forbidden 0) (pick c (Refused BufferTooShort 0) (decodedBy protocol (shapeOf protocol) pec tr)) ≡ answered protocol pec tr s r
 unfolding answered
 answered-is protocol pec tr s r b c e f = sym (rw (e, f))
 
@@ -38,10 +39,10 @@ both-at-least-255 s r h = let n = neither (ltb s 255) (ltb r 255) h in (ltb-fals
 
 module _ (protocol : ℕ) (p : Bool) (tr s r : List ℕ) where
   -- refused before the trace is read
-  pub outcome-forbidden : forbidden protocol p ≡ true → Outcome protocol p tr s r Forbidden s r
+  pub outcome-forbidden : forbidden protocol p ≡ true → Outcome protocol p tr s r (Refused Forbidden 0) s r
   outcome-forbidden h = record { answer = answered-is protocol p tr (length s) (length r) true _ h refl; data-sent = refl; data-received = refl }
 
-  pub outcome-short : forbidden protocol p ≡ false → short (length s) (length r) ≡ true → Outcome protocol p tr s r BufferTooShort s r
+  pub outcome-short : forbidden protocol p ≡ false → short (length s) (length r) ≡ true → Outcome protocol p tr s r (Refused BufferTooShort 0) s r
   outcome-short h g = record { answer = answered-is protocol p tr (length s) (length r) false true h g; data-sent = refl; data-received = refl }
 
   module _ (sh : Shape) (a : Decoded) (e : sh ≡ shapeOf protocol) (g : a ≡ decodedBy protocol sh p tr) where

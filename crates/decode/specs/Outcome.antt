@@ -9,7 +9,8 @@ use Rattle.lists.specs.Choice.{pick, or}
 use Rattle.lists.specs.Onto.{onto}
 use Rattle.trace.specs.Shapes.{shapeOf, forbidden}
 use Rattle.step.specs.declared.answer.Decoded.{Decoded}
-use Rattle.step.specs.declared.answer.Decoded.the-variants.{Forbidden, BufferTooShort}
+use Rattle.step.specs.declared.answer.Decoded.the-variants.{Refused}
+use Rattle.step.specs.declared.answer.Refusal.the-variants.{Forbidden, BufferTooShort}
 use Rattle.step.specs.Run.{decodedBy}
 use Rattle.step.specs.Handed.{sentData, receivedData}
 use Rattle.step.specs.Answers.{Answers}
@@ -25,7 +26,7 @@ short sentRoom receivedRoom = or (ltb sentRoom 255) (ltb receivedRoom 255)
 -- the answer, with the lengths of the two buffers: 1, then 2, then what the trace says
 unfoldable pub answered : ℕ → Bool → List ℕ → ℕ → ℕ → Decoded
 answered protocol pec tr sentRoom receivedRoom =
-    pick (forbidden protocol pec) Forbidden (pick (short sentRoom receivedRoom) BufferTooShort (decodedBy protocol (shapeOf protocol) pec tr))
+    pick (forbidden protocol pec) (Refused Forbidden 0) (pick (short sentRoom receivedRoom) (Refused BufferTooShort 0) (decodedBy protocol (shapeOf protocol) pec tr))
 
 -- the answer a of a call, and what the buffers hold after it, which held sent₀ and received₀ before
 pub record Outcome (protocol : ℕ) (pec : Bool) (tr sent₀ received₀ : List ℕ) (a : Decoded) (sent received : List ℕ) : Type 0 where
@@ -49,6 +50,6 @@ pub record Read (protocol : ℕ) (pec : Bool) (tr sent₀ received₀ : List ℕ
 
 abbrev pub Means : ℕ → Bool → List ℕ → List ℕ → List ℕ → Decoded → List ℕ → List ℕ → Type 0
 Means protocol pec tr sent₀ received₀ a sent received =
-    pick (forbidden protocol pec) (Unread Forbidden sent₀ received₀ a sent received)
-    (pick (short (length sent₀) (length received₀)) (Unread BufferTooShort sent₀ received₀ a sent received)
+    pick (forbidden protocol pec) (Unread (Refused Forbidden 0) sent₀ received₀ a sent received)
+    (pick (short (length sent₀) (length received₀)) (Unread (Refused BufferTooShort 0) sent₀ received₀ a sent received)
     (Read protocol pec tr sent₀ received₀ a sent received))

@@ -13,11 +13,14 @@ use Rattle.trace.specs.Shapes.{shapeOf, forbidden}
 use Rattle.trace.specs.ShapeLaws.{sane}
 use Rattle.trace.specs.Trace.{Message, trace, Valid}
 use Rattle.step.specs.declared.answer.Decoded.{Decoded}
-use Rattle.step.specs.declared.answer.Decoded.the-variants.{Done, Forbidden, BufferTooShort, NoSymbol, EndsEarly, Unexpected, NotAcknowledged, PecDiffers, AfterStop}
+use Rattle.step.specs.declared.answer.Decoded.the-variants.{Done, Refused}
+use Rattle.step.specs.declared.answer.Refusal.{Refusal}
+use Rattle.step.specs.declared.answer.Refusal.the-variants.{Forbidden, BufferTooShort}
 use Rattle.step.specs.Run.{decodedBy}
 use Rattle.step.specs.Handed.{sentData, receivedData}
-use Rattle.step.specs.Numbers.{decodeNumber}
-use Rattle.step.specs.Answers.{Answers, summary}
+use Rattle.step.specs.NumberLaws.{refused-of}
+use Rattle.step.specs.Numbers.{refusalNumber, decodeNumber}
+use Rattle.step.specs.Answers.{Because, Answers, summary}
 use Rattle.step.specs.AnswersLaws as step
 use Rattle.decode.specs.Outcome.{short, answered, Outcome, Unread, Read, Means}
 
@@ -35,12 +38,12 @@ module _ (protocol : ℕ) (pec : Bool) (tr sent₀ received₀ : List ℕ) where
   -- the outcome is what the scope says, and nothing else is
   abbrev Computed : Bool → Bool → Decoded → List ℕ → List ℕ → Type 0
   Computed b c a s r =
-      (a ≡ pick b Forbidden (pick c BufferTooShort (decodedBy protocol (shapeOf protocol) pec tr)))
+      (a ≡ pick b (Refused Forbidden 0) (pick c (Refused BufferTooShort 0) (decodedBy protocol (shapeOf protocol) pec tr)))
       × (s ≡ onto (sentData (shapeOf protocol) tr a) sent₀) × (r ≡ onto (receivedData pec tr a) received₀)
 
   abbrev Says : Bool → Bool → Decoded → List ℕ → List ℕ → Type 0
   Says b c a s r =
-      pick b (Unread Forbidden sent₀ received₀ a s r) (pick c (Unread BufferTooShort sent₀ received₀ a s r) (Read protocol pec tr sent₀ received₀ a s r))
+      pick b (Unread (Refused Forbidden 0) sent₀ received₀ a s r) (pick c (Unread (Refused BufferTooShort 0) sent₀ received₀ a s r) (Read protocol pec tr sent₀ received₀ a s r))
 
   computed-says : (b c : Bool) (a : Decoded) (s r : List ℕ) → Computed b c a s r → Says b c a s r
   computed-says true c a s r h = record {
@@ -87,21 +90,10 @@ module _ (protocol : ℕ) (pec : Bool) (tr sent₀ received₀ : List ℕ) where
   )
 
 -- 1 and 2 are given exactly in their cases, in this order; every other number is the trace's
-never-unread : (protocol : ℕ) (pec : Bool) (tr : List ℕ) (n : ℕ) → n ≤ 2 → 1 ≤ n → decodeNumber (decodedBy protocol (shapeOf protocol) pec tr) .0 ≡ n → ⊥
-never-unread protocol pec tr n h g e =
-    let k = step.answer-holds protocol (shapeOf protocol) (sane protocol) pec tr in
-    go (decodedBy protocol (shapeOf protocol) pec tr) k e
-  where
-    go : (a : Decoded) → Answers protocol (shapeOf protocol) pec tr a (sentData (shapeOf protocol) tr a) (receivedData pec tr a) → decodeNumber a .0 ≡ n → ⊥
-    go (Done t) k e = omega arith
-    go Forbidden k e = k
-    go BufferTooShort k e = k
-    go (NoSymbol i) k e = omega arith
-    go (EndsEarly i) k e = omega arith
-    go (Unexpected i) k e = omega arith
-    go (NotAcknowledged i) k e = omega arith
-    go (PecDiffers i) k e = omega arith
-    go (AfterStop i) k e = omega arith
+never-unread : (protocol : ℕ) (pec : Bool) (tr : List ℕ) (w : Refusal) (k : ℕ) → (Because (shapeOf protocol) pec tr w k → ⊥)
+    → decodeNumber (decodedBy protocol (shapeOf protocol) pec tr) ≡ (refusalNumber w, k) → ⊥
+never-unread protocol pec tr w k n e =
+    n (step.answer-exactly protocol (shapeOf protocol) (sane protocol) pec tr (Refused w k) .0 (refused-of (decodedBy protocol (shapeOf protocol) pec tr) w k e) .0)
 
 module _ (protocol : ℕ) (pec : Bool) (tr sent₀ received₀ : List ℕ) (a : Decoded) (s r : List ℕ) (h : Outcome protocol pec tr sent₀ received₀ a s r) where
   abbrev isForbidden : Bool
@@ -111,7 +103,7 @@ module _ (protocol : ℕ) (pec : Bool) (tr sent₀ received₀ : List ℕ) (a : 
   isShort = short (length sent₀) (length received₀)
 
   abbrev whole : Bool → Bool → Decoded
-  whole b c = pick b Forbidden (pick c BufferTooShort (decodedBy protocol (shapeOf protocol) pec tr))
+  whole b c = pick b (Refused Forbidden 0) (pick c (Refused BufferTooShort 0) (decodedBy protocol (shapeOf protocol) pec tr))
 
   first-of : (e : ℕ × ℕ) (n : ℕ) → e ≡ (n, 0) → e .0 ≡ n
   first-of e n q = ap (λ (x : ℕ × ℕ). x .0) q
@@ -123,7 +115,7 @@ module _ (protocol : ℕ) (pec : Bool) (tr sent₀ received₀ : List ℕ) (a : 
       there : (b c : Bool) → decodeNumber (whole b c) ≡ (1, 0) → b ≡ true
       there true c e = refl
       there false true e = absurd (omega (arith, first-of _ 1 e))
-      there false false e = absurd (never-unread protocol pec tr 1 (omega arith) (omega arith) (first-of _ 1 e))
+      there false false e = absurd (never-unread protocol pec tr Forbidden 0 (λ h. h) e)
 
       back : (b c : Bool) → b ≡ true → decodeNumber (whole b c) ≡ (1, 0)
       back b c e = rw e
@@ -135,7 +127,7 @@ module _ (protocol : ℕ) (pec : Bool) (tr sent₀ received₀ : List ℕ) (a : 
       there : (b c : Bool) → decodeNumber (whole b c) ≡ (2, 0) → (b ≡ false) × (c ≡ true)
       there true c e = absurd (omega (arith, first-of _ 2 e))
       there false true e = (refl, refl)
-      there false false e = absurd (never-unread protocol pec tr 2 (omega arith) (omega arith) (first-of _ 2 e))
+      there false false e = absurd (never-unread protocol pec tr BufferTooShort 0 (λ h. h) e)
 
       back : (b c : Bool) → b ≡ false → c ≡ true → decodeNumber (whole b c) ≡ (2, 0)
       back b c e g = rw (e, g)
@@ -162,14 +154,7 @@ module _ (protocol : ℕ) (pec : Bool) (tr sent₀ received₀ : List ℕ) (a : 
 -- a refusal changes no byte of either buffer
 no-data : (protocol : ℕ) (pec : Bool) (tr l : List ℕ) (a : Decoded) → (decodeNumber a .0 ≡ 0 → ⊥) → (onto (sentData (shapeOf protocol) tr a) l ≡ l) × (onto (receivedData pec tr a) l ≡ l)
 no-data protocol pec tr l (Done t) n = absurd (n refl)
-no-data protocol pec tr l Forbidden n = (refl, refl)
-no-data protocol pec tr l BufferTooShort n = (refl, refl)
-no-data protocol pec tr l (NoSymbol k) n = (refl, refl)
-no-data protocol pec tr l (EndsEarly k) n = (refl, refl)
-no-data protocol pec tr l (Unexpected k) n = (refl, refl)
-no-data protocol pec tr l (NotAcknowledged k) n = (refl, refl)
-no-data protocol pec tr l (PecDiffers k) n = (refl, refl)
-no-data protocol pec tr l (AfterStop k) n = (refl, refl)
+no-data protocol pec tr l (Refused w k) n = (refl, refl)
 
 pub refusal-changes-nothing : (protocol : ℕ) (pec : Bool) (tr sent₀ received₀ : List ℕ) (a : Decoded) (s r : List ℕ) → Outcome protocol pec tr sent₀ received₀ a s r
     → (decodeNumber a .0 ≡ 0 → ⊥) → (s ≡ sent₀) × (r ≡ received₀)

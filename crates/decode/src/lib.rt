@@ -12,6 +12,7 @@ use crate::received::received_place;
 use crate::sent::sent_length;
 use crate::sent::sent_place;
 use step::answer::Decoded;
+use step::answer::Refusal;
 use step::whole::decode_by;
 use trace::protocol::is_forbidden;
 use trace::protocol::shape_of;
@@ -73,10 +74,10 @@ pub fn decode(
     ensures { λ r. ⌜ Outcome protocol pec (now (trace .entry)) (now (sent .entry)) (now (received .entry)) r (now (sent .exit)) (now (received .exit)) ⌝ }
 {
     if is_forbidden(protocol, pec) {
-        return Decoded::Forbidden;
+        return Decoded::Refused(Refusal::Forbidden, 0);
     }
     if is_short(sent.len(), received.len()) {
-        return Decoded::BufferTooShort;
+        return Decoded::Refused(Refusal::BufferTooShort, 0);
     }
     let sh = shape_of(protocol);
     let a = decode_by(protocol, sh, pec, trace);

@@ -10,14 +10,7 @@ pub(crate) fn received_length(a: Decoded) -> usize
 {
     match a {
         Decoded::Done(t) => t.received,
-        Decoded::Forbidden => 0,
-        Decoded::BufferTooShort => 0,
-        Decoded::NoSymbol(_) => 0,
-        Decoded::EndsEarly(_) => 0,
-        Decoded::Unexpected(_) => 0,
-        Decoded::NotAcknowledged(_) => 0,
-        Decoded::PecDiffers(_) => 0,
-        Decoded::AfterStop(_) => 0,
+        Decoded::Refused(_, _) => 0,
     }
 }
 

@@ -17,10 +17,11 @@ use Rattle.trace.specs.Trace.{Message, inPlace, nacked, laid, byTarget, byContr
 use Rattle.trace.specs.LengthLaws.{length-at, trace-length}
 use Rattle.trace.specs.ColumnsLaws.{longest}
 use Rattle.step.specs.declared.answer.Decoded.{Decoded}
-use Rattle.step.specs.declared.answer.Decoded.the-variants.{Done, Forbidden, BufferTooShort, NoSymbol, EndsEarly, Unexpected, NotAcknowledged, PecDiffers, AfterStop}
+use Rattle.step.specs.declared.answer.Decoded.the-variants.{Done, Refused}
+use Rattle.step.specs.declared.answer.Refusal.the-variants.{Forbidden, BufferTooShort}
 use Rattle.step.specs.declared.state.Decoder.{Decoder}
 use Rattle.step.specs.declared.whole.Progress.{Progress}
-use Rattle.step.specs.declared.whole.Progress.the-variants.{Reading, Refused}
+use Rattle.step.specs.declared.whole.Progress.the-variants.{Reading, Answered}
 use Rattle.step.specs.State.{fresh}
 use Rattle.step.specs.Fits.{fits}
 use Rattle.step.specs.Move.{move}
@@ -63,23 +64,23 @@ module _ (protocol : ℕ) (p : Bool) where
   fits-small tr f = omega (arith, member-small (tr ++ f .0) (f .1), length-append tr (f .0))
 
   -- what is refused stays refused, whatever follows
-  refused-on : (xs ys : List ℕ) (d : Decoder) (i : ℕ) (a : Decoded) → run sh p d i xs ≡ Refused a → run sh p d i (xs ++ ys) ≡ Refused a
+  refused-on : (xs ys : List ℕ) (d : Decoder) (i : ℕ) (a : Decoded) → run sh p d i xs ≡ Answered a → run sh p d i (xs ++ ys) ≡ Answered a
   unfolding run
   refused-on [] ys d i a q = absurd (refused-not-reading (sym q))
   refused-on (x ∷ xs) ys d i a q = go (fits sh d x) q (λ k. refused-on xs ys (move sh p d x) (suc i) a k)
     where
-      go : (b : Bool) → pick b (run sh p (move sh p d x) (suc i) xs) (Refused (why d i x)) ≡ Refused a
-          → (run sh p (move sh p d x) (suc i) xs ≡ Refused a → run sh p (move sh p d x) (suc i) (xs ++ ys) ≡ Refused a)
-          → pick b (run sh p (move sh p d x) (suc i) (xs ++ ys)) (Refused (why d i x)) ≡ Refused a
+      go : (b : Bool) → pick b (run sh p (move sh p d x) (suc i) xs) (Answered (why d i x)) ≡ Answered a
+          → (run sh p (move sh p d x) (suc i) xs ≡ Answered a → run sh p (move sh p d x) (suc i) (xs ++ ys) ≡ Answered a)
+          → pick b (run sh p (move sh p d x) (suc i) (xs ++ ys)) (Answered (why d i x)) ≡ Answered a
       go true q ih = ih q
       go false q ih = q
 
   module _ (tr : List ℕ) (long : 526 ≤ length tr) where
-    front-refused : (g : Progress) → run sh p fresh 0 (take 526 tr) ≡ g → (a : Decoded) × (g ≡ Refused a)
+    front-refused : (g : Progress) → run sh p fresh 0 (take 526 tr) ≡ g → (a : Decoded) × (g ≡ Answered a)
     front-refused (Reading d) q =
         let n = fits-small (take 526 tr) (fits-back sh (sane protocol) p (take 526 tr) d q) in
         absurd (omega (arith, length-take-le 526 tr long))
-    front-refused (Refused a) q = (a, refl)
+    front-refused (Answered a) q = (a, refl)
 
     pub same-run : run sh p fresh 0 (take 526 tr) ≡ run sh p fresh 0 tr
     same-run =
@@ -95,27 +96,20 @@ module _ (protocol : ℕ) (p : Bool) where
     -- it hands over no data
     no-data : (a : Decoded) (s r : List ℕ) → Answers protocol sh p tr a s r → (sentLength a ≡ 0) × (receivedLength a ≡ 0)
     no-data (Done t) s r c = absurd (omega (arith, ap length (c .is), longest protocol p (c .message) (c .valid)))
-    no-data Forbidden s r c = (refl, refl)
-    no-data BufferTooShort s r c = (refl, refl)
-    no-data (NoSymbol k) s r c = (refl, refl)
-    no-data (EndsEarly k) s r c = (refl, refl)
-    no-data (Unexpected k) s r c = (refl, refl)
-    no-data (NotAcknowledged k) s r c = (refl, refl)
-    no-data (PecDiffers k) s r c = (refl, refl)
-    no-data (AfterStop k) s r c = (refl, refl)
+    no-data (Refused w k) s r c = (refl, refl)
 
     answered-none : (s r : ℕ) → (sentLength (answered protocol p tr s r) ≡ 0) × (receivedLength (answered protocol p tr s r) ≡ 0)
     unfolding answered
     answered-none s r = go (forbidden protocol p) (short s r)
       where
-        go : (b c : Bool) → (sentLength (pick b Forbidden (pick c BufferTooShort (decodedBy protocol sh p tr))) ≡ 0) × (receivedLength (pick b Forbidden (pick c BufferTooShort (decodedBy protocol sh p tr))) ≡ 0)
+        go : (b c : Bool) → (sentLength (pick b (Refused Forbidden 0) (pick c (Refused BufferTooShort 0) (decodedBy protocol sh p tr))) ≡ 0) × (receivedLength (pick b (Refused Forbidden 0) (pick c (Refused BufferTooShort 0) (decodedBy protocol sh p tr))) ≡ 0)
         go true c = (refl, refl)
         go false true = (refl, refl)
         go false false = no-data (decodedBy protocol sh p tr) _ _ (answer-holds protocol sh (sane protocol) p tr)
 
     same-answered : (s r : ℕ) → answered protocol p (take 526 tr) s r ≡ answered protocol p tr s r
     unfolding answered
-    same-answered s r = ap (λ (a : Decoded). pick (forbidden protocol p) Forbidden (pick (short s r) BufferTooShort a)) same-decoded
+    same-answered s r = ap (λ (a : Decoded). pick (forbidden protocol p) (Refused Forbidden 0) (pick (short s r) (Refused BufferTooShort 0) a)) same-decoded
 
     -- what the first 526 symbols give is what the whole gives
     pub of-front : (s₀ r₀ : List ℕ) (a : Decoded) (s r : List ℕ) → Outcome protocol p (take 526 tr) s₀ r₀ a s r → Outcome protocol p tr s₀ r₀ a s r

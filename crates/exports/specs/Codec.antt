@@ -9,8 +9,9 @@ use Rattle.trace.specs.Shapes.{shapeOf}
 use Rattle.trace.specs.Trace.{Message, trace}
 use Rattle.encode.specs.declared.Encoded.{Encoded}
 use Rattle.encode.specs.Encode.{encodeNumber, encoded, symbolsOf}
+use Rattle.step.specs.Numbers.{refusalNumber}
 use Rattle.step.specs.declared.answer.Decoded.{Decoded}
-use Rattle.step.specs.declared.answer.Decoded.the-variants.{Done, Forbidden, BufferTooShort, NoSymbol, EndsEarly, Unexpected, NotAcknowledged, PecDiffers, AfterStop}
+use Rattle.step.specs.declared.answer.Decoded.the-variants.{Done, Refused}
 use Rattle.decode.specs.Outcome.{Outcome}
 use Rattle.exports.specs.declared.answer.HbDecoded.{HbDecoded}
 use Rattle.exports.specs.declared.codec.HbWritten.{HbWritten}
@@ -38,14 +39,7 @@ refusalOf a v = record { answer = a; address = 0; direction = 0; command = 0; va
 abbrev pub toldDecoded : Decoded → HbDecoded
 toldDecoded (Done t) =
     record { answer = 0; address = t .address .0; direction = t .direction; command = t .command; value = 0; sent = t .sent; received = t .received }
-toldDecoded Forbidden = refusalOf 1 0
-toldDecoded BufferTooShort = refusalOf 2 0
-toldDecoded (NoSymbol place) = refusalOf 3 place
-toldDecoded (EndsEarly len) = refusalOf 4 len
-toldDecoded (Unexpected place) = refusalOf 5 place
-toldDecoded (NotAcknowledged byte) = refusalOf 6 byte
-toldDecoded (PecDiffers place) = refusalOf 7 place
-toldDecoded (AfterStop place) = refusalOf 8 place
+toldDecoded (Refused w k) = refusalOf (refusalNumber w) k
 
 -- a call of the decoder on symbols tr: the answer as numbers of an outcome of decode
 pub record ReadSymbols (protocol : ℕ) (pec : Bool) (tr sent₀ received₀ : List ℕ) (h : HbDecoded) (sent received : List ℕ) : Type 0 where

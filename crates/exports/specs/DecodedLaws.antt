@@ -7,7 +7,8 @@ use Prim.Native.Nat.{ℕ}
 use native.Mathlib.Omega.{arith}
 use Rattle.trace.specs.declared.transaction.Transaction.{Transaction}
 use Rattle.step.specs.declared.answer.Decoded.{Decoded}
-use Rattle.step.specs.declared.answer.Decoded.the-variants.{Done, Forbidden, BufferTooShort, NoSymbol, EndsEarly, Unexpected, NotAcknowledged, PecDiffers, AfterStop}
+use Rattle.step.specs.declared.answer.Decoded.the-variants.{Done, Refused}
+use Rattle.step.specs.NumberLaws.{refusal-is-not-0}
 use Rattle.step.specs.Numbers.{decodeNumber}
 use Rattle.decode.specs.Outcome.{Outcome}
 use Rattle.exports.specs.declared.answer.HbDecoded.{HbDecoded}
@@ -17,36 +18,15 @@ use Rattle.exports.specs.DecodeParts.{OthersZero}
 -- the answer and the value are the scope's
 pub told-decoded-number : (a : Decoded) → (toldDecoded a .answer, toldDecoded a .value) ≡ decodeNumber a
 told-decoded-number (Done t) = refl
-told-decoded-number Forbidden = refl
-told-decoded-number BufferTooShort = refl
-told-decoded-number (NoSymbol place) = refl
-told-decoded-number (EndsEarly len) = refl
-told-decoded-number (Unexpected place) = refl
-told-decoded-number (NotAcknowledged byte) = refl
-told-decoded-number (PecDiffers place) = refl
-told-decoded-number (AfterStop place) = refl
+told-decoded-number (Refused w k) = refl
 
 refusal-zeros : (a : Decoded) → (toldDecoded a .answer ≡ 0 → ⊥) → OthersZero (toldDecoded a)
 refusal-zeros (Done t) z = absurd (z refl)
-refusal-zeros Forbidden z = record { address = refl; direction = refl; command = refl; sent = refl; received = refl }
-refusal-zeros BufferTooShort z = record { address = refl; direction = refl; command = refl; sent = refl; received = refl }
-refusal-zeros (NoSymbol k) z = record { address = refl; direction = refl; command = refl; sent = refl; received = refl }
-refusal-zeros (EndsEarly k) z = record { address = refl; direction = refl; command = refl; sent = refl; received = refl }
-refusal-zeros (Unexpected k) z = record { address = refl; direction = refl; command = refl; sent = refl; received = refl }
-refusal-zeros (NotAcknowledged k) z = record { address = refl; direction = refl; command = refl; sent = refl; received = refl }
-refusal-zeros (PecDiffers k) z = record { address = refl; direction = refl; command = refl; sent = refl; received = refl }
-refusal-zeros (AfterStop k) z = record { address = refl; direction = refl; command = refl; sent = refl; received = refl }
+refusal-zeros (Refused w k) z = record { address = refl; direction = refl; command = refl; sent = refl; received = refl }
 
 answer-0-done : (a : Decoded) → toldDecoded a .answer ≡ 0 → (u : Transaction) × (a ≡ Done u)
 answer-0-done (Done u) e = (u, refl)
-answer-0-done Forbidden e = absurd (omega arith)
-answer-0-done BufferTooShort e = absurd (omega arith)
-answer-0-done (NoSymbol k) e = absurd (omega arith)
-answer-0-done (EndsEarly k) e = absurd (omega arith)
-answer-0-done (Unexpected k) e = absurd (omega arith)
-answer-0-done (NotAcknowledged k) e = absurd (omega arith)
-answer-0-done (PecDiffers k) e = absurd (omega arith)
-answer-0-done (AfterStop k) e = absurd (omega arith)
+answer-0-done (Refused w k) e = absurd (omega (arith, refusal-is-not-0 w))
 
 -- a pair, part by part
 pub pair-parts : (a b n v : ℕ) → (_≡_ {A = ℕ × ℕ} (a, b) (n, v)) ↔ ((a ≡ n) × (b ≡ v))

@@ -2,6 +2,7 @@
 ghost use mathlib.Core.Path.{_≡_};
 ghost use Rattle.exports.specs.Codec.{refusalOf, toldDecoded};
 use step::answer::Decoded;
+use step::number::refusal_number;
 
 // The scope's number; the place, length or byte that comes with a refusal; and the transaction with 0. Whatever an answer lacks is 0.
 #[repr(C)]
@@ -45,13 +46,6 @@ pub(crate) fn decoded(a: Decoded) -> HbDecoded
                 received: t.received,
             }
         }
-        Decoded::Forbidden => refusal(1, 0),
-        Decoded::BufferTooShort => refusal(2, 0),
-        Decoded::NoSymbol(place) => refusal(3, place),
-        Decoded::EndsEarly(len) => refusal(4, len),
-        Decoded::Unexpected(place) => refusal(5, place),
-        Decoded::NotAcknowledged(byte) => refusal(6, byte),
-        Decoded::PecDiffers(place) => refusal(7, place),
-        Decoded::AfterStop(place) => refusal(8, place),
+        Decoded::Refused(w, place) => refusal(refusal_number(w) as u32, place),
     }
 }

@@ -9,7 +9,8 @@ use Rattle.trace.specs.Shapes.{shapeOf, forbidden}
 use Rattle.trace.specs.ShapeLaws.{sane}
 use Rattle.trace.specs.Trace.{Message}
 use Rattle.step.specs.declared.answer.Decoded.{Decoded}
-use Rattle.step.specs.declared.answer.Decoded.the-variants.{Forbidden, BufferTooShort}
+use Rattle.step.specs.declared.answer.Decoded.the-variants.{Refused}
+use Rattle.step.specs.declared.answer.Refusal.the-variants.{Forbidden, BufferTooShort}
 use Rattle.step.specs.Run.{decodedBy}
 use Rattle.step.specs.Handed.{sentLength, receivedLength}
 use Rattle.step.specs.SizeLaws.{sizes-of-answer}
@@ -26,7 +27,7 @@ written-fits protocol pec t room n r e f = (written-exactly protocol pec t room 
 abbrev Small : Decoded → Type 0
 Small a = (sentLength a ≤ 255) × (receivedLength a ≤ 255)
 
-small : (protocol : ℕ) (pec : Bool) (tr : List ℕ) (b c : Bool) → Small (pick b Forbidden (pick c BufferTooShort (decodedBy protocol (shapeOf protocol) pec tr)))
+small : (protocol : ℕ) (pec : Bool) (tr : List ℕ) (b c : Bool) → Small (pick b (Refused Forbidden 0) (pick c (Refused BufferTooShort 0) (decodedBy protocol (shapeOf protocol) pec tr)))
 small protocol pec tr true c = (omega arith, omega arith)
 small protocol pec tr false true = (omega arith, omega arith)
 small protocol pec tr false false = let s = sizes-of-answer protocol (shapeOf protocol) (sane protocol) pec tr in (s .sent-small, s .received-small)

@@ -13,6 +13,7 @@ use crate::print::put_number;
 use crate::refuse::SYMBOL;
 use crate::refuse::refuse;
 use step::answer::Decoded;
+use step::answer::Refusal;
 use text::write::put;
 use trace::transaction::Transaction;
 
@@ -52,20 +53,27 @@ fn put_transaction(t: Transaction, sent: &[u8], received: &[u8], out: &mut [u8],
     put_end(out, c)
 }
 
+// A refusal, and where; the two that come before the trace is read have no place.
+fn put_refusal(w: Refusal, n: usize, out: &mut [u8], at: usize) -> usize {
+    match w {
+        Refusal::Forbidden => put_line(out, at, b"1"),
+        Refusal::BufferTooShort => put_line(out, at, b"2"),
+        Refusal::NoSymbol => put_place(out, at, b"3 place", n),
+        Refusal::EndsEarly => put_place(out, at, b"4 place", n),
+        Refusal::Unexpected => put_place(out, at, b"5 place", n),
+        Refusal::NotAcknowledged => put_place(out, at, b"6 byte", n),
+        Refusal::PecDiffers => put_place(out, at, b"7 place", n),
+        Refusal::AfterStop => put_place(out, at, b"8 place", n),
+    }
+}
+
 // What the decoder answered.
 fn put_answer(a: Decoded, sent: &[u8], received: &[u8], out: &mut [u8], at: usize) -> usize
     requires { ⌜ (sentLength a ≤ length (now sent)) × (receivedLength a ≤ length (now received)) ⌝ }
 {
     match a {
         Decoded::Done(t) => put_transaction(t, sent, received, out, at),
-        Decoded::Forbidden => put_line(out, at, b"1"),
-        Decoded::BufferTooShort => put_line(out, at, b"2"),
-        Decoded::NoSymbol(n) => put_place(out, at, b"3 place", n),
-        Decoded::EndsEarly(n) => put_place(out, at, b"4 place", n),
-        Decoded::Unexpected(n) => put_place(out, at, b"5 place", n),
-        Decoded::NotAcknowledged(n) => put_place(out, at, b"6 byte", n),
-        Decoded::PecDiffers(n) => put_place(out, at, b"7 place", n),
-        Decoded::AfterStop(n) => put_place(out, at, b"8 place", n),
+        Decoded::Refused(w, n) => put_refusal(w, n, out, at),
     }
 }
 

@@ -11,7 +11,9 @@ use Rattle.trace.specs.declared.shape.Shape.{Shape}
 use Rattle.trace.specs.declared.transaction.Transaction.{Transaction}
 use Rattle.trace.specs.Trace.{Message, Valid, inPlace, pecOf, byTarget, traceAt, trace}
 use Rattle.step.specs.declared.answer.Decoded.{Decoded}
-use Rattle.step.specs.declared.answer.Decoded.the-variants.{Done, Forbidden, BufferTooShort, NoSymbol, EndsEarly, Unexpected, NotAcknowledged, PecDiffers, AfterStop}
+use Rattle.step.specs.declared.answer.Decoded.the-variants.{Done, Refused}
+use Rattle.step.specs.declared.answer.Refusal.{Refusal}
+use Rattle.step.specs.declared.answer.Refusal.the-variants.{Forbidden, BufferTooShort, NoSymbol, EndsEarly, Unexpected, NotAcknowledged, PecDiffers, AfterStop}
 use Rattle.step.specs.BytesIn.{bytesIn}
 
 -- a whole trace, with any byte in PEC's place
@@ -73,15 +75,18 @@ pub record Carries (protocol : ℕ) (sh : Shape) (p : Bool) (tr : List ℕ) (t :
   pub data-sent : sent ≡ message .sent
   pub data-received : received ≡ message .received
 
--- a is the answer for the trace tr, with the data s sent and r received
+-- why the trace tr is refused, with the place k; 1 and 2 are given before a trace is read
+abbrev pub Because : Shape → Bool → List ℕ → Refusal → ℕ → Type 0
+Because sh p tr Forbidden k = ⊥
+Because sh p tr BufferTooShort k = ⊥
+Because sh p tr NoSymbol k = Breaks sh p tr k × (259 < getD tr k 0)
+Because sh p tr EndsEarly k = Fits sh p tr × (Member sh p tr → ⊥) × (k ≡ length tr)
+Because sh p tr Unexpected k = Breaks sh p tr k × (Member sh p (take k tr) → ⊥) × (getD tr k 0 ≤ 259)
+Because sh p tr NotAcknowledged k = CutAt sh p tr k
+Because sh p tr PecDiffers k = OtherPec sh p tr k
+Because sh p tr AfterStop k = (k < length tr) × Member sh p (take k tr) × (getD tr k 0 ≤ 259)
+
+-- a is the answer for the trace tr, with the data s sent and r received; a refusal has none
 abbrev pub Answers : ℕ → Shape → Bool → List ℕ → Decoded → List ℕ → List ℕ → Type 0
 Answers protocol sh p tr (Done t) s r = Carries protocol sh p tr t s r
-Answers protocol sh p tr Forbidden s r = ⊥
-Answers protocol sh p tr BufferTooShort s r = ⊥
-Answers protocol sh p tr (NoSymbol k) s r = Breaks sh p tr k × (259 < getD tr k 0) × (s ≡ []) × (r ≡ [])
-Answers protocol sh p tr (EndsEarly n) s r = Fits sh p tr × (Member sh p tr → ⊥) × (n ≡ length tr) × (s ≡ []) × (r ≡ [])
-Answers protocol sh p tr (Unexpected k) s r =
-    Breaks sh p tr k × (Member sh p (take k tr) → ⊥) × (getD tr k 0 ≤ 259) × (s ≡ []) × (r ≡ [])
-Answers protocol sh p tr (NotAcknowledged b) s r = CutAt sh p tr b × (s ≡ []) × (r ≡ [])
-Answers protocol sh p tr (PecDiffers k) s r = OtherPec sh p tr k × (s ≡ []) × (r ≡ [])
-Answers protocol sh p tr (AfterStop k) s r = (k < length tr) × Member sh p (take k tr) × (getD tr k 0 ≤ 259) × (s ≡ []) × (r ≡ [])
+Answers protocol sh p tr (Refused w k) s r = Because sh p tr w k × (s ≡ []) × (r ≡ [])

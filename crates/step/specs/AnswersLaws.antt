@@ -14,50 +14,24 @@ use Rattle.trace.specs.Trace.{Message, trace, Valid}
 use Rattle.trace.specs.PecPlaceLaws.{pec-found}
 use Rattle.trace.specs.Sane.{Sane}
 use Rattle.step.specs.declared.answer.Decoded.{Decoded}
-use Rattle.step.specs.declared.answer.Decoded.the-variants.{Done, Forbidden, BufferTooShort, NoSymbol, EndsEarly, Unexpected, NotAcknowledged, PecDiffers, AfterStop}
+use Rattle.step.specs.declared.answer.Decoded.the-variants.{Done, Refused}
+use Rattle.step.specs.declared.answer.Refusal.{Refusal}
+use Rattle.step.specs.declared.answer.Refusal.the-variants.{NoSymbol, EndsEarly, Unexpected, NotAcknowledged, PecDiffers, AfterStop}
 use Rattle.step.specs.declared.state.Decoder.{Decoder}
-use Rattle.step.specs.declared.whole.Progress.the-variants.{Reading, Refused}
+use Rattle.step.specs.declared.whole.Progress.the-variants.{Reading, Answered}
 use Rattle.step.specs.State.{fresh}
 use Rattle.step.specs.Fits.{fits}
 use Rattle.step.specs.Refusal.{why}
 use Rattle.step.specs.Run.{run, concluded, decodedBy}
 use Rattle.step.specs.Handed.{sentData, receivedData}
-use Rattle.step.specs.Numbers.{decodeNumber}
-use Rattle.step.specs.Answers.{CutAt, Member, Fits, summary, Breaks, OtherPec, Answers}
+use Rattle.step.specs.NumberLaws.{done-of, refused-of}
+use Rattle.step.specs.Numbers.{refusalNumber, decodeNumber}
+use Rattle.step.specs.Answers.{CutAt, Member, Fits, summary, Breaks, OtherPec, Because, Answers}
 use Rattle.step.specs.RunLaws.{run-append, run-fits, run-stops}
 use Rattle.step.specs.MemberLaws.{member-runs, fits-back, fits-runs}
 use Rattle.step.specs.PlaceLaws.{reads-no-more, nothing-follows}
 use Rattle.step.specs.CutLaws.{cut-number}
 use Rattle.step.specs.DecideLaws as Decides
-
--- an answer from its number and what comes with it
-abbrev numbered : Decoded → ℕ → ℕ → Decoded
-numbered a n v = getD (a ∷ Forbidden ∷ BufferTooShort ∷ NoSymbol v ∷ EndsEarly v ∷ Unexpected v ∷ NotAcknowledged v ∷ PecDiffers v ∷ AfterStop v ∷ []) n a
-
-numbered-is : (a : Decoded) → a ≡ numbered a (decodeNumber a .0) (decodeNumber a .1)
-numbered-is (Done t) = refl
-numbered-is Forbidden = refl
-numbered-is BufferTooShort = refl
-numbered-is (NoSymbol k) = refl
-numbered-is (EndsEarly k) = refl
-numbered-is (Unexpected k) = refl
-numbered-is (NotAcknowledged k) = refl
-numbered-is (PecDiffers k) = refl
-numbered-is (AfterStop k) = refl
-
-of-number : (a : Decoded) (n v : ℕ) → decodeNumber a ≡ (n, v) → a ≡ numbered a n v
-of-number a n v e = numbered-is a ∙ ap (λ (q : ℕ × ℕ). numbered a (q .0) (q .1)) e
-
-done-of : (a : Decoded) → decodeNumber a .0 ≡ 0 → (t : Transaction) × (a ≡ Done t)
-done-of (Done t) e = (t, refl)
-done-of Forbidden e = absurd (omega arith)
-done-of BufferTooShort e = absurd (omega arith)
-done-of (NoSymbol k) e = absurd (omega arith)
-done-of (EndsEarly k) e = absurd (omega arith)
-done-of (Unexpected k) e = absurd (omega arith)
-done-of (NotAcknowledged k) e = absurd (omega arith)
-done-of (PecDiffers k) e = absurd (omega arith)
-done-of (AfterStop k) e = absurd (omega arith)
 
 same-done : {t u : Transaction} → Done t ≡ Done u → t ≡ u
 same-done e = cc
@@ -119,11 +93,12 @@ module _ (num : ℕ) (sh : Shape) (hs : Sane sh) (p : Bool) where
     abbrev answer : Decoded
     answer = decodedBy num sh p tr
 
-    given : (n v : ℕ) → decodeNumber answer ≡ (n, v) → Answers num sh p tr (numbered answer n v) (sentData sh tr (numbered answer n v)) (receivedData p tr (numbered answer n v))
-    given n v e = answer-exactly tr (numbered answer n v) .0 (of-number answer n v e)
-
-    gives : (a : Decoded) → Answers num sh p tr a (sentData sh tr a) (receivedData p tr a) → decodeNumber answer ≡ decodeNumber a
-    gives a h = ap decodeNumber (answer-exactly tr a .1 h)
+    -- a refusal by its number: exactly where its reason holds
+    refused-exactly : (w : Refusal) (k : ℕ) → (decodeNumber answer ≡ (refusalNumber w, k)) ↔ Because sh p tr w k
+    refused-exactly w k = (
+      λ e. answer-exactly tr (Refused w k) .0 (refused-of answer w k e) .0,
+      λ h. ap decodeNumber (answer-exactly tr (Refused w k) .1 (h, refl, refl)),
+    )
 
     pub number-0 : (decodeNumber answer ≡ (0, 0)) ↔ ((m : Message) × Valid sh m × (tr ≡ trace sh p m))
     number-0 = (
@@ -132,23 +107,23 @@ module _ (num : ℕ) (sh : Shape) (hs : Sane sh) (p : Bool) where
     )
 
     pub number-3 : (place : ℕ) → (decodeNumber answer ≡ (3, place)) ↔ (Breaks sh p tr place × (259 < getD tr place 0))
-    number-3 k = (λ e. (let g = given 3 k e in (g .0, g .1)), λ h. gives (NoSymbol k) (h .0, h .1, refl, refl))
+    number-3 k = refused-exactly NoSymbol k
 
     pub number-4 : (len : ℕ) → (decodeNumber answer ≡ (4, len)) ↔ (Fits sh p tr × (Member sh p tr → ⊥) × (len ≡ length tr))
-    number-4 n = (λ e. (let g = given 4 n e in (g .0, g .1, g .2)), λ h. gives (EndsEarly n) (h .0, h .1, h .2, refl, refl))
+    number-4 n = refused-exactly EndsEarly n
 
     pub number-5 : (place : ℕ) → (decodeNumber answer ≡ (5, place)) ↔ (Breaks sh p tr place × (Member sh p (take place tr) → ⊥) × (getD tr place 0 ≤ 259))
-    number-5 k = (λ e. (let g = given 5 k e in (g .0, g .1, g .2)), λ h. gives (Unexpected k) (h .0, h .1, h .2, refl, refl))
+    number-5 k = refused-exactly Unexpected k
 
     pub number-6 : (byte : ℕ) → (decodeNumber answer ≡ (6, byte)) ↔ CutAt sh p tr byte
-    number-6 b = (λ e. given 6 b e .0, λ h. gives (NotAcknowledged b) (h, refl, refl))
+    number-6 b = refused-exactly NotAcknowledged b
 
     -- which byte it is, by the length of the trace alone
     pub byte-by-length : (byte : ℕ) → decodeNumber answer ≡ (6, byte) → byte ≡ (length tr - 4) / 2
     byte-by-length b e = cut-number sh hs p tr b (number-6 b .0 e)
 
     pub number-7 : (place : ℕ) → (decodeNumber answer ≡ (7, place)) ↔ OtherPec sh p tr place
-    number-7 k = (λ e. given 7 k e .0, λ h. gives (PecDiffers k) (h, refl, refl))
+    number-7 k = refused-exactly PecDiffers k
 
     -- and the symbol at that place is the PEC that differs
     pub pec-there : (place : ℕ) (o : OtherPec sh p tr place) → getD tr place 0 ≡ o .pec
@@ -156,7 +131,7 @@ module _ (num : ℕ) (sh : Shape) (hs : Sane sh) (p : Bool) where
         ap (λ (l : List ℕ). getD l k 0) (o .is) ∙ pec-found sh (o .message) (o .pec) k (o .place ∙ ap length (o .is))
 
     pub number-8 : (place : ℕ) → (decodeNumber answer ≡ (8, place)) ↔ ((place < length tr) × Member sh p (take place tr) × (getD tr place 0 ≤ 259))
-    number-8 k = (λ e. (let g = given 8 k e in (g .0, g .1, g .2)), λ h. gives (AfterStop k) (h .0, h .1, h .2, refl, refl))
+    number-8 k = refused-exactly AfterStop k
 
     -- the order of the numbers. After the last STOP nothing fits, so that 8 stands at the first place that is wrong
     pub nothing-after : (place : ℕ) → place < length tr → Member sh p (take place tr) → Breaks sh p tr place
@@ -192,5 +167,5 @@ module _ (num : ℕ) (sh : Shape) (hs : Sane sh) (p : Bool) where
   rest-ignored w xs ys x f n =
       let r = fits-runs sh hs p w f in
       let s = stuck-at w x (r .0) (r .1) n in
-      let a : (zs : List ℕ) → run sh p fresh 0 (w ++ x ∷ zs) ≡ Refused (why (r .0) (0 + length w) x) = λ zs. run-append sh p w (x ∷ zs) fresh (r .0) 0 (r .1) ∙ run-stops sh p (r .0) _ x zs s in
+      let a : (zs : List ℕ) → run sh p fresh 0 (w ++ x ∷ zs) ≡ Answered (why (r .0) (0 + length w) x) = λ zs. run-append sh p w (x ∷ zs) fresh (r .0) 0 (r .1) ∙ run-stops sh p (r .0) _ x zs s in
       ap (concluded num sh (w ++ x ∷ xs)) (a xs) ∙ sym (ap (concluded num sh (w ++ x ∷ ys)) (a ys))

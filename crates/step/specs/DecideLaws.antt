@@ -21,16 +21,18 @@ use Rattle.step.specs.declared.state.Due.{Due}
 use Rattle.step.specs.declared.state.Due.the-variants.{Nobody, Target, Controller, Halted, Cut}
 use Rattle.step.specs.declared.state.Decoder.{Decoder}
 use Rattle.step.specs.declared.answer.Decoded.{Decoded}
-use Rattle.step.specs.declared.answer.Decoded.the-variants.{Done, Forbidden, BufferTooShort, NoSymbol, EndsEarly, Unexpected, NotAcknowledged, PecDiffers, AfterStop}
+use Rattle.step.specs.declared.answer.Decoded.the-variants.{Done, Refused}
+use Rattle.step.specs.declared.answer.Refusal.{Refusal}
+use Rattle.step.specs.declared.answer.Refusal.the-variants.{Forbidden, BufferTooShort, NoSymbol, EndsEarly, Unexpected, NotAcknowledged, PecDiffers, AfterStop}
 use Rattle.step.specs.declared.whole.Progress.{Progress}
-use Rattle.step.specs.declared.whole.Progress.the-variants.{Reading, Refused}
+use Rattle.step.specs.declared.whole.Progress.the-variants.{Reading, Answered}
 use Rattle.step.specs.State.{fresh}
 use Rattle.step.specs.Fits.{fits}
 use Rattle.step.specs.Refusal.{over, why}
 use Rattle.step.specs.BytesInLaws.{byte-count-is}
 use Rattle.step.specs.Run.{run, byteCount, transaction, isCut, finish, concluded, decodedBy}
 use Rattle.step.specs.Handed.{sentPlace, receivedPlace, lows, sentData, receivedData}
-use Rattle.step.specs.Answers.{Whole, CutAt, Member, Fits, summary, Breaks, OtherPec, Carries, Answers}
+use Rattle.step.specs.Answers.{Whole, CutAt, Member, Fits, summary, Breaks, OtherPec, Carries, Because, Answers}
 use Rattle.step.specs.RunLaws.{same-state}
 use Rattle.step.specs.EndState.{endState}
 use Rattle.step.specs.JoinedLaws.{trace-joined}
@@ -132,17 +134,17 @@ module _ (num : ℕ) (sh : Shape) (hs : Sane sh) (p : Bool) (tr : List ℕ) wher
 
   -- the whole trace was read
   finish-right : (d : Decoder) → run sh p fresh 0 tr ≡ Reading d → (b c g : Bool) → isCut (d .due) ≡ b → over (d .due) (d .slot) ≡ c → d .good ≡ g
-      → Right num sh p tr (pick b (NotAcknowledged (byteCount tr - 1)) (pick c (pick g (Done (transaction num sh d)) (PecDiffers (length tr - 3))) (EndsEarly (length tr))))
+      → Right num sh p tr (pick b (Refused NotAcknowledged (byteCount tr - 1)) (pick c (pick g (Done (transaction num sh d)) (Refused PecDiffers (length tr - 3))) (Refused EndsEarly (length tr))))
   finish-right d q true c g e f h = (cut-right d q e, refl, refl)
   finish-right d q false true g e f h =
       let n = not-cut (d .due) (d .slot) e f in
       whole (ended-is-whole sh hs p tr d 0 q (n .1) (n .0)) g h
     where
-      whole : Whole sh p tr → (g : Bool) → d .good ≡ g → Right num sh p tr (pick g (Done (transaction num sh d)) (PecDiffers (length tr - 3)))
+      whole : Whole sh p tr → (g : Bool) → d .good ≡ g → Right num sh p tr (pick g (Done (transaction num sh d)) (Refused PecDiffers (length tr - 3)))
       whole w true h = done-right w d q h
       whole w false h = (pec-right w d q h, refl, refl)
   finish-right d q false false g e f h =
-      (fits-back sh hs p tr d q, λ m. (let r = member-runs sh hs p tr m in not-both f (ap (λ (u : Decoder). over (u .due) (u .slot)) (same-state (sym q ∙ r .1)) ∙ r .2)), refl, refl, refl)
+      ((fits-back sh hs p tr d q, λ m. (let r = member-runs sh hs p tr m in not-both f (ap (λ (u : Decoder). over (u .due) (u .slot)) (same-state (sym q ∙ r .1)) ∙ r .2)), refl), refl, refl)
 
   -- a symbol was refused
   breaks : (k : ℕ) (d : Decoder) → k < length tr → run sh p fresh 0 (take k tr) ≡ Reading d → fits sh d (getD tr k 0) ≡ false → Breaks sh p tr k
@@ -153,10 +155,10 @@ module _ (num : ℕ) (sh : Shape) (hs : Sane sh) (p : Bool) (tr : List ℕ) wher
   no-member k d q f m = let r = member-runs sh hs p (take k tr) m in not-both f (ap (λ (u : Decoder). over (u .due) (u .slot)) (same-state (sym q ∙ r .1)) ∙ r .2)
 
   why-right : (k : ℕ) (d : Decoder) → k < length tr → run sh p fresh 0 (take k tr) ≡ Reading d → fits sh d (getD tr k 0) ≡ false
-      → (b c : Bool) → leb (getD tr k 0) NACK ≡ b → over (d .due) (d .slot) ≡ c → Right num sh p tr (pick b (pick c (AfterStop k) (Unexpected k)) (NoSymbol k))
-  why-right k d h q f false c e g = (breaks k d h q f, leb-false (getD tr k 0) NACK e, refl, refl)
-  why-right k d h q f true true e g = (h, member-back sh hs p (take k tr) d q g, leb-true (getD tr k 0) NACK e, refl, refl)
-  why-right k d h q f true false e g = (breaks k d h q f, no-member k d q g, leb-true (getD tr k 0) NACK e, refl, refl)
+      → (b c : Bool) → leb (getD tr k 0) NACK ≡ b → over (d .due) (d .slot) ≡ c → Right num sh p tr (pick b (pick c (Refused AfterStop k) (Refused Unexpected k)) (Refused NoSymbol k))
+  why-right k d h q f false c e g = ((breaks k d h q f, leb-false (getD tr k 0) NACK e), refl, refl)
+  why-right k d h q f true true e g = ((h, member-back sh hs p (take k tr) d q g, leb-true (getD tr k 0) NACK e), refl, refl)
+  why-right k d h q f true false e g = ((breaks k d h q f, no-member k d q g, leb-true (getD tr k 0) NACK e), refl, refl)
 
   stopped-right : (a : Decoded) → Stopped sh p fresh 0 tr a → Right num sh p tr a
   stopped-right a s =
@@ -167,7 +169,7 @@ module _ (num : ℕ) (sh : Shape) (hs : Sane sh) (p : Bool) (tr : List ℕ) wher
   right-by : (g : Progress) → run sh p fresh 0 tr ≡ g → Right num sh p tr (concluded num sh tr g)
   unfolding finish
   right-by (Reading d) q = finish-right d q _ _ _ refl refl refl
-  right-by (Refused a) q = stopped-right a (refused-at-place sh p tr fresh 0 a q)
+  right-by (Answered a) q = stopped-right a (refused-at-place sh p tr fresh 0 a q)
 
   -- the computed answer is one that the declared meaning allows
   pub answer-holds : Answers num sh p tr (decodedBy num sh p tr) (sentData sh tr (decodedBy num sh p tr)) (receivedData p tr (decodedBy num sh p tr))
@@ -176,12 +178,12 @@ module _ (num : ℕ) (sh : Shape) (hs : Sane sh) (p : Bool) (tr : List ℕ) wher
 
   -- the other way: what the meaning allows is what is computed
   by-reading : (d : Decoder) (b c g : Bool) → run sh p fresh 0 tr ≡ Reading d → isCut (d .due) ≡ b → over (d .due) (d .slot) ≡ c → d .good ≡ g
-      → decodedBy num sh p tr ≡ pick b (NotAcknowledged (byteCount tr - 1)) (pick c (pick g (Done (transaction num sh d)) (PecDiffers (length tr - 3))) (EndsEarly (length tr)))
+      → decodedBy num sh p tr ≡ pick b (Refused NotAcknowledged (byteCount tr - 1)) (pick c (pick g (Done (transaction num sh d)) (Refused PecDiffers (length tr - 3))) (Refused EndsEarly (length tr)))
   unfolding decodedBy finish
   by-reading d b c g q e f h = rw q (rw (e, f, h))
 
   by-stop : (k : ℕ) (d : Decoder) (b c : Bool) → k < length tr → run sh p fresh 0 (take k tr) ≡ Reading d → fits sh d (getD tr k 0) ≡ false
-      → leb (getD tr k 0) NACK ≡ b → over (d .due) (d .slot) ≡ c → decodedBy num sh p tr ≡ pick b (pick c (AfterStop k) (Unexpected k)) (NoSymbol k)
+      → leb (getD tr k 0) NACK ≡ b → over (d .due) (d .slot) ≡ c → decodedBy num sh p tr ≡ pick b (pick c (Refused AfterStop k) (Refused Unexpected k)) (Refused NoSymbol k)
   unfolding decodedBy
   by-stop k d b c h q f e g = rw (stops-at sh p tr k fresh d h q f) (rw (e, g))
 
@@ -217,7 +219,7 @@ module _ (num : ℕ) (sh : Shape) (hs : Sane sh) (p : Bool) (tr : List ℕ) wher
         k .data-received ∙ sym (h .data-received),
       )
 
-  only-pec : (k : ℕ) → OtherPec sh p tr k → decodedBy num sh p tr ≡ PecDiffers k
+  only-pec : (k : ℕ) → OtherPec sh p tr k → decodedBy num sh p tr ≡ Refused PecDiffers k
   only-pec k h =
       let m = h .message in
       let i : h .pec ∷ [] ≡ inPlace p (h .pec) = ap (λ (b : Bool). inPlace b (h .pec)) (sym (h .used)) in
@@ -225,15 +227,15 @@ module _ (num : ℕ) (sh : Shape) (hs : Sane sh) (p : Bool) (tr : List ℕ) wher
       let q : run sh p fresh 0 tr ≡ Reading (endState sh p m (h .pec)) =
       ap (run sh p fresh 0) (h .is ∙ ap (traceAt sh m) i) ∙ whole-runs sh hs p m (h .pec) (h .valid) y in
       let g : pick p (eqb (h .pec) (pecOf sh m)) true ≡ false = ap (λ (b : Bool). pick b (eqb (h .pec) (pecOf sh m)) true) (h .used) ∙ ne-eqb (h .pec) (pecOf sh m) (h .differs) in
-      by-reading _ false true false q refl refl g ∙ ap PecDiffers (omega (arith, h .place))
+      by-reading _ false true false q refl refl g ∙ ap (Refused PecDiffers) (omega (arith, h .place))
 
-  only-cut : (b : ℕ) → CutAt sh p tr b → decodedBy num sh p tr ≡ NotAcknowledged b
+  only-cut : (b : ℕ) → CutAt sh p tr b → decodedBy num sh p tr ≡ Refused NotAcknowledged b
   only-cut b h =
       let r = cut-runs sh hs p tr b h in
       let n : byteCount tr ≡ suc b = ap byteCount (h .is) ∙ nack-adds-no-byte (h .before) ∙ byte-count-is (h .before) ∙ h .number in
-      by-reading (r .0) true _ _ (r .1) (ap isCut (r .2)) refl refl ∙ ap NotAcknowledged (omega arith)
+      by-reading (r .0) true _ _ (r .1) (ap isCut (r .2)) refl refl ∙ ap (Refused NotAcknowledged) (omega arith)
 
-  only-early : Fits sh p tr → (Member sh p tr → ⊥) → decodedBy num sh p tr ≡ EndsEarly (length tr)
+  only-early : Fits sh p tr → (Member sh p tr → ⊥) → decodedBy num sh p tr ≡ Refused EndsEarly (length tr)
   only-early f n =
       let r = fits-runs sh hs p tr f in
       let o : over ((r .0) .due) ((r .0) .slot) ≡ false = go (r .0) (r .1) (over ((r .0) .due) ((r .0) .slot)) refl in
@@ -243,24 +245,25 @@ module _ (num : ℕ) (sh : Shape) (hs : Sane sh) (p : Bool) (tr : List ℕ) wher
       go d q false e = refl
       go d q true e = absurd (n (member-back sh hs p tr d q e))
 
+  only-refused : (w : Refusal) (k : ℕ) → Because sh p tr w k → decodedBy num sh p tr ≡ Refused w k
+  only-refused Forbidden k h = absurd h
+  only-refused BufferTooShort k h = absurd h
+  only-refused NoSymbol k h =
+      let z = h .0 in
+      let f = fits-runs sh hs p (take k tr) (z .before) in
+      by-stop k (f .0) false _ (z .inside) (f .1) (stuck k z (f .0) (f .1)) (lt-leb (getD tr k 0) NACK (h .1)) refl
+  only-refused EndsEarly k h = only-early (h .0) (h .1) ∙ ap (Refused EndsEarly) (sym (h .2))
+  only-refused Unexpected k h =
+      let z = h .0 in
+      let f = fits-runs sh hs p (take k tr) (z .before) in
+      by-stop k (f .0) true false (z .inside) (f .1) (stuck k z (f .0) (f .1)) (le-leb (getD tr k 0) NACK (h .2)) (not-over k (f .0) (f .1) (h .1))
+  only-refused NotAcknowledged k h = only-cut k h
+  only-refused PecDiffers k h = only-pec k h
+  only-refused AfterStop k h =
+      let m = member-runs sh hs p (take k tr) (h .1) in
+      by-stop k (m .0) true true (h .0) (m .1) (nothing-follows sh p (m .0) (getD tr k 0) (m .2)) (le-leb (getD tr k 0) NACK (h .2)) (m .2)
+
   -- and the declared meaning allows no other answer, and no other data
   pub no-other-answer : (a : Decoded) (s r : List ℕ) → Answers num sh p tr a s r → (decodedBy num sh p tr ≡ a) × (sentData sh tr (decodedBy num sh p tr) ≡ s) × (receivedData p tr (decodedBy num sh p tr) ≡ r)
   no-other-answer (Done t) s r h = let k = only-done t s r h in computed (Done t) s r (k .0) (k .1) (k .2)
-  no-other-answer Forbidden s r h = absurd h
-  no-other-answer BufferTooShort s r h = absurd h
-  no-other-answer (NoSymbol k) s r h =
-      let z = h .0 in
-      let f = fits-runs sh hs p (take k tr) (z .before) in
-      computed (NoSymbol k) s r (by-stop k (f .0) false _ (z .inside) (f .1) (stuck k z (f .0) (f .1)) (lt-leb (getD tr k 0) NACK (h .1)) refl) (sym (h .2)) (sym (h .3))
-  no-other-answer (EndsEarly n) s r h = computed (EndsEarly n) s r (only-early (h .0) (h .1) ∙ ap EndsEarly (sym (h .2))) (sym (h .3)) (sym (h .4))
-  no-other-answer (Unexpected k) s r h =
-      let z = h .0 in
-      let f = fits-runs sh hs p (take k tr) (z .before) in
-      computed (Unexpected k) s r
-      (by-stop k (f .0) true false (z .inside) (f .1) (stuck k z (f .0) (f .1)) (le-leb (getD tr k 0) NACK (h .2)) (not-over k (f .0) (f .1) (h .1))) (sym (h .3)) (sym (h .4))
-  no-other-answer (NotAcknowledged b) s r h = computed (NotAcknowledged b) s r (only-cut b (h .0)) (sym (h .1)) (sym (h .2))
-  no-other-answer (PecDiffers k) s r h = computed (PecDiffers k) s r (only-pec k (h .0)) (sym (h .1)) (sym (h .2))
-  no-other-answer (AfterStop k) s r h =
-      let m = member-runs sh hs p (take k tr) (h .1) in
-      computed (AfterStop k) s r
-      (by-stop k (m .0) true true (h .0) (m .1) (nothing-follows sh p (m .0) (getD tr k 0) (m .2)) (le-leb (getD tr k 0) NACK (h .2)) (m .2)) (sym (h .3)) (sym (h .4))
+  no-other-answer (Refused w k) s r h = computed (Refused w k) s r (only-refused w k (h .0)) (sym (h .1)) (sym (h .2))

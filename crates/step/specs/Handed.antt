@@ -8,29 +8,15 @@ use Rattle.trace.specs.declared.shape.Part.{Part}
 use Rattle.trace.specs.declared.shape.Part.the-variants.{Nothing, Fixed, Counted}
 use Rattle.trace.specs.declared.shape.Shape.{Shape}
 use Rattle.step.specs.declared.answer.Decoded.{Decoded}
-use Rattle.step.specs.declared.answer.Decoded.the-variants.{Done, Forbidden, BufferTooShort, NoSymbol, EndsEarly, Unexpected, NotAcknowledged, PecDiffers, AfterStop}
+use Rattle.step.specs.declared.answer.Decoded.the-variants.{Done, Refused}
 
 abbrev pub sentLength : Decoded → ℕ
 sentLength (Done t) = t .sent
-sentLength Forbidden = 0
-sentLength BufferTooShort = 0
-sentLength (NoSymbol k) = 0
-sentLength (EndsEarly k) = 0
-sentLength (Unexpected k) = 0
-sentLength (NotAcknowledged k) = 0
-sentLength (PecDiffers k) = 0
-sentLength (AfterStop k) = 0
+sentLength (Refused w k) = 0
 
 abbrev pub receivedLength : Decoded → ℕ
 receivedLength (Done t) = t .received
-receivedLength Forbidden = 0
-receivedLength BufferTooShort = 0
-receivedLength (NoSymbol k) = 0
-receivedLength (EndsEarly k) = 0
-receivedLength (Unexpected k) = 0
-receivedLength (NotAcknowledged k) = 0
-receivedLength (PecDiffers k) = 0
-receivedLength (AfterStop k) = 0
+receivedLength (Refused w k) = 0
 
 -- where they begin: sent, behind the first address byte, the command and the count; received, before PEC and STOP
 abbrev pub countPlaces : Part → ℕ

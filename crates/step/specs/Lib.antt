@@ -16,6 +16,7 @@ pub mod Ends
 pub mod Stopped
 pub mod Sizes
 pub mod BytesInLaws
+pub mod NumberLaws
 pub mod TestLaws
 pub mod RunLaws
 pub mod LeadLaws

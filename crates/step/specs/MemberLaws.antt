@@ -22,7 +22,7 @@ use Rattle.step.specs.declared.state.Slot.the-variants.{Start, First, Co
 use Rattle.step.specs.declared.state.Due.{Due}
 use Rattle.step.specs.declared.state.Due.the-variants.{Nobody, Target, Controller, Halted, Cut}
 use Rattle.step.specs.declared.state.Decoder.{Decoder}
-use Rattle.step.specs.declared.whole.Progress.the-variants.{Reading, Refused}
+use Rattle.step.specs.declared.whole.Progress.the-variants.{Reading, Answered}
 use Rattle.step.specs.State.{fresh}
 use Rattle.step.specs.Fits.{fitsSlot, fitsDue, fits}
 use Rattle.step.specs.Move.{at, moveSlot, moveDue, move}
@@ -200,12 +200,12 @@ module _ (sh : Shape) (hs : Sane sh) (p : Bool) where
       let o : _≡_ {A = ℕ} 0 1 = cc in absurd (omega arith)
   after-nack d e i (x ∷ []) q c = go (eqb x STOP) refl q
     where
-      go : (b : Bool) → eqb x STOP ≡ b → pick b (Reading (at d (d .slot) Cut 0)) (Refused (why (at d (d .slot) Halted (d .left)) i x)) ≡ Reading e → x ∷ [] ≡ STOP ∷ []
+      go : (b : Bool) → eqb x STOP ≡ b → pick b (Reading (at d (d .slot) Cut 0)) (Answered (why (at d (d .slot) Halted (d .left)) i x)) ≡ Reading e → x ∷ [] ≡ STOP ∷ []
       go true h q = ap (λ (n : ℕ). n ∷ []) (eqb-true x 257 h)
       go false h q = absurd (refused-not-reading q)
   after-nack d e i (x ∷ y ∷ ys) q c = go (eqb x STOP) q
     where
-      go : (b : Bool) → pick b (Refused (why (at d (d .slot) Cut 0) (suc i) y)) (Refused (why (at d (d .slot) Halted (d .left)) i x)) ≡ Reading e → x ∷ y ∷ ys ≡ STOP ∷ []
+      go : (b : Bool) → pick b (Answered (why (at d (d .slot) Cut 0) (suc i) y)) (Answered (why (at d (d .slot) Halted (d .left)) i x)) ≡ Reading e → x ∷ y ∷ ys ≡ STOP ∷ []
       go true q = absurd (refused-not-reading q)
       go false q = absurd (refused-not-reading q)
 
@@ -232,7 +232,7 @@ module _ (sh : Shape) (hs : Sane sh) (p : Bool) where
           let r = ih g q in
           record { pre = x ∷ r .pre; state = r .state; is = ap (_∷_ x) (r .is); leads = rw h (run-from sh p (r .pre) (move sh p d x) (r .state) 0 1 (r .leads)); target = r .target }
 
-      go : (b : Bool) → fits sh d x ≡ b → pick b (run sh p (move sh p d x) (suc i) xs) (Refused (why d i x)) ≡ Reading e
+      go : (b : Bool) → fits sh d x ≡ b → pick b (run sh p (move sh p d x) (suc i) xs) (Answered (why d i x)) ≡ Reading e
           → (halting ((move sh p d x) .due) ≡ false → run sh p (move sh p d x) (suc i) xs ≡ Reading e → Inside sh p (move sh p d x) xs)
           → Inside sh p d (x ∷ xs)
       go true h q ih = again h q (halting ((move sh p d x) .due)) refl ih

@@ -15,7 +15,7 @@ use Rattle.step.specs.declared.state.Due.{Due}
 use Rattle.step.specs.declared.state.Due.the-variants.{Nobody, Target, Controller, Halted, Cut}
 use Rattle.step.specs.declared.state.Decoder.{Decoder}
 use Rattle.step.specs.declared.answer.Decoded.{Decoded}
-use Rattle.step.specs.declared.whole.Progress.the-variants.{Reading, Refused}
+use Rattle.step.specs.declared.whole.Progress.the-variants.{Reading, Answered}
 use Rattle.step.specs.Fits.{fitsSlot, fitsDue, fits}
 use Rattle.step.specs.Move.{move}
 use Rattle.step.specs.Refusal.{ended, over, why}
@@ -23,17 +23,17 @@ use Rattle.step.specs.Run.{run}
 use Rattle.step.specs.Stopped.{Stopped}
 use Rattle.step.specs.RunLaws.{refused-not-reading, run-append, run-from, run-fits, run-stops}
 
-same-answer : {a b : Decoded} → Refused a ≡ Refused b → a ≡ b
+same-answer : {a b : Decoded} → Answered a ≡ Answered b → a ≡ b
 same-answer q = cc
 
 module _ (sh : Shape) (p : Bool) where
-  pub refused-at-place : (tr : List ℕ) (d : Decoder) (i : ℕ) (a : Decoded) → run sh p d i tr ≡ Refused a → Stopped sh p d i tr a
+  pub refused-at-place : (tr : List ℕ) (d : Decoder) (i : ℕ) (a : Decoded) → run sh p d i tr ≡ Answered a → Stopped sh p d i tr a
   unfolding run
   refused-at-place [] d i a q = absurd (refused-not-reading (sym q))
   refused-at-place (x ∷ xs) d i a q = go (fits sh d x) refl q (λ k. refused-at-place xs (move sh p d x) (suc i) a k)
     where
-      go : (b : Bool) → fits sh d x ≡ b → pick b (run sh p (move sh p d x) (suc i) xs) (Refused (why d i x)) ≡ Refused a
-          → (run sh p (move sh p d x) (suc i) xs ≡ Refused a → Stopped sh p (move sh p d x) (suc i) xs a) → Stopped sh p d i (x ∷ xs) a
+      go : (b : Bool) → fits sh d x ≡ b → pick b (run sh p (move sh p d x) (suc i) xs) (Answered (why d i x)) ≡ Answered a
+          → (run sh p (move sh p d x) (suc i) xs ≡ Answered a → Stopped sh p (move sh p d x) (suc i) xs a) → Stopped sh p d i (x ∷ xs) a
       go true h q ih =
           let s = ih q in
           let j : suc i + s .place ≡ i + suc (s .place) = omega arith in
@@ -51,7 +51,7 @@ module _ (sh : Shape) (p : Bool) where
 
   -- and the other way
   pub stops-at : (tr : List ℕ) (k : ℕ) (d e : Decoder) → k < length tr → run sh p d 0 (take k tr) ≡ Reading e → fits sh e (getD tr k 0) ≡ false
-      → run sh p d 0 tr ≡ Refused (why e k (getD tr k 0))
+      → run sh p d 0 tr ≡ Answered (why e k (getD tr k 0))
   stops-at tr k d e h q f =
       let l : 0 + length (take k tr) ≡ k = omega (arith, length-take-le k tr (omega arith)) in
       ap (run sh p d 0) (split-at tr k 0 h) ∙ run-append sh p (take k tr) _ d e 0 q

@@ -5,7 +5,8 @@ use lib.Dec.{leb}
 use Rattle.lists.specs.Choice.{pick}
 use Rattle.wire.specs.Symbols.{NACK}
 use Rattle.step.specs.declared.answer.Decoded.{Decoded}
-use Rattle.step.specs.declared.answer.Decoded.the-variants.{NoSymbol, Unexpected, AfterStop}
+use Rattle.step.specs.declared.answer.Decoded.the-variants.{Refused}
+use Rattle.step.specs.declared.answer.Refusal.the-variants.{NoSymbol, Unexpected, AfterStop}
 use Rattle.step.specs.declared.state.Slot.{Slot}
 use Rattle.step.specs.declared.state.Slot.the-variants.{Start, First, Command, Count, Data, Pec, Restart, Second, ReadCount, ReadData, ReadPec, Stop, End}
 use Rattle.step.specs.declared.state.Due.{Due}
@@ -37,4 +38,4 @@ over Cut s = true
 
 -- the answer for a symbol x at place i that may not stand there: 3, else 8, else 5
 abbrev pub why : Decoder → ℕ → ℕ → Decoded
-why d i x = pick (leb x NACK) (pick (over (d .due) (d .slot)) (AfterStop i) (Unexpected i)) (NoSymbol i)
+why d i x = pick (leb x NACK) (pick (over (d .due) (d .slot)) (Refused AfterStop i) (Refused Unexpected i)) (Refused NoSymbol i)

@@ -25,7 +25,7 @@ use Rattle.step.specs.declared.state.Slot.the-variants.{Start, First, Co
 use Rattle.step.specs.declared.state.Due.{Due}
 use Rattle.step.specs.declared.state.Due.the-variants.{Nobody, Target, Controller, Halted, Cut}
 use Rattle.step.specs.declared.state.Decoder.{Decoder}
-use Rattle.step.specs.declared.whole.Progress.the-variants.{Reading, Refused}
+use Rattle.step.specs.declared.whole.Progress.the-variants.{Reading, Answered}
 use Rattle.step.specs.State.{to, fresh}
 use Rattle.step.specs.Next.{afterRead, toReadData, toRead, afterWrite, toData, toSent}
 use Rattle.step.specs.Fits.{ackAt, firstFits, commandFits, countFits, fitsSlot, fitsDue, fits}
@@ -290,7 +290,7 @@ unfolding run
 run-in-lang sh hs p [] d e i q s g = subst (λ (u : Decoder). Lang sh p u []) (sym (same-state q)) (rw (g, s))
 run-in-lang sh hs p (x ∷ xs) d e i q s g = go (fits sh d x) refl q (λ k. run-in-lang sh hs p xs (move sh p d x) e (suc i) k s g)
   where
-    go : (b : Bool) → fits sh d x ≡ b → pick b (run sh p (move sh p d x) (suc i) xs) (Refused (why d i x)) ≡ Reading e
+    go : (b : Bool) → fits sh d x ≡ b → pick b (run sh p (move sh p d x) (suc i) xs) (Answered (why d i x)) ≡ Reading e
         → (run sh p (move sh p d x) (suc i) xs ≡ Reading e → Lang sh p (move sh p d x) xs) → Lang sh p d (x ∷ xs)
     go true h q ih = due-back sh hs p d x xs (d .due) h (ih q)
     go false h q ih = absurd (refused-not-reading q)

@@ -16,7 +16,7 @@ use Rattle.step.specs.declared.state.Slot.the-variants.{Start, First, Co
 use Rattle.step.specs.declared.state.Due.{Due}
 use Rattle.step.specs.declared.state.Due.the-variants.{Nobody, Target, Controller, Halted, Cut}
 use Rattle.step.specs.declared.state.Decoder.{Decoder}
-use Rattle.step.specs.declared.whole.Progress.the-variants.{Reading, Refused}
+use Rattle.step.specs.declared.whole.Progress.the-variants.{Reading, Answered}
 use Rattle.step.specs.State.{to, fresh}
 use Rattle.step.specs.Next.{afterRead, toReadData, toRead, afterWrite, toData, toSent, afterFirst}
 use Rattle.step.specs.Fits.{fitsSlot, fitsDue, fits}
@@ -116,7 +116,7 @@ module _ (sh : Shape) (hs : Sane sh) (p : Bool) where
   run-keeps [] d e i h q = subst (Roomy sh) (same-state q) h
   run-keeps (x ∷ xs) d e i h q = go (fits sh d x) refl q (λ g k. run-keeps xs (move sh p d x) e (suc i) g k)
     where
-      go : (b : Bool) → fits sh d x ≡ b → pick b (run sh p (move sh p d x) (suc i) xs) (Refused (why d i x)) ≡ Reading e
+      go : (b : Bool) → fits sh d x ≡ b → pick b (run sh p (move sh p d x) (suc i) xs) (Answered (why d i x)) ≡ Reading e
           → (Roomy sh (move sh p d x) → run sh p (move sh p d x) (suc i) xs ≡ Reading e → Roomy sh e) → Roomy sh e
       go true f q ih = ih (due-keeps d x (d .due) h f) q
       go false f q ih = absurd (refused-not-reading q)

@@ -11,12 +11,13 @@ use Rattle.trace.specs.declared.shape.Shape.{Shape}
 use Rattle.trace.specs.declared.transaction.Transaction.{Transaction}
 use Rattle.trace.specs.Shapes.{writes, reads}
 use Rattle.step.specs.declared.answer.Decoded.{Decoded}
-use Rattle.step.specs.declared.answer.Decoded.the-variants.{Done, EndsEarly, NotAcknowledged, PecDiffers}
+use Rattle.step.specs.declared.answer.Decoded.the-variants.{Done, Refused}
+use Rattle.step.specs.declared.answer.Refusal.the-variants.{EndsEarly, NotAcknowledged, PecDiffers}
 use Rattle.step.specs.declared.state.Due.{Due}
 use Rattle.step.specs.declared.state.Due.the-variants.{Nobody, Target, Controller, Halted, Cut}
 use Rattle.step.specs.declared.state.Decoder.{Decoder}
 use Rattle.step.specs.declared.whole.Progress.{Progress}
-use Rattle.step.specs.declared.whole.Progress.the-variants.{Reading, Refused}
+use Rattle.step.specs.declared.whole.Progress.the-variants.{Reading, Answered}
 use Rattle.step.specs.State.{fresh}
 use Rattle.step.specs.Fits.{fits}
 use Rattle.step.specs.Move.{move}
@@ -25,7 +26,7 @@ use Rattle.step.specs.Refusal.{over, why}
 -- from the state d, with i symbols read, over the rest of the trace
 unfoldable pub run : Shape → Bool → Decoder → ℕ → List ℕ → Progress
 run sh p d i [] = Reading d
-run sh p d i (x ∷ xs) = pick (fits sh d x) (run sh p (move sh p d x) (suc i) xs) (Refused (why d i x))
+run sh p d i (x ∷ xs) = pick (fits sh d x) (run sh p (move sh p d x) (suc i) xs) (Answered (why d i x))
 
 -- the bytes of a trace are its numbers below 256
 unfoldable pub byteCount : List ℕ → ℕ
@@ -63,12 +64,12 @@ isCut Halted = false
 -- the answer when the whole trace is read: 6, else 4, else 0 or 7
 unfoldable pub finish : ℕ → Shape → Decoder → List ℕ → Decoded
 finish protocol sh d tr =
-    pick (isCut (d .due)) (NotAcknowledged (byteCount tr - 1))
-    (pick (over (d .due) (d .slot)) (pick (d .good) (Done (transaction protocol sh d)) (PecDiffers (length tr - 3))) (EndsEarly (length tr)))
+    pick (isCut (d .due)) (Refused NotAcknowledged (byteCount tr - 1))
+    (pick (over (d .due) (d .slot)) (pick (d .good) (Done (transaction protocol sh d)) (Refused PecDiffers (length tr - 3))) (Refused EndsEarly (length tr)))
 
 abbrev pub concluded : ℕ → Shape → List ℕ → Progress → Decoded
 concluded protocol sh tr (Reading d) = finish protocol sh d tr
-concluded protocol sh tr (Refused a) = a
+concluded protocol sh tr (Answered a) = a
 
 -- the answer for a trace of a shape, which is that of the protocol
 unfoldable pub decodedBy : ℕ → Shape → Bool → List ℕ → Decoded

@@ -16,7 +16,7 @@ use Rattle.trace.specs.Trace.{Message, laid, acked, nacked, firstByte, byTarget
 use Rattle.trace.specs.LengthLaws.{length-acked, length-nacked, length-place}
 use Rattle.trace.specs.Sane.{Small, Sane}
 use Rattle.step.specs.declared.answer.Decoded.{Decoded}
-use Rattle.step.specs.declared.answer.Decoded.the-variants.{Done, Forbidden, BufferTooShort, NoSymbol, EndsEarly, Unexpected, NotAcknowledged, PecDiffers, AfterStop}
+use Rattle.step.specs.declared.answer.Decoded.the-variants.{Done, Refused}
 use Rattle.step.specs.Run.{decodedBy}
 use Rattle.step.specs.Handed.{sentLength, receivedLength, countPlaces, sentPlace}
 use Rattle.step.specs.Answers.{Carries, Answers}
@@ -75,14 +75,7 @@ module _ (num : ℕ) (sh : Shape) (hs : Sane sh) (p : Bool) (tr : List ℕ) wher
 
   sizes-by-meaning : (a : Decoded) (s r : List ℕ) → Answers num sh p tr a s r → Sizes sh p tr a
   sizes-by-meaning (Done t) s r h = done-sizes t s r h
-  sizes-by-meaning Forbidden s r h = absurd h
-  sizes-by-meaning BufferTooShort s r h = absurd h
-  sizes-by-meaning (NoSymbol k) s r h = no-data-sizes (NoSymbol k) refl refl
-  sizes-by-meaning (EndsEarly k) s r h = no-data-sizes (EndsEarly k) refl refl
-  sizes-by-meaning (Unexpected k) s r h = no-data-sizes (Unexpected k) refl refl
-  sizes-by-meaning (NotAcknowledged k) s r h = no-data-sizes (NotAcknowledged k) refl refl
-  sizes-by-meaning (PecDiffers k) s r h = no-data-sizes (PecDiffers k) refl refl
-  sizes-by-meaning (AfterStop k) s r h = no-data-sizes (AfterStop k) refl refl
+  sizes-by-meaning (Refused w k) s r h = no-data-sizes (Refused w k) refl refl
 
   pub sizes-of-answer : Sizes sh p tr (decodedBy num sh p tr)
   sizes-of-answer = sizes-by-meaning (decodedBy num sh p tr) _ _ (answer-holds num sh hs p tr)

@@ -13,7 +13,8 @@ use Rattle.wire.specs.declared.address.Address.{Address}
 use Rattle.trace.specs.declared.shape.Shape.{Shape}
 use Rattle.trace.specs.declared.transaction.Transaction.{Transaction}
 use Rattle.trace.specs.Allowed.{addressFits}
-use Rattle.step.specs.declared.answer.Decoded.the-variants.{Done, EndsEarly, NotAcknowledged, PecDiffers}
+use Rattle.step.specs.declared.answer.Decoded.the-variants.{Done, Refused}
+use Rattle.step.specs.declared.answer.Refusal.the-variants.{EndsEarly, NotAcknowledged, PecDiffers}
 use Rattle.step.specs.declared.state.Decoder.{Decoder}
 use Rattle.step.specs.Fits.{wayFits, firstFits}
 use Rattle.step.specs.Refusal.{over}
@@ -52,7 +53,7 @@ transaction-is protocol sh d a w s r ea ew es er = made (ap (λ (n : ℕ). recor
 
 -- the answer at the end
 pub finish-is : (protocol : ℕ) (sh : Shape) (d : Decoder) (tr : List ℕ) (b c g : Bool) → isCut (d .due) ≡ b → over (d .due) (d .slot) ≡ c → d .good ≡ g
-    → pick b (NotAcknowledged (byteCount tr - 1)) (pick c (pick g (Done (transaction protocol sh d)) (PecDiffers (length tr - 3))) (EndsEarly (length tr)))
+    → pick b (Refused NotAcknowledged (byteCount tr - 1)) (pick c (pick g (Done (transaction protocol sh d)) (Refused PecDiffers (length tr - 3))) (Refused EndsEarly (length tr)))
     ≡ finish protocol sh d tr
 unfolding finish
 finish-is protocol sh d tr b c g e f h = sym (rw (e, f, h))

@@ -1,23 +1,30 @@
 // What the decoder answers. decodeNumber in specs/Numbers.antt gives the scope's number of each case, and what comes with it.
 use trace::transaction::Transaction;
 
-pub enum Decoded {
-    // The trace is the encoder's trace of this transaction.
-    Done(Transaction),
+// Why a trace, or a call, is refused.
+pub enum Refusal {
     // No such protocol, or a PEC where none may be used.
     Forbidden,
     // A buffer of under 255 bytes.
     BufferTooShort,
-    // The place of a number above 259.
-    NoSymbol(usize),
-    // The length of a trace that fits, and is not whole.
-    EndsEarly(usize),
-    // The place of a symbol that can't stand there.
-    Unexpected(usize),
-    // Which byte the target did not acknowledge, from 0, only bytes counted.
-    NotAcknowledged(usize),
-    // The place of a PEC that differs, in a trace that is whole otherwise.
-    PecDiffers(usize),
-    // The place of the first symbol after STOP.
-    AfterStop(usize),
+    // A number above 259.
+    NoSymbol,
+    // The trace fits, and is not whole.
+    EndsEarly,
+    // A symbol that can't stand there.
+    Unexpected,
+    // The target did not acknowledge a byte.
+    NotAcknowledged,
+    // The PEC differs, in a trace that is whole otherwise.
+    PecDiffers,
+    // A symbol after the last STOP.
+    AfterStop,
+}
+
+pub enum Decoded {
+    // The trace is the encoder's trace of this transaction.
+    Done(Transaction),
+    // Why, and where: the symbol's place; the trace's length where it ends early; which byte was not acknowledged, from 0, only bytes
+    // counted; 0 where the trace was not read.
+    Refused(Refusal, usize),
 }

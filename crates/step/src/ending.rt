@@ -5,6 +5,7 @@ ghost use lib.Dec.{ltb};
 ghost use Rattle.lists.specs.Choice.{pick};
 ghost use Rattle.step.specs.Run.{byteCount, dataLength, directionOf, transaction, isCut, finish};
 use crate::answer::Decoded;
+use crate::answer::Refusal;
 use crate::refusal::is_over;
 use crate::state::Decoder;
 use crate::state::Due;
@@ -97,14 +98,14 @@ pub(crate) fn finished(protocol: u8, sh: Shape, d: Decoder, tr: &[u16]) -> Decod
 {
     let due = d.due;
     if is_cut(due) {
-        return Decoded::NotAcknowledged(less(count_bytes(tr), 1));
+        return Decoded::Refused(Refusal::NotAcknowledged, less(count_bytes(tr), 1));
     }
     if !is_over(d) {
-        return Decoded::EndsEarly(tr.len());
+        return Decoded::Refused(Refusal::EndsEarly, tr.len());
     }
     if d.good {
         Decoded::Done(transaction_of(protocol, sh, d))
     } else {
-        Decoded::PecDiffers(less(tr.len(), 3))
+        Decoded::Refused(Refusal::PecDiffers, less(tr.len(), 3))
     }
 }

@@ -6,6 +6,7 @@ mod ending;
 mod fits;
 mod moved;
 mod next;
+pub mod number;
 mod refusal;
 pub mod state;
 pub mod whole;

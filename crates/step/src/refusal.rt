@@ -2,6 +2,7 @@
 ghost use mathlib.Core.Path.{_≡_};
 ghost use Rattle.step.specs.Refusal.{ended, over, why};
 use crate::answer::Decoded;
+use crate::answer::Refusal;
 use crate::state::Decoder;
 use crate::state::Due;
 use crate::state::Slot;
@@ -46,10 +47,10 @@ pub(crate) fn why_not(d: Decoder, place: usize, x: u16) -> Decoded
     ensures { λ r. ⌜ r ≡ why d place x ⌝ }
 {
     if !is_symbol(x) {
-        return Decoded::NoSymbol(place);
+        return Decoded::Refused(Refusal::NoSymbol, place);
     }
     if is_over(d) {
-        return Decoded::AfterStop(place);
+        return Decoded::Refused(Refusal::AfterStop, place);
     }
-    Decoded::Unexpected(place)
+    Decoded::Refused(Refusal::Unexpected, place)
 }

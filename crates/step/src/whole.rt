@@ -14,7 +14,7 @@ use trace::shape::Shape;
 // How far a trace was read: a refusal is not left again.
 pub enum Progress {
     Reading(Decoder),
-    Refused(Decoded),
+    Answered(Decoded),
 }
 
 // The state at the trace's end, or the refusal at the first symbol that may not stand where it does.
@@ -26,7 +26,7 @@ fn read_all(sh: Shape, pec: bool, tr: &[u16]) -> Progress
     while i < tr.len() {
         let x = tr[i];
         if !may_stand(sh, d, x) {
-            return Progress::Refused(why_not(d, i, x));
+            return Progress::Answered(why_not(d, i, x));
         }
         d = moved(sh, pec, d, x);
         i += 1;
@@ -41,6 +41,6 @@ pub fn decode_by(protocol: u8, sh: Shape, pec: bool, tr: &[u16]) -> Decoded
     let g = read_all(sh, pec, tr);
     match g {
         Progress::Reading(d) => finished(protocol, sh, d, tr),
-        Progress::Refused(a) => a,
+        Progress::Answered(a) => a,
     }
 }

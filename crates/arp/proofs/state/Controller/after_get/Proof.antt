@@ -1,4 +1,4 @@
-use mathlib.Core.Path.{_≡_, refl, sym, ap, _∙_}
+use mathlib.Core.Path.{_≡_, sym, _∙_}
 use denote.Ref.{now}
 use Rattle.arp.proofs.Steps.{get-nobody, get-again, get-done}
 use borrow.Author.Needs.{needs}
@@ -28,16 +28,10 @@ hand-requires : tie.Need-hand-requires
 hand-requires c κs = search needs
 
 returns : tie.Need-returns
-returns c = let s = c .before .before .before .before .before .before .before .before .before .args in c .hand .ensures ∙ get-nobody (s .self) (now (s .trace)) (c .before .before .before .before .before .decode .result) _ _ (c .before .before .before .before .before .decode .ensures) (sym (c .before .before .is-nobody .ensures) ∙ c .before .if1 .taken)
+returns c = let s = c .before .before .before .before .before .before .before .before .before .args in let d = c .before .before .before .before .before .decode in c .hand .ensures ∙ get-nobody (s .self) (now (s .trace)) (d .result) _ _ (d .ensures) (sym (c .before .before .is-nobody .ensures) ∙ c .before .if1 .taken)
 
 enum-known-answer : tie.Need-enum-known-answer
 enum-known-answer c = search needs
-
-ask-requires : tie.Need-ask-requires
-ask-requires c κs = search needs
-
-returns-2 : tie.Need-returns-2
-returns-2 c = let s = c .before .before .before .before .before .before .before .before .before .before .args in c .ask .ensures ∙ get-again (s .self) (now (s .trace)) (c .before .before .before .before .before .before .decode .result) _ _ (c .before .before .before .before .before .before .decode .ensures) (sym (c .before .before .before .is-nobody .ensures) ∙ c .before .before .if1 .left) (c .before .match .keys2)
 
 slice-aggregate-on-complete : tie.Need-slice-aggregate-on-complete
 slice-aggregate-on-complete c = search needs
@@ -45,8 +39,17 @@ slice-aggregate-on-complete c = search needs
 on-complete-requires : tie.Need-on-complete-requires
 on-complete-requires c κs = search needs
 
+enum-told : tie.Need-enum-told
+enum-told c = search needs
+
+ask-requires : tie.Need-ask-requires
+ask-requires c κs = search needs
+
+returns-2 : tie.Need-returns-2
+returns-2 c = let s = c .before .before .before .before .before .before .before .before .before .before .before .before .before .args in let d = c .before .before .before .before .before .before .before .before .before .decode in c .on-complete .ensures ∙ get-done (s .self) (now (s .trace)) (d .result) _ _ (d .ensures) _ (c .before .before .before .answer .given .1)
+
 returns-3 : tie.Need-returns-3
-returns-3 c = let s = c .before .before .before .before .before .before .before .before .before .before .before .before .before .args in c .on-complete .ensures ∙ get-done (s .self) (now (s .trace)) (c .before .before .before .before .before .before .before .before .before .decode .result) _ _ (c .before .before .before .before .before .before .before .before .before .decode .ensures) _ (c .before .before .before .answer .given .1)
+returns-3 c = let s = c .before .before .before .before .before .before .before .before .before .before .before .args in let d = c .before .before .before .before .before .before .before .decode in c .ask .ensures ∙ get-again (s .self) (now (s .trace)) (d .result) _ _ (d .ensures) (sym (c .before .before .before .before .is-nobody .ensures) ∙ c .before .before .before .if1 .left) _ _ (c .before .enum-told .given .1)
 
 pub after-get-spec : {M : Type 1} → statement M
 after-get-spec =
@@ -59,8 +62,9 @@ after-get-spec =
     hand-requires
     returns
     enum-known-answer
-    ask-requires
-    returns-2
     slice-aggregate-on-complete
     on-complete-requires
+    enum-told
+    ask-requires
+    returns-2
     returns-3)

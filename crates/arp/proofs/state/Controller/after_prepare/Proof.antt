@@ -1,4 +1,4 @@
-use mathlib.Core.Path.{_≡_, refl, sym, ap, _∙_}
+use mathlib.Core.Path.{_≡_, sym, _∙_}
 use denote.Ref.{now}
 use Rattle.arp.proofs.Steps.{prepare-nack, prepare-other, prepare-accepted, prepare-another}
 use borrow.Author.Needs.{needs}
@@ -10,6 +10,7 @@ use Rattle.arp.proofs.heard.is_prepare.Reads as is-prepare-reads
 use Rattle.arp.proofs.state.Controller.ask.Reads as ask-reads
 use Rattle.arp.proofs.state.Controller.hand.Reads as hand-reads
 use Rattle.decode.proofs.decode.Reads as decode-reads
+use Rattle.step.proofs.number.is_nack.Reads as is-nack-reads
 
 slice-aggregate-decode : tie.Need-slice-aggregate-decode
 slice-aggregate-decode c = search needs
@@ -20,23 +21,8 @@ slice-aggregate-decode-2 c = search needs
 decode-requires : tie.Need-decode-requires
 decode-requires c κs = search needs
 
-enum-told : tie.Need-enum-told
-enum-told c = search needs
-
-hand-requires : tie.Need-hand-requires
-hand-requires c κs = search needs
-
-returns : tie.Need-returns
-returns c = let s = c .before .before .before .before .before .before .before .before .before .args in c .hand .ensures ∙ prepare-nack (s .self) (now (s .trace)) (c .before .before .before .before .before .decode .result) _ _ (c .before .before .before .before .before .decode .ensures) _ (c .before .enum-told .given .1)
-
 enum-known-answer : tie.Need-enum-known-answer
 enum-known-answer c = search needs
-
-hand-requires-2 : tie.Need-hand-requires-2
-hand-requires-2 c κs = search needs
-
-returns-2 : tie.Need-returns-2
-returns-2 c = let s = c .before .before .before .before .before .before .before .before .before .args in c .hand2 .ensures ∙ prepare-other (s .self) (now (s .trace)) (c .before .before .before .before .before .decode .result) _ _ (c .before .before .before .before .before .decode .ensures) (c .before .before .match .keys2) (c .before .match2 .keys2)
 
 slice-aggregate-is-prepare : tie.Need-slice-aggregate-is-prepare
 slice-aggregate-is-prepare c = search needs
@@ -47,14 +33,32 @@ is-prepare-requires c κs = search needs
 ask-requires : tie.Need-ask-requires
 ask-requires c κs = search needs
 
+hand-requires : tie.Need-hand-requires
+hand-requires c κs = search needs
+
+enum-known-answer-2 : tie.Need-enum-known-answer-2
+enum-known-answer-2 c = search needs
+
+is-nack-requires : tie.Need-is-nack-requires
+is-nack-requires c κs = search needs
+
+hand-requires-2 : tie.Need-hand-requires-2
+hand-requires-2 c κs = search needs
+
 hand-requires-3 : tie.Need-hand-requires-3
 hand-requires-3 c κs = search needs
 
+returns : tie.Need-returns
+returns c = let s = c .before .before .before .before .before .before .before .before .before .before .before .before .before .args in let d = c .before .before .before .before .before .before .before .before .before .decode in c .ask .ensures ∙ prepare-accepted (s .self) (now (s .trace)) (d .result) _ _ (d .ensures) _ (c .before .before .before .before .before .answer .given .1) (sym (c .before .before .is-prepare .ensures) ∙ c .before .if1 .taken)
+
+returns-2 : tie.Need-returns-2
+returns-2 c = let s = c .before .before .before .before .before .before .before .before .before .before .before .before .before .args in let d = c .before .before .before .before .before .before .before .before .before .decode in c .hand .ensures ∙ prepare-another (s .self) (now (s .trace)) (d .result) _ _ (d .ensures) _ (c .before .before .before .before .before .answer .given .1) (sym (c .before .before .is-prepare .ensures) ∙ c .before .if1 .left)
+
 returns-3 : tie.Need-returns-3
-returns-3 c = let s = c .before .before .before .before .before .before .before .before .before .before .before .before .before .before .args in c .ask .ensures ∙ prepare-accepted (s .self) (now (s .trace)) (c .before .before .before .before .before .before .before .before .before .before .decode .result) _ _ (c .before .before .before .before .before .before .before .before .before .before .decode .ensures) _ (c .before .before .before .before .before .answer .given .1) (sym (c .before .before .is-prepare .ensures) ∙ c .before .if1 .taken)
+returns-3 c = let s = c .before .before .before .before .before .before .before .before .before .before .before .before .args in let d = c .before .before .before .before .before .before .before .before .decode in c .hand2 .ensures ∙ prepare-nack (s .self) (now (s .trace)) (d .result) _ _ (d .ensures) _ _ (c .before .before .before .before .answer2 .given .1) (sym (c .before .before .is-nack .ensures) ∙ c .before .if2 .taken)
 
 returns-4 : tie.Need-returns-4
-returns-4 c = let s = c .before .before .before .before .before .before .before .before .before .before .before .before .before .before .args in c .hand3 .ensures ∙ prepare-another (s .self) (now (s .trace)) (c .before .before .before .before .before .before .before .before .before .before .decode .result) _ _ (c .before .before .before .before .before .before .before .before .before .before .decode .ensures) _ (c .before .before .before .before .before .answer .given .1) (sym (c .before .before .is-prepare .ensures) ∙ c .before .if1 .left)
+returns-4 c = let s = c .before .before .before .before .before .before .before .before .before .before .before .before .args in let d = c .before .before .before .before .before .before .before .before .decode in c .hand3 .ensures ∙ prepare-other (s .self) (now (s .trace)) (d .result) _ _ (d .ensures) _ _ (c .before .before .before .before .answer2 .given .1) (sym (c .before .before .is-nack .ensures) ∙ c .before .if2 .left)
 
 pub after-prepare-spec : {M : Type 1} → statement M
 after-prepare-spec =
@@ -63,15 +67,16 @@ after-prepare-spec =
     slice-aggregate-decode
     slice-aggregate-decode-2
     decode-requires
-    enum-told
-    hand-requires
-    returns
     enum-known-answer
-    hand-requires-2
-    returns-2
     slice-aggregate-is-prepare
     is-prepare-requires
     ask-requires
+    hand-requires
+    enum-known-answer-2
+    is-nack-requires
+    hand-requires-2
     hand-requires-3
+    returns
+    returns-2
     returns-3
     returns-4)
