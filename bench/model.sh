@@ -6,7 +6,7 @@
 #   bench/model.sh [LIBRARY]
 set -eu
 cd "$(dirname "$0")/.."
-limits='1:1.50 10:1.30 60:1.30 120:1.30'
+limits='1:1.45 10:1.25 60:1.30 120:1.30'
 growth=1.30
 out=build/bench
 library=${1:-target/staticlib/libexports.a}
