@@ -2,6 +2,7 @@
    checks that they agree, and dumps callgrind's count after each. A dump's label is
    WORK library|plain PROTOCOL PEC SENT RECEIVED SYMBOLS */
 #include "baseline.h"
+#include "symbols.h"
 
 #include <stdio.h>
 #include <stdlib.h>
