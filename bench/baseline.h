@@ -13,7 +13,6 @@ hb_written plain_encode(uint8_t protocol, uint8_t pec, uint8_t address, uint8_t 
 hb_decoded plain_decode(uint8_t protocol, uint8_t pec, const uint8_t *trace, size_t trace_len,
                         uint8_t *sent, size_t sent_len, uint8_t *received, size_t received_len);
 
-hb_model plain_run_model(uint64_t low, uint64_t high, uint8_t *records, size_t records_len, uint8_t *bindings,
-                         size_t bindings_len);
+hb_model plain_run_model(hb_pool occupied, uint8_t *records, size_t records_len, uint8_t *bindings, size_t bindings_len);
 
 #endif

@@ -3,6 +3,7 @@
    16-bit symbols, pairs takes a symbol as two bytes. A dump's label is
    WORK library|pairs|plain PROTOCOL PEC SENT RECEIVED SYMBOLS */
 #include "baseline.h"
+#include "symbols.h"
 
 #include <stdio.h>
 #include <stdlib.h>

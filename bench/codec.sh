@@ -3,17 +3,18 @@
 # for each protocol; fails where encode is above 1.5 times or decode above 2.5 times plain C. Where there is a PEC, each
 # side's own PEC work over the same bytes is taken out.
 # What it makes goes to build/.
-#   bench/codec.sh [LIBRARY]
+#   bench/codec.sh [LIBRARY SYMBOLS]
 set -eu
 cd "$(dirname "$0")/.."
 out=build/bench
-library=${1:-target/staticlib/libexports.a}
+library=${1:-target/staticlib/libc_api.a}
+symbols=${2:-target/staticlib/libbench_api.a}
 mkdir -p "$out"
-[ $# -gt 0 ] || rt staticlib exports >build/staticlib.log 2>&1 || {
+[ $# -gt 0 ] || { rt staticlib c_api && rt staticlib bench_api; } >build/staticlib.log 2>&1 || {
     cat build/staticlib.log
     exit 1
 }
-gcc -std=c11 -O2 -Wall -Wextra -Werror -Iinclude bench/codec.c bench/baseline.c "$library" -o "$out/codec"
+gcc -std=c11 -O2 -Wall -Wextra -Werror -Iinclude bench/codec.c bench/baseline.c "$library" "$symbols" -o "$out/codec"
 rm -f "$out/codec.callgrind"
 valgrind --tool=callgrind --combine-dumps=yes --callgrind-out-file="$out/codec.callgrind" "$out/codec" \
     >"$out/codec.log" 2>&1 || {

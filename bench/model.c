@@ -10,7 +10,7 @@
 
 enum { RECORD = 18, MOST = 120, ROOM = 2048, BEYOND = 32, LIST_ROOM = (MOST + 2) * RECORD };
 
-typedef hb_model runner(uint64_t, uint64_t, uint8_t *, size_t, uint8_t *, size_t);
+typedef hb_model runner(hb_pool, uint8_t *, size_t, uint8_t *, size_t);
 
 static const struct program {
     const char *name;
@@ -56,14 +56,15 @@ static void fill(uint8_t *records, size_t n)
     }
 }
 
-static void run(const struct program *p, uint64_t occupied, const uint8_t *records, size_t length, size_t room,
+static void run(const struct program *p, uint64_t low, const uint8_t *records, size_t length, size_t room,
                 const char *label, struct result *r)
 {
+    hb_pool occupied = { low, 0 };
     memcpy(r->records, records, LIST_ROOM);
     memset(r->bindings, 0xa5, sizeof r->bindings);
     memset(&r->answer, 0, sizeof r->answer);
     CALLGRIND_ZERO_STATS;
-    r->answer = p->run(occupied, 0, r->records, length, r->bindings, room);
+    r->answer = p->run(occupied, r->records, length, r->bindings, room);
     if (label != NULL)
         CALLGRIND_DUMP_STATS_AT(label);
 }

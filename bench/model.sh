@@ -9,9 +9,9 @@ cd "$(dirname "$0")/.."
 limits='1:1.45 10:1.25 60:1.30 120:1.30'
 growth=1.30
 out=build/bench
-library=${1:-target/staticlib/libexports.a}
+library=${1:-target/staticlib/libc_api.a}
 mkdir -p "$out"
-[ $# -gt 0 ] || rt staticlib exports >build/staticlib.log 2>&1 || {
+[ $# -gt 0 ] || rt staticlib c_api >build/staticlib.log 2>&1 || {
     cat build/staticlib.log
     exit 1
 }

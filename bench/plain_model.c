@@ -201,11 +201,10 @@ static hb_model pass(struct used used, uint8_t *records, size_t n, uint8_t *bind
     return m;
 }
 
-hb_model plain_run_model(uint64_t low, uint64_t high, uint8_t *records, size_t records_len, uint8_t *bindings,
-                         size_t bindings_len)
+hb_model plain_run_model(hb_pool occupied, uint8_t *records, size_t records_len, uint8_t *bindings, size_t bindings_len)
 {
     size_t n = records_len / RECORD, place;
-    struct used used = starting(low, high);
+    struct used used = starting(occupied.low, occupied.high);
     if (bindings_len < ROOM)
         return refused(2, 0);
     if (records_len % RECORD != 0 || n > MOST)

@@ -10,10 +10,10 @@ limit=20
 # As it is compiled: two sets of addresses, 128 slots, the count with what is left empty after it, the last command.
 state=$((2 * 16 + 128 * 24 + 8 + 32))
 out=build/bench
-library=${1:-target/staticlib/libexports.a}
+library=${1:-target/staticlib/libc_api.a}
 program=${2:-target/bin/passes}
 mkdir -p "$out"
-[ $# -gt 0 ] || { rt staticlib exports && rt check passes; } >build/step.log 2>&1 || {
+[ $# -gt 0 ] || { rt staticlib c_api && rt check passes; } >build/step.log 2>&1 || {
     cat build/step.log
     exit 1
 }

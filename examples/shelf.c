@@ -21,10 +21,11 @@ int main(void)
     hb_decoded d = hb_decode(HB_READ_WORD, 1, trace, 2 * w.symbols, sent, sizeof sent, received, sizeof received);
     printf("decode: %u, word %d\n", d.answer, received[0] + 256 * received[1]);
 
-    hb_model m = hb_run_model(0, 0, shelf, sizeof shelf, bindings, sizeof bindings);
+    hb_pool occupied = {0, 0}; /* no address is in use yet */
+    hb_model m = hb_run_model(occupied, shelf, sizeof shelf, bindings, sizeof bindings);
     printf("model: %u, %u bound, %u Get UDIDs\n", m.answer, m.count, m.gets);
     for (int a = 0; a < 128; a++) {
-        if (hb_pool_has(m.bound.low, m.bound.high, a)) {
+        if (hb_pool_has(m.bound, a)) {
             hb_udid u = hb_udid_from_bytes(bindings, sizeof bindings, 16 * a);
             printf("0x%02x: %016" PRIx64 "%016" PRIx64 "\n", a, u.high, u.low);
         }

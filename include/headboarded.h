@@ -8,10 +8,7 @@
  * A truth value is 0 or 1; as an input, any number but 0 is true. A symbol of a trace is a number: 0 to 255 a byte, HB_START, HB_STOP,
  * HB_ACK or HB_NACK; as bytes it is a pair, low byte first. Bytes after the last whole pair of a trace are not read.
  *
- * The numbers answered: 0 done; 1 an input that is forbidden; 2 a buffer that is too short; of a trace, 3 a number that is no symbol,
- * 4 its end while it still fits, 5 a symbol that cannot stand there, 6 NACK where ACK is due, 7 a PEC that differs, 8 symbols after
- * STOP; of a target list, 9 its length, 10 a malformed record, 11 a repeated identifier, 12 a fixed target on a taken address; of a
- * pass, 13 no free address, 14 abandoned, 21 no command outstanding; of the lookup, 15 nobody, 16 two claim the address. */
+ * The library is target/staticlib/libc_api.a, which `rt staticlib c_api` proves and builds. */
 #ifndef HEADBOARDED_H
 #define HEADBOARDED_H
 
@@ -25,6 +22,28 @@ extern "C" {
 enum { HB_START = 256, HB_STOP = 257, HB_ACK = 258, HB_NACK = 259 };
 enum { HB_DEFAULT_ADDRESS = 0x61, HB_HOST_ADDRESS = 0x08, HB_ALERT_RESPONSE_ADDRESS = 0x0c };
 enum { HB_LONGEST_TRACE = 525, HB_DECODE_ROOM = 255, HB_BINDINGS_ROOM = 2048, HB_RECORD = 18, HB_MOST_TARGETS = 120 };
+
+/* The numbers answered. */
+enum {
+    HB_DONE = 0,
+    HB_FORBIDDEN = 1,        /* an input that is forbidden */
+    HB_TOO_SHORT = 2,        /* a buffer that is too short */
+    HB_NO_SYMBOL = 3,        /* of a trace: a number that is no symbol */
+    HB_ENDS_EARLY = 4,       /* its end while it still fits */
+    HB_UNEXPECTED = 5,       /* a symbol that cannot stand there */
+    HB_NOT_ACKNOWLEDGED = 6, /* NACK where ACK is due */
+    HB_PEC_DIFFERS = 7,      /* a PEC that differs */
+    HB_AFTER_STOP = 8,       /* symbols after STOP */
+    HB_BAD_LENGTH = 9,       /* of a target list: its length */
+    HB_MALFORMED = 10,       /* a malformed record */
+    HB_REPEATED = 11,        /* a repeated identifier */
+    HB_TAKEN = 12,           /* a fixed target on a taken address */
+    HB_NO_FREE_ADDRESS = 13, /* of a pass: no free address */
+    HB_PASS_ABANDONED = 14,  /* abandoned */
+    HB_NOBODY = 15,          /* of the lookup: nobody is bound there */
+    HB_TWO = 16,             /* two claim the address */
+    HB_NO_COMMAND = 21       /* of a pass: no command outstanding */
+};
 
 /* Protocols. */
 enum {
@@ -121,13 +140,6 @@ typedef struct {
 hb_decoded hb_decode(uint8_t protocol, uint8_t pec, const uint8_t *trace, size_t trace_len,
                      uint8_t *sent, size_t sent_len, uint8_t *received, size_t received_len);
 
-/* The same two on symbols as 16-bit numbers; lengths of traces count symbols. */
-hb_written hb_encode_symbols(uint8_t protocol, uint8_t pec, uint8_t address, uint8_t direction, uint8_t command,
-                             const uint8_t *sent, size_t sent_len, const uint8_t *received, size_t received_len,
-                             uint16_t *out, size_t out_len);
-hb_decoded hb_decode_symbols(uint8_t protocol, uint8_t pec, const uint16_t *trace, size_t trace_len,
-                             uint8_t *sent, size_t sent_len, uint8_t *received, size_t received_len);
-
 typedef struct {
     uint32_t answer;
     size_t length;
@@ -142,28 +154,28 @@ hb_part hb_last_data(uint8_t protocol, size_t m, size_t n, const uint8_t *sent, 
 
 /* Pools. Nothing is written. A number above 127 is no address: no set has it, and adding it or taking it out changes nothing. */
 
-uint8_t hb_pool_has(uint64_t low, uint64_t high, uint8_t address);
-hb_pool hb_pool_with(uint64_t low, uint64_t high, uint8_t address);
-hb_pool hb_pool_without(uint64_t low, uint64_t high, uint8_t address);
+uint8_t hb_pool_has(hb_pool pool, uint8_t address);
+hb_pool hb_pool_with(hb_pool pool, uint8_t address);
+hb_pool hb_pool_without(hb_pool pool, uint8_t address);
 /* The addresses of either set. */
-hb_pool hb_pool_union(uint64_t low, uint64_t high, uint64_t low2, uint64_t high2);
+hb_pool hb_pool_union(hb_pool one, hb_pool other);
 /* The reserved addresses and these: the pool that a pass starts with. */
-hb_pool hb_pool_starting(uint64_t low, uint64_t high);
+hb_pool hb_pool_starting(hb_pool occupied);
 /* How many addresses the set has, and the lowest that it does not have: 128 where it has all. */
-uint32_t hb_pool_used(uint64_t low, uint64_t high);
-uint8_t hb_pool_lowest_free(uint64_t low, uint64_t high);
+uint32_t hb_pool_used(hb_pool pool);
+uint8_t hb_pool_lowest_free(hb_pool pool);
 
 /* Device identifiers. */
 
 /* The identifier whose 16 bytes stand from a place on; a byte that is not there counts as 0. Nothing is written. */
 hb_udid hb_udid_from_bytes(const uint8_t *s, size_t n, size_t at);
 /* Writes the 16 bytes from a place on, and nothing else. A buffer that ends before them is left as it was. */
-void hb_udid_put_bytes(uint64_t high, uint64_t low, uint8_t *out, size_t out_len, size_t at);
+void hb_udid_put_bytes(hb_udid udid, uint8_t *out, size_t out_len, size_t at);
 /* Whether two are the same; whether the first comes before the second, and so wins on the wire; whether the target's address is fixed.
  * Nothing is written. */
-uint8_t hb_udid_is_same(uint64_t high, uint64_t low, uint64_t high2, uint64_t low2);
-uint8_t hb_udid_is_below(uint64_t high, uint64_t low, uint64_t high2, uint64_t low2);
-uint8_t hb_udid_is_fixed(uint64_t high, uint64_t low);
+uint8_t hb_udid_is_same(hb_udid one, hb_udid other);
+uint8_t hb_udid_is_below(hb_udid one, hb_udid other);
+uint8_t hb_udid_is_fixed(hb_udid udid);
 
 /* The ARP controller. */
 
@@ -171,7 +183,7 @@ uint8_t hb_udid_is_fixed(uint64_t high, uint64_t low);
  * identifier. With 0 it stands in the first 2 * symbols bytes of out, and the rest of out is as it was. With 1, another kind, a reply
  * above 255 bytes or an HB_ASSIGN of an address above 127, and with 2 out is as it was and symbols is 0. What a kind has no use for is
  * not looked at. */
-hb_written hb_put_command(uint8_t kind, uint64_t udid_high, uint64_t udid_low, uint8_t address,
+hb_written hb_put_command(uint8_t kind, hb_udid udid, uint8_t address,
                           const uint8_t *reply, size_t reply_len, uint8_t *out, size_t out_len);
 
 /* What was handed out last, the number of an end, and the Get UDIDs sent in the pass. The address is that of HB_ASSIGN; the identifier
@@ -187,7 +199,7 @@ typedef struct {
 
 /* A pass from its start with these addresses occupied, a step for each trace of a list. A trace of the list is the number of its symbols
  * and the symbols, all as pairs; the list ends where no whole trace is left. Nothing is written. */
-hb_command hb_pass(uint64_t occupied_low, uint64_t occupied_high, const uint8_t *traces, size_t traces_len);
+hb_command hb_pass(hb_pool occupied, const uint8_t *traces, size_t traces_len);
 
 typedef struct {
     uint32_t answer;
@@ -195,8 +207,7 @@ typedef struct {
 } hb_found;
 
 /* Who is bound at an address after such a pass: 0 with the identifier; else 1, 15 or 16, and the identifier is 0. Nothing is written. */
-hb_found hb_pass_lookup(uint64_t occupied_low, uint64_t occupied_high, const uint8_t *traces, size_t traces_len,
-                        uint8_t address);
+hb_found hb_pass_lookup(hb_pool occupied, const uint8_t *traces, size_t traces_len, uint8_t address);
 
 /* Targets. A record has HB_RECORD bytes: the identifier, the address byte, and the resolved flag. */
 
@@ -207,7 +218,7 @@ typedef struct {
 
 /* Whether a target list is refused where these addresses are occupied: 0; 9; 10, 11 or 12 with the first such record. Nothing is
  * written. */
-hb_checked hb_check_targets(uint64_t occupied_low, uint64_t occupied_high, const uint8_t *records, size_t records_len);
+hb_checked hb_check_targets(hb_pool occupied, const uint8_t *records, size_t records_len);
 
 /* How a model run ended: 0, or 13 with the identifier that asked; how many addresses are bound and which; the Get UDIDs sent. A refusal
  * has its record in place, and its other parts are 0. */
@@ -223,8 +234,7 @@ typedef struct {
 /* A whole pass against targets. With 0 or 13 it writes the last two bytes of each record and the first HB_BINDINGS_ROOM bytes of the
  * binding buffer: the identifier of address a at 16 * a, zeros where nobody is bound; the rest of both is as it was. With 2 and 9 to 12
  * both are as they were. */
-hb_model hb_run_model(uint64_t occupied_low, uint64_t occupied_high, uint8_t *records, size_t records_len,
-                      uint8_t *bindings, size_t bindings_len);
+hb_model hb_run_model(hb_pool occupied, uint8_t *records, size_t records_len, uint8_t *bindings, size_t bindings_len);
 
 #ifdef __cplusplus
 }

@@ -10,6 +10,9 @@
 
 extern unsigned long checks;
 
+/* No address, and all of them. */
+extern const hb_pool nothing, everything;
+
 /* Counts, and stops at the first that does not hold. */
 #define CHECK(holds) \
     do { \

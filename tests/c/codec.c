@@ -1,6 +1,8 @@
 /* The encoder, the decoder and the last data phase, with outputs of exactly the trace's length and one byte less. */
 #include "check.h"
 
+#include "../../bench/symbols.h"
+
 static const struct {
     uint8_t protocol, pec, command;
     size_t sent, received, symbols;

@@ -45,33 +45,46 @@ static void check_sets(void)
 {
     hb_pool p = { 0, 0 };
     for (unsigned n = 0; n < 128; n++) {
-        CHECK(hb_pool_used(p.low, p.high) == n && hb_pool_lowest_free(p.low, p.high) == n);
-        CHECK(hb_pool_has(p.low, p.high, (uint8_t)n) == 0);
-        p = hb_pool_with(p.low, p.high, (uint8_t)n);
-        CHECK(hb_pool_has(p.low, p.high, (uint8_t)n) == 1);
+        CHECK(hb_pool_used(p) == n && hb_pool_lowest_free(p) == n);
+        CHECK(hb_pool_has(p, (uint8_t)n) == 0);
+        p = hb_pool_with(p, (uint8_t)n);
+        CHECK(hb_pool_has(p, (uint8_t)n) == 1);
     }
     CHECK(p.low == UINT64_MAX && p.high == UINT64_MAX);
-    CHECK(hb_pool_used(p.low, p.high) == 128 && hb_pool_lowest_free(p.low, p.high) == 128);
-    p = hb_pool_without(p.low, p.high, 70);
-    CHECK(p.high == (UINT64_MAX ^ 64) && hb_pool_lowest_free(p.low, p.high) == 70);
-    p = hb_pool_without(p.low, p.high, 70);
-    CHECK(hb_pool_used(p.low, p.high) == 127);
+    CHECK(hb_pool_used(p) == 128 && hb_pool_lowest_free(p) == 128);
+    p = hb_pool_without(p, 70);
+    CHECK(p.high == (UINT64_MAX ^ 64) && hb_pool_lowest_free(p) == 70);
+    p = hb_pool_without(p, 70);
+    CHECK(hb_pool_used(p) == 127);
     for (unsigned n = 128; n < 256; n++) {
-        hb_pool more = hb_pool_with(1, 2, (uint8_t)n), fewer = hb_pool_without(1, 2, (uint8_t)n);
-        CHECK(hb_pool_has(UINT64_MAX, UINT64_MAX, (uint8_t)n) == 0);
+        hb_pool two = { 1, 2 }, more = hb_pool_with(two, (uint8_t)n), fewer = hb_pool_without(two, (uint8_t)n);
+        CHECK(hb_pool_has(everything, (uint8_t)n) == 0);
         CHECK(more.low == 1 && more.high == 2 && fewer.low == 1 && fewer.high == 2);
     }
 }
 
 static void check_starting(void)
 {
-    hb_pool start = hb_pool_starting(0, 0);
-    hb_pool either = hb_pool_union(start.low, start.high, 1 << 9, 1);
-    CHECK(hb_pool_used(start.low, start.high) == 21);
+    hb_pool occupied = { 1 << 9, 1 }, start = hb_pool_starting(nothing), either = hb_pool_union(start, occupied);
+    CHECK(hb_pool_used(start) == 21);
     for (unsigned n = 0; n < 128; n++)
-        CHECK(hb_pool_has(start.low, start.high, (uint8_t)n) == hb_is_reserved((uint8_t)n));
-    CHECK(either.low == hb_pool_starting(1 << 9, 1).low && either.high == hb_pool_starting(1 << 9, 1).high);
-    CHECK(hb_pool_lowest_free(either.low, either.high) == 0x0a);
+        CHECK(hb_pool_has(start, (uint8_t)n) == hb_is_reserved((uint8_t)n));
+    CHECK(either.low == hb_pool_starting(occupied).low && either.high == hb_pool_starting(occupied).high);
+    CHECK(hb_pool_lowest_free(either) == 0x0a);
+}
+
+static hb_udid halves(uint64_t high, uint64_t low)
+{
+    hb_udid u = { high, low };
+    return u;
+}
+
+static void check_order(void)
+{
+    CHECK(hb_udid_is_same(halves(1, 2), halves(1, 2)) == 1 && hb_udid_is_same(halves(1, 2), halves(2, 1)) == 0);
+    CHECK(hb_udid_is_below(halves(1, 9), halves(2, 0)) == 1 && hb_udid_is_below(halves(2, 0), halves(1, 9)) == 0);
+    CHECK(hb_udid_is_below(halves(1, 2), halves(1, 2)) == 0 && hb_udid_is_below(halves(1, 1), halves(1, 2)) == 1);
+    CHECK(hb_udid_is_fixed(halves(0x3fffffffffffffff, 0)) == 1 && hb_udid_is_fixed(halves(0x4000000000000000, 0)) == 0);
 }
 
 static void check_identifiers(void)
@@ -84,17 +97,15 @@ static void check_identifiers(void)
     CHECK(u.high == 0x0102030405060708 && u.low == 0x090a0b0c0d0e0f10);
     CHECK(hb_udid_from_bytes(s, 16, 9).high == 0x0a0b0c0d0e0f1000 && hb_udid_from_bytes(s, 16, 9).low == 0);
     CHECK(hb_udid_from_bytes(NULL, 0, 0).high == 0 && hb_udid_from_bytes(s, 16, SIZE_MAX).low == 0);
-    hb_udid_put_bytes(u.high, u.low, NULL, 0, 0);
-    hb_udid_put_bytes(u.high, u.low, short_one, 15, 0);
+    hb_udid_put_bytes(u, NULL, 0, 0);
+    hb_udid_put_bytes(u, short_one, 15, 0);
     CHECK(all(short_one, 0, 15, 0xee));
-    hb_udid_put_bytes(u.high, u.low, long_one, 20, 5);
-    hb_udid_put_bytes(u.high, u.low, long_one, 20, SIZE_MAX);
+    hb_udid_put_bytes(u, long_one, 20, 5);
+    hb_udid_put_bytes(u, long_one, 20, SIZE_MAX);
     CHECK(all(long_one, 0, 20, 0xee));
-    hb_udid_put_bytes(u.high, u.low, long_one, 20, 3);
+    hb_udid_put_bytes(u, long_one, 20, 3);
     CHECK(all(long_one, 0, 3, 0xee) && memcmp(long_one + 3, s, 16) == 0 && long_one[19] == 0xee);
-    CHECK(hb_udid_is_same(1, 2, 1, 2) == 1 && hb_udid_is_same(1, 2, 2, 1) == 0);
-    CHECK(hb_udid_is_below(1, 9, 2, 0) == 1 && hb_udid_is_below(1, 2, 1, 2) == 0 && hb_udid_is_below(1, 1, 1, 2) == 1);
-    CHECK(hb_udid_is_fixed(0x3fffffffffffffff, 0) == 1 && hb_udid_is_fixed(0x4000000000000000, 0) == 0);
+    check_order();
     free(s);
     free(short_one);
     free(long_one);

@@ -2,6 +2,7 @@
 #include "check.h"
 
 unsigned long checks;
+const hb_pool nothing = { 0, 0 }, everything = { UINT64_MAX, UINT64_MAX };
 
 uint8_t *block(size_t bytes, uint8_t fill)
 {

@@ -1,7 +1,8 @@
 /* Commands and passes: a target that is bound, one that finds no address, an Assign that is not acknowledged. */
 #include "check.h"
 
-static const uint64_t HIGH = 0x8001020304050607, LOW = 0x08090a0b0c0d0e0f;
+static const hb_udid module = { 0x8001020304050607, 0x08090a0b0c0d0e0f };
+static const hb_udid nobody = { 0, 0 };
 
 /* A list of traces in a block of exactly its length. */
 struct list {
@@ -24,8 +25,8 @@ static void append(struct list *l, const uint8_t *trace, size_t symbols)
 static void send(struct list *l, uint8_t kind, uint8_t address, const uint8_t *reply, size_t reply_len)
 {
     uint8_t out[2 * HB_LONGEST_TRACE];
-    hb_written w = hb_put_command(kind, HIGH, LOW, address, reply, reply_len, out, sizeof out);
-    CHECK(w.answer == 0);
+    hb_written w = hb_put_command(kind, module, address, reply, reply_len, out, sizeof out);
+    CHECK(w.answer == HB_DONE);
     append(l, out, w.symbols);
 }
 
@@ -33,16 +34,16 @@ static void check_commands(void)
 {
     static const uint16_t prepare[] = { 256, 194, 258, 1, 258, 192, 258, 257 };
     uint8_t *out = block(16, 0xee), *reply = block(256, 1);
-    hb_written w = hb_put_command(HB_PREPARE, 0, 0, 0, NULL, 0, out, 15);
-    CHECK(w.answer == 2 && w.symbols == 0 && all(out, 0, 16, 0xee));
-    CHECK(hb_put_command(HB_PREPARE, 0, 0, 0, NULL, 0, NULL, 0).answer == 2);
-    CHECK(hb_put_command(HB_GET_UDID, 0, 0, 0, reply, 256, out, 16).answer == 1);
-    CHECK(hb_put_command(HB_GET_UDID, 0, 0, 0, reply, 255, out, 16).answer == 2);
+    hb_written w = hb_put_command(HB_PREPARE, nobody, 0, NULL, 0, out, 15);
+    CHECK(w.answer == HB_TOO_SHORT && w.symbols == 0 && all(out, 0, 16, 0xee));
+    CHECK(hb_put_command(HB_PREPARE, nobody, 0, NULL, 0, NULL, 0).answer == HB_TOO_SHORT);
+    CHECK(hb_put_command(HB_GET_UDID, nobody, 0, reply, 256, out, 16).answer == HB_FORBIDDEN);
+    CHECK(hb_put_command(HB_GET_UDID, nobody, 0, reply, 255, out, 16).answer == HB_TOO_SHORT);
     for (unsigned kind = HB_ENDED; kind < 256; kind++)
-        CHECK(hb_put_command((uint8_t)kind, 0, 0, 0, NULL, 0, out, 16).answer == 1);
+        CHECK(hb_put_command((uint8_t)kind, nobody, 0, NULL, 0, out, 16).answer == HB_FORBIDDEN);
     CHECK(all(out, 0, 16, 0xee));
-    w = hb_put_command(HB_PREPARE, 1, 2, 3, reply, 256, out, 16);
-    CHECK(w.answer == 0 && w.symbols == 8);
+    w = hb_put_command(HB_PREPARE, module, 3, reply, 256, out, 16);
+    CHECK(w.answer == HB_DONE && w.symbols == 8);
     for (int i = 0; i < 8; i++)
         CHECK(out[2 * i] + 256 * out[2 * i + 1] == prepare[i]);
     free(out);
@@ -54,20 +55,20 @@ static void check_numbers(void)
 {
     for (unsigned n = 0; n < 256; n++) {
         uint8_t *out = block(88, 0xee);
-        hb_written w = hb_put_command(HB_ASSIGN, HIGH, LOW, (uint8_t)n, NULL, 0, out, 88);
+        hb_written w = hb_put_command(HB_ASSIGN, module, (uint8_t)n, NULL, 0, out, 88);
         if (n > 127)
-            CHECK(w.answer == 1 && w.symbols == 0 && all(out, 0, 88, 0xee));
+            CHECK(w.answer == HB_FORBIDDEN && w.symbols == 0 && all(out, 0, 88, 0xee));
         else
-            CHECK(w.answer == 0 && w.symbols == 44 && out[78] == 2 * n && out[79] == 0);
+            CHECK(w.answer == HB_DONE && w.symbols == 44 && out[78] == 2 * n && out[79] == 0);
         free(out);
     }
 }
 
 static void expect(const struct list *l, uint32_t kind, uint32_t address, uint32_t gets)
 {
-    hb_command c = hb_pass(0, 0, l->bytes, l->length);
-    CHECK(c.kind == kind && c.answer == 0 && c.address == address && c.gets == gets);
-    CHECK(kind == HB_ASSIGN ? c.udid.high == HIGH && c.udid.low == LOW : c.udid.high == 0 && c.udid.low == 0);
+    hb_command c = hb_pass(nothing, l->bytes, l->length);
+    CHECK(c.kind == kind && c.answer == HB_DONE && c.address == address && c.gets == gets);
+    CHECK(hb_udid_is_same(c.udid, kind == HB_ASSIGN ? module : nobody));
 }
 
 /* One target that holds 20h: it is bound there, and the pass ends. */
@@ -77,28 +78,28 @@ static void check_bound(void)
     uint8_t reply[17];
     hb_command c;
     static const uint8_t silence[] = { 0, 1, 0xc2, 0, 2, 1, 3, 0, 2, 1, 0, 1, 0xc3, 0, 3, 1, 1, 1 };
-    hb_udid_put_bytes(HIGH, LOW, reply, sizeof reply, 0);
+    hb_udid_put_bytes(module, reply, sizeof reply, 0);
     reply[16] = 2 * 0x20 + 1;
     expect(&l, HB_PREPARE, 0, 0);
     send(&l, HB_PREPARE, 0, NULL, 0);
     expect(&l, HB_GET_UDID, 0, 1);
     send(&l, HB_GET_UDID, 0, reply, sizeof reply);
     expect(&l, HB_ASSIGN, 0x20, 1);
-    CHECK(hb_pass_lookup(0, 0, l.bytes, l.length, 0x20).answer == 15);
+    CHECK(hb_pass_lookup(nothing, l.bytes, l.length, 0x20).answer == HB_NOBODY);
     send(&l, HB_ASSIGN, 0x20, NULL, 0);
     expect(&l, HB_GET_UDID, 0, 2);
     append(&l, silence, 9);
     expect(&l, HB_ENDED, 0, 2);
-    CHECK(hb_pass_lookup(0, 0, l.bytes, l.length, 0x20).answer == 0);
-    CHECK(hb_pass_lookup(0, 0, l.bytes, l.length, 0x20).udid.high == HIGH);
-    CHECK(hb_pass_lookup(0, 0, l.bytes, l.length, 0x20).udid.low == LOW);
-    CHECK(hb_pass_lookup(0, 0, l.bytes, l.length, 0x21).answer == 15);
-    CHECK(hb_pass_lookup(0, 0, l.bytes, l.length, 128).answer == 1);
+    CHECK(hb_pass_lookup(nothing, l.bytes, l.length, 0x20).answer == HB_DONE);
+    CHECK(hb_pass_lookup(nothing, l.bytes, l.length, 0x20).udid.high == module.high);
+    CHECK(hb_pass_lookup(nothing, l.bytes, l.length, 0x20).udid.low == module.low);
+    CHECK(hb_pass_lookup(nothing, l.bytes, l.length, 0x21).answer == HB_NOBODY);
+    CHECK(hb_pass_lookup(nothing, l.bytes, l.length, 128).answer == HB_FORBIDDEN);
     append(&l, silence, 9);
-    c = hb_pass(0, 0, l.bytes, l.length);
-    CHECK(c.kind == HB_NOT_OUTSTANDING && c.answer == 21);
+    c = hb_pass(nothing, l.bytes, l.length);
+    CHECK(c.kind == HB_NOT_OUTSTANDING && c.answer == HB_NO_COMMAND);
     CHECK(c.address == 0 && c.gets == 0 && c.udid.high == 0 && c.udid.low == 0);
-    CHECK(hb_pass_lookup(0, 0, l.bytes, l.length, 0x20).answer == 0);
+    CHECK(hb_pass_lookup(nothing, l.bytes, l.length, 0x20).answer == HB_DONE);
     l.bytes[l.length - 20] = 10;
     expect(&l, HB_ENDED, 0, 2);
     free(l.bytes);
@@ -110,25 +111,25 @@ static void check_ends(void)
     struct list l = { NULL, 0 };
     uint8_t reply[17];
     hb_command c;
-    hb_udid_put_bytes(HIGH, LOW, reply, sizeof reply, 0);
+    hb_udid_put_bytes(module, reply, sizeof reply, 0);
     reply[16] = 0xff;
     send(&l, HB_PREPARE, 0, NULL, 0);
     send(&l, HB_GET_UDID, 0, reply, sizeof reply);
-    c = hb_pass(UINT64_MAX, UINT64_MAX, l.bytes, l.length);
-    CHECK(c.kind == HB_NONE_FREE && c.answer == 13 && c.udid.high == HIGH && c.udid.low == LOW && c.gets == 1);
+    c = hb_pass(everything, l.bytes, l.length);
+    CHECK(c.kind == HB_NONE_FREE && c.answer == HB_NO_FREE_ADDRESS && hb_udid_is_same(c.udid, module) && c.gets == 1);
     expect(&l, HB_ASSIGN, 0x09, 1);
     append(&l, reply, 0);
     expect(&l, HB_GET_UDID, 0, 2);
-    CHECK(hb_pass_lookup(0, 0, l.bytes, l.length, 0x09).answer == 15);
+    CHECK(hb_pass_lookup(nothing, l.bytes, l.length, 0x09).answer == HB_NOBODY);
     l.bytes[l.length - 2] = 1;
     expect(&l, HB_ASSIGN, 0x09, 1);
     free(l.bytes);
-    CHECK(hb_pass(0, 0, NULL, 0).kind == HB_PREPARE && hb_pass_lookup(0, 0, NULL, 0, 0x09).answer == 15);
+    CHECK(hb_pass(nothing, NULL, 0).kind == HB_PREPARE && hb_pass_lookup(nothing, NULL, 0, 0x09).answer == HB_NOBODY);
     l.bytes = block(1, 0);
-    CHECK(hb_pass(0, 0, l.bytes, 1).kind == HB_PREPARE);
+    CHECK(hb_pass(nothing, l.bytes, 1).kind == HB_PREPARE);
     free(l.bytes);
     l.bytes = block(2, 0);
-    CHECK(hb_pass(0, 0, l.bytes, 2).kind == HB_ABANDONED && hb_pass(0, 0, l.bytes, 2).answer == 14);
+    CHECK(hb_pass(nothing, l.bytes, 2).kind == HB_ABANDONED && hb_pass(nothing, l.bytes, 2).answer == HB_PASS_ABANDONED);
     free(l.bytes);
 }
 
@@ -139,16 +140,17 @@ static void check_claimed(void)
     uint8_t out[2 * HB_LONGEST_TRACE], reply[17];
     send(&l, HB_PREPARE, 0, NULL, 0);
     for (uint64_t high = 1; high <= 2; high++) {
+        hb_udid fixed = { high, 0 };
         hb_written w;
-        hb_udid_put_bytes(high, 0, reply, sizeof reply, 0);
+        hb_udid_put_bytes(fixed, reply, sizeof reply, 0);
         reply[16] = 2 * 0x30 + 1;
-        w = hb_put_command(HB_GET_UDID, 0, 0, 0, reply, sizeof reply, out, sizeof out);
+        w = hb_put_command(HB_GET_UDID, nobody, 0, reply, sizeof reply, out, sizeof out);
         append(&l, out, w.symbols);
-        w = hb_put_command(HB_ASSIGN, high, 0, 0x30, NULL, 0, out, sizeof out);
+        w = hb_put_command(HB_ASSIGN, fixed, 0x30, NULL, 0, out, sizeof out);
         append(&l, out, w.symbols);
-        CHECK(hb_pass_lookup(0, 0, l.bytes, l.length, 0x30).answer == (high == 1 ? 0 : 16));
+        CHECK(hb_pass_lookup(nothing, l.bytes, l.length, 0x30).answer == (high == 1 ? HB_DONE : HB_TWO));
     }
-    CHECK(hb_pass(0, 0, l.bytes, l.length).gets == 3);
+    CHECK(hb_pass(nothing, l.bytes, l.length).gets == 3);
     free(l.bytes);
 }
 

@@ -49,18 +49,18 @@ mod raw {
     use super::*;
 
     extern "C" {
-        pub fn hb_pool_has(low: u64, high: u64, address: u8) -> u8;
-        pub fn hb_pool_with(low: u64, high: u64, address: u8) -> Pool;
-        pub fn hb_pool_without(low: u64, high: u64, address: u8) -> Pool;
-        pub fn hb_pool_union(low: u64, high: u64, low2: u64, high2: u64) -> Pool;
-        pub fn hb_pool_starting(low: u64, high: u64) -> Pool;
-        pub fn hb_pool_used(low: u64, high: u64) -> u32;
-        pub fn hb_pool_lowest_free(low: u64, high: u64) -> u8;
+        pub fn hb_pool_has(pool: Pool, address: u8) -> u8;
+        pub fn hb_pool_with(pool: Pool, address: u8) -> Pool;
+        pub fn hb_pool_without(pool: Pool, address: u8) -> Pool;
+        pub fn hb_pool_union(one: Pool, other: Pool) -> Pool;
+        pub fn hb_pool_starting(occupied: Pool) -> Pool;
+        pub fn hb_pool_used(pool: Pool) -> u32;
+        pub fn hb_pool_lowest_free(pool: Pool) -> u8;
         pub fn hb_udid_from_bytes(s: *const u8, n: usize, at: usize) -> Udid;
-        pub fn hb_udid_put_bytes(high: u64, low: u64, out: *mut u8, out_len: usize, at: usize);
-        pub fn hb_udid_is_same(high: u64, low: u64, high2: u64, low2: u64) -> u8;
-        pub fn hb_udid_is_below(high: u64, low: u64, high2: u64, low2: u64) -> u8;
-        pub fn hb_udid_is_fixed(high: u64, low: u64) -> u8;
+        pub fn hb_udid_put_bytes(udid: Udid, out: *mut u8, out_len: usize, at: usize);
+        pub fn hb_udid_is_same(one: Udid, other: Udid) -> u8;
+        pub fn hb_udid_is_below(one: Udid, other: Udid) -> u8;
+        pub fn hb_udid_is_fixed(udid: Udid) -> u8;
         pub fn hb_last_data(
             protocol: u8,
             m: usize,
@@ -74,47 +74,46 @@ mod raw {
         ) -> Part;
         pub fn hb_put_command(
             kind: u8,
-            high: u64,
-            low: u64,
+            udid: Udid,
             address: u8,
             reply: *const u8,
             reply_len: usize,
             out: *mut u8,
             out_len: usize,
         ) -> Written;
-        pub fn hb_pass(low: u64, high: u64, traces: *const u8, traces_len: usize) -> Command;
-        pub fn hb_pass_lookup(low: u64, high: u64, traces: *const u8, traces_len: usize, address: u8) -> Found;
-        pub fn hb_check_targets(low: u64, high: u64, records: *const u8, records_len: usize) -> Part;
+        pub fn hb_pass(occupied: Pool, traces: *const u8, traces_len: usize) -> Command;
+        pub fn hb_pass_lookup(occupied: Pool, traces: *const u8, traces_len: usize, address: u8) -> Found;
+        pub fn hb_check_targets(occupied: Pool, records: *const u8, records_len: usize) -> Part;
     }
 }
 
 impl Pool {
     pub fn has(self, address: u8) -> bool {
-        unsafe { raw::hb_pool_has(self.low, self.high, address) == 1 }
+        unsafe { raw::hb_pool_has(self, address) == 1 }
     }
 
     pub fn with(self, address: u8) -> Pool {
-        unsafe { raw::hb_pool_with(self.low, self.high, address) }
+        unsafe { raw::hb_pool_with(self, address) }
     }
 
     pub fn without(self, address: u8) -> Pool {
-        unsafe { raw::hb_pool_without(self.low, self.high, address) }
+        unsafe { raw::hb_pool_without(self, address) }
     }
 
     pub fn union(self, other: Pool) -> Pool {
-        unsafe { raw::hb_pool_union(self.low, self.high, other.low, other.high) }
+        unsafe { raw::hb_pool_union(self, other) }
     }
 
     pub fn starting(self) -> Pool {
-        unsafe { raw::hb_pool_starting(self.low, self.high) }
+        unsafe { raw::hb_pool_starting(self) }
     }
 
     pub fn used(self) -> usize {
-        unsafe { raw::hb_pool_used(self.low, self.high) as usize }
+        unsafe { raw::hb_pool_used(self) as usize }
     }
 
     pub fn lowest_free(self) -> u8 {
-        unsafe { raw::hb_pool_lowest_free(self.low, self.high) }
+        unsafe { raw::hb_pool_lowest_free(self) }
     }
 }
 
@@ -124,19 +123,19 @@ impl Udid {
     }
 
     pub fn put_bytes(self, out: &mut [u8], at: usize) {
-        unsafe { raw::hb_udid_put_bytes(self.high, self.low, out.as_mut_ptr(), out.len(), at) }
+        unsafe { raw::hb_udid_put_bytes(self, out.as_mut_ptr(), out.len(), at) }
     }
 
     pub fn is_same(self, other: Udid) -> bool {
-        unsafe { raw::hb_udid_is_same(self.high, self.low, other.high, other.low) == 1 }
+        unsafe { raw::hb_udid_is_same(self, other) == 1 }
     }
 
     pub fn is_below(self, other: Udid) -> bool {
-        unsafe { raw::hb_udid_is_below(self.high, self.low, other.high, other.low) == 1 }
+        unsafe { raw::hb_udid_is_below(self, other) == 1 }
     }
 
     pub fn is_fixed(self) -> bool {
-        unsafe { raw::hb_udid_is_fixed(self.high, self.low) == 1 }
+        unsafe { raw::hb_udid_is_fixed(self) == 1 }
     }
 }
 
@@ -148,18 +147,18 @@ pub fn last_data(protocol: u8, lengths: (usize, usize), sent: &[u8], received: &
 
 pub fn put_command(kind: u8, udid: Udid, address: u8, reply: &[u8], out: &mut [u8]) -> Written {
     let (r, o) = (reply.as_ptr(), out.as_mut_ptr());
-    unsafe { raw::hb_put_command(kind, udid.high, udid.low, address, r, reply.len(), o, out.len()) }
+    unsafe { raw::hb_put_command(kind, udid, address, r, reply.len(), o, out.len()) }
 }
 
 pub fn pass(occupied: Pool, traces: &[u8]) -> Command {
-    unsafe { raw::hb_pass(occupied.low, occupied.high, traces.as_ptr(), traces.len()) }
+    unsafe { raw::hb_pass(occupied, traces.as_ptr(), traces.len()) }
 }
 
 pub fn pass_lookup(occupied: Pool, traces: &[u8], address: u8) -> Found {
-    unsafe { raw::hb_pass_lookup(occupied.low, occupied.high, traces.as_ptr(), traces.len(), address) }
+    unsafe { raw::hb_pass_lookup(occupied, traces.as_ptr(), traces.len(), address) }
 }
 
 /// The number and the record.
 pub fn check_targets(occupied: Pool, records: &[u8]) -> Part {
-    unsafe { raw::hb_check_targets(occupied.low, occupied.high, records.as_ptr(), records.len()) }
+    unsafe { raw::hb_check_targets(occupied, records.as_ptr(), records.len()) }
 }

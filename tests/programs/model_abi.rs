@@ -5,18 +5,25 @@ use reference::model::{run_model, Outcome};
 use reference::spoiled::Input;
 
 mod raw {
-    use super::Ran;
+    use super::{Pool, Ran};
 
     extern "C" {
         pub fn hb_run_model(
-            low: u64,
-            high: u64,
+            occupied: Pool,
             records: *mut u8,
             records_len: usize,
             bindings: *mut u8,
             bindings_len: usize,
         ) -> Ran;
     }
+}
+
+/// A set of addresses: bit k of low is address k, bit k of high is address 64 + k.
+#[repr(C)]
+#[derive(Clone, Copy, Debug, PartialEq, Eq)]
+pub struct Pool {
+    low: u64,
+    high: u64,
 }
 
 #[repr(C)]
@@ -28,19 +35,16 @@ pub struct Ran {
     place: usize,
     udid_high: u64,
     udid_low: u64,
-    bound_low: u64,
-    bound_high: u64,
+    bound: Pool,
 }
 
-/// A set's two halves: bit k of the first is address k, bit k of the second address 64 + k.
-fn halves(addresses: &Addresses) -> (u64, u64) {
+fn pool(addresses: &Addresses) -> Pool {
     let whole = addresses.iter().fold(0u128, |set, &address| set | 1 << address);
-    (whole as u64, (whole >> 64) as u64)
+    Pool { low: whole as u64, high: (whole >> 64) as u64 }
 }
 
 fn ran(outcome: &Outcome) -> Ran {
     let udid = u128::from_be_bytes(outcome.udid);
-    let (bound_low, bound_high) = halves(&outcome.bound);
     Ran {
         answer: outcome.answer,
         count: outcome.how_many as u32,
@@ -48,8 +52,7 @@ fn ran(outcome: &Outcome) -> Ran {
         place: outcome.record,
         udid_high: (udid >> 64) as u64,
         udid_low: udid as u64,
-        bound_low,
-        bound_high,
+        bound: pool(&outcome.bound),
     }
 }
 
@@ -96,9 +99,8 @@ fn lent(bytes: &mut [u8]) -> (*mut u8, usize) {
 
 pub fn by_library(input: &Input) -> Left {
     let (mut records, mut bindings) = (framed(&input.list), framed(&input.buffer));
-    let (low, high) = halves(&input.occupied);
     let (list, buffer) = (lent(&mut records), lent(&mut bindings));
-    let ran = unsafe { raw::hb_run_model(low, high, list.0, list.1, buffer.0, buffer.1) };
+    let ran = unsafe { raw::hb_run_model(pool(&input.occupied), list.0, list.1, buffer.0, buffer.1) };
     Left { ran, records, bindings }
 }
 

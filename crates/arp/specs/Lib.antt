@@ -32,3 +32,4 @@ pub mod TableLaws
 pub mod HandedOutLaws
 pub mod NoneFreeLaws
 pub mod StoryLaws
+pub mod LongTraceLaws

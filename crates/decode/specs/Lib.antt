@@ -2,3 +2,4 @@ pub mod Outcome
 pub mod EntryLaws
 pub mod OutcomeLaws
 pub mod NumberLaws
+pub mod LongTraceLaws

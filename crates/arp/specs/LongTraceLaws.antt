@@ -1,0 +1,67 @@
+-- The step for a trace of more than 526 symbols is the step for its first 526: no trace that fits has more than 525.
+use mathlib.Core.Path.{_≡_, refl, sym, ap, ap₂, _∙_}
+use mathlib.Core.Bool.{true}
+use mathlib.Core.List.{List}
+use Prim.Native.Nat.{ℕ, _≤_}
+use lib.ListN.{length, take, drop}
+use Rattle.trace.specs.Shapes.{shapeOf}
+use Rattle.step.specs.Handed.{lows, sentLength, sentPlace, receivedLength, receivedPlace}
+use Rattle.step.specs.declared.answer.Decoded.{Decoded}
+use Rattle.decode.specs.LongTraceLaws.{same-decoded, decoded-none}
+use Rattle.udid.specs.declared.Udid.{Udid}
+use Rattle.arp.specs.Heard.{sendByte, blockRead, blockWrite, answer, sentIn, receivedIn}
+use Rattle.arp.specs.Controller.{onPrepare, onGet, onAssign, afterPrepare, afterGet, afterAssign, byCommand, stepped}
+use Rattle.arp.specs.declared.command.Command.{Command}
+use Rattle.arp.specs.declared.command.Command.the-variants.{Nothing, Prepare, GetUdid, Assign, Ended, NoneFree, Abandoned, NotOutstanding}
+use Rattle.arp.specs.declared.state.Controller.{Controller}
+use Rattle.arp.specs.declared.state.Stepped.{Stepped}
+
+module _ (s : Controller) (tr : List ℕ) (long : 526 ≤ length tr) where
+  -- the answer is that of the front
+  same-answer : (protocol : ℕ) → answer protocol (take 526 tr) ≡ answer protocol tr
+  same-answer protocol = same-decoded protocol true tr long
+
+  -- and no data come with it
+  none-sent : (protocol : ℕ) → sentLength (answer protocol tr) ≡ 0
+  none-sent protocol = decoded-none protocol true tr long .0
+
+  none-received : (protocol : ℕ) → receivedLength (answer protocol tr) ≡ 0
+  none-received protocol = decoded-none protocol true tr long .1
+
+  same-sent : (protocol : ℕ) → sentIn protocol (take 526 tr) ≡ sentIn protocol tr
+  same-sent protocol =
+      let at : List ℕ → List ℕ = drop (sentPlace (shapeOf protocol)) in
+      ap (λ (n : ℕ). lows n (at (take 526 tr))) (ap sentLength (same-answer protocol) ∙ none-sent protocol)
+      ∙ ap (λ (n : ℕ). lows n (at tr)) (sym (none-sent protocol))
+
+  same-received : (protocol : ℕ) → receivedIn protocol (take 526 tr) ≡ receivedIn protocol tr
+  same-received protocol =
+      let at : ℕ → List ℕ → List ℕ = λ n l. drop (receivedPlace true n (length l)) l in
+      ap (λ (n : ℕ). lows n (at n (take 526 tr))) (ap receivedLength (same-answer protocol) ∙ none-received protocol)
+      ∙ ap (λ (n : ℕ). lows n (at n tr)) (sym (none-received protocol))
+
+  same-prepare : afterPrepare s (take 526 tr) ≡ afterPrepare s tr
+  unfolding afterPrepare
+  same-prepare = ap₂ (onPrepare s) (same-answer sendByte) (same-sent sendByte)
+
+  same-get : afterGet s (take 526 tr) ≡ afterGet s tr
+  unfolding afterGet
+  same-get = ap₂ (onGet s) (same-answer blockRead) (same-received blockRead)
+
+  same-assign : (u : Udid) (a : ℕ) → afterAssign s u a (take 526 tr) ≡ afterAssign s u a tr
+  unfolding afterAssign
+  same-assign u a = ap₂ (onAssign s u a) (same-answer blockWrite) (same-sent blockWrite)
+
+  pub step-of-front : stepped s (take 526 tr) ≡ stepped s tr
+  unfolding stepped
+  step-of-front = go (s .last)
+    where
+      go : (k : Command) → byCommand s (take 526 tr) k ≡ byCommand s tr k
+      go Nothing = refl
+      go Prepare = same-prepare
+      go GetUdid = same-get
+      go (Assign u a) = same-assign u (a .0)
+      go Ended = refl
+      go (NoneFree u) = refl
+      go Abandoned = refl
+      go NotOutstanding = refl

@@ -1,0 +1,32 @@
+use borrow.Author.Needs.{needs}
+use mathlib.Core.Path.{_≡_, ap, sym, _∙_}
+use Rattle.pool.specs.Free.{lowestFree}
+use Rattle.c_arp.specs.Parts.{freeNumber}
+use Rattle.c_api.proofs.pools.hb_pool_lowest_free.Statement.{statement}
+use Rattle.c_api.proofs.pools.hb_pool_lowest_free.Tie as tie
+use Rattle.c_api.proofs.pools.hb_pool_lowest_free.Reads as reads
+use Rattle.c_api.proofs.pools.hb_pool_lowest_free.Lts as lts
+use Rattle.c_arp.proofs.parts.pool_in.Reads as pool-in-reads
+use Rattle.pool.proofs.Pool.lowest_free.Reads as lowest-free-reads
+
+pool-in-requires : tie.Need-pool-in-requires
+pool-in-requires c κs = search needs
+
+lowest-free-requires : tie.Need-lowest-free-requires
+lowest-free-requires c κs = search needs
+
+enum-known-f : tie.Need-enum-known-f
+enum-known-f c = search needs
+
+enum-told : tie.Need-enum-told
+enum-told c = search needs
+
+returns : tie.Need-returns
+returns c = ap freeNumber (sym (c .before .f .given .1) ∙ c .before .before .before .lowest-free .ensures ∙ ap lowestFree (c .before .before .before .before .pool-in .ensures))
+
+returns-2 : tie.Need-returns-2
+returns-2 c = ap freeNumber (sym (c .enum-told .given .1) ∙ c .before .before .lowest-free .ensures ∙ ap lowestFree (c .before .before .before .pool-in .ensures))
+
+pub hb-pool-lowest-free-spec : {M : Type 1} → statement M
+hb-pool-lowest-free-spec =
+    tie.close (tie.spec pool-in-requires lowest-free-requires enum-known-f enum-told returns returns-2)

@@ -1,0 +1,5 @@
+pub mod PoolParts
+pub mod AddressCallLaws
+pub mod PoolCallLaws
+pub mod UdidCallLaws
+pub mod RoundTripLaws

@@ -1,0 +1,48 @@
+// Traces of the ARP controller's commands, and a pass over a list of traces. The controller's state does not cross to C: a pass starts anew
+// at each call, and takes one step for each trace.
+ghost use mathlib.Core.Path.{_≡_};
+ghost use mathlib.Core.Bool.{true};
+ghost use Rattle.arp.specs.Lookup.{lookedUp};
+ghost use Rattle.arp.specs.Requests.{protocolFor, messageOf};
+ghost use Rattle.c_codec.specs.Codec.{WrotePairs};
+ghost use Rattle.c_arp.specs.Commands.{commandOf, toldCommand};
+ghost use Rattle.c_arp.specs.Parts.{poolIn, udidIn};
+ghost use Rattle.c_arp.specs.Pass.{passOver, toldFound};
+use c_arp::commands::HbCommand;
+use c_arp::commands::put_command_pairs;
+use c_arp::parts::HbPool;
+use c_arp::parts::HbUdid;
+use c_arp::pass::HbFound;
+use c_arp::pass::pass_command;
+use c_arp::pass::pass_lookup;
+use c_codec::codec::HbWritten;
+
+// The trace of a command that is acknowledged whole; for Get UDID, with these data as its reply.
+#[no_mangle]
+pub extern "C" fn hb_put_command(
+    kind: u8,
+    udid: HbUdid,
+    address: u8,
+    reply: &[u8],
+    out: &mut [u8],
+) -> HbWritten
+    ensures { λ r. ⌜ WrotePairs (protocolFor (commandOf kind (udidIn udid) (record { 0 = address }))) true (messageOf (commandOf kind (udidIn udid) (record { 0 = address })) (now (reply .entry))) (now (out .entry)) r (now (out .exit)) ⌝ }
+{
+    put_command_pairs(kind, udid, address, reply, out)
+}
+
+// What the last step handed out; with no trace, Prepare To ARP.
+#[no_mangle]
+pub extern "C" fn hb_pass(occupied: HbPool, traces: &[u8]) -> HbCommand
+    ensures { λ r. ⌜ r ≡ toldCommand (passOver (poolIn occupied) (now (traces .entry)) .command) (passOver (poolIn occupied) (now (traces .entry)) .state .gets) ⌝ }
+{
+    pass_command(occupied, traces)
+}
+
+// Who is bound at an address after such a pass.
+#[no_mangle]
+pub extern "C" fn hb_pass_lookup(occupied: HbPool, traces: &[u8], address: u8) -> HbFound
+    ensures { λ r. ⌜ r ≡ toldFound (lookedUp (passOver (poolIn occupied) (now (traces .entry)) .state) address) ⌝ }
+{
+    pass_lookup(occupied, traces, address)
+}

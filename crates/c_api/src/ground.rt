@@ -1,0 +1,118 @@
+// PEC, addresses, and the lengths of traces.
+ghost use mathlib.Core.Path.{_≡_};
+ghost use Prim.Native.Nat.{_+_, _*_, _/_, _%_};
+ghost use lib.Dec.{ltb, eqb};
+ghost use Rattle.wire.specs.Addresses.{isReserved};
+ghost use Rattle.wire.specs.Pec.{pecStep, pecFrom, pecOf};
+ghost use Rattle.trace.specs.Lengths.{roomFor};
+ghost use Rattle.c_codec.specs.Numbers.{truth, bit};
+use c_codec::numbers::as_number;
+use wire::address::Address;
+use wire::address::WireByte;
+
+// The packet error code after one byte more.
+#[no_mangle]
+pub extern "C" fn hb_pec_byte(crc: u8, byte: u8) -> u8
+    ensures { λ r. ⌜ r ≡ pecStep crc byte ⌝ }
+{
+    wire::pec::add_byte(crc, byte)
+}
+
+// The packet error code after more bytes.
+#[no_mangle]
+pub extern "C" fn hb_pec_bytes(crc: u8, s: &[u8]) -> u8
+    ensures { λ r. ⌜ r ≡ pecFrom crc (now (s .entry)) ⌝ }
+{
+    wire::pec::add_bytes(crc, s)
+}
+
+// The packet error code of bytes.
+#[no_mangle]
+pub extern "C" fn hb_pec(s: &[u8]) -> u8
+    ensures { λ r. ⌜ r ≡ pecOf (now (s .entry)) ⌝ }
+{
+    wire::pec::of_bytes(s)
+}
+
+// The byte on the wire that asks the address for a write.
+#[no_mangle]
+pub extern "C" fn hb_wire_for_write(address: u8) -> u8
+    ensures { λ r. ⌜ r ≡ 2 * (address % 128) ⌝ }
+{
+    let w = Address(address).for_write();
+    w.0
+}
+
+// The byte on the wire that asks the address for a read.
+#[no_mangle]
+pub extern "C" fn hb_wire_for_read(address: u8) -> u8
+    ensures { λ r. ⌜ r ≡ 2 * (address % 128) + 1 ⌝ }
+{
+    let w = Address(address).for_read();
+    w.0
+}
+
+// The address that a byte on the wire carries.
+#[no_mangle]
+pub extern "C" fn hb_address_from_wire(byte: u8) -> u8
+    ensures { λ r. ⌜ r ≡ byte / 2 ⌝ }
+{
+    let a = Address::from_wire(WireByte(byte));
+    a.0
+}
+
+// 1 for a byte that asks for a read.
+#[no_mangle]
+pub extern "C" fn hb_wire_is_read(byte: u8) -> u8
+    ensures { λ r. ⌜ r ≡ bit (eqb (byte % 2) 1) ⌝ }
+{
+    as_number(WireByte(byte).is_read())
+}
+
+// 1 for a number of seven bits.
+#[no_mangle]
+pub extern "C" fn hb_is_seven_bit(address: u8) -> u8
+    ensures { λ r. ⌜ r ≡ bit (ltb address 128) ⌝ }
+{
+    as_number(Address(address).is_seven_bit())
+}
+
+// 1 for the default address.
+#[no_mangle]
+pub extern "C" fn hb_is_default(address: u8) -> u8
+    ensures { λ r. ⌜ r ≡ bit (eqb address 0x61) ⌝ }
+{
+    as_number(Address(address).is_default())
+}
+
+// 1 for the host's address.
+#[no_mangle]
+pub extern "C" fn hb_is_host(address: u8) -> u8
+    ensures { λ r. ⌜ r ≡ bit (eqb address 0x08) ⌝ }
+{
+    as_number(Address(address).is_host())
+}
+
+// 1 for the alert response address.
+#[no_mangle]
+pub extern "C" fn hb_is_alert_response(address: u8) -> u8
+    ensures { λ r. ⌜ r ≡ bit (eqb address 0x0C) ⌝ }
+{
+    as_number(Address(address).is_alert_response())
+}
+
+// 1 for an address that is never given out.
+#[no_mangle]
+pub extern "C" fn hb_is_reserved(address: u8) -> u8
+    ensures { λ r. ⌜ r ≡ bit (isReserved address) ⌝ }
+{
+    as_number(Address(address).is_reserved())
+}
+
+// The room in symbols that the encoder needs for so many bytes sent and received; 0 where it refuses the protocol, the PEC or a length.
+#[no_mangle]
+pub extern "C" fn hb_trace_length(protocol: u8, pec: u8, sent: usize, received: usize) -> usize
+    ensures { λ r. ⌜ r ≡ roomFor protocol (truth pec) sent received ⌝ }
+{
+    trace::length::room_for(protocol, pec != 0, sent, received)
+}

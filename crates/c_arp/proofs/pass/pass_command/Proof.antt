@@ -1,0 +1,29 @@
+use borrow.Author.Needs.{needs}
+use mathlib.Core.Path.{_≡_, _∙_, ap}
+use Rattle.pool.specs.declared.Pool.{Pool}
+use Rattle.arp.specs.declared.state.Stepped.{Stepped}
+use Rattle.c_arp.specs.Commands.{toldCommand}
+use Rattle.c_arp.specs.Pass.{passOver}
+use Rattle.c_arp.proofs.pass.pass_command.Statement.{statement}
+use Rattle.c_arp.proofs.pass.pass_command.Tie as tie
+use Rattle.c_arp.proofs.pass.pass_command.Reads as reads
+use Rattle.c_arp.proofs.pass.pass_command.Lts as lts
+use Rattle.c_arp.proofs.commands.told_command.Reads as told-command-reads
+use Rattle.c_arp.proofs.parts.pool_in.Reads as pool-in-reads
+use Rattle.c_arp.proofs.pass.run_pass.Reads as run-pass-reads
+
+pool-in-requires : tie.Need-pool-in-requires
+pool-in-requires c κs = search needs
+
+run-pass-requires : tie.Need-run-pass-requires
+run-pass-requires c κs = search needs
+
+told-command-requires : tie.Need-told-command-requires
+told-command-requires c κs = search needs
+
+returns : tie.Need-returns
+returns c = c .told-command .ensures ∙ ap (λ (x : Stepped). toldCommand (x .command) (x .state .gets)) (c .before .before .run-pass .ensures ∙ ap (λ (p : Pool). passOver p (c .before .before .before .before .before .args .traces .now)) (c .before .before .before .pool-in .ensures))
+
+pub pass-command-spec : {M : Type 1} → statement M
+pass-command-spec =
+    tie.close (tie.spec pool-in-requires run-pass-requires told-command-requires returns)

@@ -1,0 +1,37 @@
+use borrow.Author.Needs.{needs}
+use mathlib.Core.Path.{_≡_, _∙_, ap}
+use Rattle.pool.specs.declared.Pool.{Pool}
+use Rattle.arp.specs.Lookup.{lookedUp}
+use Rattle.arp.specs.declared.state.Stepped.{Stepped}
+use Rattle.c_arp.specs.Pass.{passOver, toldFound}
+use Rattle.c_arp.proofs.pass.pass_lookup.Statement.{statement}
+use Rattle.c_arp.proofs.pass.pass_lookup.Tie as tie
+use Rattle.c_arp.proofs.pass.pass_lookup.Reads as reads
+use Rattle.c_arp.proofs.pass.pass_lookup.Lts as lts
+use Rattle.arp.proofs.state.Controller.lookup.Reads as lookup-reads
+use Rattle.c_arp.proofs.parts.pool_in.Reads as pool-in-reads
+use Rattle.c_arp.proofs.pass.run_pass.Reads as run-pass-reads
+use Rattle.c_arp.proofs.pass.told_found.Reads as told-found-reads
+
+pool-in-requires : tie.Need-pool-in-requires
+pool-in-requires c κs = search needs
+
+run-pass-requires : tie.Need-run-pass-requires
+run-pass-requires c κs = search needs
+
+lookup-requires : tie.Need-lookup-requires
+lookup-requires c κs = search needs
+
+told-found-requires : tie.Need-told-found-requires
+told-found-requires c κs = search needs
+
+returns : tie.Need-returns
+returns c =
+    let a = c .before .before .before .before .before .before .args in
+    c .told-found .ensures
+    ∙ ap toldFound (c .before .lookup .ensures ∙ ap (λ (x : Stepped). lookedUp (x .state) (a .address)) (c .before .before .before .run-pass .ensures ∙ ap (λ (p : Pool). passOver p (a .traces .now)) (c .before .before .before .before .pool-in .ensures)))
+
+pub pass-lookup-spec : {M : Type 1} → statement M
+pass-lookup-spec =
+    tie.close
+    (tie.spec pool-in-requires run-pass-requires lookup-requires told-found-requires returns)

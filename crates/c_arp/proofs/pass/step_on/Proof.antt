@@ -1,0 +1,40 @@
+use borrow.Author.Needs.{needs}
+use mathlib.Core.Path.{_≡_, refl, sym, _∙_}
+use native.Mathlib.Omega.{arith}
+use lib.Seq.{length-take-le}
+use Rattle.c_arp.proofs.PassLaws.{step-on-front}
+use Rattle.c_arp.proofs.pass.step_on.Statement.{statement}
+use Rattle.c_arp.proofs.pass.step_on.Tie as tie
+use Rattle.c_arp.proofs.pass.step_on.Reads as reads
+use Rattle.c_arp.proofs.pass.step_on.Lts as lts
+use Rattle.arp.proofs.state.Controller.step.Reads as step-reads
+use Rattle.pairs.proofs.get_pairs.Reads as get-pairs-reads
+
+slice-aggregate-get-pairs : tie.Need-slice-aggregate-get-pairs
+slice-aggregate-get-pairs c = search needs
+
+get-pairs-requires : tie.Need-get-pairs-requires
+get-pairs-requires c κs = search needs
+
+array-share-prefix-buf : tie.Need-array-share-prefix-buf
+array-share-prefix-buf c = search needs
+
+slice-aggregate-step : tie.Need-slice-aggregate-step
+slice-aggregate-step c = sym (length-take-le _ _ (omega (arith, c .before .before .get-pairs .ensures .room, c .before .buf2 .given)))
+
+step-requires : tie.Need-step-requires
+step-requires c κs = search needs
+
+returns : tie.Need-returns
+returns c = c .step .ensures ∙ step-on-front _ _ _ _ _ refl (c .before .before .before .get-pairs .ensures)
+
+pub step-on-spec : {M : Type 1} → statement M
+step-on-spec =
+    tie.close
+    (tie.spec
+    slice-aggregate-get-pairs
+    get-pairs-requires
+    array-share-prefix-buf
+    slice-aggregate-step
+    step-requires
+    returns)

@@ -1,0 +1,3 @@
+pub mod CodecLaws
+pub mod LastLaws
+pub mod ReadLaws

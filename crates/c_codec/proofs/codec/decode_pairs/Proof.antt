@@ -1,0 +1,57 @@
+use borrow.Author.Needs.{needs}
+use mathlib.Core.Path.{_≡_, refl, sym, _∙_, ap}
+use native.Mathlib.Omega.{arith}
+use lib.Seq.{length-take-le}
+use Rattle.c_codec.specs.Numbers.{truth}
+use Rattle.c_codec.proofs.ReadLaws.{from-pairs, told-read}
+use Rattle.c_codec.proofs.codec.decode_pairs.Statement.{statement}
+use Rattle.c_codec.proofs.codec.decode_pairs.Tie as tie
+use Rattle.c_codec.proofs.codec.decode_pairs.Reads as reads
+use Rattle.c_codec.proofs.codec.decode_pairs.Lts as lts
+use Rattle.decode.proofs.decode.Reads as decode-reads
+use Rattle.c_codec.proofs.answer.decoded.Reads as decoded-reads
+use Rattle.pairs.proofs.get_pairs.Reads as get-pairs-reads
+
+slice-aggregate-get-pairs : tie.Need-slice-aggregate-get-pairs
+slice-aggregate-get-pairs c = search needs
+
+get-pairs-requires : tie.Need-get-pairs-requires
+get-pairs-requires c κs = search needs
+
+array-share-prefix-buf : tie.Need-array-share-prefix-buf
+array-share-prefix-buf c = search needs
+
+slice-aggregate-decode : tie.Need-slice-aggregate-decode
+slice-aggregate-decode c = sym (length-take-le _ _ (omega (arith, c .before .before .get-pairs .ensures .room, c .before .buf2 .given)))
+
+decode-requires : tie.Need-decode-requires
+decode-requires c κs = search needs
+
+decoded-requires : tie.Need-decoded-requires
+decoded-requires c κs = search needs
+
+same-length : tie.Need-same-length
+same-length c = search needs
+
+same-length-2 : tie.Need-same-length-2
+same-length-2 c = search needs
+
+returns : tie.Need-returns
+returns c =
+    let a = c .before .before .before .before .before .before .before .before .before .before .before .before .before .before .before .args in
+    told-read (a .protocol) (truth (a .pec)) _ _ _ _ _ _ _
+    (from-pairs (a .protocol) (truth (a .pec)) (a .trace .now) _ _ _ _ _ _ _ _ refl (c .before .before .before .before .before .before .before .before .before .before .get-pairs .ensures) (c .before .before .before .before .before .decode .ensures)) (c .decoded .ensures)
+
+pub decode-pairs-spec : {M : Type 1} → statement M
+decode-pairs-spec =
+    tie.close
+    (tie.spec
+    slice-aggregate-get-pairs
+    get-pairs-requires
+    array-share-prefix-buf
+    slice-aggregate-decode
+    decode-requires
+    decoded-requires
+    same-length
+    same-length-2
+    returns)

@@ -1,0 +1,13 @@
+pub mod Numbers
+pub mod NumberLaws
+pub mod Codec
+pub mod WrittenLaws
+pub mod EncodeParts
+pub mod EncodeCallLaws
+pub mod DecodeParts
+pub mod DecodedLaws
+pub mod DecodeCallLaws
+pub mod LastData
+pub mod LastDataParts
+pub mod LastDataCallLaws
+pub mod UniqueLaws

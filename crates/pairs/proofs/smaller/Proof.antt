@@ -1,0 +1,16 @@
+use borrow.Author.Needs.{needs}
+use borrow.Author.Tests.{lt-ltb, le-ltb}
+use native.Mathlib.Omega.{arith}
+use Rattle.pairs.proofs.smaller.Statement.{statement}
+use Rattle.pairs.proofs.smaller.Tie as tie
+use Rattle.pairs.proofs.smaller.Reads as reads
+use Rattle.pairs.proofs.smaller.Lts as lts
+
+returns : tie.Need-returns
+returns c = rw (lt-ltb _ _ (c .if1 .taken)) (search needs)
+
+returns-2 : tie.Need-returns-2
+returns-2 c = rw (le-ltb _ _ (c .if1 .left)) (search needs)
+
+pub smaller-spec : {M : Type 1} → statement M
+smaller-spec = tie.close (tie.spec returns returns-2)
