@@ -1,0 +1,6 @@
+pub mod Verbs
+pub mod Protocols
+pub mod Said
+pub mod Lists
+pub mod Requests
+pub mod ListLaws
