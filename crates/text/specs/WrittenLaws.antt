@@ -9,7 +9,7 @@ use native.Mathlib.Omega.{arith}
 use lib.Dec.{ltb}
 use lib.ListN.{length, drop, getD, set, length-set, drop-of-length-le}
 use lib.Seq.{drop-cons}
-use borrow.Author.Tests.{lt-ltb, le-ltb, ltb-false}
+use borrow.Author.Tests.{lt-ltb, le-ltb, ltb-true, ltb-false}
 use Rattle.lists.specs.Choice.{pick}
 use Rattle.text.specs.Written.{following, after, written, glyph, decimal, decimalOf, pairOf, pairsOf, Appended, Came}
 
@@ -43,6 +43,23 @@ written-one l at c = refl
 
 pub one-put : {l l′ : List ℕ} {at to c : ℕ} → to ≡ following (length l) at → l′ ≡ set l at c → Appended l at (c ∷ []) l′ to
 one-put {l} {l′} {at} {to} {c} e f = record { place = e ∙ sym (after-one (length l) at c); text = f ∙ sym (written-one l at c) }
+
+-- one character where there is room
+pub put-within : {l : List ℕ} {at c : ℕ} → at < length l → Appended l at (c ∷ []) (set l at c) (at + 1)
+put-within {l} {at} {c} h = one-put (rw (lt-ltb at (length l) h)) refl
+
+-- the place after characters stays in the buffer
+following-within : (n at : ℕ) → at ≤ n → (t : Bool) → ltb at n ≡ t → pick t (at + 1) at ≤ n
+following-within n at h true e = omega (arith, ltb-true at n e)
+following-within n at h false e = h
+
+pub after-within : (n at : ℕ) (xs : List ℕ) → at ≤ n → after n at xs ≤ n
+unfolding after
+after-within n at [] h = h
+after-within n at (x ∷ xs) h = after-within n (following n at) xs (following-within n at h (ltb at n) refl)
+
+pub appended-within : {l xs l′ : List ℕ} {at to : ℕ} → Appended l at xs l′ to → at ≤ length l → to ≤ length l
+appended-within {l} {xs} {l′} {at} {to} a h = subst (λ (p : ℕ). p ≤ length l) (sym (a .place)) (after-within (length l) at xs h)
 
 pub came-start : (l : List ℕ) (at : ℕ) (all : List ℕ) → Came l at all l at all
 came-start l at all = record { size = refl; place = refl; text = refl }

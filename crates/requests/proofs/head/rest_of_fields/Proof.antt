@@ -1,45 +1,38 @@
+use mathlib.Core.Path.{sym, _∙_}
 use borrow.Author.Needs.{needs}
+use Rattle.requests.specs.Requests.{restOfFields}
 use Rattle.requests.proofs.head.rest_of_fields.Statement.{statement}
 use Rattle.requests.proofs.head.rest_of_fields.Tie as tie
-use Rattle.requests.proofs.head.rest_of_fields.Reads as reads
-use Rattle.requests.proofs.head.rest_of_fields.Lts as lts
-use Rattle.requests.proofs.word.byte_word.Reads as byte-word-reads
 
--- src/head.rt:70:9
 byte-word-requires : tie.Need-byte-word-requires
 byte-word-requires c κs = search needs
 
--- src/head.rt:72:26
 enum-known-d : tie.Need-enum-known-d
 enum-known-d c = search needs
 
--- src/head.rt:73:24
 enum-known-d-2 : tie.Need-enum-known-d-2
 enum-known-d-2 c = search needs
 
--- src/head.rt:74:17
 byte-word-requires-2 : tie.Need-byte-word-requires-2
 byte-word-requires-2 c κs = search needs
 
--- src/head.rt:76:34
 enum-known-c : tie.Need-enum-known-c
 enum-known-c c = search needs
 
--- src/head.rt:77:32
 enum-known-c-2 : tie.Need-enum-known-c-2
 enum-known-c-2 c = search needs
 
--- src/head.rt:67:1
 returns : tie.Need-returns
-returns c = search needs
+unfolding restOfFields
+returns c = rw (sym (c .before .before .before .byte-word .ensures) ∙ c .before .d .given .1)
 
--- src/head.rt:67:1
 returns-2 : tie.Need-returns-2
-returns-2 c = search needs
+unfolding restOfFields
+returns-2 c = rw (sym (c .before .before .before .before .before .before .before .byte-word .ensures) ∙ c .before .before .before .before .before .d2 .given .1, sym (c .before .before .before .byte-word2 .ensures) ∙ c .before .c .given .1)
 
--- src/head.rt:67:1
 returns-3 : tie.Need-returns-3
-returns-3 c = search needs
+unfolding restOfFields
+returns-3 c = rw (sym (c .before .before .before .before .before .before .before .byte-word .ensures) ∙ c .before .before .before .before .before .d2 .given .1, sym (c .before .before .before .byte-word2 .ensures) ∙ c .before .c2 .given .1)
 
 pub rest-of-fields-spec : {M : Type 1} → statement M
 rest-of-fields-spec =

@@ -1,63 +1,60 @@
+use mathlib.Core.Path.{_≡_, sym, _∙_}
+use Prim.Native.Nat.{_+_, _-_}
+use lib.ListN.{length}
+use native.Mathlib.Omega.{arith}
+use Rattle.text.specs.Written.{Came}
+use Rattle.text.specs.WrittenLaws.{came-start, came-turn, came-done, put-within}
+use Rattle.requests.specs.Lists.{bytesFrom}
+use Rattle.requests.specs.ListLaws.{bytes-on, bytes-over, bytes-full}
 use borrow.Author.Needs.{needs}
 use Rattle.requests.proofs.list.read_bytes.Statement.{statement}
 use Rattle.requests.proofs.list.read_bytes.Tie as tie
-use Rattle.requests.proofs.list.read_bytes.Reads as reads
-use Rattle.requests.proofs.list.read_bytes.Lts as lts
-use Rattle.requests.proofs.word.byte_word.Reads as byte-word-reads
 
 abbrev Inv-loop : tie.InvT-loop
-Inv-loop line from out₀ n₀ at₀ out n at = ?
+Inv-loop line from out₀ n₀ at₀ out n at = Came out₀ 0 (bytesFrom (length out₀) line from) out n (bytesFrom (length out₀ - n) line at)
 
 abbrev μ-loop : tie.MeasureT-loop
-μ-loop line from out₀ n₀ at₀ out n at = ?
+μ-loop line from out₀ n₀ at₀ out n at = length out₀ - n
 
--- src/list.rt:60:5
 loop-holds : tie.Need-loop-holds Inv-loop μ-loop
-loop-holds c = search needs
+loop-holds c =
+    let e : length (c .before .before .args .out .now) - 0 ≡ length (c .before .before .args .out .now) = omega arith in rw e (came-start (c .before .before .args .out .now) 0 (bytesFrom (length (c .before .before .args .out .now)) (c .before .before .args .line .now) (c .before .before .args .from)))
 
--- src/list.rt:61:13
 byte-word-requires : tie.Need-byte-word-requires Inv-loop μ-loop
 byte-word-requires c κs = search needs
 
--- src/list.rt:63:28
 enum-known-b : tie.Need-enum-known-b Inv-loop μ-loop
 enum-known-b c = search needs
 
--- src/list.rt:64:17
 slice-write-out : tie.Need-slice-write-out Inv-loop μ-loop
 slice-write-out c = search needs
 
--- src/list.rt:65:17
 add-n : tie.Need-add-n Inv-loop μ-loop
 add-n c = search needs
 
--- src/list.rt:60:5
 loop-less : tie.Need-loop-less Inv-loop μ-loop
-loop-less c = search needs
+loop-less c = omega (arith, c .before .before .before .before .before .loop .inv .size)
 
--- src/list.rt:60:5
 loop-again : tie.Need-loop-again Inv-loop μ-loop
-loop-again c = search needs
+loop-again c =
+    came-turn (c .before .before .before .before .before .loop .inv)
+    (bytes-on (length (c .before .before .before .before .before .before .before .before .args .out .now) - c .before .before .before .before .before .loop .n) (length (c .before .before .before .before .before .before .before .before .args .out .now) - (c .before .before .before .before .before .loop .n + 1)) (c .before .before .before .before .before .before .before .before .args .line .now) (c .before .before .before .before .before .loop .at) _ _ (omega (arith, c .before .before .before .before .before .loop .inv .size)) (sym (c .before .before .before .byte-word .ensures) ∙ c .before .b .given .1))
+    (put-within (c .before .before .before .before .loop-test .taken))
 
--- src/list.rt:69:17
 enum-told : tie.Need-enum-told Inv-loop μ-loop
 enum-told c = search needs
 
--- src/list.rt:69:17
 same-length : tie.Need-same-length Inv-loop μ-loop
-same-length c = search needs
+same-length c = c .before .before .before .before .loop .inv .size
 
--- src/list.rt:69:17
 returns : tie.Need-returns Inv-loop μ-loop
-returns c = search needs
+returns c = came-done (c .before .before .before .before .loop .inv) (bytes-over (length (c .before .before .before .before .before .before .before .args .out .now) - c .before .before .before .before .loop .n) (c .before .before .before .before .before .before .before .args .line .now) (c .before .before .before .before .loop .at) _ (sym (c .before .before .byte-word .ensures) ∙ c .enum-told .given .1))
 
--- src/list.rt:55:1
 same-length-2 : tie.Need-same-length-2 Inv-loop μ-loop
-same-length-2 c = search needs
+same-length-2 c = c .before .loop .inv .size
 
--- src/list.rt:55:1
 returns-2 : tie.Need-returns-2 Inv-loop μ-loop
-returns-2 c = search needs
+returns-2 c = came-done (c .before .loop .inv) (bytes-full (length (c .before .before .before .before .args .out .now) - c .before .loop .n) (c .before .before .before .before .args .line .now) (c .before .loop .at) (omega (arith, c .before .loop .inv .size)))
 
 pub read-bytes-spec : {M : Type 1} → statement M
 read-bytes-spec =

@@ -1,51 +1,47 @@
+use mathlib.Core.Path.{_≡_, refl, sym, _∙_}
+use Prim.Native.Nat.{_-_}
+use lib.ListN.{length}
+use native.Mathlib.Omega.{arith}
+use Rattle.requests.specs.Lists.{symbolsEnd}
+use Rattle.requests.specs.ListLaws.{symbols-end-on, symbols-end-over, symbols-end-full}
 use borrow.Author.Needs.{needs}
 use Rattle.requests.proofs.list.symbols_end.Statement.{statement}
 use Rattle.requests.proofs.list.symbols_end.Tie as tie
-use Rattle.requests.proofs.list.symbols_end.Reads as reads
-use Rattle.requests.proofs.list.symbols_end.Lts as lts
-use Rattle.requests.proofs.word.symbol_word.Reads as symbol-word-reads
 
 abbrev Inv-loop : tie.InvT-loop
-Inv-loop line from left₀ at₀ left at = ?
+Inv-loop line from left₀ at₀ left at = symbolsEnd (length line) line from ≡ symbolsEnd left line at
 
 abbrev μ-loop : tie.MeasureT-loop
-μ-loop line from left₀ at₀ left at = ?
+μ-loop line from left₀ at₀ left at = left
 
--- src/list.rt:39:5
 loop-holds : tie.Need-loop-holds Inv-loop μ-loop
-loop-holds c = search needs
+loop-holds c = refl
 
--- src/list.rt:40:13
 symbol-word-requires : tie.Need-symbol-word-requires Inv-loop μ-loop
 symbol-word-requires c κs = search needs
 
--- src/list.rt:42:35
 enum-known-x : tie.Need-enum-known-x Inv-loop μ-loop
 enum-known-x c = search needs
 
--- src/list.rt:44:17
 sub-left : tie.Need-sub-left Inv-loop μ-loop
 sub-left c = search needs
 
--- src/list.rt:39:5
 loop-less : tie.Need-loop-less Inv-loop μ-loop
 loop-less c = search needs
 
--- src/list.rt:39:5
 loop-again : tie.Need-loop-again Inv-loop μ-loop
-loop-again c = search needs
+loop-again c =
+    c .before .before .before .before .before .loop .inv ∙ symbols-end-on (c .before .before .before .before .before .loop .left) (c .before .before .before .before .before .loop .left - 1) (c .before .before .before .before .before .before .before .args .line .now) (c .before .before .before .before .before .loop .at) _ _ (omega arith) (sym (c .before .before .before .symbol-word .ensures) ∙ c .before .x .given .1)
 
--- src/list.rt:46:34
 enum-known-x-2 : tie.Need-enum-known-x-2 Inv-loop μ-loop
 enum-known-x-2 c = search needs
 
--- src/list.rt:47:17
 returns : tie.Need-returns Inv-loop μ-loop
-returns c = search needs
+returns c =
+    sym (c .before .before .before .before .before .loop .inv ∙ symbols-end-over (c .before .before .before .before .before .loop .left) (c .before .before .before .before .before .loop .left - 1) (c .before .before .before .before .before .before .before .args .line .now) (c .before .before .before .before .before .loop .at) _ (omega arith) (sym (c .before .before .before .symbol-word .ensures) ∙ c .before .x2 .given .1))
 
--- src/list.rt:34:1
 returns-2 : tie.Need-returns-2 Inv-loop μ-loop
-returns-2 c = search needs
+returns-2 c = sym (c .before .loop .inv ∙ symbols-end-full (c .before .loop .left) (c .before .before .before .args .line .now) (c .before .loop .at) (omega arith))
 
 pub symbols-end-spec : {M : Type 1} → statement M
 symbols-end-spec =

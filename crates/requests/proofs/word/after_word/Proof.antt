@@ -1,21 +1,21 @@
 use borrow.Author.Needs.{needs}
+use Rattle.requests.specs.SaidLaws.{rest-word, rest-none}
 use Rattle.requests.proofs.word.after_word.Statement.{statement}
 use Rattle.requests.proofs.word.after_word.Tie as tie
-use Rattle.requests.proofs.word.after_word.Reads as reads
-use Rattle.requests.proofs.word.after_word.Lts as lts
-use Rattle.text.proofs.word.next_word.Reads as next-word-reads
 
--- src/word.rt:147:9
 next-word-requires : tie.Need-next-word-requires
 next-word-requires c κs = search needs
 
--- src/word.rt:149:9
 returns : tie.Need-returns
-returns c = search needs
+returns c = rest-word (c .before .before .before .before .args .line .now) (c .before .before .before .before .args .at) _ (c .before .before .next-word .ensures) (c .if1 .taken)
 
--- src/word.rt:144:1
 returns-2 : tie.Need-returns-2
-returns-2 c = search needs
+returns-2 c = rest-none (c .before .before .before .before .args .line .now) (c .before .before .before .before .args .at) _ (c .before .before .next-word .ensures) (c .if1 .left)
 
 pub after-word-spec : {M : Type 1} → statement M
-after-word-spec = tie.close (tie.spec next-word-requires returns returns-2)
+after-word-spec =
+    tie.close
+    (tie.spec
+    next-word-requires
+    returns
+    returns-2)

@@ -1,55 +1,40 @@
 use borrow.Author.Needs.{needs}
+use Rattle.requests.specs.SaidLaws.{symbol-is, symbol-large, symbol-none, symbol-over}
 use Rattle.requests.proofs.word.symbol_word.Statement.{statement}
 use Rattle.requests.proofs.word.symbol_word.Tie as tie
-use Rattle.requests.proofs.word.symbol_word.Reads as reads
-use Rattle.requests.proofs.word.symbol_word.Lts as lts
-use Rattle.text.proofs.number.read_number.Reads as read-number-reads
-use Rattle.text.proofs.word.next_word.Reads as next-word-reads
-use Rattle.text.proofs.word.part.Reads as part-reads
 
--- src/word.rt:75:9
 next-word-requires : tie.Need-next-word-requires
 next-word-requires c κs = search needs
 
--- src/word.rt:76:25
 part-requires : tie.Need-part-requires
 part-requires c κs = search needs
 
--- src/word.rt:76:9
 read-number-requires : tie.Need-read-number-requires
 read-number-requires c κs = search needs
 
--- src/word.rt:78:20
 enum-known-n : tie.Need-enum-known-n
 enum-known-n c = search needs
 
--- src/word.rt:80:36
 cast-t10 : tie.Need-cast-t10
 cast-t10 c = search needs
 
--- src/word.rt:85:29
 enum-told : tie.Need-enum-told
 enum-told c = search needs
 
--- src/word.rt:86:29
 enum-told-2 : tie.Need-enum-told-2
 enum-told-2 c = search needs
 
--- src/word.rt:72:1
 returns : tie.Need-returns
-returns c = search needs
+returns c = symbol-is (c .before .before .before .before .before .before .before .before .args .line .now) (c .before .before .before .before .before .before .before .before .args .at) _ _ (c .before .before .before .before .before .before .next-word .ensures) (c .before .before .before .before .before .part .ensures) _ _ (c .before .before .before .before .read-number .ensures) (c .before .before .n .given .1) (c .if1 .taken)
 
--- src/word.rt:72:1
 returns-2 : tie.Need-returns-2
-returns-2 c = search needs
+returns-2 c = symbol-large (c .before .before .before .before .before .before .before .before .args .line .now) (c .before .before .before .before .before .before .before .before .args .at) _ _ (c .before .before .before .before .before .before .next-word .ensures) (c .before .before .before .before .before .part .ensures) _ _ (c .before .before .before .before .read-number .ensures) (c .before .before .n .given .1) (c .if1 .left)
 
--- src/word.rt:72:1
 returns-3 : tie.Need-returns-3
-returns-3 c = search needs
+returns-3 c = symbol-none (c .before .before .before .before .before .before .args .line .now) (c .before .before .before .before .before .before .args .at) _ _ (c .before .before .before .before .next-word .ensures) (c .before .before .before .part .ensures) _ (c .before .before .read-number .ensures) (c .enum-told .given .1)
 
--- src/word.rt:72:1
 returns-4 : tie.Need-returns-4
-returns-4 c = search needs
+returns-4 c = symbol-over (c .before .before .before .before .before .before .args .line .now) (c .before .before .before .before .before .before .args .at) _ _ (c .before .before .before .before .next-word .ensures) (c .before .before .before .part .ensures) _ (c .before .before .read-number .ensures) (c .enum-told2 .given .1)
 
 pub symbol-word-spec : {M : Type 1} → statement M
 symbol-word-spec =
