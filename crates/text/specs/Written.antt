@@ -41,6 +41,11 @@ unfoldable pub pairsOf : List ℕ → List ℕ
 pairsOf [] = []
 pairsOf (b ∷ bs) = pairOf b ++ pairsOf bs
 
+-- what a writer does: the characters stand in the buffer from a place on, and the answer is the place after them
+pub record Appended (l : List ℕ) (at : ℕ) (xs l′ : List ℕ) (to : ℕ) : Type 0 where
+  pub place : to ≡ after (length l) at xs
+  pub text : l′ ≡ written l at xs
+
 -- what a writer has done: the buffer l₀ from place at on has the text xs before it is to write ys
 pub record Came (l₀ : List ℕ) (at : ℕ) (all : List ℕ) (l : List ℕ) (to : ℕ) (rest : List ℕ) : Type 0 where
   pub size : length l ≡ length l₀

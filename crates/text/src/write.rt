@@ -4,7 +4,7 @@ ghost use mathlib.Core.Path.{_≡_};
 ghost use mathlib.Core.List.{[], _∷_};
 ghost use Prim.Native.Nat.{_+_, _/_, _%_};
 ghost use lib.ListN.{length, set};
-ghost use Rattle.text.specs.Written.{following, written, after, glyph, decimalOf, pairOf, pairsOf};
+ghost use Rattle.text.specs.Written.{following, Appended, glyph, decimalOf, pairOf, pairsOf};
 
 // One character.
 pub fn put_byte(out: &mut [u8], at: usize, c: u8) -> usize
@@ -20,7 +20,7 @@ pub fn put_byte(out: &mut [u8], at: usize, c: u8) -> usize
 
 // The characters of a text.
 pub fn put(out: &mut [u8], at: usize, s: &[u8]) -> usize
-    ensures { λ r. ⌜ (r ≡ after (length (now (out .entry))) at (now (s .entry))) × (now (out .exit) ≡ written (now (out .entry)) at (now (s .entry))) ⌝ }
+    ensures { λ r. ⌜ Appended (now (out .entry)) at (now (s .entry)) (now (out .exit)) r ⌝ }
 {
     let mut to = at;
     let mut i: usize = 0;
@@ -48,7 +48,7 @@ fn last_digit(n: u64) -> u8
 
 // A number in decimal, with no zeros before it.
 pub fn put_decimal(out: &mut [u8], at: usize, n: u64) -> usize
-    ensures { λ r. ⌜ (r ≡ after (length (now (out .entry))) at (decimalOf n)) × (now (out .exit) ≡ written (now (out .entry)) at (decimalOf n)) ⌝ }
+    ensures { λ r. ⌜ Appended (now (out .entry)) at (decimalOf n) (now (out .exit)) r ⌝ }
 {
     if n < 10 {
         return put_byte(out, at, last_digit(n));
@@ -59,7 +59,7 @@ pub fn put_decimal(out: &mut [u8], at: usize, n: u64) -> usize
 
 // A byte as two hexadecimal digits.
 pub fn put_pair(out: &mut [u8], at: usize, b: u8) -> usize
-    ensures { λ r. ⌜ (r ≡ after (length (now (out .entry))) at (pairOf b)) × (now (out .exit) ≡ written (now (out .entry)) at (pairOf b)) ⌝ }
+    ensures { λ r. ⌜ Appended (now (out .entry)) at (pairOf b) (now (out .exit)) r ⌝ }
 {
     let to = put_byte(out, at, digit_char(b / 16));
     put_byte(out, to, digit_char(b % 16))
@@ -67,7 +67,7 @@ pub fn put_pair(out: &mut [u8], at: usize, b: u8) -> usize
 
 // Bytes, two hexadecimal digits each.
 pub fn put_pairs(out: &mut [u8], at: usize, s: &[u8]) -> usize
-    ensures { λ r. ⌜ (r ≡ after (length (now (out .entry))) at (pairsOf (now (s .entry)))) × (now (out .exit) ≡ written (now (out .entry)) at (pairsOf (now (s .entry)))) ⌝ }
+    ensures { λ r. ⌜ Appended (now (out .entry)) at (pairsOf (now (s .entry))) (now (out .exit)) r ⌝ }
 {
     let mut to = at;
     let mut i: usize = 0;

@@ -118,7 +118,7 @@ put-decimal-returns-2 : (t : ℕ) → put-decimal-lts.Need-returns-2 (
 put-decimal-returns-2 t c =
     let a = c .before .before .before .before .before .before .before .before .before .before .before .args in
     put-digits (a .out .now) (c .before .before .before .before .before .before .before .put-decimal .last .0) (c .before .before .put-byte2 .last .0) (a .at) (c .before .before .before .before .before .before .before .put-decimal .result) (c .before .before .put-byte2 .result) (a .n) (c .before .before .before .last-digit2 .result) (omega arith)
-    (c .before .before .before .last-digit2 .ensures) (c .before .before .before .before .before .before .before .put-decimal .ensures .0) (c .before .before .before .before .before .before .before .put-decimal .ensures .1) (c .before .before .put-byte2 .ensures .0) (c .before .before .put-byte2 .ensures .1)
+    (c .before .before .before .last-digit2 .ensures) (c .before .before .before .before .before .before .before .put-decimal .ensures) (c .before .before .put-byte2 .ensures .0) (c .before .before .put-byte2 .ensures .1)
 
 pub +put-decimal-spec : {M : Type 1} → statement M
 +put-decimal-spec = close μ-put-decimal λ t. put-decimal-lts.spec (

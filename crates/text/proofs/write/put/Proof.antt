@@ -1,10 +1,8 @@
-use Prim.Native.Nat.{ℕ, _+_, _-_}
-use mathlib.Core.Path.{sym, subst, _∙_}
-use mathlib.Core.List.{List, [], _∷_}
+use Prim.Native.Nat.{_-_}
 use native.Mathlib.Omega.{arith}
-use lib.ListN.{length, drop, getD, drop-of-length-le}
+use lib.ListN.{length, drop, drop-of-length-le}
 use Rattle.text.specs.Written.{Came}
-use Rattle.text.specs.WrittenLaws.{came-start, came-on, came-end, rest-on, after-one, written-one}
+use Rattle.text.specs.WrittenLaws.{came-start, came-turn, came-done, rest-on, one-put}
 use borrow.Author.Needs.{needs}
 use Rattle.text.proofs.write.put.Statement.{statement}
 use Rattle.text.proofs.write.put.Tie as tie
@@ -32,15 +30,13 @@ loop-less c = search needs
 
 loop-again : tie.Need-loop-again Inv-loop μ-loop
 loop-again c =
-    came-on (c .before .before .before .before .before .before .before .before .before .args .out .now) (c .before .before .before .before .before .before .before .before .before .args .at) (c .before .before .before .before .before .before .before .before .before .args .s .now) (c .before .before .before .before .before .before .loop .out) (c .before .before .before .before .before .before .loop .to) (getD (c .before .before .before .before .before .before .before .before .before .args .s .now) (c .before .before .before .before .before .before .loop .i) 0 ∷ []) (drop (c .before .before .before .before .before .before .loop .i + 1) (c .before .before .before .before .before .before .before .before .before .args .s .now)) _ _
-    (subst (λ (r : List ℕ). Came (c .before .before .before .before .before .before .before .before .before .args .out .now) (c .before .before .before .before .before .before .before .before .before .args .at) (c .before .before .before .before .before .before .before .before .before .args .s .now) (c .before .before .before .before .before .before .loop .out) (c .before .before .before .before .before .before .loop .to) r) (rest-on (c .before .before .before .before .before .before .before .before .before .args .s .now) (c .before .before .before .before .before .before .loop .i) (omega arith)) (c .before .before .before .before .before .before .loop .inv))
-    (c .before .before .put-byte .ensures .0 ∙ sym (after-one _ _ _)) (c .before .before .put-byte .ensures .1 ∙ sym (written-one _ _ _))
+    came-turn (c .before .before .before .before .before .before .loop .inv) (rest-on (c .before .before .before .before .before .before .before .before .before .args .s .now) (c .before .before .before .before .before .before .loop .i) (omega arith)) (one-put (c .before .before .put-byte .ensures .0) (c .before .before .put-byte .ensures .1))
 
 same-length : tie.Need-same-length Inv-loop μ-loop
 same-length c = c .before .loop .inv .size
 
 returns : tie.Need-returns Inv-loop μ-loop
-returns c = came-end (c .before .before .before .before .args .out .now) (c .before .before .before .before .args .at) (c .before .before .before .before .args .s .now) (c .before .loop .out) (c .before .loop .to) (subst (λ (r : List ℕ). Came (c .before .before .before .before .args .out .now) (c .before .before .before .before .args .at) (c .before .before .before .before .args .s .now) (c .before .loop .out) (c .before .loop .to) r) (drop-of-length-le (c .before .before .before .before .args .s .now) {i = c .before .loop .i} (omega arith)) (c .before .loop .inv))
+returns c = came-done (c .before .loop .inv) (drop-of-length-le (c .before .before .before .before .args .s .now) {i = c .before .loop .i} (omega arith))
 
 pub put-spec : {M : Type 1} → statement M
 put-spec =

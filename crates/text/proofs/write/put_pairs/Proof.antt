@@ -1,11 +1,8 @@
-use Prim.Native.Nat.{ℕ, _+_, _-_}
-use mathlib.Core.Path.{subst}
-use mathlib.Core.List.{List}
+use Prim.Native.Nat.{_-_}
 use native.Mathlib.Omega.{arith}
-use lib.ListN.{length, drop, getD}
-use Rattle.text.specs.Written.{pairOf, pairsOf}
-use Rattle.text.specs.Written.{Came}
-use Rattle.text.specs.WrittenLaws.{came-start, came-on, came-end, pairs-on, pairs-over}
+use lib.ListN.{length, drop}
+use Rattle.text.specs.Written.{pairsOf, Came}
+use Rattle.text.specs.WrittenLaws.{came-start, came-turn, came-done, pairs-on, pairs-over}
 use borrow.Author.Needs.{needs}
 use Rattle.text.proofs.write.put_pairs.Statement.{statement}
 use Rattle.text.proofs.write.put_pairs.Tie as tie
@@ -33,15 +30,13 @@ loop-less c = search needs
 
 loop-again : tie.Need-loop-again Inv-loop μ-loop
 loop-again c =
-    came-on (c .before .before .before .before .before .before .before .before .before .args .out .now) (c .before .before .before .before .before .before .before .before .before .args .at) (pairsOf (c .before .before .before .before .before .before .before .before .before .args .s .now)) (c .before .before .before .before .before .before .loop .out) (c .before .before .before .before .before .before .loop .to) (pairOf (getD (c .before .before .before .before .before .before .before .before .before .args .s .now) (c .before .before .before .before .before .before .loop .i) 0)) (pairsOf (drop (c .before .before .before .before .before .before .loop .i + 1) (c .before .before .before .before .before .before .before .before .before .args .s .now))) _ _
-    (subst (λ (r : List ℕ). Came (c .before .before .before .before .before .before .before .before .before .args .out .now) (c .before .before .before .before .before .before .before .before .before .args .at) (pairsOf (c .before .before .before .before .before .before .before .before .before .args .s .now)) (c .before .before .before .before .before .before .loop .out) (c .before .before .before .before .before .before .loop .to) r) (pairs-on (c .before .before .before .before .before .before .before .before .before .args .s .now) (c .before .before .before .before .before .before .loop .i) (omega arith)) (c .before .before .before .before .before .before .loop .inv))
-    (c .before .before .put-pair .ensures .0) (c .before .before .put-pair .ensures .1)
+    came-turn (c .before .before .before .before .before .before .loop .inv) (pairs-on (c .before .before .before .before .before .before .before .before .before .args .s .now) (c .before .before .before .before .before .before .loop .i) (omega arith)) (c .before .before .put-pair .ensures)
 
 same-length : tie.Need-same-length Inv-loop μ-loop
 same-length c = c .before .loop .inv .size
 
 returns : tie.Need-returns Inv-loop μ-loop
-returns c = came-end (c .before .before .before .before .args .out .now) (c .before .before .before .before .args .at) (pairsOf (c .before .before .before .before .args .s .now)) (c .before .loop .out) (c .before .loop .to) (subst (λ (r : List ℕ). Came (c .before .before .before .before .args .out .now) (c .before .before .before .before .args .at) (pairsOf (c .before .before .before .before .args .s .now)) (c .before .loop .out) (c .before .loop .to) r) (pairs-over (c .before .before .before .before .args .s .now) (c .before .loop .i) (omega arith)) (c .before .loop .inv))
+returns c = came-done (c .before .loop .inv) (pairs-over (c .before .before .before .before .args .s .now) (c .before .loop .i) (omega arith))
 
 pub put-pairs-spec : {M : Type 1} → statement M
 put-pairs-spec =

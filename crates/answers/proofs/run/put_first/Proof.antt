@@ -1,0 +1,45 @@
+use Rattle.text.specs.WrittenLaws.{appended-on}
+use borrow.Author.Needs.{needs}
+use Rattle.answers.proofs.run.put_first.Statement.{statement}
+use Rattle.answers.proofs.run.put_first.Tie as tie
+
+put-ending-requires : tie.Need-put-ending-requires
+put-ending-requires c κs = search needs
+
+slice-aggregate-put-number : tie.Need-slice-aggregate-put-number
+slice-aggregate-put-number c = search needs
+
+cast-put-number : tie.Need-cast-put-number
+cast-put-number c = search needs
+
+put-number-requires : tie.Need-put-number-requires
+put-number-requires c κs = search needs
+
+slice-aggregate-number-line : tie.Need-slice-aggregate-number-line
+slice-aggregate-number-line c = search needs
+
+cast-number-line : tie.Need-cast-number-line
+cast-number-line c = search needs
+
+number-line-requires : tie.Need-number-line-requires
+number-line-requires c κs = search needs
+
+same-length : tie.Need-same-length
+same-length c = search needs
+
+returns : tie.Need-returns
+returns c = appended-on (appended-on (c .before .before .before .before .before .before .before .before .before .before .before .before .before .before .put-ending .ensures) (c .before .before .before .before .before .before .before .before .put-number .ensures)) (c .before .before .number-line .ensures)
+
+pub put-first-spec : {M : Type 1} → statement M
+put-first-spec =
+    tie.close
+    (tie.spec
+    put-ending-requires
+    slice-aggregate-put-number
+    cast-put-number
+    put-number-requires
+    slice-aggregate-number-line
+    cast-number-line
+    number-line-requires
+    same-length
+    returns)

@@ -1,0 +1,7 @@
+pub mod Pieces
+pub mod PieceLaws
+pub mod Lines
+pub mod Decodings
+pub mod Commands
+pub mod Grids
+pub mod Runs

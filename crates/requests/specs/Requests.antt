@@ -1,0 +1,193 @@
+-- What a line means: a request with its values, or what was expected at which place.
+use Prim.Native.Nat.{ℕ}
+use mathlib.Core.Bool.{Bool, true, false}
+use mathlib.Core.List.{List}
+use lib.Dec.{ltb, leb}
+use lib.ListN.{length}
+use Rattle.lists.specs.Choice.{pick}
+use Rattle.udid.specs.declared.Udid.{Udid}
+use Rattle.text.specs.Chars.{chars}
+use Rattle.text.specs.Words.{wordFrom}
+use Rattle.requests.specs.Verbs.{verbOf}
+use Rattle.requests.specs.Said.{wordIn, byteAt, udidAt, protocolAt, pecAt, markAt, restAt}
+use Rattle.requests.specs.Lists.{bytesEnd, symbolsEnd}
+use Rattle.requests.specs.declared.expected.Expected.{Expected}
+use Rattle.requests.specs.declared.expected.Expected.the-variants as expected
+use Rattle.requests.specs.declared.verb.Verb.{Verb}
+use Rattle.requests.specs.declared.verb.Verb.the-variants as verb
+use Rattle.requests.specs.declared.word.ByteWord.{ByteWord}
+use Rattle.requests.specs.declared.word.ByteWord.the-variants.{Byte, NoByte}
+use Rattle.requests.specs.declared.word.UdidWord.{UdidWord}
+use Rattle.requests.specs.declared.word.UdidWord.the-variants.{Identifier, NoIdentifier}
+use Rattle.requests.specs.declared.word.PecWord.{PecWord}
+use Rattle.requests.specs.declared.word.PecWord.the-variants.{With, Without, Neither}
+use Rattle.requests.specs.declared.word.MarkWord.{MarkWord}
+use Rattle.requests.specs.declared.word.MarkWord.the-variants.{Mark, Over, Another}
+use Rattle.requests.specs.declared.word.Rest.{Rest}
+use Rattle.requests.specs.declared.word.Rest.the-variants as left
+use Rattle.requests.specs.declared.head.HeadWords.{HeadWords}
+use Rattle.requests.specs.declared.head.HeadWords.the-variants.{HeadIs, NoHead}
+use Rattle.requests.specs.declared.head.FieldWords.{FieldWords}
+use Rattle.requests.specs.declared.head.FieldWords.the-variants.{FieldsAre, NoFields}
+use Rattle.requests.specs.declared.request.Head.{Head}
+use Rattle.requests.specs.declared.request.Fields.{Fields}
+use Rattle.requests.specs.declared.request.Request.{Request}
+use Rattle.requests.specs.declared.request.Request.the-variants.{Nothing, Unclear, Pec, Encode, Decode, Occupied, Target, Clear, Run, Start, Step, Lookup, Grid}
+
+-- a request whose list of bytes, or of symbols, reaches to the end of the line
+abbrev pub bytesTo : List ℕ → ℕ → Request → Request
+bytesTo line at q = pick (ltb (bytesEnd (length line) line at) (length line)) (Unclear expected.Byte (bytesEnd (length line) line at)) q
+
+abbrev pub symbolsTo : List ℕ → ℕ → Request → Request
+symbolsTo line at q = pick (ltb (symbolsEnd (length line) line at) (length line)) (Unclear expected.Symbol (symbolsEnd (length line) line at)) q
+
+-- a request after which no word is left
+abbrev pub endedBy : Request → Rest → Request
+endedBy q left.Nothing = q
+endedBy q (left.Word place) = Unclear expected.End place
+
+unfoldable pub ended : Request → List ℕ → ℕ → Request
+ended q line at = endedBy q (restAt line at)
+
+-- ---- pec B...
+
+unfoldable pub pecRequest : List ℕ → ℕ → Request
+pecRequest line at = bytesTo line at (Pec at)
+
+-- ---- P p|-
+
+abbrev pub pecIs : ℕ → PecWord → HeadWords
+pecIs p (With next) = HeadIs (record { protocol = p; pec = true }) next
+pecIs p (Without next) = HeadIs (record { protocol = p; pec = false }) next
+pecIs p (Neither place) = NoHead expected.Pec place
+
+abbrev pub protocolIs : List ℕ → ByteWord → HeadWords
+protocolIs line (Byte p at) = pecIs p (pecAt line at)
+protocolIs line (NoByte place) = NoHead expected.Protocol place
+
+unfoldable pub headAt : List ℕ → ℕ → HeadWords
+headAt line at = protocolIs line (protocolAt line at)
+
+-- ---- ADDRESS DIRECTION COMMAND
+
+abbrev pub commandIs : ℕ → ℕ → ByteWord → FieldWords
+commandIs a d (Byte c next) = FieldsAre (record { address = a; direction = d; command = c }) next
+commandIs a d (NoByte place) = NoFields place
+
+abbrev pub directionIs : List ℕ → ℕ → ByteWord → FieldWords
+directionIs line a (Byte d next) = commandIs a d (byteAt line next)
+directionIs line a (NoByte place) = NoFields place
+
+unfoldable pub restOfFields : List ℕ → ℕ → ℕ → FieldWords
+restOfFields line a at = directionIs line a (byteAt line at)
+
+abbrev pub addressIs : List ℕ → ByteWord → FieldWords
+addressIs line (Byte a next) = restOfFields line a next
+addressIs line (NoByte place) = NoFields place
+
+unfoldable pub fieldsAt : List ℕ → ℕ → FieldWords
+fieldsAt line at = addressIs line (byteAt line at)
+
+-- ---- encode P p|- ADDRESS DIRECTION COMMAND w B... r B...; a list that is missing at the end of the line is empty
+
+abbrev pub receivedIs : Head → Fields → ℕ → List ℕ → MarkWord → Request
+receivedIs h f sent line (Mark next) = bytesTo line next (Encode h f sent next)
+receivedIs h f sent line (Over place) = Encode h f sent place
+receivedIs h f sent line (Another place) = Unclear expected.Received place
+
+unfoldable pub encodeReceived : Head → Fields → ℕ → List ℕ → ℕ → Request
+encodeReceived h f sent line at = receivedIs h f sent line (markAt line at (chars "r"))
+
+abbrev pub sentIs : Head → Fields → List ℕ → MarkWord → Request
+sentIs h f line (Mark next) = encodeReceived h f next line (bytesEnd (length line) line next)
+sentIs h f line (Over place) = encodeReceived h f place line place
+sentIs h f line (Another place) = Unclear expected.Sent place
+
+unfoldable pub encodeSent : Head → Fields → List ℕ → ℕ → Request
+encodeSent h f line at = sentIs h f line (markAt line at (chars "w"))
+
+abbrev pub fieldsOn : Head → List ℕ → FieldWords → Request
+fieldsOn h line (FieldsAre f next) = encodeSent h f line next
+fieldsOn h line (NoFields place) = Unclear expected.Byte place
+
+unfoldable pub encodeFields : Head → List ℕ → ℕ → Request
+encodeFields h line at = fieldsOn h line (fieldsAt line at)
+
+abbrev pub encodeOn : List ℕ → HeadWords → Request
+encodeOn line (HeadIs h next) = encodeFields h line next
+encodeOn line (NoHead e place) = Unclear e place
+
+unfoldable pub encodeRequest : List ℕ → ℕ → Request
+encodeRequest line at = encodeOn line (headAt line at)
+
+-- ---- decode P p|- SYMBOL...
+
+unfoldable pub decodeTrace : Head → List ℕ → ℕ → Request
+decodeTrace h line at = symbolsTo line at (Decode h at)
+
+abbrev pub decodeOn : List ℕ → HeadWords → Request
+decodeOn line (HeadIs h next) = decodeTrace h line next
+decodeOn line (NoHead e place) = Unclear e place
+
+unfoldable pub decodeRequest : List ℕ → ℕ → Request
+decodeRequest line at = decodeOn line (headAt line at)
+
+-- ---- occupied A..., step SYMBOL..., lookup A
+
+unfoldable pub occupiedRequest : List ℕ → ℕ → Request
+occupiedRequest line at = bytesTo line at (Occupied at)
+
+unfoldable pub stepRequest : List ℕ → ℕ → Request
+stepRequest line at = symbolsTo line at (Step at)
+
+abbrev pub lookupOn : List ℕ → ByteWord → Request
+lookupOn line (Byte a next) = ended (Lookup a) line next
+lookupOn line (NoByte place) = Unclear expected.Byte place
+
+unfoldable pub lookupRequest : List ℕ → ℕ → Request
+lookupRequest line at = lookupOn line (byteAt line at)
+
+-- ---- target UDID BYTE FLAG
+
+abbrev pub flagIs : Udid → ℕ → ℕ → List ℕ → ByteWord → Request
+flagIs u place b line (Byte f next) = ended (Target (record { udid = u; byte = b; flag = f }) place) line next
+flagIs u place b line (NoByte at) = Unclear expected.Byte at
+
+unfoldable pub targetFlag : Udid → ℕ → ℕ → List ℕ → ℕ → Request
+targetFlag u place b line at = flagIs u place b line (byteAt line at)
+
+abbrev pub byteIs : Udid → ℕ → List ℕ → ByteWord → Request
+byteIs u place line (Byte b next) = targetFlag u place b line next
+byteIs u place line (NoByte at) = Unclear expected.Byte at
+
+unfoldable pub targetByte : Udid → ℕ → List ℕ → ℕ → Request
+targetByte u place line at = byteIs u place line (byteAt line at)
+
+abbrev pub udidIs : List ℕ → UdidWord → Request
+udidIs line (Identifier u place next) = targetByte u place line next
+udidIs line (NoIdentifier at) = Unclear expected.Udid at
+
+unfoldable pub targetRequest : List ℕ → ℕ → Request
+targetRequest line at = udidIs line (udidAt line at)
+
+-- ---- a line: its verb, and the words after it
+
+abbrev pub requestIn : Verb → List ℕ → ℕ → ℕ → Request
+requestIn verb.Pec line place at = pecRequest line at
+requestIn verb.Encode line place at = encodeRequest line at
+requestIn verb.Decode line place at = decodeRequest line at
+requestIn verb.Occupied line place at = occupiedRequest line at
+requestIn verb.Target line place at = targetRequest line at
+requestIn verb.Clear line place at = ended Clear line at
+requestIn verb.Run line place at = ended Run line at
+requestIn verb.Start line place at = ended Start line at
+requestIn verb.Step line place at = stepRequest line at
+requestIn verb.Lookup line place at = lookupRequest line at
+requestIn verb.Grid line place at = ended Grid line at
+requestIn verb.Other line place at = Unclear expected.Verb place
+
+-- a line of no word asks for nothing
+unfoldable pub requestOf : List ℕ → Request
+requestOf line =
+    pick (leb (wordFrom line 0 .to) (wordFrom line 0 .from)) Nothing
+    (requestIn (verbOf (wordIn line (wordFrom line 0))) line (wordFrom line 0 .from) (wordFrom line 0 .to))

@@ -1,0 +1,99 @@
+// The requests of the shelf and of the controller.
+ghost use mathlib.Core.Path.{_≡_};
+ghost use Rattle.requests.specs.Requests.{occupiedRequest, stepRequest, lookupRequest, targetRequest, targetByte, targetFlag, ended};
+use crate::expected::Expected;
+use crate::list::bytes_end;
+use crate::list::symbols_end;
+use crate::request::Record;
+use crate::request::Request;
+use crate::word::ByteWord;
+use crate::word::Rest;
+use crate::word::UdidWord;
+use crate::word::byte_word;
+use crate::word::after_word;
+use crate::word::udid_word;
+use udid::Udid;
+
+// A request, where no word is left for it.
+pub(crate) fn ending(q: Request, line: &[u8], from: usize) -> Request
+    ensures { λ r. ⌜ r ≡ ended q (now (line .entry)) from ⌝ }
+{
+    let e = after_word(line, from);
+    match e {
+        Rest::Nothing => q,
+        Rest::Word(place) => Request::Unclear(Expected::End, place),
+    }
+}
+
+// occupied A...
+pub(crate) fn occupied(line: &[u8], from: usize) -> Request
+    ensures { λ r. ⌜ r ≡ occupiedRequest (now (line .entry)) from ⌝ }
+{
+    let end = bytes_end(line, from);
+    if end < line.len() {
+        return Request::Unclear(Expected::Byte, end);
+    }
+    Request::Occupied(from)
+}
+
+// step SYMBOL...
+pub(crate) fn step(line: &[u8], from: usize) -> Request
+    ensures { λ r. ⌜ r ≡ stepRequest (now (line .entry)) from ⌝ }
+{
+    let end = symbols_end(line, from);
+    if end < line.len() {
+        return Request::Unclear(Expected::Symbol, end);
+    }
+    Request::Step(from)
+}
+
+// lookup A
+pub(crate) fn lookup(line: &[u8], from: usize) -> Request
+    ensures { λ r. ⌜ r ≡ lookupRequest (now (line .entry)) from ⌝ }
+{
+    let a = byte_word(line, from);
+    match a {
+        ByteWord::Byte(address, next) => ending(Request::Lookup(address), line, next),
+        ByteWord::NoByte(place) => Request::Unclear(Expected::Byte, place),
+    }
+}
+
+// FLAG
+fn flag(u: Udid, place: usize, byte: u8, line: &[u8], from: usize) -> Request
+    ensures { λ r. ⌜ r ≡ targetFlag u place byte (now (line .entry)) from ⌝ }
+{
+    let f = byte_word(line, from);
+    match f {
+        ByteWord::Byte(v, next) => {
+            let t = Record {
+                udid: u,
+                byte,
+                flag: v,
+            };
+            ending(Request::Target(t, place), line, next)
+        }
+        ByteWord::NoByte(at) => Request::Unclear(Expected::Byte, at),
+    }
+}
+
+// BYTE FLAG
+fn byte_and_flag(u: Udid, place: usize, line: &[u8], from: usize) -> Request
+    ensures { λ r. ⌜ r ≡ targetByte u place (now (line .entry)) from ⌝ }
+{
+    let b = byte_word(line, from);
+    match b {
+        ByteWord::Byte(v, next) => flag(u, place, v, line, next),
+        ByteWord::NoByte(at) => Request::Unclear(Expected::Byte, at),
+    }
+}
+
+// target UDID BYTE FLAG
+pub(crate) fn target(line: &[u8], from: usize) -> Request
+    ensures { λ r. ⌜ r ≡ targetRequest (now (line .entry)) from ⌝ }
+{
+    let u = udid_word(line, from);
+    match u {
+        UdidWord::Identifier(v, place, next) => byte_and_flag(v, place, line, next),
+        UdidWord::NoIdentifier(at) => Request::Unclear(Expected::Udid, at),
+    }
+}
