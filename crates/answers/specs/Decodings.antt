@@ -3,9 +3,13 @@ use Prim.Native.Nat.{ℕ}
 use mathlib.Core.List.{List, _++_}
 use Rattle.text.specs.Chars.{chars}
 use Rattle.text.specs.Written.{decimalOf, pairOf}
+use lib.Dec.{ltb}
+use Rattle.lists.specs.Choice.{pick}
+use Rattle.step.specs.Numbers.{refusalNumber, isNack}
 use Rattle.trace.specs.declared.transaction.Transaction.{Transaction}
 use Rattle.step.specs.declared.answer.Decoded.{Decoded}
-use Rattle.step.specs.declared.answer.Decoded.the-variants.{Done, Forbidden, BufferTooShort, NoSymbol, EndsEarly, Unexpected, NotAcknowledged, PecDiffers, AfterStop}
+use Rattle.step.specs.declared.answer.Decoded.the-variants.{Done, Refused}
+use Rattle.step.specs.declared.answer.Refusal.{Refusal}
 use Rattle.answers.specs.Pieces.{newline, front, bytesText}
 
 -- the fields of a transaction
@@ -17,17 +21,18 @@ abbrev pub transactionText : Transaction → List ℕ → List ℕ → List ℕ
 transactionText t sent received =
     ((fieldsText t ++ (chars " w" ++ bytesText (front (t .sent) sent))) ++ (chars " r" ++ bytesText (front (t .received) received))) ++ newline
 
--- a number of the scope, and where
+-- a label, and where
 abbrev pub placeText : List ℕ → ℕ → List ℕ
 placeText label n = (label ++ decimalOf n) ++ newline
 
+-- after a refusal's number: nothing where the trace was not read, which is 1 and 2; else which byte was not acknowledged, or the place
+abbrev pub whereText : Refusal → ℕ → List ℕ
+whereText w k = pick (ltb (refusalNumber w) 3) newline (pick (isNack w) (placeText (chars " byte ") k) (placeText (chars " place ") k))
+
+-- a refusal's number, and where
+abbrev pub refusedText : Refusal → ℕ → List ℕ
+refusedText w k = decimalOf (refusalNumber w) ++ whereText w k
+
 abbrev pub decodedText : Decoded → List ℕ → List ℕ → List ℕ
 decodedText (Done t) sent received = transactionText t sent received
-decodedText Forbidden sent received = chars "1\n"
-decodedText BufferTooShort sent received = chars "2\n"
-decodedText (NoSymbol n) sent received = placeText (chars "3 place ") n
-decodedText (EndsEarly n) sent received = placeText (chars "4 place ") n
-decodedText (Unexpected n) sent received = placeText (chars "5 place ") n
-decodedText (NotAcknowledged n) sent received = placeText (chars "6 byte ") n
-decodedText (PecDiffers n) sent received = placeText (chars "7 place ") n
-decodedText (AfterStop n) sent received = placeText (chars "8 place ") n
+decodedText (Refused w k) sent received = refusedText w k

@@ -2,15 +2,18 @@
 ghost use mathlib.Core.List.{_++_};
 ghost use Rattle.text.specs.Written.{Appended};
 ghost use Rattle.answers.specs.Pieces.{bytesText};
-ghost use Rattle.answers.specs.Decodings.{fieldsText, transactionText, decodedText};
+ghost use Rattle.answers.specs.Decodings.{fieldsText, transactionText, whereText, refusedText, decodedText};
 use crate::list::put_bytes;
 use crate::piece::number_line;
 use crate::piece::put_hex;
-use crate::piece::put_line;
 use crate::piece::put_number;
 use step::answer::Decoded;
+use step::answer::Refusal;
+use step::number::is_nack;
+use step::number::refusal_number;
 use text::word::part;
 use text::write::put;
+use text::write::put_decimal;
 use trace::transaction::Transaction;
 
 // The fields of a transaction.
@@ -41,19 +44,34 @@ fn put_transaction(out: &mut [u8], at: usize, t: Transaction, sent: &[u8], recei
     put(out, c, b"\n")
 }
 
+// What stands after a refusal's number: nothing where the trace was not read; else which byte was not acknowledged, or the place.
+fn put_where(out: &mut [u8], at: usize, w: Refusal, place: usize) -> usize
+    ensures { λ r. ⌜ Appended (now (out .entry)) at (whereText w place) (now (out .exit)) r ⌝ }
+{
+    if refusal_number(w) < 3 {
+        return put(out, at, b"\n");
+    }
+    if is_nack(w) {
+        return number_line(out, at, b" byte ", place as u64);
+    }
+    number_line(out, at, b" place ", place as u64)
+}
+
+// A refusal: its number, and where.
+fn put_refused(out: &mut [u8], at: usize, w: Refusal, place: usize) -> usize
+    ensures { λ r. ⌜ Appended (now (out .entry)) at (refusedText w place) (now (out .exit)) r ⌝ }
+{
+    let n = refusal_number(w);
+    let to = put_decimal(out, at, n as u64);
+    put_where(out, to, w, place)
+}
+
 // What the decoder answered.
 pub fn put_decoded(out: &mut [u8], at: usize, d: Decoded, sent: &[u8], received: &[u8]) -> usize
     ensures { λ r. ⌜ Appended (now (out .entry)) at (decodedText d (now (sent .entry)) (now (received .entry))) (now (out .exit)) r ⌝ }
 {
     match d {
         Decoded::Done(t) => put_transaction(out, at, t, sent, received),
-        Decoded::Forbidden => put_line(out, at, b"1"),
-        Decoded::BufferTooShort => put_line(out, at, b"2"),
-        Decoded::NoSymbol(n) => number_line(out, at, b"3 place ", n as u64),
-        Decoded::EndsEarly(n) => number_line(out, at, b"4 place ", n as u64),
-        Decoded::Unexpected(n) => number_line(out, at, b"5 place ", n as u64),
-        Decoded::NotAcknowledged(n) => number_line(out, at, b"6 byte ", n as u64),
-        Decoded::PecDiffers(n) => number_line(out, at, b"7 place ", n as u64),
-        Decoded::AfterStop(n) => number_line(out, at, b"8 place ", n as u64),
+        Decoded::Refused(w, place) => put_refused(out, at, w, place),
     }
 }
