@@ -7,63 +7,36 @@ const OUTPUT: i32 = 1;
 fn help_codec() {
     io::write_all(
         OUTPUT,
-        b"headboarded: reads requests from standard input, one a line, and answers each\n",
-    );
-    io::write_all(
-        OUTPUT,
-        b"A number is decimal, or hexadecimal after 0x. # begins a comment.\n\n",
-    );
-    io::write_all(
-        OUTPUT,
-        b"pec B...                                             0 pec B\n",
-    );
-    io::write_all(
-        OUTPUT,
-        b"encode P p|- ADDRESS DIRECTION COMMAND w B... r B...   0 trace SYMBOL...\n",
-    );
-    io::write_all(
-        OUTPUT,
-        b"decode P p|- SYMBOL...    0 address A direction D command C w B... r B...\n",
+        b"headboarded: reads requests from standard input, one a line, and answers each\n\
+A number is decimal, or hexadecimal after 0x. # begins a comment.\n\n\
+pec B...                                             0 pec B\n\
+encode P p|- ADDRESS DIRECTION COMMAND w B... r B...   0 trace SYMBOL...\n\
+decode P p|- SYMBOL...    0 address A direction D command C w B... r B...\n",
     );
 }
 
 // The requests of the shelf.
 fn help_shelf() {
-    io::write_all(OUTPUT, b"occupied A...             0 occupied N\n");
-    io::write_all(OUTPUT, b"target UDID BYTE FLAG     0 target I\n");
-    io::write_all(OUTPUT, b"clear                     0 clear\n");
     io::write_all(
         OUTPUT,
-        b"run                       0 bound N get G, 13 udid UDID bound N get G, and who is bound\n",
-    );
-    io::write_all(OUTPUT, b"start                     0 next prepare\n");
-    io::write_all(
-        OUTPUT,
-        b"step SYMBOL...            0 next get, 0 next assign UDID A, 0 end, 13 end UDID, 14 end\n",
-    );
-    io::write_all(OUTPUT, b"lookup A                  0 udid UDID\n");
-    io::write_all(
-        OUTPUT,
-        b"grid                      8 rows of 16: -- free, UU in use, XX claimed by two\n\n",
+        b"occupied A...             0 occupied N\n\
+target UDID BYTE FLAG     0 target I\n\
+clear                     0 clear\n\
+run                       0 bound N get G, 13 udid UDID bound N get G, and who is bound\n\
+start                     0 next prepare\n\
+step SYMBOL...            0 next get, 0 next assign UDID A, 0 end, 13 end UDID, 14 end\n\
+lookup A                  0 udid UDID\n\
+grid                      8 rows of 16: -- free, UU in use, XX claimed by two\n\n",
     );
 }
 
 fn help_rest() {
     io::write_all(
         OUTPUT,
-        b"P is a protocol by number or name: quick send_byte receive_byte write_byte write_word\n",
-    );
-    io::write_all(
-        OUTPUT,
-        b"read_byte read_word process_call block_write block_read block_process_call.\n",
-    );
-    io::write_all(
-        OUTPUT,
-        b"p is with PEC, - without. The first word of an answer is the number of the answer,\n",
-    );
-    io::write_all(
-        OUTPUT,
-        b"or ? with the column and what was expected there.\n",
+        b"P is a protocol by number or name: quick send_byte receive_byte write_byte write_word\n\
+read_byte read_word process_call block_write block_read block_process_call.\n\
+p is with PEC, - without. The first word of an answer is the number of the answer,\n\
+or ? with the column and what was expected there.\n",
     );
 }
 

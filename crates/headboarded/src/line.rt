@@ -1,16 +1,15 @@
 // Lines out of the parts in which the input comes. A line may begin in one part and end in another: what there is of it is held in a buffer
 // of 16,384 characters. A longer line is refused as a whole, once its end is reached.
-ghost use mathlib.Core.Path.{_≡_};
 ghost use Prim.Native.Nat.{_≤_};
 ghost use lib.ListN.{length};
 use crate::answer::answer;
 use crate::print::flush;
 use crate::print::room;
-use crate::refuse::LONG;
-use crate::refuse::refuse;
 use crate::shelf::Shelf;
 use crate::shelf::Turn;
 use crate::shelf::new_shelf;
+use answers::unclear::put_unclear;
+use requests::expected::Expected;
 use text::word::comment;
 use text::word::line_end;
 use text::word::part;
@@ -65,12 +64,10 @@ fn gather(h: Held, chars: &[u8], from: usize, to: usize, line: &mut [u8]) -> Hel
 }
 
 // A whole line is answered. The comment is cut off first.
-fn end_line(s: Shelf, h: Held, line: &[u8], records: &mut [u8], out: &mut [u8], at: usize) -> Turn
-    requires { ⌜ 2160 ≤ length (now records) ⌝ }
-{
+fn end_line(s: Shelf, h: Held, line: &[u8], records: &mut [u8], out: &mut [u8], at: usize) -> Turn {
     let to = room(out, at);
     if h.long {
-        let next = refuse(out, to, 16384, LONG);
+        let next = put_unclear(out, to, Expected::Line, 16384);
         return Turn { shelf: s, at: next };
     }
     let whole = part(line, 0, h.count);
@@ -79,9 +76,7 @@ fn end_line(s: Shelf, h: Held, line: &[u8], records: &mut [u8], out: &mut [u8], 
 }
 
 // A line that has ended: the session goes on with an empty one.
-fn next_line(s: Session, h: Held, line: &[u8], records: &mut [u8], out: &mut [u8]) -> Session
-    requires { ⌜ 2160 ≤ length (now records) ⌝ }
-{
+fn next_line(s: Session, h: Held, line: &[u8], records: &mut [u8], out: &mut [u8]) -> Session {
     let shelf = s.shelf;
     let t = end_line(shelf, h, line, records, out, s.at);
     let after = t.shelf;
@@ -93,56 +88,43 @@ fn next_line(s: Session, h: Held, line: &[u8], records: &mut [u8], out: &mut [u8
     }
 }
 
-// A line that goes on in the next part.
-fn hold(s: Session, h: Held) -> Session {
+// The end of a part: the answers go out, and what there is of a line is held.
+fn end_part(s: Session, h: Held, out: &[u8]) -> Session {
+    flush(out, s.at);
     let shelf = s.shelf;
     Session {
         shelf,
         held: h,
-        at: s.at,
+        at: 0,
     }
 }
 
-// The lines that end in a part; what follows the last of them is held.
-fn lines(s: Session, chars: &[u8], line: &mut [u8], records: &mut [u8], out: &mut [u8]) -> Session
-    requires { ⌜ 2160 ≤ length (now records) ⌝ }
-{
+// The lines that end in a part are answered; what follows the last of them is held.
+pub(crate) fn lines(
+    s: Session,
+    chars: &[u8],
+    line: &mut [u8],
+    records: &mut [u8],
+    out: &mut [u8],
+) -> Session {
     let mut now = s;
     let mut i: usize = 0;
     while i < chars.len() {
         let end = line_end(chars, i);
         if end >= chars.len() {
             let rest = gather(now.held, chars, i, chars.len(), line);
-            return hold(now, rest);
+            return end_part(now, rest, out);
         }
         let whole = gather(now.held, chars, i, end, line);
         now = next_line(now, whole, line, records, out);
         i = end + 1;
     }
-    now
-}
-
-// A part of the input: its lines are answered, and the answers go out.
-pub(crate) fn take_part(
-    s: Session,
-    chars: &[u8],
-    line: &mut [u8],
-    records: &mut [u8],
-    out: &mut [u8],
-) -> Session
-    requires { ⌜ 2160 ≤ length (now records) ⌝ }
-{
-    let next = lines(s, chars, line, records, out);
-    flush(out, next.at);
-    let shelf = next.shelf;
-    let held = next.held;
-    Session { shelf, held, at: 0 }
+    let held = now.held;
+    end_part(now, held, out)
 }
 
 // The end of the input ends a line that has begun.
-pub(crate) fn end_last(s: Session, line: &[u8], records: &mut [u8], out: &mut [u8])
-    requires { ⌜ 2160 ≤ length (now records) ⌝ }
-{
+pub(crate) fn end_last(s: Session, line: &[u8], records: &mut [u8], out: &mut [u8]) {
     let held = s.held;
     let last = next_line(s, held, line, records, out);
     flush(out, last.at);

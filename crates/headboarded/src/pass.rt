@@ -1,56 +1,31 @@
-// The requests to the controller: start, step and lookup.
-use crate::list::symbols;
-use crate::print::put_end;
-use crate::print::put_hex;
-use crate::print::put_line;
-use crate::print::put_udid;
-use crate::refuse::BYTE;
-use crate::refuse::END;
-use crate::refuse::SYMBOL;
-use crate::refuse::refuse;
+// The requests to the controller: start, step, lookup and grid.
 use crate::shelf::Shelf;
 use crate::shelf::Turn;
-use crate::take::take_byte;
-use arp::command::Command;
-use arp::lookup::Found;
+use answers::command::put_command;
+use answers::found::put_found;
+use answers::grid::put_grid;
 use arp::state::Controller;
 use arp::state::Stepped;
-use text::word::next_word;
-use text::write::put;
-use udid::Udid;
+use requests::list::read_symbols;
 use wire::address::Address;
 
-// An address for a target.
-fn put_assign(out: &mut [u8], at: usize, u: Udid, a: Address) -> usize {
-    let b = put(out, at, b"0 next assign");
-    let c = put_udid(out, b, u);
-    let d = put_hex(out, c, a.0);
-    put_end(out, d)
+// A controller with the addresses that are occupied now begins a pass.
+pub(crate) fn start(s: Shelf) -> Stepped {
+    let occupied = s.occupied;
+    let c = Controller::new(occupied);
+    c.start()
 }
 
-// A line that ends in an identifier.
-fn put_named(out: &mut [u8], at: usize, s: &[u8], u: Udid) -> usize {
-    let a = put(out, at, s);
-    let b = put_udid(out, a, u);
-    put_end(out, b)
-}
-
-// What the controller hands out. It never hands Nothing out: that is what it has handed out before its first pass.
-fn put_command(k: Command, out: &mut [u8], at: usize) -> usize {
-    match k {
-        Command::Prepare => put_line(out, at, b"0 next prepare"),
-        Command::GetUdid => put_line(out, at, b"0 next get"),
-        Command::Assign(u, a) => put_assign(out, at, u, a),
-        Command::Ended => put_line(out, at, b"0 end"),
-        Command::NoneFree(u) => put_named(out, at, b"13 end", u),
-        Command::Abandoned => put_line(out, at, b"14 end"),
-        Command::NotOutstanding => put_line(out, at, b"21"),
-        Command::Nothing => put_line(out, at, b"21"),
-    }
+// The controller hears the symbols from a place on.
+pub(crate) fn step(s: Shelf, from: usize, text: &[u8]) -> Stepped {
+    let mut trace = [0u16; 8192];
+    let n = read_symbols(text, from, &mut trace);
+    let c = s.controller;
+    c.step(&trace[..n])
 }
 
 // The shelf with what a step left, and what it handed out.
-fn told(s: Shelf, next: Stepped, out: &mut [u8], at: usize) -> Turn {
+pub(crate) fn told(s: Shelf, next: Stepped, out: &mut [u8], at: usize) -> Turn {
     let occupied = s.occupied;
     let controller = next.state;
     let command = next.command;
@@ -59,53 +34,18 @@ fn told(s: Shelf, next: Stepped, out: &mut [u8], at: usize) -> Turn {
         count: s.count,
         controller,
     };
-    let after = put_command(command, out, at);
+    let after = put_command(out, at, command);
     Turn { shelf, at: after }
 }
 
-// start: a controller with the addresses that are occupied now begins a pass.
-pub(crate) fn start(s: Shelf, line: &[u8], from: usize, out: &mut [u8], at: usize) -> Turn {
-    let rest = next_word(line, from);
-    if rest.from < line.len() {
-        let next = refuse(out, at, rest.from, END);
-        return Turn { shelf: s, at: next };
-    }
-    let c = Controller::new(s.occupied);
-    told(s, c.start(), out, at)
-}
-
-// step SYMBOL...
-pub(crate) fn step(s: Shelf, line: &[u8], from: usize, out: &mut [u8], at: usize) -> Turn {
-    let mut trace = [0u16; 8192];
-    let l = symbols(line, from, &mut trace);
-    let n = l.count;
-    if l.at < line.len() {
-        let next = refuse(out, at, l.at, SYMBOL);
-        return Turn { shelf: s, at: next };
-    }
+// Who is bound at an address.
+pub(crate) fn lookup(s: Shelf, a: u8, out: &mut [u8], at: usize) -> usize {
     let c = s.controller;
-    told(s, c.step(&trace[..n]), out, at)
+    put_found(out, at, c.lookup(Address(a)))
 }
 
-fn put_found(f: Found, out: &mut [u8], at: usize) -> usize {
-    match f {
-        Found::Bound(u) => put_named(out, at, b"0 udid", u),
-        Found::Nobody => put_line(out, at, b"15"),
-        Found::Two => put_line(out, at, b"16"),
-        Found::NoAddress => put_line(out, at, b"1"),
-    }
-}
-
-// lookup A
-pub(crate) fn lookup(s: Shelf, line: &[u8], from: usize, out: &mut [u8], at: usize) -> usize {
-    let a = take_byte(line, from);
-    if !a.good {
-        return refuse(out, at, a.from, BYTE);
-    }
-    let rest = next_word(line, a.next);
-    if rest.from < line.len() {
-        return refuse(out, at, rest.from, END);
-    }
+// The controller's table.
+pub(crate) fn table(s: Shelf, out: &mut [u8], at: usize) -> usize {
     let c = s.controller;
-    put_found(c.lookup(Address(a.value)), out, at)
+    put_grid(out, at, c)
 }

@@ -1,6 +1,6 @@
 -- What a line means: a request with its values, or what was expected at which place.
 use Prim.Native.Nat.{ℕ}
-use mathlib.Core.Bool.{Bool, true, false}
+use mathlib.Core.Bool.{true, false}
 use mathlib.Core.List.{List}
 use lib.Dec.{ltb, leb}
 use lib.ListN.{length}
@@ -11,7 +11,6 @@ use Rattle.text.specs.Words.{wordFrom}
 use Rattle.requests.specs.Verbs.{verbOf}
 use Rattle.requests.specs.Said.{wordIn, byteAt, udidAt, protocolAt, pecAt, markAt, restAt}
 use Rattle.requests.specs.Lists.{bytesEnd, symbolsEnd}
-use Rattle.requests.specs.declared.expected.Expected.{Expected}
 use Rattle.requests.specs.declared.expected.Expected.the-variants as expected
 use Rattle.requests.specs.declared.verb.Verb.{Verb}
 use Rattle.requests.specs.declared.verb.Verb.the-variants as verb

@@ -1,11 +1,9 @@
 -- What the next word of a line says, where one thing or another is due.
 use Prim.Native.Nat.{ℕ}
-use mathlib.Core.Bool.{Bool}
 use mathlib.Core.List.{List}
 use lib.Dec.{ltb}
 use lib.ListN.{length}
 use Rattle.lists.specs.Choice.{pick}
-use Rattle.udid.specs.declared.Udid.{Udid}
 use Rattle.text.specs.declared.word.Word.{Word}
 use Rattle.text.specs.declared.number.Number.{Number}
 use Rattle.text.specs.declared.number.Number.the-variants.{Is, NoNumber, TooLarge}

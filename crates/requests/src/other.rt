@@ -9,8 +9,8 @@ use crate::request::Request;
 use crate::word::ByteWord;
 use crate::word::Rest;
 use crate::word::UdidWord;
-use crate::word::byte_word;
 use crate::word::after_word;
+use crate::word::byte_word;
 use crate::word::udid_word;
 use udid::Udid;
 

@@ -1,7 +1,7 @@
-use native.Mathlib.Omega.{arith}
 use Prim.Native.Nat.{_-_}
 use mathlib.Core.Path.{_≡_}
 use lib.ListN.{length}
+use native.Mathlib.Omega.{arith}
 use borrow.Author.Needs.{needs}
 use Rattle.headboarded.proofs.line.lines.Statement.{statement}
 use Rattle.headboarded.proofs.line.lines.Tie as tie
@@ -21,8 +21,8 @@ line-end-requires c κs = search needs
 gather-requires : tie.Need-gather-requires Inv-loop μ-loop
 gather-requires c κs = search needs
 
-hold-requires : tie.Need-hold-requires Inv-loop μ-loop
-hold-requires c κs = search needs
+end-part-requires : tie.Need-end-part-requires Inv-loop μ-loop
+end-part-requires c κs = search needs
 
 same-length : tie.Need-same-length Inv-loop μ-loop
 same-length c = search needs
@@ -51,6 +51,9 @@ loop-less c = search needs
 loop-again : tie.Need-loop-again Inv-loop μ-loop
 loop-again c = search needs
 
+end-part-requires-2 : tie.Need-end-part-requires-2 Inv-loop μ-loop
+end-part-requires-2 c κs = search needs
+
 same-length-4 : tie.Need-same-length-4 Inv-loop μ-loop
 same-length-4 c = search needs
 
@@ -72,7 +75,7 @@ lines-spec =
     loop-holds
     line-end-requires
     gather-requires
-    hold-requires
+    end-part-requires
     same-length
     same-length-2
     same-length-3
@@ -82,6 +85,7 @@ lines-spec =
     add-i
     loop-less
     loop-again
+    end-part-requires-2
     same-length-4
     same-length-5
     same-length-6
