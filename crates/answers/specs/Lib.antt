@@ -1,5 +1,6 @@
 pub mod Pieces
 pub mod PieceLaws
+pub mod DecodingLaws
 pub mod Lines
 pub mod Decodings
 pub mod Commands

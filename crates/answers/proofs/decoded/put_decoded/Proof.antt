@@ -1,3 +1,7 @@
+use Rattle.answers.specs.Decodings.{decodedText}
+use Rattle.step.specs.declared.answer.Decoded.{Decoded}
+use Rattle.text.specs.WrittenLaws.{appended-as}
+use mathlib.Core.Path.{sym, ap}
 use borrow.Author.Needs.{needs}
 use Rattle.answers.proofs.decoded.put_decoded.Statement.{statement}
 use Rattle.answers.proofs.decoded.put_decoded.Tie as tie
@@ -6,37 +10,29 @@ use Rattle.answers.proofs.decoded.put_decoded.Lts as lts
 use Rattle.answers.proofs.decoded.put_refused.Reads as put-refused-reads
 use Rattle.answers.proofs.decoded.put_transaction.Reads as put-transaction-reads
 
--- src/decoded.rt:74:23
 enum-known-d : tie.Need-enum-known-d
 enum-known-d c = search needs
 
--- src/decoded.rt:74:29
 put-transaction-requires : tie.Need-put-transaction-requires
 put-transaction-requires c κs = search needs
 
--- src/decoded.rt:75:26
 enum-known-d-2 : tie.Need-enum-known-d-2
 enum-known-d-2 c = search needs
 
--- src/decoded.rt:75:39
 put-refused-requires : tie.Need-put-refused-requires
 put-refused-requires c κs = search needs
 
--- src/decoded.rt:70:1
 same-length : tie.Need-same-length
 same-length c = search needs
 
--- src/decoded.rt:70:1
 returns : tie.Need-returns
-returns c = ?
+returns c = appended-as (sym (ap (λ (d : Decoded). decodedText d (c .before .before .before .before .before .before .before .before .before .before .args .sent .now) (c .before .before .before .before .before .before .before .before .before .before .args .received .now)) (c .before .before .before .before .before .d .given .1))) (c .before .before .put-transaction .ensures)
 
--- src/decoded.rt:70:1
 same-length-2 : tie.Need-same-length-2
 same-length-2 c = search needs
 
--- src/decoded.rt:70:1
 returns-2 : tie.Need-returns-2
-returns-2 c = ?
+returns-2 c = appended-as (sym (ap (λ (d : Decoded). decodedText d (c .before .before .before .before .before .before .before .before .before .before .args .sent .now) (c .before .before .before .before .before .before .before .before .before .before .args .received .now)) (c .before .before .before .before .before .d2 .given .1))) (c .before .before .put-refused .ensures)
 
 pub put-decoded-spec : {M : Type 1} → statement M
 put-decoded-spec =
