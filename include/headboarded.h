@@ -60,7 +60,8 @@ enum {
     HB_BLOCK_PROCESS_CALL = 10
 };
 
-/* What the controller hands out. The first three are commands to send. */
+/* What the controller hands out: the kind of an hb_command. The first three are commands to send. HB_NONE_FREE, HB_ABANDONED and
+ * HB_NOT_OUTSTANDING come with the answers HB_NO_FREE_ADDRESS, HB_PASS_ABANDONED and HB_NO_COMMAND. */
 enum {
     HB_PREPARE = 0,
     HB_GET_UDID = 1,

@@ -149,6 +149,50 @@ fn scripts() -> usize {
     family.done()
 }
 
+/// The good traces of a pass that binds one target: to Prepare To ARP, Get UDID and Assign Address, as these are handed out.
+fn good_traces(udid: &commands::Udid) -> Vec<Vec<u16>> {
+    let mut controller = controller::Controller::new(&Addresses::new());
+    let mut command = controller.start();
+    let mut traces = vec![];
+    for _ in 0..3 {
+        let sent = match &command {
+            commands::Command::Prepare => commands::prepare(),
+            commands::Command::GetUdid => commands::get_udid(&commands::reply_bytes(udid, 0xff)),
+            commands::Command::Assign(u, a) => commands::assign(u, *a),
+            other => panic!("{other:?} is not sent"),
+        };
+        let trace = build(&sent).expect("the trace of a command");
+        command = controller.step(&trace);
+        traces.push(trace);
+    }
+    traces
+}
+
+/// A last trace of more symbols than any that fits: how it begins decides, whatever follows.
+fn long_traces() -> usize {
+    let mut family = Family::new("passes with long traces");
+    let good = good_traces(&shelves::any_udid(&mut Random::new(77)));
+    for (place, last) in good.iter().enumerate() {
+        for (kept, symbol) in [(last.len(), 0), (last.len(), 65_535), (last.len() - 1, 257), (0, 256), (0, 258)] {
+            for length in [524, 525, 526, 527, 528, 1_000, 65_535] {
+                let long = [&last[..kept], &vec![symbol; length - kept]].concat();
+                let mut controller = controller::Controller::new(&Addresses::new());
+                let mut now = Pass::new(&Addresses::new());
+                now.command(&mut family, &controller.start(), false);
+                for trace in good[..place].iter().chain([&long]) {
+                    now.list.extend(pairs(&[trace.len() as u16]));
+                    now.list.extend(pairs(trace));
+                    now.command(&mut family, &controller.step(trace), true);
+                }
+                let input = || format!("place {place} kept {kept} symbol {symbol} length {length}");
+                let due = found(&controller.lookup(0x09));
+                family.same(input, &due, &pass_lookup(now.occupied, &now.list, 0x09));
+            }
+        }
+    }
+    family.done()
+}
+
 pub fn all() -> usize {
-    command_traces() + assigned_numbers() + scripts()
+    command_traces() + assigned_numbers() + scripts() + long_traces()
 }

@@ -6,7 +6,6 @@ use Prim.Native.Nat.{ℕ, _≤_}
 use lib.ListN.{length, take, drop}
 use Rattle.trace.specs.Shapes.{shapeOf}
 use Rattle.step.specs.Handed.{lows, sentLength, sentPlace, receivedLength, receivedPlace}
-use Rattle.step.specs.declared.answer.Decoded.{Decoded}
 use Rattle.decode.specs.LongTraceLaws.{same-decoded, decoded-none}
 use Rattle.udid.specs.declared.Udid.{Udid}
 use Rattle.arp.specs.Heard.{sendByte, blockRead, blockWrite, answer, sentIn, receivedIn}
@@ -14,7 +13,6 @@ use Rattle.arp.specs.Controller.{onPrepare, onGet, onAssign, afterPrepar
 use Rattle.arp.specs.declared.command.Command.{Command}
 use Rattle.arp.specs.declared.command.Command.the-variants.{Nothing, Prepare, GetUdid, Assign, Ended, NoneFree, Abandoned, NotOutstanding}
 use Rattle.arp.specs.declared.state.Controller.{Controller}
-use Rattle.arp.specs.declared.state.Stepped.{Stepped}
 
 module _ (s : Controller) (tr : List ℕ) (long : 526 ≤ length tr) where
   -- the answer is that of the front

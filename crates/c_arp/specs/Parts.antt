@@ -1,6 +1,5 @@
 -- Identifiers and sets of addresses as structs for C, there and back.
 use Prim.Native.Nat.{ℕ}
-use Rattle.wire.specs.declared.address.Address.{Address}
 use Rattle.pool.specs.declared.Pool.{Pool}
 use Rattle.pool.specs.declared.free.Free.{Free}
 use Rattle.pool.specs.declared.free.Free.the-variants.{At, AllUsed}

@@ -2,21 +2,20 @@
 use mathlib.Core.Path.{_≡_, refl, sym, ap, _∙_, subst}
 use mathlib.Core.Bool.{Bool, true, false}
 use mathlib.Core.List.{List, [], _∷_}
-use mathlib.Core.Logic.{_⊎_, inl, inr}
-use Prim.Native.Nat.{ℕ, _+_, _*_, _/_, _≤_, _<_}
+use mathlib.Core.Logic.{inl, inr}
+use Prim.Native.Nat.{ℕ, _/_, _≤_, _<_}
 use native.Mathlib.Omega.{arith}
 use denote.Enum.Declared.{tagOf}
 use types.Run.{OneOf}
 use lib.Dec.{ltb}
-use borrow.Author.Tests.{lt-ltb, le-ltb, ltb-true, ltb-false}
-use lib.ListN.{length, take, drop, length-append, length-drop}
-use lib.Seq.{take-at, length-take-le}
+use borrow.Author.Tests.{lt-ltb, le-ltb}
+use lib.ListN.{length, take, drop}
+use lib.Seq.{take-at}
 use Rattle.lists.specs.Choice.{pick, or, not}
 use Rattle.lists.specs.Each.{Bytes}
 use Rattle.lists.specs.Onto.{onto}
 use Rattle.trace.specs.Shapes.{shapeOf, forbidden}
 use Rattle.trace.specs.Trace.{Message, trace}
-use Rattle.trace.specs.Allowed.{allowed}
 use Rattle.trace.specs.ValidLaws.{allowed-valid}
 use Rattle.trace.specs.ColumnsLaws.{longest}
 use Rattle.encode.specs.declared.Encoded.{Encoded}

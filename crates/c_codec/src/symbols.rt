@@ -1,5 +1,4 @@
 // The codec on symbols as 16-bit numbers: nothing is turned into pairs.
-ghost use mathlib.Core.Path.{_≡_};
 ghost use Rattle.encode.specs.Encode.{message};
 ghost use Rattle.c_codec.specs.Numbers.{truth};
 ghost use Rattle.c_codec.specs.Codec.{WroteSymbols, ReadSymbols};

@@ -2,8 +2,8 @@
 use mathlib.Core.Path.{_≡_, refl, sym, ap, _∙_}
 use mathlib.Core.Bool.{Bool, true, false}
 use mathlib.Core.List.{List, [], _∷_, _++_}
-use mathlib.Core.Logic.{_⊎_, inl, inr}
-use Prim.Native.Nat.{ℕ, zero, suc, _+_, _*_, _≤_, _<_}
+use mathlib.Core.Logic.{inl, inr}
+use Prim.Native.Nat.{ℕ, suc, _≤_}
 use native.Mathlib.Omega.{arith}
 use lib.ListN.{length, take, drop, length-append, take-append-drop}
 use lib.Seq.{length-take-le}
@@ -13,7 +13,7 @@ use Rattle.wire.specs.Symbols.{STOP, ACK, NACK}
 use Rattle.trace.specs.declared.shape.Shape.{Shape}
 use Rattle.trace.specs.Shapes.{shapeOf, forbidden, reads}
 use Rattle.trace.specs.ShapeLaws.{sane}
-use Rattle.trace.specs.Trace.{Message, inPlace, nacked, laid, byTarget, byController, traceAt, trace, Valid}
+use Rattle.trace.specs.Trace.{Message, inPlace, nacked, laid, byTarget, byController, traceAt, Valid}
 use Rattle.trace.specs.LengthLaws.{length-at, trace-length}
 use Rattle.trace.specs.ColumnsLaws.{longest}
 use Rattle.step.specs.declared.answer.Decoded.{Decoded}

@@ -1,13 +1,11 @@
 use borrow.Author.Needs.{needs}
-use mathlib.Core.Path.{_≡_, refl, _∙_, ap}
-use mathlib.Core.List.{List}
+use mathlib.Core.Path.{_≡_, _∙_, ap}
 use Prim.Native.Nat.{ℕ, _≤_, _-_, _*_, _+_}
 use native.Mathlib.Nat.{le-antisymm}
 use native.Mathlib.Omega.{arith}
-use lib.ListN.{length, take, length-set}
-use lib.Seq.{take-all}
+use lib.ListN.{length, length-set}
 use Rattle.lists.specs.Onto.{onto}
-use Rattle.pairs.specs.Pairs.{pairsOf, symbolsIn}
+use Rattle.pairs.specs.Pairs.{symbolsIn}
 use Rattle.pairs.proofs.TurnLaws.{symbols-turn}
 use Rattle.pairs.proofs.read_pairs.Statement.{statement}
 use Rattle.pairs.proofs.read_pairs.Tie as tie

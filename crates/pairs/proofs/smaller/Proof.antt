@@ -1,6 +1,5 @@
 use borrow.Author.Needs.{needs}
 use borrow.Author.Tests.{lt-ltb, le-ltb}
-use native.Mathlib.Omega.{arith}
 use Rattle.pairs.proofs.smaller.Statement.{statement}
 use Rattle.pairs.proofs.smaller.Tie as tie
 use Rattle.pairs.proofs.smaller.Reads as reads
