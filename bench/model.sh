@@ -6,8 +6,8 @@
 #   bench/model.sh [LIBRARY]
 set -eu
 cd "$(dirname "$0")/.."
-limits='1:1.45 10:1.25 60:1.30 120:1.30'
-growth=1.30
+limits='1:1.5 10:1.3 60:1.3 120:1.3'
+growth=1.3
 out=build/bench
 library=${1:-target/staticlib/libc_api.a}
 mkdir -p "$out"
