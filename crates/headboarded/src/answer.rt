@@ -8,12 +8,11 @@ use crate::pass::step;
 use crate::pass::table;
 use crate::pass::told;
 use crate::run::run;
+use crate::setup::clear;
 use crate::setup::occupied;
 use crate::setup::target;
 use crate::shelf::Shelf;
 use crate::shelf::Turn;
-use crate::shelf::new_shelf;
-use answers::shelf::put_clear;
 use answers::unclear::put_unclear;
 use requests::request::Request;
 use requests::request::read_request;
@@ -36,7 +35,7 @@ pub(crate) fn answer(s: Shelf, text: &[u8], records: &mut [u8], out: &mut [u8], 
         Request::Decode(h, from) => said(s, decode(h, from, text, out, at)),
         Request::Occupied(from) => occupied(s, from, text, out, at),
         Request::Target(t, place) => target(s, t, place, records, out, at),
-        Request::Clear => said(new_shelf(), put_clear(out, at)),
+        Request::Clear => clear(out, at),
         Request::Run => said(s, run(s, records, out, at)),
         Request::Start => told(s, start(s), out, at),
         Request::Step(from) => told(s, step(s, from, text), out, at),

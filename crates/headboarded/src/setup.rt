@@ -1,6 +1,8 @@
-// The requests that set the shelf up: occupied and target.
+// The requests that set the shelf up: occupied, target and clear.
 use crate::shelf::Shelf;
 use crate::shelf::Turn;
+use crate::shelf::new_shelf;
+use answers::shelf::put_clear;
 use answers::shelf::put_no_address;
 use answers::shelf::put_occupied;
 use answers::shelf::put_target;
@@ -94,5 +96,12 @@ pub(crate) fn target(
         controller,
     };
     let next = put_target(out, at, n);
+    Turn { shelf, at: next }
+}
+
+// All is as new.
+pub(crate) fn clear(out: &mut [u8], at: usize) -> Turn {
+    let shelf = new_shelf();
+    let next = put_clear(out, at);
     Turn { shelf, at: next }
 }
