@@ -1,5 +1,5 @@
 -- Every command of a pass is the state's own and reaches somebody, and so the code's run over the records is the pass bit by bit.
-use Prim.Native.Nat.{ℕ, zero, suc, _-_, _*_, _/_, _<_}
+use Prim.Native.Nat.{ℕ, zero, suc, _*_, _/_, _<_}
 use mathlib.Core.Path.{_≡_, refl, sym, ap, _∙_, subst}
 use mathlib.Core.Bool.{Bool, true, false}
 use mathlib.Core.List.{List, [], _∷_}
@@ -36,8 +36,10 @@ use Rattle.arp.specs.Controller.{handed, counted, asked, issued, chosen, replie
 use Rattle.arp.specs.Heard.{answer, sentIn, blockWrite, isAssign}
 use Rattle.arp.specs.Requests.{traceOf}
 use Rattle.arp.specs.TraceLaws.{prepare-accepted}
-use Rattle.arp.specs.declared.command.Command.{Command}
-use Rattle.arp.specs.declared.command.Command.the-variants.{Nothing, Prepare, GetUdid, Assign, Ended, NoneFree, Abandoned, NotOutstanding}
+use Rattle.arp.specs.declared.command.Command.the-variants.{Prepare, GetUdid, Assign}
+use Rattle.arp.specs.declared.command.End.the-variants.{Abandoned}
+use Rattle.arp.specs.declared.command.Handed.{Handed}
+use Rattle.arp.specs.declared.command.Handed.the-variants.{Send, Wait}
 use Rattle.arp.specs.declared.state.Controller.{Controller}
 use Rattle.arp.specs.declared.state.Stepped.{Stepped}
 use Rattle.rule.specs.Acknowledge.{onBus}
@@ -56,7 +58,7 @@ fine-asked : (c : Controller) (ts : List Target) → 0 < length ts → Fine (ask
 unfolding asked
 fine-asked c ts h = go (leb 128 (c .gets))
   where
-    go : (b : Bool) → Fine (pick b (handed c Abandoned) (handed (counted c) GetUdid)) ts
+    go : (b : Bool) → Fine (pick b (handed c (Wait Abandoned)) (handed (counted c) (Send GetUdid))) ts
     go true = (refl, tt)
     go false = (refl, h)
 
@@ -73,14 +75,14 @@ fine-assigned c u a (Done t) sent ts h = go (isAssign u a t sent)
 fine-assigned c u a (Refused w k) sent ts h = fine-asked c ts h
 
 -- Prepare To ARP
-fine-prepare : (c : Controller) (ts : List Target) → c .last ≡ Prepare → Fine (stepped c (onBus Prepare ts)) (acted Prepare ts)
+fine-prepare : (c : Controller) (ts : List Target) → c .last ≡ Send Prepare → Fine (stepped c (onBus (Send Prepare) ts)) (acted (Send Prepare) ts)
 unfolding stepped
 fine-prepare c [] e =
-    subst (λ (x : Stepped). Fine x []) (sym (ap (byCommand c (onBus Prepare [])) e ∙ ap (afterPrepare c) on-bus.prepare-cut ∙ prepare-unheard c)) (refl, tt)
+    subst (λ (x : Stepped). Fine x []) (sym (ap (byCommand c (onBus (Send Prepare) [])) e ∙ ap (afterPrepare c) on-bus.prepare-cut ∙ prepare-unheard c)) (refl, tt)
 fine-prepare c (t ∷ ts) e =
-    subst (λ (x : Stepped). Fine x (acted Prepare (t ∷ ts)))
-    (sym (ap (byCommand c (onBus Prepare (t ∷ ts))) e ∙ ap (afterPrepare c) (on-bus.prepare-whole t ts) ∙ prepare-accepted c (traceOf Prepare []) refl))
-    (fine-asked c (acted Prepare (t ∷ ts)) (omega arith))
+    subst (λ (x : Stepped). Fine x (acted (Send Prepare) (t ∷ ts)))
+    (sym (ap (byCommand c (onBus (Send Prepare) (t ∷ ts))) e ∙ ap (afterPrepare c) (on-bus.prepare-whole t ts) ∙ prepare-accepted c (traceOf (Send Prepare) []) refl))
+    (fine-asked c (acted (Send Prepare) (t ∷ ts)) (omega arith))
 
 -- Get UDID
 fine-replied : (c : Controller) (ts : List Target) (t : Target) → Among t ts → t .addressByte < 256 → Fine (replied c (t .udid) (t .addressByte)) ts
@@ -89,14 +91,14 @@ fine-replied c ts t m b =
     let p : Pool = freed c (t .udid) .pool in
     fine-issued (freed c (t .udid)) t (chosen p (t .udid) (t .addressByte)) ts m (λ a e. chosen-small-and-free p (t .udid) (t .addressByte) a b e .0)
 
-fine-get : (c : Controller) (s : List ℕ) → Bytes s → Fit s → c .last ≡ GetUdid → 0 < length (targetsOf s) → Fine (stepped c (onBus GetUdid (targetsOf s))) (targetsOf s)
+fine-get : (c : Controller) (s : List ℕ) → Bytes s → Fit s → c .last ≡ Send GetUdid → 0 < length (targetsOf s) → Fine (stepped c (onBus (Send GetUdid) (targetsOf s))) (targetsOf s)
 unfolding stepped
 fine-get c s b f e h = go (winnerOf s) refl
   where
-    go : (w : Winner) → w ≡ winnerOf s → Fine (stepped c (onBus GetUdid (targetsOf s))) (targetsOf s)
+    go : (w : Winner) → w ≡ winnerOf s → Fine (stepped c (onBus (Send GetUdid) (targetsOf s))) (targetsOf s)
     go winner.AllResolved q =
         subst (λ (x : Stepped). Fine x (targetsOf s))
-        (sym (ap (byCommand c (onBus GetUdid (targetsOf s))) e ∙ ap (afterGet c) (get-silence s b f h q) ∙ get-unheard c)) (refl, tt)
+        (sym (ap (byCommand c (onBus (Send GetUdid) (targetsOf s))) e ∙ ap (afterGet c) (get-silence s b f h q) ∙ get-unheard c)) (refl, tt)
     go (winner.At w) q =
         let l : Least (targetsOf s) (targetAt s w) = winner-least s b (f .apart) w (winner-exactly s (winner.At w) .0 q) in
         subst (λ (x : Stepped). Fine x (targetsOf s))
@@ -104,12 +106,12 @@ fine-get c s b f e h = go (winnerOf s) refl
         (fine-replied c (targetsOf s) (targetAt s w) (l .among) (l .sized .addressByte))
 
 -- Assign Address
-fine-assign : (c : Controller) (u : Udid) (a : Address) (ts : List Target) → c .last ≡ Assign u a → Reaches (Assign u a) ts
-    → Fine (stepped c (onBus (Assign u a) ts)) (acted (Assign u a) ts)
+fine-assign : (c : Controller) (u : Udid) (a : Address) (ts : List Target) → c .last ≡ Send (Assign u a) → Reaches (Send (Assign u a)) ts
+    → Fine (stepped c (onBus (Send (Assign u a)) ts)) (acted (Send (Assign u a)) ts)
 unfolding stepped afterAssign
 fine-assign c u a ts e h =
-    subst (λ (x : Stepped). Fine x (acted (Assign u a) ts)) (sym (ap (byCommand c (onBus (Assign u a) ts)) e))
-    (fine-assigned c u (a .0) (answer blockWrite (onBus (Assign u a) ts)) (sentIn blockWrite (onBus (Assign u a) ts)) (acted (Assign u a) ts)
+    subst (λ (x : Stepped). Fine x (acted (Send (Assign u a)) ts)) (sym (ap (byCommand c (onBus (Send (Assign u a)) ts)) e))
+    (fine-assigned c u (a .0) (answer blockWrite (onBus (Send (Assign u a)) ts)) (sentIn blockWrite (onBus (Send (Assign u a)) ts)) (acted (Send (Assign u a)) ts)
     (omega (arith, length-map (assignedTo u (a .0)) ts, some ts (h .0) (h .1))))
   where
     some : (ts : List Target) (t : Target) → Among t ts → 0 < length ts
@@ -125,15 +127,11 @@ fine-next st s b f g e = go (st .command) (g .handed) (g .reaches) e
     never : false ≡ true → ⊥
     never q = let z : _≡_ {A = ℕ} 0 1 = cc q in omega arith
 
-    go : (k : Command) → st .state .last ≡ k → Reaches k (targetsOf s) → isSent k ≡ true → Fine (stepped (st .state) (onBus k (targetsOf s))) (acted k (targetsOf s))
-    go Prepare q r i = fine-prepare (st .state) (targetsOf s) q
-    go GetUdid q r i = fine-get (st .state) s b f q r
-    go (Assign u a) q r i = fine-assign (st .state) u a (targetsOf s) q r
-    go Nothing q r i = absurd (never i)
-    go Ended q r i = absurd (never i)
-    go (NoneFree u) q r i = absurd (never i)
-    go Abandoned q r i = absurd (never i)
-    go NotOutstanding q r i = absurd (never i)
+    go : (k : Handed) → st .state .last ≡ k → Reaches k (targetsOf s) → isSent k ≡ true → Fine (stepped (st .state) (onBus k (targetsOf s))) (acted k (targetsOf s))
+    go (Send Prepare) q r i = fine-prepare (st .state) (targetsOf s) q
+    go (Send GetUdid) q r i = fine-get (st .state) s b f q r
+    go (Send (Assign u a)) q r i = fine-assign (st .state) u a (targetsOf s) q r
+    go (Wait e) q r i = absurd (never i)
 
 going-next : (st r : Stepped) (s after : List ℕ) → Bytes s → Fit s → Going st s → isSent (st .command) ≡ true
     → Matches (sentTo st (targetsOf s) (st .command)) r s after → Going r after
@@ -145,38 +143,30 @@ going-next st r s after b f g e m =
     }
 
 -- what is sent is taken by the controller and by the targets
-turn-sent : (st : Stepped) (ts : List Target) (k : Command) → isSent k ≡ true → took st ts (onBus k ts) ≡ sentTo st ts k
+turn-sent : (st : Stepped) (ts : List Target) (k : Handed) → isSent k ≡ true → took st ts (onBus k ts) ≡ sentTo st ts k
 turn-sent st ts k e = go k e
   where
-    never : (k : Command) → false ≡ true → took st ts (onBus k ts) ≡ sentTo st ts k
+    never : (k : Handed) → false ≡ true → took st ts (onBus k ts) ≡ sentTo st ts k
     never k q = absurd (let z : _≡_ {A = ℕ} 0 1 = cc q in omega arith)
 
-    go : (k : Command) → isSent k ≡ true → took st ts (onBus k ts) ≡ sentTo st ts k
-    go Prepare i = turn-takes st ts Prepare refl
-    go GetUdid i = turn-takes st ts GetUdid refl
-    go (Assign u a) i = turn-takes st ts (Assign u a) refl
-    go Nothing i = never Nothing i
-    go Ended i = never Ended i
-    go (NoneFree u) i = never (NoneFree u) i
-    go Abandoned i = never Abandoned i
-    go NotOutstanding i = never NotOutstanding i
+    go : (k : Handed) → isSent k ≡ true → took st ts (onBus k ts) ≡ sentTo st ts k
+    go (Send Prepare) i = turn-takes st ts (Send Prepare) refl
+    go (Send GetUdid) i = turn-takes st ts (Send GetUdid) refl
+    go (Send (Assign u a)) i = turn-takes st ts (Send (Assign u a)) refl
+    go (Wait e) i = never (Wait e) i
 
 -- an end stays
-turn-ended : (st : Stepped) (ts : List Target) (k : Command) → isSent k ≡ false → took st ts (onBus k ts) ≡ record { now = st; targets = ts }
+turn-ended : (st : Stepped) (ts : List Target) (k : Handed) → isSent k ≡ false → took st ts (onBus k ts) ≡ record { now = st; targets = ts }
 turn-ended st ts k e = go k e
   where
-    never : (k : Command) → true ≡ false → took st ts (onBus k ts) ≡ record { now = st; targets = ts }
+    never : (k : Handed) → true ≡ false → took st ts (onBus k ts) ≡ record { now = st; targets = ts }
     never k q = absurd (let z : _≡_ {A = ℕ} 0 1 = cc q in omega arith)
 
-    go : (k : Command) → isSent k ≡ false → took st ts (onBus k ts) ≡ record { now = st; targets = ts }
-    go Prepare i = never Prepare i
-    go GetUdid i = never GetUdid i
-    go (Assign u a) i = never (Assign u a) i
-    go Nothing i = turn-still st ts Nothing refl
-    go Ended i = turn-still st ts Ended refl
-    go (NoneFree u) i = turn-still st ts (NoneFree u) refl
-    go Abandoned i = turn-still st ts Abandoned refl
-    go NotOutstanding i = turn-still st ts NotOutstanding refl
+    go : (k : Handed) → isSent k ≡ false → took st ts (onBus k ts) ≡ record { now = st; targets = ts }
+    go (Send Prepare) i = never (Send Prepare) i
+    go (Send GetUdid) i = never (Send GetUdid) i
+    go (Send (Assign u a)) i = never (Send (Assign u a)) i
+    go (Wait e) i = turn-still st ts (Wait e) refl
 
 run-still : (n : ℕ) (w : World) → isSent (w .now .command) ≡ false → run n w ≡ w
 run-still zero w e = refl

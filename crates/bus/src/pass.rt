@@ -7,20 +7,18 @@ ghost use Rattle.targets.specs.declared.admit.Checked.the-variants.{Admitted};
 ghost use Rattle.rule.specs.Bus.{pass};
 ghost use Rattle.bus.specs.Turn.{isSent, Matches};
 use super::turn::send;
-use arp::command::Command;
+use arp::command::Handed;
 use arp::state::Controller;
 use arp::state::Stepped;
 use pool::Pool;
 
 // A command that goes on the bus, and no end of a pass.
-fn is_sent(k: Command) -> bool
+fn is_sent(k: Handed) -> bool
     ensures { λ r. ⌜ r ≡ isSent k ⌝ }
 {
     match k {
-        Command::Prepare => true,
-        Command::GetUdid => true,
-        Command::Assign(_, _) => true,
-        _ => false,
+        Handed::Send(_) => true,
+        Handed::Wait(_) => false,
     }
 }
 

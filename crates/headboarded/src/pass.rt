@@ -12,6 +12,8 @@ use crate::shelf::Shelf;
 use crate::shelf::Turn;
 use crate::take::take_byte;
 use arp::command::Command;
+use arp::command::End;
+use arp::command::Handed;
 use arp::lookup::Found;
 use arp::state::Controller;
 use arp::state::Stepped;
@@ -35,17 +37,32 @@ fn put_named(out: &mut [u8], at: usize, s: &[u8], u: Udid) -> usize {
     put_end(out, b)
 }
 
-// What the controller hands out. It never hands Nothing out: that is what it has handed out before its first pass.
-fn put_command(k: Command, out: &mut [u8], at: usize) -> usize {
+// How a pass ended, or that nothing is outstanding. The controller never hands Nothing out: that is what it has handed out before its
+// first pass.
+fn put_over(e: End, out: &mut [u8], at: usize) -> usize {
+    match e {
+        End::Ended => put_line(out, at, b"0 end"),
+        End::NoneFree(u) => put_named(out, at, b"13 end", u),
+        End::Abandoned => put_line(out, at, b"14 end"),
+        End::NotOutstanding => put_line(out, at, b"21"),
+        End::Nothing => put_line(out, at, b"21"),
+    }
+}
+
+// The command that comes next.
+fn put_next(k: Command, out: &mut [u8], at: usize) -> usize {
     match k {
         Command::Prepare => put_line(out, at, b"0 next prepare"),
         Command::GetUdid => put_line(out, at, b"0 next get"),
         Command::Assign(u, a) => put_assign(out, at, u, a),
-        Command::Ended => put_line(out, at, b"0 end"),
-        Command::NoneFree(u) => put_named(out, at, b"13 end", u),
-        Command::Abandoned => put_line(out, at, b"14 end"),
-        Command::NotOutstanding => put_line(out, at, b"21"),
-        Command::Nothing => put_line(out, at, b"21"),
+    }
+}
+
+// What the controller hands out.
+fn put_command(k: Handed, out: &mut [u8], at: usize) -> usize {
+    match k {
+        Handed::Send(c) => put_next(c, out, at),
+        Handed::Wait(e) => put_over(e, out, at),
     }
 }
 

@@ -4,7 +4,7 @@ use mathlib.Core.Path.{_≡_, refl, sym, ap, subst}
 use mathlib.Core.List.{List, [], _∷_}
 use lib.ListN.{length, drop}
 use Rattle.arp.specs.Controller.{stepped}
-use Rattle.arp.specs.declared.command.Command.{Command}
+use Rattle.arp.specs.declared.command.Handed.{Handed}
 use Rattle.arp.specs.declared.state.Stepped.{Stepped}
 use Rattle.targets.specs.RecordLaws.{length-map}
 use Rattle.targets.specs.Target.{Target}
@@ -14,11 +14,11 @@ use Rattle.rule.specs.Bus.{reached, took}
 use Rattle.rule.specs.Effect.{effect}
 
 -- nothing is sent
-pub turn-still : (s : Stepped) (ts : List Target) (k : Command) → sentPart k ≡ [] → took s ts (onBus k ts) ≡ record { now = s; targets = ts }
+pub turn-still : (s : Stepped) (ts : List Target) (k : Handed) → sentPart k ≡ [] → took s ts (onBus k ts) ≡ record { now = s; targets = ts }
 turn-still s ts k e = ap (took s ts) (nothing-on-bus k ts e)
 
 -- something is sent, after a START
-pub turn-takes : (s : Stepped) (ts : List Target) (k : Command) → sentPart k ≡ 256 ∷ drop 1 (sentPart k)
+pub turn-takes : (s : Stepped) (ts : List Target) (k : Handed) → sentPart k ≡ 256 ∷ drop 1 (sentPart k)
     → took s ts (onBus k ts) ≡ record { now = stepped (s .state) (onBus k ts); targets = reached (onBus k ts) ts }
 turn-takes s ts k e =
     subst (λ (tr : List ℕ). took s ts tr ≡ record { now = stepped (s .state) tr; targets = reached tr ts }) (sym (start-on-bus k ts e)) refl

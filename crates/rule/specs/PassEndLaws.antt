@@ -1,5 +1,5 @@
 -- THE THIRD DEMAND: a pass of the controller's steps over the bus bit by bit ends as the plain rule says.
-use Prim.Native.Nat.{ℕ, zero, suc, _+_, _*_, _-_, _/_, _≤_, _<_}
+use Prim.Native.Nat.{ℕ, zero, suc, _+_, _-_, _*_, _/_, _≤_, _<_}
 use mathlib.Core.Path.{_≡_, refl, sym, ap, ap₂, _∙_, subst}
 use mathlib.Core.Bool.{Bool, true, false}
 use mathlib.Core.Logic.{_⊎_, inl, inr, _↔_}
@@ -30,6 +30,7 @@ use Rattle.arp.specs.SoundLaws.{open-all}
 use Rattle.arp.specs.Bindings.{openSlot, boundTo}
 use Rattle.arp.specs.Controller.{stepped}
 use Rattle.arp.specs.declared.command.Command.the-variants.{Prepare}
+use Rattle.arp.specs.declared.command.Handed.the-variants.{Send}
 use Rattle.arp.specs.declared.state.Slot.{Slot}
 use Rattle.arp.specs.declared.state.Stepped.{Stepped}
 use Rattle.rule.specs.Bus.{World, turn, run, beginning, pass}
@@ -181,17 +182,17 @@ module _ (occupied : Pool) where
   first-turn : (t : Target) (ts : List Target) → AdmittedTargets start (t ∷ ts) → turn (beginning occupied (t ∷ ts)) ≡ asking start start (replicate 128 openSlot) 1 (cleared (t ∷ ts))
   unfolding start
   first-turn t ts v =
-      turn-takes (beginning occupied (t ∷ ts) .now) (t ∷ ts) Prepare refl
+      turn-takes (beginning occupied (t ∷ ts) .now) (t ∷ ts) (Send Prepare) refl
       ∙ ap₂ (λ (x : Stepped) (us : List Target). record { now = x; targets = us })
-      (ap (stepped (state start start (replicate 128 openSlot) 0 Prepare)) (on-bus.prepare-whole t ts) ∙ prepare-asks-first start start (replicate 128 openSlot))
-      (effect-as-meant Prepare (t ∷ ts) tt (λ x m. v .sized x m .udid))
+      (ap (stepped (state start start (replicate 128 openSlot) 0 (Send Prepare))) (on-bus.prepare-whole t ts) ∙ prepare-asks-first start start (replicate 128 openSlot))
+      (effect-as-meant (Send Prepare) (t ∷ ts) tt (λ x m. v .sized x m .udid))
 
   nobody-turn : turn (beginning occupied []) ≡ nobodyThere start
   unfolding start
   nobody-turn =
-      turn-takes (beginning occupied [] .now) [] Prepare refl
+      turn-takes (beginning occupied [] .now) [] (Send Prepare) refl
       ∙ ap (λ (x : Stepped). record { now = x; targets = [] })
-      (ap (stepped (state start start (replicate 128 openSlot) 0 Prepare)) on-bus.prepare-cut ∙ prepare-silence-ends start start (replicate 128 openSlot))
+      (ap (stepped (state start start (replicate 128 openSlot) 0 (Send Prepare))) on-bus.prepare-cut ∙ prepare-silence-ends start start (replicate 128 openSlot))
 
   some-targets : (t : Target) (ts : List Target) → AdmittedTargets start (t ∷ ts) → run 300 (beginning occupied (t ∷ ts)) ≡ passEnd start (t ∷ ts)
   unfolding start
