@@ -6,19 +6,31 @@ use Rattle.udid.specs.declared.Udid.{Udid}
 use Rattle.text.specs.Chars.{chars}
 use Rattle.text.specs.Written.{pairOf}
 use Rattle.arp.specs.declared.command.Command.{Command}
-use Rattle.arp.specs.declared.command.Command.the-variants.{Nothing, Prepare, GetUdid, Assign, Ended, NoneFree, Abandoned, NotOutstanding}
+use Rattle.arp.specs.declared.command.Command.the-variants.{Prepare, GetUdid, Assign}
+use Rattle.arp.specs.declared.command.End.{End}
+use Rattle.arp.specs.declared.command.End.the-variants.{Nothing, Ended, NoneFree, Abandoned, NotOutstanding}
+use Rattle.arp.specs.declared.command.Handed.{Handed}
+use Rattle.arp.specs.declared.command.Handed.the-variants.{Send, Wait}
 use Rattle.answers.specs.Pieces.{newline, udidText}
 
 -- an address for a target
 abbrev pub assignText : Udid → Address → List ℕ
 assignText u a = (chars "0 next assign " ++ udidText u) ++ ((chars " 0x" ++ pairOf (a .0)) ++ newline)
 
-abbrev pub commandText : Command → List ℕ
-commandText Nothing = chars "21\n"
-commandText Prepare = chars "0 next prepare\n"
-commandText GetUdid = chars "0 next get\n"
-commandText (Assign u a) = assignText u a
-commandText Ended = chars "0 end\n"
-commandText (NoneFree u) = (chars "13 end " ++ udidText u) ++ newline
-commandText Abandoned = chars "14 end\n"
-commandText NotOutstanding = chars "21\n"
+-- the command that comes next
+abbrev pub nextText : Command → List ℕ
+nextText Prepare = chars "0 next prepare\n"
+nextText GetUdid = chars "0 next get\n"
+nextText (Assign u a) = assignText u a
+
+-- why nothing is to be sent
+abbrev pub endText : End → List ℕ
+endText Nothing = chars "21\n"
+endText Ended = chars "0 end\n"
+endText (NoneFree u) = (chars "13 end " ++ udidText u) ++ newline
+endText Abandoned = chars "14 end\n"
+endText NotOutstanding = chars "21\n"
+
+abbrev pub commandText : Handed → List ℕ
+commandText (Send k) = nextText k
+commandText (Wait e) = endText e

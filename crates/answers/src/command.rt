@@ -1,11 +1,13 @@
 // The answers of start and step: what the controller hands out.
 ghost use Rattle.text.specs.Written.{Appended};
-ghost use Rattle.answers.specs.Commands.{assignText, commandText};
+ghost use Rattle.answers.specs.Commands.{assignText, nextText, endText, commandText};
 use crate::piece::hex_line;
 use crate::piece::put_line;
 use crate::piece::put_udid;
 use crate::piece::udid_line;
 use arp::command::Command;
+use arp::command::End;
+use arp::command::Handed;
 use udid::Udid;
 use wire::address::Address;
 
@@ -17,18 +19,36 @@ fn put_assign(out: &mut [u8], at: usize, u: Udid, a: Address) -> usize
     hex_line(out, to, b" 0x", a.0)
 }
 
-// What the controller hands out. It never hands Nothing out: that is what it has handed out before its first pass.
-pub fn put_command(out: &mut [u8], at: usize, k: Command) -> usize
-    ensures { λ r. ⌜ Appended (now (out .entry)) at (commandText k) (now (out .exit)) r ⌝ }
+// Why nothing is to be sent. The controller never hands Nothing out: that is what it has handed out before its first pass.
+fn put_over(out: &mut [u8], at: usize, e: End) -> usize
+    ensures { λ r. ⌜ Appended (now (out .entry)) at (endText e) (now (out .exit)) r ⌝ }
+{
+    match e {
+        End::Nothing => put_line(out, at, b"21"),
+        End::Ended => put_line(out, at, b"0 end"),
+        End::NoneFree(u) => udid_line(out, at, b"13 end ", u),
+        End::Abandoned => put_line(out, at, b"14 end"),
+        End::NotOutstanding => put_line(out, at, b"21"),
+    }
+}
+
+// The command that comes next.
+fn put_next(out: &mut [u8], at: usize, k: Command) -> usize
+    ensures { λ r. ⌜ Appended (now (out .entry)) at (nextText k) (now (out .exit)) r ⌝ }
 {
     match k {
-        Command::Nothing => put_line(out, at, b"21"),
         Command::Prepare => put_line(out, at, b"0 next prepare"),
         Command::GetUdid => put_line(out, at, b"0 next get"),
         Command::Assign(u, a) => put_assign(out, at, u, a),
-        Command::Ended => put_line(out, at, b"0 end"),
-        Command::NoneFree(u) => udid_line(out, at, b"13 end ", u),
-        Command::Abandoned => put_line(out, at, b"14 end"),
-        Command::NotOutstanding => put_line(out, at, b"21"),
+    }
+}
+
+// What the controller hands out.
+pub fn put_command(out: &mut [u8], at: usize, k: Handed) -> usize
+    ensures { λ r. ⌜ Appended (now (out .entry)) at (commandText k) (now (out .exit)) r ⌝ }
+{
+    match k {
+        Handed::Send(c) => put_next(out, at, c),
+        Handed::Wait(e) => put_over(out, at, e),
     }
 }

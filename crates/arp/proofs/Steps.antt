@@ -1,8 +1,8 @@
 -- What the step's functions cite: the decoder's answer on buffers of zeros, and each case of an answer in turn.
-use Prim.Native.Nat.{ℕ, zero, suc, _+_, _-_, _<_, _≤_}
+use Prim.Native.Nat.{ℕ, zero, suc, _+_, _-_, _<_}
 use mathlib.Core.Path.{_≡_, refl, sym, ap, ap₂, _∙_}
 use mathlib.Core.Bool.{Bool, true, false}
-use mathlib.Core.List.{List, [], _∷_, _++_}
+use mathlib.Core.List.{List, _∷_}
 use native.Mathlib.Decide.{decLt}
 use native.Mathlib.Omega.{arith}
 use lib.Dec.{ltb, eqb}
@@ -26,8 +26,10 @@ use Rattle.udid.specs.declared.Udid.{Udid}
 use Rattle.wire.specs.declared.address.Address.{Address}
 use Rattle.arp.specs.Bindings.{freed, bound}
 use Rattle.arp.specs.Controller.{asked, handed, chosen, issued, replied, onReply, onPrepare, onGet, onAssign, afterPrepare, afterGet, afterAssign}
-use Rattle.arp.specs.Heard.{sendByte, blockRead, blockWrite, answer, isPrepare, isGet, names, isAssign, completes, nobody}
-use Rattle.arp.specs.declared.command.Command.the-variants.{Assign, Ended, NoneFree, Abandoned}
+use Rattle.arp.specs.Heard.{sendByte, blockRead, blockWrite, answer, isPrepare, isGet, isAssign, completes, nobody}
+use Rattle.arp.specs.declared.command.Command.the-variants.{Assign}
+use Rattle.arp.specs.declared.command.End.the-variants.{Ended, NoneFree, Abandoned}
+use Rattle.arp.specs.declared.command.Handed.the-variants.{Send, Wait}
 use Rattle.arp.specs.declared.state.Controller.{Controller}
 use Rattle.arp.specs.declared.state.Stepped.{Stepped}
 
@@ -84,29 +86,29 @@ module _ (s : Controller) (tr : List ℕ) (a : Decoded) (sent received : List �
   unfolding afterPrepare
   by-prepare = ap (λ (x : Decoded). onPrepare s x (sentData (shapeOf sendByte) tr x)) heard-1
 
-  by-refusal : (w : Refusal) (k : ℕ) → a ≡ Refused w k → pick (isNack w) (handed s Ended) (handed s Abandoned) ≡ afterPrepare s tr
+  by-refusal : (w : Refusal) (k : ℕ) → a ≡ Refused w k → pick (isNack w) (handed s (Wait Ended)) (handed s (Wait Abandoned)) ≡ afterPrepare s tr
   by-refusal w k e = sym (ap (λ (x : Decoded). onPrepare s x (sentData (shapeOf sendByte) tr a)) e) ∙ by-prepare
 
-  pub prepare-nack : (w : Refusal) (k : ℕ) → a ≡ Refused w k → isNack w ≡ true → handed s Ended ≡ afterPrepare s tr
-  prepare-nack w k e h = sym (ap (λ (b : Bool). pick b (handed s Ended) (handed s Abandoned)) h) ∙ by-refusal w k e
+  pub prepare-nack : (w : Refusal) (k : ℕ) → a ≡ Refused w k → isNack w ≡ true → handed s (Wait Ended) ≡ afterPrepare s tr
+  prepare-nack w k e h = sym (ap (λ (b : Bool). pick b (handed s (Wait Ended)) (handed s (Wait Abandoned))) h) ∙ by-refusal w k e
 
-  pub prepare-other : (w : Refusal) (k : ℕ) → a ≡ Refused w k → isNack w ≡ false → handed s Abandoned ≡ afterPrepare s tr
-  prepare-other w k e h = sym (ap (λ (b : Bool). pick b (handed s Ended) (handed s Abandoned)) h) ∙ by-refusal w k e
+  pub prepare-other : (w : Refusal) (k : ℕ) → a ≡ Refused w k → isNack w ≡ false → handed s (Wait Abandoned) ≡ afterPrepare s tr
+  prepare-other w k e h = sym (ap (λ (b : Bool). pick b (handed s (Wait Ended)) (handed s (Wait Abandoned))) h) ∙ by-refusal w k e
 
-  prepare-done : (t : Transaction) → a ≡ Done t → pick (isPrepare t sent) (asked s) (handed s Abandoned) ≡ afterPrepare s tr
-  prepare-done t e = ap (λ (b : Bool). pick b (asked s) (handed s Abandoned)) (is-prepare t) ∙ sym (ap (λ (x : Decoded). onPrepare s x (sentData (shapeOf sendByte) tr a)) e) ∙ by-prepare
+  prepare-done : (t : Transaction) → a ≡ Done t → pick (isPrepare t sent) (asked s) (handed s (Wait Abandoned)) ≡ afterPrepare s tr
+  prepare-done t e = ap (λ (b : Bool). pick b (asked s) (handed s (Wait Abandoned))) (is-prepare t) ∙ sym (ap (λ (x : Decoded). onPrepare s x (sentData (shapeOf sendByte) tr a)) e) ∙ by-prepare
 
   pub prepare-accepted : (t : Transaction) → a ≡ Done t → isPrepare t sent ≡ true → asked s ≡ afterPrepare s tr
-  prepare-accepted t e h = sym (ap (λ (b : Bool). pick b (asked s) (handed s Abandoned)) h) ∙ prepare-done t e
+  prepare-accepted t e h = sym (ap (λ (b : Bool). pick b (asked s) (handed s (Wait Abandoned))) h) ∙ prepare-done t e
 
-  pub prepare-another : (t : Transaction) → a ≡ Done t → isPrepare t sent ≡ false → handed s Abandoned ≡ afterPrepare s tr
-  prepare-another t e h = sym (ap (λ (b : Bool). pick b (asked s) (handed s Abandoned)) h) ∙ prepare-done t e
+  pub prepare-another : (t : Transaction) → a ≡ Done t → isPrepare t sent ≡ false → handed s (Wait Abandoned) ≡ afterPrepare s tr
+  prepare-another t e h = sym (ap (λ (b : Bool). pick b (asked s) (handed s (Wait Abandoned))) h) ∙ prepare-done t e
 
 -- ---- Get UDID
 
 on-reply : (s : Controller) (t : Transaction) (xs : List ℕ) → onReply s t (onto xs zeros) ≡ onReply s t xs
 unfolding onReply
-on-reply s t xs = ap₂ (λ (u : Udid) (b : ℕ). pick (isGet t) (pick (eqb (t .received) 17) (replied s u b) (handed s Ended)) (asked s)) (onto-udid xs) (onto-at xs 16)
+on-reply s t xs = ap₂ (λ (u : Udid) (b : ℕ). pick (isGet t) (pick (eqb (t .received) 17) (replied s u b) (handed s (Wait Ended))) (asked s)) (onto-udid xs) (onto-at xs 16)
 
 module _ (s : Controller) (tr : List ℕ) (a : Decoded) (sent received : List ℕ) (o : Outcome blockRead true tr zeros zeros a sent received) where
   heard-9 : a ≡ answer blockRead tr
@@ -117,16 +119,16 @@ module _ (s : Controller) (tr : List ℕ) (a : Decoded) (sent received : List �
   unfolding afterGet
   by-get = ap (λ (x : Decoded). onGet s x (receivedData true tr x)) heard-9
 
-  pub get-nobody : nobody a ≡ true → handed s Ended ≡ afterGet s tr
+  pub get-nobody : nobody a ≡ true → handed s (Wait Ended) ≡ afterGet s tr
   get-nobody e = go a e ∙ by-get
     where
-      go : (x : Decoded) → nobody x ≡ true → handed s Ended ≡ onGet s x (receivedData true tr a)
+      go : (x : Decoded) → nobody x ≡ true → handed s (Wait Ended) ≡ onGet s x (receivedData true tr a)
       go (Done t) k = absurd (let z : _≡_ {A = ℕ} 0 1 = cc k in omega arith)
       go (Refused w i) k = rw k
 
   pub get-again : nobody a ≡ false → (w : Refusal) (k : ℕ) → a ≡ Refused w k → asked s ≡ afterGet s tr
   get-again e w k h =
-      sym (ap (λ (b : Bool). pick b (handed s Ended) (asked s)) (sym (ap nobody h) ∙ e))
+      sym (ap (λ (b : Bool). pick b (handed s (Wait Ended)) (asked s)) (sym (ap nobody h) ∙ e))
       ∙ sym (ap (λ (x : Decoded). onGet s x (receivedData true tr a)) h) ∙ by-get
 
   pub get-done : (t : Transaction) → a ≡ Done t → onReply s t received ≡ afterGet s tr
@@ -178,13 +180,13 @@ module _ (s : Controller) (u : Udid) (b : ℕ) (next : Controller) (f : Free) (r
   choice-there : f ≡ chosen (freed s u .pool) u b
   choice-there = choice ∙ ap (λ (x : Controller). chosen (x .pool) u b) free
 
-  pub reply-none : f ≡ AllUsed → r ≡ handed next (NoneFree u) → r ≡ replied s u b
+  pub reply-none : f ≡ AllUsed → r ≡ handed next (Wait (NoneFree u)) → r ≡ replied s u b
   unfolding replied
-  reply-none e h = h ∙ ap (λ (x : Controller). handed x (NoneFree u)) free ∙ ap (issued (freed s u) u) (sym e ∙ choice-there)
+  reply-none e h = h ∙ ap (λ (x : Controller). handed x (Wait (NoneFree u))) free ∙ ap (issued (freed s u) u) (sym e ∙ choice-there)
 
-  pub reply-at : (a : Address) → f ≡ At a → r ≡ handed next (Assign u a) → r ≡ replied s u b
+  pub reply-at : (a : Address) → f ≡ At a → r ≡ handed next (Send (Assign u a)) → r ≡ replied s u b
   unfolding replied
-  reply-at a e h = h ∙ ap (λ (x : Controller). handed x (Assign u a)) free ∙ ap (issued (freed s u) u) (sym e ∙ choice-there)
+  reply-at a e h = h ∙ ap (λ (x : Controller). handed x (Send (Assign u a))) free ∙ ap (issued (freed s u) u) (sym e ∙ choice-there)
 
 -- a complete trace where a reply is due
 module _ (s : Controller) (t : Transaction) (xs : List ℕ) (r : Stepped) where
@@ -192,7 +194,7 @@ module _ (s : Controller) (t : Transaction) (xs : List ℕ) (r : Stepped) where
   unfolding onReply
   reply-other e h = rw e h
 
-  pub reply-count : isGet t ≡ true → (t .received ≡ 17 → ⊥) → r ≡ handed s Ended → r ≡ onReply s t xs
+  pub reply-count : isGet t ≡ true → (t .received ≡ 17 → ⊥) → r ≡ handed s (Wait Ended) → r ≡ onReply s t xs
   unfolding onReply
   reply-count e n h = rw (e, ne-eqb (t .received) 17 n) h
 

@@ -34,8 +34,10 @@ use Rattle.arp.specs.Heard.{sendByte, blockRead, blockWrite, answer, sen
 use Rattle.arp.specs.History.{Event, Start, Received, run, Acknowledged, isHeld, withTraces}
 use Rattle.arp.specs.Lookup.{seen, lookedUp}
 use Rattle.arp.specs.Requests.{traceOf}
-use Rattle.arp.specs.declared.command.Command.{Command}
-use Rattle.arp.specs.declared.command.Command.the-variants.{Nothing, Prepare, GetUdid, Assign, Ended, NoneFree, Abandoned, NotOutstanding}
+use Rattle.arp.specs.declared.command.Command.the-variants.{Prepare, GetUdid, Assign}
+use Rattle.arp.specs.declared.command.End.the-variants.{Ended, Abandoned}
+use Rattle.arp.specs.declared.command.Handed.{Handed}
+use Rattle.arp.specs.declared.command.Handed.the-variants.{Send, Wait}
 use Rattle.arp.specs.declared.lookup.Found.the-variants as found
 use Rattle.arp.specs.declared.state.Binding.{Binding}
 use Rattle.arp.specs.declared.state.Binding.the-variants.{Open, Bound, Claimed}
@@ -52,7 +54,7 @@ asked-slots : (s : Controller) → asked s .state .slots ≡ s .slots
 unfolding asked
 asked-slots s = go (leb 128 (s .gets))
   where
-    go : (t : Bool) → pick t (handed s Abandoned) (handed (counted s) GetUdid) .state .slots ≡ s .slots
+    go : (t : Bool) → pick t (handed s (Wait Abandoned)) (handed (counted s) (Send GetUdid)) .state .slots ≡ s .slots
     go true = refl
     go false = refl
 
@@ -117,7 +119,7 @@ module _ (P : List Slot → Type 0) (s : Controller) (p : P (s .slots)) (f : (u 
   unfolding onReply replied
   reply-slots t xs = go (isGet t) (eqb (t .received) 17)
     where
-      go : (a b : Bool) → P (pick a (pick b (issued (freed s (udidAt xs 0)) (udidAt xs 0) (chosen (freed s (udidAt xs 0) .pool) (udidAt xs 0) (getD xs 16 0))) (handed s Ended)) (asked s) .state .slots)
+      go : (a b : Bool) → P (pick a (pick b (issued (freed s (udidAt xs 0)) (udidAt xs 0) (chosen (freed s (udidAt xs 0) .pool) (udidAt xs 0) (getD xs 16 0))) (handed s (Wait Ended))) (asked s) .state .slots)
       go true true = issued-slots (udidAt xs 0) (chosen (freed s (udidAt xs 0) .pool) (udidAt xs 0) (getD xs 16 0))
       go true false = p
       go false b = asked-has
@@ -126,24 +128,24 @@ module _ (P : List Slot → Type 0) (s : Controller) (p : P (s .slots)) (f : (u 
   get-slots (Done t) xs = reply-slots t xs
   get-slots (Refused w k) xs = go (and (isNack w) (ltb k 3))
     where
-      go : (q : Bool) → P (pick q (handed s Ended) (asked s) .state .slots)
+      go : (q : Bool) → P (pick q (handed s (Wait Ended)) (asked s) .state .slots)
       go true = p
       go false = asked-has
 
 prepare-slots : (s : Controller) (a : Decoded) (xs : List ℕ) → onPrepare s a xs .state .slots ≡ s .slots
 prepare-slots s (Done t) xs = go (isPrepare t xs)
   where
-    go : (q : Bool) → pick q (asked s) (handed s Abandoned) .state .slots ≡ s .slots
+    go : (q : Bool) → pick q (asked s) (handed s (Wait Abandoned)) .state .slots ≡ s .slots
     go true = asked-slots s
     go false = refl
 prepare-slots s (Refused w k) xs = go (isNack w)
   where
-    go : (q : Bool) → pick q (handed s Ended) (handed s Abandoned) .state .slots ≡ s .slots
+    go : (q : Bool) → pick q (handed s (Wait Ended)) (handed s (Wait Abandoned)) .state .slots ≡ s .slots
     go true = refl
     go false = refl
 
 -- through the answer to an Assign: the slots are as they were, or with the target bound by the trace of that Assign
-module _ (P : List Slot → Type 0) (s : Controller) (u : Udid) (a : Address) (tr : List ℕ) (p : P (s .slots)) (f : tr ≡ traceOf (Assign u a) [] → P (bound s u (a .0) .slots)) where
+module _ (P : List Slot → Type 0) (s : Controller) (u : Udid) (a : Address) (tr : List ℕ) (p : P (s .slots)) (f : tr ≡ traceOf (Send (Assign u a)) [] → P (bound s u (a .0) .slots)) where
   as-was : P (asked s .state .slots)
   as-was = subst P (sym (asked-slots s)) p
 
@@ -158,32 +160,28 @@ module _ (P : List Slot → Type 0) (s : Controller) (u : Udid) (a : Address) (t
 module _ (occupied : Pool) (s : Controller) (tr : List ℕ) (g : GoodState occupied s) where
   -- what is bound after a step was bound before it, or comes from an Assign whose trace was received
   abbrev From : Udid → ℕ → Type 0
-  From w a = (heldAt (s .slots) a ≡ Bound w) ⊎ ((s .last ≡ Assign w (address a)) × (tr ≡ traceOf (Assign w (address a)) []))
+  From w a = (heldAt (s .slots) a ≡ Bound w) ⊎ ((s .last ≡ Send (Assign w (address a))) × (tr ≡ traceOf (Send (Assign w (address a))) []))
 
   bound-before-or-assigned : (a : ℕ) (w : Udid) → heldAt (stepped s tr .state .slots) a ≡ Bound w → From w a
   unfolding stepped afterPrepare afterGet afterAssign
   bound-before-or-assigned a w e = go (s .last) refl (g .1) e
     where
-      bound-by : (u : Udid) (b : Address) → s .last ≡ Assign u b → Pending s u (b .0) → tr ≡ traceOf (Assign u b) [] → heldAt (bound s u (b .0) .slots) a ≡ Bound w → From w a
+      bound-by : (u : Udid) (b : Address) → s .last ≡ Send (Assign u b) → Pending s u (b .0) → tr ≡ traceOf (Send (Assign u b)) [] → heldAt (bound s u (b .0) .slots) a ≡ Bound w → From w a
       bound-by u b q p t k = at (bound-held s u w (b .0) a (g .0 .sound .size) (p .small) k)
         where
           at : (heldAt (s .slots) a ≡ Bound w) ⊎ ((a ≡ b .0) × (u ≡ w)) → From w a
           at (inl h) = inl h
           at (inr h) =
-              let m : Assign u b ≡ Assign w (address a) = ap₂ (λ (x : Udid) (y : ℕ). Assign x (address y)) (h .1) (sym (h .0)) in
-              inr (q ∙ m, t ∙ ap (λ (x : Command). traceOf x []) m)
+              let m : (Send (Assign u b)) ≡ (Send (Assign w (address a))) = ap₂ (λ (x : Udid) (y : ℕ). (Send (Assign x (address y)))) (h .1) (sym (h .0)) in
+              inr (q ∙ m, t ∙ ap (λ (x : Handed). traceOf x []) m)
 
-      go : (k : Command) → s .last ≡ k → PendingIn s k → heldAt (byCommand s tr k .state .slots) a ≡ Bound w → From w a
-      go Nothing q p k = inl k
-      go Prepare q p k = inl (ap (λ (x : List Slot). heldAt x a) (sym (prepare-slots s (answer sendByte tr) (sentIn sendByte tr))) ∙ k)
-      go GetUdid q p k =
+      go : (k : Handed) → s .last ≡ k → PendingIn s k → heldAt (byCommand s tr k .state .slots) a ≡ Bound w → From w a
+      go (Send Prepare) q p k = inl (ap (λ (x : List Slot). heldAt x a) (sym (prepare-slots s (answer sendByte tr) (sentIn sendByte tr))) ∙ k)
+      go (Send GetUdid) q p k =
           inl (get-slots (λ (x : List Slot). heldAt x a ≡ Bound w → heldAt (s .slots) a ≡ Bound w) s (λ h. h) (λ u h. freed-held s u w a (g .0 .sound .size) h)
           (answer blockRead tr) (receivedIn blockRead tr) k)
-      go (Assign u b) q p k = assign-slots (λ (x : List Slot). heldAt x a ≡ Bound w → From w a) s u b tr (λ h. inl h) (λ t h. bound-by u b q p t h) (answer blockWrite tr) refl k
-      go Ended q p k = inl k
-      go (NoneFree u) q p k = inl k
-      go Abandoned q p k = inl k
-      go NotOutstanding q p k = inl k
+      go (Send (Assign u b)) q p k = assign-slots (λ (x : List Slot). heldAt x a ≡ Bound w → From w a) s u b tr (λ h. inl h) (λ t h. bound-by u b q p t h) (answer blockWrite tr) refl k
+      go (Wait e) q p k = inl k
 
   -- an address claimed by two stays so
   step-keeps-claim : (a : ℕ) → heldAt (s .slots) a ≡ Claimed → heldAt (stepped s tr .state .slots) a ≡ Claimed
@@ -207,24 +205,20 @@ module _ (occupied : Pool) (s : Controller) (tr : List ℕ) (g : GoodState occup
               ∙ bound-there s u (b .0) (g .0 .sound .size) (p .small)
               ∙ ap (λ (x : Bool). slotFor x u .held) (ap (member (s .pool)) (sym q) ∙ used)
 
-      go : (k : Command) → PendingIn s k → heldAt (byCommand s tr k .state .slots) a ≡ Claimed
-      go Nothing p = e
-      go Prepare p = ap (λ (x : List Slot). heldAt x a) (prepare-slots s (answer sendByte tr) (sentIn sendByte tr)) ∙ e
-      go GetUdid p = get-slots (λ (x : List Slot). heldAt x a ≡ Claimed) s e (λ u. freed-claims s u a e) (answer blockRead tr) (receivedIn blockRead tr)
-      go (Assign u b) p = assign-slots (λ (x : List Slot). heldAt x a ≡ Claimed) s u b tr e (λ t. claimed-by u b p) (answer blockWrite tr) refl
-      go Ended p = e
-      go (NoneFree u) p = e
-      go Abandoned p = e
-      go NotOutstanding p = e
+      go : (k : Handed) → PendingIn s k → heldAt (byCommand s tr k .state .slots) a ≡ Claimed
+      go (Send Prepare) p = ap (λ (x : List Slot). heldAt x a) (prepare-slots s (answer sendByte tr) (sentIn sendByte tr)) ∙ e
+      go (Send GetUdid) p = get-slots (λ (x : List Slot). heldAt x a ≡ Claimed) s e (λ u. freed-claims s u a e) (answer blockRead tr) (receivedIn blockRead tr)
+      go (Send (Assign u b)) p = assign-slots (λ (x : List Slot). heldAt x a ≡ Claimed) s u b tr e (λ t. claimed-by u b p) (answer blockWrite tr) refl
+      go (Wait i) p = e
 
   -- an Assign that completes: its target is bound there, or the address is claimed where it was in the pool
-  pub complete-assign-binds-or-claims : (u : Udid) (a : ℕ) → s .last ≡ Assign u (record { 0 = a }) → tr ≡ traceOf (Assign u (record { 0 = a })) []
+  pub complete-assign-binds-or-claims : (u : Udid) (a : ℕ) → s .last ≡ Send (Assign u (record { 0 = a })) → tr ≡ traceOf (Send (Assign u (record { 0 = a }))) []
       → lookedUp (stepped s tr .state) a ≡ pick (member (s .pool) a) found.Two (found.Bound u)
   unfolding stepped
   complete-assign-binds-or-claims u a q t =
       let p : Pending s u a = subst (PendingIn s) q (g .1) in
       let h : a < 128 = p .small in
-      ap (λ (k : Command). lookedUp (byCommand s tr k .state) a) q
+      ap (λ (k : Handed). lookedUp (byCommand s tr k .state) a) q
       ∙ ap (λ (x : Stepped). lookedUp (x .state) a) (assign-whole s u (address a) tr (p .fits) t)
       ∙ ap (λ (x : List Slot). pick (ltb 127 a) found.NoAddress (seen (heldAt x a))) (asked-slots (bound s u a))
       ∙ ap (λ (b : Bool). pick b found.NoAddress (seen (heldAt (bound s u a .slots) a))) (le-ltb 127 a (omega arith))
@@ -244,7 +238,7 @@ bound-acknowledged occupied (Start ∷ es) a u e = open-is-not-bound _ u (open-a
 bound-acknowledged occupied (Received tr ∷ es) a u e = go (bound-before-or-assigned occupied (run occupied es) tr (reached-good occupied es) a u e) (λ k. bound-acknowledged occupied es a u k)
   where
     go : From occupied (run occupied es) tr (reached-good occupied es) u a → (heldAt (run occupied es .slots) a ≡ Bound u → Acknowledged occupied es u a)
-        → ((run occupied es .last ≡ Assign u (address a)) × (tr ≡ traceOf (Assign u (address a)) [])) ⊎ Acknowledged occupied es u a
+        → ((run occupied es .last ≡ Send (Assign u (address a))) × (tr ≡ traceOf (Send (Assign u (address a))) [])) ⊎ Acknowledged occupied es u a
     go (inl k) ih = inr (ih k)
     go (inr k) ih = inl k
 

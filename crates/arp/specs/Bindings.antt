@@ -1,7 +1,7 @@
 -- The bindings: where a target is bound, the state with it unbound, and with it bound.
 use Prim.Native.Nat.{ℕ, zero, suc}
 use mathlib.Core.Bool.{Bool, false}
-use mathlib.Core.List.{List}
+use mathlib.Core.List.{List, [], _∷_}
 use lib.Dec.{ltb}
 use lib.ListN.{getD, set}
 use Rattle.lists.specs.Choice.{pick}
@@ -20,10 +20,19 @@ openSlot = record { held = Open }
 abbrev pub heldAt : List Slot → ℕ → Binding
 heldAt slots a = getD slots a openSlot .held
 
+-- the target that is bound, where one is
+abbrev pub boundIn : Binding → List Udid
+boundIn Open = []
+boundIn (Bound u) = u ∷ []
+boundIn Claimed = []
+
+-- the list is of this one
+abbrev pub isOnly : Udid → List Udid → Bool
+isOnly u [] = false
+isOnly u (v ∷ vs) = sameUdid v u
+
 abbrev pub boundTo : Udid → Binding → Bool
-boundTo u Open = false
-boundTo u (Bound v) = sameUdid v u
-boundTo u Claimed = false
+boundTo u h = isOnly u (boundIn h)
 
 -- the first of the n addresses from a on that u is bound to, or 128
 unfoldable pub findFrom : Udid → List Slot → ℕ → ℕ → ℕ

@@ -20,25 +20,27 @@ use Rattle.udid.specs.Udids.{isFixed}
 use Rattle.udid.specs.declared.Udid.{Udid}
 use Rattle.arp.specs.Bindings.{openSlot, freed, bound}
 use Rattle.arp.specs.Heard.{sendByte, blockRead, blockWrite, answer, sentIn, receivedIn, isPrepare, isGet, isAssign, nobody}
-use Rattle.arp.specs.declared.command.Command.{Command}
-use Rattle.arp.specs.declared.command.Command.the-variants.{Nothing, Prepare, GetUdid, Assign, Ended, NoneFree, Abandoned, NotOutstanding}
+use Rattle.arp.specs.declared.command.Command.the-variants.{Prepare, GetUdid, Assign}
+use Rattle.arp.specs.declared.command.End.the-variants.{Nothing, Ended, NoneFree, Abandoned, NotOutstanding}
+use Rattle.arp.specs.declared.command.Handed.{Handed}
+use Rattle.arp.specs.declared.command.Handed.the-variants.{Send, Wait}
 use Rattle.arp.specs.declared.state.Controller.{Controller}
 use Rattle.arp.specs.declared.state.Stepped.{Stepped}
 
 abbrev pub newController : Pool → Controller
 newController occupied =
-    record { starting = startingPool occupied; pool = startingPool occupied; slots = replicate 128 openSlot; gets = 0; last = Nothing }
+    record { starting = startingPool occupied; pool = startingPool occupied; slots = replicate 128 openSlot; gets = 0; last = Wait Nothing }
 
 -- starting a pass empties all bindings and claims and sets the pool back to the starting pool
 abbrev pub started : Controller → Stepped
 started s =
     record {
-      state = record { starting = s .starting; pool = s .starting; slots = replicate 128 openSlot; gets = 0; last = Prepare };
-      command = Prepare;
+      state = record { starting = s .starting; pool = s .starting; slots = replicate 128 openSlot; gets = 0; last = Send Prepare };
+      command = Send Prepare;
     }
 
 -- the state with k handed out
-abbrev pub handed : Controller → Command → Stepped
+abbrev pub handed : Controller → Handed → Stepped
 handed s k = record { state = record { starting = s .starting; pool = s .pool; slots = s .slots; gets = s .gets; last = k }; command = k }
 
 -- one Get UDID more is counted
@@ -47,7 +49,7 @@ counted s = record { starting = s .starting; pool = s .pool; slots = s .slots; g
 
 -- Get UDID; when it would be the 129th of the pass: 14
 unfoldable pub asked : Controller → Stepped
-asked s = pick (leb 128 (s .gets)) (handed s Abandoned) (handed (counted s) GetUdid)
+asked s = pick (leb 128 (s .gets)) (handed s (Wait Abandoned)) (handed (counted s) (Send GetUdid))
 
 -- the address in a reply's address byte: its upper seven bits
 abbrev pub ownAddress : ℕ → Address
@@ -62,8 +64,8 @@ chosen p u b =
 
 -- none free: 13 with the UDID that asked. Then Assign Address
 abbrev pub issued : Controller → Udid → Free → Stepped
-issued s u (At a) = handed s (Assign u a)
-issued s u AllUsed = handed s (NoneFree u)
+issued s u (At a) = handed s (Send (Assign u a))
+issued s u AllUsed = handed s (Wait (NoneFree u))
 
 -- a reply with a UDID already bound first unbinds it and frees its address; then an address is chosen
 unfoldable pub replied : Controller → Udid → ℕ → Stepped
@@ -72,17 +74,17 @@ replied s u b = issued (freed s u) u (chosen (freed s u .pool) u b)
 -- a complete trace where the reply is due: another address or command: Get UDID again. A count that is not 17: the pass ends
 unfoldable pub onReply : Controller → Transaction → List ℕ → Stepped
 onReply s t received =
-    pick (isGet t) (pick (eqb (t .received) 17) (replied s (udidAt received 0) (getD received 16 0)) (handed s Ended)) (asked s)
+    pick (isGet t) (pick (eqb (t .received) 17) (replied s (udidAt received 0) (getD received 16 0)) (handed s (Wait Ended))) (asked s)
 
 -- Prepare accepted: send Get UDID. Answer 6: the pass ends, nobody there. Any other: 14
 abbrev pub onPrepare : Controller → Decoded → List ℕ → Stepped
-onPrepare s (Done t) sent = pick (isPrepare t sent) (asked s) (handed s Abandoned)
-onPrepare s (Refused w k) sent = pick (isNack w) (handed s Ended) (handed s Abandoned)
+onPrepare s (Done t) sent = pick (isPrepare t sent) (asked s) (handed s (Wait Abandoned))
+onPrepare s (Refused w k) sent = pick (isNack w) (handed s (Wait Ended)) (handed s (Wait Abandoned))
 
 -- Get UDID: answer 6 at byte 0, 1 or 2: the pass ends. A complete reply: onReply. Any other refusal: Get UDID again
 abbrev pub onGet : Controller → Decoded → List ℕ → Stepped
 onGet s (Done t) received = onReply s t received
-onGet s (Refused w k) received = pick (nobody (Refused w k)) (handed s Ended) (asked s)
+onGet s (Refused w k) received = pick (nobody (Refused w k)) (handed s (Wait Ended)) (asked s)
 
 -- Assign complete: bind, and add to the pool. Any other answer: no binding, Get UDID again
 abbrev pub onAssign : Controller → Udid → ℕ → Decoded → List ℕ → Stepped
@@ -101,17 +103,13 @@ afterAssign s u a tr = onAssign s u a (answer blockWrite tr) (sentIn blockWrite 
 
 -- 21: no command of a pass is outstanding, and the state stays as it is
 abbrev pub notOutstanding : Controller → Stepped
-notOutstanding s = record { state = s; command = NotOutstanding }
+notOutstanding s = record { state = s; command = Wait NotOutstanding }
 
-abbrev pub byCommand : Controller → List ℕ → Command → Stepped
-byCommand s tr Nothing = notOutstanding s
-byCommand s tr Prepare = afterPrepare s tr
-byCommand s tr GetUdid = afterGet s tr
-byCommand s tr (Assign u a) = afterAssign s u (a .0) tr
-byCommand s tr Ended = notOutstanding s
-byCommand s tr (NoneFree u) = notOutstanding s
-byCommand s tr Abandoned = notOutstanding s
-byCommand s tr NotOutstanding = notOutstanding s
+abbrev pub byCommand : Controller → List ℕ → Handed → Stepped
+byCommand s tr (Send Prepare) = afterPrepare s tr
+byCommand s tr (Send GetUdid) = afterGet s tr
+byCommand s tr (Send (Assign u a)) = afterAssign s u (a .0) tr
+byCommand s tr (Wait e) = notOutstanding s
 
 -- one step for a received trace
 unfoldable pub stepped : Controller → List ℕ → Stepped

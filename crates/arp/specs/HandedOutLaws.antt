@@ -32,15 +32,17 @@ use Rattle.arp.specs.Controller.{handed, counted, asked, chosen, issued,
 use Rattle.arp.specs.Heard.{sendByte, blockRead, blockWrite, answer, sentIn, receivedIn, isPrepare, isGet, isAssign}
 use Rattle.arp.specs.History.{Event, Start, Received, run, oneGet, getsSent}
 use Rattle.arp.specs.Replay.{Table, released, after, readAs, handedOut, table, noCommand, again, picked, assigning, nextPrepare, nextReply, nextCommand, view, SameOutstanding}
-use Rattle.arp.specs.declared.command.Command.{Command}
-use Rattle.arp.specs.declared.command.Command.the-variants.{Nothing, Prepare, GetUdid, Assign, Ended, NoneFree, Abandoned, NotOutstanding}
+use Rattle.arp.specs.declared.command.Command.the-variants.{Prepare, GetUdid, Assign}
+use Rattle.arp.specs.declared.command.End.the-variants.{Ended, Abandoned, NotOutstanding}
+use Rattle.arp.specs.declared.command.Handed.{Handed}
+use Rattle.arp.specs.declared.command.Handed.the-variants.{Send, Wait}
 use Rattle.arp.specs.declared.state.Controller.{Controller}
 
 asked-command : (s : Controller) → asked s .command ≡ again (s .gets)
 unfolding asked
 asked-command s = go (leb 128 (s .gets))
   where
-    go : (b : Bool) → pick b (handed s Abandoned) (handed (counted s) GetUdid) .command ≡ pick b Abandoned GetUdid
+    go : (b : Bool) → pick b (handed s (Wait Abandoned)) (handed (counted s) (Send GetUdid)) .command ≡ pick b (Wait Abandoned) (Send GetUdid)
     go true = refl
     go false = refl
 
@@ -52,12 +54,12 @@ module _ (s : Controller) where
   prepare-command : (d : Decoded) (xs : List ℕ) → onPrepare s d xs .command ≡ nextPrepare (s .gets) d xs
   prepare-command (Done t) xs = go (isPrepare t xs)
     where
-      go : (q : Bool) → pick q (asked s) (handed s Abandoned) .command ≡ pick q (again (s .gets)) Abandoned
+      go : (q : Bool) → pick q (asked s) (handed s (Wait Abandoned)) .command ≡ pick q (again (s .gets)) (Wait Abandoned)
       go true = asked-command s
       go false = refl
   prepare-command (Refused w k) xs = go (isNack w)
     where
-      go : (q : Bool) → pick q (handed s Ended) (handed s Abandoned) .command ≡ pick q Ended Abandoned
+      go : (q : Bool) → pick q (handed s (Wait Ended)) (handed s (Wait Abandoned)) .command ≡ pick q (Wait Ended) (Wait Abandoned)
       go true = refl
       go false = refl
 
@@ -81,8 +83,8 @@ module _ (s : Controller) (v : SoundIn s) where
   unfolding onReply
   reply-command t xs = go (isGet t) (eqb (t .received) 17)
     where
-      go : (p q : Bool) → pick p (pick q (replied s (udidAt xs 0) (getD xs 16 0)) (handed s Ended)) (asked s) .command
-          ≡ pick p (pick q (assigning (udidAt xs 0) (picked (released (udidAt xs 0) (view s) .used) (udidAt xs 0) (getD xs 16 0))) Ended) (again (s .gets))
+      go : (p q : Bool) → pick p (pick q (replied s (udidAt xs 0) (getD xs 16 0)) (handed s (Wait Ended))) (asked s) .command
+          ≡ pick p (pick q (assigning (udidAt xs 0) (picked (released (udidAt xs 0) (view s) .used) (udidAt xs 0) (getD xs 16 0))) (Wait Ended)) (again (s .gets))
       go true true = replied-command (udidAt xs 0) (getD xs 16 0)
       go true false = refl
       go false q = asked-command s
@@ -91,7 +93,7 @@ module _ (s : Controller) (v : SoundIn s) where
   get-command (Done t) xs = reply-command t xs
   get-command (Refused w k) xs = go (and (isNack w) (ltb k 3))
     where
-      go : (q : Bool) → pick q (handed s Ended) (asked s) .command ≡ pick q Ended (again (s .gets))
+      go : (q : Bool) → pick q (handed s (Wait Ended)) (asked s) .command ≡ pick q (Wait Ended) (again (s .gets))
       go true = refl
       go false = asked-command s
 
@@ -99,28 +101,18 @@ module _ (s : Controller) (v : SoundIn s) where
   unfolding stepped afterPrepare afterGet afterAssign
   step-command tr = go (s .last)
     where
-      go : (k : Command) → byCommand s tr k .command ≡ nextCommand (view s) (s .gets) k tr
-      go Nothing = refl
-      go Prepare = prepare-command s (answer sendByte tr) (sentIn sendByte tr)
-      go GetUdid = get-command (answer blockRead tr) (receivedIn blockRead tr)
-      go (Assign u a) = assign-command s u (a .0) (answer blockWrite tr) (sentIn blockWrite tr)
-      go Ended = refl
-      go (NoneFree u) = refl
-      go Abandoned = refl
-      go NotOutstanding = refl
+      go : (k : Handed) → byCommand s tr k .command ≡ nextCommand (view s) (s .gets) k tr
+      go (Send Prepare) = prepare-command s (answer sendByte tr) (sentIn sendByte tr)
+      go (Send GetUdid) = get-command (answer blockRead tr) (receivedIn blockRead tr)
+      go (Send (Assign u a)) = assign-command s u (a .0) (answer blockWrite tr) (sentIn blockWrite tr)
+      go (Wait e) = refl
 
-idle-next : (t : Table) (n : ℕ) (k : Command) (tr : List ℕ) → noCommand k ≡ true → nextCommand t n k tr ≡ NotOutstanding
-idle-next t n Prepare tr i = absurd (let z : _≡_ {A = ℕ} 0 1 = cc i in omega arith)
-idle-next t n GetUdid tr i = absurd (let z : _≡_ {A = ℕ} 0 1 = cc i in omega arith)
-idle-next t n (Assign u a) tr i = absurd (let z : _≡_ {A = ℕ} 0 1 = cc i in omega arith)
-idle-next t n Nothing tr i = refl
-idle-next t n Ended tr i = refl
-idle-next t n (NoneFree u) tr i = refl
-idle-next t n Abandoned tr i = refl
-idle-next t n NotOutstanding tr i = refl
+idle-next : (t : Table) (n : ℕ) (k : Handed) (tr : List ℕ) → noCommand k ≡ true → nextCommand t n k tr ≡ Wait NotOutstanding
+idle-next t n (Send k) tr i = absurd (let z : _≡_ {A = ℕ} 0 1 = cc i in omega arith)
+idle-next t n (Wait e) tr i = refl
 
-same-next : (t : Table) (n : ℕ) (k m : Command) (tr : List ℕ) → SameOutstanding k m → nextCommand t n k tr ≡ nextCommand t n m tr
-same-next t n k m tr (inl e) = ap (λ (x : Command). nextCommand t n x tr) e
+same-next : (t : Table) (n : ℕ) (k m : Handed) (tr : List ℕ) → SameOutstanding k m → nextCommand t n k tr ≡ nextCommand t n m tr
+same-next t n k m tr (inl e) = ap (λ (x : Handed). nextCommand t n x tr) e
 same-next t n k m tr (inr h) = idle-next t n k tr (h .0) ∙ sym (idle-next t n m tr (h .1))
 
 -- EACH COMMAND THAT A STEP HANDS OUT is the one that the table, the count of Get UDIDs and the command outstanding give
@@ -149,6 +141,6 @@ table-is-story occupied (Received tr ∷ es) =
     })
     (onward (member (startingPool occupied)) (Received tr) (record { known = table occupied es; gets = getsSent occupied es; command = handedOut occupied es }))
     refl
-    (ap (λ (k : Command). getsSent occupied es + oneGet k) (handed-out-by-table occupied es tr))
+    (ap (λ (k : Handed). getsSent occupied es + oneGet k) (handed-out-by-table occupied es tr))
     (handed-out-by-table occupied es tr)
     ∙ ap (onward (member (startingPool occupied)) (Received tr)) (table-is-story occupied es)

@@ -6,6 +6,6 @@ use Rattle.arp.specs.declared.state.Controller.{Controller}
 use Rattle.arp.specs.declared.state.Stepped.{Stepped}
 
 -- handed out from a state: kept as the last, and counted where it is a Get UDID
-pub record Handed (s : Controller) (r : Stepped) : Type 0 where
+pub record Kept (s : Controller) (r : Stepped) : Type 0 where
   pub last : r .state .last ≡ r .command
   pub gets : r .state .gets ≡ s .gets + oneGet (r .command)

@@ -22,26 +22,28 @@ use Rattle.udid.specs.Bytes.{udidAt}
 use Rattle.udid.specs.Udids.{isFixed}
 use Rattle.udid.specs.declared.Udid.{Udid}
 use Rattle.arp.specs.HistoryLaws.{reached-good}
-use Rattle.arp.specs.Handing.{Handed}
+use Rattle.arp.specs.Handing.{Kept}
 use Rattle.arp.specs.Sound.{Pending, PendingIn}
 use Rattle.arp.specs.Bindings.{findFrom, freedAt, freed, boundAt, bound}
 use Rattle.arp.specs.Controller.{handed, counted, asked, chosen, issued, replied, onReply, onPrepare, onGet, onAssign, afterPrepare, afterGet, afterAssign, byCommand, stepped}
 use Rattle.arp.specs.Heard.{sendByte, blockRead, blockWrite, answer, sentIn, receivedIn, isPrepare, isGet, isAssign}
 use Rattle.arp.specs.History.{Event, Start, Received, run, oneGet, getsSent}
-use Rattle.arp.specs.declared.command.Command.{Command}
-use Rattle.arp.specs.declared.command.Command.the-variants.{Nothing, Prepare, GetUdid, Assign, Ended, NoneFree, Abandoned, NotOutstanding}
+use Rattle.arp.specs.declared.command.Command.the-variants.{Prepare, GetUdid, Assign}
+use Rattle.arp.specs.declared.command.End.the-variants.{Ended, NoneFree, Abandoned, NotOutstanding}
+use Rattle.arp.specs.declared.command.Handed.{Handed}
+use Rattle.arp.specs.declared.command.Handed.the-variants.{Send, Wait}
 use Rattle.arp.specs.declared.state.Controller.{Controller}
 use Rattle.arp.specs.declared.state.Stepped.{Stepped}
 
-plain : (s : Controller) (k : Command) → oneGet k ≡ 0 → Handed s (handed s k)
+plain : (s : Controller) (k : Handed) → oneGet k ≡ 0 → Kept s (handed s k)
 plain s k e = record { last = refl; gets = omega arith }
 
-asked-handed : (s : Controller) → Handed s (asked s)
+asked-handed : (s : Controller) → Kept s (asked s)
 unfolding asked
 asked-handed s = go (leb 128 (s .gets))
   where
-    go : (t : Bool) → Handed s (pick t (handed s Abandoned) (handed (counted s) GetUdid))
-    go true = plain s Abandoned refl
+    go : (t : Bool) → Kept s (pick t (handed s (Wait Abandoned)) (handed (counted s) (Send GetUdid)))
+    go true = plain s (Wait Abandoned) refl
     go false = record { last = refl; gets = refl }
 
 -- unbinding and binding count nothing
@@ -61,65 +63,61 @@ bound-keeps-gets s u a = go (ltb 127 a)
     go true = refl
     go false = refl
 
-from : (s r : Controller) (x : Stepped) → r .gets ≡ s .gets → Handed r x → Handed s x
+from : (s r : Controller) (x : Stepped) → r .gets ≡ s .gets → Kept r x → Kept s x
 from s r x e h = record { last = h .last; gets = h .gets ∙ ap (λ (n : ℕ). n + oneGet (x .command)) e }
 
 module _ (s : Controller) where
-  issued-handed : (u : Udid) (k : Free) → Handed s (issued (freed s u) u k)
-  issued-handed u (At a) = from s (freed s u) (issued (freed s u) u (At a)) (freed-keeps-gets s u) (plain (freed s u) (Assign u a) refl)
-  issued-handed u AllUsed = from s (freed s u) (issued (freed s u) u AllUsed) (freed-keeps-gets s u) (plain (freed s u) (NoneFree u) refl)
+  issued-handed : (u : Udid) (k : Free) → Kept s (issued (freed s u) u k)
+  issued-handed u (At a) = from s (freed s u) (issued (freed s u) u (At a)) (freed-keeps-gets s u) (plain (freed s u) (Send (Assign u a)) refl)
+  issued-handed u AllUsed = from s (freed s u) (issued (freed s u) u AllUsed) (freed-keeps-gets s u) (plain (freed s u) (Wait (NoneFree u)) refl)
 
-  reply-handed : (t : Transaction) (xs : List ℕ) → Handed s (onReply s t xs)
+  reply-handed : (t : Transaction) (xs : List ℕ) → Kept s (onReply s t xs)
   unfolding onReply replied
   reply-handed t xs = go (isGet t) (eqb (t .received) 17)
     where
-      go : (a b : Bool) → Handed s (pick a (pick b (issued (freed s (udidAt xs 0)) (udidAt xs 0) (chosen (freed s (udidAt xs 0) .pool) (udidAt xs 0) (getD xs 16 0))) (handed s Ended)) (asked s))
+      go : (a b : Bool) → Kept s (pick a (pick b (issued (freed s (udidAt xs 0)) (udidAt xs 0) (chosen (freed s (udidAt xs 0) .pool) (udidAt xs 0) (getD xs 16 0))) (handed s (Wait Ended))) (asked s))
       go true true = issued-handed (udidAt xs 0) (chosen (freed s (udidAt xs 0) .pool) (udidAt xs 0) (getD xs 16 0))
-      go true false = plain s Ended refl
+      go true false = plain s (Wait Ended) refl
       go false b = asked-handed s
 
-  pub prepare-handed : (a : Decoded) (xs : List ℕ) → Handed s (onPrepare s a xs)
+  pub prepare-handed : (a : Decoded) (xs : List ℕ) → Kept s (onPrepare s a xs)
   prepare-handed (Done t) xs = go (isPrepare t xs)
     where
-      go : (q : Bool) → Handed s (pick q (asked s) (handed s Abandoned))
+      go : (q : Bool) → Kept s (pick q (asked s) (handed s (Wait Abandoned)))
       go true = asked-handed s
-      go false = plain s Abandoned refl
+      go false = plain s (Wait Abandoned) refl
   prepare-handed (Refused w k) xs = go (isNack w)
     where
-      go : (q : Bool) → Handed s (pick q (handed s Ended) (handed s Abandoned))
-      go true = plain s Ended refl
-      go false = plain s Abandoned refl
+      go : (q : Bool) → Kept s (pick q (handed s (Wait Ended)) (handed s (Wait Abandoned)))
+      go true = plain s (Wait Ended) refl
+      go false = plain s (Wait Abandoned) refl
 
-  pub get-handed : (a : Decoded) (xs : List ℕ) → Handed s (onGet s a xs)
+  pub get-handed : (a : Decoded) (xs : List ℕ) → Kept s (onGet s a xs)
   get-handed (Done t) xs = reply-handed t xs
   get-handed (Refused w k) xs = go (and (isNack w) (ltb k 3))
     where
-      go : (q : Bool) → Handed s (pick q (handed s Ended) (asked s))
-      go true = plain s Ended refl
+      go : (q : Bool) → Kept s (pick q (handed s (Wait Ended)) (asked s))
+      go true = plain s (Wait Ended) refl
       go false = asked-handed s
 
-  pub assign-handed : (u : Udid) (n : ℕ) (a : Decoded) (xs : List ℕ) → Handed s (onAssign s u n a xs)
+  pub assign-handed : (u : Udid) (n : ℕ) (a : Decoded) (xs : List ℕ) → Kept s (onAssign s u n a xs)
   assign-handed u n (Done t) xs = go (isAssign u n t xs)
     where
-      go : (q : Bool) → Handed s (pick q (asked (bound s u n)) (asked s))
+      go : (q : Bool) → Kept s (pick q (asked (bound s u n)) (asked s))
       go true = from s (bound s u n) (asked (bound s u n)) (bound-keeps-gets s u n) (asked-handed (bound s u n))
       go false = asked-handed s
   assign-handed u n (Refused w k) xs = asked-handed s
 
   -- 21 with the state as it was, or something handed out and kept
-  pub step-21-or-handed : (tr : List ℕ) → ((stepped s tr .command ≡ NotOutstanding) × (stepped s tr .state ≡ s)) ⊎ Handed s (stepped s tr)
+  pub step-21-or-handed : (tr : List ℕ) → ((stepped s tr .command ≡ Wait NotOutstanding) × (stepped s tr .state ≡ s)) ⊎ Kept s (stepped s tr)
   unfolding stepped afterPrepare afterGet afterAssign
   step-21-or-handed tr = go (s .last)
     where
-      go : (k : Command) → ((byCommand s tr k .command ≡ NotOutstanding) × (byCommand s tr k .state ≡ s)) ⊎ Handed s (byCommand s tr k)
-      go Nothing = inl (refl, refl)
-      go Prepare = inr (prepare-handed (answer sendByte tr) (sentIn sendByte tr))
-      go GetUdid = inr (get-handed (answer blockRead tr) (receivedIn blockRead tr))
-      go (Assign u a) = inr (assign-handed u (a .0) (answer blockWrite tr) (sentIn blockWrite tr))
-      go Ended = inl (refl, refl)
-      go (NoneFree u) = inl (refl, refl)
-      go Abandoned = inl (refl, refl)
-      go NotOutstanding = inl (refl, refl)
+      go : (k : Handed) → ((byCommand s tr k .command ≡ Wait NotOutstanding) × (byCommand s tr k .state ≡ s)) ⊎ Kept s (byCommand s tr k)
+      go (Send Prepare) = inr (prepare-handed (answer sendByte tr) (sentIn sendByte tr))
+      go (Send GetUdid) = inr (get-handed (answer blockRead tr) (receivedIn blockRead tr))
+      go (Send (Assign u a)) = inr (assign-handed u (a .0) (answer blockWrite tr) (sentIn blockWrite tr))
+      go (Wait e) = inl (refl, refl)
 
 -- the count in the state is that of the Get UDIDs handed out in this pass
 pub gets-are-sent : (occupied : Pool) (es : List Event) → run occupied es .gets ≡ getsSent occupied es
@@ -128,14 +126,14 @@ gets-are-sent occupied [] = refl
 gets-are-sent occupied (Start ∷ es) = refl
 gets-are-sent occupied (Received tr ∷ es) = go (step-21-or-handed (run occupied es) tr) (gets-are-sent occupied es)
   where
-    go : ((stepped (run occupied es) tr .command ≡ NotOutstanding) × (stepped (run occupied es) tr .state ≡ run occupied es)) ⊎ Handed (run occupied es) (stepped (run occupied es) tr)
+    go : ((stepped (run occupied es) tr .command ≡ Wait NotOutstanding) × (stepped (run occupied es) tr .state ≡ run occupied es)) ⊎ Kept (run occupied es) (stepped (run occupied es) tr)
         → run occupied es .gets ≡ getsSent occupied es
         → stepped (run occupied es) tr .state .gets ≡ getsSent occupied es + oneGet (stepped (run occupied es) tr .command)
-    go (inl h) e = ap (λ (x : Controller). x .gets) (h .1) ∙ e ∙ sym (ap (λ (k : Command). getsSent occupied es + oneGet k) (h .0) ∙ add-zero (getsSent occupied es))
+    go (inl h) e = ap (λ (x : Controller). x .gets) (h .1) ∙ e ∙ sym (ap (λ (k : Handed). getsSent occupied es + oneGet k) (h .0) ∙ add-zero (getsSent occupied es))
     go (inr h) e = h .gets ∙ ap (λ (n : ℕ). n + oneGet (stepped (run occupied es) tr .command)) e
 
 -- an Assign that names an address in use is for a fixed target: only these are ever claimed by two
-pub claims-are-fixed : (occupied : Pool) (es : List Event) (u : Udid) (a : Address) → run occupied es .last ≡ Assign u a → member (run occupied es .pool) (a .0) ≡ true → isFixed u ≡ true
+pub claims-are-fixed : (occupied : Pool) (es : List Event) (u : Udid) (a : Address) → run occupied es .last ≡ Send (Assign u a) → member (run occupied es .pool) (a .0) ≡ true → isFixed u ≡ true
 claims-are-fixed occupied es u a e h = go (isFixed u) refl
   where
     p : Pending (run occupied es) u (a .0)

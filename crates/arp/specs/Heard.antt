@@ -16,6 +16,7 @@ use Rattle.step.specs.declared.answer.Decoded.the-variants.{Done, Refused}
 use Rattle.udid.specs.Bytes.{udidAt}
 use Rattle.udid.specs.Udids.{sameUdid}
 use Rattle.udid.specs.declared.Udid.{Udid}
+use Rattle.arp.specs.Codes.{prepareCode, getCode, assignCode}
 
 -- the protocols of the three commands: Send Byte, Block Read, Block Write
 abbrev pub sendByte : ℕ
@@ -43,11 +44,11 @@ isCommand code t = and (eqb (t .address .0) defaultAddress) (eqb (t .command) co
 
 -- Prepare To ARP: the byte 01h to the default address
 abbrev pub isPrepare : Transaction → List ℕ → Bool
-isPrepare t sent = and (eqb (t .address .0) defaultAddress) (eqb (getD sent 0 0) 0x01)
+isPrepare t sent = and (eqb (t .address .0) defaultAddress) (eqb (getD sent 0 0) prepareCode)
 
 -- Get UDID: command 03h
 abbrev pub isGet : Transaction → Bool
-isGet t = isCommand 0x03 t
+isGet t = isCommand getCode t
 
 -- the identifier, and the address byte with bit 0 zero
 abbrev pub names : Udid → ℕ → List ℕ → Bool
@@ -55,7 +56,7 @@ names u a sent = and (sameUdid (udidAt sent 0) u) (eqb (getD sent 16 0) (2 * (a 
 
 -- Assign Address of a to u: command 04h with 17 bytes
 abbrev pub isAssign : Udid → ℕ → Transaction → List ℕ → Bool
-isAssign u a t sent = and (isCommand 0x04 t) (and (eqb (t .sent) 17) (names u a sent))
+isAssign u a t sent = and (isCommand assignCode t) (and (eqb (t .sent) 17) (names u a sent))
 
 -- an Assign of a to u is complete: answer 0, and the trace is that Assign
 abbrev pub completes : Udid → ℕ → Decoded → List ℕ → Bool

@@ -28,8 +28,10 @@ use Rattle.udid.specs.declared.Udid.{Udid}
 use Rattle.arp.specs.Heard.{answer, sentIn, receivedIn}
 use Rattle.arp.specs.OneStep.{Gives}
 use Rattle.arp.specs.Replay.{Happened, Replied, Assigned, Other, Table, released, replyIn, assigns, assignIn, readAs, again, picked, assigning, nextPrepare, nextReply, nextCommand}
-use Rattle.arp.specs.declared.command.Command.{Command}
-use Rattle.arp.specs.declared.command.Command.the-variants.{Prepare, GetUdid, Assign, Ended, Abandoned}
+use Rattle.arp.specs.declared.command.Command.the-variants.{Prepare, GetUdid, Assign}
+use Rattle.arp.specs.declared.command.End.the-variants.{Ended, Abandoned}
+use Rattle.arp.specs.declared.command.Handed.{Handed}
+use Rattle.arp.specs.declared.command.Handed.the-variants.{Send, Wait}
 
 -- ---- the answer, and the buffers
 
@@ -135,10 +137,10 @@ module _ (tr l : List ℕ) where
   next-reply-front : (t : Table) (n : ℕ) (d : Decoded) → nextReply t n d (onto (receivedData true tr d) l) ≡ nextReply t n d (receivedData true tr d)
   next-reply-front t n (Done x) = go (eqb (x .received) 17) refl
     where
-      result : Udid → ℕ → Command
+      result : Udid → ℕ → Handed
       result u b =
           pick (and (eqb (x .address .0) 0x61) (eqb (x .command) 0x03))
-          (pick (eqb (x .received) 17) (assigning u (picked (released u t .used) u b)) Ended)
+          (pick (eqb (x .received) 17) (assigning u (picked (released u t .used) u b)) (Wait Ended))
           (again n)
 
       go : (q : Bool) → eqb (x .received) 17 ≡ q
@@ -155,34 +157,34 @@ module _ (tr l : List ℕ) where
   next-prepare-front n (Done t) e =
       let c = step.answer-exactly 1 (shapeOf 1) (sane 1) true tr (Done t) .0 e in
       let k : length (sentData (shapeOf 1) tr (Done t)) ≡ 1 = ap length (c .data-sent) ∙ c .valid .sent-length in
-      ap (λ (b : ℕ). pick (and (eqb (t .address .0) 0x61) (eqb b 0x01)) (again n) Abandoned) (front-at (sentData (shapeOf 1) tr (Done t)) l 0 (omega arith))
+      ap (λ (b : ℕ). pick (and (eqb (t .address .0) 0x61) (eqb b 0x01)) (again n) (Wait Abandoned)) (front-at (sentData (shapeOf 1) tr (Done t)) l 0 (omega arith))
   next-prepare-front n (Refused w k) e = refl
 
 -- THE EVENTS' READING IS DECODE'S: for every call of decode with buffers of at least 255 bytes
 module _ (tr sent₀ received₀ : List ℕ) (d : Decoded) (sent received : List ℕ) (l : 255 ≤ length sent₀) (m : 255 ≤ length received₀) where
   -- where a reply is due: its answer for Block Read, and the data received
-  pub reply-is-decode : Outcome 9 true tr sent₀ received₀ d sent received → readAs GetUdid tr ≡ replyIn d received
+  pub reply-is-decode : Outcome 9 true tr sent₀ received₀ d sent received → readAs (Send GetUdid) tr ≡ replyIn d received
   reply-is-decode o =
       ap (λ (x : Decoded). replyIn x (receivedData true tr x)) (sym (answer-is-heard 9 tr sent₀ received₀ d sent received refl l m o))
       ∙ sym (reply-front tr received₀ d)
       ∙ ap (replyIn d) (sym (o .data-received))
 
   -- where an Assign is outstanding: its answer for Block Write, and the data sent
-  pub assign-is-decode : Outcome 8 true tr sent₀ received₀ d sent received → (u : Udid) (a : Address) → readAs (Assign u a) tr ≡ assignIn u (a .0) d sent
+  pub assign-is-decode : Outcome 8 true tr sent₀ received₀ d sent received → (u : Udid) (a : Address) → readAs (Send (Assign u a)) tr ≡ assignIn u (a .0) d sent
   assign-is-decode o u a =
       ap (λ (x : Decoded). assignIn u (a .0) x (sentData (shapeOf 8) tr x)) (sym (answer-is-heard 8 tr sent₀ received₀ d sent received refl l m o))
       ∙ sym (assign-front tr sent₀ u (a .0) d)
       ∙ ap (assignIn u (a .0) d) (sym (o .data-sent))
 
   -- what is handed out next: by its answer for Send Byte after Prepare, and for Block Read after Get UDID
-  pub next-prepare-is-decode : Outcome 1 true tr sent₀ received₀ d sent received → (t : Table) (n : ℕ) → nextCommand t n Prepare tr ≡ nextPrepare n d sent
+  pub next-prepare-is-decode : Outcome 1 true tr sent₀ received₀ d sent received → (t : Table) (n : ℕ) → nextCommand t n (Send Prepare) tr ≡ nextPrepare n d sent
   next-prepare-is-decode o t n =
       let e : d ≡ answer 1 tr = answer-is-heard 1 tr sent₀ received₀ d sent received refl l m o in
       ap (λ (x : Decoded). nextPrepare n x (sentData (shapeOf 1) tr x)) (sym e)
       ∙ sym (next-prepare-front tr sent₀ n d (sym e))
       ∙ ap (nextPrepare n d) (sym (o .data-sent))
 
-  pub next-reply-is-decode : Outcome 9 true tr sent₀ received₀ d sent received → (t : Table) (n : ℕ) → nextCommand t n GetUdid tr ≡ nextReply t n d received
+  pub next-reply-is-decode : Outcome 9 true tr sent₀ received₀ d sent received → (t : Table) (n : ℕ) → nextCommand t n (Send GetUdid) tr ≡ nextReply t n d received
   next-reply-is-decode o t n =
       ap (λ (x : Decoded). nextReply t n x (receivedData true tr x)) (sym (answer-is-heard 9 tr sent₀ received₀ d sent received refl l m o))
       ∙ sym (next-reply-front tr received₀ t n d)

@@ -15,8 +15,10 @@ use Rattle.udid.specs.declared.Udid.{Udid}
 use Rattle.arp.specs.Bindings.{heldAt}
 use Rattle.arp.specs.Controller.{newController, started, stepped}
 use Rattle.arp.specs.Requests.{traceOf}
-use Rattle.arp.specs.declared.command.Command.{Command}
-use Rattle.arp.specs.declared.command.Command.the-variants.{Nothing, Prepare, GetUdid, Assign, Ended, NoneFree, Abandoned, NotOutstanding}
+use Rattle.arp.specs.declared.command.Command.the-variants.{Prepare, GetUdid, Assign}
+use Rattle.arp.specs.declared.command.End.the-variants.{Nothing}
+use Rattle.arp.specs.declared.command.Handed.{Handed}
+use Rattle.arp.specs.declared.command.Handed.the-variants.{Send, Wait}
 use Rattle.arp.specs.declared.state.Binding.{Binding}
 use Rattle.arp.specs.declared.state.Binding.the-variants.{Open, Bound, Claimed}
 use Rattle.arp.specs.declared.state.Controller.{Controller}
@@ -47,14 +49,14 @@ pub record New (occupied : Pool) (s : Controller) : Type 0 where
   pub pool : s .pool ≡ startingPool occupied
   pub held : (a : ℕ) → heldAt (s .slots) a ≡ Open
   pub gets : s .gets ≡ 0
-  pub last : s .last ≡ Nothing
+  pub last : s .last ≡ Wait Nothing
 
 -- since the latest start, an Assign of a to u was outstanding and the trace received was that Assign, whole: every byte acknowledged
 unfoldable pub Acknowledged : Pool → List Event → Udid → ℕ → Type 0
 Acknowledged occupied [] u a = ⊥
 Acknowledged occupied (Start ∷ es) u a = ⊥
 Acknowledged occupied (Received tr ∷ es) u a =
-    ((run occupied es .last ≡ Assign u (record { 0 = a })) × (tr ≡ traceOf (Assign u (record { 0 = a })) [])) ⊎ Acknowledged occupied es u a
+    ((run occupied es .last ≡ Send (Assign u (record { 0 = a }))) × (tr ≡ traceOf (Send (Assign u (record { 0 = a }))) [])) ⊎ Acknowledged occupied es u a
 
 abbrev pub isHeld : Binding → Bool
 isHeld Open = false
@@ -86,15 +88,11 @@ pub record Invariant (occupied : Pool) (s : Controller) : Type 0 where
   pub gets : s .gets ≤ 128
 
 -- 1 for a Get UDID
-abbrev pub oneGet : Command → ℕ
-oneGet Nothing = 0
-oneGet Prepare = 0
-oneGet GetUdid = 1
-oneGet (Assign u a) = 0
-oneGet Ended = 0
-oneGet (NoneFree u) = 0
-oneGet Abandoned = 0
-oneGet NotOutstanding = 0
+abbrev pub oneGet : Handed → ℕ
+oneGet (Send Prepare) = 0
+oneGet (Send GetUdid) = 1
+oneGet (Send (Assign u a)) = 0
+oneGet (Wait e) = 0
 
 -- how many Get UDIDs were handed out since the latest start
 unfoldable pub getsSent : Pool → List Event → ℕ

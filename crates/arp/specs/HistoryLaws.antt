@@ -33,8 +33,10 @@ use Rattle.arp.specs.Bindings.{heldAt, findFrom, freedAt, freed, boundAt
 use Rattle.arp.specs.Controller.{handed, counted, asked, chosen, issued, replied, onReply, onPrepare, onGet, onAssign, afterPrepare, afterGet, afterAssign, byCommand, stepped, newController}
 use Rattle.arp.specs.Heard.{sendByte, blockRead, blockWrite, answer, sentIn, receivedIn, isPrepare, isGet, isAssign}
 use Rattle.arp.specs.History.{Event, Start, Received, run, isHeld, Invariant, New}
-use Rattle.arp.specs.declared.command.Command.{Command}
-use Rattle.arp.specs.declared.command.Command.the-variants.{Nothing, Prepare, GetUdid, Assign, Ended, NoneFree, Abandoned, NotOutstanding}
+use Rattle.arp.specs.declared.command.Command.the-variants.{Prepare, GetUdid, Assign}
+use Rattle.arp.specs.declared.command.End.the-variants.{Ended, Abandoned}
+use Rattle.arp.specs.declared.command.Handed.{Handed}
+use Rattle.arp.specs.declared.command.Handed.the-variants.{Send, Wait}
 use Rattle.arp.specs.declared.state.Binding.{Binding}
 use Rattle.arp.specs.declared.state.Binding.the-variants.{Bound, Claimed}
 use Rattle.arp.specs.declared.state.Controller.{Controller}
@@ -55,14 +57,14 @@ module _ (occupied : Pool) where
   unfolding asked
   good-asked s g = go (leb 128 (s .gets)) refl
     where
-      go : (t : Bool) → leb 128 (s .gets) ≡ t → GoodState occupied (pick t (handed s Abandoned) (handed (counted s) GetUdid) .state)
+      go : (t : Bool) → leb 128 (s .gets) ≡ t → GoodState occupied (pick t (handed s (Wait Abandoned)) (handed (counted s) (Send GetUdid)) .state)
       go true e = (record { sound = g .sound; gets = g .gets; starting = g .starting }, tt)
       go false e = (record { sound = g .sound; gets = (let l = leb-false 128 (s .gets) e in omega arith); starting = g .starting }, tt)
 
-  good-ended : (s : Controller) → Good occupied s → GoodState occupied (handed s Ended .state)
+  good-ended : (s : Controller) → Good occupied s → GoodState occupied (handed s (Wait Ended) .state)
   good-ended s g = (record { sound = g .sound; gets = g .gets; starting = g .starting }, tt)
 
-  good-abandoned : (s : Controller) → Good occupied s → GoodState occupied (handed s Abandoned .state)
+  good-abandoned : (s : Controller) → Good occupied s → GoodState occupied (handed s (Wait Abandoned) .state)
   good-abandoned s g = (record { sound = g .sound; gets = g .gets; starting = g .starting }, tt)
 
   -- unbinding and binding change the pool and the slots alone
@@ -99,7 +101,7 @@ module _ (occupied : Pool) where
   unfolding onReply
   good-reply s t xs g h = go (isGet t) (eqb (t .received) 17)
     where
-      go : (p q : Bool) → GoodState occupied (pick p (pick q (replied s (udidAt xs 0) (getD xs 16 0)) (handed s Ended)) (asked s) .state)
+      go : (p q : Bool) → GoodState occupied (pick p (pick q (replied s (udidAt xs 0) (getD xs 16 0)) (handed s (Wait Ended))) (asked s) .state)
       go true true = good-replied s (udidAt xs 0) (getD xs 16 0) g (fits-at xs 0 h) (byte-at xs 16 h)
       go true false = good-ended s g
       go false q = good-asked s g
@@ -107,12 +109,12 @@ module _ (occupied : Pool) where
   good-prepare : (s : Controller) (a : Decoded) (xs : List ℕ) → Good occupied s → GoodState occupied (onPrepare s a xs .state)
   good-prepare s (Done t) xs g = go (isPrepare t xs)
     where
-      go : (p : Bool) → GoodState occupied (pick p (asked s) (handed s Abandoned) .state)
+      go : (p : Bool) → GoodState occupied (pick p (asked s) (handed s (Wait Abandoned)) .state)
       go true = good-asked s g
       go false = good-abandoned s g
   good-prepare s (Refused w k) xs g = go (isNack w)
     where
-      go : (p : Bool) → GoodState occupied (pick p (handed s Ended) (handed s Abandoned) .state)
+      go : (p : Bool) → GoodState occupied (pick p (handed s (Wait Ended)) (handed s (Wait Abandoned)) .state)
       go true = good-ended s g
       go false = good-abandoned s g
 
@@ -120,7 +122,7 @@ module _ (occupied : Pool) where
   good-get s (Done t) xs g h = good-reply s t xs g h
   good-get s (Refused w k) xs g h = go (and (isNack w) (ltb k 3))
     where
-      go : (p : Bool) → GoodState occupied (pick p (handed s Ended) (asked s) .state)
+      go : (p : Bool) → GoodState occupied (pick p (handed s (Wait Ended)) (asked s) .state)
       go true = good-ended s g
       go false = good-asked s g
 
@@ -136,15 +138,11 @@ module _ (occupied : Pool) where
   unfolding stepped afterPrepare afterGet afterAssign
   step-keeps-good s tr g = go (s .last) (g .1)
     where
-      go : (k : Command) → PendingIn s k → GoodState occupied (byCommand s tr k .state)
-      go Nothing p = g
-      go Prepare p = good-prepare s (answer sendByte tr) (sentIn sendByte tr) (g .0)
-      go GetUdid p = good-get s (answer blockRead tr) (receivedIn blockRead tr) (g .0) (received-are-bytes blockRead tr)
-      go (Assign u a) p = good-assign s u (a .0) (answer blockWrite tr) (sentIn blockWrite tr) (g .0) p
-      go Ended p = g
-      go (NoneFree u) p = g
-      go Abandoned p = g
-      go NotOutstanding p = g
+      go : (k : Handed) → PendingIn s k → GoodState occupied (byCommand s tr k .state)
+      go (Send Prepare) p = good-prepare s (answer sendByte tr) (sentIn sendByte tr) (g .0)
+      go (Send GetUdid) p = good-get s (answer blockRead tr) (receivedIn blockRead tr) (g .0) (received-are-bytes blockRead tr)
+      go (Send (Assign u a)) p = good-assign s u (a .0) (answer blockWrite tr) (sentIn blockWrite tr) (g .0) p
+      go (Wait e) p = g
 
   -- EVERY STATE
   pub reached-good : (es : List Event) → GoodState occupied (run occupied es)

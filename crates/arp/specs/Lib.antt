@@ -1,3 +1,4 @@
+pub mod Codes
 pub mod Bindings
 pub mod Heard
 pub mod Controller
@@ -18,6 +19,7 @@ pub mod RequestLaws
 pub mod SendingLaws
 pub mod TraceLaws
 pub mod HeardLaws
+pub mod BindingLaws
 pub mod SoundLaws
 pub mod ChosenLaws
 pub mod HistoryLaws

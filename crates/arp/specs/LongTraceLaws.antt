@@ -10,8 +10,9 @@ use Rattle.decode.specs.LongTraceLaws.{same-decoded, decoded-none}
 use Rattle.udid.specs.declared.Udid.{Udid}
 use Rattle.arp.specs.Heard.{sendByte, blockRead, blockWrite, answer, sentIn, receivedIn}
 use Rattle.arp.specs.Controller.{onPrepare, onGet, onAssign, afterPrepare, afterGet, afterAssign, byCommand, stepped}
-use Rattle.arp.specs.declared.command.Command.{Command}
-use Rattle.arp.specs.declared.command.Command.the-variants.{Nothing, Prepare, GetUdid, Assign, Ended, NoneFree, Abandoned, NotOutstanding}
+use Rattle.arp.specs.declared.command.Command.the-variants.{Prepare, GetUdid, Assign}
+use Rattle.arp.specs.declared.command.Handed.{Handed}
+use Rattle.arp.specs.declared.command.Handed.the-variants.{Send, Wait}
 use Rattle.arp.specs.declared.state.Controller.{Controller}
 
 module _ (s : Controller) (tr : List ℕ) (long : 526 ≤ length tr) where
@@ -54,12 +55,8 @@ module _ (s : Controller) (tr : List ℕ) (long : 526 ≤ length tr) where
   unfolding stepped
   step-of-front = go (s .last)
     where
-      go : (k : Command) → byCommand s (take 526 tr) k ≡ byCommand s tr k
-      go Nothing = refl
-      go Prepare = same-prepare
-      go GetUdid = same-get
-      go (Assign u a) = same-assign u (a .0)
-      go Ended = refl
-      go (NoneFree u) = refl
-      go Abandoned = refl
-      go NotOutstanding = refl
+      go : (k : Handed) → byCommand s (take 526 tr) k ≡ byCommand s tr k
+      go (Send Prepare) = same-prepare
+      go (Send GetUdid) = same-get
+      go (Send (Assign u a)) = same-assign u (a .0)
+      go (Wait e) = refl

@@ -6,7 +6,9 @@ use mathlib.Core.List.{List, [], _∷_}
 use mathlib.Core.Logic.{_⊎_, inl, inr, _↔_}
 use native.Mathlib.Decide.{decLt}
 use native.Mathlib.Omega.{arith}
+use lib.Dec.{eqb}
 use borrow.Author.Tests.{lt-ltb, le-ltb}
+use Rattle.lists.specs.Choice.{pick}
 use Rattle.udid.specs.declared.Udid.{Udid}
 use Rattle.arp.specs.Bindings.{heldAt}
 use Rattle.arp.specs.Lookup.{seen, lookedUp}
@@ -25,40 +27,42 @@ heldFor found.Nobody h = h ≡ Open
 heldFor found.Two h = h ≡ Claimed
 heldFor found.NoAddress h = ⊥
 
+-- the answer of a number
+abbrev numbered : ℕ × List Udid → Found
+numbered (n, []) = pick (eqb n 15) found.Nobody (pick (eqb n 16) found.Two found.NoAddress)
+numbered (n, u ∷ us) = found.Bound u
+
+numbered-is : (x : Found) → x ≡ numbered (lookupNumber x)
+numbered-is (found.Bound u) = refl
+numbered-is found.Nobody = refl
+numbered-is found.Two = refl
+numbered-is found.NoAddress = refl
+
 number-tells : (x y : Found) → lookupNumber x ≡ lookupNumber y → x ≡ y
-number-tells (found.Bound u) (found.Bound v) e = ap found.Bound (first (ap (λ (p : ℕ × List Udid). p .1) e))
-  where
-    first : u ∷ [] ≡ v ∷ [] → u ≡ v
-    first q = cc q
-number-tells found.Nobody found.Nobody e = refl
-number-tells found.Two found.Two e = refl
-number-tells found.NoAddress found.NoAddress e = refl
-number-tells (found.Bound u) found.Nobody e = absurd (let q : 0 ≡ 15 = ap (λ (p : ℕ × List Udid). p .0) e in omega arith)
-number-tells (found.Bound u) found.Two e = absurd (let q : 0 ≡ 16 = ap (λ (p : ℕ × List Udid). p .0) e in omega arith)
-number-tells (found.Bound u) found.NoAddress e = absurd (let q : 0 ≡ 1 = ap (λ (p : ℕ × List Udid). p .0) e in omega arith)
-number-tells found.Nobody (found.Bound u) e = absurd (let q : 15 ≡ 0 = ap (λ (p : ℕ × List Udid). p .0) e in omega arith)
-number-tells found.Nobody found.Two e = absurd (let q : 15 ≡ 16 = ap (λ (p : ℕ × List Udid). p .0) e in omega arith)
-number-tells found.Nobody found.NoAddress e = absurd (let q : 15 ≡ 1 = ap (λ (p : ℕ × List Udid). p .0) e in omega arith)
-number-tells found.Two (found.Bound u) e = absurd (let q : 16 ≡ 0 = ap (λ (p : ℕ × List Udid). p .0) e in omega arith)
-number-tells found.Two found.Nobody e = absurd (let q : 16 ≡ 15 = ap (λ (p : ℕ × List Udid). p .0) e in omega arith)
-number-tells found.Two found.NoAddress e = absurd (let q : 16 ≡ 1 = ap (λ (p : ℕ × List Udid). p .0) e in omega arith)
-number-tells found.NoAddress (found.Bound u) e = absurd (let q : 1 ≡ 0 = ap (λ (p : ℕ × List Udid). p .0) e in omega arith)
-number-tells found.NoAddress found.Nobody e = absurd (let q : 1 ≡ 15 = ap (λ (p : ℕ × List Udid). p .0) e in omega arith)
-number-tells found.NoAddress found.Two e = absurd (let q : 1 ≡ 16 = ap (λ (p : ℕ × List Udid). p .0) e in omega arith)
+number-tells x y e = numbered-is x ∙ ap numbered e ∙ sym (numbered-is y)
+
+-- what an address is known for is seen, and is never seen as no address
+abbrev unseen : Found → Binding
+unseen (found.Bound u) = Bound u
+unseen found.Nobody = Open
+unseen found.Two = Claimed
+unseen found.NoAddress = Open
+
+unseen-is : (h : Binding) → h ≡ unseen (seen h)
+unseen-is Open = refl
+unseen-is (Bound u) = refl
+unseen-is Claimed = refl
+
+seen-some : (h : Binding) → seen h ≡ found.NoAddress → ⊥
+seen-some Open e = let z : _≡_ {A = ℕ} 0 1 = cc e in omega arith
+seen-some (Bound u) e = let z : _≡_ {A = ℕ} 0 1 = cc e in omega arith
+seen-some Claimed e = let z : _≡_ {A = ℕ} 0 1 = cc e in omega arith
 
 seen-is : (x : Found) (h : Binding) → (seen h ≡ x) ↔ heldFor x h
-seen-is (found.Bound u) Open = (λ e. absurd (let z : _≡_ {A = ℕ} 0 1 = cc e in omega arith), λ e. absurd (let z : _≡_ {A = ℕ} 0 1 = cc e in omega arith))
-seen-is (found.Bound u) (Bound v) = (λ e. cc e, λ e. cc e)
-seen-is (found.Bound u) Claimed = (λ e. absurd (let z : _≡_ {A = ℕ} 0 1 = cc e in omega arith), λ e. absurd (let z : _≡_ {A = ℕ} 0 1 = cc e in omega arith))
-seen-is found.Nobody Open = (λ e. refl, λ e. refl)
-seen-is found.Nobody (Bound v) = (λ e. absurd (let z : _≡_ {A = ℕ} 0 1 = cc e in omega arith), λ e. absurd (let z : _≡_ {A = ℕ} 0 1 = cc e in omega arith))
-seen-is found.Nobody Claimed = (λ e. absurd (let z : _≡_ {A = ℕ} 0 1 = cc e in omega arith), λ e. absurd (let z : _≡_ {A = ℕ} 0 1 = cc e in omega arith))
-seen-is found.Two Open = (λ e. absurd (let z : _≡_ {A = ℕ} 0 1 = cc e in omega arith), λ e. absurd (let z : _≡_ {A = ℕ} 0 1 = cc e in omega arith))
-seen-is found.Two (Bound v) = (λ e. absurd (let z : _≡_ {A = ℕ} 0 1 = cc e in omega arith), λ e. absurd (let z : _≡_ {A = ℕ} 0 1 = cc e in omega arith))
-seen-is found.Two Claimed = (λ e. refl, λ e. refl)
-seen-is found.NoAddress Open = (λ e. absurd (let z : _≡_ {A = ℕ} 0 1 = cc e in omega arith), λ e. absurd e)
-seen-is found.NoAddress (Bound v) = (λ e. absurd (let z : _≡_ {A = ℕ} 0 1 = cc e in omega arith), λ e. absurd e)
-seen-is found.NoAddress Claimed = (λ e. absurd (let z : _≡_ {A = ℕ} 0 1 = cc e in omega arith), λ e. absurd e)
+seen-is (found.Bound u) h = (λ e. unseen-is h ∙ ap unseen e, λ e. ap seen e)
+seen-is found.Nobody h = (λ e. unseen-is h ∙ ap unseen e, λ e. ap seen e)
+seen-is found.Two h = (λ e. unseen-is h ∙ ap unseen e, λ e. ap seen e)
+seen-is found.NoAddress h = (λ e. seen-some h e, λ e. absurd e)
 
 module _ (s : Controller) (a : ℕ) where
   small : a < 128 → lookedUp s a ≡ seen (heldAt (s .slots) a)

@@ -24,29 +24,32 @@ use Rattle.arp.specs.Story.{Story, story, Full}
 use Rattle.arp.specs.Controller.{stepped}
 use Rattle.arp.specs.Heard.{answer, sentIn, receivedIn}
 use Rattle.arp.specs.History.{Event, run, getsSent}
-use Rattle.arp.specs.Numbers.{commandNumber}
+use Rattle.arp.specs.Numbers.{endNumber, commandNumber}
 use Rattle.arp.specs.Replay.{Happened, Replied, Assigned, Other, Table, released, replyIn, assigns, assignIn, readAs, handedOut, table, again, picked, NoneToPick, assigning, nextPrepare, nextReply, nextCommand}
 use Rattle.arp.specs.CommandTraces.{replyTrace}
-use Rattle.arp.specs.declared.command.Command.{Command}
-use Rattle.arp.specs.declared.command.Command.the-variants.{Nothing, Prepare, GetUdid, Assign, Ended, NoneFree, Abandoned, NotOutstanding}
+use Rattle.arp.specs.declared.command.Command.the-variants.{Prepare, GetUdid, Assign}
+use Rattle.arp.specs.declared.command.End.{End}
+use Rattle.arp.specs.declared.command.End.the-variants.{Nothing, Ended, NoneFree, Abandoned, NotOutstanding}
+use Rattle.arp.specs.declared.command.Handed.{Handed}
+use Rattle.arp.specs.declared.command.Handed.the-variants.{Send, Wait}
 
 module _ (t : Table) (n : ℕ) (u : Udid) where
-  again-none : again n ≡ NoneFree u → ⊥
+  again-none : again n ≡ Wait (NoneFree u) → ⊥
   again-none e = go (leb 128 n) e
     where
-      go : (b : Bool) → pick b Abandoned GetUdid ≡ NoneFree u → ⊥
+      go : (b : Bool) → pick b (Wait Abandoned) (Send GetUdid) ≡ Wait (NoneFree u) → ⊥
       go true k = let z : _≡_ {A = ℕ} 0 1 = cc k in omega arith
       go false k = let z : _≡_ {A = ℕ} 0 1 = cc k in omega arith
 
-  prepare-none : (d : Decoded) (xs : List ℕ) → nextPrepare n d xs ≡ NoneFree u → ⊥
+  prepare-none : (d : Decoded) (xs : List ℕ) → nextPrepare n d xs ≡ Wait (NoneFree u) → ⊥
   prepare-none (Done x) xs e = go (and (eqb (x .address .0) 0x61) (eqb (getD xs 0 0) 0x01)) e
     where
-      go : (b : Bool) → pick b (again n) Abandoned ≡ NoneFree u → ⊥
+      go : (b : Bool) → pick b (again n) (Wait Abandoned) ≡ Wait (NoneFree u) → ⊥
       go true k = again-none k
       go false k = let z : _≡_ {A = ℕ} 0 1 = cc k in omega arith
   prepare-none (Refused w k) xs e = go (isNack w) e
     where
-      go : (b : Bool) → pick b Ended Abandoned ≡ NoneFree u → ⊥
+      go : (b : Bool) → pick b (Wait Ended) (Wait Abandoned) ≡ Wait (NoneFree u) → ⊥
       go true k = let z : _≡_ {A = ℕ} 0 1 = cc k in omega arith
       go false k = let z : _≡_ {A = ℕ} 0 1 = cc k in omega arith
 
@@ -56,34 +59,34 @@ module _ (t : Table) (n : ℕ) (u : Udid) where
   not-reply : (xs : List ℕ) → Unserved Other xs → ⊥
   not-reply xs h = let z : _≡_ {A = ℕ} 0 1 = cc (h .0) in omega arith
 
-  assigning-none : (w : Udid) (f : Free) → assigning w f ≡ NoneFree u → (w ≡ u) × (f ≡ AllUsed)
+  assigning-none : (w : Udid) (f : Free) → assigning w f ≡ Wait (NoneFree u) → (w ≡ u) × (f ≡ AllUsed)
   assigning-none w (At a) e = absurd (let z : _≡_ {A = ℕ} 0 1 = cc e in omega arith)
   assigning-none w AllUsed e = (cc e, refl)
 
   done-none : (p q : Bool) (w : Udid) (xs : List ℕ)
-      → (pick p (pick q (assigning w (picked (released w t .used) w (getD xs 16 0))) Ended) (again n) ≡ NoneFree u) ↔ Unserved (pick p (pick q (Replied w) Other) Other) xs
+      → (pick p (pick q (assigning w (picked (released w t .used) w (getD xs 16 0))) (Wait Ended)) (again n) ≡ Wait (NoneFree u)) ↔ Unserved (pick p (pick q (Replied w) Other) Other) xs
   done-none true true w xs = (forth, back-to)
     where
-      forth : assigning w (picked (released w t .used) w (getD xs 16 0)) ≡ NoneFree u → Unserved (Replied w) xs
+      forth : assigning w (picked (released w t .used) w (getD xs 16 0)) ≡ Wait (NoneFree u) → Unserved (Replied w) xs
       forth e =
           let h = assigning-none w (picked (released w t .used) w (getD xs 16 0)) e in
           (ap Replied (h .0), sym (ap (λ (v : Udid). picked (released v t .used) v (getD xs 16 0)) (h .0)) ∙ h .1)
 
-      back-to : Unserved (Replied w) xs → assigning w (picked (released w t .used) w (getD xs 16 0)) ≡ NoneFree u
+      back-to : Unserved (Replied w) xs → assigning w (picked (released w t .used) w (getD xs 16 0)) ≡ Wait (NoneFree u)
       back-to h =
           let k : w ≡ u = cc (h .0) in
           ap (λ (v : Udid). assigning v (picked (released v t .used) v (getD xs 16 0))) k ∙ ap (assigning u) (h .1)
   done-none true false w xs = (λ e. absurd (let z : _≡_ {A = ℕ} 0 1 = cc e in omega arith), λ h. absurd (not-reply xs h))
   done-none false q w xs = (λ e. absurd (again-none e), λ h. absurd (not-reply xs h))
 
-  neither : (xs : List ℕ) → (again n ≡ NoneFree u) ↔ Unserved Other xs
+  neither : (xs : List ℕ) → (again n ≡ Wait (NoneFree u)) ↔ Unserved Other xs
   neither xs = (λ e. absurd (again-none e), λ h. absurd (not-reply xs h))
 
-  reply-none-free : (d : Decoded) (xs : List ℕ) → (nextReply t n d xs ≡ NoneFree u) ↔ Unserved (replyIn d xs) xs
+  reply-none-free : (d : Decoded) (xs : List ℕ) → (nextReply t n d xs ≡ Wait (NoneFree u)) ↔ Unserved (replyIn d xs) xs
   reply-none-free (Done x) xs = done-none (and (eqb (x .address .0) 0x61) (eqb (x .command) 0x03)) (eqb (x .received) 17) (udidAt xs 0) xs
   reply-none-free (Refused w k) xs = (λ e. absurd (go (and (isNack w) (ltb k 3)) e), λ h. absurd (not-reply xs h))
     where
-      go : (q : Bool) → pick q Ended (again n) ≡ NoneFree u → ⊥
+      go : (q : Bool) → pick q (Wait Ended) (again n) ≡ Wait (NoneFree u) → ⊥
       go true k = let z : _≡_ {A = ℕ} 0 1 = cc k in omega arith
       go false k = again-none k
 
@@ -95,50 +98,46 @@ module _ (t : Table) (n : ℕ) (u : Udid) where
       go false k = let z : _≡_ {A = ℕ} 0 1 = cc k in omega arith
   assign-asks w a (Refused v k) xs ys h = not-reply ys h
 
-  idle-none : (xs : List ℕ) → (NotOutstanding ≡ NoneFree u) ↔ Unserved Other xs
+  idle-none : (xs : List ℕ) → ((Wait NotOutstanding) ≡ Wait (NoneFree u)) ↔ Unserved Other xs
   idle-none xs = (λ e. absurd (let z : _≡_ {A = ℕ} 0 1 = cc e in omega arith), λ h. absurd (not-reply xs h))
 
-  next-none : (k : Command) (tr : List ℕ) → (nextCommand t n k tr ≡ NoneFree u) ↔ Unserved (readAs k tr) (receivedIn 9 tr)
-  next-none Prepare tr = (λ e. absurd (prepare-none (answer 1 tr) (sentIn 1 tr) e), λ h. absurd (not-reply (receivedIn 9 tr) h))
-  next-none GetUdid tr = reply-none-free (answer 9 tr) (receivedIn 9 tr)
-  next-none (Assign w a) tr = (λ e. absurd (again-none e), λ h. absurd (assign-asks w (a .0) (answer 8 tr) (sentIn 8 tr) (receivedIn 9 tr) h))
-  next-none Nothing tr = idle-none (receivedIn 9 tr)
-  next-none Ended tr = idle-none (receivedIn 9 tr)
-  next-none (NoneFree w) tr = idle-none (receivedIn 9 tr)
-  next-none Abandoned tr = idle-none (receivedIn 9 tr)
-  next-none NotOutstanding tr = idle-none (receivedIn 9 tr)
+  next-none : (k : Handed) (tr : List ℕ) → (nextCommand t n k tr ≡ Wait (NoneFree u)) ↔ Unserved (readAs k tr) (receivedIn 9 tr)
+  next-none (Send Prepare) tr = (λ e. absurd (prepare-none (answer 1 tr) (sentIn 1 tr) e), λ h. absurd (not-reply (receivedIn 9 tr) h))
+  next-none (Send GetUdid) tr = reply-none-free (answer 9 tr) (receivedIn 9 tr)
+  next-none (Send (Assign w a)) tr = (λ e. absurd (again-none e), λ h. absurd (assign-asks w (a .0) (answer 8 tr) (sentIn 8 tr) (receivedIn 9 tr) h))
+  next-none (Wait e) tr = idle-none (receivedIn 9 tr)
 
 -- A STEP GIVES 13 exactly at a reply for which, with what its identifier was bound to freed, there is no address to pick
 pub step-13-by-table : (occupied : Pool) (es : List Event) (tr : List ℕ) (u : Udid)
-    → (stepped (run occupied es) tr .command ≡ NoneFree u)
+    → (stepped (run occupied es) tr .command ≡ Wait (NoneFree u))
     ↔ ((readAs (handedOut occupied es) tr ≡ Replied u) × NoneToPick (released u (table occupied es) .used) u (getD (receivedIn 9 tr) 16 0))
 step-13-by-table occupied es tr u = (forth, back-to)
   where
-    both : (nextCommand (table occupied es) (getsSent occupied es) (handedOut occupied es) tr ≡ NoneFree u)
+    both : (nextCommand (table occupied es) (getsSent occupied es) (handedOut occupied es) tr ≡ Wait (NoneFree u))
         ↔ ((readAs (handedOut occupied es) tr ≡ Replied u) × (picked (released u (table occupied es) .used) u (getD (receivedIn 9 tr) 16 0) ≡ AllUsed))
     both = next-none (table occupied es) (getsSent occupied es) u (handedOut occupied es) tr
 
-    forth : stepped (run occupied es) tr .command ≡ NoneFree u
+    forth : stepped (run occupied es) tr .command ≡ Wait (NoneFree u)
         → (readAs (handedOut occupied es) tr ≡ Replied u) × NoneToPick (released u (table occupied es) .used) u (getD (receivedIn 9 tr) 16 0)
     forth e =
         let h = both .0 (sym (handed-out-by-table occupied es tr) ∙ e) in
         (h .0, none-picked-exactly (released u (table occupied es) .used) u (getD (receivedIn 9 tr) 16 0) .0 (h .1))
 
     back-to : (readAs (handedOut occupied es) tr ≡ Replied u) × NoneToPick (released u (table occupied es) .used) u (getD (receivedIn 9 tr) 16 0)
-        → stepped (run occupied es) tr .command ≡ NoneFree u
+        → stepped (run occupied es) tr .command ≡ Wait (NoneFree u)
     back-to h =
         handed-out-by-table occupied es tr
         ∙ both .1 (h .0, none-picked-exactly (released u (table occupied es) .used) u (getD (receivedIn 9 tr) 16 0) .1 (h .1))
 
 module _ (occupied : Pool) (es : List Event) (tr : List ℕ) where
   -- and by the story of the events alone
-  pub step-13-by-story : (u : Udid) → Fits u → (stepped (run occupied es) tr .command ≡ NoneFree u) ↔ Full occupied es tr u
+  pub step-13-by-story : (u : Udid) → Fits u → (stepped (run occupied es) tr .command ≡ Wait (NoneFree u)) ↔ Full occupied es tr u
   step-13-by-story u f = (λ e. there (in-story .0 e), λ w. in-story .1 (back-to w))
     where
-      in-story : (stepped (run occupied es) tr .command ≡ NoneFree u)
+      in-story : (stepped (run occupied es) tr .command ≡ Wait (NoneFree u))
           ↔ ((readAs (story occupied es .command) tr ≡ Replied u) × NoneToPick (released u (story occupied es .known) .used) u (getD (receivedIn 9 tr) 16 0))
       in-story =
-          subst (λ (w : Story). (stepped (run occupied es) tr .command ≡ NoneFree u)
+          subst (λ (w : Story). (stepped (run occupied es) tr .command ≡ Wait (NoneFree u))
           ↔ ((readAs (w .command) tr ≡ Replied u) × NoneToPick (released u (w .known) .used) u (getD (receivedIn 9 tr) 16 0))) (table-is-story occupied es)
           (step-13-by-table occupied es tr u)
 
@@ -160,16 +159,17 @@ abbrev first : List (ℕ × List Udid) → ℕ × List Udid
 first [] = (0, [])
 first (x ∷ xs) = x
 
--- 13 with an identifier is given by one command alone
-pub number-13-is-none-free : (k : Command) (u : Udid) → commandNumber k ≡ (13, u ∷ []) ∷ [] → k ≡ NoneFree u
-number-13-is-none-free (NoneFree v) u e = ap NoneFree (same (ap (λ (l : List (ℕ × List Udid)). first l .1) e))
+-- 13 with an identifier is given by one end alone
+number-13-end : (x : End) (u : Udid) → endNumber x ≡ (13, u ∷ []) ∷ [] → x ≡ NoneFree u
+number-13-end (NoneFree v) u e = ap NoneFree (same (ap (λ (l : List (ℕ × List Udid)). first l .1) e))
   where
     same : v ∷ [] ≡ u ∷ [] → v ≡ u
     same q = cc q
-number-13-is-none-free Nothing u e = absurd (let z : _≡_ {A = ℕ} 0 1 = cc e in omega arith)
-number-13-is-none-free Prepare u e = absurd (let z : _≡_ {A = ℕ} 0 1 = cc e in omega arith)
-number-13-is-none-free GetUdid u e = absurd (let z : _≡_ {A = ℕ} 0 1 = cc e in omega arith)
-number-13-is-none-free (Assign v a) u e = absurd (let z : _≡_ {A = ℕ} 0 1 = cc e in omega arith)
-number-13-is-none-free Ended u e = absurd (let z : _≡_ {A = ℕ} 0 13 = ap (λ (l : List (ℕ × List Udid)). first l .0) e in omega arith)
-number-13-is-none-free Abandoned u e = absurd (let z : _≡_ {A = ℕ} 14 13 = ap (λ (l : List (ℕ × List Udid)). first l .0) e in omega arith)
-number-13-is-none-free NotOutstanding u e = absurd (let z : _≡_ {A = ℕ} 21 13 = ap (λ (l : List (ℕ × List Udid)). first l .0) e in omega arith)
+number-13-end Nothing u e = absurd (let z : _≡_ {A = ℕ} 0 1 = cc e in omega arith)
+number-13-end Ended u e = absurd (let z : _≡_ {A = ℕ} 0 13 = ap (λ (l : List (ℕ × List Udid)). first l .0) e in omega arith)
+number-13-end Abandoned u e = absurd (let z : _≡_ {A = ℕ} 14 13 = ap (λ (l : List (ℕ × List Udid)). first l .0) e in omega arith)
+number-13-end NotOutstanding u e = absurd (let z : _≡_ {A = ℕ} 21 13 = ap (λ (l : List (ℕ × List Udid)). first l .0) e in omega arith)
+
+pub number-13-is-none-free : (k : Handed) (u : Udid) → commandNumber k ≡ (13, u ∷ []) ∷ [] → k ≡ Wait (NoneFree u)
+number-13-is-none-free (Send k) u e = absurd (let z : _≡_ {A = ℕ} 0 1 = cc e in omega arith)
+number-13-is-none-free (Wait x) u e = ap Wait (number-13-end x u e)

@@ -2,21 +2,25 @@
 use Prim.Native.Nat.{ℕ}
 use mathlib.Core.List.{List, [], _∷_}
 use Rattle.udid.specs.declared.Udid.{Udid}
-use Rattle.arp.specs.declared.command.Command.{Command}
-use Rattle.arp.specs.declared.command.Command.the-variants.{Nothing, Prepare, GetUdid, Assign, Ended, NoneFree, Abandoned, NotOutstanding}
+use Rattle.arp.specs.declared.command.End.{End}
+use Rattle.arp.specs.declared.command.End.the-variants.{Nothing, Ended, NoneFree, Abandoned, NotOutstanding}
+use Rattle.arp.specs.declared.command.Handed.{Handed}
+use Rattle.arp.specs.declared.command.Handed.the-variants.{Send, Wait}
 use Rattle.arp.specs.declared.lookup.Found.{Found}
 use Rattle.arp.specs.declared.lookup.Found.the-variants.{Bound, Nobody, Two, NoAddress}
 
--- the numbers of a command that ends a pass or refuses a step; a command to send has none
-abbrev pub commandNumber : Command → List (ℕ × List Udid)
-commandNumber Nothing = []
-commandNumber Prepare = []
-commandNumber GetUdid = []
-commandNumber (Assign u a) = []
-commandNumber Ended = (0, []) ∷ []
-commandNumber (NoneFree u) = (13, u ∷ []) ∷ []
-commandNumber Abandoned = (14, []) ∷ []
-commandNumber NotOutstanding = (21, []) ∷ []
+-- the number of an end; where no pass has begun there is none
+abbrev pub endNumber : End → List (ℕ × List Udid)
+endNumber Nothing = []
+endNumber Ended = (0, []) ∷ []
+endNumber (NoneFree u) = (13, u ∷ []) ∷ []
+endNumber Abandoned = (14, []) ∷ []
+endNumber NotOutstanding = (21, []) ∷ []
+
+-- a command to send has none
+abbrev pub commandNumber : Handed → List (ℕ × List Udid)
+commandNumber (Send k) = []
+commandNumber (Wait e) = endNumber e
 
 abbrev pub lookupNumber : Found → ℕ × List Udid
 lookupNumber (Bound u) = (0, u ∷ [])

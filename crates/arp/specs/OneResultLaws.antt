@@ -23,21 +23,22 @@ use Rattle.pool.specs.declared.Pool.{Pool}
 use Rattle.pool.specs.declared.free.Free.{Free}
 use Rattle.pool.specs.declared.free.Free.the-variants.{At, AllUsed}
 use Rattle.udid.specs.Bytes.{udidBytes}
-use Rattle.udid.specs.UdidLaws.{same-equal, same-is}
-use Rattle.udid.specs.Udids.{sameUdid}
+use Rattle.udid.specs.UdidLaws.{same-refl}
 use Rattle.udid.specs.declared.Udid.{Udid}
 use Rattle.arp.specs.HeardLaws.{gives-exactly}
 use Rattle.arp.specs.RequestLaws.{valid-get, reply-symbols}
 use Rattle.arp.specs.TraceLaws.{decoded-back, complete-get-is-its-trace, complete-get-data-fits}
-use Rattle.arp.specs.Bindings.{heldAt}
+use Rattle.arp.specs.SoundLaws.{bound-to-is-bound}
+use Rattle.arp.specs.Bindings.{heldAt, boundTo}
 use Rattle.arp.specs.Heard.{blockRead, answer, receivedIn, isGet}
 use Rattle.arp.specs.CommandTraces.{replyTrace, Reply}
 use Rattle.arp.specs.OneStep.{Gives, Hands, Asks, Chooses, Keeps, Same, BoundAt, Unbinds, Binds, Continues, EndsWith, Replies, Alike}
 use Rattle.arp.specs.Requests.{messageOf}
-use Rattle.arp.specs.declared.command.Command.{Command}
-use Rattle.arp.specs.declared.command.Command.the-variants.{GetUdid, Assign, NoneFree}
-use Rattle.arp.specs.declared.state.Binding.{Binding}
-use Rattle.arp.specs.declared.state.Binding.the-variants.{Open, Bound, Claimed}
+use Rattle.arp.specs.declared.command.Command.the-variants.{GetUdid, Assign}
+use Rattle.arp.specs.declared.command.End.the-variants.{NoneFree}
+use Rattle.arp.specs.declared.command.Handed.{Handed}
+use Rattle.arp.specs.declared.command.Handed.the-variants.{Send, Wait}
+use Rattle.arp.specs.declared.state.Binding.the-variants.{Bound}
 use Rattle.arp.specs.declared.state.Controller.{Controller}
 use Rattle.arp.specs.declared.state.Slot.{Slot}
 use Rattle.arp.specs.declared.state.Stepped.{Stepped}
@@ -81,7 +82,7 @@ reply-or-not s tr = go (answer blockRead tr) refl
   where
     -- if it is, decode answers 0 with that address and command
     is : (xs : List ℕ) → Bytes xs → length xs ≤ 255 → tr ≡ replyTrace xs → (t : Transaction) × (answer blockRead tr ≡ Done t) × (isGet t ≡ true)
-    is xs h l e = (_, ap (answer blockRead) (e ∙ sym (reply-symbols xs)) ∙ decoded-back blockRead (messageOf GetUdid xs) (valid-get xs h l) .0, refl)
+    is xs h l e = (_, ap (answer blockRead) (e ∙ sym (reply-symbols xs)) ∙ decoded-back blockRead (messageOf (Send GetUdid) xs) (valid-get xs h l) .0, refl)
 
     other : (d : Decoded) → answer blockRead tr ≡ d → (decodeNumber d .0 ≡ 0 → ⊥) → (xs : List ℕ) → Bytes xs → length xs ≤ 255 → tr ≡ replyTrace xs → ⊥
     other d e n xs h l q = let w = is xs h l q in n (ap (λ (x : Decoded). decodeNumber x .0) (sym e ∙ w .1))
@@ -103,7 +104,7 @@ reply-or-not s tr = go (answer blockRead tr) refl
 
 -- ---- what two results agree with
 
-hands-both : (s : Controller) (r q : Stepped) (k : Command) (n : ℕ) → Hands s r k n → Hands s q k n → ((a : ℕ) → Same (q .state) (r .state) a) → Alike r q
+hands-both : (s : Controller) (r q : Stepped) (k : Handed) (n : ℕ) → Hands s r k n → Hands s q k n → ((a : ℕ) → Same (q .state) (r .state) a) → Alike r q
 hands-both s r q k n h g e = record {
   command = h .command ∙ sym (g .command);
   last = h .last ∙ sym (g .last);
@@ -128,7 +129,7 @@ keeps-both s t v h g a = (
 pub continues-alike : (s : Controller) (r q : Stepped) → Continues s r → Continues s q → Alike r q
 continues-alike s r q h g = asks-both s r q (h .0) (g .0) (keeps-both s (r .state) (q .state) (h .1) (g .1))
 
-pub ends-alike : (s : Controller) (r q : Stepped) (k : Command) → EndsWith s r k → EndsWith s q k → Alike r q
+pub ends-alike : (s : Controller) (r q : Stepped) (k : Handed) → EndsWith s r k → EndsWith s q k → Alike r q
 ends-alike s r q k h g = hands-both s r q k (s .gets) (h .0) (g .0) (keeps-both s (r .state) (q .state) (h .1) (g .1))
 
 same-both : (s t v : Controller) (a : ℕ) → Same s t a → Same s v a → Same v t a
@@ -145,16 +146,11 @@ binds-alike u n s r q h g = asks-both s r q (h .0) (g .0) (λ a. at a (ℕ-discr
 -- an identifier is bound to an address first, or not
 module _ (slots : List Slot) (u : Udid) where
   bound-here : (a : ℕ) → Dec (heldAt slots a ≡ Bound u)
-  bound-here a = go (heldAt slots a) refl
+  bound-here a = go (boundTo u (heldAt slots a)) refl
     where
-      go : (h : Binding) → heldAt slots a ≡ h → Dec (heldAt slots a ≡ Bound u)
-      go Open e = no (λ k. let z : _≡_ {A = ℕ} 0 1 = cc (sym e ∙ k) in omega arith)
-      go Claimed e = no (λ k. let z : _≡_ {A = ℕ} 0 1 = cc (sym e ∙ k) in omega arith)
-      go (Bound v) e = at (sameUdid v u) refl
-        where
-          at : (b : Bool) → sameUdid v u ≡ b → Dec (heldAt slots a ≡ Bound u)
-          at true q = yes (e ∙ ap Bound (same-equal v u q))
-          at false q = no (λ k. let j : v ≡ u = cc (sym e ∙ k) in let z : _≡_ {A = ℕ} 0 1 = cc (sym q ∙ same-is v u .1 j) in omega arith)
+      go : (b : Bool) → boundTo u (heldAt slots a) ≡ b → Dec (heldAt slots a ≡ Bound u)
+      go true e = yes (bound-to-is-bound u (heldAt slots a) e)
+      go false e = no (λ k. let z : _≡_ {A = ℕ} 0 1 = cc (sym e ∙ ap (boundTo u) k ∙ same-refl u) in omega arith)
 
   below : (a : ℕ) → Dec ((b : ℕ) → b < a → heldAt slots b ≡ Bound u → ⊥)
   below zero = yes (λ b h k. absurd (omega arith))
@@ -185,7 +181,7 @@ unbinds-both u s t v h g a = go (bound-at (s .slots) u a)
     go (no n) = same-both s t v a (h .elsewhere a n) (g .elsewhere a n)
 
 -- one choice, where the pools have the same addresses
-chooses-both : (p o : Pool) (u : Udid) (b : ℕ) (k m : Command) → ((a : ℕ) → member p a ≡ member o a) → Chooses p u b k → Chooses o u b m → k ≡ m
+chooses-both : (p o : Pool) (u : Udid) (b : ℕ) (k m : Handed) → ((a : ℕ) → member p a ≡ member o a) → Chooses p u b k → Chooses o u b m → k ≡ m
 chooses-both p o u b k m e h g = go (ℕ-discrete b 0xFF) (decLt (getD (udidBytes u) 0 0) 64) (member p (b / 2)) refl
   where
     Picks : Pool → Type 0
@@ -211,17 +207,17 @@ pub replies-alike : (s : Controller) (u : Udid) (b : ℕ) (r q : Stepped) → Re
 replies-alike s u b r q h g =
     let e : (a : ℕ) → Same (q .state) (r .state) a = unbinds-both u s (r .state) (q .state) (h .unbinds) (g .unbinds) in
     let k : r .command ≡ q .command = chooses-both (r .state .pool) (q .state .pool) u b (r .command) (q .command) (λ a. e a .1) (h .chooses) (g .chooses) in
-    hands-both s r q (q .command) (s .gets) (subst (λ (x : Command). Hands s r x (s .gets)) k (h .hands)) (g .hands) e
+    hands-both s r q (q .command) (s .gets) (subst (λ (x : Handed). Hands s r x (s .gets)) k (h .hands)) (g .hands) e
 
 -- and it is an address, or none is free
-pub chooses-address-or-none : (p : Pool) (u : Udid) (b : ℕ) (k : Command) → Chooses p u b k → ((a : Address) × (k ≡ Assign u a)) ⊎ (k ≡ NoneFree u)
+pub chooses-address-or-none : (p : Pool) (u : Udid) (b : ℕ) (k : Handed) → Chooses p u b k → ((a : Address) × (k ≡ Send (Assign u a))) ⊎ (k ≡ Wait (NoneFree u))
 chooses-address-or-none p u b k h = go (ℕ-discrete b 0xFF) (decLt (getD (udidBytes u) 0 0) 64) (member p (b / 2)) refl
   where
-    pick-one : (b ≡ 0xFF) ⊎ ((64 ≤ getD (udidBytes u) 0 0) × (member p (b / 2) ≡ true)) → (f : Free) → lowestFree p ≡ f → ((a : Address) × (k ≡ Assign u a)) ⊎ (k ≡ NoneFree u)
+    pick-one : (b ≡ 0xFF) ⊎ ((64 ≤ getD (udidBytes u) 0 0) × (member p (b / 2) ≡ true)) → (f : Free) → lowestFree p ≡ f → ((a : Address) × (k ≡ Send (Assign u a))) ⊎ (k ≡ Wait (NoneFree u))
     pick-one w (At a) q = inl (a, h .picked w (a .0) (lowest-is p (a .0) .0 q))
     pick-one w AllUsed q = inr (h .none-free w (none-free p .0 q))
 
-    go : Dec (b ≡ 0xFF) → Dec (getD (udidBytes u) 0 0 < 64) → (t : Bool) → member p (b / 2) ≡ t → ((a : Address) × (k ≡ Assign u a)) ⊎ (k ≡ NoneFree u)
+    go : Dec (b ≡ 0xFF) → Dec (getD (udidBytes u) 0 0 < 64) → (t : Bool) → member p (b / 2) ≡ t → ((a : Address) × (k ≡ Send (Assign u a))) ⊎ (k ≡ Wait (NoneFree u))
     go (yes q) d t z = pick-one (inl q) (lowestFree p) refl
     go (no n) (yes l) t z = inl (_, h .fixed n l)
     go (no n) (no l) false z = inl (_, h .own n (omega arith) z)

@@ -15,8 +15,10 @@ use Rattle.pool.specs.declared.Pool.{Pool}
 use Rattle.udid.specs.Bytes.{udidBytes}
 use Rattle.udid.specs.declared.Udid.{Udid}
 use Rattle.arp.specs.Bindings.{heldAt}
-use Rattle.arp.specs.declared.command.Command.{Command}
-use Rattle.arp.specs.declared.command.Command.the-variants.{GetUdid, Assign, NoneFree, Abandoned}
+use Rattle.arp.specs.declared.command.Command.the-variants.{GetUdid, Assign}
+use Rattle.arp.specs.declared.command.End.the-variants.{NoneFree, Abandoned}
+use Rattle.arp.specs.declared.command.Handed.{Handed}
+use Rattle.arp.specs.declared.command.Handed.the-variants.{Send, Wait}
 use Rattle.arp.specs.declared.state.Binding.the-variants.{Open, Bound, Claimed}
 use Rattle.arp.specs.declared.state.Controller.{Controller}
 use Rattle.arp.specs.declared.state.Slot.{Slot}
@@ -39,7 +41,7 @@ pub record Gives (protocol : ℕ) (tr : List ℕ) (n v : ℕ) : Type 0 where
 -- ---- what is handed out
 
 -- k is handed out and kept as the last, and n Get UDIDs are counted; the starting pool stays
-pub record Hands (s : Controller) (r : Stepped) (k : Command) (n : ℕ) : Type 0 where
+pub record Hands (s : Controller) (r : Stepped) (k : Handed) (n : ℕ) : Type 0 where
   pub command : r .command ≡ k
   pub last : r .state .last ≡ k
   pub gets : r .state .gets ≡ n
@@ -47,18 +49,18 @@ pub record Hands (s : Controller) (r : Stepped) (k : Command) (n : ℕ) : Type 0
 
 -- Get UDID, with the count one up; when it would be the 129th of the pass: 14
 pub record Asks (s : Controller) (r : Stepped) : Type 0 where
-  pub again : s .gets < 128 → Hands s r GetUdid (s .gets + 1)
-  pub limit : 128 ≤ s .gets → Hands s r Abandoned (s .gets)
+  pub again : s .gets < 128 → Hands s r (Send GetUdid) (s .gets + 1)
+  pub limit : 128 ≤ s .gets → Hands s r (Wait Abandoned) (s .gets)
 
 -- for a target with this identifier and this address byte, where the addresses of p are in use
-pub record Chooses (p : Pool) (u : Udid) (b : ℕ) (k : Command) : Type 0 where
+pub record Chooses (p : Pool) (u : Udid) (b : ℕ) (k : Handed) : Type 0 where
   -- FFh, or movable (the top two bits not 00) with its own address in the pool: the lowest free one is assigned, and 13 if none is free
-  pub picked : (b ≡ 0xFF) ⊎ ((64 ≤ getD (udidBytes u) 0 0) × (member p (b / 2) ≡ true)) → (a : ℕ) → Lowest p a → k ≡ Assign u (record { 0 = a })
-  pub none-free : (b ≡ 0xFF) ⊎ ((64 ≤ getD (udidBytes u) 0 0) × (member p (b / 2) ≡ true)) → ((a : ℕ) → a < 128 → member p a ≡ true) → k ≡ NoneFree u
+  pub picked : (b ≡ 0xFF) ⊎ ((64 ≤ getD (udidBytes u) 0 0) × (member p (b / 2) ≡ true)) → (a : ℕ) → Lowest p a → k ≡ Send (Assign u (record { 0 = a }))
+  pub none-free : (b ≡ 0xFF) ⊎ ((64 ≤ getD (udidBytes u) 0 0) × (member p (b / 2) ≡ true)) → ((a : ℕ) → a < 128 → member p a ≡ true) → k ≡ Wait (NoneFree u)
   -- else fixed: its own
-  pub fixed : (b ≡ 0xFF → ⊥) → getD (udidBytes u) 0 0 < 64 → k ≡ Assign u (record { 0 = b / 2 })
+  pub fixed : (b ≡ 0xFF → ⊥) → getD (udidBytes u) 0 0 < 64 → k ≡ Send (Assign u (record { 0 = b / 2 }))
   -- else movable with its own not in the pool: its own
-  pub own : (b ≡ 0xFF → ⊥) → 64 ≤ getD (udidBytes u) 0 0 → member p (b / 2) ≡ false → k ≡ Assign u (record { 0 = b / 2 })
+  pub own : (b ≡ 0xFF → ⊥) → 64 ≤ getD (udidBytes u) 0 0 → member p (b / 2) ≡ false → k ≡ Send (Assign u (record { 0 = b / 2 }))
 
 -- ---- what becomes of the addresses
 
@@ -96,7 +98,7 @@ abbrev pub Continues : Controller → Stepped → Type 0
 Continues s r = Asks s r × Keeps s (r .state)
 
 -- the pass ends with k, and what was bound stands
-abbrev pub EndsWith : Controller → Stepped → Command → Type 0
+abbrev pub EndsWith : Controller → Stepped → Handed → Type 0
 EndsWith s r k = Hands s r k (s .gets) × Keeps s (r .state)
 
 -- a reply with this identifier and this address byte: the identifier is unbound first, then an address is chosen

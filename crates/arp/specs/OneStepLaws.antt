@@ -41,8 +41,10 @@ use Rattle.arp.specs.Heard.{blockWrite, answer, sentIn, isAssign}
 use Rattle.arp.specs.CommandTraces.{prepareTrace, replyTrace, assignTrace}
 use Rattle.arp.specs.OneStep.{Gives, Hands, Asks, Chooses, Keeps, Same, BoundAt, Unbinds, Binds, Continues, EndsWith, Replies}
 use Rattle.arp.specs.Replay.{noCommand, assigning}
-use Rattle.arp.specs.declared.command.Command.{Command}
-use Rattle.arp.specs.declared.command.Command.the-variants.{Prepare, GetUdid, Assign, Ended, NoneFree, Abandoned, NotOutstanding}
+use Rattle.arp.specs.declared.command.Command.the-variants.{Prepare, GetUdid, Assign}
+use Rattle.arp.specs.declared.command.End.the-variants.{Ended, NoneFree, Abandoned, NotOutstanding}
+use Rattle.arp.specs.declared.command.Handed.{Handed}
+use Rattle.arp.specs.declared.command.Handed.the-variants.{Send, Wait}
 use Rattle.arp.specs.declared.state.Binding.{Binding}
 use Rattle.arp.specs.declared.state.Binding.the-variants.{Bound}
 use Rattle.arp.specs.declared.state.Controller.{Controller}
@@ -52,34 +54,34 @@ use Rattle.arp.specs.declared.state.Stepped.{Stepped}
 -- ---- what is handed out
 
 -- from a state with the same counts
-hands : (s t : Controller) (k : Command) (n : ℕ) → t .gets ≡ n → t .starting ≡ s .starting → Hands s (handed t k) k n
+hands : (s t : Controller) (k : Handed) (n : ℕ) → t .gets ≡ n → t .starting ≡ s .starting → Hands s (handed t k) k n
 hands s t k n g e = record { command = refl; last = refl; gets = g; starting = e }
 
-ends : (s : Controller) (k : Command) → Hands s (handed s k) k (s .gets)
+ends : (s : Controller) (k : Handed) → Hands s (handed s k) k (s .gets)
 ends s k = hands s s k (s .gets) refl refl
 
 asks : (s t : Controller) → t .gets ≡ s .gets → t .starting ≡ s .starting → Asks s (asked t)
 unfolding asked
 asks s t g e = record { again = more; limit = full }
   where
-    more : s .gets < 128 → Hands s (asked t) GetUdid (s .gets + 1)
-    more h = rw (lt-leb 128 (t .gets) (omega arith)) (hands s (counted t) GetUdid (s .gets + 1) (omega arith) e)
+    more : s .gets < 128 → Hands s (asked t) (Send GetUdid) (s .gets + 1)
+    more h = rw (lt-leb 128 (t .gets) (omega arith)) (hands s (counted t) (Send GetUdid) (s .gets + 1) (omega arith) e)
 
-    full : 128 ≤ s .gets → Hands s (asked t) Abandoned (s .gets)
-    full h = rw (le-leb 128 (t .gets) (omega arith)) (hands s t Abandoned (s .gets) g e)
+    full : 128 ≤ s .gets → Hands s (asked t) (Wait Abandoned) (s .gets)
+    full h = rw (le-leb 128 (t .gets) (omega arith)) (hands s t (Wait Abandoned) (s .gets) g e)
 
 keeps-asked : (s : Controller) → Keeps s (asked s .state)
 unfolding asked
 keeps-asked s = go (leb 128 (s .gets))
   where
-    go : (b : Bool) → Keeps s (pick b (handed s Abandoned) (handed (counted s) GetUdid) .state)
+    go : (b : Bool) → Keeps s (pick b (handed s (Wait Abandoned)) (handed (counted s) (Send GetUdid)) .state)
     go true = record { slots = refl; pool = refl }
     go false = record { slots = refl; pool = refl }
 
 continues : (s : Controller) → Continues s (asked s)
 continues s = (asks s s refl refl, keeps-asked s)
 
-ends-with : (s : Controller) (k : Command) → EndsWith s (handed s k) k
+ends-with : (s : Controller) (k : Handed) → EndsWith s (handed s k) k
 ends-with s k = (hands s s k (s .gets) refl refl, record { slots = refl; pool = refl })
 
 -- ---- unbinding
@@ -213,12 +215,12 @@ module _ (s : Controller) (u : Udid) (b : ℕ) (f : Fits u) (size : length (s .s
   replies-with (At a) e = record {
     unbinds = record { there = unbinds s u size .there; elsewhere = unbinds s u size .elsewhere };
     chooses = subst (Chooses (freed s u .pool) u b) (ap (assigning u) (sym e)) (chooses (freed s u .pool) u b f);
-    hands = hands s (freed s u) (Assign u a) (s .gets) (freed-keeps-gets s u) (starting-freed s u);
+    hands = hands s (freed s u) (Send (Assign u a)) (s .gets) (freed-keeps-gets s u) (starting-freed s u);
   }
   replies-with AllUsed e = record {
     unbinds = record { there = unbinds s u size .there; elsewhere = unbinds s u size .elsewhere };
     chooses = subst (Chooses (freed s u .pool) u b) (ap (assigning u) (sym e)) (chooses (freed s u .pool) u b f);
-    hands = hands s (freed s u) (NoneFree u) (s .gets) (freed-keeps-gets s u) (starting-freed s u);
+    hands = hands s (freed s u) (Wait (NoneFree u)) (s .gets) (freed-keeps-gets s u) (starting-freed s u);
   }
 
   replies : Replies s u b (replied s u b)
@@ -228,7 +230,7 @@ module _ (s : Controller) (u : Udid) (b : ℕ) (f : Fits u) (size : length (s .s
 -- ---- THE SENTENCES
 
 module _ (s : Controller) (tr : List ℕ) where
-  outstanding : (k : Command) → s .last ≡ k → stepped s tr ≡ byCommand s tr k
+  outstanding : (k : Handed) → s .last ≡ k → stepped s tr ≡ byCommand s tr k
   unfolding stepped
   outstanding k e = ap (byCommand s tr) e
 
@@ -249,71 +251,71 @@ module _ (s : Controller) (tr : List ℕ) where
       go (Refused w k) xs = refl
 
   -- Prepare accepted: send Get UDID
-  pub prepare-accepted : s .last ≡ Prepare → tr ≡ prepareTrace → Continues s (stepped s tr)
-  prepare-accepted e q = subst (Continues s) (sym (outstanding Prepare e ∙ traces.prepare-accepted s tr (q ∙ sym (prepare-symbols [])))) (continues s)
+  pub prepare-accepted : s .last ≡ Send Prepare → tr ≡ prepareTrace → Continues s (stepped s tr)
+  prepare-accepted e q = subst (Continues s) (sym (outstanding (Send Prepare) e ∙ traces.prepare-accepted s tr (q ∙ sym (prepare-symbols [])))) (continues s)
 
   -- answer 6: the pass ends, nobody there
-  pub prepare-nobody : s .last ≡ Prepare → (b : ℕ) → Gives 1 tr 6 b → EndsWith s (stepped s tr) Ended
+  pub prepare-nobody : s .last ≡ Send Prepare → (b : ℕ) → Gives 1 tr 6 b → EndsWith s (stepped s tr) (Wait Ended)
   prepare-nobody e b g =
-      subst (λ (r : Stepped). EndsWith s r Ended) (sym (outstanding Prepare e ∙ traces.prepare-nobody s tr b (six-exactly 1 tr b refl .0 g))) (ends-with s Ended)
+      subst (λ (r : Stepped). EndsWith s r (Wait Ended)) (sym (outstanding (Send Prepare) e ∙ traces.prepare-nobody s tr b (six-exactly 1 tr b refl .0 g))) (ends-with s (Wait Ended))
 
   -- any other: 14
-  pub prepare-other : s .last ≡ Prepare → (tr ≡ prepareTrace → ⊥) → ((b : ℕ) → Gives 1 tr 6 b → ⊥) → EndsWith s (stepped s tr) Abandoned
+  pub prepare-other : s .last ≡ Send Prepare → (tr ≡ prepareTrace → ⊥) → ((b : ℕ) → Gives 1 tr 6 b → ⊥) → EndsWith s (stepped s tr) (Wait Abandoned)
   prepare-other e n m =
-      subst (λ (r : Stepped). EndsWith s r Abandoned)
-      (sym (outstanding Prepare e ∙ traces.prepare-other s tr (λ q. n (q ∙ prepare-symbols [])) (λ b c. m b (six-exactly 1 tr b refl .1 c))))
-      (ends-with s Abandoned)
+      subst (λ (r : Stepped). EndsWith s r (Wait Abandoned))
+      (sym (outstanding (Send Prepare) e ∙ traces.prepare-other s tr (λ q. n (q ∙ prepare-symbols [])) (λ b c. m b (six-exactly 1 tr b refl .1 c))))
+      (ends-with s (Wait Abandoned))
 
   -- Get UDID: a complete reply whose count is not 17: the pass ends
-  pub get-count : s .last ≡ GetUdid → (xs : List ℕ) → Bytes xs → length xs ≤ 255 → (length xs ≡ 17 → ⊥) → tr ≡ replyTrace xs → EndsWith s (stepped s tr) Ended
+  pub get-count : s .last ≡ Send GetUdid → (xs : List ℕ) → Bytes xs → length xs ≤ 255 → (length xs ≡ 17 → ⊥) → tr ≡ replyTrace xs → EndsWith s (stepped s tr) (Wait Ended)
   get-count e xs h l n q =
-      subst (λ (r : Stepped). EndsWith s r Ended) (sym (outstanding GetUdid e ∙ traces.get-count s tr xs h l (q ∙ sym (reply-symbols xs)) n)) (ends-with s Ended)
+      subst (λ (r : Stepped). EndsWith s r (Wait Ended)) (sym (outstanding (Send GetUdid) e ∙ traces.get-count s tr xs h l (q ∙ sym (reply-symbols xs)) n)) (ends-with s (Wait Ended))
 
   -- answer 6 at byte 0, 1 or 2: the pass ends
-  pub get-nobody : s .last ≡ GetUdid → (b : ℕ) → b < 3 → Gives 9 tr 6 b → EndsWith s (stepped s tr) Ended
+  pub get-nobody : s .last ≡ Send GetUdid → (b : ℕ) → b < 3 → Gives 9 tr 6 b → EndsWith s (stepped s tr) (Wait Ended)
   get-nobody e b l g =
-      subst (λ (r : Stepped). EndsWith s r Ended) (sym (outstanding GetUdid e ∙ traces.get-nobody s tr b (six-exactly 9 tr b refl .0 g) l)) (ends-with s Ended)
+      subst (λ (r : Stepped). EndsWith s r (Wait Ended)) (sym (outstanding (Send GetUdid) e ∙ traces.get-nobody s tr b (six-exactly 9 tr b refl .0 g) l)) (ends-with s (Wait Ended))
 
   -- any other refusal, another address or another command: Get UDID again
-  pub get-again : s .last ≡ GetUdid → ((xs : List ℕ) → Bytes xs → length xs ≤ 255 → tr ≡ replyTrace xs → ⊥) → ((b : ℕ) → b < 3 → Gives 9 tr 6 b → ⊥)
+  pub get-again : s .last ≡ Send GetUdid → ((xs : List ℕ) → Bytes xs → length xs ≤ 255 → tr ≡ replyTrace xs → ⊥) → ((b : ℕ) → b < 3 → Gives 9 tr 6 b → ⊥)
       → Continues s (stepped s tr)
   get-again e n m =
       subst (Continues s)
-      (sym (outstanding GetUdid e ∙ traces.get-again s tr (λ xs h l q. n xs h l (q ∙ reply-symbols xs)) (λ b c l. m b l (six-exactly 9 tr b refl .1 c))))
+      (sym (outstanding (Send GetUdid) e ∙ traces.get-again s tr (λ xs h l q. n xs h l (q ∙ reply-symbols xs)) (λ b c l. m b l (six-exactly 9 tr b refl .1 c))))
       (continues s)
 
   -- a reply of 17 bytes
-  pub get-reply : length (s .slots) ≡ 128 → s .last ≡ GetUdid → (u : Udid) (b : ℕ) → Fits u → b < 256 → tr ≡ replyTrace (udidBytes u ++ b ∷ []) → Replies s u b (stepped s tr)
+  pub get-reply : length (s .slots) ≡ 128 → s .last ≡ Send GetUdid → (u : Udid) (b : ℕ) → Fits u → b < 256 → tr ≡ replyTrace (udidBytes u ++ b ∷ []) → Replies s u b (stepped s tr)
   get-reply size e u b f h q =
       let xs : List ℕ = udidBytes u ++ b ∷ [] in
       let n : length (udidBytes u ++ b ∷ []) ≡ 17 = omega (arith, length-append (udidBytes u) (b ∷ []), length-udid u) in
       let v : udidAt (udidBytes u ++ b ∷ []) 0 ≡ u = udid-back [] (b ∷ []) 0 u f refl in
       let g : getD (udidBytes u ++ b ∷ []) 16 0 ≡ b = getD-at (udidBytes u) b [] 0 16 (length-udid u) in
       subst (Replies s u b)
-      (sym (outstanding GetUdid e
+      (sym (outstanding (Send GetUdid) e
       ∙ traces.get-reply s tr (udidBytes u ++ b ∷ []) (append-bytes (udidBytes u) (b ∷ []) (udid-bytes u) (h, tt)) (omega arith) (q ∙ sym (reply-symbols (udidBytes u ++ b ∷ []))) n
       ∙ ap₂ (replied s) v g))
       (replies s u b f size)
 
   -- Assign complete: bind, and add to the pool; then Get UDID
-  pub assign-whole : length (s .slots) ≡ 128 → (u : Udid) (a : Address) → s .last ≡ Assign u a → Fits u → a .0 < 128 → tr ≡ assignTrace (udidBytes u) (2 * a .0)
+  pub assign-whole : length (s .slots) ≡ 128 → (u : Udid) (a : Address) → s .last ≡ Send (Assign u a) → Fits u → a .0 < 128 → tr ≡ assignTrace (udidBytes u) (2 * a .0)
       → Asks s (stepped s tr) × Binds u (a .0) s (stepped s tr .state)
   assign-whole size u a e f h q =
       subst (λ (r : Stepped). Asks s r × Binds u (a .0) s (r .state))
-      (sym (outstanding (Assign u a) e ∙ traces.assign-whole s u a tr f (q ∙ sym (assign-symbols-small u a h)))) (
+      (sym (outstanding (Send (Assign u a)) e ∙ traces.assign-whole s u a tr f (q ∙ sym (assign-symbols-small u a h)))) (
         asks s (bound s u (a .0)) (bound-keeps-gets s u (a .0)) (starting-bound s u (a .0)),
         binds-kept u (a .0) s (bound s u (a .0)) (asked (bound s u (a .0)) .state) (binds s u (a .0) size h) (keeps-asked (bound s u (a .0))),
       )
 
   -- any other answer: no binding, Get UDID again
-  pub assign-other : (u : Udid) (a : Address) → s .last ≡ Assign u a → a .0 < 128 → (tr ≡ assignTrace (udidBytes u) (2 * a .0) → ⊥) → Continues s (stepped s tr)
+  pub assign-other : (u : Udid) (a : Address) → s .last ≡ Send (Assign u a) → a .0 < 128 → (tr ≡ assignTrace (udidBytes u) (2 * a .0) → ⊥) → Continues s (stepped s tr)
   assign-other u a e h n =
-      subst (Continues s) (sym (outstanding (Assign u a) e ∙ traces.assign-other s u a tr (λ q. n (q ∙ assign-symbols-small u a h)))) (continues s)
+      subst (Continues s) (sym (outstanding (Send (Assign u a)) e ∙ traces.assign-other s u a tr (λ q. n (q ∙ assign-symbols-small u a h)))) (continues s)
 
   -- a number above 127 is no address: nothing is bound
-  pub assign-no-address : (u : Udid) (a : Address) → s .last ≡ Assign u a → 127 < a .0 → Continues s (stepped s tr)
-  assign-no-address u a e h = subst (Continues s) (sym (outstanding (Assign u a) e ∙ nothing-bound u (a .0) h)) (continues s)
+  pub assign-no-address : (u : Udid) (a : Address) → s .last ≡ Send (Assign u a) → 127 < a .0 → Continues s (stepped s tr)
+  assign-no-address u a e h = subst (Continues s) (sym (outstanding (Send (Assign u a)) e ∙ nothing-bound u (a .0) h)) (continues s)
 
   -- 21, and the state stays, where no command of a pass is outstanding
-  pub none-outstanding : noCommand (s .last) ≡ true → (stepped s tr .state ≡ s) × (stepped s tr .command ≡ NotOutstanding)
+  pub none-outstanding : noCommand (s .last) ≡ true → (stepped s tr .state ≡ s) × (stepped s tr .command ≡ Wait NotOutstanding)
   none-outstanding e = idle-gives-21 s tr e

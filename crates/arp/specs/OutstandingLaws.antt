@@ -19,52 +19,45 @@ use Rattle.pool.specs.declared.free.Free.the-variants.{At, AllUsed}
 use Rattle.udid.specs.Bytes.{udidAt}
 use Rattle.udid.specs.declared.Udid.{Udid}
 use Rattle.arp.specs.HandingLaws.{prepare-handed, get-handed, assign-handed}
-use Rattle.arp.specs.Handing.{Handed}
+use Rattle.arp.specs.Handing.{Kept}
 use Rattle.arp.specs.Bindings.{freed, bound}
 use Rattle.arp.specs.Controller.{newController, handed, counted, asked, chosen, issued, replied, onReply, onPrepare, onGet, onAssign, afterPrepare, afterGet, afterAssign, byCommand, stepped}
 use Rattle.arp.specs.Heard.{sendByte, blockRead, blockWrite, answer, sentIn, receivedIn, isPrepare, isGet, isAssign}
 use Rattle.arp.specs.History.{Event, Start, Received, run, tracesAlone}
-use Rattle.arp.specs.Numbers.{commandNumber}
+use Rattle.arp.specs.Numbers.{endNumber, commandNumber}
 use Rattle.arp.specs.Replay.{Other, readAs, handedOut, noCommand, SameOutstanding}
-use Rattle.arp.specs.declared.command.Command.{Command}
-use Rattle.arp.specs.declared.command.Command.the-variants.{Nothing, Prepare, GetUdid, Assign, Ended, NoneFree, Abandoned, NotOutstanding}
+use Rattle.arp.specs.declared.command.Command.the-variants.{Prepare, GetUdid, Assign}
+use Rattle.arp.specs.declared.command.End.{End}
+use Rattle.arp.specs.declared.command.End.the-variants.{Nothing, Ended, NoneFree, Abandoned, NotOutstanding}
+use Rattle.arp.specs.declared.command.Handed.{Handed}
+use Rattle.arp.specs.declared.command.Handed.the-variants.{Send, Wait}
 use Rattle.arp.specs.declared.state.Controller.{Controller}
 
 -- ---- none is outstanding, or what is handed out is kept
 
 -- a 21 is given where none is outstanding
-pub idle-gives-21 : (s : Controller) (tr : List ℕ) → noCommand (s .last) ≡ true → (stepped s tr .state ≡ s) × (stepped s tr .command ≡ NotOutstanding)
+pub idle-gives-21 : (s : Controller) (tr : List ℕ) → noCommand (s .last) ≡ true → (stepped s tr .state ≡ s) × (stepped s tr .command ≡ Wait NotOutstanding)
 unfolding stepped
 idle-gives-21 s tr h = go (s .last) h
   where
-    go : (k : Command) → noCommand k ≡ true → (byCommand s tr k .state ≡ s) × (byCommand s tr k .command ≡ NotOutstanding)
-    go Prepare i = absurd (let z : _≡_ {A = ℕ} 0 1 = cc i in omega arith)
-    go GetUdid i = absurd (let z : _≡_ {A = ℕ} 0 1 = cc i in omega arith)
-    go (Assign u a) i = absurd (let z : _≡_ {A = ℕ} 0 1 = cc i in omega arith)
-    go Nothing i = (refl, refl)
-    go Ended i = (refl, refl)
-    go (NoneFree u) i = (refl, refl)
-    go Abandoned i = (refl, refl)
-    go NotOutstanding i = (refl, refl)
+    go : (k : Handed) → noCommand k ≡ true → (byCommand s tr k .state ≡ s) × (byCommand s tr k .command ≡ Wait NotOutstanding)
+    go (Send k) i = absurd (let z : _≡_ {A = ℕ} 0 1 = cc i in omega arith)
+    go (Wait e) i = (refl, refl)
 
 -- and the state stays as it is
 pub idle-untouched : (s : Controller) (tr : List ℕ) → noCommand (s .last) ≡ true → stepped s tr .state ≡ s
 idle-untouched s tr h = idle-gives-21 s tr h .0
 
 -- and otherwise something is handed out, and kept
-busy-handed : (s : Controller) (tr : List ℕ) → noCommand (s .last) ≡ false → Handed s (stepped s tr)
+busy-handed : (s : Controller) (tr : List ℕ) → noCommand (s .last) ≡ false → Kept s (stepped s tr)
 unfolding stepped afterPrepare afterGet afterAssign
 busy-handed s tr h = go (s .last) h
   where
-    go : (k : Command) → noCommand k ≡ false → Handed s (byCommand s tr k)
-    go Prepare i = prepare-handed s (answer sendByte tr) (sentIn sendByte tr)
-    go GetUdid i = get-handed s (answer blockRead tr) (receivedIn blockRead tr)
-    go (Assign u a) i = assign-handed s u (a .0) (answer blockWrite tr) (sentIn blockWrite tr)
-    go Nothing i = absurd (let z : _≡_ {A = ℕ} 0 1 = cc i in omega arith)
-    go Ended i = absurd (let z : _≡_ {A = ℕ} 0 1 = cc i in omega arith)
-    go (NoneFree u) i = absurd (let z : _≡_ {A = ℕ} 0 1 = cc i in omega arith)
-    go Abandoned i = absurd (let z : _≡_ {A = ℕ} 0 1 = cc i in omega arith)
-    go NotOutstanding i = absurd (let z : _≡_ {A = ℕ} 0 1 = cc i in omega arith)
+    go : (k : Handed) → noCommand k ≡ false → Kept s (byCommand s tr k)
+    go (Send Prepare) i = prepare-handed s (answer sendByte tr) (sentIn sendByte tr)
+    go (Send GetUdid) i = get-handed s (answer blockRead tr) (receivedIn blockRead tr)
+    go (Send (Assign u a)) i = assign-handed s u (a .0) (answer blockWrite tr) (sentIn blockWrite tr)
+    go (Wait e) i = absurd (let z : _≡_ {A = ℕ} 0 1 = cc i in omega arith)
 
 -- THE COMMAND OUTSTANDING is the one that was handed out last
 pub last-is-handed-out : (occupied : Pool) (es : List Event) → SameOutstanding (run occupied es .last) (handedOut occupied es)
@@ -79,53 +72,51 @@ last-is-handed-out occupied (Received tr ∷ es) = go (noCommand (run occupied e
         inr (ap (λ (s : Controller). noCommand (s .last)) (h .0) ∙ e, ap noCommand (h .1))
     go false e = inl (busy-handed (run occupied es) tr e .last)
 
-idle-reads : (k : Command) (tr : List ℕ) → noCommand k ≡ true → readAs k tr ≡ Other
-idle-reads Prepare tr i = refl
-idle-reads GetUdid tr i = absurd (let z : _≡_ {A = ℕ} 0 1 = cc i in omega arith)
-idle-reads (Assign u a) tr i = absurd (let z : _≡_ {A = ℕ} 0 1 = cc i in omega arith)
-idle-reads Nothing tr i = refl
-idle-reads Ended tr i = refl
-idle-reads (NoneFree u) tr i = refl
-idle-reads Abandoned tr i = refl
-idle-reads NotOutstanding tr i = refl
+idle-reads : (k : Handed) (tr : List ℕ) → noCommand k ≡ true → readAs k tr ≡ Other
+idle-reads (Send Prepare) tr i = refl
+idle-reads (Send GetUdid) tr i = absurd (let z : _≡_ {A = ℕ} 0 1 = cc i in omega arith)
+idle-reads (Send (Assign u a)) tr i = absurd (let z : _≡_ {A = ℕ} 0 1 = cc i in omega arith)
+idle-reads (Wait e) tr i = refl
 
 -- so a trace is read alike by either
-pub same-reading : (k m : Command) (tr : List ℕ) → SameOutstanding k m → readAs k tr ≡ readAs m tr
-same-reading k m tr (inl e) = ap (λ (x : Command). readAs x tr) e
+pub same-reading : (k m : Handed) (tr : List ℕ) → SameOutstanding k m → readAs k tr ≡ readAs m tr
+same-reading k m tr (inl e) = ap (λ (x : Handed). readAs x tr) e
 same-reading k m tr (inr h) = idle-reads k tr (h .0) ∙ sym (idle-reads m tr (h .1))
 
 -- ---- 21, and no other time
 
-abbrev is-21 : Command → Bool
-is-21 Nothing = false
-is-21 Prepare = false
-is-21 GetUdid = false
-is-21 (Assign u a) = false
-is-21 Ended = false
-is-21 (NoneFree u) = false
-is-21 Abandoned = false
-is-21 NotOutstanding = true
+abbrev end-21 : End → Bool
+end-21 Nothing = false
+end-21 Ended = false
+end-21 (NoneFree u) = false
+end-21 Abandoned = false
+end-21 NotOutstanding = true
+
+abbrev is-21 : Handed → Bool
+is-21 (Send k) = false
+is-21 (Wait e) = end-21 e
 
 abbrev first : List (ℕ × List Udid) → ℕ
 first [] = 0
 first (x ∷ xs) = x .0
 
-number-21 : (k : Command) → commandNumber k ≡ (21, []) ∷ [] → is-21 k ≡ true
-number-21 Nothing e = absurd (let z : _≡_ {A = ℕ} 0 1 = cc e in omega arith)
-number-21 Prepare e = absurd (let z : _≡_ {A = ℕ} 0 1 = cc e in omega arith)
-number-21 GetUdid e = absurd (let z : _≡_ {A = ℕ} 0 1 = cc e in omega arith)
-number-21 (Assign u a) e = absurd (let z : _≡_ {A = ℕ} 0 1 = cc e in omega arith)
-number-21 Ended e = absurd (let z : 0 ≡ 21 = ap first e in omega arith)
-number-21 (NoneFree u) e = absurd (let z : 13 ≡ 21 = ap first e in omega arith)
-number-21 Abandoned e = absurd (let z : 14 ≡ 21 = ap first e in omega arith)
-number-21 NotOutstanding e = refl
+number-21-end : (x : End) → endNumber x ≡ (21, []) ∷ [] → end-21 x ≡ true
+number-21-end Nothing e = absurd (let z : _≡_ {A = ℕ} 0 1 = cc e in omega arith)
+number-21-end Ended e = absurd (let z : 0 ≡ 21 = ap first e in omega arith)
+number-21-end (NoneFree u) e = absurd (let z : 13 ≡ 21 = ap first e in omega arith)
+number-21-end Abandoned e = absurd (let z : 14 ≡ 21 = ap first e in omega arith)
+number-21-end NotOutstanding e = refl
+
+number-21 : (k : Handed) → commandNumber k ≡ (21, []) ∷ [] → is-21 k ≡ true
+number-21 (Send k) e = absurd (let z : _≡_ {A = ℕ} 0 1 = cc e in omega arith)
+number-21 (Wait x) e = number-21-end x e
 
 -- every other way of a step hands out something else
 asked-not : (s : Controller) → is-21 (asked s .command) ≡ false
 unfolding asked
 asked-not s = go (leb 128 (s .gets))
   where
-    go : (b : Bool) → is-21 (pick b (handed s Abandoned) (handed (counted s) GetUdid) .command) ≡ false
+    go : (b : Bool) → is-21 (pick b (handed s (Wait Abandoned)) (handed (counted s) (Send GetUdid)) .command) ≡ false
     go true = refl
     go false = refl
 
@@ -137,12 +128,12 @@ module _ (s : Controller) where
   prepare-not : (d : Decoded) (xs : List ℕ) → is-21 (onPrepare s d xs .command) ≡ false
   prepare-not (Done t) xs = go (isPrepare t xs)
     where
-      go : (q : Bool) → is-21 (pick q (asked s) (handed s Abandoned) .command) ≡ false
+      go : (q : Bool) → is-21 (pick q (asked s) (handed s (Wait Abandoned)) .command) ≡ false
       go true = asked-not s
       go false = refl
   prepare-not (Refused w k) xs = go (isNack w)
     where
-      go : (q : Bool) → is-21 (pick q (handed s Ended) (handed s Abandoned) .command) ≡ false
+      go : (q : Bool) → is-21 (pick q (handed s (Wait Ended)) (handed s (Wait Abandoned)) .command) ≡ false
       go true = refl
       go false = refl
 
@@ -150,7 +141,7 @@ module _ (s : Controller) where
   unfolding onReply replied
   reply-not t xs = go (isGet t) (eqb (t .received) 17)
     where
-      go : (p q : Bool) → is-21 (pick p (pick q (issued (freed s (udidAt xs 0)) (udidAt xs 0) (chosen (freed s (udidAt xs 0) .pool) (udidAt xs 0) (getD xs 16 0))) (handed s Ended)) (asked s) .command) ≡ false
+      go : (p q : Bool) → is-21 (pick p (pick q (issued (freed s (udidAt xs 0)) (udidAt xs 0) (chosen (freed s (udidAt xs 0) .pool) (udidAt xs 0) (getD xs 16 0))) (handed s (Wait Ended))) (asked s) .command) ≡ false
       go true true = issued-not (freed s (udidAt xs 0)) (udidAt xs 0) (chosen (freed s (udidAt xs 0) .pool) (udidAt xs 0) (getD xs 16 0))
       go true false = refl
       go false q = asked-not s
@@ -159,7 +150,7 @@ module _ (s : Controller) where
   get-not (Done t) xs = reply-not t xs
   get-not (Refused w k) xs = go (and (isNack w) (ltb k 3))
     where
-      go : (q : Bool) → is-21 (pick q (handed s Ended) (asked s) .command) ≡ false
+      go : (q : Bool) → is-21 (pick q (handed s (Wait Ended)) (asked s) .command) ≡ false
       go true = refl
       go false = asked-not s
 
@@ -175,15 +166,11 @@ module _ (s : Controller) where
   unfolding stepped afterPrepare afterGet afterAssign
   command-21 tr = go (s .last)
     where
-      go : (k : Command) → is-21 (byCommand s tr k .command) ≡ noCommand k
-      go Prepare = prepare-not (answer sendByte tr) (sentIn sendByte tr)
-      go GetUdid = get-not (answer blockRead tr) (receivedIn blockRead tr)
-      go (Assign u a) = assign-not u (a .0) (answer blockWrite tr) (sentIn blockWrite tr)
-      go Nothing = refl
-      go Ended = refl
-      go (NoneFree u) = refl
-      go Abandoned = refl
-      go NotOutstanding = refl
+      go : (k : Handed) → is-21 (byCommand s tr k .command) ≡ noCommand k
+      go (Send Prepare) = prepare-not (answer sendByte tr) (sentIn sendByte tr)
+      go (Send GetUdid) = get-not (answer blockRead tr) (receivedIn blockRead tr)
+      go (Send (Assign u a)) = assign-not u (a .0) (answer blockWrite tr) (sentIn blockWrite tr)
+      go (Wait e) = refl
 
   -- 21 IS GIVEN EXACTLY where no command of a pass is outstanding, from every state
   pub step-21 : (tr : List ℕ) → (commandNumber (stepped s tr .command) ≡ (21, []) ∷ []) ↔ (noCommand (s .last) ≡ true)
@@ -192,7 +179,7 @@ module _ (s : Controller) where
     λ h. ap commandNumber (idle-gives-21 s tr h .1),
   )
 
-same-none : (k m : Command) → SameOutstanding k m → noCommand k ≡ noCommand m
+same-none : (k m : Handed) → SameOutstanding k m → noCommand k ≡ noCommand m
 same-none k m (inl e) = ap noCommand e
 same-none k m (inr h) = h .0 ∙ sym (h .1)
 

@@ -13,22 +13,23 @@ use Rattle.udid.specs.Udids.{Fits}
 use Rattle.udid.specs.declared.Udid.{Udid}
 use Rattle.arp.specs.CommandTraces.{assignTrace, ReplyOf}
 use Rattle.arp.specs.Replay.{Started, Replied, Assigned, Table, replyIn, assignIn, readAs, nextPrepare, nextReply, nextCommand}
-use Rattle.arp.specs.declared.command.Command.{Command}
 use Rattle.arp.specs.declared.command.Command.the-variants.{Prepare, GetUdid, Assign}
+use Rattle.arp.specs.declared.command.Handed.{Handed}
+use Rattle.arp.specs.declared.command.Handed.the-variants.{Send}
 
 pub record Reading (tr : List ℕ) : Type 0 where
   -- by what decode answers for it, for every call with PEC and two buffers of at least 255 bytes: for Block Read, with the data received, where
   -- a reply is due; for Block Write, with the data sent, where an Assign is outstanding; for Send Byte after Prepare
   pub reply : (sent₀ received₀ : List ℕ) (d : Decoded) (sent received : List ℕ) → 255 ≤ length sent₀ → 255 ≤ length received₀
       → Outcome 9 true tr sent₀ received₀ d sent received
-      → (readAs GetUdid tr ≡ replyIn d received) × ((t : Table) (n : ℕ) → nextCommand t n GetUdid tr ≡ nextReply t n d received)
+      → (readAs (Send GetUdid) tr ≡ replyIn d received) × ((t : Table) (n : ℕ) → nextCommand t n (Send GetUdid) tr ≡ nextReply t n d received)
   pub assign : (sent₀ received₀ : List ℕ) (d : Decoded) (sent received : List ℕ) → 255 ≤ length sent₀ → 255 ≤ length received₀
-      → Outcome 8 true tr sent₀ received₀ d sent received → (u : Udid) (a : Address) → readAs (Assign u a) tr ≡ assignIn u (a .0) d sent
+      → Outcome 8 true tr sent₀ received₀ d sent received → (u : Udid) (a : Address) → readAs (Send (Assign u a)) tr ≡ assignIn u (a .0) d sent
   pub prepare : (sent₀ received₀ : List ℕ) (d : Decoded) (sent received : List ℕ) → 255 ≤ length sent₀ → 255 ≤ length received₀
-      → Outcome 1 true tr sent₀ received₀ d sent received → (t : Table) (n : ℕ) → nextCommand t n Prepare tr ≡ nextPrepare n d sent
+      → Outcome 1 true tr sent₀ received₀ d sent received → (t : Table) (n : ℕ) → nextCommand t n (Send Prepare) tr ≡ nextPrepare n d sent
   -- as symbols: a reply, exactly if Get UDID is outstanding and the trace is Get UDID with 17 bytes, the identifier's first
-  pub replied : (k : Command) (u : Udid) → Fits u → (readAs k tr ≡ Replied u) ↔ ((k ≡ GetUdid) × ReplyOf u tr)
+  pub replied : (k : Handed) (u : Udid) → Fits u → (readAs k tr ≡ Replied u) ↔ ((k ≡ Send GetUdid) × ReplyOf u tr)
   -- a complete Assign, exactly if it is outstanding and the trace is that Assign, acknowledged whole
-  pub assigned : (k : Command) (u : Udid) (a : Address) → Fits u → a .0 < 128 → (readAs k tr ≡ Assigned u (a .0)) ↔ ((k ≡ Assign u a) × (tr ≡ assignTrace (udidBytes u) (2 * a .0)))
+  pub assigned : (k : Handed) (u : Udid) (a : Address) → Fits u → a .0 < 128 → (readAs k tr ≡ Assigned u (a .0)) ↔ ((k ≡ Send (Assign u a)) × (tr ≡ assignTrace (udidBytes u) (2 * a .0)))
   -- and no trace is a start
-  pub no-start : (k : Command) → readAs k tr ≡ Started → ⊥
+  pub no-start : (k : Handed) → readAs k tr ≡ Started → ⊥

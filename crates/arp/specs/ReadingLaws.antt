@@ -35,8 +35,9 @@ use Rattle.arp.specs.Replay.{Happened, Started, Replied, Assigned, Other
 use Rattle.arp.specs.Requests.{assignData, messageOf, traceOf}
 use Rattle.arp.specs.CommandTraces.{replyTrace, assignTrace, ReplyOf}
 use Rattle.arp.specs.Reading.{Reading}
-use Rattle.arp.specs.declared.command.Command.{Command}
-use Rattle.arp.specs.declared.command.Command.the-variants.{Nothing, Prepare, GetUdid, Assign, Ended, NoneFree, Abandoned, NotOutstanding}
+use Rattle.arp.specs.declared.command.Command.the-variants.{Prepare, GetUdid, Assign}
+use Rattle.arp.specs.declared.command.Handed.{Handed}
+use Rattle.arp.specs.declared.command.Handed.the-variants.{Send, Wait}
 
 -- the byte that is sent: the address has seven bits
 pub is-assign-below-128 : (u : Udid) (n : ℕ) → n < 128 → (t : Transaction) (xs : List ℕ)
@@ -49,38 +50,38 @@ is-assign-below-128 u n h t xs =
 
 -- an Assign outstanding: exactly its own trace, acknowledged whole, is read as complete
 pub reads-assign-exactly : (u : Udid) (a : Address) (tr : List ℕ) → Fits u → a .0 < 128
-    → (readAs (Assign u a) tr ≡ Assigned u (a .0)) ↔ (tr ≡ traceOf (Assign u a) [])
-reads-assign-exactly u a tr f h = (λ e. only (answer 8 tr) refl e, λ e. ap (readAs (Assign u a)) e ∙ whole)
+    → (readAs (Send (Assign u a)) tr ≡ Assigned u (a .0)) ↔ (tr ≡ traceOf (Send (Assign u a)) [])
+reads-assign-exactly u a tr f h = (λ e. only (answer 8 tr) refl e, λ e. ap (readAs (Send (Assign u a))) e ∙ whole)
   where
-    whole : readAs (Assign u a) (traceOf (Assign u a) []) ≡ Assigned u (a .0)
+    whole : readAs (Send (Assign u a)) (traceOf (Send (Assign u a)) []) ≡ Assigned u (a .0)
     whole =
-        let b = decoded-back blockWrite (messageOf (Assign u a) []) (valid-assign u a) in
+        let b = decoded-back blockWrite (messageOf (Send (Assign u a)) []) (valid-assign u a) in
         ap₂ (assignIn u (a .0)) (b .0) (b .1)
         ∙ ap (λ (q : Bool). pick q (Assigned u (a .0)) Other)
-        (sym (is-assign-below-128 u (a .0) h (summary blockWrite (messageOf (Assign u a) [])) (assignData u (a .0))) ∙ assign-data-is-assign u a f)
+        (sym (is-assign-below-128 u (a .0) h (summary blockWrite (messageOf (Send (Assign u a)) [])) (assignData u (a .0))) ∙ assign-data-is-assign u a f)
 
     differ : Other ≡ Assigned u (a .0) → ⊥
     differ k = let z : _≡_ {A = ℕ} 0 1 = cc k in omega arith
 
     done : (t : Transaction) → answer 8 tr ≡ Done t → (q : Bool) → isAssign u (a .0) t (sentIn 8 tr) ≡ q → pick q (Assigned u (a .0)) Other ≡ Assigned u (a .0)
-        → tr ≡ traceOf (Assign u a) []
+        → tr ≡ traceOf (Send (Assign u a)) []
     done t e true k g = complete-assign-is-its-trace (newController emptyPool) u a tr t e k
     done t e false k g = absurd (differ g)
 
-    only : (d : Decoded) → answer 8 tr ≡ d → assignIn u (a .0) d (sentIn 8 tr) ≡ Assigned u (a .0) → tr ≡ traceOf (Assign u a) []
+    only : (d : Decoded) → answer 8 tr ≡ d → assignIn u (a .0) d (sentIn 8 tr) ≡ Assigned u (a .0) → tr ≡ traceOf (Send (Assign u a)) []
     only (Done t) e g =
         done t e (isAssign u (a .0) t (sentIn 8 tr)) refl (ap (λ (q : Bool). pick q (Assigned u (a .0)) Other) (is-assign-below-128 u (a .0) h t (sentIn 8 tr)) ∙ g)
     only (Refused w k) e g = absurd (differ g)
 
 -- Get UDID outstanding: a whole trace of it with 17 bytes is read as a reply with the identifier of its first 16
-pub reads-reply : (xs : List ℕ) → Bytes xs → length xs ≡ 17 → readAs GetUdid (traceOf GetUdid xs) ≡ Replied (udidAt xs 0)
+pub reads-reply : (xs : List ℕ) → Bytes xs → length xs ≡ 17 → readAs (Send GetUdid) (traceOf (Send GetUdid) xs) ≡ Replied (udidAt xs 0)
 reads-reply xs h l =
-    let b = decoded-back blockRead (messageOf GetUdid xs) (valid-get xs h (omega arith)) in
+    let b = decoded-back blockRead (messageOf (Send GetUdid) xs) (valid-get xs h (omega arith)) in
     ap₂ replyIn (b .0) (b .2) ∙ ap (λ (q : Bool). pick q (Replied (udidAt xs 0)) Other) (eq-eqb (length xs) 17 l)
 
 -- and no other trace is
-pub read-as-reply-is-get-udid : (tr : List ℕ) (u : Udid) → readAs GetUdid tr ≡ Replied u
-    → (tr ≡ traceOf GetUdid (receivedIn 9 tr)) × (udidAt (receivedIn 9 tr) 0 ≡ u) × (length (receivedIn 9 tr) ≡ 17)
+pub read-as-reply-is-get-udid : (tr : List ℕ) (u : Udid) → readAs (Send GetUdid) tr ≡ Replied u
+    → (tr ≡ traceOf (Send GetUdid) (receivedIn 9 tr)) × (udidAt (receivedIn 9 tr) 0 ≡ u) × (length (receivedIn 9 tr) ≡ 17)
 read-as-reply-is-get-udid tr u e = only (answer 9 tr) refl e
   where
     differ : Other ≡ Replied u → ⊥
@@ -94,13 +95,13 @@ read-as-reply-is-get-udid tr u e = only (answer 9 tr) refl e
 
     done : (t : Transaction) → answer 9 tr ≡ Done t → (p : Bool) → isGet t ≡ p → (q : Bool) → eqb (t .received) 17 ≡ q
         → pick p (pick q (Replied (udidAt (receivedIn 9 tr) 0)) Other) Other ≡ Replied u
-        → (tr ≡ traceOf GetUdid (receivedIn 9 tr)) × (udidAt (receivedIn 9 tr) 0 ≡ u) × (length (receivedIn 9 tr) ≡ 17)
+        → (tr ≡ traceOf (Send GetUdid) (receivedIn 9 tr)) × (udidAt (receivedIn 9 tr) 0 ≡ u) × (length (receivedIn 9 tr) ≡ 17)
     done t k true g true n m = (complete-get-is-its-trace (newController emptyPool) tr t k g, same m, count t k (eqb-true (t .received) 17 n))
     done t k true g false n m = absurd (differ m)
     done t k false g q n m = absurd (differ m)
 
     only : (d : Decoded) → answer 9 tr ≡ d → replyIn d (receivedIn 9 tr) ≡ Replied u
-        → (tr ≡ traceOf GetUdid (receivedIn 9 tr)) × (udidAt (receivedIn 9 tr) 0 ≡ u) × (length (receivedIn 9 tr) ≡ 17)
+        → (tr ≡ traceOf (Send GetUdid) (receivedIn 9 tr)) × (udidAt (receivedIn 9 tr) 0 ≡ u) × (length (receivedIn 9 tr) ≡ 17)
     only (Done t) k g = done t k (isGet t) refl (eqb (t .received) 17) refl g
     only (Refused w i) k g = absurd (differ g)
 
@@ -123,15 +124,11 @@ assign-not-started u a (Done t) xs e = go (and (and (eqb (t .address .0) 0x61) (
     go false k = let z : _≡_ {A = ℕ} 0 1 = cc k in omega arith
 assign-not-started u a (Refused w k) xs e = let z : _≡_ {A = ℕ} 0 1 = cc e in omega arith
 
-pub trace-is-no-start : (k : Command) (tr : List ℕ) → readAs k tr ≡ Started → ⊥
-trace-is-no-start GetUdid tr e = reply-not-started (answer 9 tr) (receivedIn 9 tr) e
-trace-is-no-start (Assign u a) tr e = assign-not-started u (a .0) (answer 8 tr) (sentIn 8 tr) e
-trace-is-no-start Nothing tr e = let z : _≡_ {A = ℕ} 0 1 = cc e in omega arith
-trace-is-no-start Prepare tr e = let z : _≡_ {A = ℕ} 0 1 = cc e in omega arith
-trace-is-no-start Ended tr e = let z : _≡_ {A = ℕ} 0 1 = cc e in omega arith
-trace-is-no-start (NoneFree u) tr e = let z : _≡_ {A = ℕ} 0 1 = cc e in omega arith
-trace-is-no-start Abandoned tr e = let z : _≡_ {A = ℕ} 0 1 = cc e in omega arith
-trace-is-no-start NotOutstanding tr e = let z : _≡_ {A = ℕ} 0 1 = cc e in omega arith
+pub trace-is-no-start : (k : Handed) (tr : List ℕ) → readAs k tr ≡ Started → ⊥
+trace-is-no-start (Send GetUdid) tr e = reply-not-started (answer 9 tr) (receivedIn 9 tr) e
+trace-is-no-start (Send (Assign u a)) tr e = assign-not-started u (a .0) (answer 8 tr) (sentIn 8 tr) e
+trace-is-no-start (Send Prepare) tr e = let z : _≡_ {A = ℕ} 0 1 = cc e in omega arith
+trace-is-no-start (Wait i) tr e = let z : _≡_ {A = ℕ} 0 1 = cc e in omega arith
 
 -- ---- which traces are read as what
 
@@ -143,9 +140,9 @@ module _ (u : Udid) (b : ℕ) (f : Fits u) (h : b < 256) where
   reply-length : length (udidBytes u ++ b ∷ []) ≡ 17
   reply-length = omega (arith, length-append (udidBytes u) (b ∷ []), length-udid u)
 
-  reply-read : readAs GetUdid (replyTrace (udidBytes u ++ b ∷ [])) ≡ Replied u
+  reply-read : readAs (Send GetUdid) (replyTrace (udidBytes u ++ b ∷ [])) ≡ Replied u
   reply-read =
-      ap (readAs GetUdid) (sym (reply-symbols (udidBytes u ++ b ∷ [])))
+      ap (readAs (Send GetUdid)) (sym (reply-symbols (udidBytes u ++ b ∷ [])))
       ∙ reads-reply (udidBytes u ++ b ∷ []) reply-bytes reply-length
       ∙ ap Replied (udid-back [] (b ∷ []) 0 u f refl)
 
@@ -153,10 +150,10 @@ module _ (u : Udid) (b : ℕ) (f : Fits u) (h : b < 256) where
   pub reply-byte-received : getD (receivedIn 9 (replyTrace (udidBytes u ++ b ∷ []))) 16 0 ≡ b
   reply-byte-received =
       ap (λ (l : List ℕ). getD (receivedIn 9 l) 16 0) (sym (reply-symbols (udidBytes u ++ b ∷ [])))
-      ∙ ap (λ (l : List ℕ). getD l 16 0) (decoded-back 9 (messageOf GetUdid (udidBytes u ++ b ∷ [])) (valid-get (udidBytes u ++ b ∷ []) reply-bytes (omega (arith, reply-length))) .2)
+      ∙ ap (λ (l : List ℕ). getD l 16 0) (decoded-back 9 (messageOf (Send GetUdid) (udidBytes u ++ b ∷ [])) (valid-get (udidBytes u ++ b ∷ []) reply-bytes (omega (arith, reply-length))) .2)
       ∙ getD-at (udidBytes u) b [] 0 16 (length-udid u)
 
-reply-only : (tr : List ℕ) (u : Udid) → readAs GetUdid tr ≡ Replied u → ReplyOf u tr
+reply-only : (tr : List ℕ) (u : Udid) → readAs (Send GetUdid) tr ≡ Replied u → ReplyOf u tr
 reply-only tr u e =
     let r = read-as-reply-is-get-udid tr u e in
     let w = seventeen-bytes-are-udid-and-byte (receivedIn 9 tr) (received-are-bytes 9 tr) (r .2) in (
@@ -184,8 +181,8 @@ assign-cases v n (Done t) xs = go (and (and (eqb (t .address .0) 0x61) (eqb (t .
 assign-cases v n (Refused w k) xs = inl refl
 
 -- A REPLY: Get UDID is outstanding, and the trace is Get UDID with 17 bytes, the identifier's first
-pub replied-exactly : (k : Command) (tr : List ℕ) (u : Udid) → Fits u → (readAs k tr ≡ Replied u) ↔ ((k ≡ GetUdid) × ReplyOf u tr)
-replied-exactly k tr u f = (there k, λ w. ap (λ (x : Command). readAs x tr) (w .0) ∙ ap (readAs GetUdid) (w .1 .2) ∙ reply-read u (w .1 .0) f (w .1 .1))
+pub replied-exactly : (k : Handed) (tr : List ℕ) (u : Udid) → Fits u → (readAs k tr ≡ Replied u) ↔ ((k ≡ Send GetUdid) × ReplyOf u tr)
+replied-exactly k tr u f = (there k, λ w. ap (λ (x : Handed). readAs x tr) (w .0) ∙ ap (readAs (Send GetUdid)) (w .1 .2) ∙ reply-read u (w .1 .0) f (w .1 .1))
   where
     differ : Other ≡ Replied u → ⊥
     differ e = let z : _≡_ {A = ℕ} 0 1 = cc e in omega arith
@@ -194,20 +191,16 @@ replied-exactly k tr u f = (there k, λ w. ap (λ (x : Command). readAs x tr) (w
     assigned v n x (inl q) e = differ (sym q ∙ e)
     assigned v n x (inr q) e = let m : Assigned v n ≡ Replied u = sym q ∙ e in let z : _≡_ {A = ℕ} 0 1 = cc m in omega arith
 
-    there : (k : Command) → readAs k tr ≡ Replied u → (k ≡ GetUdid) × ReplyOf u tr
-    there GetUdid e = (refl, reply-only tr u e)
-    there (Assign v a) e = absurd (assigned v (a .0) (readAs (Assign v a) tr) (assign-cases v (a .0) (answer 8 tr) (sentIn 8 tr)) e)
-    there Nothing e = absurd (differ e)
-    there Prepare e = absurd (differ e)
-    there Ended e = absurd (differ e)
-    there (NoneFree v) e = absurd (differ e)
-    there Abandoned e = absurd (differ e)
-    there NotOutstanding e = absurd (differ e)
+    there : (k : Handed) → readAs k tr ≡ Replied u → (k ≡ Send GetUdid) × ReplyOf u tr
+    there (Send GetUdid) e = (refl, reply-only tr u e)
+    there (Send (Assign v a)) e = absurd (assigned v (a .0) (readAs (Send (Assign v a)) tr) (assign-cases v (a .0) (answer 8 tr) (sentIn 8 tr)) e)
+    there (Send Prepare) e = absurd (differ e)
+    there (Wait i) e = absurd (differ e)
 
 -- A COMPLETE ASSIGN: it is outstanding, and the trace is that Assign, acknowledged whole
-pub assigned-exactly : (k : Command) (tr : List ℕ) (u : Udid) (a : Address) → Fits u → a .0 < 128 → (readAs k tr ≡ Assigned u (a .0)) ↔ ((k ≡ Assign u a) × (tr ≡ assignTrace (udidBytes u) (2 * a .0)))
+pub assigned-exactly : (k : Handed) (tr : List ℕ) (u : Udid) (a : Address) → Fits u → a .0 < 128 → (readAs k tr ≡ Assigned u (a .0)) ↔ ((k ≡ Send (Assign u a)) × (tr ≡ assignTrace (udidBytes u) (2 * a .0)))
 assigned-exactly k tr u a f h =
-    (there k, λ w. ap (λ (x : Command). readAs x tr) (w .0) ∙ reads-assign-exactly u a tr f h .1 (w .1 ∙ sym (assign-symbols-small u a h)))
+    (there k, λ w. ap (λ (x : Handed). readAs x tr) (w .0) ∙ reads-assign-exactly u a tr f h .1 (w .1 ∙ sym (assign-symbols-small u a h)))
   where
     differ : Other ≡ Assigned u (a .0) → ⊥
     differ e = let z : _≡_ {A = ℕ} 0 1 = cc e in omega arith
@@ -216,28 +209,24 @@ assigned-exactly k tr u a f h =
     replied v x (inl q) e = differ (sym q ∙ e)
     replied v x (inr q) e = let m : Replied v ≡ Assigned u (a .0) = sym q ∙ e in let z : _≡_ {A = ℕ} 0 1 = cc m in omega arith
 
-    same : (v : Udid) (c : Address) → Assigned v (c .0) ≡ Assigned u (a .0) → Assign v c ≡ Assign u a
+    same : (v : Udid) (c : Address) → Assigned v (c .0) ≡ Assigned u (a .0) → (Send (Assign v c)) ≡ Send (Assign u a)
     same v c e =
         let p : v ≡ u = cc e in
         let q : c .0 ≡ a .0 = cc e in
-        λ i. Assign (p i) (record { 0 = q i })
+        λ i. (Send (Assign (p i) (record { 0 = q i })))
 
-    own : (v : Udid) (c : Address) → readAs (Assign v c) tr ≡ Assigned u (a .0) → (readAs (Assign v c) tr ≡ Other) ⊎ (readAs (Assign v c) tr ≡ Assigned v (c .0))
-        → (Assign v c ≡ Assign u a) × (tr ≡ assignTrace (udidBytes u) (2 * a .0))
+    own : (v : Udid) (c : Address) → readAs (Send (Assign v c)) tr ≡ Assigned u (a .0) → (readAs (Send (Assign v c)) tr ≡ Other) ⊎ (readAs (Send (Assign v c)) tr ≡ Assigned v (c .0))
+        → ((Send (Assign v c)) ≡ Send (Assign u a)) × (tr ≡ assignTrace (udidBytes u) (2 * a .0))
     own v c e (inl q) = absurd (differ (sym q ∙ e))
     own v c e (inr q) =
-        let m : Assign v c ≡ Assign u a = same v c (sym q ∙ e) in
-        (m, reads-assign-exactly u a tr f h .0 (ap (λ (x : Command). readAs x tr) (sym m) ∙ e) ∙ assign-symbols-small u a h)
+        let m : (Send (Assign v c)) ≡ (Send (Assign u a)) = same v c (sym q ∙ e) in
+        (m, reads-assign-exactly u a tr f h .0 (ap (λ (x : Handed). readAs x tr) (sym m) ∙ e) ∙ assign-symbols-small u a h)
 
-    there : (k : Command) → readAs k tr ≡ Assigned u (a .0) → (k ≡ Assign u a) × (tr ≡ assignTrace (udidBytes u) (2 * a .0))
-    there GetUdid e = absurd (replied (udidAt (receivedIn 9 tr) 0) (readAs GetUdid tr) (reply-cases (answer 9 tr) (receivedIn 9 tr)) e)
-    there (Assign v c) e = own v c e (assign-cases v (c .0) (answer 8 tr) (sentIn 8 tr))
-    there Nothing e = absurd (differ e)
-    there Prepare e = absurd (differ e)
-    there Ended e = absurd (differ e)
-    there (NoneFree v) e = absurd (differ e)
-    there Abandoned e = absurd (differ e)
-    there NotOutstanding e = absurd (differ e)
+    there : (k : Handed) → readAs k tr ≡ Assigned u (a .0) → (k ≡ Send (Assign u a)) × (tr ≡ assignTrace (udidBytes u) (2 * a .0))
+    there (Send GetUdid) e = absurd (replied (udidAt (receivedIn 9 tr) 0) (readAs (Send GetUdid) tr) (reply-cases (answer 9 tr) (receivedIn 9 tr)) e)
+    there (Send (Assign v c)) e = own v c e (assign-cases v (c .0) (answer 8 tr) (sentIn 8 tr))
+    there (Send Prepare) e = absurd (differ e)
+    there (Wait i) e = absurd (differ e)
 
 -- ---- ALL OF IT
 

@@ -24,8 +24,10 @@ use Rattle.arp.specs.Bindings.{heldAt}
 use Rattle.arp.specs.Controller.{started, stepped}
 use Rattle.arp.specs.Heard.{answer, sentIn, receivedIn}
 use Rattle.arp.specs.History.{Event, Start, Received, run}
-use Rattle.arp.specs.declared.command.Command.{Command}
-use Rattle.arp.specs.declared.command.Command.the-variants.{Nothing, Prepare, GetUdid, Assign, Ended, NoneFree, Abandoned, NotOutstanding}
+use Rattle.arp.specs.declared.command.Command.the-variants.{Prepare, GetUdid, Assign}
+use Rattle.arp.specs.declared.command.End.the-variants.{Nothing, Ended, NoneFree, Abandoned, NotOutstanding}
+use Rattle.arp.specs.declared.command.Handed.{Handed}
+use Rattle.arp.specs.declared.command.Handed.the-variants.{Send, Wait}
 use Rattle.arp.specs.declared.state.Binding.{Binding}
 use Rattle.arp.specs.declared.state.Binding.the-variants.{Open, Bound, Claimed}
 use Rattle.arp.specs.declared.state.Controller.{Controller}
@@ -99,21 +101,17 @@ assignIn u a (Done t) sent =
 assignIn u a (Refused w k) sent = Other
 
 -- by the command that is outstanding; a trace where none is, or where Prepare is, changes nothing
-abbrev pub readAs : Command → List ℕ → Happened
-readAs GetUdid tr = replyIn (answer 9 tr) (receivedIn 9 tr)
-readAs (Assign u a) tr = assignIn u (a .0) (answer 8 tr) (sentIn 8 tr)
-readAs Nothing tr = Other
-readAs Prepare tr = Other
-readAs Ended tr = Other
-readAs (NoneFree u) tr = Other
-readAs Abandoned tr = Other
-readAs NotOutstanding tr = Other
+abbrev pub readAs : Handed → List ℕ → Happened
+readAs (Send GetUdid) tr = replyIn (answer 9 tr) (receivedIn 9 tr)
+readAs (Send (Assign u a)) tr = assignIn u (a .0) (answer 8 tr) (sentIn 8 tr)
+readAs (Send Prepare) tr = Other
+readAs (Wait e) tr = Other
 
 -- ---- the events of a history
 
 -- what the latest start or step handed out; nothing before the first
-unfoldable pub handedOut : Pool → List Event → Command
-handedOut occupied [] = Nothing
+unfoldable pub handedOut : Pool → List Event → Handed
+handedOut occupied [] = Wait Nothing
 handedOut occupied (Start ∷ es) = started (run occupied es) .command
 handedOut occupied (Received tr ∷ es) = stepped (run occupied es) tr .command
 
@@ -133,25 +131,19 @@ numberOf Open = (15, [])
 numberOf Claimed = (16, [])
 
 -- no command of a pass
-abbrev pub noCommand : Command → Bool
-noCommand Prepare = false
-noCommand GetUdid = false
-noCommand (Assign u a) = false
-noCommand Nothing = true
-noCommand Ended = true
-noCommand (NoneFree u) = true
-noCommand Abandoned = true
-noCommand NotOutstanding = true
+abbrev pub noCommand : Handed → Bool
+noCommand (Send k) = false
+noCommand (Wait e) = true
 
 -- after a 21 the state keeps what was handed out before it: in both no command of a pass
-abbrev pub SameOutstanding : Command → Command → Type 0
+abbrev pub SameOutstanding : Handed → Handed → Type 0
 SameOutstanding k m = (k ≡ m) ⊎ ((noCommand k ≡ true) × (noCommand m ≡ true))
 
 -- ---- what is handed out next, from the table, the count of Get UDIDs handed out in this pass, and the command outstanding
 
 -- Get UDID; when it would be the 129th of the pass: 14
-abbrev pub again : ℕ → Command
-again n = pick (leb 128 n) Abandoned GetUdid
+abbrev pub again : ℕ → Handed
+again n = pick (leb 128 n) (Wait Abandoned) (Send GetUdid)
 
 -- the lowest address that is not in the pool, of the n from a on
 unfoldable pub lowest : (ℕ → Bool) → ℕ → ℕ → Free
@@ -170,31 +162,27 @@ abbrev pub NoneToPick : (ℕ → Bool) → Udid → ℕ → Type 0
 NoneToPick used u b = ((c : ℕ) → c < 128 → used c ≡ true) × ((b ≡ 0xFF) ⊎ ((isFixed u ≡ false) × (used (b / 2) ≡ true)))
 
 -- Assign Address; none free: 13
-abbrev pub assigning : Udid → Free → Command
-assigning u (At a) = Assign u a
-assigning u AllUsed = NoneFree u
+abbrev pub assigning : Udid → Free → Handed
+assigning u (At a) = Send (Assign u a)
+assigning u AllUsed = Wait (NoneFree u)
 
 -- Prepare accepted (answer 0 for Send Byte, protocol 1, to 61h, of the byte 01h): Get UDID. Answer 6: the pass ends. Any other: 14
-abbrev pub nextPrepare : ℕ → Decoded → List ℕ → Command
-nextPrepare n (Done t) sent = pick (and (eqb (t .address .0) 0x61) (eqb (getD sent 0 0) 0x01)) (again n) Abandoned
-nextPrepare n (Refused w k) sent = pick (isNack w) Ended Abandoned
+abbrev pub nextPrepare : ℕ → Decoded → List ℕ → Handed
+nextPrepare n (Done t) sent = pick (and (eqb (t .address .0) 0x61) (eqb (getD sent 0 0) 0x01)) (again n) (Wait Abandoned)
+nextPrepare n (Refused w k) sent = pick (isNack w) (Wait Ended) (Wait Abandoned)
 
 -- a reply of 17 bytes: an address is assigned, picked from the pool with what the identifier was bound to freed. A complete reply of another
 -- count, or answer 6 at byte 0, 1 or 2: the pass ends. Another address or command, or any other refusal: Get UDID again
-abbrev pub nextReply : Table → ℕ → Decoded → List ℕ → Command
+abbrev pub nextReply : Table → ℕ → Decoded → List ℕ → Handed
 nextReply t n (Done x) received =
     pick (and (eqb (x .address .0) 0x61) (eqb (x .command) 0x03))
-    (pick (eqb (x .received) 17) (assigning (udidAt received 0) (picked (released (udidAt received 0) t .used) (udidAt received 0) (getD received 16 0))) Ended)
+    (pick (eqb (x .received) 17) (assigning (udidAt received 0) (picked (released (udidAt received 0) t .used) (udidAt received 0) (getD received 16 0))) (Wait Ended))
     (again n)
-nextReply t n (Refused w k) received = pick (and (isNack w) (ltb k 3)) Ended (again n)
+nextReply t n (Refused w k) received = pick (and (isNack w) (ltb k 3)) (Wait Ended) (again n)
 
 -- after an Assign, complete or not: Get UDID. With no command of a pass outstanding: 21
-abbrev pub nextCommand : Table → ℕ → Command → List ℕ → Command
-nextCommand t n Prepare tr = nextPrepare n (answer 1 tr) (sentIn 1 tr)
-nextCommand t n GetUdid tr = nextReply t n (answer 9 tr) (receivedIn 9 tr)
-nextCommand t n (Assign u a) tr = again n
-nextCommand t n Nothing tr = NotOutstanding
-nextCommand t n Ended tr = NotOutstanding
-nextCommand t n (NoneFree u) tr = NotOutstanding
-nextCommand t n Abandoned tr = NotOutstanding
-nextCommand t n NotOutstanding tr = NotOutstanding
+abbrev pub nextCommand : Table → ℕ → Handed → List ℕ → Handed
+nextCommand t n (Send Prepare) tr = nextPrepare n (answer 1 tr) (sentIn 1 tr)
+nextCommand t n (Send GetUdid) tr = nextReply t n (answer 9 tr) (receivedIn 9 tr)
+nextCommand t n (Send (Assign u a)) tr = again n
+nextCommand t n (Wait e) tr = Wait NotOutstanding

@@ -26,10 +26,11 @@ use Rattle.arp.specs.Requests.{assignData, messageOf, traceOf}
 use Rattle.arp.specs.CommandTraces.{replyTrace, prepareTrace, assignTrace}
 use Rattle.arp.specs.CommandRows.{CommandRows}
 use Rattle.arp.specs.declared.command.Command.the-variants.{Prepare, GetUdid, Assign}
+use Rattle.arp.specs.declared.command.Handed.the-variants.{Send}
 
 -- ---- the three messages are valid
 
-pub valid-prepare : Valid (shapeOf sendByte) (messageOf Prepare [])
+pub valid-prepare : Valid (shapeOf sendByte) (messageOf (Send Prepare) [])
 valid-prepare = record {
   address = omega arith;
   direction = refl;
@@ -41,7 +42,7 @@ valid-prepare = record {
   counts = omega arith;
 }
 
-pub valid-get : (xs : List ℕ) → Bytes xs → length xs ≤ 255 → Valid (shapeOf blockRead) (messageOf GetUdid xs)
+pub valid-get : (xs : List ℕ) → Bytes xs → length xs ≤ 255 → Valid (shapeOf blockRead) (messageOf (Send GetUdid) xs)
 valid-get xs h l = record {
   address = omega arith;
   direction = refl;
@@ -57,11 +58,11 @@ pub assign-data-has-17-bytes : (u : Udid) (a : ℕ) → length (assignData u a) 
 assign-data-has-17-bytes u a = length-append (udidBytes u) (2 * (a % 128) ∷ []) ∙ omega (arith, length-udid u)
 
 -- an Assign has 44 symbols
-pub assign-has-44-symbols : (u : Udid) (a : Address) → length (traceOf (Assign u a) []) ≡ 44
+pub assign-has-44-symbols : (u : Udid) (a : Address) → length (traceOf (Send (Assign u a)) []) ≡ 44
 unfolding traceLength
-assign-has-44-symbols u a = trace-length (shapeOf 8) true (messageOf (Assign u a) []) ∙ omega (arith, assign-data-has-17-bytes u (a .0))
+assign-has-44-symbols u a = trace-length (shapeOf 8) true (messageOf (Send (Assign u a)) []) ∙ omega (arith, assign-data-has-17-bytes u (a .0))
 
-pub valid-assign : (u : Udid) (a : Address) → Valid (shapeOf blockWrite) (messageOf (Assign u a) [])
+pub valid-assign : (u : Udid) (a : Address) → Valid (shapeOf blockWrite) (messageOf (Send (Assign u a)) [])
 valid-assign u a = record {
   address = omega arith;
   direction = refl;
@@ -76,16 +77,16 @@ valid-assign u a = record {
 -- ---- their traces, symbol by symbol
 
 -- Prepare To ARP is the marked case M2, whatever is given as a reply, which it has none of
-pub prepare-symbols : (reply : List ℕ) → traceOf Prepare reply ≡ prepareTrace
+pub prepare-symbols : (reply : List ℕ) → traceOf (Send Prepare) reply ≡ prepareTrace
 unfolding pecFrom pecStep bitStep
 prepare-symbols reply = refl
 
 -- Get UDID with the bytes of a reply
-pub reply-symbols : (xs : List ℕ) → traceOf GetUdid xs ≡ replyTrace xs
+pub reply-symbols : (xs : List ℕ) → traceOf (Send GetUdid) xs ≡ replyTrace xs
 reply-symbols xs = rows .block-read-pec 0x61 0x03 xs
 
 -- of 17 bytes: S C2 A 03 A S C3 A 11 A, each byte with A, PEC N P
-pub reply-symbols-17 : (xs : List ℕ) → length xs ≡ 17 → traceOf GetUdid xs
+pub reply-symbols-17 : (xs : List ℕ) → length xs ≡ 17 → traceOf (Send GetUdid) xs
     ≡ 256 ∷ 194 ∷ 258 ∷ 3 ∷ 258 ∷ 256 ∷ 195 ∷ 258 ∷ 17 ∷ 258 ∷ (acked xs ++ pecOf (194 ∷ 3 ∷ 195 ∷ 17 ∷ xs) ∷ 259 ∷ 257 ∷ [])
 reply-symbols-17 xs e =
     reply-symbols xs
@@ -96,7 +97,7 @@ acked-last [] b l = refl
 acked-last (x ∷ xs) b l = ap (λ (r : List ℕ). x ∷ 258 ∷ r) (acked-last xs b l)
 
 -- Assign Address: the address byte is twice the address, of which seven bits count
-pub assign-symbols : (u : Udid) (a : Address) → traceOf (Assign u a) [] ≡ assignTrace (udidBytes u) (2 * (a .0 % 128))
+pub assign-symbols : (u : Udid) (a : Address) → traceOf (Send (Assign u a)) [] ≡ assignTrace (udidBytes u) (2 * (a .0 % 128))
 assign-symbols u a =
     let d : List ℕ = udidBytes u ++ 2 * (a .0 % 128) ∷ [] in
     rows .block-write-pec 0x61 0x04 (assignData u (a .0))
@@ -104,7 +105,7 @@ assign-symbols u a =
     ∙ ap (λ (l : List ℕ). 256 ∷ 194 ∷ 258 ∷ 4 ∷ 258 ∷ 17 ∷ 258 ∷ l) (acked-last (udidBytes u) (2 * (a .0 % 128)) (pecOf (194 ∷ 4 ∷ 17 ∷ d) ∷ 258 ∷ 257 ∷ []))
 
 -- of a 7-bit address, the byte is twice the address itself
-pub assign-symbols-small : (u : Udid) (a : Address) → a .0 < 128 → traceOf (Assign u a) [] ≡ assignTrace (udidBytes u) (2 * a .0)
+pub assign-symbols-small : (u : Udid) (a : Address) → a .0 < 128 → traceOf (Send (Assign u a)) [] ≡ assignTrace (udidBytes u) (2 * a .0)
 assign-symbols-small u a h = assign-symbols u a ∙ ap (λ (n : ℕ). assignTrace (udidBytes u) (2 * n)) (mod-eq-of-lt h)
 
 pub command-rows : CommandRows

@@ -11,23 +11,20 @@ use Rattle.udid.specs.Bytes.{udidBytes}
 use Rattle.udid.specs.declared.Udid.{Udid}
 use Rattle.arp.specs.CommandTraces.{assignTrace}
 use Rattle.arp.specs.Requests.{traceOf}
-use Rattle.arp.specs.declared.command.Command.{Command}
-use Rattle.arp.specs.declared.command.Command.the-variants.{Nothing, Prepare, GetUdid, Assign, Ended, NoneFree, Abandoned, NotOutstanding}
+use Rattle.arp.specs.declared.command.Command.the-variants.{Prepare, GetUdid, Assign}
+use Rattle.arp.specs.declared.command.Handed.{Handed}
+use Rattle.arp.specs.declared.command.Handed.the-variants.{Send, Wait}
 
 -- what was written is the trace of the command
-abbrev pub Sent : Command → List ℕ → List ℕ → Encoded → List ℕ → Type 0
+abbrev pub Sent : Handed → List ℕ → List ℕ → Encoded → List ℕ → Type 0
 Sent k reply before r after = (r ≡ Written (length (traceOf k reply))) × (after ≡ onto (traceOf k reply) before)
 
 -- what is not sent: a reply of more than 255 bytes, an Assign of a number above 127, and what is no command
-abbrev pub Unsendable : Command → List ℕ → Type 0
-Unsendable Prepare reply = ⊥
-Unsendable GetUdid reply = 255 < length reply
-Unsendable (Assign u a) reply = 127 < a .0
-Unsendable Nothing reply = Unit
-Unsendable Ended reply = Unit
-Unsendable (NoneFree u) reply = Unit
-Unsendable Abandoned reply = Unit
-Unsendable NotOutstanding reply = Unit
+abbrev pub Unsendable : Handed → List ℕ → Type 0
+Unsendable (Send Prepare) reply = ⊥
+Unsendable (Send GetUdid) reply = 255 < length reply
+Unsendable (Send (Assign u a)) reply = 127 < a .0
+Unsendable (Wait e) reply = Unit
 
 -- what put_command answers for an Assign, and the output after it
 pub record AssignWritten (u : Udid) (a : ℕ) (before : List ℕ) (r : Encoded) (after : List ℕ) : Type 0 where

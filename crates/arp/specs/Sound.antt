@@ -13,8 +13,9 @@ use Rattle.udid.specs.Udids.{Fits, isFixed}
 use Rattle.udid.specs.declared.Udid.{Udid}
 use Rattle.arp.specs.Bindings.{heldAt, boundTo}
 use Rattle.arp.specs.History.{isHeld}
-use Rattle.arp.specs.declared.command.Command.{Command}
-use Rattle.arp.specs.declared.command.Command.the-variants.{Nothing, Prepare, GetUdid, Assign, Ended, NoneFree, Abandoned, NotOutstanding}
+use Rattle.arp.specs.declared.command.Command.the-variants.{Prepare, GetUdid, Assign}
+use Rattle.arp.specs.declared.command.Handed.{Handed}
+use Rattle.arp.specs.declared.command.Handed.the-variants.{Send, Wait}
 use Rattle.arp.specs.declared.state.Binding.the-variants.{Bound}
 use Rattle.arp.specs.declared.state.Controller.{Controller}
 use Rattle.arp.specs.declared.state.Slot.{Slot}
@@ -50,15 +51,11 @@ pub record Pending (s : Controller) (u : Udid) (a : ℕ) : Type 0 where
   pub fits : Fits u
   pub free : isFixed u ≡ false → member (s .pool) a ≡ false
 
-abbrev pub PendingIn : Controller → Command → Type 0
-PendingIn s Nothing = Unit
-PendingIn s Prepare = Unit
-PendingIn s GetUdid = Unit
-PendingIn s (Assign u a) = Pending s u (a .0)
-PendingIn s Ended = Unit
-PendingIn s (NoneFree u) = Unit
-PendingIn s Abandoned = Unit
-PendingIn s NotOutstanding = Unit
+abbrev pub PendingIn : Controller → Handed → Type 0
+PendingIn s (Send Prepare) = Unit
+PendingIn s (Send GetUdid) = Unit
+PendingIn s (Send (Assign u a)) = Pending s u (a .0)
+PendingIn s (Wait e) = Unit
 
 abbrev pub GoodState : Pool → Controller → Type 0
 GoodState occupied s = Good occupied s × PendingIn s (s .last)

@@ -2,7 +2,7 @@
 use Prim.Native.Nat.{ℕ, zero, suc, _+_, _≤_, _<_}
 use mathlib.Core.Path.{_≡_, refl, sym, ap, ap₂, _∙_}
 use mathlib.Core.Bool.{Bool, true, false}
-use mathlib.Core.List.{List}
+use mathlib.Core.List.{List, [], _∷_}
 use mathlib.Core.Logic.{_⊎_, inl, inr}
 use native.Mathlib.Decide.{ℕ-discrete, decLt}
 use native.Mathlib.Omega.{arith}
@@ -17,10 +17,11 @@ use Rattle.pool.specs.declared.Pool.{Pool}
 use Rattle.udid.specs.UdidLaws.{same-equal, same-refl}
 use Rattle.udid.specs.declared.Udid.{Udid}
 use Rattle.arp.specs.Sound.{Sound, SoundIn, Unbound, Nowhere}
-use Rattle.arp.specs.Bindings.{openSlot, heldAt, boundTo, findFrom, freedAt, freed, slotFor, bound}
+use Rattle.arp.specs.BindingLaws.{bound-in-is}
+use Rattle.arp.specs.Bindings.{openSlot, heldAt, boundIn, isOnly, boundTo, findFrom, freedAt, freed, slotFor, bound}
 use Rattle.arp.specs.History.{isHeld}
 use Rattle.arp.specs.declared.state.Binding.{Binding}
-use Rattle.arp.specs.declared.state.Binding.the-variants.{Open, Bound, Claimed}
+use Rattle.arp.specs.declared.state.Binding.the-variants.{Open, Bound}
 use Rattle.arp.specs.declared.state.Controller.{Controller}
 use Rattle.arp.specs.declared.state.Slot.{Slot}
 
@@ -46,9 +47,11 @@ held-cases slots a i x h l e = go (ℕ-discrete i a)
     go (no q) = inr (q, sym (held-other slots a i x q) ∙ e)
 
 pub bound-to-is-bound : (u : Udid) (h : Binding) → boundTo u h ≡ true → h ≡ Bound u
-bound-to-is-bound u Open e = absurd (let z : _≡_ {A = ℕ} 0 1 = cc e in omega arith)
-bound-to-is-bound u (Bound v) e = ap Bound (same-equal v u e)
-bound-to-is-bound u Claimed e = absurd (let z : _≡_ {A = ℕ} 0 1 = cc e in omega arith)
+bound-to-is-bound u h e = go (boundIn h) refl e
+  where
+    go : (us : List Udid) → boundIn h ≡ us → isOnly u us ≡ true → h ≡ Bound u
+    go [] q e = absurd (let z : _≡_ {A = ℕ} 0 1 = cc e in omega arith)
+    go (v ∷ vs) q e = bound-in-is h v vs q ∙ ap Bound (same-equal v u e)
 
 pub open-is-not-bound : (h : Binding) (u : Udid) → h ≡ Open → h ≡ Bound u → ⊥
 open-is-not-bound h u e f = let z : _≡_ {A = ℕ} 0 1 = cc in omega arith

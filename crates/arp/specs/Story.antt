@@ -18,18 +18,20 @@ use Rattle.arp.specs.Lookup.{lookedUp}
 use Rattle.arp.specs.Numbers.{commandNumber, lookupNumber}
 use Rattle.arp.specs.CommandTraces.{replyTrace}
 use Rattle.arp.specs.Replay.{Replied, Assigned, Table, released, readAs, numberOf, noCommand, NoneToPick, nextCommand, emptied, after, handedOut}
-use Rattle.arp.specs.declared.command.Command.{Command}
-use Rattle.arp.specs.declared.command.Command.the-variants.{Nothing, Prepare, GetUdid}
+use Rattle.arp.specs.declared.command.Command.the-variants.{Prepare, GetUdid}
+use Rattle.arp.specs.declared.command.End.the-variants.{Nothing}
+use Rattle.arp.specs.declared.command.Handed.{Handed}
+use Rattle.arp.specs.declared.command.Handed.the-variants.{Send, Wait}
 
 -- the table, how many Get UDIDs were handed out in this pass, and what was handed out last
 pub record Story : Type 0 where
   pub known : Table
   pub gets : ℕ
-  pub command : Command
+  pub command : Handed
 
 -- after one event more
 abbrev pub onward : (ℕ → Bool) → Event → Story → Story
-onward starting Start w = record { known = emptied starting; gets = 0; command = Prepare }
+onward starting Start w = record { known = emptied starting; gets = 0; command = Send Prepare }
 onward starting (Received tr) w =
     record {
       known = after starting (readAs (w .command) tr) (w .known);
@@ -39,7 +41,7 @@ onward starting (Received tr) w =
 
 -- after events, the latest first, of a controller that was made with these addresses occupied
 unfoldable pub story : Pool → List Event → Story
-story occupied [] = record { known = emptied (member (startingPool occupied)); gets = 0; command = Nothing }
+story occupied [] = record { known = emptied (member (startingPool occupied)); gets = 0; command = Wait Nothing }
 story occupied (e ∷ es) = onward (member (startingPool occupied)) e (story occupied es)
 
 -- what each address is known for, what the pool has, how many Get UDIDs were handed out and what was handed out last: the events alone give them
@@ -52,7 +54,7 @@ pub record Told (occupied : Pool) (es : List Event) : Type 0 where
 -- 13 with u is due: Get UDID is outstanding, the trace is a reply with u, and with what u was bound to freed there is no address to pick
 abbrev pub Full : Pool → List Event → List ℕ → Udid → Type 0
 Full occupied es tr u =
-    (story occupied es .command ≡ GetUdid)
+    (story occupied es .command ≡ Send GetUdid)
     × ((b : ℕ) × (b < 256) × (tr ≡ replyTrace (udidBytes u ++ b ∷ [])) × NoneToPick (released u (story occupied es .known) .used) u b)
 
 -- ---- THE CONTROLLER BY ITS HISTORY: from any new controller, over any starts and traces, the latest first

@@ -30,8 +30,10 @@ use Rattle.arp.specs.History.{Event, Received, run}
 use Rattle.arp.specs.Lookup.{lookedUp}
 use Rattle.arp.specs.Numbers.{commandNumber, lookupNumber}
 use Rattle.arp.specs.Replay.{Happened, Started, Replied, Assigned, Other, holds, after, readAs, handedOut, table, numberOf, noCommand, again, nextCommand}
-use Rattle.arp.specs.declared.command.Command.{Command}
-use Rattle.arp.specs.declared.command.Command.the-variants.{Prepare, GetUdid, Abandoned}
+use Rattle.arp.specs.declared.command.Command.the-variants.{Prepare, GetUdid}
+use Rattle.arp.specs.declared.command.End.the-variants.{Abandoned}
+use Rattle.arp.specs.declared.command.Handed.{Handed}
+use Rattle.arp.specs.declared.command.Handed.the-variants.{Send, Wait}
 use Rattle.arp.specs.declared.state.Binding.the-variants.{Open, Bound, Claimed}
 use Rattle.arp.specs.declared.state.Controller.{Controller}
 
@@ -93,7 +95,7 @@ module _ (occupied : Pool) (es : List Event) (tr : List ℕ) where
       → ((w : Udid) → readAs (story occupied es .command) tr ≡ Assigned w a → ⊥) → heldAt (run occupied (Received tr ∷ es) .slots) a ≡ Bound u
   binding-stays-by-story a u e n m =
       let q : handedOut occupied es ≡ story occupied es .command = state-by-story occupied es .command in
-      binding-stays occupied es tr a u e (λ k. n (ap (λ (x : Command). readAs x tr) (sym q) ∙ k)) (λ w k. m w (ap (λ (x : Command). readAs x tr) (sym q) ∙ k))
+      binding-stays occupied es tr a u e (λ k. n (ap (λ (x : Handed). readAs x tr) (sym q) ∙ k)) (λ w k. m w (ap (λ (x : Handed). readAs x tr) (sym q) ∙ k))
 
 -- ---- ALL OF IT: from any new controller, over any starts and traces
 
@@ -114,11 +116,11 @@ by-history occupied es = record {
 -- ---- Get UDID, and starts
 
 -- GET UDID AND ITS LIMIT: with fewer than 128 handed out in this pass it is Get UDID, with 128 it is 14
-pub get-udid-limit : (n : ℕ) → (n < 128 → again n ≡ GetUdid) × (128 ≤ n → again n ≡ Abandoned)
+pub get-udid-limit : (n : ℕ) → (n < 128 → again n ≡ Send GetUdid) × (128 ≤ n → again n ≡ Wait Abandoned)
 get-udid-limit n = (λ h. rw (lt-leb 128 n h), λ h. rw (le-leb 128 n h))
 
 -- FROM EVERY STATE a start hands out Prepare; lookup of every address is 15 then, the pool is the starting one, and no Get UDID is counted
-pub start-by-history : (s : Controller) → (started s .command ≡ Prepare) × (started s .state .last ≡ Prepare)
+pub start-by-history : (s : Controller) → (started s .command ≡ Send Prepare) × (started s .state .last ≡ Send Prepare)
     × ((a : ℕ) → a < 128 → lookupNumber (lookedUp (started s .state) a) ≡ (15, [])) × (started s .state .pool ≡ s .starting) × (started s .state .starting ≡ s .starting)
     × (started s .state .gets ≡ 0)
 start-by-history s = (refl, refl, λ a h. lookup-15 (started s .state) a .1 (h, open-all a), refl, refl, refl)

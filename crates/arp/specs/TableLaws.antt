@@ -36,8 +36,10 @@ use Rattle.arp.specs.History.{Event, Start, Received, run}
 use Rattle.arp.specs.Lookup.{lookedUp}
 use Rattle.arp.specs.Numbers.{lookupNumber}
 use Rattle.arp.specs.Replay.{Happened, Replied, Assigned, Other, Table, holds, emptied, after, replyIn, assignIn, readAs, handedOut, table, numberOf, view}
-use Rattle.arp.specs.declared.command.Command.{Command}
-use Rattle.arp.specs.declared.command.Command.the-variants.{Nothing, Prepare, GetUdid, Assign, Ended, NoneFree, Abandoned, NotOutstanding}
+use Rattle.arp.specs.declared.command.Command.the-variants.{Prepare, GetUdid, Assign}
+use Rattle.arp.specs.declared.command.End.the-variants.{Ended, Abandoned}
+use Rattle.arp.specs.declared.command.Handed.{Handed}
+use Rattle.arp.specs.declared.command.Handed.the-variants.{Send, Wait}
 use Rattle.arp.specs.declared.state.Binding.{Binding}
 use Rattle.arp.specs.declared.state.Binding.the-variants.{Open, Bound, Claimed}
 use Rattle.arp.specs.declared.state.Controller.{Controller}
@@ -56,7 +58,7 @@ asked-view : (s : Controller) → view (asked s .state) ≡ view s
 unfolding asked
 asked-view s = go (leb 128 (s .gets))
   where
-    go : (b : Bool) → view (pick b (handed s Abandoned) (handed (counted s) GetUdid) .state) ≡ view s
+    go : (b : Bool) → view (pick b (handed s (Wait Abandoned)) (handed (counted s) (Send GetUdid)) .state) ≡ view s
     go true = refl
     go false = refl
 
@@ -155,12 +157,12 @@ module _ (starting : ℕ → Bool) (s : Controller) (v : SoundIn s) where
   prepare-view : (d : Decoded) (xs : List ℕ) → view (onPrepare s d xs .state) ≡ view s
   prepare-view (Done t) xs = go (isPrepare t xs)
     where
-      go : (q : Bool) → view (pick q (asked s) (handed s Abandoned) .state) ≡ view s
+      go : (q : Bool) → view (pick q (asked s) (handed s (Wait Abandoned)) .state) ≡ view s
       go true = asked-view s
       go false = refl
   prepare-view (Refused w k) xs = go (isNack w)
     where
-      go : (q : Bool) → view (pick q (handed s Ended) (handed s Abandoned) .state) ≡ view s
+      go : (q : Bool) → view (pick q (handed s (Wait Ended)) (handed s (Wait Abandoned)) .state) ≡ view s
       go true = refl
       go false = refl
 
@@ -168,7 +170,7 @@ module _ (starting : ℕ → Bool) (s : Controller) (v : SoundIn s) where
   unfolding onReply
   reply-view t xs = go (isGet t) (eqb (t .received) 17)
     where
-      go : (p q : Bool) → view (pick p (pick q (replied s (udidAt xs 0) (getD xs 16 0)) (handed s Ended)) (asked s) .state)
+      go : (p q : Bool) → view (pick p (pick q (replied s (udidAt xs 0) (getD xs 16 0)) (handed s (Wait Ended))) (asked s) .state)
           ≡ after starting (pick p (pick q (Replied (udidAt xs 0)) Other) Other) (view s)
       go true true = replied-view starting s v (udidAt xs 0) (getD xs 16 0)
       go true false = refl
@@ -178,7 +180,7 @@ module _ (starting : ℕ → Bool) (s : Controller) (v : SoundIn s) where
   get-view (Done t) xs = reply-view t xs
   get-view (Refused w k) xs = go (and (isNack w) (ltb k 3))
     where
-      go : (q : Bool) → view (pick q (handed s Ended) (asked s) .state) ≡ view s
+      go : (q : Bool) → view (pick q (handed s (Wait Ended)) (asked s) .state) ≡ view s
       go true = refl
       go false = asked-view s
 
@@ -196,15 +198,11 @@ module _ (starting : ℕ → Bool) (s : Controller) (v : SoundIn s) where
   unfolding stepped afterPrepare afterGet afterAssign
   step-view p tr = go (s .last) p
     where
-      go : (k : Command) → PendingIn s k → view (byCommand s tr k .state) ≡ after starting (readAs k tr) (view s)
-      go Nothing q = refl
-      go Prepare q = prepare-view (answer sendByte tr) (sentIn sendByte tr)
-      go GetUdid q = get-view (answer blockRead tr) (receivedIn blockRead tr)
-      go (Assign u a) q = assign-view u (a .0) (q .small) (answer blockWrite tr) (sentIn blockWrite tr)
-      go Ended q = refl
-      go (NoneFree u) q = refl
-      go Abandoned q = refl
-      go NotOutstanding q = refl
+      go : (k : Handed) → PendingIn s k → view (byCommand s tr k .state) ≡ after starting (readAs k tr) (view s)
+      go (Send Prepare) q = prepare-view (answer sendByte tr) (sentIn sendByte tr)
+      go (Send GetUdid) q = get-view (answer blockRead tr) (receivedIn blockRead tr)
+      go (Send (Assign u a)) q = assign-view u (a .0) (q .small) (answer blockWrite tr) (sentIn blockWrite tr)
+      go (Wait e) q = refl
 
 -- ---- EVERY STATE
 

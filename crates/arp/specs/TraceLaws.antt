@@ -36,7 +36,9 @@ use Rattle.arp.specs.Bindings.{bound}
 use Rattle.arp.specs.Controller.{asked, handed, replied, onReply, onPrepare, onGet, onAssign, afterPrepare, afterGet, afterAssign}
 use Rattle.arp.specs.Heard.{sendByte, blockRead, blockWrite, answer, sentIn, receivedIn, isCommand, isPrepare, isGet, names, isAssign}
 use Rattle.arp.specs.Requests.{assignData, messageOf, traceOf}
-use Rattle.arp.specs.declared.command.Command.the-variants.{Prepare, GetUdid, Assign, Ended, Abandoned}
+use Rattle.arp.specs.declared.command.Command.the-variants.{Prepare, GetUdid, Assign}
+use Rattle.arp.specs.declared.command.End.the-variants.{Ended, Abandoned}
+use Rattle.arp.specs.declared.command.Handed.the-variants.{Send, Wait}
 use Rattle.arp.specs.declared.state.Controller.{Controller}
 
 -- ---- what the decoder says of them
@@ -72,7 +74,7 @@ empty (x ∷ xs) e = absurd (omega arith)
 
 module _ (s : Controller) (tr : List ℕ) where
   -- a complete trace that is Prepare To ARP is its trace
-  prepare-only : (t : Transaction) → answer sendByte tr ≡ Done t → isPrepare t (sentIn sendByte tr) ≡ true → tr ≡ traceOf Prepare []
+  prepare-only : (t : Transaction) → answer sendByte tr ≡ Done t → isPrepare t (sentIn sendByte tr) ≡ true → tr ≡ traceOf (Send Prepare) []
   prepare-only t e h =
       let c = complete sendByte tr t e in
       let b = both-true (eqb (t .address .0) defaultAddress) (eqb (getD (sentIn sendByte tr) 0 0) 0x01) h in
@@ -80,7 +82,7 @@ module _ (s : Controller) (tr : List ℕ) where
       let d : getD (c .message .sent) 0 0 ≡ 0x01 = ap (λ (x : List ℕ). getD x 0 0) (sym (c .data-sent)) ∙ eqb-true (getD (sentIn sendByte tr) 0 0) 0x01 (b .1) in
       c .is
       ∙ ap (trace (shapeOf sendByte) true)
-      (message-is (c .message) (messageOf Prepare []) a (c .valid .direction) (c .valid .command) (byte (c .message .sent) (c .valid .sent-length) d)
+      (message-is (c .message) (messageOf (Send Prepare) []) a (c .valid .direction) (c .valid .command) (byte (c .message .sent) (c .valid .sent-length) d)
       (empty (c .message .received) (c .valid .received-length)))
     where
       byte : (xs : List ℕ) → length xs ≡ 1 → getD xs 0 0 ≡ 0x01 → xs ≡ 0x01 ∷ []
@@ -89,32 +91,32 @@ module _ (s : Controller) (tr : List ℕ) where
       byte (x ∷ y ∷ xs) l d = absurd (omega arith)
 
   -- accepted: Get UDID
-  pub prepare-accepted : tr ≡ traceOf Prepare [] → afterPrepare s tr ≡ asked s
+  pub prepare-accepted : tr ≡ traceOf (Send Prepare) [] → afterPrepare s tr ≡ asked s
   unfolding afterPrepare
   prepare-accepted e =
-      let b = decoded-back sendByte (messageOf Prepare []) valid-prepare in
+      let b = decoded-back sendByte (messageOf (Send Prepare) []) valid-prepare in
       ap (λ (x : List ℕ). onPrepare s (answer sendByte x) (sentIn sendByte x)) e
       ∙ ap₂ (onPrepare s) (b .0) (b .1)
 
   -- answer 6: the pass ends
-  pub prepare-nobody : (b : ℕ) → CutAt (shapeOf sendByte) true tr b → afterPrepare s tr ≡ handed s Ended
+  pub prepare-nobody : (b : ℕ) → CutAt (shapeOf sendByte) true tr b → afterPrepare s tr ≡ handed s (Wait Ended)
   unfolding afterPrepare
   prepare-nobody b h = ap (λ (x : Decoded). onPrepare s x (sentIn sendByte tr)) (cut sendByte tr b h)
 
   -- any other: 14
-  pub prepare-other : (tr ≡ traceOf Prepare [] → ⊥) → ((b : ℕ) → CutAt (shapeOf sendByte) true tr b → ⊥) → afterPrepare s tr ≡ handed s Abandoned
+  pub prepare-other : (tr ≡ traceOf (Send Prepare) [] → ⊥) → ((b : ℕ) → CutAt (shapeOf sendByte) true tr b → ⊥) → afterPrepare s tr ≡ handed s (Wait Abandoned)
   unfolding afterPrepare
   prepare-other n k = go (answer sendByte tr) refl
     where
-      done : (t : Transaction) → answer sendByte tr ≡ Done t → (b : Bool) → isPrepare t (sentIn sendByte tr) ≡ b → pick b (asked s) (handed s Abandoned) ≡ handed s Abandoned
+      done : (t : Transaction) → answer sendByte tr ≡ Done t → (b : Bool) → isPrepare t (sentIn sendByte tr) ≡ b → pick b (asked s) (handed s (Wait Abandoned)) ≡ handed s (Wait Abandoned)
       done t e true h = absurd (n (prepare-only t e h))
       done t e false h = refl
 
-      nack : (w : Refusal) (b : ℕ) → answer sendByte tr ≡ Refused w b → (p : Bool) → isNack w ≡ p → pick p (handed s Ended) (handed s Abandoned) ≡ handed s Abandoned
+      nack : (w : Refusal) (b : ℕ) → answer sendByte tr ≡ Refused w b → (p : Bool) → isNack w ≡ p → pick p (handed s (Wait Ended)) (handed s (Wait Abandoned)) ≡ handed s (Wait Abandoned)
       nack w b e true g = absurd (k b (cut-back sendByte tr w b e g))
       nack w b e false g = refl
 
-      go : (x : Decoded) → answer sendByte tr ≡ x → onPrepare s x (sentIn sendByte tr) ≡ handed s Abandoned
+      go : (x : Decoded) → answer sendByte tr ≡ x → onPrepare s x (sentIn sendByte tr) ≡ handed s (Wait Abandoned)
       go (Done t) e = done t e (isPrepare t (sentIn sendByte tr)) refl
       go (Refused w i) e = nack w i e (isNack w) refl
 
@@ -122,7 +124,7 @@ module _ (s : Controller) (tr : List ℕ) where
 
 module _ (s : Controller) (tr : List ℕ) where
   -- a complete trace that is Get UDID is its trace, with some reply
-  pub complete-get-is-its-trace : (t : Transaction) → answer blockRead tr ≡ Done t → isGet t ≡ true → tr ≡ traceOf GetUdid (receivedIn blockRead tr)
+  pub complete-get-is-its-trace : (t : Transaction) → answer blockRead tr ≡ Done t → isGet t ≡ true → tr ≡ traceOf (Send GetUdid) (receivedIn blockRead tr)
   complete-get-is-its-trace t e h =
       let c = complete blockRead tr t e in
       let b = both-true (eqb (t .address .0) defaultAddress) (eqb (t .command) 0x03) h in
@@ -130,7 +132,7 @@ module _ (s : Controller) (tr : List ℕ) where
       let d : c .message .command ≡ 0x03 = sym (ap (λ (x : Transaction). x .command) (c .fields)) ∙ eqb-true (t .command) 0x03 (b .1) in
       c .is
       ∙ ap (trace (shapeOf blockRead) true)
-      (message-is (c .message) (messageOf GetUdid (receivedIn blockRead tr)) a (c .valid .direction) d (empty (c .message .sent) (c .valid .sent-length)) (sym (c .data-received)))
+      (message-is (c .message) (messageOf (Send GetUdid) (receivedIn blockRead tr)) a (c .valid .direction) d (empty (c .message .sent) (c .valid .sent-length)) (sym (c .data-received)))
 
   -- the data of a complete Block Read are at most 255 bytes
   pub complete-get-data-fits : (t : Transaction) → answer blockRead tr ≡ Done t → Bytes (receivedIn blockRead tr) × (length (receivedIn blockRead tr) ≤ 255)
@@ -139,38 +141,38 @@ module _ (s : Controller) (tr : List ℕ) where
       (subst Bytes (sym (c .data-received)) (c .valid .received-bytes), omega (arith, ap length (c .data-received), c .valid .counts))
 
   -- the decoder's answer for Get UDID with a reply
-  module _ (xs : List ℕ) (h : Bytes xs) (l : length xs ≤ 255) (e : tr ≡ traceOf GetUdid xs) where
-    get-is : afterGet s tr ≡ pick (eqb (length xs) 17) (replied s (udidAt xs 0) (getD xs 16 0)) (handed s Ended)
+  module _ (xs : List ℕ) (h : Bytes xs) (l : length xs ≤ 255) (e : tr ≡ traceOf (Send GetUdid) xs) where
+    get-is : afterGet s tr ≡ pick (eqb (length xs) 17) (replied s (udidAt xs 0) (getD xs 16 0)) (handed s (Wait Ended))
     unfolding afterGet onReply
     get-is =
-        let b = decoded-back blockRead (messageOf GetUdid xs) (valid-get xs h l) in
+        let b = decoded-back blockRead (messageOf (Send GetUdid) xs) (valid-get xs h l) in
         ap (λ (x : List ℕ). onGet s (answer blockRead x) (receivedIn blockRead x)) e
         ∙ ap₂ (onGet s) (b .0) (b .2)
 
     -- a count that is not 17: the pass ends
-    pub get-count : (length xs ≡ 17 → ⊥) → afterGet s tr ≡ handed s Ended
-    get-count n = get-is ∙ ap (λ (b : Bool). pick b (replied s (udidAt xs 0) (getD xs 16 0)) (handed s Ended)) (ne-eqb (length xs) 17 n)
+    pub get-count : (length xs ≡ 17 → ⊥) → afterGet s tr ≡ handed s (Wait Ended)
+    get-count n = get-is ∙ ap (λ (b : Bool). pick b (replied s (udidAt xs 0) (getD xs 16 0)) (handed s (Wait Ended))) (ne-eqb (length xs) 17 n)
 
     -- 17 bytes: the identifier and the address byte
     pub get-reply : length xs ≡ 17 → afterGet s tr ≡ replied s (udidAt xs 0) (getD xs 16 0)
-    get-reply n = get-is ∙ ap (λ (b : Bool). pick b (replied s (udidAt xs 0) (getD xs 16 0)) (handed s Ended)) (eq-eqb (length xs) 17 n)
+    get-reply n = get-is ∙ ap (λ (b : Bool). pick b (replied s (udidAt xs 0) (getD xs 16 0)) (handed s (Wait Ended))) (eq-eqb (length xs) 17 n)
 
   -- answer 6 at byte 0, 1 or 2: the pass ends
-  pub get-nobody : (b : ℕ) → CutAt (shapeOf blockRead) true tr b → b < 3 → afterGet s tr ≡ handed s Ended
+  pub get-nobody : (b : ℕ) → CutAt (shapeOf blockRead) true tr b → b < 3 → afterGet s tr ≡ handed s (Wait Ended)
   unfolding afterGet
-  get-nobody b h l = ap (λ (x : Decoded). onGet s x (receivedIn blockRead tr)) (cut blockRead tr b h) ∙ ap (λ (q : Bool). pick q (handed s Ended) (asked s)) (lt-ltb b 3 l)
+  get-nobody b h l = ap (λ (x : Decoded). onGet s x (receivedIn blockRead tr)) (cut blockRead tr b h) ∙ ap (λ (q : Bool). pick q (handed s (Wait Ended)) (asked s)) (lt-ltb b 3 l)
 
   -- any other: Get UDID again
-  pub get-again : ((xs : List ℕ) → Bytes xs → length xs ≤ 255 → tr ≡ traceOf GetUdid xs → ⊥) → ((b : ℕ) → CutAt (shapeOf blockRead) true tr b → b < 3 → ⊥) → afterGet s tr ≡ asked s
+  pub get-again : ((xs : List ℕ) → Bytes xs → length xs ≤ 255 → tr ≡ traceOf (Send GetUdid) xs → ⊥) → ((b : ℕ) → CutAt (shapeOf blockRead) true tr b → b < 3 → ⊥) → afterGet s tr ≡ asked s
   unfolding afterGet onReply
   get-again n k = go (answer blockRead tr) refl
     where
       done : (t : Transaction) → answer blockRead tr ≡ Done t → (b : Bool) → isGet t ≡ b
-          → pick b (pick (eqb (t .received) 17) (replied s (udidAt (receivedIn blockRead tr) 0) (getD (receivedIn blockRead tr) 16 0)) (handed s Ended)) (asked s) ≡ asked s
+          → pick b (pick (eqb (t .received) 17) (replied s (udidAt (receivedIn blockRead tr) 0) (getD (receivedIn blockRead tr) 16 0)) (handed s (Wait Ended))) (asked s) ≡ asked s
       done t e true h = let d = complete-get-data-fits t e in absurd (n (receivedIn blockRead tr) (d .0) (d .1) (complete-get-is-its-trace t e h))
       done t e false h = refl
 
-      nack : (w : Refusal) (b : ℕ) → answer blockRead tr ≡ Refused w b → (p : Bool) → isNack w ≡ p → (q : Bool) → ltb b 3 ≡ q → pick (and p q) (handed s Ended) (asked s) ≡ asked s
+      nack : (w : Refusal) (b : ℕ) → answer blockRead tr ≡ Refused w b → (p : Bool) → isNack w ≡ p → (q : Bool) → ltb b 3 ≡ q → pick (and p q) (handed s (Wait Ended)) (asked s) ≡ asked s
       nack w b e true g true h = absurd (k b (cut-back blockRead tr w b e g) (ltb-true b 3 h))
       nack w b e true g false h = refl
       nack w b e false g q h = refl
@@ -188,7 +190,7 @@ named u a xs h l e f =
     ∙ ap₂ (λ (p q : List ℕ). p ++ q) (sym (bytes-back xs 0 h (omega arith)) ∙ ap udidBytes e) (ap₂ (λ (x : ℕ) (q : List ℕ). x ∷ q) f (empty (drop 17 xs) (length-drop 17 xs ∙ omega arith)))
 
 -- the command's own data are told as the Assign that was sent
-pub assign-data-is-assign : (u : Udid) (a : Address) → Fits u → isAssign u (a .0) (summary blockWrite (messageOf (Assign u a) [])) (assignData u (a .0)) ≡ true
+pub assign-data-is-assign : (u : Udid) (a : Address) → Fits u → isAssign u (a .0) (summary blockWrite (messageOf (Send (Assign u a)) [])) (assignData u (a .0)) ≡ true
 assign-data-is-assign u a f =
     let i = udid-back [] (2 * (a .0 % 128) ∷ []) 0 u f refl in
     let n : sameUdid (udidAt (assignData u (a .0)) 0) u ≡ true = ap (λ (z : Udid). sameUdid z u) i ∙ same-refl u in
@@ -197,7 +199,7 @@ assign-data-is-assign u a f =
 
 module _ (s : Controller) (u : Udid) (a : Address) (tr : List ℕ) where
   -- a complete trace that is the Assign which was sent is its trace
-  pub complete-assign-is-its-trace : (t : Transaction) → answer blockWrite tr ≡ Done t → isAssign u (a .0) t (sentIn blockWrite tr) ≡ true → tr ≡ traceOf (Assign u a) []
+  pub complete-assign-is-its-trace : (t : Transaction) → answer blockWrite tr ≡ Done t → isAssign u (a .0) t (sentIn blockWrite tr) ≡ true → tr ≡ traceOf (Send (Assign u a)) []
   complete-assign-is-its-trace t e h =
       let c = complete blockWrite tr t e in
       let xs : List ℕ = sentIn blockWrite tr in
@@ -212,19 +214,19 @@ module _ (s : Controller) (u : Udid) (a : Address) (tr : List ℕ) where
       let w : getD (c .message .sent) 16 0 ≡ 2 * (a .0 % 128) = ap (λ (z : List ℕ). getD z 16 0) (sym (c .data-sent)) ∙ eqb-true (getD (sentIn blockWrite tr) 16 0) (2 * (a .0 % 128)) (n .1) in
       c .is
       ∙ ap (trace (shapeOf blockWrite) true)
-      (message-is (c .message) (messageOf (Assign u a) []) x (c .valid .direction) y (named u (a .0) (c .message .sent) (c .valid .sent-bytes) l v w) (empty (c .message .received) (c .valid .received-length)))
+      (message-is (c .message) (messageOf (Send (Assign u a)) []) x (c .valid .direction) y (named u (a .0) (c .message .sent) (c .valid .sent-bytes) l v w) (empty (c .message .received) (c .valid .received-length)))
 
   -- complete: bound
-  pub assign-whole : Fits u → tr ≡ traceOf (Assign u a) [] → afterAssign s u (a .0) tr ≡ asked (bound s u (a .0))
+  pub assign-whole : Fits u → tr ≡ traceOf (Send (Assign u a)) [] → afterAssign s u (a .0) tr ≡ asked (bound s u (a .0))
   unfolding afterAssign
   assign-whole f e =
-      let b = decoded-back blockWrite (messageOf (Assign u a) []) (valid-assign u a) in
+      let b = decoded-back blockWrite (messageOf (Send (Assign u a)) []) (valid-assign u a) in
       ap (λ (x : List ℕ). onAssign s u (a .0) (answer blockWrite x) (sentIn blockWrite x)) e
       ∙ ap₂ (onAssign s u (a .0)) (b .0) (b .1)
       ∙ ap (λ (q : Bool). pick q (asked (bound s u (a .0))) (asked s)) (assign-data-is-assign u a f)
 
   -- any other answer: no binding, Get UDID again
-  pub assign-other : (tr ≡ traceOf (Assign u a) [] → ⊥) → afterAssign s u (a .0) tr ≡ asked s
+  pub assign-other : (tr ≡ traceOf (Send (Assign u a)) [] → ⊥) → afterAssign s u (a .0) tr ≡ asked s
   unfolding afterAssign
   assign-other n = go (answer blockWrite tr) refl
     where

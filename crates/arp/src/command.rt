@@ -1,16 +1,28 @@
-// What the controller hands out: a command to send, or how the pass ended. specs/Numbers.antt gives the scope's number of each case.
+// What the controller hands out: a command to send, or why nothing is to be sent. specs/Numbers.antt gives the scope's number of each end.
 use udid::Udid;
 use wire::address::Address;
 
+// The code of Prepare To ARP, its one data byte.
+pub const PREPARE_TO_ARP: u8 = 0x01;
+// The command byte of Get UDID.
+pub const GET_UDID: u8 = 0x03;
+// The command byte of Assign Address.
+pub const ASSIGN_ADDRESS: u8 = 0x04;
+
+// A command on the bus.
 pub enum Command {
-    // No pass has begun.
-    Nothing,
     // Prepare To ARP.
     Prepare,
     // Get UDID.
     GetUdid,
     // Assign Address: this target gets this address.
     Assign(Udid, Address),
+}
+
+// Why nothing is to be sent.
+pub enum End {
+    // No pass has begun.
+    Nothing,
     // The pass has ended, with no number named.
     Ended,
     // The pass has ended: no address is free for this target.
@@ -19,4 +31,12 @@ pub enum Command {
     Abandoned,
     // A trace came while no command was outstanding.
     NotOutstanding,
+}
+
+// What is handed out.
+pub enum Handed {
+    // This command is to be sent.
+    Send(Command),
+    // Nothing is.
+    Wait(End),
 }

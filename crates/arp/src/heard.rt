@@ -2,6 +2,8 @@
 ghost use mathlib.Core.Path.{_≡_};
 ghost use lib.ListN.{getD};
 ghost use Rattle.arp.specs.Heard.{isCommand, isPrepare, names, isAssign, completes, nobody};
+use super::command::ASSIGN_ADDRESS;
+use super::command::PREPARE_TO_ARP;
 use step::answer::Decoded;
 use step::number::is_nack;
 use trace::transaction::Transaction;
@@ -33,7 +35,7 @@ pub(crate) fn is_prepare(t: Transaction, sent: &[u8]) -> bool
 {
     let a = t.address;
     if a.is_default() {
-        byte_at(sent, 0) == 0x01
+        byte_at(sent, 0) == PREPARE_TO_ARP
     } else {
         false
     }
@@ -56,7 +58,7 @@ fn names_both(u: Udid, a: Address, sent: &[u8]) -> bool
 pub(crate) fn is_assign(u: Udid, a: Address, t: Transaction, sent: &[u8]) -> bool
     ensures { λ r. ⌜ r ≡ isAssign u (a .0) t (now (sent .entry)) ⌝ }
 {
-    if !is_command(t, 0x04) {
+    if !is_command(t, ASSIGN_ADDRESS) {
         return false;
     }
     if t.sent == 17 {

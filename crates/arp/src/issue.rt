@@ -2,12 +2,14 @@
 ghost use mathlib.Core.Path.{_≡_};
 ghost use Rattle.arp.specs.Controller.{handed, asked};
 use super::command::Command;
+use super::command::End;
+use super::command::Handed;
 use super::state::Controller;
 use super::state::Stepped;
 
 impl Controller {
     // The state with this handed out.
-    pub(crate) fn hand(self, k: Command) -> Stepped
+    pub(crate) fn hand(self, k: Handed) -> Stepped
         ensures { λ r. ⌜ r ≡ handed self k ⌝ }
     {
         let starting = self.starting;
@@ -31,9 +33,9 @@ impl Controller {
         ensures { λ r. ⌜ r ≡ asked self ⌝ }
     {
         if self.gets >= 128 {
-            return self.hand(Command::Abandoned);
+            return self.hand(Handed::Wait(End::Abandoned));
         }
         self.gets = self.gets + 1;
-        self.hand(Command::GetUdid)
+        self.hand(Handed::Send(Command::GetUdid))
     }
 }

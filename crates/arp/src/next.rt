@@ -1,9 +1,12 @@
 // The step: what a received trace says of the command that is outstanding, and what comes next.
 // Rests on decode for the trace, heard for whether it is the command sent, slots, choose and issue.
 ghost use mathlib.Core.Path.{_≡_};
-ghost use Rattle.arp.specs.Controller.{replied, onReply, afterPrepare, afterGet, afterAssign, stepped};
+ghost use Rattle.arp.specs.Controller.{replied, onReply, afterPrepare, afterGet, afterAssign, byCommand, stepped};
 use super::choose::choose;
 use super::command::Command;
+use super::command::End;
+use super::command::GET_UDID;
+use super::command::Handed;
 use super::heard::byte_at;
 use super::heard::is_command;
 use super::heard::is_complete;
@@ -26,20 +29,20 @@ impl Controller {
         let next = self.free(u);
         let pool = next.pool;
         let Free::At(a) = choose(pool, u, b) else {
-            return next.hand(Command::NoneFree(u));
+            return next.hand(Handed::Wait(End::NoneFree(u)));
         };
-        next.hand(Command::Assign(u, a))
+        next.hand(Handed::Send(Command::Assign(u, a)))
     }
 
     // A transaction was decoded where the reply to Get UDID is due.
     fn on_complete(self, t: Transaction, received: &[u8]) -> Stepped
         ensures { λ r. ⌜ r ≡ onReply self t (now (received .entry)) ⌝ }
     {
-        if !is_command(t, 0x03) {
+        if !is_command(t, GET_UDID) {
             return self.ask();
         }
         if t.received != 17 {
-            return self.hand(Command::Ended);
+            return self.hand(Handed::Wait(End::Ended));
         }
         let u = Udid::from_bytes(received, 0);
         let b = byte_at(received, 16);
@@ -58,14 +61,14 @@ impl Controller {
                 if is_prepare(t, &sent) {
                     self.ask()
                 } else {
-                    self.hand(Command::Abandoned)
+                    self.hand(Handed::Wait(End::Abandoned))
                 }
             }
             Decoded::Refused(w, _) => {
                 if is_nack(w) {
-                    self.hand(Command::Ended)
+                    self.hand(Handed::Wait(End::Ended))
                 } else {
-                    self.hand(Command::Abandoned)
+                    self.hand(Handed::Wait(End::Abandoned))
                 }
             }
         }
@@ -79,7 +82,7 @@ impl Controller {
         let mut received = [0u8; 255];
         let answer = decode::decode(9, true, trace, &mut sent, &mut received);
         if is_nobody(answer) {
-            return self.hand(Command::Ended);
+            return self.hand(Handed::Wait(End::Ended));
         }
         match answer {
             Decoded::Done(t) => self.on_complete(t, &received),
@@ -101,18 +104,27 @@ impl Controller {
         next.ask()
     }
 
+    // This command is outstanding.
+    fn after(self, k: Command, trace: &[u16]) -> Stepped
+        ensures { λ r. ⌜ r ≡ byCommand self (now (trace .entry)) (Handed.Send k) ⌝ }
+    {
+        match k {
+            Command::Prepare => self.after_prepare(trace),
+            Command::GetUdid => self.after_get(trace),
+            Command::Assign(u, a) => self.after_assign(u, a, trace),
+        }
+    }
+
     // One step: a received trace, whatever it holds. Where no command is outstanding the state stays as it is.
     pub fn step(self, trace: &[u16]) -> Stepped
         ensures { λ r. ⌜ r ≡ stepped self (now (trace .entry)) ⌝ }
     {
         let last = self.last;
         match last {
-            Command::Prepare => self.after_prepare(trace),
-            Command::GetUdid => self.after_get(trace),
-            Command::Assign(u, a) => self.after_assign(u, a, trace),
-            _ => Stepped {
+            Handed::Send(k) => self.after(k, trace),
+            Handed::Wait(_) => Stepped {
                 state: self,
-                command: Command::NotOutstanding,
+                command: Handed::Wait(End::NotOutstanding),
             },
         }
     }

@@ -2,6 +2,8 @@
 ghost use mathlib.Core.Path.{_≡_};
 ghost use Rattle.arp.specs.Controller.{newController, started};
 use super::command::Command;
+use super::command::End;
+use super::command::Handed;
 use super::state::Binding;
 use super::state::Controller;
 use super::state::Slot;
@@ -23,7 +25,7 @@ impl Controller {
             pool: starting,
             slots: slots,
             gets: 0,
-            last: Command::Nothing,
+            last: Handed::Wait(End::Nothing),
         }
     }
 
@@ -41,11 +43,11 @@ impl Controller {
             pool: starting,
             slots: unbound,
             gets: 0,
-            last: Command::Prepare,
+            last: Handed::Send(Command::Prepare),
         };
         Stepped {
             state: state,
-            command: Command::Prepare,
+            command: Handed::Send(Command::Prepare),
         }
     }
 }

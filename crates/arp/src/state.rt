@@ -1,5 +1,5 @@
 // The controller's state, which every method takes by value and hands back.
-use super::command::Command;
+use super::command::Handed;
 use pool::Pool;
 use udid::Udid;
 
@@ -24,11 +24,11 @@ pub struct Controller {
     // How many Get UDIDs this pass has sent.
     pub gets: u32,
     // What was handed out last.
-    pub last: Command,
+    pub last: Handed,
 }
 
 // The state after a step, and what it hands out.
 pub struct Stepped {
     pub state: Controller,
-    pub command: Command,
+    pub command: Handed,
 }

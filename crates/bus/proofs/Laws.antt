@@ -1,20 +1,18 @@
 -- What the functions' proofs cite.
-use Prim.Native.Nat.{ℕ, zero, suc, _+_, _*_, _≤_, _<_}
+use Prim.Native.Nat.{ℕ, _≤_}
 use mathlib.Core.Path.{_≡_, refl, sym, ap, _∙_}
-use mathlib.Core.List.{List, [], _∷_, _++_}
+use mathlib.Core.List.{List, [], _∷_}
 use native.Mathlib.Omega.{arith}
 use lib.ListN.{length, take, drop, set}
-use lib.Seq.{take-at, drop-cons}
-use Rattle.lists.specs.Onto.{onto}
+use lib.Seq.{take-at}
 use Rattle.encode.specs.declared.Encoded.{Encoded}
 use Rattle.encode.specs.declared.Encoded.the-variants.{Written, Forbidden, OutputTooShort}
 use Rattle.arp.specs.Sending.{Sent}
 use Rattle.arp.specs.Requests.{traceOf}
-use Rattle.arp.specs.declared.command.Command.{Command}
-use Rattle.bus.specs.Turn.{silence}
+use Rattle.arp.specs.declared.command.Handed.{Handed}
 
 -- a command that was written stands at the front
-pub sent-front : (k : Command) (reply before : List ℕ) (r : Encoded) (after : List ℕ) (n : ℕ) → Sent k reply before r after → r ≡ Written n
+pub sent-front : (k : Handed) (reply before : List ℕ) (r : Encoded) (after : List ℕ) (n : ℕ) → Sent k reply before r after → r ≡ Written n
     → (n ≡ length (traceOf k reply)) × (take n after ≡ traceOf k reply)
 sent-front k reply before r after n s e =
     let h : n ≡ length (traceOf k reply) = same n (length (traceOf k reply)) (sym e ∙ s .0) in
@@ -23,10 +21,10 @@ sent-front k reply before r after n s e =
     same : (a b : ℕ) → Written a ≡ Written b → a ≡ b
     same a b q = cc q
 
-pub sent-allowed : (k : Command) (reply before : List ℕ) (r : Encoded) (after : List ℕ) → Sent k reply before r after → r ≡ Forbidden → ⊥
+pub sent-allowed : (k : Handed) (reply before : List ℕ) (r : Encoded) (after : List ℕ) → Sent k reply before r after → r ≡ Forbidden → ⊥
 sent-allowed k reply before r after s e = let z : _≡_ {A = ℕ} 0 1 = cc (s .0, e) in omega arith
 
-pub sent-roomy : (k : Command) (reply before : List ℕ) (r : Encoded) (after : List ℕ) → Sent k reply before r after → r ≡ OutputTooShort → ⊥
+pub sent-roomy : (k : Handed) (reply before : List ℕ) (r : Encoded) (after : List ℕ) → Sent k reply before r after → r ≡ OutputTooShort → ⊥
 sent-roomy k reply before r after s e = let z : _≡_ {A = ℕ} 0 1 = cc (s .0, e) in omega arith
 
 -- symbols stored one after the other at the front

@@ -3,7 +3,7 @@ use Prim.Native.Nat.{ℕ, _*_, _/_, _≤_, _<_}
 use mathlib.Core.Path.{_≡_, refl, sym, ap, _∙_}
 use mathlib.Core.Bool.{true, false}
 use mathlib.Core.Logic.{_↔_}
-use mathlib.Core.List.{List}
+use mathlib.Core.List.{List, [], _∷_}
 use lib.ListN.{length, take, drop, replicate}
 use Rattle.lists.specs.AbsurdLaws.{zero-is-one}
 use Rattle.lists.specs.ChoiceLaws.{neither}
@@ -16,7 +16,8 @@ use Rattle.pool.specs.StartLaws.{member-starting}
 use Rattle.pool.specs.declared.Pool.{Pool}
 use Rattle.udid.specs.Bytes.{udidBytes}
 use Rattle.udid.specs.declared.Udid.{Udid}
-use Rattle.arp.specs.Bindings.{heldAt}
+use Rattle.arp.specs.BindingLaws.{bound-in-is}
+use Rattle.arp.specs.Bindings.{heldAt, boundIn}
 use Rattle.arp.specs.declared.state.Binding.{Binding}
 use Rattle.arp.specs.declared.state.Binding.the-variants as binding
 use Rattle.arp.specs.declared.state.Slot.{Slot}
@@ -34,16 +35,18 @@ use Rattle.rule.specs.PassEndLaws.{given-free-distinct}
 use Rattle.rule.specs.PassEnd.{passEnd}
 use Rattle.rule.specs.PlainRule.{Given, ruled, FreeIn, Distinct}
 use Rattle.rule.specs.ReadingLaws.{bound-given, given-bound, served-once}
-use Rattle.rule.specs.Reading.{Any, RecordOf, isBound, boundAt, OnePerUdid}
+use Rattle.rule.specs.Reading.{Any, RecordOf, someOf, isBound, boundAt, OnePerUdid}
 use Rattle.rule.specs.RecordsLaws as records
 use Rattle.bus.specs.EndLaws.{entry-bound, leaves-rule}
-use Rattle.bus.specs.Run.{entryOf, entryAt, Leaves, modelEnd}
+use Rattle.bus.specs.Run.{entryFor, entryOf, entryAt, Leaves, modelEnd}
 use Rattle.bus.specs.declared.answer.ModelAnswer.{ModelAnswer}
 
 bound-some : (h : Binding) → isBound h ≡ true → (u : Udid) × (h ≡ binding.Bound u)
-bound-some binding.Open e = zero-is-one (cc e)
-bound-some (binding.Bound u) e = (u, refl)
-bound-some binding.Claimed e = zero-is-one (cc e)
+bound-some h e = go (boundIn h) refl e
+  where
+    go : (us : List Udid) → boundIn h ≡ us → someOf us ≡ true → (u : Udid) × (h ≡ binding.Bound u)
+    go [] q e = zero-is-one (cc e)
+    go (u ∷ us) q e = (u, bound-in-is h u us q)
 
 -- ---- whom the plain rule gives which address
 
@@ -106,12 +109,11 @@ module _ (occupied : Pool) (s b : List ℕ) (bytes : Bytes s) (long : 2048 ≤ l
 
   -- zeros where nobody is
   pub bytes-of-free : (a : ℕ) → a < 128 → (Any (λ (g : Given). g .address ≡ a) given → ⊥) → take 16 (drop (16 * a) b′) ≡ replicate 16 0
-  bytes-of-free a h n = buffer-at a h ∙ ap entries.entryBytes (go (heldAt slots a) refl) ∙ nobody-bytes
+  bytes-of-free a h n = buffer-at a h ∙ ap entries.entryBytes (go (boundIn (heldAt slots a)) refl) ∙ nobody-bytes
     where
-      go : (x : Binding) → heldAt slots a ≡ x → entryOf x ≡ Nobody
-      go binding.Open q = refl
-      go (binding.Bound u) q = absurd (n (any-map given (λ g p. p .0) (bound-given occupied (targetsOf s) (admitted occupied s bytes e) a u q)))
-      go binding.Claimed q = refl
+      go : (us : List Udid) → boundIn (heldAt slots a) ≡ us → entryFor us ≡ Nobody
+      go [] q = refl
+      go (u ∷ us) q = absurd (n (any-map given (λ g p. p .0) (bound-given occupied (targetsOf s) (admitted occupied s bytes e) a u (bound-in-is (heldAt slots a) u us q))))
 
   -- all after 2,048 bytes as it was
   pub bytes-after-kept : drop 2048 b′ ≡ drop 2048 b

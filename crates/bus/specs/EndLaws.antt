@@ -10,10 +10,10 @@ use Rattle.lists.specs.Each.{Bytes}
 use Rattle.pool.specs.CountLaws.{count-cong}
 use Rattle.pool.specs.Start.{startingPool}
 use Rattle.pool.specs.declared.Pool.{Pool}
-use Rattle.arp.specs.Bindings.{heldAt}
+use Rattle.udid.specs.declared.Udid.{Udid}
+use Rattle.arp.specs.Bindings.{heldAt, boundIn}
 use Rattle.arp.specs.Numbers.{commandNumber}
 use Rattle.arp.specs.declared.state.Binding.{Binding}
-use Rattle.arp.specs.declared.state.Binding.the-variants as binding
 use Rattle.arp.specs.declared.state.Slot.{Slot}
 use Rattle.targets.specs.Admission.{AdmittedTargets}
 use Rattle.targets.specs.AdmissionLaws.{admitted-length, admitted-targets}
@@ -32,12 +32,12 @@ use Rattle.rule.specs.EndAnswer.{numberOf, askerOf, getsFor}
 use Rattle.rule.specs.PassEnd.{lastCommand, passEnd}
 use Rattle.rule.specs.PlainRule.{Ending, served, noneFree, ruled}
 use Rattle.rule.specs.ReadingLaws.{bound-as-many-as-given}
-use Rattle.rule.specs.Reading.{isBound, boundAt}
+use Rattle.rule.specs.Reading.{someOf, isBound, boundAt}
 use Rattle.rule.specs.RecordsLaws.{end-targets-stored}
 use Rattle.rule.specs.Sent.{getsOnBus}
 use Rattle.rule.specs.SentLaws.{counted-on-bus}
 use Rattle.bus.specs.PassLaws.{leaves-pass, gets-of-pass}
-use Rattle.bus.specs.Run.{numberIn, udidIn, entryOf, entryAt, Leaves, endedEnd, modelEnd}
+use Rattle.bus.specs.Run.{numberIn, udidIn, entryFor, entryOf, entryAt, Leaves, endedEnd, modelEnd}
 use Rattle.bus.specs.declared.answer.ModelAnswer.{ModelAnswer}
 
 -- ---- the last command of the rule's end, in the scope's numbers
@@ -71,9 +71,11 @@ gets-by-length (suc n) (suc l) k e h = refl
 
 -- an entry is bound where a slot is
 pub entry-bound : (h : Binding) → entries.isBound (entryOf h) ≡ isBound h
-entry-bound binding.Open = refl
-entry-bound (binding.Bound u) = refl
-entry-bound binding.Claimed = refl
+entry-bound h = go (boundIn h)
+  where
+    go : (us : List Udid) → entries.isBound (entryFor us) ≡ someOf us
+    go [] = refl
+    go (u ∷ us) = refl
 
 last-command : (p : Pool) (ts : List Target) → commandNumber (passEnd p ts .now .command) ≡ commandNumber (lastCommand (ruled p ts .ending))
 last-command p [] = refl

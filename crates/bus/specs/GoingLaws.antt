@@ -36,8 +36,10 @@ use Rattle.arp.specs.Controller.{handed, counted, asked, issued, chosen, replie
 use Rattle.arp.specs.Heard.{answer, sentIn, blockWrite, isAssign}
 use Rattle.arp.specs.Requests.{traceOf}
 use Rattle.arp.specs.TraceLaws.{prepare-accepted}
-use Rattle.arp.specs.declared.command.Command.{Command}
-use Rattle.arp.specs.declared.command.Command.the-variants.{Nothing, Prepare, GetUdid, Assign, Ended, NoneFree, Abandoned, NotOutstanding}
+use Rattle.arp.specs.declared.command.Command.the-variants.{Prepare, GetUdid, Assign}
+use Rattle.arp.specs.declared.command.End.the-variants.{Abandoned}
+use Rattle.arp.specs.declared.command.Handed.{Handed}
+use Rattle.arp.specs.declared.command.Handed.the-variants.{Send, Wait}
 use Rattle.arp.specs.declared.state.Controller.{Controller}
 use Rattle.arp.specs.declared.state.Stepped.{Stepped}
 use Rattle.rule.specs.Acknowledge.{onBus}
@@ -61,7 +63,7 @@ fine-asked : (c : Controller) (ts : List Target) → 0 < length ts → Fine (ask
 unfolding asked
 fine-asked c ts h = go (leb 128 (c .gets))
   where
-    go : (b : Bool) → Fine (pick b (handed c Abandoned) (handed (counted c) GetUdid)) ts
+    go : (b : Bool) → Fine (pick b (handed c (Wait Abandoned)) (handed (counted c) (Send GetUdid))) ts
     go true = (refl, tt)
     go false = (refl, h)
 
@@ -78,14 +80,14 @@ fine-assigned c u a (Done t) sent ts h = go (isAssign u a t sent)
 fine-assigned c u a (Refused w k) sent ts h = fine-asked c ts h
 
 -- Prepare To ARP
-fine-prepare : (c : Controller) (ts : List Target) → c .last ≡ Prepare → Fine (stepped c (onBus Prepare ts)) (acted Prepare ts)
+fine-prepare : (c : Controller) (ts : List Target) → c .last ≡ Send Prepare → Fine (stepped c (onBus (Send Prepare) ts)) (acted (Send Prepare) ts)
 unfolding stepped
 fine-prepare c [] e =
-    subst (λ (x : Stepped). Fine x []) (sym (ap (byCommand c (onBus Prepare [])) e ∙ ap (afterPrepare c) on-bus.prepare-cut ∙ prepare-unheard c)) (refl, tt)
+    subst (λ (x : Stepped). Fine x []) (sym (ap (byCommand c (onBus (Send Prepare) [])) e ∙ ap (afterPrepare c) on-bus.prepare-cut ∙ prepare-unheard c)) (refl, tt)
 fine-prepare c (t ∷ ts) e =
-    subst (λ (x : Stepped). Fine x (acted Prepare (t ∷ ts)))
-    (sym (ap (byCommand c (onBus Prepare (t ∷ ts))) e ∙ ap (afterPrepare c) (on-bus.prepare-whole t ts) ∙ prepare-accepted c (traceOf Prepare []) refl))
-    (fine-asked c (acted Prepare (t ∷ ts)) (omega arith))
+    subst (λ (x : Stepped). Fine x (acted (Send Prepare) (t ∷ ts)))
+    (sym (ap (byCommand c (onBus (Send Prepare) (t ∷ ts))) e ∙ ap (afterPrepare c) (on-bus.prepare-whole t ts) ∙ prepare-accepted c (traceOf (Send Prepare) []) refl))
+    (fine-asked c (acted (Send Prepare) (t ∷ ts)) (omega arith))
 
 -- Get UDID
 fine-replied : (c : Controller) (ts : List Target) (t : Target) → Among t ts → t .addressByte < 256 → Fine (replied c (t .udid) (t .addressByte)) ts
@@ -94,14 +96,14 @@ fine-replied c ts t m b =
     let p : Pool = freed c (t .udid) .pool in
     fine-issued (freed c (t .udid)) t (chosen p (t .udid) (t .addressByte)) ts m (λ a e. chosen-small-and-free p (t .udid) (t .addressByte) a b e .0)
 
-fine-get : (c : Controller) (s : List ℕ) → Bytes s → Fit s → c .last ≡ GetUdid → 0 < length (targetsOf s) → Fine (stepped c (onBus GetUdid (targetsOf s))) (targetsOf s)
+fine-get : (c : Controller) (s : List ℕ) → Bytes s → Fit s → c .last ≡ Send GetUdid → 0 < length (targetsOf s) → Fine (stepped c (onBus (Send GetUdid) (targetsOf s))) (targetsOf s)
 unfolding stepped
 fine-get c s b f e h = go (winnerOf s) refl
   where
-    go : (w : Winner) → w ≡ winnerOf s → Fine (stepped c (onBus GetUdid (targetsOf s))) (targetsOf s)
+    go : (w : Winner) → w ≡ winnerOf s → Fine (stepped c (onBus (Send GetUdid) (targetsOf s))) (targetsOf s)
     go winner.AllResolved q =
         subst (λ (x : Stepped). Fine x (targetsOf s))
-        (sym (ap (byCommand c (onBus GetUdid (targetsOf s))) e ∙ ap (afterGet c) (get-silence s b f h q) ∙ get-unheard c)) (refl, tt)
+        (sym (ap (byCommand c (onBus (Send GetUdid) (targetsOf s))) e ∙ ap (afterGet c) (get-silence s b f h q) ∙ get-unheard c)) (refl, tt)
     go (winner.At w) q =
         let l : Least (targetsOf s) (targetAt s w) = winner-least s b (f .apart) w (winner-exactly s (winner.At w) .0 q) in
         subst (λ (x : Stepped). Fine x (targetsOf s))
@@ -109,12 +111,12 @@ fine-get c s b f e h = go (winnerOf s) refl
         (fine-replied c (targetsOf s) (targetAt s w) (l .among) (l .sized .addressByte))
 
 -- Assign Address
-fine-assign : (c : Controller) (u : Udid) (a : Address) (ts : List Target) → c .last ≡ Assign u a → Reaches (Assign u a) ts
-    → Fine (stepped c (onBus (Assign u a) ts)) (acted (Assign u a) ts)
+fine-assign : (c : Controller) (u : Udid) (a : Address) (ts : List Target) → c .last ≡ Send (Assign u a) → Reaches (Send (Assign u a)) ts
+    → Fine (stepped c (onBus (Send (Assign u a)) ts)) (acted (Send (Assign u a)) ts)
 unfolding stepped afterAssign
 fine-assign c u a ts e h =
-    subst (λ (x : Stepped). Fine x (acted (Assign u a) ts)) (sym (ap (byCommand c (onBus (Assign u a) ts)) e))
-    (fine-assigned c u (a .0) (answer blockWrite (onBus (Assign u a) ts)) (sentIn blockWrite (onBus (Assign u a) ts)) (acted (Assign u a) ts)
+    subst (λ (x : Stepped). Fine x (acted (Send (Assign u a)) ts)) (sym (ap (byCommand c (onBus (Send (Assign u a)) ts)) e))
+    (fine-assigned c u (a .0) (answer blockWrite (onBus (Send (Assign u a)) ts)) (sentIn blockWrite (onBus (Send (Assign u a)) ts)) (acted (Send (Assign u a)) ts)
     (omega (arith, length-map (assignedTo u (a .0)) ts, some ts (h .0) (h .1))))
   where
     some : (ts : List Target) (t : Target) → Among t ts → 0 < length ts
@@ -127,15 +129,11 @@ fine-next : (st : Stepped) (s : List ℕ) → Bytes s → Fit s → Going st s �
     → Fine (stepped (st .state) (onBus (st .command) (targetsOf s))) (acted (st .command) (targetsOf s))
 fine-next st s b f g e = go (st .command) (g .handed) (g .reaches) e
   where
-    go : (k : Command) → st .state .last ≡ k → Reaches k (targetsOf s) → isSent k ≡ true → Fine (stepped (st .state) (onBus k (targetsOf s))) (acted k (targetsOf s))
-    go Prepare q r i = fine-prepare (st .state) (targetsOf s) q
-    go GetUdid q r i = fine-get (st .state) s b f q r
-    go (Assign u a) q r i = fine-assign (st .state) u a (targetsOf s) q r
-    go Nothing q r i = false-not-true i
-    go Ended q r i = false-not-true i
-    go (NoneFree u) q r i = false-not-true i
-    go Abandoned q r i = false-not-true i
-    go NotOutstanding q r i = false-not-true i
+    go : (k : Handed) → st .state .last ≡ k → Reaches k (targetsOf s) → isSent k ≡ true → Fine (stepped (st .state) (onBus k (targetsOf s))) (acted k (targetsOf s))
+    go (Send Prepare) q r i = fine-prepare (st .state) (targetsOf s) q
+    go (Send GetUdid) q r i = fine-get (st .state) s b f q r
+    go (Send (Assign u a)) q r i = fine-assign (st .state) u a (targetsOf s) q r
+    go (Wait e) q r i = false-not-true i
 
 going-next : (st r : Stepped) (s after : List ℕ) → Bytes s → Fit s → Going st s → isSent (st .command) ≡ true
     → Matches (sentTo st (targetsOf s) (st .command)) r s after → Going r after
@@ -147,25 +145,15 @@ going-next st r s after b f g e m =
     }
 
 -- a START stands on the bus where something is sent, and nothing after an end
-sent-starts : (k : Command) (ts : List Target) → isSent k ≡ true → onBus k ts ≡ 256 ∷ drop 1 (onBus k ts)
-sent-starts Prepare ts e = start-on-bus Prepare ts refl
-sent-starts GetUdid ts e = start-on-bus GetUdid ts refl
-sent-starts (Assign u a) ts e = start-on-bus (Assign u a) ts refl
-sent-starts Nothing ts e = false-not-true e
-sent-starts Ended ts e = false-not-true e
-sent-starts (NoneFree u) ts e = false-not-true e
-sent-starts Abandoned ts e = false-not-true e
-sent-starts NotOutstanding ts e = false-not-true e
+sent-starts : (k : Handed) (ts : List Target) → isSent k ≡ true → onBus k ts ≡ 256 ∷ drop 1 (onBus k ts)
+sent-starts (Send Prepare) ts e = start-on-bus (Send Prepare) ts refl
+sent-starts (Send GetUdid) ts e = start-on-bus (Send GetUdid) ts refl
+sent-starts (Send (Assign u a)) ts e = start-on-bus (Send (Assign u a)) ts refl
+sent-starts (Wait x) ts e = false-not-true e
 
-end-silent : (k : Command) (ts : List Target) → isSent k ≡ false → onBus k ts ≡ []
-end-silent Prepare ts e = false-not-true (sym e)
-end-silent GetUdid ts e = false-not-true (sym e)
-end-silent (Assign u a) ts e = false-not-true (sym e)
-end-silent Nothing ts e = nothing-on-bus Nothing ts refl
-end-silent Ended ts e = nothing-on-bus Ended ts refl
-end-silent (NoneFree u) ts e = nothing-on-bus (NoneFree u) ts refl
-end-silent Abandoned ts e = nothing-on-bus Abandoned ts refl
-end-silent NotOutstanding ts e = nothing-on-bus NotOutstanding ts refl
+end-silent : (k : Handed) (ts : List Target) → isSent k ≡ false → onBus k ts ≡ []
+end-silent (Send k) ts e = false-not-true (sym e)
+end-silent (Wait x) ts e = nothing-on-bus (Wait x) ts refl
 
 -- ---- the run, turn by turn
 

@@ -19,9 +19,11 @@ use Rattle.targets.specs.Refusals.{checkedList}
 use Rattle.targets.specs.RefusalLaws.{given-exactly, answers-tell-apart}
 use Rattle.targets.specs.declared.admit.Checked.{Checked}
 use Rattle.targets.specs.declared.admit.Checked.the-variants.{Admitted, BadLength, Malformed, Repeated, Taken}
-use Rattle.arp.specs.Numbers.{commandNumber}
-use Rattle.arp.specs.declared.command.Command.{Command}
-use Rattle.arp.specs.declared.command.Command.the-variants.{Nothing, Prepare, GetUdid, Assign, Ended, NoneFree, Abandoned, NotOutstanding}
+use Rattle.arp.specs.Numbers.{endNumber, commandNumber}
+use Rattle.arp.specs.declared.command.End.{End}
+use Rattle.arp.specs.declared.command.End.the-variants.{Nothing, Ended, NoneFree, Abandoned, NotOutstanding}
+use Rattle.arp.specs.declared.command.Handed.{Handed}
+use Rattle.arp.specs.declared.command.Handed.the-variants.{Send, Wait}
 use Rattle.targets.specs.Records.{targetsOf}
 use Rattle.rule.specs.Bus.{pass}
 use Rattle.bus.specs.Run.{numberIn, modelNumber, refusedAnswer, ModelEnd, Leaves, refusedEnd, endChecked, modelEnd}
@@ -30,29 +32,26 @@ use Rattle.bus.specs.declared.answer.ModelAnswer.{ModelAnswer}
 
 -- ---- a pass ends with none of these numbers
 
-not-in-pass : (k : Command) (n : ℕ) → numberIn (commandNumber k) ≡ n → (n ≡ 2) ⊎ ((9 ≤ n) × (n ≤ 12)) → ⊥
-not-in-pass k n e (inl h) = two k n e h
+-- the number of an end is 0, or 13 or more
+end-number-is : (e : End) → (numberIn (endNumber e) ≡ 0) ⊎ (13 ≤ numberIn (endNumber e))
+end-number-is Nothing = inl refl
+end-number-is Ended = inl refl
+end-number-is (NoneFree u) = inr (omega arith)
+end-number-is Abandoned = inr (omega arith)
+end-number-is NotOutstanding = inr (omega arith)
+
+number-is : (k : Handed) → (numberIn (commandNumber k) ≡ 0) ⊎ (13 ≤ numberIn (commandNumber k))
+number-is (Send k) = inl refl
+number-is (Wait e) = end-number-is e
+
+not-in-pass : (k : Handed) (n : ℕ) → numberIn (commandNumber k) ≡ n → (n ≡ 2) ⊎ ((9 ≤ n) × (n ≤ 12)) → ⊥
+not-in-pass k n e h = go (number-is k) h
   where
-    two : (k : Command) (n : ℕ) → numberIn (commandNumber k) ≡ n → n ≡ 2 → ⊥
-    two Nothing n e h = omega arith
-    two Prepare n e h = omega arith
-    two GetUdid n e h = omega arith
-    two (Assign u a) n e h = omega arith
-    two Ended n e h = omega arith
-    two (NoneFree u) n e h = omega arith
-    two Abandoned n e h = omega arith
-    two NotOutstanding n e h = omega arith
-not-in-pass k n e (inr h) = some k n e (h .0) (h .1)
-  where
-    some : (k : Command) (n : ℕ) → numberIn (commandNumber k) ≡ n → 9 ≤ n → n ≤ 12 → ⊥
-    some Nothing n e h l = omega arith
-    some Prepare n e h l = omega arith
-    some GetUdid n e h l = omega arith
-    some (Assign u a) n e h l = omega arith
-    some Ended n e h l = omega arith
-    some (NoneFree u) n e h l = omega arith
-    some Abandoned n e h l = omega arith
-    some NotOutstanding n e h l = omega arith
+    go : (numberIn (commandNumber k) ≡ 0) ⊎ (13 ≤ numberIn (commandNumber k)) → (n ≡ 2) ⊎ ((9 ≤ n) × (n ≤ 12)) → ⊥
+    go (inl z) (inl h) = omega arith
+    go (inl z) (inr h) = omega arith
+    go (inr z) (inl h) = omega arith
+    go (inr z) (inr h) = omega arith
 
 refusal-9-to-12 : (k : Checked) → (k ≡ Admitted → ⊥) → (9 ≤ answerOf k .number) × (answerOf k .number ≤ 12)
 refusal-9-to-12 Admitted n = absurd (n refl)

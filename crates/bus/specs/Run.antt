@@ -9,10 +9,9 @@ use Rattle.pool.specs.Free.{used}
 use Rattle.pool.specs.Start.{emptyPool, startingPool}
 use Rattle.pool.specs.declared.Pool.{Pool}
 use Rattle.udid.specs.declared.Udid.{Udid}
-use Rattle.arp.specs.Bindings.{heldAt}
+use Rattle.arp.specs.Bindings.{heldAt, boundIn}
 use Rattle.arp.specs.Numbers.{commandNumber}
 use Rattle.arp.specs.declared.state.Binding.{Binding}
-use Rattle.arp.specs.declared.state.Binding.the-variants as binding
 use Rattle.arp.specs.declared.state.Slot.{Slot}
 use Rattle.arp.specs.declared.state.Stepped.{Stepped}
 use Rattle.targets.specs.Numbers.{answerOf}
@@ -46,10 +45,12 @@ udidIn (n ∷ ns) = firstOf (n .1)
 -- ---- the bindings
 
 -- an address that two claim holds no identifier
+abbrev pub entryFor : List Udid → Entry
+entryFor [] = entry.Nobody
+entryFor (u ∷ us) = entry.Bound u
+
 abbrev pub entryOf : Binding → Entry
-entryOf binding.Open = entry.Nobody
-entryOf (binding.Bound u) = entry.Bound u
-entryOf binding.Claimed = entry.Nobody
+entryOf h = entryFor (boundIn h)
 
 abbrev pub entryAt : List Slot → ℕ → Entry
 entryAt slots a = entryOf (heldAt slots a)

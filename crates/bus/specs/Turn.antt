@@ -15,8 +15,9 @@ use Rattle.targets.specs.Target.{Target}
 use Rattle.arp.specs.Controller.{stepped}
 use Rattle.arp.specs.Sending.{Sent}
 use Rattle.arp.specs.Requests.{protocolFor, messageOf}
-use Rattle.arp.specs.declared.command.Command.{Command}
-use Rattle.arp.specs.declared.command.Command.the-variants.{Nothing, Prepare, GetUdid, Assign, Ended, NoneFree, Abandoned, NotOutstanding}
+use Rattle.arp.specs.declared.command.Command.the-variants.{Prepare, GetUdid, Assign}
+use Rattle.arp.specs.declared.command.Handed.{Handed}
+use Rattle.arp.specs.declared.command.Handed.the-variants.{Send, Wait}
 use Rattle.arp.specs.declared.state.Stepped.{Stepped}
 use Rattle.rule.specs.Acknowledge.{onBus}
 use Rattle.rule.specs.AnyBus.{WorldOver}
@@ -28,25 +29,15 @@ pub record Fit (s : List ℕ) : Type 0 where
   pub apart : None (RepeatedAt s) (recordCount s)
 
 -- somebody is there to answer Get UDID, and an Assign of a 7-bit address goes to one of the targets
-abbrev pub Reaches : Command → List Target → Type 0
-Reaches GetUdid ts = 0 < length ts
-Reaches (Assign u a) ts = (t : Target) × Among t ts × (t .udid ≡ u) × (a .0 < 128)
-Reaches Prepare ts = Unit
-Reaches Nothing ts = Unit
-Reaches Ended ts = Unit
-Reaches (NoneFree u) ts = Unit
-Reaches Abandoned ts = Unit
-Reaches NotOutstanding ts = Unit
+abbrev pub Reaches : Handed → List Target → Type 0
+Reaches (Send GetUdid) ts = 0 < length ts
+Reaches (Send (Assign u a)) ts = (t : Target) × Among t ts × (t .udid ≡ u) × (a .0 < 128)
+Reaches (Send Prepare) ts = Unit
+Reaches (Wait e) ts = Unit
 
-abbrev pub isSent : Command → Bool
-isSent Prepare = true
-isSent GetUdid = true
-isSent (Assign u a) = true
-isSent Nothing = false
-isSent Ended = false
-isSent (NoneFree u) = false
-isSent Abandoned = false
-isSent NotOutstanding = false
+abbrev pub isSent : Handed → Bool
+isSent (Send k) = true
+isSent (Wait e) = false
 
 -- Get UDID that nobody answers: the read address gets NACK
 abbrev pub silence : List ℕ
@@ -62,7 +53,7 @@ pub record Lent (xs : List ℕ) : Type 0 where
   pub long : length xs ≡ 17
 
 -- the encoder has room for the command and writes it
-abbrev pub Writes : Command → List ℕ → List ℕ → Type 0
+abbrev pub Writes : Handed → List ℕ → List ℕ → Type 0
 Writes k reply before =
     (r : Encoded) (after : List ℕ) → Wrote (protocolFor k) true (messageOf k reply) before r after → Sent k reply before r after
 
@@ -71,7 +62,7 @@ abbrev pub worldOf : Stepped → List ℕ → WorldOver (List ℕ)
 worldOf st s = record { now = st; targets = s }
 
 -- a command on the bus: the controller's step takes the trace that stands there, and so does each target
-abbrev pub sentTo : Stepped → List Target → Command → World
+abbrev pub sentTo : Stepped → List Target → Handed → World
 sentTo s ts k = record { now = stepped (s .state) (onBus k ts); targets = reached (onBus k ts) ts }
 
 -- the code's result r and records after s are those of the world w

@@ -28,8 +28,9 @@ use Rattle.arp.specs.RequestLaws.{assign-has-44-symbols}
 use Rattle.arp.specs.SendingLaws.{assign-sent}
 use Rattle.arp.specs.Controller.{stepped}
 use Rattle.arp.specs.Requests.{messageOf, traceOf}
-use Rattle.arp.specs.declared.command.Command.{Command}
-use Rattle.arp.specs.declared.command.Command.the-variants.{Nothing, Prepare, GetUdid, Assign, Ended, NoneFree, Abandoned, NotOutstanding}
+use Rattle.arp.specs.declared.command.Command.the-variants.{Prepare, GetUdid, Assign}
+use Rattle.arp.specs.declared.command.Handed.{Handed}
+use Rattle.arp.specs.declared.command.Handed.the-variants.{Send, Wait}
 use Rattle.arp.specs.declared.state.Stepped.{Stepped}
 use Rattle.rule.specs.Acknowledge.{onBus}
 use Rattle.rule.specs.Bus.{reached}
@@ -46,22 +47,22 @@ pub no-targets : (s : List ℕ) → recordCount s ≡ 0 → targetsOf s ≡ []
 no-targets s e = empty-of-length (targetsOf s) (length-targets s (recordCount s) 0 ∙ e)
 
 -- Prepare To ARP, with no target and with some
-pub prepare-nobody : (s : List ℕ) → recordCount s ≡ 0 → onBus Prepare (targetsOf s) ≡ 256 ∷ 0xC2 ∷ 259 ∷ 257 ∷ []
-prepare-nobody s e = ap (onBus Prepare) (no-targets s e) ∙ on-bus.prepare-cut
+pub prepare-nobody : (s : List ℕ) → recordCount s ≡ 0 → onBus (Send Prepare) (targetsOf s) ≡ 256 ∷ 0xC2 ∷ 259 ∷ 257 ∷ []
+prepare-nobody s e = ap (onBus (Send Prepare)) (no-targets s e) ∙ on-bus.prepare-cut
 
-pub prepare-all : (s : List ℕ) → (recordCount s ≡ 0 → ⊥) → onBus Prepare (targetsOf s) ≡ traceOf Prepare []
+pub prepare-all : (s : List ℕ) → (recordCount s ≡ 0 → ⊥) → onBus (Send Prepare) (targetsOf s) ≡ traceOf (Send Prepare) []
 prepare-all s n = go (targetsOf s) (length-targets s (recordCount s) 0)
   where
-    go : (ts : List Target) → length ts ≡ recordCount s → onBus Prepare ts ≡ traceOf Prepare []
+    go : (ts : List Target) → length ts ≡ recordCount s → onBus (Send Prepare) ts ≡ traceOf (Send Prepare) []
     go [] e = absurd (n (sym e))
     go (t ∷ ts) e = on-bus.prepare-whole t ts
 
 -- Get UDID: the winner's reply, or silence
-pub get-winner : (s : List ℕ) → Bytes s → Fit s → (w : ℕ) → winner.At w ≡ winnerOf s → onBus GetUdid (targetsOf s) ≡ traceOf GetUdid (take 17 (drop (w * 18) s))
+pub get-winner : (s : List ℕ) → Bytes s → Fit s → (w : ℕ) → winner.At w ≡ winnerOf s → onBus (Send GetUdid) (targetsOf s) ≡ traceOf (Send GetUdid) (take 17 (drop (w * 18) s))
 get-winner s b f w e =
     let v : Wins s (recordCount s) w = winner-exactly s (winner.At w) .0 e in
     on-bus.get-whole (targetsOf s) (targetAt s w) (winner-least s b (f .apart) w v)
-    ∙ ap (traceOf GetUdid) (sym (record-reply s w b (omega (arith, v .below, f .whole))))
+    ∙ ap (traceOf (Send GetUdid)) (sym (record-reply s w b (omega (arith, v .below, f .whole))))
 
 all-resolved : (s : List ℕ) → Bytes s → Fit s → winner.AllResolved ≡ winnerOf s → (t : Target) → Among t (targetsOf s) → isResolved t ≡ true
 all-resolved s b f e t m = go (isResolved t) refl
@@ -72,22 +73,22 @@ all-resolved s b f e t m = go (isResolved t) refl
         let r = target-has-record s (recordCount s) 0 t m in
         absurd (winner-exactly s winner.AllResolved .0 e (r .0) (omega (arith, r .2)) (unresolved-by-flag s b (f .apart) (r .0) t (r .3) q))
 
-pub get-silence : (s : List ℕ) → Bytes s → Fit s → 0 < length (targetsOf s) → winner.AllResolved ≡ winnerOf s → onBus GetUdid (targetsOf s) ≡ silence
+pub get-silence : (s : List ℕ) → Bytes s → Fit s → 0 < length (targetsOf s) → winner.AllResolved ≡ winnerOf s → onBus (Send GetUdid) (targetsOf s) ≡ silence
 get-silence s b f h e = go (targetsOf s) h (all-resolved s b f e)
   where
-    go : (ts : List Target) → 0 < length ts → ((t : Target) → Among t ts → isResolved t ≡ true) → onBus GetUdid ts ≡ silence
+    go : (ts : List Target) → 0 < length ts → ((t : Target) → Among t ts → isResolved t ≡ true) → onBus (Send GetUdid) ts ≡ silence
     go [] l k = absurd (omega arith)
     go (t ∷ ts) l k = on-bus.get-cut t ts k
 
 -- ---- the lengths of the traces
 
-pub prepare-length : length (traceOf Prepare []) ≡ 8
+pub prepare-length : length (traceOf (Send Prepare) []) ≡ 8
 unfolding traceLength
-prepare-length = trace-length (shapeOf 1) true (messageOf Prepare [])
+prepare-length = trace-length (shapeOf 1) true (messageOf (Send Prepare) [])
 
-pub get-length : (xs : List ℕ) → length xs ≡ 17 → length (traceOf GetUdid xs) ≡ 47
+pub get-length : (xs : List ℕ) → length xs ≡ 17 → length (traceOf (Send GetUdid) xs) ≡ 47
 unfolding traceLength
-get-length xs e = trace-length (shapeOf 9) true (messageOf GetUdid xs) ∙ omega (arith, e)
+get-length xs e = trace-length (shapeOf 9) true (messageOf (Send GetUdid) xs) ∙ omega (arith, e)
 
 -- ---- what a command does to the records
 
@@ -95,18 +96,14 @@ get-length xs e = trace-length (shapeOf 9) true (messageOf GetUdid xs) ∙ omega
 fits-targets : (s : List ℕ) → Bytes s → (t : Target) → Among t (targetsOf s) → Fits (t .udid)
 fits-targets s b t m = let r = target-has-record s (recordCount s) 0 t m in subst (λ (x : Target). Fits (x .udid)) (r .3) (sized-at s b (r .0) .udid)
 
-reached-names-fit : (k : Command) (s : List ℕ) → Bytes s → Reaches k (targetsOf s) → Names k
-reached-names-fit (Assign u a) s b r = subst Fits (r .2) (fits-targets s b (r .0) (r .1))
-reached-names-fit Prepare s b r = tt
-reached-names-fit GetUdid s b r = tt
-reached-names-fit Nothing s b r = tt
-reached-names-fit Ended s b r = tt
-reached-names-fit (NoneFree u) s b r = tt
-reached-names-fit Abandoned s b r = tt
-reached-names-fit NotOutstanding s b r = tt
+reached-names-fit : (k : Handed) (s : List ℕ) → Bytes s → Reaches k (targetsOf s) → Names k
+reached-names-fit (Send (Assign u a)) s b r = subst Fits (r .2) (fits-targets s b (r .0) (r .1))
+reached-names-fit (Send Prepare) s b r = tt
+reached-names-fit (Send GetUdid) s b r = tt
+reached-names-fit (Wait e) s b r = tt
 
 -- the symbols on the bus do to the targets what the command means
-pub reached-as-meant : (k : Command) (s : List ℕ) → Bytes s → Reaches k (targetsOf s) → reached (onBus k (targetsOf s)) (targetsOf s) ≡ acted k (targetsOf s)
+pub reached-as-meant : (k : Handed) (s : List ℕ) → Bytes s → Reaches k (targetsOf s) → reached (onBus k (targetsOf s)) (targetsOf s) ≡ acted k (targetsOf s)
 reached-as-meant k s b r = effect-as-meant k (targetsOf s) (reached-names-fit k s b r) (fits-targets s b)
 
 -- a command sent: the controller's step took what stood on the bus, and the targets acted
@@ -134,26 +131,26 @@ winner-part-lent s b f w e =
     (record { bytes = bytes-reply-data (targetAt s w) (sized-at s b w .addressByte); long = length-reply-data (targetAt s w) })
 
 pub get-winner-part : (s : List ℕ) → Bytes s → Fit s → (w : ℕ) → winner.At w ≡ winnerOf s
-    → onBus GetUdid (targetsOf s) ≡ traceOf GetUdid (lentPart s w)
-get-winner-part s b f w e = get-winner s b f w e ∙ ap (traceOf GetUdid) (sym (part-of-17 s (w * 18)))
+    → onBus (Send GetUdid) (targetsOf s) ≡ traceOf (Send GetUdid) (lentPart s w)
+get-winner-part s b f w e = get-winner s b f w e ∙ ap (traceOf (Send GetUdid)) (sym (part-of-17 s (w * 18)))
 
 -- ---- an Assign, by the command that it is
 
-pub assign-on-bus : (k : Command) (u : Udid) (a : Address) → k ≡ Assign u a → (ts : List Target) → Reaches k ts → onBus k ts ≡ traceOf k []
+pub assign-on-bus : (k : Handed) (u : Udid) (a : Address) → k ≡ Send (Assign u a) → (ts : List Target) → Reaches k ts → onBus k ts ≡ traceOf k []
 assign-on-bus k u a e ts h =
-    let r : Reaches (Assign u a) ts = subst (λ (x : Command). Reaches x ts) e h in
-    ap (λ (x : Command). onBus x ts) e ∙ on-bus.assign-whole ts u a (r .0) (r .1) (r .2) ∙ ap (λ (x : Command). traceOf x []) (sym e)
+    let r : Reaches (Send (Assign u a)) ts = subst (λ (x : Handed). Reaches x ts) e h in
+    ap (λ (x : Handed). onBus x ts) e ∙ on-bus.assign-whole ts u a (r .0) (r .1) (r .2) ∙ ap (λ (x : Handed). traceOf x []) (sym e)
 
-pub assign-length-44 : (k : Command) (u : Udid) (a : Address) → k ≡ Assign u a → length (traceOf k []) ≡ 44
-assign-length-44 k u a e = ap (λ (x : Command). length (traceOf x [])) e ∙ assign-has-44-symbols u a
+pub assign-length-44 : (k : Handed) (u : Udid) (a : Address) → k ≡ Send (Assign u a) → length (traceOf k []) ≡ 44
+assign-length-44 k u a e = ap (λ (x : Handed). length (traceOf x [])) e ∙ assign-has-44-symbols u a
 
-pub assign-written : (k : Command) (u : Udid) (a : Address) → k ≡ Assign u a → (ts : List Target) → Reaches k ts → (before : List ℕ) → 64 ≤ length before → Writes k [] before
+pub assign-written : (k : Handed) (u : Udid) (a : Address) → k ≡ Send (Assign u a) → (ts : List Target) → Reaches k ts → (before : List ℕ) → 64 ≤ length before → Writes k [] before
 assign-written k u a e ts h before l =
-    let r : Reaches (Assign u a) ts = subst (λ (x : Command). Reaches x ts) e h in
-    subst (λ (x : Command). Writes x [] before) (sym e) (λ q after w. assign-sent u a [] before q after (r .3) w (omega (arith, assign-has-44-symbols u a)))
+    let r : Reaches (Send (Assign u a)) ts = subst (λ (x : Handed). Reaches x ts) e h in
+    subst (λ (x : Handed). Writes x [] before) (sym e) (λ q after w. assign-sent u a [] before q after (r .3) w (omega (arith, assign-has-44-symbols u a)))
 
 -- what the targets' function leaves of the records
-pub assign-acted : (k : Command) (u : Udid) (a : Address) → k ≡ Assign u a → (s : List ℕ) → Reaches k (targetsOf s) → assignedIn u (a .0) s ≡ recordsWith (acted k (targetsOf s)) s
+pub assign-acted : (k : Handed) (u : Udid) (a : Address) → k ≡ Send (Assign u a) → (s : List ℕ) → Reaches k (targetsOf s) → assignedIn u (a .0) s ≡ recordsWith (acted k (targetsOf s)) s
 assign-acted k u a e s h =
-    let r : Reaches (Assign u a) (targetsOf s) = subst (λ (x : Command). Reaches x (targetsOf s)) e h in
-    assigned-below u (a .0) s (omega (arith, r .3)) ∙ ap (λ (x : Command). recordsWith (acted x (targetsOf s)) s) (sym e)
+    let r : Reaches (Send (Assign u a)) (targetsOf s) = subst (λ (x : Handed). Reaches x (targetsOf s)) e h in
+    assigned-below u (a .0) s (omega (arith, r .3)) ∙ ap (λ (x : Handed). recordsWith (acted x (targetsOf s)) s) (sym e)

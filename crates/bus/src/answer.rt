@@ -1,9 +1,10 @@
 // What a model run answers. Rests on arp for how a pass ended; the scope's numbers are in arp's and targets' specs/Numbers.
 ghost use mathlib.Core.Path.{_≡_};
-ghost use Rattle.arp.specs.Numbers.{commandNumber};
+ghost use Rattle.arp.specs.Numbers.{endNumber, commandNumber};
 ghost use Rattle.bindings.specs.Entries.{boundSet};
 ghost use Rattle.bus.specs.Run.{entryAt, numberIn, udidIn, refusedAnswer, reported};
-use arp::command::Command;
+use arp::command::End;
+use arp::command::Handed;
 use arp::state::Stepped;
 use pool::Pool;
 use udid::Udid;
@@ -36,33 +37,47 @@ pub(crate) fn refused(n: u32, i: usize) -> ModelAnswer
     }
 }
 
-fn number_of(k: Command) -> u32
-    ensures { λ r. ⌜ r ≡ numberIn (commandNumber k) ⌝ }
+// The number of an end; 0 where no pass has begun.
+fn end_number(e: End) -> u32
+    ensures { λ r. ⌜ r ≡ numberIn (endNumber e) ⌝ }
 {
-    match k {
-        Command::Nothing => 0,
-        Command::Prepare => 0,
-        Command::GetUdid => 0,
-        Command::Assign(_, _) => 0,
-        Command::Ended => 0,
-        Command::NoneFree(_) => 13,
-        Command::Abandoned => 14,
-        Command::NotOutstanding => 21,
+    match e {
+        End::Nothing => 0,
+        End::Ended => 0,
+        End::NoneFree(_) => 13,
+        End::Abandoned => 14,
+        End::NotOutstanding => 21,
     }
 }
 
-fn asked_by(k: Command) -> Udid
+fn number_of(k: Handed) -> u32
+    ensures { λ r. ⌜ r ≡ numberIn (commandNumber k) ⌝ }
+{
+    match k {
+        Handed::Send(_) => 0,
+        Handed::Wait(e) => end_number(e),
+    }
+}
+
+// The target that an end names; zero where it names none.
+fn named_by(e: End) -> Udid
+    ensures { λ r. ⌜ r ≡ udidIn (endNumber e) ⌝ }
+{
+    match e {
+        End::Nothing => Udid { high: 0, low: 0 },
+        End::Ended => Udid { high: 0, low: 0 },
+        End::NoneFree(u) => u,
+        End::Abandoned => Udid { high: 0, low: 0 },
+        End::NotOutstanding => Udid { high: 0, low: 0 },
+    }
+}
+
+fn asked_by(k: Handed) -> Udid
     ensures { λ r. ⌜ r ≡ udidIn (commandNumber k) ⌝ }
 {
     match k {
-        Command::Nothing => Udid { high: 0, low: 0 },
-        Command::Prepare => Udid { high: 0, low: 0 },
-        Command::GetUdid => Udid { high: 0, low: 0 },
-        Command::Assign(_, _) => Udid { high: 0, low: 0 },
-        Command::Ended => Udid { high: 0, low: 0 },
-        Command::NoneFree(u) => u,
-        Command::Abandoned => Udid { high: 0, low: 0 },
-        Command::NotOutstanding => Udid { high: 0, low: 0 },
+        Handed::Send(_) => Udid { high: 0, low: 0 },
+        Handed::Wait(e) => named_by(e),
     }
 }
 

@@ -9,7 +9,7 @@ ghost use Rattle.rule.specs.Bus.{pass};
 ghost use Rattle.bus.specs.Turn.{isSent, Matches};
 use super::traces::TRACE_ROOM;
 use super::turn::send;
-use arp::command::Command;
+use arp::command::Handed;
 use arp::state::Controller;
 use arp::state::Stepped;
 use pool::Pool;
@@ -18,14 +18,12 @@ use pool::Pool;
 const MOST_COMMANDS: u32 = 300;
 
 // A command that goes on the bus, and no end of a pass.
-fn is_sent(k: Command) -> bool
+fn is_sent(k: Handed) -> bool
     ensures { λ r. ⌜ r ≡ isSent k ⌝ }
 {
     match k {
-        Command::Prepare => true,
-        Command::GetUdid => true,
-        Command::Assign(_, _) => true,
-        _ => false,
+        Handed::Send(_) => true,
+        Handed::Wait(_) => false,
     }
 }
 

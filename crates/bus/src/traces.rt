@@ -9,6 +9,7 @@ ghost use Rattle.rule.specs.Acknowledge.{onBus};
 ghost use Rattle.bus.specs.Sizes.{traceRoom};
 ghost use Rattle.bus.specs.Turn.{Fit, Reaches, silence, Writes};
 use arp::command::Command;
+use arp::command::Handed;
 use arp::request::put_command;
 use encode::Encoded;
 use targets::fields;
@@ -35,7 +36,7 @@ const GET_UDID: u16 = 0x03;
 const REPLY: usize = 17;
 
 // The trace of a command that is acknowledged whole.
-fn put_whole(k: Command, reply: &[u8], out: &mut [u16]) -> usize
+fn put_whole(k: Handed, reply: &[u8], out: &mut [u16]) -> usize
     requires { ⌜ Writes k (now reply) (now out) ⌝ }
     ensures { λ r. ⌜ (r ≡ length (traceOf k (now (reply .entry)))) × (take r (now (out .exit)) ≡ traceOf k (now (reply .entry))) ⌝ }
 {
@@ -50,7 +51,7 @@ fn put_whole(k: Command, reply: &[u8], out: &mut [u16]) -> usize
 // Prepare To ARP: all acknowledge; with no target the first byte gets NACK.
 fn put_prepare(records: &[u8], out: &mut [u16]) -> usize
     requires { ⌜ traceRoom ≤ length (now out) ⌝ }
-    ensures { λ r. ⌜ (r ≤ traceRoom) × (take r (now (out .exit)) ≡ onBus Command.Prepare (targetsOf (now (records .entry)))) ⌝ }
+    ensures { λ r. ⌜ (r ≤ traceRoom) × (take r (now (out .exit)) ≡ onBus (Handed.Send Command.Prepare) (targetsOf (now (records .entry)))) ⌝ }
 {
     if fields::count(records) == 0 {
         out[0] = START;
@@ -59,7 +60,7 @@ fn put_prepare(records: &[u8], out: &mut [u16]) -> usize
         out[3] = STOP;
         return 4;
     }
-    put_whole(Command::Prepare, &records[..0], &mut out[..])
+    put_whole(Handed::Send(Command::Prepare), &records[..0], &mut out[..])
 }
 
 // Get UDID where all are resolved: the read address gets NACK.
@@ -81,26 +82,40 @@ fn put_silence(out: &mut [u16]) -> usize
 
 // Get UDID: the reply of the target that wins on the wire.
 fn put_get(records: &[u8], out: &mut [u16]) -> usize
-    requires { ⌜ Fit (now records) × Reaches Command.GetUdid (targetsOf (now records)) × (traceRoom ≤ length (now out)) ⌝ }
-    ensures { λ r. ⌜ (r ≤ traceRoom) × (take r (now (out .exit)) ≡ onBus Command.GetUdid (targetsOf (now (records .entry)))) ⌝ }
+    requires { ⌜ Fit (now records) × Reaches (Handed.Send Command.GetUdid) (targetsOf (now records)) × (traceRoom ≤ length (now out)) ⌝ }
+    ensures { λ r. ⌜ (r ≤ traceRoom) × (take r (now (out .exit)) ≡ onBus (Handed.Send Command.GetUdid) (targetsOf (now (records .entry)))) ⌝ }
 {
     let Winner::At(w) = winner::find(records) else {
         return put_silence(&mut out[..]);
     };
     let at = w * RECORD;
     let end = at + REPLY;
-    put_whole(Command::GetUdid, &records[at..end], &mut out[..])
+    put_whole(
+        Handed::Send(Command::GetUdid),
+        &records[at..end],
+        &mut out[..],
+    )
 }
 
-// The trace on the bus of a command; of an end, nothing.
-pub(crate) fn put_trace(k: Command, records: &[u8], out: &mut [u16]) -> usize
-    requires { ⌜ Fit (now records) × Reaches k (targetsOf (now records)) × (traceRoom ≤ length (now out)) ⌝ }
-    ensures { λ r. ⌜ (r ≤ traceRoom) × (take r (now (out .exit)) ≡ onBus k (targetsOf (now (records .entry)))) ⌝ }
+// The trace on the bus of a command.
+fn put_sent(k: Command, records: &[u8], out: &mut [u16]) -> usize
+    requires { ⌜ Fit (now records) × Reaches (Handed.Send k) (targetsOf (now records)) × (traceRoom ≤ length (now out)) ⌝ }
+    ensures { λ r. ⌜ (r ≤ traceRoom) × (take r (now (out .exit)) ≡ onBus (Handed.Send k) (targetsOf (now (records .entry)))) ⌝ }
 {
     match k {
         Command::Prepare => put_prepare(records, &mut out[..]),
         Command::GetUdid => put_get(records, &mut out[..]),
-        Command::Assign(_, _) => put_whole(k, &records[..0], &mut out[..]),
-        _ => 0,
+        Command::Assign(_, _) => put_whole(Handed::Send(k), &records[..0], &mut out[..]),
+    }
+}
+
+// The trace on the bus of what is handed out; of an end, nothing.
+pub(crate) fn put_trace(k: Handed, records: &[u8], out: &mut [u16]) -> usize
+    requires { ⌜ Fit (now records) × Reaches k (targetsOf (now records)) × (traceRoom ≤ length (now out)) ⌝ }
+    ensures { λ r. ⌜ (r ≤ traceRoom) × (take r (now (out .exit)) ≡ onBus k (targetsOf (now (records .entry)))) ⌝ }
+{
+    match k {
+        Handed::Send(c) => put_sent(c, records, &mut out[..]),
+        Handed::Wait(_) => 0,
     }
 }

@@ -9,10 +9,10 @@ ghost use Rattle.bus.specs.Sizes.{traceRoom};
 ghost use Rattle.bus.specs.Turn.{Fit, Reaches};
 use super::act::act;
 use super::traces::put_trace;
-use arp::command::Command;
+use arp::command::Handed;
 
 // The trace goes to the front of the output; how many symbols it has.
-pub(crate) fn send(k: Command, records: &mut [u8], out: &mut [u16]) -> usize
+pub(crate) fn send(k: Handed, records: &mut [u8], out: &mut [u16]) -> usize
     requires { ⌜ Fit (now records) × Reaches k (targetsOf (now records)) × (traceRoom ≤ length (now out)) ⌝ }
     ensures { λ r. ⌜ (r ≤ traceRoom) × (take r (now (out .exit)) ≡ onBus k (targetsOf (now (records .entry)))) × (now (records .exit) ≡ recordsWith (acted k (targetsOf (now (records .entry)))) (now (records .entry))) ⌝ }
 {

@@ -14,50 +14,39 @@ use Rattle.encode.specs.declared.Encoded.the-variants.{Written}
 use Rattle.encode.specs.Encode.{Wrote}
 use Rattle.arp.specs.RequestLaws.{valid-assign}
 use Rattle.arp.specs.Requests.{protocolFor, messageOf}
-use Rattle.arp.specs.declared.command.Command.{Command}
-use Rattle.arp.specs.declared.command.Command.the-variants.{Nothing, Prepare, GetUdid, Assign, Ended, NoneFree, Abandoned, NotOutstanding}
+use Rattle.arp.specs.declared.command.Command.the-variants.{Prepare, GetUdid, Assign}
+use Rattle.arp.specs.declared.command.Handed.{Handed}
+use Rattle.arp.specs.declared.command.Handed.the-variants.{Send, Wait}
 use Rattle.c_codec.specs.declared.codec.HbWritten.{HbWritten}
 use Rattle.pairs.specs.Pairs.{Put}
 use Rattle.c_codec.specs.Codec.{answerOf, WrotePairs}
 use Rattle.c_codec.proofs.CodecLaws.{refused-pairs, small, short-pairs, done-pairs}
 
-command-byte : (k : Command) (reply : List ℕ) → messageOf k reply .command < 256
-command-byte Prepare reply = omega arith
-command-byte GetUdid reply = omega arith
-command-byte (Assign u a) reply = omega arith
-command-byte Nothing reply = omega arith
-command-byte Ended reply = omega arith
-command-byte (NoneFree u) reply = omega arith
-command-byte Abandoned reply = omega arith
-command-byte NotOutstanding reply = omega arith
+command-byte : (k : Handed) (reply : List ℕ) → messageOf k reply .command < 256
+command-byte (Send Prepare) reply = omega arith
+command-byte (Send GetUdid) reply = omega arith
+command-byte (Send (Assign u a)) reply = omega arith
+command-byte (Wait e) reply = omega arith
 
-sent-bytes : (k : Command) (reply : List ℕ) → Bytes (messageOf k reply .sent)
-sent-bytes Prepare reply = (omega arith, tt)
-sent-bytes GetUdid reply = tt
-sent-bytes (Assign u a) reply = valid-assign u a .sent-bytes
-sent-bytes Nothing reply = tt
-sent-bytes Ended reply = tt
-sent-bytes (NoneFree u) reply = tt
-sent-bytes Abandoned reply = tt
-sent-bytes NotOutstanding reply = tt
+sent-bytes : (k : Handed) (reply : List ℕ) → Bytes (messageOf k reply .sent)
+sent-bytes (Send Prepare) reply = (omega arith, tt)
+sent-bytes (Send GetUdid) reply = tt
+sent-bytes (Send (Assign u a)) reply = valid-assign u a .sent-bytes
+sent-bytes (Wait e) reply = tt
 
-received-bytes : (k : Command) (reply : List ℕ) → Bytes reply → Bytes (messageOf k reply .received)
-received-bytes Prepare reply b = tt
-received-bytes GetUdid reply b = b
-received-bytes (Assign u a) reply b = tt
-received-bytes Nothing reply b = tt
-received-bytes Ended reply b = tt
-received-bytes (NoneFree u) reply b = tt
-received-bytes Abandoned reply b = tt
-received-bytes NotOutstanding reply b = tt
+received-bytes : (k : Handed) (reply : List ℕ) → Bytes reply → Bytes (messageOf k reply .received)
+received-bytes (Send Prepare) reply b = tt
+received-bytes (Send GetUdid) reply b = b
+received-bytes (Send (Assign u a)) reply b = tt
+received-bytes (Wait e) reply b = tt
 
-abbrev pub WroteCommand : Command → List ℕ → List ℕ → HbWritten → List ℕ → Type 0
+abbrev pub WroteCommand : Handed → List ℕ → List ℕ → HbWritten → List ℕ → Type 0
 WroteCommand k reply before h after = WrotePairs (protocolFor k) true (messageOf k reply) before h after
 
-module _ (k j : Command) (same : k ≡ j) (reply : List ℕ) (bytes : Bytes reply) (buffer : List ℕ) (long : length buffer ≡ 525) (r : Encoded) (after : List ℕ)
+module _ (k j : Handed) (same : k ≡ j) (reply : List ℕ) (bytes : Bytes reply) (buffer : List ℕ) (long : length buffer ≡ 525) (r : Encoded) (after : List ℕ)
     (w : Wrote (protocolFor k) true (messageOf k reply) buffer r after) where
   of-same : (out : List ℕ) (h : HbWritten) (last : List ℕ) → WroteCommand k reply out h last → WroteCommand j reply out h last
-  of-same out h last v = subst (λ (x : Command). WroteCommand x reply out h last) same v
+  of-same out h last v = subst (λ (x : Handed). WroteCommand x reply out h last) same v
 
   pub command-refused : (out : List ℕ) → OneOf (1 ∷ 2 ∷ []) (tagOf declared.the-type r) → (h : HbWritten) → h ≡ answerOf 1 0 → WroteCommand j reply out h out
   command-refused out t h e =

@@ -7,68 +7,70 @@ use native.Mathlib.Omega.{arith}
 use borrow.Author.Tests.{ne-eqb}
 use Rattle.wire.specs.declared.address.Address.{Address}
 use Rattle.udid.specs.declared.Udid.{Udid}
-use Rattle.arp.specs.Numbers.{commandNumber}
-use Rattle.arp.specs.declared.command.Command.{Command}
-use Rattle.arp.specs.declared.command.Command.the-variants.{Nothing, Prepare, GetUdid, Assign, Ended, NoneFree, Abandoned, NotOutstanding}
+use Rattle.arp.specs.Numbers.{endNumber, commandNumber}
+use Rattle.arp.specs.declared.command.Command.the-variants.{Prepare, GetUdid, Assign}
+use Rattle.arp.specs.declared.command.End.{End}
+use Rattle.arp.specs.declared.command.End.the-variants.{Nothing, Ended, NoneFree, Abandoned, NotOutstanding}
+use Rattle.arp.specs.declared.command.Handed.{Handed}
+use Rattle.arp.specs.declared.command.Handed.the-variants.{Send, Wait}
 use Rattle.bus.specs.Run.{numberIn}
 use Rattle.c_arp.specs.declared.commands.HbCommand.{HbCommand}
-use Rattle.c_arp.specs.Commands.{toldCommand}
-use Rattle.c_arp.specs.CommandParts.{CommandParts, CommandIs, KindsAre}
+use Rattle.c_arp.specs.Commands.{toldEnd, toldCommand}
+use Rattle.c_arp.specs.CommandParts.{CommandParts, EndIs, CommandIs, KindsAre}
 
 -- the answer is the scope's number, 0 where there is none
-pub told-command-number : (k : Command) (gets : ℕ) → toldCommand k gets .answer ≡ numberIn (commandNumber k)
-told-command-number Prepare gets = refl
-told-command-number GetUdid gets = refl
-told-command-number (Assign u a) gets = refl
-told-command-number Ended gets = refl
-told-command-number (NoneFree u) gets = refl
-told-command-number Abandoned gets = refl
-told-command-number NotOutstanding gets = refl
-told-command-number Nothing gets = refl
+told-end-number : (e : End) (gets : ℕ) → toldEnd e gets .answer ≡ numberIn (endNumber e)
+told-end-number Ended gets = refl
+told-end-number (NoneFree u) gets = refl
+told-end-number Abandoned gets = refl
+told-end-number NotOutstanding gets = refl
+told-end-number Nothing gets = refl
 
-pub command-parts : (k : Command) (gets : ℕ) (r : HbCommand) → r ≡ toldCommand k gets → CommandIs k gets r
+pub told-command-number : (k : Handed) (gets : ℕ) → toldCommand k gets .answer ≡ numberIn (commandNumber k)
+told-command-number (Send Prepare) gets = refl
+told-command-number (Send GetUdid) gets = refl
+told-command-number (Send (Assign u a)) gets = refl
+told-command-number (Wait e) gets = told-end-number e gets
+
+end-parts : (e : End) (gets : ℕ) → EndIs e gets (toldEnd e gets)
+end-parts Ended gets = record { kind-is = refl; answer-is = refl; address-is = refl; gets-is = refl; high-is = refl; low-is = refl }
+end-parts (NoneFree u) gets = record { kind-is = refl; answer-is = refl; address-is = refl; gets-is = refl; high-is = refl; low-is = refl }
+end-parts Abandoned gets = record { kind-is = refl; answer-is = refl; address-is = refl; gets-is = refl; high-is = refl; low-is = refl }
+end-parts NotOutstanding gets = record { kind-is = refl; answer-is = refl; address-is = refl; gets-is = refl; high-is = refl; low-is = refl }
+end-parts Nothing gets = record { kind-is = refl; answer-is = refl; address-is = refl; gets-is = refl; high-is = refl; low-is = refl }
+
+pub command-parts : (k : Handed) (gets : ℕ) (r : HbCommand) → r ≡ toldCommand k gets → CommandIs k gets r
 command-parts k gets r e = subst (CommandIs k gets) (sym e) (go k)
   where
-    go : (k : Command) → CommandIs k gets (toldCommand k gets)
-    go Prepare = record { kind-is = refl; answer-is = refl; address-is = refl; gets-is = refl; high-is = refl; low-is = refl }
-    go GetUdid = record { kind-is = refl; answer-is = refl; address-is = refl; gets-is = refl; high-is = refl; low-is = refl }
-    go (Assign u a) = record { kind-is = refl; answer-is = refl; address-is = refl; gets-is = refl; high-is = refl; low-is = refl }
-    go Ended = record { kind-is = refl; answer-is = refl; address-is = refl; gets-is = refl; high-is = refl; low-is = refl }
-    go (NoneFree u) = record { kind-is = refl; answer-is = refl; address-is = refl; gets-is = refl; high-is = refl; low-is = refl }
-    go Abandoned = record { kind-is = refl; answer-is = refl; address-is = refl; gets-is = refl; high-is = refl; low-is = refl }
-    go NotOutstanding = record { kind-is = refl; answer-is = refl; address-is = refl; gets-is = refl; high-is = refl; low-is = refl }
-    go Nothing = record { kind-is = refl; answer-is = refl; address-is = refl; gets-is = refl; high-is = refl; low-is = refl }
+    go : (k : Handed) → CommandIs k gets (toldCommand k gets)
+    go (Send Prepare) = record { kind-is = refl; answer-is = refl; address-is = refl; gets-is = refl; high-is = refl; low-is = refl }
+    go (Send GetUdid) = record { kind-is = refl; answer-is = refl; address-is = refl; gets-is = refl; high-is = refl; low-is = refl }
+    go (Send (Assign u a)) = record { kind-is = refl; answer-is = refl; address-is = refl; gets-is = refl; high-is = refl; low-is = refl }
+    go (Wait x) = end-parts x gets
 
--- 21, exactly where the controller gives it
-pub command-21 : (k : Command) (gets : ℕ) (r : HbCommand) → r ≡ toldCommand k gets → (r .answer ≡ 21) ↔ (commandNumber k ≡ (21, []) ∷ [])
-command-21 k gets r e = (
-  λ q. there k (sym (ap (λ (x : HbCommand). x .answer) e) ∙ q),
-  λ q. ap (λ (x : HbCommand). x .answer) e ∙ told-command-number k gets ∙ ap numberIn q,
-)
-  where
-    there : (k : Command) → toldCommand k gets .answer ≡ 21 → commandNumber k ≡ (21, []) ∷ []
-    there Prepare q = absurd (omega arith)
-    there GetUdid q = absurd (omega arith)
-    there (Assign u a) q = absurd (omega arith)
-    there Ended q = absurd (omega arith)
-    there (NoneFree u) q = absurd (omega arith)
-    there Abandoned q = absurd (omega arith)
-    there NotOutstanding q = refl
-    there Nothing q = absurd (omega arith)
+-- 21, exactly where the controller gives it, and then every other part is zero; the kind is the number of the case
+end-21 : (e : End) (gets : ℕ) → toldEnd e gets .answer ≡ 21 → (endNumber e ≡ (21, []) ∷ []) × CommandParts (toldEnd e gets) 6 21 0 0 0 0
+end-21 Ended gets q = absurd (omega arith)
+end-21 (NoneFree u) gets q = absurd (omega arith)
+end-21 Abandoned gets q = absurd (omega arith)
+end-21 NotOutstanding gets q = (refl, record { kind-is = refl; answer-is = refl; address-is = refl; gets-is = refl; high-is = refl; low-is = refl })
+end-21 Nothing gets q = absurd (omega arith)
 
--- and then every other part is zero; the kind is the number of the case
-pub command-21-zero : (k : Command) (gets : ℕ) (r : HbCommand) → r ≡ toldCommand k gets → r .answer ≡ 21 → CommandParts r 6 21 0 0 0 0
-command-21-zero k gets r e q = go k (command-parts k gets r e)
-  where
-    go : (k : Command) → CommandIs k gets r → CommandParts r 6 21 0 0 0 0
-    go Prepare p = absurd (omega (arith, p .answer-is))
-    go GetUdid p = absurd (omega (arith, p .answer-is))
-    go (Assign u a) p = absurd (omega (arith, p .answer-is))
-    go Ended p = absurd (omega (arith, p .answer-is))
-    go (NoneFree u) p = absurd (omega (arith, p .answer-is))
-    go Abandoned p = absurd (omega (arith, p .answer-is))
-    go NotOutstanding p = p
-    go Nothing p = absurd (omega (arith, p .answer-is))
+handed-21 : (k : Handed) (gets : ℕ) → toldCommand k gets .answer ≡ 21 → (commandNumber k ≡ (21, []) ∷ []) × CommandParts (toldCommand k gets) 6 21 0 0 0 0
+handed-21 (Send Prepare) gets q = absurd (omega arith)
+handed-21 (Send GetUdid) gets q = absurd (omega arith)
+handed-21 (Send (Assign u a)) gets q = absurd (omega arith)
+handed-21 (Wait e) gets q = end-21 e gets q
+
+module _ (k : Handed) (gets : ℕ) (r : HbCommand) (e : r ≡ toldCommand k gets) where
+  answer-told : r .answer ≡ toldCommand k gets .answer
+  answer-told = ap (λ (x : HbCommand). x .answer) e
+
+  pub command-21 : (r .answer ≡ 21) ↔ (commandNumber k ≡ (21, []) ∷ [])
+  command-21 = (λ q. handed-21 k gets (sym answer-told ∙ q) .0, λ q. answer-told ∙ told-command-number k gets ∙ ap numberIn q)
+
+  pub command-21-zero : r .answer ≡ 21 → CommandParts r 6 21 0 0 0 0
+  command-21-zero q = subst (λ (x : HbCommand). CommandParts x 6 21 0 0 0 0) (sym e) (handed-21 k gets (sym answer-told ∙ q) .1)
 
 -- each kind that a caller gives is its command
 pub commands-of-kinds : (u : Udid) (a : Address) → KindsAre u a

@@ -3,8 +3,11 @@ use mathlib.Core.Path.{_≡_}
 use Prim.Native.Nat.{ℕ, _≤_}
 use Rattle.wire.specs.declared.address.Address.{Address}
 use Rattle.udid.specs.declared.Udid.{Udid}
-use Rattle.arp.specs.declared.command.Command.{Command}
-use Rattle.arp.specs.declared.command.Command.the-variants.{Nothing, Prepare, GetUdid, Assign, Ended, NoneFree, Abandoned, NotOutstanding}
+use Rattle.arp.specs.declared.command.Command.the-variants.{Prepare, GetUdid, Assign}
+use Rattle.arp.specs.declared.command.End.{End}
+use Rattle.arp.specs.declared.command.End.the-variants.{Nothing, Ended, NoneFree, Abandoned, NotOutstanding}
+use Rattle.arp.specs.declared.command.Handed.{Handed}
+use Rattle.arp.specs.declared.command.Handed.the-variants.{Send, Wait}
 use Rattle.c_arp.specs.declared.commands.HbCommand.{HbCommand}
 use Rattle.c_arp.specs.Commands.{commandOf}
 
@@ -16,21 +19,25 @@ pub record CommandParts (r : HbCommand) (kind answer address gets high low : ℕ
   pub high-is : r .udid .high ≡ high
   pub low-is : r .udid .low ≡ low
 
--- the kind of each command, the scope's number of an end, the address of an Assign, the Get UDIDs so far, and the identifier of an Assign or
--- of the target that found no address. With 21 all but the kind and the number is zero
-abbrev pub CommandIs : Command → ℕ → HbCommand → Type 0
-CommandIs Prepare gets r = CommandParts r 0 0 0 gets 0 0
-CommandIs GetUdid gets r = CommandParts r 1 0 0 gets 0 0
-CommandIs (Assign u a) gets r = CommandParts r 2 0 (a .0) gets (u .high) (u .low)
-CommandIs Ended gets r = CommandParts r 3 0 0 gets 0 0
-CommandIs (NoneFree u) gets r = CommandParts r 4 13 0 gets (u .high) (u .low)
-CommandIs Abandoned gets r = CommandParts r 5 14 0 gets 0 0
-CommandIs NotOutstanding gets r = CommandParts r 6 21 0 0 0 0
-CommandIs Nothing gets r = CommandParts r 7 0 0 gets 0 0
+-- an end: its kind, the scope's number, the Get UDIDs so far, and the identifier of the target that found no address. With 21 all but the
+-- kind and the number is zero
+abbrev pub EndIs : End → ℕ → HbCommand → Type 0
+EndIs Ended gets r = CommandParts r 3 0 0 gets 0 0
+EndIs (NoneFree u) gets r = CommandParts r 4 13 0 gets (u .high) (u .low)
+EndIs Abandoned gets r = CommandParts r 5 14 0 gets 0 0
+EndIs NotOutstanding gets r = CommandParts r 6 21 0 0 0 0
+EndIs Nothing gets r = CommandParts r 7 0 0 gets 0 0
+
+-- the kind of each command, the Get UDIDs so far, and the address and the identifier of an Assign
+abbrev pub CommandIs : Handed → ℕ → HbCommand → Type 0
+CommandIs (Send Prepare) gets r = CommandParts r 0 0 0 gets 0 0
+CommandIs (Send GetUdid) gets r = CommandParts r 1 0 0 gets 0 0
+CommandIs (Send (Assign u a)) gets r = CommandParts r 2 0 (a .0) gets (u .high) (u .low)
+CommandIs (Wait e) gets r = EndIs e gets r
 
 -- the kinds that a caller gives: 0 Prepare To ARP, 1 Get UDID, 2 Assign Address, any other none
 pub record KindsAre (u : Udid) (a : Address) : Type 0 where
-  pub prepare : commandOf 0 u a ≡ Prepare
-  pub get : commandOf 1 u a ≡ GetUdid
-  pub assign : commandOf 2 u a ≡ Assign u a
-  pub other : (kind : ℕ) → 3 ≤ kind → commandOf kind u a ≡ Nothing
+  pub prepare : commandOf 0 u a ≡ Send Prepare
+  pub get : commandOf 1 u a ≡ Send GetUdid
+  pub assign : commandOf 2 u a ≡ Send (Assign u a)
+  pub other : (kind : ℕ) → 3 ≤ kind → commandOf kind u a ≡ Wait Nothing

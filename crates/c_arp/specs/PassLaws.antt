@@ -12,8 +12,9 @@ use Rattle.arp.specs.Controller.{newController, started, stepped}
 use Rattle.arp.specs.History.{Event, Start, Received, run}
 use Rattle.arp.specs.Numbers.{commandNumber}
 use Rattle.arp.specs.Replay.{handedOut, noCommand}
-use Rattle.arp.specs.declared.command.Command.{Command}
 use Rattle.arp.specs.declared.command.Command.the-variants.{Prepare}
+use Rattle.arp.specs.declared.command.Handed.{Handed}
+use Rattle.arp.specs.declared.command.Handed.the-variants.{Send}
 use Rattle.arp.specs.declared.state.Controller.{Controller}
 use Rattle.arp.specs.declared.state.Stepped.{Stepped}
 use Rattle.c_arp.specs.declared.commands.HbCommand.{HbCommand}
@@ -61,9 +62,9 @@ hb-pass-21 given trs tr rest cut r e =
     let st : Stepped = passOver (poolIn given) (listBytes (trs ++ tr ∷ []) ++ rest) in
     let c : st .command ≡ stepped (run p (eventsOf trs)) tr .command = hb-pass-history given (trs ++ tr ∷ []) rest cut .command ∙ ap (handedOut p) (since-last (Start ∷ []) trs tr) in
     Iff·trans (command-21 (st .command) (st .state .gets) r e)
-    (subst (λ (k : Command). (commandNumber k ≡ (21, []) ∷ []) ↔ (noCommand (handedOut p (eventsOf trs)) ≡ true)) (sym c) (step-21-by-events p (eventsOf trs) tr))
+    (subst (λ (k : Handed). (commandNumber k ≡ (21, []) ∷ []) ↔ (noCommand (handedOut p (eventsOf trs)) ≡ true)) (sym c) (step-21-by-events p (eventsOf trs) tr))
 
 pub hb-pass-start : (given : HbPool) (r : HbCommand)
     → r ≡ toldCommand (passOver (poolIn given) [] .command) (passOver (poolIn given) [] .state .gets) → CommandParts r 0 0 0 0 0 0
 unfolding tracesIn stepsOver
-hb-pass-start given r e = command-parts Prepare 0 r e
+hb-pass-start given r e = command-parts (Send Prepare) 0 r e

@@ -21,7 +21,9 @@ use Rattle.udid.specs.declared.Udid.{Udid}
 use Rattle.arp.specs.SendingLaws.{listed-exactly}
 use Rattle.arp.specs.Sending.{Unsendable}
 use Rattle.arp.specs.Requests.{protocolFor, messageOf}
-use Rattle.arp.specs.declared.command.Command.the-variants.{Nothing, Prepare, GetUdid, Assign}
+use Rattle.arp.specs.declared.command.Command.the-variants.{Prepare, GetUdid, Assign}
+use Rattle.arp.specs.declared.command.End.the-variants.{Nothing}
+use Rattle.arp.specs.declared.command.Handed.the-variants.{Send, Wait}
 use Rattle.c_codec.specs.Codec.{told, WrotePairs}
 use Rattle.c_codec.specs.WrittenLaws.{is-forbidden}
 use Rattle.c_arp.specs.Commands.{commandOf}
@@ -33,7 +35,7 @@ unsent-exactly : (kind : ℕ) (u : Udid) (a : Address) (reply : List ℕ) → Un
 unsent-exactly kind u a reply = go (eqb kind 0) refl (eqb kind 1) refl (eqb kind 2) refl
   where
     go : (b : Bool) → eqb kind 0 ≡ b → (c : Bool) → eqb kind 1 ≡ c → (d : Bool) → eqb kind 2 ≡ d
-        → Unsendable (pick b Prepare (pick c GetUdid (pick d (Assign u a) Nothing))) reply ↔ Unsent kind (a .0) reply
+        → Unsendable (pick b (Send Prepare) (pick c (Send GetUdid) (pick d (Send (Assign u a)) (Wait Nothing)))) reply ↔ Unsent kind (a .0) reply
     go true e c f d g = (λ h. absurd h, never)
       where
         never : Unsent kind (a .0) reply → ⊥

@@ -5,11 +5,13 @@ ghost use mathlib.Core.Bool.{true};
 ghost use Rattle.arp.specs.Requests.{protocolFor, messageOf};
 ghost use Rattle.c_arp.specs.Parts.{udidIn};
 ghost use Rattle.c_codec.specs.Codec.{WrotePairs};
-ghost use Rattle.c_arp.specs.Commands.{commandOf, saidOf, toldCommand};
+ghost use Rattle.c_arp.specs.Commands.{commandOf, saidOf, toldEnd, toldCommand};
 use crate::parts::HbUdid;
 use crate::parts::identifier;
 use crate::parts::udid_in;
 use arp::command::Command;
+use arp::command::End;
+use arp::command::Handed;
 use arp::request::put_command;
 use c_codec::codec::HbWritten;
 use c_codec::codec::written;
@@ -19,19 +21,19 @@ use udid::Udid;
 use wire::address::Address;
 
 // A command of a kind that is sent; every other number is no command.
-fn command_of(kind: u8, u: Udid, a: Address) -> Command
+fn command_of(kind: u8, u: Udid, a: Address) -> Handed
     ensures { λ r. ⌜ r ≡ commandOf kind u a ⌝ }
 {
     if kind == 0 {
-        return Command::Prepare;
+        return Handed::Send(Command::Prepare);
     }
     if kind == 1 {
-        return Command::GetUdid;
+        return Handed::Send(Command::GetUdid);
     }
     if kind == 2 {
-        return Command::Assign(u, a);
+        return Handed::Send(Command::Assign(u, a));
     }
-    Command::Nothing
+    Handed::Wait(End::Nothing)
 }
 
 // What the controller handed out: the kind, the scope's number of an end, the identifier and the address of an Assign or the
@@ -58,20 +60,38 @@ fn said(kind: u32, answer: u32, u: Udid, a: Address, gets: u32) -> HbCommand
     }
 }
 
-// A command that was handed out, and the Get UDIDs so far, as a struct.
-pub fn told_command(k: Command, gets: u32) -> HbCommand
-    ensures { λ r. ⌜ r ≡ toldCommand k gets ⌝ }
+// Why nothing is to be sent, and the Get UDIDs so far, as a struct.
+fn told_end(e: End, gets: u32) -> HbCommand
+    ensures { λ r. ⌜ r ≡ toldEnd e gets ⌝ }
+{
+    let none = Udid { high: 0, low: 0 };
+    match e {
+        End::Ended => said(3, 0, none, Address(0), gets),
+        End::NoneFree(u) => said(4, 13, u, Address(0), gets),
+        End::Abandoned => said(5, 14, none, Address(0), gets),
+        End::NotOutstanding => said(6, 21, none, Address(0), 0),
+        End::Nothing => said(7, 0, none, Address(0), gets),
+    }
+}
+
+fn told_sent(k: Command, gets: u32) -> HbCommand
+    ensures { λ r. ⌜ r ≡ toldCommand (Handed.Send k) gets ⌝ }
 {
     let none = Udid { high: 0, low: 0 };
     match k {
         Command::Prepare => said(0, 0, none, Address(0), gets),
         Command::GetUdid => said(1, 0, none, Address(0), gets),
         Command::Assign(u, a) => said(2, 0, u, a, gets),
-        Command::Ended => said(3, 0, none, Address(0), gets),
-        Command::NoneFree(u) => said(4, 13, u, Address(0), gets),
-        Command::Abandoned => said(5, 14, none, Address(0), gets),
-        Command::NotOutstanding => said(6, 21, none, Address(0), 0),
-        Command::Nothing => said(7, 0, none, Address(0), gets),
+    }
+}
+
+// What was handed out, and the Get UDIDs so far, as a struct.
+pub fn told_command(k: Handed, gets: u32) -> HbCommand
+    ensures { λ r. ⌜ r ≡ toldCommand k gets ⌝ }
+{
+    match k {
+        Handed::Send(c) => told_sent(c, gets),
+        Handed::Wait(e) => told_end(e, gets),
     }
 }
 

@@ -3,6 +3,7 @@ ghost use Prim.Native.Nat.{_≤_};
 ghost use mathlib.Core.Path.{_≡_};
 ghost use lib.ListN.{length};
 use arp::command::Command;
+use arp::command::Handed;
 use arp::lookup::Found;
 use arp::request::put_command;
 use arp::state::Controller;
@@ -31,13 +32,20 @@ fn say_line(s: &[u8]) {
     io::write_all(OUTPUT, s);
 }
 
-// A command, or that the pass has ended, in a line.
-fn say(c: Command) {
+// A command, in a line.
+fn say_sent(c: Command) {
     match c {
         Command::Prepare => say_line(b"Prepare To ARP\n"),
         Command::GetUdid => say_line(b"Get UDID\n"),
         Command::Assign(u, a) => say_assign(u, a),
-        _ => say_line(b"the pass has ended\n"),
+    }
+}
+
+// A command, or that the pass has ended, in a line.
+fn say(c: Handed) {
+    match c {
+        Handed::Send(k) => say_sent(k),
+        Handed::Wait(_) => say_line(b"the pass has ended\n"),
     }
 }
 

@@ -3,6 +3,8 @@
 ghost use Prim.Native.Nat.{_+_, _≤_};
 ghost use lib.ListN.{length};
 use arp::command::Command;
+use arp::command::End;
+use arp::command::Handed;
 use arp::lookup::Found;
 use arp::state::Controller;
 use udid::Udid;
@@ -24,16 +26,28 @@ fn write_tag(tag: u8) {
     write_answer(tag, u, Address(0));
 }
 
-pub(crate) fn write_command(c: Command) {
+fn write_sent(c: Command) {
     match c {
         Command::Prepare => write_tag(0),
         Command::GetUdid => write_tag(1),
         Command::Assign(u, a) => write_answer(2, u, a),
-        Command::Ended => write_tag(3),
-        Command::NoneFree(u) => write_answer(4, u, Address(0)),
-        Command::Abandoned => write_tag(5),
-        Command::NotOutstanding => write_tag(6),
-        Command::Nothing => write_tag(7),
+    }
+}
+
+fn write_end(e: End) {
+    match e {
+        End::Ended => write_tag(3),
+        End::NoneFree(u) => write_answer(4, u, Address(0)),
+        End::Abandoned => write_tag(5),
+        End::NotOutstanding => write_tag(6),
+        End::Nothing => write_tag(7),
+    }
+}
+
+pub(crate) fn write_command(c: Handed) {
+    match c {
+        Handed::Send(k) => write_sent(k),
+        Handed::Wait(e) => write_end(e),
     }
 }
 

@@ -24,7 +24,7 @@ use Prim.Native.Nat.{ℕ, suc, _+_, _*_, _/_, _%_, _^_, _≤_, _<_}
 use lib.ListN.{length, take, drop, getD, replicate}
 use Rattle.promises.specs.Words.{Each, Bytes, isReserved, pecOf, Address, TraceOf, Message, message, encodeNumber, Wrote, Encoded, summary, Member, Fits, Breaks, CutAt, OtherPec, decodeNumber, Decoded, Done, Entered, Outcome}
 use Rattle.promises.specs.Words.{member, emptyPool, startingPool, Pool, udidBytes, In128, Udid, heldAt, prepareTrace, replyTrace, assignTrace, newController, started, stepped, Event, Received, run, Acknowledged, lookedUp, commandNumber, lookupNumber}
-use Rattle.promises.specs.Words.{Asks, Binds, Continues, EndsWith, Replies, protocolFor, messageOf, traceOf, Command, Nothing, Prepare, GetUdid, Assign, Ended, Abandoned, NotOutstanding, Open, Bound, Claimed, Controller, Stepped}
+use Rattle.promises.specs.Words.{Asks, Binds, Continues, EndsWith, Replies, protocolFor, messageOf, traceOf, Handed, Send, Wait, Nothing, Prepare, GetUdid, Assign, Ended, Abandoned, NotOutstanding, Open, Bound, Claimed, Controller, Stepped}
 use Rattle.promises.specs.Words.{EvenOrFlag, SameAsEarlier, FixedOnTaken, LengthIsBad, None, FirstOf, targetsOf, movable, leftFree, pass, Given, Ending, served, noneFree, Distinct, ruled, Any, RecordOf, OnePerUdid, getsOnBus, noUdid, modelNumber, Leaves, modelEnd, ModelAnswer, identifier, holding, Shows}
 
 -- ---- DEMAND 1: EACH NUMBER, IF AND ONLY IF ITS CASE; A REFUSAL CHANGES NOTHING THAT WAS LENT
@@ -72,13 +72,13 @@ pub record Commands (reply before : List ℕ) (r : Encoded) (after : List ℕ) :
   -- the commands' traces are lines of the table, with their PEC, to 61h; traceOf gives them
   pub lines : TraceOf 1 true (message 0x61 0 0 (0x01 ∷ []) []) prepareTrace × (Bytes reply → length reply ≤ 255 → TraceOf 9 true (message 0x61 0 0x03 [] reply) (replyTrace reply))
       × ((u : Udid) (a : ℕ) → a < 128 → TraceOf 8 true (message 0x61 0 0x04 (udidBytes u ++ 2 * a ∷ []) []) (assignTrace (udidBytes u) (2 * a)))
-  pub traces : (traceOf Prepare reply ≡ prepareTrace) × (traceOf GetUdid reply ≡ replyTrace reply) × ((u : Udid) (a : Address) → a .0 < 128 → traceOf (Assign u a) [] ≡ assignTrace (udidBytes u) (2 * a .0))
-  pub prepare : Wrote (protocolFor Prepare) true (messageOf Prepare reply) before r after → Puts ⊥ prepareTrace before r after
-  pub get : Wrote (protocolFor GetUdid) true (messageOf GetUdid reply) before r after → Puts (255 < length reply) (replyTrace reply) before r after
-  pub assign : (u : Udid) (a : Address) → Wrote (protocolFor (Assign u a)) true (messageOf (Assign u a) reply) before r after
+  pub traces : (traceOf (Send Prepare) reply ≡ prepareTrace) × (traceOf (Send GetUdid) reply ≡ replyTrace reply) × ((u : Udid) (a : Address) → a .0 < 128 → traceOf (Send (Assign u a)) [] ≡ assignTrace (udidBytes u) (2 * a .0))
+  pub prepare : Wrote (protocolFor (Send Prepare)) true (messageOf (Send Prepare) reply) before r after → Puts ⊥ prepareTrace before r after
+  pub get : Wrote (protocolFor (Send GetUdid)) true (messageOf (Send GetUdid) reply) before r after → Puts (255 < length reply) (replyTrace reply) before r after
+  pub assign : (u : Udid) (a : Address) → Wrote (protocolFor (Send (Assign u a))) true (messageOf (Send (Assign u a)) reply) before r after
       → Puts (127 < a .0) (assignTrace (udidBytes u) (2 * a .0)) before r after
   -- what is no command is refused
-  pub none : (k : Command) → (k ≡ Prepare → ⊥) → (k ≡ GetUdid → ⊥) → ((u : Udid) (a : Address) → k ≡ Assign u a → ⊥)
+  pub none : (k : Handed) → (k ≡ Send Prepare → ⊥) → (k ≡ Send GetUdid → ⊥) → ((u : Udid) (a : Address) → k ≡ Send (Assign u a) → ⊥)
       → Wrote (protocolFor k) true (messageOf k reply) before r after → Puts Unit [] before r after
 
 -- lookup of the address a in the state s
@@ -152,7 +152,7 @@ pub record Demand3 (occupied : Pool) (s b : List ℕ) (bytes : Bytes s) (r : Mod
 -- ---- THE CONTROLLER
 -- no command of a pass is outstanding
 abbrev pub Idle : Controller → Type 0
-Idle s = (s .last ≡ Prepare → ⊥) × (s .last ≡ GetUdid → ⊥) × ((u : Udid) (a : Address) → s .last ≡ Assign u a → ⊥)
+Idle s = (s .last ≡ Send Prepare → ⊥) × (s .last ≡ Send GetUdid → ⊥) × ((u : Udid) (a : Address) → s .last ≡ Send (Assign u a) → ⊥)
 
 -- the trace is no complete reply
 abbrev pub NoReply : List ℕ → Type 0
@@ -165,34 +165,34 @@ NobodyLeft tr = (b : ℕ) × (b < 3) × CutAt 9 true tr b
 -- A STEP, sentence by sentence: r is what comes of the state s and the trace tr
 pub record Steps (s : Controller) (tr : List ℕ) (r : Stepped) : Type 0 where
   -- Prepare accepted: Get UDID. Answer 6: the pass ends, nobody there. Any other: 14
-  pub prepare-accepted : s .last ≡ Prepare → tr ≡ prepareTrace → Continues s r
-  pub prepare-nobody : s .last ≡ Prepare → (b : ℕ) → CutAt 1 true tr b → EndsWith s r Ended
-  pub prepare-other : s .last ≡ Prepare → (tr ≡ prepareTrace → ⊥) → ((b : ℕ) → CutAt 1 true tr b → ⊥) → EndsWith s r Abandoned
+  pub prepare-accepted : s .last ≡ Send Prepare → tr ≡ prepareTrace → Continues s r
+  pub prepare-nobody : s .last ≡ Send Prepare → (b : ℕ) → CutAt 1 true tr b → EndsWith s r (Wait Ended)
+  pub prepare-other : s .last ≡ Send Prepare → (tr ≡ prepareTrace → ⊥) → ((b : ℕ) → CutAt 1 true tr b → ⊥) → EndsWith s r (Wait Abandoned)
   -- Get UDID: a reply of 17 bytes is served. Another count, or answer 6 at byte 0, 1 or 2: the pass ends. Any other: Get UDID again
-  pub get-reply : s .last ≡ GetUdid → (u : Udid) (b : ℕ) → In128 u → b < 256 → tr ≡ replyTrace (udidBytes u ++ b ∷ []) → Replies s u b r
-  pub get-count : s .last ≡ GetUdid → (xs : List ℕ) → Bytes xs → length xs ≤ 255 → (length xs ≡ 17 → ⊥) → tr ≡ replyTrace xs → EndsWith s r Ended
-  pub get-nobody : s .last ≡ GetUdid → NobodyLeft tr → EndsWith s r Ended
-  pub get-again : s .last ≡ GetUdid → NoReply tr → (NobodyLeft tr → ⊥) → Continues s r
+  pub get-reply : s .last ≡ Send GetUdid → (u : Udid) (b : ℕ) → In128 u → b < 256 → tr ≡ replyTrace (udidBytes u ++ b ∷ []) → Replies s u b r
+  pub get-count : s .last ≡ Send GetUdid → (xs : List ℕ) → Bytes xs → length xs ≤ 255 → (length xs ≡ 17 → ⊥) → tr ≡ replyTrace xs → EndsWith s r (Wait Ended)
+  pub get-nobody : s .last ≡ Send GetUdid → NobodyLeft tr → EndsWith s r (Wait Ended)
+  pub get-again : s .last ≡ Send GetUdid → NoReply tr → (NobodyLeft tr → ⊥) → Continues s r
   -- Assign complete: bind, or claim, and add to the pool. Any other: no binding. Get UDID comes next; a number above 127 is no address
-  pub assign-whole : (u : Udid) (a : Address) → s .last ≡ Assign u a → In128 u → a .0 < 128 → tr ≡ assignTrace (udidBytes u) (2 * a .0) → Asks s r × Binds u (a .0) s (r .state)
-  pub assign-other : (u : Udid) (a : Address) → s .last ≡ Assign u a → (a .0 < 128 → tr ≡ assignTrace (udidBytes u) (2 * a .0) → ⊥) → Continues s r
+  pub assign-whole : (u : Udid) (a : Address) → s .last ≡ Send (Assign u a) → In128 u → a .0 < 128 → tr ≡ assignTrace (udidBytes u) (2 * a .0) → Asks s r × Binds u (a .0) s (r .state)
+  pub assign-other : (u : Udid) (a : Address) → s .last ≡ Send (Assign u a) → (a .0 < 128 → tr ≡ assignTrace (udidBytes u) (2 * a .0) → ⊥) → Continues s r
   -- no command outstanding: 21, and the state stays as it is
-  pub none-outstanding : Idle s → (r .state ≡ s) × (r .command ≡ NotOutstanding)
+  pub none-outstanding : Idle s → (r .state ≡ s) × (r .command ≡ Wait NotOutstanding)
 
 -- the numbers of a step, each if and only if its case; commandNumber gives a list, empty for a command to send. 13: one has to be picked (the reply has FFh, or the
 -- target is movable, its first byte 64 or more, and its own address b / 2 is in the pool), and with its old address freed all 128 are in the pool
 pub record StepNumbers (s : Controller) (tr : List ℕ) (r : Stepped) : Type 0 where
-  pub step-0 : (commandNumber (r .command) ≡ (0, []) ∷ []) ↔ (((s .last ≡ Prepare) × ((b : ℕ) × CutAt 1 true tr b))
-      ⊎ ((s .last ≡ GetUdid) × (NobodyLeft tr ⊎ ((xs : List ℕ) × Bytes xs × (length xs ≤ 255) × (length xs ≡ 17 → ⊥) × (tr ≡ replyTrace xs)))))
-  pub step-13 : (u : Udid) → (commandNumber (r .command) ≡ (13, u ∷ []) ∷ []) ↔ ((s .last ≡ GetUdid) × ((b : ℕ) × In128 u × (b < 256) × (tr ≡ replyTrace (udidBytes u ++ b ∷ []))
+  pub step-0 : (commandNumber (r .command) ≡ (0, []) ∷ []) ↔ (((s .last ≡ Send Prepare) × ((b : ℕ) × CutAt 1 true tr b))
+      ⊎ ((s .last ≡ Send GetUdid) × (NobodyLeft tr ⊎ ((xs : List ℕ) × Bytes xs × (length xs ≤ 255) × (length xs ≡ 17 → ⊥) × (tr ≡ replyTrace xs)))))
+  pub step-13 : (u : Udid) → (commandNumber (r .command) ≡ (13, u ∷ []) ∷ []) ↔ ((s .last ≡ Send GetUdid) × ((b : ℕ) × In128 u × (b < 256) × (tr ≡ replyTrace (udidBytes u ++ b ∷ []))
       × ((b ≡ 0xFF) ⊎ ((64 ≤ getD (udidBytes u) 0 0) × (member (r .state .pool) (b / 2) ≡ true))) × ((a : ℕ) → a < 128 → member (r .state .pool) a ≡ true)))
-  pub step-14 : (commandNumber (r .command) ≡ (14, []) ∷ []) ↔ (((s .last ≡ Prepare) × (tr ≡ prepareTrace → ⊥) × ((b : ℕ) → CutAt 1 true tr b → ⊥)) ⊎ ((128 ≤ s .gets)
-      × (((s .last ≡ Prepare) × (tr ≡ prepareTrace)) ⊎ (((s .last ≡ GetUdid) × NoReply tr × (NobodyLeft tr → ⊥)) ⊎ ((u : Udid) × (a : Address) × (s .last ≡ Assign u a))))))
+  pub step-14 : (commandNumber (r .command) ≡ (14, []) ∷ []) ↔ (((s .last ≡ Send Prepare) × (tr ≡ prepareTrace → ⊥) × ((b : ℕ) → CutAt 1 true tr b → ⊥)) ⊎ ((128 ≤ s .gets)
+      × (((s .last ≡ Send Prepare) × (tr ≡ prepareTrace)) ⊎ (((s .last ≡ Send GetUdid) × NoReply tr × (NobodyLeft tr → ⊥)) ⊎ ((u : Udid) × (a : Address) × (s .last ≡ Send (Assign u a)))))))
   pub step-21 : (commandNumber (r .command) ≡ (21, []) ∷ []) ↔ Idle s
 
 -- a state has a slot for each address, and the identifier of an outstanding Assign has 128 bits
 abbrev pub Sound : Controller → Type 0
-Sound s = (length (s .slots) ≡ 128) × ((u : Udid) (a : Address) → s .last ≡ Assign u a → In128 u)
+Sound s = (length (s .slots) ≡ 128) × ((u : Udid) (a : Address) → s .last ≡ Send (Assign u a) → In128 u)
 
 -- what holds in every state that starts and traces reach
 pub record Reached (occupied : Pool) (s : Controller) : Type 0 where
@@ -209,8 +209,8 @@ pub record Control : Type 0 where
   -- the starting pool: the reserved and the occupied addresses. A new controller has nothing bound, claimed or outstanding; a start, at any time, makes it so again
   pub starting-pool : (occupied : Pool) (a : ℕ) → (member (startingPool occupied) a ≡ true) ↔ ((isReserved a ≡ true) ⊎ (member occupied a ≡ true))
   pub new : (occupied : Pool) → (newController occupied .starting ≡ startingPool occupied) × (newController occupied .pool ≡ startingPool occupied)
-      × (newController occupied .last ≡ Nothing) × (newController occupied .gets ≡ 0) × ((a : ℕ) → heldAt (newController occupied .slots) a ≡ Open)
-  pub start : (s : Controller) → (started s .command ≡ Prepare) × (started s .state .last ≡ Prepare) × (started s .state .gets ≡ 0)
+      × (newController occupied .last ≡ Wait Nothing) × (newController occupied .gets ≡ 0) × ((a : ℕ) → heldAt (newController occupied .slots) a ≡ Open)
+  pub start : (s : Controller) → (started s .command ≡ Send Prepare) × (started s .state .last ≡ Send Prepare) × (started s .state .gets ≡ 0)
       × (started s .state .pool ≡ s .starting) × (started s .state .starting ≡ s .starting) × ((a : ℕ) → heldAt (started s .state .slots) a ≡ Open)
   -- every step is as the sentences say, and its number is given in its case alone; the sentences leave one result
   pub step : (s : Controller) (tr : List ℕ) → Sound s → Steps s tr (stepped s tr) × StepNumbers s tr (stepped s tr)
@@ -226,7 +226,7 @@ pub record Control : Type 0 where
 -- ---- THE MARKED CASES, whatever binding buffer of at least 2,048 bytes is lent
 pub record Marked (b : List ℕ) (room : 2048 ≤ length b) : Type 0 where
   pub m1 : (pecOf [] ≡ 0x00) × (pecOf (0x01 ∷ []) ≡ 0x07) × (pecOf (0x80 ∷ []) ≡ 0x89)
-  pub m2 : traceOf Prepare [] ≡ 256 ∷ 194 ∷ 258 ∷ 1 ∷ 258 ∷ 192 ∷ 258 ∷ 257 ∷ []
+  pub m2 : traceOf (Send Prepare) [] ≡ 256 ∷ 194 ∷ 258 ∷ 1 ∷ 258 ∷ 192 ∷ 258 ∷ 257 ∷ []
   pub m3 : TraceOf 2 true (message 0x0C 0 0 [] (0x4F ∷ [])) (256 ∷ 25 ∷ 258 ∷ 79 ∷ 258 ∷ 0 ∷ 259 ∷ 257 ∷ [])
   pub m4 : pecOf (0xC2 ∷ 0x02 ∷ []) ≡ 0xC9
   pub m5 : TraceOf 9 false (message 0x10 0 0x07 [] []) (256 ∷ 32 ∷ 258 ∷ 7 ∷ 258 ∷ 256 ∷ 33 ∷ 258 ∷ 0 ∷ 259 ∷ 257 ∷ [])

@@ -39,6 +39,7 @@ use Rattle.pool.specs.StartLaws.{member-starting}
 use Rattle.pool.specs.declared.Pool.{Pool}
 use Rattle.udid.specs.Bytes.{udidBytes}
 use Rattle.udid.specs.declared.Udid.{Udid}
+use Rattle.arp.specs.BindingLaws.{unheld-is-open}
 use Rattle.arp.specs.Bindings.{heldAt}
 use Rattle.arp.specs.Numbers.{commandNumber}
 use Rattle.arp.specs.AssignedLaws.{found-acknowledged, claim-stays}
@@ -52,10 +53,11 @@ use Rattle.arp.specs.Sound.{PendingIn}
 use Rattle.arp.specs.SoundLaws.{open-all}
 use Rattle.arp.specs.Controller.{stepped}
 use Rattle.arp.specs.History.{Event, run, isHeld}
-use Rattle.arp.specs.declared.command.Command.{Command}
-use Rattle.arp.specs.declared.command.Command.the-variants.{Nothing, Prepare, GetUdid, Assign, Ended, NoneFree, Abandoned, NotOutstanding}
+use Rattle.arp.specs.declared.command.Command.the-variants.{Prepare, GetUdid, Assign}
+use Rattle.arp.specs.declared.command.Handed.{Handed}
+use Rattle.arp.specs.declared.command.Handed.the-variants.{Send, Wait}
 use Rattle.arp.specs.declared.state.Binding.{Binding}
-use Rattle.arp.specs.declared.state.Binding.the-variants.{Open, Bound, Claimed}
+use Rattle.arp.specs.declared.state.Binding.the-variants.{Open}
 use Rattle.arp.specs.declared.state.Controller.{Controller}
 use Rattle.targets.specs.ByteCases.{EvenOrFlag, SameAsEarlier, FixedOnTaken}
 use Rattle.targets.specs.ByteCasesLaws.{given-by-bytes}
@@ -111,7 +113,7 @@ written-trace protocol pec t before (Written n) after w e = w .output
 written-trace protocol pec t before Forbidden after w e = absurd (omega (arith, e))
 written-trace protocol pec t before OutputTooShort after w e = absurd (omega (arith, e))
 
-module _ (k : Command) (reply tr before : List ℕ) (r : Encoded) (after : List ℕ) (Bad : Type 0) (w : Wrote (protocolFor k) true (messageOf k reply) before r after)
+module _ (k : Handed) (reply tr before : List ℕ) (r : Encoded) (after : List ℕ) (Bad : Type 0) (w : Wrote (protocolFor k) true (messageOf k reply) before r after)
     (one : (encodeNumber r ≡ (1, 0)) ↔ Bad) (same : (Bad → ⊥) → trace (shapeOf (protocolFor k)) true (messageOf k reply) ≡ tr) where
   -- refused with 1 exactly in the listed cases, which are Bad
   good : (Listed (protocolFor k) true (messageOf k reply) → ⊥) ↔ (Bad → ⊥)
@@ -145,29 +147,25 @@ module _ (k : Command) (reply tr before : List ℕ) (r : Encoded) (after : List 
 abbrev Always : Type 0
 Always = Unit
 
-no-command : (reply before : List ℕ) (r : Encoded) (after : List ℕ) (k : Command) → (k ≡ Prepare → ⊥) → (k ≡ GetUdid → ⊥) → ((u : Udid) (a : Address) → k ≡ Assign u a → ⊥) → Wrote (protocolFor k) true (messageOf k reply) before r after
+no-command : (reply before : List ℕ) (r : Encoded) (after : List ℕ) (k : Handed) → (k ≡ Send Prepare → ⊥) → (k ≡ Send GetUdid → ⊥) → ((u : Udid) (a : Address) → k ≡ Send (Assign u a) → ⊥) → Wrote (protocolFor k) true (messageOf k reply) before r after
     → (encodeNumber r ≡ (1, 0)) ↔ Always
-no-command reply before r after Prepare p g a w = absurd (p refl)
-no-command reply before r after GetUdid p g a w = absurd (g refl)
-no-command reply before r after (Assign u x) p g a w = absurd (a u x refl)
-no-command reply before r after Nothing p g a w = refused-exactly Nothing reply before r after w
-no-command reply before r after Ended p g a w = refused-exactly Ended reply before r after w
-no-command reply before r after (NoneFree u) p g a w = refused-exactly (NoneFree u) reply before r after w
-no-command reply before r after Abandoned p g a w = refused-exactly Abandoned reply before r after w
-no-command reply before r after NotOutstanding p g a w = refused-exactly NotOutstanding reply before r after w
+no-command reply before r after (Send Prepare) p g a w = absurd (p refl)
+no-command reply before r after (Send GetUdid) p g a w = absurd (g refl)
+no-command reply before r after (Send (Assign u x)) p g a w = absurd (a u x refl)
+no-command reply before r after (Wait e) p g a w = refused-exactly (Wait e) reply before r after w
 
 pub commands : (reply before : List ℕ) (r : Encoded) (after : List ℕ) → Commands reply before r after
 commands reply before r after = record {
   lines = (
-    trace-listed 1 true (messageOf Prepare []) prepareTrace (omega arith) (λ e. absurd (omega (arith, e))) valid-prepare (sym (prepare-symbols [])),
-    λ b k. trace-listed 9 true (messageOf GetUdid reply) (replyTrace reply) (omega arith) (λ e. absurd (omega (arith, e))) (valid-get reply b k) (sym (reply-symbols reply)),
+    trace-listed 1 true (messageOf (Send Prepare) []) prepareTrace (omega arith) (λ e. absurd (omega (arith, e))) valid-prepare (sym (prepare-symbols [])),
+    λ b k. trace-listed 9 true (messageOf (Send GetUdid) reply) (replyTrace reply) (omega arith) (λ e. absurd (omega (arith, e))) (valid-get reply b k) (sym (reply-symbols reply)),
     assign-line,
   );
   traces = (prepare-symbols reply, reply-symbols reply, assign-symbols-small);
-  prepare = λ w. puts Prepare reply prepareTrace before r after ⊥ w (refused-exactly Prepare reply before r after w) (λ b. prepare-symbols reply);
-  get = λ w. puts GetUdid reply (replyTrace reply) before r after (255 < length reply) w (refused-exactly GetUdid reply before r after w) (λ b. reply-symbols reply);
+  prepare = λ w. puts (Send Prepare) reply prepareTrace before r after ⊥ w (refused-exactly (Send Prepare) reply before r after w) (λ b. prepare-symbols reply);
+  get = λ w. puts (Send GetUdid) reply (replyTrace reply) before r after (255 < length reply) w (refused-exactly (Send GetUdid) reply before r after w) (λ b. reply-symbols reply);
   assign = λ u a w.
-      puts (Assign u a) reply (assignTrace (udidBytes u) (2 * a .0)) before r after (127 < a .0) w (refused-exactly (Assign u a) reply before r after w)
+      puts (Send (Assign u a)) reply (assignTrace (udidBytes u) (2 * a .0)) before r after (127 < a .0) w (refused-exactly (Send (Assign u a)) reply before r after w)
       (λ b. assigned u a b (decLt (a .0) 128));
   none = λ k p g a w. puts k reply [] before r after Unit w (no-command reply before r after k p g a w) (λ b. absurd (b tt));
 }
@@ -177,11 +175,11 @@ commands reply before r after = record {
         let k : Address = record { 0 = a } in
         let d : assignData u a ≡ udidBytes u ++ 2 * a ∷ [] = ap (λ (n : ℕ). udidBytes u ++ 2 * n ∷ []) (mod-eq-of-lt h) in
         subst (λ (l : List ℕ). TraceOf 8 true (message 0x61 0 0x04 l []) (assignTrace (udidBytes u) (2 * a))) d
-        (trace-listed 8 true (messageOf (Assign u k) []) (assignTrace (udidBytes u) (2 * a)) (omega arith) (λ e. absurd (omega (arith, e))) (valid-assign u k)
+        (trace-listed 8 true (messageOf (Send (Assign u k)) []) (assignTrace (udidBytes u) (2 * a)) (omega arith) (λ e. absurd (omega (arith, e))) (valid-assign u k)
         (sym (assign-symbols-small u k h)))
 
-    assigned : (u : Udid) (a : Address) → (127 < a .0 → ⊥) → Dec (a .0 < 128) → trace (shapeOf (protocolFor (Assign u a))) true (messageOf (Assign u a) reply) ≡ assignTrace (udidBytes u) (2 * a .0)
-    assigned u a b (yes l) = ap (λ (p : ℕ). trace (shapeOf p) true (messageOf (Assign u a) reply)) (small-address-protocol u a l) ∙ assign-symbols-small u a l
+    assigned : (u : Udid) (a : Address) → (127 < a .0 → ⊥) → Dec (a .0 < 128) → trace (shapeOf (protocolFor (Send (Assign u a)))) true (messageOf (Send (Assign u a)) reply) ≡ assignTrace (udidBytes u) (2 * a .0)
+    assigned u a b (yes l) = ap (λ (p : ℕ). trace (shapeOf p) true (messageOf (Send (Assign u a)) reply)) (small-address-protocol u a l) ∙ assign-symbols-small u a l
     assigned u a b (no l) = absurd (b (omega arith))
 
 pub looks-up : (s : Controller) (a : ℕ) → LooksUp s a
@@ -305,13 +303,15 @@ demand-3 occupied s b bytes r s′ b′ l = record {
 -- the pool of a reached state
 pool-exactly : (x y : Bool) (h : Binding) → y ≡ or x (isHeld h) → (y ≡ true) ↔ ((x ≡ true) ⊎ (h ≡ Open → ⊥))
 pool-exactly true y h e = (λ q. inl refl, λ q. e)
-pool-exactly false y Open e = (λ q. false-not-true (sym e ∙ q), back)
+pool-exactly false y h e = go (isHeld h) refl
   where
-    back : (false ≡ true) ⊎ (Open ≡ Open → ⊥) → y ≡ true
-    back (inl z) = false-not-true z
-    back (inr n) = absurd (n refl)
-pool-exactly false y (Bound u) e = (λ q. inr (λ z. let n : _≡_ {A = ℕ} 0 1 = cc z in omega arith), λ q. e)
-pool-exactly false y Claimed e = (λ q. inr (λ z. let n : _≡_ {A = ℕ} 0 1 = cc z in omega arith), λ q. e)
+    go : (b : Bool) → isHeld h ≡ b → (y ≡ true) ↔ ((false ≡ true) ⊎ (h ≡ Open → ⊥))
+    go true k = (λ q. inr (λ z. false-not-true (sym (ap isHeld z) ∙ k)), λ q. e ∙ k)
+    go false k = (λ q. false-not-true (sym (e ∙ k) ∙ q), back)
+      where
+        back : (false ≡ true) ⊎ (h ≡ Open → ⊥) → y ≡ true
+        back (inl z) = false-not-true z
+        back (inr n) = absurd (n (unheld-is-open h k))
 
 pub reached : (occupied : Pool) (es : List Event) → Reached occupied (run occupied es)
 reached occupied es =

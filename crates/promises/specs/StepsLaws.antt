@@ -34,8 +34,10 @@ use Rattle.arp.specs.OneStep.{Gives, Asks, Chooses, Continues, Replies, Alike}
 use Rattle.arp.specs.OneStepLaws as arp
 use Rattle.arp.specs.Replay.{noCommand}
 use Rattle.arp.specs.RequestLaws.{seventeen-bytes-are-udid-and-byte}
-use Rattle.arp.specs.declared.command.Command.{Command}
-use Rattle.arp.specs.declared.command.Command.the-variants.{Nothing, Prepare, GetUdid, Assign, Ended, NoneFree, Abandoned, NotOutstanding}
+use Rattle.arp.specs.declared.command.Command.the-variants.{Prepare, GetUdid, Assign}
+use Rattle.arp.specs.declared.command.End.the-variants.{Ended, NoneFree, Abandoned, NotOutstanding}
+use Rattle.arp.specs.declared.command.Handed.{Handed}
+use Rattle.arp.specs.declared.command.Handed.the-variants.{Send, Wait}
 use Rattle.arp.specs.declared.state.Controller.{Controller}
 use Rattle.arp.specs.declared.state.Stepped.{Stepped}
 use Rattle.promises.specs.Demands.{Idle, NoReply, NobodyLeft, Steps, StepNumbers}
@@ -59,15 +61,11 @@ six-9 tr b = six-is-cut 9 tr b refl (omega arith) (λ e. omega (arith, e))
 idle-no-command : (s : Controller) → Idle s → noCommand (s .last) ≡ true
 idle-no-command s i = go (s .last) refl
   where
-    go : (k : Command) → s .last ≡ k → noCommand k ≡ true
-    go Prepare e = absurd (i .0 e)
-    go GetUdid e = absurd (i .1 e)
-    go (Assign u a) e = absurd (i .2 u a e)
-    go Nothing e = refl
-    go Ended e = refl
-    go (NoneFree u) e = refl
-    go Abandoned e = refl
-    go NotOutstanding e = refl
+    go : (k : Handed) → s .last ≡ k → noCommand k ≡ true
+    go (Send Prepare) e = absurd (i .0 e)
+    go (Send GetUdid) e = absurd (i .1 e)
+    go (Send (Assign u a)) e = absurd (i .2 u a e)
+    go (Wait i) e = refl
 
 -- ---- every step is as the sentences say
 
@@ -85,71 +83,67 @@ sentences s tr size = record {
   none-outstanding = λ i. arp.none-outstanding s tr (idle-no-command s i);
 }
   where
-    other : (u : Udid) (a : Address) → s .last ≡ Assign u a → (a .0 < 128 → tr ≡ assignTrace (udidBytes u) (2 * a .0) → ⊥) → Dec (a .0 < 128) → Continues s (stepped s tr)
+    other : (u : Udid) (a : Address) → s .last ≡ Send (Assign u a) → (a .0 < 128 → tr ≡ assignTrace (udidBytes u) (2 * a .0) → ⊥) → Dec (a .0 < 128) → Continues s (stepped s tr)
     other u a e n (yes l) = arp.assign-other s tr u a e l (n l)
     other u a e n (no l) = arp.assign-no-address s tr u a e (omega arith)
 
 -- ---- every trace falls under one of the sentences
 
 data Case (s : Controller) (tr : List ℕ) : Type 0 where
-  Accepted : s .last ≡ Prepare → tr ≡ prepareTrace → Case s tr
-  Nobody : s .last ≡ Prepare → (b : ℕ) → CutAt 1 true tr b → Case s tr
-  Refused : s .last ≡ Prepare → (tr ≡ prepareTrace → ⊥) → ((b : ℕ) → CutAt 1 true tr b → ⊥) → Case s tr
-  Replied : s .last ≡ GetUdid → (u : Udid) (b : ℕ) → Fits u → b < 256 → tr ≡ replyTrace (udidBytes u ++ b ∷ []) → Case s tr
-  Counted : s .last ≡ GetUdid → (xs : List ℕ) → Bytes xs → length xs ≤ 255 → (length xs ≡ 17 → ⊥) → tr ≡ replyTrace xs → Case s tr
-  Left : s .last ≡ GetUdid → NobodyLeft tr → Case s tr
-  Again : s .last ≡ GetUdid → NoReply tr → (NobodyLeft tr → ⊥) → Case s tr
-  Whole : (u : Udid) (a : Address) → s .last ≡ Assign u a → Fits u → a .0 < 128 → tr ≡ assignTrace (udidBytes u) (2 * a .0) → Case s tr
-  Other : (u : Udid) (a : Address) → s .last ≡ Assign u a → (a .0 < 128 → tr ≡ assignTrace (udidBytes u) (2 * a .0) → ⊥) → Case s tr
+  Accepted : s .last ≡ Send Prepare → tr ≡ prepareTrace → Case s tr
+  Nobody : s .last ≡ Send Prepare → (b : ℕ) → CutAt 1 true tr b → Case s tr
+  Refused : s .last ≡ Send Prepare → (tr ≡ prepareTrace → ⊥) → ((b : ℕ) → CutAt 1 true tr b → ⊥) → Case s tr
+  Replied : s .last ≡ Send GetUdid → (u : Udid) (b : ℕ) → Fits u → b < 256 → tr ≡ replyTrace (udidBytes u ++ b ∷ []) → Case s tr
+  Counted : s .last ≡ Send GetUdid → (xs : List ℕ) → Bytes xs → length xs ≤ 255 → (length xs ≡ 17 → ⊥) → tr ≡ replyTrace xs → Case s tr
+  Left : s .last ≡ Send GetUdid → NobodyLeft tr → Case s tr
+  Again : s .last ≡ Send GetUdid → NoReply tr → (NobodyLeft tr → ⊥) → Case s tr
+  Whole : (u : Udid) (a : Address) → s .last ≡ Send (Assign u a) → Fits u → a .0 < 128 → tr ≡ assignTrace (udidBytes u) (2 * a .0) → Case s tr
+  Other : (u : Udid) (a : Address) → s .last ≡ Send (Assign u a) → (a .0 < 128 → tr ≡ assignTrace (udidBytes u) (2 * a .0) → ⊥) → Case s tr
   None : Idle s → Case s tr
 
 -- the identifier of an outstanding Assign has 128 bits
 abbrev FitsLast : Controller → Type 0
-FitsLast s = (u : Udid) (a : Address) → s .last ≡ Assign u a → Fits u
+FitsLast s = (u : Udid) (a : Address) → s .last ≡ Send (Assign u a) → Fits u
 
 every-case : (s : Controller) (tr : List ℕ) → FitsLast s → Case s tr
 every-case s tr f = go (s .last) refl
   where
-    prepare : s .last ≡ Prepare → Dec (tr ≡ prepareTrace) → ((b : ℕ) × Gives 1 tr 6 b) ⊎ ((b : ℕ) → Gives 1 tr 6 b → ⊥) → Case s tr
+    prepare : s .last ≡ Send Prepare → Dec (tr ≡ prepareTrace) → ((b : ℕ) × Gives 1 tr 6 b) ⊎ ((b : ℕ) → Gives 1 tr 6 b → ⊥) → Case s tr
     prepare e (yes t) w = Accepted e t
     prepare e (no t) (inl w) = Nobody e (w .0) (six-1 tr (w .0) .0 (w .1))
     prepare e (no t) (inr w) = Refused e t (λ b c. w b (six-1 tr b .1 c))
 
-    reply : s .last ≡ GetUdid → (xs : List ℕ) → Bytes xs → length xs ≤ 255 → tr ≡ replyTrace xs → Dec (length xs ≡ 17) → Case s tr
+    reply : s .last ≡ Send GetUdid → (xs : List ℕ) → Bytes xs → length xs ≤ 255 → tr ≡ replyTrace xs → Dec (length xs ≡ 17) → Case s tr
     reply e xs d l t (no n) = Counted e xs d l n t
     reply e xs d l t (yes n) = let k = seventeen-bytes-are-udid-and-byte xs d n in Replied e (udidAt xs 0) (getD xs 16 0) (k .0) (k .1) (t ∙ ap replyTrace (k .2))
 
-    six : s .last ≡ GetUdid → NoReply tr → (b : ℕ) → Gives 9 tr 6 b → Dec (b < 3) → Case s tr
+    six : s .last ≡ Send GetUdid → NoReply tr → (b : ℕ) → Gives 9 tr 6 b → Dec (b < 3) → Case s tr
     six e n b w (yes l) = Left e (b, l, six-9 tr b .0 w)
     six e n b w (no l) = Again e n (λ x. let z = six-once 9 tr b (x .0) refl w (six-9 tr (x .0) .1 (x .2)) in let y = x .1 in omega arith)
 
-    get : s .last ≡ GetUdid → Reply tr ⊎ ((xs : List ℕ) → Bytes xs → length xs ≤ 255 → tr ≡ replyTrace xs → ⊥)
+    get : s .last ≡ Send GetUdid → Reply tr ⊎ ((xs : List ℕ) → Bytes xs → length xs ≤ 255 → tr ≡ replyTrace xs → ⊥)
         → ((b : ℕ) × Gives 9 tr 6 b) ⊎ ((b : ℕ) → Gives 9 tr 6 b → ⊥) → Case s tr
     get e (inl (xs, d, l, t)) w = reply e xs d l t (ℕ-discrete (length xs) 17)
     get e (inr n) (inl (b, w)) = six e n b w (decLt b 3)
     get e (inr n) (inr m) = Again e n (λ x. m (x .0) (six-9 tr (x .0) .1 (x .2)))
 
-    assign : (u : Udid) (a : Address) → s .last ≡ Assign u a → Dec (a .0 < 128) → Dec (tr ≡ assignTrace (udidBytes u) (2 * a .0)) → Case s tr
+    assign : (u : Udid) (a : Address) → s .last ≡ Send (Assign u a) → Dec (a .0 < 128) → Dec (tr ≡ assignTrace (udidBytes u) (2 * a .0)) → Case s tr
     assign u a e (no l) d = Other u a e (λ k. absurd (l k))
     assign u a e (yes l) (yes t) = Whole u a e (f u a e) l t
     assign u a e (yes l) (no t) = Other u a e (λ k. t)
 
-    idle : (k : Command) → s .last ≡ k → (k ≡ Prepare → ⊥) → (k ≡ GetUdid → ⊥) → ((u : Udid) (a : Address) → k ≡ Assign u a → ⊥) → Case s tr
+    idle : (k : Handed) → s .last ≡ k → (k ≡ Send Prepare → ⊥) → (k ≡ Send GetUdid → ⊥) → ((u : Udid) (a : Address) → k ≡ Send (Assign u a) → ⊥) → Case s tr
     idle k e p g a = None (λ q. p (sym e ∙ q), λ q. g (sym e ∙ q), λ u x q. a u x (sym e ∙ q))
 
-    go : (k : Command) → s .last ≡ k → Case s tr
-    go Prepare e = prepare e (same-trace-or-not tr prepareTrace) (six-or-not 1 tr refl)
-    go GetUdid e = get e (reply-or-not s tr) (six-or-not 9 tr refl)
-    go (Assign u a) e = assign u a e (decLt (a .0) 128) (same-trace-or-not tr (assignTrace (udidBytes u) (2 * a .0)))
-    go Nothing e = idle Nothing e (λ q. false-not-true (sym (ap noCommand q))) (λ q. false-not-true (sym (ap noCommand q))) (λ u a q. false-not-true (sym (ap noCommand q)))
-    go Ended e = idle Ended e (λ q. false-not-true (sym (ap noCommand q))) (λ q. false-not-true (sym (ap noCommand q))) (λ u a q. false-not-true (sym (ap noCommand q)))
-    go (NoneFree v) e = idle (NoneFree v) e (λ q. false-not-true (sym (ap noCommand q))) (λ q. false-not-true (sym (ap noCommand q))) (λ u a q. false-not-true (sym (ap noCommand q)))
-    go Abandoned e = idle Abandoned e (λ q. false-not-true (sym (ap noCommand q))) (λ q. false-not-true (sym (ap noCommand q))) (λ u a q. false-not-true (sym (ap noCommand q)))
-    go NotOutstanding e = idle NotOutstanding e (λ q. false-not-true (sym (ap noCommand q))) (λ q. false-not-true (sym (ap noCommand q))) (λ u a q. false-not-true (sym (ap noCommand q)))
+    go : (k : Handed) → s .last ≡ k → Case s tr
+    go (Send Prepare) e = prepare e (same-trace-or-not tr prepareTrace) (six-or-not 1 tr refl)
+    go (Send GetUdid) e = get e (reply-or-not s tr) (six-or-not 9 tr refl)
+    go (Send (Assign u a)) e = assign u a e (decLt (a .0) 128) (same-trace-or-not tr (assignTrace (udidBytes u) (2 * a .0)))
+    go (Wait i) e = idle (Wait i) e (λ q. false-not-true (sym (ap noCommand q))) (λ q. false-not-true (sym (ap noCommand q))) (λ u a q. false-not-true (sym (ap noCommand q)))
 
 -- ---- and the sentences leave one result: what is handed out, and what is known of each address
 
-idle-both : (s : Controller) (tr : List ℕ) (r q : Stepped) → (r .state ≡ s) × (r .command ≡ NotOutstanding) → (q .state ≡ s) × (q .command ≡ NotOutstanding) → Alike r q
+idle-both : (s : Controller) (tr : List ℕ) (r q : Stepped) → (r .state ≡ s) × (r .command ≡ Wait NotOutstanding) → (q .state ≡ s) × (q .command ≡ Wait NotOutstanding) → Alike r q
 idle-both s tr r q h g =
     let m : r .state ≡ q .state = h .0 ∙ sym (g .0) in
     record {
@@ -166,11 +160,11 @@ one-step s tr r q f h g = go (every-case s tr f)
   where
     go : Case s tr → Alike r q
     go (Accepted e t) = continues-alike s r q (h .prepare-accepted e t) (g .prepare-accepted e t)
-    go (Nobody e b w) = ends-alike s r q Ended (h .prepare-nobody e b w) (g .prepare-nobody e b w)
-    go (Refused e n m) = ends-alike s r q Abandoned (h .prepare-other e n m) (g .prepare-other e n m)
+    go (Nobody e b w) = ends-alike s r q (Wait Ended) (h .prepare-nobody e b w) (g .prepare-nobody e b w)
+    go (Refused e n m) = ends-alike s r q (Wait Abandoned) (h .prepare-other e n m) (g .prepare-other e n m)
     go (Replied e u b k l t) = replies-alike s u b r q (h .get-reply e u b k l t) (g .get-reply e u b k l t)
-    go (Counted e xs d l n t) = ends-alike s r q Ended (h .get-count e xs d l n t) (g .get-count e xs d l n t)
-    go (Left e w) = ends-alike s r q Ended (h .get-nobody e w) (g .get-nobody e w)
+    go (Counted e xs d l n t) = ends-alike s r q (Wait Ended) (h .get-count e xs d l n t) (g .get-count e xs d l n t)
+    go (Left e w) = ends-alike s r q (Wait Ended) (h .get-nobody e w) (g .get-nobody e w)
     go (Again e n m) = continues-alike s r q (h .get-again e n m) (g .get-again e n m)
     go (Whole u a e k l t) = binds-alike u (a .0) s r q (h .assign-whole u a e k l t) (g .assign-whole u a e k l t)
     go (Other u a e n) = continues-alike s r q (h .assign-other u a e n) (g .assign-other u a e n)
@@ -189,12 +183,12 @@ asked [] = []
 asked (n ∷ ns) = n .1
 
 -- no address is chosen exactly where one has to be picked and none is free
-none-chosen : (p : Pool) (u : Udid) (b : ℕ) (k : Command) → Chooses p u b k → k ≡ NoneFree u
+none-chosen : (p : Pool) (u : Udid) (b : ℕ) (k : Handed) → Chooses p u b k → k ≡ Wait (NoneFree u)
     → ((b ≡ 0xFF) ⊎ ((64 ≤ getD (udidBytes u) 0 0) × (member p (b / 2) ≡ true))) × ((a : ℕ) → a < 128 → member p a ≡ true)
 none-chosen p u b k c e = go (ℕ-discrete b 0xFF) (decLt (getD (udidBytes u) 0 0) 64) (member p (b / 2)) refl
   where
-    assigned : (a : Address) → k ≡ Assign u a → ⊥
-    assigned a q = let z : _≡_ {A = ℕ} 99 13 = ap (λ (x : Command). tag (commandNumber x)) (sym q ∙ e) in omega arith
+    assigned : (a : Address) → k ≡ Send (Assign u a) → ⊥
+    assigned a q = let z : _≡_ {A = ℕ} 99 13 = ap (λ (x : Handed). tag (commandNumber x)) (sym q ∙ e) in omega arith
 
     picked : (b ≡ 0xFF) ⊎ ((64 ≤ getD (udidBytes u) 0 0) × (member p (b / 2) ≡ true)) → (f : Free) → lowestFree p ≡ f
         → ((b ≡ 0xFF) ⊎ ((64 ≤ getD (udidBytes u) 0 0) × (member p (b / 2) ≡ true))) × ((a : ℕ) → a < 128 → member p a ≡ true)
@@ -210,37 +204,37 @@ none-chosen p u b k c e = go (ℕ-discrete b 0xFF) (decLt (getD (udidBytes u) 0 
 
 module _ (s : Controller) (tr : List ℕ) (f : FitsLast s) (r : Stepped) (h : Steps s tr r) where
   -- a command has its own number and no other
-  apart : (k : Command) (n : ℕ) (us : List Udid) → r .command ≡ k → (tag (commandNumber k) ≡ n → ⊥) → commandNumber (r .command) ≡ (n, us) ∷ [] → ⊥
-  apart k n us e d q = d (ap (λ (x : Command). tag (commandNumber x)) (sym e) ∙ ap tag q)
+  apart : (k : Handed) (n : ℕ) (us : List Udid) → r .command ≡ k → (tag (commandNumber k) ≡ n → ⊥) → commandNumber (r .command) ≡ (n, us) ∷ [] → ⊥
+  apart k n us e d q = d (ap (λ (x : Handed). tag (commandNumber x)) (sym e) ∙ ap tag q)
 
   -- Get UDID, or 14 at the limit
   asks-not : (n : ℕ) (us : List Udid) → n < 99 → (n ≡ 14 → ⊥) → Asks s r → commandNumber (r .command) ≡ (n, us) ∷ [] → ⊥
   asks-not n us l d a q = go (decLt (s .gets) 128)
     where
       go : Dec (s .gets < 128) → ⊥
-      go (yes k) = apart GetUdid n us (a .again k .command) (λ e. omega (arith, e)) q
-      go (no k) = apart Abandoned n us (a .limit (omega arith) .command) (λ e. d (sym e)) q
+      go (yes k) = apart (Send GetUdid) n us (a .again k .command) (λ e. omega (arith, e)) q
+      go (no k) = apart (Wait Abandoned) n us (a .limit (omega arith) .command) (λ e. d (sym e)) q
 
   asks-14 : Asks s r → commandNumber (r .command) ≡ (14, []) ∷ [] → 128 ≤ s .gets
   asks-14 a q = go (decLt (s .gets) 128)
     where
       go : Dec (s .gets < 128) → 128 ≤ s .gets
-      go (yes l) = absurd (apart GetUdid 14 [] (a .again l .command) (λ e. omega (arith, e)) q)
+      go (yes l) = absurd (apart (Send GetUdid) 14 [] (a .again l .command) (λ e. omega (arith, e)) q)
       go (no l) = omega arith
 
   -- Assign Address, or 13
   replies-not : (u : Udid) (b n : ℕ) (us : List Udid) → n < 99 → (n ≡ 13 → ⊥) → Replies s u b r → commandNumber (r .command) ≡ (n, us) ∷ [] → ⊥
   replies-not u b n us l d w q = go (chooses-address-or-none (r .state .pool) u b (r .command) (w .chooses))
     where
-      go : ((a : Address) × (r .command ≡ Assign u a)) ⊎ (r .command ≡ NoneFree u) → ⊥
-      go (inl (a, e)) = apart (Assign u a) n us e (λ z. omega (arith, z)) q
-      go (inr e) = apart (NoneFree u) n us e (λ z. d (sym z)) q
+      go : ((a : Address) × (r .command ≡ Send (Assign u a))) ⊎ (r .command ≡ Wait (NoneFree u)) → ⊥
+      go (inl (a, e)) = apart (Send (Assign u a)) n us e (λ z. omega (arith, z)) q
+      go (inr e) = apart (Wait (NoneFree u)) n us e (λ z. d (sym z)) q
 
   -- 0: the pass ends
   abbrev EndDue : Type 0
   EndDue =
-      ((s .last ≡ Prepare) × ((b : ℕ) × CutAt 1 true tr b))
-      ⊎ ((s .last ≡ GetUdid) × (NobodyLeft tr ⊎ ((xs : List ℕ) × Bytes xs × (length xs ≤ 255) × (length xs ≡ 17 → ⊥) × (tr ≡ replyTrace xs))))
+      ((s .last ≡ Send Prepare) × ((b : ℕ) × CutAt 1 true tr b))
+      ⊎ ((s .last ≡ Send GetUdid) × (NobodyLeft tr ⊎ ((xs : List ℕ) × Bytes xs × (length xs ≤ 255) × (length xs ≡ 17 → ⊥) × (tr ≡ replyTrace xs))))
 
   ends-exactly : (commandNumber (r .command) ≡ (0, []) ∷ []) ↔ EndDue
   ends-exactly = (λ q. there q (every-case s tr f), back)
@@ -248,14 +242,14 @@ module _ (s : Controller) (tr : List ℕ) (f : FitsLast s) (r : Stepped) (h : St
       there : commandNumber (r .command) ≡ (0, []) ∷ [] → Case s tr → EndDue
       there q (Accepted e t) = absurd (asks-not 0 [] (omega arith) (λ z. omega (arith, z)) (h .prepare-accepted e t .0) q)
       there q (Nobody e b w) = inl (e, (b, w))
-      there q (Refused e n m) = absurd (apart Abandoned 0 [] (h .prepare-other e n m .0 .command) (λ z. omega (arith, z)) q)
+      there q (Refused e n m) = absurd (apart (Wait Abandoned) 0 [] (h .prepare-other e n m .0 .command) (λ z. omega (arith, z)) q)
       there q (Replied e u b k l t) = absurd (replies-not u b 0 [] (omega arith) (λ z. omega (arith, z)) (h .get-reply e u b k l t) q)
       there q (Counted e xs d l n t) = inr (e, inr (xs, d, l, n, t))
       there q (Left e w) = inr (e, inl w)
       there q (Again e n m) = absurd (asks-not 0 [] (omega arith) (λ z. omega (arith, z)) (h .get-again e n m .0) q)
       there q (Whole u a e k l t) = absurd (asks-not 0 [] (omega arith) (λ z. omega (arith, z)) (h .assign-whole u a e k l t .0) q)
       there q (Other u a e n) = absurd (asks-not 0 [] (omega arith) (λ z. omega (arith, z)) (h .assign-other u a e n .0) q)
-      there q (None i) = absurd (apart NotOutstanding 0 [] (h .none-outstanding i .1) (λ z. omega (arith, z)) q)
+      there q (None i) = absurd (apart (Wait NotOutstanding) 0 [] (h .none-outstanding i .1) (λ z. omega (arith, z)) q)
 
       back : EndDue → commandNumber (r .command) ≡ (0, []) ∷ []
       back (inl (e, (b, w))) = ap commandNumber (h .prepare-nobody e b w .0 .command)
@@ -265,7 +259,7 @@ module _ (s : Controller) (tr : List ℕ) (f : FitsLast s) (r : Stepped) (h : St
   -- 13: no address for who replied
   abbrev NoneDue : Udid → Type 0
   NoneDue u =
-      (s .last ≡ GetUdid)
+      (s .last ≡ Send GetUdid)
       × ((b : ℕ)
       × Fits u
       × (b < 256)
@@ -276,9 +270,9 @@ module _ (s : Controller) (tr : List ℕ) (f : FitsLast s) (r : Stepped) (h : St
   none-exactly : (u : Udid) → (commandNumber (r .command) ≡ (13, u ∷ []) ∷ []) ↔ NoneDue u
   none-exactly u = (λ q. there q (every-case s tr f), back)
     where
-      replied : commandNumber (r .command) ≡ (13, u ∷ []) ∷ [] → s .last ≡ GetUdid → (v : Udid) (b : ℕ) → Fits v → b < 256 → tr ≡ replyTrace (udidBytes v ++ b ∷ [])
-          → ((a : Address) × (r .command ≡ Assign v a)) ⊎ (r .command ≡ NoneFree v) → Chooses (r .state .pool) v b (r .command) → NoneDue u
-      replied q e v b k l t (inl (a, z)) c = absurd (apart (Assign v a) 13 (u ∷ []) z (λ y. omega (arith, y)) q)
+      replied : commandNumber (r .command) ≡ (13, u ∷ []) ∷ [] → s .last ≡ Send GetUdid → (v : Udid) (b : ℕ) → Fits v → b < 256 → tr ≡ replyTrace (udidBytes v ++ b ∷ [])
+          → ((a : Address) × (r .command ≡ Send (Assign v a))) ⊎ (r .command ≡ Wait (NoneFree v)) → Chooses (r .state .pool) v b (r .command) → NoneDue u
+      replied q e v b k l t (inl (a, z)) c = absurd (apart (Send (Assign v a)) 13 (u ∷ []) z (λ y. omega (arith, y)) q)
       replied q e v b k l t (inr z) c =
           let m : v ≡ u = same (sym (ap commandNumber z) ∙ q) in
           let n = none-chosen (r .state .pool) u b (r .command) (subst (λ (x : Udid). Chooses (r .state .pool) x b (r .command)) m c) (number-13-is-none-free (r .command) u q) in
@@ -292,17 +286,17 @@ module _ (s : Controller) (tr : List ℕ) (f : FitsLast s) (r : Stepped) (h : St
 
       there : commandNumber (r .command) ≡ (13, u ∷ []) ∷ [] → Case s tr → NoneDue u
       there q (Accepted e t) = absurd (asks-not 13 _ (omega arith) (λ z. omega (arith, z)) (h .prepare-accepted e t .0) q)
-      there q (Nobody e b w) = absurd (apart Ended 13 _ (h .prepare-nobody e b w .0 .command) (λ z. omega (arith, z)) q)
-      there q (Refused e n m) = absurd (apart Abandoned 13 _ (h .prepare-other e n m .0 .command) (λ z. omega (arith, z)) q)
+      there q (Nobody e b w) = absurd (apart (Wait Ended) 13 _ (h .prepare-nobody e b w .0 .command) (λ z. omega (arith, z)) q)
+      there q (Refused e n m) = absurd (apart (Wait Abandoned) 13 _ (h .prepare-other e n m .0 .command) (λ z. omega (arith, z)) q)
       there q (Replied e v b k l t) =
           let w = h .get-reply e v b k l t in
           replied q e v b k l t (chooses-address-or-none (r .state .pool) v b (r .command) (w .chooses)) (w .chooses)
-      there q (Counted e xs d l n t) = absurd (apart Ended 13 _ (h .get-count e xs d l n t .0 .command) (λ z. omega (arith, z)) q)
-      there q (Left e w) = absurd (apart Ended 13 _ (h .get-nobody e w .0 .command) (λ z. omega (arith, z)) q)
+      there q (Counted e xs d l n t) = absurd (apart (Wait Ended) 13 _ (h .get-count e xs d l n t .0 .command) (λ z. omega (arith, z)) q)
+      there q (Left e w) = absurd (apart (Wait Ended) 13 _ (h .get-nobody e w .0 .command) (λ z. omega (arith, z)) q)
       there q (Again e n m) = absurd (asks-not 13 _ (omega arith) (λ z. omega (arith, z)) (h .get-again e n m .0) q)
       there q (Whole v a e k l t) = absurd (asks-not 13 _ (omega arith) (λ z. omega (arith, z)) (h .assign-whole v a e k l t .0) q)
       there q (Other v a e n) = absurd (asks-not 13 _ (omega arith) (λ z. omega (arith, z)) (h .assign-other v a e n .0) q)
-      there q (None i) = absurd (apart NotOutstanding 13 _ (h .none-outstanding i .1) (λ z. omega (arith, z)) q)
+      there q (None i) = absurd (apart (Wait NotOutstanding) 13 _ (h .none-outstanding i .1) (λ z. omega (arith, z)) q)
 
       back : NoneDue u → commandNumber (r .command) ≡ (13, u ∷ []) ∷ []
       back (e, (b, k, l, t, w, a)) = ap commandNumber (h .get-reply e u b k l t .chooses .none-free w a)
@@ -310,30 +304,30 @@ module _ (s : Controller) (tr : List ℕ) (f : FitsLast s) (r : Stepped) (h : St
   -- 14: the pass is abandoned
   abbrev AbandonDue : Type 0
   AbandonDue =
-      ((s .last ≡ Prepare) × (tr ≡ prepareTrace → ⊥) × ((b : ℕ) → CutAt 1 true tr b → ⊥))
+      ((s .last ≡ Send Prepare) × (tr ≡ prepareTrace → ⊥) × ((b : ℕ) → CutAt 1 true tr b → ⊥))
       ⊎ ((128 ≤ s .gets)
-      × (((s .last ≡ Prepare) × (tr ≡ prepareTrace))
-      ⊎ (((s .last ≡ GetUdid) × NoReply tr × (NobodyLeft tr → ⊥)) ⊎ ((u : Udid) × (a : Address) × (s .last ≡ Assign u a)))))
+      × (((s .last ≡ Send Prepare) × (tr ≡ prepareTrace))
+      ⊎ (((s .last ≡ Send GetUdid) × NoReply tr × (NobodyLeft tr → ⊥)) ⊎ ((u : Udid) × (a : Address) × (s .last ≡ Send (Assign u a))))))
 
   abandons-exactly : (commandNumber (r .command) ≡ (14, []) ∷ []) ↔ AbandonDue
   abandons-exactly = (λ q. there q (every-case s tr f), back)
     where
       there : commandNumber (r .command) ≡ (14, []) ∷ [] → Case s tr → AbandonDue
       there q (Accepted e t) = inr (asks-14 (h .prepare-accepted e t .0) q, inl (e, t))
-      there q (Nobody e b w) = absurd (apart Ended 14 [] (h .prepare-nobody e b w .0 .command) (λ z. omega (arith, z)) q)
+      there q (Nobody e b w) = absurd (apart (Wait Ended) 14 [] (h .prepare-nobody e b w .0 .command) (λ z. omega (arith, z)) q)
       there q (Refused e n m) = inl (e, n, m)
       there q (Replied e u b k l t) = absurd (replies-not u b 14 [] (omega arith) (λ z. omega (arith, z)) (h .get-reply e u b k l t) q)
-      there q (Counted e xs d l n t) = absurd (apart Ended 14 [] (h .get-count e xs d l n t .0 .command) (λ z. omega (arith, z)) q)
-      there q (Left e w) = absurd (apart Ended 14 [] (h .get-nobody e w .0 .command) (λ z. omega (arith, z)) q)
+      there q (Counted e xs d l n t) = absurd (apart (Wait Ended) 14 [] (h .get-count e xs d l n t .0 .command) (λ z. omega (arith, z)) q)
+      there q (Left e w) = absurd (apart (Wait Ended) 14 [] (h .get-nobody e w .0 .command) (λ z. omega (arith, z)) q)
       there q (Again e n m) = inr (asks-14 (h .get-again e n m .0) q, inr (inl (e, n, m)))
       there q (Whole u a e k l t) = inr (asks-14 (h .assign-whole u a e k l t .0) q, inr (inr (u, a, e)))
       there q (Other u a e n) = inr (asks-14 (h .assign-other u a e n .0) q, inr (inr (u, a, e)))
-      there q (None i) = absurd (apart NotOutstanding 14 [] (h .none-outstanding i .1) (λ z. omega (arith, z)) q)
+      there q (None i) = absurd (apart (Wait NotOutstanding) 14 [] (h .none-outstanding i .1) (λ z. omega (arith, z)) q)
 
       limit : Asks s r → 128 ≤ s .gets → commandNumber (r .command) ≡ (14, []) ∷ []
       limit a l = ap commandNumber (a .limit l .command)
 
-      assigned : (u : Udid) (a : Address) → s .last ≡ Assign u a → Dec (a .0 < 128) → Dec (tr ≡ assignTrace (udidBytes u) (2 * a .0)) → Asks s r
+      assigned : (u : Udid) (a : Address) → s .last ≡ Send (Assign u a) → Dec (a .0 < 128) → Dec (tr ≡ assignTrace (udidBytes u) (2 * a .0)) → Asks s r
       assigned u a e (no l) d = h .assign-other u a e (λ k. absurd (l k)) .0
       assigned u a e (yes l) (yes t) = h .assign-whole u a e (f u a e) l t .0
       assigned u a e (yes l) (no t) = h .assign-other u a e (λ k. t) .0
@@ -350,11 +344,11 @@ module _ (s : Controller) (tr : List ℕ) (f : FitsLast s) (r : Stepped) (h : St
     where
       there : commandNumber (r .command) ≡ (21, []) ∷ [] → Case s tr → Idle s
       there q (Accepted e t) = absurd (asks-not 21 [] (omega arith) (λ z. omega (arith, z)) (h .prepare-accepted e t .0) q)
-      there q (Nobody e b w) = absurd (apart Ended 21 [] (h .prepare-nobody e b w .0 .command) (λ z. omega (arith, z)) q)
-      there q (Refused e n m) = absurd (apart Abandoned 21 [] (h .prepare-other e n m .0 .command) (λ z. omega (arith, z)) q)
+      there q (Nobody e b w) = absurd (apart (Wait Ended) 21 [] (h .prepare-nobody e b w .0 .command) (λ z. omega (arith, z)) q)
+      there q (Refused e n m) = absurd (apart (Wait Abandoned) 21 [] (h .prepare-other e n m .0 .command) (λ z. omega (arith, z)) q)
       there q (Replied e u b k l t) = absurd (replies-not u b 21 [] (omega arith) (λ z. omega (arith, z)) (h .get-reply e u b k l t) q)
-      there q (Counted e xs d l n t) = absurd (apart Ended 21 [] (h .get-count e xs d l n t .0 .command) (λ z. omega (arith, z)) q)
-      there q (Left e w) = absurd (apart Ended 21 [] (h .get-nobody e w .0 .command) (λ z. omega (arith, z)) q)
+      there q (Counted e xs d l n t) = absurd (apart (Wait Ended) 21 [] (h .get-count e xs d l n t .0 .command) (λ z. omega (arith, z)) q)
+      there q (Left e w) = absurd (apart (Wait Ended) 21 [] (h .get-nobody e w .0 .command) (λ z. omega (arith, z)) q)
       there q (Again e n m) = absurd (asks-not 21 [] (omega arith) (λ z. omega (arith, z)) (h .get-again e n m .0) q)
       there q (Whole u a e k l t) = absurd (asks-not 21 [] (omega arith) (λ z. omega (arith, z)) (h .assign-whole u a e k l t .0) q)
       there q (Other u a e n) = absurd (asks-not 21 [] (omega arith) (λ z. omega (arith, z)) (h .assign-other u a e n .0) q)

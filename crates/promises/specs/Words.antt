@@ -30,8 +30,10 @@ pub use Rattle.arp.specs.Lookup.{lookedUp}
 pub use Rattle.arp.specs.Numbers.{commandNumber, lookupNumber}
 pub use Rattle.arp.specs.OneStep.{Asks, Binds, Continues, EndsWith, Replies}
 pub use Rattle.arp.specs.Requests.{protocolFor, messageOf, traceOf}
-pub use Rattle.arp.specs.declared.command.Command.{Command}
-pub use Rattle.arp.specs.declared.command.Command.the-variants.{Nothing, Prepare, GetUdid, Assign, Ended, Abandoned, NotOutstanding}
+pub use Rattle.arp.specs.declared.command.Command.the-variants.{Prepare, GetUdid, Assign}
+pub use Rattle.arp.specs.declared.command.End.the-variants.{Nothing, Ended, Abandoned, NotOutstanding}
+pub use Rattle.arp.specs.declared.command.Handed.{Handed}
+pub use Rattle.arp.specs.declared.command.Handed.the-variants.{Send, Wait}
 pub use Rattle.arp.specs.declared.state.Binding.the-variants.{Open, Bound, Claimed}
 pub use Rattle.arp.specs.declared.state.Controller.{Controller}
 pub use Rattle.arp.specs.declared.state.Stepped.{Stepped}

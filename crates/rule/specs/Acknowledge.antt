@@ -14,8 +14,9 @@ use Rattle.targets.specs.Target.{Target, isResolved}
 use Rattle.targets.specs.Reply.{waiting, OnWire, silence, shown, onWire}
 use Rattle.rule.specs.Effect.{same}
 use Rattle.arp.specs.Requests.{traceOf}
-use Rattle.arp.specs.declared.command.Command.{Command}
-use Rattle.arp.specs.declared.command.Command.the-variants.{Nothing, Prepare, GetUdid, Assign, Ended, NoneFree, Abandoned, NotOutstanding}
+use Rattle.arp.specs.declared.command.Command.the-variants.{Prepare, GetUdid, Assign}
+use Rattle.arp.specs.declared.command.Handed.{Handed}
+use Rattle.arp.specs.declared.command.Handed.the-variants.{Send, Wait}
 
 -- the first list is a beginning of the second
 unfoldable pub begins : List ℕ → List ℕ → Bool
@@ -72,16 +73,12 @@ standing (x ∷ xs) ts = answered (λ (sent : List ℕ). somebody (acknowledges 
 
 -- the symbols that the controller sends, with an ACK behind each byte: the beginning of the trace that put_command writes, up to the
 -- STOP, or of Get UDID up to the reply. An end is no command: nothing is sent
-abbrev pub sentPart : Command → List ℕ
-sentPart Prepare = take 7 (traceOf Prepare [])
-sentPart GetUdid = take 8 (traceOf GetUdid [])
-sentPart (Assign u a) = take 43 (traceOf (Assign u a) [])
-sentPart Nothing = []
-sentPart Ended = []
-sentPart (NoneFree u) = []
-sentPart Abandoned = []
-sentPart NotOutstanding = []
+abbrev pub sentPart : Handed → List ℕ
+sentPart (Send Prepare) = take 7 (traceOf (Send Prepare) [])
+sentPart (Send GetUdid) = take 8 (traceOf (Send GetUdid) [])
+sentPart (Send (Assign u a)) = take 43 (traceOf (Send (Assign u a)) [])
+sentPart (Wait e) = []
 
 -- THE TRACE ON THE BUS of a command: what the targets make of its symbols
-unfoldable pub onBus : Command → List Target → List ℕ
+unfoldable pub onBus : Handed → List Target → List ℕ
 onBus k ts = standing (sentPart k) ts

@@ -2,27 +2,20 @@
 use mathlib.Core.List.{List}
 use Rattle.udid.specs.Udids.{Fits}
 use Rattle.targets.specs.Target.{Target, cleared, resolve}
-use Rattle.arp.specs.declared.command.Command.{Command}
-use Rattle.arp.specs.declared.command.Command.the-variants.{Nothing, Prepare, GetUdid, Assign, Ended, NoneFree, Abandoned, NotOutstanding}
+use Rattle.arp.specs.declared.command.Command.the-variants.{Prepare, GetUdid, Assign}
+use Rattle.arp.specs.declared.command.Handed.{Handed}
+use Rattle.arp.specs.declared.command.Handed.the-variants.{Send, Wait}
 
 -- Prepare To ARP clears every flag, Assign Address reaches the target with that identifier, and nothing else changes any
-abbrev pub acted : Command → List Target → List Target
-acted Prepare ts = cleared ts
-acted (Assign u a) ts = resolve u (a .0) ts
-acted GetUdid ts = ts
-acted Nothing ts = ts
-acted Ended ts = ts
-acted (NoneFree u) ts = ts
-acted Abandoned ts = ts
-acted NotOutstanding ts = ts
+abbrev pub acted : Handed → List Target → List Target
+acted (Send Prepare) ts = cleared ts
+acted (Send (Assign u a)) ts = resolve u (a .0) ts
+acted (Send GetUdid) ts = ts
+acted (Wait e) ts = ts
 
 -- the identifier that it names is a number of 128 bits
-abbrev pub Names : Command → Type 0
-Names (Assign u a) = Fits u
-Names Prepare = Unit
-Names GetUdid = Unit
-Names Nothing = Unit
-Names Ended = Unit
-Names (NoneFree u) = Unit
-Names Abandoned = Unit
-Names NotOutstanding = Unit
+abbrev pub Names : Handed → Type 0
+Names (Send (Assign u a)) = Fits u
+Names (Send Prepare) = Unit
+Names (Send GetUdid) = Unit
+Names (Wait e) = Unit

@@ -3,13 +3,13 @@
 use Prim.Native.Nat.{ℕ, zero, suc}
 use mathlib.Core.List.{List, [], _∷_}
 use Rattle.arp.specs.Controller.{stepped, started, newController}
-use Rattle.arp.specs.declared.command.Command.{Command}
+use Rattle.arp.specs.declared.command.Handed.{Handed}
 use Rattle.arp.specs.declared.state.Stepped.{Stepped}
 use Rattle.pool.specs.declared.Pool.{Pool}
 
 -- A BUS, by its targets, whose state is of type A: what stands on it for a command, and what a trace does to them
 pub record Bus (A : Type 0) : Type 0 where
-  pub stands : Command → A → List ℕ
+  pub stands : Handed → A → List ℕ
   pub acts : List ℕ → A → A
 
 -- the controller with what it handed out last, and the targets

@@ -7,7 +7,7 @@ use lib.ListN.{length, drop}
 use Rattle.lists.specs.Choice.{pick}
 use Rattle.arp.specs.CommandTraces.{prepareTrace}
 use Rattle.arp.specs.Controller.{stepped}
-use Rattle.arp.specs.declared.command.Command.{Command}
+use Rattle.arp.specs.declared.command.Handed.{Handed}
 use Rattle.arp.specs.declared.state.Stepped.{Stepped}
 use Rattle.targets.specs.RecordLaws.{length-map}
 use Rattle.targets.specs.Target.{Target}
@@ -18,11 +18,11 @@ use Rattle.rule.specs.Bus.{modelBus, reached, took}
 use Rattle.rule.specs.Effect.{addressIn, same, isForMe, effect}
 
 -- nothing is sent
-pub turn-still : (s : Stepped) (ts : List Target) (k : Command) → sentPart k ≡ [] → took s ts (onBus k ts) ≡ record { now = s; targets = ts }
+pub turn-still : (s : Stepped) (ts : List Target) (k : Handed) → sentPart k ≡ [] → took s ts (onBus k ts) ≡ record { now = s; targets = ts }
 turn-still s ts k e = took-nothing modelBus s ts (onBus k ts) (nothing-on-bus k ts e)
 
 -- something is sent, after a START
-pub turn-takes : (s : Stepped) (ts : List Target) (k : Command) → sentPart k ≡ 256 ∷ drop 1 (sentPart k)
+pub turn-takes : (s : Stepped) (ts : List Target) (k : Handed) → sentPart k ≡ 256 ∷ drop 1 (sentPart k)
     → took s ts (onBus k ts) ≡ record { now = stepped (s .state) (onBus k ts); targets = reached (onBus k ts) ts }
 turn-takes s ts k e = took-trace modelBus s ts (onBus k ts) 256 (drop 1 (onBus k ts)) (start-on-bus k ts e)
 

@@ -28,8 +28,9 @@ use Rattle.targets.specs.Target.{Target, mapTargets, prepared, assignedTo}
 use Rattle.arp.specs.CommandTraces.{prepareTrace, assignTrace}
 use Rattle.arp.specs.RequestLaws.{prepare-symbols, assign-symbols}
 use Rattle.arp.specs.Requests.{traceOf}
-use Rattle.arp.specs.declared.command.Command.{Command}
-use Rattle.arp.specs.declared.command.Command.the-variants.{Nothing, Prepare, GetUdid, Assign, Ended, NoneFree, Abandoned, NotOutstanding}
+use Rattle.arp.specs.declared.command.Command.the-variants.{Prepare, GetUdid, Assign}
+use Rattle.arp.specs.declared.command.Handed.{Handed}
+use Rattle.arp.specs.declared.command.Handed.the-variants.{Send, Wait}
 use Rattle.rule.specs.Acknowledge.{begins, acknowledges, somebody, answered, standing, sentPart, onBus}
 use Rattle.rule.specs.AcknowledgeLaws.{assign-stop}
 use Rattle.rule.specs.Effect.{addressIn, same, effect}
@@ -170,14 +171,14 @@ answered-without-nack ack sent (x ∷ xs) rest q =
 -- ---- THE COMMANDS' TRACES DO WHAT THE COMMANDS MEAN
 
 -- Get UDID: its fourth symbol is 03h
-get-fourth : (x : Target) (ts : List Target) → getD (onBus GetUdid (x ∷ ts)) 3 0 ≡ 3
+get-fourth : (x : Target) (ts : List Target) → getD (onBus (Send GetUdid) (x ∷ ts)) 3 0 ≡ 3
 unfolding onBus standing answered somebody acknowledges begins
 get-fourth x ts = refl
 
-effect-get : (ts : List Target) (t : Target) → Among t ts → effect (onBus GetUdid ts) t ≡ t
+effect-get : (ts : List Target) (t : Target) → Among t ts → effect (onBus (Send GetUdid) ts) t ≡ t
 effect-get [] t m = absurd m
 effect-get (x ∷ ts) t m =
-    effect-none (onBus GetUdid (x ∷ ts)) t
+    effect-none (onBus (Send GetUdid) (x ∷ ts)) t
     (λ q. prepare (sym (get-fourth x ts) ∙ ap (λ (l : List ℕ). getD l 3 0) q))
     (λ b h q. assign (sym (get-fourth x ts) ∙ ap (λ (l : List ℕ). getD l 3 0) q))
   where
@@ -188,13 +189,13 @@ effect-get (x ∷ ts) t m =
     assign q = omega arith
 
 -- Assign Address: its fourth symbol is 04h
-assign-fourth : (u : Udid) (a : Address) (x : Target) (ts : List Target) → getD (onBus (Assign u a) (x ∷ ts)) 3 0 ≡ 4
+assign-fourth : (u : Udid) (a : Address) (x : Target) (ts : List Target) → getD (onBus (Send (Assign u a)) (x ∷ ts)) 3 0 ≡ 4
 unfolding onBus standing answered somebody acknowledges begins
 assign-fourth u a x ts = refl
 
 -- the target with that identifier
 effect-own : (u : Udid) (a : Address) (ts : List Target) (t : Target) → Among t ts → t .udid ≡ u
-    → effect (onBus (Assign u a) ts) t ≡ record { udid = t .udid; addressByte = 2 * (a .0 % 128) + 1; flag = 1 }
+    → effect (onBus (Send (Assign u a)) ts) t ≡ record { udid = t .udid; addressByte = 2 * (a .0 % 128) + 1; flag = 1 }
 effect-own u a ts t m e =
     let n : 2 * (2 * (a .0 % 128) / 2) + 1 ≡ 2 * (a .0 % 128) + 1 = omega arith in
     ap (λ (tr : List ℕ). effect tr t) (on-bus.assign-whole ts u a t m e ∙ assign-symbols u a ∙ ap (λ (v : Udid). assignTrace (udidBytes v) (2 * (a .0 % 128))) (sym e))
@@ -202,20 +203,20 @@ effect-own u a ts t m e =
     ∙ ap (λ (b : ℕ). record { udid = t .udid; addressByte = b; flag = 1 }) n
 
 -- a trace that is an Assign Address of some identifier is that of the command's
-assign-names-one : (u : Udid) (a : Address) (ts : List Target) (id : List ℕ) (b : ℕ) → Bytes id → length id ≡ 16 → b < 256 → onBus (Assign u a) ts ≡ assignTrace id b → udidBytes u ≡ id
+assign-names-one : (u : Udid) (a : Address) (ts : List Target) (id : List ℕ) (b : ℕ) → Bytes id → length id ≡ 16 → b < 256 → onBus (Send (Assign u a)) ts ≡ assignTrace id b → udidBytes u ≡ id
 unfolding onBus standing same
 assign-names-one u a ts id b h l g q =
-    let w : onBus (Assign u a) ts ≡ traceOf (Assign u a) [] =
-    answered-without-nack (λ (sent : List ℕ). somebody (acknowledges sent) ts) [] (sentPart (Assign u a)) (STOP ∷ []) (subst Quiet (sym q) (quiet-assigning id b h g)) ∙ assign-stop u a in
+    let w : onBus (Send (Assign u a)) ts ≡ traceOf (Send (Assign u a)) [] =
+    answered-without-nack (λ (sent : List ℕ). somebody (acknowledges sent) ts) [] (sentPart (Send (Assign u a))) (STOP ∷ []) (subst Quiet (sym q) (quiet-assigning id b h g)) ∙ assign-stop u a in
     let r : assignTrace (udidBytes u) (2 * (a .0 % 128)) ≡ assignTrace id b = sym (assign-symbols u a) ∙ sym w ∙ q in
     sym (assigning-identifier (udidBytes u) (2 * (a .0 % 128)) (length-udid u)) ∙ ap (λ (x : List ℕ). bytesIn 16 (drop 7 x)) r ∙ assigning-identifier id b l
 
 -- any other target
 effect-other : (u : Udid) (a : Address) (ts : List Target) (t : Target) → Among t ts → Fits u → Fits (t .udid) → sameUdid (t .udid) u ≡ false
-    → effect (onBus (Assign u a) ts) t ≡ t
+    → effect (onBus (Send (Assign u a)) ts) t ≡ t
 effect-other u a [] t m f g e = absurd m
 effect-other u a (x ∷ ts) t m f g e =
-    effect-none (onBus (Assign u a) (x ∷ ts)) t
+    effect-none (onBus (Send (Assign u a)) (x ∷ ts)) t
     (λ q. fourth (sym (assign-fourth u a x ts) ∙ ap (λ (l : List ℕ). getD l 3 0) q))
     (λ b h q. named (same-bytes u (t .udid) f g .0 (assign-names-one u a (x ∷ ts) (udidBytes (t .udid)) b (udid-bytes (t .udid)) (length-udid (t .udid)) h q)))
   where
@@ -226,16 +227,16 @@ effect-other u a (x ∷ ts) t m f g e =
     named q = let z : _≡_ {A = ℕ} 0 1 = cc (e, ap (sameUdid (t .udid)) q, same-refl (t .udid)) in omega arith
 
 effect-assigned : (u : Udid) (a : Address) (ts : List Target) (t : Target) → Among t ts → Fits u → Fits (t .udid)
-    → effect (onBus (Assign u a) ts) t ≡ assignedTo u (a .0) t
+    → effect (onBus (Send (Assign u a)) ts) t ≡ assignedTo u (a .0) t
 effect-assigned u a ts t m f g = go (sameUdid (t .udid) u) refl
   where
     go : (b : Bool) → sameUdid (t .udid) u ≡ b
-        → effect (onBus (Assign u a) ts) t ≡ pick b (record { udid = t .udid; addressByte = 2 * (a .0 % 128) + 1; flag = 1 }) t
+        → effect (onBus (Send (Assign u a)) ts) t ≡ pick b (record { udid = t .udid; addressByte = 2 * (a .0 % 128) + 1; flag = 1 }) t
     go true e = effect-own u a ts t m (same-equal (t .udid) u e)
     go false e = effect-other u a ts t m f g e
 
 -- Prepare To ARP
-effect-prepared : (ts : List Target) (t : Target) → Among t ts → effect (onBus Prepare ts) t ≡ prepared t
+effect-prepared : (ts : List Target) (t : Target) → Among t ts → effect (onBus (Send Prepare) ts) t ≡ prepared t
 effect-prepared [] t m = absurd m
 effect-prepared (x ∷ ts) t m = ap (λ (tr : List ℕ). effect tr t) (on-bus.prepare-whole x ts ∙ prepare-symbols []) ∙ effect-prepare t
 
@@ -253,13 +254,9 @@ map-identity f [] h = refl
 map-identity f (t ∷ ts) h = ap₂ (λ (x : Target) (l : List Target). x ∷ l) (h t (inl refl)) (map-identity f ts (λ x m. h x (inr m)))
 
 -- whatever the command and whoever is on the bus, as long as identifiers are numbers of 128 bits
-pub effect-as-meant : (k : Command) (ts : List Target) → Names k → ((t : Target) → Among t ts → Fits (t .udid)) → mapTargets (effect (onBus k ts)) ts ≡ acted k ts
+pub effect-as-meant : (k : Handed) (ts : List Target) → Names k → ((t : Target) → Among t ts → Fits (t .udid)) → mapTargets (effect (onBus k ts)) ts ≡ acted k ts
 unfolding onBus standing
-effect-as-meant Prepare ts n h = map-cong (effect (onBus Prepare ts)) prepared ts (effect-prepared ts)
-effect-as-meant (Assign u a) ts n h = map-cong (effect (onBus (Assign u a) ts)) (assignedTo u (a .0)) ts (λ t m. effect-assigned u a ts t m n (h t m))
-effect-as-meant GetUdid ts n h = map-identity (effect (onBus GetUdid ts)) ts (effect-get ts)
-effect-as-meant Nothing ts n h = map-identity (effect []) ts (λ t m. effect-nothing t)
-effect-as-meant Ended ts n h = map-identity (effect []) ts (λ t m. effect-nothing t)
-effect-as-meant (NoneFree u) ts n h = map-identity (effect []) ts (λ t m. effect-nothing t)
-effect-as-meant Abandoned ts n h = map-identity (effect []) ts (λ t m. effect-nothing t)
-effect-as-meant NotOutstanding ts n h = map-identity (effect []) ts (λ t m. effect-nothing t)
+effect-as-meant (Send Prepare) ts n h = map-cong (effect (onBus (Send Prepare) ts)) prepared ts (effect-prepared ts)
+effect-as-meant (Send (Assign u a)) ts n h = map-cong (effect (onBus (Send (Assign u a)) ts)) (assignedTo u (a .0)) ts (λ t m. effect-assigned u a ts t m n (h t m))
+effect-as-meant (Send GetUdid) ts n h = map-identity (effect (onBus (Send GetUdid) ts)) ts (effect-get ts)
+effect-as-meant (Wait e) ts n h = map-identity (effect []) ts (λ t m. effect-nothing t)

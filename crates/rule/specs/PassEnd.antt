@@ -5,8 +5,9 @@ use lib.ListN.{length, set, replicate}
 use Rattle.pool.specs.Pools.{withAddress}
 use Rattle.pool.specs.declared.Pool.{Pool}
 use Rattle.arp.specs.Bindings.{openSlot}
-use Rattle.arp.specs.declared.command.Command.{Command}
-use Rattle.arp.specs.declared.command.Command.the-variants.{Ended, NoneFree}
+use Rattle.arp.specs.declared.command.End.the-variants.{Ended, NoneFree}
+use Rattle.arp.specs.declared.command.Handed.{Handed}
+use Rattle.arp.specs.declared.command.Handed.the-variants.{Wait}
 use Rattle.arp.specs.declared.state.Binding.the-variants.{Bound}
 use Rattle.arp.specs.declared.state.Controller.{Controller}
 use Rattle.arp.specs.declared.state.Slot.{Slot}
@@ -16,15 +17,15 @@ use Rattle.rule.specs.Bus.{World}
 use Rattle.rule.specs.PlainRule.{Ending, served, noneFree, Given, Ruled, ruled}
 
 -- the controller's last command
-abbrev pub lastCommand : Ending → Command
-lastCommand served = Ended
-lastCommand (noneFree u) = NoneFree u
+abbrev pub lastCommand : Ending → Handed
+lastCommand served = Wait Ended
+lastCommand (noneFree u) = Wait (NoneFree u)
 
 -- the controller's state, and the state with a command out
-abbrev pub state : Pool → Pool → List Slot → ℕ → Command → Controller
+abbrev pub state : Pool → Pool → List Slot → ℕ → Handed → Controller
 state b p s n k = record { starting = b; pool = p; slots = s; gets = n; last = k }
 
-abbrev pub out : Pool → Pool → List Slot → ℕ → Command → Stepped
+abbrev pub out : Pool → Pool → List Slot → ℕ → Handed → Stepped
 out b p s n k = record { state = state b p s n k; command = k }
 
 abbrev pub boundSlot : Target → Slot
@@ -65,7 +66,7 @@ outcome r p s k ts = record {
 
 -- with no target: nobody acknowledges Prepare, and no Get UDID is sent
 abbrev pub nobodyThere : Pool → World
-nobodyThere b = record { now = out b b (replicate 128 openSlot) 0 Ended; targets = [] }
+nobodyThere b = record { now = out b b (replicate 128 openSlot) 0 (Wait Ended); targets = [] }
 
 -- how a pass over these targets ends
 abbrev pub passEnd : Pool → List Target → World

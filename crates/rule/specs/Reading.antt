@@ -9,9 +9,8 @@ use Rattle.lists.specs.Each.{Each}
 use Rattle.udid.specs.Bytes.{udidBytes}
 use Rattle.udid.specs.Udids.{sameUdid}
 use Rattle.udid.specs.declared.Udid.{Udid}
-use Rattle.arp.specs.Bindings.{heldAt}
+use Rattle.arp.specs.Bindings.{heldAt, boundIn}
 use Rattle.arp.specs.declared.state.Binding.{Binding}
-use Rattle.arp.specs.declared.state.Binding.the-variants.{Open, Bound, Claimed}
 use Rattle.arp.specs.declared.state.Slot.{Slot}
 use Rattle.targets.specs.Target.{Target, assignedTo}
 use Rattle.rule.specs.PlainRule.{Given}
@@ -25,10 +24,12 @@ Any P (x ∷ xs) = P x ⊎ Any P xs
 abbrev pub RecordOf : List ℕ → ℕ → Given → Type 0
 RecordOf s i g = take 16 (drop (18 * i) s) ≡ udidBytes (g .who .udid)
 
+abbrev pub someOf : List Udid → Bool
+someOf [] = false
+someOf (u ∷ us) = true
+
 abbrev pub isBound : Binding → Bool
-isBound Open = false
-isBound (Bound u) = true
-isBound Claimed = false
+isBound h = someOf (boundIn h)
 
 abbrev pub boundAt : List Slot → ℕ → Bool
 boundAt s a = isBound (heldAt s a)

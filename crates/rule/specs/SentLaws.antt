@@ -8,13 +8,15 @@ use Rattle.pool.specs.Start.{startingPool}
 use Rattle.pool.specs.declared.Pool.{Pool}
 use Rattle.targets.specs.Admission.{AdmittedTargets}
 use Rattle.targets.specs.Target.{Target}
-use Rattle.arp.specs.Handing.{Handed}
+use Rattle.arp.specs.Handing.{Kept}
 use Rattle.arp.specs.HandingLaws.{prepare-handed, get-handed, assign-handed}
 use Rattle.arp.specs.Controller.{afterPrepare, afterGet, afterAssign, byCommand, stepped}
 use Rattle.arp.specs.Heard.{sendByte, blockRead, blockWrite, answer, sentIn, receivedIn}
 use Rattle.arp.specs.History.{oneGet}
-use Rattle.arp.specs.declared.command.Command.{Command}
-use Rattle.arp.specs.declared.command.Command.the-variants.{Nothing, Prepare, GetUdid, Assign, Ended, NoneFree, Abandoned, NotOutstanding}
+use Rattle.arp.specs.declared.command.Command.the-variants.{Prepare, GetUdid, Assign}
+use Rattle.arp.specs.declared.command.End.the-variants.{Ended}
+use Rattle.arp.specs.declared.command.Handed.{Handed}
+use Rattle.arp.specs.declared.command.Handed.the-variants.{Send, Wait}
 use Rattle.arp.specs.declared.state.Controller.{Controller}
 use Rattle.rule.specs.Acknowledge.{begins, acknowledges, somebody, answered, standing, sentPart, onBus}
 use Rattle.rule.specs.Bus.{World, took, turn, run, beginning, pass}
@@ -26,53 +28,45 @@ use Rattle.rule.specs.TraceLaws as on-bus
 use Rattle.rule.specs.Sent.{stands, traces, oneIn, getsAmong, getsOnBus}
 
 -- on a bus with a target, a command is a Get UDID by its symbols if and only if it was handed out as one
-pub get-by-symbols : (k : Command) (t : Target) (ts : List Target) → oneIn (onBus k (t ∷ ts)) ≡ oneGet k
+pub get-by-symbols : (k : Handed) (t : Target) (ts : List Target) → oneIn (onBus k (t ∷ ts)) ≡ oneGet k
 unfolding onBus standing answered somebody acknowledges begins
-get-by-symbols Prepare t ts = refl
-get-by-symbols GetUdid t ts = refl
-get-by-symbols (Assign u a) t ts = refl
-get-by-symbols Nothing t ts = refl
-get-by-symbols Ended t ts = refl
-get-by-symbols (NoneFree u) t ts = refl
-get-by-symbols Abandoned t ts = refl
-get-by-symbols NotOutstanding t ts = refl
+get-by-symbols (Send Prepare) t ts = refl
+get-by-symbols (Send GetUdid) t ts = refl
+get-by-symbols (Send (Assign u a)) t ts = refl
+get-by-symbols (Wait e) t ts = refl
 
 -- ---- one turn
 
 -- what a turn hands out is kept as the last, and counted where it is a Get UDID
-turn-handed : (w : World) → w .now .state .last ≡ w .now .command → Handed (w .now .state) (turn w .now)
+turn-handed : (w : World) → w .now .state .last ≡ w .now .command → Kept (w .now .state) (turn w .now)
 unfolding stepped afterPrepare afterGet afterAssign
 turn-handed w e = go (w .now .command) e
   where
     c : Controller
     c = w .now .state
 
-    sent : (k : Command) → sentPart k ≡ 256 ∷ drop 1 (sentPart k) → c .last ≡ k → Handed c (byCommand c (onBus k (w .targets)) k)
-        → Handed c (took (w .now) (w .targets) (onBus k (w .targets)) .now)
+    sent : (k : Handed) → sentPart k ≡ 256 ∷ drop 1 (sentPart k) → c .last ≡ k → Kept c (byCommand c (onBus k (w .targets)) k)
+        → Kept c (took (w .now) (w .targets) (onBus k (w .targets)) .now)
     sent k p q h =
-        subst (λ (x : World). Handed c (x .now)) (sym (turn-takes (w .now) (w .targets) k p))
-        (subst (λ (x : Command). Handed c (byCommand c (onBus k (w .targets)) x)) (sym q) h)
+        subst (λ (x : World). Kept c (x .now)) (sym (turn-takes (w .now) (w .targets) k p))
+        (subst (λ (x : Handed). Kept c (byCommand c (onBus k (w .targets)) x)) (sym q) h)
 
-    not-sent : (k : Command) → sentPart k ≡ [] → c .last ≡ k → oneGet k ≡ 0 → Handed c (took (w .now) (w .targets) (onBus k (w .targets)) .now)
+    not-sent : (k : Handed) → sentPart k ≡ [] → c .last ≡ k → oneGet k ≡ 0 → Kept c (took (w .now) (w .targets) (onBus k (w .targets)) .now)
     not-sent k p q n =
-        subst (λ (x : World). Handed c (x .now)) (sym (turn-still (w .now) (w .targets) k p)) (record { last = e; gets = omega (arith, ap oneGet (sym e ∙ q), n) })
+        subst (λ (x : World). Kept c (x .now)) (sym (turn-still (w .now) (w .targets) k p)) (record { last = e; gets = omega (arith, ap oneGet (sym e ∙ q), n) })
 
-    go : (k : Command) → c .last ≡ k → Handed c (took (w .now) (w .targets) (onBus k (w .targets)) .now)
-    go Prepare q = sent Prepare refl q (prepare-handed c (answer sendByte (onBus Prepare (w .targets))) (sentIn sendByte (onBus Prepare (w .targets))))
-    go GetUdid q = sent GetUdid refl q (get-handed c (answer blockRead (onBus GetUdid (w .targets))) (receivedIn blockRead (onBus GetUdid (w .targets))))
-    go (Assign u a) q =
-        sent (Assign u a) refl q (assign-handed c u (a .0) (answer blockWrite (onBus (Assign u a) (w .targets))) (sentIn blockWrite (onBus (Assign u a) (w .targets))))
-    go Nothing q = not-sent Nothing refl q refl
-    go Ended q = not-sent Ended refl q refl
-    go (NoneFree u) q = not-sent (NoneFree u) refl q refl
-    go Abandoned q = not-sent Abandoned refl q refl
-    go NotOutstanding q = not-sent NotOutstanding refl q refl
+    go : (k : Handed) → c .last ≡ k → Kept c (took (w .now) (w .targets) (onBus k (w .targets)) .now)
+    go (Send Prepare) q = sent (Send Prepare) refl q (prepare-handed c (answer sendByte (onBus (Send Prepare) (w .targets))) (sentIn sendByte (onBus (Send Prepare) (w .targets))))
+    go (Send GetUdid) q = sent (Send GetUdid) refl q (get-handed c (answer blockRead (onBus (Send GetUdid) (w .targets))) (receivedIn blockRead (onBus (Send GetUdid) (w .targets))))
+    go (Send (Assign u a)) q =
+        sent (Send (Assign u a)) refl q (assign-handed c u (a .0) (answer blockWrite (onBus (Send (Assign u a)) (w .targets))) (sentIn blockWrite (onBus (Send (Assign u a)) (w .targets))))
+    go (Wait e) q = not-sent (Wait e) refl q refl
 
 -- nobody leaves the bus
 turn-present : (w : World) → length (turn w .targets) ≡ length (w .targets)
 turn-present w = took-length (w .now) (w .targets) (onBus (w .now .command) (w .targets))
 
-stands-get : (k : Command) (ts : List Target) → 0 < length ts → oneIn (onBus k ts) ≡ oneGet k
+stands-get : (k : Handed) (ts : List Target) → 0 < length ts → oneIn (onBus k ts) ≡ oneGet k
 stands-get k [] h = absurd (omega arith)
 stands-get k (t ∷ ts) h = get-by-symbols k t ts
 
@@ -93,18 +87,14 @@ gets-whole : (n : ℕ) (w : World) → w .now .state .last ≡ w .now .command �
 gets-whole n w e h a b c = omega (arith, gets-counted n w e h, a, b, c)
 
 -- with no target no byte is acknowledged, and so none of the traces is a Get UDID
-none-on-bus : (k : Command) → oneIn (onBus k []) ≡ 0
+none-on-bus : (k : Handed) → oneIn (onBus k []) ≡ 0
 unfolding onBus standing answered somebody begins
-none-on-bus Prepare = refl
-none-on-bus GetUdid = refl
-none-on-bus (Assign u a) = refl
-none-on-bus Nothing = refl
-none-on-bus Ended = refl
-none-on-bus (NoneFree u) = refl
-none-on-bus Abandoned = refl
-none-on-bus NotOutstanding = refl
+none-on-bus (Send Prepare) = refl
+none-on-bus (Send GetUdid) = refl
+none-on-bus (Send (Assign u a)) = refl
+none-on-bus (Wait e) = refl
 
-stands-none : (k : Command) (ts : List Target) → length ts ≡ 0 → oneIn (onBus k ts) ≡ 0
+stands-none : (k : Handed) (ts : List Target) → length ts ≡ 0 → oneIn (onBus k ts) ≡ 0
 stands-none k [] h = none-on-bus k
 stands-none k (t ∷ ts) h = absurd (omega arith)
 
@@ -128,7 +118,7 @@ nobody-there-silent : (n : ℕ) (b : Pool) → traces n (nobodyThere b) ≡ repl
 nobody-there-silent zero b = refl
 nobody-there-silent (suc n) b =
     ap₂ (λ (x : List ℕ) (l : List (List ℕ)). x ∷ l) (end-silent served [])
-    (ap (traces n) (turn-still (nobodyThere b .now) [] Ended refl) ∙ nobody-there-silent n b)
+    (ap (traces n) (turn-still (nobodyThere b .now) [] (Wait Ended) refl) ∙ nobody-there-silent n b)
 
 module _ (occupied : Pool) where
   -- WITH NO TARGET: Prepare To ARP, whose first byte gets NACK, and nothing after it

@@ -15,6 +15,7 @@ use Rattle.targets.specs.Members.{Waits}
 use Rattle.targets.specs.Target.{Target, resolve}
 use Rattle.arp.specs.Bindings.{heldAt, boundTo}
 use Rattle.arp.specs.declared.command.Command.the-variants.{GetUdid}
+use Rattle.arp.specs.declared.command.Handed.the-variants.{Send}
 use Rattle.arp.specs.declared.state.Slot.{Slot}
 use Rattle.rule.specs.Bus.{World}
 use Rattle.rule.specs.PassEnd.{Outcome, out, boundSlot}
@@ -56,4 +57,4 @@ turns [] = 1
 turns (t ∷ ts) = suc (suc (turns ts))
 
 abbrev pub asking : Pool → Pool → List Slot → ℕ → List Target → World
-asking b p s n ts = record { now = out b p s n GetUdid; targets = ts }
+asking b p s n ts = record { now = out b p s n (Send GetUdid); targets = ts }

@@ -25,6 +25,7 @@ use Rattle.targets.specs.RecordLaws.{length-map, assigned-keeps-udid}
 use Rattle.arp.specs.Bindings.{openSlot, heldAt, boundTo}
 use Rattle.arp.specs.Controller.{issued, stepped}
 use Rattle.arp.specs.declared.command.Command.the-variants.{GetUdid, Assign}
+use Rattle.arp.specs.declared.command.Handed.the-variants.{Send}
 use Rattle.arp.specs.declared.state.Slot.{Slot}
 use Rattle.arp.specs.declared.state.Stepped.{Stepped}
 use Rattle.rule.specs.Acknowledge.{onBus}
@@ -84,9 +85,9 @@ ended-run-stays n b p s m (noneFree u) ts = silent-run modelBus n (world (out b 
 
 -- nobody is left
 all-resolved-ends : (b p : Pool) (s : List Slot) (n : ℕ) (ts : List Target) → 0 < length ts → ((t : Target) → Among t ts → isResolved t ≡ false → ⊥)
-    → stepped (state b p s n GetUdid) (onBus GetUdid ts) ≡ out b p s n (lastCommand served)
+    → stepped (state b p s n (Send GetUdid)) (onBus (Send GetUdid) ts) ≡ out b p s n (lastCommand served)
 all-resolved-ends b p s n [] l h = absurd (omega arith)
-all-resolved-ends b p s n (t ∷ ts) l h = ap (stepped (state b p s n GetUdid)) (on-bus.get-cut t ts (λ x m. all x m (isResolved x) refl)) ∙ get-silence-ends b p s n
+all-resolved-ends b p s n (t ∷ ts) l h = ap (stepped (state b p s n (Send GetUdid))) (on-bus.get-cut t ts (λ x m. all x m (isResolved x) refl)) ∙ get-silence-ends b p s n
   where
     all : (x : Target) → Among x (t ∷ ts) → (c : Bool) → isResolved x ≡ c → isResolved x ≡ true
     all x m true e = e
@@ -94,10 +95,10 @@ all-resolved-ends b p s n (t ∷ ts) l h = ap (stepped (state b p s n GetUdid)) 
 
 pub run-serves-rest : (b p : Pool) (s : List Slot) (k : ℕ) (ts rest : List Target) → Inv p s k ts rest
     → run (turns rest) (asking b p s (suc k) ts) ≡ ended b (plain rest p s k ts)
-run-serves-rest b p s k ts [] v = turn-takes (out b p s (suc k) GetUdid) ts GetUdid refl ∙ ap₂ world (all-resolved-ends b p s (suc k) ts (v .present) (λ t m e. v .waits .known t m e)) (effect-as-meant GetUdid ts tt (v .fits))
+run-serves-rest b p s k ts [] v = turn-takes (out b p s (suc k) (Send GetUdid)) ts (Send GetUdid) refl ∙ ap₂ world (all-resolved-ends b p s (suc k) ts (v .present) (λ t m e. v .waits .known t m e)) (effect-as-meant (Send GetUdid) ts tt (v .fits))
 run-serves-rest b p s k ts (r ∷ rest) v =
-    ap (run (suc (turns rest))) (turn-takes (out b p s (suc k) GetUdid) ts GetUdid refl)
-    ∙ ap₂ (λ (x : Stepped) (us : List Target). run (suc (turns rest)) (world x us)) reply-issues-choice (effect-as-meant GetUdid ts tt (v .fits))
+    ap (run (suc (turns rest))) (turn-takes (out b p s (suc k) (Send GetUdid)) ts (Send GetUdid) refl)
+    ∙ ap₂ (λ (x : Stepped) (us : List Target). run (suc (turns rest)) (world x us)) reply-issues-choice (effect-as-meant (Send GetUdid) ts tt (v .fits))
     ∙ go (plainChoice p r) refl
     (λ a e. run-serves-rest b (withAddress p (a .0)) (set s (a .0) (boundSlot r)) (suc k) (resolve (r .udid) (a .0) ts) rest (inv-next p s k ts rest r a v e))
   where
@@ -113,26 +114,26 @@ run-serves-rest b p s k ts (r ∷ rest) v =
         later t (inl e) = inl e
         later t (inr m) = inr (v .ready .sized t (inr m), v .ready .apart .0 t m .lower)
 
-    reply-issues-choice : stepped (state b p s (suc k) GetUdid) (onBus GetUdid ts) ≡ issued (state b p s (suc k) GetUdid) (r .udid) (plainChoice p r)
+    reply-issues-choice : stepped (state b p s (suc k) (Send GetUdid)) (onBus (Send GetUdid) ts) ≡ issued (state b p s (suc k) (Send GetUdid)) (r .udid) (plainChoice p r)
     reply-issues-choice =
-        ap (stepped (state b p s (suc k) GetUdid)) (on-bus.get-whole ts r least)
+        ap (stepped (state b p s (suc k) (Send GetUdid))) (on-bus.get-whole ts r least)
         ∙ get-issued b p s (suc k) r (v .ready .sized r (inl refl)) (v .unbound r (inl refl))
-        ∙ ap (issued (state b p s (suc k) GetUdid) (r .udid)) (controller-chooses-as-rule p r (v .ready .last-used) (v .ready .fixed-some r (inl refl)))
+        ∙ ap (issued (state b p s (suc k) (Send GetUdid)) (r .udid)) (controller-chooses-as-rule p r (v .ready .last-used) (v .ready .fixed-some r (inl refl)))
 
     go : (c : Free) → plainChoice p r ≡ c
         → ((a : Address) → plainChoice p r ≡ At a
         → run (turns rest) (asking b (withAddress p (a .0)) (set s (a .0) (boundSlot r)) (suc (suc k)) (resolve (r .udid) (a .0) ts))
         ≡ ended b (plain rest (withAddress p (a .0)) (set s (a .0) (boundSlot r)) (suc k) (resolve (r .udid) (a .0) ts)))
-        → run (suc (turns rest)) (record { now = issued (state b p s (suc k) GetUdid) (r .udid) (plainChoice p r); targets = ts })
+        → run (suc (turns rest)) (record { now = issued (state b p s (suc k) (Send GetUdid)) (r .udid) (plainChoice p r); targets = ts })
         ≡ ended b (serve (λ p′ s′ k′ ts′. plain rest p′ s′ k′ ts′) r p s k ts (plainChoice p r))
     go AllUsed e ih = rw e (ended-run-stays (suc (turns rest)) b p s (suc k) (noneFree (r .udid)) ts)
     go (At a) e ih =
         let f = ready-choice-free p r rest a (v .ready) e in
         rw e
-        (ap (run (turns rest)) (turn-takes (out b p s (suc k) (Assign (r .udid) a)) ts (Assign (r .udid) a) refl)
+        (ap (run (turns rest)) (turn-takes (out b p s (suc k) (Send (Assign (r .udid) a))) ts (Send (Assign (r .udid) a)) refl)
         ∙ ap₂ (λ (x : Stepped) (us : List Target). run (turns rest) (world x us))
-        (ap (stepped (state b p s (suc k) (Assign (r .udid) a))) (on-bus.assign-whole ts (r .udid) a r (v .waits .there r (inl refl)) refl)
+        (ap (stepped (state b p s (suc k) (Send (Assign (r .udid) a)))) (on-bus.assign-whole ts (r .udid) a r (v .waits .there r (inl refl)) refl)
         ∙ assign-bound b p s (suc k) (r .udid) a (omega (arith, v .below-128)) (v .ready .sized r (inl refl) .udid) (f .0)
         ∙ simp (f .1, add-one (suc k)))
-        (effect-as-meant (Assign (r .udid) a) ts (v .ready .sized r (inl refl) .udid) (v .fits))
+        (effect-as-meant (Send (Assign (r .udid) a)) ts (v .ready .sized r (inl refl) .udid) (v .fits))
         ∙ ih a e)

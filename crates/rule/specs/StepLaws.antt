@@ -26,8 +26,10 @@ use Rattle.arp.specs.Heard.{sendByte, blockRead}
 use Rattle.arp.specs.RequestLaws.{valid-prepare, valid-get}
 use Rattle.arp.specs.Requests.{messageOf, traceOf}
 use Rattle.arp.specs.TraceLaws.{prepare-accepted, prepare-nobody, get-reply, get-nobody, assign-whole}
-use Rattle.arp.specs.declared.command.Command.{Command}
-use Rattle.arp.specs.declared.command.Command.the-variants.{Prepare, GetUdid, Assign, Ended}
+use Rattle.arp.specs.declared.command.Command.the-variants.{Prepare, GetUdid, Assign}
+use Rattle.arp.specs.declared.command.End.the-variants.{Ended}
+use Rattle.arp.specs.declared.command.Handed.{Handed}
+use Rattle.arp.specs.declared.command.Handed.the-variants.{Send, Wait}
 use Rattle.arp.specs.declared.state.Controller.{Controller}
 use Rattle.arp.specs.declared.state.Slot.{Slot}
 use Rattle.rule.specs.PassEnd.{state, out}
@@ -36,14 +38,14 @@ use Rattle.rule.specs.Serving.{Unbound}
 -- ---- Prepare To ARP
 
 -- accepted: the first Get UDID
-pub prepare-asks-first : (b p : Pool) (s : List Slot) → stepped (state b p s 0 Prepare) (traceOf Prepare []) ≡ out b p s 1 GetUdid
+pub prepare-asks-first : (b p : Pool) (s : List Slot) → stepped (state b p s 0 (Send Prepare)) (traceOf (Send Prepare) []) ≡ out b p s 1 (Send GetUdid)
 unfolding stepped asked
-prepare-asks-first b p s = prepare-accepted (state b p s 0 Prepare) (traceOf Prepare []) refl
+prepare-asks-first b p s = prepare-accepted (state b p s 0 (Send Prepare)) (traceOf (Send Prepare) []) refl
 
 -- S C2 N P: byte 0 was not acknowledged
 cut-prepare : CutAt (shapeOf sendByte) true (START ∷ 0xC2 ∷ NACK ∷ STOP ∷ []) 0
 cut-prepare = record {
-  message = messageOf Prepare [];
+  message = messageOf (Send Prepare) [];
   pec = 0;
   valid = valid-prepare;
   byte = (omega arith, tt);
@@ -55,18 +57,18 @@ cut-prepare = record {
 }
 
 -- nobody there: the pass ends
-pub prepare-unheard : (c : Controller) → afterPrepare c (START ∷ 0xC2 ∷ NACK ∷ STOP ∷ []) ≡ handed c Ended
+pub prepare-unheard : (c : Controller) → afterPrepare c (START ∷ 0xC2 ∷ NACK ∷ STOP ∷ []) ≡ handed c (Wait Ended)
 prepare-unheard c = prepare-nobody c (START ∷ 0xC2 ∷ NACK ∷ STOP ∷ []) 0 cut-prepare
 
-pub prepare-silence-ends : (b p : Pool) (s : List Slot) → stepped (state b p s 0 Prepare) (START ∷ 0xC2 ∷ NACK ∷ STOP ∷ []) ≡ out b p s 0 Ended
+pub prepare-silence-ends : (b p : Pool) (s : List Slot) → stepped (state b p s 0 (Send Prepare)) (START ∷ 0xC2 ∷ NACK ∷ STOP ∷ []) ≡ out b p s 0 (Wait Ended)
 unfolding stepped
-prepare-silence-ends b p s = prepare-unheard (state b p s 0 Prepare)
+prepare-silence-ends b p s = prepare-unheard (state b p s 0 (Send Prepare))
 
 -- ---- Get UDID
 
 cut-get : CutAt (shapeOf blockRead) true (START ∷ 0xC2 ∷ ACK ∷ 0x03 ∷ ACK ∷ START ∷ 0xC3 ∷ NACK ∷ STOP ∷ []) 2
 cut-get = record {
-  message = messageOf GetUdid [];
+  message = messageOf (Send GetUdid) [];
   pec = 0;
   valid = valid-get [] tt (omega arith);
   byte = (omega arith, tt);
@@ -78,22 +80,22 @@ cut-get = record {
 }
 
 -- nobody is left: the pass ends
-pub get-unheard : (c : Controller) → afterGet c (START ∷ 0xC2 ∷ ACK ∷ 0x03 ∷ ACK ∷ START ∷ 0xC3 ∷ NACK ∷ STOP ∷ []) ≡ handed c Ended
+pub get-unheard : (c : Controller) → afterGet c (START ∷ 0xC2 ∷ ACK ∷ 0x03 ∷ ACK ∷ START ∷ 0xC3 ∷ NACK ∷ STOP ∷ []) ≡ handed c (Wait Ended)
 get-unheard c = get-nobody c (START ∷ 0xC2 ∷ ACK ∷ 0x03 ∷ ACK ∷ START ∷ 0xC3 ∷ NACK ∷ STOP ∷ []) 2 cut-get (omega arith)
 
 pub get-silence-ends : (b p : Pool) (s : List Slot) (n : ℕ)
-    → stepped (state b p s n GetUdid) (START ∷ 0xC2 ∷ ACK ∷ 0x03 ∷ ACK ∷ START ∷ 0xC3 ∷ NACK ∷ STOP ∷ []) ≡ out b p s n Ended
+    → stepped (state b p s n (Send GetUdid)) (START ∷ 0xC2 ∷ ACK ∷ 0x03 ∷ ACK ∷ START ∷ 0xC3 ∷ NACK ∷ STOP ∷ []) ≡ out b p s n (Wait Ended)
 unfolding stepped
-get-silence-ends b p s n = get-unheard (state b p s n GetUdid)
+get-silence-ends b p s n = get-unheard (state b p s n (Send GetUdid))
 
 -- a reply is read as its target's identifier and address byte
-pub get-replied : (c : Controller) (t : Target) → c .last ≡ GetUdid → Sized t → stepped c (traceOf GetUdid (replyData t)) ≡ replied c (t .udid) (t .addressByte)
+pub get-replied : (c : Controller) (t : Target) → c .last ≡ Send GetUdid → Sized t → stepped c (traceOf (Send GetUdid) (replyData t)) ≡ replied c (t .udid) (t .addressByte)
 unfolding stepped replyData
 get-replied c t e z =
     let i : udidAt (replyData t) 0 ≡ t .udid = udid-back [] (t .addressByte ∷ []) 0 (t .udid) (z .udid) refl in
     let a : getD (replyData t) 16 0 ≡ t .addressByte = getD-at (udidBytes (t .udid)) (t .addressByte) [] 0 16 (length-udid (t .udid)) in
-    ap (byCommand c (traceOf GetUdid (replyData t))) e
-    ∙ get-reply c (traceOf GetUdid (replyData t)) (replyData t) (bytes-reply-data t (z .addressByte)) (omega (arith, length-reply-data t)) refl (length-reply-data t)
+    ap (byCommand c (traceOf (Send GetUdid) (replyData t))) e
+    ∙ get-reply c (traceOf (Send GetUdid) (replyData t)) (replyData t) (bytes-reply-data t (z .addressByte)) (omega (arith, length-reply-data t)) refl (length-reply-data t)
     ∙ ap₂ (replied c) i a
 
 unbound-not-found : (u : Udid) (s : List Slot) → Unbound u s → (n a : ℕ) → findFrom u s n a ≡ 128
@@ -101,24 +103,24 @@ unfolding findFrom
 unbound-not-found u s h zero a = refl
 unbound-not-found u s h (suc n) a = rw (h a) (unbound-not-found u s h n (suc a))
 
-unbound-frees-nothing : (b p : Pool) (s : List Slot) (n : ℕ) (k : Command) (u : Udid) → Unbound u s → freed (state b p s n k) u ≡ state b p s n k
+unbound-frees-nothing : (b p : Pool) (s : List Slot) (n : ℕ) (k : Handed) (u : Udid) → Unbound u s → freed (state b p s n k) u ≡ state b p s n k
 unfolding freed
 unbound-frees-nothing b p s n k u h = rw (unbound-not-found u s h 128 0)
 
 -- who is not bound yet is issued the address chosen
 pub get-issued : (b p : Pool) (s : List Slot) (n : ℕ) (t : Target) → Sized t → Unbound (t .udid) s
-    → stepped (state b p s n GetUdid) (traceOf GetUdid (replyData t)) ≡ issued (state b p s n GetUdid) (t .udid) (chosen p (t .udid) (t .addressByte))
+    → stepped (state b p s n (Send GetUdid)) (traceOf (Send GetUdid) (replyData t)) ≡ issued (state b p s n (Send GetUdid)) (t .udid) (chosen p (t .udid) (t .addressByte))
 unfolding replied
 get-issued b p s n t z h =
-    get-replied (state b p s n GetUdid) t refl z
-    ∙ ap (λ (c : Controller). issued c (t .udid) (chosen (c .pool) (t .udid) (t .addressByte))) (unbound-frees-nothing b p s n GetUdid (t .udid) h)
+    get-replied (state b p s n (Send GetUdid)) t refl z
+    ∙ ap (λ (c : Controller). issued c (t .udid) (chosen (c .pool) (t .udid) (t .addressByte))) (unbound-frees-nothing b p s n (Send GetUdid) (t .udid) h)
 
 -- ---- Assign Address
 
 -- complete: bound, and the next Get UDID
 pub assign-bound : (b p : Pool) (s : List Slot) (n : ℕ) (u : Udid) (a : Address) → n < 128 → Fits u → a .0 < 128
-    → stepped (state b p s n (Assign u a)) (traceOf (Assign u a) []) ≡ out b (withAddress p (a .0)) (set s (a .0) (slotFor (member p (a .0)) u)) (n + 1) GetUdid
+    → stepped (state b p s n (Send (Assign u a))) (traceOf (Send (Assign u a)) []) ≡ out b (withAddress p (a .0)) (set s (a .0) (slotFor (member p (a .0)) u)) (n + 1) (Send GetUdid)
 unfolding stepped asked bound
 assign-bound b p s n u a h f l =
-    assign-whole (state b p s n (Assign u a)) u a (traceOf (Assign u a) []) f refl
+    assign-whole (state b p s n (Send (Assign u a))) u a (traceOf (Send (Assign u a)) []) f refl
     ∙ rw (le-ltb 127 (a .0) (omega arith), lt-leb 128 n h)

@@ -29,6 +29,7 @@ use Rattle.targets.specs.ReplyLaws.{least-on-wire}
 use Rattle.targets.specs.TraceLaws.{reply-trace}
 use Rattle.arp.specs.Requests.{traceOf}
 use Rattle.arp.specs.declared.command.Command.the-variants.{Prepare, GetUdid, Assign}
+use Rattle.arp.specs.declared.command.Handed.the-variants.{Send}
 use Rattle.rule.specs.Acknowledge.{begins, assigningBytes, acknowledges, somebody, answered, received, asking, standing, sentPart, onBus}
 use Rattle.rule.specs.AcknowledgeLaws.{assign-by-target, assign-stop}
 use Rattle.rule.specs.Effect.{same}
@@ -56,12 +57,12 @@ none-acknowledges f (t ∷ ts) h =
 
 -- ---- Prepare To ARP
 
-pub prepare-whole : (t : Target) (ts : List Target) → onBus Prepare (t ∷ ts) ≡ traceOf Prepare []
+pub prepare-whole : (t : Target) (ts : List Target) → onBus (Send Prepare) (t ∷ ts) ≡ traceOf (Send Prepare) []
 unfolding onBus standing answered somebody acknowledges begins same pecFrom pecStep bitStep
 prepare-whole t ts = refl
 
 -- with no target: the first byte is not acknowledged
-pub prepare-cut : onBus Prepare [] ≡ START ∷ 0xC2 ∷ NACK ∷ STOP ∷ []
+pub prepare-cut : onBus (Send Prepare) [] ≡ START ∷ 0xC2 ∷ NACK ∷ STOP ∷ []
 unfolding onBus standing answered somebody
 prepare-cut = refl
 
@@ -87,7 +88,7 @@ get-read t = go (isResolved t)
     go false = refl
 
 -- the unresolved answer: the trace is that of the reply with the least identifier
-pub get-whole : (ts : List Target) (r : Target) → Least ts r → onBus GetUdid ts ≡ traceOf GetUdid (replyData r)
+pub get-whole : (ts : List Target) (r : Target) → Least ts r → onBus (Send GetUdid) ts ≡ traceOf (Send GetUdid) (replyData r)
 unfolding onBus standing answered same
 get-whole ts r l =
     let c : somebody (acknowledges (256 ∷ 194 ∷ 3 ∷ 256 ∷ 195 ∷ [])) ts ≡ true =
@@ -97,7 +98,7 @@ get-whole ts r l =
 
 -- all are resolved: the read address is not acknowledged
 pub get-cut : (t : Target) (ts : List Target) → ((x : Target) → Among x (t ∷ ts) → isResolved x ≡ true)
-    → onBus GetUdid (t ∷ ts) ≡ START ∷ 0xC2 ∷ ACK ∷ 0x03 ∷ ACK ∷ START ∷ 0xC3 ∷ NACK ∷ STOP ∷ []
+    → onBus (Send GetUdid) (t ∷ ts) ≡ START ∷ 0xC2 ∷ ACK ∷ 0x03 ∷ ACK ∷ START ∷ 0xC3 ∷ NACK ∷ STOP ∷ []
 unfolding onBus standing answered
 get-cut t ts h =
     let c : somebody (acknowledges (256 ∷ 194 ∷ 3 ∷ 256 ∷ 195 ∷ [])) (t ∷ ts) ≡ false =
@@ -114,7 +115,7 @@ acked-two (x ∷ xs) b p = ap (λ (l : List ℕ). x ∷ 258 ∷ l) (acked-two xs
 abbrev assigned : Udid → ℕ → List ℕ
 assigned u b = 194 ∷ 4 ∷ 17 ∷ (udidBytes u ++ b ∷ pecOf (194 ∷ 4 ∷ 17 ∷ (udidBytes u ++ b ∷ [])) ∷ [])
 
-assign-sends-bytes : (u : Udid) (a : Address) → sentPart (Assign u a) ≡ 256 ∷ acked (assigned u (2 * (a .0 % 128)))
+assign-sends-bytes : (u : Udid) (a : Address) → sentPart (Send (Assign u a)) ≡ 256 ∷ acked (assigned u (2 * (a .0 % 128)))
 assign-sends-bytes u a =
     let d : List ℕ = udidBytes u ++ 2 * (a .0 % 128) ∷ [] in
     let e : length (udidBytes u ++ 2 * (a .0 % 128) ∷ []) ≡ 17 = length-append (udidBytes u) (2 * (a .0 % 128) ∷ []) ∙ omega (arith, length-udid u) in
@@ -192,7 +193,7 @@ own-acknowledges u b t e p q f =
     last : (x y : Bool) → or x (or y true) ≡ true
     last x y = ap (or x) (or-last y) ∙ or-last x
 
-pub assign-whole : (ts : List Target) (u : Udid) (a : Address) (t : Target) → Among t ts → t .udid ≡ u → onBus (Assign u a) ts ≡ traceOf (Assign u a) []
+pub assign-whole : (ts : List Target) (u : Udid) (a : Address) (t : Target) → Among t ts → t .udid ≡ u → onBus (Send (Assign u a)) ts ≡ traceOf (Send (Assign u a)) []
 unfolding onBus standing answered same
 assign-whole ts u a t m e =
     let b : ℕ = 2 * (a .0 % 128) in

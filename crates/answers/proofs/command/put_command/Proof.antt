@@ -5,163 +5,39 @@ use mathlib.Core.Path.{sym, ap}
 use Rattle.answers.proofs.command.put_command.Statement.{statement}
 use Rattle.answers.proofs.command.put_command.Tie as tie
 
-enum-told : tie.Need-enum-told
-enum-told c = search needs
-
-slice-aggregate-put-line : tie.Need-slice-aggregate-put-line
-slice-aggregate-put-line c = search needs
-
-put-line-requires : tie.Need-put-line-requires
-put-line-requires c κs = search needs
-
-enum-told-2 : tie.Need-enum-told-2
-enum-told-2 c = search needs
-
-slice-aggregate-put-line-2 : tie.Need-slice-aggregate-put-line-2
-slice-aggregate-put-line-2 c = search needs
-
-put-line-requires-2 : tie.Need-put-line-requires-2
-put-line-requires-2 c κs = search needs
-
-enum-told-3 : tie.Need-enum-told-3
-enum-told-3 c = search needs
-
-slice-aggregate-put-line-3 : tie.Need-slice-aggregate-put-line-3
-slice-aggregate-put-line-3 c = search needs
-
-put-line-requires-3 : tie.Need-put-line-requires-3
-put-line-requires-3 c κs = search needs
-
 enum-known-k : tie.Need-enum-known-k
 enum-known-k c = search needs
 
-put-assign-requires : tie.Need-put-assign-requires
-put-assign-requires c κs = search needs
-
-enum-told-4 : tie.Need-enum-told-4
-enum-told-4 c = search needs
-
-slice-aggregate-put-line-4 : tie.Need-slice-aggregate-put-line-4
-slice-aggregate-put-line-4 c = search needs
-
-put-line-requires-4 : tie.Need-put-line-requires-4
-put-line-requires-4 c κs = search needs
+put-next-requires : tie.Need-put-next-requires
+put-next-requires c κs = search needs
 
 enum-known-k-2 : tie.Need-enum-known-k-2
 enum-known-k-2 c = search needs
 
-slice-aggregate-udid-line : tie.Need-slice-aggregate-udid-line
-slice-aggregate-udid-line c = search needs
-
-udid-line-requires : tie.Need-udid-line-requires
-udid-line-requires c κs = search needs
-
-enum-told-5 : tie.Need-enum-told-5
-enum-told-5 c = search needs
-
-slice-aggregate-put-line-5 : tie.Need-slice-aggregate-put-line-5
-slice-aggregate-put-line-5 c = search needs
-
-put-line-requires-5 : tie.Need-put-line-requires-5
-put-line-requires-5 c κs = search needs
-
-enum-told-6 : tie.Need-enum-told-6
-enum-told-6 c = search needs
-
-slice-aggregate-put-line-6 : tie.Need-slice-aggregate-put-line-6
-slice-aggregate-put-line-6 c = search needs
-
-put-line-requires-6 : tie.Need-put-line-requires-6
-put-line-requires-6 c κs = search needs
+put-over-requires : tie.Need-put-over-requires
+put-over-requires c κs = search needs
 
 same-length : tie.Need-same-length
 same-length c = search needs
 
 returns : tie.Need-returns
-returns c = appended-as (sym (ap commandText (c .before .before .before .before .before .enum-told .given .1))) (c .before .before .put-line .ensures)
+returns c = appended-as (sym (ap commandText (c .before .before .before .before .before .k .given .1))) (c .before .before .put-next .ensures)
 
 same-length-2 : tie.Need-same-length-2
 same-length-2 c = search needs
 
 returns-2 : tie.Need-returns-2
-returns-2 c = appended-as (sym (ap commandText (c .before .before .before .before .before .enum-told2 .given .1))) (c .before .before .put-line2 .ensures)
-
-same-length-3 : tie.Need-same-length-3
-same-length-3 c = search needs
-
-returns-3 : tie.Need-returns-3
-returns-3 c = appended-as (sym (ap commandText (c .before .before .before .before .before .enum-told3 .given .1))) (c .before .before .put-line3 .ensures)
-
-same-length-4 : tie.Need-same-length-4
-same-length-4 c = search needs
-
-returns-4 : tie.Need-returns-4
-returns-4 c = appended-as (sym (ap commandText (c .before .before .before .before .before .k .given .1))) (c .before .before .put-assign .ensures)
-
-same-length-5 : tie.Need-same-length-5
-same-length-5 c = search needs
-
-returns-5 : tie.Need-returns-5
-returns-5 c = appended-as (sym (ap commandText (c .before .before .before .before .before .enum-told4 .given .1))) (c .before .before .put-line4 .ensures)
-
-same-length-6 : tie.Need-same-length-6
-same-length-6 c = search needs
-
-returns-6 : tie.Need-returns-6
-returns-6 c = appended-as (sym (ap commandText (c .before .before .before .before .before .before .k2 .given .1))) (c .before .before .udid-line .ensures)
-
-same-length-7 : tie.Need-same-length-7
-same-length-7 c = search needs
-
-returns-7 : tie.Need-returns-7
-returns-7 c = appended-as (sym (ap commandText (c .before .before .before .before .before .enum-told5 .given .1))) (c .before .before .put-line5 .ensures)
-
-same-length-8 : tie.Need-same-length-8
-same-length-8 c = search needs
-
-returns-8 : tie.Need-returns-8
-returns-8 c = appended-as (sym (ap commandText (c .before .before .before .before .before .enum-told6 .given .1))) (c .before .before .put-line6 .ensures)
+returns-2 c = appended-as (sym (ap commandText (c .before .before .before .before .before .k2 .given .1))) (c .before .before .put-over .ensures)
 
 pub put-command-spec : {M : Type 1} → statement M
 put-command-spec =
     tie.close
     (tie.spec
-    enum-told
-    slice-aggregate-put-line
-    put-line-requires
-    enum-told-2
-    slice-aggregate-put-line-2
-    put-line-requires-2
-    enum-told-3
-    slice-aggregate-put-line-3
-    put-line-requires-3
     enum-known-k
-    put-assign-requires
-    enum-told-4
-    slice-aggregate-put-line-4
-    put-line-requires-4
+    put-next-requires
     enum-known-k-2
-    slice-aggregate-udid-line
-    udid-line-requires
-    enum-told-5
-    slice-aggregate-put-line-5
-    put-line-requires-5
-    enum-told-6
-    slice-aggregate-put-line-6
-    put-line-requires-6
+    put-over-requires
     same-length
     returns
     same-length-2
-    returns-2
-    same-length-3
-    returns-3
-    same-length-4
-    returns-4
-    same-length-5
-    returns-5
-    same-length-6
-    returns-6
-    same-length-7
-    returns-7
-    same-length-8
-    returns-8)
+    returns-2)

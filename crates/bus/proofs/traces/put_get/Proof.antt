@@ -6,7 +6,6 @@ use lib.ListN.{length, take, drop}
 use denote.Ref.{now}
 use Rattle.arp.specs.SendingLaws.{get-sent}
 use Rattle.arp.specs.Requests.{traceOf}
-use Rattle.arp.specs.declared.command.Command.the-variants.{GetUdid}
 use Rattle.lists.specs.EachLaws.{all-bytes}
 use Rattle.bus.specs.Turn.{lentPart}
 use Rattle.bus.specs.TurnLaws.{get-silence, get-winner, get-winner-part, get-length, winner-inside, winner-part-lent}

@@ -1,82 +1,37 @@
 use Prim.Native.Nat.{ℕ, _≤_}
 use mathlib.Core.Path.{_≡_, sym, ap, _∙_, subst}
-use mathlib.Core.List.{List, []}
 use native.Mathlib.Omega.{arith}
-use lib.ListN.{length, take}
 use denote.Ref.{now}
-use Rattle.encode.specs.declared.Encoded.{Encoded}
+use Rattle.arp.specs.declared.command.Handed.{Handed}
 use Rattle.targets.specs.Records.{targetsOf}
-use Rattle.arp.specs.declared.command.Command.{Command}
-use Rattle.rule.specs.Acknowledge.{onBus}
-use Rattle.bus.specs.Turn.{Reaches, Writes}
-use Rattle.bus.specs.TurnLaws.{assign-on-bus, assign-written, assign-length-44}
-use Rattle.bus.proofs.Tags.{nothing-on-bus}
+use Rattle.rule.specs.Acknowledge.{sentPart, onBus}
+use Rattle.rule.specs.AcknowledgeLaws.{nothing-on-bus}
+use Rattle.bus.specs.Turn.{Reaches}
 use borrow.Author.Needs.{needs}
 use Rattle.bus.proofs.traces.put_trace.Statement.{statement}
 use Rattle.bus.proofs.traces.put_trace.Tie as tie
 use Rattle.bus.proofs.traces.put_trace.Reads as reads
 use Rattle.bus.proofs.traces.put_trace.Lts as lts
-use Rattle.bus.proofs.traces.put_get.Reads as put-get-reads
-use Rattle.bus.proofs.traces.put_prepare.Reads as put-prepare-reads
-use Rattle.bus.proofs.traces.put_whole.Reads as put-whole-reads
+use Rattle.bus.proofs.traces.put_sent.Reads as put-sent-reads
+
+enum-known-k : tie.Need-enum-known-k
+enum-known-k c = search needs
+
+put-sent-requires : tie.Need-put-sent-requires
+put-sent-requires c κs = let s = c .before .before .before .before .before .before .args in (c .before .before .before .before .before .before .pre .0, subst (λ (x : Handed). Reaches x (targetsOf (now (s .records)))) (c .before .before .k .given .1) (c .before .before .before .before .before .before .pre .1), c .before .before .before .before .before .before .pre .2)
 
 enum-told : tie.Need-enum-told
 enum-told c = search needs
-
-put-prepare-requires : tie.Need-put-prepare-requires
-put-prepare-requires c κs = search needs
-
-enum-told-2 : tie.Need-enum-told-2
-enum-told-2 c = search needs
-
-put-get-requires : tie.Need-put-get-requires
-put-get-requires c κs = (c .before .before .before .before .before .pre .0, subst (λ (k : Command). Reaches k (targetsOf (now (c .before .before .before .before .before .args .records)))) (c .before .enum-told2 .given .1) (c .before .before .before .before .before .pre .1), c .before .before .before .before .before .pre .2)
-
-enum-told-3 : tie.Need-enum-told-3
-enum-told-3 c = search needs
-
-slice-aggregate-put-whole : tie.Need-slice-aggregate-put-whole
-slice-aggregate-put-whole c = search needs
-
-put-whole-requires : tie.Need-put-whole-requires
-put-whole-requires c κs = let s = c .before .before .before .before .before .before .args in assign-written (s .k) _ _ (c .before .before .enum-told3 .given .1) (targetsOf (now (s .records))) (c .before .before .before .before .before .before .pre .1) (now (s .out)) (c .before .before .before .before .before .before .pre .2)
 
 same-length : tie.Need-same-length
 same-length c = search needs
 
 returns : tie.Need-returns
-returns c = (c .before .before .put-prepare .ensures .0, c .before .before .put-prepare .ensures .1 ∙ ap (λ (k : Command). onBus k (targetsOf (now (c .before .before .before .before .before .before .before .before .args .records)))) (sym (c .before .before .before .before .enum-told .given .1)))
-
-same-length-2 : tie.Need-same-length-2
-same-length-2 c = search needs
+returns c = let s = c .before .before .before .before .before .before .before .before .before .args in (c .before .before .put-sent .ensures .0, c .before .before .put-sent .ensures .1 ∙ ap (λ (x : Handed). onBus x (targetsOf (now (s .records)))) (sym (c .before .before .before .before .before .k .given .1)))
 
 returns-2 : tie.Need-returns-2
-returns-2 c = (c .before .before .put-get .ensures .0, c .before .before .put-get .ensures .1 ∙ ap (λ (k : Command). onBus k (targetsOf (now (c .before .before .before .before .before .before .before .before .args .records)))) (sym (c .before .before .before .before .enum-told2 .given .1)))
-
-same-length-3 : tie.Need-same-length-3
-same-length-3 c = search needs
-
-returns-3 : tie.Need-returns-3
-returns-3 c = (omega (arith, c .before .before .put-whole .ensures .0, assign-length-44 (c .before .before .before .before .before .before .before .before .before .args .k) _ _ (c .before .before .before .before .before .enum-told3 .given .1)), c .before .before .put-whole .ensures .1 ∙ sym (assign-on-bus (c .before .before .before .before .before .before .before .before .before .args .k) _ _ (c .before .before .before .before .before .enum-told3 .given .1) (targetsOf (now (c .before .before .before .before .before .before .before .before .before .args .records))) (c .before .before .before .before .before .before .before .before .before .pre .1)))
-
-returns-4 : tie.Need-returns-4
-returns-4 c = (omega arith, sym (nothing-on-bus (c .before .before .before .args .k) (c .match .keys4) (targetsOf (now (c .before .before .before .args .records)))))
+returns-2 c = let s = c .before .before .before .before .args in (omega arith, sym (nothing-on-bus (s .k) (targetsOf (now (s .records))) (ap sentPart (c .enum-told .given .1))))
 
 pub put-trace-spec : {M : Type 1} → statement M
 put-trace-spec =
-    tie.close
-    (tie.spec
-    enum-told
-    put-prepare-requires
-    enum-told-2
-    put-get-requires
-    enum-told-3
-    slice-aggregate-put-whole
-    put-whole-requires
-    same-length
-    returns
-    same-length-2
-    returns-2
-    same-length-3
-    returns-3
-    returns-4)
+    tie.close (tie.spec enum-known-k put-sent-requires enum-told same-length returns returns-2)

@@ -1,0 +1,54 @@
+use mathlib.Core.Path.{_≡_, sym, ap, _∙_}
+use Rattle.arp.specs.Numbers.{endNumber}
+use Rattle.arp.specs.declared.command.End.{End}
+use Rattle.bus.specs.Run.{udidIn}
+use borrow.Author.Needs.{needs}
+use Rattle.bus.proofs.answer.named_by.Statement.{statement}
+use Rattle.bus.proofs.answer.named_by.Tie as tie
+use Rattle.bus.proofs.answer.named_by.Reads as reads
+use Rattle.bus.proofs.answer.named_by.Lts as lts
+
+enum-told : tie.Need-enum-told
+enum-told c = search needs
+
+enum-told-2 : tie.Need-enum-told-2
+enum-told-2 c = search needs
+
+enum-known-e : tie.Need-enum-known-e
+enum-known-e c = search needs
+
+enum-told-3 : tie.Need-enum-told-3
+enum-told-3 c = search needs
+
+enum-told-4 : tie.Need-enum-told-4
+enum-told-4 c = search needs
+
+returns : tie.Need-returns
+returns c = sym (ap (λ (x : End). udidIn (endNumber x)) (c .enum-told .given .1))
+
+returns-2 : tie.Need-returns-2
+returns-2 c = sym (ap (λ (x : End). udidIn (endNumber x)) (c .enum-told2 .given .1))
+
+returns-3 : tie.Need-returns-3
+returns-3 c = search needs
+
+returns-4 : tie.Need-returns-4
+returns-4 c = sym (ap (λ (x : End). udidIn (endNumber x)) (c .enum-told3 .given .1))
+
+returns-5 : tie.Need-returns-5
+returns-5 c = sym (ap (λ (x : End). udidIn (endNumber x)) (c .enum-told4 .given .1))
+
+pub named-by-spec : {M : Type 1} → statement M
+named-by-spec =
+    tie.close
+    (tie.spec
+    enum-told
+    enum-told-2
+    enum-known-e
+    enum-told-3
+    enum-told-4
+    returns
+    returns-2
+    returns-3
+    returns-4
+    returns-5)
