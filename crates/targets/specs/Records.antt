@@ -17,13 +17,13 @@ mostTargets = 120
 
 -- the three fields of record i
 abbrev pub udidOf : List ℕ → ℕ → Udid
-udidOf s i = udidAt s (i * recordSize)
+udidOf s i = udidAt s (i * 18)
 
 abbrev pub addressByte : List ℕ → ℕ → ℕ
-addressByte s i = getD s (i * recordSize + 16) 0
+addressByte s i = getD s (i * 18 + 16) 0
 
 abbrev pub flagOf : List ℕ → ℕ → ℕ
-flagOf s i = getD s (i * recordSize + 17) 0
+flagOf s i = getD s (i * 18 + 17) 0
 
 unfoldable pub targetAt : List ℕ → ℕ → Target
 targetAt s i = record { udid = udidOf s i; addressByte = addressByte s i; flag = flagOf s i }
@@ -35,7 +35,7 @@ targetsFrom s (suc n) i = targetAt s i ∷ targetsFrom s n (suc i)
 
 -- how many whole records there are, and their targets
 abbrev pub recordCount : List ℕ → ℕ
-recordCount s = length s / recordSize
+recordCount s = length s / 18
 
 abbrev pub targetsOf : List ℕ → List Target
 targetsOf s = targetsFrom s (recordCount s) 0
@@ -43,7 +43,7 @@ targetsOf s = targetsFrom s (recordCount s) 0
 -- ---- the records with the address bytes and flags of targets, all else as it was
 
 unfoldable pub putTarget : ℕ → Target → List ℕ → List ℕ
-putTarget i t s = set (set s (i * recordSize + 16) (t .addressByte)) (i * recordSize + 17) (t .flag)
+putTarget i t s = set (set s (i * 18 + 16) (t .addressByte)) (i * 18 + 17) (t .flag)
 
 abbrev pub putFrom : List Target → ℕ → List ℕ → List ℕ
 putFrom [] i s = s
