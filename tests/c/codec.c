@@ -107,9 +107,39 @@ static void check_refusals(void)
     free(r);
 }
 
+/* Traces of a Send Byte of 05h to 2ch that are refused: the header's name of each number, and where. */
+static const struct {
+    uint8_t pec;
+    uint32_t answer;
+    size_t value, symbols;
+    uint16_t trace[8];
+} refused[] = {
+    { 0, HB_NO_SYMBOL, 1, 2, { HB_START, 260 } },
+    { 0, HB_ENDS_EARLY, 3, 3, { HB_START, 0x58, HB_ACK } },
+    { 0, HB_UNEXPECTED, 1, 2, { HB_START, HB_STOP } },
+    { 0, HB_NOT_ACKNOWLEDGED, 1, 6, { HB_START, 0x58, HB_ACK, 0x05, HB_NACK, HB_STOP } },
+    { 1, HB_PEC_DIFFERS, 5, 8, { HB_START, 0x58, HB_ACK, 0x05, HB_ACK, 0x00, HB_ACK, HB_STOP } },
+    { 0, HB_AFTER_STOP, 6, 7, { HB_START, 0x58, HB_ACK, 0x05, HB_ACK, HB_STOP, HB_STOP } },
+};
+
+/* The numbers 3 to 8 in turn. */
+static void check_numbers(void)
+{
+    for (size_t k = 0; k < sizeof refused / sizeof refused[0]; k++) {
+        uint8_t *s = block(HB_DECODE_ROOM, 0xee), *r = block(HB_DECODE_ROOM, 0xee);
+        hb_decoded d = hb_decode(HB_SEND_BYTE, refused[k].pec, (const uint8_t *)refused[k].trace, 2 * refused[k].symbols, s,
+                                 HB_DECODE_ROOM, r, HB_DECODE_ROOM);
+        CHECK(d.answer == k + 3 && d.answer == refused[k].answer && d.value == refused[k].value);
+        CHECK(all(s, 0, HB_DECODE_ROOM, 0xee) && all(r, 0, HB_DECODE_ROOM, 0xee));
+        free(s);
+        free(r);
+    }
+}
+
 void check_codec(void)
 {
     for (size_t k = 0; k < sizeof cases / sizeof cases[0]; k++)
         check_case(k);
     check_refusals();
+    check_numbers();
 }
