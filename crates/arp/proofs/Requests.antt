@@ -8,7 +8,7 @@ use lib.ListN.{length, drop, set, replicate}
 use lib.Seq.{set-at}
 use borrow.Author.Tests.{lt-ltb, le-ltb}
 use Rattle.lists.specs.Choice.{pick}
-use Rattle.encode.specs.Encode.{message, refused, encoded, Wrote}
+use Rattle.encode.specs.Encode.{message, refusedBy, encodedBy, Wrote}
 use Rattle.encode.specs.declared.Encoded.{Encoded}
 use Rattle.encode.specs.declared.Encoded.the-variants.{Forbidden}
 use Rattle.udid.specs.Bytes.{udidBytes, putAt}
@@ -46,7 +46,7 @@ wrote-same-command k j reply before r after e = subst (λ (x : Handed). Wrote (p
 
 -- 255 is refused, and nothing is written
 nothing-written : (k : Handed) (reply before : List ℕ) → protocolFor k ≡ 255 → Wrote (protocolFor k) true (messageOf k reply) before Forbidden before
-unfolding encoded refused
+unfolding encodedBy refusedBy
 nothing-written k reply before e = record { answer = rw e; output = refl }
 
 -- an Assign of a number above 127 is refused

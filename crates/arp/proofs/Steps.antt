@@ -11,7 +11,7 @@ use lib.Seq.{getD-append-add, getD-drop}
 use borrow.Author.Tests.{eq-eqb, ne-eqb}
 use Rattle.lists.specs.Choice.{pick, and}
 use Rattle.lists.specs.Onto.{onto}
-use Rattle.decode.specs.Outcome.{answered, Outcome}
+use Rattle.decode.specs.Outcome.{answeredBy, Outcome}
 use Rattle.pool.specs.declared.free.Free.{Free}
 use Rattle.pool.specs.declared.free.Free.the-variants.{At, AllUsed}
 use Rattle.step.specs.Handed.{sentData, receivedData}
@@ -76,7 +76,7 @@ nobody-by-nack a w b q e h = sym (ap nobody e ∙ ap (λ (x : Bool). and x (ltb 
 
 module _ (s : Controller) (tr : List ℕ) (a : Decoded) (sent received : List ℕ) (o : Outcome sendByte true tr zeros zeros a sent received) where
   heard-1 : a ≡ answer sendByte tr
-  unfolding answered
+  unfolding answeredBy
   heard-1 = o .answer
 
   is-prepare : (t : Transaction) → isPrepare t sent ≡ isPrepare t (sentData (shapeOf sendByte) tr a)
@@ -112,7 +112,7 @@ on-reply s t xs = ap₂ (λ (u : Udid) (b : ℕ). pick (isGet t) (pick (eqb (t .
 
 module _ (s : Controller) (tr : List ℕ) (a : Decoded) (sent received : List ℕ) (o : Outcome blockRead true tr zeros zeros a sent received) where
   heard-9 : a ≡ answer blockRead tr
-  unfolding answered
+  unfolding answeredBy
   heard-9 = o .answer
 
   by-get : onGet s a (receivedData true tr a) ≡ afterGet s tr
@@ -147,7 +147,7 @@ on-assign s u n (Refused w k) sent = refl
 
 module _ (s : Controller) (u : Udid) (n : ℕ) (tr : List ℕ) (a : Decoded) (sent received : List ℕ) (o : Outcome blockWrite true tr zeros zeros a sent received) where
   heard-8 : a ≡ answer blockWrite tr
-  unfolding answered
+  unfolding answeredBy
   heard-8 = o .answer
 
   by-assign : onAssign s u n a (sentData (shapeOf blockWrite) tr a) ≡ afterAssign s u n tr

@@ -8,7 +8,7 @@ use mathlib.Core.Logic.{_⊎_, inl, inr}
 use native.Mathlib.Decide.{ℕ-discrete}
 use native.Mathlib.Omega.{arith}
 use lib.Dec.{ltb, leb, eqb}
-use lib.ListN.{length, getD}
+use lib.ListN.{getD}
 use borrow.Author.Tests.{ltb-false, lt-ltb, le-ltb}
 use Rattle.lists.specs.Choice.{pick, and, or}
 use Rattle.wire.specs.declared.address.Address.{Address}
@@ -24,16 +24,18 @@ use Rattle.udid.specs.Bytes.{udidAt}
 use Rattle.udid.specs.declared.Udid.{Udid}
 use Rattle.arp.specs.HistoryLaws.{reached-good}
 use Rattle.arp.specs.LookupLaws.{lookup-0}
-use Rattle.arp.specs.SoundLaws.{held-same, held-other, held-cases, bound-to-is-bound, open-is-not-bound, open-all, find-cases}
+use Rattle.arp.specs.SoundLaws.{bound-to-is-bound, open-is-not-bound, find-cases}
+use Rattle.arp.specs.SlotsLaws.{held-same, held-other, held-cases, open-all}
 use Rattle.arp.specs.TraceLaws.{complete-assign-is-its-trace, assign-whole}
 use Rattle.arp.specs.Numbers.{lookupNumber}
 use Rattle.arp.specs.Sound.{Pending, PendingIn, GoodState}
-use Rattle.arp.specs.Bindings.{openSlot, heldAt, boundTo, findFrom, freedAt, freed, slotFor, bound}
+use Rattle.arp.specs.Bindings.{boundTo, findFrom, freedAt, freed, bindingFor, bound}
 use Rattle.arp.specs.Controller.{handed, counted, asked, chosen, issued, replied, onReply, onPrepare, onGet, onAssign, afterPrepare, afterGet, afterAssign, byCommand, stepped}
 use Rattle.arp.specs.Heard.{sendByte, blockRead, blockWrite, answer, sentIn, receivedIn, isPrepare, isGet, isAssign}
 use Rattle.arp.specs.History.{Event, Start, Received, run, Acknowledged, isHeld, withTraces}
 use Rattle.arp.specs.Lookup.{seen, lookedUp}
 use Rattle.arp.specs.Requests.{traceOf}
+use Rattle.arp.specs.Slots.{Sized128, heldAt}
 use Rattle.arp.specs.declared.command.Command.the-variants.{Prepare, GetUdid, Assign}
 use Rattle.arp.specs.declared.command.End.the-variants.{Ended, Abandoned}
 use Rattle.arp.specs.declared.command.Handed.{Handed}
@@ -42,7 +44,7 @@ use Rattle.arp.specs.declared.lookup.Found.the-variants as found
 use Rattle.arp.specs.declared.state.Binding.{Binding}
 use Rattle.arp.specs.declared.state.Binding.the-variants.{Open, Bound, Claimed}
 use Rattle.arp.specs.declared.state.Controller.{Controller}
-use Rattle.arp.specs.declared.state.Slot.{Slot}
+use Rattle.arp.specs.declared.slots.Slots.{Slots}
 use Rattle.arp.specs.declared.state.Stepped.{Stepped}
 
 abbrev address : ℕ → Address
@@ -59,7 +61,7 @@ asked-slots s = go (leb 128 (s .gets))
     go false = refl
 
 -- freeing binds nobody, and leaves claims
-freed-held : (s : Controller) (u w : Udid) (i : ℕ) → length (s .slots) ≡ 128 → heldAt (freed s u .slots) i ≡ Bound w → heldAt (s .slots) i ≡ Bound w
+freed-held : (s : Controller) (u w : Udid) (i : ℕ) → Sized128 (s .slots) → heldAt (freed s u .slots) i ≡ Bound w → heldAt (s .slots) i ≡ Bound w
 unfolding freed
 freed-held s u w i l e = go (findFrom u (s .slots) 128 0) (ltb 127 (findFrom u (s .slots) 128 0)) refl e
   where
@@ -69,7 +71,7 @@ freed-held s u w i l e = go (findFrom u (s .slots) 128 0) (ltb 127 (findFrom u (
 
     go : (f : ℕ) (t : Bool) → ltb 127 f ≡ t → heldAt (pick t s (freedAt s f) .slots) i ≡ Bound w → heldAt (s .slots) i ≡ Bound w
     go f true q k = k
-    go f false q k = at f (held-cases (s .slots) f i openSlot (Bound w) (omega (arith, ltb-false 127 f q)) k)
+    go f false q k = at f (held-cases (s .slots) f i Open (Bound w) l (let m = ltb-false 127 f q in omega arith) k)
 
 freed-claims : (s : Controller) (u : Udid) (i : ℕ) → heldAt (s .slots) i ≡ Claimed → heldAt (freed s u .slots) i ≡ Claimed
 unfolding freed
@@ -80,34 +82,34 @@ freed-claims s u i e = go (findFrom u (s .slots) 128 0) (find-cases u (s .slots)
     go f (inl r) = rw (lt-ltb 127 f (omega (arith, r .0))) e
     go f (inr r) =
         rw (le-ltb 127 f (omega (arith, r .0)))
-        (held-other (s .slots) f i openSlot (λ q. absurd (let z : _≡_ {A = ℕ} 0 1 = cc (bound-to-is-bound u (heldAt (s .slots) f) (r .1), ap (heldAt (s .slots)) q, e) in omega arith)) ∙ e)
+        (held-other (s .slots) f i Open (λ q. absurd (let z : _≡_ {A = ℕ} 0 1 = cc (bound-to-is-bound u (heldAt (s .slots) f) (r .1), ap (heldAt (s .slots)) q, e) in omega arith)) ∙ e)
 
-slot-held : (b : Bool) (u w : Udid) → slotFor b u .held ≡ Bound w → u ≡ w
+slot-held : (b : Bool) (u w : Udid) → bindingFor b u ≡ Bound w → u ≡ w
 slot-held true u w e = absurd (let z : _≡_ {A = ℕ} 0 1 = cc e in omega arith)
 slot-held false u w e = cc e
 
 -- binding binds u at n, and nobody else
-bound-held : (s : Controller) (u w : Udid) (n i : ℕ) → length (s .slots) ≡ 128 → n < 128 → heldAt (bound s u n .slots) i ≡ Bound w → (heldAt (s .slots) i ≡ Bound w) ⊎ ((i ≡ n) × (u ≡ w))
+bound-held : (s : Controller) (u w : Udid) (n i : ℕ) → Sized128 (s .slots) → n < 128 → heldAt (bound s u n .slots) i ≡ Bound w → (heldAt (s .slots) i ≡ Bound w) ⊎ ((i ≡ n) × (u ≡ w))
 unfolding bound
-bound-held s u w n i l h e = at (held-cases (s .slots) n i (slotFor (member (s .pool) n) u) (Bound w) (omega arith) (rw (le-ltb 127 n (omega arith)) at e))
+bound-held s u w n i l h e = at (held-cases (s .slots) n i (bindingFor (member (s .pool) n) u) (Bound w) l h (rw (le-ltb 127 n (omega arith)) at e))
   where
-    at : ((i ≡ n) × (slotFor (member (s .pool) n) u .held ≡ Bound w)) ⊎ ((i ≡ n → ⊥) × (heldAt (s .slots) i ≡ Bound w)) → (heldAt (s .slots) i ≡ Bound w) ⊎ ((i ≡ n) × (u ≡ w))
+    at : ((i ≡ n) × (bindingFor (member (s .pool) n) u ≡ Bound w)) ⊎ ((i ≡ n → ⊥) × (heldAt (s .slots) i ≡ Bound w)) → (heldAt (s .slots) i ≡ Bound w) ⊎ ((i ≡ n) × (u ≡ w))
     at (inl q) = inr (q .0, slot-held (member (s .pool) n) u w (q .1))
     at (inr q) = inl (q .1)
 
 -- what an address is known for once its Assign has completed
-bound-there : (s : Controller) (u : Udid) (n : ℕ) → length (s .slots) ≡ 128 → n < 128 → heldAt (bound s u n .slots) n ≡ slotFor (member (s .pool) n) u .held
+bound-there : (s : Controller) (u : Udid) (n : ℕ) → Sized128 (s .slots) → n < 128 → heldAt (bound s u n .slots) n ≡ bindingFor (member (s .pool) n) u
 unfolding bound
-bound-there s u n l h = rw (le-ltb 127 n (omega arith)) (held-same (s .slots) n (slotFor (member (s .pool) n) u) (omega arith))
+bound-there s u n l h = rw (le-ltb 127 n (omega arith)) (held-same (s .slots) n (bindingFor (member (s .pool) n) u) l h)
 
 bound-elsewhere : (s : Controller) (u : Udid) (n i : ℕ) → n < 128 → (i ≡ n → ⊥) → heldAt (bound s u n .slots) i ≡ heldAt (s .slots) i
 unfolding bound
-bound-elsewhere s u n i h q = rw (le-ltb 127 n (omega arith)) (held-other (s .slots) n i (slotFor (member (s .pool) n) u) q)
+bound-elsewhere s u n i h q = rw (le-ltb 127 n (omega arith)) (held-other (s .slots) n i (bindingFor (member (s .pool) n) u) q)
 
 -- ---- a step
 
 -- through a reply: the slots are as they were, or with an identifier freed
-module _ (P : List Slot → Type 0) (s : Controller) (p : P (s .slots)) (f : (u : Udid) → P (freed s u .slots)) where
+module _ (P : Slots → Type 0) (s : Controller) (p : P (s .slots)) (f : (u : Udid) → P (freed s u .slots)) where
   issued-slots : (u : Udid) (k : Free) → P (issued (freed s u) u k .state .slots)
   issued-slots u (At a) = f u
   issued-slots u AllUsed = f u
@@ -145,7 +147,7 @@ prepare-slots s (Refused w k) xs = go (isNack w)
     go false = refl
 
 -- through the answer to an Assign: the slots are as they were, or with the target bound by the trace of that Assign
-module _ (P : List Slot → Type 0) (s : Controller) (u : Udid) (a : Address) (tr : List ℕ) (p : P (s .slots)) (f : tr ≡ traceOf (Send (Assign u a)) [] → P (bound s u (a .0) .slots)) where
+module _ (P : Slots → Type 0) (s : Controller) (u : Udid) (a : Address) (tr : List ℕ) (p : P (s .slots)) (f : tr ≡ traceOf (Send (Assign u a)) [] → P (bound s u (a .0) .slots)) where
   as-was : P (asked s .state .slots)
   as-was = subst P (sym (asked-slots s)) p
 
@@ -176,11 +178,11 @@ module _ (occupied : Pool) (s : Controller) (tr : List ℕ) (g : GoodState occup
               inr (q ∙ m, t ∙ ap (λ (x : Handed). traceOf x []) m)
 
       go : (k : Handed) → s .last ≡ k → PendingIn s k → heldAt (byCommand s tr k .state .slots) a ≡ Bound w → From w a
-      go (Send Prepare) q p k = inl (ap (λ (x : List Slot). heldAt x a) (sym (prepare-slots s (answer sendByte tr) (sentIn sendByte tr))) ∙ k)
+      go (Send Prepare) q p k = inl (ap (λ (x : Slots). heldAt x a) (sym (prepare-slots s (answer sendByte tr) (sentIn sendByte tr))) ∙ k)
       go (Send GetUdid) q p k =
-          inl (get-slots (λ (x : List Slot). heldAt x a ≡ Bound w → heldAt (s .slots) a ≡ Bound w) s (λ h. h) (λ u h. freed-held s u w a (g .0 .sound .size) h)
+          inl (get-slots (λ (x : Slots). heldAt x a ≡ Bound w → heldAt (s .slots) a ≡ Bound w) s (λ h. h) (λ u h. freed-held s u w a (g .0 .sound .size) h)
           (answer blockRead tr) (receivedIn blockRead tr) k)
-      go (Send (Assign u b)) q p k = assign-slots (λ (x : List Slot). heldAt x a ≡ Bound w → From w a) s u b tr (λ h. inl h) (λ t h. bound-by u b q p t h) (answer blockWrite tr) refl k
+      go (Send (Assign u b)) q p k = assign-slots (λ (x : Slots). heldAt x a ≡ Bound w → From w a) s u b tr (λ h. inl h) (λ t h. bound-by u b q p t h) (answer blockWrite tr) refl k
       go (Wait e) q p k = inl k
 
   -- an address claimed by two stays so
@@ -203,12 +205,12 @@ module _ (occupied : Pool) (s : Controller) (tr : List ℕ) (g : GoodState occup
           at (yes q) =
               ap (heldAt (bound s u (b .0) .slots)) q
               ∙ bound-there s u (b .0) (g .0 .sound .size) (p .small)
-              ∙ ap (λ (x : Bool). slotFor x u .held) (ap (member (s .pool)) (sym q) ∙ used)
+              ∙ ap (λ (x : Bool). bindingFor x u) (ap (member (s .pool)) (sym q) ∙ used)
 
       go : (k : Handed) → PendingIn s k → heldAt (byCommand s tr k .state .slots) a ≡ Claimed
-      go (Send Prepare) p = ap (λ (x : List Slot). heldAt x a) (prepare-slots s (answer sendByte tr) (sentIn sendByte tr)) ∙ e
-      go (Send GetUdid) p = get-slots (λ (x : List Slot). heldAt x a ≡ Claimed) s e (λ u. freed-claims s u a e) (answer blockRead tr) (receivedIn blockRead tr)
-      go (Send (Assign u b)) p = assign-slots (λ (x : List Slot). heldAt x a ≡ Claimed) s u b tr e (λ t. claimed-by u b p) (answer blockWrite tr) refl
+      go (Send Prepare) p = ap (λ (x : Slots). heldAt x a) (prepare-slots s (answer sendByte tr) (sentIn sendByte tr)) ∙ e
+      go (Send GetUdid) p = get-slots (λ (x : Slots). heldAt x a ≡ Claimed) s e (λ u. freed-claims s u a e) (answer blockRead tr) (receivedIn blockRead tr)
+      go (Send (Assign u b)) p = assign-slots (λ (x : Slots). heldAt x a ≡ Claimed) s u b tr e (λ t. claimed-by u b p) (answer blockWrite tr) refl
       go (Wait i) p = e
 
   -- an Assign that completes: its target is bound there, or the address is claimed where it was in the pool
@@ -220,12 +222,12 @@ module _ (occupied : Pool) (s : Controller) (tr : List ℕ) (g : GoodState occup
       let h : a < 128 = p .small in
       ap (λ (k : Handed). lookedUp (byCommand s tr k .state) a) q
       ∙ ap (λ (x : Stepped). lookedUp (x .state) a) (assign-whole s u (address a) tr (p .fits) t)
-      ∙ ap (λ (x : List Slot). pick (ltb 127 a) found.NoAddress (seen (heldAt x a))) (asked-slots (bound s u a))
+      ∙ ap (λ (x : Slots). pick (ltb 127 a) found.NoAddress (seen (heldAt x a))) (asked-slots (bound s u a))
       ∙ ap (λ (b : Bool). pick b found.NoAddress (seen (heldAt (bound s u a .slots) a))) (le-ltb 127 a (omega arith))
       ∙ ap seen (bound-there s u a (g .0 .sound .size) h)
       ∙ known (member (s .pool) a)
     where
-      known : (b : Bool) → seen (slotFor b u .held) ≡ pick b found.Two (found.Bound u)
+      known : (b : Bool) → seen (bindingFor b u) ≡ pick b found.Two (found.Bound u)
       known true = refl
       known false = refl
 

@@ -3,22 +3,16 @@ use Prim.Native.Nat.{ℕ, zero, suc}
 use mathlib.Core.Bool.{Bool, false}
 use mathlib.Core.List.{List, [], _∷_}
 use lib.Dec.{ltb}
-use lib.ListN.{getD, set}
 use Rattle.lists.specs.Choice.{pick}
 use Rattle.pool.specs.Pools.{member, withAddress, withoutAddress}
 use Rattle.udid.specs.Udids.{sameUdid}
 use Rattle.udid.specs.declared.Udid.{Udid}
+use Rattle.arp.specs.Slots.{heldAt, withBinding}
+use Rattle.arp.specs.State.{withPool, withSlots}
+use Rattle.arp.specs.declared.slots.Slots.{Slots}
 use Rattle.arp.specs.declared.state.Binding.{Binding}
 use Rattle.arp.specs.declared.state.Binding.the-variants.{Open, Bound, Claimed}
 use Rattle.arp.specs.declared.state.Controller.{Controller}
-use Rattle.arp.specs.declared.state.Slot.{Slot}
-
-abbrev pub openSlot : Slot
-openSlot = record { held = Open }
-
--- what an address is known for
-abbrev pub heldAt : List Slot → ℕ → Binding
-heldAt slots a = getD slots a openSlot .held
 
 -- the target that is bound, where one is
 abbrev pub boundIn : Binding → List Udid
@@ -35,33 +29,25 @@ abbrev pub boundTo : Udid → Binding → Bool
 boundTo u h = isOnly u (boundIn h)
 
 -- the first of the n addresses from a on that u is bound to, or 128
-unfoldable pub findFrom : Udid → List Slot → ℕ → ℕ → ℕ
+unfoldable pub findFrom : Udid → Slots → ℕ → ℕ → ℕ
 findFrom u slots zero a = 128
 findFrom u slots (suc n) a = pick (boundTo u (heldAt slots a)) a (findFrom u slots n (suc a))
 
 -- the address a is open, and out of the pool
 abbrev pub freedAt : Controller → ℕ → Controller
-freedAt s a =
-    record { starting = s .starting; pool = withoutAddress (s .pool) a; slots = set (s .slots) a openSlot; gets = s .gets; last = s .last }
+freedAt s a = withPool (withSlots s (withBinding (s .slots) a Open)) (withoutAddress (s .pool) a)
 
 -- u is unbound and its address free; as it was where u is not bound
 unfoldable pub freed : Controller → Udid → Controller
 freed s u = pick (ltb 127 (findFrom u (s .slots) 128 0)) s (freedAt s (findFrom u (s .slots) 128 0))
 
--- after an Assign that completed: claimed by two where the address was in the pool
-abbrev pub slotFor : Bool → Udid → Slot
-slotFor taken u = pick taken (record { held = Claimed }) (record { held = Bound u })
+-- what an address is known for after an Assign that completed: claimed by two where the address was in the pool
+abbrev pub bindingFor : Bool → Udid → Binding
+bindingFor taken u = pick taken Claimed (Bound u)
 
 -- u is bound to a, or a is claimed; a is in the pool then
 abbrev pub boundAt : Controller → Udid → ℕ → Controller
-boundAt s u a =
-    record {
-      starting = s .starting;
-      pool = withAddress (s .pool) a;
-      slots = set (s .slots) a (slotFor (member (s .pool) a) u);
-      gets = s .gets;
-      last = s .last;
-    }
+boundAt s u a = withPool (withSlots s (withBinding (s .slots) a (bindingFor (member (s .pool) a) u))) (withAddress (s .pool) a)
 
 -- a number above 127 is no address: nothing is bound
 unfoldable pub bound : Controller → Udid → ℕ → Controller

@@ -2,7 +2,7 @@
 use Prim.Native.Nat.{ℕ, _+_, _/_}
 use mathlib.Core.List.{List}
 use lib.Dec.{leb, eqb}
-use lib.ListN.{getD, replicate}
+use lib.ListN.{getD}
 use Rattle.lists.specs.Choice.{pick}
 use Rattle.wire.specs.declared.address.Address.{Address}
 use Rattle.trace.specs.declared.transaction.Transaction.{Transaction}
@@ -18,8 +18,10 @@ use Rattle.pool.specs.declared.free.Free.the-variants.{At, AllUsed}
 use Rattle.udid.specs.Bytes.{udidAt}
 use Rattle.udid.specs.Udids.{isFixed}
 use Rattle.udid.specs.declared.Udid.{Udid}
-use Rattle.arp.specs.Bindings.{openSlot, freed, bound}
+use Rattle.arp.specs.Bindings.{freed, bound}
+use Rattle.arp.specs.Slots.{noBindings}
 use Rattle.arp.specs.Heard.{sendByte, blockRead, blockWrite, answer, sentIn, receivedIn, isPrepare, isGet, isAssign, nobody}
+use Rattle.arp.specs.State.{withPool, withSlots, withGets, withLast}
 use Rattle.arp.specs.declared.command.Command.the-variants.{Prepare, GetUdid, Assign}
 use Rattle.arp.specs.declared.command.End.the-variants.{Nothing, Ended, NoneFree, Abandoned, NotOutstanding}
 use Rattle.arp.specs.declared.command.Handed.{Handed}
@@ -29,23 +31,19 @@ use Rattle.arp.specs.declared.state.Stepped.{Stepped}
 
 abbrev pub newController : Pool → Controller
 newController occupied =
-    record { starting = startingPool occupied; pool = startingPool occupied; slots = replicate 128 openSlot; gets = 0; last = Wait Nothing }
-
--- starting a pass empties all bindings and claims and sets the pool back to the starting pool
-abbrev pub started : Controller → Stepped
-started s =
-    record {
-      state = record { starting = s .starting; pool = s .starting; slots = replicate 128 openSlot; gets = 0; last = Send Prepare };
-      command = Send Prepare;
-    }
+    record { starting = startingPool occupied; pool = startingPool occupied; slots = noBindings; gets = 0; last = Wait Nothing }
 
 -- the state with k handed out
 abbrev pub handed : Controller → Handed → Stepped
-handed s k = record { state = record { starting = s .starting; pool = s .pool; slots = s .slots; gets = s .gets; last = k }; command = k }
+handed s k = record { state = withLast s k; command = k }
+
+-- starting a pass empties all bindings and claims and sets the pool back to the starting pool
+abbrev pub started : Controller → Stepped
+started s = handed (withGets (withSlots (withPool s (s .starting)) noBindings) 0) (Send Prepare)
 
 -- one Get UDID more is counted
 abbrev pub counted : Controller → Controller
-counted s = record { starting = s .starting; pool = s .pool; slots = s .slots; gets = s .gets + 1; last = s .last }
+counted s = withGets s (s .gets + 1)
 
 -- Get UDID; when it would be the 129th of the pass: 14
 unfoldable pub asked : Controller → Stepped

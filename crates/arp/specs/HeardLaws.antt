@@ -21,7 +21,7 @@ use Rattle.step.specs.Numbers.{decodeNumber}
 use Rattle.step.specs.declared.answer.Decoded.{Decoded}
 use Rattle.step.specs.declared.answer.Decoded.the-variants.{Done, Refused}
 use Rattle.decode.specs.OutcomeLaws.{answer-by-trace}
-use Rattle.decode.specs.Outcome.{short, answered, Outcome}
+use Rattle.decode.specs.Outcome.{short, answeredBy, answered, Outcome}
 use Rattle.udid.specs.Bytes.{number, bytesFrom, udidAt}
 use Rattle.udid.specs.Udids.{sameUdid}
 use Rattle.udid.specs.declared.Udid.{Udid}
@@ -56,7 +56,7 @@ abbrev zeros : List ℕ
 zeros = replicate 255 0
 
 answered-long : (protocol : ℕ) (tr : List ℕ) → forbidden protocol true ≡ false → answer protocol tr ≡ answered protocol true tr (length zeros) (length zeros)
-unfolding answered
+unfolding answeredBy
 answered-long protocol tr f = rw f
 
 -- decode gives a number for a trace exactly if it is that of the answer heard

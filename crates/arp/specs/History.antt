@@ -4,7 +4,6 @@ use mathlib.Core.Path.{_≡_}
 use mathlib.Core.Bool.{Bool, true, false}
 use mathlib.Core.List.{List, [], _∷_}
 use mathlib.Core.Logic.{_⊎_}
-use lib.ListN.{length}
 use Rattle.lists.specs.Choice.{and, not}
 use Rattle.pool.specs.Counts.{count}
 use Rattle.pool.specs.Free.{used}
@@ -12,7 +11,7 @@ use Rattle.pool.specs.Pools.{member}
 use Rattle.pool.specs.Start.{startingPool}
 use Rattle.pool.specs.declared.Pool.{Pool}
 use Rattle.udid.specs.declared.Udid.{Udid}
-use Rattle.arp.specs.Bindings.{heldAt}
+use Rattle.arp.specs.Slots.{Sized128, heldAt}
 use Rattle.arp.specs.Controller.{newController, started, stepped}
 use Rattle.arp.specs.Requests.{traceOf}
 use Rattle.arp.specs.declared.command.Command.the-variants.{Prepare, GetUdid, Assign}
@@ -84,7 +83,7 @@ pub record Invariant (occupied : Pool) (s : Controller) : Type 0 where
   -- the used addresses are those of the starting pool and the bound and claimed ones: together they number the used ones
   pub number : used (s .pool) ≡ used (s .starting) + count (isNew s) 128
   -- there is a slot for each address, and at most 128 Get UDIDs were sent
-  pub size : length (s .slots) ≡ 128
+  pub size : Sized128 (s .slots)
   pub gets : s .gets ≤ 128
 
 -- 1 for a Get UDID

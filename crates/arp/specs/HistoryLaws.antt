@@ -27,9 +27,11 @@ use Rattle.udid.specs.Udids.{Fits}
 use Rattle.udid.specs.WindowLaws.{byte-at}
 use Rattle.udid.specs.declared.Udid.{Udid}
 use Rattle.arp.specs.ChosenLaws.{chosen-small-and-free}
-use Rattle.arp.specs.SoundLaws.{sound-open, sound-freed, sound-bound, open-all}
+use Rattle.arp.specs.SoundLaws.{sound-open, sound-freed, sound-bound}
+use Rattle.arp.specs.SlotsLaws.{open-all}
 use Rattle.arp.specs.Sound.{SoundIn, Good, Pending, PendingIn, GoodState}
-use Rattle.arp.specs.Bindings.{heldAt, findFrom, freedAt, freed, boundAt, bound}
+use Rattle.arp.specs.Bindings.{findFrom, freedAt, freed, boundAt, bound}
+use Rattle.arp.specs.Slots.{heldAt}
 use Rattle.arp.specs.Controller.{handed, counted, asked, chosen, issued, replied, onReply, onPrepare, onGet, onAssign, afterPrepare, afterGet, afterAssign, byCommand, stepped, newController}
 use Rattle.arp.specs.Heard.{sendByte, blockRead, blockWrite, answer, sentIn, receivedIn, isPrepare, isGet, isAssign}
 use Rattle.arp.specs.History.{Event, Start, Received, run, isHeld, Invariant, New}

@@ -1,4 +1,6 @@
 pub mod Codes
+pub mod Slots
+pub mod State
 pub mod Bindings
 pub mod Heard
 pub mod Controller
@@ -15,6 +17,8 @@ pub mod Replay
 pub mod Reading
 pub mod Story
 pub mod OneStep
+pub mod SlotsLaws
+pub mod StateLaws
 pub mod RequestLaws
 pub mod SendingLaws
 pub mod TraceLaws

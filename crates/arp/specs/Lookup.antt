@@ -2,7 +2,7 @@
 use Prim.Native.Nat.{ℕ}
 use lib.Dec.{ltb}
 use Rattle.lists.specs.Choice.{pick}
-use Rattle.arp.specs.Bindings.{heldAt}
+use Rattle.arp.specs.Slots.{heldAt}
 use Rattle.arp.specs.declared.lookup.Found.{Found}
 use Rattle.arp.specs.declared.lookup.Found.the-variants.{Bound, Nobody, Two, NoAddress}
 use Rattle.arp.specs.declared.state.Binding.{Binding}

@@ -29,18 +29,19 @@ use Rattle.arp.specs.HeardLaws.{gives-exactly}
 use Rattle.arp.specs.RequestLaws.{valid-get, reply-symbols}
 use Rattle.arp.specs.TraceLaws.{decoded-back, complete-get-is-its-trace, complete-get-data-fits}
 use Rattle.arp.specs.SoundLaws.{bound-to-is-bound}
-use Rattle.arp.specs.Bindings.{heldAt, boundTo}
+use Rattle.arp.specs.Bindings.{boundTo}
 use Rattle.arp.specs.Heard.{blockRead, answer, receivedIn, isGet}
 use Rattle.arp.specs.CommandTraces.{replyTrace, Reply}
 use Rattle.arp.specs.OneStep.{Gives, Hands, Asks, Chooses, Keeps, Same, BoundAt, Unbinds, Binds, Continues, EndsWith, Replies, Alike}
 use Rattle.arp.specs.Requests.{messageOf}
+use Rattle.arp.specs.Slots.{heldAt}
 use Rattle.arp.specs.declared.command.Command.the-variants.{GetUdid, Assign}
 use Rattle.arp.specs.declared.command.End.the-variants.{NoneFree}
 use Rattle.arp.specs.declared.command.Handed.{Handed}
 use Rattle.arp.specs.declared.command.Handed.the-variants.{Send, Wait}
 use Rattle.arp.specs.declared.state.Binding.the-variants.{Bound}
 use Rattle.arp.specs.declared.state.Controller.{Controller}
-use Rattle.arp.specs.declared.state.Slot.{Slot}
+use Rattle.arp.specs.declared.slots.Slots.{Slots}
 use Rattle.arp.specs.declared.state.Stepped.{Stepped}
 
 -- ---- every trace
@@ -122,7 +123,7 @@ asks-both s r q h g e = go (decLt (s .gets) 128)
 
 keeps-both : (s t v : Controller) → Keeps s t → Keeps s v → (a : ℕ) → Same v t a
 keeps-both s t v h g a = (
-  ap (λ (x : List Slot). heldAt x a) (h .slots ∙ sym (g .slots)),
+  ap (λ (x : Slots). heldAt x a) (h .slots ∙ sym (g .slots)),
   ap (λ (p : Pool). member p a) (h .pool ∙ sym (g .pool)),
 )
 
@@ -144,7 +145,7 @@ binds-alike u n s r q h g = asks-both s r q (h .0) (g .0) (λ a. at a (ℕ-discr
     at a (yes m) true e = subst (Same (q .state) (r .state)) (sym m) (h .1 .taken e ∙ sym (g .1 .taken e), h .1 .used ∙ sym (g .1 .used))
 
 -- an identifier is bound to an address first, or not
-module _ (slots : List Slot) (u : Udid) where
+module _ (slots : Slots) (u : Udid) where
   bound-here : (a : ℕ) → Dec (heldAt slots a ≡ Bound u)
   bound-here a = go (boundTo u (heldAt slots a)) refl
     where

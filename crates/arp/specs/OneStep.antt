@@ -14,14 +14,14 @@ use Rattle.pool.specs.Pools.{member}
 use Rattle.pool.specs.declared.Pool.{Pool}
 use Rattle.udid.specs.Bytes.{udidBytes}
 use Rattle.udid.specs.declared.Udid.{Udid}
-use Rattle.arp.specs.Bindings.{heldAt}
+use Rattle.arp.specs.Slots.{heldAt}
 use Rattle.arp.specs.declared.command.Command.the-variants.{GetUdid, Assign}
 use Rattle.arp.specs.declared.command.End.the-variants.{NoneFree, Abandoned}
 use Rattle.arp.specs.declared.command.Handed.{Handed}
 use Rattle.arp.specs.declared.command.Handed.the-variants.{Send, Wait}
 use Rattle.arp.specs.declared.state.Binding.the-variants.{Open, Bound, Claimed}
 use Rattle.arp.specs.declared.state.Controller.{Controller}
-use Rattle.arp.specs.declared.state.Slot.{Slot}
+use Rattle.arp.specs.declared.slots.Slots.{Slots}
 use Rattle.arp.specs.declared.state.Stepped.{Stepped}
 
 -- ---- the decoder's number
@@ -74,7 +74,7 @@ abbrev pub Same : Controller → Controller → ℕ → Type 0
 Same s t a = (heldAt (t .slots) a ≡ heldAt (s .slots) a) × (member (t .pool) a ≡ member (s .pool) a)
 
 -- the address that an identifier is bound to: the lowest one, and the only one in every state that is reached
-pub record BoundAt (slots : List Slot) (u : Udid) (a : ℕ) : Type 0 where
+pub record BoundAt (slots : Slots) (u : Udid) (a : ℕ) : Type 0 where
   pub here : heldAt slots a ≡ Bound u
   pub lowest : (b : ℕ) → b < a → heldAt slots b ≡ Bound u → ⊥
 

@@ -7,7 +7,7 @@ use mathlib.Core.Logic.{_⊎_, inl, inr}
 use native.Mathlib.Decide.{ℕ-discrete, decLt}
 use native.Mathlib.Omega.{arith}
 use lib.Dec.{ltb, leb}
-use lib.ListN.{length, getD, set, length-append}
+use lib.ListN.{length, getD, length-append}
 use lib.Seq.{getD-at}
 use borrow.Author.Tests.{lt-ltb, le-ltb, lt-leb, le-leb}
 use Rattle.lists.specs.Choice.{pick}
@@ -32,23 +32,25 @@ use Rattle.arp.specs.HandingLaws.{bound-keeps-gets, freed-keeps-gets}
 use Rattle.arp.specs.HeardLaws.{six-exactly}
 use Rattle.arp.specs.OutstandingLaws.{idle-gives-21}
 use Rattle.arp.specs.RequestLaws.{reply-symbols, prepare-symbols, assign-symbols-small}
-use Rattle.arp.specs.SoundLaws.{held-above-is-open, held-same, held-other, bound-to-is-bound, open-is-not-bound, find-cases}
+use Rattle.arp.specs.SoundLaws.{bound-to-is-bound, open-is-not-bound, find-cases}
+use Rattle.arp.specs.SlotsLaws.{held-above-is-open, held-same, held-other}
 use Rattle.arp.specs.TraceLaws as traces
 use Rattle.arp.specs.Sound.{Nowhere}
-use Rattle.arp.specs.Bindings.{openSlot, heldAt, boundTo, findFrom, freedAt, freed, slotFor, boundAt, bound}
+use Rattle.arp.specs.Bindings.{boundTo, findFrom, freedAt, freed, bindingFor, boundAt, bound}
 use Rattle.arp.specs.Controller.{handed, counted, asked, chosen, issued, replied, onAssign, afterAssign, byCommand, stepped}
 use Rattle.arp.specs.Heard.{blockWrite, answer, sentIn, isAssign}
 use Rattle.arp.specs.CommandTraces.{prepareTrace, replyTrace, assignTrace}
 use Rattle.arp.specs.OneStep.{Gives, Hands, Asks, Chooses, Keeps, Same, BoundAt, Unbinds, Binds, Continues, EndsWith, Replies}
 use Rattle.arp.specs.Replay.{noCommand, assigning}
+use Rattle.arp.specs.Slots.{Sized128, heldAt, withBinding}
 use Rattle.arp.specs.declared.command.Command.the-variants.{Prepare, GetUdid, Assign}
 use Rattle.arp.specs.declared.command.End.the-variants.{Ended, NoneFree, Abandoned, NotOutstanding}
 use Rattle.arp.specs.declared.command.Handed.{Handed}
 use Rattle.arp.specs.declared.command.Handed.the-variants.{Send, Wait}
 use Rattle.arp.specs.declared.state.Binding.{Binding}
-use Rattle.arp.specs.declared.state.Binding.the-variants.{Bound}
+use Rattle.arp.specs.declared.state.Binding.the-variants.{Open, Bound}
 use Rattle.arp.specs.declared.state.Controller.{Controller}
-use Rattle.arp.specs.declared.state.Slot.{Slot}
+use Rattle.arp.specs.declared.slots.Slots.{Slots}
 use Rattle.arp.specs.declared.state.Stepped.{Stepped}
 
 -- ---- what is handed out
@@ -87,7 +89,7 @@ ends-with s k = (hands s s k (s .gets) refl refl, record { slots = refl; pool = 
 -- ---- unbinding
 
 -- no address below the one that is found holds the identifier
-find-lowest : (u : Udid) (slots : List Slot) (n a j : ℕ) → a ≤ j → j < findFrom u slots n a → j < a + n → boundTo u (heldAt slots j) ≡ false
+find-lowest : (u : Udid) (slots : Slots) (n a j : ℕ) → a ≤ j → j < findFrom u slots n a → j < a + n → boundTo u (heldAt slots j) ≡ false
 unfolding findFrom
 find-lowest u slots zero a j l h k = absurd (omega arith)
 find-lowest u slots (suc n) a j l h k = go (boundTo u (heldAt slots a)) refl h (ℕ-discrete a j) (λ m q. find-lowest u slots n (suc a) j m q (omega arith))
@@ -98,7 +100,7 @@ find-lowest u slots (suc n) a j l h k = go (boundTo u (heldAt slots a)) refl h (
     go false e q (yes d) ih = ap (λ (x : ℕ). boundTo u (heldAt slots x)) (sym d) ∙ e
     go false e q (no d) ih = ih (omega arith) q
 
-module _ (s : Controller) (u : Udid) (size : length (s .slots) ≡ 128) where
+module _ (s : Controller) (u : Udid) (size : Sized128 (s .slots)) where
   -- what holds the identifier is bound to it
   never : (h : Binding) → boundTo u h ≡ false → h ≡ Bound u → ⊥
   never h e q = let z : _≡_ {A = ℕ} 0 1 = cc (sym e ∙ ap (boundTo u) q ∙ same-refl u) in omega arith
@@ -108,7 +110,7 @@ module _ (s : Controller) (u : Udid) (size : length (s .slots) ≡ 128) where
     where
       gone : (a : ℕ) → BoundAt (s .slots) u a → Dec (a < 128) → ⊥
       gone a w (yes h) = never (heldAt (s .slots) a) (n a (omega arith) h) (w .here)
-      gone a w (no h) = open-is-not-bound (heldAt (s .slots) a) u (held-above-is-open (s .slots) a size (omega arith)) (w .here)
+      gone a w (no h) = open-is-not-bound (heldAt (s .slots) a) u (held-above-is-open (s .slots) a (omega arith)) (w .here)
 
   module _ (f : ℕ) (h : f < 128) (e : boundTo u (heldAt (s .slots) f) ≡ true) (below : (j : ℕ) → j < f → boundTo u (heldAt (s .slots) j) ≡ false) where
     found : BoundAt (s .slots) u f
@@ -125,14 +127,14 @@ module _ (s : Controller) (u : Udid) (size : length (s .slots) ≡ 128) where
     unbinds-at : Unbinds u s (freedAt s f)
     unbinds-at = record {
       there = λ a w. (
-        ap (heldAt (set (s .slots) f openSlot)) (it a w) ∙ held-same (s .slots) f openSlot (omega (arith, size)),
+        ap (heldAt (withBinding (s .slots) f Open)) (it a w) ∙ held-same (s .slots) f Open size h,
         ap (member (freedAt s f .pool)) (it a w) ∙ has-without-same (s .pool) f,
       );
       elsewhere = λ a n. other a (λ q. n (subst (BoundAt (s .slots) u) (sym q) found));
     }
       where
         other : (a : ℕ) → (a ≡ f → ⊥) → Same s (freedAt s f) a
-        other a n = (held-other (s .slots) f a openSlot n, has-without-other (s .pool) f a n)
+        other a n = (held-other (s .slots) f a Open n, has-without-other (s .pool) f a n)
 
   unbinds : Unbinds u s (freed s u)
   unfolding freed
@@ -145,18 +147,18 @@ module _ (s : Controller) (u : Udid) (size : length (s .slots) ≡ 128) where
 
 -- ---- binding
 
-module _ (s : Controller) (u : Udid) (a : ℕ) (size : length (s .slots) ≡ 128) (h : a < 128) where
-  slot-is : (b : Bool) → member (s .pool) a ≡ b → heldAt (boundAt s u a .slots) a ≡ slotFor b u .held
+module _ (s : Controller) (u : Udid) (a : ℕ) (size : Sized128 (s .slots)) (h : a < 128) where
+  slot-is : (b : Bool) → member (s .pool) a ≡ b → heldAt (boundAt s u a .slots) a ≡ bindingFor b u
   slot-is b e =
-      held-same (s .slots) a (slotFor (member (s .pool) a) u) (omega (arith, size))
-      ∙ ap (λ (x : Bool). slotFor x u .held) e
+      held-same (s .slots) a (bindingFor (member (s .pool) a) u) size h
+      ∙ ap (λ (x : Bool). bindingFor x u) e
 
   binds-at : Binds u a s (boundAt s u a)
   binds-at = record {
     free = λ e. slot-is false e;
     taken = λ e. slot-is true e;
     used = has-with-same (s .pool) a h;
-    elsewhere = λ b n. (held-other (s .slots) a b (slotFor (member (s .pool) a) u) n, has-with-other (s .pool) a b n);
+    elsewhere = λ b n. (held-other (s .slots) a b (bindingFor (member (s .pool) a) u) n, has-with-other (s .pool) a b n);
   }
 
   binds : Binds u a s (bound s u a)
@@ -166,11 +168,11 @@ module _ (s : Controller) (u : Udid) (a : ℕ) (size : length (s .slots) ≡ 128
 -- what was done to the addresses stands when Get UDID is due
 binds-kept : (u : Udid) (a : ℕ) (s t r : Controller) → Binds u a s t → Keeps t r → Binds u a s r
 binds-kept u a s t r b k = record {
-  free = λ e. ap (λ (x : List Slot). heldAt x a) (k .slots) ∙ b .free e;
-  taken = λ e. ap (λ (x : List Slot). heldAt x a) (k .slots) ∙ b .taken e;
+  free = λ e. ap (λ (x : Slots). heldAt x a) (k .slots) ∙ b .free e;
+  taken = λ e. ap (λ (x : Slots). heldAt x a) (k .slots) ∙ b .taken e;
   used = ap (λ (p : Pool). member p a) (k .pool) ∙ b .used;
   elsewhere = λ c n. (
-    ap (λ (x : List Slot). heldAt x c) (k .slots) ∙ b .elsewhere c n .0,
+    ap (λ (x : Slots). heldAt x c) (k .slots) ∙ b .elsewhere c n .0,
     ap (λ (p : Pool). member p c) (k .pool) ∙ b .elsewhere c n .1,
   );
 }
@@ -210,7 +212,7 @@ module _ (p : Pool) (u : Udid) (b : ℕ) (f : Fits u) where
     own = λ n l m. ap (assigning u) (chosen-movable-own p u b n (movable-first u f .1 l) m);
   }
 
-module _ (s : Controller) (u : Udid) (b : ℕ) (f : Fits u) (size : length (s .slots) ≡ 128) where
+module _ (s : Controller) (u : Udid) (b : ℕ) (f : Fits u) (size : Sized128 (s .slots)) where
   replies-with : (k : Free) → k ≡ chosen (freed s u .pool) u b → Replies s u b (issued (freed s u) u k)
   replies-with (At a) e = record {
     unbinds = record { there = unbinds s u size .there; elsewhere = unbinds s u size .elsewhere };
@@ -285,7 +287,7 @@ module _ (s : Controller) (tr : List ℕ) where
       (continues s)
 
   -- a reply of 17 bytes
-  pub get-reply : length (s .slots) ≡ 128 → s .last ≡ Send GetUdid → (u : Udid) (b : ℕ) → Fits u → b < 256 → tr ≡ replyTrace (udidBytes u ++ b ∷ []) → Replies s u b (stepped s tr)
+  pub get-reply : Sized128 (s .slots) → s .last ≡ Send GetUdid → (u : Udid) (b : ℕ) → Fits u → b < 256 → tr ≡ replyTrace (udidBytes u ++ b ∷ []) → Replies s u b (stepped s tr)
   get-reply size e u b f h q =
       let xs : List ℕ = udidBytes u ++ b ∷ [] in
       let n : length (udidBytes u ++ b ∷ []) ≡ 17 = omega (arith, length-append (udidBytes u) (b ∷ []), length-udid u) in
@@ -298,7 +300,7 @@ module _ (s : Controller) (tr : List ℕ) where
       (replies s u b f size)
 
   -- Assign complete: bind, and add to the pool; then Get UDID
-  pub assign-whole : length (s .slots) ≡ 128 → (u : Udid) (a : Address) → s .last ≡ Send (Assign u a) → Fits u → a .0 < 128 → tr ≡ assignTrace (udidBytes u) (2 * a .0)
+  pub assign-whole : Sized128 (s .slots) → (u : Udid) (a : Address) → s .last ≡ Send (Assign u a) → Fits u → a .0 < 128 → tr ≡ assignTrace (udidBytes u) (2 * a .0)
       → Asks s (stepped s tr) × Binds u (a .0) s (stepped s tr .state)
   assign-whole size u a e f h q =
       subst (λ (r : Stepped). Asks s r × Binds u (a .0) s (r .state))

@@ -20,7 +20,7 @@ use Rattle.pool.specs.declared.free.Free.the-variants.{At, AllUsed}
 use Rattle.udid.specs.Bytes.{udidAt}
 use Rattle.udid.specs.Udids.{sameUdid, isFixed}
 use Rattle.udid.specs.declared.Udid.{Udid}
-use Rattle.arp.specs.Bindings.{heldAt}
+use Rattle.arp.specs.Slots.{heldAt}
 use Rattle.arp.specs.Controller.{started, stepped}
 use Rattle.arp.specs.Heard.{answer, sentIn, receivedIn}
 use Rattle.arp.specs.History.{Event, Start, Received, run}

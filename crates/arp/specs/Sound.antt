@@ -3,26 +3,25 @@
 use Prim.Native.Nat.{ℕ, _≤_, _<_}
 use mathlib.Core.Path.{_≡_}
 use mathlib.Core.Bool.{false}
-use mathlib.Core.List.{List}
-use lib.ListN.{length}
 use Rattle.lists.specs.Choice.{or}
 use Rattle.pool.specs.Pools.{member}
 use Rattle.pool.specs.Start.{startingPool}
 use Rattle.pool.specs.declared.Pool.{Pool}
 use Rattle.udid.specs.Udids.{Fits, isFixed}
 use Rattle.udid.specs.declared.Udid.{Udid}
-use Rattle.arp.specs.Bindings.{heldAt, boundTo}
+use Rattle.arp.specs.Bindings.{boundTo}
 use Rattle.arp.specs.History.{isHeld}
+use Rattle.arp.specs.Slots.{Sized128, heldAt}
 use Rattle.arp.specs.declared.command.Command.the-variants.{Prepare, GetUdid, Assign}
 use Rattle.arp.specs.declared.command.Handed.{Handed}
 use Rattle.arp.specs.declared.command.Handed.the-variants.{Send, Wait}
 use Rattle.arp.specs.declared.state.Binding.the-variants.{Bound}
 use Rattle.arp.specs.declared.state.Controller.{Controller}
-use Rattle.arp.specs.declared.state.Slot.{Slot}
+use Rattle.arp.specs.declared.slots.Slots.{Slots}
 
 -- of the starting pool, the pool and the slots: the pool has the starting addresses and those that are bound or claimed, and no others
-pub record Sound (starting pool : Pool) (slots : List Slot) : Type 0 where
-  pub size : length slots ≡ 128
+pub record Sound (starting pool : Pool) (slots : Slots) : Type 0 where
+  pub size : Sized128 slots
   pub once : (i j : ℕ) (u : Udid) → heldAt slots i ≡ Bound u → heldAt slots j ≡ Bound u → i ≡ j
   pub new : (a : ℕ) (u : Udid) → heldAt slots a ≡ Bound u → member starting a ≡ false
   pub exact : (a : ℕ) → member pool a ≡ or (member starting a) (isHeld (heldAt slots a))
@@ -31,11 +30,11 @@ abbrev pub SoundIn : Controller → Type 0
 SoundIn s = Sound (s .starting) (s .pool) (s .slots)
 
 -- u is bound nowhere
-abbrev pub Unbound : Udid → List Slot → Type 0
+abbrev pub Unbound : Udid → Slots → Type 0
 Unbound u slots = (i : ℕ) → boundTo u (heldAt slots i) ≡ false
 
 -- u is bound to none of the addresses from a on
-abbrev pub Nowhere : Udid → List Slot → ℕ → Type 0
+abbrev pub Nowhere : Udid → Slots → ℕ → Type 0
 Nowhere u slots a = (j : ℕ) → a ≤ j → j < 128 → boundTo u (heldAt slots j) ≡ false
 
 -- a state without what was handed out last

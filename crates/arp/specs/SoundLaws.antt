@@ -1,4 +1,4 @@
--- Unbinding and binding keep the slots and the pool sound (specs/Sound.antt); what slots hold after a store, and where an identifier is found.
+-- Unbinding and binding keep the slots and the pool sound (specs/Sound.antt); where an identifier is found.
 use Prim.Native.Nat.{ℕ, zero, suc, _+_, _≤_, _<_}
 use mathlib.Core.Path.{_≡_, refl, sym, ap, ap₂, _∙_}
 use mathlib.Core.Bool.{Bool, true, false}
@@ -7,8 +7,6 @@ use mathlib.Core.Logic.{_⊎_, inl, inr}
 use native.Mathlib.Decide.{ℕ-discrete, decLt}
 use native.Mathlib.Omega.{arith}
 use lib.Dec.{ltb}
-use lib.ListN.{length, set, replicate, length-set, length-replicate, getD-replicate, List·getD-eq-default}
-use lib.Seq.{getD-set-same, getD-set-other}
 use borrow.Author.Tests.{lt-ltb, le-ltb}
 use Rattle.lists.specs.Choice.{pick, or}
 use Rattle.pool.specs.MemberLaws.{has-with-same, has-with-other, has-without-same, has-without-other}
@@ -18,33 +16,16 @@ use Rattle.udid.specs.UdidLaws.{same-equal, same-refl}
 use Rattle.udid.specs.declared.Udid.{Udid}
 use Rattle.arp.specs.Sound.{Sound, SoundIn, Unbound, Nowhere}
 use Rattle.arp.specs.BindingLaws.{bound-in-is}
-use Rattle.arp.specs.Bindings.{openSlot, heldAt, boundIn, isOnly, boundTo, findFrom, freedAt, freed, slotFor, bound}
+use Rattle.arp.specs.Bindings.{boundIn, isOnly, boundTo, findFrom, freedAt, freed, bindingFor, bound}
 use Rattle.arp.specs.History.{isHeld}
+use Rattle.arp.specs.Slots.{heldAt, withBinding, noBindings}
+use Rattle.arp.specs.SlotsLaws.{held-above-is-open, held-same, held-other, held-cases, open-all, sized-none, sized-with}
 use Rattle.arp.specs.declared.state.Binding.{Binding}
 use Rattle.arp.specs.declared.state.Binding.the-variants.{Open, Bound}
 use Rattle.arp.specs.declared.state.Controller.{Controller}
-use Rattle.arp.specs.declared.state.Slot.{Slot}
+use Rattle.arp.specs.declared.slots.Slots.{Slots}
 
--- ---- slots
-
--- past the last address nothing is held
-pub held-above-is-open : (slots : List Slot) (a : ℕ) → length slots ≡ 128 → 128 ≤ a → heldAt slots a ≡ Open
-held-above-is-open slots a l h = ap (λ (x : Slot). x .held) (List·getD-eq-default slots openSlot {n = a} (omega arith))
-
-pub held-same : (slots : List Slot) (a : ℕ) (x : Slot) → a < length slots → heldAt (set slots a x) a ≡ x .held
-held-same slots a x h = ap (λ (y : Slot). y .held) (getD-set-same slots a x openSlot h)
-
-pub held-other : (slots : List Slot) (a i : ℕ) (x : Slot) → (i ≡ a → ⊥) → heldAt (set slots a x) i ≡ heldAt slots i
-held-other slots a i x n = ap (λ (y : Slot). y .held) (getD-set-other slots a i x openSlot n)
-
--- what is held after a store: the stored, or what was there elsewhere
-pub held-cases : (slots : List Slot) (a i : ℕ) (x : Slot) (h : Binding) → a < length slots → heldAt (set slots a x) i ≡ h
-    → ((i ≡ a) × (x .held ≡ h)) ⊎ ((i ≡ a → ⊥) × (heldAt slots i ≡ h))
-held-cases slots a i x h l e = go (ℕ-discrete i a)
-  where
-    go : Dec (i ≡ a) → ((i ≡ a) × (x .held ≡ h)) ⊎ ((i ≡ a → ⊥) × (heldAt slots i ≡ h))
-    go (yes q) = inl (q, sym (held-same slots a x l) ∙ ap (heldAt (set slots a x)) (sym q) ∙ e)
-    go (no q) = inr (q, sym (held-other slots a i x q) ∙ e)
+-- ---- what a slot holds
 
 pub bound-to-is-bound : (u : Udid) (h : Binding) → boundTo u h ≡ true → h ≡ Bound u
 bound-to-is-bound u h e = go (boundIn h) refl e
@@ -58,20 +39,13 @@ open-is-not-bound h u e f = let z : _≡_ {A = ℕ} 0 1 = cc in omega arith
 
 -- ---- where a pass begins
 
-pub open-all : (i : ℕ) → heldAt (replicate 128 openSlot) i ≡ Open
-open-all i = go (decLt i 128)
-  where
-    go : Dec (i < 128) → heldAt (replicate 128 openSlot) i ≡ Open
-    go (yes h) = ap (λ (x : Slot). x .held) (getD-replicate 128 i openSlot openSlot h)
-    go (no h) = held-above-is-open (replicate 128 openSlot) i (length-replicate 128 openSlot) (omega arith)
-
 or-false : (b : Bool) → b ≡ or b false
 or-false true = refl
 or-false false = refl
 
-pub sound-open : (p : Pool) → Sound p p (replicate 128 openSlot)
+pub sound-open : (p : Pool) → Sound p p noBindings
 sound-open p = record {
-  size = length-replicate 128 openSlot;
+  size = sized-none;
   once = λ i j u e f. absurd (open-is-not-bound _ u (open-all i) e);
   new = λ a u e. absurd (open-is-not-bound _ u (open-all a) e);
   exact = λ a. or-false (member p a) ∙ ap (λ (h : Binding). or (member p a) (isHeld h)) (sym (open-all a));
@@ -79,7 +53,7 @@ sound-open p = record {
 
 -- ---- the search for an identifier
 
-pub find-cases : (u : Udid) (slots : List Slot) (n a : ℕ) → a + n ≡ 128
+pub find-cases : (u : Udid) (slots : Slots) (n a : ℕ) → a + n ≡ 128
     → ((findFrom u slots n a ≡ 128) × Nowhere u slots a) ⊎ ((findFrom u slots n a < 128) × (boundTo u (heldAt slots (findFrom u slots n a)) ≡ true))
 unfolding findFrom
 find-cases u slots zero a h = inl (refl, λ j b c. absurd (omega arith))
@@ -97,50 +71,47 @@ find-cases u slots (suc n) a h = go (boundTo u (heldAt slots a)) refl (find-case
         at j b c (yes q) = ap (λ (x : ℕ). boundTo u (heldAt slots x)) (sym q) ∙ e
         at j b c (no q) = r .1 j (omega arith) c
 
-unbound-all : (u : Udid) (slots : List Slot) → length slots ≡ 128 → Nowhere u slots 0 → Unbound u slots
-unbound-all u slots l h i = go (decLt i 128)
+unbound-all : (u : Udid) (slots : Slots) → Nowhere u slots 0 → Unbound u slots
+unbound-all u slots h i = go (decLt i 128)
   where
     go : Dec (i < 128) → boundTo u (heldAt slots i) ≡ false
     go (yes k) = h i (omega arith) k
-    go (no k) = ap (boundTo u) (held-above-is-open slots i l (omega arith))
+    go (no k) = ap (boundTo u) (held-above-is-open slots i (omega arith))
 
 -- ---- freeing an identifier
 
-module _ (starting pool : Pool) (slots : List Slot) (v : Sound starting pool slots) (u : Udid) (f : ℕ) (h : f < 128) (e : boundTo u (heldAt slots f) ≡ true) where
+module _ (starting pool : Pool) (slots : Slots) (v : Sound starting pool slots) (u : Udid) (f : ℕ) (h : f < 128) (e : boundTo u (heldAt slots f) ≡ true) where
   here : heldAt slots f ≡ Bound u
   here = bound-to-is-bound u (heldAt slots f) e
 
-  fits : f < length slots
-  fits = omega (arith, v .size)
-
-  away : (i : ℕ) (w : Udid) → heldAt (set slots f openSlot) i ≡ Bound w → (i ≡ f → ⊥) × (heldAt slots i ≡ Bound w)
-  away i w k = go (held-cases slots f i openSlot (Bound w) fits k)
+  away : (i : ℕ) (w : Udid) → heldAt (withBinding slots f Open) i ≡ Bound w → (i ≡ f → ⊥) × (heldAt slots i ≡ Bound w)
+  away i w k = go (held-cases slots f i Open (Bound w) (v .size) h k)
     where
       go : ((i ≡ f) × (Open ≡ Bound w)) ⊎ ((i ≡ f → ⊥) × (heldAt slots i ≡ Bound w)) → (i ≡ f → ⊥) × (heldAt slots i ≡ Bound w)
       go (inl q) = absurd (let z : _≡_ {A = ℕ} 0 1 = cc (q .1) in omega arith)
       go (inr q) = q
 
-  exactly : (a : ℕ) → member (withoutAddress pool f) a ≡ or (member starting a) (isHeld (heldAt (set slots f openSlot) a))
+  exactly : (a : ℕ) → member (withoutAddress pool f) a ≡ or (member starting a) (isHeld (heldAt (withBinding slots f Open) a))
   exactly a = go (ℕ-discrete a f)
     where
-      go : Dec (a ≡ f) → member (withoutAddress pool f) a ≡ or (member starting a) (isHeld (heldAt (set slots f openSlot) a))
+      go : Dec (a ≡ f) → member (withoutAddress pool f) a ≡ or (member starting a) (isHeld (heldAt (withBinding slots f Open) a))
       go (yes q) =
           ap (member (withoutAddress pool f)) q ∙ has-without-same pool f
-          ∙ sym (ap₂ (λ (s : Bool) (x : Binding). or s (isHeld x)) (ap (member starting) q ∙ v .new f u here) (ap (heldAt (set slots f openSlot)) q ∙ held-same slots f openSlot fits))
-      go (no q) = has-without-other pool f a q ∙ v .exact a ∙ ap (λ (x : Binding). or (member starting a) (isHeld x)) (sym (held-other slots f a openSlot q))
+          ∙ sym (ap₂ (λ (s : Bool) (x : Binding). or s (isHeld x)) (ap (member starting) q ∙ v .new f u here) (ap (heldAt (withBinding slots f Open)) q ∙ held-same slots f Open (v .size) h))
+      go (no q) = has-without-other pool f a q ∙ v .exact a ∙ ap (λ (x : Binding). or (member starting a) (isHeld x)) (sym (held-other slots f a Open q))
 
-  sound-freed-at : Sound starting (withoutAddress pool f) (set slots f openSlot)
+  sound-freed-at : Sound starting (withoutAddress pool f) (withBinding slots f Open)
   sound-freed-at = record {
-    size = length-set slots f openSlot ∙ v .size;
+    size = sized-with slots f Open (v .size);
     once = λ i j w p q. v .once i j w (away i w p .1) (away j w q .1);
     new = λ a w p. v .new a w (away a w p .1);
     exact = exactly;
   }
 
-  gone : Unbound u (set slots f openSlot)
-  gone i = go (boundTo u (heldAt (set slots f openSlot) i)) refl
+  gone : Unbound u (withBinding slots f Open)
+  gone i = go (boundTo u (heldAt (withBinding slots f Open) i)) refl
     where
-      go : (t : Bool) → boundTo u (heldAt (set slots f openSlot) i) ≡ t → boundTo u (heldAt (set slots f openSlot) i) ≡ false
+      go : (t : Bool) → boundTo u (heldAt (withBinding slots f Open) i) ≡ t → boundTo u (heldAt (withBinding slots f Open) i) ≡ false
       go false k = k
       go true k = let r = away i u (bound-to-is-bound u _ k) in absurd (r .0 (v .once i f u (r .1) here))
 
@@ -150,24 +121,18 @@ sound-freed s u v = go (findFrom u (s .slots) 128 0) (find-cases u (s .slots) 12
   where
     go : (f : ℕ) → ((f ≡ 128) × Nowhere u (s .slots) 0) ⊎ ((f < 128) × (boundTo u (heldAt (s .slots) f) ≡ true))
         → SoundIn (pick (ltb 127 f) s (freedAt s f)) × Unbound u (pick (ltb 127 f) s (freedAt s f) .slots)
-    go f (inl r) = rw (lt-ltb 127 f (omega (arith, r .0))) (v, unbound-all u (s .slots) (v .size) (r .1))
+    go f (inl r) = rw (lt-ltb 127 f (omega (arith, r .0))) (v, unbound-all u (s .slots) (r .1))
     go f (inr r) =
         rw (le-ltb 127 f (omega (arith, r .0)))
         (sound-freed-at (s .starting) (s .pool) (s .slots) v u f (r .0) (r .1), gone (s .starting) (s .pool) (s .slots) v u f (r .0) (r .1))
 
 -- ---- an Assign that completed
 
-module _ (starting pool : Pool) (slots : List Slot) (v : Sound starting pool slots) (u : Udid) (n : Unbound u slots) (a : ℕ) (h : a < 128) where
-  room : a < length slots
-  room = omega (arith, v .size)
-
-  slot : Slot
-  slot = slotFor (member pool a) u
-
-  held-there : isHeld (slotFor (member pool a) u .held) ≡ true
+module _ (starting pool : Pool) (slots : Slots) (v : Sound starting pool slots) (u : Udid) (n : Unbound u slots) (a : ℕ) (h : a < 128) where
+  held-there : isHeld (bindingFor (member pool a) u) ≡ true
   held-there = go (member pool a)
     where
-      go : (t : Bool) → isHeld (slotFor t u .held) ≡ true
+      go : (t : Bool) → isHeld (bindingFor t u) ≡ true
       go true = refl
       go false = refl
 
@@ -175,25 +140,25 @@ module _ (starting pool : Pool) (slots : List Slot) (v : Sound starting pool slo
   or-true true = refl
   or-true false = refl
 
-  exactly-bound : (i : ℕ) → member (withAddress pool a) i ≡ or (member starting i) (isHeld (heldAt (set slots a (slotFor (member pool a) u)) i))
+  exactly-bound : (i : ℕ) → member (withAddress pool a) i ≡ or (member starting i) (isHeld (heldAt (withBinding slots a (bindingFor (member pool a) u)) i))
   exactly-bound i = go (ℕ-discrete i a)
     where
-      go : Dec (i ≡ a) → member (withAddress pool a) i ≡ or (member starting i) (isHeld (heldAt (set slots a (slotFor (member pool a) u)) i))
+      go : Dec (i ≡ a) → member (withAddress pool a) i ≡ or (member starting i) (isHeld (heldAt (withBinding slots a (bindingFor (member pool a) u)) i))
       go (yes q) =
           ap (member (withAddress pool a)) q ∙ has-with-same pool a h ∙ or-true (member starting i)
-          ∙ sym (ap (or (member starting i)) (ap (λ (x : ℕ). isHeld (heldAt (set slots a (slotFor (member pool a) u)) x)) q ∙ ap isHeld (held-same slots a (slotFor (member pool a) u) room) ∙ held-there))
-      go (no q) = has-with-other pool a i q ∙ v .exact i ∙ ap (λ (x : Binding). or (member starting i) (isHeld x)) (sym (held-other slots a i (slotFor (member pool a) u) q))
+          ∙ sym (ap (or (member starting i)) (ap (λ (x : ℕ). isHeld (heldAt (withBinding slots a (bindingFor (member pool a) u)) x)) q ∙ ap isHeld (held-same slots a (bindingFor (member pool a) u) (v .size) h) ∙ held-there))
+      go (no q) = has-with-other pool a i q ∙ v .exact i ∙ ap (λ (x : Binding). or (member starting i) (isHeld x)) (sym (held-other slots a i (bindingFor (member pool a) u) q))
 
   -- what is bound then: as before, or u at a, which was free
-  bound-cases : (i : ℕ) (w : Udid) → heldAt (set slots a (slotFor (member pool a) u)) i ≡ Bound w
+  bound-cases : (i : ℕ) (w : Udid) → heldAt (withBinding slots a (bindingFor (member pool a) u)) i ≡ Bound w
       → ((i ≡ a) × (u ≡ w) × (member pool a ≡ false)) ⊎ ((i ≡ a → ⊥) × (heldAt slots i ≡ Bound w))
-  bound-cases i w k = go (member pool a) refl (held-cases slots a i (slotFor (member pool a) u) (Bound w) room k)
+  bound-cases i w k = go (member pool a) refl (held-cases slots a i (bindingFor (member pool a) u) (Bound w) (v .size) h k)
     where
-      go : (t : Bool) → member pool a ≡ t → ((i ≡ a) × (slotFor (member pool a) u .held ≡ Bound w)) ⊎ ((i ≡ a → ⊥) × (heldAt slots i ≡ Bound w))
+      go : (t : Bool) → member pool a ≡ t → ((i ≡ a) × (bindingFor (member pool a) u ≡ Bound w)) ⊎ ((i ≡ a → ⊥) × (heldAt slots i ≡ Bound w))
           → ((i ≡ a) × (u ≡ w) × (member pool a ≡ false)) ⊎ ((i ≡ a → ⊥) × (heldAt slots i ≡ Bound w))
       go t e (inr q) = inr q
-      go true e (inl q) = absurd (let z : _≡_ {A = ℕ} 0 1 = cc (ap (λ (x : Bool). slotFor x u .held) e, q .1) in omega arith)
-      go false e (inl q) = let z : Bound u ≡ Bound w = sym (ap (λ (x : Bool). slotFor x u .held) e) ∙ q .1 in let y : u ≡ w = cc z in inl (q .0, y, e)
+      go true e (inl q) = absurd (let z : _≡_ {A = ℕ} 0 1 = cc (ap (λ (x : Bool). bindingFor x u) e, q .1) in omega arith)
+      go false e (inl q) = let z : Bound u ≡ Bound w = sym (ap (λ (x : Bool). bindingFor x u) e) ∙ q .1 in let y : u ≡ w = cc z in inl (q .0, y, e)
 
   nowhere : (i : ℕ) (w : Udid) → u ≡ w → heldAt slots i ≡ Bound w → ⊥
   nowhere i w p q = let z : _≡_ {A = ℕ} 0 1 = cc (n i, ap (boundTo u) (q ∙ ap Bound (sym p)), same-refl u) in omega arith
@@ -216,9 +181,9 @@ module _ (starting pool : Pool) (slots : List Slot) (v : Sound starting pool slo
   fresh i w (inl p) = ap (member starting) (p .0) ∙ outside (p .2)
   fresh i w (inr p) = v .new i w (p .1)
 
-  sound-bound-at : Sound starting (withAddress pool a) (set slots a (slotFor (member pool a) u))
+  sound-bound-at : Sound starting (withAddress pool a) (withBinding slots a (bindingFor (member pool a) u))
   sound-bound-at = record {
-    size = length-set slots a _ ∙ v .size;
+    size = sized-with slots a _ (v .size);
     once = λ i j w p q. one i j w (bound-cases i w p) (bound-cases j w q);
     new = λ i w p. fresh i w (bound-cases i w p);
     exact = exactly-bound;

@@ -21,10 +21,10 @@ use Rattle.arp.specs.LookupLaws.{lookup-0, lookup-1, lookup-15}
 use Rattle.arp.specs.NoneFreeLaws.{step-13-by-story, number-13-is-none-free}
 use Rattle.arp.specs.OutstandingLaws.{step-21-by-events}
 use Rattle.arp.specs.ReadingLaws.{trace-is-no-start}
-use Rattle.arp.specs.SoundLaws.{open-all}
+use Rattle.arp.specs.SlotsLaws.{open-all}
 use Rattle.arp.specs.TableLaws.{addresses-by-table, lookup-by-table}
 use Rattle.arp.specs.Story.{Story, story, Told, ByHistory}
-use Rattle.arp.specs.Bindings.{heldAt}
+use Rattle.arp.specs.Slots.{heldAt}
 use Rattle.arp.specs.Controller.{started, stepped}
 use Rattle.arp.specs.History.{Event, Received, run}
 use Rattle.arp.specs.Lookup.{lookedUp}

@@ -8,7 +8,7 @@ use mathlib.Core.Logic.{_⊎_, inl, inr}
 use native.Mathlib.Decide.{ℕ-discrete, decLt}
 use native.Mathlib.Omega.{arith}
 use lib.Dec.{ltb, leb, eqb}
-use lib.ListN.{length, getD, set}
+use lib.ListN.{getD}
 use borrow.Author.Tests.{lt-ltb, le-ltb, eq-eqb, ne-eqb}
 use Rattle.lists.specs.Choice.{pick, and}
 use Rattle.trace.specs.declared.transaction.Transaction.{Transaction}
@@ -27,9 +27,11 @@ use Rattle.arp.specs.HistoryLaws.{reached-good}
 use Rattle.arp.specs.LookupLaws.{lookup-number}
 use Rattle.arp.specs.OutstandingLaws.{same-reading, last-is-handed-out}
 use Rattle.arp.specs.ReadingLaws.{is-assign-below-128}
-use Rattle.arp.specs.SoundLaws.{held-same, held-other, held-above-is-open, bound-to-is-bound, open-all, find-cases}
+use Rattle.arp.specs.SoundLaws.{bound-to-is-bound, find-cases}
+use Rattle.arp.specs.SlotsLaws.{held-above-is-open, held-same, held-other, open-all}
 use Rattle.arp.specs.Sound.{SoundIn, Nowhere, PendingIn}
-use Rattle.arp.specs.Bindings.{openSlot, heldAt, boundTo, findFrom, freedAt, freed, slotFor, boundAt, bound}
+use Rattle.arp.specs.Bindings.{boundTo, findFrom, freedAt, freed, bindingFor, boundAt, bound}
+use Rattle.arp.specs.Slots.{Sized128, heldAt, withBinding}
 use Rattle.arp.specs.Controller.{newController, started, handed, counted, asked, chosen, issued, replied, onReply, onPrepare, onGet, onAssign, afterPrepare, afterGet, afterAssign, byCommand, stepped}
 use Rattle.arp.specs.Heard.{sendByte, blockRead, blockWrite, answer, sentIn, receivedIn, isPrepare, isGet, isAssign}
 use Rattle.arp.specs.History.{Event, Start, Received, run}
@@ -75,7 +77,7 @@ module _ (starting : ℕ → Bool) (s : Controller) (v : SoundIn s) (u : Udid) w
     where
       go : Dec (a < 128) → boundTo u (heldAt (s .slots) a) ≡ false
       go (yes h) = n a (omega arith) h
-      go (no h) = ap (boundTo u) (held-above-is-open (s .slots) a (v .size) (omega arith))
+      go (no h) = ap (boundTo u) (held-above-is-open (s .slots) a (omega arith))
 
   reply-none : Nowhere u (s .slots) 0 → view s ≡ after starting (Replied u) (view s)
   reply-none n = tables (view s) (after starting (Replied u) (view s))
@@ -93,11 +95,11 @@ module _ (starting : ℕ → Bool) (s : Controller) (v : SoundIn s) (u : Udid) w
         go false q = q
         go true q = absurd (n (v .once a f u (bound-to-is-bound u (heldAt (s .slots) a) (sym (holds-is u (heldAt (s .slots) a)) ∙ q)) here))
 
-    held-then : (a : ℕ) → Dec (a ≡ f) → heldAt (set (s .slots) f openSlot) a ≡ pick (holds u (heldAt (s .slots) a)) Open (heldAt (s .slots) a)
+    held-then : (a : ℕ) → Dec (a ≡ f) → heldAt (withBinding (s .slots) f Open) a ≡ pick (holds u (heldAt (s .slots) a)) Open (heldAt (s .slots) a)
     held-then a (yes q) =
-        ap (heldAt (set (s .slots) f openSlot)) q ∙ held-same (s .slots) f openSlot (omega (arith, v .size))
+        ap (heldAt (withBinding (s .slots) f Open)) q ∙ held-same (s .slots) f Open (v .size) h
         ∙ ap (λ (b : Bool). pick b Open (heldAt (s .slots) a)) (sym (ap (λ (x : ℕ). holds u (heldAt (s .slots) x)) q ∙ holds-is u (heldAt (s .slots) f) ∙ e))
-    held-then a (no n) = held-other (s .slots) f a openSlot n ∙ ap (λ (b : Bool). pick b Open (heldAt (s .slots) a)) (sym (there a n))
+    held-then a (no n) = held-other (s .slots) f a Open n ∙ ap (λ (b : Bool). pick b Open (heldAt (s .slots) a)) (sym (there a n))
 
     used-then : (a : ℕ) → Dec (a ≡ f) → member (withoutAddress (s .pool) f) a ≡ pick (holds u (heldAt (s .slots) a)) false (member (s .pool) a)
     used-then a (yes q) =
@@ -123,20 +125,20 @@ module _ (starting : ℕ → Bool) (s : Controller) (v : SoundIn s) (u : Udid) w
 
 -- ---- a complete Assign
 
-module _ (starting : ℕ → Bool) (s : Controller) (u : Udid) (b : ℕ) (l : length (s .slots) ≡ 128) (h : b < 128) where
-  slot-held : (t : Bool) → slotFor t u .held ≡ pick t Claimed (Bound u)
+module _ (starting : ℕ → Bool) (s : Controller) (u : Udid) (b : ℕ) (l : Sized128 (s .slots)) (h : b < 128) where
+  slot-held : (t : Bool) → bindingFor t u ≡ pick t Claimed (Bound u)
   slot-held true = refl
   slot-held false = refl
 
   held-bound : (a : ℕ) → Dec (a ≡ b)
-      → heldAt (set (s .slots) b (slotFor (member (s .pool) b) u)) a ≡ pick (eqb a b) (pick (member (s .pool) b) Claimed (Bound u)) (heldAt (s .slots) a)
+      → heldAt (withBinding (s .slots) b (bindingFor (member (s .pool) b) u)) a ≡ pick (eqb a b) (pick (member (s .pool) b) Claimed (Bound u)) (heldAt (s .slots) a)
   held-bound a (yes q) =
-      ap (heldAt (set (s .slots) b (slotFor (member (s .pool) b) u))) q
-      ∙ held-same (s .slots) b (slotFor (member (s .pool) b) u) (omega (arith, l))
+      ap (heldAt (withBinding (s .slots) b (bindingFor (member (s .pool) b) u))) q
+      ∙ held-same (s .slots) b (bindingFor (member (s .pool) b) u) l h
       ∙ slot-held (member (s .pool) b)
       ∙ ap (λ (x : Bool). pick x (pick (member (s .pool) b) Claimed (Bound u)) (heldAt (s .slots) a)) (sym (eq-eqb a b q))
   held-bound a (no n) =
-      held-other (s .slots) b a (slotFor (member (s .pool) b) u) n
+      held-other (s .slots) b a (bindingFor (member (s .pool) b) u) n
       ∙ ap (λ (x : Bool). pick x (pick (member (s .pool) b) Claimed (Bound u)) (heldAt (s .slots) a)) (sym (ne-eqb a b n))
 
   used-bound : (a : ℕ) → Dec (a ≡ b) → member (withAddress (s .pool) b) a ≡ pick (eqb a b) true (member (s .pool) a)

@@ -21,14 +21,11 @@ impl Controller {
     pub fn lookup(self, a: Address) -> Found
         ensures { λ r. ⌜ r ≡ lookedUp self (a .0) ⌝ }
     {
-        let n = a.0;
-        if n > 127 {
+        if a.0 > 127 {
             return Found::NoAddress;
         }
-        let at = n as usize;
-        let s = self.slots[at];
-        let held = s.held;
-        match held {
+        let slots = self.slots;
+        match slots.held_at(a) {
             Binding::Open => Found::Nobody,
             Binding::Bound(u) => Found::Bound(u),
             Binding::Claimed => Found::Two,

@@ -1,89 +1,106 @@
-// The slots of the addresses: where a target is bound, the state with it unbound, and the state with it bound. Rests on crate pool.
+// What each address is known for. `held_at` is the one reader, `put` the one writer, `none` where a pass begins. Rests on crates pool and udid.
 ghost use mathlib.Core.Path.{_≡_};
-ghost use Prim.Native.Nat.{_≤_};
-ghost use Rattle.arp.specs.Bindings.{boundTo, findFrom, freed, slotFor, bound};
+ghost use Prim.Native.Nat.{_<_};
+ghost use Rattle.arp.specs.Slots.{heldAt, withBinding, noBindings};
+ghost use Rattle.arp.specs.declared.state.Binding.the-variants.{Open, Bound, Claimed};
 use super::state::Binding;
-use super::state::Controller;
-use super::state::Slot;
+use pool::Pool;
 use udid::Udid;
 use wire::address::Address;
 
-fn is_bound_to(s: Slot, u: Udid) -> bool
-    ensures { λ r. ⌜ r ≡ boundTo u (s .held) ⌝ }
-{
-    let held = s.held;
-    match held {
-        Binding::Open => false,
-        Binding::Bound(v) => v.is_same(u),
-        Binding::Claimed => false,
-    }
+pub struct Slots {
+    // The addresses to which a target is bound.
+    pub bound: Pool,
+    // The addresses that two targets claim.
+    pub claimed: Pool,
+    // The high and the low half of the identifier that is bound to each address.
+    pub high: [u64; 128],
+    pub low: [u64; 128],
 }
 
-// What an address is known for after an Assign that completed: it is claimed by two where it was in the pool.
-fn slot_for(taken: bool, u: Udid) -> Slot
-    ensures { λ r. ⌜ r ≡ slotFor taken u ⌝ }
-{
-    if taken {
-        Slot {
-            held: Binding::Claimed,
-        }
-    } else {
-        Slot {
-            held: Binding::Bound(u),
-        }
-    }
-}
-
-impl Controller {
-    // The lowest address that the target is bound to, or 128.
-    fn find(self, u: Udid) -> u8
-        ensures { λ r. ⌜ r ≡ findFrom u (self .slots) 128 0 ⌝ }
+impl Slots {
+    // Nothing is bound or claimed.
+    pub fn none() -> Slots
+        ensures { λ r. ⌜ r ≡ noBindings ⌝ }
     {
-        let mut n: u8 = 0;
-        while n < 128 {
-            let at = n as usize;
-            let s = self.slots[at];
-            if is_bound_to(s, u) {
-                return n;
-            }
-            n += 1;
+        let none = Pool::empty();
+        Slots {
+            bound: none,
+            claimed: none,
+            high: [0u64; 128],
+            low: [0u64; 128],
         }
-        128
     }
 
-    // The state with the target unbound and its address free; as it is where the target is not bound.
-    pub(crate) fn free(mut self, u: Udid) -> Controller
-        ensures { λ r. ⌜ r ≡ freed self u ⌝ }
-    {
-        let n = self.find(u);
-        if n > 127 {
-            return self;
-        }
-        let at = n as usize;
-        self.slots[at] = Slot {
-            held: Binding::Open,
-        };
-        let p = self.pool;
-        let q = p.without(Address(n));
-        self.pool = q;
-        self
-    }
-
-    // The state with the target bound to the address, or the address claimed by two; the address is in the pool then.
-    pub(crate) fn bind(mut self, u: Udid, a: Address) -> Controller
-        ensures { λ r. ⌜ r ≡ bound self u (a .0) ⌝ }
+    // What the address is known for; a number above 127 is no address.
+    pub fn held_at(self, a: Address) -> Binding
+        ensures { λ r. ⌜ r ≡ heldAt self (a .0) ⌝ }
     {
         let n = a.0;
         if n > 127 {
-            return self;
+            return Binding::Open;
         }
-        let at = n as usize;
-        let p = self.pool;
-        let taken = p.has(a);
-        let slot = slot_for(taken, u);
-        self.slots[at] = slot;
-        let q = p.with(a);
-        self.pool = q;
+        let bound = self.bound;
+        if bound.has(a) {
+            let at = n as usize;
+            return Binding::Bound(Udid {
+                high: self.high[at],
+                low: self.low[at],
+            });
+        }
+        let claimed = self.claimed;
+        if claimed.has(a) {
+            Binding::Claimed
+        } else {
+            Binding::Open
+        }
+    }
+
+    // The slots with nothing at the address.
+    fn put_open(mut self, a: Address) -> Slots
+        ensures { λ r. ⌜ r ≡ withBinding self (a .0) Open ⌝ }
+    {
+        let bound = self.bound;
+        let claimed = self.claimed;
+        self.bound = bound.without(a);
+        self.claimed = claimed.without(a);
         self
+    }
+
+    // The slots with the target bound to the address.
+    fn put_bound(mut self, a: Address, u: Udid) -> Slots
+        requires { ⌜ a .0 < 128 ⌝ }
+        ensures { λ r. ⌜ r ≡ withBinding self (a .0) (Bound u) ⌝ }
+    {
+        let n = a.0;
+        let at = n as usize;
+        let bound = self.bound;
+        self.bound = bound.with(a);
+        self.high[at] = u.high;
+        self.low[at] = u.low;
+        self
+    }
+
+    // The slots with the address claimed by two.
+    fn put_claimed(mut self, a: Address) -> Slots
+        ensures { λ r. ⌜ r ≡ withBinding self (a .0) Claimed ⌝ }
+    {
+        let bound = self.bound;
+        let claimed = self.claimed;
+        self.bound = bound.without(a);
+        self.claimed = claimed.with(a);
+        self
+    }
+
+    // The slots with the address known for this.
+    pub(crate) fn put(self, a: Address, held: Binding) -> Slots
+        requires { ⌜ a .0 < 128 ⌝ }
+        ensures { λ r. ⌜ r ≡ withBinding self (a .0) held ⌝ }
+    {
+        match held {
+            Binding::Open => self.put_open(a),
+            Binding::Bound(u) => self.put_bound(a, u),
+            Binding::Claimed => self.put_claimed(a),
+        }
     }
 }

@@ -1,5 +1,6 @@
 // The controller's state, which every method takes by value and hands back.
 use super::command::Handed;
+use super::slots::Slots;
 use pool::Pool;
 use udid::Udid;
 
@@ -10,17 +11,13 @@ pub enum Binding {
     Claimed,
 }
 
-pub struct Slot {
-    pub held: Binding,
-}
-
 pub struct Controller {
     // The addresses in use when a pass begins.
     pub starting: Pool,
     // The addresses in use now.
     pub pool: Pool,
-    // A slot for each address.
-    pub slots: [Slot; 128],
+    // What each address is known for.
+    pub slots: Slots,
     // How many Get UDIDs this pass has sent.
     pub gets: u32,
     // What was handed out last.

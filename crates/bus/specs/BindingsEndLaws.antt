@@ -17,10 +17,11 @@ use Rattle.pool.specs.declared.Pool.{Pool}
 use Rattle.udid.specs.Bytes.{udidBytes}
 use Rattle.udid.specs.declared.Udid.{Udid}
 use Rattle.arp.specs.BindingLaws.{bound-in-is}
-use Rattle.arp.specs.Bindings.{heldAt, boundIn}
+use Rattle.arp.specs.Bindings.{boundIn}
+use Rattle.arp.specs.Slots.{heldAt}
 use Rattle.arp.specs.declared.state.Binding.{Binding}
 use Rattle.arp.specs.declared.state.Binding.the-variants as binding
-use Rattle.arp.specs.declared.state.Slot.{Slot}
+use Rattle.arp.specs.declared.slots.Slots.{Slots}
 use Rattle.targets.specs.Admission.{AdmittedTargets}
 use Rattle.targets.specs.AdmissionLaws.{admitted-targets}
 use Rattle.targets.specs.Records.{targetsOf}
@@ -81,7 +82,7 @@ module _ (occupied : Pool) (s b : List ℕ) (bytes : Bytes s) (long : 2048 ≤ l
   abbrev given : List Given
   given = ruled (startingPool occupied) (targetsOf s) .given
 
-  abbrev slots : List Slot
+  abbrev slots : Slots
   slots = passEnd (startingPool occupied) (targetsOf s) .now .state .slots
 
   has-bound : (a : ℕ) → a < 128 → member (r .bound) a ≡ boundAt slots a

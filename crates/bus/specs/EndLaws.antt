@@ -11,10 +11,11 @@ use Rattle.pool.specs.CountLaws.{count-cong}
 use Rattle.pool.specs.Start.{startingPool}
 use Rattle.pool.specs.declared.Pool.{Pool}
 use Rattle.udid.specs.declared.Udid.{Udid}
-use Rattle.arp.specs.Bindings.{heldAt, boundIn}
+use Rattle.arp.specs.Bindings.{boundIn}
 use Rattle.arp.specs.Numbers.{commandNumber}
+use Rattle.arp.specs.Slots.{heldAt}
 use Rattle.arp.specs.declared.state.Binding.{Binding}
-use Rattle.arp.specs.declared.state.Slot.{Slot}
+use Rattle.arp.specs.declared.slots.Slots.{Slots}
 use Rattle.targets.specs.Admission.{AdmittedTargets}
 use Rattle.targets.specs.AdmissionLaws.{admitted-length, admitted-targets}
 use Rattle.targets.specs.IndexLaws.{length-targets}
@@ -111,7 +112,7 @@ module _ (occupied : Pool) (s b : List ℕ) (bytes : Bytes s) (long : 2048 ≤ l
   pub place-zero : r .place ≡ 0
   place-zero = ap (λ (x : ModelAnswer). x .place) (leaves-rule .answered)
 
-  abbrev slots : List Slot
+  abbrev slots : Slots
   slots = passEnd (startingPool occupied) (targetsOf s) .now .state .slots
 
   -- how many are bound

@@ -9,10 +9,11 @@ use Rattle.pool.specs.Free.{used}
 use Rattle.pool.specs.Start.{emptyPool, startingPool}
 use Rattle.pool.specs.declared.Pool.{Pool}
 use Rattle.udid.specs.declared.Udid.{Udid}
-use Rattle.arp.specs.Bindings.{heldAt, boundIn}
+use Rattle.arp.specs.Bindings.{boundIn}
 use Rattle.arp.specs.Numbers.{commandNumber}
+use Rattle.arp.specs.Slots.{heldAt}
 use Rattle.arp.specs.declared.state.Binding.{Binding}
-use Rattle.arp.specs.declared.state.Slot.{Slot}
+use Rattle.arp.specs.declared.slots.Slots.{Slots}
 use Rattle.arp.specs.declared.state.Stepped.{Stepped}
 use Rattle.targets.specs.Numbers.{answerOf}
 use Rattle.targets.specs.Records.{targetsOf, recordsWith}
@@ -52,7 +53,7 @@ entryFor (u ∷ us) = entry.Bound u
 abbrev pub entryOf : Binding → Entry
 entryOf h = entryFor (boundIn h)
 
-abbrev pub entryAt : List Slot → ℕ → Entry
+abbrev pub entryAt : Slots → ℕ → Entry
 entryAt slots a = entryOf (heldAt slots a)
 
 -- ---- the answer

@@ -5,19 +5,17 @@ ghost use Prim.Native.Nat.{_≤_};
 ghost use lib.ListN.{length, drop};
 ghost use Rattle.bindings.specs.Entries.{bufferSize, bufferOf, boundSet};
 ghost use Rattle.bus.specs.Run.{entryOf, entryAt};
+use arp::slots::Slots;
 use arp::state::Binding;
-use arp::state::Slot;
-use bindings::bound::with_entry;
 use bindings::buffer::put_entry;
 use bindings::entry::Entry;
 use pool::Pool;
 use wire::address::Address;
 
-// Who is bound in a slot: nobody where two claim the address.
-fn entry_of(s: Slot) -> Entry
-    ensures { λ r. ⌜ r ≡ entryOf (s .held) ⌝ }
+// Who is bound where an address is known for this: nobody where two claim it.
+fn entry_of(held: Binding) -> Entry
+    ensures { λ r. ⌜ r ≡ entryOf held ⌝ }
 {
-    let held = s.held;
     match held {
         Binding::Open => Entry::Nobody,
         Binding::Bound(u) => Entry::Bound(u),
@@ -25,19 +23,24 @@ fn entry_of(s: Slot) -> Entry
     }
 }
 
+// The addresses to which somebody is bound.
+fn bound_set(slots: Slots) -> Pool
+    ensures { λ r. ⌜ r ≡ boundSet (entryAt slots) ⌝ }
+{
+    slots.bound
+}
+
 // The first 2,048 bytes: the identifier of address a at 16 a, zeros where none is bound. The addresses to which somebody is bound.
-pub(crate) fn put_bindings(out: &mut [u8], slots: [Slot; 128]) -> Pool
+pub(crate) fn put_bindings(out: &mut [u8], slots: Slots) -> Pool
     requires { ⌜ bufferSize ≤ length (now out) ⌝ }
     ensures { λ r. ⌜ (now (out .exit) ≡ bufferOf (entryAt slots) ++ drop bufferSize (now (out .entry))) × (r ≡ boundSet (entryAt slots)) ⌝ }
 {
-    let mut bound = Pool::empty();
     let mut a: u8 = 0;
     while a < 128 {
-        let s = slots[a as usize];
-        let e = entry_of(s);
+        let held = slots.held_at(Address(a));
+        let e = entry_of(held);
         put_entry(&mut out[..], Address(a), e);
-        bound = with_entry(bound, Address(a), e);
         a += 1;
     }
-    bound
+    bound_set(slots)
 }

@@ -5,7 +5,7 @@ use mathlib.Core.Logic.{_↔_, Iff·trans}
 use Prim.Native.Nat.{ℕ, _<_}
 use native.Mathlib.Omega.{arith}
 use Rattle.udid.specs.declared.Udid.{Udid}
-use Rattle.arp.specs.Bindings.{heldAt}
+use Rattle.arp.specs.Slots.{heldAt}
 use Rattle.arp.specs.Lookup.{lookedUp}
 use Rattle.arp.specs.Numbers.{lookupNumber}
 use Rattle.arp.specs.declared.lookup.Found.{Found}

@@ -21,7 +21,7 @@ use Rattle.trace.specs.ColumnsLaws.{longest}
 use Rattle.encode.specs.declared.Encoded.{Encoded}
 use Rattle.encode.proofs.Encoded as declared
 use Rattle.encode.specs.declared.Encoded.the-variants.{Written, Forbidden, OutputTooShort}
-use Rattle.encode.specs.Encode.{refused, encoded, symbolsOf, Wrote}
+use Rattle.encode.specs.Encode.{refusedBy, encodedBy, refused, encoded, symbolsOf, Wrote}
 use Rattle.c_codec.specs.declared.codec.HbWritten.{HbWritten}
 use Rattle.pairs.specs.Pairs.{pairsOf, Put}
 use Rattle.pairs.specs.PairLaws.{put-true, put-false}
@@ -37,7 +37,7 @@ module _ (protocol : ℕ) (pec : Bool) (t : Message) (command : t .command < 256
   tr = trace (shapeOf protocol) pec t
 
   at-most : refused protocol pec t ≡ false → length tr ≤ 525
-  unfolding refused
+  unfolding refusedBy
   at-most h =
       longest protocol pec t
       (allowed-valid (shapeOf protocol) t command sent received (refused-false (forbidden protocol pec) _ h))
@@ -45,7 +45,7 @@ module _ (protocol : ℕ) (pec : Bool) (t : Message) (command : t .command < 256
   -- the answer at a room, by the test of refusal 1 and of the room
   by-tests : (room : ℕ) (b c : Bool) → refused protocol pec t ≡ b → ltb room (length tr) ≡ c
       → encoded protocol pec t room ≡ pick b Forbidden (pick c OutputTooShort (Written (length tr)))
-  unfolding encoded
+  unfolding encodedBy
   by-tests room b c e f = rw (e, f)
 
   module _ (buffer : List ℕ) (long : length buffer ≡ 525) (r : Encoded) (after : List ℕ) (w : Wrote protocol pec t buffer r after) where

@@ -1,6 +1,6 @@
--- The outcome of each way through the entry, from the tests that it makes; and where the trace is read, both copies have room and stay inside
+-- The outcome of each way through the entry over a shape, from the tests that it makes; and where the trace is read, both copies have room and stay inside
 -- the trace.
-use mathlib.Core.Path.{_≡_, refl, sym, ap, _∙_, subst}
+use mathlib.Core.Path.{_≡_, refl, sym, _∙_, subst}
 use mathlib.Core.Bool.{Bool, true, false}
 use mathlib.Core.List.{List}
 use Prim.Native.Nat.{ℕ, _+_, _*_, _≤_, _<_}
@@ -21,13 +21,7 @@ use Rattle.step.specs.Run.{decodedBy}
 use Rattle.step.specs.Handed.{sentLength, receivedLength, sentPlace, receivedPlace, sentData, receivedData}
 use Rattle.step.specs.Sizes.{Sizes}
 use Rattle.step.specs.SizeLaws.{sizes-of-answer}
-use Rattle.decode.specs.Outcome.{short, answered, Outcome}
-
--- the answer, from the tests
-answered-is : (protocol : ℕ) (pec : Bool) (tr : List ℕ) (s r : ℕ) (b c : Bool) → forbidden protocol pec ≡ b → short s r ≡ c
-    → pick b (Refused Forbidden 0) (pick c (Refused BufferTooShort 0) (decodedBy protocol (shapeOf protocol) pec tr)) ≡ answered protocol pec tr s r
-unfolding answered
-answered-is protocol pec tr s r b c e f = sym (rw (e, f))
+use Rattle.decode.specs.Outcome.{short, answeredBy, OutcomeBy, Outcome}
 
 -- both buffers are long enough
 neither : (a b : Bool) → or a b ≡ false → (a ≡ false) × (b ≡ false)
@@ -37,17 +31,23 @@ neither false b h = (refl, h)
 pub both-at-least-255 : (s r : ℕ) → short s r ≡ false → (255 ≤ s) × (255 ≤ r)
 both-at-least-255 s r h = let n = neither (ltb s 255) (ltb r 255) h in (ltb-false s 255 (n .0), ltb-false r 255 (n .1))
 
-module _ (protocol : ℕ) (p : Bool) (tr s r : List ℕ) where
+module _ (number : ℕ) (sh : Shape) (barred p : Bool) (tr s r : List ℕ) where
+  -- the answer, from the tests
+  answered-is : (b c : Bool) → barred ≡ b → short (length s) (length r) ≡ c
+      → pick b (Refused Forbidden 0) (pick c (Refused BufferTooShort 0) (decodedBy number sh p tr)) ≡ answeredBy number sh barred p tr (length s) (length r)
+  unfolding answeredBy
+  answered-is b c e f = sym (rw (e, f))
+
   -- refused before the trace is read
-  pub outcome-forbidden : forbidden protocol p ≡ true → Outcome protocol p tr s r (Refused Forbidden 0) s r
-  outcome-forbidden h = record { answer = answered-is protocol p tr (length s) (length r) true _ h refl; data-sent = refl; data-received = refl }
+  pub outcome-forbidden : barred ≡ true → OutcomeBy number sh barred p tr s r (Refused Forbidden 0) s r
+  outcome-forbidden h = record { answer = answered-is true _ h refl; data-sent = refl; data-received = refl }
 
-  pub outcome-short : forbidden protocol p ≡ false → short (length s) (length r) ≡ true → Outcome protocol p tr s r (Refused BufferTooShort 0) s r
-  outcome-short h g = record { answer = answered-is protocol p tr (length s) (length r) false true h g; data-sent = refl; data-received = refl }
+  pub outcome-short : barred ≡ false → short (length s) (length r) ≡ true → OutcomeBy number sh barred p tr s r (Refused BufferTooShort 0) s r
+  outcome-short h g = record { answer = answered-is false true h g; data-sent = refl; data-received = refl }
 
-  module _ (sh : Shape) (a : Decoded) (e : sh ≡ shapeOf protocol) (g : a ≡ decodedBy protocol sh p tr) where
+  module _ (hs : Sane sh) (a : Decoded) (g : a ≡ decodedBy number sh p tr) where
     here : Sizes sh p tr a
-    here = subst (Sizes sh p tr) (sym g) (sizes-of-answer protocol sh (subst Sane (sym e) (sane protocol)) p tr)
+    here = subst (Sizes sh p tr) (sym g) (sizes-of-answer number sh hs p tr)
 
     pub sent-copy-fits : short (length s) (length r) ≡ false → (sentLength a ≤ length s) × ((j : ℕ) → j < sentLength a → sentPlace sh + 2 * j < length tr)
     sent-copy-fits h = (omega (arith, here .sent-small, both-at-least-255 (length s) (length r) h), here .sent)
@@ -56,11 +56,17 @@ module _ (protocol : ℕ) (p : Bool) (tr s r : List ℕ) where
         → (receivedLength a ≤ length r) × ((j : ℕ) → j < receivedLength a → receivedPlace p (receivedLength a) (length tr) + 2 * j < length tr)
     received-copy-fits h = (omega (arith, here .received-small, both-at-least-255 (length s) (length r) h), here .received)
 
-    pub outcome-read : forbidden protocol p ≡ false → short (length s) (length r) ≡ false → (x y : List ℕ) → x ≡ onto (sentData sh tr a) s → y ≡ onto (receivedData p tr a) r
-        → Outcome protocol p tr s r a x y
-    outcome-read f h x y q k =
-        record {
-          answer = g ∙ ap (λ (u : Shape). decodedBy protocol u p tr) e ∙ answered-is protocol p tr (length s) (length r) false false f h;
-          data-sent = q ∙ ap (λ (u : Shape). onto (sentData u tr a) s) e;
-          data-received = k;
-        }
+    pub outcome-read : barred ≡ false → short (length s) (length r) ≡ false → (x y : List ℕ) → x ≡ onto (sentData sh tr a) s → y ≡ onto (receivedData p tr a) r
+        → OutcomeBy number sh barred p tr s r a x y
+    outcome-read f h x y q k = record { answer = g ∙ answered-is false false f h; data-sent = q; data-received = k }
+
+-- ---- at the table of the protocols
+
+module _ (protocol : ℕ) (p : Bool) (sh : Shape) (es : sh ≡ shapeOf protocol) where
+  pub sane-shape : Sane sh
+  sane-shape = subst Sane (sym es) (sane protocol)
+
+  pub outcome-at-table : (barred : Bool) → barred ≡ forbidden protocol p → (tr s r : List ℕ) (a : Decoded) (x y : List ℕ) → OutcomeBy protocol sh barred p tr s r a x y
+      → Outcome protocol p tr s r a x y
+  outcome-at-table barred eb tr s r a x y o =
+      subst (λ (b : Bool). OutcomeBy protocol (shapeOf protocol) b p tr s r a x y) eb (subst (λ (u : Shape). OutcomeBy protocol u barred p tr s r a x y) es o)

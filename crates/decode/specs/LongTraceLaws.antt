@@ -32,7 +32,7 @@ use Rattle.step.specs.Answers.{Member, Fits, Answers}
 use Rattle.step.specs.RunLaws.{refused-not-reading}
 use Rattle.step.specs.MemberLaws.{fits-back}
 use Rattle.step.specs.DecideLaws.{answer-holds}
-use Rattle.decode.specs.Outcome.{short, answered, Outcome}
+use Rattle.decode.specs.Outcome.{short, answeredBy, answered, Outcome}
 
 module _ (protocol : ℕ) (p : Bool) where
   abbrev sh : Shape
@@ -103,7 +103,7 @@ module _ (protocol : ℕ) (p : Bool) where
     decoded-none = no-data (decodedBy protocol sh p tr) _ _ (answer-holds protocol sh (sane protocol) p tr)
 
     answered-none : (s r : ℕ) → (sentLength (answered protocol p tr s r) ≡ 0) × (receivedLength (answered protocol p tr s r) ≡ 0)
-    unfolding answered
+    unfolding answeredBy
     answered-none s r = go (forbidden protocol p) (short s r)
       where
         go : (b c : Bool) → (sentLength (pick b (Refused Forbidden 0) (pick c (Refused BufferTooShort 0) (decodedBy protocol sh p tr))) ≡ 0) × (receivedLength (pick b (Refused Forbidden 0) (pick c (Refused BufferTooShort 0) (decodedBy protocol sh p tr))) ≡ 0)
@@ -112,7 +112,7 @@ module _ (protocol : ℕ) (p : Bool) where
         go false false = decoded-none
 
     same-answered : (s r : ℕ) → answered protocol p (take 526 tr) s r ≡ answered protocol p tr s r
-    unfolding answered
+    unfolding answeredBy
     same-answered s r = ap (λ (a : Decoded). pick (forbidden protocol p) (Refused Forbidden 0) (pick (short s r) (Refused BufferTooShort 0) a)) same-decoded
 
     -- what the first 526 symbols give is what the whole gives

@@ -27,7 +27,7 @@ use Rattle.step.specs.Run.{decodedBy}
 use Rattle.step.specs.declared.answer.Decoded.{Decoded}
 use Rattle.step.specs.declared.answer.Decoded.the-variants.{Done}
 use Rattle.decode.specs.EntryLaws.{both-at-least-255}
-use Rattle.decode.specs.Outcome.{short, Entered, Outcome}
+use Rattle.decode.specs.Outcome.{short, EnteredBy, Entered, Outcome}
 use Rattle.decode.specs.OutcomeLaws as decode
 
 -- 2: a buffer of under 255 bytes
@@ -85,6 +85,10 @@ module _ (protocol : ℕ) (pec : Bool) (tr sent₀ received₀ : List ℕ) (a : 
 
   pub entered-long : Here → short (length sent₀) (length received₀) ≡ false
   entered-long r = long-cases (length sent₀) (length received₀) .1 (r .2, r .3)
+
+  -- entered at the table is entered over the shape
+  pub entered-exactly : Here ↔ EnteredBy (forbidden protocol pec) sent₀ received₀
+  entered-exactly = (λ r. (entered-taken r, r .2, r .3), λ k. entered (k .0) (long-cases (length sent₀) (length received₀) .1 (k .1, k .2)))
 
   -- every number but 1 and 2 is the trace's, where it is read: in the case Q over shapes, which is the case P over the table
   by-trace : (P Q : Type 0) (n v : ℕ) → (n ≡ 1 → ⊥) → (n ≡ 2 → ⊥) → (Here → P ↔ Q) → (decodeNumber (decodedBy protocol shape pec tr) ≡ (n, v)) ↔ Q

@@ -1,176 +1,57 @@
--- One outcome is possible, and it is what the scope says. Each number is given exactly in its case, a refusal changes no byte of either
--- buffer, and a trace of the encoder gives back its message.
-use mathlib.Core.Path.{_≡_, refl, sym, ap, _∙_}
+-- The decoder's call at the table of the protocols. One outcome is possible, and it is what the scope says. Each number is given exactly in its
+-- case, a refusal changes no byte of either buffer, and a trace of the encoder gives back its message.
+use mathlib.Core.Path.{_≡_}
 use mathlib.Core.Bool.{Bool, true, false}
 use mathlib.Core.List.{List, _++_}
 use mathlib.Core.Logic.{_↔_}
-use Prim.Native.Nat.{ℕ, _≤_}
-use native.Mathlib.Omega.{arith}
+use Prim.Native.Nat.{ℕ}
 use lib.ListN.{length, drop}
-use Rattle.lists.specs.Choice.{pick}
-use Rattle.lists.specs.Onto.{onto}
 use Rattle.trace.specs.Shapes.{shapeOf, forbidden}
 use Rattle.trace.specs.ShapeLaws.{sane}
 use Rattle.trace.specs.Trace.{Message, trace, Valid}
 use Rattle.step.specs.declared.answer.Decoded.{Decoded}
-use Rattle.step.specs.declared.answer.Decoded.the-variants.{Done, Refused}
-use Rattle.step.specs.declared.answer.Refusal.{Refusal}
-use Rattle.step.specs.declared.answer.Refusal.the-variants.{Forbidden, BufferTooShort}
+use Rattle.step.specs.declared.answer.Decoded.the-variants.{Done}
 use Rattle.step.specs.Run.{decodedBy}
-use Rattle.step.specs.Handed.{sentData, receivedData}
-use Rattle.step.specs.NumberLaws.{refused-of}
-use Rattle.step.specs.Numbers.{refusalNumber, decodeNumber}
-use Rattle.step.specs.Answers.{Because, Answers, summary}
-use Rattle.step.specs.AnswersLaws as step
-use Rattle.decode.specs.Outcome.{short, answered, Outcome, Unread, Read, Means}
+use Rattle.step.specs.Numbers.{decodeNumber}
+use Rattle.step.specs.Answers.{summary}
+use Rattle.decode.specs.Outcome.{short, Outcome, Means}
+use Rattle.decode.specs.OutcomeByLaws as shaped
 
 module _ (protocol : ℕ) (pec : Bool) (tr sent₀ received₀ : List ℕ) where
   -- one outcome alone: the answer, and what each buffer holds
   pub one-outcome : (a b : Decoded) (s t r q : List ℕ) → Outcome protocol pec tr sent₀ received₀ a s r → Outcome protocol pec tr sent₀ received₀ b t q
       → (a ≡ b) × (s ≡ t) × (r ≡ q)
-  one-outcome a b s t r q h g =
-      let e : a ≡ b = h .answer ∙ sym (g .answer) in (
-        e,
-        h .data-sent ∙ ap (λ (x : Decoded). onto (sentData (shapeOf protocol) tr x) sent₀) e ∙ sym (g .data-sent),
-        h .data-received ∙ ap (λ (x : Decoded). onto (receivedData pec tr x) received₀) e ∙ sym (g .data-received),
-      )
+  one-outcome = shaped.one-outcome protocol (shapeOf protocol) (sane protocol) (forbidden protocol pec) pec tr sent₀ received₀
 
   -- the outcome is what the scope says, and nothing else is
-  abbrev Computed : Bool → Bool → Decoded → List ℕ → List ℕ → Type 0
-  Computed b c a s r =
-      (a ≡ pick b (Refused Forbidden 0) (pick c (Refused BufferTooShort 0) (decodedBy protocol (shapeOf protocol) pec tr)))
-      × (s ≡ onto (sentData (shapeOf protocol) tr a) sent₀) × (r ≡ onto (receivedData pec tr a) received₀)
-
-  abbrev Says : Bool → Bool → Decoded → List ℕ → List ℕ → Type 0
-  Says b c a s r =
-      pick b (Unread (Refused Forbidden 0) sent₀ received₀ a s r) (pick c (Unread (Refused BufferTooShort 0) sent₀ received₀ a s r) (Read protocol pec tr sent₀ received₀ a s r))
-
-  computed-says : (b c : Bool) (a : Decoded) (s r : List ℕ) → Computed b c a s r → Says b c a s r
-  computed-says true c a s r h = record {
-    answer = h .0;
-    same-sent = h .1 ∙ ap (λ (x : Decoded). onto (sentData (shapeOf protocol) tr x) sent₀) (h .0);
-    same-received = h .2 ∙ ap (λ (x : Decoded). onto (receivedData pec tr x) received₀) (h .0);
-  }
-  computed-says false true a s r h = record {
-    answer = h .0;
-    same-sent = h .1 ∙ ap (λ (x : Decoded). onto (sentData (shapeOf protocol) tr x) sent₀) (h .0);
-    same-received = h .2 ∙ ap (λ (x : Decoded). onto (receivedData pec tr x) received₀) (h .0);
-  }
-  computed-says false false a s r h = record {
-    s = sentData (shapeOf protocol) tr a;
-    r = receivedData pec tr a;
-    means = step.answer-exactly protocol (shapeOf protocol) (sane protocol) pec tr a .0 (sym (h .0));
-    front-sent = h .1;
-    front-received = h .2;
-  }
-
-  says-computed : (b c : Bool) (a : Decoded) (s r : List ℕ) → Says b c a s r → Computed b c a s r
-  says-computed true c a s r h = (
-    h .answer,
-    h .same-sent ∙ sym (ap (λ (x : Decoded). onto (sentData (shapeOf protocol) tr x) sent₀) (h .answer)),
-    h .same-received ∙ sym (ap (λ (x : Decoded). onto (receivedData pec tr x) received₀) (h .answer)),
-  )
-  says-computed false true a s r h = (
-    h .answer,
-    h .same-sent ∙ sym (ap (λ (x : Decoded). onto (sentData (shapeOf protocol) tr x) sent₀) (h .answer)),
-    h .same-received ∙ sym (ap (λ (x : Decoded). onto (receivedData pec tr x) received₀) (h .answer)),
-  )
-  says-computed false false a s r h =
-      let k = step.no-other-answer protocol (shapeOf protocol) (sane protocol) pec tr a (h .s) (h .r) (h .means) in (
-        sym (k .0),
-        h .front-sent ∙ ap (λ (x : List ℕ). onto x sent₀) (sym (k .1) ∙ ap (sentData (shapeOf protocol) tr) (k .0)),
-        h .front-received ∙ ap (λ (x : List ℕ). onto x received₀) (sym (k .2) ∙ ap (receivedData pec tr) (k .0)),
-      )
-
   pub outcome-means : (a : Decoded) (s r : List ℕ) → Outcome protocol pec tr sent₀ received₀ a s r ↔ Means protocol pec tr sent₀ received₀ a s r
-  unfolding answered
-  outcome-means a s r = (
-    λ h. computed-says (forbidden protocol pec) (short (length sent₀) (length received₀)) a s r (h .answer, h .data-sent, h .data-received),
-    λ h. (let k = says-computed (forbidden protocol pec) (short (length sent₀) (length received₀)) a s r h in record { answer = k .0; data-sent = k .1; data-received = k .2 }),
-  )
+  outcome-means = shaped.outcome-means protocol (shapeOf protocol) (sane protocol) (forbidden protocol pec) pec tr sent₀ received₀
 
 -- 1 and 2 are given exactly in their cases, in this order; every other number is the trace's
-never-unread : (protocol : ℕ) (pec : Bool) (tr : List ℕ) (w : Refusal) (k : ℕ) → (Because (shapeOf protocol) pec tr w k → ⊥)
-    → decodeNumber (decodedBy protocol (shapeOf protocol) pec tr) ≡ (refusalNumber w, k) → ⊥
-never-unread protocol pec tr w k n e =
-    n (step.answer-exactly protocol (shapeOf protocol) (sane protocol) pec tr (Refused w k) .0 (refused-of (decodedBy protocol (shapeOf protocol) pec tr) w k e) .0)
-
 module _ (protocol : ℕ) (pec : Bool) (tr sent₀ received₀ : List ℕ) (a : Decoded) (s r : List ℕ) (h : Outcome protocol pec tr sent₀ received₀ a s r) where
-  abbrev isForbidden : Bool
-  isForbidden = forbidden protocol pec
-
-  abbrev isShort : Bool
-  isShort = short (length sent₀) (length received₀)
-
-  abbrev whole : Bool → Bool → Decoded
-  whole b c = pick b (Refused Forbidden 0) (pick c (Refused BufferTooShort 0) (decodedBy protocol (shapeOf protocol) pec tr))
-
-  first-of : (e : ℕ × ℕ) (n : ℕ) → e ≡ (n, 0) → e .0 ≡ n
-  first-of e n q = ap (λ (x : ℕ × ℕ). x .0) q
-
   pub number-1 : (decodeNumber a ≡ (1, 0)) ↔ (forbidden protocol pec ≡ true)
-  unfolding answered
-  number-1 = (λ e. there isForbidden isShort (ap decodeNumber (sym (h .answer)) ∙ e), λ e. ap decodeNumber (h .answer) ∙ back isForbidden isShort e)
-    where
-      there : (b c : Bool) → decodeNumber (whole b c) ≡ (1, 0) → b ≡ true
-      there true c e = refl
-      there false true e = absurd (omega (arith, first-of _ 1 e))
-      there false false e = absurd (never-unread protocol pec tr Forbidden 0 (λ h. h) e)
-
-      back : (b c : Bool) → b ≡ true → decodeNumber (whole b c) ≡ (1, 0)
-      back b c e = rw e
+  number-1 = shaped.number-1 protocol (shapeOf protocol) (sane protocol) (forbidden protocol pec) pec tr sent₀ received₀ a s r h
 
   pub number-2 : (decodeNumber a ≡ (2, 0)) ↔ ((forbidden protocol pec ≡ false) × (short (length sent₀) (length received₀) ≡ true))
-  unfolding answered
-  number-2 = (λ e. there isForbidden isShort (ap decodeNumber (sym (h .answer)) ∙ e), λ e. ap decodeNumber (h .answer) ∙ back isForbidden isShort (e .0) (e .1))
-    where
-      there : (b c : Bool) → decodeNumber (whole b c) ≡ (2, 0) → (b ≡ false) × (c ≡ true)
-      there true c e = absurd (omega (arith, first-of _ 2 e))
-      there false true e = (refl, refl)
-      there false false e = absurd (never-unread protocol pec tr BufferTooShort 0 (λ h. h) e)
-
-      back : (b c : Bool) → b ≡ false → c ≡ true → decodeNumber (whole b c) ≡ (2, 0)
-      back b c e g = rw (e, g)
+  number-2 = shaped.number-2 protocol (shapeOf protocol) (sane protocol) (forbidden protocol pec) pec tr sent₀ received₀ a s r h
 
   -- neither 1 nor 2: the answer is the one that the trace has
   pub answer-by-trace : forbidden protocol pec ≡ false → short (length sent₀) (length received₀) ≡ false → a ≡ decodedBy protocol (shapeOf protocol) pec tr
-  unfolding answered
-  answer-by-trace e g = h .answer ∙ back isForbidden isShort e g
-    where
-      back : (b c : Bool) → b ≡ false → c ≡ false → whole b c ≡ decodedBy protocol (shapeOf protocol) pec tr
-      back b c e g = rw (e, g)
+  answer-by-trace = shaped.answer-by-trace protocol (shapeOf protocol) (sane protocol) (forbidden protocol pec) pec tr sent₀ received₀ a s r h
 
   -- every other number is given exactly where the trace is read and has it
   pub other-number-exactly : (n v : ℕ) → (n ≡ 1 → ⊥) → (n ≡ 2 → ⊥)
       → (decodeNumber a ≡ (n, v)) ↔ ((forbidden protocol pec ≡ false) × (short (length sent₀) (length received₀) ≡ false) × (decodeNumber (decodedBy protocol (shapeOf protocol) pec tr) ≡ (n, v)))
-  unfolding answered
-  other-number-exactly n v one two = (λ e. there isForbidden isShort (ap decodeNumber (sym (h .answer)) ∙ e), λ k. ap decodeNumber (answer-by-trace (k .0) (k .1)) ∙ k .2)
-    where
-      there : (b c : Bool) → decodeNumber (whole b c) ≡ (n, v) → (b ≡ false) × (c ≡ false) × (decodeNumber (decodedBy protocol (shapeOf protocol) pec tr) ≡ (n, v))
-      there true c e = absurd (one (sym (ap (λ (x : ℕ × ℕ). x .0) e)))
-      there false true e = absurd (two (sym (ap (λ (x : ℕ × ℕ). x .0) e)))
-      there false false e = (refl, refl, e)
+  other-number-exactly = shaped.other-number-exactly protocol (shapeOf protocol) (sane protocol) (forbidden protocol pec) pec tr sent₀ received₀ a s r h
 
 -- a refusal changes no byte of either buffer
-no-data : (protocol : ℕ) (pec : Bool) (tr l : List ℕ) (a : Decoded) → (decodeNumber a .0 ≡ 0 → ⊥) → (onto (sentData (shapeOf protocol) tr a) l ≡ l) × (onto (receivedData pec tr a) l ≡ l)
-no-data protocol pec tr l (Done t) n = absurd (n refl)
-no-data protocol pec tr l (Refused w k) n = (refl, refl)
-
 pub refusal-changes-nothing : (protocol : ℕ) (pec : Bool) (tr sent₀ received₀ : List ℕ) (a : Decoded) (s r : List ℕ) → Outcome protocol pec tr sent₀ received₀ a s r
     → (decodeNumber a .0 ≡ 0 → ⊥) → (s ≡ sent₀) × (r ≡ received₀)
-refusal-changes-nothing protocol pec tr sent₀ received₀ a s r h n =
-    (h .data-sent ∙ no-data protocol pec tr sent₀ a n .0, h .data-received ∙ no-data protocol pec tr received₀ a n .1)
+refusal-changes-nothing protocol pec = shaped.refusal-changes-nothing protocol (shapeOf protocol) (forbidden protocol pec) pec
 
 -- the encoder's trace of a message gives back its protocol, every field and both lists, and leaves the rest of the buffers as it was
 pub round-trip : (protocol : ℕ) (pec : Bool) (t : Message) (sent₀ received₀ : List ℕ) (a : Decoded) (s r : List ℕ)
     → forbidden protocol pec ≡ false → short (length sent₀) (length received₀) ≡ false → Valid (shapeOf protocol) t
     → Outcome protocol pec (trace (shapeOf protocol) pec t) sent₀ received₀ a s r
     → (a ≡ Done (summary protocol t)) × (s ≡ t .sent ++ drop (length (t .sent)) sent₀) × (r ≡ t .received ++ drop (length (t .received)) received₀)
-round-trip protocol pec t sent₀ received₀ a s r f c v h =
-    let tr : List ℕ = trace (shapeOf protocol) pec t in
-    let k = step.round-trip protocol (shapeOf protocol) (sane protocol) pec t v in
-    let e : a ≡ decodedBy protocol (shapeOf protocol) pec tr = answer-by-trace protocol pec tr sent₀ received₀ a s r h f c in (
-      e ∙ k .0,
-      h .data-sent ∙ ap (λ (x : List ℕ). onto x sent₀) (ap (sentData (shapeOf protocol) tr) e ∙ k .1),
-      h .data-received ∙ ap (λ (x : List ℕ). onto x received₀) (ap (receivedData pec tr) e ∙ k .2),
-    )
+round-trip protocol pec = shaped.round-trip protocol (shapeOf protocol) (sane protocol) (forbidden protocol pec) pec

@@ -5,8 +5,9 @@ ghost use mathlib.Core.Path.{_≡_};
 ghost use Prim.Native.Nat.{ℕ, _+_, _*_, _≤_, _<_};
 ghost use lib.ListN.{length, drop};
 ghost use Rattle.lists.specs.Onto.{onto};
+ghost use Rattle.trace.specs.Sane.{Sane};
 ghost use Rattle.step.specs.Handed.{lows, sentLength, sentPlace, sentData, receivedLength, receivedPlace, receivedData};
-ghost use Rattle.decode.specs.Outcome.{short, Outcome};
+ghost use Rattle.decode.specs.Outcome.{short, OutcomeBy, Outcome};
 use crate::received::received_length;
 use crate::received::received_place;
 use crate::sent::sent_length;
@@ -62,8 +63,34 @@ fn is_short(s: usize, r: usize) -> bool
     if s < 255 { true } else { r < 255 }
 }
 
-// The answer for a trace. On 0 the data sent stand at the front of one buffer and the data received at the front of the other,
+// The answer for a trace of a shape. On 0 the data sent stand at the front of one buffer and the data received at the front of the other,
 // the rest of each as it was; on any other answer neither is changed.
+// The caller says whether the protocol, or a PEC of it, is forbidden. Each table of protocols has its entry: it gives the shape and that answer.
+fn decode_into(
+    number: u8,
+    sh: Shape,
+    forbidden: bool,
+    pec: bool,
+    trace: &[u16],
+    sent: &mut [u8],
+    received: &mut [u8],
+) -> Decoded
+    requires { ⌜ Sane sh ⌝ }
+    ensures { λ r. ⌜ OutcomeBy number sh forbidden pec (now (trace .entry)) (now (sent .entry)) (now (received .entry)) r (now (sent .exit)) (now (received .exit)) ⌝ }
+{
+    if forbidden {
+        return Decoded::Refused(Refusal::Forbidden, 0);
+    }
+    if is_short(sent.len(), received.len()) {
+        return Decoded::Refused(Refusal::BufferTooShort, 0);
+    }
+    let a = decode_by(number, sh, pec, trace);
+    put_sent(sh, a, trace, sent);
+    put_received(pec, a, trace, received);
+    a
+}
+
+// The answer for a trace of a protocol of the table.
 pub fn decode(
     protocol: u8,
     pec: bool,
@@ -73,15 +100,7 @@ pub fn decode(
 ) -> Decoded
     ensures { λ r. ⌜ Outcome protocol pec (now (trace .entry)) (now (sent .entry)) (now (received .entry)) r (now (sent .exit)) (now (received .exit)) ⌝ }
 {
-    if is_forbidden(protocol, pec) {
-        return Decoded::Refused(Refusal::Forbidden, 0);
-    }
-    if is_short(sent.len(), received.len()) {
-        return Decoded::Refused(Refusal::BufferTooShort, 0);
-    }
     let sh = shape_of(protocol);
-    let a = decode_by(protocol, sh, pec, trace);
-    put_sent(sh, a, trace, sent);
-    put_received(pec, a, trace, received);
-    a
+    let forbidden = is_forbidden(protocol, pec);
+    decode_into(protocol, sh, forbidden, pec, trace, sent, received)
 }

@@ -1,5 +1,5 @@
--- The encoder's promise: Wrote, by equations (the answer by refusal 1, refusal 2 and the length of the trace, and what the output holds
--- then), and Means, which says the same without a word on how it is computed.
+-- The encoder's promise, by equations: the answer by refusal 1, refusal 2 and the length of the trace, and what the output holds then. WroteBy
+-- states it over a shape, and Wrote is that at the table of the protocols. Means says the same without a word on how it is computed.
 use mathlib.Core.Path.{_≡_}
 use mathlib.Core.Bool.{Bool}
 use mathlib.Core.List.{List, []}
@@ -8,6 +8,7 @@ use lib.Dec.{ltb}
 use lib.ListN.{length, take, drop}
 use Rattle.lists.specs.Choice.{pick, or, not}
 use Rattle.lists.specs.Onto.{onto}
+use Rattle.trace.specs.declared.shape.Shape.{Shape}
 use Rattle.trace.specs.Shapes.{shapeOf, forbidden}
 use Rattle.trace.specs.Trace.{Message, trace}
 use Rattle.trace.specs.Allowed.{allowed}
@@ -26,16 +27,14 @@ abbrev pub message : ℕ → ℕ → ℕ → List ℕ → List ℕ → Message
 message address direction command sent received =
     record { address = address; direction = direction; command = command; sent = sent; received = received }
 
--- all tests of refusal 1
-unfoldable pub refused : ℕ → Bool → Message → Bool
-refused protocol pec t =
-    or (forbidden protocol pec) (not (allowed (shapeOf protocol) (t .address) (t .direction) (t .command) (length (t .sent)) (length (t .received))))
+-- all tests of refusal 1, for a message of a shape; `barred` says that the protocol or its PEC is forbidden
+unfoldable pub refusedBy : Shape → Bool → Message → Bool
+refusedBy sh barred t = or barred (not (allowed sh (t .address) (t .direction) (t .command) (length (t .sent)) (length (t .received))))
 
 -- the answer: 1, then 2, then done with the length of the trace
-unfoldable pub encoded : ℕ → Bool → Message → ℕ → Encoded
-encoded protocol pec t room =
-    pick (refused protocol pec t) Forbidden
-    (pick (ltb room (length (trace (shapeOf protocol) pec t))) OutputTooShort (Written (length (trace (shapeOf protocol) pec t))))
+unfoldable pub encodedBy : Shape → Bool → Bool → Message → ℕ → Encoded
+encodedBy sh barred pec t room =
+    pick (refusedBy sh barred t) Forbidden (pick (ltb room (length (trace sh pec t))) OutputTooShort (Written (length (trace sh pec t))))
 
 -- what is written: the trace, or nothing
 abbrev pub symbolsOf : Encoded → List ℕ → List ℕ
@@ -43,10 +42,21 @@ symbolsOf (Written n) tr = tr
 symbolsOf Forbidden tr = []
 symbolsOf OutputTooShort tr = []
 
--- the promise: for a message and an output as it was, the answer and the output as it is then
-pub record Wrote (protocol : ℕ) (pec : Bool) (t : Message) (before : List ℕ) (r : Encoded) (after : List ℕ) : Type 0 where
-  pub answer : r ≡ encoded protocol pec t (length before)
-  pub output : after ≡ onto (symbolsOf r (trace (shapeOf protocol) pec t)) before
+-- the promise over a shape: for a message and an output as it was, the answer and the output as it is then
+pub record WroteBy (sh : Shape) (barred pec : Bool) (t : Message) (before : List ℕ) (r : Encoded) (after : List ℕ) : Type 0 where
+  pub answer : r ≡ encodedBy sh barred pec t (length before)
+  pub output : after ≡ onto (symbolsOf r (trace sh pec t)) before
+
+-- ---- for the protocols of the table
+
+abbrev pub refused : ℕ → Bool → Message → Bool
+refused protocol pec t = refusedBy (shapeOf protocol) (forbidden protocol pec) t
+
+abbrev pub encoded : ℕ → Bool → Message → ℕ → Encoded
+encoded protocol pec t room = encodedBy (shapeOf protocol) (forbidden protocol pec) pec t room
+
+abbrev pub Wrote : ℕ → Bool → Message → List ℕ → Encoded → List ℕ → Type 0
+Wrote protocol pec t before r after = WroteBy (shapeOf protocol) (forbidden protocol pec) pec t before r after
 
 -- the same promise with nothing of how it is computed: what each answer means, and what it leaves in the output
 abbrev pub Means : ℕ → Bool → Message → List ℕ → Encoded → List ℕ → Type 0

@@ -1,28 +1,23 @@
--- Each answer of the encoder is given exactly in its case, a refusal leaves the output as it was, and what is written is the trace. One answer
--- and one output keep the promise.
+-- The encoder at the table of the protocols: each answer is given exactly in its listed case, a refusal leaves the output as it was, and what is
+-- written is the trace. One answer and one output keep the promise.
 use mathlib.Core.Path.{_≡_, refl, sym, ap, ap₂, _∙_}
 use mathlib.Core.Logic.{_↔_}
 use mathlib.Core.Bool.{Bool, true, false}
 use mathlib.Core.List.{List, _++_}
 use Prim.Native.Nat.{ℕ, _≤_, _<_}
 use native.Mathlib.Omega.{arith}
-use lib.Dec.{ltb, leb}
 use lib.ListN.{length, take, drop, take-append-drop}
-use lib.Seq.{take-at, drop-at}
-use borrow.Author.Tests.{ltb-true, ltb-false, leb-true, leb-false, lt-ltb, le-ltb}
-use Rattle.lists.specs.Choice.{pick, or, not}
-use Rattle.lists.specs.ChoiceLaws.{false-not-true, not-both}
+use Rattle.lists.specs.ChoiceLaws.{not-both}
 use Rattle.lists.specs.Each.{Bytes}
-use Rattle.lists.specs.Onto.{onto}
+use Rattle.trace.specs.declared.shape.Shape.{Shape}
 use Rattle.trace.specs.Shapes.{protocols, shapeOf, forbidden}
 use Rattle.trace.specs.ForbiddenLaws.{taken-cases}
 use Rattle.trace.specs.Trace.{Message, trace, Valid}
-use Rattle.trace.specs.Allowed.{allowed}
-use Rattle.trace.specs.ValidLaws.{allowed-valid, valid-allowed}
 use Rattle.encode.specs.declared.Encoded.{Encoded}
 use Rattle.encode.specs.declared.Encoded.the-variants.{Written, Forbidden, OutputTooShort}
-use Rattle.encode.specs.Encode.{encodeNumber, message, refused, encoded, symbolsOf, Wrote, Means}
-use Rattle.encode.specs.Listed.{Listed, unknown-protocol, quick-with-pec}
+use Rattle.encode.specs.Encode.{encodeNumber, message, refused, encoded, Wrote, Means}
+use Rattle.encode.specs.EncodeByLaws as shaped
+use Rattle.encode.specs.Listed.{Listed}
 use Rattle.encode.specs.ListedLaws.{refused-listed, listed-refused}
 
 -- ---- what a caller gives: each part is the field of its name
@@ -41,86 +36,44 @@ unlisted-not-refused protocol pec t n = go (refused protocol pec t) refl
     go false e = e
 
 module _ (protocol : ℕ) (pec : Bool) (t : Message) (room : ℕ) where
-  by-tests : (b s : Bool) → refused protocol pec t ≡ b → ltb room (length (trace (shapeOf protocol) pec t)) ≡ s
-      → encoded protocol pec t room ≡ pick b Forbidden (pick s OutputTooShort (Written (length (trace (shapeOf protocol) pec t))))
-  unfolding encoded
-  by-tests b s e f = rw (e, f)
+  abbrev sh : Shape
+  sh = shapeOf protocol
+
+  abbrev barred : Bool
+  barred = forbidden protocol pec
+
+  not-listed : refused protocol pec t ≡ false → Listed protocol pec t → ⊥
+  not-listed e l = not-both e (listed-refused protocol pec t l)
 
   -- 1: exactly the listed cases
   pub forbidden-exactly : (encoded protocol pec t room ≡ Forbidden) ↔ Listed protocol pec t
-  forbidden-exactly = (λ e. refused-listed protocol pec t (go e (refused protocol pec t) refl _ refl), λ l. by-tests true _ (listed-refused protocol pec t l) refl)
-    where
-      go : encoded protocol pec t room ≡ Forbidden → (b : Bool) → refused protocol pec t ≡ b → (s : Bool) → ltb room (length (trace (shapeOf protocol) pec t)) ≡ s → refused protocol pec t ≡ true
-      go e true eb s es = eb
-      go e false eb true es = let f = by-tests false true eb es in let z : _≡_ {A = ℕ} 0 1 = cc in absurd (omega arith)
-      go e false eb false es = let f = by-tests false false eb es in let z : _≡_ {A = ℕ} 0 1 = cc in absurd (omega arith)
+  forbidden-exactly =
+      let f = shaped.forbidden-exactly sh barred pec t room in
+      (λ e. refused-listed protocol pec t (f .0 e), λ l. f .1 (listed-refused protocol pec t l))
 
   -- 2: no listed case, and a room that is shorter than the trace
   pub too-short-exactly : (encoded protocol pec t room ≡ OutputTooShort) ↔ ((Listed protocol pec t → ⊥) × (room < length (trace (shapeOf protocol) pec t)))
-  too-short-exactly = (
-    λ e. go e (refused protocol pec t) refl _ refl,
-    λ h. by-tests false true (unlisted-not-refused protocol pec t (h .0)) (lt-ltb room (length (trace (shapeOf protocol) pec t)) (h .1)),
-  )
-    where
-      go : encoded protocol pec t room ≡ OutputTooShort → (b : Bool) → refused protocol pec t ≡ b → (s : Bool) → ltb room (length (trace (shapeOf protocol) pec t)) ≡ s
-          → (Listed protocol pec t → ⊥) × (room < length (trace (shapeOf protocol) pec t))
-      go e true eb s es = let f = by-tests true s eb es in let z : _≡_ {A = ℕ} 0 1 = cc in absurd (omega arith)
-      go e false eb true es = (λ l. not-both eb (listed-refused protocol pec t l), ltb-true room (length (trace (shapeOf protocol) pec t)) es)
-      go e false eb false es = let f = by-tests false false eb es in let z : _≡_ {A = ℕ} 0 1 = cc in absurd (omega arith)
+  too-short-exactly =
+      let f = shaped.too-short-exactly sh barred pec t room in
+      (λ e. (not-listed (f .0 e .0), f .0 e .1), λ h. f .1 (unlisted-not-refused protocol pec t (h .0), h .1))
 
   -- 0 with n: no listed case, n the length of the trace, and room for it
   pub written-exactly : (n : ℕ) → (encoded protocol pec t room ≡ Written n) ↔ ((Listed protocol pec t → ⊥) × (n ≡ length (trace (shapeOf protocol) pec t)) × (n ≤ room))
-  written-exactly n = (
-    λ e. go e (refused protocol pec t) refl _ refl,
-    λ h. by-tests false false (unlisted-not-refused protocol pec t (h .0)) (le-ltb room (length (trace (shapeOf protocol) pec t)) (omega (arith, h .1, h .2))) ∙ ap Written (sym (h .1)),
-  )
-    where
-      go : encoded protocol pec t room ≡ Written n → (b : Bool) → refused protocol pec t ≡ b → (s : Bool) → ltb room (length (trace (shapeOf protocol) pec t)) ≡ s
-          → (Listed protocol pec t → ⊥) × (n ≡ length (trace (shapeOf protocol) pec t)) × (n ≤ room)
-      go e true eb s es = let f = by-tests true s eb es in let z : _≡_ {A = ℕ} 0 1 = cc in absurd (omega arith)
-      go e false eb true es = let f = by-tests false true eb es in let z : _≡_ {A = ℕ} 0 1 = cc in absurd (omega arith)
-      go e false eb false es =
-          let f = by-tests false false eb es in
-          let same : n ≡ length (trace (shapeOf protocol) pec t) = cc in
-          (λ l. not-both eb (listed-refused protocol pec t l), same, omega (arith, ltb-false room (length (trace (shapeOf protocol) pec t)) es))
+  written-exactly n =
+      let f = shaped.written-exactly sh barred pec t room n in
+      (λ e. (not-listed (f .0 e .0), f .0 e .1, f .0 e .2), λ h. f .1 (unlisted-not-refused protocol pec t (h .0), h .1, h .2))
 
 -- ---- the valid messages
-
-or-false : (b a : Bool) → or b (not a) ≡ false → (b ≡ false) × (a ≡ true)
-or-false true a e = false-not-true (sym e)
-or-false false true e = (refl, refl)
-or-false false false e = false-not-true (sym e)
-
-tests-pass : (protocol : ℕ) (pec : Bool) (t : Message) → refused protocol pec t ≡ false
-    → (forbidden protocol pec ≡ false) × (allowed (shapeOf protocol) (t .address) (t .direction) (t .command) (length (t .sent)) (length (t .received)) ≡ true)
-unfolding refused
-tests-pass protocol pec t e = or-false (forbidden protocol pec) _ e
-
-tests-passed : (protocol : ℕ) (pec : Bool) (t : Message) → forbidden protocol pec ≡ false
-    → allowed (shapeOf protocol) (t .address) (t .direction) (t .command) (length (t .sent)) (length (t .received)) ≡ true → refused protocol pec t ≡ false
-unfolding refused
-tests-passed protocol pec t e f = rw (e, f)
 
 -- a message of bytes is in no listed case exactly if the protocol is one of the table, Quick goes without PEC, and it is valid for the protocol's shape
 pub unlisted-valid : (protocol : ℕ) (pec : Bool) (t : Message) → t .command < 256 → Bytes (t .sent) → Bytes (t .received)
     → (Listed protocol pec t → ⊥) ↔ ((protocol < protocols) × (protocol ≡ 0 → pec ≡ false) × Valid (shapeOf protocol) t)
-unlisted-valid protocol pec t c s r = (there, back)
-  where
-    there : (Listed protocol pec t → ⊥) → (protocol < protocols) × (protocol ≡ 0 → pec ≡ false) × Valid (shapeOf protocol) t
-    there n = (go (leb protocols protocol) refl, λ z. free z pec refl, allowed-valid (shapeOf protocol) t c s r (tests-pass protocol pec t (unlisted-not-refused protocol pec t n) .1))
-      where
-        go : (b : Bool) → leb protocols protocol ≡ b → protocol < protocols
-        go true e = absurd (n (unknown-protocol (leb-true protocols protocol e)))
-        go false e = leb-false protocols protocol e
-
-        free : protocol ≡ 0 → (p : Bool) → pec ≡ p → pec ≡ false
-        free z true e = absurd (n (quick-with-pec z e))
-        free z false e = e
-
-    back : (protocol < protocols) × (protocol ≡ 0 → pec ≡ false) × Valid (shapeOf protocol) t → Listed protocol pec t → ⊥
-    back (h, q, v) l =
-        not-both (tests-passed protocol pec t (taken-cases protocol pec .1 (h, q)) (valid-allowed (shapeOf protocol) t v))
-        (listed-refused protocol pec t l)
+unlisted-valid protocol pec t c s r =
+    let v = shaped.taken-exactly (shapeOf protocol) (forbidden protocol pec) t c s r in
+    let k = taken-cases protocol pec in (
+      λ n. (let h = v .0 (unlisted-not-refused protocol pec t n) in let q = k .0 (h .0) in (q .0, q .1, h .1)),
+      λ h l. not-both (v .1 (k .1 (h .0, h .1), h .2)) (listed-refused protocol pec t l),
+    )
 
 -- the encoder writes exactly these, where there is room
 pub written-valid : (protocol : ℕ) (pec : Bool) (t : Message) (room n : ℕ) → t .command < 256 → Bytes (t .sent) → Bytes (t .received)
@@ -167,19 +120,12 @@ module _ (protocol : ℕ) (pec : Bool) (t : Message) (before : List ℕ) (r : En
 -- what is written: the trace at the front, and behind it what was there
 pub front-is-trace : (protocol : ℕ) (pec : Bool) (t : Message) (before : List ℕ) (n : ℕ) (after : List ℕ) → Wrote protocol pec t before (Written n) after
     → (take n after ≡ trace (shapeOf protocol) pec t) × (drop n after ≡ drop n before)
-front-is-trace protocol pec t before n after w =
-    let tr : List ℕ = trace (shapeOf protocol) pec t in
-    let e : n ≡ length tr = written-exactly protocol pec t (length before) n .0 (sym (w .answer)) .1 in (
-      ap (λ (l : List ℕ). take n l) (w .output) ∙ take-at tr (drop (length tr) before) n (sym e),
-      ap (λ (l : List ℕ). drop n l) (w .output) ∙ drop-at tr (drop (length tr) before) n (sym e) ∙ ap (λ (k : ℕ). drop k before) (sym e),
-    )
+front-is-trace protocol pec = shaped.front-is-trace (shapeOf protocol) (forbidden protocol pec) pec
 
 -- a refusal changes no element
 pub refusal-untouched : (protocol : ℕ) (pec : Bool) (t : Message) (before : List ℕ) (r : Encoded) (after : List ℕ) → Wrote protocol pec t before r after
     → (encodeNumber r .0 ≡ 0 → ⊥) → after ≡ before
-refusal-untouched protocol pec t before (Written n) after w z = absurd (z refl)
-refusal-untouched protocol pec t before Forbidden after w z = w .output
-refusal-untouched protocol pec t before OutputTooShort after w z = w .output
+refusal-untouched protocol pec = shaped.refusal-untouched (shapeOf protocol) (forbidden protocol pec) pec
 
 -- ---- the whole promise, with nothing of how it is computed
 
@@ -211,6 +157,4 @@ wrote-means protocol pec t before OutputTooShort after = (
 -- two outcomes that keep the promise for the same inputs are equal
 pub one-outcome : (protocol : ℕ) (pec : Bool) (t : Message) (before : List ℕ) (r r′ : Encoded) (after after′ : List ℕ) → Wrote protocol pec t before r after
     → Wrote protocol pec t before r′ after′ → (r ≡ r′) × (after ≡ after′)
-one-outcome protocol pec t before r r′ after after′ w v =
-    let e : r ≡ r′ = w .answer ∙ sym (v .answer) in
-    (e, w .output ∙ ap (λ (x : Encoded). onto (symbolsOf x (trace (shapeOf protocol) pec t)) before) e ∙ sym (v .output))
+one-outcome protocol pec = shaped.one-outcome (shapeOf protocol) (forbidden protocol pec) pec

@@ -15,7 +15,7 @@ use Rattle.trace.specs.ForbiddenLaws.{forbidden-is}
 use Rattle.trace.specs.DataFitsLaws.{listed-lengths-fit, fitting-lengths-listed}
 use Rattle.trace.specs.Trace.{Message}
 use Rattle.trace.specs.Allowed.{lengthsFit, addressFits, directionFits, commandFits, allowed}
-use Rattle.encode.specs.Encode.{refused}
+use Rattle.encode.specs.Encode.{refusedBy, refused}
 use Rattle.encode.specs.Listed.{Listed, unknown-protocol, address-above-127, direction-above-1, quick-with-pec, lacking-command, lacking-direction, forbidden-length}
 
 -- ---- the tests one by one
@@ -44,7 +44,7 @@ module _ (protocol : ℕ) (pec : Bool) (t : Message) where
   -- one test that fails is a refusal
   refused-by : (b a d c l : Bool) → forbidden protocol pec ≡ b → addressFits sh (t .address) ≡ a → directionFits sh (t .direction) ≡ d → commandFits sh (t .command) ≡ c
       → lengthsFit sh (length (t .sent)) (length (t .received)) ≡ l → refused protocol pec t ≡ or b (not (and a (and d (and c l))))
-  unfolding refused allowed
+  unfolding refusedBy allowed
   refused-by b a d c l eb ea ed ec el =
       ap (λ (x : Bool). or x (not (and (addressFits sh (t .address)) (and (directionFits sh (t .direction)) (and (commandFits sh (t .command)) (lengthsFit sh (length (t .sent)) (length (t .received)))))))) eb
       ∙ ap (λ (x : Bool). or b (not (and x (and (directionFits sh (t .direction)) (and (commandFits sh (t .command)) (lengthsFit sh (length (t .sent)) (length (t .received)))))))) ea

@@ -3,10 +3,12 @@
 ghost use mathlib.Core.Path.{_≡_};
 ghost use lib.ListN.{length};
 ghost use Rattle.lists.specs.Onto.{onto};
+ghost use Rattle.trace.specs.Sane.{Sane};
 ghost use Rattle.trace.specs.Trace.{trace};
-ghost use Rattle.encode.specs.Encode.{message, Wrote};
+ghost use Rattle.encode.specs.Encode.{message, WroteBy, Wrote};
 ghost use Rattle.encode.specs.Pieces.{fieldsFit, Ready};
-use trace::length::room_for;
+use trace::length::room_by;
+use trace::protocol::is_forbidden;
 use trace::protocol::shape_of;
 use trace::shape::Shape;
 use trace::valid::address_fits;
@@ -61,7 +63,38 @@ fn put_trace(
     read::put_rest(&mut out[n..], sh, second, received, pec, code);
 }
 
-// The trace of a message, at the front of the output; the rest of the output, and all of it on a refusal, stays as it was.
+// The trace of a message of a shape, at the front of the output; the rest of the output, and all of it on a refusal, stays as it was.
+// The caller says whether the protocol, or a PEC of it, is forbidden. Each table of protocols has its entry: it gives the shape and that answer.
+fn encode_by(
+    sh: Shape,
+    forbidden: bool,
+    pec: bool,
+    address: Address,
+    direction: u8,
+    command: u8,
+    sent: &[u8],
+    received: &[u8],
+    out: &mut [u16],
+) -> Encoded
+    requires { ⌜ Sane sh ⌝ }
+    ensures { λ r. ⌜ WroteBy sh forbidden pec (message (address .0) direction command (now (sent .entry)) (now (received .entry))) (now (out .entry)) r (now (out .exit)) ⌝ }
+{
+    // No trace is of length 0: that answer is a protocol, a PEC or a length that is refused.
+    let n = room_by(sh, forbidden, pec, sent.len(), received.len());
+    if n == 0 {
+        return Encoded::Forbidden;
+    }
+    if !fields_fit(sh, address, direction, command) {
+        return Encoded::Forbidden;
+    }
+    if out.len() < n {
+        return Encoded::OutputTooShort;
+    }
+    put_trace(out, sh, pec, address, direction, command, sent, received);
+    Encoded::Written(n)
+}
+
+// The trace of a message of a protocol of the table.
 pub fn encode(
     protocol: u8,
     pec: bool,
@@ -74,18 +107,17 @@ pub fn encode(
 ) -> Encoded
     ensures { λ r. ⌜ Wrote protocol pec (message (address .0) direction command (now (sent .entry)) (now (received .entry))) (now (out .entry)) r (now (out .exit)) ⌝ }
 {
-    // No trace is of length 0: that answer is a protocol, a PEC or a length that is refused.
-    let n = room_for(protocol, pec, sent.len(), received.len());
-    if n == 0 {
-        return Encoded::Forbidden;
-    }
     let sh = shape_of(protocol);
-    if !fields_fit(sh, address, direction, command) {
-        return Encoded::Forbidden;
-    }
-    if out.len() < n {
-        return Encoded::OutputTooShort;
-    }
-    put_trace(out, sh, pec, address, direction, command, sent, received);
-    Encoded::Written(n)
+    let forbidden = is_forbidden(protocol, pec);
+    encode_by(
+        sh,
+        forbidden,
+        pec,
+        address,
+        direction,
+        command,
+        sent,
+        received,
+        out,
+    )
 }

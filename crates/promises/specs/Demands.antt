@@ -23,7 +23,7 @@ use mathlib.Core.Logic.{_⊎_, _↔_}
 use Prim.Native.Nat.{ℕ, suc, _+_, _*_, _/_, _%_, _^_, _≤_, _<_}
 use lib.ListN.{length, take, drop, getD, replicate}
 use Rattle.promises.specs.Words.{Each, Bytes, isReserved, pecOf, Address, TraceOf, Message, message, encodeNumber, Wrote, Encoded, summary, Member, Fits, Breaks, CutAt, OtherPec, decodeNumber, Decoded, Done, Entered, Outcome}
-use Rattle.promises.specs.Words.{member, emptyPool, startingPool, Pool, udidBytes, In128, Udid, heldAt, prepareTrace, replyTrace, assignTrace, newController, started, stepped, Event, Received, run, Acknowledged, lookedUp, commandNumber, lookupNumber}
+use Rattle.promises.specs.Words.{member, emptyPool, startingPool, Pool, udidBytes, In128, Udid, Sized128, heldAt, prepareTrace, replyTrace, assignTrace, newController, started, stepped, Event, Received, run, Acknowledged, lookedUp, commandNumber, lookupNumber}
 use Rattle.promises.specs.Words.{Asks, Binds, Continues, EndsWith, Replies, protocolFor, messageOf, traceOf, Handed, Send, Wait, Nothing, Prepare, GetUdid, Assign, Ended, Abandoned, NotOutstanding, Open, Bound, Claimed, Controller, Stepped}
 use Rattle.promises.specs.Words.{EvenOrFlag, SameAsEarlier, FixedOnTaken, LengthIsBad, None, FirstOf, targetsOf, movable, leftFree, pass, Given, Ending, served, noneFree, Distinct, ruled, Any, RecordOf, OnePerUdid, getsOnBus, noUdid, modelNumber, Leaves, modelEnd, ModelAnswer, identifier, holding, Shows}
 
@@ -192,7 +192,7 @@ pub record StepNumbers (s : Controller) (tr : List ℕ) (r : Stepped) : Type 0 w
 
 -- a state has a slot for each address, and the identifier of an outstanding Assign has 128 bits
 abbrev pub Sound : Controller → Type 0
-Sound s = (length (s .slots) ≡ 128) × ((u : Udid) (a : Address) → s .last ≡ Send (Assign u a) → In128 u)
+Sound s = Sized128 (s .slots) × ((u : Udid) (a : Address) → s .last ≡ Send (Assign u a) → In128 u)
 
 -- what holds in every state that starts and traces reach
 pub record Reached (occupied : Pool) (s : Controller) : Type 0 where

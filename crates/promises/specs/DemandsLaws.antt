@@ -40,7 +40,7 @@ use Rattle.pool.specs.declared.Pool.{Pool}
 use Rattle.udid.specs.Bytes.{udidBytes}
 use Rattle.udid.specs.declared.Udid.{Udid}
 use Rattle.arp.specs.BindingLaws.{unheld-is-open}
-use Rattle.arp.specs.Bindings.{heldAt}
+use Rattle.arp.specs.Slots.{heldAt}
 use Rattle.arp.specs.Numbers.{commandNumber}
 use Rattle.arp.specs.AssignedLaws.{found-acknowledged, claim-stays}
 use Rattle.arp.specs.CommandTraces.{prepareTrace, replyTrace, assignTrace}
@@ -50,7 +50,7 @@ use Rattle.arp.specs.RequestLaws.{valid-prepare, valid-get, valid-assign, prepa
 use Rattle.arp.specs.Requests.{assignData, protocolFor, messageOf}
 use Rattle.arp.specs.SendingLaws.{refused-exactly, small-address-protocol}
 use Rattle.arp.specs.Sound.{PendingIn}
-use Rattle.arp.specs.SoundLaws.{open-all}
+use Rattle.arp.specs.SlotsLaws.{open-all}
 use Rattle.arp.specs.Controller.{stepped}
 use Rattle.arp.specs.History.{Event, run, isHeld}
 use Rattle.arp.specs.declared.command.Command.the-variants.{Prepare, GetUdid, Assign}

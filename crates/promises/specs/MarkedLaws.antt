@@ -5,7 +5,7 @@ use mathlib.Core.List.{List, [], _∷_, _++_}
 use Prim.Native.Nat.{ℕ, _+_, _*_, _^_, _≤_, _<_}
 use native.Mathlib.Omega.{arith}
 use lib.Dec.{ltb}
-use lib.ListN.{length, take, drop, replicate}
+use lib.ListN.{length, drop, replicate}
 use borrow.Author.Tests.{ltb-true}
 use Rattle.lists.specs.Choice.{pick}
 use Rattle.lists.specs.Each.{Each, Bytes}
@@ -16,7 +16,7 @@ use Rattle.trace.specs.declared.shape.Shape.{Shape}
 use Rattle.trace.specs.Shapes.{shapeOf}
 use Rattle.trace.specs.Table.{receive-byte, block-read}
 use Rattle.trace.specs.Trace.{Message}
-use Rattle.encode.specs.Encode.{encodeNumber, refused, encoded, Wrote}
+use Rattle.encode.specs.Encode.{encodeNumber, refusedBy, encodedBy, encoded, Wrote}
 use Rattle.encode.specs.declared.Encoded.{Encoded}
 use Rattle.step.specs.Numbers.{decodeNumber}
 use Rattle.step.specs.Run.{run, finish, decodedBy}
@@ -29,6 +29,7 @@ use Rattle.pool.specs.Pools.{member, withAddress, unionOf}
 use Rattle.pool.specs.Start.{emptyPool, reservedPool, startingPool}
 use Rattle.pool.specs.declared.Pool.{Pool}
 use Rattle.udid.specs.Bytes.{numberFrom, bytesOf, bytesFrom, udidBytes, udidAt}
+use Rattle.arp.specs.Slots.{heldAt, withBinding, noBindings}
 use Rattle.arp.specs.Numbers.{commandNumber}
 use Rattle.targets.specs.AdmissionLaws.{admitted-targets}
 use Rattle.targets.specs.First.{firstFrom}
@@ -145,7 +146,7 @@ shows m v b h =
     )
 
 comes-8 : Comes run8
-unfolding amongRecords checkedList firstFrom startingPool unionOf reservedPool member digit withAddress plus freeFrom numberFrom bytesFrom bytesOf udidAt udidBytes targetAt plainChoice putTarget boundFrom used count
+unfolding amongRecords checkedList firstFrom startingPool unionOf reservedPool member digit withAddress plus freeFrom numberFrom bytesFrom bytesOf udidAt udidBytes targetAt plainChoice putTarget boundFrom used count heldAt withBinding noBindings
 comes-8 = record {
   bytes = computed (run8 .records) refl;
   admitted = refl;
@@ -161,7 +162,7 @@ comes-8 = record {
 }
 
 comes-9 : Comes run9
-unfolding amongRecords checkedList firstFrom startingPool unionOf reservedPool member digit withAddress plus freeFrom numberFrom bytesFrom bytesOf udidAt udidBytes targetAt plainChoice putTarget boundFrom used count
+unfolding amongRecords checkedList firstFrom startingPool unionOf reservedPool member digit withAddress plus freeFrom numberFrom bytesFrom bytesOf udidAt udidBytes targetAt plainChoice putTarget boundFrom used count heldAt withBinding noBindings
 comes-9 = record {
   bytes = computed (run9 .records) refl;
   admitted = refl;
@@ -177,7 +178,7 @@ comes-9 = record {
 }
 
 comes-10 : Comes run10
-unfolding amongRecords checkedList firstFrom startingPool unionOf reservedPool member digit withAddress plus freeFrom numberFrom bytesFrom bytesOf udidAt udidBytes targetAt plainChoice putTarget boundFrom used count
+unfolding amongRecords checkedList firstFrom startingPool unionOf reservedPool member digit withAddress plus freeFrom numberFrom bytesFrom bytesOf udidAt udidBytes targetAt plainChoice putTarget boundFrom used count heldAt withBinding noBindings
 comes-10 = record {
   bytes = computed (run10 .records) refl;
   admitted = refl;
@@ -208,12 +209,12 @@ numbered : (pec : Bool) (t : Message) (n v : ℕ) → encodeNumber (encoded 10 p
 numbered pec t n v e before r after l w = ap encodeNumber (w .answer) ∙ ap (λ (k : ℕ). encodeNumber (encoded 10 pec t k)) l ∙ e
 
 too-many : (pec : Bool) → encodeNumber (encoded 10 pec (block 56) 525) ≡ (1, 0)
-unfolding encoded refused allowed lengthsFit
+unfolding encodedBy refusedBy allowed lengthsFit
 too-many true = refl
 too-many false = refl
 
 just-enough : (encodeNumber (encoded 10 false (block 55) 525) ≡ (0, 523)) × (encodeNumber (encoded 10 true (block 55) 525) ≡ (0, 525))
-unfolding encoded refused allowed lengthsFit
+unfolding encodedBy refusedBy allowed lengthsFit
 just-enough = (refl, refl)
 
 -- whatever binding buffer of at least 2,048 bytes is lent

@@ -23,7 +23,7 @@ use Rattle.pool.specs.declared.free.Free.the-variants.{At, AllUsed}
 use Rattle.udid.specs.Bytes.{udidBytes, udidAt}
 use Rattle.udid.specs.Udids.{Fits}
 use Rattle.udid.specs.declared.Udid.{Udid}
-use Rattle.arp.specs.Bindings.{heldAt}
+use Rattle.arp.specs.Slots.{Sized128, heldAt}
 use Rattle.arp.specs.CommandTraces.{prepareTrace, replyTrace, assignTrace, Reply}
 use Rattle.arp.specs.Controller.{stepped}
 use Rattle.arp.specs.HeardLaws.{six-exactly}
@@ -69,7 +69,7 @@ idle-no-command s i = go (s .last) refl
 
 -- ---- every step is as the sentences say
 
-pub sentences : (s : Controller) (tr : List ℕ) → length (s .slots) ≡ 128 → Steps s tr (stepped s tr)
+pub sentences : (s : Controller) (tr : List ℕ) → Sized128 (s .slots) → Steps s tr (stepped s tr)
 sentences s tr size = record {
   prepare-accepted = arp.prepare-accepted s tr;
   prepare-nobody = λ e b w. arp.prepare-nobody s tr e b (six-1 tr b .1 w);

@@ -22,7 +22,7 @@ pub use Rattle.pool.specs.declared.Pool.{Pool}
 pub use Rattle.udid.specs.Bytes.{udidBytes}
 pub use Rattle.udid.specs.Udids.{Fits as In128}
 pub use Rattle.udid.specs.declared.Udid.{Udid}
-pub use Rattle.arp.specs.Bindings.{heldAt}
+pub use Rattle.arp.specs.Slots.{Sized128, heldAt}
 pub use Rattle.arp.specs.CommandTraces.{prepareTrace, replyTrace, assignTrace}
 pub use Rattle.arp.specs.Controller.{newController, started, stepped}
 pub use Rattle.arp.specs.History.{Event, Received, run, Acknowledged}

@@ -1,16 +1,16 @@
 -- How a pass ends that serves as the plain rule says: the controller's state and last command, and the targets.
 use Prim.Native.Nat.{ℕ, suc, _+_}
 use mathlib.Core.List.{List, [], _∷_}
-use lib.ListN.{length, set, replicate}
+use lib.ListN.{length}
 use Rattle.pool.specs.Pools.{withAddress}
 use Rattle.pool.specs.declared.Pool.{Pool}
-use Rattle.arp.specs.Bindings.{openSlot}
+use Rattle.arp.specs.Slots.{withBinding, noBindings}
 use Rattle.arp.specs.declared.command.End.the-variants.{Ended, NoneFree}
 use Rattle.arp.specs.declared.command.Handed.{Handed}
 use Rattle.arp.specs.declared.command.Handed.the-variants.{Wait}
 use Rattle.arp.specs.declared.state.Binding.the-variants.{Bound}
 use Rattle.arp.specs.declared.state.Controller.{Controller}
-use Rattle.arp.specs.declared.state.Slot.{Slot}
+use Rattle.arp.specs.declared.slots.Slots.{Slots}
 use Rattle.arp.specs.declared.state.Stepped.{Stepped}
 use Rattle.targets.specs.Target.{Target, cleared, resolve}
 use Rattle.rule.specs.Bus.{World}
@@ -22,18 +22,15 @@ lastCommand served = Wait Ended
 lastCommand (noneFree u) = Wait (NoneFree u)
 
 -- the controller's state, and the state with a command out
-abbrev pub state : Pool → Pool → List Slot → ℕ → Handed → Controller
+abbrev pub state : Pool → Pool → Slots → ℕ → Handed → Controller
 state b p s n k = record { starting = b; pool = p; slots = s; gets = n; last = k }
 
-abbrev pub out : Pool → Pool → List Slot → ℕ → Handed → Stepped
+abbrev pub out : Pool → Pool → Slots → ℕ → Handed → Stepped
 out b p s n k = record { state = state b p s n k; command = k }
-
-abbrev pub boundSlot : Target → Slot
-boundSlot t = record { held = Bound (t .udid) }
 
 pub record Outcome : Type 0 where
   pub pool : Pool
-  pub slots : List Slot
+  pub slots : Slots
   pub bound : ℕ
   pub targets : List Target
   pub ending : Ending
@@ -47,15 +44,15 @@ abbrev pub addAll : List Given → Pool → Pool
 addAll [] p = p
 addAll (g ∷ gs) p = addAll gs (withAddress p (g .address))
 
-abbrev pub putAll : List Given → List Slot → List Slot
+abbrev pub putAll : List Given → Slots → Slots
 putAll [] s = s
-putAll (g ∷ gs) s = putAll gs (set s (g .address) (boundSlot (g .who)))
+putAll (g ∷ gs) s = putAll gs (withBinding s (g .address) (Bound (g .who .udid)))
 
 abbrev pub resolveAll : List Given → List Target → List Target
 resolveAll [] ts = ts
 resolveAll (g ∷ gs) ts = resolveAll gs (resolve (g .who .udid) (g .address) ts)
 
-abbrev pub outcome : Ruled → Pool → List Slot → ℕ → List Target → Outcome
+abbrev pub outcome : Ruled → Pool → Slots → ℕ → List Target → Outcome
 outcome r p s k ts = record {
   pool = addAll (r .given) p;
   slots = putAll (r .given) s;
@@ -66,9 +63,9 @@ outcome r p s k ts = record {
 
 -- with no target: nobody acknowledges Prepare, and no Get UDID is sent
 abbrev pub nobodyThere : Pool → World
-nobodyThere b = record { now = out b b (replicate 128 openSlot) 0 (Wait Ended); targets = [] }
+nobodyThere b = record { now = out b b noBindings 0 (Wait Ended); targets = [] }
 
 -- how a pass over these targets ends
 abbrev pub passEnd : Pool → List Target → World
 passEnd b [] = nobodyThere b
-passEnd b (t ∷ ts) = ended b (outcome (ruled b (t ∷ ts)) b (replicate 128 openSlot) 0 (cleared (t ∷ ts)))
+passEnd b (t ∷ ts) = ended b (outcome (ruled b (t ∷ ts)) b noBindings 0 (cleared (t ∷ ts)))

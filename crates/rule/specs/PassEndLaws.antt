@@ -7,7 +7,7 @@ use mathlib.Core.List.{List, [], _∷_}
 use native.Mathlib.Nat.{suc-add, add-suc, zero-add}
 use native.Mathlib.Omega.{arith}
 use lib.Dec.{ltb}
-use lib.ListN.{length, set, replicate, length-replicate}
+use lib.ListN.{length}
 use Rattle.lists.specs.AbsurdLaws.{zero-is-one}
 use Rattle.lists.specs.Choice.{pick}
 use Rattle.lists.specs.Each.{Each}
@@ -28,18 +28,20 @@ use Rattle.targets.specs.Target.{Target, isResolved, prepared, cleared, resolve
 use Rattle.targets.specs.Members.{Pairs}
 use Rattle.targets.specs.RecordLaws.{length-map}
 use Rattle.targets.specs.Admission.{FixedApart, FixedFree, AdmittedTargets}
-use Rattle.arp.specs.SoundLaws.{open-all}
-use Rattle.arp.specs.Bindings.{openSlot, boundTo}
+use Rattle.arp.specs.SlotsLaws.{open-all, sized-none}
+use Rattle.arp.specs.Bindings.{boundTo}
 use Rattle.arp.specs.Controller.{stepped}
+use Rattle.arp.specs.Slots.{withBinding, noBindings}
 use Rattle.arp.specs.declared.command.Command.the-variants.{Prepare}
+use Rattle.arp.specs.declared.slots.Slots.{Slots}
+use Rattle.arp.specs.declared.state.Binding.the-variants.{Bound}
 use Rattle.arp.specs.declared.command.Handed.the-variants.{Send}
-use Rattle.arp.specs.declared.state.Slot.{Slot}
 use Rattle.arp.specs.declared.state.Stepped.{Stepped}
 use Rattle.rule.specs.AnyBusLaws.{run-add}
 use Rattle.rule.specs.Bus.{modelBus, turn, run, beginning, pass}
 use Rattle.rule.specs.BusLaws.{turn-takes}
 use Rattle.rule.specs.PlainRule.{insert, ascending, plainChoice, served, noneFree, Given, next, rule, ruled, FreeIn, Distinct}
-use Rattle.rule.specs.PassEnd.{state, boundSlot, ended, outcome, nobodyThere, passEnd}
+use Rattle.rule.specs.PassEnd.{state, ended, outcome, nobodyThere, passEnd}
 use Rattle.rule.specs.EffectLaws.{effect-as-meant}
 use Rattle.rule.specs.TraceLaws as on-bus
 use Rattle.rule.specs.Ready.{Apart, Ready, Lower}
@@ -51,14 +53,14 @@ use Rattle.rule.specs.ServingLaws.{ended-run-stays, run-serves-rest}
 
 -- ---- the rule with all that it changes is the rule
 
-plain-outcome : (rest : List Target) (p : Pool) (s : List Slot) (k : ℕ) (ts : List Target) → plain rest p s k ts ≡ outcome (rule rest p) p s k ts
+plain-outcome : (rest : List Target) (p : Pool) (s : Slots) (k : ℕ) (ts : List Target) → plain rest p s k ts ≡ outcome (rule rest p) p s k ts
 plain-outcome [] p s k ts = ap (λ (n : ℕ). record { pool = p; slots = s; bound = n; targets = ts; ending = served }) (sym (zero-add k))
 plain-outcome (t ∷ rest) p s k ts =
-    go (plainChoice p t) (λ a. plain-outcome rest (withAddress p (a .0)) (set s (a .0) (boundSlot t)) (suc k) (resolve (t .udid) (a .0) ts))
+    go (plainChoice p t) (λ a. plain-outcome rest (withAddress p (a .0)) (withBinding s (a .0) (Bound (t .udid))) (suc k) (resolve (t .udid) (a .0) ts))
   where
     go : (c : Free)
-        → ((a : Address) → plain rest (withAddress p (a .0)) (set s (a .0) (boundSlot t)) (suc k) (resolve (t .udid) (a .0) ts)
-        ≡ outcome (rule rest (withAddress p (a .0))) (withAddress p (a .0)) (set s (a .0) (boundSlot t)) (suc k) (resolve (t .udid) (a .0) ts))
+        → ((a : Address) → plain rest (withAddress p (a .0)) (withBinding s (a .0) (Bound (t .udid))) (suc k) (resolve (t .udid) (a .0) ts)
+        ≡ outcome (rule rest (withAddress p (a .0))) (withAddress p (a .0)) (withBinding s (a .0) (Bound (t .udid))) (suc k) (resolve (t .udid) (a .0) ts))
         → serve (λ p′ s′ k′ ts′. plain rest p′ s′ k′ ts′) t p s k ts c ≡ outcome (next (λ q. rule rest q) t p c) p s k ts
     go AllUsed ih = ap (λ (n : ℕ). record { pool = p; slots = s; bound = n; targets = ts; ending = noneFree (t .udid) }) (sym (zero-add k))
     go (At a) ih = ih a ∙ simp (add-suc, suc-add)
@@ -82,15 +84,15 @@ choice-cleared : (p : Pool) (t : Target) → plainChoice p (prepared t) ≡ plai
 unfolding plainChoice
 choice-cleared p t = refl
 
-plain-cleared : (rest : List Target) (p : Pool) (s : List Slot) (k : ℕ) (ts : List Target) → plain (cleared rest) p s k ts ≡ plain rest p s k ts
+plain-cleared : (rest : List Target) (p : Pool) (s : Slots) (k : ℕ) (ts : List Target) → plain (cleared rest) p s k ts ≡ plain rest p s k ts
 plain-cleared [] p s k ts = refl
 plain-cleared (t ∷ rest) p s k ts =
     ap (serve (λ p′ s′ k′ ts′. plain (cleared rest) p′ s′ k′ ts′) (prepared t) p s k ts) (choice-cleared p t)
-    ∙ go (plainChoice p t) (λ a. plain-cleared rest (withAddress p (a .0)) (set s (a .0) (boundSlot t)) (suc k) (resolve (t .udid) (a .0) ts))
+    ∙ go (plainChoice p t) (λ a. plain-cleared rest (withAddress p (a .0)) (withBinding s (a .0) (Bound (t .udid))) (suc k) (resolve (t .udid) (a .0) ts))
   where
     go : (c : Free)
-        → ((a : Address) → plain (cleared rest) (withAddress p (a .0)) (set s (a .0) (boundSlot t)) (suc k) (resolve (t .udid) (a .0) ts)
-        ≡ plain rest (withAddress p (a .0)) (set s (a .0) (boundSlot t)) (suc k) (resolve (t .udid) (a .0) ts))
+        → ((a : Address) → plain (cleared rest) (withAddress p (a .0)) (withBinding s (a .0) (Bound (t .udid))) (suc k) (resolve (t .udid) (a .0) ts)
+        ≡ plain rest (withAddress p (a .0)) (withBinding s (a .0) (Bound (t .udid))) (suc k) (resolve (t .udid) (a .0) ts))
         → serve (λ p′ s′ k′ ts′. plain (cleared rest) p′ s′ k′ ts′) (prepared t) p s k ts c ≡ serve (λ p′ s′ k′ ts′. plain rest p′ s′ k′ ts′) t p s k ts c
     go AllUsed ih = refl
     go (At a) ih = ih a
@@ -125,7 +127,7 @@ admitted-cleared b ts v = record {
 
 -- ---- where a pass begins
 
-open-slots : (u : Udid) → Unbound u (replicate 128 openSlot)
+open-slots : (u : Udid) → Unbound u noBindings
 open-slots u i = ap (boundTo u) (open-all i)
 
 -- 7Fh is reserved
@@ -153,7 +155,7 @@ module _ (b : Pool) (last : member b 127 ≡ true) (ts : List Target) (v : Admit
         elsewhere = elsewhere′ x y (pairs-any-two ts (λ p q h f g e. h g f (sym e)) (v .fixed-apart) x y (ascending-adds-none ts x m) (ascending-adds-none ts y k)) l;
       }
 
-  inv-first : 0 < length ts → ((t : Target) → Among t ts → isResolved t ≡ false) → Inv b (replicate 128 openSlot) 0 ts (ascending ts)
+  inv-first : 0 < length ts → ((t : Target) → Among t ts → isResolved t ≡ false) → Inv b noBindings 0 ts (ascending ts)
   inv-first some open-all = record {
     ready = ready-first;
     waits = record {
@@ -162,7 +164,7 @@ module _ (b : Pool) (last : member b 127 ≡ true) (ts : List Target) (v : Admit
       unresolved = λ t m. open-all t (ascending-adds-none ts t m);
     };
     unbound = λ t m. open-slots (t .udid);
-    room = length-replicate 128 openSlot;
+    room = sized-none;
     below-128 = omega (arith, length-ascending ts, v .at-most-120);
     present = some;
     fits = λ t m. v .sized t m .udid;
@@ -178,12 +180,12 @@ module _ (occupied : Pool) where
   start : Pool
   start = startingPool occupied
 
-  first-turn : (t : Target) (ts : List Target) → AdmittedTargets start (t ∷ ts) → turn (beginning occupied (t ∷ ts)) ≡ asking start start (replicate 128 openSlot) 1 (cleared (t ∷ ts))
+  first-turn : (t : Target) (ts : List Target) → AdmittedTargets start (t ∷ ts) → turn (beginning occupied (t ∷ ts)) ≡ asking start start noBindings 1 (cleared (t ∷ ts))
   unfolding start
   first-turn t ts v =
       turn-takes (beginning occupied (t ∷ ts) .now) (t ∷ ts) (Send Prepare) refl
       ∙ ap₂ (λ (x : Stepped) (us : List Target). record { now = x; targets = us })
-      (ap (stepped (state start start (replicate 128 openSlot) 0 (Send Prepare))) (on-bus.prepare-whole t ts) ∙ prepare-asks-first start start (replicate 128 openSlot))
+      (ap (stepped (state start start noBindings 0 (Send Prepare))) (on-bus.prepare-whole t ts) ∙ prepare-asks-first start start noBindings)
       (effect-as-meant (Send Prepare) (t ∷ ts) tt (λ x m. v .sized x m .udid))
 
   nobody-turn : turn (beginning occupied []) ≡ nobodyThere start
@@ -191,7 +193,7 @@ module _ (occupied : Pool) where
   nobody-turn =
       turn-takes (beginning occupied [] .now) [] (Send Prepare) refl
       ∙ ap (λ (x : Stepped). record { now = x; targets = [] })
-      (ap (stepped (state start start (replicate 128 openSlot) 0 (Send Prepare))) on-bus.prepare-cut ∙ prepare-silence-ends start start (replicate 128 openSlot))
+      (ap (stepped (state start start noBindings 0 (Send Prepare))) on-bus.prepare-cut ∙ prepare-silence-ends start start noBindings)
 
   some-targets : (t : Target) (ts : List Target) → AdmittedTargets start (t ∷ ts) → run 300 (beginning occupied (t ∷ ts)) ≡ passEnd start (t ∷ ts)
   unfolding start
@@ -202,19 +204,19 @@ module _ (occupied : Pool) where
       let e : 300 ≡ suc (n + (299 - n)) = omega (arith, length-turns (ascending us), length-ascending us, v′ .at-most-120) in
       ap (λ (k : ℕ). run k (beginning occupied (t ∷ ts))) e
       ∙ ap (run (n + (299 - n))) (first-turn t ts v)
-      ∙ run-add modelBus n (299 - n) (asking start start (replicate 128 openSlot) 1 us)
+      ∙ run-add modelBus n (299 - n) (asking start start noBindings 1 us)
       ∙ ap (run (299 - n))
-      (run-serves-rest start start (replicate 128 openSlot) 0 us (ascending us) (inv-first start (last-address-used occupied) us v′ (omega arith) (open-cleared (t ∷ ts)))
+      (run-serves-rest start start noBindings 0 us (ascending us) (inv-first start (last-address-used occupied) us v′ (omega arith) (open-cleared (t ∷ ts)))
       ∙ ap (ended start)
-      (ap (λ (l : List Target). plain l start (replicate 128 openSlot) 0 us) (ascending-cleared (t ∷ ts))
-      ∙ plain-cleared (ascending (t ∷ ts)) start (replicate 128 openSlot) 0 us
-      ∙ plain-outcome (ascending (t ∷ ts)) start (replicate 128 openSlot) 0 us))
+      (ap (λ (l : List Target). plain l start noBindings 0 us) (ascending-cleared (t ∷ ts))
+      ∙ plain-cleared (ascending (t ∷ ts)) start noBindings 0 us
+      ∙ plain-outcome (ascending (t ∷ ts)) start noBindings 0 us))
       ∙ ended-run-stays (299 - n) _ _ _ _ (rule (ascending (t ∷ ts)) start .ending) _
 
 -- THE PASS ENDS AS THE PLAIN RULE SAYS: bindings, pool and last command of the controller, and every target
 pub demand-3 : (occupied : Pool) (ts : List Target) → AdmittedTargets (startingPool occupied) ts → pass occupied ts ≡ passEnd (startingPool occupied) ts
 unfolding pass start
-demand-3 occupied [] v = ap (run 299) (nobody-turn occupied) ∙ ended-run-stays 299 (startingPool occupied) (startingPool occupied) (replicate 128 openSlot) 0 served []
+demand-3 occupied [] v = ap (run 299) (nobody-turn occupied) ∙ ended-run-stays 299 (startingPool occupied) (startingPool occupied) noBindings 0 served []
 demand-3 occupied (t ∷ ts) v = some-targets occupied t ts v
 
 -- with no target, the pass ends when nobody acknowledges Prepare To ARP

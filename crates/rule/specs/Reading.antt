@@ -9,9 +9,10 @@ use Rattle.lists.specs.Each.{Each}
 use Rattle.udid.specs.Bytes.{udidBytes}
 use Rattle.udid.specs.Udids.{sameUdid}
 use Rattle.udid.specs.declared.Udid.{Udid}
-use Rattle.arp.specs.Bindings.{heldAt, boundIn}
+use Rattle.arp.specs.Bindings.{boundIn}
+use Rattle.arp.specs.Slots.{heldAt}
 use Rattle.arp.specs.declared.state.Binding.{Binding}
-use Rattle.arp.specs.declared.state.Slot.{Slot}
+use Rattle.arp.specs.declared.slots.Slots.{Slots}
 use Rattle.targets.specs.Target.{Target, assignedTo}
 use Rattle.rule.specs.PlainRule.{Given}
 
@@ -31,7 +32,7 @@ someOf (u ∷ us) = true
 abbrev pub isBound : Binding → Bool
 isBound h = someOf (boundIn h)
 
-abbrev pub boundAt : List Slot → ℕ → Bool
+abbrev pub boundAt : Slots → ℕ → Bool
 boundAt s a = isBound (heldAt s a)
 
 -- one who was given this address has this identifier

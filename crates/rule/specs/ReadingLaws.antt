@@ -7,7 +7,7 @@ use mathlib.Core.List.{List, [], _∷_}
 use native.Mathlib.Nat.{zero-add}
 use native.Mathlib.Decide.{ℕ-discrete}
 use native.Mathlib.Omega.{arith}
-use lib.ListN.{length, set, replicate, length-set, length-replicate}
+use lib.ListN.{length}
 use Rattle.lists.specs.AbsurdLaws.{zero-is-one}
 use Rattle.lists.specs.Each.{Each}
 use Rattle.wire.specs.declared.address.Address.{Address}
@@ -22,10 +22,11 @@ use Rattle.udid.specs.Udids.{sameUdid, value}
 use Rattle.udid.specs.UdidLaws.{same-refl, same-equal, other-udid}
 use Rattle.udid.specs.declared.Udid.{Udid}
 use Rattle.arbitration.specs.Among.{Among}
-use Rattle.arp.specs.SoundLaws.{held-same, held-other, open-all}
-use Rattle.arp.specs.Bindings.{openSlot, heldAt}
+use Rattle.arp.specs.SlotsLaws.{held-same, held-other, open-all, sized-none, sized-with}
+use Rattle.arp.specs.Slots.{Sized128, heldAt, withBinding, noBindings}
+use Rattle.arp.specs.declared.state.Binding.{Binding}
 use Rattle.arp.specs.declared.state.Binding.the-variants.{Open, Bound, Claimed}
-use Rattle.arp.specs.declared.state.Slot.{Slot}
+use Rattle.arp.specs.declared.slots.Slots.{Slots}
 use Rattle.targets.specs.Target.{Target, mapTargets, prepared, assignedTo, cleared, resolve}
 use Rattle.targets.specs.Members.{Pairs}
 use Rattle.targets.specs.Admission.{AdmittedTargets}
@@ -33,31 +34,31 @@ use Rattle.rule.specs.PlainRule.{plainChoice, Given, next, rule, FreeIn,
 use Rattle.rule.specs.RuleLaws.{rule-serves-these}
 use Rattle.rule.specs.Ready.{Lower}
 use Rattle.rule.specs.SortLaws.{ascending-is-lower-first}
-use Rattle.rule.specs.PassEnd.{boundSlot, putAll, resolveAll, passEnd}
+use Rattle.rule.specs.PassEnd.{putAll, resolveAll, passEnd}
 use Rattle.rule.specs.PassEndLaws.{given-free-distinct}
 use Rattle.rule.specs.Reading.{Any, isBound, boundAt, GivenAt, OnePerUdid, servedBy, taken, TakenBy}
 
 -- ---- HOW MANY are bound
 
 -- an address below 128 where nobody is bound
-abbrev Room : List Slot → Given → Type 0
+abbrev Room : Slots → Given → Type 0
 Room s g = (g .address < 128) × (boundAt s (g .address) ≡ false)
 
-room-next : (gs : List Given) (s : List Slot) (a : ℕ) (x : Slot) → Each (λ (h : Given). h .address ≡ a → ⊥) gs → Each (Room s) gs → Each (Room (set s a x)) gs
+room-next : (gs : List Given) (s : Slots) (a : ℕ) (x : Binding) → Each (λ (h : Given). h .address ≡ a → ⊥) gs → Each (Room s) gs → Each (Room (withBinding s a x)) gs
 room-next [] s a x d r = tt
 room-next (g ∷ gs) s a x d r = ((r .0 .0, ap isBound (held-other s a (g .address) x (d .0)) ∙ r .0 .1), room-next gs s a x (d .1) (r .1))
 
-count-given : (gs : List Given) (s : List Slot) → length s ≡ 128 → Each (Room s) gs → Distinct gs → count (boundAt (putAll gs s)) 128 ≡ length gs + count (boundAt s) 128
+count-given : (gs : List Given) (s : Slots) → Sized128 s → Each (Room s) gs → Distinct gs → count (boundAt (putAll gs s)) 128 ≡ length gs + count (boundAt s) 128
 count-given [] s l r d = sym (zero-add _)
 count-given (g ∷ gs) s l r d =
-    let e : count (boundAt (set s (g .address) (boundSlot (g .who)))) 128 ≡ suc (count (boundAt s) 128) =
-    count-more (boundAt s) (boundAt (set s (g .address) (boundSlot (g .who)))) 128 (g .address) (r .0 .0) (r .0 .1)
-    (ap isBound (held-same s (g .address) (boundSlot (g .who)) (omega (arith, l, r .0 .0))))
-    (λ j h n. ap isBound (held-other s (g .address) j (boundSlot (g .who)) n)) in
-    count-given gs (set s (g .address) (boundSlot (g .who))) (length-set s (g .address) _ ∙ l) (room-next gs s (g .address) _ (d .0) (r .1)) (d .1)
+    let e : count (boundAt (withBinding s (g .address) (Bound (g .who .udid)))) 128 ≡ suc (count (boundAt s) 128) =
+    count-more (boundAt s) (boundAt (withBinding s (g .address) (Bound (g .who .udid)))) 128 (g .address) (r .0 .0) (r .0 .1)
+    (ap isBound (held-same s (g .address) (Bound (g .who .udid)) l (r .0 .0)))
+    (λ j h n. ap isBound (held-other s (g .address) j (Bound (g .who .udid)) n)) in
+    count-given gs (withBinding s (g .address) (Bound (g .who .udid))) (sized-with s (g .address) _ l) (room-next gs s (g .address) _ (d .0) (r .1)) (d .1)
     ∙ omega (arith, e)
 
-open-none : (a : ℕ) → boundAt (replicate 128 openSlot) a ≡ false
+open-none : (a : ℕ) → boundAt noBindings a ≡ false
 open-none a = ap isBound (open-all a)
 
 none-count : (k : ℕ) → count (λ (j : ℕ). false) k ≡ 0
@@ -65,66 +66,66 @@ unfolding count
 none-count zero = refl
 none-count (suc k) = zero-add (count (λ (j : ℕ). false) k) ∙ none-count k
 
-open-count : count (boundAt (replicate 128 openSlot)) 128 ≡ 0
-open-count = count-cong (boundAt (replicate 128 openSlot)) (λ (j : ℕ). false) 128 (λ j h. open-none j) ∙ none-count 128
+open-count : count (boundAt noBindings) 128 ≡ 0
+open-count = count-cong (boundAt noBindings) (λ (j : ℕ). false) 128 (λ j h. open-none j) ∙ none-count 128
 
-free-room : (b : Pool) (gs : List Given) → Each (FreeIn b) gs → Each (Room (replicate 128 openSlot)) gs
+free-room : (b : Pool) (gs : List Given) → Each (FreeIn b) gs → Each (Room noBindings) gs
 free-room b [] h = tt
 free-room b (g ∷ gs) h = ((h .0 .0, open-none (g .address)), free-room b gs (h .1))
 
 -- the slots at the end
-end-slots : (b : Pool) (ts : List Target) → passEnd b ts .now .state .slots ≡ putAll (ruled b ts .given) (replicate 128 openSlot)
+end-slots : (b : Pool) (ts : List Target) → passEnd b ts .now .state .slots ≡ putAll (ruled b ts .given) noBindings
 end-slots b [] = refl
 end-slots b (t ∷ ts) = refl
 
 -- ---- WHO is bound where: only what was given
 
-held-given : (gs : List Given) (s : List Slot) (a : ℕ) (u : Udid) → length s ≡ 128 → Each (λ (g : Given). g .address < 128) gs → heldAt (putAll gs s) a ≡ Bound u
+held-given : (gs : List Given) (s : Slots) (a : ℕ) (u : Udid) → Sized128 s → Each (λ (g : Given). g .address < 128) gs → heldAt (putAll gs s) a ≡ Bound u
     → (heldAt s a ≡ Bound u) ⊎ Any (GivenAt a u) gs
 held-given [] s a u l f e = inl e
 held-given (g ∷ gs) s a u l f e =
-    go (held-given gs (set s (g .address) (boundSlot (g .who))) a u (length-set s (g .address) _ ∙ l) (f .1) e) (ℕ-discrete a (g .address))
+    go (held-given gs (withBinding s (g .address) (Bound (g .who .udid))) a u (sized-with s (g .address) _ l) (f .1) e) (ℕ-discrete a (g .address))
   where
-    go : (heldAt (set s (g .address) (boundSlot (g .who))) a ≡ Bound u) ⊎ Any (GivenAt a u) gs → Dec (a ≡ g .address)
+    go : (heldAt (withBinding s (g .address) (Bound (g .who .udid))) a ≡ Bound u) ⊎ Any (GivenAt a u) gs → Dec (a ≡ g .address)
         → (heldAt s a ≡ Bound u) ⊎ (GivenAt a u g ⊎ Any (GivenAt a u) gs)
     go (inr k) d = inr (inr k)
-    go (inl k) (no q) = inl (sym (held-other s (g .address) a (boundSlot (g .who)) q) ∙ k)
+    go (inl k) (no q) = inl (sym (held-other s (g .address) a (Bound (g .who .udid)) q) ∙ k)
     go (inl k) (yes q) =
-        let m : Bound (g .who .udid) ≡ Bound u = sym (held-same s (g .address) (boundSlot (g .who)) (omega (arith, l, f .0)))
-        ∙ ap (heldAt (set s (g .address) (boundSlot (g .who)))) (sym q) ∙ k in
+        let m : Bound (g .who .udid) ≡ Bound u = sym (held-same s (g .address) (Bound (g .who .udid)) l (f .0))
+        ∙ ap (heldAt (withBinding s (g .address) (Bound (g .who .udid)))) (sym q) ∙ k in
         inr (inl (sym q, cc m))
 
 given-below-128 : (b : Pool) (gs : List Given) → Each (FreeIn b) gs → Each (λ (g : Given). g .address < 128) gs
 given-below-128 b [] h = tt
 given-below-128 b (g ∷ gs) h = (h .0 .0, given-below-128 b gs (h .1))
 
-others-keep-slot : (gs : List Given) (s : List Slot) (a : ℕ) → Each (λ (h : Given). h .address ≡ a → ⊥) gs → heldAt (putAll gs s) a ≡ heldAt s a
+others-keep-slot : (gs : List Given) (s : Slots) (a : ℕ) → Each (λ (h : Given). h .address ≡ a → ⊥) gs → heldAt (putAll gs s) a ≡ heldAt s a
 others-keep-slot [] s a d = refl
-others-keep-slot (g ∷ gs) s a d = others-keep-slot gs (set s (g .address) (boundSlot (g .who))) a (d .1) ∙ held-other s (g .address) a (boundSlot (g .who)) (λ q. d .0 (sym q))
+others-keep-slot (g ∷ gs) s a d = others-keep-slot gs (withBinding s (g .address) (Bound (g .who .udid))) a (d .1) ∙ held-other s (g .address) a (Bound (g .who .udid)) (λ q. d .0 (sym q))
 
 -- and all that was given
-given-held : (gs : List Given) (s : List Slot) → length s ≡ 128 → Each (λ (g : Given). g .address < 128) gs → Distinct gs
+given-held : (gs : List Given) (s : Slots) → Sized128 s → Each (λ (g : Given). g .address < 128) gs → Distinct gs
     → Each (λ (g : Given). heldAt (putAll gs s) (g .address) ≡ Bound (g .who .udid)) gs
 given-held [] s l f d = tt
 given-held (g ∷ gs) s l f d = (
-  others-keep-slot gs (set s (g .address) (boundSlot (g .who))) (g .address) (d .0) ∙ held-same s (g .address) (boundSlot (g .who)) (omega (arith, l, f .0)),
-  given-held gs (set s (g .address) (boundSlot (g .who))) (length-set s (g .address) _ ∙ l) (f .1) (d .1),
+  others-keep-slot gs (withBinding s (g .address) (Bound (g .who .udid))) (g .address) (d .0) ∙ held-same s (g .address) (Bound (g .who .udid)) l (f .0),
+  given-held gs (withBinding s (g .address) (Bound (g .who .udid))) (sized-with s (g .address) _ l) (f .1) (d .1),
 )
 
 -- nobody is claimed by two
-unclaimed : (gs : List Given) (s : List Slot) → ((a : ℕ) → heldAt s a ≡ Claimed → ⊥) → length s ≡ 128 → Each (λ (g : Given). g .address < 128) gs
+unclaimed : (gs : List Given) (s : Slots) → ((a : ℕ) → heldAt s a ≡ Claimed → ⊥) → Sized128 s → Each (λ (g : Given). g .address < 128) gs
     → (a : ℕ) → heldAt (putAll gs s) a ≡ Claimed → ⊥
 unclaimed [] s h l f a = h a
-unclaimed (g ∷ gs) s h l f a = unclaimed gs (set s (g .address) (boundSlot (g .who))) (λ i. go i (ℕ-discrete i (g .address))) (length-set s (g .address) _ ∙ l) (f .1) a
+unclaimed (g ∷ gs) s h l f a = unclaimed gs (withBinding s (g .address) (Bound (g .who .udid))) (λ i. go i (ℕ-discrete i (g .address))) (sized-with s (g .address) _ l) (f .1) a
   where
-    go : (i : ℕ) → Dec (i ≡ g .address) → heldAt (set s (g .address) (boundSlot (g .who))) i ≡ Claimed → ⊥
-    go i (no q) k = h i (sym (held-other s (g .address) i (boundSlot (g .who)) q) ∙ k)
+    go : (i : ℕ) → Dec (i ≡ g .address) → heldAt (withBinding s (g .address) (Bound (g .who .udid))) i ≡ Claimed → ⊥
+    go i (no q) k = h i (sym (held-other s (g .address) i (Bound (g .who .udid)) q) ∙ k)
     go i (yes q) k =
-        let m : Bound (g .who .udid) ≡ Claimed = sym (held-same s (g .address) (boundSlot (g .who)) (omega (arith, l, f .0)))
-        ∙ ap (heldAt (set s (g .address) (boundSlot (g .who)))) (sym q) ∙ k in
+        let m : Bound (g .who .udid) ≡ Claimed = sym (held-same s (g .address) (Bound (g .who .udid)) l (f .0))
+        ∙ ap (heldAt (withBinding s (g .address) (Bound (g .who .udid)))) (sym q) ∙ k in
         zero-is-one (cc m)
 
-open-unclaimed : (a : ℕ) → heldAt (replicate 128 openSlot) a ≡ Claimed → ⊥
+open-unclaimed : (a : ℕ) → heldAt noBindings a ≡ Claimed → ⊥
 open-unclaimed a e = let q : Open ≡ Claimed = sym (open-all a) ∙ e in zero-is-one (cc q)
 
 module _ (occupied : Pool) (ts : List Target) (v : AdmittedTargets (startingPool occupied) ts) where
@@ -132,18 +133,18 @@ module _ (occupied : Pool) (ts : List Target) (v : AdmittedTargets (startingPool
   pub bound-as-many-as-given : count (boundAt (passEnd (startingPool occupied) ts .now .state .slots)) 128 ≡ length (ruled (startingPool occupied) ts .given)
   bound-as-many-as-given =
       let r = given-free-distinct occupied ts v in
-      ap (λ (s : List Slot). count (boundAt s) 128) (end-slots (startingPool occupied) ts)
-      ∙ count-given (ruled (startingPool occupied) ts .given) (replicate 128 openSlot) (length-replicate 128 openSlot) (free-room (startingPool occupied) (ruled (startingPool occupied) ts .given) (r .0)) (r .1)
+      ap (λ (s : Slots). count (boundAt s) 128) (end-slots (startingPool occupied) ts)
+      ∙ count-given (ruled (startingPool occupied) ts .given) noBindings sized-none (free-room (startingPool occupied) (ruled (startingPool occupied) ts .given) (r .0)) (r .1)
       ∙ omega (arith, open-count)
 
   -- who is bound was given that address
   pub bound-given : (a : ℕ) (u : Udid) → heldAt (passEnd (startingPool occupied) ts .now .state .slots) a ≡ Bound u → Any (GivenAt a u) (ruled (startingPool occupied) ts .given)
   bound-given a u e =
-      go (held-given (ruled (startingPool occupied) ts .given) (replicate 128 openSlot) a u (length-replicate 128 openSlot)
+      go (held-given (ruled (startingPool occupied) ts .given) noBindings a u sized-none
       (given-below-128 (startingPool occupied) (ruled (startingPool occupied) ts .given) (given-free-distinct occupied ts v .0))
-      (ap (λ (s : List Slot). heldAt s a) (sym (end-slots (startingPool occupied) ts)) ∙ e))
+      (ap (λ (s : Slots). heldAt s a) (sym (end-slots (startingPool occupied) ts)) ∙ e))
     where
-      go : (heldAt (replicate 128 openSlot) a ≡ Bound u) ⊎ Any (GivenAt a u) (ruled (startingPool occupied) ts .given) → Any (GivenAt a u) (ruled (startingPool occupied) ts .given)
+      go : (heldAt noBindings a ≡ Bound u) ⊎ Any (GivenAt a u) (ruled (startingPool occupied) ts .given) → Any (GivenAt a u) (ruled (startingPool occupied) ts .given)
       go (inl k) = zero-is-one (cc (open-none a, ap isBound k))
       go (inr k) = k
 
@@ -152,16 +153,16 @@ module _ (occupied : Pool) (ts : List Target) (v : AdmittedTargets (startingPool
   given-bound =
       let r = given-free-distinct occupied ts v in
       rw (end-slots (startingPool occupied) ts)
-      (given-held (ruled (startingPool occupied) ts .given) (replicate 128 openSlot) (length-replicate 128 openSlot)
+      (given-held (ruled (startingPool occupied) ts .given) noBindings sized-none
       (given-below-128 (startingPool occupied) (ruled (startingPool occupied) ts .given) (r .0)) (r .1))
 
   -- no address is claimed by two
   pub none-claimed : (a : ℕ) → heldAt (passEnd (startingPool occupied) ts .now .state .slots) a ≡ Claimed → ⊥
   none-claimed a e =
       let r = given-free-distinct occupied ts v in
-      unclaimed (ruled (startingPool occupied) ts .given) (replicate 128 openSlot) open-unclaimed (length-replicate 128 openSlot)
+      unclaimed (ruled (startingPool occupied) ts .given) noBindings open-unclaimed sized-none
       (given-below-128 (startingPool occupied) (ruled (startingPool occupied) ts .given) (r .0)) a
-      (ap (λ (s : List Slot). heldAt s a) (sym (end-slots (startingPool occupied) ts)) ∙ e)
+      (ap (λ (s : Slots). heldAt s a) (sym (end-slots (startingPool occupied) ts)) ∙ e)
 
 -- ---- WHAT EACH TARGET ends with
 

@@ -3,7 +3,7 @@ use Prim.Native.Nat.{ℕ, suc, _+_, _<_}
 use mathlib.Core.Path.{_≡_}
 use mathlib.Core.Bool.{false}
 use mathlib.Core.List.{List, [], _∷_}
-use lib.ListN.{length, set}
+use lib.ListN.{length}
 use Rattle.pool.specs.Pools.{withAddress}
 use Rattle.pool.specs.declared.Pool.{Pool}
 use Rattle.pool.specs.declared.free.Free.{Free}
@@ -13,38 +13,40 @@ use Rattle.udid.specs.declared.Udid.{Udid}
 use Rattle.arbitration.specs.Among.{Among}
 use Rattle.targets.specs.Members.{Waits}
 use Rattle.targets.specs.Target.{Target, resolve}
-use Rattle.arp.specs.Bindings.{heldAt, boundTo}
+use Rattle.arp.specs.Bindings.{boundTo}
+use Rattle.arp.specs.Slots.{Sized128, heldAt, withBinding}
 use Rattle.arp.specs.declared.command.Command.the-variants.{GetUdid}
+use Rattle.arp.specs.declared.state.Binding.the-variants.{Bound}
+use Rattle.arp.specs.declared.slots.Slots.{Slots}
 use Rattle.arp.specs.declared.command.Handed.the-variants.{Send}
-use Rattle.arp.specs.declared.state.Slot.{Slot}
 use Rattle.rule.specs.Bus.{World}
-use Rattle.rule.specs.PassEnd.{Outcome, out, boundSlot}
+use Rattle.rule.specs.PassEnd.{Outcome, out}
 use Rattle.rule.specs.PlainRule.{served, noneFree, plainChoice}
 use Rattle.rule.specs.Ready.{Ready}
 
 -- ---- the plain rule with all that it changes carried along
 
 -- one target served, and then the others; or the end
-abbrev pub serve : (Pool → List Slot → ℕ → List Target → Outcome) → Target → Pool → List Slot → ℕ → List Target → Free → Outcome
+abbrev pub serve : (Pool → Slots → ℕ → List Target → Outcome) → Target → Pool → Slots → ℕ → List Target → Free → Outcome
 serve next t p s k ts AllUsed = record { pool = p; slots = s; bound = k; targets = ts; ending = noneFree (t .udid) }
-serve next t p s k ts (At a) = next (withAddress p (a .0)) (set s (a .0) (boundSlot t)) (suc k) (resolve (t .udid) (a .0) ts)
+serve next t p s k ts (At a) = next (withAddress p (a .0)) (withBinding s (a .0) (Bound (t .udid))) (suc k) (resolve (t .udid) (a .0) ts)
 
 -- the targets to serve, in ascending order; the pool, the bindings, how many are bound, and all targets
-abbrev pub plain : List Target → Pool → List Slot → ℕ → List Target → Outcome
+abbrev pub plain : List Target → Pool → Slots → ℕ → List Target → Outcome
 plain [] p s k ts = record { pool = p; slots = s; bound = k; targets = ts; ending = served }
 plain (t ∷ rest) p s k ts = serve (λ p′ s′ k′ ts′. plain rest p′ s′ k′ ts′) t p s k ts (plainChoice p t)
 
 -- ---- what holds whenever Get UDID is out: `rest` are the unresolved targets in ascending order, and somebody is on the bus
 
 -- nobody is bound under this identifier
-abbrev pub Unbound : Udid → List Slot → Type 0
+abbrev pub Unbound : Udid → Slots → Type 0
 Unbound u s = (i : ℕ) → boundTo u (heldAt s i) ≡ false
 
-pub record Inv (p : Pool) (s : List Slot) (k : ℕ) (ts rest : List Target) : Type 0 where
+pub record Inv (p : Pool) (s : Slots) (k : ℕ) (ts rest : List Target) : Type 0 where
   pub ready : Ready p rest
   pub waits : Waits ts rest
   pub unbound : (t : Target) → Among t rest → Unbound (t .udid) s
-  pub room : length s ≡ 128
+  pub room : Sized128 s
   pub below-128 : k + length rest < 128
   pub present : 0 < length ts
   pub fits : (t : Target) → Among t ts → Fits (t .udid)
@@ -56,5 +58,5 @@ abbrev pub turns : List Target → ℕ
 turns [] = 1
 turns (t ∷ ts) = suc (suc (turns ts))
 
-abbrev pub asking : Pool → Pool → List Slot → ℕ → List Target → World
+abbrev pub asking : Pool → Pool → Slots → ℕ → List Target → World
 asking b p s n ts = record { now = out b p s n (Send GetUdid); targets = ts }

@@ -7,8 +7,7 @@ use mathlib.Core.List.{List, [], _∷_}
 use native.Mathlib.Numerals.{add-one}
 use native.Mathlib.Decide.{ℕ-discrete}
 use native.Mathlib.Omega.{arith}
-use lib.ListN.{length, set, length-set}
-use lib.Seq.{getD-set-same, getD-set-other}
+use lib.ListN.{length}
 use Rattle.wire.specs.declared.address.Address.{Address}
 use Rattle.pool.specs.Pools.{withAddress}
 use Rattle.pool.specs.declared.Pool.{Pool}
@@ -22,11 +21,14 @@ use Rattle.targets.specs.Target.{Target, isResolved, assignedTo, resolve, Sized
 use Rattle.targets.specs.MembersLaws.{waits-next}
 use Rattle.targets.specs.Members.{Least}
 use Rattle.targets.specs.RecordLaws.{length-map, assigned-keeps-udid}
-use Rattle.arp.specs.Bindings.{openSlot, heldAt, boundTo}
+use Rattle.arp.specs.Bindings.{boundTo}
 use Rattle.arp.specs.Controller.{issued, stepped}
+use Rattle.arp.specs.Slots.{Sized128, heldAt, withBinding}
+use Rattle.arp.specs.SlotsLaws.{held-same, held-other, sized-with}
 use Rattle.arp.specs.declared.command.Command.the-variants.{GetUdid, Assign}
+use Rattle.arp.specs.declared.state.Binding.the-variants.{Bound}
+use Rattle.arp.specs.declared.slots.Slots.{Slots}
 use Rattle.arp.specs.declared.command.Handed.the-variants.{Send}
-use Rattle.arp.specs.declared.state.Slot.{Slot}
 use Rattle.arp.specs.declared.state.Stepped.{Stepped}
 use Rattle.rule.specs.Acknowledge.{onBus}
 use Rattle.rule.specs.AcknowledgeLaws.{nothing-on-bus}
@@ -34,7 +36,7 @@ use Rattle.rule.specs.AnyBusLaws.{silent-run}
 use Rattle.rule.specs.Bus.{World, modelBus, run}
 use Rattle.rule.specs.BusLaws.{turn-takes}
 use Rattle.rule.specs.PlainRule.{Ending, served, noneFree, plainChoice}
-use Rattle.rule.specs.PassEnd.{lastCommand, state, out, boundSlot, ended}
+use Rattle.rule.specs.PassEnd.{lastCommand, state, out, ended}
 use Rattle.rule.specs.EffectLaws.{effect-as-meant}
 use Rattle.rule.specs.TraceLaws as on-bus
 use Rattle.rule.specs.RuleLaws.{controller-chooses-as-rule, ready-choice-free, ready-next}
@@ -42,27 +44,27 @@ use Rattle.rule.specs.Serving.{Unbound, serve, plain, Inv, turns, asking
 use Rattle.rule.specs.StepLaws.{get-silence-ends, get-issued, assign-bound}
 
 -- binding another leaves an identifier unbound
-unbound-set : (u : Udid) (t : Target) (s : List Slot) (a : ℕ) → a < length s → sameUdid (t .udid) u ≡ false → Unbound u s → Unbound u (set s a (boundSlot t))
-unbound-set u t s a l n h i = go (ℕ-discrete i a)
+unbound-set : (u : Udid) (t : Target) (s : Slots) (a : ℕ) → Sized128 s → a < 128 → sameUdid (t .udid) u ≡ false → Unbound u s → Unbound u (withBinding s a (Bound (t .udid)))
+unbound-set u t s a z l n h i = go (ℕ-discrete i a)
   where
-    go : Dec (i ≡ a) → boundTo u (heldAt (set s a (boundSlot t)) i) ≡ false
-    go (yes e) = ap (λ (j : ℕ). boundTo u (heldAt (set s a (boundSlot t)) j)) e
-        ∙ ap (λ (x : Slot). boundTo u (x .held)) (getD-set-same s a (boundSlot t) openSlot l) ∙ n
-    go (no e) = ap (λ (x : Slot). boundTo u (x .held)) (getD-set-other s a i (boundSlot t) openSlot e) ∙ h i
+    go : Dec (i ≡ a) → boundTo u (heldAt (withBinding s a (Bound (t .udid))) i) ≡ false
+    go (yes e) = ap (λ (j : ℕ). boundTo u (heldAt (withBinding s a (Bound (t .udid))) j)) e
+        ∙ ap (boundTo u) (held-same s a (Bound (t .udid)) z l) ∙ n
+    go (no e) = ap (boundTo u) (held-other s a i (Bound (t .udid)) e) ∙ h i
 
 -- an Assign keeps the identifiers
 fits-next : (u : Udid) (a : ℕ) (ts : List Target) → ((t : Target) → Among t ts → Fits (t .udid)) → (t : Target) → Among t (resolve u a ts) → Fits (t .udid)
 fits-next u a (x ∷ ts) h t (inl e) = subst Fits (sym (assigned-keeps-udid u a x) ∙ ap (λ (y : Target). y .udid) e) (h x (inl refl))
 fits-next u a (x ∷ ts) h t (inr m) = fits-next u a ts (λ y k. h y (inr k)) t m
 
-inv-next : (p : Pool) (s : List Slot) (k : ℕ) (ts rest : List Target) (r : Target) (a : Address) → Inv p s k ts (r ∷ rest) → plainChoice p r ≡ At a
-    → Inv (withAddress p (a .0)) (set s (a .0) (boundSlot r)) (suc k) (resolve (r .udid) (a .0) ts) rest
+inv-next : (p : Pool) (s : Slots) (k : ℕ) (ts rest : List Target) (r : Target) (a : Address) → Inv p s k ts (r ∷ rest) → plainChoice p r ≡ At a
+    → Inv (withAddress p (a .0)) (withBinding s (a .0) (Bound (r .udid))) (suc k) (resolve (r .udid) (a .0) ts) rest
 inv-next p s k ts rest r a v e =
     let free = ready-choice-free p r rest a (v .ready) e in record {
       ready = ready-next p r rest a (v .ready) e;
       waits = waits-next ts rest r (a .0) (v .waits) (λ x m. v .ready .apart .0 x m .lower);
-      unbound = λ t m. unbound-set (t .udid) r s (a .0) (omega (arith, free .0, v .room)) (other-udid (r .udid) (t .udid) (λ q. above t (v .ready .apart .0 t m .lower) (ap value q))) (v .unbound t (inr m));
-      room = length-set s (a .0) (boundSlot r) ∙ v .room;
+      unbound = λ t m. unbound-set (t .udid) r s (a .0) (v .room) (free .0) (other-udid (r .udid) (t .udid) (λ q. above t (v .ready .apart .0 t m .lower) (ap value q))) (v .unbound t (inr m));
+      room = sized-with s (a .0) (Bound (r .udid)) (v .room);
       below-128 = omega (arith, v .below-128);
       present = omega (arith, length-map (assignedTo (r .udid) (a .0)) ts, v .present);
       fits = fits-next (r .udid) (a .0) ts (v .fits);
@@ -78,13 +80,13 @@ abbrev world : Stepped → List Target → World
 world x ts = record { now = x; targets = ts }
 
 -- an ended pass stays as it is
-pub ended-run-stays : (n : ℕ) (b p : Pool) (s : List Slot) (m : ℕ) (e : Ending) (ts : List Target)
+pub ended-run-stays : (n : ℕ) (b p : Pool) (s : Slots) (m : ℕ) (e : Ending) (ts : List Target)
     → run n (record { now = out b p s m (lastCommand e); targets = ts }) ≡ record { now = out b p s m (lastCommand e); targets = ts }
 ended-run-stays n b p s m served ts = silent-run modelBus n (world (out b p s m (lastCommand served)) ts) (nothing-on-bus (lastCommand served) ts refl)
 ended-run-stays n b p s m (noneFree u) ts = silent-run modelBus n (world (out b p s m (lastCommand (noneFree u))) ts) (nothing-on-bus (lastCommand (noneFree u)) ts refl)
 
 -- nobody is left
-all-resolved-ends : (b p : Pool) (s : List Slot) (n : ℕ) (ts : List Target) → 0 < length ts → ((t : Target) → Among t ts → isResolved t ≡ false → ⊥)
+all-resolved-ends : (b p : Pool) (s : Slots) (n : ℕ) (ts : List Target) → 0 < length ts → ((t : Target) → Among t ts → isResolved t ≡ false → ⊥)
     → stepped (state b p s n (Send GetUdid)) (onBus (Send GetUdid) ts) ≡ out b p s n (lastCommand served)
 all-resolved-ends b p s n [] l h = absurd (omega arith)
 all-resolved-ends b p s n (t ∷ ts) l h = ap (stepped (state b p s n (Send GetUdid))) (on-bus.get-cut t ts (λ x m. all x m (isResolved x) refl)) ∙ get-silence-ends b p s n
@@ -93,14 +95,14 @@ all-resolved-ends b p s n (t ∷ ts) l h = ap (stepped (state b p s n (Send GetU
     all x m true e = e
     all x m false e = absurd (h x m e)
 
-pub run-serves-rest : (b p : Pool) (s : List Slot) (k : ℕ) (ts rest : List Target) → Inv p s k ts rest
+pub run-serves-rest : (b p : Pool) (s : Slots) (k : ℕ) (ts rest : List Target) → Inv p s k ts rest
     → run (turns rest) (asking b p s (suc k) ts) ≡ ended b (plain rest p s k ts)
 run-serves-rest b p s k ts [] v = turn-takes (out b p s (suc k) (Send GetUdid)) ts (Send GetUdid) refl ∙ ap₂ world (all-resolved-ends b p s (suc k) ts (v .present) (λ t m e. v .waits .known t m e)) (effect-as-meant (Send GetUdid) ts tt (v .fits))
 run-serves-rest b p s k ts (r ∷ rest) v =
     ap (run (suc (turns rest))) (turn-takes (out b p s (suc k) (Send GetUdid)) ts (Send GetUdid) refl)
     ∙ ap₂ (λ (x : Stepped) (us : List Target). run (suc (turns rest)) (world x us)) reply-issues-choice (effect-as-meant (Send GetUdid) ts tt (v .fits))
     ∙ go (plainChoice p r) refl
-    (λ a e. run-serves-rest b (withAddress p (a .0)) (set s (a .0) (boundSlot r)) (suc k) (resolve (r .udid) (a .0) ts) rest (inv-next p s k ts rest r a v e))
+    (λ a e. run-serves-rest b (withAddress p (a .0)) (withBinding s (a .0) (Bound (r .udid))) (suc k) (resolve (r .udid) (a .0) ts) rest (inv-next p s k ts rest r a v e))
   where
     least : Least ts r
     least = record {
@@ -122,8 +124,8 @@ run-serves-rest b p s k ts (r ∷ rest) v =
 
     go : (c : Free) → plainChoice p r ≡ c
         → ((a : Address) → plainChoice p r ≡ At a
-        → run (turns rest) (asking b (withAddress p (a .0)) (set s (a .0) (boundSlot r)) (suc (suc k)) (resolve (r .udid) (a .0) ts))
-        ≡ ended b (plain rest (withAddress p (a .0)) (set s (a .0) (boundSlot r)) (suc k) (resolve (r .udid) (a .0) ts)))
+        → run (turns rest) (asking b (withAddress p (a .0)) (withBinding s (a .0) (Bound (r .udid))) (suc (suc k)) (resolve (r .udid) (a .0) ts))
+        ≡ ended b (plain rest (withAddress p (a .0)) (withBinding s (a .0) (Bound (r .udid))) (suc k) (resolve (r .udid) (a .0) ts)))
         → run (suc (turns rest)) (record { now = issued (state b p s (suc k) (Send GetUdid)) (r .udid) (plainChoice p r); targets = ts })
         ≡ ended b (serve (λ p′ s′ k′ ts′. plain rest p′ s′ k′ ts′) r p s k ts (plainChoice p r))
     go AllUsed e ih = rw e (ended-run-stays (suc (turns rest)) b p s (suc k) (noneFree (r .udid)) ts)

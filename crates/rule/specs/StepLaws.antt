@@ -2,9 +2,9 @@
 use Prim.Native.Nat.{ℕ, zero, suc, _+_, _<_}
 use mathlib.Core.Path.{_≡_, refl, ap, ap₂, _∙_}
 use mathlib.Core.Bool.{true}
-use mathlib.Core.List.{List, [], _∷_}
+use mathlib.Core.List.{[], _∷_}
 use native.Mathlib.Omega.{arith}
-use lib.ListN.{getD, set}
+use lib.ListN.{getD}
 use lib.Seq.{getD-at}
 use borrow.Author.Tests.{lt-leb, le-ltb}
 use Rattle.wire.specs.Symbols.{START, STOP, ACK, NACK}
@@ -20,25 +20,26 @@ use Rattle.udid.specs.declared.Udid.{Udid}
 use Rattle.targets.specs.Target.{Target, Sized}
 use Rattle.targets.specs.Reply.{replyData}
 use Rattle.targets.specs.ReplyLaws.{length-reply-data, bytes-reply-data}
-use Rattle.arp.specs.Bindings.{findFrom, freed, slotFor, bound}
+use Rattle.arp.specs.Bindings.{findFrom, freed, bindingFor, bound}
 use Rattle.arp.specs.Controller.{handed, asked, chosen, issued, replied, afterPrepare, afterGet, byCommand, stepped}
 use Rattle.arp.specs.Heard.{sendByte, blockRead}
 use Rattle.arp.specs.RequestLaws.{valid-prepare, valid-get}
 use Rattle.arp.specs.Requests.{messageOf, traceOf}
 use Rattle.arp.specs.TraceLaws.{prepare-accepted, prepare-nobody, get-reply, get-nobody, assign-whole}
+use Rattle.arp.specs.Slots.{withBinding}
 use Rattle.arp.specs.declared.command.Command.the-variants.{Prepare, GetUdid, Assign}
 use Rattle.arp.specs.declared.command.End.the-variants.{Ended}
 use Rattle.arp.specs.declared.command.Handed.{Handed}
 use Rattle.arp.specs.declared.command.Handed.the-variants.{Send, Wait}
 use Rattle.arp.specs.declared.state.Controller.{Controller}
-use Rattle.arp.specs.declared.state.Slot.{Slot}
+use Rattle.arp.specs.declared.slots.Slots.{Slots}
 use Rattle.rule.specs.PassEnd.{state, out}
 use Rattle.rule.specs.Serving.{Unbound}
 
 -- ---- Prepare To ARP
 
 -- accepted: the first Get UDID
-pub prepare-asks-first : (b p : Pool) (s : List Slot) → stepped (state b p s 0 (Send Prepare)) (traceOf (Send Prepare) []) ≡ out b p s 1 (Send GetUdid)
+pub prepare-asks-first : (b p : Pool) (s : Slots) → stepped (state b p s 0 (Send Prepare)) (traceOf (Send Prepare) []) ≡ out b p s 1 (Send GetUdid)
 unfolding stepped asked
 prepare-asks-first b p s = prepare-accepted (state b p s 0 (Send Prepare)) (traceOf (Send Prepare) []) refl
 
@@ -60,7 +61,7 @@ cut-prepare = record {
 pub prepare-unheard : (c : Controller) → afterPrepare c (START ∷ 0xC2 ∷ NACK ∷ STOP ∷ []) ≡ handed c (Wait Ended)
 prepare-unheard c = prepare-nobody c (START ∷ 0xC2 ∷ NACK ∷ STOP ∷ []) 0 cut-prepare
 
-pub prepare-silence-ends : (b p : Pool) (s : List Slot) → stepped (state b p s 0 (Send Prepare)) (START ∷ 0xC2 ∷ NACK ∷ STOP ∷ []) ≡ out b p s 0 (Wait Ended)
+pub prepare-silence-ends : (b p : Pool) (s : Slots) → stepped (state b p s 0 (Send Prepare)) (START ∷ 0xC2 ∷ NACK ∷ STOP ∷ []) ≡ out b p s 0 (Wait Ended)
 unfolding stepped
 prepare-silence-ends b p s = prepare-unheard (state b p s 0 (Send Prepare))
 
@@ -83,7 +84,7 @@ cut-get = record {
 pub get-unheard : (c : Controller) → afterGet c (START ∷ 0xC2 ∷ ACK ∷ 0x03 ∷ ACK ∷ START ∷ 0xC3 ∷ NACK ∷ STOP ∷ []) ≡ handed c (Wait Ended)
 get-unheard c = get-nobody c (START ∷ 0xC2 ∷ ACK ∷ 0x03 ∷ ACK ∷ START ∷ 0xC3 ∷ NACK ∷ STOP ∷ []) 2 cut-get (omega arith)
 
-pub get-silence-ends : (b p : Pool) (s : List Slot) (n : ℕ)
+pub get-silence-ends : (b p : Pool) (s : Slots) (n : ℕ)
     → stepped (state b p s n (Send GetUdid)) (START ∷ 0xC2 ∷ ACK ∷ 0x03 ∷ ACK ∷ START ∷ 0xC3 ∷ NACK ∷ STOP ∷ []) ≡ out b p s n (Wait Ended)
 unfolding stepped
 get-silence-ends b p s n = get-unheard (state b p s n (Send GetUdid))
@@ -98,17 +99,17 @@ get-replied c t e z =
     ∙ get-reply c (traceOf (Send GetUdid) (replyData t)) (replyData t) (bytes-reply-data t (z .addressByte)) (omega (arith, length-reply-data t)) refl (length-reply-data t)
     ∙ ap₂ (replied c) i a
 
-unbound-not-found : (u : Udid) (s : List Slot) → Unbound u s → (n a : ℕ) → findFrom u s n a ≡ 128
+unbound-not-found : (u : Udid) (s : Slots) → Unbound u s → (n a : ℕ) → findFrom u s n a ≡ 128
 unfolding findFrom
 unbound-not-found u s h zero a = refl
 unbound-not-found u s h (suc n) a = rw (h a) (unbound-not-found u s h n (suc a))
 
-unbound-frees-nothing : (b p : Pool) (s : List Slot) (n : ℕ) (k : Handed) (u : Udid) → Unbound u s → freed (state b p s n k) u ≡ state b p s n k
+unbound-frees-nothing : (b p : Pool) (s : Slots) (n : ℕ) (k : Handed) (u : Udid) → Unbound u s → freed (state b p s n k) u ≡ state b p s n k
 unfolding freed
 unbound-frees-nothing b p s n k u h = rw (unbound-not-found u s h 128 0)
 
 -- who is not bound yet is issued the address chosen
-pub get-issued : (b p : Pool) (s : List Slot) (n : ℕ) (t : Target) → Sized t → Unbound (t .udid) s
+pub get-issued : (b p : Pool) (s : Slots) (n : ℕ) (t : Target) → Sized t → Unbound (t .udid) s
     → stepped (state b p s n (Send GetUdid)) (traceOf (Send GetUdid) (replyData t)) ≡ issued (state b p s n (Send GetUdid)) (t .udid) (chosen p (t .udid) (t .addressByte))
 unfolding replied
 get-issued b p s n t z h =
@@ -118,8 +119,8 @@ get-issued b p s n t z h =
 -- ---- Assign Address
 
 -- complete: bound, and the next Get UDID
-pub assign-bound : (b p : Pool) (s : List Slot) (n : ℕ) (u : Udid) (a : Address) → n < 128 → Fits u → a .0 < 128
-    → stepped (state b p s n (Send (Assign u a))) (traceOf (Send (Assign u a)) []) ≡ out b (withAddress p (a .0)) (set s (a .0) (slotFor (member p (a .0)) u)) (n + 1) (Send GetUdid)
+pub assign-bound : (b p : Pool) (s : Slots) (n : ℕ) (u : Udid) (a : Address) → n < 128 → Fits u → a .0 < 128
+    → stepped (state b p s n (Send (Assign u a))) (traceOf (Send (Assign u a)) []) ≡ out b (withAddress p (a .0)) (withBinding s (a .0) (bindingFor (member p (a .0)) u)) (n + 1) (Send GetUdid)
 unfolding stepped asked bound
 assign-bound b p s n u a h f l =
     assign-whole (state b p s n (Send (Assign u a))) u a (traceOf (Send (Assign u a)) []) f refl

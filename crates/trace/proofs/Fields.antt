@@ -1,16 +1,20 @@
 -- Tests on a field of a shape: the field's value stands apart from the shape, so that nothing else of it is rewritten.
 use mathlib.Core.Path.{_≡_, refl, sym, ap, _∙_}
 use mathlib.Core.Bool.{Bool, true, false}
+use mathlib.Core.Logic.{_⊎_, inl, inr}
 use Prim.Native.Nat.{ℕ, suc, _+_, _-_, _*_, _%_, _≤_, _<_}
 use native.Mathlib.Omega.{arith}
 use lib.Dec.{ltb, leb, eqb}
-use borrow.Author.Tests.{lt-leb, le-leb, leb-true, leb-false}
+use borrow.Author.Tests.{lt-leb, le-leb, leb-true, leb-false, eqb-true}
 use Rattle.lists.specs.Choice.{pick, or, and, not}
+use Rattle.lists.specs.ChoiceLaws.{false-not-true}
 use Rattle.wire.specs.Addresses.{hostAddress}
+use Rattle.trace.specs.declared.shape.Part.{Part}
+use Rattle.trace.specs.declared.shape.Part.the-variants.{Nothing, Fixed, Counted}
 use Rattle.trace.specs.declared.shape.Shape.{Shape}
-use Rattle.trace.specs.Shapes.{protocols, shapeOf, forbidden, isCounted, writes, reads}
-use Rattle.trace.specs.Allowed.{addressFits, senderFits, commandFits, lengthsFit}
-use Rattle.trace.specs.Lengths.{traceLength, roomFor}
+use Rattle.trace.specs.Shapes.{protocols, shapeOf, forbidden, isCounted, countIn, writes, reads}
+use Rattle.trace.specs.Allowed.{addressFits, senderFits, commandFits, lengthFits, lengthsFit}
+use Rattle.trace.specs.Lengths.{traceLength}
 
 pub up : (k p : ℕ) → k ≤ p → (p ≡ k → ⊥) → suc k ≤ p
 up k p h g = omega arith
@@ -57,10 +61,46 @@ trace-length-is sh p m n b k l q x eb ex ek el eq =
     let e : k ≡ pick (isCounted (sh .sent)) 1 0 = ek ∙ ap (λ (y : Bool). pick y 1 0) ex in
     omega (arith, eb, e, el, eq)
 
-pub room-is : (protocol : ℕ) (pec : Bool) (m n : ℕ) (sh : Shape) (b c : Bool) → sh ≡ shapeOf protocol → forbidden protocol pec ≡ b → lengthsFit sh m n ≡ c
-    → pick b 0 (pick c (traceLength sh pec m n) 0) ≡ roomFor protocol pec m n
-unfolding roomFor
-room-is protocol pec m n sh b c e f g =
-    ap (λ (x : Bool). pick x 0 (pick c (traceLength sh pec m n) 0)) (sym f)
-    ∙ ap (λ (x : Bool). pick (forbidden protocol pec) 0 (pick x (traceLength sh pec m n) 0)) (sym g)
-    ∙ ap (λ (u : Shape). pick (forbidden protocol pec) 0 (pick (lengthsFit u m n) (traceLength u pec m n) 0)) e
+-- a length that belongs to its part is at most 255, or it is counted
+abbrev Bounded : Bool → Part → ℕ → Type 0
+Bounded r a n = r ≡ true → (n ≤ 255) ⊎ (n ≡ countIn a n)
+
+pub nothing-fits : (least n : ℕ) (a : Part) → a ≡ Nothing → (eqb n 0 ≡ lengthFits least a n) × Bounded (eqb n 0) a n
+nothing-fits least n a e = rw e (refl, λ h. inl (omega (arith, eqb-true n 0 h)))
+
+pub fixed-fits : (least n k : ℕ) (a : Part) → k < 256 → a ≡ Fixed k → (eqb n k ≡ lengthFits least a n) × Bounded (eqb n k) a n
+fixed-fits least n k a b e = rw e (refl, λ h. inl (omega (arith, b, eqb-true n k h)))
+
+pub counted-fits : (least n : ℕ) (a : Part) → a ≡ Counted → (leb least n ≡ lengthFits least a n) × Bounded (leb least n) a n
+counted-fits least n a e = rw e (refl, λ h. inr refl)
+
+bounded : (n j : ℕ) → (n ≤ 255) ⊎ (n ≡ j) → j ≤ 255 → n ≤ 255
+bounded n j (inl h) k = h
+bounded n j (inr e) k = omega arith
+
+abbrev Small-if : Bool → ℕ → ℕ → Type 0
+Small-if r m n = r ≡ true → (m ≤ 255) × (n ≤ 255)
+
+-- both lengths belong: j and k are what they add to the counts, most is the most of those
+module _ (sh : Shape) (m n : ℕ) where
+  pub first-unfit : lengthFits (sh .least) (sh .sent) m ≡ false → (false ≡ lengthsFit sh m n) × Small-if false m n
+  unfolding lengthsFit
+  first-unfit e = (rw e, λ h. false-not-true h)
+
+  pub second-unfit : lengthFits (sh .least) (sh .sent) m ≡ true → lengthFits (sh .least) (sh .received) n ≡ false → (false ≡ lengthsFit sh m n) × Small-if false m n
+  unfolding lengthsFit
+  second-unfit e f = (rw (e, f), λ h. false-not-true h)
+
+  module _ (j k : ℕ) (ej : j ≡ countIn (sh .sent) m) (ek : k ≡ countIn (sh .received) n) (e : lengthFits (sh .least) (sh .sent) m ≡ true)
+      (f : lengthFits (sh .least) (sh .received) n ≡ true) where
+    pub too-many : sh .most < j → (false ≡ lengthsFit sh m n) × Small-if false m n
+    unfolding lengthsFit
+    too-many h = (rw (e, f, sym ej) (sym (sum-over j _ (sh .most) h)), λ z. false-not-true z)
+
+    pub both-fit : sh .most < 256 → j ≤ sh .most → (m ≤ 255) ⊎ (m ≡ countIn (sh .sent) m) → (n ≤ 255) ⊎ (n ≡ countIn (sh .received) n)
+        → (leb k (sh .most - j) ≡ lengthsFit sh m n) × Small-if (leb k (sh .most - j)) m n
+    unfolding lengthsFit
+    both-fit b h bm bn = (
+      rw (e, f, sym ej, sym ek) (sum-is j k (sh .most) h),
+      λ z. (bounded m _ bm (omega (arith, ej, b)), bounded n _ bn (omega (arith, ek, b, leb-true k (sh .most - j) z))),
+    )

@@ -1,5 +1,5 @@
 -- How many symbols a trace has.
-use mathlib.Core.Bool.{Bool, true, false}
+use mathlib.Core.Bool.{Bool, true}
 use Prim.Native.Nat.{ℕ, _+_, _*_}
 use Rattle.lists.specs.Choice.{pick, or}
 use Rattle.trace.specs.declared.shape.Part.{Part}
@@ -27,7 +27,10 @@ longestOf sh =
     traceLength sh true (fixedLength (sh .sent)) (fixedLength (sh .received))
     + pick (or (isCounted (sh .sent)) (isCounted (sh .received))) (2 * sh .most) 0
 
--- the room that the encoder needs for m bytes sent and n received; 0 where it refuses the protocol, the PEC or a length
-unfoldable pub roomFor : ℕ → Bool → ℕ → ℕ → ℕ
-roomFor protocol pec m n =
-    pick (forbidden protocol pec) 0 (pick (lengthsFit (shapeOf protocol) m n) (traceLength (shapeOf protocol) pec m n) 0)
+-- the room that the encoder needs for m bytes sent and n received; 0 where the message is forbidden (barred), or a length is refused
+unfoldable pub roomBy : Shape → Bool → Bool → ℕ → ℕ → ℕ
+roomBy sh barred pec m n = pick barred 0 (pick (lengthsFit sh m n) (traceLength sh pec m n) 0)
+
+-- for the protocols of the table
+abbrev pub roomFor : ℕ → Bool → ℕ → ℕ → ℕ
+roomFor protocol pec m n = roomBy (shapeOf protocol) (forbidden protocol pec) pec m n

@@ -8,29 +8,40 @@ use native.Mathlib.Omega.{arith}
 use lib.ListN.{length}
 use Rattle.lists.specs.Choice.{pick}
 use Rattle.lists.specs.ChoiceLaws.{false-not-true}
+use Rattle.trace.specs.declared.shape.Shape.{Shape}
 use Rattle.trace.specs.Shapes.{protocols, shapeOf, forbidden}
 use Rattle.trace.specs.Allowed.{lengthsFit}
 use Rattle.trace.specs.DataFits.{DataFits, quick, send-byte, receive-byte, write-byte, write-word, read-byte, read-word, process-call, block-write, block-read, block-process-call}
 use Rattle.trace.specs.DataFitsLaws.{listed-lengths-fit, fitting-lengths-listed}
 use Rattle.trace.specs.ForbiddenLaws.{forbidden-cases, taken-cases}
-use Rattle.trace.specs.Lengths.{traceLength, roomFor}
+use Rattle.trace.specs.Lengths.{traceLength, roomBy, roomFor}
 use Rattle.trace.specs.LengthLaws.{trace-length, pec-symbols}
 use Rattle.trace.specs.Columns.{Room}
 use Rattle.trace.specs.Trace.{Message, Valid, trace}
 use Rattle.trace.specs.ValidLaws.{lengths-of-valid}
 
--- by its two tests
-pub room-by : (protocol : ℕ) (pec : Bool) (m n : ℕ) (b h : Bool) → forbidden protocol pec ≡ b → lengthsFit (shapeOf protocol) m n ≡ h
-    → roomFor protocol pec m n ≡ pick b 0 (pick h (traceLength (shapeOf protocol) pec m n) 0)
-unfolding roomFor
-room-by protocol pec m n b h eb eh =
-    ap (λ (x : Bool). pick x 0 (pick (lengthsFit (shapeOf protocol) m n) (traceLength (shapeOf protocol) pec m n) 0)) eb
-    ∙ ap (λ (x : Bool). pick b 0 (pick x (traceLength (shapeOf protocol) pec m n) 0)) eh
+-- ---- over a shape: by its two tests
 
--- a trace has at least four symbols
-some-length : (protocol : ℕ) (pec : Bool) (m n : ℕ) → 4 ≤ traceLength (shapeOf protocol) pec m n
-unfolding traceLength
-some-length protocol pec m n = omega arith
+module _ (sh : Shape) (barred pec : Bool) (m n : ℕ) where
+  pub room-by : (b h : Bool) → barred ≡ b → lengthsFit sh m n ≡ h → roomBy sh barred pec m n ≡ pick b 0 (pick h (traceLength sh pec m n) 0)
+  unfolding roomBy
+  room-by b h eb eh = ap (λ (x : Bool). pick x 0 (pick (lengthsFit sh m n) (traceLength sh pec m n) 0)) eb ∙ ap (λ (x : Bool). pick b 0 (pick x (traceLength sh pec m n) 0)) eh
+
+  -- a trace has at least four symbols
+  pub some-length : 4 ≤ traceLength sh pec m n
+  unfolding traceLength
+  some-length = omega arith
+
+  -- some room: nothing is forbidden, the lengths fit, and it is the length of the trace
+  pub some-room : (roomBy sh barred pec m n ≡ 0 → ⊥) → (barred ≡ false) × (lengthsFit sh m n ≡ true) × (roomBy sh barred pec m n ≡ traceLength sh pec m n)
+  some-room z = go barred (lengthsFit sh m n) refl refl
+    where
+      go : (b h : Bool) → barred ≡ b → lengthsFit sh m n ≡ h → (barred ≡ false) × (lengthsFit sh m n ≡ true) × (roomBy sh barred pec m n ≡ traceLength sh pec m n)
+      go true h eb eh = absurd (z (room-by true h eb eh))
+      go false false eb eh = absurd (z (room-by false false eb eh))
+      go false true eb eh = (eb, eh, room-by false true eb eh)
+
+-- ---- over the table
 
 -- none: a protocol that the table lacks, Quick with PEC, or lengths that the protocol does not allow
 pub no-room : (protocol : ℕ) (pec : Bool) (m n : ℕ)
@@ -40,21 +51,21 @@ no-room protocol pec m n = (λ e. there (forbidden protocol pec) (lengthsFit (sh
     there : (b h : Bool) → forbidden protocol pec ≡ b → lengthsFit (shapeOf protocol) m n ≡ h → roomFor protocol pec m n ≡ 0
         → ((protocols ≤ protocol) ⊎ ((protocol ≡ 0) × (pec ≡ true))) ⊎ (DataFits protocol m n → ⊥)
     there true h eb eh e = inl (forbidden-cases protocol pec .0 eb)
-    there false true eb eh e = absurd (omega (arith, some-length protocol pec m n, sym (room-by protocol pec m n false true eb eh) ∙ e))
+    there false true eb eh e = absurd (omega (arith, some-length (shapeOf protocol) (forbidden protocol pec) pec m n, sym (room-by (shapeOf protocol) (forbidden protocol pec) pec m n false true eb eh) ∙ e))
     there false false eb eh e = inr (λ d. false-not-true (sym eh ∙ listed-lengths-fit protocol m n d))
 
     unfit : (b h : Bool) → forbidden protocol pec ≡ b → lengthsFit (shapeOf protocol) m n ≡ h → (DataFits protocol m n → ⊥) → roomFor protocol pec m n ≡ 0
-    unfit true h eb eh z = room-by protocol pec m n true h eb eh
-    unfit false false eb eh z = room-by protocol pec m n false false eb eh
+    unfit true h eb eh z = room-by (shapeOf protocol) (forbidden protocol pec) pec m n true h eb eh
+    unfit false false eb eh z = room-by (shapeOf protocol) (forbidden protocol pec) pec m n false false eb eh
     unfit false true eb eh z = absurd (z (fitting-lengths-listed protocol (taken-cases protocol pec .0 eb .0) m n eh))
 
     back : ((protocols ≤ protocol) ⊎ ((protocol ≡ 0) × (pec ≡ true))) ⊎ (DataFits protocol m n → ⊥) → roomFor protocol pec m n ≡ 0
-    back (inl f) = room-by protocol pec m n true _ (forbidden-cases protocol pec .1 f) refl
+    back (inl f) = room-by (shapeOf protocol) (forbidden protocol pec) pec m n true _ (forbidden-cases protocol pec .1 f) refl
     back (inr z) = unfit (forbidden protocol pec) (lengthsFit (shapeOf protocol) m n) refl refl z
 
 -- else, that of the trace
 room-fits : (protocol : ℕ) (pec : Bool) (m n : ℕ) → forbidden protocol pec ≡ false → DataFits protocol m n → roomFor protocol pec m n ≡ traceLength (shapeOf protocol) pec m n
-room-fits protocol pec m n f d = room-by protocol pec m n false true f (listed-lengths-fit protocol m n d)
+room-fits protocol pec m n f d = room-by (shapeOf protocol) (forbidden protocol pec) pec m n false true f (listed-lengths-fit protocol m n d)
 
 -- with or without PEC
 not-forbidden : (k : ℕ) (p : Bool) → 0 < k → k < protocols → forbidden k p ≡ false
@@ -82,5 +93,5 @@ room-as-listed =
 pub room-of-valid : (protocol : ℕ) (pec : Bool) (t : Message) → protocol < protocols → (protocol ≡ 0 → pec ≡ false) → Valid (shapeOf protocol) t
     → roomFor protocol pec (length (t .sent)) (length (t .received)) ≡ length (trace (shapeOf protocol) pec t)
 room-of-valid protocol pec t h q v =
-    room-by protocol pec (length (t .sent)) (length (t .received)) false true (taken-cases protocol pec .1 (h, q)) (lengths-of-valid (shapeOf protocol) t v)
+    room-by (shapeOf protocol) (forbidden protocol pec) pec (length (t .sent)) (length (t .received)) false true (taken-cases protocol pec .1 (h, q)) (lengths-of-valid (shapeOf protocol) t v)
     ∙ sym (trace-length (shapeOf protocol) pec t)

@@ -13,9 +13,8 @@ use Rattle.lists.specs.ChoiceLaws.{both-true, same-true}
 use Rattle.trace.specs.declared.shape.Part.{Part}
 use Rattle.trace.specs.declared.shape.Part.the-variants.{Nothing, Fixed, Counted}
 use Rattle.trace.specs.declared.shape.Shape.{Shape}
-use Rattle.trace.specs.Shapes.{shapes, protocols, noRow, shapeOf, countIn, writes, reads, Row, isRow}
+use Rattle.trace.specs.Shapes.{shapes, protocols, noRow, shapeOf, writes, reads, Row, isRow}
 use Rattle.trace.specs.Sane.{Small, isSmall, Sane, isSane, Limits, hasLimits}
-use Rattle.trace.specs.Allowed.{lengthFits, lengthsFit}
 
 -- ---- what every row passes holds of every protocol
 
@@ -83,19 +82,3 @@ sane-by-test sh e =
 
 pub sane : (protocol : ℕ) → Sane (shapeOf protocol)
 sane n = sane-by-test (shapeOf n) (at-every-number isSane refl refl n)
-
-part-small : (least : ℕ) (a : Part) (n : ℕ) → Small a → lengthFits least a n ≡ true → countIn a n ≤ 255 → n ≤ 255
-part-small least Nothing n s h c = omega (arith, eqb-true n 0 h)
-part-small least (Fixed k) n s h c = omega (arith, eqb-true n k h, s .1)
-part-small least Counted n s h c = c
-
--- lengths that belong are at most 255
-pub lengths-small : (sh : Shape) (m n : ℕ) → Sane sh → lengthsFit sh m n ≡ true → (m ≤ 255) × (n ≤ 255)
-unfolding lengthsFit
-lengths-small sh m n s h =
-    let a = both-true (lengthFits (sh .least) (sh .sent) m) _ h in
-    let b = both-true (lengthFits (sh .least) (sh .received) n) _ (a .1) in
-    let k = leb-true (countIn (sh .sent) m + countIn (sh .received) n) (sh .most) (b .1) in (
-      part-small (sh .least) (sh .sent) m (s .sent-small) (a .0) (omega (arith, k, s .most-byte)),
-      part-small (sh .least) (sh .received) n (s .received-small) (b .0) (omega (arith, k, s .most-byte)),
-    )

@@ -3,7 +3,7 @@ ghost use mathlib.Core.Path.{_≡_};
 ghost use Prim.Native.Nat.{_+_, _*_, _≤_};
 ghost use Rattle.lists.specs.Choice.{pick};
 ghost use Rattle.trace.specs.Shapes.{writes, reads, isCounted};
-ghost use Rattle.trace.specs.Lengths.{traceLength, roomFor};
+ghost use Rattle.trace.specs.Lengths.{traceLength, roomBy, roomFor};
 use crate::protocol::is_forbidden;
 use crate::protocol::shape_of;
 use crate::shape::Shape;
@@ -46,16 +46,22 @@ fn trace_length(sh: Shape, pec: bool, m: usize, n: usize) -> usize
     4 + 2 * (b + k + m) + read_length(sh, n) + 2 * one_if(pec)
 }
 
-// The room that the encoder needs, in symbols; 0 where it refuses the protocol, the PEC or a length.
-pub fn room_for(protocol: u8, pec: bool, m: usize, n: usize) -> usize
-    ensures { λ r. ⌜ r ≡ roomFor protocol pec m n ⌝ }
+// The room that the encoder needs for a message of a shape, in symbols; 0 where it is forbidden, or a length is refused.
+pub fn room_by(sh: Shape, forbidden: bool, pec: bool, m: usize, n: usize) -> usize
+    ensures { λ r. ⌜ r ≡ roomBy sh forbidden pec m n ⌝ }
 {
-    if is_forbidden(protocol, pec) {
+    if forbidden {
         return 0;
     }
-    let sh = shape_of(protocol);
     if !lengths_fit(sh, m, n) {
         return 0;
     }
     trace_length(sh, pec, m, n)
+}
+
+// The same for a protocol of the table; 0 where the encoder refuses the protocol, the PEC or a length.
+pub fn room_for(protocol: u8, pec: bool, m: usize, n: usize) -> usize
+    ensures { λ r. ⌜ r ≡ roomFor protocol pec m n ⌝ }
+{
+    room_by(shape_of(protocol), is_forbidden(protocol, pec), pec, m, n)
 }

@@ -1,6 +1,10 @@
 // Which transactions a shape allows: the tests of refusal 1, on the numbers and the lengths of the data.
+ghost use mathlib.Core.Bool.{true};
+ghost use mathlib.Core.Logic.{_⊎_};
 ghost use mathlib.Core.Path.{_≡_};
+ghost use Prim.Native.Nat.{_≤_};
 ghost use Rattle.trace.specs.Allowed.{lengthFits, lengthsFit, addressFits, directionFits, commandFits, senderFits};
+ghost use Rattle.trace.specs.Shapes.{countIn};
 use crate::shape::Part;
 use crate::shape::Shape;
 use crate::shape::count_in;
@@ -8,9 +12,9 @@ use crate::shape::has_read;
 use crate::shape::has_write;
 use wire::address::Address;
 
-// The length belongs to its part.
+// The length belongs to its part. Then it is at most 255, or it is counted.
 pub fn length_fits(least: u8, a: Part, n: usize) -> bool
-    ensures { λ r. ⌜ r ≡ lengthFits least a n ⌝ }
+    ensures { λ r. ⌜ (r ≡ lengthFits least a n) × (r ≡ true → (n ≤ 255) ⊎ (n ≡ countIn a n)) ⌝ }
 {
     match a {
         Part::Nothing => n == 0,
@@ -19,9 +23,9 @@ pub fn length_fits(least: u8, a: Part, n: usize) -> bool
     }
 }
 
-// Both lengths belong, and the counts together are not too many.
+// Both lengths belong, and the counts together are not too many. Then each is at most 255.
 pub fn lengths_fit(sh: Shape, m: usize, n: usize) -> bool
-    ensures { λ r. ⌜ r ≡ lengthsFit sh m n ⌝ }
+    ensures { λ r. ⌜ (r ≡ lengthsFit sh m n) × (r ≡ true → (m ≤ 255) × (n ≤ 255)) ⌝ }
 {
     let a = sh.sent;
     let b = sh.received;

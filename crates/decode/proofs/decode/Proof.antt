@@ -1,48 +1,21 @@
-use Rattle.decode.specs.EntryLaws.{outcome-forbidden, outcome-short, sent-copy-fits, received-copy-fits, outcome-read}
-use mathlib.Core.Path.{_≡_, sym, _∙_}
 use borrow.Author.Needs.{needs}
+use Rattle.decode.specs.EntryLaws.{sane-shape, outcome-at-table}
 use Rattle.decode.proofs.decode.Statement.{statement}
 use Rattle.decode.proofs.decode.Tie as tie
 use Rattle.decode.proofs.decode.Reads as reads
 use Rattle.decode.proofs.decode.Lts as lts
-use Rattle.decode.proofs.is_short.Reads as is-short-reads
-use Rattle.decode.proofs.put_received.Reads as put-received-reads
-use Rattle.decode.proofs.put_sent.Reads as put-sent-reads
-use Rattle.step.proofs.whole.decode_by.Reads as decode-by-reads
+use Rattle.decode.proofs.decode_into.Reads as decode-into-reads
 use Rattle.trace.proofs.protocol.is_forbidden.Reads as is-forbidden-reads
 use Rattle.trace.proofs.protocol.shape_of.Reads as shape-of-reads
-
-is-forbidden-requires : tie.Need-is-forbidden-requires
-is-forbidden-requires c κs = search needs
-
-returns : tie.Need-returns
-returns c =
-    let a = c .before .before .before .before .before .args in
-    outcome-forbidden (a .protocol) (a .pec) (a .trace .now) (a .sent .now) (a .received .now) (sym (c .before .is-forbidden .ensures) ∙ c .if1 .taken)
-
-is-short-requires : tie.Need-is-short-requires
-is-short-requires c κs = search needs
-
-returns-2 : tie.Need-returns-2
-returns-2 c =
-    let a = c .before .before .before .before .before .before .before .args in
-    outcome-short (a .protocol) (a .pec) (a .trace .now) (a .sent .now) (a .received .now) (sym (c .before .before .before .is-forbidden .ensures) ∙ c .before .before .if1 .left) (sym (c .before .is-short .ensures) ∙ c .if2 .taken)
 
 shape-of-requires : tie.Need-shape-of-requires
 shape-of-requires c κs = search needs
 
-decode-by-requires : tie.Need-decode-by-requires
-decode-by-requires c κs = search needs
+is-forbidden-requires : tie.Need-is-forbidden-requires
+is-forbidden-requires c κs = search needs
 
-put-sent-requires : tie.Need-put-sent-requires
-put-sent-requires c κs =
-    let a = c .before .before .before .before .before .before .before .before .before .before .args in
-    sent-copy-fits (a .protocol) (a .pec) (a .trace .now) (a .sent .now) (a .received .now) _ _ (c .before .before .shape-of .ensures) (c .before .decode-by .ensures) (sym (c .before .before .before .before .is-short .ensures) ∙ c .before .before .before .if2 .left)
-
-put-received-requires : tie.Need-put-received-requires
-put-received-requires c κs =
-    let a = c .before .before .before .before .before .before .before .before .before .before .before .before .before .before .args in
-    received-copy-fits (a .protocol) (a .pec) (a .trace .now) (a .sent .now) (a .received .now) _ _ (c .before .before .before .before .before .before .shape-of .ensures) (c .before .before .before .before .before .decode-by .ensures) (sym (c .before .before .before .before .before .before .before .before .is-short .ensures) ∙ c .before .before .before .before .before .before .before .if2 .left)
+decode-into-requires : tie.Need-decode-into-requires
+decode-into-requires c κs = sane-shape (c .before .before .before .before .before .before .before .args .protocol) (c .before .before .before .before .before .before .before .args .pec) _ (c .before .before .before .shape-of .ensures)
 
 same-length : tie.Need-same-length
 same-length c = search needs
@@ -50,24 +23,18 @@ same-length c = search needs
 same-length-2 : tie.Need-same-length-2
 same-length-2 c = search needs
 
-returns-3 : tie.Need-returns-3
-returns-3 c =
-    let a = c .before .before .before .before .before .before .before .before .before .before .before .before .before .before .before .before .before .args in
-    outcome-read (a .protocol) (a .pec) (a .trace .now) (a .sent .now) (a .received .now) _ _ (c .before .before .before .before .before .before .before .before .before .shape-of .ensures) (c .before .before .before .before .before .before .before .before .decode-by .ensures) (sym (c .before .before .before .before .before .before .before .before .before .before .before .before .before .is-forbidden .ensures) ∙ c .before .before .before .before .before .before .before .before .before .before .before .before .if1 .left)
-    (sym (c .before .before .before .before .before .before .before .before .before .before .before .is-short .ensures) ∙ c .before .before .before .before .before .before .before .before .before .before .if2 .left) _ _ (c .before .before .before .before .before .before .put-sent .ensures) (c .before .before .put-received .ensures)
+returns : tie.Need-returns
+returns c =
+    let a = c .before .before .before .before .before .before .before .before .before .before .before .before .args in
+    outcome-at-table (a .protocol) (a .pec) _ (c .before .before .before .before .before .before .before .before .shape-of .ensures) _ (c .before .before .before .before .before .before .before .is-forbidden .ensures) (a .trace .now) (a .sent .now) (a .received .now) _ _ _ (c .before .before .before .before .decode-into .ensures)
 
 pub decode-spec : {M : Type 1} → statement M
 decode-spec =
     tie.close
     (tie.spec
-    is-forbidden-requires
-    returns
-    is-short-requires
-    returns-2
     shape-of-requires
-    decode-by-requires
-    put-sent-requires
-    put-received-requires
+    is-forbidden-requires
+    decode-into-requires
     same-length
     same-length-2
-    returns-3)
+    returns)

@@ -1,77 +1,32 @@
-use mathlib.Core.Path.{sym, _∙_}
-use borrow.Author.Tests.{not-true, not-false}
-use native.Mathlib.Omega.{arith}
-use Prim.Native.Nat.{_<_}
-use lib.ListN.{length}
-use Rattle.trace.specs.Trace.{Message}
-use Rattle.encode.specs.Encode.{message}
-use Rattle.lists.specs.EachLaws.{all-bytes}
-use Rattle.encode.proofs.EntryLaws.{room-zero, refused-wrote, fields-refused, short-wrote, is-ready, done-wrote}
 use borrow.Author.Needs.{needs}
+use Rattle.encode.specs.Encode.{message}
+use Rattle.encode.proofs.EntryLaws.{sane-shape, wrote-at-table}
 use Rattle.encode.proofs.encode.Statement.{statement}
 use Rattle.encode.proofs.encode.Tie as tie
 use Rattle.encode.proofs.encode.Reads as reads
 use Rattle.encode.proofs.encode.Lts as lts
-use Rattle.encode.proofs.fields_fit.Reads as fields-fit-reads
-use Rattle.encode.proofs.put_trace.Reads as put-trace-reads
-use Rattle.trace.proofs.length.room_for.Reads as room-for-reads
+use Rattle.encode.proofs.encode_by.Reads as encode-by-reads
+use Rattle.trace.proofs.protocol.is_forbidden.Reads as is-forbidden-reads
 use Rattle.trace.proofs.protocol.shape_of.Reads as shape-of-reads
-
-room-for-requires : tie.Need-room-for-requires
-room-for-requires c κs = search needs
-
-returns : tie.Need-returns
-returns c =
-    let a = c .before .before .before .before .before .args in
-    let t : Message = message (a .address .0) (a .direction) (a .command) (a .sent .now) (a .received .now) in
-    refused-wrote (a .protocol) (a .pec) t (a .out .now) (room-zero (a .protocol) (a .pec) t (sym (c .before .room-for .ensures) ∙ c .if1 .taken))
 
 shape-of-requires : tie.Need-shape-of-requires
 shape-of-requires c κs = search needs
 
-fields-fit-requires : tie.Need-fields-fit-requires
-fields-fit-requires c κs = search needs
+is-forbidden-requires : tie.Need-is-forbidden-requires
+is-forbidden-requires c κs = search needs
 
-returns-2 : tie.Need-returns-2
-returns-2 c =
-    let a = c .before .before .before .before .before .before .before .before .args in
-    let t : Message = message (a .address .0) (a .direction) (a .command) (a .sent .now) (a .received .now) in
-    refused-wrote (a .protocol) (a .pec) t (a .out .now) (fields-refused (a .protocol) (a .pec) t _ _ (c .before .before .before .before .room-for .ensures) (c .before .before .before .if1 .left) (c .before .before .shape-of .ensures) (sym (c .before .fields-fit .ensures) ∙ not-true _ (c .if2 .taken)))
-
-returns-3 : tie.Need-returns-3
-returns-3 c =
-    let a = c .before .before .before .before .before .before .before .before .before .args in
-    let t : Message = message (a .address .0) (a .direction) (a .command) (a .sent .now) (a .received .now) in
-    short-wrote (a .protocol) (a .pec) t _ _ (c .before .before .before .before .before .room-for .ensures) (c .before .before .before .before .if1 .left) (c .before .before .before .shape-of .ensures) (sym (c .before .before .fields-fit .ensures) ∙ not-false _ (c .before .if2 .left)) (a .out .now) (c .if3 .taken)
-
-put-trace-requires : tie.Need-put-trace-requires
-put-trace-requires c κs =
-    let a = c .before .before .before .before .before .before .before .before .before .before .args in
-    let t : Message = message (a .address .0) (a .direction) (a .command) (a .sent .now) (a .received .now) in
-    let cb : a .command < 256 = omega arith in
-    let sb = all-bytes (a .sent .now) (λ i. c .before .before .before .before .before .before .before .before .before .shared-slice-known .given i .fits) in
-    let rb = all-bytes (a .received .now) (λ i. c .before .before .before .before .before .before .before .before .shared-slice-known2 .given i .fits) in
-    is-ready (a .protocol) (a .pec) t _ _ (c .before .before .before .before .before .before .room-for .ensures) (c .before .before .before .before .before .if1 .left) (c .before .before .before .before .shape-of .ensures) (sym (c .before .before .before .fields-fit .ensures) ∙ not-false _ (c .before .before .if2 .left)) cb sb rb (length (a .out .now)) (c .before .if3 .left)
+encode-by-requires : tie.Need-encode-by-requires
+encode-by-requires c κs = sane-shape (c .before .before .before .before .before .before .args .protocol) (c .before .before .before .before .before .before .args .pec) _ (c .before .before .shape-of .ensures)
 
 same-length : tie.Need-same-length
 same-length c = search needs
 
-returns-4 : tie.Need-returns-4
-returns-4 c =
-    let a = c .before .before .before .before .before .before .before .before .before .before .before .before .before .args in
-    let t : Message = message (a .address .0) (a .direction) (a .command) (a .sent .now) (a .received .now) in
-    done-wrote (a .protocol) (a .pec) t _ _ (c .before .before .before .before .before .before .before .before .before .room-for .ensures) (c .before .before .before .before .before .before .before .before .if1 .left) (c .before .before .before .before .before .before .before .shape-of .ensures) (sym (c .before .before .before .before .before .before .fields-fit .ensures) ∙ not-false _ (c .before .before .before .before .before .if2 .left)) (a .out .now) _ (c .before .before .before .before .if3 .left) (c .before .before .put-trace .ensures)
+returns : tie.Need-returns
+returns c =
+    let a = c .before .before .before .before .before .before .before .before .before .args in
+    wrote-at-table (a .protocol) (a .pec) _ (c .before .before .before .before .before .shape-of .ensures) _ (c .before .before .before .before .is-forbidden .ensures) (message (a .address .0) (a .direction) (a .command) (a .sent .now) (a .received .now)) (a .out .now) _ _ (c .before .before .encode-by .ensures)
 
 pub encode-spec : {M : Type 1} → statement M
 encode-spec =
     tie.close
-    (tie.spec
-    room-for-requires
-    returns
-    shape-of-requires
-    fields-fit-requires
-    returns-2
-    returns-3
-    put-trace-requires
-    same-length
-    returns-4)
+    (tie.spec shape-of-requires is-forbidden-requires encode-by-requires same-length returns)

@@ -1,4 +1,5 @@
 use borrow.Author.Needs.{needs}
+use Rattle.trace.proofs.Fields.{nothing-fits, fixed-fits, counted-fits}
 use mathlib.Core.Path.{_≡_, refl, sym, _∙_, ap}
 use Rattle.trace.proofs.valid.length_fits.Statement.{statement}
 use Rattle.trace.proofs.valid.length_fits.Tie as tie
@@ -18,13 +19,13 @@ enum-told-2 : tie.Need-enum-told-2
 enum-told-2 c = search needs
 
 returns : tie.Need-returns
-returns c = rw (c .enum-told .given .1)
+returns c = nothing-fits (c .before .before .args .least) (c .before .before .args .n) (c .before .before .args .a) (c .enum-told .given .1)
 
 returns-2 : tie.Need-returns-2
-returns-2 c = rw (c .before .a .given .1)
+returns-2 c = fixed-fits (c .before .before .before .args .least) (c .before .before .before .args .n) _ (c .before .before .before .args .a) (c .known-told .given .0 .1) (c .before .a .given .1)
 
 returns-3 : tie.Need-returns-3
-returns-3 c = rw (c .enum-told2 .given .1)
+returns-3 c = counted-fits (c .before .before .args .least) (c .before .before .args .n) (c .before .before .args .a) (c .enum-told2 .given .1)
 
 pub length-fits-spec : {M : Type 1} → statement M
 length-fits-spec =

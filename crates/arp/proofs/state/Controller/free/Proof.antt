@@ -5,7 +5,8 @@ use Rattle.arp.proofs.state.Controller.free.Statement.{statement}
 use Rattle.arp.proofs.state.Controller.free.Tie as tie
 use Rattle.arp.proofs.state.Controller.free.Reads as reads
 use Rattle.arp.proofs.state.Controller.free.Lts as lts
-use Rattle.arp.proofs.state.Controller.find.Reads as find-reads
+use Rattle.arp.proofs.slots.Slots.find.Reads as find-reads
+use Rattle.arp.proofs.slots.Slots.put.Reads as put-reads
 use Rattle.pool.proofs.Pool.without.Reads as without-reads
 
 find-requires : tie.Need-find-requires
@@ -15,30 +16,15 @@ returns : tie.Need-returns
 unfolding freed
 returns c = simp (← c .before .find .ensures, lt-ltb _ _ (c .if1 .taken))
 
-cast-at : tie.Need-cast-at
-cast-at c = search needs
-
-mul-t12 : tie.Need-mul-t12
-mul-t12 c = search needs
-
-element-set-from-self : tie.Need-element-set-from-self
-element-set-from-self c = search needs
+put-requires : tie.Need-put-requires
+put-requires c κs = search needs
 
 without-requires : tie.Need-without-requires
 without-requires c κs = search needs
 
 returns-2 : tie.Need-returns-2
 unfolding freed
-returns-2 c = simp (← c .before .before .before .find .ensures, le-ltb _ _ (c .before .before .if1 .left), c .without .ensures)
+returns-2 c = simp (← c .before .before .before .before .find .ensures, le-ltb _ _ (c .before .before .before .if1 .left), c .before .put .ensures, c .without .ensures)
 
 pub free-spec : {M : Type 1} → statement M
-free-spec =
-    tie.close
-    (tie.spec
-    find-requires
-    returns
-    cast-at
-    mul-t12
-    element-set-from-self
-    without-requires
-    returns-2)
+free-spec = tie.close (tie.spec find-requires returns put-requires without-requires returns-2)

@@ -3,13 +3,17 @@ use Rattle.arp.proofs.state.Controller.new.Statement.{statement}
 use Rattle.arp.proofs.state.Controller.new.Tie as tie
 use Rattle.arp.proofs.state.Controller.new.Reads as reads
 use Rattle.arp.proofs.state.Controller.new.Lts as lts
+use Rattle.arp.proofs.slots.Slots.none.Reads as none-reads
 use Rattle.pool.proofs.Pool.starting.Reads as starting-reads
 
 starting-requires : tie.Need-starting-requires
 starting-requires c κs = search needs
 
+none-requires : tie.Need-none-requires
+none-requires c κs = search needs
+
 returns : tie.Need-returns
-returns c = simp (c .starting .ensures)
+returns c = simp (c .before .starting .ensures, c .none .ensures)
 
 pub new-spec : {M : Type 1} → statement M
-new-spec = tie.close (tie.spec starting-requires returns)
+new-spec = tie.close (tie.spec starting-requires none-requires returns)

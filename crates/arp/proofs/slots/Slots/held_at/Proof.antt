@@ -1,0 +1,58 @@
+use mathlib.Core.Path.{_≡_, refl, sym, ap, ap₂, _∙_}
+use native.Mathlib.Omega.{arith}
+use Rattle.arp.specs.SlotsLaws.{held-bound, held-claimed, held-open, held-above-is-open}
+use borrow.Author.Needs.{needs}
+use Rattle.arp.proofs.slots.Slots.held_at.Statement.{statement}
+use Rattle.arp.proofs.slots.Slots.held_at.Tie as tie
+use Rattle.arp.proofs.slots.Slots.held_at.Reads as reads
+use Rattle.arp.proofs.slots.Slots.held_at.Lts as lts
+use Rattle.pool.proofs.Pool.has.Reads as has-reads
+
+returns : tie.Need-returns
+returns c = let s = c .before .args in sym (held-above-is-open (s .t1) (s .a .0) (omega arith))
+
+has-requires : tie.Need-has-requires
+has-requires c κs = search needs
+
+cast-at : tie.Need-cast-at
+cast-at c = search needs
+
+mul-t10 : tie.Need-mul-t10
+mul-t10 c = search needs
+
+element-copy-out-t13 : tie.Need-element-copy-out-t13
+element-copy-out-t13 c = search needs
+
+mul-t14 : tie.Need-mul-t14
+mul-t14 c = search needs
+
+element-copy-out-t17 : tie.Need-element-copy-out-t17
+element-copy-out-t17 c = search needs
+
+returns-2 : tie.Need-returns-2
+returns-2 c = let s = c .before .before .before .before .before .before .args in sym (held-bound (s .t1) (s .a .0) (sym (c .before .before .before .has .ensures) ∙ c .before .before .if2 .taken))
+
+has-requires-2 : tie.Need-has-requires-2
+has-requires-2 c κs = search needs
+
+returns-3 : tie.Need-returns-3
+returns-3 c = let s = c .before .before .before .before .before .before .before .args in sym (held-claimed (s .t1) (s .a .0) (sym (c .before .before .before .before .has .ensures) ∙ c .before .before .before .if2 .left) (sym (c .before .has2 .ensures) ∙ c .if3 .taken))
+
+returns-4 : tie.Need-returns-4
+returns-4 c = let s = c .before .before .before .before .before .before .before .args in sym (held-open (s .t1) (s .a .0) (sym (c .before .before .before .before .has .ensures) ∙ c .before .before .before .if2 .left) (sym (c .before .has2 .ensures) ∙ c .if3 .left))
+
+pub held-at-spec : {M : Type 1} → statement M
+held-at-spec =
+    tie.close
+    (tie.spec
+    returns
+    has-requires
+    cast-at
+    mul-t10
+    element-copy-out-t13
+    mul-t14
+    element-copy-out-t17
+    returns-2
+    has-requires-2
+    returns-3
+    returns-4)

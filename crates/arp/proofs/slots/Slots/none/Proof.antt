@@ -1,0 +1,17 @@
+use Rattle.arp.specs.Slots.{noBindings}
+use borrow.Author.Needs.{needs}
+use Rattle.arp.proofs.slots.Slots.none.Statement.{statement}
+use Rattle.arp.proofs.slots.Slots.none.Tie as tie
+use Rattle.arp.proofs.slots.Slots.none.Reads as reads
+use Rattle.arp.proofs.slots.Slots.none.Lts as lts
+use Rattle.pool.proofs.Pool.empty.Reads as empty-reads
+
+empty-requires : tie.Need-empty-requires
+empty-requires c κs = search needs
+
+returns : tie.Need-returns
+unfolding noBindings
+returns c = simp (c .empty .ensures)
+
+pub none-spec : {M : Type 1} → statement M
+none-spec = tie.close (tie.spec empty-requires returns)

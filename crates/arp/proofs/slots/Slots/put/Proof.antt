@@ -1,0 +1,51 @@
+use mathlib.Core.Path.{_≡_, refl, sym, ap, ap₂, _∙_}
+use Rattle.arp.specs.Slots.{withBinding}
+use borrow.Author.Needs.{needs}
+use Rattle.arp.proofs.slots.Slots.put.Statement.{statement}
+use Rattle.arp.proofs.slots.Slots.put.Tie as tie
+use Rattle.arp.proofs.slots.Slots.put.Reads as reads
+use Rattle.arp.proofs.slots.Slots.put.Lts as lts
+use Rattle.arp.proofs.slots.Slots.put_bound.Reads as put-bound-reads
+use Rattle.arp.proofs.slots.Slots.put_claimed.Reads as put-claimed-reads
+use Rattle.arp.proofs.slots.Slots.put_open.Reads as put-open-reads
+
+enum-told : tie.Need-enum-told
+enum-told c = search needs
+
+put-open-requires : tie.Need-put-open-requires
+put-open-requires c κs = search needs
+
+enum-known-held : tie.Need-enum-known-held
+enum-known-held c = search needs
+
+put-bound-requires : tie.Need-put-bound-requires
+put-bound-requires c κs = search needs
+
+enum-told-2 : tie.Need-enum-told-2
+enum-told-2 c = search needs
+
+put-claimed-requires : tie.Need-put-claimed-requires
+put-claimed-requires c κs = search needs
+
+returns : tie.Need-returns
+returns c = let s = c .before .before .before .args in c .put-open .ensures ∙ sym (ap (withBinding (s .self) (s .a .0)) (c .before .enum-told .given .1))
+
+returns-2 : tie.Need-returns-2
+returns-2 c = let s = c .before .before .before .before .args in c .put-bound .ensures ∙ sym (ap (withBinding (s .self) (s .a .0)) (c .before .before .held .given .1))
+
+returns-3 : tie.Need-returns-3
+returns-3 c = let s = c .before .before .before .args in c .put-claimed .ensures ∙ sym (ap (withBinding (s .self) (s .a .0)) (c .before .enum-told2 .given .1))
+
+pub put-spec : {M : Type 1} → statement M
+put-spec =
+    tie.close
+    (tie.spec
+    enum-told
+    put-open-requires
+    enum-known-held
+    put-bound-requires
+    enum-told-2
+    put-claimed-requires
+    returns
+    returns-2
+    returns-3)

@@ -1,0 +1,21 @@
+use Rattle.arp.specs.Slots.{withBinding}
+use borrow.Author.Needs.{needs}
+use Rattle.arp.proofs.slots.Slots.put_claimed.Statement.{statement}
+use Rattle.arp.proofs.slots.Slots.put_claimed.Tie as tie
+use Rattle.arp.proofs.slots.Slots.put_claimed.Reads as reads
+use Rattle.arp.proofs.slots.Slots.put_claimed.Lts as lts
+use Rattle.pool.proofs.Pool.with.Reads as with-reads
+use Rattle.pool.proofs.Pool.without.Reads as without-reads
+
+without-requires : tie.Need-without-requires
+without-requires c κs = search needs
+
+with-requires : tie.Need-with-requires
+with-requires c κs = search needs
+
+returns : tie.Need-returns
+unfolding withBinding
+returns c = simp (c .before .without .ensures, c .with .ensures)
+
+pub put-claimed-spec : {M : Type 1} → statement M
+put-claimed-spec = tie.close (tie.spec without-requires with-requires returns)

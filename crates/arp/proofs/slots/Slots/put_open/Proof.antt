@@ -1,0 +1,20 @@
+use Rattle.arp.specs.Slots.{withBinding}
+use borrow.Author.Needs.{needs}
+use Rattle.arp.proofs.slots.Slots.put_open.Statement.{statement}
+use Rattle.arp.proofs.slots.Slots.put_open.Tie as tie
+use Rattle.arp.proofs.slots.Slots.put_open.Reads as reads
+use Rattle.arp.proofs.slots.Slots.put_open.Lts as lts
+use Rattle.pool.proofs.Pool.without.Reads as without-reads
+
+without-requires : tie.Need-without-requires
+without-requires c κs = search needs
+
+without-requires-2 : tie.Need-without-requires-2
+without-requires-2 c κs = search needs
+
+returns : tie.Need-returns
+unfolding withBinding
+returns c = simp (c .before .without .ensures, c .without2 .ensures)
+
+pub put-open-spec : {M : Type 1} → statement M
+put-open-spec = tie.close (tie.spec without-requires without-requires-2 returns)

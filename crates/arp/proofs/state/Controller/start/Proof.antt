@@ -1,0 +1,19 @@
+use borrow.Author.Needs.{needs}
+use Rattle.arp.proofs.state.Controller.start.Statement.{statement}
+use Rattle.arp.proofs.state.Controller.start.Tie as tie
+use Rattle.arp.proofs.state.Controller.start.Reads as reads
+use Rattle.arp.proofs.state.Controller.start.Lts as lts
+use Rattle.arp.proofs.slots.Slots.none.Reads as none-reads
+use Rattle.arp.proofs.state.Controller.hand.Reads as hand-reads
+
+none-requires : tie.Need-none-requires
+none-requires c κs = search needs
+
+hand-requires : tie.Need-hand-requires
+hand-requires c κs = search needs
+
+returns : tie.Need-returns
+returns c = rw (c .before .none .ensures) at (c .hand .ensures)
+
+pub start-spec : {M : Type 1} → statement M
+start-spec = tie.close (tie.spec none-requires hand-requires returns)

@@ -1,0 +1,105 @@
+-- What the reader of the slots gives after the writer and at the start (specs/Slots.antt).
+use Prim.Native.Nat.{ℕ, _≤_, _<_}
+use mathlib.Core.Path.{_≡_, sym, ap, _∙_}
+use mathlib.Core.Bool.{Bool, true, false}
+use mathlib.Core.Logic.{_⊎_, inl, inr}
+use native.Mathlib.Decide.{ℕ-discrete}
+use native.Mathlib.Omega.{arith}
+use lib.ListN.{length-set, length-replicate}
+use lib.Seq.{getD-set-same, getD-set-other}
+use Rattle.lists.specs.Choice.{pick}
+use Rattle.pool.specs.MemberLaws.{member-above, has-with-same, has-with-other, has-without-same, has-without-other}
+use Rattle.pool.specs.Pools.{member}
+use Rattle.pool.specs.StartLaws.{member-empty}
+use Rattle.udid.specs.declared.Udid.{Udid}
+use Rattle.arp.specs.Slots.{Sized128, keptUdid, heldAt, withBinding, noBindings}
+use Rattle.arp.specs.declared.slots.Slots.{Slots}
+use Rattle.arp.specs.declared.state.Binding.{Binding}
+use Rattle.arp.specs.declared.state.Binding.the-variants.{Open, Bound, Claimed}
+
+-- ---- what is held by the sets of bound and of claimed addresses
+
+pub held-bound : (s : Slots) (a : ℕ) → member (s .bound) a ≡ true → heldAt s a ≡ Bound (keptUdid s a)
+unfolding heldAt
+held-bound s a e = rw e
+
+pub held-claimed : (s : Slots) (a : ℕ) → member (s .bound) a ≡ false → member (s .claimed) a ≡ true → heldAt s a ≡ Claimed
+unfolding heldAt
+held-claimed s a e f = rw (e, f)
+
+pub held-open : (s : Slots) (a : ℕ) → member (s .bound) a ≡ false → member (s .claimed) a ≡ false → heldAt s a ≡ Open
+unfolding heldAt
+held-open s a e f = rw (e, f)
+
+-- the set of bound addresses tells where a target is bound
+pub bound-tells : (f : Binding → Bool) → ((u : Udid) → f (Bound u) ≡ true) → f Claimed ≡ false → f Open ≡ false → (s : Slots) (a : ℕ) → member (s .bound) a ≡ f (heldAt s a)
+unfolding heldAt
+bound-tells f b k o s a = go (member (s .bound) a) (member (s .claimed) a)
+  where
+    go : (x y : Bool) → x ≡ f (pick x (Bound (keptUdid s a)) (pick y Claimed Open))
+    go true y = sym (b (keptUdid s a))
+    go false true = sym k
+    go false false = sym o
+
+-- past the last address nothing is held
+pub held-above-is-open : (s : Slots) (a : ℕ) → 128 ≤ a → heldAt s a ≡ Open
+unfolding heldAt
+held-above-is-open s a h = rw (member-above (s .bound) a h, member-above (s .claimed) a h)
+
+-- where a pass begins nothing is held
+pub open-all : (a : ℕ) → heldAt noBindings a ≡ Open
+unfolding heldAt noBindings
+open-all a = rw (member-empty a)
+
+-- ---- what is held after a binding is put
+
+pub held-same : (s : Slots) (a : ℕ) (x : Binding) → Sized128 s → a < 128 → heldAt (withBinding s a x) a ≡ x
+unfolding heldAt withBinding
+held-same s a Open z h = rw (has-without-same (s .bound) a, has-without-same (s .claimed) a)
+held-same s a (Bound u) z h =
+    rw (
+      has-with-same (s .bound) a h,
+      getD-set-same (s .high) a (u .high) 0 (omega (arith, z .high)),
+      getD-set-same (s .low) a (u .low) 0 (omega (arith, z .low)),
+    )
+held-same s a Claimed z h = rw (has-without-same (s .bound) a, has-with-same (s .claimed) a h)
+
+pub held-other : (s : Slots) (a i : ℕ) (x : Binding) → (i ≡ a → ⊥) → heldAt (withBinding s a x) i ≡ heldAt s i
+unfolding heldAt withBinding
+held-other s a i Open n = rw (has-without-other (s .bound) a i n, has-without-other (s .claimed) a i n)
+held-other s a i (Bound u) n =
+    rw (
+      has-with-other (s .bound) a i n,
+      getD-set-other (s .high) a i (u .high) 0 n,
+      getD-set-other (s .low) a i (u .low) 0 n,
+    )
+held-other s a i Claimed n = rw (has-without-other (s .bound) a i n, has-with-other (s .claimed) a i n)
+
+-- a number above 127 is no address: nothing changes
+pub held-out-of-range : (s : Slots) (a i : ℕ) (x : Binding) → 128 ≤ a → heldAt (withBinding s a x) i ≡ heldAt s i
+held-out-of-range s a i x h = go (ℕ-discrete i a)
+  where
+    go : Dec (i ≡ a) → heldAt (withBinding s a x) i ≡ heldAt s i
+    go (yes q) = held-above-is-open (withBinding s a x) i (omega arith) ∙ sym (held-above-is-open s i (omega arith))
+    go (no q) = held-other s a i x q
+
+-- what was put, or what was there elsewhere
+pub held-cases : (s : Slots) (a i : ℕ) (x h : Binding) → Sized128 s → a < 128 → heldAt (withBinding s a x) i ≡ h
+    → ((i ≡ a) × (x ≡ h)) ⊎ ((i ≡ a → ⊥) × (heldAt s i ≡ h))
+held-cases s a i x h z l e = go (ℕ-discrete i a)
+  where
+    go : Dec (i ≡ a) → ((i ≡ a) × (x ≡ h)) ⊎ ((i ≡ a → ⊥) × (heldAt s i ≡ h))
+    go (yes q) = inl (q, sym (held-same s a x z l) ∙ ap (heldAt (withBinding s a x)) (sym q) ∙ e)
+    go (no q) = inr (q, sym (held-other s a i x q) ∙ e)
+
+-- ---- there stays a place for each address
+
+pub sized-none : Sized128 noBindings
+unfolding noBindings
+sized-none = record { high = length-replicate {A = ℕ} 128 0; low = length-replicate {A = ℕ} 128 0 }
+
+pub sized-with : (s : Slots) (a : ℕ) (x : Binding) → Sized128 s → Sized128 (withBinding s a x)
+unfolding withBinding
+sized-with s a Open z = record { high = z .high; low = z .low }
+sized-with s a (Bound u) z = record { high = length-set (s .high) a (u .high) ∙ z .high; low = length-set (s .low) a (u .low) ∙ z .low }
+sized-with s a Claimed z = record { high = z .high; low = z .low }

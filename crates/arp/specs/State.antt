@@ -1,0 +1,22 @@
+-- The controller's state with one field changed: the definitions that change it go through these, so each names only what it changes.
+use Prim.Native.Nat.{ℕ}
+use Rattle.pool.specs.declared.Pool.{Pool}
+use Rattle.arp.specs.declared.command.Handed.{Handed}
+use Rattle.arp.specs.declared.slots.Slots.{Slots}
+use Rattle.arp.specs.declared.state.Controller.{Controller}
+
+-- the addresses in use now
+abbrev pub withPool : Controller → Pool → Controller
+withPool s x = record { starting = s .starting; pool = x; slots = s .slots; gets = s .gets; last = s .last }
+
+-- what each address is known for
+abbrev pub withSlots : Controller → Slots → Controller
+withSlots s x = record { starting = s .starting; pool = s .pool; slots = x; gets = s .gets; last = s .last }
+
+-- how many Get UDIDs this pass has sent
+abbrev pub withGets : Controller → ℕ → Controller
+withGets s x = record { starting = s .starting; pool = s .pool; slots = s .slots; gets = x; last = s .last }
+
+-- what was handed out last
+abbrev pub withLast : Controller → Handed → Controller
+withLast s x = record { starting = s .starting; pool = s .pool; slots = s .slots; gets = s .gets; last = x }

@@ -1,0 +1,28 @@
+-- A state with one field changed (specs/State.antt): that field is as given, and every other as it was.
+use Prim.Native.Nat.{ℕ}
+use mathlib.Core.Path.{_≡_, refl}
+use Rattle.pool.specs.declared.Pool.{Pool}
+use Rattle.arp.specs.State.{withPool, withSlots, withGets, withLast}
+use Rattle.arp.specs.declared.command.Handed.{Handed}
+use Rattle.arp.specs.declared.slots.Slots.{Slots}
+use Rattle.arp.specs.declared.state.Controller.{Controller}
+
+-- t has the starting addresses of s, and beside them these
+pub record Has (s t : Controller) (p : Pool) (x : Slots) (n : ℕ) (k : Handed) : Type 0 where
+  pub starting : t .starting ≡ s .starting
+  pub pool : t .pool ≡ p
+  pub slots : t .slots ≡ x
+  pub gets : t .gets ≡ n
+  pub last : t .last ≡ k
+
+pub with-pool : (s : Controller) (x : Pool) → Has s (withPool s x) x (s .slots) (s .gets) (s .last)
+with-pool s x = record { starting = refl; pool = refl; slots = refl; gets = refl; last = refl }
+
+pub with-slots : (s : Controller) (x : Slots) → Has s (withSlots s x) (s .pool) x (s .gets) (s .last)
+with-slots s x = record { starting = refl; pool = refl; slots = refl; gets = refl; last = refl }
+
+pub with-gets : (s : Controller) (x : ℕ) → Has s (withGets s x) (s .pool) (s .slots) x (s .last)
+with-gets s x = record { starting = refl; pool = refl; slots = refl; gets = refl; last = refl }
+
+pub with-last : (s : Controller) (x : Handed) → Has s (withLast s x) (s .pool) (s .slots) (s .gets) x
+with-last s x = record { starting = refl; pool = refl; slots = refl; gets = refl; last = refl }
