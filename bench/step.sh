@@ -7,8 +7,9 @@
 set -eu
 cd "$(dirname "$0")/.."
 limit=20
-# As it is compiled: two sets of addresses, 128 slots, the count with what is left empty after it, the last command.
-state=$((2 * 16 + 128 * 24 + 8 + 32))
+# As it is compiled: two sets of addresses; the slots, which are two sets and the two halves of 128 identifiers; the count with what is
+# left empty after it; the last command.
+state=$((2 * 16 + 2 * 16 + 128 * 16 + 8 + 32))
 out=build/bench
 library=${1:-target/staticlib/libc_api.a}
 program=${2:-target/bin/passes}

@@ -24,14 +24,16 @@ use Rattle.trace.specs.declared.transaction.Transaction.{Transaction}
 use Rattle.udid.specs.Bytes.{number, bytesFrom, udidAt}
 use Rattle.udid.specs.declared.Udid.{Udid}
 use Rattle.wire.specs.declared.address.Address.{Address}
-use Rattle.arp.specs.Bindings.{freed, bound}
-use Rattle.arp.specs.Controller.{asked, handed, chosen, issued, replied, onReply, onPrepare, onGet, onAssign, afterPrepare, afterGet, afterAssign}
+use Rattle.arp.specs.Bindings.{freed}
+use Rattle.arp.specs.Controller.{handed, chosen, issued, replied}
+use Rattle.arp.specs.Told.{toldPrepare, toldReply, toldGet, toldAssign, tells}
 use Rattle.arp.specs.Heard.{sendByte, blockRead, blockWrite, answer, isPrepare, isGet, isAssign, completes, nobody}
-use Rattle.arp.specs.declared.command.Command.the-variants.{Assign}
-use Rattle.arp.specs.declared.command.End.the-variants.{Ended, NoneFree, Abandoned}
+use Rattle.arp.specs.declared.command.Command.the-variants.{Prepare, GetUdid, Assign}
+use Rattle.arp.specs.declared.command.End.the-variants.{NoneFree}
 use Rattle.arp.specs.declared.command.Handed.the-variants.{Send, Wait}
 use Rattle.arp.specs.declared.state.Controller.{Controller}
 use Rattle.arp.specs.declared.state.Stepped.{Stepped}
+use Rattle.arp.specs.declared.told.Told.the-variants.{Again, Over, GivenUp, Reply, Took}
 
 -- ---- a buffer of zeros with the data at its front reads as the data
 
@@ -74,7 +76,7 @@ nobody-by-nack a w b q e h = sym (ap nobody e ∙ ap (λ (x : Bool). and x (ltb 
 
 -- ---- Prepare To ARP
 
-module _ (s : Controller) (tr : List ℕ) (a : Decoded) (sent received : List ℕ) (o : Outcome sendByte true tr zeros zeros a sent received) where
+module _ (tr : List ℕ) (a : Decoded) (sent received : List ℕ) (o : Outcome sendByte true tr zeros zeros a sent received) where
   heard-1 : a ≡ answer sendByte tr
   unfolding answeredBy
   heard-1 = o .answer
@@ -82,97 +84,104 @@ module _ (s : Controller) (tr : List ℕ) (a : Decoded) (sent received : List �
   is-prepare : (t : Transaction) → isPrepare t sent ≡ isPrepare t (sentData (shapeOf sendByte) tr a)
   is-prepare t = rw (o .data-sent, onto-at (sentData (shapeOf sendByte) tr a) 0)
 
-  by-prepare : onPrepare s a (sentData (shapeOf sendByte) tr a) ≡ afterPrepare s tr
-  unfolding afterPrepare
-  by-prepare = ap (λ (x : Decoded). onPrepare s x (sentData (shapeOf sendByte) tr x)) heard-1
+  by-prepare : toldPrepare a (sentData (shapeOf sendByte) tr a) ≡ tells (Send Prepare) tr
+  by-prepare = ap (λ (x : Decoded). toldPrepare x (sentData (shapeOf sendByte) tr x)) heard-1
 
-  by-refusal : (w : Refusal) (k : ℕ) → a ≡ Refused w k → pick (isNack w) (handed s (Wait Ended)) (handed s (Wait Abandoned)) ≡ afterPrepare s tr
-  by-refusal w k e = sym (ap (λ (x : Decoded). onPrepare s x (sentData (shapeOf sendByte) tr a)) e) ∙ by-prepare
+  by-refusal : (w : Refusal) (k : ℕ) → a ≡ Refused w k → pick (isNack w) Over GivenUp ≡ tells (Send Prepare) tr
+  by-refusal w k e = sym (ap (λ (x : Decoded). toldPrepare x (sentData (shapeOf sendByte) tr a)) e) ∙ by-prepare
 
-  pub prepare-nack : (w : Refusal) (k : ℕ) → a ≡ Refused w k → isNack w ≡ true → handed s (Wait Ended) ≡ afterPrepare s tr
-  prepare-nack w k e h = sym (ap (λ (b : Bool). pick b (handed s (Wait Ended)) (handed s (Wait Abandoned))) h) ∙ by-refusal w k e
+  pub prepare-nack : (w : Refusal) (k : ℕ) → a ≡ Refused w k → isNack w ≡ true → Over ≡ tells (Send Prepare) tr
+  prepare-nack w k e h = sym (ap (λ (b : Bool). pick b Over GivenUp) h) ∙ by-refusal w k e
 
-  pub prepare-other : (w : Refusal) (k : ℕ) → a ≡ Refused w k → isNack w ≡ false → handed s (Wait Abandoned) ≡ afterPrepare s tr
-  prepare-other w k e h = sym (ap (λ (b : Bool). pick b (handed s (Wait Ended)) (handed s (Wait Abandoned))) h) ∙ by-refusal w k e
+  pub prepare-other : (w : Refusal) (k : ℕ) → a ≡ Refused w k → isNack w ≡ false → GivenUp ≡ tells (Send Prepare) tr
+  prepare-other w k e h = sym (ap (λ (b : Bool). pick b Over GivenUp) h) ∙ by-refusal w k e
 
-  prepare-done : (t : Transaction) → a ≡ Done t → pick (isPrepare t sent) (asked s) (handed s (Wait Abandoned)) ≡ afterPrepare s tr
-  prepare-done t e = ap (λ (b : Bool). pick b (asked s) (handed s (Wait Abandoned))) (is-prepare t) ∙ sym (ap (λ (x : Decoded). onPrepare s x (sentData (shapeOf sendByte) tr a)) e) ∙ by-prepare
+  prepare-done : (t : Transaction) → a ≡ Done t → pick (isPrepare t sent) Again GivenUp ≡ tells (Send Prepare) tr
+  prepare-done t e = ap (λ (b : Bool). pick b Again GivenUp) (is-prepare t) ∙ sym (ap (λ (x : Decoded). toldPrepare x (sentData (shapeOf sendByte) tr a)) e) ∙ by-prepare
 
-  pub prepare-accepted : (t : Transaction) → a ≡ Done t → isPrepare t sent ≡ true → asked s ≡ afterPrepare s tr
-  prepare-accepted t e h = sym (ap (λ (b : Bool). pick b (asked s) (handed s (Wait Abandoned))) h) ∙ prepare-done t e
+  pub prepare-accepted : (t : Transaction) → a ≡ Done t → isPrepare t sent ≡ true → Again ≡ tells (Send Prepare) tr
+  prepare-accepted t e h = sym (ap (λ (b : Bool). pick b Again GivenUp) h) ∙ prepare-done t e
 
-  pub prepare-another : (t : Transaction) → a ≡ Done t → isPrepare t sent ≡ false → handed s (Wait Abandoned) ≡ afterPrepare s tr
-  prepare-another t e h = sym (ap (λ (b : Bool). pick b (asked s) (handed s (Wait Abandoned))) h) ∙ prepare-done t e
+  pub prepare-another : (t : Transaction) → a ≡ Done t → isPrepare t sent ≡ false → GivenUp ≡ tells (Send Prepare) tr
+  prepare-another t e h = sym (ap (λ (b : Bool). pick b Again GivenUp) h) ∙ prepare-done t e
 
 -- ---- Get UDID
 
-on-reply : (s : Controller) (t : Transaction) (xs : List ℕ) → onReply s t (onto xs zeros) ≡ onReply s t xs
-unfolding onReply
-on-reply s t xs = ap₂ (λ (u : Udid) (b : ℕ). pick (isGet t) (pick (eqb (t .received) 17) (replied s u b) (handed s (Wait Ended))) (asked s)) (onto-udid xs) (onto-at xs 16)
+on-reply : (t : Transaction) (xs : List ℕ) → toldReply t (onto xs zeros) ≡ toldReply t xs
+on-reply t xs = ap₂ (λ (u : Udid) (b : ℕ). pick (isGet t) (pick (eqb (t .received) 17) (Reply u b) Over) Again) (onto-udid xs) (onto-at xs 16)
 
-module _ (s : Controller) (tr : List ℕ) (a : Decoded) (sent received : List ℕ) (o : Outcome blockRead true tr zeros zeros a sent received) where
+module _ (tr : List ℕ) (a : Decoded) (sent received : List ℕ) (o : Outcome blockRead true tr zeros zeros a sent received) where
   heard-9 : a ≡ answer blockRead tr
   unfolding answeredBy
   heard-9 = o .answer
 
-  by-get : onGet s a (receivedData true tr a) ≡ afterGet s tr
-  unfolding afterGet
-  by-get = ap (λ (x : Decoded). onGet s x (receivedData true tr x)) heard-9
+  by-get : toldGet a (receivedData true tr a) ≡ tells (Send GetUdid) tr
+  by-get = ap (λ (x : Decoded). toldGet x (receivedData true tr x)) heard-9
 
-  pub get-nobody : nobody a ≡ true → handed s (Wait Ended) ≡ afterGet s tr
+  pub get-nobody : nobody a ≡ true → Over ≡ tells (Send GetUdid) tr
   get-nobody e = go a e ∙ by-get
     where
-      go : (x : Decoded) → nobody x ≡ true → handed s (Wait Ended) ≡ onGet s x (receivedData true tr a)
+      go : (x : Decoded) → nobody x ≡ true → Over ≡ toldGet x (receivedData true tr a)
       go (Done t) k = absurd (let z : _≡_ {A = ℕ} 0 1 = cc k in omega arith)
       go (Refused w i) k = rw k
 
-  pub get-again : nobody a ≡ false → (w : Refusal) (k : ℕ) → a ≡ Refused w k → asked s ≡ afterGet s tr
+  pub get-again : nobody a ≡ false → (w : Refusal) (k : ℕ) → a ≡ Refused w k → Again ≡ tells (Send GetUdid) tr
   get-again e w k h =
-      sym (ap (λ (b : Bool). pick b (handed s (Wait Ended)) (asked s)) (sym (ap nobody h) ∙ e))
-      ∙ sym (ap (λ (x : Decoded). onGet s x (receivedData true tr a)) h) ∙ by-get
+      sym (ap (λ (b : Bool). pick b Over Again) (sym (ap nobody h) ∙ e))
+      ∙ sym (ap (λ (x : Decoded). toldGet x (receivedData true tr a)) h) ∙ by-get
 
-  pub get-done : (t : Transaction) → a ≡ Done t → onReply s t received ≡ afterGet s tr
+  pub get-done : (t : Transaction) → a ≡ Done t → toldReply t received ≡ tells (Send GetUdid) tr
   get-done t e =
-      ap (onReply s t) (o .data-received)
-      ∙ on-reply s t (receivedData true tr a)
-      ∙ sym (ap (λ (x : Decoded). onGet s x (receivedData true tr a)) e)
+      ap (toldReply t) (o .data-received)
+      ∙ on-reply t (receivedData true tr a)
+      ∙ sym (ap (λ (x : Decoded). toldGet x (receivedData true tr a)) e)
       ∙ by-get
+
+-- a complete trace where a reply is due
+module _ (t : Transaction) (xs : List ℕ) where
+  pub reply-other : isGet t ≡ false → Again ≡ toldReply t xs
+  reply-other e = rw e
+
+  pub reply-count : isGet t ≡ true → (t .received ≡ 17 → ⊥) → Over ≡ toldReply t xs
+  reply-count e n = rw (e, ne-eqb (t .received) 17 n)
+
+  pub reply-whole : isGet t ≡ true → t .received ≡ 17 → (u : Udid) (b : ℕ) → u ≡ udidAt xs 0 → b ≡ getD xs 16 0 → Reply u b ≡ toldReply t xs
+  reply-whole e n u b p q = rw (e, eq-eqb (t .received) 17 n) (ap₂ Reply p q)
 
 -- ---- Assign Address
 
--- bound where the Assign is complete, and Get UDID in either case
-on-assign : (s : Controller) (u : Udid) (n : ℕ) (a : Decoded) (sent : List ℕ) → pick (completes u n a sent) (asked (bound s u n)) (asked s) ≡ onAssign s u n a sent
-on-assign s u n (Done t) sent = refl
-on-assign s u n (Refused w k) sent = refl
+-- taken where the Assign is complete, and nothing new otherwise
+on-assign : (u : Udid) (n : Address) (a : Decoded) (sent : List ℕ) → pick (completes u (n .0) a sent) (Took u n) Again ≡ toldAssign u n a sent
+on-assign u n (Done t) sent = refl
+on-assign u n (Refused w k) sent = refl
 
-module _ (s : Controller) (u : Udid) (n : ℕ) (tr : List ℕ) (a : Decoded) (sent received : List ℕ) (o : Outcome blockWrite true tr zeros zeros a sent received) where
+module _ (u : Udid) (n : Address) (tr : List ℕ) (a : Decoded) (sent received : List ℕ) (o : Outcome blockWrite true tr zeros zeros a sent received) where
   heard-8 : a ≡ answer blockWrite tr
   unfolding answeredBy
   heard-8 = o .answer
 
-  by-assign : onAssign s u n a (sentData (shapeOf blockWrite) tr a) ≡ afterAssign s u n tr
-  unfolding afterAssign
-  by-assign = ap (λ (x : Decoded). onAssign s u n x (sentData (shapeOf blockWrite) tr x)) heard-8
+  by-assign : toldAssign u n a (sentData (shapeOf blockWrite) tr a) ≡ tells (Send (Assign u n)) tr
+  by-assign = ap (λ (x : Decoded). toldAssign u n x (sentData (shapeOf blockWrite) tr x)) heard-8
 
-  is-assign : (t : Transaction) → isAssign u n t sent ≡ isAssign u n t (sentData (shapeOf blockWrite) tr a)
+  is-assign : (t : Transaction) → isAssign u (n .0) t sent ≡ isAssign u (n .0) t (sentData (shapeOf blockWrite) tr a)
   is-assign t = rw (o .data-sent, onto-udid (sentData (shapeOf blockWrite) tr a), onto-at (sentData (shapeOf blockWrite) tr a) 16)
 
-  complete-is : completes u n a sent ≡ completes u n a (sentData (shapeOf blockWrite) tr a)
+  complete-is : completes u (n .0) a sent ≡ completes u (n .0) a (sentData (shapeOf blockWrite) tr a)
   complete-is = go a is-assign
     where
-      go : (x : Decoded) → ((t : Transaction) → isAssign u n t sent ≡ isAssign u n t (sentData (shapeOf blockWrite) tr a))
-          → completes u n x sent ≡ completes u n x (sentData (shapeOf blockWrite) tr a)
+      go : (x : Decoded) → ((t : Transaction) → isAssign u (n .0) t sent ≡ isAssign u (n .0) t (sentData (shapeOf blockWrite) tr a))
+          → completes u (n .0) x sent ≡ completes u (n .0) x (sentData (shapeOf blockWrite) tr a)
       go (Done t) h = h t
       go (Refused w k) h = refl
 
-  assign-by : pick (completes u n a sent) (asked (bound s u n)) (asked s) ≡ afterAssign s u n tr
-  assign-by = ap (λ (b : Bool). pick b (asked (bound s u n)) (asked s)) complete-is ∙ on-assign s u n a (sentData (shapeOf blockWrite) tr a) ∙ by-assign
+  assign-by : pick (completes u (n .0) a sent) (Took u n) Again ≡ tells (Send (Assign u n)) tr
+  assign-by = ap (λ (b : Bool). pick b (Took u n) Again) complete-is ∙ on-assign u n a (sentData (shapeOf blockWrite) tr a) ∙ by-assign
 
-  pub assign-complete : completes u n a sent ≡ true → asked (bound s u n) ≡ afterAssign s u n tr
-  assign-complete h = sym (ap (λ (b : Bool). pick b (asked (bound s u n)) (asked s)) h) ∙ assign-by
+  pub assign-complete : completes u (n .0) a sent ≡ true → Took u n ≡ tells (Send (Assign u n)) tr
+  assign-complete h = sym (ap (λ (b : Bool). pick b (Took u n) Again) h) ∙ assign-by
 
-  pub assign-again : completes u n a sent ≡ false → asked s ≡ afterAssign s u n tr
-  assign-again h = sym (ap (λ (b : Bool). pick b (asked (bound s u n)) (asked s)) h) ∙ assign-by
+  pub assign-again : completes u (n .0) a sent ≡ false → Again ≡ tells (Send (Assign u n)) tr
+  assign-again h = sym (ap (λ (b : Bool). pick b (Took u n) Again) h) ∙ assign-by
 
 -- ---- a reply
 
@@ -187,17 +196,3 @@ module _ (s : Controller) (u : Udid) (b : ℕ) (next : Controller) (f : Free) (r
   pub reply-at : (a : Address) → f ≡ At a → r ≡ handed next (Send (Assign u a)) → r ≡ replied s u b
   unfolding replied
   reply-at a e h = h ∙ ap (λ (x : Controller). handed x (Send (Assign u a))) free ∙ ap (issued (freed s u) u) (sym e ∙ choice-there)
-
--- a complete trace where a reply is due
-module _ (s : Controller) (t : Transaction) (xs : List ℕ) (r : Stepped) where
-  pub reply-other : isGet t ≡ false → r ≡ asked s → r ≡ onReply s t xs
-  unfolding onReply
-  reply-other e h = rw e h
-
-  pub reply-count : isGet t ≡ true → (t .received ≡ 17 → ⊥) → r ≡ handed s (Wait Ended) → r ≡ onReply s t xs
-  unfolding onReply
-  reply-count e n h = rw (e, ne-eqb (t .received) 17 n) h
-
-  pub reply-whole : isGet t ≡ true → t .received ≡ 17 → (u : Udid) (b : ℕ) → u ≡ udidAt xs 0 → b ≡ getD xs 16 0 → r ≡ replied s u b → r ≡ onReply s t xs
-  unfolding onReply
-  reply-whole e n u b p q h = rw (e, eq-eqb (t .received) 17 n) (h ∙ ap₂ (λ (x : Udid) (y : ℕ). replied s x y) p q)

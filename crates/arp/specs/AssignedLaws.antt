@@ -7,37 +7,31 @@ use mathlib.Core.List.{List, [], _∷_}
 use mathlib.Core.Logic.{_⊎_, inl, inr}
 use native.Mathlib.Decide.{ℕ-discrete}
 use native.Mathlib.Omega.{arith}
-use lib.Dec.{ltb, leb, eqb}
-use lib.ListN.{getD}
+use lib.Dec.{ltb, leb}
 use borrow.Author.Tests.{ltb-false, lt-ltb, le-ltb}
-use Rattle.lists.specs.Choice.{pick, and, or}
+use Rattle.lists.specs.Choice.{pick, or}
 use Rattle.wire.specs.declared.address.Address.{Address}
-use Rattle.trace.specs.declared.transaction.Transaction.{Transaction}
-use Rattle.step.specs.Numbers.{isNack}
-use Rattle.step.specs.declared.answer.Decoded.{Decoded}
-use Rattle.step.specs.declared.answer.Decoded.the-variants.{Done, Refused}
 use Rattle.pool.specs.Pools.{member}
 use Rattle.pool.specs.declared.Pool.{Pool}
 use Rattle.pool.specs.declared.free.Free.{Free}
 use Rattle.pool.specs.declared.free.Free.the-variants.{At, AllUsed}
-use Rattle.udid.specs.Bytes.{udidAt}
 use Rattle.udid.specs.declared.Udid.{Udid}
 use Rattle.arp.specs.HistoryLaws.{reached-good}
 use Rattle.arp.specs.LookupLaws.{lookup-0}
 use Rattle.arp.specs.SoundLaws.{bound-to-is-bound, open-is-not-bound, find-cases}
 use Rattle.arp.specs.SlotsLaws.{held-same, held-other, held-cases, open-all}
-use Rattle.arp.specs.TraceLaws.{complete-assign-is-its-trace, assign-whole}
+use Rattle.arp.specs.ToldLaws.{Known, told-is-changed, by-told}
+use Rattle.arp.specs.TraceLaws.{assign-whole}
 use Rattle.arp.specs.Numbers.{lookupNumber}
 use Rattle.arp.specs.Sound.{Pending, PendingIn, GoodState}
 use Rattle.arp.specs.Bindings.{boundTo, findFrom, freedAt, freed, bindingFor, bound}
-use Rattle.arp.specs.Controller.{handed, counted, asked, chosen, issued, replied, onReply, onPrepare, onGet, onAssign, afterPrepare, afterGet, afterAssign, byCommand, stepped}
-use Rattle.arp.specs.Heard.{sendByte, blockRead, blockWrite, answer, sentIn, receivedIn, isPrepare, isGet, isAssign}
+use Rattle.arp.specs.Controller.{handed, counted, asked, chosen, issued, replied, changed, stepped}
 use Rattle.arp.specs.History.{Event, Start, Received, run, Acknowledged, isHeld, withTraces}
 use Rattle.arp.specs.Lookup.{seen, lookedUp}
 use Rattle.arp.specs.Requests.{traceOf}
 use Rattle.arp.specs.Slots.{Sized128, heldAt}
-use Rattle.arp.specs.declared.command.Command.the-variants.{Prepare, GetUdid, Assign}
-use Rattle.arp.specs.declared.command.End.the-variants.{Ended, Abandoned}
+use Rattle.arp.specs.declared.command.Command.the-variants.{GetUdid, Assign}
+use Rattle.arp.specs.declared.command.End.the-variants.{Abandoned}
 use Rattle.arp.specs.declared.command.Handed.{Handed}
 use Rattle.arp.specs.declared.command.Handed.the-variants.{Send, Wait}
 use Rattle.arp.specs.declared.lookup.Found.the-variants as found
@@ -46,6 +40,8 @@ use Rattle.arp.specs.declared.state.Binding.the-variants.{Open, Bound, C
 use Rattle.arp.specs.declared.state.Controller.{Controller}
 use Rattle.arp.specs.declared.slots.Slots.{Slots}
 use Rattle.arp.specs.declared.state.Stepped.{Stepped}
+use Rattle.arp.specs.declared.told.Told.{Told}
+use Rattle.arp.specs.declared.told.Told.the-variants.{Again, Over, GivenUp, Reply, Took, Unasked}
 
 abbrev address : ℕ → Address
 address a = record { 0 = a }
@@ -108,56 +104,14 @@ bound-elsewhere s u n i h q = rw (le-ltb 127 n (omega arith)) (held-other (s .sl
 
 -- ---- a step
 
--- through a reply: the slots are as they were, or with an identifier freed
-module _ (P : Slots → Type 0) (s : Controller) (p : P (s .slots)) (f : (u : Udid) → P (freed s u .slots)) where
-  issued-slots : (u : Udid) (k : Free) → P (issued (freed s u) u k .state .slots)
-  issued-slots u (At a) = f u
-  issued-slots u AllUsed = f u
+-- after a reply the slots are as they were, or with an identifier freed
+issued-slots : (s : Controller) (u : Udid) (k : Free) → issued s u k .state .slots ≡ s .slots
+issued-slots s u (At a) = refl
+issued-slots s u AllUsed = refl
 
-  asked-has : P (asked s .state .slots)
-  asked-has = subst P (sym (asked-slots s)) p
-
-  reply-slots : (t : Transaction) (xs : List ℕ) → P (onReply s t xs .state .slots)
-  unfolding onReply replied
-  reply-slots t xs = go (isGet t) (eqb (t .received) 17)
-    where
-      go : (a b : Bool) → P (pick a (pick b (issued (freed s (udidAt xs 0)) (udidAt xs 0) (chosen (freed s (udidAt xs 0) .pool) (udidAt xs 0) (getD xs 16 0))) (handed s (Wait Ended))) (asked s) .state .slots)
-      go true true = issued-slots (udidAt xs 0) (chosen (freed s (udidAt xs 0) .pool) (udidAt xs 0) (getD xs 16 0))
-      go true false = p
-      go false b = asked-has
-
-  get-slots : (a : Decoded) (xs : List ℕ) → P (onGet s a xs .state .slots)
-  get-slots (Done t) xs = reply-slots t xs
-  get-slots (Refused w k) xs = go (and (isNack w) (ltb k 3))
-    where
-      go : (q : Bool) → P (pick q (handed s (Wait Ended)) (asked s) .state .slots)
-      go true = p
-      go false = asked-has
-
-prepare-slots : (s : Controller) (a : Decoded) (xs : List ℕ) → onPrepare s a xs .state .slots ≡ s .slots
-prepare-slots s (Done t) xs = go (isPrepare t xs)
-  where
-    go : (q : Bool) → pick q (asked s) (handed s (Wait Abandoned)) .state .slots ≡ s .slots
-    go true = asked-slots s
-    go false = refl
-prepare-slots s (Refused w k) xs = go (isNack w)
-  where
-    go : (q : Bool) → pick q (handed s (Wait Ended)) (handed s (Wait Abandoned)) .state .slots ≡ s .slots
-    go true = refl
-    go false = refl
-
--- through the answer to an Assign: the slots are as they were, or with the target bound by the trace of that Assign
-module _ (P : Slots → Type 0) (s : Controller) (u : Udid) (a : Address) (tr : List ℕ) (p : P (s .slots)) (f : tr ≡ traceOf (Send (Assign u a)) [] → P (bound s u (a .0) .slots)) where
-  as-was : P (asked s .state .slots)
-  as-was = subst P (sym (asked-slots s)) p
-
-  assign-slots : (x : Decoded) → answer blockWrite tr ≡ x → P (onAssign s u (a .0) x (sentIn blockWrite tr) .state .slots)
-  assign-slots (Done t) e = go (isAssign u (a .0) t (sentIn blockWrite tr)) refl
-    where
-      go : (q : Bool) → isAssign u (a .0) t (sentIn blockWrite tr) ≡ q → P (pick q (asked (bound s u (a .0))) (asked s) .state .slots)
-      go true h = subst P (sym (asked-slots (bound s u (a .0)))) (f (complete-assign-is-its-trace s u a tr t e h))
-      go false h = as-was
-  assign-slots (Refused w k) e = as-was
+replied-slots : (s : Controller) (u : Udid) (b : ℕ) → replied s u b .state .slots ≡ freed s u .slots
+unfolding replied
+replied-slots s u b = issued-slots (freed s u) u (chosen (freed s u .pool) u b)
 
 module _ (occupied : Pool) (s : Controller) (tr : List ℕ) (g : GoodState occupied s) where
   -- what is bound after a step was bound before it, or comes from an Assign whose trace was received
@@ -165,8 +119,8 @@ module _ (occupied : Pool) (s : Controller) (tr : List ℕ) (g : GoodState occup
   From w a = (heldAt (s .slots) a ≡ Bound w) ⊎ ((s .last ≡ Send (Assign w (address a))) × (tr ≡ traceOf (Send (Assign w (address a))) []))
 
   bound-before-or-assigned : (a : ℕ) (w : Udid) → heldAt (stepped s tr .state .slots) a ≡ Bound w → From w a
-  unfolding stepped afterPrepare afterGet afterAssign
-  bound-before-or-assigned a w e = go (s .last) refl (g .1) e
+  unfolding stepped
+  bound-before-or-assigned a w e = by-told (λ (t : Told). heldAt (changed s t .state .slots) a ≡ Bound w → From w a) s tr go e
     where
       bound-by : (u : Udid) (b : Address) → s .last ≡ Send (Assign u b) → Pending s u (b .0) → tr ≡ traceOf (Send (Assign u b)) [] → heldAt (bound s u (b .0) .slots) a ≡ Bound w → From w a
       bound-by u b q p t k = at (bound-held s u w (b .0) a (g .0 .sound .size) (p .small) k)
@@ -177,18 +131,18 @@ module _ (occupied : Pool) (s : Controller) (tr : List ℕ) (g : GoodState occup
               let m : (Send (Assign u b)) ≡ (Send (Assign w (address a))) = ap₂ (λ (x : Udid) (y : ℕ). (Send (Assign x (address y)))) (h .1) (sym (h .0)) in
               inr (q ∙ m, t ∙ ap (λ (x : Handed). traceOf x []) m)
 
-      go : (k : Handed) → s .last ≡ k → PendingIn s k → heldAt (byCommand s tr k .state .slots) a ≡ Bound w → From w a
-      go (Send Prepare) q p k = inl (ap (λ (x : Slots). heldAt x a) (sym (prepare-slots s (answer sendByte tr) (sentIn sendByte tr))) ∙ k)
-      go (Send GetUdid) q p k =
-          inl (get-slots (λ (x : Slots). heldAt x a ≡ Bound w → heldAt (s .slots) a ≡ Bound w) s (λ h. h) (λ u h. freed-held s u w a (g .0 .sound .size) h)
-          (answer blockRead tr) (receivedIn blockRead tr) k)
-      go (Send (Assign u b)) q p k = assign-slots (λ (x : Slots). heldAt x a ≡ Bound w → From w a) s u b tr (λ h. inl h) (λ t h. bound-by u b q p t h) (answer blockWrite tr) refl k
-      go (Wait e) q p k = inl k
+      go : (t : Told) → Known (s .last) tr t → heldAt (changed s t .state .slots) a ≡ Bound w → From w a
+      go Again h k = inl (ap (λ (x : Slots). heldAt x a) (sym (asked-slots s)) ∙ k)
+      go Over h k = inl k
+      go GivenUp h k = inl k
+      go (Reply u b) h k = inl (freed-held s u w a (g .0 .sound .size) (ap (λ (x : Slots). heldAt x a) (sym (replied-slots s u b)) ∙ k))
+      go (Took u b) h k = bound-by u b (h .0) (subst (PendingIn s) (h .0) (g .1)) (h .1) (ap (λ (x : Slots). heldAt x a) (sym (asked-slots (bound s u (b .0)))) ∙ k)
+      go Unasked h k = inl k
 
   -- an address claimed by two stays so
   step-keeps-claim : (a : ℕ) → heldAt (s .slots) a ≡ Claimed → heldAt (stepped s tr .state .slots) a ≡ Claimed
-  unfolding stepped afterPrepare afterGet afterAssign
-  step-keeps-claim a e = go (s .last) (g .1)
+  unfolding stepped
+  step-keeps-claim a e = by-told (λ (t : Told). heldAt (changed s t .state .slots) a ≡ Claimed) s tr go
     where
       claimed-by : (u : Udid) (b : Address) → Pending s u (b .0) → heldAt (bound s u (b .0) .slots) a ≡ Claimed
       claimed-by u b p = at (ℕ-discrete a (b .0))
@@ -207,21 +161,21 @@ module _ (occupied : Pool) (s : Controller) (tr : List ℕ) (g : GoodState occup
               ∙ bound-there s u (b .0) (g .0 .sound .size) (p .small)
               ∙ ap (λ (x : Bool). bindingFor x u) (ap (member (s .pool)) (sym q) ∙ used)
 
-      go : (k : Handed) → PendingIn s k → heldAt (byCommand s tr k .state .slots) a ≡ Claimed
-      go (Send Prepare) p = ap (λ (x : Slots). heldAt x a) (prepare-slots s (answer sendByte tr) (sentIn sendByte tr)) ∙ e
-      go (Send GetUdid) p = get-slots (λ (x : Slots). heldAt x a ≡ Claimed) s e (λ u. freed-claims s u a e) (answer blockRead tr) (receivedIn blockRead tr)
-      go (Send (Assign u b)) p = assign-slots (λ (x : Slots). heldAt x a ≡ Claimed) s u b tr e (λ t. claimed-by u b p) (answer blockWrite tr) refl
-      go (Wait i) p = e
+      go : (t : Told) → Known (s .last) tr t → heldAt (changed s t .state .slots) a ≡ Claimed
+      go Again h = ap (λ (x : Slots). heldAt x a) (asked-slots s) ∙ e
+      go Over h = e
+      go GivenUp h = e
+      go (Reply u b) h = ap (λ (x : Slots). heldAt x a) (replied-slots s u b) ∙ freed-claims s u a e
+      go (Took u b) h = ap (λ (x : Slots). heldAt x a) (asked-slots (bound s u (b .0))) ∙ claimed-by u b (subst (PendingIn s) (h .0) (g .1))
+      go Unasked h = e
 
   -- an Assign that completes: its target is bound there, or the address is claimed where it was in the pool
   pub complete-assign-binds-or-claims : (u : Udid) (a : ℕ) → s .last ≡ Send (Assign u (record { 0 = a })) → tr ≡ traceOf (Send (Assign u (record { 0 = a }))) []
       → lookedUp (stepped s tr .state) a ≡ pick (member (s .pool) a) found.Two (found.Bound u)
-  unfolding stepped
   complete-assign-binds-or-claims u a q t =
       let p : Pending s u a = subst (PendingIn s) q (g .1) in
       let h : a < 128 = p .small in
-      ap (λ (k : Handed). lookedUp (byCommand s tr k .state) a) q
-      ∙ ap (λ (x : Stepped). lookedUp (x .state) a) (assign-whole s u (address a) tr (p .fits) t)
+      ap (λ (x : Stepped). lookedUp (x .state) a) (told-is-changed s tr (Send (Assign u (address a))) (Took u (address a)) q (assign-whole u (address a) tr (p .fits) t))
       ∙ ap (λ (x : Slots). pick (ltb 127 a) found.NoAddress (seen (heldAt x a))) (asked-slots (bound s u a))
       ∙ ap (λ (b : Bool). pick b found.NoAddress (seen (heldAt (bound s u a .slots) a))) (le-ltb 127 a (omega arith))
       ∙ ap seen (bound-there s u a (g .0 .sound .size) h)

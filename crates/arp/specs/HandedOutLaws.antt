@@ -28,7 +28,7 @@ use Rattle.arp.specs.TableLaws.{freed-as-replied, view-is-table}
 use Rattle.arp.specs.Story.{Story, onward, story}
 use Rattle.arp.specs.Sound.{SoundIn}
 use Rattle.arp.specs.Bindings.{freed, bound}
-use Rattle.arp.specs.Controller.{handed, counted, asked, chosen, issued, replied, onReply, onPrepare, onGet, onAssign, afterPrepare, afterGet, afterAssign, byCommand, stepped}
+use Rattle.arp.specs.Controller.{handed, counted, asked, chosen, issued, replied, stepped, changed}
 use Rattle.arp.specs.Heard.{sendByte, blockRead, blockWrite, answer, sentIn, receivedIn, isPrepare, isGet, isAssign}
 use Rattle.arp.specs.History.{Event, Start, Received, run, oneGet, getsSent}
 use Rattle.arp.specs.Replay.{Table, released, after, readAs, handedOut, table, noCommand, again, picked, assigning, nextPrepare, nextReply, nextCommand, view, SameOutstanding}
@@ -37,6 +37,8 @@ use Rattle.arp.specs.declared.command.End.the-variants.{Ended, Abandoned
 use Rattle.arp.specs.declared.command.Handed.{Handed}
 use Rattle.arp.specs.declared.command.Handed.the-variants.{Send, Wait}
 use Rattle.arp.specs.declared.state.Controller.{Controller}
+use Rattle.arp.specs.Told.{toldPrepare, toldReply, toldGet, toldAssign, tells}
+use Rattle.arp.specs.declared.told.Told.the-variants.{Again, Over, GivenUp, Reply, Took}
 
 asked-command : (s : Controller) → asked s .command ≡ again (s .gets)
 unfolding asked
@@ -51,22 +53,22 @@ issued-command s u (At a) = refl
 issued-command s u AllUsed = refl
 
 module _ (s : Controller) where
-  prepare-command : (d : Decoded) (xs : List ℕ) → onPrepare s d xs .command ≡ nextPrepare (s .gets) d xs
+  prepare-command : (d : Decoded) (xs : List ℕ) → changed s (toldPrepare d xs) .command ≡ nextPrepare (s .gets) d xs
   prepare-command (Done t) xs = go (isPrepare t xs)
     where
-      go : (q : Bool) → pick q (asked s) (handed s (Wait Abandoned)) .command ≡ pick q (again (s .gets)) (Wait Abandoned)
+      go : (q : Bool) → changed s (pick q Again GivenUp) .command ≡ pick q (again (s .gets)) (Wait Abandoned)
       go true = asked-command s
       go false = refl
   prepare-command (Refused w k) xs = go (isNack w)
     where
-      go : (q : Bool) → pick q (handed s (Wait Ended)) (handed s (Wait Abandoned)) .command ≡ pick q (Wait Ended) (Wait Abandoned)
+      go : (q : Bool) → changed s (pick q Over GivenUp) .command ≡ pick q (Wait Ended) (Wait Abandoned)
       go true = refl
       go false = refl
 
-  assign-command : (u : Udid) (n : ℕ) (d : Decoded) (xs : List ℕ) → onAssign s u n d xs .command ≡ again (s .gets)
+  assign-command : (u : Udid) (n : ℕ) (d : Decoded) (xs : List ℕ) → changed s (toldAssign u (record { 0 = n }) d xs) .command ≡ again (s .gets)
   assign-command u n (Done t) xs = go (isAssign u n t xs)
     where
-      go : (q : Bool) → pick q (asked (bound s u n)) (asked s) .command ≡ again (s .gets)
+      go : (q : Bool) → changed s (pick q (Took u (record { 0 = n })) Again) .command ≡ again (s .gets)
       go true = asked-command (bound s u n) ∙ ap again (bound-keeps-gets s u n)
       go false = asked-command s
   assign-command u n (Refused w k) xs = asked-command s
@@ -79,29 +81,28 @@ module _ (s : Controller) (v : SoundIn s) where
       ∙ ap (assigning u) (chosen-is-picked (freed s u .pool) u b)
       ∙ ap (λ (t : Table). assigning u (picked (t .used) u b)) (freed-as-replied (member (s .pool)) s v u)
 
-  reply-command : (t : Transaction) (xs : List ℕ) → onReply s t xs .command ≡ nextReply (view s) (s .gets) (Done t) xs
-  unfolding onReply
+  reply-command : (t : Transaction) (xs : List ℕ) → changed s (toldReply t xs) .command ≡ nextReply (view s) (s .gets) (Done t) xs
   reply-command t xs = go (isGet t) (eqb (t .received) 17)
     where
-      go : (p q : Bool) → pick p (pick q (replied s (udidAt xs 0) (getD xs 16 0)) (handed s (Wait Ended))) (asked s) .command
+      go : (p q : Bool) → changed s (pick p (pick q (Reply (udidAt xs 0) (getD xs 16 0)) Over) Again) .command
           ≡ pick p (pick q (assigning (udidAt xs 0) (picked (released (udidAt xs 0) (view s) .used) (udidAt xs 0) (getD xs 16 0))) (Wait Ended)) (again (s .gets))
       go true true = replied-command (udidAt xs 0) (getD xs 16 0)
       go true false = refl
       go false q = asked-command s
 
-  get-command : (d : Decoded) (xs : List ℕ) → onGet s d xs .command ≡ nextReply (view s) (s .gets) d xs
+  get-command : (d : Decoded) (xs : List ℕ) → changed s (toldGet d xs) .command ≡ nextReply (view s) (s .gets) d xs
   get-command (Done t) xs = reply-command t xs
   get-command (Refused w k) xs = go (and (isNack w) (ltb k 3))
     where
-      go : (q : Bool) → pick q (handed s (Wait Ended)) (asked s) .command ≡ pick q (Wait Ended) (again (s .gets))
+      go : (q : Bool) → changed s (pick q Over Again) .command ≡ pick q (Wait Ended) (again (s .gets))
       go true = refl
       go false = asked-command s
 
   step-command : (tr : List ℕ) → stepped s tr .command ≡ nextCommand (view s) (s .gets) (s .last) tr
-  unfolding stepped afterPrepare afterGet afterAssign
+  unfolding stepped
   step-command tr = go (s .last)
     where
-      go : (k : Handed) → byCommand s tr k .command ≡ nextCommand (view s) (s .gets) k tr
+      go : (k : Handed) → changed s (tells k tr) .command ≡ nextCommand (view s) (s .gets) k tr
       go (Send Prepare) = prepare-command s (answer sendByte tr) (sentIn sendByte tr)
       go (Send GetUdid) = get-command (answer blockRead tr) (receivedIn blockRead tr)
       go (Send (Assign u a)) = assign-command s u (a .0) (answer blockWrite tr) (sentIn blockWrite tr)

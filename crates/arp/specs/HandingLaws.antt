@@ -6,34 +6,33 @@ use mathlib.Core.List.{List, [], _∷_}
 use mathlib.Core.Logic.{_⊎_, inl, inr}
 use native.Mathlib.Nat.{add-zero}
 use native.Mathlib.Omega.{arith}
-use lib.Dec.{ltb, leb, eqb}
-use lib.ListN.{getD}
-use Rattle.lists.specs.Choice.{pick, and}
+use lib.Dec.{ltb, leb}
+use Rattle.lists.specs.Choice.{pick}
+use Rattle.lists.specs.ChoiceLaws.{not-both}
 use Rattle.wire.specs.declared.address.Address.{Address}
-use Rattle.trace.specs.declared.transaction.Transaction.{Transaction}
-use Rattle.step.specs.Numbers.{isNack}
-use Rattle.step.specs.declared.answer.Decoded.{Decoded}
-use Rattle.step.specs.declared.answer.Decoded.the-variants.{Done, Refused}
 use Rattle.pool.specs.Pools.{member}
 use Rattle.pool.specs.declared.Pool.{Pool}
 use Rattle.pool.specs.declared.free.Free.{Free}
 use Rattle.pool.specs.declared.free.Free.the-variants.{At, AllUsed}
-use Rattle.udid.specs.Bytes.{udidAt}
 use Rattle.udid.specs.Udids.{isFixed}
 use Rattle.udid.specs.declared.Udid.{Udid}
 use Rattle.arp.specs.HistoryLaws.{reached-good}
+use Rattle.arp.specs.ToldLaws.{Known, told-known}
 use Rattle.arp.specs.Handing.{Kept}
 use Rattle.arp.specs.Sound.{Pending, PendingIn}
 use Rattle.arp.specs.Bindings.{findFrom, freedAt, freed, boundAt, bound}
-use Rattle.arp.specs.Controller.{handed, counted, asked, chosen, issued, replied, onReply, onPrepare, onGet, onAssign, afterPrepare, afterGet, afterAssign, byCommand, stepped}
-use Rattle.arp.specs.Heard.{sendByte, blockRead, blockWrite, answer, sentIn, receivedIn, isPrepare, isGet, isAssign}
+use Rattle.arp.specs.Controller.{handed, counted, asked, chosen, issued, replied, changed, stepped}
 use Rattle.arp.specs.History.{Event, Start, Received, run, oneGet, getsSent}
-use Rattle.arp.specs.declared.command.Command.the-variants.{Prepare, GetUdid, Assign}
+use Rattle.arp.specs.Replay.{noCommand}
+use Rattle.arp.specs.Told.{tells}
+use Rattle.arp.specs.declared.command.Command.the-variants.{GetUdid, Assign}
 use Rattle.arp.specs.declared.command.End.the-variants.{Ended, NoneFree, Abandoned, NotOutstanding}
 use Rattle.arp.specs.declared.command.Handed.{Handed}
 use Rattle.arp.specs.declared.command.Handed.the-variants.{Send, Wait}
 use Rattle.arp.specs.declared.state.Controller.{Controller}
 use Rattle.arp.specs.declared.state.Stepped.{Stepped}
+use Rattle.arp.specs.declared.told.Told.{Told}
+use Rattle.arp.specs.declared.told.Told.the-variants.{Again, Over, GivenUp, Reply, Took, Unasked}
 
 plain : (s : Controller) (k : Handed) → oneGet k ≡ 0 → Kept s (handed s k)
 plain s k e = record { last = refl; gets = omega arith }
@@ -71,52 +70,27 @@ module _ (s : Controller) where
   issued-handed u (At a) = from s (freed s u) (issued (freed s u) u (At a)) (freed-keeps-gets s u) (plain (freed s u) (Send (Assign u a)) refl)
   issued-handed u AllUsed = from s (freed s u) (issued (freed s u) u AllUsed) (freed-keeps-gets s u) (plain (freed s u) (Wait (NoneFree u)) refl)
 
-  reply-handed : (t : Transaction) (xs : List ℕ) → Kept s (onReply s t xs)
-  unfolding onReply replied
-  reply-handed t xs = go (isGet t) (eqb (t .received) 17)
-    where
-      go : (a b : Bool) → Kept s (pick a (pick b (issued (freed s (udidAt xs 0)) (udidAt xs 0) (chosen (freed s (udidAt xs 0) .pool) (udidAt xs 0) (getD xs 16 0))) (handed s (Wait Ended))) (asked s))
-      go true true = issued-handed (udidAt xs 0) (chosen (freed s (udidAt xs 0) .pool) (udidAt xs 0) (getD xs 16 0))
-      go true false = plain s (Wait Ended) refl
-      go false b = asked-handed s
+  -- whatever is told where a command is outstanding is handed out and kept
+  told-kept : (t : Told) → (t ≡ Unasked → ⊥) → Kept s (changed s t)
+  unfolding replied
+  told-kept Again n = asked-handed s
+  told-kept Over n = plain s (Wait Ended) refl
+  told-kept GivenUp n = plain s (Wait Abandoned) refl
+  told-kept (Reply u b) n = issued-handed u (chosen (freed s u .pool) u b)
+  told-kept (Took u a) n = from s (bound s u (a .0)) (asked (bound s u (a .0))) (bound-keeps-gets s u (a .0)) (asked-handed (bound s u (a .0)))
+  told-kept Unasked n = absurd (n refl)
 
-  pub prepare-handed : (a : Decoded) (xs : List ℕ) → Kept s (onPrepare s a xs)
-  prepare-handed (Done t) xs = go (isPrepare t xs)
-    where
-      go : (q : Bool) → Kept s (pick q (asked s) (handed s (Wait Abandoned)))
-      go true = asked-handed s
-      go false = plain s (Wait Abandoned) refl
-  prepare-handed (Refused w k) xs = go (isNack w)
-    where
-      go : (q : Bool) → Kept s (pick q (handed s (Wait Ended)) (handed s (Wait Abandoned)))
-      go true = plain s (Wait Ended) refl
-      go false = plain s (Wait Abandoned) refl
-
-  pub get-handed : (a : Decoded) (xs : List ℕ) → Kept s (onGet s a xs)
-  get-handed (Done t) xs = reply-handed t xs
-  get-handed (Refused w k) xs = go (and (isNack w) (ltb k 3))
-    where
-      go : (q : Bool) → Kept s (pick q (handed s (Wait Ended)) (asked s))
-      go true = plain s (Wait Ended) refl
-      go false = asked-handed s
-
-  pub assign-handed : (u : Udid) (n : ℕ) (a : Decoded) (xs : List ℕ) → Kept s (onAssign s u n a xs)
-  assign-handed u n (Done t) xs = go (isAssign u n t xs)
-    where
-      go : (q : Bool) → Kept s (pick q (asked (bound s u n)) (asked s))
-      go true = from s (bound s u n) (asked (bound s u n)) (bound-keeps-gets s u n) (asked-handed (bound s u n))
-      go false = asked-handed s
-  assign-handed u n (Refused w k) xs = asked-handed s
+  -- where a command was handed out last, what is handed out is kept
+  pub busy-handed : (k : Handed) (tr : List ℕ) → noCommand k ≡ false → Kept s (changed s (tells k tr))
+  busy-handed k tr n = told-kept (tells k tr) (λ e. not-both n (subst (Known k tr) e (told-known k tr)))
 
   -- 21 with the state as it was, or something handed out and kept
   pub step-21-or-handed : (tr : List ℕ) → ((stepped s tr .command ≡ Wait NotOutstanding) × (stepped s tr .state ≡ s)) ⊎ Kept s (stepped s tr)
-  unfolding stepped afterPrepare afterGet afterAssign
+  unfolding stepped
   step-21-or-handed tr = go (s .last)
     where
-      go : (k : Handed) → ((byCommand s tr k .command ≡ Wait NotOutstanding) × (byCommand s tr k .state ≡ s)) ⊎ Kept s (byCommand s tr k)
-      go (Send Prepare) = inr (prepare-handed (answer sendByte tr) (sentIn sendByte tr))
-      go (Send GetUdid) = inr (get-handed (answer blockRead tr) (receivedIn blockRead tr))
-      go (Send (Assign u a)) = inr (assign-handed u (a .0) (answer blockWrite tr) (sentIn blockWrite tr))
+      go : (k : Handed) → ((changed s (tells k tr) .command ≡ Wait NotOutstanding) × (changed s (tells k tr) .state ≡ s)) ⊎ Kept s (changed s (tells k tr))
+      go (Send k) = inr (busy-handed (Send k) tr refl)
       go (Wait e) = inl (refl, refl)
 
 -- the count in the state is that of the Get UDIDs handed out in this pass

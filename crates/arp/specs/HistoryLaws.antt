@@ -1,19 +1,12 @@
 -- Every state that starts and received traces reach is sound, so the invariant of specs/History.antt holds in it; and what a new controller is.
-use Prim.Native.Nat.{ℕ, zero, suc, _<_}
-use mathlib.Core.Path.{_≡_, refl, sym, ap, _∙_}
+use Prim.Native.Nat.{ℕ, _<_}
+use mathlib.Core.Path.{_≡_, refl, sym, ap, _∙_, subst}
 use mathlib.Core.Bool.{Bool, true, false}
 use mathlib.Core.List.{List, [], _∷_}
 use native.Mathlib.Omega.{arith}
-use lib.Dec.{ltb, leb, eqb}
-use lib.ListN.{length, getD, drop}
+use lib.Dec.{ltb, leb}
 use borrow.Author.Tests.{leb-false}
-use Rattle.lists.specs.Choice.{pick, and, or}
-use Rattle.lists.specs.Each.{Bytes}
-use Rattle.trace.specs.declared.transaction.Transaction.{Transaction}
-use Rattle.step.specs.Handed.{lows, receivedLength, receivedPlace}
-use Rattle.step.specs.Numbers.{isNack}
-use Rattle.step.specs.declared.answer.Decoded.{Decoded}
-use Rattle.step.specs.declared.answer.Decoded.the-variants.{Done, Refused}
+use Rattle.lists.specs.Choice.{pick, or}
 use Rattle.pool.specs.CountLaws.{count-split}
 use Rattle.pool.specs.Free.{used}
 use Rattle.pool.specs.Pools.{member}
@@ -21,36 +14,25 @@ use Rattle.pool.specs.Start.{startingPool}
 use Rattle.pool.specs.declared.Pool.{Pool}
 use Rattle.pool.specs.declared.free.Free.{Free}
 use Rattle.pool.specs.declared.free.Free.the-variants.{At, AllUsed}
-use Rattle.udid.specs.Bytes.{udidAt}
-use Rattle.udid.specs.UdidLaws.{fits-at}
 use Rattle.udid.specs.Udids.{Fits}
-use Rattle.udid.specs.WindowLaws.{byte-at}
 use Rattle.udid.specs.declared.Udid.{Udid}
 use Rattle.arp.specs.ChosenLaws.{chosen-small-and-free}
 use Rattle.arp.specs.SoundLaws.{sound-open, sound-freed, sound-bound}
 use Rattle.arp.specs.SlotsLaws.{open-all}
+use Rattle.arp.specs.ToldLaws.{Known, by-told}
 use Rattle.arp.specs.Sound.{SoundIn, Good, Pending, PendingIn, GoodState}
 use Rattle.arp.specs.Bindings.{findFrom, freedAt, freed, boundAt, bound}
 use Rattle.arp.specs.Slots.{heldAt}
-use Rattle.arp.specs.Controller.{handed, counted, asked, chosen, issued, replied, onReply, onPrepare, onGet, onAssign, afterPrepare, afterGet, afterAssign, byCommand, stepped, newController}
-use Rattle.arp.specs.Heard.{sendByte, blockRead, blockWrite, answer, sentIn, receivedIn, isPrepare, isGet, isAssign}
+use Rattle.arp.specs.Controller.{newController, handed, counted, asked, chosen, issued, replied, changed, stepped}
 use Rattle.arp.specs.History.{Event, Start, Received, run, isHeld, Invariant, New}
-use Rattle.arp.specs.declared.command.Command.the-variants.{Prepare, GetUdid, Assign}
+use Rattle.arp.specs.declared.command.Command.the-variants.{GetUdid, Assign}
 use Rattle.arp.specs.declared.command.End.the-variants.{Ended, Abandoned}
-use Rattle.arp.specs.declared.command.Handed.{Handed}
 use Rattle.arp.specs.declared.command.Handed.the-variants.{Send, Wait}
 use Rattle.arp.specs.declared.state.Binding.{Binding}
 use Rattle.arp.specs.declared.state.Binding.the-variants.{Bound, Claimed}
 use Rattle.arp.specs.declared.state.Controller.{Controller}
-
--- ---- data that the decoder hands over are bytes
-
-lows-bytes : (n : ℕ) (l : List ℕ) → Bytes (lows n l)
-lows-bytes zero l = tt
-lows-bytes (suc n) l = (omega arith, lows-bytes n (drop 2 l))
-
-pub received-are-bytes : (protocol : ℕ) (tr : List ℕ) → Bytes (receivedIn protocol tr)
-received-are-bytes protocol tr = lows-bytes (receivedLength (answer protocol tr)) (drop (receivedPlace true (receivedLength (answer protocol tr)) (length tr)) tr)
+use Rattle.arp.specs.declared.told.Told.{Told}
+use Rattle.arp.specs.declared.told.Told.the-variants.{Again, Over, GivenUp, Reply, Took, Unasked}
 
 -- ---- each function of the step keeps the state good
 
@@ -99,52 +81,17 @@ module _ (occupied : Pool) where
           (record { sound = v .sound; gets = v .gets; starting = v .starting }, record { small = c .0; unbound = sound-freed s u (g .sound) .1; fits = f; free = c .1 })
       go AllUsed e = (record { sound = v .sound; gets = v .gets; starting = v .starting }, tt)
 
-  good-reply : (s : Controller) (t : Transaction) (xs : List ℕ) → Good occupied s → Bytes xs → GoodState occupied (onReply s t xs .state)
-  unfolding onReply
-  good-reply s t xs g h = go (isGet t) (eqb (t .received) 17)
-    where
-      go : (p q : Bool) → GoodState occupied (pick p (pick q (replied s (udidAt xs 0) (getD xs 16 0)) (handed s (Wait Ended))) (asked s) .state)
-      go true true = good-replied s (udidAt xs 0) (getD xs 16 0) g (fits-at xs 0 h) (byte-at xs 16 h)
-      go true false = good-ended s g
-      go false q = good-asked s g
-
-  good-prepare : (s : Controller) (a : Decoded) (xs : List ℕ) → Good occupied s → GoodState occupied (onPrepare s a xs .state)
-  good-prepare s (Done t) xs g = go (isPrepare t xs)
-    where
-      go : (p : Bool) → GoodState occupied (pick p (asked s) (handed s (Wait Abandoned)) .state)
-      go true = good-asked s g
-      go false = good-abandoned s g
-  good-prepare s (Refused w k) xs g = go (isNack w)
-    where
-      go : (p : Bool) → GoodState occupied (pick p (handed s (Wait Ended)) (handed s (Wait Abandoned)) .state)
-      go true = good-ended s g
-      go false = good-abandoned s g
-
-  good-get : (s : Controller) (a : Decoded) (xs : List ℕ) → Good occupied s → Bytes xs → GoodState occupied (onGet s a xs .state)
-  good-get s (Done t) xs g h = good-reply s t xs g h
-  good-get s (Refused w k) xs g h = go (and (isNack w) (ltb k 3))
-    where
-      go : (p : Bool) → GoodState occupied (pick p (handed s (Wait Ended)) (asked s) .state)
-      go true = good-ended s g
-      go false = good-asked s g
-
-  good-assign : (s : Controller) (u : Udid) (n : ℕ) (a : Decoded) (xs : List ℕ) → Good occupied s → Pending s u n → GoodState occupied (onAssign s u n a xs .state)
-  good-assign s u n (Done t) xs g p = go (isAssign u n t xs)
-    where
-      go : (q : Bool) → GoodState occupied (pick q (asked (bound s u n)) (asked s) .state)
-      go true = good-asked (bound s u n) (good-bound s u n g p)
-      go false = good-asked s g
-  good-assign s u n (Refused w k) xs g p = good-asked s g
-
   pub step-keeps-good : (s : Controller) (tr : List ℕ) → GoodState occupied s → GoodState occupied (stepped s tr .state)
-  unfolding stepped afterPrepare afterGet afterAssign
-  step-keeps-good s tr g = go (s .last) (g .1)
+  unfolding stepped
+  step-keeps-good s tr g = by-told (λ (t : Told). GoodState occupied (changed s t .state)) s tr go
     where
-      go : (k : Handed) → PendingIn s k → GoodState occupied (byCommand s tr k .state)
-      go (Send Prepare) p = good-prepare s (answer sendByte tr) (sentIn sendByte tr) (g .0)
-      go (Send GetUdid) p = good-get s (answer blockRead tr) (receivedIn blockRead tr) (g .0) (received-are-bytes blockRead tr)
-      go (Send (Assign u a)) p = good-assign s u (a .0) (answer blockWrite tr) (sentIn blockWrite tr) (g .0) p
-      go (Wait e) p = g
+      go : (t : Told) → Known (s .last) tr t → GoodState occupied (changed s t .state)
+      go Again h = good-asked s (g .0)
+      go Over h = good-ended s (g .0)
+      go GivenUp h = good-abandoned s (g .0)
+      go (Reply u b) h = good-replied s u b (g .0) (h .0) (h .1)
+      go (Took u a) h = good-asked (bound s u (a .0)) (good-bound s u (a .0) (g .0) (subst (PendingIn s) (h .0) (g .1)))
+      go Unasked h = g
 
   -- EVERY STATE
   pub reached-good : (es : List Event) → GoodState occupied (run occupied es)

@@ -3,6 +3,7 @@ pub mod Slots
 pub mod State
 pub mod Bindings
 pub mod Heard
+pub mod Told
 pub mod Controller
 pub mod Lookup
 pub mod Numbers
@@ -22,6 +23,7 @@ pub mod StateLaws
 pub mod RequestLaws
 pub mod SendingLaws
 pub mod TraceLaws
+pub mod ToldLaws
 pub mod HeardLaws
 pub mod BindingLaws
 pub mod SoundLaws

@@ -7,15 +7,15 @@ use lib.ListN.{length, take, drop}
 use Rattle.trace.specs.Shapes.{shapeOf}
 use Rattle.step.specs.Handed.{lows, sentLength, sentPlace, receivedLength, receivedPlace}
 use Rattle.decode.specs.LongTraceLaws.{same-decoded, decoded-none}
-use Rattle.udid.specs.declared.Udid.{Udid}
 use Rattle.arp.specs.Heard.{sendByte, blockRead, blockWrite, answer, sentIn, receivedIn}
-use Rattle.arp.specs.Controller.{onPrepare, onGet, onAssign, afterPrepare, afterGet, afterAssign, byCommand, stepped}
+use Rattle.arp.specs.Controller.{changed, stepped}
+use Rattle.arp.specs.Told.{toldPrepare, toldGet, toldAssign, tells}
 use Rattle.arp.specs.declared.command.Command.the-variants.{Prepare, GetUdid, Assign}
 use Rattle.arp.specs.declared.command.Handed.{Handed}
 use Rattle.arp.specs.declared.command.Handed.the-variants.{Send, Wait}
 use Rattle.arp.specs.declared.state.Controller.{Controller}
 
-module _ (s : Controller) (tr : List ℕ) (long : 526 ≤ length tr) where
+module _ (tr : List ℕ) (long : 526 ≤ length tr) where
   -- the answer is that of the front
   same-answer : (protocol : ℕ) → answer protocol (take 526 tr) ≡ answer protocol tr
   same-answer protocol = same-decoded protocol true tr long
@@ -39,24 +39,12 @@ module _ (s : Controller) (tr : List ℕ) (long : 526 ≤ length tr) where
       ap (λ (n : ℕ). lows n (at n (take 526 tr))) (ap receivedLength (same-answer protocol) ∙ none-received protocol)
       ∙ ap (λ (n : ℕ). lows n (at n tr)) (sym (none-received protocol))
 
-  same-prepare : afterPrepare s (take 526 tr) ≡ afterPrepare s tr
-  unfolding afterPrepare
-  same-prepare = ap₂ (onPrepare s) (same-answer sendByte) (same-sent sendByte)
+  same-told : (k : Handed) → tells k (take 526 tr) ≡ tells k tr
+  same-told (Send Prepare) = ap₂ toldPrepare (same-answer sendByte) (same-sent sendByte)
+  same-told (Send GetUdid) = ap₂ toldGet (same-answer blockRead) (same-received blockRead)
+  same-told (Send (Assign u a)) = ap₂ (toldAssign u a) (same-answer blockWrite) (same-sent blockWrite)
+  same-told (Wait e) = refl
 
-  same-get : afterGet s (take 526 tr) ≡ afterGet s tr
-  unfolding afterGet
-  same-get = ap₂ (onGet s) (same-answer blockRead) (same-received blockRead)
-
-  same-assign : (u : Udid) (a : ℕ) → afterAssign s u a (take 526 tr) ≡ afterAssign s u a tr
-  unfolding afterAssign
-  same-assign u a = ap₂ (onAssign s u a) (same-answer blockWrite) (same-sent blockWrite)
-
-  pub step-of-front : stepped s (take 526 tr) ≡ stepped s tr
-  unfolding stepped
-  step-of-front = go (s .last)
-    where
-      go : (k : Handed) → byCommand s (take 526 tr) k ≡ byCommand s tr k
-      go (Send Prepare) = same-prepare
-      go (Send GetUdid) = same-get
-      go (Send (Assign u a)) = same-assign u (a .0)
-      go (Wait e) = refl
+pub step-of-front : (s : Controller) (tr : List ℕ) → 526 ≤ length tr → stepped s (take 526 tr) ≡ stepped s tr
+unfolding stepped
+step-of-front s tr long = ap (changed s) (same-told tr long (s .last))

@@ -89,7 +89,7 @@ reply-or-not s tr = go (answer blockRead tr) refl
     other d e n xs h l q = let w = is xs h l q in n (ap (λ (x : Decoded). decodeNumber x .0) (sym e ∙ w .1))
 
     done : (t : Transaction) → answer blockRead tr ≡ Done t → (b : Bool) → isGet t ≡ b → Reply tr ⊎ ((xs : List ℕ) → Bytes xs → length xs ≤ 255 → tr ≡ replyTrace xs → ⊥)
-    done t e true k = let d = complete-get-data-fits s tr t e in inl (receivedIn blockRead tr, d .0, d .1, complete-get-is-its-trace s tr t e k ∙ reply-symbols (receivedIn blockRead tr))
+    done t e true k = let d = complete-get-data-fits tr t e in inl (receivedIn blockRead tr, d .0, d .1, complete-get-is-its-trace tr t e k ∙ reply-symbols (receivedIn blockRead tr))
     done t e false k = inr (λ xs h l q. clash (is xs h l q))
       where
         clash : (t : Transaction) × (answer blockRead tr ≡ Done t) × (isGet t ≡ true) → ⊥

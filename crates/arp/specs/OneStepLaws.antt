@@ -34,10 +34,11 @@ use Rattle.arp.specs.OutstandingLaws.{idle-gives-21}
 use Rattle.arp.specs.RequestLaws.{reply-symbols, prepare-symbols, assign-symbols-small}
 use Rattle.arp.specs.SoundLaws.{bound-to-is-bound, open-is-not-bound, find-cases}
 use Rattle.arp.specs.SlotsLaws.{held-above-is-open, held-same, held-other}
+use Rattle.arp.specs.ToldLaws.{told-is-changed}
 use Rattle.arp.specs.TraceLaws as traces
 use Rattle.arp.specs.Sound.{Nowhere}
 use Rattle.arp.specs.Bindings.{boundTo, findFrom, freedAt, freed, bindingFor, boundAt, bound}
-use Rattle.arp.specs.Controller.{handed, counted, asked, chosen, issued, replied, onAssign, afterAssign, byCommand, stepped}
+use Rattle.arp.specs.Controller.{handed, counted, asked, chosen, issued, replied, changed, stepped}
 use Rattle.arp.specs.Heard.{blockWrite, answer, sentIn, isAssign}
 use Rattle.arp.specs.CommandTraces.{prepareTrace, replyTrace, assignTrace}
 use Rattle.arp.specs.OneStep.{Gives, Hands, Asks, Chooses, Keeps, Same, BoundAt, Unbinds, Binds, Continues, EndsWith, Replies}
@@ -52,6 +53,8 @@ use Rattle.arp.specs.declared.state.Binding.the-variants.{Open, Bound}
 use Rattle.arp.specs.declared.state.Controller.{Controller}
 use Rattle.arp.specs.declared.slots.Slots.{Slots}
 use Rattle.arp.specs.declared.state.Stepped.{Stepped}
+use Rattle.arp.specs.Told.{toldAssign, tells}
+use Rattle.arp.specs.declared.told.Told.the-variants.{Again, Over, GivenUp, Reply, Took}
 
 -- ---- what is handed out
 
@@ -232,58 +235,53 @@ module _ (s : Controller) (u : Udid) (b : ℕ) (f : Fits u) (size : Sized128 (s 
 -- ---- THE SENTENCES
 
 module _ (s : Controller) (tr : List ℕ) where
-  outstanding : (k : Handed) → s .last ≡ k → stepped s tr ≡ byCommand s tr k
-  unfolding stepped
-  outstanding k e = ap (byCommand s tr) e
-
   not-bound : (u : Udid) (n : ℕ) → 127 < n → bound s u n ≡ s
   unfolding bound
   not-bound u n h = rw (lt-ltb 127 n h)
 
-  nothing-bound : (u : Udid) (n : ℕ) → 127 < n → afterAssign s u n tr ≡ asked s
-  unfolding afterAssign
-  nothing-bound u n h = go (answer blockWrite tr) (sentIn blockWrite tr)
+  nothing-bound : (u : Udid) (a : Address) → s .last ≡ Send (Assign u a) → 127 < a .0 → stepped s tr ≡ asked s
+  nothing-bound u a e h = told-is-changed s tr (Send (Assign u a)) (tells (Send (Assign u a)) tr) e refl ∙ go (answer blockWrite tr) (sentIn blockWrite tr)
     where
-      either : (b : Bool) → pick b (asked (bound s u n)) (asked s) ≡ asked s
-      either true = ap asked (not-bound u n h)
+      either : (b : Bool) → changed s (pick b (Took u a) Again) ≡ asked s
+      either true = ap asked (not-bound u (a .0) h)
       either false = refl
 
-      go : (d : Decoded) (xs : List ℕ) → onAssign s u n d xs ≡ asked s
-      go (Done t) xs = either (isAssign u n t xs)
+      go : (d : Decoded) (xs : List ℕ) → changed s (toldAssign u a d xs) ≡ asked s
+      go (Done t) xs = either (isAssign u (a .0) t xs)
       go (Refused w k) xs = refl
 
   -- Prepare accepted: send Get UDID
   pub prepare-accepted : s .last ≡ Send Prepare → tr ≡ prepareTrace → Continues s (stepped s tr)
-  prepare-accepted e q = subst (Continues s) (sym (outstanding (Send Prepare) e ∙ traces.prepare-accepted s tr (q ∙ sym (prepare-symbols [])))) (continues s)
+  prepare-accepted e q = subst (Continues s) (sym (told-is-changed s tr (Send Prepare) Again e (traces.prepare-accepted tr (q ∙ sym (prepare-symbols []))))) (continues s)
 
   -- answer 6: the pass ends, nobody there
   pub prepare-nobody : s .last ≡ Send Prepare → (b : ℕ) → Gives 1 tr 6 b → EndsWith s (stepped s tr) (Wait Ended)
   prepare-nobody e b g =
-      subst (λ (r : Stepped). EndsWith s r (Wait Ended)) (sym (outstanding (Send Prepare) e ∙ traces.prepare-nobody s tr b (six-exactly 1 tr b refl .0 g))) (ends-with s (Wait Ended))
+      subst (λ (r : Stepped). EndsWith s r (Wait Ended)) (sym (told-is-changed s tr (Send Prepare) Over e (traces.prepare-nobody tr b (six-exactly 1 tr b refl .0 g)))) (ends-with s (Wait Ended))
 
   -- any other: 14
   pub prepare-other : s .last ≡ Send Prepare → (tr ≡ prepareTrace → ⊥) → ((b : ℕ) → Gives 1 tr 6 b → ⊥) → EndsWith s (stepped s tr) (Wait Abandoned)
   prepare-other e n m =
       subst (λ (r : Stepped). EndsWith s r (Wait Abandoned))
-      (sym (outstanding (Send Prepare) e ∙ traces.prepare-other s tr (λ q. n (q ∙ prepare-symbols [])) (λ b c. m b (six-exactly 1 tr b refl .1 c))))
+      (sym (told-is-changed s tr (Send Prepare) GivenUp e (traces.prepare-other tr (λ q. n (q ∙ prepare-symbols [])) (λ b c. m b (six-exactly 1 tr b refl .1 c)))))
       (ends-with s (Wait Abandoned))
 
   -- Get UDID: a complete reply whose count is not 17: the pass ends
   pub get-count : s .last ≡ Send GetUdid → (xs : List ℕ) → Bytes xs → length xs ≤ 255 → (length xs ≡ 17 → ⊥) → tr ≡ replyTrace xs → EndsWith s (stepped s tr) (Wait Ended)
   get-count e xs h l n q =
-      subst (λ (r : Stepped). EndsWith s r (Wait Ended)) (sym (outstanding (Send GetUdid) e ∙ traces.get-count s tr xs h l (q ∙ sym (reply-symbols xs)) n)) (ends-with s (Wait Ended))
+      subst (λ (r : Stepped). EndsWith s r (Wait Ended)) (sym (told-is-changed s tr (Send GetUdid) Over e (traces.get-count tr xs h l (q ∙ sym (reply-symbols xs)) n))) (ends-with s (Wait Ended))
 
   -- answer 6 at byte 0, 1 or 2: the pass ends
   pub get-nobody : s .last ≡ Send GetUdid → (b : ℕ) → b < 3 → Gives 9 tr 6 b → EndsWith s (stepped s tr) (Wait Ended)
   get-nobody e b l g =
-      subst (λ (r : Stepped). EndsWith s r (Wait Ended)) (sym (outstanding (Send GetUdid) e ∙ traces.get-nobody s tr b (six-exactly 9 tr b refl .0 g) l)) (ends-with s (Wait Ended))
+      subst (λ (r : Stepped). EndsWith s r (Wait Ended)) (sym (told-is-changed s tr (Send GetUdid) Over e (traces.get-nobody tr b (six-exactly 9 tr b refl .0 g) l))) (ends-with s (Wait Ended))
 
   -- any other refusal, another address or another command: Get UDID again
   pub get-again : s .last ≡ Send GetUdid → ((xs : List ℕ) → Bytes xs → length xs ≤ 255 → tr ≡ replyTrace xs → ⊥) → ((b : ℕ) → b < 3 → Gives 9 tr 6 b → ⊥)
       → Continues s (stepped s tr)
   get-again e n m =
       subst (Continues s)
-      (sym (outstanding (Send GetUdid) e ∙ traces.get-again s tr (λ xs h l q. n xs h l (q ∙ reply-symbols xs)) (λ b c l. m b l (six-exactly 9 tr b refl .1 c))))
+      (sym (told-is-changed s tr (Send GetUdid) Again e (traces.get-again tr (λ xs h l q. n xs h l (q ∙ reply-symbols xs)) (λ b c l. m b l (six-exactly 9 tr b refl .1 c)))))
       (continues s)
 
   -- a reply of 17 bytes
@@ -294,8 +292,8 @@ module _ (s : Controller) (tr : List ℕ) where
       let v : udidAt (udidBytes u ++ b ∷ []) 0 ≡ u = udid-back [] (b ∷ []) 0 u f refl in
       let g : getD (udidBytes u ++ b ∷ []) 16 0 ≡ b = getD-at (udidBytes u) b [] 0 16 (length-udid u) in
       subst (Replies s u b)
-      (sym (outstanding (Send GetUdid) e
-      ∙ traces.get-reply s tr (udidBytes u ++ b ∷ []) (append-bytes (udidBytes u) (b ∷ []) (udid-bytes u) (h, tt)) (omega arith) (q ∙ sym (reply-symbols (udidBytes u ++ b ∷ []))) n
+      (sym (told-is-changed s tr (Send GetUdid) (Reply (udidAt (udidBytes u ++ b ∷ []) 0) (getD (udidBytes u ++ b ∷ []) 16 0)) e
+      (traces.get-reply tr (udidBytes u ++ b ∷ []) (append-bytes (udidBytes u) (b ∷ []) (udid-bytes u) (h, tt)) (omega arith) (q ∙ sym (reply-symbols (udidBytes u ++ b ∷ []))) n)
       ∙ ap₂ (replied s) v g))
       (replies s u b f size)
 
@@ -304,7 +302,7 @@ module _ (s : Controller) (tr : List ℕ) where
       → Asks s (stepped s tr) × Binds u (a .0) s (stepped s tr .state)
   assign-whole size u a e f h q =
       subst (λ (r : Stepped). Asks s r × Binds u (a .0) s (r .state))
-      (sym (outstanding (Send (Assign u a)) e ∙ traces.assign-whole s u a tr f (q ∙ sym (assign-symbols-small u a h)))) (
+      (sym (told-is-changed s tr (Send (Assign u a)) (Took u a) e (traces.assign-whole u a tr f (q ∙ sym (assign-symbols-small u a h))))) (
         asks s (bound s u (a .0)) (bound-keeps-gets s u (a .0)) (starting-bound s u (a .0)),
         binds-kept u (a .0) s (bound s u (a .0)) (asked (bound s u (a .0)) .state) (binds s u (a .0) size h) (keeps-asked (bound s u (a .0))),
       )
@@ -312,11 +310,11 @@ module _ (s : Controller) (tr : List ℕ) where
   -- any other answer: no binding, Get UDID again
   pub assign-other : (u : Udid) (a : Address) → s .last ≡ Send (Assign u a) → a .0 < 128 → (tr ≡ assignTrace (udidBytes u) (2 * a .0) → ⊥) → Continues s (stepped s tr)
   assign-other u a e h n =
-      subst (Continues s) (sym (outstanding (Send (Assign u a)) e ∙ traces.assign-other s u a tr (λ q. n (q ∙ assign-symbols-small u a h)))) (continues s)
+      subst (Continues s) (sym (told-is-changed s tr (Send (Assign u a)) Again e (traces.assign-other u a tr (λ q. n (q ∙ assign-symbols-small u a h))))) (continues s)
 
   -- a number above 127 is no address: nothing is bound
   pub assign-no-address : (u : Udid) (a : Address) → s .last ≡ Send (Assign u a) → 127 < a .0 → Continues s (stepped s tr)
-  assign-no-address u a e h = subst (Continues s) (sym (outstanding (Send (Assign u a)) e ∙ nothing-bound u (a .0) h)) (continues s)
+  assign-no-address u a e h = subst (Continues s) (sym (nothing-bound u a e h)) (continues s)
 
   -- 21, and the state stays, where no command of a pass is outstanding
   pub none-outstanding : noCommand (s .last) ≡ true → (stepped s tr .state ≡ s) × (stepped s tr .command ≡ Wait NotOutstanding)

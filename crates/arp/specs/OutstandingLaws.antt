@@ -6,32 +6,30 @@ use mathlib.Core.Bool.{Bool, true, false}
 use mathlib.Core.List.{List, [], _∷_}
 use mathlib.Core.Logic.{inl, inr, _↔_}
 use native.Mathlib.Omega.{arith}
-use lib.Dec.{ltb, leb, eqb}
-use lib.ListN.{getD}
-use Rattle.lists.specs.Choice.{pick, and}
-use Rattle.trace.specs.declared.transaction.Transaction.{Transaction}
-use Rattle.step.specs.Numbers.{isNack}
-use Rattle.step.specs.declared.answer.Decoded.{Decoded}
-use Rattle.step.specs.declared.answer.Decoded.the-variants.{Done, Refused}
+use lib.Dec.{leb}
+use Rattle.lists.specs.Choice.{pick}
+use Rattle.lists.specs.ChoiceLaws.{not-both}
 use Rattle.pool.specs.declared.Pool.{Pool}
 use Rattle.pool.specs.declared.free.Free.{Free}
 use Rattle.pool.specs.declared.free.Free.the-variants.{At, AllUsed}
-use Rattle.udid.specs.Bytes.{udidAt}
 use Rattle.udid.specs.declared.Udid.{Udid}
-use Rattle.arp.specs.HandingLaws.{prepare-handed, get-handed, assign-handed}
+use Rattle.arp.specs.HandingLaws.{busy-handed}
+use Rattle.arp.specs.ToldLaws.{Known, told-known}
 use Rattle.arp.specs.Handing.{Kept}
 use Rattle.arp.specs.Bindings.{freed, bound}
-use Rattle.arp.specs.Controller.{newController, handed, counted, asked, chosen, issued, replied, onReply, onPrepare, onGet, onAssign, afterPrepare, afterGet, afterAssign, byCommand, stepped}
-use Rattle.arp.specs.Heard.{sendByte, blockRead, blockWrite, answer, sentIn, receivedIn, isPrepare, isGet, isAssign}
+use Rattle.arp.specs.Controller.{newController, handed, counted, asked, chosen, issued, replied, changed, stepped}
 use Rattle.arp.specs.History.{Event, Start, Received, run, tracesAlone}
 use Rattle.arp.specs.Numbers.{endNumber, commandNumber}
 use Rattle.arp.specs.Replay.{Other, readAs, handedOut, noCommand, SameOutstanding}
+use Rattle.arp.specs.Told.{tells}
 use Rattle.arp.specs.declared.command.Command.the-variants.{Prepare, GetUdid, Assign}
 use Rattle.arp.specs.declared.command.End.{End}
 use Rattle.arp.specs.declared.command.End.the-variants.{Nothing, Ended, NoneFree, Abandoned, NotOutstanding}
 use Rattle.arp.specs.declared.command.Handed.{Handed}
 use Rattle.arp.specs.declared.command.Handed.the-variants.{Send, Wait}
 use Rattle.arp.specs.declared.state.Controller.{Controller}
+use Rattle.arp.specs.declared.told.Told.{Told}
+use Rattle.arp.specs.declared.told.Told.the-variants.{Again, Over, GivenUp, Reply, Took, Unasked}
 
 -- ---- none is outstanding, or what is handed out is kept
 
@@ -40,7 +38,7 @@ pub idle-gives-21 : (s : Controller) (tr : List ℕ) → noCommand (s .last) ≡
 unfolding stepped
 idle-gives-21 s tr h = go (s .last) h
   where
-    go : (k : Handed) → noCommand k ≡ true → (byCommand s tr k .state ≡ s) × (byCommand s tr k .command ≡ Wait NotOutstanding)
+    go : (k : Handed) → noCommand k ≡ true → (changed s (tells k tr) .state ≡ s) × (changed s (tells k tr) .command ≡ Wait NotOutstanding)
     go (Send k) i = absurd (let z : _≡_ {A = ℕ} 0 1 = cc i in omega arith)
     go (Wait e) i = (refl, refl)
 
@@ -49,15 +47,9 @@ pub idle-untouched : (s : Controller) (tr : List ℕ) → noCommand (s .last) �
 idle-untouched s tr h = idle-gives-21 s tr h .0
 
 -- and otherwise something is handed out, and kept
-busy-handed : (s : Controller) (tr : List ℕ) → noCommand (s .last) ≡ false → Kept s (stepped s tr)
-unfolding stepped afterPrepare afterGet afterAssign
-busy-handed s tr h = go (s .last) h
-  where
-    go : (k : Handed) → noCommand k ≡ false → Kept s (byCommand s tr k)
-    go (Send Prepare) i = prepare-handed s (answer sendByte tr) (sentIn sendByte tr)
-    go (Send GetUdid) i = get-handed s (answer blockRead tr) (receivedIn blockRead tr)
-    go (Send (Assign u a)) i = assign-handed s u (a .0) (answer blockWrite tr) (sentIn blockWrite tr)
-    go (Wait e) i = absurd (let z : _≡_ {A = ℕ} 0 1 = cc i in omega arith)
+busy-keeps : (s : Controller) (tr : List ℕ) → noCommand (s .last) ≡ false → Kept s (stepped s tr)
+unfolding stepped
+busy-keeps s tr h = busy-handed s (s .last) tr h
 
 -- THE COMMAND OUTSTANDING is the one that was handed out last
 pub last-is-handed-out : (occupied : Pool) (es : List Event) → SameOutstanding (run occupied es .last) (handedOut occupied es)
@@ -70,7 +62,7 @@ last-is-handed-out occupied (Received tr ∷ es) = go (noCommand (run occupied e
     go true e =
         let h = idle-gives-21 (run occupied es) tr e in
         inr (ap (λ (s : Controller). noCommand (s .last)) (h .0) ∙ e, ap noCommand (h .1))
-    go false e = inl (busy-handed (run occupied es) tr e .last)
+    go false e = inl (busy-keeps (run occupied es) tr e .last)
 
 idle-reads : (k : Handed) (tr : List ℕ) → noCommand k ≡ true → readAs k tr ≡ Other
 idle-reads (Send Prepare) tr i = refl
@@ -125,51 +117,21 @@ issued-not s u (At a) = refl
 issued-not s u AllUsed = refl
 
 module _ (s : Controller) where
-  prepare-not : (d : Decoded) (xs : List ℕ) → is-21 (onPrepare s d xs .command) ≡ false
-  prepare-not (Done t) xs = go (isPrepare t xs)
-    where
-      go : (q : Bool) → is-21 (pick q (asked s) (handed s (Wait Abandoned)) .command) ≡ false
-      go true = asked-not s
-      go false = refl
-  prepare-not (Refused w k) xs = go (isNack w)
-    where
-      go : (q : Bool) → is-21 (pick q (handed s (Wait Ended)) (handed s (Wait Abandoned)) .command) ≡ false
-      go true = refl
-      go false = refl
-
-  reply-not : (t : Transaction) (xs : List ℕ) → is-21 (onReply s t xs .command) ≡ false
-  unfolding onReply replied
-  reply-not t xs = go (isGet t) (eqb (t .received) 17)
-    where
-      go : (p q : Bool) → is-21 (pick p (pick q (issued (freed s (udidAt xs 0)) (udidAt xs 0) (chosen (freed s (udidAt xs 0) .pool) (udidAt xs 0) (getD xs 16 0))) (handed s (Wait Ended))) (asked s) .command) ≡ false
-      go true true = issued-not (freed s (udidAt xs 0)) (udidAt xs 0) (chosen (freed s (udidAt xs 0) .pool) (udidAt xs 0) (getD xs 16 0))
-      go true false = refl
-      go false q = asked-not s
-
-  get-not : (d : Decoded) (xs : List ℕ) → is-21 (onGet s d xs .command) ≡ false
-  get-not (Done t) xs = reply-not t xs
-  get-not (Refused w k) xs = go (and (isNack w) (ltb k 3))
-    where
-      go : (q : Bool) → is-21 (pick q (handed s (Wait Ended)) (asked s) .command) ≡ false
-      go true = refl
-      go false = asked-not s
-
-  assign-not : (u : Udid) (n : ℕ) (d : Decoded) (xs : List ℕ) → is-21 (onAssign s u n d xs .command) ≡ false
-  assign-not u n (Done t) xs = go (isAssign u n t xs)
-    where
-      go : (q : Bool) → is-21 (pick q (asked (bound s u n)) (asked s) .command) ≡ false
-      go true = asked-not (bound s u n)
-      go false = asked-not s
-  assign-not u n (Refused w k) xs = asked-not s
+  told-not : (k : Handed) (tr : List ℕ) → noCommand k ≡ false → (t : Told) → Known k tr t → is-21 (changed s t .command) ≡ false
+  unfolding replied
+  told-not k tr n Again h = asked-not s
+  told-not k tr n Over h = refl
+  told-not k tr n GivenUp h = refl
+  told-not k tr n (Reply u b) h = issued-not (freed s u) u (chosen (freed s u .pool) u b)
+  told-not k tr n (Took u a) h = asked-not (bound s u (a .0))
+  told-not k tr n Unasked h = not-both n h
 
   command-21 : (tr : List ℕ) → is-21 (stepped s tr .command) ≡ noCommand (s .last)
-  unfolding stepped afterPrepare afterGet afterAssign
+  unfolding stepped
   command-21 tr = go (s .last)
     where
-      go : (k : Handed) → is-21 (byCommand s tr k .command) ≡ noCommand k
-      go (Send Prepare) = prepare-not (answer sendByte tr) (sentIn sendByte tr)
-      go (Send GetUdid) = get-not (answer blockRead tr) (receivedIn blockRead tr)
-      go (Send (Assign u a)) = assign-not u (a .0) (answer blockWrite tr) (sentIn blockWrite tr)
+      go : (k : Handed) → is-21 (changed s (tells k tr) .command) ≡ noCommand k
+      go (Send k) = told-not (Send k) tr refl (tells (Send k) tr) (told-known (Send k) tr)
       go (Wait e) = refl
 
   -- 21 IS GIVEN EXACTLY where no command of a pass is outstanding, from every state

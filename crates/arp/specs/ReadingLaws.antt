@@ -26,7 +26,7 @@ use Rattle.udid.specs.UdidLaws.{length-udid, udid-bytes, udid-back}
 use Rattle.udid.specs.Udids.{Fits, sameUdid}
 use Rattle.udid.specs.declared.Udid.{Udid}
 use Rattle.arp.specs.HeardLaws.{length-lows, reply-is-decode, assign-is-decode, next-prepare-is-decode, next-reply-is-decode}
-use Rattle.arp.specs.HistoryLaws.{received-are-bytes}
+use Rattle.arp.specs.ToldLaws.{received-are-bytes}
 use Rattle.arp.specs.RequestLaws.{valid-get, valid-assign, seventeen-bytes-are-udid-and-byte, reply-symbols, assign-symbols-small}
 use Rattle.arp.specs.TraceLaws.{decoded-back, complete-get-is-its-trace, assign-data-is-assign, complete-assign-is-its-trace}
 use Rattle.arp.specs.Controller.{newController}
@@ -65,7 +65,7 @@ reads-assign-exactly u a tr f h = (λ e. only (answer 8 tr) refl e, λ e. ap (re
 
     done : (t : Transaction) → answer 8 tr ≡ Done t → (q : Bool) → isAssign u (a .0) t (sentIn 8 tr) ≡ q → pick q (Assigned u (a .0)) Other ≡ Assigned u (a .0)
         → tr ≡ traceOf (Send (Assign u a)) []
-    done t e true k g = complete-assign-is-its-trace (newController emptyPool) u a tr t e k
+    done t e true k g = complete-assign-is-its-trace u a tr t e k
     done t e false k g = absurd (differ g)
 
     only : (d : Decoded) → answer 8 tr ≡ d → assignIn u (a .0) d (sentIn 8 tr) ≡ Assigned u (a .0) → tr ≡ traceOf (Send (Assign u a)) []
@@ -96,7 +96,7 @@ read-as-reply-is-get-udid tr u e = only (answer 9 tr) refl e
     done : (t : Transaction) → answer 9 tr ≡ Done t → (p : Bool) → isGet t ≡ p → (q : Bool) → eqb (t .received) 17 ≡ q
         → pick p (pick q (Replied (udidAt (receivedIn 9 tr) 0)) Other) Other ≡ Replied u
         → (tr ≡ traceOf (Send GetUdid) (receivedIn 9 tr)) × (udidAt (receivedIn 9 tr) 0 ≡ u) × (length (receivedIn 9 tr) ≡ 17)
-    done t k true g true n m = (complete-get-is-its-trace (newController emptyPool) tr t k g, same m, count t k (eqb-true (t .received) 17 n))
+    done t k true g true n m = (complete-get-is-its-trace tr t k g, same m, count t k (eqb-true (t .received) 17 n))
     done t k true g false n m = absurd (differ m)
     done t k false g q n m = absurd (differ m)
 

@@ -1,6 +1,6 @@
 -- What the reader of the slots gives after the writer and at the start (specs/Slots.antt).
 use Prim.Native.Nat.{ℕ, _≤_, _<_}
-use mathlib.Core.Path.{_≡_, sym, ap, _∙_}
+use mathlib.Core.Path.{_≡_, refl, sym, ap, _∙_}
 use mathlib.Core.Bool.{Bool, true, false}
 use mathlib.Core.Logic.{_⊎_, inl, inr}
 use native.Mathlib.Decide.{ℕ-discrete}
@@ -31,15 +31,16 @@ pub held-open : (s : Slots) (a : ℕ) → member (s .bound) a ≡ false → memb
 unfolding heldAt
 held-open s a e f = rw (e, f)
 
--- the set of bound addresses tells where a target is bound
-pub bound-tells : (f : Binding → Bool) → ((u : Udid) → f (Bound u) ≡ true) → f Claimed ≡ false → f Open ≡ false → (s : Slots) (a : ℕ) → member (s .bound) a ≡ f (heldAt s a)
+-- what treats an open and a claimed address alike asks the set of bound addresses, and the identifier that is kept, alone
+pub by-bound : {A : Type 0} (f : Binding → A) (none : A) → f Claimed ≡ none → f Open ≡ none → (s : Slots) (a : ℕ)
+    → f (heldAt s a) ≡ pick (member (s .bound) a) (f (Bound (keptUdid s a))) none
 unfolding heldAt
-bound-tells f b k o s a = go (member (s .bound) a) (member (s .claimed) a)
+by-bound f none k o s a = go (member (s .bound) a) (member (s .claimed) a)
   where
-    go : (x y : Bool) → x ≡ f (pick x (Bound (keptUdid s a)) (pick y Claimed Open))
-    go true y = sym (b (keptUdid s a))
-    go false true = sym k
-    go false false = sym o
+    go : (x y : Bool) → f (pick x (Bound (keptUdid s a)) (pick y Claimed Open)) ≡ pick x (f (Bound (keptUdid s a))) none
+    go true y = refl
+    go false true = k
+    go false false = o
 
 -- past the last address nothing is held
 pub held-above-is-open : (s : Slots) (a : ℕ) → 128 ≤ a → heldAt s a ≡ Open

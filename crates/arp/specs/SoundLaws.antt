@@ -6,9 +6,10 @@ use mathlib.Core.List.{List, [], _∷_}
 use mathlib.Core.Logic.{_⊎_, inl, inr}
 use native.Mathlib.Decide.{ℕ-discrete, decLt}
 use native.Mathlib.Omega.{arith}
-use lib.Dec.{ltb}
+use lib.Dec.{ltb, eqb}
+use lib.ListN.{getD}
 use borrow.Author.Tests.{lt-ltb, le-ltb}
-use Rattle.lists.specs.Choice.{pick, or}
+use Rattle.lists.specs.Choice.{pick, and, or}
 use Rattle.pool.specs.MemberLaws.{has-with-same, has-with-other, has-without-same, has-without-other}
 use Rattle.pool.specs.Pools.{member, withAddress, withoutAddress}
 use Rattle.pool.specs.declared.Pool.{Pool}
@@ -18,8 +19,8 @@ use Rattle.arp.specs.Sound.{Sound, SoundIn, Unbound, Nowhere}
 use Rattle.arp.specs.BindingLaws.{bound-in-is}
 use Rattle.arp.specs.Bindings.{boundIn, isOnly, boundTo, findFrom, freedAt, freed, bindingFor, bound}
 use Rattle.arp.specs.History.{isHeld}
-use Rattle.arp.specs.Slots.{heldAt, withBinding, noBindings}
-use Rattle.arp.specs.SlotsLaws.{held-above-is-open, held-same, held-other, held-cases, open-all, sized-none, sized-with}
+use Rattle.arp.specs.Slots.{keptUdid, heldAt, withBinding, noBindings}
+use Rattle.arp.specs.SlotsLaws.{by-bound, held-above-is-open, held-same, held-other, held-cases, open-all, sized-none, sized-with}
 use Rattle.arp.specs.declared.state.Binding.{Binding}
 use Rattle.arp.specs.declared.state.Binding.the-variants.{Open, Bound}
 use Rattle.arp.specs.declared.state.Controller.{Controller}
@@ -52,6 +53,14 @@ sound-open p = record {
 }
 
 -- ---- the search for an identifier
+
+-- bound to u: the address is in the set of bound ones, and both halves kept for it are those of u
+pub bound-by-halves : (s : Slots) (a : ℕ) (u : Udid) → boundTo u (heldAt s a) ≡ and (member (s .bound) a) (and (eqb (getD (s .high) a 0) (u .high)) (eqb (getD (s .low) a 0) (u .low)))
+bound-by-halves s a u = by-bound (boundTo u) false refl refl s a ∙ both (member (s .bound) a)
+  where
+    both : (b : Bool) → pick b (boundTo u (Bound (keptUdid s a))) false ≡ and b (and (eqb (getD (s .high) a 0) (u .high)) (eqb (getD (s .low) a 0) (u .low)))
+    both true = refl
+    both false = refl
 
 pub find-cases : (u : Udid) (slots : Slots) (n a : ℕ) → a + n ≡ 128
     → ((findFrom u slots n a ≡ 128) × Nowhere u slots a) ⊎ ((findFrom u slots n a < 128) × (boundTo u (heldAt slots (findFrom u slots n a)) ≡ true))

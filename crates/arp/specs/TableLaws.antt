@@ -32,7 +32,7 @@ use Rattle.arp.specs.SlotsLaws.{held-above-is-open, held-same, held-othe
 use Rattle.arp.specs.Sound.{SoundIn, Nowhere, PendingIn}
 use Rattle.arp.specs.Bindings.{boundTo, findFrom, freedAt, freed, bindingFor, boundAt, bound}
 use Rattle.arp.specs.Slots.{Sized128, heldAt, withBinding}
-use Rattle.arp.specs.Controller.{newController, started, handed, counted, asked, chosen, issued, replied, onReply, onPrepare, onGet, onAssign, afterPrepare, afterGet, afterAssign, byCommand, stepped}
+use Rattle.arp.specs.Controller.{newController, started, handed, counted, asked, chosen, issued, replied, stepped, changed}
 use Rattle.arp.specs.Heard.{sendByte, blockRead, blockWrite, answer, sentIn, receivedIn, isPrepare, isGet, isAssign}
 use Rattle.arp.specs.History.{Event, Start, Received, run}
 use Rattle.arp.specs.Lookup.{lookedUp}
@@ -45,6 +45,8 @@ use Rattle.arp.specs.declared.command.Handed.the-variants.{Send, Wait}
 use Rattle.arp.specs.declared.state.Binding.{Binding}
 use Rattle.arp.specs.declared.state.Binding.the-variants.{Open, Bound, Claimed}
 use Rattle.arp.specs.declared.state.Controller.{Controller}
+use Rattle.arp.specs.Told.{toldPrepare, toldReply, toldGet, toldAssign, tells}
+use Rattle.arp.specs.declared.told.Told.the-variants.{Again, Over, GivenUp, Reply, Took}
 
 tables : (t r : Table) → ((a : ℕ) → t .held a ≡ r .held a) → ((a : ℕ) → t .used a ≡ r .used a) → t ≡ r
 tables t r h u = ap₂ (λ (x : ℕ → Binding) (y : ℕ → Bool). record { held = x; used = y }) (fun-ext h) (fun-ext u)
@@ -156,51 +158,50 @@ module _ (starting : ℕ → Bool) (s : Controller) (u : Udid) (b : ℕ) (l : Si
 -- ---- each trace
 
 module _ (starting : ℕ → Bool) (s : Controller) (v : SoundIn s) where
-  prepare-view : (d : Decoded) (xs : List ℕ) → view (onPrepare s d xs .state) ≡ view s
+  prepare-view : (d : Decoded) (xs : List ℕ) → view (changed s (toldPrepare d xs) .state) ≡ view s
   prepare-view (Done t) xs = go (isPrepare t xs)
     where
-      go : (q : Bool) → view (pick q (asked s) (handed s (Wait Abandoned)) .state) ≡ view s
+      go : (q : Bool) → view (changed s (pick q Again GivenUp) .state) ≡ view s
       go true = asked-view s
       go false = refl
   prepare-view (Refused w k) xs = go (isNack w)
     where
-      go : (q : Bool) → view (pick q (handed s (Wait Ended)) (handed s (Wait Abandoned)) .state) ≡ view s
+      go : (q : Bool) → view (changed s (pick q Over GivenUp) .state) ≡ view s
       go true = refl
       go false = refl
 
-  reply-view : (t : Transaction) (xs : List ℕ) → view (onReply s t xs .state) ≡ after starting (replyIn (Done t) xs) (view s)
-  unfolding onReply
+  reply-view : (t : Transaction) (xs : List ℕ) → view (changed s (toldReply t xs) .state) ≡ after starting (replyIn (Done t) xs) (view s)
   reply-view t xs = go (isGet t) (eqb (t .received) 17)
     where
-      go : (p q : Bool) → view (pick p (pick q (replied s (udidAt xs 0) (getD xs 16 0)) (handed s (Wait Ended))) (asked s) .state)
+      go : (p q : Bool) → view (changed s (pick p (pick q (Reply (udidAt xs 0) (getD xs 16 0)) Over) Again) .state)
           ≡ after starting (pick p (pick q (Replied (udidAt xs 0)) Other) Other) (view s)
       go true true = replied-view starting s v (udidAt xs 0) (getD xs 16 0)
       go true false = refl
       go false q = asked-view s
 
-  get-view : (d : Decoded) (xs : List ℕ) → view (onGet s d xs .state) ≡ after starting (replyIn d xs) (view s)
+  get-view : (d : Decoded) (xs : List ℕ) → view (changed s (toldGet d xs) .state) ≡ after starting (replyIn d xs) (view s)
   get-view (Done t) xs = reply-view t xs
   get-view (Refused w k) xs = go (and (isNack w) (ltb k 3))
     where
-      go : (q : Bool) → view (pick q (handed s (Wait Ended)) (asked s) .state) ≡ view s
+      go : (q : Bool) → view (changed s (pick q Over Again) .state) ≡ view s
       go true = refl
       go false = asked-view s
 
   module _ (u : Udid) (n : ℕ) (h : n < 128) where
-    assign-view : (d : Decoded) (xs : List ℕ) → view (onAssign s u n d xs .state) ≡ after starting (assignIn u n d xs) (view s)
+    assign-view : (d : Decoded) (xs : List ℕ) → view (changed s (toldAssign u (record { 0 = n }) d xs) .state) ≡ after starting (assignIn u n d xs) (view s)
     assign-view (Done t) xs =
         go (isAssign u n t xs) ∙ ap (λ (q : Bool). after starting (pick q (Assigned u n) Other) (view s)) (is-assign-below-128 u n h t xs)
       where
-        go : (q : Bool) → view (pick q (asked (bound s u n)) (asked s) .state) ≡ after starting (pick q (Assigned u n) Other) (view s)
+        go : (q : Bool) → view (changed s (pick q (Took u (record { 0 = n })) Again) .state) ≡ after starting (pick q (Assigned u n) Other) (view s)
         go true = asked-view (bound s u n) ∙ bound-view starting s u n (v .size) h
         go false = asked-view s
     assign-view (Refused w k) xs = asked-view s
 
   step-view : PendingIn s (s .last) → (tr : List ℕ) → view (stepped s tr .state) ≡ after starting (readAs (s .last) tr) (view s)
-  unfolding stepped afterPrepare afterGet afterAssign
+  unfolding stepped
   step-view p tr = go (s .last) p
     where
-      go : (k : Handed) → PendingIn s k → view (byCommand s tr k .state) ≡ after starting (readAs k tr) (view s)
+      go : (k : Handed) → PendingIn s k → view (changed s (tells k tr) .state) ≡ after starting (readAs k tr) (view s)
       go (Send Prepare) q = prepare-view (answer sendByte tr) (sentIn sendByte tr)
       go (Send GetUdid) q = get-view (answer blockRead tr) (receivedIn blockRead tr)
       go (Send (Assign u a)) q = assign-view u (a .0) (q .small) (answer blockWrite tr) (sentIn blockWrite tr)

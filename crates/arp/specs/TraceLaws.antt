@@ -32,14 +32,12 @@ use Rattle.udid.specs.UdidLaws.{length-udid, udid-back, bytes-back, same-equal,
 use Rattle.udid.specs.Udids.{Fits, sameUdid}
 use Rattle.udid.specs.declared.Udid.{Udid}
 use Rattle.arp.specs.RequestLaws.{valid-prepare, valid-get, assign-data-has-17-bytes, valid-assign}
-use Rattle.arp.specs.Bindings.{bound}
-use Rattle.arp.specs.Controller.{asked, handed, replied, onReply, onPrepare, onGet, onAssign, afterPrepare, afterGet, afterAssign}
 use Rattle.arp.specs.Heard.{sendByte, blockRead, blockWrite, answer, sentIn, receivedIn, isCommand, isPrepare, isGet, names, isAssign}
 use Rattle.arp.specs.Requests.{assignData, messageOf, traceOf}
+use Rattle.arp.specs.Told.{toldPrepare, toldGet, toldAssign, tells}
 use Rattle.arp.specs.declared.command.Command.the-variants.{Prepare, GetUdid, Assign}
-use Rattle.arp.specs.declared.command.End.the-variants.{Ended, Abandoned}
-use Rattle.arp.specs.declared.command.Handed.the-variants.{Send, Wait}
-use Rattle.arp.specs.declared.state.Controller.{Controller}
+use Rattle.arp.specs.declared.command.Handed.the-variants.{Send}
+use Rattle.arp.specs.declared.told.Told.the-variants.{Again, Over, GivenUp, Reply, Took}
 
 -- ---- what the decoder says of them
 
@@ -72,7 +70,7 @@ empty (x ∷ xs) e = absurd (omega arith)
 
 -- ---- Prepare To ARP
 
-module _ (s : Controller) (tr : List ℕ) where
+module _ (tr : List ℕ) where
   -- a complete trace that is Prepare To ARP is its trace
   prepare-only : (t : Transaction) → answer sendByte tr ≡ Done t → isPrepare t (sentIn sendByte tr) ≡ true → tr ≡ traceOf (Send Prepare) []
   prepare-only t e h =
@@ -91,38 +89,35 @@ module _ (s : Controller) (tr : List ℕ) where
       byte (x ∷ y ∷ xs) l d = absurd (omega arith)
 
   -- accepted: Get UDID
-  pub prepare-accepted : tr ≡ traceOf (Send Prepare) [] → afterPrepare s tr ≡ asked s
-  unfolding afterPrepare
+  pub prepare-accepted : tr ≡ traceOf (Send Prepare) [] → tells (Send Prepare) tr ≡ Again
   prepare-accepted e =
       let b = decoded-back sendByte (messageOf (Send Prepare) []) valid-prepare in
-      ap (λ (x : List ℕ). onPrepare s (answer sendByte x) (sentIn sendByte x)) e
-      ∙ ap₂ (onPrepare s) (b .0) (b .1)
+      ap (λ (x : List ℕ). toldPrepare (answer sendByte x) (sentIn sendByte x)) e
+      ∙ ap₂ toldPrepare (b .0) (b .1)
 
   -- answer 6: the pass ends
-  pub prepare-nobody : (b : ℕ) → CutAt (shapeOf sendByte) true tr b → afterPrepare s tr ≡ handed s (Wait Ended)
-  unfolding afterPrepare
-  prepare-nobody b h = ap (λ (x : Decoded). onPrepare s x (sentIn sendByte tr)) (cut sendByte tr b h)
+  pub prepare-nobody : (b : ℕ) → CutAt (shapeOf sendByte) true tr b → tells (Send Prepare) tr ≡ Over
+  prepare-nobody b h = ap (λ (x : Decoded). toldPrepare x (sentIn sendByte tr)) (cut sendByte tr b h)
 
   -- any other: 14
-  pub prepare-other : (tr ≡ traceOf (Send Prepare) [] → ⊥) → ((b : ℕ) → CutAt (shapeOf sendByte) true tr b → ⊥) → afterPrepare s tr ≡ handed s (Wait Abandoned)
-  unfolding afterPrepare
+  pub prepare-other : (tr ≡ traceOf (Send Prepare) [] → ⊥) → ((b : ℕ) → CutAt (shapeOf sendByte) true tr b → ⊥) → tells (Send Prepare) tr ≡ GivenUp
   prepare-other n k = go (answer sendByte tr) refl
     where
-      done : (t : Transaction) → answer sendByte tr ≡ Done t → (b : Bool) → isPrepare t (sentIn sendByte tr) ≡ b → pick b (asked s) (handed s (Wait Abandoned)) ≡ handed s (Wait Abandoned)
+      done : (t : Transaction) → answer sendByte tr ≡ Done t → (b : Bool) → isPrepare t (sentIn sendByte tr) ≡ b → pick b Again GivenUp ≡ GivenUp
       done t e true h = absurd (n (prepare-only t e h))
       done t e false h = refl
 
-      nack : (w : Refusal) (b : ℕ) → answer sendByte tr ≡ Refused w b → (p : Bool) → isNack w ≡ p → pick p (handed s (Wait Ended)) (handed s (Wait Abandoned)) ≡ handed s (Wait Abandoned)
+      nack : (w : Refusal) (b : ℕ) → answer sendByte tr ≡ Refused w b → (p : Bool) → isNack w ≡ p → pick p Over GivenUp ≡ GivenUp
       nack w b e true g = absurd (k b (cut-back sendByte tr w b e g))
       nack w b e false g = refl
 
-      go : (x : Decoded) → answer sendByte tr ≡ x → onPrepare s x (sentIn sendByte tr) ≡ handed s (Wait Abandoned)
+      go : (x : Decoded) → answer sendByte tr ≡ x → toldPrepare x (sentIn sendByte tr) ≡ GivenUp
       go (Done t) e = done t e (isPrepare t (sentIn sendByte tr)) refl
       go (Refused w i) e = nack w i e (isNack w) refl
 
 -- ---- Get UDID
 
-module _ (s : Controller) (tr : List ℕ) where
+module _ (tr : List ℕ) where
   -- a complete trace that is Get UDID is its trace, with some reply
   pub complete-get-is-its-trace : (t : Transaction) → answer blockRead tr ≡ Done t → isGet t ≡ true → tr ≡ traceOf (Send GetUdid) (receivedIn blockRead tr)
   complete-get-is-its-trace t e h =
@@ -142,42 +137,39 @@ module _ (s : Controller) (tr : List ℕ) where
 
   -- the decoder's answer for Get UDID with a reply
   module _ (xs : List ℕ) (h : Bytes xs) (l : length xs ≤ 255) (e : tr ≡ traceOf (Send GetUdid) xs) where
-    get-is : afterGet s tr ≡ pick (eqb (length xs) 17) (replied s (udidAt xs 0) (getD xs 16 0)) (handed s (Wait Ended))
-    unfolding afterGet onReply
+    get-is : tells (Send GetUdid) tr ≡ pick (eqb (length xs) 17) (Reply (udidAt xs 0) (getD xs 16 0)) Over
     get-is =
         let b = decoded-back blockRead (messageOf (Send GetUdid) xs) (valid-get xs h l) in
-        ap (λ (x : List ℕ). onGet s (answer blockRead x) (receivedIn blockRead x)) e
-        ∙ ap₂ (onGet s) (b .0) (b .2)
+        ap (λ (x : List ℕ). toldGet (answer blockRead x) (receivedIn blockRead x)) e
+        ∙ ap₂ toldGet (b .0) (b .2)
 
     -- a count that is not 17: the pass ends
-    pub get-count : (length xs ≡ 17 → ⊥) → afterGet s tr ≡ handed s (Wait Ended)
-    get-count n = get-is ∙ ap (λ (b : Bool). pick b (replied s (udidAt xs 0) (getD xs 16 0)) (handed s (Wait Ended))) (ne-eqb (length xs) 17 n)
+    pub get-count : (length xs ≡ 17 → ⊥) → tells (Send GetUdid) tr ≡ Over
+    get-count n = get-is ∙ ap (λ (b : Bool). pick b (Reply (udidAt xs 0) (getD xs 16 0)) Over) (ne-eqb (length xs) 17 n)
 
     -- 17 bytes: the identifier and the address byte
-    pub get-reply : length xs ≡ 17 → afterGet s tr ≡ replied s (udidAt xs 0) (getD xs 16 0)
-    get-reply n = get-is ∙ ap (λ (b : Bool). pick b (replied s (udidAt xs 0) (getD xs 16 0)) (handed s (Wait Ended))) (eq-eqb (length xs) 17 n)
+    pub get-reply : length xs ≡ 17 → tells (Send GetUdid) tr ≡ Reply (udidAt xs 0) (getD xs 16 0)
+    get-reply n = get-is ∙ ap (λ (b : Bool). pick b (Reply (udidAt xs 0) (getD xs 16 0)) Over) (eq-eqb (length xs) 17 n)
 
   -- answer 6 at byte 0, 1 or 2: the pass ends
-  pub get-nobody : (b : ℕ) → CutAt (shapeOf blockRead) true tr b → b < 3 → afterGet s tr ≡ handed s (Wait Ended)
-  unfolding afterGet
-  get-nobody b h l = ap (λ (x : Decoded). onGet s x (receivedIn blockRead tr)) (cut blockRead tr b h) ∙ ap (λ (q : Bool). pick q (handed s (Wait Ended)) (asked s)) (lt-ltb b 3 l)
+  pub get-nobody : (b : ℕ) → CutAt (shapeOf blockRead) true tr b → b < 3 → tells (Send GetUdid) tr ≡ Over
+  get-nobody b h l = ap (λ (x : Decoded). toldGet x (receivedIn blockRead tr)) (cut blockRead tr b h) ∙ ap (λ (q : Bool). pick q Over Again) (lt-ltb b 3 l)
 
   -- any other: Get UDID again
-  pub get-again : ((xs : List ℕ) → Bytes xs → length xs ≤ 255 → tr ≡ traceOf (Send GetUdid) xs → ⊥) → ((b : ℕ) → CutAt (shapeOf blockRead) true tr b → b < 3 → ⊥) → afterGet s tr ≡ asked s
-  unfolding afterGet onReply
+  pub get-again : ((xs : List ℕ) → Bytes xs → length xs ≤ 255 → tr ≡ traceOf (Send GetUdid) xs → ⊥) → ((b : ℕ) → CutAt (shapeOf blockRead) true tr b → b < 3 → ⊥) → tells (Send GetUdid) tr ≡ Again
   get-again n k = go (answer blockRead tr) refl
     where
       done : (t : Transaction) → answer blockRead tr ≡ Done t → (b : Bool) → isGet t ≡ b
-          → pick b (pick (eqb (t .received) 17) (replied s (udidAt (receivedIn blockRead tr) 0) (getD (receivedIn blockRead tr) 16 0)) (handed s (Wait Ended))) (asked s) ≡ asked s
+          → pick b (pick (eqb (t .received) 17) (Reply (udidAt (receivedIn blockRead tr) 0) (getD (receivedIn blockRead tr) 16 0)) Over) Again ≡ Again
       done t e true h = let d = complete-get-data-fits t e in absurd (n (receivedIn blockRead tr) (d .0) (d .1) (complete-get-is-its-trace t e h))
       done t e false h = refl
 
-      nack : (w : Refusal) (b : ℕ) → answer blockRead tr ≡ Refused w b → (p : Bool) → isNack w ≡ p → (q : Bool) → ltb b 3 ≡ q → pick (and p q) (handed s (Wait Ended)) (asked s) ≡ asked s
+      nack : (w : Refusal) (b : ℕ) → answer blockRead tr ≡ Refused w b → (p : Bool) → isNack w ≡ p → (q : Bool) → ltb b 3 ≡ q → pick (and p q) Over Again ≡ Again
       nack w b e true g true h = absurd (k b (cut-back blockRead tr w b e g) (ltb-true b 3 h))
       nack w b e true g false h = refl
       nack w b e false g q h = refl
 
-      go : (x : Decoded) → answer blockRead tr ≡ x → onGet s x (receivedIn blockRead tr) ≡ asked s
+      go : (x : Decoded) → answer blockRead tr ≡ x → toldGet x (receivedIn blockRead tr) ≡ Again
       go (Done t) e = done t e (isGet t) refl
       go (Refused w i) e = nack w i e (isNack w) refl (ltb i 3) refl
 
@@ -197,7 +189,7 @@ assign-data-is-assign u a f =
     let g : getD (assignData u (a .0)) 16 0 ≡ 2 * (a .0 % 128) = getD-at (udidBytes u) (2 * (a .0 % 128)) [] 0 16 (length-udid u) in
     rw (eq-eqb (length (assignData u (a .0))) 17 (assign-data-has-17-bytes u (a .0)), n, eq-eqb (getD (assignData u (a .0)) 16 0) (2 * (a .0 % 128)) g)
 
-module _ (s : Controller) (u : Udid) (a : Address) (tr : List ℕ) where
+module _ (u : Udid) (a : Address) (tr : List ℕ) where
   -- a complete trace that is the Assign which was sent is its trace
   pub complete-assign-is-its-trace : (t : Transaction) → answer blockWrite tr ≡ Done t → isAssign u (a .0) t (sentIn blockWrite tr) ≡ true → tr ≡ traceOf (Send (Assign u a)) []
   complete-assign-is-its-trace t e h =
@@ -216,24 +208,22 @@ module _ (s : Controller) (u : Udid) (a : Address) (tr : List ℕ) where
       ∙ ap (trace (shapeOf blockWrite) true)
       (message-is (c .message) (messageOf (Send (Assign u a)) []) x (c .valid .direction) y (named u (a .0) (c .message .sent) (c .valid .sent-bytes) l v w) (empty (c .message .received) (c .valid .received-length)))
 
-  -- complete: bound
-  pub assign-whole : Fits u → tr ≡ traceOf (Send (Assign u a)) [] → afterAssign s u (a .0) tr ≡ asked (bound s u (a .0))
-  unfolding afterAssign
+  -- complete: the target took it
+  pub assign-whole : Fits u → tr ≡ traceOf (Send (Assign u a)) [] → tells (Send (Assign u a)) tr ≡ Took u a
   assign-whole f e =
       let b = decoded-back blockWrite (messageOf (Send (Assign u a)) []) (valid-assign u a) in
-      ap (λ (x : List ℕ). onAssign s u (a .0) (answer blockWrite x) (sentIn blockWrite x)) e
-      ∙ ap₂ (onAssign s u (a .0)) (b .0) (b .1)
-      ∙ ap (λ (q : Bool). pick q (asked (bound s u (a .0))) (asked s)) (assign-data-is-assign u a f)
+      ap (λ (x : List ℕ). toldAssign u a (answer blockWrite x) (sentIn blockWrite x)) e
+      ∙ ap₂ (toldAssign u a) (b .0) (b .1)
+      ∙ ap (λ (q : Bool). pick q (Took u a) Again) (assign-data-is-assign u a f)
 
-  -- any other answer: no binding, Get UDID again
-  pub assign-other : (tr ≡ traceOf (Send (Assign u a)) [] → ⊥) → afterAssign s u (a .0) tr ≡ asked s
-  unfolding afterAssign
+  -- any other: Get UDID again
+  pub assign-other : (tr ≡ traceOf (Send (Assign u a)) [] → ⊥) → tells (Send (Assign u a)) tr ≡ Again
   assign-other n = go (answer blockWrite tr) refl
     where
-      done : (t : Transaction) → answer blockWrite tr ≡ Done t → (b : Bool) → isAssign u (a .0) t (sentIn blockWrite tr) ≡ b → pick b (asked (bound s u (a .0))) (asked s) ≡ asked s
+      done : (t : Transaction) → answer blockWrite tr ≡ Done t → (b : Bool) → isAssign u (a .0) t (sentIn blockWrite tr) ≡ b → pick b (Took u a) Again ≡ Again
       done t e true h = absurd (n (complete-assign-is-its-trace t e h))
       done t e false h = refl
 
-      go : (x : Decoded) → answer blockWrite tr ≡ x → onAssign s u (a .0) x (sentIn blockWrite tr) ≡ asked s
+      go : (x : Decoded) → answer blockWrite tr ≡ x → toldAssign u a x (sentIn blockWrite tr) ≡ Again
       go (Done t) e = done t e (isAssign u (a .0) t (sentIn blockWrite tr)) refl
       go (Refused w k) e = refl

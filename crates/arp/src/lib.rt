@@ -1,6 +1,6 @@
 // The ARP controller: which command comes next for each trace received, which addresses are bound, and what a command is on the wire.
 // Rests on decode, encode, pool and udid.
-pub mod bindings;
+pub mod bound;
 pub mod choose;
 pub mod command;
 pub mod heard;
@@ -11,3 +11,4 @@ pub mod request;
 pub mod slots;
 pub mod start;
 pub mod state;
+pub mod told;

@@ -32,9 +32,11 @@ use Rattle.targets.specs.declared.winner.Winner.{Winner}
 use Rattle.targets.specs.declared.winner.Winner.the-variants as winner
 use Rattle.arp.specs.ChosenLaws.{chosen-small-and-free}
 use Rattle.arp.specs.Bindings.{bound, freed}
-use Rattle.arp.specs.Controller.{handed, counted, asked, issued, chosen, replied, onAssign, afterPrepare, afterGet, afterAssign, byCommand, stepped, started, newController}
+use Rattle.arp.specs.Controller.{handed, counted, asked, issued, chosen, replied, stepped, started, newController, changed}
 use Rattle.arp.specs.Heard.{answer, sentIn, blockWrite, isAssign}
 use Rattle.arp.specs.Requests.{traceOf}
+use Rattle.arp.specs.Told.{toldAssign, tells}
+use Rattle.arp.specs.ToldLaws.{told-is-changed}
 use Rattle.arp.specs.TraceLaws.{prepare-accepted}
 use Rattle.arp.specs.declared.command.Command.the-variants.{Prepare, GetUdid, Assign}
 use Rattle.arp.specs.declared.command.End.the-variants.{Abandoned}
@@ -56,6 +58,7 @@ use Rattle.bus.specs.RecordsBus.{recordsBus, Holds}
 use Rattle.bus.specs.RecordsBusLaws.{records-pass}
 use Rattle.bus.specs.Turn.{Fit, Reaches, isSent, worldOf, sentTo, Matches}
 use Rattle.bus.specs.TurnLaws.{get-silence, reached-as-meant}
+use Rattle.arp.specs.declared.told.Told.the-variants.{Again, Took}
 
 -- ---- what is handed out reaches somebody
 
@@ -71,22 +74,22 @@ fine-issued : (c : Controller) (t : Target) (f : Free) (ts : List Target) → Am
 fine-issued c t (At a) ts m h = (refl, (t, m, refl, h a refl))
 fine-issued c t AllUsed ts m h = (refl, tt)
 
-fine-assigned : (c : Controller) (u : Udid) (a : ℕ) (d : Decoded) (sent : List ℕ) (ts : List Target) → 0 < length ts → Fine (onAssign c u a d sent) ts
-fine-assigned c u a (Done t) sent ts h = go (isAssign u a t sent)
+-- whatever an Assign is told: a Get UDID is due
+fine-assigned : (c : Controller) (u : Udid) (a : Address) (d : Decoded) (sent : List ℕ) (ts : List Target) → 0 < length ts → Fine (changed c (toldAssign u a d sent)) ts
+fine-assigned c u a (Done t) sent ts h = go (isAssign u (a .0) t sent)
   where
-    go : (b : Bool) → Fine (pick b (asked (bound c u a)) (asked c)) ts
-    go true = fine-asked (bound c u a) ts h
+    go : (b : Bool) → Fine (changed c (pick b (Took u a) Again)) ts
+    go true = fine-asked (bound c u (a .0)) ts h
     go false = fine-asked c ts h
 fine-assigned c u a (Refused w k) sent ts h = fine-asked c ts h
 
 -- Prepare To ARP
 fine-prepare : (c : Controller) (ts : List Target) → c .last ≡ Send Prepare → Fine (stepped c (onBus (Send Prepare) ts)) (acted (Send Prepare) ts)
-unfolding stepped
 fine-prepare c [] e =
-    subst (λ (x : Stepped). Fine x []) (sym (ap (byCommand c (onBus (Send Prepare) [])) e ∙ ap (afterPrepare c) on-bus.prepare-cut ∙ prepare-unheard c)) (refl, tt)
+    subst (λ (x : Stepped). Fine x []) (sym (ap (stepped c) on-bus.prepare-cut ∙ prepare-unheard c e)) (refl, tt)
 fine-prepare c (t ∷ ts) e =
     subst (λ (x : Stepped). Fine x (acted (Send Prepare) (t ∷ ts)))
-    (sym (ap (byCommand c (onBus (Send Prepare) (t ∷ ts))) e ∙ ap (afterPrepare c) (on-bus.prepare-whole t ts) ∙ prepare-accepted c (traceOf (Send Prepare) []) refl))
+    (sym (ap (stepped c) (on-bus.prepare-whole t ts) ∙ told-is-changed c (traceOf (Send Prepare) []) (Send Prepare) Again e (prepare-accepted (traceOf (Send Prepare) []) refl)))
     (fine-asked c (acted (Send Prepare) (t ∷ ts)) (omega arith))
 
 -- Get UDID
@@ -97,13 +100,12 @@ fine-replied c ts t m b =
     fine-issued (freed c (t .udid)) t (chosen p (t .udid) (t .addressByte)) ts m (λ a e. chosen-small-and-free p (t .udid) (t .addressByte) a b e .0)
 
 fine-get : (c : Controller) (s : List ℕ) → Bytes s → Fit s → c .last ≡ Send GetUdid → 0 < length (targetsOf s) → Fine (stepped c (onBus (Send GetUdid) (targetsOf s))) (targetsOf s)
-unfolding stepped
 fine-get c s b f e h = go (winnerOf s) refl
   where
     go : (w : Winner) → w ≡ winnerOf s → Fine (stepped c (onBus (Send GetUdid) (targetsOf s))) (targetsOf s)
     go winner.AllResolved q =
         subst (λ (x : Stepped). Fine x (targetsOf s))
-        (sym (ap (byCommand c (onBus (Send GetUdid) (targetsOf s))) e ∙ ap (afterGet c) (get-silence s b f h q) ∙ get-unheard c)) (refl, tt)
+        (sym (ap (stepped c) (get-silence s b f h q) ∙ get-unheard c e)) (refl, tt)
     go (winner.At w) q =
         let l : Least (targetsOf s) (targetAt s w) = winner-least s b (f .apart) w (winner-exactly s (winner.At w) .0 q) in
         subst (λ (x : Stepped). Fine x (targetsOf s))
@@ -113,10 +115,10 @@ fine-get c s b f e h = go (winnerOf s) refl
 -- Assign Address
 fine-assign : (c : Controller) (u : Udid) (a : Address) (ts : List Target) → c .last ≡ Send (Assign u a) → Reaches (Send (Assign u a)) ts
     → Fine (stepped c (onBus (Send (Assign u a)) ts)) (acted (Send (Assign u a)) ts)
-unfolding stepped afterAssign
 fine-assign c u a ts e h =
-    subst (λ (x : Stepped). Fine x (acted (Send (Assign u a)) ts)) (sym (ap (byCommand c (onBus (Send (Assign u a)) ts)) e))
-    (fine-assigned c u (a .0) (answer blockWrite (onBus (Send (Assign u a)) ts)) (sentIn blockWrite (onBus (Send (Assign u a)) ts)) (acted (Send (Assign u a)) ts)
+    subst (λ (x : Stepped). Fine x (acted (Send (Assign u a)) ts))
+    (sym (told-is-changed c (onBus (Send (Assign u a)) ts) (Send (Assign u a)) (tells (Send (Assign u a)) (onBus (Send (Assign u a)) ts)) e refl))
+    (fine-assigned c u a (answer blockWrite (onBus (Send (Assign u a)) ts)) (sentIn blockWrite (onBus (Send (Assign u a)) ts)) (acted (Send (Assign u a)) ts)
     (omega (arith, length-map (assignedTo u (a .0)) ts, some ts (h .0) (h .1))))
   where
     some : (ts : List Target) (t : Target) → Among t ts → 0 < length ts

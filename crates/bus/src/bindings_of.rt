@@ -4,22 +4,24 @@ ghost use mathlib.Core.List.{_++_};
 ghost use Prim.Native.Nat.{_≤_};
 ghost use lib.ListN.{length, drop};
 ghost use Rattle.bindings.specs.Entries.{bufferSize, bufferOf, boundSet};
-ghost use Rattle.bus.specs.Run.{entryOf, entryAt};
+ghost use Rattle.lists.specs.Choice.{pick};
+ghost use Rattle.bindings.specs.declared.entry.Entry.the-variants.{Nobody, Bound};
+ghost use Rattle.bus.specs.Run.{entryAt};
 use arp::slots::Slots;
-use arp::state::Binding;
 use bindings::buffer::put_entry;
 use bindings::entry::Entry;
 use pool::Pool;
+use udid::Udid;
 use wire::address::Address;
 
-// Who is bound where an address is known for this: nobody where two claim it.
-fn entry_of(held: Binding) -> Entry
-    ensures { λ r. ⌜ r ≡ entryOf held ⌝ }
+// Who is bound at an address with this identifier kept for it: nobody where it is not in the bound set.
+fn entry_of(bound: bool, u: Udid) -> Entry
+    ensures { λ r. ⌜ r ≡ pick bound (Bound u) Nobody ⌝ }
 {
-    match held {
-        Binding::Open => Entry::Nobody,
-        Binding::Bound(u) => Entry::Bound(u),
-        Binding::Claimed => Entry::Nobody,
+    if bound {
+        Entry::Bound(u)
+    } else {
+        Entry::Nobody
     }
 }
 
@@ -35,10 +37,15 @@ pub(crate) fn put_bindings(out: &mut [u8], slots: Slots) -> Pool
     requires { ⌜ bufferSize ≤ length (now out) ⌝ }
     ensures { λ r. ⌜ (now (out .exit) ≡ bufferOf (entryAt slots) ++ drop bufferSize (now (out .entry))) × (r ≡ boundSet (entryAt slots)) ⌝ }
 {
+    let bound = slots.bound;
     let mut a: u8 = 0;
     while a < 128 {
-        let held = slots.held_at(Address(a));
-        let e = entry_of(held);
+        let at = a as usize;
+        let u = Udid {
+            high: slots.high[at],
+            low: slots.low[at],
+        };
+        let e = entry_of(bound.has(Address(a)), u);
         put_entry(&mut out[..], Address(a), e);
         a += 1;
     }

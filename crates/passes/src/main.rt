@@ -11,6 +11,8 @@ mod script;
 
 use answers::write_command;
 use answers::write_finds;
+use arp::command::End;
+use arp::command::Handed;
 use arp::state::Controller;
 use arp::state::Stepped;
 use pool::Pool;
@@ -18,22 +20,12 @@ use script::read_operation;
 use script::read_pool;
 use script::read_trace;
 
-// The state after an operation, and whether the script goes on.
-struct Turn {
-    more: bool,
-    state: Controller,
-}
-
-fn go_on(state: Controller) -> Turn {
-    Turn { more: true, state }
-}
-
-// Writes the command, and goes on with the state.
-fn told(s: Stepped) -> Turn {
-    let state = s.state;
-    let command = s.command;
-    write_command(command);
-    go_on(state)
+// A new controller, which has handed out nothing.
+fn new_controller(occupied: Pool) -> Stepped {
+    Stepped {
+        state: Controller::new(occupied),
+        command: Handed::Wait(End::Nothing),
+    }
 }
 
 fn step_on(c: Controller) -> Stepped {
@@ -42,35 +34,34 @@ fn step_on(c: Controller) -> Stepped {
     c.step(&trace[..n])
 }
 
-// One operation.
-fn operate(c: Controller) -> Turn {
-    let operation = read_operation();
-    match operation {
-        0 => go_on(Controller::new(read_pool())),
-        1 => told(c.start()),
-        2 => told(step_on(c)),
-        3 => {
-            write_finds(c);
-            go_on(c)
-        }
-        _ => Turn {
-            more: false,
-            state: c,
-        },
-    }
+// A start or a step; the command is written.
+fn go_on(c: Controller, operation: u8) -> Stepped {
+    let next = if operation == 1 {
+        c.start()
+    } else {
+        step_on(c)
+    };
+    let command = next.command;
+    write_command(command);
+    next
 }
 
 // A proved loop has to end, and nothing says that an input does: the turns are counted down from a number that no run uses up.
 fn main() {
-    let none = Pool { low: 0, high: 0 };
-    let mut c = Controller::new(none);
+    let mut st = new_controller(Pool { low: 0, high: 0 });
     let mut turns = u64::MAX;
     while turns > 0 {
-        let t = operate(c);
-        if !t.more {
-            return;
+        let operation = read_operation();
+        match operation {
+            0 => {
+                st = new_controller(read_pool());
+            }
+            1 | 2 => {
+                st = go_on(st.state, operation);
+            }
+            3 => write_finds(st.state),
+            _ => return,
         }
-        c = t.state;
         turns -= 1;
     }
 }

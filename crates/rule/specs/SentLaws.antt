@@ -9,10 +9,11 @@ use Rattle.pool.specs.declared.Pool.{Pool}
 use Rattle.targets.specs.Admission.{AdmittedTargets}
 use Rattle.targets.specs.Target.{Target}
 use Rattle.arp.specs.Handing.{Kept}
-use Rattle.arp.specs.HandingLaws.{prepare-handed, get-handed, assign-handed}
-use Rattle.arp.specs.Controller.{afterPrepare, afterGet, afterAssign, byCommand, stepped}
-use Rattle.arp.specs.Heard.{sendByte, blockRead, blockWrite, answer, sentIn, receivedIn}
+use Rattle.arp.specs.HandingLaws.{busy-handed}
+use Rattle.arp.specs.Controller.{changed, stepped}
 use Rattle.arp.specs.History.{oneGet}
+use Rattle.arp.specs.Told.{tells}
+use Rattle.arp.specs.declared.command.Command.{Command}
 use Rattle.arp.specs.declared.command.Command.the-variants.{Prepare, GetUdid, Assign}
 use Rattle.arp.specs.declared.command.End.the-variants.{Ended}
 use Rattle.arp.specs.declared.command.Handed.{Handed}
@@ -39,27 +40,29 @@ get-by-symbols (Wait e) t ts = refl
 
 -- what a turn hands out is kept as the last, and counted where it is a Get UDID
 turn-handed : (w : World) → w .now .state .last ≡ w .now .command → Kept (w .now .state) (turn w .now)
-unfolding stepped afterPrepare afterGet afterAssign
+unfolding stepped
 turn-handed w e = go (w .now .command) e
   where
     c : Controller
     c = w .now .state
 
-    sent : (k : Handed) → sentPart k ≡ 256 ∷ drop 1 (sentPart k) → c .last ≡ k → Kept c (byCommand c (onBus k (w .targets)) k)
+    sent : (k : Handed) → sentPart k ≡ 256 ∷ drop 1 (sentPart k) → c .last ≡ k → Kept c (changed c (tells k (onBus k (w .targets))))
         → Kept c (took (w .now) (w .targets) (onBus k (w .targets)) .now)
     sent k p q h =
         subst (λ (x : World). Kept c (x .now)) (sym (turn-takes (w .now) (w .targets) k p))
-        (subst (λ (x : Handed). Kept c (byCommand c (onBus k (w .targets)) x)) (sym q) h)
+        (subst (λ (x : Handed). Kept c (changed c (tells x (onBus k (w .targets))))) (sym q) h)
 
     not-sent : (k : Handed) → sentPart k ≡ [] → c .last ≡ k → oneGet k ≡ 0 → Kept c (took (w .now) (w .targets) (onBus k (w .targets)) .now)
     not-sent k p q n =
         subst (λ (x : World). Kept c (x .now)) (sym (turn-still (w .now) (w .targets) k p)) (record { last = e; gets = omega (arith, ap oneGet (sym e ∙ q), n) })
 
+    kept : (k : Command) → sentPart (Send k) ≡ 256 ∷ drop 1 (sentPart (Send k)) → c .last ≡ Send k → Kept c (took (w .now) (w .targets) (onBus (Send k) (w .targets)) .now)
+    kept k p q = sent (Send k) p q (busy-handed c (Send k) (onBus (Send k) (w .targets)) refl)
+
     go : (k : Handed) → c .last ≡ k → Kept c (took (w .now) (w .targets) (onBus k (w .targets)) .now)
-    go (Send Prepare) q = sent (Send Prepare) refl q (prepare-handed c (answer sendByte (onBus (Send Prepare) (w .targets))) (sentIn sendByte (onBus (Send Prepare) (w .targets))))
-    go (Send GetUdid) q = sent (Send GetUdid) refl q (get-handed c (answer blockRead (onBus (Send GetUdid) (w .targets))) (receivedIn blockRead (onBus (Send GetUdid) (w .targets))))
-    go (Send (Assign u a)) q =
-        sent (Send (Assign u a)) refl q (assign-handed c u (a .0) (answer blockWrite (onBus (Send (Assign u a)) (w .targets))) (sentIn blockWrite (onBus (Send (Assign u a)) (w .targets))))
+    go (Send Prepare) q = kept Prepare refl q
+    go (Send GetUdid) q = kept GetUdid refl q
+    go (Send (Assign u a)) q = kept (Assign u a) refl q
     go (Wait e) q = not-sent (Wait e) refl q refl
 
 -- nobody leaves the bus

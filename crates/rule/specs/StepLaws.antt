@@ -2,7 +2,7 @@
 use Prim.Native.Nat.{ℕ, zero, suc, _+_, _<_}
 use mathlib.Core.Path.{_≡_, refl, ap, ap₂, _∙_}
 use mathlib.Core.Bool.{true}
-use mathlib.Core.List.{[], _∷_}
+use mathlib.Core.List.{List, [], _∷_}
 use native.Mathlib.Omega.{arith}
 use lib.ListN.{getD}
 use lib.Seq.{getD-at}
@@ -21,10 +21,11 @@ use Rattle.targets.specs.Target.{Target, Sized}
 use Rattle.targets.specs.Reply.{replyData}
 use Rattle.targets.specs.ReplyLaws.{length-reply-data, bytes-reply-data}
 use Rattle.arp.specs.Bindings.{findFrom, freed, bindingFor, bound}
-use Rattle.arp.specs.Controller.{handed, asked, chosen, issued, replied, afterPrepare, afterGet, byCommand, stepped}
+use Rattle.arp.specs.Controller.{handed, asked, chosen, issued, replied, stepped}
 use Rattle.arp.specs.Heard.{sendByte, blockRead}
 use Rattle.arp.specs.RequestLaws.{valid-prepare, valid-get}
 use Rattle.arp.specs.Requests.{messageOf, traceOf}
+use Rattle.arp.specs.ToldLaws.{told-is-changed}
 use Rattle.arp.specs.TraceLaws.{prepare-accepted, prepare-nobody, get-reply, get-nobody, assign-whole}
 use Rattle.arp.specs.Slots.{withBinding}
 use Rattle.arp.specs.declared.command.Command.the-variants.{Prepare, GetUdid, Assign}
@@ -33,6 +34,7 @@ use Rattle.arp.specs.declared.command.Handed.{Handed}
 use Rattle.arp.specs.declared.command.Handed.the-variants.{Send, Wait}
 use Rattle.arp.specs.declared.state.Controller.{Controller}
 use Rattle.arp.specs.declared.slots.Slots.{Slots}
+use Rattle.arp.specs.declared.told.Told.the-variants.{Again, Over, Reply, Took}
 use Rattle.rule.specs.PassEnd.{state, out}
 use Rattle.rule.specs.Serving.{Unbound}
 
@@ -40,8 +42,8 @@ use Rattle.rule.specs.Serving.{Unbound}
 
 -- accepted: the first Get UDID
 pub prepare-asks-first : (b p : Pool) (s : Slots) → stepped (state b p s 0 (Send Prepare)) (traceOf (Send Prepare) []) ≡ out b p s 1 (Send GetUdid)
-unfolding stepped asked
-prepare-asks-first b p s = prepare-accepted (state b p s 0 (Send Prepare)) (traceOf (Send Prepare) []) refl
+unfolding asked
+prepare-asks-first b p s = told-is-changed (state b p s 0 (Send Prepare)) (traceOf (Send Prepare) []) (Send Prepare) Again refl (prepare-accepted (traceOf (Send Prepare) []) refl)
 
 -- S C2 N P: byte 0 was not acknowledged
 cut-prepare : CutAt (shapeOf sendByte) true (START ∷ 0xC2 ∷ NACK ∷ STOP ∷ []) 0
@@ -58,12 +60,11 @@ cut-prepare = record {
 }
 
 -- nobody there: the pass ends
-pub prepare-unheard : (c : Controller) → afterPrepare c (START ∷ 0xC2 ∷ NACK ∷ STOP ∷ []) ≡ handed c (Wait Ended)
-prepare-unheard c = prepare-nobody c (START ∷ 0xC2 ∷ NACK ∷ STOP ∷ []) 0 cut-prepare
+pub prepare-unheard : (c : Controller) → c .last ≡ Send Prepare → stepped c (START ∷ 0xC2 ∷ NACK ∷ STOP ∷ []) ≡ handed c (Wait Ended)
+prepare-unheard c e = told-is-changed c (START ∷ 0xC2 ∷ NACK ∷ STOP ∷ []) (Send Prepare) Over e (prepare-nobody (START ∷ 0xC2 ∷ NACK ∷ STOP ∷ []) 0 cut-prepare)
 
 pub prepare-silence-ends : (b p : Pool) (s : Slots) → stepped (state b p s 0 (Send Prepare)) (START ∷ 0xC2 ∷ NACK ∷ STOP ∷ []) ≡ out b p s 0 (Wait Ended)
-unfolding stepped
-prepare-silence-ends b p s = prepare-unheard (state b p s 0 (Send Prepare))
+prepare-silence-ends b p s = prepare-unheard (state b p s 0 (Send Prepare)) refl
 
 -- ---- Get UDID
 
@@ -81,22 +82,23 @@ cut-get = record {
 }
 
 -- nobody is left: the pass ends
-pub get-unheard : (c : Controller) → afterGet c (START ∷ 0xC2 ∷ ACK ∷ 0x03 ∷ ACK ∷ START ∷ 0xC3 ∷ NACK ∷ STOP ∷ []) ≡ handed c (Wait Ended)
-get-unheard c = get-nobody c (START ∷ 0xC2 ∷ ACK ∷ 0x03 ∷ ACK ∷ START ∷ 0xC3 ∷ NACK ∷ STOP ∷ []) 2 cut-get (omega arith)
+pub get-unheard : (c : Controller) → c .last ≡ Send GetUdid → stepped c (START ∷ 0xC2 ∷ ACK ∷ 0x03 ∷ ACK ∷ START ∷ 0xC3 ∷ NACK ∷ STOP ∷ []) ≡ handed c (Wait Ended)
+get-unheard c e =
+    let tr : List ℕ = START ∷ 0xC2 ∷ ACK ∷ 0x03 ∷ ACK ∷ START ∷ 0xC3 ∷ NACK ∷ STOP ∷ [] in
+    told-is-changed c tr (Send GetUdid) Over e (get-nobody tr 2 cut-get (omega arith))
 
 pub get-silence-ends : (b p : Pool) (s : Slots) (n : ℕ)
     → stepped (state b p s n (Send GetUdid)) (START ∷ 0xC2 ∷ ACK ∷ 0x03 ∷ ACK ∷ START ∷ 0xC3 ∷ NACK ∷ STOP ∷ []) ≡ out b p s n (Wait Ended)
-unfolding stepped
-get-silence-ends b p s n = get-unheard (state b p s n (Send GetUdid))
+get-silence-ends b p s n = get-unheard (state b p s n (Send GetUdid)) refl
 
 -- a reply is read as its target's identifier and address byte
 pub get-replied : (c : Controller) (t : Target) → c .last ≡ Send GetUdid → Sized t → stepped c (traceOf (Send GetUdid) (replyData t)) ≡ replied c (t .udid) (t .addressByte)
-unfolding stepped replyData
+unfolding replyData
 get-replied c t e z =
     let i : udidAt (replyData t) 0 ≡ t .udid = udid-back [] (t .addressByte ∷ []) 0 (t .udid) (z .udid) refl in
     let a : getD (replyData t) 16 0 ≡ t .addressByte = getD-at (udidBytes (t .udid)) (t .addressByte) [] 0 16 (length-udid (t .udid)) in
-    ap (byCommand c (traceOf (Send GetUdid) (replyData t))) e
-    ∙ get-reply c (traceOf (Send GetUdid) (replyData t)) (replyData t) (bytes-reply-data t (z .addressByte)) (omega (arith, length-reply-data t)) refl (length-reply-data t)
+    told-is-changed c (traceOf (Send GetUdid) (replyData t)) (Send GetUdid) (Reply (udidAt (replyData t) 0) (getD (replyData t) 16 0)) e
+    (get-reply (traceOf (Send GetUdid) (replyData t)) (replyData t) (bytes-reply-data t (z .addressByte)) (omega (arith, length-reply-data t)) refl (length-reply-data t))
     ∙ ap₂ (replied c) i a
 
 unbound-not-found : (u : Udid) (s : Slots) → Unbound u s → (n a : ℕ) → findFrom u s n a ≡ 128
@@ -121,7 +123,7 @@ get-issued b p s n t z h =
 -- complete: bound, and the next Get UDID
 pub assign-bound : (b p : Pool) (s : Slots) (n : ℕ) (u : Udid) (a : Address) → n < 128 → Fits u → a .0 < 128
     → stepped (state b p s n (Send (Assign u a))) (traceOf (Send (Assign u a)) []) ≡ out b (withAddress p (a .0)) (withBinding s (a .0) (bindingFor (member p (a .0)) u)) (n + 1) (Send GetUdid)
-unfolding stepped asked bound
+unfolding asked bound
 assign-bound b p s n u a h f l =
-    assign-whole (state b p s n (Send (Assign u a))) u a (traceOf (Send (Assign u a)) []) f refl
+    told-is-changed (state b p s n (Send (Assign u a))) (traceOf (Send (Assign u a)) []) (Send (Assign u a)) (Took u a) refl (assign-whole u a (traceOf (Send (Assign u a)) []) f refl)
     ∙ rw (le-ltb 127 (a .0) (omega arith), lt-leb 128 n h)

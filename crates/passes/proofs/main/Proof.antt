@@ -1,21 +1,40 @@
 use borrow.Author.Needs.{needs}
 use Rattle.passes.proofs.main.Statement.{statement}
 use Rattle.passes.proofs.main.Tie as tie
+use Rattle.passes.proofs.main.Reads as reads
+use Rattle.passes.proofs.main.Lts as lts
+use Rattle.passes.proofs.answers.write_finds.Reads as write-finds-reads
+use Rattle.passes.proofs.go_on.Reads as go-on-reads
+use Rattle.passes.proofs.new_controller.Reads as new-controller-reads
+use Rattle.passes.proofs.script.read_operation.Reads as read-operation-reads
+use Rattle.passes.proofs.script.read_pool.Reads as read-pool-reads
 
 abbrev Inv-loop : tie.InvT-loop
-Inv-loop c₀ turns₀ c turns = Unit
+Inv-loop st₀ turns₀ st turns = Unit
 
 abbrev μ-loop : tie.MeasureT-loop
-μ-loop c₀ turns₀ c turns = turns
+μ-loop st₀ turns₀ st turns = turns
 
-new-requires : tie.Need-new-requires Inv-loop μ-loop
-new-requires c κs = search needs
+new-controller-requires : tie.Need-new-controller-requires Inv-loop μ-loop
+new-controller-requires c κs = search needs
 
 loop-holds : tie.Need-loop-holds Inv-loop μ-loop
 loop-holds c = search needs
 
-operate-requires : tie.Need-operate-requires Inv-loop μ-loop
-operate-requires c κs = search needs
+read-operation-requires : tie.Need-read-operation-requires Inv-loop μ-loop
+read-operation-requires c κs = search needs
+
+read-pool-requires : tie.Need-read-pool-requires Inv-loop μ-loop
+read-pool-requires c κs = search needs
+
+new-controller-requires-2 : tie.Need-new-controller-requires-2 Inv-loop μ-loop
+new-controller-requires-2 c κs = search needs
+
+write-finds-requires : tie.Need-write-finds-requires Inv-loop μ-loop
+write-finds-requires c κs = search needs
+
+go-on-requires : tie.Need-go-on-requires Inv-loop μ-loop
+go-on-requires c κs = search needs
 
 returns : tie.Need-returns Inv-loop μ-loop
 returns c = search needs
@@ -38,9 +57,13 @@ main-spec =
     (tie.spec
     Inv-loop
     μ-loop
-    new-requires
+    new-controller-requires
     loop-holds
-    operate-requires
+    read-operation-requires
+    read-pool-requires
+    new-controller-requires-2
+    write-finds-requires
+    go-on-requires
     returns
     sub-turns
     loop-less

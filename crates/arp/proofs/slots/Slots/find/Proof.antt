@@ -6,12 +6,14 @@ use native.Mathlib.Omega.{arith}
 use Rattle.udid.specs.declared.Udid.{Udid}
 use Rattle.arp.specs.Bindings.{boundTo, findFrom}
 use Rattle.arp.specs.Slots.{heldAt}
+use Rattle.arp.specs.SoundLaws.{bound-by-halves}
 use Rattle.arp.specs.declared.slots.Slots.{Slots}
+use borrow.Author.Needs.{needs}
 use Rattle.arp.proofs.slots.Slots.find.Statement.{statement}
 use Rattle.arp.proofs.slots.Slots.find.Tie as tie
 use Rattle.arp.proofs.slots.Slots.find.Reads as reads
 use Rattle.arp.proofs.slots.Slots.find.Lts as lts
-use Rattle.arp.proofs.slots.Slots.is_bound_to.Reads as is-bound-to-reads
+use Rattle.arp.proofs.bound.is_bound_to.Reads as is-bound-to-reads
 
 here : (u : Udid) (s : Slots) (a : ℕ) → a < 128 → boundTo u (heldAt s a) ≡ true → findFrom u s (128 - a) a ≡ a
 unfolding findFrom
@@ -22,19 +24,34 @@ unfolding findFrom
 onward u s a h e = let n : 128 - a ≡ suc (128 - (a + 1)) = omega arith in rw (n, add-one a) (simp e)
 
 abbrev Inv-loop : tie.InvT-loop
-Inv-loop self u n₀ n = (n ≤ 128) × (findFrom u self 128 0 ≡ findFrom u self (128 - n) n)
+Inv-loop u self bound n₀ n = (n ≤ 128) × (findFrom u self 128 0 ≡ findFrom u self (128 - n) n)
 
 abbrev μ-loop : tie.MeasureT-loop
-μ-loop self u n₀ n = 128 - n
+μ-loop u self bound n₀ n = 128 - n
 
 loop-holds : tie.Need-loop-holds Inv-loop μ-loop
 loop-holds c = (omega arith, refl)
 
+cast-at : tie.Need-cast-at Inv-loop μ-loop
+cast-at c = omega arith
+
+mul-is-bound-to : tie.Need-mul-is-bound-to Inv-loop μ-loop
+mul-is-bound-to c = omega arith
+
+element-copy-out-is-bound-to : tie.Need-element-copy-out-is-bound-to Inv-loop μ-loop
+element-copy-out-is-bound-to c = omega arith
+
+mul-is-bound-to-2 : tie.Need-mul-is-bound-to-2 Inv-loop μ-loop
+mul-is-bound-to-2 c = omega arith
+
+element-copy-out-is-bound-to-2 : tie.Need-element-copy-out-is-bound-to-2 Inv-loop μ-loop
+element-copy-out-is-bound-to-2 c = omega arith
+
 is-bound-to-requires : tie.Need-is-bound-to-requires Inv-loop μ-loop
-is-bound-to-requires c κs = omega arith
+is-bound-to-requires c κs = search needs
 
 returns : tie.Need-returns Inv-loop μ-loop
-returns c = let l = c .before .before .before .loop in let s = c .before .before .before .before .args in sym (l .inv .1 ∙ here (s .u) (s .self) (l .n) (omega arith) (sym (c .before .is-bound-to .ensures) ∙ c .if1 .taken))
+returns c = let l = c .before .before .before .before .before .loop in let s = c .before .before .before .before .before .before .before .args in sym (l .inv .1 ∙ here (s .u) (s .t1) (l .n) (omega arith) (bound-by-halves (s .t1) (l .n) (s .u) ∙ sym (c .before .is-bound-to .ensures) ∙ c .if1 .taken))
 
 add-n : tie.Need-add-n Inv-loop μ-loop
 add-n c = omega arith
@@ -43,11 +60,11 @@ loop-less : tie.Need-loop-less Inv-loop μ-loop
 loop-less c = omega arith
 
 loop-again : tie.Need-loop-again Inv-loop μ-loop
-loop-again c = let l = c .before .before .before .loop in let s = c .before .before .before .before .args in (omega arith, l .inv .1 ∙ onward (s .u) (s .self) (l .n) (omega arith) (sym (c .before .is-bound-to .ensures) ∙ c .if1 .left))
+loop-again c = let l = c .before .before .before .before .before .loop in let s = c .before .before .before .before .before .before .before .args in (omega arith, l .inv .1 ∙ onward (s .u) (s .t1) (l .n) (omega arith) (bound-by-halves (s .t1) (l .n) (s .u) ∙ sym (c .before .is-bound-to .ensures) ∙ c .if1 .left))
 
 returns-2 : tie.Need-returns-2 Inv-loop μ-loop
 unfolding findFrom
-returns-2 c = let l = c .before .loop in let s = c .before .before .args in let e : 128 - l .n ≡ 0 = omega arith in sym (l .inv .1 ∙ ap (λ (n : ℕ). findFrom (s .u) (s .self) n (l .n)) e)
+returns-2 c = let l = c .before .loop in let s = c .before .before .before .args in let e : 128 - l .n ≡ 0 = omega arith in sym (l .inv .1 ∙ ap (λ (n : ℕ). findFrom (s .u) (s .t1) n (l .n)) e)
 
 pub find-spec : {M : Type 1} → statement M
 find-spec =
@@ -56,6 +73,11 @@ find-spec =
     Inv-loop
     μ-loop
     loop-holds
+    cast-at
+    mul-is-bound-to
+    element-copy-out-is-bound-to
+    mul-is-bound-to-2
+    element-copy-out-is-bound-to-2
     is-bound-to-requires
     returns
     add-n

@@ -1,11 +1,13 @@
 // Where a target is bound, the state with it unbound, and the state with it bound. Rests on slots and crate pool.
 ghost use mathlib.Core.Path.{_≡_};
-ghost use Prim.Native.Nat.{_<_};
-ghost use Rattle.arp.specs.Slots.{heldAt};
-ghost use Rattle.arp.specs.Bindings.{boundTo, findFrom, freed, bindingFor, bound};
+ghost use lib.Dec.{eqb};
+ghost use Rattle.lists.specs.Choice.{and};
+ghost use Rattle.pool.specs.Pools.{member};
+ghost use Rattle.arp.specs.Bindings.{findFrom, freed, bindingFor, bound};
 use super::slots::Slots;
 use super::state::Binding;
 use super::state::Controller;
+use pool::Pool;
 use udid::Udid;
 use wire::address::Address;
 
@@ -20,30 +22,30 @@ fn binding_for(taken: bool, u: Udid) -> Binding
     }
 }
 
-impl Slots {
-    // The target is bound to the address. The low half is compared first: it tells most targets apart.
-    fn is_bound_to(self, n: u8, u: Udid) -> bool
-        requires { ⌜ n < 128 ⌝ }
-        ensures { λ r. ⌜ r ≡ boundTo u (heldAt self n) ⌝ }
-    {
-        let at = n as usize;
-        if self.low[at] != u.low {
-            return false;
-        }
-        if self.high[at] != u.high {
-            return false;
-        }
-        let bound = self.bound;
-        bound.has(Address(n))
+// The address is in this set of bound ones, and these halves are kept for it: the target is bound to it. The low half is compared first:
+// it tells most targets apart.
+fn is_bound_to(bound: Pool, n: u8, high: u64, low: u64, u: Udid) -> bool
+    ensures { λ r. ⌜ r ≡ and (member bound n) (and (eqb high (u .high)) (eqb low (u .low))) ⌝ }
+{
+    if low != u.low {
+        return false;
     }
+    if high != u.high {
+        return false;
+    }
+    bound.has(Address(n))
+}
 
+impl Slots {
     // The lowest address that the target is bound to, or 128.
     fn find(self, u: Udid) -> u8
         ensures { λ r. ⌜ r ≡ findFrom u self 128 0 ⌝ }
     {
+        let bound = self.bound;
         let mut n: u8 = 0;
         while n < 128 {
-            if self.is_bound_to(n, u) {
+            let at = n as usize;
+            if is_bound_to(bound, n, self.high[at], self.low[at], u) {
                 return n;
             }
             n += 1;

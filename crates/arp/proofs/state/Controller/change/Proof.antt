@@ -1,0 +1,89 @@
+use mathlib.Core.Path.{_≡_, sym, ap, _∙_}
+use Rattle.arp.specs.Controller.{asked, changed}
+use Rattle.arp.specs.declared.told.Told.{Told}
+use borrow.Author.Needs.{needs}
+use Rattle.arp.proofs.state.Controller.change.Statement.{statement}
+use Rattle.arp.proofs.state.Controller.change.Tie as tie
+use Rattle.arp.proofs.state.Controller.change.Reads as reads
+use Rattle.arp.proofs.state.Controller.change.Lts as lts
+use Rattle.arp.proofs.state.Controller.ask.Reads as ask-reads
+use Rattle.arp.proofs.state.Controller.bind.Reads as bind-reads
+use Rattle.arp.proofs.state.Controller.hand.Reads as hand-reads
+use Rattle.arp.proofs.state.Controller.on_reply.Reads as on-reply-reads
+
+enum-told : tie.Need-enum-told
+enum-told c = search needs
+
+ask-requires : tie.Need-ask-requires
+ask-requires c κs = search needs
+
+enum-told-2 : tie.Need-enum-told-2
+enum-told-2 c = search needs
+
+hand-requires : tie.Need-hand-requires
+hand-requires c κs = search needs
+
+enum-told-3 : tie.Need-enum-told-3
+enum-told-3 c = search needs
+
+hand-requires-2 : tie.Need-hand-requires-2
+hand-requires-2 c κs = search needs
+
+enum-known-told : tie.Need-enum-known-told
+enum-known-told c = search needs
+
+on-reply-requires : tie.Need-on-reply-requires
+on-reply-requires c κs = search needs
+
+enum-known-told-2 : tie.Need-enum-known-told-2
+enum-known-told-2 c = search needs
+
+bind-requires : tie.Need-bind-requires
+bind-requires c κs = search needs
+
+ask-requires-2 : tie.Need-ask-requires-2
+ask-requires-2 c κs = search needs
+
+enum-told-4 : tie.Need-enum-told-4
+enum-told-4 c = search needs
+
+returns : tie.Need-returns
+returns c = let s = c .before .before .before .args in c .ask .ensures ∙ sym (ap (changed (s .self)) (c .before .enum-told .given .1))
+
+returns-2 : tie.Need-returns-2
+returns-2 c = let s = c .before .before .before .args in c .hand .ensures ∙ sym (ap (changed (s .self)) (c .before .enum-told2 .given .1))
+
+returns-3 : tie.Need-returns-3
+returns-3 c = let s = c .before .before .before .args in c .hand2 .ensures ∙ sym (ap (changed (s .self)) (c .before .enum-told3 .given .1))
+
+returns-4 : tie.Need-returns-4
+returns-4 c = let s = c .before .before .before .before .args in c .on-reply .ensures ∙ sym (ap (changed (s .self)) (c .before .before .told .given .1))
+
+returns-5 : tie.Need-returns-5
+returns-5 c = let s = c .before .before .before .before .before .args in c .ask2 .ensures ∙ ap asked (c .before .bind .ensures) ∙ sym (ap (changed (s .self)) (c .before .before .before .told2 .given .1))
+
+returns-6 : tie.Need-returns-6
+returns-6 c = let s = c .before .before .args in sym (ap (changed (s .self)) (c .enum-told4 .given .1))
+
+pub change-spec : {M : Type 1} → statement M
+change-spec =
+    tie.close
+    (tie.spec
+    enum-told
+    ask-requires
+    enum-told-2
+    hand-requires
+    enum-told-3
+    hand-requires-2
+    enum-known-told
+    on-reply-requires
+    enum-known-told-2
+    bind-requires
+    ask-requires-2
+    enum-told-4
+    returns
+    returns-2
+    returns-3
+    returns-4
+    returns-5
+    returns-6)
