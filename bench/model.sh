@@ -6,7 +6,7 @@
 #   bench/model.sh [LIBRARY]
 set -eu
 cd "$(dirname "$0")/.."
-limits='1:1.6 10:1.35 60:1.4 120:1.35'
+limits='1:1.5 10:1.3 60:1.3 120:1.3'
 growth=1.3
 out=build/bench
 library=${1:-target/staticlib/libc_api.a}

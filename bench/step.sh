@@ -1,15 +1,12 @@
 #!/bin/sh
-# Instructions of a step that binds a target, for each byte of the controller's state, by callgrind. The program passes runs a
-# script up to that step, and the same with it; the decoding is taken out of the difference. What is left is the step with
-# what the program does around it: it reads the trace, keeps the state and writes the command. Fails above the limit.
+# Instructions of a step that binds a target, by callgrind. The program passes runs a script up to that step, and the same with
+# it; the decoding is taken out of the difference. What is left is the step with what the program does around it: it reads the
+# trace, keeps the state and writes the command. Fails above the limit.
 # What it makes goes to build/.
 #   bench/step.sh [LIBRARY PROGRAM]
 set -eu
 cd "$(dirname "$0")/.."
-limit=20
-# As it is compiled: two sets of addresses; the slots, which are two sets and the two halves of 128 identifiers; the count with what is
-# left empty after it; the last command.
-state=$((2 * 16 + 2 * 16 + 128 * 16 + 8 + 32))
+limit=3000
 out=build/bench
 library=${1:-target/staticlib/libc_api.a}
 program=${2:-target/bin/passes}
@@ -40,11 +37,11 @@ instructions() { # SCRIPT WORDS..: of the whole run, or of what the words name
 whole=$(($(instructions "$out/bound.script") - $(instructions "$out/before.script")))
 decoding=$(($(instructions "$out/bound.script" --toggle-collect=decode::decode) -
     $(instructions "$out/before.script" --toggle-collect=decode::decode)))
-awk -v whole="$whole" -v decoding="$decoding" -v state="$state" -v limit="$limit" 'BEGIN {
+awk -v whole="$whole" -v decoding="$decoding" -v limit="$limit" 'BEGIN {
     rest = whole - decoding
-    form = "a step that binds: state %d bytes, instructions %d without %d of decoding, %.2f a byte, limit %s\n"
-    printf form, state, rest, decoding, rest / state, limit
-    exit !(decoding > 0 && rest > 0 && rest <= limit * state)
+    form = "a step that binds: %d instructions without %d of decoding, limit %d\n"
+    printf form, rest, decoding, limit
+    exit !(decoding > 0 && rest > 0 && rest <= limit)
 }' || {
     echo "bench: above the limit, or nothing counted"
     exit 1

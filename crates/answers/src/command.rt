@@ -5,9 +5,9 @@ use crate::piece::hex_line;
 use crate::piece::put_line;
 use crate::piece::put_udid;
 use crate::piece::udid_line;
-use arp::command::Command;
-use arp::command::End;
-use arp::command::Handed;
+use commands::command::Command;
+use commands::command::End;
+use commands::command::Handed;
 use udid::Udid;
 use wire::address::Address;
 

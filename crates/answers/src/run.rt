@@ -9,7 +9,7 @@ use crate::piece::put_hex;
 use crate::piece::put_number;
 use crate::piece::put_udid;
 use crate::piece::udid_line;
-use bus::answer::ModelAnswer;
+use bindings::answer::ModelAnswer;
 use pool::Pool;
 use text::write::put_decimal;
 use udid::Udid;

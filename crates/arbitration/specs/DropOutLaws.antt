@@ -10,6 +10,7 @@ use lib.Bits.{bitXor, xor-lt, xor-add-and, and-le-l, and-le-r}
 use lib.Count.{leadingZeros, leading-length, leading-unique, leading-top}
 use lib.ListN.{length}
 use lib.Pow.{pow-pos}
+use Rattle.lists.specs.ChoiceLaws.{not-both}
 use Rattle.pool.specs.Digits.{digit}
 use Rattle.pool.specs.Digits.{differs}
 use Rattle.pool.specs.DigitLaws.{top-digit, digit-xor}
@@ -57,10 +58,10 @@ shared-leading-mod (suc k) n m = go (digit n k) (digit m k) refl refl (top-digit
 
     same : Top → digit x k ≡ false → leadingZeros (suc k) (x % 2 ^ suc k) ≡ suc (leadingZeros k (x % 2 ^ k))
     same (inl a) e = ap (leadingZeros (suc k)) (a .1) ∙ leading-more k (x % 2 ^ k) (mod-lt x (pow-pos k))
-    same (inr a) e = absurd (let z : _≡_ {A = ℕ} 0 1 = cc in omega arith)
+    same (inr a) e = not-both e (a .0)
 
     other : Top → digit x k ≡ true → leadingZeros (suc k) (x % 2 ^ suc k) ≡ 0
-    other (inl a) e = absurd (let z : _≡_ {A = ℕ} 0 1 = cc in omega arith)
+    other (inl a) e = not-both (a .0) e
     other (inr a) e = leading-none k (x % 2 ^ suc k) (omega arith) (mod-lt x (pow-pos (suc k)))
 
     go : (b c : Bool) → digit n k ≡ b → digit m k ≡ c → Top → shared (bits k n) (bits k m) ≡ leadingZeros k (x % 2 ^ k)

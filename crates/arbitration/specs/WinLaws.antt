@@ -12,6 +12,7 @@ use lib.ListN.{length, getD, List·getD-append}
 use lib.Seq.{getD-append-add}
 use borrow.Author.Tests.{lt-ltb, le-ltb, eq-eqb, ne-eqb}
 use Rattle.lists.specs.Choice.{pick, not}
+use Rattle.lists.specs.ChoiceLaws.{not-both}
 use Rattle.pool.specs.Digits.{digit}
 use Rattle.udid.specs.Udids.{Fits, sameUdid, value, isBelow}
 use Rattle.udid.specs.UdidLaws.{same-equal, same-refl, below-halves}
@@ -153,4 +154,4 @@ module _ (a b : Udid) (f : Fits a) (g : Fits b) where
 
       go : (t : Bool) → sameUdid a b ≡ t → tested ≡ isBelow a b
       go true e = equal (same-equal a b e)
-      go false e = differ (λ q. let z : _≡_ {A = ℕ} 0 1 = cc (e, ap (sameUdid a) q, same-refl a) in omega arith)
+      go false e = differ (λ q. not-both e (sym (ap (sameUdid a) q) ∙ same-refl a))

@@ -10,7 +10,9 @@ use lib.Dec.{leb, leb·zero, leb·suc-zero, leb·suc-suc}
 use lib.ListN.{length, drop}
 use lib.Seq.{drop-length}
 use borrow.Author.Tests.{le-leb, lt-leb}
+use Rattle.lists.specs.AbsurdLaws.{zero-is-one}
 use Rattle.lists.specs.Choice.{pick}
+use Rattle.lists.specs.ChoiceLaws.{false-not-true}
 use Rattle.lists.specs.Each.{Each}
 use Rattle.arbitration.specs.Among.{Among}
 use Rattle.arbitration.specs.Wire.{level, staying, heard, sending}
@@ -22,7 +24,7 @@ level-one : (m : List Bool) (ts : List (List Bool)) → Each (Stays (true ∷ m)
 level-one m [] h = refl
 level-one m ([] ∷ ts) h = absurd (omega arith)
 level-one m ((true ∷ t) ∷ ts) h = level-one m ts (h .1)
-level-one m ((false ∷ t) ∷ ts) h = absurd (let z : _≡_ {A = ℕ} 0 1 = cc (h .0 .0) in omega arith)
+level-one m ((false ∷ t) ∷ ts) h = false-not-true (h .0 .0)
 
 level-zero : (m : List Bool) (ts : List (List Bool)) → Among (false ∷ m) ts → level ts ≡ false
 level-zero m (t ∷ ts) (inl e) = rw e
@@ -41,15 +43,15 @@ staying-each b m [] h = tt
 staying-each true m ([] ∷ ts) h = absurd (omega arith)
 staying-each false m ([] ∷ ts) h = absurd (omega arith)
 staying-each true m ((true ∷ t) ∷ ts) h = ((h .0 .0, omega arith), staying-each true m ts (h .1))
-staying-each true m ((false ∷ t) ∷ ts) h = absurd (let z : _≡_ {A = ℕ} 0 1 = cc (h .0 .0) in omega arith)
+staying-each true m ((false ∷ t) ∷ ts) h = false-not-true (h .0 .0)
 staying-each false m ((true ∷ t) ∷ ts) h = staying-each false m ts (h .1)
 staying-each false m ((false ∷ t) ∷ ts) h = ((h .0 .0, omega arith), staying-each false m ts (h .1))
 
 staying-among : (b : Bool) (m : List Bool) (ts : List (List Bool)) → Among (b ∷ m) ts → Among m (staying b ts)
-staying-among b m ([] ∷ ts) (inl e) = absurd (let z : _≡_ {A = ℕ} 0 1 = cc e in omega arith)
+staying-among b m ([] ∷ ts) (inl e) = zero-is-one (cc e)
 staying-among true m ((true ∷ t) ∷ ts) (inl e) = inl (cc)
 staying-among true m ((false ∷ t) ∷ ts) (inl e) = inl (cc)
-staying-among false m ((true ∷ t) ∷ ts) (inl e) = absurd (let z : _≡_ {A = ℕ} 0 1 = cc e in omega arith)
+staying-among false m ((true ∷ t) ∷ ts) (inl e) = zero-is-one (cc e)
 staying-among false m ((false ∷ t) ∷ ts) (inl e) = inl (cc)
 staying-among true m ([] ∷ ts) (inr h) = inr (staying-among true m ts h)
 staying-among false m ([] ∷ ts) (inr h) = staying-among false m ts h
@@ -82,7 +84,7 @@ sharing-one n true m ((true ∷ t) ∷ ts) h = rw (leb·suc-suc n (shared m t)) 
         → pick c (drop n t ∷ sharing n m (staying true ts)) (sharing n m (staying true ts)) ≡ pick c (drop n t ∷ sharing (suc n) (true ∷ m) ts) (sharing (suc n) (true ∷ m) ts)
     go true e = ap (_∷_ (drop n t)) e
     go false e = e
-sharing-one n true m ((false ∷ t) ∷ ts) h = absurd (let z : _≡_ {A = ℕ} 0 1 = cc (h .0 .0) in omega arith)
+sharing-one n true m ((false ∷ t) ∷ ts) h = false-not-true (h .0 .0)
 sharing-one n false m ((true ∷ t) ∷ ts) h = rw (leb·suc-zero n) (sharing-one n false m ts (h .1))
 sharing-one n false m ((false ∷ t) ∷ ts) h = rw (leb·suc-suc n (shared m t)) (go (leb n (shared m t)) (sharing-one n false m ts (h .1)))
   where

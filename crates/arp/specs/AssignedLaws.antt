@@ -9,6 +9,7 @@ use native.Mathlib.Decide.{ℕ-discrete}
 use native.Mathlib.Omega.{arith}
 use lib.Dec.{ltb, leb}
 use borrow.Author.Tests.{ltb-false, lt-ltb, le-ltb}
+use Rattle.lists.specs.AbsurdLaws.{zero-is-one}
 use Rattle.lists.specs.Choice.{pick, or}
 use Rattle.wire.specs.declared.address.Address.{Address}
 use Rattle.pool.specs.Pools.{member}
@@ -20,28 +21,29 @@ use Rattle.arp.specs.HistoryLaws.{reached-good}
 use Rattle.arp.specs.LookupLaws.{lookup-0}
 use Rattle.arp.specs.SoundLaws.{bound-to-is-bound, open-is-not-bound, find-cases}
 use Rattle.arp.specs.SlotsLaws.{held-same, held-other, held-cases, open-all}
-use Rattle.arp.specs.ToldLaws.{Known, told-is-changed, by-told}
-use Rattle.arp.specs.TraceLaws.{assign-whole}
+use Rattle.arp.specs.ChangedLaws.{told-is-changed, by-told}
+use Rattle.commands.specs.ToldLaws.{Known}
+use Rattle.commands.specs.TraceLaws.{assign-whole}
 use Rattle.arp.specs.Numbers.{lookupNumber}
 use Rattle.arp.specs.Sound.{Pending, PendingIn, GoodState}
 use Rattle.arp.specs.Bindings.{boundTo, findFrom, freedAt, freed, bindingFor, bound}
 use Rattle.arp.specs.Controller.{handed, counted, asked, chosen, issued, replied, changed, stepped}
 use Rattle.arp.specs.History.{Event, Start, Received, run, Acknowledged, isHeld, withTraces}
 use Rattle.arp.specs.Lookup.{seen, lookedUp}
-use Rattle.arp.specs.Requests.{traceOf}
+use Rattle.commands.specs.Requests.{traceOf}
 use Rattle.arp.specs.Slots.{Sized128, heldAt}
-use Rattle.arp.specs.declared.command.Command.the-variants.{GetUdid, Assign}
-use Rattle.arp.specs.declared.command.End.the-variants.{Abandoned}
-use Rattle.arp.specs.declared.command.Handed.{Handed}
-use Rattle.arp.specs.declared.command.Handed.the-variants.{Send, Wait}
+use Rattle.commands.specs.declared.command.Command.the-variants.{GetUdid, Assign}
+use Rattle.commands.specs.declared.command.End.the-variants.{Abandoned}
+use Rattle.commands.specs.declared.command.Handed.{Handed}
+use Rattle.commands.specs.declared.command.Handed.the-variants.{Send, Wait}
 use Rattle.arp.specs.declared.lookup.Found.the-variants as found
 use Rattle.arp.specs.declared.state.Binding.{Binding}
 use Rattle.arp.specs.declared.state.Binding.the-variants.{Open, Bound, Claimed}
 use Rattle.arp.specs.declared.state.Controller.{Controller}
 use Rattle.arp.specs.declared.slots.Slots.{Slots}
 use Rattle.arp.specs.declared.state.Stepped.{Stepped}
-use Rattle.arp.specs.declared.told.Told.{Told}
-use Rattle.arp.specs.declared.told.Told.the-variants.{Again, Over, GivenUp, Reply, Took, Unasked}
+use Rattle.commands.specs.declared.told.Told.{Told}
+use Rattle.commands.specs.declared.told.Told.the-variants.{Again, Over, GivenUp, Reply, Took, Unasked}
 
 abbrev address : ℕ → Address
 address a = record { 0 = a }
@@ -62,7 +64,7 @@ unfolding freed
 freed-held s u w i l e = go (findFrom u (s .slots) 128 0) (ltb 127 (findFrom u (s .slots) 128 0)) refl e
   where
     at : (f : ℕ) → ((i ≡ f) × (Open ≡ Bound w)) ⊎ ((i ≡ f → ⊥) × (heldAt (s .slots) i ≡ Bound w)) → heldAt (s .slots) i ≡ Bound w
-    at f (inl q) = absurd (let z : _≡_ {A = ℕ} 0 1 = cc (q .1) in omega arith)
+    at f (inl q) = zero-is-one (cc (q .1))
     at f (inr q) = q .1
 
     go : (f : ℕ) (t : Bool) → ltb 127 f ≡ t → heldAt (pick t s (freedAt s f) .slots) i ≡ Bound w → heldAt (s .slots) i ≡ Bound w
@@ -78,10 +80,10 @@ freed-claims s u i e = go (findFrom u (s .slots) 128 0) (find-cases u (s .slots)
     go f (inl r) = rw (lt-ltb 127 f (omega (arith, r .0))) e
     go f (inr r) =
         rw (le-ltb 127 f (omega (arith, r .0)))
-        (held-other (s .slots) f i Open (λ q. absurd (let z : _≡_ {A = ℕ} 0 1 = cc (bound-to-is-bound u (heldAt (s .slots) f) (r .1), ap (heldAt (s .slots)) q, e) in omega arith)) ∙ e)
+        (held-other (s .slots) f i Open (λ q. zero-is-one (cc (bound-to-is-bound u (heldAt (s .slots) f) (r .1), ap (heldAt (s .slots)) q, e))) ∙ e)
 
 slot-held : (b : Bool) (u w : Udid) → bindingFor b u ≡ Bound w → u ≡ w
-slot-held true u w e = absurd (let z : _≡_ {A = ℕ} 0 1 = cc e in omega arith)
+slot-held true u w e = zero-is-one (cc e)
 slot-held false u w e = cc e
 
 -- binding binds u at n, and nobody else

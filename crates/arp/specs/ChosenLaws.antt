@@ -7,6 +7,7 @@ use native.Mathlib.Decide.{ℕ-discrete}
 use native.Mathlib.Omega.{arith}
 use lib.Dec.{eqb}
 use borrow.Author.Tests.{eq-eqb, ne-eqb, eqb-true}
+use Rattle.lists.specs.AbsurdLaws.{zero-is-one}
 use Rattle.lists.specs.Choice.{pick}
 use Rattle.wire.specs.declared.address.Address.{Address}
 use Rattle.pool.specs.Free.{freeFrom, lowestFree}
@@ -56,7 +57,7 @@ chosen-small-and-free p u b a h e = go (eqb b 0xFF) (isFixed u) refl (member p (
         → pick r (lowestFree p) (pick s (At (ownAddress b)) (pick t (lowestFree p) (At (ownAddress b)))) ≡ At a
         → (a .0 < 128) × (isFixed u ≡ false → member p (a .0) ≡ false)
     go true s f t m k = picked k
-    go false true f t m k = (let q = own k in omega arith, λ g. absurd (let z : _≡_ {A = ℕ} 0 1 = cc (f, g) in omega arith))
+    go false true f t m k = (let q = own k in omega arith, λ g. zero-is-one (cc (f, g)))
     go false false f true m k = picked k
     go false false f false m k = (let q = own k in omega arith, λ g. ap (member p) (sym (own k)) ∙ m)
 
@@ -80,7 +81,7 @@ lowest-full used (suc n) a e c l h = go (λ k m. lowest-full used n (suc a) k c 
     go : (lowest used n (suc a) ≡ AllUsed → suc a ≤ c → used c ≡ true) → (b : Bool) → used a ≡ b → pick b (lowest used n (suc a)) (At (record { 0 = a })) ≡ AllUsed → Dec (a ≡ c) → used c ≡ true
     go ih true q k (yes m) = ap used (sym m) ∙ q
     go ih true q k (no m) = ih k (omega arith)
-    go ih false q k m = absurd (let z : _≡_ {A = ℕ} 0 1 = cc k in omega arith)
+    go ih false q k m = zero-is-one (cc k)
 
 full-lowest : (used : ℕ → Bool) (n a : ℕ) → ((c : ℕ) → a ≤ c → c < a + n → used c ≡ true) → lowest used n a ≡ AllUsed
 unfolding lowest
@@ -94,7 +95,7 @@ pub none-picked-exactly : (used : ℕ → Bool) (u : Udid) (b : ℕ) → (picked
 none-picked-exactly used u b = (λ e. forth (eqb b 0xFF) refl (isFixed u) refl (used (b / 2)) refl e, λ h. back-to (h .1) h)
   where
     never : {a : Address} → At a ≡ AllUsed → ⊥
-    never q = let z : _≡_ {A = ℕ} 0 1 = cc q in omega arith
+    never q = zero-is-one (cc q)
 
     all : lowest used 128 0 ≡ AllUsed → (c : ℕ) → c < 128 → used c ≡ true
     all e c h = lowest-full used 128 0 e c (omega arith) (omega arith)

@@ -5,9 +5,9 @@ use mathlib.Core.Path.{_≡_, refl, sym, ap, ap₂, _∙_}
 use mathlib.Core.Bool.{Bool, true, false}
 use mathlib.Core.List.{List, [], _∷_}
 use mathlib.Core.Logic.{inl, inr}
-use native.Mathlib.Omega.{arith}
 use lib.Dec.{ltb, leb, eqb}
 use lib.ListN.{getD}
+use Rattle.lists.specs.AbsurdLaws.{zero-is-one}
 use Rattle.lists.specs.Choice.{pick, and}
 use Rattle.trace.specs.declared.transaction.Transaction.{Transaction}
 use Rattle.step.specs.Numbers.{isNack}
@@ -29,16 +29,16 @@ use Rattle.arp.specs.Story.{Story, onward, story}
 use Rattle.arp.specs.Sound.{SoundIn}
 use Rattle.arp.specs.Bindings.{freed, bound}
 use Rattle.arp.specs.Controller.{handed, counted, asked, chosen, issued, replied, stepped, changed}
-use Rattle.arp.specs.Heard.{sendByte, blockRead, blockWrite, answer, sentIn, receivedIn, isPrepare, isGet, isAssign}
+use Rattle.commands.specs.Heard.{sendByte, blockRead, blockWrite, answer, sentIn, receivedIn, isPrepare, isGet, isAssign}
 use Rattle.arp.specs.History.{Event, Start, Received, run, oneGet, getsSent}
-use Rattle.arp.specs.Replay.{Table, released, after, readAs, handedOut, table, noCommand, again, picked, assigning, nextPrepare, nextReply, nextCommand, view, SameOutstanding}
-use Rattle.arp.specs.declared.command.Command.the-variants.{Prepare, GetUdid, Assign}
-use Rattle.arp.specs.declared.command.End.the-variants.{Ended, Abandoned, NotOutstanding}
-use Rattle.arp.specs.declared.command.Handed.{Handed}
-use Rattle.arp.specs.declared.command.Handed.the-variants.{Send, Wait}
+use Rattle.arp.specs.Replay.{Table, released, after, readAs, handedOut, table, again, picked, assigning, nextPrepare, nextReply, nextCommand, view, SameOutstanding}
+use Rattle.commands.specs.declared.command.Command.the-variants.{Prepare, GetUdid, Assign}
+use Rattle.commands.specs.declared.command.End.the-variants.{Ended, Abandoned, NotOutstanding}
+use Rattle.commands.specs.declared.command.Handed.{Handed}
+use Rattle.commands.specs.declared.command.Handed.the-variants.{Send, Wait}
 use Rattle.arp.specs.declared.state.Controller.{Controller}
-use Rattle.arp.specs.Told.{toldPrepare, toldReply, toldGet, toldAssign, tells}
-use Rattle.arp.specs.declared.told.Told.the-variants.{Again, Over, GivenUp, Reply, Took}
+use Rattle.commands.specs.Told.{toldPrepare, toldReply, toldGet, toldAssign, tells, noCommand}
+use Rattle.commands.specs.declared.told.Told.the-variants.{Again, Over, GivenUp, Reply, Took}
 
 asked-command : (s : Controller) → asked s .command ≡ again (s .gets)
 unfolding asked
@@ -109,7 +109,7 @@ module _ (s : Controller) (v : SoundIn s) where
       go (Wait e) = refl
 
 idle-next : (t : Table) (n : ℕ) (k : Handed) (tr : List ℕ) → noCommand k ≡ true → nextCommand t n k tr ≡ Wait NotOutstanding
-idle-next t n (Send k) tr i = absurd (let z : _≡_ {A = ℕ} 0 1 = cc i in omega arith)
+idle-next t n (Send k) tr i = zero-is-one (cc i)
 idle-next t n (Wait e) tr i = refl
 
 same-next : (t : Table) (n : ℕ) (k m : Handed) (tr : List ℕ) → SameOutstanding k m → nextCommand t n k tr ≡ nextCommand t n m tr

@@ -7,6 +7,7 @@ use mathlib.Core.Logic.{_⊎_, inl, inr}
 use native.Mathlib.Nat.{add-zero}
 use native.Mathlib.Omega.{arith}
 use lib.Dec.{ltb, leb}
+use Rattle.lists.specs.AbsurdLaws.{zero-is-one}
 use Rattle.lists.specs.Choice.{pick}
 use Rattle.lists.specs.ChoiceLaws.{not-both}
 use Rattle.wire.specs.declared.address.Address.{Address}
@@ -17,22 +18,21 @@ use Rattle.pool.specs.declared.free.Free.the-variants.{At, AllUsed}
 use Rattle.udid.specs.Udids.{isFixed}
 use Rattle.udid.specs.declared.Udid.{Udid}
 use Rattle.arp.specs.HistoryLaws.{reached-good}
-use Rattle.arp.specs.ToldLaws.{Known, told-known}
+use Rattle.commands.specs.ToldLaws.{Known, told-known}
 use Rattle.arp.specs.Handing.{Kept}
 use Rattle.arp.specs.Sound.{Pending, PendingIn}
 use Rattle.arp.specs.Bindings.{findFrom, freedAt, freed, boundAt, bound}
 use Rattle.arp.specs.Controller.{handed, counted, asked, chosen, issued, replied, changed, stepped}
 use Rattle.arp.specs.History.{Event, Start, Received, run, oneGet, getsSent}
-use Rattle.arp.specs.Replay.{noCommand}
-use Rattle.arp.specs.Told.{tells}
-use Rattle.arp.specs.declared.command.Command.the-variants.{GetUdid, Assign}
-use Rattle.arp.specs.declared.command.End.the-variants.{Ended, NoneFree, Abandoned, NotOutstanding}
-use Rattle.arp.specs.declared.command.Handed.{Handed}
-use Rattle.arp.specs.declared.command.Handed.the-variants.{Send, Wait}
+use Rattle.commands.specs.Told.{tells, noCommand}
+use Rattle.commands.specs.declared.command.Command.the-variants.{GetUdid, Assign}
+use Rattle.commands.specs.declared.command.End.the-variants.{Ended, NoneFree, Abandoned, NotOutstanding}
+use Rattle.commands.specs.declared.command.Handed.{Handed}
+use Rattle.commands.specs.declared.command.Handed.the-variants.{Send, Wait}
 use Rattle.arp.specs.declared.state.Controller.{Controller}
 use Rattle.arp.specs.declared.state.Stepped.{Stepped}
-use Rattle.arp.specs.declared.told.Told.{Told}
-use Rattle.arp.specs.declared.told.Told.the-variants.{Again, Over, GivenUp, Reply, Took, Unasked}
+use Rattle.commands.specs.declared.told.Told.{Told}
+use Rattle.commands.specs.declared.told.Told.the-variants.{Again, Over, GivenUp, Reply, Took, Unasked}
 
 plain : (s : Controller) (k : Handed) → oneGet k ≡ 0 → Kept s (handed s k)
 plain s k e = record { last = refl; gets = omega arith }
@@ -115,4 +115,4 @@ claims-are-fixed occupied es u a e h = go (isFixed u) refl
 
     go : (b : Bool) → isFixed u ≡ b → isFixed u ≡ true
     go true q = q
-    go false q = absurd (let z : _≡_ {A = ℕ} 0 1 = cc (h, p .free q) in omega arith)
+    go false q = zero-is-one (cc (h, p .free q))

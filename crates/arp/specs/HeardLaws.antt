@@ -25,13 +25,13 @@ use Rattle.decode.specs.Outcome.{short, answeredBy, answered, Outcome}
 use Rattle.udid.specs.Bytes.{number, bytesFrom, udidAt}
 use Rattle.udid.specs.Udids.{sameUdid}
 use Rattle.udid.specs.declared.Udid.{Udid}
-use Rattle.arp.specs.Heard.{answer, sentIn, receivedIn}
+use Rattle.commands.specs.Heard.{answer, sentIn, receivedIn}
 use Rattle.arp.specs.OneStep.{Gives}
 use Rattle.arp.specs.Replay.{Happened, Replied, Assigned, Other, Table, released, replyIn, assigns, assignIn, readAs, again, picked, assigning, nextPrepare, nextReply, nextCommand}
-use Rattle.arp.specs.declared.command.Command.the-variants.{Prepare, GetUdid, Assign}
-use Rattle.arp.specs.declared.command.End.the-variants.{Ended, Abandoned}
-use Rattle.arp.specs.declared.command.Handed.{Handed}
-use Rattle.arp.specs.declared.command.Handed.the-variants.{Send, Wait}
+use Rattle.commands.specs.declared.command.Command.the-variants.{Prepare, GetUdid, Assign}
+use Rattle.commands.specs.declared.command.End.the-variants.{Ended, Abandoned}
+use Rattle.commands.specs.declared.command.Handed.{Handed}
+use Rattle.commands.specs.declared.command.Handed.the-variants.{Send, Wait}
 
 -- ---- the answer, and the buffers
 

@@ -6,6 +6,7 @@ use mathlib.Core.List.{List, [], _∷_}
 use native.Mathlib.Omega.{arith}
 use lib.Dec.{ltb, leb}
 use borrow.Author.Tests.{leb-false}
+use Rattle.lists.specs.AbsurdLaws.{zero-is-one}
 use Rattle.lists.specs.Choice.{pick, or}
 use Rattle.pool.specs.CountLaws.{count-split}
 use Rattle.pool.specs.Free.{used}
@@ -19,20 +20,21 @@ use Rattle.udid.specs.declared.Udid.{Udid}
 use Rattle.arp.specs.ChosenLaws.{chosen-small-and-free}
 use Rattle.arp.specs.SoundLaws.{sound-open, sound-freed, sound-bound}
 use Rattle.arp.specs.SlotsLaws.{open-all}
-use Rattle.arp.specs.ToldLaws.{Known, by-told}
+use Rattle.arp.specs.ChangedLaws.{by-told}
+use Rattle.commands.specs.ToldLaws.{Known}
 use Rattle.arp.specs.Sound.{SoundIn, Good, Pending, PendingIn, GoodState}
 use Rattle.arp.specs.Bindings.{findFrom, freedAt, freed, boundAt, bound}
 use Rattle.arp.specs.Slots.{heldAt}
 use Rattle.arp.specs.Controller.{newController, handed, counted, asked, chosen, issued, replied, changed, stepped}
 use Rattle.arp.specs.History.{Event, Start, Received, run, isHeld, Invariant, New}
-use Rattle.arp.specs.declared.command.Command.the-variants.{GetUdid, Assign}
-use Rattle.arp.specs.declared.command.End.the-variants.{Ended, Abandoned}
-use Rattle.arp.specs.declared.command.Handed.the-variants.{Send, Wait}
+use Rattle.commands.specs.declared.command.Command.the-variants.{GetUdid, Assign}
+use Rattle.commands.specs.declared.command.End.the-variants.{Ended, Abandoned}
+use Rattle.commands.specs.declared.command.Handed.the-variants.{Send, Wait}
 use Rattle.arp.specs.declared.state.Binding.{Binding}
 use Rattle.arp.specs.declared.state.Binding.the-variants.{Bound, Claimed}
 use Rattle.arp.specs.declared.state.Controller.{Controller}
-use Rattle.arp.specs.declared.told.Told.{Told}
-use Rattle.arp.specs.declared.told.Told.the-variants.{Again, Over, GivenUp, Reply, Took, Unasked}
+use Rattle.commands.specs.declared.told.Told.{Told}
+use Rattle.commands.specs.declared.told.Told.the-variants.{Again, Over, GivenUp, Reply, Took, Unasked}
 
 -- ---- each function of the step keeps the state good
 
@@ -119,7 +121,7 @@ reached-invariant occupied es = record {
   bound-used = λ a u e. held-used a (Bound u) e refl;
   bound-new = λ a u e. v .new a u e;
   bound-one = λ a u w e f. same (sym e ∙ f);
-  bound-unclaimed = λ a u e f. let z : _≡_ {A = ℕ} 0 1 = cc (e, f) in omega arith;
+  bound-unclaimed = λ a u e f. zero-is-one (cc (e, f));
   bound-once = λ a b u e f. v .once a b u e f;
   claimed-used = λ a e. held-used a Claimed e refl;
   number = count-split (member (s .starting)) (λ a. isHeld (heldAt (s .slots) a)) (member (s .pool)) 128 (λ a h. v .exact a);

@@ -1,16 +1,9 @@
-pub mod Codes
 pub mod Slots
 pub mod State
 pub mod Bindings
-pub mod Heard
-pub mod Told
 pub mod Controller
 pub mod Lookup
 pub mod Numbers
-pub mod Requests
-pub mod CommandTraces
-pub mod CommandRows
-pub mod Sending
 pub mod History
 pub mod Sound
 pub mod Handing
@@ -19,11 +12,8 @@ pub mod Reading
 pub mod Story
 pub mod OneStep
 pub mod SlotsLaws
+pub mod ChangedLaws
 pub mod StateLaws
-pub mod RequestLaws
-pub mod SendingLaws
-pub mod TraceLaws
-pub mod ToldLaws
 pub mod HeardLaws
 pub mod BindingLaws
 pub mod SoundLaws
@@ -40,4 +30,3 @@ pub mod TableLaws
 pub mod HandedOutLaws
 pub mod NoneFreeLaws
 pub mod StoryLaws
-pub mod LongTraceLaws

@@ -8,6 +8,7 @@ use native.Mathlib.Decide.{decLt}
 use native.Mathlib.Omega.{arith}
 use lib.Dec.{eqb}
 use borrow.Author.Tests.{lt-ltb, le-ltb}
+use Rattle.lists.specs.AbsurdLaws.{zero-is-one}
 use Rattle.lists.specs.Choice.{pick}
 use Rattle.udid.specs.declared.Udid.{Udid}
 use Rattle.arp.specs.Slots.{heldAt}
@@ -54,9 +55,9 @@ unseen-is (Bound u) = refl
 unseen-is Claimed = refl
 
 seen-some : (h : Binding) → seen h ≡ found.NoAddress → ⊥
-seen-some Open e = let z : _≡_ {A = ℕ} 0 1 = cc e in omega arith
-seen-some (Bound u) e = let z : _≡_ {A = ℕ} 0 1 = cc e in omega arith
-seen-some Claimed e = let z : _≡_ {A = ℕ} 0 1 = cc e in omega arith
+seen-some Open e = zero-is-one (cc e)
+seen-some (Bound u) e = zero-is-one (cc e)
+seen-some Claimed e = zero-is-one (cc e)
 
 seen-is : (x : Found) (h : Binding) → (seen h ≡ x) ↔ heldFor x h
 seen-is (found.Bound u) h = (λ e. unseen-is h ∙ ap unseen e, λ e. ap seen e)
@@ -91,15 +92,15 @@ module _ (s : Controller) (a : ℕ) where
 
   -- 0 WITH THE IDENTIFIER: it is bound there
   pub lookup-0 : (u : Udid) → (lookupNumber (lookedUp s a) ≡ (0, u ∷ [])) ↔ ((a < 128) × (heldAt (s .slots) a ≡ Bound u))
-  lookup-0 u = only-small (found.Bound u) (λ e. let z : _≡_ {A = ℕ} 0 1 = cc e in omega arith)
+  lookup-0 u = only-small (found.Bound u) (λ e. zero-is-one (cc e))
 
   -- 15: nobody is bound
   pub lookup-15 : (lookupNumber (lookedUp s a) ≡ (15, [])) ↔ ((a < 128) × (heldAt (s .slots) a ≡ Open))
-  lookup-15 = only-small found.Nobody (λ e. let z : _≡_ {A = ℕ} 0 1 = cc e in omega arith)
+  lookup-15 = only-small found.Nobody (λ e. zero-is-one (cc e))
 
   -- 16: two claim it
   pub lookup-16 : (lookupNumber (lookedUp s a) ≡ (16, [])) ↔ ((a < 128) × (heldAt (s .slots) a ≡ Claimed))
-  lookup-16 = only-small found.Two (λ e. let z : _≡_ {A = ℕ} 0 1 = cc e in omega arith)
+  lookup-16 = only-small found.Two (λ e. zero-is-one (cc e))
 
   -- 1: an address above 127
   pub lookup-1 : (lookupNumber (lookedUp s a) ≡ (1, [])) ↔ (127 < a)

@@ -7,6 +7,7 @@ use mathlib.Core.Logic.{_↔_}
 use native.Mathlib.Omega.{arith}
 use lib.Dec.{ltb, leb, eqb}
 use lib.ListN.{getD}
+use Rattle.lists.specs.AbsurdLaws.{zero-is-one}
 use Rattle.lists.specs.Choice.{pick, and}
 use Rattle.step.specs.Numbers.{isNack}
 use Rattle.step.specs.declared.answer.Decoded.{Decoded}
@@ -22,45 +23,45 @@ use Rattle.arp.specs.HandedOutLaws.{handed-out-by-table, table-is-story}
 use Rattle.arp.specs.ReadingLaws.{replied-exactly, reply-byte-received}
 use Rattle.arp.specs.Story.{Story, story, Full}
 use Rattle.arp.specs.Controller.{stepped}
-use Rattle.arp.specs.Heard.{answer, sentIn, receivedIn}
+use Rattle.commands.specs.Heard.{answer, sentIn, receivedIn}
 use Rattle.arp.specs.History.{Event, run, getsSent}
 use Rattle.arp.specs.Numbers.{endNumber, commandNumber}
 use Rattle.arp.specs.Replay.{Happened, Replied, Assigned, Other, Table, released, replyIn, assigns, assignIn, readAs, handedOut, table, again, picked, NoneToPick, assigning, nextPrepare, nextReply, nextCommand}
-use Rattle.arp.specs.CommandTraces.{replyTrace}
-use Rattle.arp.specs.declared.command.Command.the-variants.{Prepare, GetUdid, Assign}
-use Rattle.arp.specs.declared.command.End.{End}
-use Rattle.arp.specs.declared.command.End.the-variants.{Nothing, Ended, NoneFree, Abandoned, NotOutstanding}
-use Rattle.arp.specs.declared.command.Handed.{Handed}
-use Rattle.arp.specs.declared.command.Handed.the-variants.{Send, Wait}
+use Rattle.commands.specs.CommandTraces.{replyTrace}
+use Rattle.commands.specs.declared.command.Command.the-variants.{Prepare, GetUdid, Assign}
+use Rattle.commands.specs.declared.command.End.{End}
+use Rattle.commands.specs.declared.command.End.the-variants.{Nothing, Ended, NoneFree, Abandoned, NotOutstanding}
+use Rattle.commands.specs.declared.command.Handed.{Handed}
+use Rattle.commands.specs.declared.command.Handed.the-variants.{Send, Wait}
 
 module _ (t : Table) (n : ℕ) (u : Udid) where
   again-none : again n ≡ Wait (NoneFree u) → ⊥
   again-none e = go (leb 128 n) e
     where
       go : (b : Bool) → pick b (Wait Abandoned) (Send GetUdid) ≡ Wait (NoneFree u) → ⊥
-      go true k = let z : _≡_ {A = ℕ} 0 1 = cc k in omega arith
-      go false k = let z : _≡_ {A = ℕ} 0 1 = cc k in omega arith
+      go true k = zero-is-one (cc k)
+      go false k = zero-is-one (cc k)
 
   prepare-none : (d : Decoded) (xs : List ℕ) → nextPrepare n d xs ≡ Wait (NoneFree u) → ⊥
   prepare-none (Done x) xs e = go (and (eqb (x .address .0) 0x61) (eqb (getD xs 0 0) 0x01)) e
     where
       go : (b : Bool) → pick b (again n) (Wait Abandoned) ≡ Wait (NoneFree u) → ⊥
       go true k = again-none k
-      go false k = let z : _≡_ {A = ℕ} 0 1 = cc k in omega arith
+      go false k = zero-is-one (cc k)
   prepare-none (Refused w k) xs e = go (isNack w) e
     where
       go : (b : Bool) → pick b (Wait Ended) (Wait Abandoned) ≡ Wait (NoneFree u) → ⊥
-      go true k = let z : _≡_ {A = ℕ} 0 1 = cc k in omega arith
-      go false k = let z : _≡_ {A = ℕ} 0 1 = cc k in omega arith
+      go true k = zero-is-one (cc k)
+      go false k = zero-is-one (cc k)
 
   abbrev Unserved : Happened → List ℕ → Type 0
   Unserved x xs = (x ≡ Replied u) × (picked (released u t .used) u (getD xs 16 0) ≡ AllUsed)
 
   not-reply : (xs : List ℕ) → Unserved Other xs → ⊥
-  not-reply xs h = let z : _≡_ {A = ℕ} 0 1 = cc (h .0) in omega arith
+  not-reply xs h = zero-is-one (cc (h .0))
 
   assigning-none : (w : Udid) (f : Free) → assigning w f ≡ Wait (NoneFree u) → (w ≡ u) × (f ≡ AllUsed)
-  assigning-none w (At a) e = absurd (let z : _≡_ {A = ℕ} 0 1 = cc e in omega arith)
+  assigning-none w (At a) e = zero-is-one (cc e)
   assigning-none w AllUsed e = (cc e, refl)
 
   done-none : (p q : Bool) (w : Udid) (xs : List ℕ)
@@ -76,7 +77,7 @@ module _ (t : Table) (n : ℕ) (u : Udid) where
       back-to h =
           let k : w ≡ u = cc (h .0) in
           ap (λ (v : Udid). assigning v (picked (released v t .used) v (getD xs 16 0))) k ∙ ap (assigning u) (h .1)
-  done-none true false w xs = (λ e. absurd (let z : _≡_ {A = ℕ} 0 1 = cc e in omega arith), λ h. absurd (not-reply xs h))
+  done-none true false w xs = (λ e. zero-is-one (cc e), λ h. absurd (not-reply xs h))
   done-none false q w xs = (λ e. absurd (again-none e), λ h. absurd (not-reply xs h))
 
   neither : (xs : List ℕ) → (again n ≡ Wait (NoneFree u)) ↔ Unserved Other xs
@@ -87,19 +88,19 @@ module _ (t : Table) (n : ℕ) (u : Udid) where
   reply-none-free (Refused w k) xs = (λ e. absurd (go (and (isNack w) (ltb k 3)) e), λ h. absurd (not-reply xs h))
     where
       go : (q : Bool) → pick q (Wait Ended) (again n) ≡ Wait (NoneFree u) → ⊥
-      go true k = let z : _≡_ {A = ℕ} 0 1 = cc k in omega arith
+      go true k = zero-is-one (cc k)
       go false k = again-none k
 
   assign-asks : (w : Udid) (a : ℕ) (d : Decoded) (xs ys : List ℕ) → Unserved (assignIn w a d xs) ys → ⊥
   assign-asks w a (Done x) xs ys h = go (and (and (eqb (x .address .0) 0x61) (eqb (x .command) 0x04)) (and (eqb (x .sent) 17) (assigns w a xs))) (h .0)
     where
       go : (q : Bool) → pick q (Assigned w a) Other ≡ Replied u → ⊥
-      go true k = let z : _≡_ {A = ℕ} 0 1 = cc k in omega arith
-      go false k = let z : _≡_ {A = ℕ} 0 1 = cc k in omega arith
+      go true k = zero-is-one (cc k)
+      go false k = zero-is-one (cc k)
   assign-asks w a (Refused v k) xs ys h = not-reply ys h
 
   idle-none : (xs : List ℕ) → ((Wait NotOutstanding) ≡ Wait (NoneFree u)) ↔ Unserved Other xs
-  idle-none xs = (λ e. absurd (let z : _≡_ {A = ℕ} 0 1 = cc e in omega arith), λ h. absurd (not-reply xs h))
+  idle-none xs = (λ e. zero-is-one (cc e), λ h. absurd (not-reply xs h))
 
   next-none : (k : Handed) (tr : List ℕ) → (nextCommand t n k tr ≡ Wait (NoneFree u)) ↔ Unserved (readAs k tr) (receivedIn 9 tr)
   next-none (Send Prepare) tr = (λ e. absurd (prepare-none (answer 1 tr) (sentIn 1 tr) e), λ h. absurd (not-reply (receivedIn 9 tr) h))
@@ -165,11 +166,11 @@ number-13-end (NoneFree v) u e = ap NoneFree (same (ap (λ (l : List (ℕ × Lis
   where
     same : v ∷ [] ≡ u ∷ [] → v ≡ u
     same q = cc q
-number-13-end Nothing u e = absurd (let z : _≡_ {A = ℕ} 0 1 = cc e in omega arith)
+number-13-end Nothing u e = zero-is-one (cc e)
 number-13-end Ended u e = absurd (let z : _≡_ {A = ℕ} 0 13 = ap (λ (l : List (ℕ × List Udid)). first l .0) e in omega arith)
 number-13-end Abandoned u e = absurd (let z : _≡_ {A = ℕ} 14 13 = ap (λ (l : List (ℕ × List Udid)). first l .0) e in omega arith)
 number-13-end NotOutstanding u e = absurd (let z : _≡_ {A = ℕ} 21 13 = ap (λ (l : List (ℕ × List Udid)). first l .0) e in omega arith)
 
 pub number-13-is-none-free : (k : Handed) (u : Udid) → commandNumber k ≡ (13, u ∷ []) ∷ [] → k ≡ Wait (NoneFree u)
-number-13-is-none-free (Send k) u e = absurd (let z : _≡_ {A = ℕ} 0 1 = cc e in omega arith)
+number-13-is-none-free (Send k) u e = zero-is-one (cc e)
 number-13-is-none-free (Wait x) u e = ap Wait (number-13-end x u e)

@@ -7,6 +7,8 @@ use mathlib.Core.Logic.{_⊎_, inl, inr}
 use native.Mathlib.Decide.{ℕ-discrete, decLt}
 use native.Mathlib.Omega.{arith}
 use lib.ListN.{length, getD, drop}
+use Rattle.lists.specs.AbsurdLaws.{zero-is-one}
+use Rattle.lists.specs.ChoiceLaws.{not-both}
 use Rattle.lists.specs.Each.{Bytes}
 use Rattle.wire.specs.declared.address.Address.{Address}
 use Rattle.trace.specs.Shapes.{forbidden}
@@ -26,19 +28,19 @@ use Rattle.udid.specs.Bytes.{udidBytes}
 use Rattle.udid.specs.UdidLaws.{same-refl}
 use Rattle.udid.specs.declared.Udid.{Udid}
 use Rattle.arp.specs.HeardLaws.{gives-exactly}
-use Rattle.arp.specs.RequestLaws.{valid-get, reply-symbols}
-use Rattle.arp.specs.TraceLaws.{decoded-back, complete-get-is-its-trace, complete-get-data-fits}
+use Rattle.commands.specs.RequestLaws.{valid-get, reply-symbols}
+use Rattle.commands.specs.TraceLaws.{decoded-back, complete-get-is-its-trace, complete-get-data-fits}
 use Rattle.arp.specs.SoundLaws.{bound-to-is-bound}
 use Rattle.arp.specs.Bindings.{boundTo}
-use Rattle.arp.specs.Heard.{blockRead, answer, receivedIn, isGet}
-use Rattle.arp.specs.CommandTraces.{replyTrace, Reply}
+use Rattle.commands.specs.Heard.{blockRead, answer, receivedIn, isGet}
+use Rattle.commands.specs.CommandTraces.{replyTrace, Reply}
 use Rattle.arp.specs.OneStep.{Gives, Hands, Asks, Chooses, Keeps, Same, BoundAt, Unbinds, Binds, Continues, EndsWith, Replies, Alike}
-use Rattle.arp.specs.Requests.{messageOf}
+use Rattle.commands.specs.Requests.{messageOf}
 use Rattle.arp.specs.Slots.{heldAt}
-use Rattle.arp.specs.declared.command.Command.the-variants.{GetUdid, Assign}
-use Rattle.arp.specs.declared.command.End.the-variants.{NoneFree}
-use Rattle.arp.specs.declared.command.Handed.{Handed}
-use Rattle.arp.specs.declared.command.Handed.the-variants.{Send, Wait}
+use Rattle.commands.specs.declared.command.Command.the-variants.{GetUdid, Assign}
+use Rattle.commands.specs.declared.command.End.the-variants.{NoneFree}
+use Rattle.commands.specs.declared.command.Handed.{Handed}
+use Rattle.commands.specs.declared.command.Handed.the-variants.{Send, Wait}
 use Rattle.arp.specs.declared.state.Binding.the-variants.{Bound}
 use Rattle.arp.specs.declared.state.Controller.{Controller}
 use Rattle.arp.specs.declared.slots.Slots.{Slots}
@@ -96,8 +98,7 @@ reply-or-not s tr = go (answer blockRead tr) refl
         clash w =
             let m : Done t ≡ Done (w .0) = sym e ∙ w .1 in
             let j : t ≡ w .0 = cc m in
-            let z : _≡_ {A = ℕ} 0 1 = cc (sym k ∙ ap isGet j ∙ w .2) in
-            omega arith
+            not-both k (ap isGet j ∙ w .2)
 
     go : (d : Decoded) → answer blockRead tr ≡ d → Reply tr ⊎ ((xs : List ℕ) → Bytes xs → length xs ≤ 255 → tr ≡ replyTrace xs → ⊥)
     go (Done t) e = done t e (isGet t) refl
@@ -151,7 +152,7 @@ module _ (slots : Slots) (u : Udid) where
     where
       go : (b : Bool) → boundTo u (heldAt slots a) ≡ b → Dec (heldAt slots a ≡ Bound u)
       go true e = yes (bound-to-is-bound u (heldAt slots a) e)
-      go false e = no (λ k. let z : _≡_ {A = ℕ} 0 1 = cc (sym e ∙ ap (boundTo u) k ∙ same-refl u) in omega arith)
+      go false e = no (λ k. zero-is-one (cc (sym e ∙ ap (boundTo u) k ∙ same-refl u)))
 
   below : (a : ℕ) → Dec ((b : ℕ) → b < a → heldAt slots b ≡ Bound u → ⊥)
   below zero = yes (λ b h k. absurd (omega arith))

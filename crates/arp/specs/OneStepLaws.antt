@@ -10,6 +10,7 @@ use lib.Dec.{ltb, leb}
 use lib.ListN.{length, getD, length-append}
 use lib.Seq.{getD-at}
 use borrow.Author.Tests.{lt-ltb, le-ltb, lt-leb, le-leb}
+use Rattle.lists.specs.AbsurdLaws.{zero-is-one}
 use Rattle.lists.specs.Choice.{pick}
 use Rattle.lists.specs.Each.{Bytes}
 use Rattle.lists.specs.EachLaws.{append-bytes}
@@ -31,30 +32,30 @@ use Rattle.arp.specs.ChosenLaws.{chosen-ff-lowest, chosen-fixed-own, cho
 use Rattle.arp.specs.HandingLaws.{bound-keeps-gets, freed-keeps-gets}
 use Rattle.arp.specs.HeardLaws.{six-exactly}
 use Rattle.arp.specs.OutstandingLaws.{idle-gives-21}
-use Rattle.arp.specs.RequestLaws.{reply-symbols, prepare-symbols, assign-symbols-small}
+use Rattle.commands.specs.RequestLaws.{reply-symbols, prepare-symbols, assign-symbols-small}
 use Rattle.arp.specs.SoundLaws.{bound-to-is-bound, open-is-not-bound, find-cases}
 use Rattle.arp.specs.SlotsLaws.{held-above-is-open, held-same, held-other}
-use Rattle.arp.specs.ToldLaws.{told-is-changed}
-use Rattle.arp.specs.TraceLaws as traces
+use Rattle.arp.specs.ChangedLaws.{told-is-changed}
+use Rattle.commands.specs.TraceLaws as traces
 use Rattle.arp.specs.Sound.{Nowhere}
 use Rattle.arp.specs.Bindings.{boundTo, findFrom, freedAt, freed, bindingFor, boundAt, bound}
 use Rattle.arp.specs.Controller.{handed, counted, asked, chosen, issued, replied, changed, stepped}
-use Rattle.arp.specs.Heard.{blockWrite, answer, sentIn, isAssign}
-use Rattle.arp.specs.CommandTraces.{prepareTrace, replyTrace, assignTrace}
+use Rattle.commands.specs.Heard.{blockWrite, answer, sentIn, isAssign}
+use Rattle.commands.specs.CommandTraces.{prepareTrace, replyTrace, assignTrace}
 use Rattle.arp.specs.OneStep.{Gives, Hands, Asks, Chooses, Keeps, Same, BoundAt, Unbinds, Binds, Continues, EndsWith, Replies}
-use Rattle.arp.specs.Replay.{noCommand, assigning}
+use Rattle.arp.specs.Replay.{assigning}
 use Rattle.arp.specs.Slots.{Sized128, heldAt, withBinding}
-use Rattle.arp.specs.declared.command.Command.the-variants.{Prepare, GetUdid, Assign}
-use Rattle.arp.specs.declared.command.End.the-variants.{Ended, NoneFree, Abandoned, NotOutstanding}
-use Rattle.arp.specs.declared.command.Handed.{Handed}
-use Rattle.arp.specs.declared.command.Handed.the-variants.{Send, Wait}
+use Rattle.commands.specs.declared.command.Command.the-variants.{Prepare, GetUdid, Assign}
+use Rattle.commands.specs.declared.command.End.the-variants.{Ended, NoneFree, Abandoned, NotOutstanding}
+use Rattle.commands.specs.declared.command.Handed.{Handed}
+use Rattle.commands.specs.declared.command.Handed.the-variants.{Send, Wait}
 use Rattle.arp.specs.declared.state.Binding.{Binding}
 use Rattle.arp.specs.declared.state.Binding.the-variants.{Open, Bound}
 use Rattle.arp.specs.declared.state.Controller.{Controller}
 use Rattle.arp.specs.declared.slots.Slots.{Slots}
 use Rattle.arp.specs.declared.state.Stepped.{Stepped}
-use Rattle.arp.specs.Told.{toldAssign, tells}
-use Rattle.arp.specs.declared.told.Told.the-variants.{Again, Over, GivenUp, Reply, Took}
+use Rattle.commands.specs.Told.{toldAssign, tells, noCommand}
+use Rattle.commands.specs.declared.told.Told.the-variants.{Again, Over, GivenUp, Reply, Took}
 
 -- ---- what is handed out
 
@@ -106,7 +107,7 @@ find-lowest u slots (suc n) a j l h k = go (boundTo u (heldAt slots a)) refl h (
 module _ (s : Controller) (u : Udid) (size : Sized128 (s .slots)) where
   -- what holds the identifier is bound to it
   never : (h : Binding) → boundTo u h ≡ false → h ≡ Bound u → ⊥
-  never h e q = let z : _≡_ {A = ℕ} 0 1 = cc (sym e ∙ ap (boundTo u) q ∙ same-refl u) in omega arith
+  never h e q = zero-is-one (cc (sym e ∙ ap (boundTo u) q ∙ same-refl u))
 
   unbinds-none : Nowhere u (s .slots) 0 → Unbinds u s s
   unbinds-none n = record { there = λ a w. absurd (gone a w (decLt a 128)); elsewhere = λ a w. (refl, refl) }

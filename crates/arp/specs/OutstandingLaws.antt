@@ -7,6 +7,7 @@ use mathlib.Core.List.{List, [], _∷_}
 use mathlib.Core.Logic.{inl, inr, _↔_}
 use native.Mathlib.Omega.{arith}
 use lib.Dec.{leb}
+use Rattle.lists.specs.AbsurdLaws.{zero-is-one}
 use Rattle.lists.specs.Choice.{pick}
 use Rattle.lists.specs.ChoiceLaws.{not-both}
 use Rattle.pool.specs.declared.Pool.{Pool}
@@ -14,22 +15,22 @@ use Rattle.pool.specs.declared.free.Free.{Free}
 use Rattle.pool.specs.declared.free.Free.the-variants.{At, AllUsed}
 use Rattle.udid.specs.declared.Udid.{Udid}
 use Rattle.arp.specs.HandingLaws.{busy-handed}
-use Rattle.arp.specs.ToldLaws.{Known, told-known}
+use Rattle.commands.specs.ToldLaws.{Known, told-known}
 use Rattle.arp.specs.Handing.{Kept}
 use Rattle.arp.specs.Bindings.{freed, bound}
 use Rattle.arp.specs.Controller.{newController, handed, counted, asked, chosen, issued, replied, changed, stepped}
 use Rattle.arp.specs.History.{Event, Start, Received, run, tracesAlone}
 use Rattle.arp.specs.Numbers.{endNumber, commandNumber}
-use Rattle.arp.specs.Replay.{Other, readAs, handedOut, noCommand, SameOutstanding}
-use Rattle.arp.specs.Told.{tells}
-use Rattle.arp.specs.declared.command.Command.the-variants.{Prepare, GetUdid, Assign}
-use Rattle.arp.specs.declared.command.End.{End}
-use Rattle.arp.specs.declared.command.End.the-variants.{Nothing, Ended, NoneFree, Abandoned, NotOutstanding}
-use Rattle.arp.specs.declared.command.Handed.{Handed}
-use Rattle.arp.specs.declared.command.Handed.the-variants.{Send, Wait}
+use Rattle.arp.specs.Replay.{Other, readAs, handedOut, SameOutstanding}
+use Rattle.commands.specs.Told.{tells, noCommand}
+use Rattle.commands.specs.declared.command.Command.the-variants.{Prepare, GetUdid, Assign}
+use Rattle.commands.specs.declared.command.End.{End}
+use Rattle.commands.specs.declared.command.End.the-variants.{Nothing, Ended, NoneFree, Abandoned, NotOutstanding}
+use Rattle.commands.specs.declared.command.Handed.{Handed}
+use Rattle.commands.specs.declared.command.Handed.the-variants.{Send, Wait}
 use Rattle.arp.specs.declared.state.Controller.{Controller}
-use Rattle.arp.specs.declared.told.Told.{Told}
-use Rattle.arp.specs.declared.told.Told.the-variants.{Again, Over, GivenUp, Reply, Took, Unasked}
+use Rattle.commands.specs.declared.told.Told.{Told}
+use Rattle.commands.specs.declared.told.Told.the-variants.{Again, Over, GivenUp, Reply, Took, Unasked}
 
 -- ---- none is outstanding, or what is handed out is kept
 
@@ -39,7 +40,7 @@ unfolding stepped
 idle-gives-21 s tr h = go (s .last) h
   where
     go : (k : Handed) → noCommand k ≡ true → (changed s (tells k tr) .state ≡ s) × (changed s (tells k tr) .command ≡ Wait NotOutstanding)
-    go (Send k) i = absurd (let z : _≡_ {A = ℕ} 0 1 = cc i in omega arith)
+    go (Send k) i = zero-is-one (cc i)
     go (Wait e) i = (refl, refl)
 
 -- and the state stays as it is
@@ -66,8 +67,8 @@ last-is-handed-out occupied (Received tr ∷ es) = go (noCommand (run occupied e
 
 idle-reads : (k : Handed) (tr : List ℕ) → noCommand k ≡ true → readAs k tr ≡ Other
 idle-reads (Send Prepare) tr i = refl
-idle-reads (Send GetUdid) tr i = absurd (let z : _≡_ {A = ℕ} 0 1 = cc i in omega arith)
-idle-reads (Send (Assign u a)) tr i = absurd (let z : _≡_ {A = ℕ} 0 1 = cc i in omega arith)
+idle-reads (Send GetUdid) tr i = zero-is-one (cc i)
+idle-reads (Send (Assign u a)) tr i = zero-is-one (cc i)
 idle-reads (Wait e) tr i = refl
 
 -- so a trace is read alike by either
@@ -93,14 +94,14 @@ first [] = 0
 first (x ∷ xs) = x .0
 
 number-21-end : (x : End) → endNumber x ≡ (21, []) ∷ [] → end-21 x ≡ true
-number-21-end Nothing e = absurd (let z : _≡_ {A = ℕ} 0 1 = cc e in omega arith)
+number-21-end Nothing e = zero-is-one (cc e)
 number-21-end Ended e = absurd (let z : 0 ≡ 21 = ap first e in omega arith)
 number-21-end (NoneFree u) e = absurd (let z : 13 ≡ 21 = ap first e in omega arith)
 number-21-end Abandoned e = absurd (let z : 14 ≡ 21 = ap first e in omega arith)
 number-21-end NotOutstanding e = refl
 
 number-21 : (k : Handed) → commandNumber k ≡ (21, []) ∷ [] → is-21 k ≡ true
-number-21 (Send k) e = absurd (let z : _≡_ {A = ℕ} 0 1 = cc e in omega arith)
+number-21 (Send k) e = zero-is-one (cc e)
 number-21 (Wait x) e = number-21-end x e
 
 -- every other way of a step hands out something else

@@ -11,11 +11,11 @@ use Rattle.decode.specs.Outcome.{Outcome}
 use Rattle.udid.specs.Bytes.{udidBytes}
 use Rattle.udid.specs.Udids.{Fits}
 use Rattle.udid.specs.declared.Udid.{Udid}
-use Rattle.arp.specs.CommandTraces.{assignTrace, ReplyOf}
+use Rattle.commands.specs.CommandTraces.{assignTrace, ReplyOf}
 use Rattle.arp.specs.Replay.{Started, Replied, Assigned, Table, replyIn, assignIn, readAs, nextPrepare, nextReply, nextCommand}
-use Rattle.arp.specs.declared.command.Command.the-variants.{Prepare, GetUdid, Assign}
-use Rattle.arp.specs.declared.command.Handed.{Handed}
-use Rattle.arp.specs.declared.command.Handed.the-variants.{Send}
+use Rattle.commands.specs.declared.command.Command.the-variants.{Prepare, GetUdid, Assign}
+use Rattle.commands.specs.declared.command.Handed.{Handed}
+use Rattle.commands.specs.declared.command.Handed.the-variants.{Send}
 
 pub record Reading (tr : List ℕ) : Type 0 where
   -- by what decode answers for it, for every call with PEC and two buffers of at least 255 bytes: for Block Read, with the data received, where

@@ -11,6 +11,7 @@ use lib.Dec.{eqb}
 use lib.ListN.{length, getD, length-append}
 use lib.Seq.{getD-at}
 use borrow.Author.Tests.{eq-eqb, eqb-true}
+use Rattle.lists.specs.AbsurdLaws.{zero-is-one}
 use Rattle.lists.specs.Choice.{pick, and}
 use Rattle.lists.specs.Each.{Bytes}
 use Rattle.lists.specs.EachLaws.{append-bytes}
@@ -26,18 +27,18 @@ use Rattle.udid.specs.UdidLaws.{length-udid, udid-bytes, udid-back}
 use Rattle.udid.specs.Udids.{Fits, sameUdid}
 use Rattle.udid.specs.declared.Udid.{Udid}
 use Rattle.arp.specs.HeardLaws.{length-lows, reply-is-decode, assign-is-decode, next-prepare-is-decode, next-reply-is-decode}
-use Rattle.arp.specs.ToldLaws.{received-are-bytes}
-use Rattle.arp.specs.RequestLaws.{valid-get, valid-assign, seventeen-bytes-are-udid-and-byte, reply-symbols, assign-symbols-small}
-use Rattle.arp.specs.TraceLaws.{decoded-back, complete-get-is-its-trace, assign-data-is-assign, complete-assign-is-its-trace}
+use Rattle.commands.specs.ToldLaws.{received-are-bytes}
+use Rattle.commands.specs.RequestLaws.{valid-get, valid-assign, seventeen-bytes-are-udid-and-byte, reply-symbols, assign-symbols-small}
+use Rattle.commands.specs.TraceLaws.{decoded-back, complete-get-is-its-trace, assign-data-is-assign, complete-assign-is-its-trace}
 use Rattle.arp.specs.Controller.{newController}
-use Rattle.arp.specs.Heard.{blockRead, blockWrite, answer, sentIn, receivedIn, isGet, isAssign}
+use Rattle.commands.specs.Heard.{blockRead, blockWrite, answer, sentIn, receivedIn, isGet, isAssign}
 use Rattle.arp.specs.Replay.{Happened, Started, Replied, Assigned, Other, replyIn, assigns, assignIn, readAs}
-use Rattle.arp.specs.Requests.{assignData, messageOf, traceOf}
-use Rattle.arp.specs.CommandTraces.{replyTrace, assignTrace, ReplyOf}
+use Rattle.commands.specs.Requests.{assignData, messageOf, traceOf}
+use Rattle.commands.specs.CommandTraces.{replyTrace, assignTrace, ReplyOf}
 use Rattle.arp.specs.Reading.{Reading}
-use Rattle.arp.specs.declared.command.Command.the-variants.{Prepare, GetUdid, Assign}
-use Rattle.arp.specs.declared.command.Handed.{Handed}
-use Rattle.arp.specs.declared.command.Handed.the-variants.{Send, Wait}
+use Rattle.commands.specs.declared.command.Command.the-variants.{Prepare, GetUdid, Assign}
+use Rattle.commands.specs.declared.command.Handed.{Handed}
+use Rattle.commands.specs.declared.command.Handed.the-variants.{Send, Wait}
 
 -- the byte that is sent: the address has seven bits
 pub is-assign-below-128 : (u : Udid) (n : ℕ) → n < 128 → (t : Transaction) (xs : List ℕ)
@@ -61,7 +62,7 @@ reads-assign-exactly u a tr f h = (λ e. only (answer 8 tr) refl e, λ e. ap (re
         (sym (is-assign-below-128 u (a .0) h (summary blockWrite (messageOf (Send (Assign u a)) [])) (assignData u (a .0))) ∙ assign-data-is-assign u a f)
 
     differ : Other ≡ Assigned u (a .0) → ⊥
-    differ k = let z : _≡_ {A = ℕ} 0 1 = cc k in omega arith
+    differ k = zero-is-one (cc k)
 
     done : (t : Transaction) → answer 8 tr ≡ Done t → (q : Bool) → isAssign u (a .0) t (sentIn 8 tr) ≡ q → pick q (Assigned u (a .0)) Other ≡ Assigned u (a .0)
         → tr ≡ traceOf (Send (Assign u a)) []
@@ -85,7 +86,7 @@ pub read-as-reply-is-get-udid : (tr : List ℕ) (u : Udid) → readAs (Send GetU
 read-as-reply-is-get-udid tr u e = only (answer 9 tr) refl e
   where
     differ : Other ≡ Replied u → ⊥
-    differ k = let z : _≡_ {A = ℕ} 0 1 = cc k in omega arith
+    differ k = zero-is-one (cc k)
 
     same : {w : Udid} → Replied w ≡ Replied u → w ≡ u
     same k = cc k
@@ -111,24 +112,24 @@ reply-not-started : (d : Decoded) (xs : List ℕ) → replyIn d xs ≡ Started �
 reply-not-started (Done t) xs e = go (and (eqb (t .address .0) 0x61) (eqb (t .command) 0x03)) (eqb (t .received) 17) e
   where
     go : (p q : Bool) → pick p (pick q (Replied (udidAt xs 0)) Other) Other ≡ Started → ⊥
-    go true true k = let z : _≡_ {A = ℕ} 0 1 = cc k in omega arith
-    go true false k = let z : _≡_ {A = ℕ} 0 1 = cc k in omega arith
-    go false q k = let z : _≡_ {A = ℕ} 0 1 = cc k in omega arith
-reply-not-started (Refused w k) xs e = let z : _≡_ {A = ℕ} 0 1 = cc e in omega arith
+    go true true k = zero-is-one (cc k)
+    go true false k = zero-is-one (cc k)
+    go false q k = zero-is-one (cc k)
+reply-not-started (Refused w k) xs e = zero-is-one (cc e)
 
 assign-not-started : (u : Udid) (a : ℕ) (d : Decoded) (xs : List ℕ) → assignIn u a d xs ≡ Started → ⊥
 assign-not-started u a (Done t) xs e = go (and (and (eqb (t .address .0) 0x61) (eqb (t .command) 0x04)) (and (eqb (t .sent) 17) (assigns u a xs))) e
   where
     go : (p : Bool) → pick p (Assigned u a) Other ≡ Started → ⊥
-    go true k = let z : _≡_ {A = ℕ} 0 1 = cc k in omega arith
-    go false k = let z : _≡_ {A = ℕ} 0 1 = cc k in omega arith
-assign-not-started u a (Refused w k) xs e = let z : _≡_ {A = ℕ} 0 1 = cc e in omega arith
+    go true k = zero-is-one (cc k)
+    go false k = zero-is-one (cc k)
+assign-not-started u a (Refused w k) xs e = zero-is-one (cc e)
 
 pub trace-is-no-start : (k : Handed) (tr : List ℕ) → readAs k tr ≡ Started → ⊥
 trace-is-no-start (Send GetUdid) tr e = reply-not-started (answer 9 tr) (receivedIn 9 tr) e
 trace-is-no-start (Send (Assign u a)) tr e = assign-not-started u (a .0) (answer 8 tr) (sentIn 8 tr) e
-trace-is-no-start (Send Prepare) tr e = let z : _≡_ {A = ℕ} 0 1 = cc e in omega arith
-trace-is-no-start (Wait i) tr e = let z : _≡_ {A = ℕ} 0 1 = cc e in omega arith
+trace-is-no-start (Send Prepare) tr e = zero-is-one (cc e)
+trace-is-no-start (Wait i) tr e = zero-is-one (cc e)
 
 -- ---- which traces are read as what
 
@@ -185,11 +186,11 @@ pub replied-exactly : (k : Handed) (tr : List ℕ) (u : Udid) → Fits u → (re
 replied-exactly k tr u f = (there k, λ w. ap (λ (x : Handed). readAs x tr) (w .0) ∙ ap (readAs (Send GetUdid)) (w .1 .2) ∙ reply-read u (w .1 .0) f (w .1 .1))
   where
     differ : Other ≡ Replied u → ⊥
-    differ e = let z : _≡_ {A = ℕ} 0 1 = cc e in omega arith
+    differ e = zero-is-one (cc e)
 
     assigned : (v : Udid) (n : ℕ) (x : Happened) → (x ≡ Other) ⊎ (x ≡ Assigned v n) → x ≡ Replied u → ⊥
     assigned v n x (inl q) e = differ (sym q ∙ e)
-    assigned v n x (inr q) e = let m : Assigned v n ≡ Replied u = sym q ∙ e in let z : _≡_ {A = ℕ} 0 1 = cc m in omega arith
+    assigned v n x (inr q) e = let m : Assigned v n ≡ Replied u = sym q ∙ e in zero-is-one (cc m)
 
     there : (k : Handed) → readAs k tr ≡ Replied u → (k ≡ Send GetUdid) × ReplyOf u tr
     there (Send GetUdid) e = (refl, reply-only tr u e)
@@ -203,11 +204,11 @@ assigned-exactly k tr u a f h =
     (there k, λ w. ap (λ (x : Handed). readAs x tr) (w .0) ∙ reads-assign-exactly u a tr f h .1 (w .1 ∙ sym (assign-symbols-small u a h)))
   where
     differ : Other ≡ Assigned u (a .0) → ⊥
-    differ e = let z : _≡_ {A = ℕ} 0 1 = cc e in omega arith
+    differ e = zero-is-one (cc e)
 
     replied : (v : Udid) (x : Happened) → (x ≡ Other) ⊎ (x ≡ Replied v) → x ≡ Assigned u (a .0) → ⊥
     replied v x (inl q) e = differ (sym q ∙ e)
-    replied v x (inr q) e = let m : Replied v ≡ Assigned u (a .0) = sym q ∙ e in let z : _≡_ {A = ℕ} 0 1 = cc m in omega arith
+    replied v x (inr q) e = let m : Replied v ≡ Assigned u (a .0) = sym q ∙ e in zero-is-one (cc m)
 
     same : (v : Udid) (c : Address) → Assigned v (c .0) ≡ Assigned u (a .0) → (Send (Assign v c)) ≡ Send (Assign u a)
     same v c e =

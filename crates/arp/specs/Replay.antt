@@ -22,12 +22,13 @@ use Rattle.udid.specs.Udids.{sameUdid, isFixed}
 use Rattle.udid.specs.declared.Udid.{Udid}
 use Rattle.arp.specs.Slots.{heldAt}
 use Rattle.arp.specs.Controller.{started, stepped}
-use Rattle.arp.specs.Heard.{answer, sentIn, receivedIn}
+use Rattle.commands.specs.Heard.{answer, sentIn, receivedIn}
 use Rattle.arp.specs.History.{Event, Start, Received, run}
-use Rattle.arp.specs.declared.command.Command.the-variants.{Prepare, GetUdid, Assign}
-use Rattle.arp.specs.declared.command.End.the-variants.{Nothing, Ended, NoneFree, Abandoned, NotOutstanding}
-use Rattle.arp.specs.declared.command.Handed.{Handed}
-use Rattle.arp.specs.declared.command.Handed.the-variants.{Send, Wait}
+use Rattle.commands.specs.Told.{noCommand}
+use Rattle.commands.specs.declared.command.Command.the-variants.{Prepare, GetUdid, Assign}
+use Rattle.commands.specs.declared.command.End.the-variants.{Nothing, Ended, NoneFree, Abandoned, NotOutstanding}
+use Rattle.commands.specs.declared.command.Handed.{Handed}
+use Rattle.commands.specs.declared.command.Handed.the-variants.{Send, Wait}
 use Rattle.arp.specs.declared.state.Binding.{Binding}
 use Rattle.arp.specs.declared.state.Binding.the-variants.{Open, Bound, Claimed}
 use Rattle.arp.specs.declared.state.Controller.{Controller}
@@ -129,11 +130,6 @@ abbrev pub numberOf : Binding → ℕ × List Udid
 numberOf (Bound u) = (0, u ∷ [])
 numberOf Open = (15, [])
 numberOf Claimed = (16, [])
-
--- no command of a pass
-abbrev pub noCommand : Handed → Bool
-noCommand (Send k) = false
-noCommand (Wait e) = true
 
 -- after a 21 the state keeps what was handed out before it: in both no command of a pass
 abbrev pub SameOutstanding : Handed → Handed → Type 0

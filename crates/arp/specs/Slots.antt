@@ -22,7 +22,7 @@ keptUdid s a = record { high = getD (s .high) a 0; low = getD (s .low) a 0 }
 
 -- what an address is known for
 unfoldable pub heldAt : Slots → ℕ → Binding
-heldAt s a = pick (member (s .bound) a) (Bound (keptUdid s a)) (pick (member (s .claimed) a) Claimed Open)
+heldAt s a = pick (member (s .bound) a) (Bound (record { high = getD (s .high) a 0; low = getD (s .low) a 0 })) (pick (member (s .claimed) a) Claimed Open)
 
 -- the slots with an address known for this
 unfoldable pub withBinding : Slots → ℕ → Binding → Slots

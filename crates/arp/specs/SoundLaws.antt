@@ -9,6 +9,7 @@ use native.Mathlib.Omega.{arith}
 use lib.Dec.{ltb, eqb}
 use lib.ListN.{getD}
 use borrow.Author.Tests.{lt-ltb, le-ltb}
+use Rattle.lists.specs.AbsurdLaws.{zero-is-one}
 use Rattle.lists.specs.Choice.{pick, and, or}
 use Rattle.pool.specs.MemberLaws.{has-with-same, has-with-other, has-without-same, has-without-other}
 use Rattle.pool.specs.Pools.{member, withAddress, withoutAddress}
@@ -32,11 +33,11 @@ pub bound-to-is-bound : (u : Udid) (h : Binding) → boundTo u h ≡ true → h 
 bound-to-is-bound u h e = go (boundIn h) refl e
   where
     go : (us : List Udid) → boundIn h ≡ us → isOnly u us ≡ true → h ≡ Bound u
-    go [] q e = absurd (let z : _≡_ {A = ℕ} 0 1 = cc e in omega arith)
+    go [] q e = zero-is-one (cc e)
     go (v ∷ vs) q e = bound-in-is h v vs q ∙ ap Bound (same-equal v u e)
 
 pub open-is-not-bound : (h : Binding) (u : Udid) → h ≡ Open → h ≡ Bound u → ⊥
-open-is-not-bound h u e f = let z : _≡_ {A = ℕ} 0 1 = cc in omega arith
+open-is-not-bound h u e f = zero-is-one cc
 
 -- ---- where a pass begins
 
@@ -97,7 +98,7 @@ module _ (starting pool : Pool) (slots : Slots) (v : Sound starting pool slots) 
   away i w k = go (held-cases slots f i Open (Bound w) (v .size) h k)
     where
       go : ((i ≡ f) × (Open ≡ Bound w)) ⊎ ((i ≡ f → ⊥) × (heldAt slots i ≡ Bound w)) → (i ≡ f → ⊥) × (heldAt slots i ≡ Bound w)
-      go (inl q) = absurd (let z : _≡_ {A = ℕ} 0 1 = cc (q .1) in omega arith)
+      go (inl q) = zero-is-one (cc (q .1))
       go (inr q) = q
 
   exactly : (a : ℕ) → member (withoutAddress pool f) a ≡ or (member starting a) (isHeld (heldAt (withBinding slots f Open) a))
@@ -166,11 +167,11 @@ module _ (starting pool : Pool) (slots : Slots) (v : Sound starting pool slots) 
       go : (t : Bool) → member pool a ≡ t → ((i ≡ a) × (bindingFor (member pool a) u ≡ Bound w)) ⊎ ((i ≡ a → ⊥) × (heldAt slots i ≡ Bound w))
           → ((i ≡ a) × (u ≡ w) × (member pool a ≡ false)) ⊎ ((i ≡ a → ⊥) × (heldAt slots i ≡ Bound w))
       go t e (inr q) = inr q
-      go true e (inl q) = absurd (let z : _≡_ {A = ℕ} 0 1 = cc (ap (λ (x : Bool). bindingFor x u) e, q .1) in omega arith)
+      go true e (inl q) = zero-is-one (cc (ap (λ (x : Bool). bindingFor x u) e, q .1))
       go false e (inl q) = let z : Bound u ≡ Bound w = sym (ap (λ (x : Bool). bindingFor x u) e) ∙ q .1 in let y : u ≡ w = cc z in inl (q .0, y, e)
 
   nowhere : (i : ℕ) (w : Udid) → u ≡ w → heldAt slots i ≡ Bound w → ⊥
-  nowhere i w p q = let z : _≡_ {A = ℕ} 0 1 = cc (n i, ap (boundTo u) (q ∙ ap Bound (sym p)), same-refl u) in omega arith
+  nowhere i w p q = zero-is-one (cc (n i, ap (boundTo u) (q ∙ ap Bound (sym p)), same-refl u))
 
   one : (i j : ℕ) (w : Udid) → ((i ≡ a) × (u ≡ w) × (member pool a ≡ false)) ⊎ ((i ≡ a → ⊥) × (heldAt slots i ≡ Bound w))
       → ((j ≡ a) × (u ≡ w) × (member pool a ≡ false)) ⊎ ((j ≡ a → ⊥) × (heldAt slots j ≡ Bound w)) → i ≡ j
@@ -183,7 +184,7 @@ module _ (starting pool : Pool) (slots : Slots) (v : Sound starting pool slots) 
   outside e = go (member starting a) refl
     where
       go : (b : Bool) → member starting a ≡ b → member starting a ≡ false
-      go true q = absurd (let z : _≡_ {A = ℕ} 0 1 = cc (sym e ∙ v .exact a ∙ ap (λ (x : Bool). or x (isHeld (heldAt slots a))) q) in omega arith)
+      go true q = zero-is-one (cc (sym e ∙ v .exact a ∙ ap (λ (x : Bool). or x (isHeld (heldAt slots a))) q))
       go false q = q
 
   fresh : (i : ℕ) (w : Udid) → ((i ≡ a) × (u ≡ w) × (member pool a ≡ false)) ⊎ ((i ≡ a → ⊥) × (heldAt slots i ≡ Bound w)) → member starting i ≡ false

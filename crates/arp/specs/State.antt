@@ -1,9 +1,13 @@
--- The controller's state with one field changed: the definitions that change it go through these, so each names only what it changes.
+-- The controller's state by its parts, and with one of them changed. The definitions go through these, so each names only what it changes.
 use Prim.Native.Nat.{ℕ}
 use Rattle.pool.specs.declared.Pool.{Pool}
-use Rattle.arp.specs.declared.command.Handed.{Handed}
+use Rattle.commands.specs.declared.command.Handed.{Handed}
 use Rattle.arp.specs.declared.slots.Slots.{Slots}
 use Rattle.arp.specs.declared.state.Controller.{Controller}
+
+-- the starting pool, the pool, what each address is known for, the count of Get UDIDs, what was handed out last
+abbrev pub stateOf : Pool → Pool → Slots → ℕ → Handed → Controller
+stateOf starting pool slots gets last = record { starting = starting; pool = pool; slots = slots; gets = gets; last = last }
 
 -- the addresses in use now
 abbrev pub withPool : Controller → Pool → Controller

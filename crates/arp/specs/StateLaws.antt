@@ -3,7 +3,7 @@ use Prim.Native.Nat.{ℕ}
 use mathlib.Core.Path.{_≡_, refl}
 use Rattle.pool.specs.declared.Pool.{Pool}
 use Rattle.arp.specs.State.{withPool, withSlots, withGets, withLast}
-use Rattle.arp.specs.declared.command.Handed.{Handed}
+use Rattle.commands.specs.declared.command.Handed.{Handed}
 use Rattle.arp.specs.declared.slots.Slots.{Slots}
 use Rattle.arp.specs.declared.state.Controller.{Controller}
 

@@ -16,12 +16,13 @@ use Rattle.arp.specs.Controller.{stepped}
 use Rattle.arp.specs.History.{Event, Start, Received, run, oneGet}
 use Rattle.arp.specs.Lookup.{lookedUp}
 use Rattle.arp.specs.Numbers.{commandNumber, lookupNumber}
-use Rattle.arp.specs.CommandTraces.{replyTrace}
-use Rattle.arp.specs.Replay.{Replied, Assigned, Table, released, readAs, numberOf, noCommand, NoneToPick, nextCommand, emptied, after, handedOut}
-use Rattle.arp.specs.declared.command.Command.the-variants.{Prepare, GetUdid}
-use Rattle.arp.specs.declared.command.End.the-variants.{Nothing}
-use Rattle.arp.specs.declared.command.Handed.{Handed}
-use Rattle.arp.specs.declared.command.Handed.the-variants.{Send, Wait}
+use Rattle.commands.specs.CommandTraces.{replyTrace}
+use Rattle.arp.specs.Replay.{Replied, Assigned, Table, released, readAs, numberOf, NoneToPick, nextCommand, emptied, after, handedOut}
+use Rattle.commands.specs.Told.{noCommand}
+use Rattle.commands.specs.declared.command.Command.the-variants.{Prepare, GetUdid}
+use Rattle.commands.specs.declared.command.End.the-variants.{Nothing}
+use Rattle.commands.specs.declared.command.Handed.{Handed}
+use Rattle.commands.specs.declared.command.Handed.the-variants.{Send, Wait}
 
 -- the table, how many Get UDIDs were handed out in this pass, and what was handed out last
 pub record Story : Type 0 where

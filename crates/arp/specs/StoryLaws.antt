@@ -29,11 +29,12 @@ use Rattle.arp.specs.Controller.{started, stepped}
 use Rattle.arp.specs.History.{Event, Received, run}
 use Rattle.arp.specs.Lookup.{lookedUp}
 use Rattle.arp.specs.Numbers.{commandNumber, lookupNumber}
-use Rattle.arp.specs.Replay.{Happened, Started, Replied, Assigned, Other, holds, after, readAs, handedOut, table, numberOf, noCommand, again, nextCommand}
-use Rattle.arp.specs.declared.command.Command.the-variants.{Prepare, GetUdid}
-use Rattle.arp.specs.declared.command.End.the-variants.{Abandoned}
-use Rattle.arp.specs.declared.command.Handed.{Handed}
-use Rattle.arp.specs.declared.command.Handed.the-variants.{Send, Wait}
+use Rattle.arp.specs.Replay.{Happened, Started, Replied, Assigned, Other, holds, after, readAs, handedOut, table, numberOf, again, nextCommand}
+use Rattle.commands.specs.Told.{noCommand}
+use Rattle.commands.specs.declared.command.Command.the-variants.{Prepare, GetUdid}
+use Rattle.commands.specs.declared.command.End.the-variants.{Abandoned}
+use Rattle.commands.specs.declared.command.Handed.{Handed}
+use Rattle.commands.specs.declared.command.Handed.the-variants.{Send, Wait}
 use Rattle.arp.specs.declared.state.Binding.the-variants.{Open, Bound, Claimed}
 use Rattle.arp.specs.declared.state.Controller.{Controller}
 

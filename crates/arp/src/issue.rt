@@ -1,11 +1,11 @@
 // What is handed out: a command or an end, and Get UDID with its limit. Rests on the state alone.
 ghost use mathlib.Core.Path.{_≡_};
 ghost use Rattle.arp.specs.Controller.{handed, asked};
-use super::command::Command;
-use super::command::End;
-use super::command::Handed;
 use super::state::Controller;
 use super::state::Stepped;
+use commands::command::Command;
+use commands::command::End;
+use commands::command::Handed;
 
 impl Controller {
     // The state with this handed out.

@@ -2,13 +2,9 @@
 // Rests on decode, encode, pool and udid.
 pub mod bound;
 pub mod choose;
-pub mod command;
-pub mod heard;
 pub mod issue;
 pub mod lookup;
 pub mod next;
-pub mod request;
 pub mod slots;
 pub mod start;
 pub mod state;
-pub mod told;

@@ -2,13 +2,13 @@
 ghost use mathlib.Core.Path.{_≡_};
 ghost use Rattle.arp.specs.Controller.{replied, changed, stepped};
 use super::choose::choose;
-use super::command::Command;
-use super::command::End;
-use super::command::Handed;
 use super::state::Controller;
 use super::state::Stepped;
-use super::told::Told;
-use super::told::tell;
+use commands::command::Command;
+use commands::command::End;
+use commands::command::Handed;
+use commands::told::Told;
+use commands::told::tell;
 use pool::free::Free;
 use udid::Udid;
 

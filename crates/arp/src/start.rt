@@ -1,12 +1,12 @@
 // A new controller, and the start of a pass. Rests on the starting pool of crate pool.
 ghost use mathlib.Core.Path.{_≡_};
 ghost use Rattle.arp.specs.Controller.{newController, started};
-use super::command::Command;
-use super::command::End;
-use super::command::Handed;
 use super::slots::Slots;
 use super::state::Controller;
 use super::state::Stepped;
+use commands::command::Command;
+use commands::command::End;
+use commands::command::Handed;
 use pool::Pool;
 
 impl Controller {

@@ -1,6 +1,6 @@
 // The controller's state, which every method takes by value and hands back.
-use super::command::Handed;
 use super::slots::Slots;
+use commands::command::Handed;
 use pool::Pool;
 use udid::Udid;
 

@@ -5,11 +5,12 @@ use mathlib.Core.List.{List, [], _∷_}
 use native.Mathlib.Omega.{arith}
 use lib.ListN.{length, take, drop, set}
 use lib.Seq.{take-at}
+use Rattle.lists.specs.AbsurdLaws.{zero-is-one}
 use Rattle.encode.specs.declared.Encoded.{Encoded}
 use Rattle.encode.specs.declared.Encoded.the-variants.{Written, Forbidden, OutputTooShort}
-use Rattle.arp.specs.Sending.{Sent}
-use Rattle.arp.specs.Requests.{traceOf}
-use Rattle.arp.specs.declared.command.Handed.{Handed}
+use Rattle.commands.specs.Sending.{Sent}
+use Rattle.commands.specs.Requests.{traceOf}
+use Rattle.commands.specs.declared.command.Handed.{Handed}
 
 -- a command that was written stands at the front
 pub sent-front : (k : Handed) (reply before : List ℕ) (r : Encoded) (after : List ℕ) (n : ℕ) → Sent k reply before r after → r ≡ Written n
@@ -22,10 +23,10 @@ sent-front k reply before r after n s e =
     same a b q = cc q
 
 pub sent-allowed : (k : Handed) (reply before : List ℕ) (r : Encoded) (after : List ℕ) → Sent k reply before r after → r ≡ Forbidden → ⊥
-sent-allowed k reply before r after s e = let z : _≡_ {A = ℕ} 0 1 = cc (s .0, e) in omega arith
+sent-allowed k reply before r after s e = zero-is-one (cc (s .0, e))
 
 pub sent-roomy : (k : Handed) (reply before : List ℕ) (r : Encoded) (after : List ℕ) → Sent k reply before r after → r ≡ OutputTooShort → ⊥
-sent-roomy k reply before r after s e = let z : _≡_ {A = ℕ} 0 1 = cc (s .0, e) in omega arith
+sent-roomy k reply before r after s e = zero-is-one (cc (s .0, e))
 
 -- symbols stored one after the other at the front
 pub four-stored : (l : List ℕ) → 4 ≤ length l → take 4 (set (set (set (set l 0 256) 1 0xC2) 2 259) 3 257) ≡ 256 ∷ 0xC2 ∷ 259 ∷ 257 ∷ []

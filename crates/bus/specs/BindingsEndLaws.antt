@@ -40,7 +40,7 @@ use Rattle.rule.specs.Reading.{Any, RecordOf, someOf, isBound, boundAt, OnePerU
 use Rattle.rule.specs.RecordsLaws as records
 use Rattle.bus.specs.EndLaws.{entry-bound, leaves-rule}
 use Rattle.bus.specs.Run.{entryFor, entryOf, entryAt, Leaves, modelEnd}
-use Rattle.bus.specs.declared.answer.ModelAnswer.{ModelAnswer}
+use Rattle.bindings.specs.declared.answer.ModelAnswer.{ModelAnswer}
 
 bound-some : (h : Binding) → isBound h ≡ true → (u : Udid) × (h ≡ binding.Bound u)
 bound-some h e = go (boundIn h) refl e

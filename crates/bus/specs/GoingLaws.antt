@@ -33,15 +33,15 @@ use Rattle.targets.specs.declared.winner.Winner.the-variants as winner
 use Rattle.arp.specs.ChosenLaws.{chosen-small-and-free}
 use Rattle.arp.specs.Bindings.{bound, freed}
 use Rattle.arp.specs.Controller.{handed, counted, asked, issued, chosen, replied, stepped, started, newController, changed}
-use Rattle.arp.specs.Heard.{answer, sentIn, blockWrite, isAssign}
-use Rattle.arp.specs.Requests.{traceOf}
-use Rattle.arp.specs.Told.{toldAssign, tells}
-use Rattle.arp.specs.ToldLaws.{told-is-changed}
-use Rattle.arp.specs.TraceLaws.{prepare-accepted}
-use Rattle.arp.specs.declared.command.Command.the-variants.{Prepare, GetUdid, Assign}
-use Rattle.arp.specs.declared.command.End.the-variants.{Abandoned}
-use Rattle.arp.specs.declared.command.Handed.{Handed}
-use Rattle.arp.specs.declared.command.Handed.the-variants.{Send, Wait}
+use Rattle.commands.specs.Heard.{answer, sentIn, blockWrite, isAssign}
+use Rattle.commands.specs.Requests.{traceOf}
+use Rattle.commands.specs.Told.{toldAssign, tells}
+use Rattle.arp.specs.ChangedLaws.{told-is-changed}
+use Rattle.commands.specs.TraceLaws.{prepare-accepted}
+use Rattle.commands.specs.declared.command.Command.the-variants.{Prepare, GetUdid, Assign}
+use Rattle.commands.specs.declared.command.End.the-variants.{Abandoned}
+use Rattle.commands.specs.declared.command.Handed.{Handed}
+use Rattle.commands.specs.declared.command.Handed.the-variants.{Send, Wait}
 use Rattle.arp.specs.declared.state.Controller.{Controller}
 use Rattle.arp.specs.declared.state.Stepped.{Stepped}
 use Rattle.rule.specs.Acknowledge.{onBus}
@@ -58,7 +58,7 @@ use Rattle.bus.specs.RecordsBus.{recordsBus, Holds}
 use Rattle.bus.specs.RecordsBusLaws.{records-pass}
 use Rattle.bus.specs.Turn.{Fit, Reaches, isSent, worldOf, sentTo, Matches}
 use Rattle.bus.specs.TurnLaws.{get-silence, reached-as-meant}
-use Rattle.arp.specs.declared.told.Told.the-variants.{Again, Took}
+use Rattle.commands.specs.declared.told.Told.the-variants.{Again, Took}
 
 -- ---- what is handed out reaches somebody
 

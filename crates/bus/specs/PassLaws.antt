@@ -20,7 +20,7 @@ use Rattle.bindings.specs.Entries.{entryBytes}
 use Rattle.rule.specs.Bus.{pass}
 use Rattle.bus.specs.Run.{numberIn, udidIn, entryOf, entryAt, ModelEnd, Leaves, endedEnd, modelEnd}
 use Rattle.bus.specs.RunLaws.{end-checked}
-use Rattle.bus.specs.declared.answer.ModelAnswer.{ModelAnswer}
+use Rattle.bindings.specs.declared.answer.ModelAnswer.{ModelAnswer}
 
 -- a list that is not refused, a buffer that is long enough, and what run_model's contract says of an answer and of the lists left
 module _ (occupied : Pool) (s b : List ℕ) (long : 2048 ≤ length b) (e : checkedList (startingPool occupied) s ≡ Admitted) (r : ModelAnswer) (s′ b′ : List ℕ)

@@ -22,7 +22,7 @@ use Rattle.rule.specs.Reading.{Any, RecordOf}
 use Rattle.rule.specs.RecordsLaws as records
 use Rattle.bus.specs.EndLaws.{leaves-rule}
 use Rattle.bus.specs.Run.{Leaves, modelEnd}
-use Rattle.bus.specs.declared.answer.ModelAnswer.{ModelAnswer}
+use Rattle.bindings.specs.declared.answer.ModelAnswer.{ModelAnswer}
 
 -- a list that is not refused, a buffer that is long enough, and what run_model's contract says of an answer and of the lists left
 module _ (occupied : Pool) (s b : List ℕ) (bytes : Bytes s) (long : 2048 ≤ length b) (e : checkedList (startingPool occupied) s ≡ Admitted) (r : ModelAnswer) (s′ b′ : List ℕ)

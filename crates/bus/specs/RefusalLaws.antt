@@ -20,15 +20,15 @@ use Rattle.targets.specs.RefusalLaws.{given-exactly, answers-tell-apart}
 use Rattle.targets.specs.declared.admit.Checked.{Checked}
 use Rattle.targets.specs.declared.admit.Checked.the-variants.{Admitted, BadLength, Malformed, Repeated, Taken}
 use Rattle.arp.specs.Numbers.{endNumber, commandNumber}
-use Rattle.arp.specs.declared.command.End.{End}
-use Rattle.arp.specs.declared.command.End.the-variants.{Nothing, Ended, NoneFree, Abandoned, NotOutstanding}
-use Rattle.arp.specs.declared.command.Handed.{Handed}
-use Rattle.arp.specs.declared.command.Handed.the-variants.{Send, Wait}
+use Rattle.commands.specs.declared.command.End.{End}
+use Rattle.commands.specs.declared.command.End.the-variants.{Nothing, Ended, NoneFree, Abandoned, NotOutstanding}
+use Rattle.commands.specs.declared.command.Handed.{Handed}
+use Rattle.commands.specs.declared.command.Handed.the-variants.{Send, Wait}
 use Rattle.targets.specs.Records.{targetsOf}
 use Rattle.rule.specs.Bus.{pass}
 use Rattle.bus.specs.Run.{numberIn, modelNumber, refusedAnswer, ModelEnd, Leaves, refusedEnd, endChecked, modelEnd}
 use Rattle.bus.specs.RunLaws.{end-short, end-checked}
-use Rattle.bus.specs.declared.answer.ModelAnswer.{ModelAnswer}
+use Rattle.bindings.specs.declared.answer.ModelAnswer.{ModelAnswer}
 
 -- ---- a pass ends with none of these numbers
 

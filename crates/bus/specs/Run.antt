@@ -24,7 +24,7 @@ use Rattle.bindings.specs.Entries.{bufferOf, boundSet}
 use Rattle.bindings.specs.declared.entry.Entry.{Entry}
 use Rattle.bindings.specs.declared.entry.Entry.the-variants as entry
 use Rattle.rule.specs.Bus.{World, pass}
-use Rattle.bus.specs.declared.answer.ModelAnswer.{ModelAnswer}
+use Rattle.bindings.specs.declared.answer.ModelAnswer.{ModelAnswer}
 
 abbrev pub noUdid : Udid
 noUdid = record { high = 0; low = 0 }

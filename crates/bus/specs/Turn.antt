@@ -13,11 +13,11 @@ use Rattle.targets.specs.Cases.{RepeatedAt, None}
 use Rattle.targets.specs.Records.{recordCount, targetsOf, recordsWith}
 use Rattle.targets.specs.Target.{Target}
 use Rattle.arp.specs.Controller.{stepped}
-use Rattle.arp.specs.Sending.{Sent}
-use Rattle.arp.specs.Requests.{protocolFor, messageOf}
-use Rattle.arp.specs.declared.command.Command.the-variants.{Prepare, GetUdid, Assign}
-use Rattle.arp.specs.declared.command.Handed.{Handed}
-use Rattle.arp.specs.declared.command.Handed.the-variants.{Send, Wait}
+use Rattle.commands.specs.Sending.{Sent}
+use Rattle.commands.specs.Requests.{protocolFor, messageOf}
+use Rattle.commands.specs.declared.command.Command.the-variants.{Prepare, GetUdid, Assign}
+use Rattle.commands.specs.declared.command.Handed.{Handed}
+use Rattle.commands.specs.declared.command.Handed.the-variants.{Send, Wait}
 use Rattle.arp.specs.declared.state.Stepped.{Stepped}
 use Rattle.rule.specs.Acknowledge.{onBus}
 use Rattle.rule.specs.AnyBus.{WorldOver}

@@ -24,13 +24,13 @@ use Rattle.targets.specs.Target.{Target, isResolved}
 use Rattle.targets.specs.Winner.{winnerOf, Wins}
 use Rattle.targets.specs.WinnerLaws.{winner-exactly, winner-least, unresolved-by-flag}
 use Rattle.targets.specs.declared.winner.Winner.the-variants as winner
-use Rattle.arp.specs.RequestLaws.{assign-has-44-symbols}
-use Rattle.arp.specs.SendingLaws.{assign-sent}
+use Rattle.commands.specs.RequestLaws.{assign-has-44-symbols}
+use Rattle.commands.specs.SendingLaws.{assign-sent}
 use Rattle.arp.specs.Controller.{stepped}
-use Rattle.arp.specs.Requests.{messageOf, traceOf}
-use Rattle.arp.specs.declared.command.Command.the-variants.{Prepare, GetUdid, Assign}
-use Rattle.arp.specs.declared.command.Handed.{Handed}
-use Rattle.arp.specs.declared.command.Handed.the-variants.{Send, Wait}
+use Rattle.commands.specs.Requests.{messageOf, traceOf}
+use Rattle.commands.specs.declared.command.Command.the-variants.{Prepare, GetUdid, Assign}
+use Rattle.commands.specs.declared.command.Handed.{Handed}
+use Rattle.commands.specs.declared.command.Handed.the-variants.{Send, Wait}
 use Rattle.arp.specs.declared.state.Stepped.{Stepped}
 use Rattle.rule.specs.Acknowledge.{onBus}
 use Rattle.rule.specs.Bus.{reached}

@@ -3,8 +3,8 @@ ghost use mathlib.Core.Path.{_≡_};
 ghost use Rattle.targets.specs.Records.{targetsOf, recordsWith};
 ghost use Rattle.rule.specs.Acted.{acted};
 ghost use Rattle.bus.specs.Turn.{Reaches};
-use arp::command::Command;
-use arp::command::Handed;
+use commands::command::Command;
+use commands::command::Handed;
 use targets::assign;
 use targets::prepare;
 

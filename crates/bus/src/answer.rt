@@ -3,25 +3,12 @@ ghost use mathlib.Core.Path.{_≡_};
 ghost use Rattle.arp.specs.Numbers.{endNumber, commandNumber};
 ghost use Rattle.bindings.specs.Entries.{boundSet};
 ghost use Rattle.bus.specs.Run.{entryAt, numberIn, udidIn, refusedAnswer, reported};
-use arp::command::End;
-use arp::command::Handed;
 use arp::state::Stepped;
+use bindings::answer::ModelAnswer;
+use commands::command::End;
+use commands::command::Handed;
 use pool::Pool;
 use udid::Udid;
-
-pub struct ModelAnswer {
-    // The scope's number.
-    pub answer: u32,
-    // The record that is refused.
-    pub place: usize,
-    // The identifier that found no free address.
-    pub udid: Udid,
-    // The bound addresses, and how many they are.
-    pub bound: Pool,
-    pub count: u32,
-    // How many Get UDIDs were sent.
-    pub gets: u32,
-}
 
 // A refusal with its record: every other part is zero.
 pub(crate) fn refused(n: u32, i: usize) -> ModelAnswer

@@ -9,9 +9,9 @@ ghost use Rattle.rule.specs.Bus.{pass};
 ghost use Rattle.bus.specs.Turn.{isSent, Matches};
 use super::traces::TRACE_ROOM;
 use super::turn::send;
-use arp::command::Handed;
 use arp::state::Controller;
 use arp::state::Stepped;
+use commands::command::Handed;
 use pool::Pool;
 
 // More commands than a pass sends: by then it has ended (rule/specs/PassEndLaws).

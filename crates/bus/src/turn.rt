@@ -9,7 +9,7 @@ ghost use Rattle.bus.specs.Sizes.{traceRoom};
 ghost use Rattle.bus.specs.Turn.{Fit, Reaches};
 use super::act::act;
 use super::traces::put_trace;
-use arp::command::Handed;
+use commands::command::Handed;
 
 // The trace goes to the front of the output; how many symbols it has.
 pub(crate) fn send(k: Handed, records: &mut [u8], out: &mut [u16]) -> usize

@@ -4,10 +4,11 @@ use mathlib.Core.Bool.{true}
 use mathlib.Core.Logic.{_↔_}
 use Prim.Native.Nat.{ℕ, _%_, _<_}
 use lib.Dec.{leb, ltb, eqb}
+use Rattle.lists.specs.TestLaws.{eqb-is, ltb-is, leb-is, or-is, and-is}
 use Rattle.wire.specs.Addresses.{isReserved}
 use Rattle.c_codec.specs.Numbers.{bit, Says}
 use Rattle.c_api.specs.PoolParts.{Reserved}
-use Rattle.c_codec.specs.NumberLaws.{bit-says, eqb-is, ltb-is, leb-is, or-is, and-is}
+use Rattle.c_codec.specs.NumberLaws.{bit-says}
 
 pub hb-wire-is-read : (byte r : ℕ) → r ≡ bit (eqb (byte % 2) 1) → Says r (byte % 2 ≡ 1)
 hb-wire-is-read byte r e = bit-says (eqb (byte % 2) 1) (eqb-is (byte % 2) 1) r e

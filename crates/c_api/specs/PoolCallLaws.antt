@@ -7,7 +7,9 @@ use native.Mathlib.Decide.{decLt}
 use native.Mathlib.Omega.{arith}
 use lib.Dec.{eqb}
 use lib.Count.{ones}
+use Rattle.lists.specs.AbsurdLaws.{zero-is-one}
 use Rattle.lists.specs.Choice.{not}
+use Rattle.lists.specs.TestLaws.{eqb-is, or-is, and-is, false-is, not-is}
 use Rattle.wire.specs.Addresses.{isReserved}
 use Rattle.pool.specs.Digits.{digit}
 use Rattle.pool.specs.Free.{used, lowestFree, Lowest}
@@ -23,7 +25,7 @@ use Rattle.c_arp.specs.declared.parts.HbPool.{HbPool}
 use Rattle.c_codec.specs.Numbers.{bit, Says}
 use Rattle.c_arp.specs.Parts.{poolIn, toldPool, freeNumber}
 use Rattle.c_api.specs.PoolParts.{Reserved, InPool}
-use Rattle.c_codec.specs.NumberLaws.{bit-says, eqb-is, or-is, and-is, false-is, not-is}
+use Rattle.c_codec.specs.NumberLaws.{bit-says}
 use Rattle.c_api.specs.AddressCallLaws.{reserved-is}
 
 module _ (low high a : ℕ) where
@@ -50,7 +52,7 @@ module _ (low high a : ℕ) where
       back (inr x) = place ∙ eqb-is (high / 2 ^ (a - 64) % 2) 1 .1 (x .2)
 
   in-none : 128 ≤ a → (member p a ≡ true) ↔ InPool low high a
-  in-none h = (λ q. absurd (let z : _≡_ {A = ℕ} 0 1 = cc (q, member-above p a h) in omega arith), back)
+  in-none h = (λ q. zero-is-one (cc (q, member-above p a h)), back)
     where
       back : InPool low high a → member p a ≡ true
       back (inl x) = absurd (omega (arith, x .0))

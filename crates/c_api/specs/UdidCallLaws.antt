@@ -6,13 +6,14 @@ use Prim.Native.Nat.{ℕ, _+_, _*_, _/_, _^_, _≤_, _<_}
 use native.Mathlib.Omega.{arith}
 use lib.Dec.{eqb}
 use lib.ListN.{length, replicate}
+use Rattle.lists.specs.TestLaws.{eqb-is, ltb-is, and-is}
 use Rattle.udid.specs.Bytes.{numberFrom, bytesOf, bytesFrom, udidBytes, udidAt, putAt}
 use Rattle.udid.specs.UdidLaws.{put-back}
 use Rattle.udid.specs.Udids.{sameUdid, isBelow, isFixed}
 use Rattle.c_arp.specs.declared.parts.HbUdid.{HbUdid}
 use Rattle.c_codec.specs.Numbers.{bit, Says}
 use Rattle.c_arp.specs.Parts.{udidIn, toldUdid}
-use Rattle.c_codec.specs.NumberLaws.{bit-says, eqb-is, ltb-is, and-is}
+use Rattle.c_codec.specs.NumberLaws.{bit-says}
 
 pub hb-udid-from-bytes : (r : HbUdid)
     → r ≡ toldUdid (udidAt (0xEE ∷ 0x01 ∷ 0x02 ∷ 0x03 ∷ 0x04 ∷ 0x05 ∷ 0x06 ∷ 0x07 ∷ 0x08 ∷ 0x09 ∷ 0x0A ∷ 0x0B ∷ 0x0C ∷ 0x0D ∷ 0x0E ∷ 0x0F ∷ 0x10 ∷ 0xEE ∷ []) 1)

@@ -3,13 +3,13 @@
 ghost use mathlib.Core.Path.{_≡_};
 ghost use mathlib.Core.Bool.{true};
 ghost use Rattle.arp.specs.Lookup.{lookedUp};
-ghost use Rattle.arp.specs.Requests.{protocolFor, messageOf};
+ghost use Rattle.commands.specs.Requests.{protocolFor, messageOf};
 ghost use Rattle.c_codec.specs.Codec.{WrotePairs};
 ghost use Rattle.c_arp.specs.Commands.{commandOf, toldCommand};
 ghost use Rattle.c_arp.specs.Parts.{poolIn, udidIn};
 ghost use Rattle.c_arp.specs.Pass.{passOver, toldFound};
-use c_arp::commands::HbCommand;
-use c_arp::commands::put_command_pairs;
+use c_arp::kinds::HbCommand;
+use c_arp::kinds::put_command_pairs;
 use c_arp::parts::HbPool;
 use c_arp::parts::HbUdid;
 use c_arp::pass::HbFound;

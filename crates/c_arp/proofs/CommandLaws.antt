@@ -12,11 +12,11 @@ use Rattle.encode.proofs.Encoded as declared
 use Rattle.encode.specs.declared.Encoded.{Encoded}
 use Rattle.encode.specs.declared.Encoded.the-variants.{Written}
 use Rattle.encode.specs.Encode.{Wrote}
-use Rattle.arp.specs.RequestLaws.{valid-assign}
-use Rattle.arp.specs.Requests.{protocolFor, messageOf}
-use Rattle.arp.specs.declared.command.Command.the-variants.{Prepare, GetUdid, Assign}
-use Rattle.arp.specs.declared.command.Handed.{Handed}
-use Rattle.arp.specs.declared.command.Handed.the-variants.{Send, Wait}
+use Rattle.commands.specs.RequestLaws.{valid-assign}
+use Rattle.commands.specs.Requests.{protocolFor, messageOf}
+use Rattle.commands.specs.declared.command.Command.the-variants.{Prepare, GetUdid, Assign}
+use Rattle.commands.specs.declared.command.Handed.{Handed}
+use Rattle.commands.specs.declared.command.Handed.the-variants.{Send, Wait}
 use Rattle.c_codec.specs.declared.codec.HbWritten.{HbWritten}
 use Rattle.pairs.specs.Pairs.{Put}
 use Rattle.c_codec.specs.Codec.{answerOf, WrotePairs}

@@ -4,7 +4,7 @@ use mathlib.Core.Path.{_≡_, ap, ap₂, _∙_, subst}
 use mathlib.Core.List.{List}
 use Rattle.pool.specs.declared.Pool.{Pool}
 use Rattle.bus.specs.Run.{Leaves, modelEnd}
-use Rattle.bus.specs.declared.answer.ModelAnswer.{ModelAnswer}
+use Rattle.bindings.specs.declared.answer.ModelAnswer.{ModelAnswer}
 use Rattle.c_arp.specs.declared.parts.HbUdid.{HbUdid}
 use Rattle.c_arp.specs.declared.parts.HbPool.{HbPool}
 use Rattle.c_arp.specs.declared.model.HbModel.{HbModel}

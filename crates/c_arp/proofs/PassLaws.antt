@@ -13,7 +13,7 @@ use Rattle.pool.specs.declared.Pool.{Pool}
 use Rattle.arp.specs.Controller.{newController, started, stepped}
 use Rattle.arp.specs.declared.state.Controller.{Controller}
 use Rattle.arp.specs.declared.state.Stepped.{Stepped}
-use Rattle.arp.specs.LongTraceLaws.{step-of-front}
+use Rattle.arp.specs.ChangedLaws.{step-of-front}
 use Rattle.pairs.specs.Pairs.{symbolsIn, Got}
 use Rattle.pairs.specs.PairLaws.{length-symbols, symbols-of-part, fewer-symbols-front}
 use Rattle.c_codec.proofs.ReadLaws.{front-is}

@@ -8,13 +8,13 @@ use borrow.Author.Tests.{ne-eqb}
 use Rattle.wire.specs.declared.address.Address.{Address}
 use Rattle.udid.specs.declared.Udid.{Udid}
 use Rattle.arp.specs.Numbers.{endNumber, commandNumber}
-use Rattle.arp.specs.declared.command.Command.the-variants.{Prepare, GetUdid, Assign}
-use Rattle.arp.specs.declared.command.End.{End}
-use Rattle.arp.specs.declared.command.End.the-variants.{Nothing, Ended, NoneFree, Abandoned, NotOutstanding}
-use Rattle.arp.specs.declared.command.Handed.{Handed}
-use Rattle.arp.specs.declared.command.Handed.the-variants.{Send, Wait}
+use Rattle.commands.specs.declared.command.Command.the-variants.{Prepare, GetUdid, Assign}
+use Rattle.commands.specs.declared.command.End.{End}
+use Rattle.commands.specs.declared.command.End.the-variants.{Nothing, Ended, NoneFree, Abandoned, NotOutstanding}
+use Rattle.commands.specs.declared.command.Handed.{Handed}
+use Rattle.commands.specs.declared.command.Handed.the-variants.{Send, Wait}
 use Rattle.bus.specs.Run.{numberIn}
-use Rattle.c_arp.specs.declared.commands.HbCommand.{HbCommand}
+use Rattle.c_arp.specs.declared.kinds.HbCommand.{HbCommand}
 use Rattle.c_arp.specs.Commands.{toldEnd, toldCommand}
 use Rattle.c_arp.specs.CommandParts.{CommandParts, EndIs, CommandIs, KindsAre}
 

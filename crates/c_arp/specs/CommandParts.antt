@@ -3,12 +3,12 @@ use mathlib.Core.Path.{_≡_}
 use Prim.Native.Nat.{ℕ, _≤_}
 use Rattle.wire.specs.declared.address.Address.{Address}
 use Rattle.udid.specs.declared.Udid.{Udid}
-use Rattle.arp.specs.declared.command.Command.the-variants.{Prepare, GetUdid, Assign}
-use Rattle.arp.specs.declared.command.End.{End}
-use Rattle.arp.specs.declared.command.End.the-variants.{Nothing, Ended, NoneFree, Abandoned, NotOutstanding}
-use Rattle.arp.specs.declared.command.Handed.{Handed}
-use Rattle.arp.specs.declared.command.Handed.the-variants.{Send, Wait}
-use Rattle.c_arp.specs.declared.commands.HbCommand.{HbCommand}
+use Rattle.commands.specs.declared.command.Command.the-variants.{Prepare, GetUdid, Assign}
+use Rattle.commands.specs.declared.command.End.{End}
+use Rattle.commands.specs.declared.command.End.the-variants.{Nothing, Ended, NoneFree, Abandoned, NotOutstanding}
+use Rattle.commands.specs.declared.command.Handed.{Handed}
+use Rattle.commands.specs.declared.command.Handed.the-variants.{Send, Wait}
+use Rattle.c_arp.specs.declared.kinds.HbCommand.{HbCommand}
 use Rattle.c_arp.specs.Commands.{commandOf}
 
 pub record CommandParts (r : HbCommand) (kind answer address gets high low : ℕ) : Type 0 where

@@ -4,7 +4,7 @@ use mathlib.Core.Path.{_≡_}
 use mathlib.Core.List.{List}
 use Rattle.pool.specs.declared.Pool.{Pool}
 use Rattle.bus.specs.Run.{modelEnd}
-use Rattle.bus.specs.declared.answer.ModelAnswer.{ModelAnswer}
+use Rattle.bindings.specs.declared.answer.ModelAnswer.{ModelAnswer}
 use Rattle.c_arp.specs.declared.model.HbModel.{HbModel}
 use Rattle.c_arp.specs.Parts.{toldUdid, toldPool}
 

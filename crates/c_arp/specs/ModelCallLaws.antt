@@ -3,8 +3,8 @@ use mathlib.Core.Path.{_≡_, refl, sym, ap, _∙_, subst}
 use mathlib.Core.List.{List, [], _∷_, _++_}
 use mathlib.Core.Logic.{_⊎_, _↔_, Iff·trans, Iff·symm}
 use Prim.Native.Nat.{ℕ, _+_, _/_, _^_, _≤_, _<_}
-use native.Mathlib.Omega.{arith}
 use lib.ListN.{length}
+use Rattle.lists.specs.AbsurdLaws.{zero-is-one}
 use Rattle.lists.specs.Each.{Bytes}
 use Rattle.pool.specs.declared.Pool.{Pool}
 use Rattle.pool.specs.Start.{startingPool}
@@ -17,7 +17,7 @@ use Rattle.targets.specs.declared.admit.Checked.the-variants.{Admitted, BadLeng
 use Rattle.rule.specs.PlainRule.{ruled}
 use Rattle.bus.specs.RefusalLaws.{model-2, model-refused, model-untouched}
 use Rattle.bus.specs.Run.{Leaves, modelEnd}
-use Rattle.bus.specs.declared.answer.ModelAnswer.{ModelAnswer}
+use Rattle.bindings.specs.declared.answer.ModelAnswer.{ModelAnswer}
 use Rattle.c_arp.specs.declared.model.HbModel.{HbModel}
 use Rattle.c_arp.specs.declared.parts.HbPool.{HbPool}
 use Rattle.c_arp.specs.Parts.{poolIn}
@@ -50,21 +50,21 @@ module _ (given : HbPool) (s b : List ℕ) (h : HbModel) (s′ b′ : List ℕ) 
 
   -- 9: the length; 10, 11 and 12, each with the first such record: malformed, repeated, on a taken address; and 2 is not due
   pub hb-model-9 : ((h .answer ≡ 9) × (h .place ≡ 0)) ↔ ((2048 ≤ length b) × LengthIsBad s)
-  hb-model-9 = model-refusal-number 9 0 BadLength refl refl (λ e. let z : _≡_ {A = ℕ} 0 1 = cc e in omega arith)
+  hb-model-9 = model-refusal-number 9 0 BadLength refl refl (λ e. zero-is-one (cc e))
 
   pub hb-model-10 : (i : ℕ) → ((h .answer ≡ 10) × (h .place ≡ i)) ↔ ((2048 ≤ length b) × ((LengthIsBad s → ⊥) × FirstOf (MalformedAt s) (recordCount s) i))
-  hb-model-10 i = model-refusal-number 10 i (Malformed i) refl refl (λ e. let z : _≡_ {A = ℕ} 0 1 = cc e in omega arith)
+  hb-model-10 i = model-refusal-number 10 i (Malformed i) refl refl (λ e. zero-is-one (cc e))
 
   pub hb-model-11 : (i : ℕ)
       → ((h .answer ≡ 11) × (h .place ≡ i))
       ↔ ((2048 ≤ length b) × ((LengthIsBad s → ⊥) × None (MalformedAt s) (recordCount s) × FirstOf (RepeatedAt s) (recordCount s) i))
-  hb-model-11 i = model-refusal-number 11 i (Repeated i) refl refl (λ e. let z : _≡_ {A = ℕ} 0 1 = cc e in omega arith)
+  hb-model-11 i = model-refusal-number 11 i (Repeated i) refl refl (λ e. zero-is-one (cc e))
 
   pub hb-model-12 : (i : ℕ)
       → ((h .answer ≡ 12) × (h .place ≡ i))
       ↔ ((2048 ≤ length b)
       × ((LengthIsBad s → ⊥) × None (MalformedAt s) (recordCount s) × None (RepeatedAt s) (recordCount s) × FirstOf (TakenAt (startingPool occupied) s) (recordCount s) i))
-  hb-model-12 i = model-refusal-number 12 i (Taken i) refl refl (λ e. let z : _≡_ {A = ℕ} 0 1 = cc e in omega arith)
+  hb-model-12 i = model-refusal-number 12 i (Taken i) refl refl (λ e. zero-is-one (cc e))
 
   -- a refusal: nothing lent has changed, and every other part is zero
   pub hb-model-refusal : (h .answer ≡ 2) ⊎ ((9 ≤ h .answer) × (h .answer ≤ 12)) → (s′ ≡ s) × (b′ ≡ b) × ModelZero h

@@ -1,6 +1,6 @@
 -- The model run for C in the parts of its struct.
 use mathlib.Core.Path.{_≡_}
-use Rattle.bus.specs.declared.answer.ModelAnswer.{ModelAnswer}
+use Rattle.bindings.specs.declared.answer.ModelAnswer.{ModelAnswer}
 use Rattle.c_arp.specs.declared.model.HbModel.{HbModel}
 
 -- the answer that the struct's parts are

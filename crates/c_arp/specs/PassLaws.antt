@@ -11,13 +11,14 @@ use Rattle.arp.specs.OutstandingLaws.{step-21-by-events}
 use Rattle.arp.specs.Controller.{newController, started, stepped}
 use Rattle.arp.specs.History.{Event, Start, Received, run}
 use Rattle.arp.specs.Numbers.{commandNumber}
-use Rattle.arp.specs.Replay.{handedOut, noCommand}
-use Rattle.arp.specs.declared.command.Command.the-variants.{Prepare}
-use Rattle.arp.specs.declared.command.Handed.{Handed}
-use Rattle.arp.specs.declared.command.Handed.the-variants.{Send}
+use Rattle.arp.specs.Replay.{handedOut}
+use Rattle.commands.specs.Told.{noCommand}
+use Rattle.commands.specs.declared.command.Command.the-variants.{Prepare}
+use Rattle.commands.specs.declared.command.Handed.{Handed}
+use Rattle.commands.specs.declared.command.Handed.the-variants.{Send}
 use Rattle.arp.specs.declared.state.Controller.{Controller}
 use Rattle.arp.specs.declared.state.Stepped.{Stepped}
-use Rattle.c_arp.specs.declared.commands.HbCommand.{HbCommand}
+use Rattle.c_arp.specs.declared.kinds.HbCommand.{HbCommand}
 use Rattle.c_arp.specs.declared.parts.HbPool.{HbPool}
 use Rattle.c_arp.specs.Commands.{toldCommand}
 use Rattle.c_arp.specs.Parts.{poolIn}

@@ -18,12 +18,12 @@ use Rattle.encode.specs.EncodeLaws.{forbidden-exactly}
 use Rattle.encode.specs.declared.Encoded.{Encoded}
 use Rattle.encode.specs.declared.Encoded.the-variants.{Forbidden}
 use Rattle.udid.specs.declared.Udid.{Udid}
-use Rattle.arp.specs.SendingLaws.{listed-exactly}
-use Rattle.arp.specs.Sending.{Unsendable}
-use Rattle.arp.specs.Requests.{protocolFor, messageOf}
-use Rattle.arp.specs.declared.command.Command.the-variants.{Prepare, GetUdid, Assign}
-use Rattle.arp.specs.declared.command.End.the-variants.{Nothing}
-use Rattle.arp.specs.declared.command.Handed.the-variants.{Send, Wait}
+use Rattle.commands.specs.SendingLaws.{listed-exactly}
+use Rattle.commands.specs.Sending.{Unsendable}
+use Rattle.commands.specs.Requests.{protocolFor, messageOf}
+use Rattle.commands.specs.declared.command.Command.the-variants.{Prepare, GetUdid, Assign}
+use Rattle.commands.specs.declared.command.End.the-variants.{Nothing}
+use Rattle.commands.specs.declared.command.Handed.the-variants.{Send, Wait}
 use Rattle.c_codec.specs.Codec.{told, WrotePairs}
 use Rattle.c_codec.specs.WrittenLaws.{is-forbidden}
 use Rattle.c_arp.specs.Commands.{commandOf}

@@ -2,7 +2,7 @@
 // list of traces, the check of a list, a whole pass against targets.
 // What C calls stands in crate c_api and passes everything on to here, so that the library is built without much to prove again.
 pub mod check;
-pub mod commands;
+pub mod kinds;
 pub mod model;
 pub mod parts;
 pub mod pass;

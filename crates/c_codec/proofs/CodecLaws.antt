@@ -11,36 +11,29 @@ use lib.Dec.{ltb}
 use borrow.Author.Tests.{lt-ltb, le-ltb}
 use lib.ListN.{length, take, drop}
 use lib.Seq.{take-at}
-use Rattle.lists.specs.Choice.{pick, or, not}
+use Rattle.lists.specs.AbsurdLaws.{zero-is-one}
+use Rattle.lists.specs.Choice.{pick}
 use Rattle.lists.specs.Each.{Bytes}
 use Rattle.lists.specs.Onto.{onto}
 use Rattle.trace.specs.Shapes.{shapeOf, forbidden}
 use Rattle.trace.specs.Trace.{Message, trace}
-use Rattle.trace.specs.ValidLaws.{allowed-valid}
 use Rattle.trace.specs.ColumnsLaws.{longest}
 use Rattle.encode.specs.declared.Encoded.{Encoded}
 use Rattle.encode.proofs.Encoded as declared
 use Rattle.encode.specs.declared.Encoded.the-variants.{Written, Forbidden, OutputTooShort}
-use Rattle.encode.specs.Encode.{refusedBy, encodedBy, refused, encoded, symbolsOf, Wrote}
+use Rattle.encode.specs.EncodeByLaws.{taken-exactly}
+use Rattle.encode.specs.Encode.{encodedBy, refused, encoded, symbolsOf, Wrote}
 use Rattle.c_codec.specs.declared.codec.HbWritten.{HbWritten}
 use Rattle.pairs.specs.Pairs.{pairsOf, Put}
 use Rattle.pairs.specs.PairLaws.{put-true, put-false}
 use Rattle.c_codec.specs.Codec.{answerOf, told, WrotePairs, WroteSymbols}
-
-refused-false : (a b : Bool) → or a (not b) ≡ false → b ≡ true
-refused-false true b h = let z : _≡_ {A = ℕ} 0 1 = cc in absurd (omega arith)
-refused-false false true h = refl
-refused-false false false h = let z : _≡_ {A = ℕ} 0 1 = cc in absurd (omega arith)
 
 module _ (protocol : ℕ) (pec : Bool) (t : Message) (command : t .command < 256) (sent : Bytes (t .sent)) (received : Bytes (t .received)) where
   abbrev tr : List ℕ
   tr = trace (shapeOf protocol) pec t
 
   at-most : refused protocol pec t ≡ false → length tr ≤ 525
-  unfolding refusedBy
-  at-most h =
-      longest protocol pec t
-      (allowed-valid (shapeOf protocol) t command sent received (refused-false (forbidden protocol pec) _ h))
+  at-most h = longest protocol pec t (taken-exactly (shapeOf protocol) (forbidden protocol pec) t command sent received .0 h .1)
 
   -- the answer at a room, by the test of refusal 1 and of the room
   by-tests : (room : ℕ) (b c : Bool) → refused protocol pec t ≡ b → ltb room (length tr) ≡ c
@@ -60,8 +53,8 @@ module _ (protocol : ℕ) (pec : Bool) (t : Message) (command : t .command < 256
         go true e q k h = refl
         go false e (Written n) (inl k) h = absurd (omega arith)
         go false e (Written n) (inr k) h = absurd (omega arith)
-        go false e Forbidden k h = let z : Forbidden ≡ Written (length tr) = h ∙ by-tests (length buffer) false false e (fits e) in let o : _≡_ {A = ℕ} 0 1 = cc in absurd (omega arith)
-        go false e OutputTooShort k h = let z : OutputTooShort ≡ Written (length tr) = h ∙ by-tests (length buffer) false false e (fits e) in let o : _≡_ {A = ℕ} 0 1 = cc in absurd (omega arith)
+        go false e Forbidden k h = let z : Forbidden ≡ Written (length tr) = h ∙ by-tests (length buffer) false false e (fits e) in zero-is-one cc
+        go false e OutputTooShort k h = let z : OutputTooShort ≡ Written (length tr) = h ∙ by-tests (length buffer) false false e (fits e) in zero-is-one cc
 
     pub refused-pairs : (out : List ℕ) → OneOf (1 ∷ 2 ∷ []) (tagOf declared.the-type r) → (h : HbWritten) → h ≡ answerOf 1 0 → WrotePairs protocol pec t out h out
     unfolding pairsOf
@@ -74,7 +67,7 @@ module _ (protocol : ℕ) (pec : Bool) (t : Message) (command : t .command < 256
     passed n e = go (refused protocol pec t) refl
       where
         go : (b : Bool) → refused protocol pec t ≡ b → (b ≡ false) × (n ≡ length tr)
-        go true f = let z : Written n ≡ Forbidden = sym e ∙ w .answer ∙ by-tests (length buffer) true _ f refl in let o : _≡_ {A = ℕ} 0 1 = cc in absurd (omega arith)
+        go true f = let z : Written n ≡ Forbidden = sym e ∙ w .answer ∙ by-tests (length buffer) true _ f refl in zero-is-one cc
         go false f = let z : Written n ≡ Written (length tr) = sym e ∙ w .answer ∙ by-tests (length buffer) false false f (fits f) in (refl, cc)
 
     pub small : (n : ℕ) → r ≡ Written n → n ≤ 525
@@ -109,8 +102,8 @@ module _ (protocol : ℕ) (pec : Bool) (t : Message) (command : t .command < 256
   small-symbols buffer r after w n e = go (refused protocol pec t) refl (ltb (length buffer) (length tr)) refl
     where
       go : (b : Bool) → refused protocol pec t ≡ b → (c : Bool) → ltb (length buffer) (length tr) ≡ c → n ≤ 525
-      go true f c g = let z : Written n ≡ Forbidden = sym e ∙ w .answer ∙ by-tests (length buffer) true c f g in let o : _≡_ {A = ℕ} 0 1 = cc in absurd (omega arith)
-      go false f true g = let z : Written n ≡ OutputTooShort = sym e ∙ w .answer ∙ by-tests (length buffer) false true f g in let o : _≡_ {A = ℕ} 0 1 = cc in absurd (omega arith)
+      go true f c g = let z : Written n ≡ Forbidden = sym e ∙ w .answer ∙ by-tests (length buffer) true c f g in zero-is-one cc
+      go false f true g = let z : Written n ≡ OutputTooShort = sym e ∙ w .answer ∙ by-tests (length buffer) false true f g in zero-is-one cc
       go false f false g =
           let z : Written n ≡ Written (length tr) = sym e ∙ w .answer ∙ by-tests (length buffer) false false f g in
           let k : n ≡ length tr = cc in omega (arith, at-most f)

@@ -6,6 +6,7 @@ use mathlib.Core.Logic.{_⊎_, inl, inr, _↔_, Iff·rfl, Iff·trans}
 use Prim.Native.Nat.{ℕ, _/_, _≤_, _<_}
 use native.Mathlib.Omega.{arith}
 use lib.ListN.{length, take, drop, getD}
+use Rattle.trace.specs.Table.{lastProtocol}
 use Rattle.trace.specs.Shapes.{forbidden}
 use Rattle.trace.specs.Table.{TraceOf}
 use Rattle.trace.specs.Trace.{Message}
@@ -57,21 +58,21 @@ module _ (protocol pec : ℕ) (tr sent₀ received₀ : List ℕ) (h : HbDecoded
   pub hb-decode-number : (n v : ℕ) {P : Type 0} → (decodeNumber (d .answer) ≡ (n, v)) ↔ P → ((h .answer ≡ n) × (h .value ≡ v)) ↔ P
   hb-decode-number n v e = Iff·trans (read-carries protocol (truth pec) tr sent₀ received₀ h sent received d n v) e
 
-  -- 1: a protocol above 10, or Quick with PEC
-  pub hb-decode-1 : ((h .answer ≡ 1) × (h .value ≡ 0)) ↔ ((10 < protocol) ⊎ ((protocol ≡ 0) × (pec ≡ 0 → ⊥)))
+  -- 1: a protocol above the last, or Quick with PEC
+  pub hb-decode-1 : ((h .answer ≡ 1) × (h .value ≡ 0)) ↔ ((lastProtocol < protocol) ⊎ ((protocol ≡ 0) × (pec ≡ 0 → ⊥)))
   hb-decode-1 = hb-decode-number 1 0 (Iff·trans (decode-1 protocol (truth pec) tr sent₀ received₀ (d .answer) sent received (d .outcome)) (there, back))
     where
-      there : (10 < protocol) ⊎ ((protocol ≡ 0) × (truth pec ≡ true)) → (10 < protocol) ⊎ ((protocol ≡ 0) × (pec ≡ 0 → ⊥))
+      there : (lastProtocol < protocol) ⊎ ((protocol ≡ 0) × (truth pec ≡ true)) → (lastProtocol < protocol) ⊎ ((protocol ≡ 0) × (pec ≡ 0 → ⊥))
       there (inl x) = inl x
       there (inr (x, y)) = inr (x, truth-is pec .0 y)
 
-      back : (10 < protocol) ⊎ ((protocol ≡ 0) × (pec ≡ 0 → ⊥)) → (10 < protocol) ⊎ ((protocol ≡ 0) × (truth pec ≡ true))
+      back : (lastProtocol < protocol) ⊎ ((protocol ≡ 0) × (pec ≡ 0 → ⊥)) → (lastProtocol < protocol) ⊎ ((protocol ≡ 0) × (truth pec ≡ true))
       back (inl x) = inl x
       back (inr (x, y)) = inr (x, truth-is pec .1 y)
 
   -- 2: none of these, and a buffer of under 255 bytes
   pub hb-decode-2 : ((h .answer ≡ 2) × (h .value ≡ 0))
-      ↔ (((10 < protocol) ⊎ ((protocol ≡ 0) × (pec ≡ 0 → ⊥)) → ⊥) × ((length sent₀ < 255) ⊎ (length received₀ < 255)))
+      ↔ (((lastProtocol < protocol) ⊎ ((protocol ≡ 0) × (pec ≡ 0 → ⊥)) → ⊥) × ((length sent₀ < 255) ⊎ (length received₀ < 255)))
   hb-decode-2 = hb-decode-number 2 0 (there, back)
     where
       one : (decodeNumber (d .answer) ≡ (1, 0)) ↔ (forbidden protocol (truth pec) ≡ true)
@@ -80,14 +81,14 @@ module _ (protocol pec : ℕ) (tr sent₀ received₀ : List ℕ) (h : HbDecoded
       two : (decodeNumber (d .answer) ≡ (2, 0)) ↔ ((forbidden protocol (truth pec) ≡ false) × (short (length sent₀) (length received₀) ≡ true))
       two = decode.number-2 protocol (truth pec) tr sent₀ received₀ (d .answer) sent received (d .outcome)
 
-      there : decodeNumber (d .answer) ≡ (2, 0) → ((10 < protocol) ⊎ ((protocol ≡ 0) × (pec ≡ 0 → ⊥)) → ⊥) × ((length sent₀ < 255) ⊎ (length received₀ < 255))
+      there : decodeNumber (d .answer) ≡ (2, 0) → ((lastProtocol < protocol) ⊎ ((protocol ≡ 0) × (pec ≡ 0 → ⊥)) → ⊥) × ((length sent₀ < 255) ⊎ (length received₀ < 255))
       there e = (λ c. omega (arith, hb-decode-1 .1 c .0, hb-decode-number 2 0 Iff·rfl .1 e .0), short-cases (length sent₀) (length received₀) .0 (two .0 e .1))
 
-      allowed : ((10 < protocol) ⊎ ((protocol ≡ 0) × (pec ≡ 0 → ⊥)) → ⊥) → (b : Bool) → forbidden protocol (truth pec) ≡ b → b ≡ false
+      allowed : ((lastProtocol < protocol) ⊎ ((protocol ≡ 0) × (pec ≡ 0 → ⊥)) → ⊥) → (b : Bool) → forbidden protocol (truth pec) ≡ b → b ≡ false
       allowed n true e = absurd (n (hb-decode-1 .0 (hb-decode-number 1 0 one .1 e)))
       allowed n false e = refl
 
-      back : ((10 < protocol) ⊎ ((protocol ≡ 0) × (pec ≡ 0 → ⊥)) → ⊥) × ((length sent₀ < 255) ⊎ (length received₀ < 255)) → decodeNumber (d .answer) ≡ (2, 0)
+      back : ((lastProtocol < protocol) ⊎ ((protocol ≡ 0) × (pec ≡ 0 → ⊥)) → ⊥) × ((length sent₀ < 255) ⊎ (length received₀ < 255)) → decodeNumber (d .answer) ≡ (2, 0)
       back (n, c) = two .1 (allowed n (forbidden protocol (truth pec)) refl, short-cases (length sent₀) (length received₀) .1 c)
 
   -- 3: a number above 259 at the first place that does not fit

@@ -11,11 +11,8 @@ use Rattle.lists.specs.Choice.{pick}
 use Rattle.lists.specs.Onto.{onto}
 use Rattle.lists.specs.OntoLaws.{onto-put}
 use Rattle.trace.specs.declared.shape.Shape.{Shape}
+use Rattle.step.specs.DataLaws.{length-lows}
 use Rattle.step.specs.Handed.{lows, countPlaces, sentPlace, receivedPlace}
-
-length-lows : (n : ℕ) (l : List ℕ) → length (lows n l) ≡ n
-length-lows zero l = refl
-length-lows (suc n) l = ap suc (length-lows n (drop 2 l))
 
 lows-more : (n : ℕ) (l : List ℕ) → lows (suc n) l ≡ lows n l ++ (getD l (2 * n) 0 % 256) ∷ []
 lows-more zero l = refl

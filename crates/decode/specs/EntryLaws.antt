@@ -8,7 +8,8 @@ use native.Mathlib.Omega.{arith}
 use lib.ListN.{length}
 use lib.Dec.{ltb}
 use borrow.Author.Tests.{ltb-false}
-use Rattle.lists.specs.Choice.{pick, or}
+use Rattle.lists.specs.Choice.{pick}
+use Rattle.lists.specs.ChoiceLaws.{neither}
 use Rattle.lists.specs.Onto.{onto}
 use Rattle.trace.specs.declared.shape.Shape.{Shape}
 use Rattle.trace.specs.Shapes.{shapeOf, forbidden}
@@ -24,10 +25,6 @@ use Rattle.step.specs.SizeLaws.{sizes-of-answer}
 use Rattle.decode.specs.Outcome.{short, answeredBy, OutcomeBy, Outcome}
 
 -- both buffers are long enough
-neither : (a b : Bool) → or a b ≡ false → (a ≡ false) × (b ≡ false)
-neither true b h = (h, cc)
-neither false b h = (refl, h)
-
 pub both-at-least-255 : (s r : ℕ) → short s r ≡ false → (255 ≤ s) × (255 ≤ r)
 both-at-least-255 s r h = let n = neither (ltb s 255) (ltb r 255) h in (ltb-false s 255 (n .0), ltb-false r 255 (n .1))
 

@@ -10,8 +10,10 @@ use lib.Dec.{ltb}
 use lib.ListN.{length, take, drop, getD}
 use borrow.Author.Tests.{ltb-true, lt-ltb, le-ltb}
 use Rattle.lists.specs.Choice.{or}
+use Rattle.lists.specs.ChoiceLaws.{or-last}
 use Rattle.trace.specs.ForbiddenLaws.{forbidden-cases, taken-cases}
-use Rattle.trace.specs.ShapeLaws.{sane, to-10-known, known-to-10}
+use Rattle.trace.specs.Table.{lastProtocol}
+use Rattle.trace.specs.ShapeLaws.{sane, to-last-known, known-to-last}
 use Rattle.trace.specs.Shapes.{protocols, shapeOf, forbidden}
 use Rattle.trace.specs.Table.{TraceOf, send-byte}
 use Rattle.trace.specs.TableLaws.{listed-trace, trace-listed}
@@ -38,13 +40,9 @@ short-cases s r = (λ h. there (ltb s 255) refl h, back)
     there true e h = inl (ltb-true s 255 e)
     there false e h = inr (ltb-true r 255 h)
 
-    either : (b : Bool) → or b true ≡ true
-    either true = refl
-    either false = refl
-
     back : (s < 255) ⊎ (r < 255) → short s r ≡ true
     back (inl h) = rw (lt-ltb s 255 h)
-    back (inr h) = rw (lt-ltb r 255 h) (either (ltb s 255))
+    back (inr h) = rw (lt-ltb r 255 h) (or-last (ltb s 255))
 
 pub long-cases : (s r : ℕ) → (short s r ≡ false) ↔ ((255 ≤ s) × (255 ≤ r))
 long-cases s r = (λ h. both-at-least-255 s r h, λ h. rw (le-ltb s 255 (h .0), le-ltb r 255 (h .1)))
@@ -56,29 +54,29 @@ module _ (protocol : ℕ) (pec : Bool) (tr sent₀ received₀ : List ℕ) (a : 
   abbrev Here : Type 0
   Here = Entered protocol pec sent₀ received₀
 
-  -- 1: a protocol above 10, or Quick with PEC
-  pub decode-1 : (decodeNumber a ≡ (1, 0)) ↔ ((10 < protocol) ⊎ ((protocol ≡ 0) × (pec ≡ true)))
+  -- 1: a protocol above the last, or Quick with PEC
+  pub decode-1 : (decodeNumber a ≡ (1, 0)) ↔ ((lastProtocol < protocol) ⊎ ((protocol ≡ 0) × (pec ≡ true)))
   decode-1 =
       let n = decode.number-1 protocol pec tr sent₀ received₀ a sent received o in
       let f = forbidden-cases protocol pec in
       (λ e. f .0 (n .0 e), λ h. n .1 (f .1 h))
 
   -- 2: none of these, and a buffer of under 255 bytes
-  pub decode-2 : (decodeNumber a ≡ (2, 0)) ↔ ((protocol ≤ 10) × (protocol ≡ 0 → pec ≡ false) × ((length sent₀ < 255) ⊎ (length received₀ < 255)))
+  pub decode-2 : (decodeNumber a ≡ (2, 0)) ↔ ((protocol ≤ lastProtocol) × (protocol ≡ 0 → pec ≡ false) × ((length sent₀ < 255) ⊎ (length received₀ < 255)))
   decode-2 =
       let n = decode.number-2 protocol pec tr sent₀ received₀ a sent received o in
       let t = taken-cases protocol pec in
       let f = short-cases (length sent₀) (length received₀) in
-      (λ e. (known-to-10 protocol (t .0 (n .0 e .0) .0), t .0 (n .0 e .0) .1, f .0 (n .0 e .1)), λ h. n .1 (t .1 (to-10-known protocol (h .0), h .1), f .1 (h .2)))
+      (λ e. (known-to-last protocol (t .0 (n .0 e .0) .0), t .0 (n .0 e .0) .1, f .0 (n .0 e .1)), λ h. n .1 (t .1 (to-last-known protocol (h .0), h .1), f .1 (h .2)))
 
   entered : forbidden protocol pec ≡ false → short (length sent₀) (length received₀) ≡ false → Here
   entered f c =
       let t = taken-cases protocol pec .0 f in
       let l = long-cases (length sent₀) (length received₀) .0 c in
-      (known-to-10 protocol (t .0), t .1, l .0, l .1)
+      (known-to-last protocol (t .0), t .1, l .0, l .1)
 
   pub entered-known : Here → protocol < protocols
-  entered-known r = to-10-known protocol (r .0)
+  entered-known r = to-last-known protocol (r .0)
 
   pub entered-taken : Here → forbidden protocol pec ≡ false
   entered-taken r = taken-cases protocol pec .1 (entered-known r, r .1)

@@ -8,6 +8,7 @@ use lib.ListN.{length}
 use lib.Dec.{ltb}
 use Rattle.lists.specs.Choice.{pick, or}
 use Rattle.lists.specs.Onto.{onto}
+use Rattle.trace.specs.Table.{lastProtocol}
 use Rattle.trace.specs.declared.shape.Shape.{Shape}
 use Rattle.trace.specs.Shapes.{shapeOf, forbidden}
 use Rattle.step.specs.declared.answer.Decoded.{Decoded}
@@ -60,9 +61,9 @@ MeansBy number sh barred pec tr sent₀ received₀ a sent received =
 
 -- ---- for the protocols of the table
 
--- neither 1 nor 2, so that the trace is read: one of the eleven protocols, Quick without PEC, and two buffers of 255 bytes or more
+-- neither 1 nor 2, so that the trace is read: a protocol of the table, Quick without PEC, and two buffers of 255 bytes or more
 abbrev pub Entered : ℕ → Bool → List ℕ → List ℕ → Type 0
-Entered protocol pec sent₀ received₀ = (protocol ≤ 10) × (protocol ≡ 0 → pec ≡ false) × (255 ≤ length sent₀) × (255 ≤ length received₀)
+Entered protocol pec sent₀ received₀ = (protocol ≤ lastProtocol) × (protocol ≡ 0 → pec ≡ false) × (255 ≤ length sent₀) × (255 ≤ length received₀)
 
 abbrev pub answered : ℕ → Bool → List ℕ → ℕ → ℕ → Decoded
 answered protocol pec tr sentRoom receivedRoom = answeredBy protocol (shapeOf protocol) (forbidden protocol pec) pec tr sentRoom receivedRoom

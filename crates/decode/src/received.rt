@@ -1,9 +1,9 @@
 // The data received that an answer hands over: how many bytes, and where in the trace they begin. Only 0 has any.
 ghost use mathlib.Core.Path.{_≡_};
-ghost use Prim.Native.Nat.{_-_};
 ghost use Rattle.lists.specs.Choice.{pick};
 ghost use Rattle.step.specs.Handed.{receivedLength, receivedPlace};
 use step::answer::Decoded;
+use wire::number::less;
 
 pub(crate) fn received_length(a: Decoded) -> usize
     ensures { λ r. ⌜ r ≡ receivedLength a ⌝ }
@@ -12,12 +12,6 @@ pub(crate) fn received_length(a: Decoded) -> usize
         Decoded::Done(t) => t.received,
         Decoded::Refused(_, _) => 0,
     }
-}
-
-fn less(a: usize, b: usize) -> usize
-    ensures { λ r. ⌜ r ≡ a - b ⌝ }
-{
-    if a < b { 0 } else { a - b }
 }
 
 // The places of STOP, and of a PEC received with its NACK.

@@ -2,12 +2,12 @@
 ghost use Prim.Native.Nat.{_≤_};
 ghost use mathlib.Core.Path.{_≡_};
 ghost use lib.ListN.{length};
-use arp::command::Command;
-use arp::command::Handed;
 use arp::lookup::Found;
-use arp::request::put_command;
 use arp::state::Controller;
 use arp::state::Stepped;
+use commands::command::Command;
+use commands::command::Handed;
+use commands::request::put_command;
 use encode::Encoded;
 use pool::Pool;
 use udid::Udid;

@@ -1,5 +1,5 @@
 pub mod WriterLaws
 pub mod PhaseLaws
-pub mod CodeLaws
+pub mod PecLaws
 pub mod WholeLaws
 pub mod EntryLaws

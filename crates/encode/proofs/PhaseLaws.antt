@@ -83,8 +83,8 @@ module _ (l r : List ℕ) (w : Bool) (g : ℕ) (a : Part) (p : Bool) (y : ℕ) (
     received-asks = omega (arith, read-length)
 
     module _ (m : ℕ) (l₂ : List ℕ) (em : m ≡ n + 2 * length (partBytes a r)) (e₂ : l₂ ≡ onto (take n l₁ ++ acked (partBytes a r)) l₁) (k₂ : length l₂ ≡ length l₁) where
-      pub code-asks : m + 2 * length (inPlace p y) ≤ length l₂
-      code-asks = omega (arith, read-length)
+      pub pec-asks : m + 2 * length (inPlace p y) ≤ length l₂
+      pec-asks = omega (arith, read-length)
 
       module _ (e : ℕ) (l₃ : List ℕ) (ee : e ≡ m + 2 * length (inPlace p y)) (e₃ : l₃ ≡ onto (take m l₂ ++ acked (inPlace p y)) l₂) (k₃ : length l₃ ≡ length l₂)
           (some : 0 < length (readBytes a r p y)) where

@@ -3,15 +3,16 @@ use mathlib.Core.Path.{_≡_, refl, sym, ap, ap₂, _∙_}
 use mathlib.Core.Bool.{Bool, true, false}
 use mathlib.Core.List.{List, [], _∷_, _++_, append-assoc}
 use Prim.Native.Nat.{ℕ, _+_, _-_, _*_, _%_, _≤_, _<_}
+use native.Mathlib.Nat.{mod-eq-of-lt}
 use native.Mathlib.Omega.{arith}
 use lib.Dec.{eqb}
 use lib.ListN.{length, take, drop, length-append, length-take, length-drop}
 use borrow.Author.Tests.{eqb-true, eqb-false}
 use borrow.Rule.Slice.PartMut.{putMid}
 use Rattle.lists.specs.Choice.{pick, or}
+use Rattle.lists.specs.ChoiceLaws.{false-not-true}
 use Rattle.lists.specs.Onto.{onto}
 use Rattle.lists.specs.OntoLaws.{onto-lent}
-use Rattle.wire.specs.Addresses.{hostAddress}
 use Rattle.wire.specs.Symbols.{START, STOP, ACK}
 use Rattle.wire.specs.Pec as Pec
 use Rattle.wire.specs.PecLaws.{pec-append}
@@ -22,17 +23,14 @@ use Rattle.trace.specs.Shapes.{some, writes, reads}
 use Rattle.trace.specs.Sane.{Small}
 use Rattle.trace.specs.Trace.{Message, W, R, laid, acked, nacked, LengthOf, counted, firstByte, front, bytes, pecOf, inPlace, byController, trace}
 use Rattle.trace.specs.LengthLaws.{length-acked}
-use Rattle.encode.specs.Pieces.{partBytes, firstOf, writeBytes, writePhase, repeatedStart, readBytes, readPhase, rest, bytesAfter, codeOf, Ready}
+use Rattle.trace.specs.ValidLaws.{address-below-128}
+use Rattle.encode.specs.Pieces.{partBytes, firstOf, writeBytes, writePhase, repeatedStart, readBytes, readPhase, rest, bytesAfter, pecOfPhases, Ready}
 
 -- nothing is cut: a count of at most 255, an address of seven bits, a direction of one
 laid-is : (a : Part) (s : List ℕ) → counted a s ≤ 255 → partBytes a s ≡ laid a s
 laid-is Nothing s h = refl
 laid-is (Fixed k) s h = refl
 laid-is Counted s h = let e : length s % 256 ≡ length s = omega arith in ap (λ (n : ℕ). n ∷ s) e
-
-seven-bits : (b : Bool) (a : ℕ) → pick b (a ≡ hostAddress) (a < 128) → a % 128 ≡ a
-seven-bits true a h = let e : a ≡ 8 = h in omega arith
-seven-bits false a h = let e : a < 128 = h in omega arith
 
 quick-is : (a d : ℕ) → d ≤ 1 → pick (eqb d 0) (W a) (R a) ≡ 2 * a + d
 quick-is a d h = go (eqb d 0) refl
@@ -64,14 +62,14 @@ place-is false y x z e g = refl
 
 -- a read phase has a byte, which the NACK is for
 read-some : (a : Part) (r : List ℕ) (p : Bool) (y least : ℕ) → Small a → LengthOf least a r → some a ≡ true → 0 < length (readBytes a r p y)
-read-some Nothing r p y least h l e = let z : _≡_ {A = ℕ} 0 1 = cc in absurd (omega arith)
+read-some Nothing r p y least h l e = false-not-true e
 read-some (Fixed k) r p y least h l e = omega (arith, h, l, length-append r (inPlace p y))
 read-some Counted r p y least h l e = omega arith
 
 module _ (sh : Shape) (p : Bool) (t : Message) (l : List ℕ) (ready : Ready sh p t (length l)) (f g y : ℕ) (ef : f ≡ firstOf sh (t .address) (t .direction)) (eg : g ≡ R (t .address % 128))
-    (ey : y ≡ pick p (codeOf sh f g (t .command) (t .sent) (t .received)) 0) where
+    (ey : y ≡ pick p (pecOfPhases sh f g (t .command) (t .sent) (t .received)) 0) where
   address-is : t .address % 128 ≡ t .address
-  address-is = seven-bits (sh .tohost) (t .address) (ready .valid .address)
+  address-is = mod-eq-of-lt (address-below-128 (sh .tohost) (t .address) (ready .valid .address))
 
   the-first : f ≡ firstByte sh t
   the-first = ef ∙ ap (λ (a : ℕ). pick (writes sh) (W a) (pick (reads sh) (R a) (pick (eqb (t .direction) 0) (W a) (R a)))) address-is ∙ first-is (writes sh) (reads sh) (t .address) (t .direction) (ready .valid .direction)
@@ -91,15 +89,15 @@ module _ (sh : Shape) (p : Bool) (t : Message) (l : List ℕ) (ready : Ready sh 
   bytes-are : writeBytes sh f (t .command) (t .sent) ++ bytesAfter sh g (t .received) ≡ bytes sh t
   bytes-are = ap₂ (λ (a b : List ℕ). a ++ b) front-is (turn-is (reads sh) (writes sh) g (firstByte sh t + 1) _ _ the-second received-is)
 
-  code-is : codeOf sh f g (t .command) (t .sent) (t .received) ≡ pecOf sh t
-  code-is = sym (pec-append 0 (writeBytes sh f (t .command) (t .sent)) (bytesAfter sh g (t .received))) ∙ ap Pec.pecOf bytes-are
+  pec-is : pecOfPhases sh f g (t .command) (t .sent) (t .received) ≡ pecOf sh t
+  pec-is = sym (pec-append 0 (writeBytes sh f (t .command) (t .sent)) (bytesAfter sh g (t .received))) ∙ ap Pec.pecOf bytes-are
 
   pieces : writePhase sh f (t .command) (t .sent) ++ rest sh g (t .received) p y ≡ trace sh p t
   pieces =
       let o : List ℕ = inPlace p (pecOf sh t) in
       let x : List ℕ = pick (reads sh) (repeatedStart (writes sh) (firstByte sh t + 1)) (acked o) in
       ap₂ (λ (a b : List ℕ). START ∷ acked a ++ b) front-is
-      (rest-is (reads sh) (writes sh) g (firstByte sh t + 1) _ _ (inPlace p y) o the-second received-is (place-is p y _ (pecOf sh t) ey code-is))
+      (rest-is (reads sh) (writes sh) g (firstByte sh t + 1) _ _ (inPlace p y) o the-second received-is (place-is p y _ (pecOf sh t) ey pec-is))
       ∙ sym (append-assoc (START ∷ acked (front sh t)) x (byController sh t o))
 
   phase-length : length (writePhase sh f (t .command) (t .sent)) ≡ 1 + 2 * length (writeBytes sh f (t .command) (t .sent))

@@ -8,10 +8,12 @@ use native.Mathlib.Nat.{not-suc-le-zero}
 use native.Mathlib.Omega.{arith}
 use lib.ListN.{length, take, drop, getD, set, length-append}
 use lib.Seq.{take-suc, length-take-le}
+use Rattle.lists.specs.ChoiceLaws.{false-not-true}
 use Rattle.lists.specs.Onto.{onto}
 use Rattle.lists.specs.OntoLaws.{onto-put, onto-onto, onto-take}
 use Rattle.wire.specs.Symbols.{START, STOP, ACK, NACK}
 use Rattle.trace.specs.Trace.{acked, nacked, inPlace}
+use Rattle.trace.specs.AckedLaws.{double-suc-plus-one}
 use Rattle.trace.specs.LengthLaws.{length-acked, length-nacked}
 use Rattle.encode.specs.Pieces.{repeatedStart}
 
@@ -49,7 +51,7 @@ put-byte l n y h =
 
 pub yes-room : (b : Bool) (y n m : ℕ) → b ≡ true → n + 2 * length (inPlace b y) ≤ m → n + 2 ≤ m
 yes-room true y n m e h = omega arith
-yes-room false y n m e h = let z : _≡_ {A = ℕ} 0 1 = cc in absurd (omega arith)
+yes-room false y n m e h = false-not-true e
 
 -- START, a byte and its ACK at the front
 pub put-start : (l : List ℕ) (b : ℕ) → 3 ≤ length l → set (set (set l 0 START) 1 b) 2 ACK ≡ onto (START ∷ b ∷ ACK ∷ []) l
@@ -60,7 +62,7 @@ put-start l b h =
 
 pub turn-room : (b : Bool) (g m : ℕ) → b ≡ true → length (repeatedStart b g) ≤ m → 3 ≤ m
 turn-room true g m e h = omega arith
-turn-room false g m e h = let z : _≡_ {A = ℕ} 0 1 = cc in absurd (omega arith)
+turn-room false g m e h = false-not-true e
 
 -- one writer after another
 pub onto-next : (xs ys l l₁ l₂ : List ℕ) (n : ℕ) → l₁ ≡ onto xs l → length xs ≡ n → l₂ ≡ onto (take n l₁ ++ ys) l₁ → l₂ ≡ onto (xs ++ ys) l
@@ -74,12 +76,9 @@ onto-next-acked p xs ys l l₁ l₂ n e g h =
     ∙ ap (λ (t : List ℕ). onto t l) (append-assoc p (acked xs) (acked ys) ∙ ap (λ (t : List ℕ). p ++ t) (sym (acked-append xs ys)))
 
 -- the last ACK becomes a NACK
-two-more : (k : ℕ) → 2 * suc k + 1 ≡ suc (suc (2 * k + 1))
-two-more k = omega arith
-
 nacked-acked : (x : ℕ) (xs l : List ℕ) → set (acked (x ∷ xs) ++ l) (2 * length xs + 1) NACK ≡ nacked (x ∷ xs) ++ l
 nacked-acked x [] l = refl
-nacked-acked x (y ∷ xs) l = rw two-more (ap (λ (t : List ℕ). x ∷ ACK ∷ t) (nacked-acked y xs l))
+nacked-acked x (y ∷ xs) l = rw double-suc-plus-one (ap (λ (t : List ℕ). x ∷ ACK ∷ t) (nacked-acked y xs l))
 
 set-after : (p q : List ℕ) (n a i : ℕ) → i ≡ length p + n → set (p ++ q) i a ≡ p ++ set q n a
 set-after [] q n a i e = let k : i ≡ n = omega arith in ap (λ (j : ℕ). set q j a) k

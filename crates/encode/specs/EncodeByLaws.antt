@@ -10,6 +10,7 @@ use lib.Dec.{ltb}
 use lib.ListN.{length, take, drop}
 use lib.Seq.{take-at, drop-at}
 use borrow.Author.Tests.{ltb-true, ltb-false, lt-ltb, le-ltb}
+use Rattle.lists.specs.AbsurdLaws.{zero-is-one}
 use Rattle.lists.specs.Choice.{pick, or, not}
 use Rattle.lists.specs.ChoiceLaws.{false-not-true}
 use Rattle.lists.specs.Each.{Bytes}
@@ -38,17 +39,17 @@ module _ (sh : Shape) (barred pec : Bool) (t : Message) (room : ℕ) where
     where
       go : encodedBy sh barred pec t room ≡ Forbidden → (b : Bool) → refusedBy sh barred t ≡ b → (s : Bool) → ltb room symbols ≡ s → refusedBy sh barred t ≡ true
       go e true eb s es = eb
-      go e false eb true es = let f = by-tests false true eb es in let z : _≡_ {A = ℕ} 0 1 = cc in absurd (omega arith)
-      go e false eb false es = let f = by-tests false false eb es in let z : _≡_ {A = ℕ} 0 1 = cc in absurd (omega arith)
+      go e false eb true es = let f = by-tests false true eb es in zero-is-one cc
+      go e false eb false es = let f = by-tests false false eb es in zero-is-one cc
 
   -- 2: none fails, and the room is shorter than the trace
   pub too-short-exactly : (encodedBy sh barred pec t room ≡ OutputTooShort) ↔ ((refusedBy sh barred t ≡ false) × (room < symbols))
   too-short-exactly = (λ e. go e (refusedBy sh barred t) refl _ refl, λ h. by-tests false true (h .0) (lt-ltb room symbols (h .1)))
     where
       go : encodedBy sh barred pec t room ≡ OutputTooShort → (b : Bool) → refusedBy sh barred t ≡ b → (s : Bool) → ltb room symbols ≡ s → (refusedBy sh barred t ≡ false) × (room < symbols)
-      go e true eb s es = let f = by-tests true s eb es in let z : _≡_ {A = ℕ} 0 1 = cc in absurd (omega arith)
+      go e true eb s es = let f = by-tests true s eb es in zero-is-one cc
       go e false eb true es = (eb, ltb-true room symbols es)
-      go e false eb false es = let f = by-tests false false eb es in let z : _≡_ {A = ℕ} 0 1 = cc in absurd (omega arith)
+      go e false eb false es = let f = by-tests false false eb es in zero-is-one cc
 
   -- 0 with n: none fails, n is the length of the trace, and there is room for it
   pub written-exactly : (n : ℕ) → (encodedBy sh barred pec t room ≡ Written n) ↔ ((refusedBy sh barred t ≡ false) × (n ≡ symbols) × (n ≤ room))
@@ -58,8 +59,8 @@ module _ (sh : Shape) (barred pec : Bool) (t : Message) (room : ℕ) where
   )
     where
       go : encodedBy sh barred pec t room ≡ Written n → (b : Bool) → refusedBy sh barred t ≡ b → (s : Bool) → ltb room symbols ≡ s → (refusedBy sh barred t ≡ false) × (n ≡ symbols) × (n ≤ room)
-      go e true eb s es = let f = by-tests true s eb es in let z : _≡_ {A = ℕ} 0 1 = cc in absurd (omega arith)
-      go e false eb true es = let f = by-tests false true eb es in let z : _≡_ {A = ℕ} 0 1 = cc in absurd (omega arith)
+      go e true eb s es = let f = by-tests true s eb es in zero-is-one cc
+      go e false eb true es = let f = by-tests false true eb es in zero-is-one cc
       go e false eb false es =
           let f = by-tests false false eb es in
           let same : n ≡ symbols = cc in

@@ -5,8 +5,8 @@ use mathlib.Core.Logic.{_↔_}
 use mathlib.Core.Bool.{Bool, true, false}
 use mathlib.Core.List.{List, _++_}
 use Prim.Native.Nat.{ℕ, _≤_, _<_}
-use native.Mathlib.Omega.{arith}
 use lib.ListN.{length, take, drop, take-append-drop}
+use Rattle.lists.specs.AbsurdLaws.{zero-is-one}
 use Rattle.lists.specs.ChoiceLaws.{not-both}
 use Rattle.lists.specs.Each.{Bytes}
 use Rattle.trace.specs.declared.shape.Shape.{Shape}
@@ -86,20 +86,23 @@ written-valid protocol pec t room n c s r = (
 
 -- ---- the scope's numbers, and the output
 
+first : {a b : ℕ × ℕ} → a ≡ b → a .0 ≡ b .0
+first e = ap (λ (x : ℕ × ℕ). x .0) e
+
 number-one : (r : Encoded) → encodeNumber r ≡ (1, 0) → r ≡ Forbidden
-number-one (Written n) e = let z : _≡_ {A = ℕ} 0 1 = ap (λ (x : ℕ × ℕ). x .0) e in absurd (omega arith)
+number-one (Written n) e = zero-is-one (cc (first e))
 number-one Forbidden e = refl
-number-one OutputTooShort e = let z : _≡_ {A = ℕ} 2 1 = ap (λ (x : ℕ × ℕ). x .0) e in absurd (omega arith)
+number-one OutputTooShort e = zero-is-one (cc (first e))
 
 number-two : (r : Encoded) → encodeNumber r ≡ (2, 0) → r ≡ OutputTooShort
-number-two (Written n) e = let z : _≡_ {A = ℕ} 0 2 = ap (λ (x : ℕ × ℕ). x .0) e in absurd (omega arith)
-number-two Forbidden e = let z : _≡_ {A = ℕ} 1 2 = ap (λ (x : ℕ × ℕ). x .0) e in absurd (omega arith)
+number-two (Written n) e = zero-is-one (cc (first e))
+number-two Forbidden e = zero-is-one (cc (first e))
 number-two OutputTooShort e = refl
 
 number-zero : (r : Encoded) (n : ℕ) → encodeNumber r ≡ (0, n) → r ≡ Written n
 number-zero (Written m) n e = ap (λ (x : ℕ × ℕ). Written (x .1)) e
-number-zero Forbidden n e = let z : _≡_ {A = ℕ} 1 0 = ap (λ (x : ℕ × ℕ). x .0) e in absurd (omega arith)
-number-zero OutputTooShort n e = let z : _≡_ {A = ℕ} 2 0 = ap (λ (x : ℕ × ℕ). x .0) e in absurd (omega arith)
+number-zero Forbidden n e = zero-is-one (cc (first e))
+number-zero OutputTooShort n e = zero-is-one (cc (first e))
 
 module _ (protocol : ℕ) (pec : Bool) (t : Message) (before : List ℕ) (r : Encoded) (after : List ℕ) (w : Wrote protocol pec t before r after) where
   pub answer-1 : (encodeNumber r ≡ (1, 0)) ↔ Listed protocol pec t

@@ -8,6 +8,7 @@ use lib.Dec.{ltb, leb, eqb}
 use lib.ListN.{length}
 use borrow.Author.Tests.{ltb-false, leb-true, leb-false, eqb-true, eqb-false, le-ltb, le-leb, lt-leb, ne-eqb}
 use Rattle.lists.specs.Choice.{pick, or, and, not}
+use Rattle.lists.specs.ChoiceLaws.{false-not-true, not-both, or-last}
 use Rattle.trace.specs.declared.shape.Shape.{Shape}
 use Rattle.trace.specs.Shapes.{protocols, shapeOf, forbidden, writes, reads}
 use Rattle.trace.specs.FieldLaws.{address-of-row, command-of-row, direction-of-row}
@@ -21,13 +22,9 @@ use Rattle.encode.specs.Listed.{Listed, unknown-protocol, address-above-
 -- ---- the tests one by one
 
 -- whatever the tests before it say
-fail-1 : (b : Bool) → or b true ≡ true
-fail-1 true = refl
-fail-1 false = refl
-
 fail-2 : (b a : Bool) → or b (not (and a false)) ≡ true
-fail-2 b true = fail-1 b
-fail-2 b false = fail-1 b
+fail-2 b true = or-last b
+fail-2 b false = or-last b
 
 fail-3 : (b a d : Bool) → or b (not (and a (and d false))) ≡ true
 fail-3 b a true = fail-2 b a
@@ -72,7 +69,7 @@ module _ (protocol : ℕ) (pec : Bool) (t : Message) where
 
   pub listed-refused : Listed protocol pec t → refused protocol pec t ≡ true
   listed-refused (unknown-protocol h) = above-refused h
-  listed-refused (address-above-127 h) = refused-by _ false _ _ _ refl (address-of-row protocol (t .address) ∙ le-ltb (t .address) 128 h) refl refl refl ∙ fail-1 (forbidden protocol pec)
+  listed-refused (address-above-127 h) = refused-by _ false _ _ _ refl (address-of-row protocol (t .address) ∙ le-ltb (t .address) 128 h) refl refl refl ∙ or-last (forbidden protocol pec)
   listed-refused (direction-above-1 h) = refused-by _ _ false _ _ refl refl (go (or (writes sh) (reads sh))) refl refl ∙ fail-2 (forbidden protocol pec) (addressFits sh (t .address))
     where
       go : (b : Bool) → pick b (eqb (t .direction) 0) (leb (t .direction) 1) ≡ false
@@ -101,9 +98,9 @@ module _ (protocol : ℕ) (pec : Bool) (t : Message) where
     where
       go : (b : Bool) → eqb protocol 0 ≡ b → (q : Bool) → pec ≡ q → and q (not (not b)) ≡ true → Listed protocol pec t
       go true e true g k = quick-with-pec (eqb-true protocol 0 e) g
-      go true e false g k = let z : _≡_ {A = ℕ} 0 1 = cc in absurd (omega arith)
-      go false e true g k = let z : _≡_ {A = ℕ} 0 1 = cc in absurd (omega arith)
-      go false e false g k = let z : _≡_ {A = ℕ} 0 1 = cc in absurd (omega arith)
+      go true e false g k = false-not-true k
+      go false e true g k = false-not-true k
+      go false e false g k = false-not-true k
 
   address-listed : addressFits sh (t .address) ≡ false → Listed protocol pec t
   address-listed e = address-above-127 (ltb-false (t .address) 128 (sym (address-of-row protocol (t .address)) ∙ e))
@@ -119,11 +116,11 @@ module _ (protocol : ℕ) (pec : Bool) (t : Message) where
   command-listed e = below-or-listed (λ h. go (ltb 2 protocol) refl (sym (command-of-row protocol (t .command) h) ∙ e))
     where
       go : (b : Bool) → ltb 2 protocol ≡ b → pick b true (eqb (t .command) 0) ≡ false → Listed protocol pec t
-      go true g f = let z : _≡_ {A = ℕ} 0 1 = cc in absurd (omega arith)
+      go true g f = not-both f refl
       go false g f = lacking-command (ltb-false 2 protocol g) (eqb-false (t .command) 0 f)
 
   length-listed : lengthsFit sh (length (t .sent)) (length (t .received)) ≡ false → Listed protocol pec t
-  length-listed e = forbidden-length (λ d. let f = listed-lengths-fit protocol (length (t .sent)) (length (t .received)) d in let z : _≡_ {A = ℕ} 0 1 = cc in omega arith)
+  length-listed e = forbidden-length (λ d. not-both e (listed-lengths-fit protocol (length (t .sent)) (length (t .received)) d))
 
   pub refused-listed : refused protocol pec t ≡ true → Listed protocol pec t
   refused-listed e =
@@ -137,7 +134,7 @@ module _ (protocol : ℕ) (pec : Bool) (t : Message) where
       go false eb true ea false ed c ec l el = direction-listed ed
       go false eb true ea true ed false ec l el = command-listed ec
       go false eb true ea true ed true ec false el = length-listed el
-      go false eb true ea true ed true ec true el = let f = refused-by false true true true true eb ea ed ec el in let z : _≡_ {A = ℕ} 0 1 = cc in absurd (omega arith)
+      go false eb true ea true ed true ec true el = not-both (refused-by false true true true true eb ea ed ec el) e
 
 -- the tests find the listed cases, all of them and no other
 pub refused-exactly : (protocol : ℕ) (pec : Bool) (t : Message) → (refused protocol pec t ≡ true) ↔ Listed protocol pec t

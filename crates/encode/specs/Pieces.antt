@@ -41,7 +41,7 @@ writePhase sh f c s = START ∷ acked (writeBytes sh f c s)
 abbrev pub repeatedStart : Bool → ℕ → List ℕ
 repeatedStart w g = pick w (START ∷ g ∷ ACK ∷ []) []
 
--- the bytes read, y the code in PEC's place, and the symbols to the end of the trace
+-- the bytes read, y the byte in PEC's place, and the symbols to the end of the trace
 abbrev pub readBytes : Part → List ℕ → Bool → ℕ → List ℕ
 readBytes a r p y = partBytes a r ++ inPlace p y
 
@@ -56,12 +56,12 @@ ending p y = acked (inPlace p y) ++ STOP ∷ []
 abbrev pub rest : Shape → ℕ → List ℕ → Bool → ℕ → List ℕ
 rest sh g r p y = pick (reads sh) (repeatedStart (writes sh) g ++ readPhase (readBytes (sh .received) r p y)) (ending p y)
 
--- the bytes after the write phase that the code goes over, and the code of the whole
+-- the bytes after the write phase that the PEC goes over, and the PEC of the whole
 abbrev pub bytesAfter : Shape → ℕ → List ℕ → List ℕ
 bytesAfter sh g r = pick (reads sh) (inPlace (writes sh) g ++ partBytes (sh .received) r) []
 
-abbrev pub codeOf : Shape → ℕ → ℕ → ℕ → List ℕ → List ℕ → ℕ
-codeOf sh f g c s r = pecFrom (pecOf (writeBytes sh f c s)) (bytesAfter sh g r)
+abbrev pub pecOfPhases : Shape → ℕ → ℕ → ℕ → List ℕ → List ℕ → ℕ
+pecOfPhases sh f g c s r = pecFrom (pecOf (writeBytes sh f c s)) (bytesAfter sh g r)
 
 -- what the writer of a whole trace asks for: a shape with limits that a byte holds, a valid message, and room
 pub record Ready (sh : Shape) (p : Bool) (t : Message) (room : ℕ) : Type 0 where

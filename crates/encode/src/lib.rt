@@ -57,10 +57,10 @@ fn put_trace(
 {
     let first = write::first_byte(sh, address, direction);
     let second = address.for_read();
-    let code = pec::code_of(pec, sh, first, second, command, sent, received);
+    let pecbyte = pec::pec_of(pec, sh, first, second, command, sent, received);
     let n = write::put_write_phase(out, sh, first, command, sent);
     // What follows the write phase is lent, from its middle on, to the writer of the read phase.
-    read::put_rest(&mut out[n..], sh, second, received, pec, code);
+    read::put_rest(&mut out[n..], sh, second, received, pec, pecbyte);
 }
 
 // The trace of a message of a shape, at the front of the output; the rest of the output, and all of it on a refusal, stays as it was.

@@ -3,7 +3,7 @@ ghost use mathlib.Core.Path.{_≡_};
 ghost use Rattle.lists.specs.Choice.{pick};
 ghost use Rattle.wire.specs.Pec.{pecFrom, pecOf};
 ghost use Rattle.trace.specs.Trace.{inPlace};
-ghost use Rattle.encode.specs.Pieces.{partBytes, writeBytes, bytesAfter, codeOf};
+ghost use Rattle.encode.specs.Pieces.{partBytes, writeBytes, bytesAfter, pecOfPhases};
 use crate::bytes::count_of;
 use trace::shape::Part;
 use trace::shape::Shape;
@@ -29,7 +29,7 @@ fn add_part(c: u8, a: Part, s: &[u8]) -> u8
 }
 
 // The write phase.
-fn write_code(sh: Shape, first: WireByte, command: u8, sent: &[u8]) -> u8
+fn write_pec(sh: Shape, first: WireByte, command: u8, sent: &[u8]) -> u8
     ensures { λ r. ⌜ r ≡ pecOf (writeBytes sh (first .0) command (now (sent .entry))) ⌝ }
 {
     let a = sh.sent;
@@ -41,7 +41,7 @@ fn write_code(sh: Shape, first: WireByte, command: u8, sent: &[u8]) -> u8
 }
 
 // The read phase after it, where there is one.
-fn read_code(c: u8, sh: Shape, second: WireByte, received: &[u8]) -> u8
+fn read_pec(c: u8, sh: Shape, second: WireByte, received: &[u8]) -> u8
     ensures { λ r. ⌜ r ≡ pecFrom c (bytesAfter sh (second .0) (now (received .entry))) ⌝ }
 {
     let a = sh.received;
@@ -51,8 +51,8 @@ fn read_code(c: u8, sh: Shape, second: WireByte, received: &[u8]) -> u8
     add_part(add_byte_if(c, has_write(sh), second.0), a, received)
 }
 
-// The code of the whole; 0 where none is used, and no time is spent on it.
-pub(crate) fn code_of(
+// The PEC of the whole; 0 where none is used, and no time is spent on it.
+pub(crate) fn pec_of(
     pec: bool,
     sh: Shape,
     first: WireByte,
@@ -61,10 +61,10 @@ pub(crate) fn code_of(
     sent: &[u8],
     received: &[u8],
 ) -> u8
-    ensures { λ r. ⌜ r ≡ pick pec (codeOf sh (first .0) (second .0) command (now (sent .entry)) (now (received .entry))) 0 ⌝ }
+    ensures { λ r. ⌜ r ≡ pick pec (pecOfPhases sh (first .0) (second .0) command (now (sent .entry)) (now (received .entry))) 0 ⌝ }
 {
     if !pec {
         return 0;
     }
-    read_code(write_code(sh, first, command, sent), sh, second, received)
+    read_pec(write_pec(sh, first, command, sent), sh, second, received)
 }

@@ -53,23 +53,23 @@ fn put_read_phase(
     a: Part,
     received: &[u8],
     pec: bool,
-    code: u8,
+    pecbyte: u8,
 )
-    requires { ⌜ (length (repeatedStart repeated (second .0)) + (2 * length (readBytes a (now received) pec code) + 1) ≤ length (now out)) × (0 < length (readBytes a (now received) pec code)) ⌝ }
-    ensures { λ _. ⌜ now (out .exit) ≡ onto (repeatedStart repeated (second .0) ++ readPhase (readBytes a (now (received .entry)) pec code)) (now (out .entry)) ⌝ }
+    requires { ⌜ (length (repeatedStart repeated (second .0)) + (2 * length (readBytes a (now received) pec pecbyte) + 1) ≤ length (now out)) × (0 < length (readBytes a (now received) pec pecbyte)) ⌝ }
+    ensures { λ _. ⌜ now (out .exit) ≡ onto (repeatedStart repeated (second .0) ++ readPhase (readBytes a (now (received .entry)) pec pecbyte)) (now (out .entry)) ⌝ }
 {
     let n = put_repeated_start(out, repeated, second);
     let m = put_part(out, n, a, received);
-    let e = put_byte_if(out, m, pec, code);
+    let e = put_byte_if(out, m, pec, pecbyte);
     put_nack_stop(out, e);
 }
 
 // The end of a trace without a read phase: PEC, where it is used, and STOP.
-fn put_end(out: &mut [u16], pec: bool, code: u8)
-    requires { ⌜ 2 * length (inPlace pec code) < length (now out) ⌝ }
-    ensures { λ _. ⌜ now (out .exit) ≡ onto (ending pec code) (now (out .entry)) ⌝ }
+fn put_end(out: &mut [u16], pec: bool, pecbyte: u8)
+    requires { ⌜ 2 * length (inPlace pec pecbyte) < length (now out) ⌝ }
+    ensures { λ _. ⌜ now (out .exit) ≡ onto (ending pec pecbyte) (now (out .entry)) ⌝ }
 {
-    let e = put_byte_if(out, 0, pec, code);
+    let e = put_byte_if(out, 0, pec, pecbyte);
     out[e] = STOP;
 }
 
@@ -80,15 +80,15 @@ pub(crate) fn put_rest(
     second: WireByte,
     received: &[u8],
     pec: bool,
-    code: u8,
+    pecbyte: u8,
 )
-    requires { ⌜ (length (rest sh (second .0) (now received) pec code) ≤ length (now out)) × (reads sh ≡ true → 0 < length (readBytes (sh .received) (now received) pec code)) ⌝ }
-    ensures { λ _. ⌜ now (out .exit) ≡ onto (rest sh (second .0) (now (received .entry)) pec code) (now (out .entry)) ⌝ }
+    requires { ⌜ (length (rest sh (second .0) (now received) pec pecbyte) ≤ length (now out)) × (reads sh ≡ true → 0 < length (readBytes (sh .received) (now received) pec pecbyte)) ⌝ }
+    ensures { λ _. ⌜ now (out .exit) ≡ onto (rest sh (second .0) (now (received .entry)) pec pecbyte) (now (out .entry)) ⌝ }
 {
     let a = sh.received;
     if has_read(sh) {
-        put_read_phase(out, has_write(sh), second, a, received, pec, code);
+        put_read_phase(out, has_write(sh), second, a, received, pec, pecbyte);
     } else {
-        put_end(out, pec, code);
+        put_end(out, pec, pecbyte);
     }
 }

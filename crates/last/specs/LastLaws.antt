@@ -1,7 +1,7 @@
 -- What is handed back, case by case as the scope lists them: data received, data sent, or the empty part. The contract leaves one part.
 use mathlib.Core.Path.{_≡_, refl, sym, _∙_}
 use mathlib.Core.Bool.{Bool, true, false}
-use mathlib.Core.List.{List, [], _∷_, map}
+use mathlib.Core.List.{List, []}
 use mathlib.Core.Logic.{_↔_}
 use Prim.Native.Nat.{ℕ}
 use lib.ListN.{length, take}
@@ -9,15 +9,10 @@ use lib.Dec.{ltb, leb}
 use borrow.Author.Tests.{ltb-true, leb-true, lt-ltb, le-leb}
 use Rattle.lists.specs.ChoiceLaws.{both-true}
 use Rattle.trace.specs.declared.transaction.Transaction.{Transaction}
-use Rattle.trace.specs.Shapes.{shapes, protocols, reads, shapeOf}
+use Rattle.trace.specs.Shapes.{protocols, reads, shapeOf}
 use Rattle.trace.specs.Allowed.{lengthsFit}
 use Rattle.trace.specs.DataFitsLaws.{listed-lengths-fit, fitting-lengths-listed}
 use Rattle.last.specs.Last.{belongs, chosen, lastData, lastPlace, receives, Whole, Gives}
-
--- received for 2, 5, 6, 7, 9 and 10; sent for 1, 3, 4 and 8, and for Quick, which has nothing to send
-pub received-or-sent : map reads shapes
-    ≡ false ∷ false ∷ true ∷ false ∷ false ∷ true ∷ true ∷ true ∷ false ∷ true ∷ true ∷ []
-received-or-sent = refl
 
 -- the tests pass exactly for a whole transaction
 pub belongs-exactly : (t : Transaction) (s r : ℕ) → (belongs t s r ≡ true) ↔ Whole t s r

@@ -2,11 +2,11 @@
 // there is not is zeros.
 ghost use Prim.Native.Nat.{_+_, _≤_};
 ghost use lib.ListN.{length};
-use arp::command::Command;
-use arp::command::End;
-use arp::command::Handed;
 use arp::lookup::Found;
 use arp::state::Controller;
+use commands::command::Command;
+use commands::command::End;
+use commands::command::Handed;
 use udid::Udid;
 use wire::address::Address;
 

@@ -11,10 +11,10 @@ mod script;
 
 use answers::write_command;
 use answers::write_finds;
-use arp::command::End;
-use arp::command::Handed;
 use arp::state::Controller;
 use arp::state::Stepped;
+use commands::command::End;
+use commands::command::Handed;
 use pool::Pool;
 use script::read_operation;
 use script::read_pool;

@@ -11,8 +11,8 @@ use lib.Bits.{bitOr, bitXor, or-lt, xor-lt}
 use lib.Dec.{ltb, eqb}
 use lib.Pow.{pow-lt}
 use borrow.Author.Tests.{lt-ltb, le-ltb, eq-eqb, ne-eqb}
-use Rattle.lists.specs.AbsurdLaws.{zero-is-one}
 use Rattle.lists.specs.Choice.{pick, or, and, not}
+use Rattle.lists.specs.ChoiceLaws.{not-both}
 use Rattle.pool.specs.Digits.{digit, plus, flip}
 use Rattle.pool.specs.DigitLaws.{digit-power, digit-of-zero, digit-or, digit-plus-same, digit-plus-other, digit-flip-same, digit-flip-other, same-digits}
 use Rattle.pool.specs.Pools.{Fits, member, withAddress, withoutAddress, unionOf}
@@ -114,7 +114,7 @@ has-without-same p a = go (decLt a 64) (decLt a 128) (member p a) refl
     go (yes h) _ true e =
         let k : digit (p .low) (a % 64) ≡ true = simp (lt-ltb a 64 h) at e in
         simp (lt-ltb a 64 h, k) (digit-flip-same (p .low) (a % 64) ∙ ap not k)
-    go (no h) (no m) true e = zero-is-one (cc (e, member-above p a (omega arith)))
+    go (no h) (no m) true e = not-both (member-above p a (omega arith)) e
     go (no h) (yes m) true e =
         let l : ltb a 64 ≡ false = le-ltb a 64 (omega arith) in
         let k : digit (p .high) (a % 64) ≡ true = simp (l, lt-ltb a 128 m) at e in
@@ -132,7 +132,7 @@ has-without-other p a b n = go (decLt a 64) (decLt a 128) (decLt b 64) (decLt b 
     go (yes h) _ (no k) _ true e =
         let q : digit (p .low) (a % 64) ≡ true = simp (lt-ltb a 64 h) at e in
         simp (lt-ltb a 64 h, le-ltb b 64 (omega arith), q)
-    go (no h) (no m) _ _ true e = zero-is-one (cc (e, member-above p a (omega arith)))
+    go (no h) (no m) _ _ true e = not-both (member-above p a (omega arith)) e
     go (no h) (yes m) (yes k) _ true e =
         let l : ltb a 64 ≡ false = le-ltb a 64 (omega arith) in
         let q : digit (p .high) (a % 64) ≡ true = simp (l, lt-ltb a 128 m) at e in

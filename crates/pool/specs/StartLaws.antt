@@ -6,8 +6,8 @@ use mathlib.Core.Logic.{_↔_}
 use native.Mathlib.Decide.{decLt, ℕ-discrete}
 use native.Mathlib.Omega.{arith}
 use lib.Dec.{leb}
-use Rattle.lists.specs.AbsurdLaws.{zero-is-one}
-use Rattle.lists.specs.Choice.{pick, or, and}
+use Rattle.lists.specs.Choice.{pick, or, and, same}
+use Rattle.lists.specs.ChoiceLaws.{both-true, same-true}
 use Rattle.wire.specs.Addresses.{isReserved}
 use Rattle.wire.specs.AddressLaws.{reserved-above}
 use Rattle.pool.specs.Digits.{digit}
@@ -32,16 +32,6 @@ member-empty a = simp digit-of-zero (go (leb (suc a) 64) (leb (suc a) 128))
 
 -- ---- the 21
 
-abbrev same : Bool → Bool → Bool
-same true b = b
-same false true = false
-same false false = true
-
-same-true : (a b : Bool) → same a b ≡ true → a ≡ b
-same-true true b e = sym e
-same-true false true e = e
-same-true false false e = refl
-
 -- the n numbers from a on pass a test
 unfoldable each : (ℕ → Bool) → ℕ → ℕ → Bool
 each test a zero = true
@@ -50,13 +40,11 @@ each test a (suc n) = and (test a) (each test (suc a) n)
 each-at : (test : ℕ → Bool) (a n b : ℕ) → each test a n ≡ true → a ≤ b → b < a + n → test b ≡ true
 unfolding each
 each-at test a zero b e l h = absurd (omega arith)
-each-at test a (suc n) b e l h = go (test a) refl (each test (suc a) n) refl e (ℕ-discrete a b) (λ k m. each-at test (suc a) n b k m (omega arith))
+each-at test a (suc n) b e l h = let f = both-true (test a) (each test (suc a) n) e in go (f .0) (ℕ-discrete a b) (λ m. each-at test (suc a) n b (f .1) m (omega arith))
   where
-    go : (s : Bool) → test a ≡ s → (t : Bool) → each test (suc a) n ≡ t → and s t ≡ true → Dec (a ≡ b)
-        → (each test (suc a) n ≡ true → suc a ≤ b → test b ≡ true) → test b ≡ true
-    go true p t q r (yes d) ih = ap test (sym d) ∙ p
-    go true p t q r (no d) ih = ih (q ∙ r) (omega arith)
-    go false p t q r d ih = zero-is-one (cc r)
+    go : test a ≡ true → Dec (a ≡ b) → (suc a ≤ b → test b ≡ true) → test b ≡ true
+    go p (yes d) ih = ap test (sym d) ∙ p
+    go p (no d) ih = ih (omega arith)
 
 all-reserved : each (λ a. same (member reservedPool a) (isReserved a)) 0 128 ≡ true
 unfolding each member digit reservedPool isReserved

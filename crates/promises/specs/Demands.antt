@@ -2,30 +2,30 @@
 -- ≡ is 'equal', ↔ 'if and only if', × 'and', ⊎ 'or', P → ⊥ 'not P', (x : A) × P 'there is an x with P'; getD l i 0 is number i of the list l.
 -- A parameter such as (contract : Wrote ..) is what a function's `ensures` says, word for word. It need not be believed: the code meets it.
 -- CONTRACTS: Leaves, Outcome, Wrote, lookedUp, messageOf, modelEnd, newController, protocolFor, started, stepped, traceOf.
--- BELIEVED: 600 lines, without imports, comments and blanks. Crate/file, then the lines of each definition; src is a type of the code. tests/programs/believed.rs counts them.
+-- BELIEVED: 599 lines, without imports, comments and blanks. Crate/file, then the lines of each definition; src is a type of the code. tests/programs/believed.rs counts them.
 -- lists/Choice: and 3, not 3, or 3, pick 3; lists/Each: Bytes 3, Each 3; wire/Addresses: isReserved 2; wire/Pec: bitStep 2, pecFrom 3, pecOf 2, pecStep 2; wire/Symbols: ACK 2, NACK 2, START 2, STOP 2; wire/src: Address 1;
--- trace/Rows: message 2; trace/Table: InTable 2, Line 6, Row 22, TraceOf 2, line 2, symbols 2; trace/Trace: Message 6, ackOf 3, acked 3, inPlace 2, nacked 3; trace/src: Transaction 8; encode/Encode: encodeNumber 4;
--- encode/src: Encoded 5; step/Answers: summary 3; step/BytesIn: bytesIn 3; step/Fitting: Breaks 4, CutAt 9, Fits 2, Member 2, OtherPec 3, Whole 2; step/Numbers: decodeNumber 3, refusalNumber 9; step/src: Decoded 4, Refusal 10;
--- decode/Outcome: Entered 2; pool/Counts: count 3, one 2; pool/Digits: digit 2, plus 2; pool/Free: Lowest 4, freeFrom 3, lowestFree 2, used 2; pool/Pools: member 2, unionOf 2, withAddress 4; pool/Start: emptyPool 2,
--- reservedPool 2, startingPool 2; pool/src: Free 4, Pool 4; udid/Bytes: bytesFrom 3, bytesOf 3, number 2, numberFrom 3, udidAt 2, udidBytes 2; udid/Udids: Fits 3, isFixed 2, sameUdid 2, topBits 2, value 2; udid/src: Udid 4;
--- arp/Bindings: heldAt 2, openSlot 2; arp/CommandTraces: assignTrace 2, prepareTrace 2, replyTrace 3; arp/History: Acknowledged 5, Event 3, run 4; arp/Numbers: commandNumber 3, endNumber 6, lookupNumber 5; arp/OneStep: Asks 3,
--- Binds 5, BoundAt 3, Chooses 5, Continues 2, EndsWith 2, Hands 5, Keeps 3, Replies 4, Same 2, Unbinds 3; arp/src: Binding 5, Command 5, Controller 7, End 7, Found 6, Handed 4, Slot 3, Stepped 4; arbitration/Bits: bits 3,
--- byteBits 3, bytesRead 3, numberOf 3; arbitration/Wire: heard 3, later 3, level 3, next 3, staying 3; targets/ByteCases: EvenOrFlag 2, FixedAt 2, FixedOnTaken 2, SameAsEarlier 2, addressAt 2; targets/Cases: FirstOf 4,
--- LengthIsBad 2, None 2; targets/Records: addressByte 2, flagOf 2, recordCount 2, targetAt 2, targetsFrom 3, targetsOf 2, udidOf 2; targets/Reply: OnWire 3, coveredBytes 2, onWire 3, replyBytes 2, replyData 2, replyPec 2,
--- sends 2, waiting 3; targets/Target: Target 4, isResolved 2, mapTargets 3; rule/Acknowledge: acknowledges 4, afterwards 2, answered 4, asking 2, assigningBytes 2, begins 4, gettingBytes 2, onBus 2, preparingBytes 2, received 3,
--- sentPart 5, somebody 3, standing 3; rule/AllBound: leftFree 2, movable 3, withFixed 3; rule/AnyBus: Bus 3, WorldOver 3, beginningOver 2, passOf 2, runOver 3, tookOver 3, turnOver 2; rule/Bus: modelBus 2, pass 2;
--- rule/Effect: addressIn 2, effect 5, isForMe 2, same 5; rule/PlainRule: Distinct 3, Ending 3, Given 3, Ruled 3, ascending 3, held 2, insert 3, next 3, plainChoice 4, rule 3, ruled 2; rule/Reading: Any 3, OnePerUdid 3,
--- RecordOf 2; rule/Sent: getsAmong 3, getsOnBus 2, getsOver 2, oneIn 2, tracesOver 3; bus/Run: ModelEnd 4, modelNumber 2, noUdid 2; bus/src: ModelAnswer 8; promises/MarkedWords: Shows 2, holding 2, identifier 2, windows 3.
+-- trace/Rows: message 2; trace/Table: InTable 2, Line 6, Row 22, TraceOf 2, lastProtocol 2, line 2, symbols 2; trace/Trace: Message 6, ackOf 3, acked 3, inPlace 2, nacked 3; trace/src: Transaction 8;
+-- encode/Encode: encodeNumber 4; encode/src: Encoded 5; step/Answers: summary 3; step/BytesIn: bytesIn 3; step/Fitting: Breaks 4, CutAt 9, Fits 2, Member 2, OtherPec 3, Whole 2; step/Numbers: decodeNumber 3, refusalNumber 9;
+-- step/src: Decoded 4, Refusal 10; decode/Outcome: Entered 2; pool/Counts: count 3, one 2; pool/Digits: digit 2, plus 2; pool/Free: Lowest 4, freeFrom 3, lowestFree 2, used 2; pool/Pools: member 2, unionOf 2, withAddress 4;
+-- pool/Start: emptyPool 2, reservedPool 2, startingPool 2; pool/src: Free 4, Pool 4; udid/Bytes: bytesFrom 3, bytesOf 3, number 2, numberFrom 3, udidAt 2, udidBytes 2; udid/Udids: Fits 3, isFixed 2, sameUdid 2, value 2;
+-- udid/src: Udid 4; commands/CommandTraces: assignTrace 2, prepareTrace 2, replyTrace 3; commands/src: Command 5, End 7, Handed 4; arp/History: Acknowledged 5, Event 3, run 4; arp/Numbers: commandNumber 3, endNumber 6,
+-- lookupNumber 5; arp/OneStep: Asks 3, Binds 5, BoundAt 3, Chooses 5, Continues 2, EndsWith 2, Hands 5, Keeps 3, Replies 4, Same 2, Unbinds 3; arp/Slots: heldAt 2; arp/src: Binding 5, Controller 7, Found 6, Slots 6, Stepped 4;
+-- arbitration/Bits: bits 3, byteBits 3, bytesRead 3, numberOf 3; arbitration/Wire: heard 3, later 3, level 3, next 3, staying 3; targets/ByteCases: EvenOrFlag 2, FixedAt 2, FixedOnTaken 2, SameAsEarlier 2, addressAt 2;
+-- targets/Cases: FirstOf 4, LengthIsBad 2, None 2; targets/Records: addressByte 2, flagOf 2, recordCount 2, targetAt 2, targetsFrom 3, targetsOf 2, udidOf 2; targets/Reply: OnWire 3, coveredBytes 2, onWire 3, replyBytes 2,
+-- replyData 2, replyPec 2, sends 2, waiting 3; targets/Target: Target 4, isResolved 2, mapTargets 3; bindings/src: ModelAnswer 8; rule/Acknowledge: acknowledges 4, afterwards 2, answered 4, asking 2, assigningBytes 2, begins 4,
+-- gettingBytes 2, onBus 2, preparingBytes 2, received 3, sentPart 5, somebody 3, standing 3; rule/AllBound: leftFree 2, movable 3, withFixed 3; rule/AnyBus: Bus 3, WorldOver 3, beginningOver 2, passOf 2, runOver 3, tookOver 3,
+-- turnOver 2; rule/Bus: modelBus 2, pass 2; rule/Effect: addressIn 2, effect 5, isForMe 2, same 5; rule/PlainRule: Distinct 3, Ending 3, Given 3, Ruled 3, ascending 3, held 2, insert 3, next 3, plainChoice 4, rule 3, ruled 2;
+-- rule/Reading: Any 3, OnePerUdid 3, RecordOf 2; rule/Sent: getsAmong 3, getsOnBus 2, getsOver 2, oneIn 2, tracesOver 3; bus/Run: ModelEnd 4, modelNumber 2; promises/MarkedWords: Shows 2, holding 2, identifier 2, windows 3.
 use mathlib.Core.Path.{_≡_}
 use mathlib.Core.Bool.{Bool, true, false}
 use mathlib.Core.List.{List, [], _∷_, _++_}
 use mathlib.Core.Logic.{_⊎_, _↔_}
 use Prim.Native.Nat.{ℕ, suc, _+_, _*_, _/_, _%_, _^_, _≤_, _<_}
 use lib.ListN.{length, take, drop, getD, replicate}
-use Rattle.promises.specs.Words.{Each, Bytes, isReserved, pecOf, Address, TraceOf, Message, message, encodeNumber, Wrote, Encoded, summary, Member, Fits, Breaks, CutAt, OtherPec, decodeNumber, Decoded, Done, Entered, Outcome}
-use Rattle.promises.specs.Words.{member, emptyPool, startingPool, Pool, udidBytes, In128, Udid, Sized128, heldAt, prepareTrace, replyTrace, assignTrace, newController, started, stepped, Event, Received, run, Acknowledged, lookedUp, commandNumber, lookupNumber}
+use Rattle.promises.specs.Words.{Each, Bytes, isReserved, pecOf, Address, lastProtocol, TraceOf, Message, message, encodeNumber, Wrote, Encoded, summary, Member, Fits, Breaks, CutAt, OtherPec, decodeNumber, Decoded, Done, Entered, Outcome}
+use Rattle.promises.specs.Words.{member, emptyPool, startingPool, Pool, udidBytes, In128, Udid, heldAt, prepareTrace, replyTrace, assignTrace, newController, started, stepped, Event, Received, run, Acknowledged, lookedUp, commandNumber, lookupNumber}
 use Rattle.promises.specs.Words.{Asks, Binds, Continues, EndsWith, Replies, protocolFor, messageOf, traceOf, Handed, Send, Wait, Nothing, Prepare, GetUdid, Assign, Ended, Abandoned, NotOutstanding, Open, Bound, Claimed, Controller, Stepped}
-use Rattle.promises.specs.Words.{EvenOrFlag, SameAsEarlier, FixedOnTaken, LengthIsBad, None, FirstOf, targetsOf, movable, leftFree, pass, Given, Ending, served, noneFree, Distinct, ruled, Any, RecordOf, OnePerUdid, getsOnBus, noUdid, modelNumber, Leaves, modelEnd, ModelAnswer, identifier, holding, Shows}
+use Rattle.promises.specs.Words.{EvenOrFlag, SameAsEarlier, FixedOnTaken, LengthIsBad, None, FirstOf, targetsOf, movable, leftFree, pass, Given, Ending, served, noneFree, Distinct, ruled, Any, RecordOf, OnePerUdid, getsOnBus, modelNumber, Leaves, modelEnd, ModelAnswer, identifier, holding, Shows}
 
 -- ---- DEMAND 1: EACH NUMBER, IF AND ONLY IF ITS CASE; A REFUSAL CHANGES NOTHING THAT WAS LENT
 -- a message as the encoder's types have it: its command and its data are bytes
@@ -46,8 +46,8 @@ pub record Encodes (protocol : ℕ) (pec : Bool) (m : Message) (bytes : OfBytes 
 -- what stands before k. Member: a whole trace, with any byte in PEC's place, or one that the target cut short with NACK and STOP. Fits: the beginning of one
 pub record Decodes (protocol : ℕ) (pec : Bool) (tr sent₀ received₀ : List ℕ) (a : Decoded) (sent received : List ℕ) (contract : Outcome protocol pec tr sent₀ received₀ a sent received) : Type 0 where
   pub decode-0 : (decodeNumber a ≡ (0, 0)) ↔ (Entered protocol pec sent₀ received₀ × ((m : Message) × TraceOf protocol pec m tr))
-  pub decode-1 : (decodeNumber a ≡ (1, 0)) ↔ ((10 < protocol) ⊎ ((protocol ≡ 0) × (pec ≡ true)))
-  pub decode-2 : (decodeNumber a ≡ (2, 0)) ↔ ((protocol ≤ 10) × (protocol ≡ 0 → pec ≡ false) × ((length sent₀ < 255) ⊎ (length received₀ < 255)))
+  pub decode-1 : (decodeNumber a ≡ (1, 0)) ↔ ((lastProtocol < protocol) ⊎ ((protocol ≡ 0) × (pec ≡ true)))
+  pub decode-2 : (decodeNumber a ≡ (2, 0)) ↔ ((protocol ≤ lastProtocol) × (protocol ≡ 0 → pec ≡ false) × ((length sent₀ < 255) ⊎ (length received₀ < 255)))
   pub decode-3 : (k : ℕ) → (decodeNumber a ≡ (3, k)) ↔ (Entered protocol pec sent₀ received₀ × (Breaks protocol pec tr k × (259 < getD tr k 0)))
   pub decode-4 : (n : ℕ) → (decodeNumber a ≡ (4, n)) ↔ (Entered protocol pec sent₀ received₀ × (Fits protocol pec tr × (Member protocol pec tr → ⊥) × (n ≡ length tr)))
   pub decode-5 : (k : ℕ) → (decodeNumber a ≡ (5, k))
@@ -100,7 +100,7 @@ pub record Checks (occupied : Pool) (s b : List ℕ) (bytes : Bytes s) (r : Mode
       ↔ ((2048 ≤ length b) × ((LengthIsBad s → ⊥) × None (EvenOrFlag s) (length s / 18) × FirstOf (SameAsEarlier s) (length s / 18) i))
   pub model-12 : (i : ℕ) → (modelNumber r ≡ (12, i)) ↔ ((2048 ≤ length b) × ((LengthIsBad s → ⊥) × None (EvenOrFlag s) (length s / 18)
       × None (SameAsEarlier s) (length s / 18) × FirstOf (FixedOnTaken (startingPool occupied) s) (length s / 18) i))
-  pub untouched : Refused r → (s′ ≡ s) × (b′ ≡ b) × (r .udid ≡ noUdid) × (r .bound ≡ emptyPool) × (r .count ≡ 0) × (r .gets ≡ 0)
+  pub untouched : Refused r → (s′ ≡ s) × (b′ ≡ b) × (r .udid ≡ record { high = 0; low = 0 }) × (r .bound ≡ emptyPool) × (r .count ≡ 0) × (r .gets ≡ 0)
 
 -- ---- DEMAND 2: THE DECODER READS WHAT THE ENCODER WRITES, AND NOTHING ELSE
 pub record Demand2 (protocol : ℕ) (pec : Bool) : Type 0 where
@@ -119,7 +119,7 @@ pub record Demand2 (protocol : ℕ) (pec : Bool) : Type 0 where
 -- `given` are the bindings of the plain rule over the targets of the records s, `ending` is its end
 pub record Meets (occupied : Pool) (s b : List ℕ) (given : List Given) (ending : Ending) (r : ModelAnswer) (s′ b′ : List ℕ) : Type 0 where
   -- the answer: 0, or 13 with the identifier that asked; it is the number of the last command of the pass over the bus
-  pub answer-0 : ending ≡ served → (r .answer ≡ 0) × (r .udid ≡ noUdid) × (commandNumber (pass occupied (targetsOf s) .now .command) ≡ (0, []) ∷ [])
+  pub answer-0 : ending ≡ served → (r .answer ≡ 0) × (r .udid ≡ record { high = 0; low = 0 }) × (commandNumber (pass occupied (targetsOf s) .now .command) ≡ (0, []) ∷ [])
   pub answer-13 : (u : Udid) → ending ≡ noneFree u → (r .answer ≡ 13) × (r .udid ≡ u) × (commandNumber (pass occupied (targetsOf s) .now .command) ≡ (13, u ∷ []) ∷ [])
   -- no record; how many are bound; the Get UDIDs that stood on the bus: one more than are bound, none on an empty bus
   pub counted : (r .place ≡ 0) × (r .count ≡ length given)
@@ -192,7 +192,7 @@ pub record StepNumbers (s : Controller) (tr : List ℕ) (r : Stepped) : Type 0 w
 
 -- a state has a slot for each address, and the identifier of an outstanding Assign has 128 bits
 abbrev pub Sound : Controller → Type 0
-Sound s = Sized128 (s .slots) × ((u : Udid) (a : Address) → s .last ≡ Send (Assign u a) → In128 u)
+Sound s = ((length (s .slots .high) ≡ 128) × (length (s .slots .low) ≡ 128)) × ((u : Udid) (a : Address) → s .last ≡ Send (Assign u a) → In128 u)
 
 -- what holds in every state that starts and traces reach
 pub record Reached (occupied : Pool) (s : Controller) : Type 0 where
@@ -237,11 +237,11 @@ pub record Marked (b : List ℕ) (room : 2048 ≤ length b) : Type 0 where
       → Outcome protocol pec [] sent₀ received₀ a sent received → decodeNumber a ≡ (4, 0)
   -- 80h.. with FFh, 00h.. fixed at 09h, 40h.. holding 20h, nothing occupied: 09h fixed, 20h kept, 0Ah given to 80h..; four Get UDIDs
   pub m8 : Shows (modelEnd emptyPool (holding 0x80 0xFF 0 ++ holding 0x00 0x13 0 ++ holding 0x40 0x41 0) b)
-      (record { answer = 0; place = 0; udid = noUdid; bound = record { low = 2 ^ 0x09 + 2 ^ 0x0A + 2 ^ 0x20; high = 0 }; count = 3; gets = 4 })
+      (record { answer = 0; place = 0; udid = record { high = 0; low = 0 }; bound = record { low = 2 ^ 0x09 + 2 ^ 0x0A + 2 ^ 0x20; high = 0 }; count = 3; gets = 4 })
       (holding 0x80 0x15 1 ++ holding 0x00 0x13 1 ++ holding 0x40 0x41 1) (0x09 ∷ 0x0A ∷ 0x0B ∷ 0x20 ∷ []) (identifier 0x00 ++ identifier 0x80 ++ replicate 16 0 ++ identifier 0x40)
   -- two movable targets, the smaller with none, the larger holding 09h: 09h and 0Ah
   pub m9 : Shows (modelEnd emptyPool (holding 0x40 0xFF 0 ++ holding 0x80 0x13 0) b)
-      (record { answer = 0; place = 0; udid = noUdid; bound = record { low = 2 ^ 0x09 + 2 ^ 0x0A; high = 0 }; count = 2; gets = 3 })
+      (record { answer = 0; place = 0; udid = record { high = 0; low = 0 }; bound = record { low = 2 ^ 0x09 + 2 ^ 0x0A; high = 0 }; count = 2; gets = 3 })
       (holding 0x40 0x13 1 ++ holding 0x80 0x15 1) (0x09 ∷ 0x0A ∷ 0x0B ∷ []) (identifier 0x40 ++ identifier 0x80 ++ replicate 16 0)
   -- all 128 occupied, one movable target: 13, none bound, one Get UDID
   pub m10 : Shows (modelEnd (record { low = 18446744073709551615; high = 18446744073709551615 }) (holding 0x80 0x41 1) b)

@@ -9,12 +9,13 @@ use native.Mathlib.Nat.{mod-eq-of-lt}
 use native.Mathlib.Omega.{arith}
 use lib.ListN.{length, take, drop}
 use lib.Seq.{take-at}
+use Rattle.lists.specs.AbsurdLaws.{zero-is-one}
 use Rattle.lists.specs.Choice.{pick, or}
 use Rattle.lists.specs.ChoiceLaws.{false-not-true}
 use Rattle.lists.specs.Each.{Bytes}
 use Rattle.wire.specs.Addresses.{isReserved}
 use Rattle.wire.specs.declared.address.Address.{Address}
-use Rattle.trace.specs.ShapeLaws.{sane, known-to-10}
+use Rattle.trace.specs.ShapeLaws.{sane, known-to-last}
 use Rattle.trace.specs.Shapes.{shapeOf}
 use Rattle.trace.specs.Table.{TraceOf}
 use Rattle.trace.specs.Rows.{message}
@@ -43,19 +44,20 @@ use Rattle.arp.specs.BindingLaws.{unheld-is-open}
 use Rattle.arp.specs.Slots.{heldAt}
 use Rattle.arp.specs.Numbers.{commandNumber}
 use Rattle.arp.specs.AssignedLaws.{found-acknowledged, claim-stays}
-use Rattle.arp.specs.CommandTraces.{prepareTrace, replyTrace, assignTrace}
+use Rattle.commands.specs.CommandTraces.{prepareTrace, replyTrace, assignTrace}
 use Rattle.arp.specs.HistoryLaws.{reached-good, new-controller-is-new}
 use Rattle.arp.specs.LookupLaws as arp
-use Rattle.arp.specs.RequestLaws.{valid-prepare, valid-get, valid-assign, prepare-symbols, reply-symbols, assign-symbols-small}
-use Rattle.arp.specs.Requests.{assignData, protocolFor, messageOf}
-use Rattle.arp.specs.SendingLaws.{refused-exactly, small-address-protocol}
+use Rattle.commands.specs.RequestLaws.{valid-prepare, valid-get, valid-assign, prepare-symbols, reply-symbols, assign-symbols-small}
+use Rattle.commands.specs.Requests.{assignData, protocolFor, messageOf}
+use Rattle.commands.specs.SendingLaws.{refused-exactly, small-address-protocol}
+use Rattle.arp.specs.Slots.{Sized128}
 use Rattle.arp.specs.Sound.{PendingIn}
 use Rattle.arp.specs.SlotsLaws.{open-all}
 use Rattle.arp.specs.Controller.{stepped}
 use Rattle.arp.specs.History.{Event, run, isHeld}
-use Rattle.arp.specs.declared.command.Command.the-variants.{Prepare, GetUdid, Assign}
-use Rattle.arp.specs.declared.command.Handed.{Handed}
-use Rattle.arp.specs.declared.command.Handed.the-variants.{Send, Wait}
+use Rattle.commands.specs.declared.command.Command.the-variants.{Prepare, GetUdid, Assign}
+use Rattle.commands.specs.declared.command.Handed.{Handed}
+use Rattle.commands.specs.declared.command.Handed.the-variants.{Send, Wait}
 use Rattle.arp.specs.declared.state.Binding.{Binding}
 use Rattle.arp.specs.declared.state.Binding.the-variants.{Open}
 use Rattle.arp.specs.declared.state.Controller.{Controller}
@@ -74,7 +76,7 @@ use Rattle.bus.specs.PassLaws.{bindings-of-pass}
 use Rattle.bus.specs.RecordsEndLaws.{records-length, record-of-bound, record-of-unbound, other-bytes-kept}
 use Rattle.bus.specs.RefusalLaws as bus
 use Rattle.bus.specs.Run.{Leaves, modelEnd}
-use Rattle.bus.specs.declared.answer.ModelAnswer.{ModelAnswer}
+use Rattle.bindings.specs.declared.answer.ModelAnswer.{ModelAnswer}
 use Rattle.promises.specs.Demands.{OfBytes, Encodes, Decodes, Puts, Commands, LooksUp, Checks, Demand2, Demand3, Reached, Control}
 use Rattle.promises.specs.StepsLaws.{sentences, one-step, each-number-exactly}
 
@@ -122,7 +124,7 @@ module _ (k : Handed) (reply tr before : List ℕ) (r : Encoded) (after : List �
       (λ n b. n (l .0 (one .1 b)), λ n q. n (one .0 (l .1 q)))
 
   done-good : encodeNumber r .0 ≡ 0 → Bad → ⊥
-  done-good e b = let z : _≡_ {A = ℕ} 0 1 = sym e ∙ ap (λ (x : ℕ × ℕ). x .0) (one .1 b) in omega arith
+  done-good e b = zero-is-one (sym e ∙ ap (λ (x : ℕ × ℕ). x .0) (one .1 b))
 
   puts : Puts Bad tr before r after
   puts =
@@ -227,7 +229,7 @@ demand-2 protocol pec = record { there = there; back = back; one = one }
         let t = k .1 in
         let f : take n after ≡ x = ap (take n) (encode.encode-writes protocol pec m c s v before r after w (ap (λ (q : ℕ × ℕ). q .0) e) x t) ∙ take-at x (drop (length x) before) n (k .2) in
         decode.decode-hands-over protocol pec (take n after) sent₀ received₀ a sent received o
-        (known-to-10 protocol (listed-trace protocol pec m x t .0), λ z. quick-plain pec _ (t .0) (t .1) (t .2 ∙ z), hs, hr) m (subst (TraceOf protocol pec m) (sym f) t)
+        (known-to-last protocol (listed-trace protocol pec m x t .0), λ z. quick-plain pec _ (t .0) (t .1) (t .2 ∙ z), hs, hr) m (subst (TraceOf protocol pec m) (sym f) t)
 
     back : (tr sent₀ received₀ : List ℕ) (a : Decoded) (sent received : List ℕ) → Outcome protocol pec tr sent₀ received₀ a sent received → decodeNumber a ≡ (0, 0)
         → (m : Message) × OfBytes m × (a ≡ Done (summary protocol m)) × ((before : List ℕ) (r : Encoded) (after : List ℕ) → length tr ≤ length before
@@ -317,7 +319,7 @@ pub reached : (occupied : Pool) (es : List Event) → Reached occupied (run occu
 reached occupied es =
     let g = reached-good occupied es in
     record {
-      sound = (g .0 .sound .size, λ u a e. subst (PendingIn (run occupied es)) e (g .1) .fits);
+      sound = ((g .0 .sound .size .high, g .0 .sound .size .low), λ u a e. subst (PendingIn (run occupied es)) e (g .1) .fits);
       starting = g .0 .starting;
       pool = λ a. pool-exactly (member (run occupied es .starting) a) (member (run occupied es .pool) a) (heldAt (run occupied es .slots) a) (g .0 .sound .exact a);
       new = g .0 .sound .new;
@@ -338,7 +340,7 @@ control = record {
   starting-pool = λ occupied a. either-true (member (startingPool occupied) a) (isReserved a) (member occupied a) (member-starting occupied a);
   new = λ occupied. (let n = new-controller-is-new occupied in (n .starting, n .pool, n .last, n .gets, n .held));
   start = λ s. (refl, refl, refl, refl, refl, open-all);
-  step = λ s tr f. (sentences s tr (f .0), each-number-exactly s tr (f .1) (stepped s tr) (sentences s tr (f .0)));
+  step = λ s tr f. let n : Sized128 (s .slots) = record { high = f .0 .0; low = f .0 .1 } in (sentences s tr n, each-number-exactly s tr (f .1) (stepped s tr) (sentences s tr n));
   one-step = λ s tr r q f h g. (let a = one-step s tr r q (f .1) h g in (a .command, a .last, a .gets, a .starting, a .same));
   reached = reached;
   acknowledged = found-acknowledged;

@@ -7,6 +7,7 @@ use native.Mathlib.Omega.{arith}
 use lib.Dec.{ltb}
 use lib.ListN.{length, drop, replicate}
 use borrow.Author.Tests.{ltb-true}
+use Rattle.lists.specs.AbsurdLaws.{zero-is-one}
 use Rattle.lists.specs.Choice.{pick}
 use Rattle.lists.specs.Each.{Each, Bytes}
 use Rattle.wire.specs.Pec.{bitStep, pecStep, pecFrom}
@@ -45,7 +46,7 @@ use Rattle.rule.specs.PassEnd.{passEnd}
 use Rattle.rule.specs.PlainRule.{plainChoice}
 use Rattle.bus.specs.Run.{noUdid, numberIn, udidIn, entryAt, ModelEnd, endedEnd, modelEnd}
 use Rattle.bus.specs.RunLaws.{end-checked}
-use Rattle.bus.specs.declared.answer.ModelAnswer.{ModelAnswer}
+use Rattle.bindings.specs.declared.answer.ModelAnswer.{ModelAnswer}
 use Rattle.promises.specs.Demands.{Marked}
 use Rattle.promises.specs.MarkedWords.{identifier, holding, windows, Shows}
 
@@ -104,7 +105,7 @@ computed (x ∷ xs) h = go (ltb x 256) refl h (λ k. computed xs k)
   where
     go : (t : Bool) → ltb x 256 ≡ t → pick t (areBytes xs) false ≡ true → (areBytes xs ≡ true → Bytes xs) → Bytes (x ∷ xs)
     go true e k ih = (ltb-true x 256 e, ih k)
-    go false e k ih = absurd (let z : _≡_ {A = ℕ} 0 1 = cc k in omega arith)
+    go false e k ih = zero-is-one (cc k)
 
 -- ---- by demand 3 the run's end is the plain rule's, and that is computed
 

@@ -4,7 +4,7 @@ use mathlib.Core.List.{List, [], _∷_, _++_}
 use Prim.Native.Nat.{ℕ, _*_}
 use lib.ListN.{take, drop, replicate}
 use Rattle.bus.specs.Run.{ModelEnd}
-use Rattle.bus.specs.declared.answer.ModelAnswer.{ModelAnswer}
+use Rattle.bindings.specs.declared.answer.ModelAnswer.{ModelAnswer}
 
 -- the identifier that begins with this byte and ends with 1; a record: identifier, address byte, flag
 abbrev pub identifier : ℕ → List ℕ

@@ -24,7 +24,7 @@ use Rattle.udid.specs.Bytes.{udidBytes, udidAt}
 use Rattle.udid.specs.Udids.{Fits}
 use Rattle.udid.specs.declared.Udid.{Udid}
 use Rattle.arp.specs.Slots.{Sized128, heldAt}
-use Rattle.arp.specs.CommandTraces.{prepareTrace, replyTrace, assignTrace, Reply}
+use Rattle.commands.specs.CommandTraces.{prepareTrace, replyTrace, assignTrace, Reply}
 use Rattle.arp.specs.Controller.{stepped}
 use Rattle.arp.specs.HeardLaws.{six-exactly}
 use Rattle.arp.specs.NoneFreeLaws.{number-13-is-none-free}
@@ -32,12 +32,12 @@ use Rattle.arp.specs.Numbers.{commandNumber}
 use Rattle.arp.specs.OneResultLaws.{same-trace-or-not, six-or-not, six-once, reply-or-not, continues-alike, ends-alike, binds-alike, replies-alike, chooses-address-or-none}
 use Rattle.arp.specs.OneStep.{Gives, Asks, Chooses, Continues, Replies, Alike}
 use Rattle.arp.specs.OneStepLaws as arp
-use Rattle.arp.specs.Replay.{noCommand}
-use Rattle.arp.specs.RequestLaws.{seventeen-bytes-are-udid-and-byte}
-use Rattle.arp.specs.declared.command.Command.the-variants.{Prepare, GetUdid, Assign}
-use Rattle.arp.specs.declared.command.End.the-variants.{Ended, NoneFree, Abandoned, NotOutstanding}
-use Rattle.arp.specs.declared.command.Handed.{Handed}
-use Rattle.arp.specs.declared.command.Handed.the-variants.{Send, Wait}
+use Rattle.commands.specs.Told.{noCommand}
+use Rattle.commands.specs.RequestLaws.{seventeen-bytes-are-udid-and-byte}
+use Rattle.commands.specs.declared.command.Command.the-variants.{Prepare, GetUdid, Assign}
+use Rattle.commands.specs.declared.command.End.the-variants.{Ended, NoneFree, Abandoned, NotOutstanding}
+use Rattle.commands.specs.declared.command.Handed.{Handed}
+use Rattle.commands.specs.declared.command.Handed.the-variants.{Send, Wait}
 use Rattle.arp.specs.declared.state.Controller.{Controller}
 use Rattle.arp.specs.declared.state.Stepped.{Stepped}
 use Rattle.promises.specs.Demands.{Idle, NoReply, NobodyLeft, Steps, StepNumbers}

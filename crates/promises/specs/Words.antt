@@ -5,7 +5,7 @@ pub use Rattle.wire.specs.Addresses.{isReserved}
 pub use Rattle.wire.specs.Pec.{pecOf}
 pub use Rattle.wire.specs.declared.address.Address.{Address}
 pub use Rattle.trace.specs.Rows.{message}
-pub use Rattle.trace.specs.Table.{TraceOf}
+pub use Rattle.trace.specs.Table.{lastProtocol, TraceOf}
 pub use Rattle.trace.specs.Trace.{Message}
 pub use Rattle.encode.specs.Encode.{encodeNumber, Wrote}
 pub use Rattle.encode.specs.declared.Encoded.{Encoded}
@@ -22,18 +22,18 @@ pub use Rattle.pool.specs.declared.Pool.{Pool}
 pub use Rattle.udid.specs.Bytes.{udidBytes}
 pub use Rattle.udid.specs.Udids.{Fits as In128}
 pub use Rattle.udid.specs.declared.Udid.{Udid}
-pub use Rattle.arp.specs.Slots.{Sized128, heldAt}
-pub use Rattle.arp.specs.CommandTraces.{prepareTrace, replyTrace, assignTrace}
+pub use Rattle.arp.specs.Slots.{heldAt}
+pub use Rattle.commands.specs.CommandTraces.{prepareTrace, replyTrace, assignTrace}
 pub use Rattle.arp.specs.Controller.{newController, started, stepped}
 pub use Rattle.arp.specs.History.{Event, Received, run, Acknowledged}
 pub use Rattle.arp.specs.Lookup.{lookedUp}
 pub use Rattle.arp.specs.Numbers.{commandNumber, lookupNumber}
 pub use Rattle.arp.specs.OneStep.{Asks, Binds, Continues, EndsWith, Replies}
-pub use Rattle.arp.specs.Requests.{protocolFor, messageOf, traceOf}
-pub use Rattle.arp.specs.declared.command.Command.the-variants.{Prepare, GetUdid, Assign}
-pub use Rattle.arp.specs.declared.command.End.the-variants.{Nothing, Ended, Abandoned, NotOutstanding}
-pub use Rattle.arp.specs.declared.command.Handed.{Handed}
-pub use Rattle.arp.specs.declared.command.Handed.the-variants.{Send, Wait}
+pub use Rattle.commands.specs.Requests.{protocolFor, messageOf, traceOf}
+pub use Rattle.commands.specs.declared.command.Command.the-variants.{Prepare, GetUdid, Assign}
+pub use Rattle.commands.specs.declared.command.End.the-variants.{Nothing, Ended, Abandoned, NotOutstanding}
+pub use Rattle.commands.specs.declared.command.Handed.{Handed}
+pub use Rattle.commands.specs.declared.command.Handed.the-variants.{Send, Wait}
 pub use Rattle.arp.specs.declared.state.Binding.the-variants.{Open, Bound, Claimed}
 pub use Rattle.arp.specs.declared.state.Controller.{Controller}
 pub use Rattle.arp.specs.declared.state.Stepped.{Stepped}
@@ -46,7 +46,7 @@ pub use Rattle.rule.specs.Bus.{pass}
 pub use Rattle.rule.specs.PlainRule.{Given, Ending, served, noneFree, Distinct, ruled}
 pub use Rattle.rule.specs.Reading.{Any, RecordOf, OnePerUdid}
 pub use Rattle.rule.specs.Sent.{getsOnBus}
-pub use Rattle.bus.specs.Run.{noUdid, modelNumber, Leaves, modelEnd}
-pub use Rattle.bus.specs.declared.answer.ModelAnswer.{ModelAnswer}
+pub use Rattle.bus.specs.Run.{modelNumber, Leaves, modelEnd}
+pub use Rattle.bindings.specs.declared.answer.ModelAnswer.{ModelAnswer}
 -- the marked cases
 pub use Rattle.promises.specs.MarkedWords.{identifier, holding, Shows}

@@ -5,7 +5,11 @@ use Rattle.lists.specs.Choice.{pick}
 use Rattle.text.specs.Chars.{chars}
 use Rattle.text.specs.Words.{sameText}
 
--- those of no command and those that read or write a byte or a word; 11 for any other word
+-- what is answered for a word that is no protocol's name
+abbrev pub noProtocol : ℕ
+noProtocol = 255
+
+-- those of no command and those that read or write a byte or a word
 unfoldable pub shortNamed : List ℕ → ℕ
 shortNamed s =
     pick (sameText s (chars "quick")) 0
@@ -15,7 +19,7 @@ shortNamed s =
     (pick (sameText s (chars "write_word")) 4
     (pick (sameText s (chars "read_byte")) 5
     (pick (sameText s (chars "read_word")) 6
-    11))))))
+    noProtocol))))))
 
 -- the number of the protocol of a name
 unfoldable pub protocolNamed : List ℕ → ℕ

@@ -4,7 +4,7 @@ use mathlib.Core.Path.{_≡_}
 use mathlib.Core.List.{List}
 use lib.ListN.{length}
 use borrow.Author.Tests.{lt-ltb, le-ltb, le-leb, lt-leb}
-use Rattle.text.specs.declared.word.Word.{Word}
+use Rattle.text.specs.declared.word.LineWord.{LineWord}
 use Rattle.text.specs.Chars.{chars}
 use Rattle.text.specs.Words.{wordFrom, partOf}
 use Rattle.requests.specs.Verbs.{verbOf}
@@ -80,11 +80,11 @@ module _ (h : Head) (f : Fields) (sent : ℕ) (line : List ℕ) (at : ℕ) (m : 
 
 -- ---- a line
 
-pub request-none : (line : List ℕ) (w : Word) → w ≡ wordFrom line 0 → w .to ≤ w .from → Nothing ≡ requestOf line
+pub request-none : (line : List ℕ) (w : LineWord) → w ≡ wordFrom line 0 → w .to ≤ w .from → Nothing ≡ requestOf line
 unfolding requestOf
 request-none line w e t = rw (← e, le-leb (w .to) (w .from) t)
 
-pub request-is : (line : List ℕ) (w : Word) (s : List ℕ) (v : Verb) (q : Request) → w ≡ wordFrom line 0 → w .from < w .to
+pub request-is : (line : List ℕ) (w : LineWord) (s : List ℕ) (v : Verb) (q : Request) → w ≡ wordFrom line 0 → w .from < w .to
     → s ≡ partOf line (w .from) (w .to) → v ≡ verbOf s → q ≡ requestIn v line (w .from) (w .to) → q ≡ requestOf line
 unfolding requestOf
 request-is line w s v q e t f g k = rw (← e, lt-leb (w .to) (w .from) t, ← f, ← g, k)

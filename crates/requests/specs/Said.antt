@@ -4,7 +4,7 @@ use mathlib.Core.List.{List}
 use lib.Dec.{ltb}
 use lib.ListN.{length}
 use Rattle.lists.specs.Choice.{pick}
-use Rattle.text.specs.declared.word.Word.{Word}
+use Rattle.text.specs.declared.word.LineWord.{LineWord}
 use Rattle.text.specs.declared.number.Number.{Number}
 use Rattle.text.specs.declared.number.Number.the-variants.{Is, NoNumber, TooLarge}
 use Rattle.text.specs.declared.number.Halves.{Halves}
@@ -12,7 +12,7 @@ use Rattle.text.specs.declared.number.Halves.the-variants.{Are, NoHalves}
 use Rattle.text.specs.Chars.{chars}
 use Rattle.text.specs.Words.{wordFrom, partOf, sameText}
 use Rattle.text.specs.Numbers.{numberOf, halvesOf}
-use Rattle.requests.specs.Protocols.{protocolNamed}
+use Rattle.requests.specs.Protocols.{noProtocol, protocolNamed}
 use Rattle.requests.specs.declared.word.ByteWord.{ByteWord}
 use Rattle.requests.specs.declared.word.ByteWord.the-variants.{Byte, NoByte}
 use Rattle.requests.specs.declared.word.SymbolWord.{SymbolWord}
@@ -27,11 +27,11 @@ use Rattle.requests.specs.declared.word.Rest.{Rest}
 use Rattle.requests.specs.declared.word.Rest.the-variants.{Nothing, Word as Another-word}
 
 -- the characters of a word
-abbrev pub wordIn : List ℕ → Word → List ℕ
+abbrev pub wordIn : List ℕ → LineWord → List ℕ
 wordIn line w = partOf line (w .from) (w .to)
 
 -- a byte: a number below 256
-abbrev pub byteSaid : Word → Number → ByteWord
+abbrev pub byteSaid : LineWord → Number → ByteWord
 byteSaid w (Is n) = pick (ltb n 256) (Byte n (w .to)) (NoByte (w .from))
 byteSaid w NoNumber = NoByte (w .from)
 byteSaid w TooLarge = NoByte (w .from)
@@ -40,7 +40,7 @@ unfoldable pub byteAt : List ℕ → ℕ → ByteWord
 byteAt line at = byteSaid (wordFrom line at) (numberOf (wordIn line (wordFrom line at)))
 
 -- a symbol: a number below 65,536
-abbrev pub symbolSaid : Word → Number → SymbolWord
+abbrev pub symbolSaid : LineWord → Number → SymbolWord
 symbolSaid w (Is n) = pick (ltb n 65536) (Symbol n (w .to)) (NoSymbol (w .from))
 symbolSaid w NoNumber = NoSymbol (w .from)
 symbolSaid w TooLarge = NoSymbol (w .from)
@@ -49,7 +49,7 @@ unfoldable pub symbolAt : List ℕ → ℕ → SymbolWord
 symbolAt line at = symbolSaid (wordFrom line at) (numberOf (wordIn line (wordFrom line at)))
 
 -- an identifier: 32 hexadecimal digits
-abbrev pub udidSaid : Word → Halves → UdidWord
+abbrev pub udidSaid : LineWord → Halves → UdidWord
 udidSaid w (Are high low) = Identifier (record { high = high; low = low }) (w .from) (w .to)
 udidSaid w NoHalves = NoIdentifier (w .from)
 
@@ -59,7 +59,7 @@ udidAt line at = udidSaid (wordFrom line at) (halvesOf (wordIn line (wordFrom li
 -- a protocol: its name, or a byte
 unfoldable pub protocolAt : List ℕ → ℕ → ByteWord
 protocolAt line at =
-    pick (ltb (protocolNamed (wordIn line (wordFrom line at))) 11)
+    pick (ltb (protocolNamed (wordIn line (wordFrom line at))) noProtocol)
     (Byte (protocolNamed (wordIn line (wordFrom line at))) (wordFrom line at .to))
     (byteAt line at)
 

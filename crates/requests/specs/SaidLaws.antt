@@ -5,7 +5,7 @@ use mathlib.Core.Bool.{Bool, true, false}
 use mathlib.Core.List.{List}
 use lib.ListN.{length}
 use borrow.Author.Tests.{lt-ltb, le-ltb}
-use Rattle.text.specs.declared.word.Word.{Word}
+use Rattle.text.specs.declared.word.LineWord.{LineWord}
 use Rattle.text.specs.declared.number.Number.{Number}
 use Rattle.text.specs.declared.number.Number.the-variants.{Is, NoNumber, TooLarge}
 use Rattle.text.specs.declared.number.Halves.{Halves}
@@ -13,7 +13,7 @@ use Rattle.text.specs.declared.number.Halves.the-variants.{Are, NoHalves}
 use Rattle.text.specs.Chars.{chars}
 use Rattle.text.specs.Words.{wordFrom, partOf, sameText}
 use Rattle.text.specs.Numbers.{numberOf, halvesOf}
-use Rattle.requests.specs.Protocols.{protocolNamed}
+use Rattle.requests.specs.Protocols.{noProtocol, protocolNamed}
 use Rattle.requests.specs.Said.{byteAt, symbolAt, udidAt, protocolAt, pecAt, markAt, restAt}
 use Rattle.requests.specs.declared.word.ByteWord.{ByteWord}
 use Rattle.requests.specs.declared.word.ByteWord.the-variants.{Byte, NoByte}
@@ -23,7 +23,7 @@ use Rattle.requests.specs.declared.word.PecWord.the-variants.{With, With
 use Rattle.requests.specs.declared.word.MarkWord.the-variants.{Mark, Over, Another}
 use Rattle.requests.specs.declared.word.Rest.the-variants as left
 
-module _ (line : List ℕ) (at : ℕ) (w : Word) (s : List ℕ) (e : w ≡ wordFrom line at) (f : s ≡ partOf line (w .from) (w .to)) where
+module _ (line : List ℕ) (at : ℕ) (w : LineWord) (s : List ℕ) (e : w ≡ wordFrom line at) (f : s ≡ partOf line (w .from) (w .to)) where
   -- ---- a byte
 
   pub byte-is : (n : Number) (v : ℕ) → n ≡ numberOf s → n ≡ Is v → v < 256 → Byte v (w .to) ≡ byteAt line at
@@ -72,13 +72,13 @@ module _ (line : List ℕ) (at : ℕ) (w : Word) (s : List ℕ) (e : w ≡ wordF
 
   -- ---- a protocol
 
-  pub protocol-named : (n : ℕ) → n ≡ protocolNamed s → n < 11 → Byte n (w .to) ≡ protocolAt line at
+  pub protocol-named : (n : ℕ) → n ≡ protocolNamed s → n < noProtocol → Byte n (w .to) ≡ protocolAt line at
   unfolding protocolAt
-  protocol-named n g t = rw (← e, ← f, ← g, lt-ltb n 11 t)
+  protocol-named n g t = rw (← e, ← f, ← g, lt-ltb n noProtocol t)
 
-  pub protocol-numbered : (n : ℕ) (b : ByteWord) → n ≡ protocolNamed s → 11 ≤ n → b ≡ byteAt line at → b ≡ protocolAt line at
+  pub protocol-numbered : (n : ℕ) (b : ByteWord) → n ≡ protocolNamed s → noProtocol ≤ n → b ≡ byteAt line at → b ≡ protocolAt line at
   unfolding protocolAt
-  protocol-numbered n b g t k = rw (← e, ← f, ← g, le-ltb n 11 t, k)
+  protocol-numbered n b g t k = rw (← e, ← f, ← g, le-ltb n noProtocol t, k)
 
   -- ---- p or -
 
@@ -110,10 +110,10 @@ module _ (line : List ℕ) (at : ℕ) (w : Word) (s : List ℕ) (e : w ≡ wordF
 
 -- ---- the rest of the line
 
-pub rest-word : (line : List ℕ) (at : ℕ) (w : Word) → w ≡ wordFrom line at → w .from < length line → left.Word (w .from) ≡ restAt line at
+pub rest-word : (line : List ℕ) (at : ℕ) (w : LineWord) → w ≡ wordFrom line at → w .from < length line → left.Word (w .from) ≡ restAt line at
 unfolding restAt
 rest-word line at w e t = rw (← e, lt-ltb (w .from) (length line) t)
 
-pub rest-none : (line : List ℕ) (at : ℕ) (w : Word) → w ≡ wordFrom line at → length line ≤ w .from → left.Nothing ≡ restAt line at
+pub rest-none : (line : List ℕ) (at : ℕ) (w : LineWord) → w ≡ wordFrom line at → length line ≤ w .from → left.Nothing ≡ restAt line at
 unfolding restAt
 rest-none line at w e t = rw (← e, le-ltb (w .from) (length line) t)

@@ -3,7 +3,10 @@ ghost use mathlib.Core.Path.{_≡_};
 ghost use Rattle.requests.specs.Protocols.{protocolNamed, shortNamed};
 use text::word::same;
 
-// The protocols of no command and those that read or write a byte or a word; 11 for any other word.
+// What is answered for a word that is no protocol's name.
+pub(crate) const NO_PROTOCOL: u8 = 255;
+
+// The protocols of no command and those that read or write a byte or a word.
 fn short_named(s: &[u8]) -> u8
     ensures { λ r. ⌜ r ≡ shortNamed (now (s .entry)) ⌝ }
 {
@@ -28,10 +31,10 @@ fn short_named(s: &[u8]) -> u8
     if same(s, b"read_word") {
         return 6;
     }
-    11
+    NO_PROTOCOL
 }
 
-// The number of the protocol of a name; 11 where the word is none.
+// The number of the protocol of a name.
 pub(crate) fn protocol_named(s: &[u8]) -> u8
     ensures { λ r. ⌜ r ≡ protocolNamed (now (s .entry)) ⌝ }
 {

@@ -1,6 +1,7 @@
 // One word of a line, read as what is due there. Rests on crate text.
 ghost use mathlib.Core.Path.{_≡_};
 ghost use Rattle.requests.specs.Said.{byteAt, symbolAt, udidAt, protocolAt, pecAt, markAt, restAt};
+use crate::protocol::NO_PROTOCOL;
 use crate::protocol::protocol_named;
 use text::number::Halves;
 use text::number::Number;
@@ -105,7 +106,7 @@ pub(crate) fn protocol_word(line: &[u8], at: usize) -> ByteWord
 {
     let w = next_word(line, at);
     let named = protocol_named(part(line, w.from, w.to));
-    if named < 11 {
+    if named < NO_PROTOCOL {
         return ByteWord::Byte(named, w.to);
     }
     byte_word(line, at)

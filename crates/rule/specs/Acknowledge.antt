@@ -13,10 +13,10 @@ use Rattle.udid.specs.Bytes.{udidBytes}
 use Rattle.targets.specs.Target.{Target, isResolved}
 use Rattle.targets.specs.Reply.{waiting, OnWire, silence, shown, onWire}
 use Rattle.rule.specs.Effect.{same}
-use Rattle.arp.specs.Requests.{traceOf}
-use Rattle.arp.specs.declared.command.Command.the-variants.{Prepare, GetUdid, Assign}
-use Rattle.arp.specs.declared.command.Handed.{Handed}
-use Rattle.arp.specs.declared.command.Handed.the-variants.{Send, Wait}
+use Rattle.commands.specs.Requests.{traceOf}
+use Rattle.commands.specs.declared.command.Command.the-variants.{Prepare, GetUdid, Assign}
+use Rattle.commands.specs.declared.command.Handed.{Handed}
+use Rattle.commands.specs.declared.command.Handed.the-variants.{Send, Wait}
 
 -- the first list is a beginning of the second
 unfoldable pub begins : List ℕ → List ℕ → Bool

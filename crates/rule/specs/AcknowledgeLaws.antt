@@ -14,13 +14,13 @@ use Rattle.trace.specs.Trace as trace
 use Rattle.udid.specs.Bytes.{udidBytes}
 use Rattle.udid.specs.declared.Udid.{Udid}
 use Rattle.targets.specs.Target.{Target}
-use Rattle.arp.specs.Heard.{blockWrite}
-use Rattle.arp.specs.Requests.{messageOf, traceOf}
-use Rattle.arp.specs.RequestLaws.{assign-symbols}
-use Rattle.arp.specs.RequestLaws.{assign-has-44-symbols}
-use Rattle.arp.specs.declared.command.Command.the-variants.{Prepare, GetUdid, Assign}
-use Rattle.arp.specs.declared.command.Handed.{Handed}
-use Rattle.arp.specs.declared.command.Handed.the-variants.{Send}
+use Rattle.commands.specs.Heard.{blockWrite}
+use Rattle.commands.specs.Requests.{messageOf, traceOf}
+use Rattle.commands.specs.RequestLaws.{assign-symbols}
+use Rattle.commands.specs.RequestLaws.{assign-has-44-symbols}
+use Rattle.commands.specs.declared.command.Command.the-variants.{Prepare, GetUdid, Assign}
+use Rattle.commands.specs.declared.command.Handed.{Handed}
+use Rattle.commands.specs.declared.command.Handed.the-variants.{Send}
 use Rattle.rule.specs.Acknowledge.{answered, standing, sentPart, onBus}
 
 -- Prepare To ARP: S C2 A 01 A PEC A

@@ -2,9 +2,9 @@
 use mathlib.Core.List.{List}
 use Rattle.udid.specs.Udids.{Fits}
 use Rattle.targets.specs.Target.{Target, cleared, resolve}
-use Rattle.arp.specs.declared.command.Command.the-variants.{Prepare, GetUdid, Assign}
-use Rattle.arp.specs.declared.command.Handed.{Handed}
-use Rattle.arp.specs.declared.command.Handed.the-variants.{Send, Wait}
+use Rattle.commands.specs.declared.command.Command.the-variants.{Prepare, GetUdid, Assign}
+use Rattle.commands.specs.declared.command.Handed.{Handed}
+use Rattle.commands.specs.declared.command.Handed.the-variants.{Send, Wait}
 
 -- Prepare To ARP clears every flag, Assign Address reaches the target with that identifier, and nothing else changes any
 abbrev pub acted : Handed → List Target → List Target

@@ -3,7 +3,7 @@
 use Prim.Native.Nat.{ℕ, zero, suc}
 use mathlib.Core.List.{List, [], _∷_}
 use Rattle.arp.specs.Controller.{stepped, started, newController}
-use Rattle.arp.specs.declared.command.Handed.{Handed}
+use Rattle.commands.specs.declared.command.Handed.{Handed}
 use Rattle.arp.specs.declared.state.Stepped.{Stepped}
 use Rattle.pool.specs.declared.Pool.{Pool}
 

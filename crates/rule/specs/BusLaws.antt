@@ -5,9 +5,9 @@ use mathlib.Core.Bool.{Bool, true, false}
 use mathlib.Core.List.{List, [], _∷_}
 use lib.ListN.{length, drop}
 use Rattle.lists.specs.Choice.{pick}
-use Rattle.arp.specs.CommandTraces.{prepareTrace}
+use Rattle.commands.specs.CommandTraces.{prepareTrace}
 use Rattle.arp.specs.Controller.{stepped}
-use Rattle.arp.specs.declared.command.Handed.{Handed}
+use Rattle.commands.specs.declared.command.Handed.{Handed}
 use Rattle.arp.specs.declared.state.Stepped.{Stepped}
 use Rattle.targets.specs.RecordLaws.{length-map}
 use Rattle.targets.specs.Target.{Target}

@@ -6,7 +6,7 @@ use lib.Dec.{eqb, ltb}
 use lib.ListN.{getD}
 use Rattle.lists.specs.Choice.{pick, and}
 use Rattle.udid.specs.Bytes.{udidBytes}
-use Rattle.arp.specs.CommandTraces.{prepareTrace, assignTrace}
+use Rattle.commands.specs.CommandTraces.{prepareTrace, assignTrace}
 use Rattle.targets.specs.Target.{Target}
 
 -- where the address byte of an Assign Address stands: behind START, 19 bytes and their ACKs

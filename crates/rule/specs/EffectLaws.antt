@@ -9,6 +9,7 @@ use lib.Dec.{eqb, ltb}
 use lib.ListN.{length, getD, drop}
 use lib.Seq.{getD-at}
 use borrow.Author.Tests.{eq-eqb, eqb-true, lt-ltb, ltb-true}
+use Rattle.lists.specs.AbsurdLaws.{zero-is-one}
 use Rattle.lists.specs.Choice.{pick, and}
 use Rattle.lists.specs.ChoiceLaws.{false-not-true}
 use Rattle.lists.specs.EachLaws.{append-bytes}
@@ -25,12 +26,12 @@ use Rattle.udid.specs.UdidLaws.{length-udid, udid-bytes, same-equal, same-refl,
 use Rattle.udid.specs.Udids.{Fits, sameUdid}
 use Rattle.udid.specs.declared.Udid.{Udid}
 use Rattle.targets.specs.Target.{Target, mapTargets, prepared, assignedTo}
-use Rattle.arp.specs.CommandTraces.{prepareTrace, assignTrace}
-use Rattle.arp.specs.RequestLaws.{prepare-symbols, assign-symbols}
-use Rattle.arp.specs.Requests.{traceOf}
-use Rattle.arp.specs.declared.command.Command.the-variants.{Prepare, GetUdid, Assign}
-use Rattle.arp.specs.declared.command.Handed.{Handed}
-use Rattle.arp.specs.declared.command.Handed.the-variants.{Send, Wait}
+use Rattle.commands.specs.CommandTraces.{prepareTrace, assignTrace}
+use Rattle.commands.specs.RequestLaws.{prepare-symbols, assign-symbols}
+use Rattle.commands.specs.Requests.{traceOf}
+use Rattle.commands.specs.declared.command.Command.the-variants.{Prepare, GetUdid, Assign}
+use Rattle.commands.specs.declared.command.Handed.{Handed}
+use Rattle.commands.specs.declared.command.Handed.the-variants.{Send, Wait}
 use Rattle.rule.specs.Acknowledge.{begins, acknowledges, somebody, answered, standing, sentPart, onBus}
 use Rattle.rule.specs.AcknowledgeLaws.{assign-stop}
 use Rattle.rule.specs.Effect.{addressIn, same, effect}
@@ -224,7 +225,7 @@ effect-other u a (x ∷ ts) t m f g e =
     fourth q = omega arith
 
     named : u ≡ t .udid → ⊥
-    named q = let z : _≡_ {A = ℕ} 0 1 = cc (e, ap (sameUdid (t .udid)) q, same-refl (t .udid)) in omega arith
+    named q = zero-is-one (cc (e, ap (sameUdid (t .udid)) q, same-refl (t .udid)))
 
 effect-assigned : (u : Udid) (a : Address) (ts : List Target) (t : Target) → Among t ts → Fits u → Fits (t .udid)
     → effect (onBus (Send (Assign u a)) ts) t ≡ assignedTo u (a .0) t

@@ -5,11 +5,11 @@ use lib.ListN.{length}
 use Rattle.pool.specs.Pools.{withAddress}
 use Rattle.pool.specs.declared.Pool.{Pool}
 use Rattle.arp.specs.Slots.{withBinding, noBindings}
-use Rattle.arp.specs.declared.command.End.the-variants.{Ended, NoneFree}
-use Rattle.arp.specs.declared.command.Handed.{Handed}
-use Rattle.arp.specs.declared.command.Handed.the-variants.{Wait}
+use Rattle.arp.specs.State.{stateOf}
+use Rattle.commands.specs.declared.command.End.the-variants.{Ended, NoneFree}
+use Rattle.commands.specs.declared.command.Handed.{Handed}
+use Rattle.commands.specs.declared.command.Handed.the-variants.{Wait}
 use Rattle.arp.specs.declared.state.Binding.the-variants.{Bound}
-use Rattle.arp.specs.declared.state.Controller.{Controller}
 use Rattle.arp.specs.declared.slots.Slots.{Slots}
 use Rattle.arp.specs.declared.state.Stepped.{Stepped}
 use Rattle.targets.specs.Target.{Target, cleared, resolve}
@@ -21,12 +21,9 @@ abbrev pub lastCommand : Ending → Handed
 lastCommand served = Wait Ended
 lastCommand (noneFree u) = Wait (NoneFree u)
 
--- the controller's state, and the state with a command out
-abbrev pub state : Pool → Pool → Slots → ℕ → Handed → Controller
-state b p s n k = record { starting = b; pool = p; slots = s; gets = n; last = k }
-
+-- the controller's state with a command out
 abbrev pub out : Pool → Pool → Slots → ℕ → Handed → Stepped
-out b p s n k = record { state = state b p s n k; command = k }
+out b p s n k = record { state = stateOf b p s n k; command = k }
 
 pub record Outcome : Type 0 where
   pub pool : Pool

@@ -32,16 +32,17 @@ use Rattle.arp.specs.SlotsLaws.{open-all, sized-none}
 use Rattle.arp.specs.Bindings.{boundTo}
 use Rattle.arp.specs.Controller.{stepped}
 use Rattle.arp.specs.Slots.{withBinding, noBindings}
-use Rattle.arp.specs.declared.command.Command.the-variants.{Prepare}
+use Rattle.commands.specs.declared.command.Command.the-variants.{Prepare}
 use Rattle.arp.specs.declared.slots.Slots.{Slots}
 use Rattle.arp.specs.declared.state.Binding.the-variants.{Bound}
-use Rattle.arp.specs.declared.command.Handed.the-variants.{Send}
+use Rattle.commands.specs.declared.command.Handed.the-variants.{Send}
 use Rattle.arp.specs.declared.state.Stepped.{Stepped}
+use Rattle.arp.specs.State.{stateOf}
 use Rattle.rule.specs.AnyBusLaws.{run-add}
 use Rattle.rule.specs.Bus.{modelBus, turn, run, beginning, pass}
 use Rattle.rule.specs.BusLaws.{turn-takes}
 use Rattle.rule.specs.PlainRule.{insert, ascending, plainChoice, served, noneFree, Given, next, rule, ruled, FreeIn, Distinct}
-use Rattle.rule.specs.PassEnd.{state, ended, outcome, nobodyThere, passEnd}
+use Rattle.rule.specs.PassEnd.{ended, outcome, nobodyThere, passEnd}
 use Rattle.rule.specs.EffectLaws.{effect-as-meant}
 use Rattle.rule.specs.TraceLaws as on-bus
 use Rattle.rule.specs.Ready.{Apart, Ready, Lower}
@@ -185,7 +186,7 @@ module _ (occupied : Pool) where
   first-turn t ts v =
       turn-takes (beginning occupied (t ∷ ts) .now) (t ∷ ts) (Send Prepare) refl
       ∙ ap₂ (λ (x : Stepped) (us : List Target). record { now = x; targets = us })
-      (ap (stepped (state start start noBindings 0 (Send Prepare))) (on-bus.prepare-whole t ts) ∙ prepare-asks-first start start noBindings)
+      (ap (stepped (stateOf start start noBindings 0 (Send Prepare))) (on-bus.prepare-whole t ts) ∙ prepare-asks-first start start noBindings)
       (effect-as-meant (Send Prepare) (t ∷ ts) tt (λ x m. v .sized x m .udid))
 
   nobody-turn : turn (beginning occupied []) ≡ nobodyThere start
@@ -193,7 +194,7 @@ module _ (occupied : Pool) where
   nobody-turn =
       turn-takes (beginning occupied [] .now) [] (Send Prepare) refl
       ∙ ap (λ (x : Stepped). record { now = x; targets = [] })
-      (ap (stepped (state start start noBindings 0 (Send Prepare))) on-bus.prepare-cut ∙ prepare-silence-ends start start noBindings)
+      (ap (stepped (stateOf start start noBindings 0 (Send Prepare))) on-bus.prepare-cut ∙ prepare-silence-ends start start noBindings)
 
   some-targets : (t : Target) (ts : List Target) → AdmittedTargets start (t ∷ ts) → run 300 (beginning occupied (t ∷ ts)) ≡ passEnd start (t ∷ ts)
   unfolding start

@@ -12,12 +12,12 @@ use Rattle.arp.specs.Handing.{Kept}
 use Rattle.arp.specs.HandingLaws.{busy-handed}
 use Rattle.arp.specs.Controller.{changed, stepped}
 use Rattle.arp.specs.History.{oneGet}
-use Rattle.arp.specs.Told.{tells}
-use Rattle.arp.specs.declared.command.Command.{Command}
-use Rattle.arp.specs.declared.command.Command.the-variants.{Prepare, GetUdid, Assign}
-use Rattle.arp.specs.declared.command.End.the-variants.{Ended}
-use Rattle.arp.specs.declared.command.Handed.{Handed}
-use Rattle.arp.specs.declared.command.Handed.the-variants.{Send, Wait}
+use Rattle.commands.specs.Told.{tells}
+use Rattle.commands.specs.declared.command.Command.{Command}
+use Rattle.commands.specs.declared.command.Command.the-variants.{Prepare, GetUdid, Assign}
+use Rattle.commands.specs.declared.command.End.the-variants.{Ended}
+use Rattle.commands.specs.declared.command.Handed.{Handed}
+use Rattle.commands.specs.declared.command.Handed.the-variants.{Send, Wait}
 use Rattle.arp.specs.declared.state.Controller.{Controller}
 use Rattle.rule.specs.Acknowledge.{begins, acknowledges, somebody, answered, standing, sentPart, onBus}
 use Rattle.rule.specs.Bus.{World, took, turn, run, beginning, pass}

@@ -15,10 +15,10 @@ use Rattle.targets.specs.Members.{Waits}
 use Rattle.targets.specs.Target.{Target, resolve}
 use Rattle.arp.specs.Bindings.{boundTo}
 use Rattle.arp.specs.Slots.{Sized128, heldAt, withBinding}
-use Rattle.arp.specs.declared.command.Command.the-variants.{GetUdid}
+use Rattle.commands.specs.declared.command.Command.the-variants.{GetUdid}
 use Rattle.arp.specs.declared.state.Binding.the-variants.{Bound}
 use Rattle.arp.specs.declared.slots.Slots.{Slots}
-use Rattle.arp.specs.declared.command.Handed.the-variants.{Send}
+use Rattle.commands.specs.declared.command.Handed.the-variants.{Send}
 use Rattle.rule.specs.Bus.{World}
 use Rattle.rule.specs.PassEnd.{Outcome, out}
 use Rattle.rule.specs.PlainRule.{served, noneFree, plainChoice}

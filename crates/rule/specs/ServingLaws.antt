@@ -25,18 +25,19 @@ use Rattle.arp.specs.Bindings.{boundTo}
 use Rattle.arp.specs.Controller.{issued, stepped}
 use Rattle.arp.specs.Slots.{Sized128, heldAt, withBinding}
 use Rattle.arp.specs.SlotsLaws.{held-same, held-other, sized-with}
-use Rattle.arp.specs.declared.command.Command.the-variants.{GetUdid, Assign}
+use Rattle.commands.specs.declared.command.Command.the-variants.{GetUdid, Assign}
 use Rattle.arp.specs.declared.state.Binding.the-variants.{Bound}
 use Rattle.arp.specs.declared.slots.Slots.{Slots}
-use Rattle.arp.specs.declared.command.Handed.the-variants.{Send}
+use Rattle.commands.specs.declared.command.Handed.the-variants.{Send}
 use Rattle.arp.specs.declared.state.Stepped.{Stepped}
+use Rattle.arp.specs.State.{stateOf}
 use Rattle.rule.specs.Acknowledge.{onBus}
 use Rattle.rule.specs.AcknowledgeLaws.{nothing-on-bus}
 use Rattle.rule.specs.AnyBusLaws.{silent-run}
 use Rattle.rule.specs.Bus.{World, modelBus, run}
 use Rattle.rule.specs.BusLaws.{turn-takes}
 use Rattle.rule.specs.PlainRule.{Ending, served, noneFree, plainChoice}
-use Rattle.rule.specs.PassEnd.{lastCommand, state, out, ended}
+use Rattle.rule.specs.PassEnd.{lastCommand, out, ended}
 use Rattle.rule.specs.EffectLaws.{effect-as-meant}
 use Rattle.rule.specs.TraceLaws as on-bus
 use Rattle.rule.specs.RuleLaws.{controller-chooses-as-rule, ready-choice-free, ready-next}
@@ -87,9 +88,9 @@ ended-run-stays n b p s m (noneFree u) ts = silent-run modelBus n (world (out b 
 
 -- nobody is left
 all-resolved-ends : (b p : Pool) (s : Slots) (n : ℕ) (ts : List Target) → 0 < length ts → ((t : Target) → Among t ts → isResolved t ≡ false → ⊥)
-    → stepped (state b p s n (Send GetUdid)) (onBus (Send GetUdid) ts) ≡ out b p s n (lastCommand served)
+    → stepped (stateOf b p s n (Send GetUdid)) (onBus (Send GetUdid) ts) ≡ out b p s n (lastCommand served)
 all-resolved-ends b p s n [] l h = absurd (omega arith)
-all-resolved-ends b p s n (t ∷ ts) l h = ap (stepped (state b p s n (Send GetUdid))) (on-bus.get-cut t ts (λ x m. all x m (isResolved x) refl)) ∙ get-silence-ends b p s n
+all-resolved-ends b p s n (t ∷ ts) l h = ap (stepped (stateOf b p s n (Send GetUdid))) (on-bus.get-cut t ts (λ x m. all x m (isResolved x) refl)) ∙ get-silence-ends b p s n
   where
     all : (x : Target) → Among x (t ∷ ts) → (c : Bool) → isResolved x ≡ c → isResolved x ≡ true
     all x m true e = e
@@ -116,17 +117,17 @@ run-serves-rest b p s k ts (r ∷ rest) v =
         later t (inl e) = inl e
         later t (inr m) = inr (v .ready .sized t (inr m), v .ready .apart .0 t m .lower)
 
-    reply-issues-choice : stepped (state b p s (suc k) (Send GetUdid)) (onBus (Send GetUdid) ts) ≡ issued (state b p s (suc k) (Send GetUdid)) (r .udid) (plainChoice p r)
+    reply-issues-choice : stepped (stateOf b p s (suc k) (Send GetUdid)) (onBus (Send GetUdid) ts) ≡ issued (stateOf b p s (suc k) (Send GetUdid)) (r .udid) (plainChoice p r)
     reply-issues-choice =
-        ap (stepped (state b p s (suc k) (Send GetUdid))) (on-bus.get-whole ts r least)
+        ap (stepped (stateOf b p s (suc k) (Send GetUdid))) (on-bus.get-whole ts r least)
         ∙ get-issued b p s (suc k) r (v .ready .sized r (inl refl)) (v .unbound r (inl refl))
-        ∙ ap (issued (state b p s (suc k) (Send GetUdid)) (r .udid)) (controller-chooses-as-rule p r (v .ready .last-used) (v .ready .fixed-some r (inl refl)))
+        ∙ ap (issued (stateOf b p s (suc k) (Send GetUdid)) (r .udid)) (controller-chooses-as-rule p r (v .ready .last-used) (v .ready .fixed-some r (inl refl)))
 
     go : (c : Free) → plainChoice p r ≡ c
         → ((a : Address) → plainChoice p r ≡ At a
         → run (turns rest) (asking b (withAddress p (a .0)) (withBinding s (a .0) (Bound (r .udid))) (suc (suc k)) (resolve (r .udid) (a .0) ts))
         ≡ ended b (plain rest (withAddress p (a .0)) (withBinding s (a .0) (Bound (r .udid))) (suc k) (resolve (r .udid) (a .0) ts)))
-        → run (suc (turns rest)) (record { now = issued (state b p s (suc k) (Send GetUdid)) (r .udid) (plainChoice p r); targets = ts })
+        → run (suc (turns rest)) (record { now = issued (stateOf b p s (suc k) (Send GetUdid)) (r .udid) (plainChoice p r); targets = ts })
         ≡ ended b (serve (λ p′ s′ k′ ts′. plain rest p′ s′ k′ ts′) r p s k ts (plainChoice p r))
     go AllUsed e ih = rw e (ended-run-stays (suc (turns rest)) b p s (suc k) (noneFree (r .udid)) ts)
     go (At a) e ih =
@@ -134,7 +135,7 @@ run-serves-rest b p s k ts (r ∷ rest) v =
         rw e
         (ap (run (turns rest)) (turn-takes (out b p s (suc k) (Send (Assign (r .udid) a))) ts (Send (Assign (r .udid) a)) refl)
         ∙ ap₂ (λ (x : Stepped) (us : List Target). run (turns rest) (world x us))
-        (ap (stepped (state b p s (suc k) (Send (Assign (r .udid) a)))) (on-bus.assign-whole ts (r .udid) a r (v .waits .there r (inl refl)) refl)
+        (ap (stepped (stateOf b p s (suc k) (Send (Assign (r .udid) a)))) (on-bus.assign-whole ts (r .udid) a r (v .waits .there r (inl refl)) refl)
         ∙ assign-bound b p s (suc k) (r .udid) a (omega (arith, v .below-128)) (v .ready .sized r (inl refl) .udid) (f .0)
         ∙ simp (f .1, add-one (suc k)))
         (effect-as-meant (Send (Assign (r .udid) a)) ts (v .ready .sized r (inl refl) .udid) (v .fits))

@@ -27,9 +27,9 @@ use Rattle.targets.specs.Reply.{replyData, OnWire}
 use Rattle.targets.specs.Members.{Least}
 use Rattle.targets.specs.ReplyLaws.{least-on-wire}
 use Rattle.targets.specs.TraceLaws.{reply-trace}
-use Rattle.arp.specs.Requests.{traceOf}
-use Rattle.arp.specs.declared.command.Command.the-variants.{Prepare, GetUdid, Assign}
-use Rattle.arp.specs.declared.command.Handed.the-variants.{Send}
+use Rattle.commands.specs.Requests.{traceOf}
+use Rattle.commands.specs.declared.command.Command.the-variants.{Prepare, GetUdid, Assign}
+use Rattle.commands.specs.declared.command.Handed.the-variants.{Send}
 use Rattle.rule.specs.Acknowledge.{begins, assigningBytes, acknowledges, somebody, answered, received, asking, standing, sentPart, onBus}
 use Rattle.rule.specs.AcknowledgeLaws.{assign-by-target, assign-stop}
 use Rattle.rule.specs.Effect.{same}

@@ -2,13 +2,14 @@
 use mathlib.Core.Path.{_≡_, refl, _∙_, subst}
 use mathlib.Core.Bool.{Bool, true, false}
 use mathlib.Core.List.{List, [], _∷_, _++_}
-use Prim.Native.Nat.{ℕ, zero, suc, _+_, _-_, _≤_, _<_, _%_, _/_}
+use Prim.Native.Nat.{ℕ, suc, _+_, _-_, _≤_, _<_, _%_, _/_}
 use native.Mathlib.Omega.{arith}
 use lib.ListN.{length, replicate, length-replicate}
 use lib.Dec.{ltb, eqb}
 use borrow.Author.Tests.{eq-eqb}
 use Rattle.lists.specs.Choice.{pick, and}
 use Rattle.lists.specs.Each.{Bytes}
+use Rattle.lists.specs.EachLaws.{zeros-bytes}
 use Rattle.wire.specs.Addresses.{hostAddress}
 use Rattle.wire.specs.Symbols.{START, STOP, ACK, NACK}
 use Rattle.wire.specs.Pec.{pecStep, pecFrom}
@@ -36,10 +37,6 @@ use Rattle.step.specs.LeadLaws.{leads-run, leads-byte}
 use Rattle.step.specs.ForwardLaws.{to-data, to-read-data, target-ack-leads, data-leads, count-leads, count-test, received-leads, read-count-leads}
 use Rattle.step.specs.Roomy.{AtCount, Roomy}
 use Rattle.step.specs.RoomyLaws.{least-of-le}
-
-zeros-bytes : (k : ℕ) → Bytes (replicate k 0)
-zeros-bytes zero = tt
-zeros-bytes (suc k) = (omega arith, zeros-bytes k)
 
 zero-byte : (p : Bool) → Bytes (inPlace p 0)
 zero-byte true = (omega arith, tt)
@@ -205,7 +202,7 @@ module _ (sh : Shape) (hs : Sane sh) (p : Bool) where
 
   -- after the ACK that is due
   pub acknowledged-ends : (d : Decoder) → Roomy sh d → Ends sh p (at d (d .slot) Nobody (d .left))
-  acknowledged-ends d h = ends-slot (d .sentcount) (h .room) (d .slot) (d .left) (d .crc) (d .first) (d .command) (d .readcount) (d .good) (h .ahead)
+  acknowledged-ends d h = ends-slot (d .sentcount) (h .room) (d .slot) (d .left) (d .pec) (d .first) (d .command) (d .readcount) (d .good) (h .ahead)
 
   own-step : (d : Decoder) → run sh p (at d (d .slot) Controller (d .left)) 0 (ackAt (d .slot) ∷ []) ≡ Reading (at d (d .slot) Nobody (d .left))
   unfolding run

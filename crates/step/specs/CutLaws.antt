@@ -7,6 +7,7 @@ use mathlib.Core.Logic.{_⊎_, inl, inr}
 use Prim.Native.Nat.{ℕ, suc, _+_, _-_, _*_, _/_, _<_}
 use native.Mathlib.Omega.{arith}
 use lib.ListN.{length, length-append}
+use Rattle.lists.specs.AbsurdLaws.{zero-is-one}
 use Rattle.lists.specs.Choice.{pick}
 use Rattle.lists.specs.Each.{Bytes}
 use Rattle.trace.specs.declared.shape.Shape.{Shape}
@@ -70,12 +71,12 @@ restart-even f (x ∷ y ∷ []) after h e =
     let p : x ≡ 256 = cc in
     let q : y ≡ f = cc in
     subst (λ (k : ℕ). Even (k ∷ y ∷ [])) (sym p) (omega (arith, ap length (byte-more y [] (omega arith))))
-restart-even f (x ∷ y ∷ z ∷ []) after h e = let w : _≡_ {A = List ℕ} [] (258 ∷ after) = cc in absurd (let v : _≡_ {A = ℕ} 0 (suc (length after)) = ap length w in omega arith)
-restart-even f (x ∷ y ∷ z ∷ u ∷ mid) after h e = let w : _≡_ {A = List ℕ} [] (u ∷ (mid ++ 258 ∷ after)) = cc in absurd (let v : _≡_ {A = ℕ} 0 (suc (length (mid ++ 258 ∷ after))) = ap length w in omega arith)
+restart-even f (x ∷ y ∷ z ∷ []) after h e = zero-is-one (cc e)
+restart-even f (x ∷ y ∷ z ∷ u ∷ mid) after h e = zero-is-one (cc e)
 
 never-empty : (mid after : List ℕ) → [] ≡ mid ++ 258 ∷ after → ⊥
-never-empty [] after e = let v : _≡_ {A = ℕ} 0 (suc (length after)) = ap length e in omega arith
-never-empty (x ∷ mid) after e = let v : _≡_ {A = ℕ} 0 (suc (length (mid ++ 258 ∷ after))) = ap length e in omega arith
+never-empty [] after e = zero-is-one (cc e)
+never-empty (x ∷ mid) after e = zero-is-one (cc e)
 
 -- the target's part behind its START
 odd-or-even : (r w : Bool) (f : ℕ) (bs q before after : List ℕ) → Bytes bs → Bytes q → (w ≡ true → f < 256)

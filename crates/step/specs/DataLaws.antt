@@ -1,8 +1,8 @@
 -- The data of a message, and its fields, are what the decoder finds where it looks for them.
-use mathlib.Core.Path.{_≡_, refl, sym, subst}
+use mathlib.Core.Path.{_≡_, refl, sym, ap, subst}
 use mathlib.Core.Bool.{Bool, true, false}
 use mathlib.Core.List.{List, [], _∷_, _++_, append-assoc}
-use Prim.Native.Nat.{ℕ, _+_, _-_, _*_, _≤_, _%_}
+use Prim.Native.Nat.{ℕ, zero, suc, _+_, _-_, _*_, _≤_, _%_}
 use native.Mathlib.Omega.{arith}
 use lib.ListN.{length, drop, length-append}
 use lib.Seq.{drop-at}
@@ -24,6 +24,10 @@ use Rattle.step.specs.TestLaws.{low-of-byte}
 use Rattle.step.specs.EndState.{endState}
 use Rattle.step.specs.ForwardLaws.{half-is-address}
 use Rattle.step.specs.JoinedLaws.{trace-joined}
+
+pub length-lows : (n : ℕ) (l : List ℕ) → length (lows n l) ≡ n
+length-lows zero l = refl
+length-lows (suc n) l = ap suc (length-lows n (drop 2 l))
 
 lows-acked : (s on : List ℕ) → Bytes s → lows (length s) (acked s ++ on) ≡ s
 lows-acked [] on h = refl

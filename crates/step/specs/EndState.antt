@@ -14,7 +14,7 @@ use Rattle.step.specs.declared.state.Decoder.{Decoder}
 use Rattle.step.specs.State.{to, state}
 use Rattle.step.specs.Next.{toRead}
 
--- with w and r for a write phase and a read phase, a the part received, z the code so far, f the first address byte, c the command, m and n
+-- with w and r for a write phase and a read phase, a the part received, z the PEC so far, f the first address byte, c the command, m and n
 -- the counts sent and received, y the byte in PEC's place
 abbrev pub turned : Bool → Bool → Bool → Part → ℕ → ℕ → ℕ → ℕ → ℕ → Decoder
 turned p w r a z f c m y =

@@ -10,7 +10,6 @@ use borrow.Author.Tests.{eq-eqb, lt-ltb, le-leb}
 use Rattle.lists.specs.Choice.{pick, or, and}
 use Rattle.lists.specs.ChoiceLaws.{false-not-true}
 use Rattle.lists.specs.Each.{Bytes}
-use Rattle.wire.specs.Addresses.{hostAddress}
 use Rattle.wire.specs.Symbols.{START, STOP, ACK, NACK}
 use Rattle.wire.specs.Pec.{pecStep, pecFrom}
 use Rattle.wire.specs.PecLaws.{pec-append}
@@ -21,7 +20,7 @@ use Rattle.trace.specs.Shapes.{some, writes, reads, leastOf}
 use Rattle.trace.specs.Trace.{Message, W, R, laid, acked, ackOf, nacked, firstByte, front, byTarget, byController, inPlace, LengthOf, counted, Valid}
 use Rattle.trace.specs.Allowed.{addressFits}
 use Rattle.trace.specs.Sane.{Sane}
-use Rattle.trace.specs.ValidLaws.{address-there, sender-there}
+use Rattle.trace.specs.ValidLaws.{address-below-128, address-there, sender-there}
 use Rattle.step.specs.declared.next.Aim.{Aim}
 use Rattle.step.specs.declared.state.Slot.the-variants.{First, Command, Count, Data, Pec, Restart, Second, ReadCount, ReadData, ReadPec, Stop, End}
 use Rattle.step.specs.declared.state.Due.the-variants.{Nobody, Target, Controller}
@@ -211,10 +210,6 @@ module _ (sh : Shape) (p : Bool) where
   after-turn-leads false Counted r z f c m y l k b h hy = read-part-leads sh p Counted r y z f c m true l k b h hy
 
 -- the first address byte of a valid message
-address-lt : (b : Bool) (a : ℕ) → pick b (a ≡ hostAddress) (a < 128) → a < 128
-address-lt true a h = omega arith
-address-lt false a h = h
-
 pub half-is-address : (w r : Bool) (a d : ℕ) → pick (or w r) (d ≡ 0) (d ≤ 1) → pick w (W a) (pick r (R a) (2 * a + d)) / 2 ≡ a
 half-is-address true r a d h = omega arith
 half-is-address false true a d h = omega arith
@@ -234,7 +229,7 @@ size-is false false a d h k = let i : d ≤ 1 = h in (omega arith, λ e. false-n
 module _ (sh : Shape) (t : Message) (v : Valid sh t) where
   pub first-byte-fits : (firstByte sh t < 256) × (firstFits sh (firstByte sh t) ≡ true) × (writes sh ≡ true → firstByte sh t < 255)
   first-byte-fits =
-      let s = size-is (writes sh) (reads sh) (t .address) (t .direction) (v .direction) (address-lt (sh .tohost) (t .address) (v .address)) in
+      let s = size-is (writes sh) (reads sh) (t .address) (t .direction) (v .direction) (address-below-128 (sh .tohost) (t .address) (v .address)) in
       let a : addressFits sh (firstByte sh t / 2) ≡ true =
       ap (addressFits sh) (half-is-address (writes sh) (reads sh) (t .address) (t .direction) (v .direction)) ∙ address-there (sh .tohost) (t .address) (v .address) in
       let w : wayFits sh (firstByte sh t) ≡ true = way-is (writes sh) (reads sh) (t .address) (t .direction) in

@@ -9,6 +9,7 @@ use native.Mathlib.Omega.{arith}
 use lib.Dec.{ltb, eqb}
 use lib.ListN.{length}
 use borrow.Author.Tests.{eqb-true, lt-ltb}
+use Rattle.lists.specs.AbsurdLaws.{zero-is-one}
 use Rattle.lists.specs.Choice.{pick, or}
 use Rattle.lists.specs.ChoiceLaws.{false-not-true, not-both}
 use Rattle.lists.specs.Each.{Bytes}
@@ -197,7 +198,7 @@ module _ (sh : Shape) (hs : Sane sh) (p : Bool) where
   after-nack d e i [] q c =
       let z : at d (d .slot) Halted (d .left) ≡ e = same-state q in
       let w : Halted ≡ Cut = ap (λ (u : Decoder). u .due) z ∙ c in
-      let o : _≡_ {A = ℕ} 0 1 = cc in absurd (omega arith)
+      zero-is-one cc
   after-nack d e i (x ∷ []) q c = go (eqb x STOP) refl q
     where
       go : (b : Bool) → eqb x STOP ≡ b → pick b (Reading (at d (d .slot) Cut 0)) (Answered (why (at d (d .slot) Halted (d .left)) i x)) ≡ Reading e → x ∷ [] ≡ STOP ∷ []

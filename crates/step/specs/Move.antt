@@ -17,27 +17,27 @@ use Rattle.step.specs.Next.{toReadData, toRead, toData, toSent, afterFir
 
 -- at another slot
 abbrev pub at : Decoder → Slot → Due → ℕ → Decoder
-at d s a k = state (to s k) a (d .crc) (d .first) (d .command) (d .sentcount) (d .readcount) (d .good)
+at d s a k = state (to s k) a (d .pec) (d .first) (d .command) (d .sentcount) (d .readcount) (d .good)
 
 -- a byte was read: into PEC, and on
 abbrev pub byteRead : Decoder → Aim → Due → ℕ → Decoder
-byteRead d g a x = state g a (pecStep (d .crc) x) (d .first) (d .command) (d .sentcount) (d .readcount) (d .good)
+byteRead d g a x = state g a (pecStep (d .pec) x) (d .first) (d .command) (d .sentcount) (d .readcount) (d .good)
 
 abbrev pub firstRead : Decoder → Aim → ℕ → Decoder
-firstRead d g x = state g Target (pecStep (d .crc) x) x (d .command) (d .sentcount) (d .readcount) (d .good)
+firstRead d g x = state g Target (pecStep (d .pec) x) x (d .command) (d .sentcount) (d .readcount) (d .good)
 
 abbrev pub commandRead : Decoder → Aim → ℕ → Decoder
-commandRead d g x = state g Target (pecStep (d .crc) x) (d .first) x (d .sentcount) (d .readcount) (d .good)
+commandRead d g x = state g Target (pecStep (d .pec) x) (d .first) x (d .sentcount) (d .readcount) (d .good)
 
 abbrev pub sentCountRead : Decoder → Aim → ℕ → Decoder
-sentCountRead d g x = state g Target (pecStep (d .crc) x) (d .first) (d .command) x (d .readcount) (d .good)
+sentCountRead d g x = state g Target (pecStep (d .pec) x) (d .first) (d .command) x (d .readcount) (d .good)
 
 abbrev pub readCountRead : Decoder → Aim → ℕ → Decoder
-readCountRead d g x = state g Controller (pecStep (d .crc) x) (d .first) (d .command) (d .sentcount) x (d .good)
+readCountRead d g x = state g Controller (pecStep (d .pec) x) (d .first) (d .command) (d .sentcount) x (d .good)
 
 -- a byte in PEC's place is held against PEC, and is no part of it
 abbrev pub pecRead : Decoder → Due → ℕ → Decoder
-pecRead d a x = state (to Stop 0) a (d .crc) (d .first) (d .command) (d .sentcount) (d .readcount) (eqb x (d .crc))
+pecRead d a x = state (to Stop 0) a (d .pec) (d .first) (d .command) (d .sentcount) (d .readcount) (eqb x (d .pec))
 
 -- after a symbol at its slot, whose low byte is x
 abbrev pub moveSlot : Shape → Bool → Slot → Decoder → ℕ → Decoder

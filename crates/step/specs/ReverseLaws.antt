@@ -299,7 +299,7 @@ record HeadL (sh : Shape) (p b : Bool) (m f : ℕ) (tr : List ℕ) : Type 0 wher
   c : ℕ
   s : List ℕ
   on : List ℕ
-  code : pick b ((c < 256) × pick (sh .tohost) (c % 2 ≡ 0) Unit) (c ≡ 0)
+  command : pick b ((c < 256) × pick (sh .tohost) (c % 2 ≡ 0) Unit) (c ≡ 0)
   len : LengthOf (sh .least) (sh .sent) s
   small : counted (sh .sent) s ≤ sh .most
   bytes : Bytes s
@@ -310,8 +310,8 @@ head-of : (sh : Shape) (p b : Bool) (m f : ℕ) (tr : List ℕ) → pick b (Comm
 head-of sh p true m f tr l =
     let s = l .then in
     let b = both-true (ltb (l .c) 256) _ (l .fit) in
-    record { c = l .c; s = s .s; on = s .on; code = (byte-back (b .0), sender-back (sh .tohost) (l .c) (b .1)); len = s .len; small = s .small; bytes = s .bytes; is = cc (l .is, s .is); then = s .then }
-head-of sh p false m f tr l = record { c = 0; s = l .s; on = l .on; code = refl; len = l .len; small = l .small; bytes = l .bytes; is = l .is; then = l .then }
+    record { c = l .c; s = s .s; on = s .on; command = (byte-back (b .0), sender-back (sh .tohost) (l .c) (b .1)); len = s .len; small = s .small; bytes = s .bytes; is = cc (l .is, s .is); then = s .then }
+head-of sh p false m f tr l = record { c = 0; s = l .s; on = l .on; command = refl; len = l .len; small = l .small; bytes = l .bytes; is = l .is; then = l .then }
 
 count-is : (a : Part) (s : List ℕ) → countOr a s 0 ≡ counted a s
 count-is Nothing s = refl
@@ -359,7 +359,7 @@ ended-is-whole sh hs p tr e i q s g =
           record {
             address = address-back (sh .tohost) (w .f / 2) (ways .0);
             direction = direction-is (writes sh) (reads sh) (w .f);
-            command = h .code;
+            command = h .command;
             sent-length = h .len;
             sent-bytes = h .bytes;
             received-length = a .len;

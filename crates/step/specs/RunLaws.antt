@@ -6,6 +6,7 @@ use mathlib.Core.List.{List, [], _∷_, _++_}
 use Prim.Native.Nat.{ℕ, suc, _+_}
 use native.Mathlib.Omega.{arith}
 use lib.ListN.{length}
+use Rattle.lists.specs.AbsurdLaws.{zero-is-one}
 use Rattle.lists.specs.Choice.{pick}
 use Rattle.trace.specs.declared.shape.Shape.{Shape}
 use Rattle.step.specs.declared.answer.Decoded.{Decoded}
@@ -17,7 +18,7 @@ use Rattle.step.specs.Refusal.{why}
 use Rattle.step.specs.Run.{run}
 
 pub refused-not-reading : {a : Decoded} {d : Decoder} → Answered a ≡ Reading d → ⊥
-refused-not-reading e = let z : _≡_ {A = ℕ} 0 1 = cc in omega arith
+refused-not-reading e = zero-is-one cc
 
 pub same-state : {d e : Decoder} → Reading d ≡ Reading e → d ≡ e
 same-state q = cc

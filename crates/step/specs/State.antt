@@ -14,7 +14,7 @@ to s k = record { slot = s; left = k }
 
 -- there, with what is due, PEC so far, the first address byte, the command, the two counts, and whether no PEC has come that differs
 abbrev pub state : Aim → Due → ℕ → ℕ → ℕ → ℕ → ℕ → Bool → Decoder
-state g a z f c m n ok = record { slot = g .slot; due = a; left = g .left; crc = z; first = f; command = c; sentcount = m; readcount = n; good = ok }
+state g a z f c m n ok = record { slot = g .slot; due = a; left = g .left; pec = z; first = f; command = c; sentcount = m; readcount = n; good = ok }
 
 abbrev pub fresh : Decoder
 fresh = state (to Start 0) Nobody 0 0 0 0 0 true

@@ -1,6 +1,6 @@
 // The answer when the whole trace is read and nothing in it was refused.
 ghost use mathlib.Core.Path.{_≡_};
-ghost use Prim.Native.Nat.{_-_, _≤_};
+ghost use Prim.Native.Nat.{_≤_};
 ghost use lib.Dec.{ltb};
 ghost use Rattle.lists.specs.Choice.{pick};
 ghost use Rattle.step.specs.Run.{byteCount, dataLength, directionOf, transaction, isCut, finish};
@@ -16,6 +16,7 @@ use trace::shape::has_write;
 use trace::transaction::Transaction;
 use wire::address::Address;
 use wire::address::WireByte;
+use wire::number::less;
 use wire::symbol::is_byte;
 
 // 1 for a byte, 0 for any other symbol.
@@ -35,12 +36,6 @@ fn count_bytes(tr: &[u16]) -> usize
         i += 1;
     }
     n
-}
-
-fn less(a: usize, b: usize) -> usize
-    ensures { λ r. ⌜ r ≡ a - b ⌝ }
-{
-    if a < b { 0 } else { a - b }
 }
 
 // The length of a part's data, whose count was m.

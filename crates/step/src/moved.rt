@@ -23,7 +23,7 @@ fn moved_to(d: Decoder, slot: Slot, due: Due, left: u8) -> Decoder
         slot,
         due,
         left,
-        crc: d.crc,
+        pec: d.pec,
         first: d.first,
         command: d.command,
         sentcount: d.sentcount,
@@ -38,7 +38,7 @@ fn byte_read(d: Decoder, aim: Aim, due: Due, x: u8) -> Decoder
 {
     let slot = aim.slot;
     let mut e = moved_to(d, slot, due, aim.left);
-    e.crc = add_byte(d.crc, x);
+    e.pec = add_byte(d.pec, x);
     e
 }
 
@@ -79,7 +79,7 @@ fn pec_read(d: Decoder, due: Due, x: u8) -> Decoder
     ensures { λ r. ⌜ r ≡ pecRead d due x ⌝ }
 {
     let mut e = moved_to(d, Slot::Stop, due, 0);
-    e.good = x == d.crc;
+    e.good = x == d.pec;
     e
 }
 

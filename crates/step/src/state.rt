@@ -35,7 +35,7 @@ pub struct Decoder {
     // The data bytes after the next one.
     pub left: u8,
     // PEC of the bytes so far.
-    pub crc: u8,
+    pub pec: u8,
     // The first address byte, the command and the two counts, once they have come.
     pub first: u8,
     pub command: u8,
@@ -53,7 +53,7 @@ pub(crate) fn start() -> Decoder
         slot: Slot::Start,
         due: Due::Nobody,
         left: 0,
-        crc: 0,
+        pec: 0,
         first: 0,
         command: 0,
         sentcount: 0,

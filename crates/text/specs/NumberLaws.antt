@@ -13,6 +13,7 @@ use lib.ListN.{length, take, drop, getD, drop-of-length-le}
 use lib.Seq.{drop-cons}
 use borrow.Author.Tests.{lt-ltb, le-ltb, ltb-true, ltb-false, le-leb, lt-leb, eq-eqb, ne-eqb}
 use Rattle.lists.specs.Choice.{pick, and}
+use Rattle.lists.specs.ChoiceLaws.{false-not-true}
 use Rattle.text.specs.Numbers.{from-to, digitOf, baseOf, areDigits, valueFrom, valueOf, capped, digitsOf, isHex, numberOf, halvesOf}
 use Rattle.text.specs.declared.number.Number.{Number}
 use Rattle.text.specs.declared.number.Number.the-variants.{Is, NoNumber, TooLarge}
@@ -75,7 +76,7 @@ module _ (base : ℕ) (s : List ℕ) (i : ℕ) where
 
 digits-cons : (base c : ℕ) (t : Bool) (l : Bool) → ltb (digitOf c) base ≡ t → and t l ≡ true → (digitOf c < base) × (l ≡ true)
 digits-cons base c true l e f = (ltb-true _ _ e, f)
-digits-cons base c false l e f = let z : _≡_ {A = ℕ} 0 1 = cc in absurd (omega arith)
+digits-cons base c false l e f = false-not-true f
 
 -- each of them is one
 pub digit-at : (base : ℕ) (s : List ℕ) (i : ℕ) → areDigits base s ≡ true → i < length s → digitOf (getD s i 0) < base

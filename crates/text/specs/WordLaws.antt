@@ -10,6 +10,7 @@ use lib.ListN.{length, take, drop, getD, drop-of-length-le}
 use lib.Seq.{drop-cons}
 use borrow.Author.Tests.{eq-eqb, ne-eqb, eqb-true, le-leb, lt-leb}
 use Rattle.lists.specs.Choice.{and}
+use Rattle.lists.specs.ChoiceLaws.{false-not-true}
 use Rattle.text.specs.Words.{before, partOf, sameText}
 
 module _ (kind : ℕ → Bool) (s : List ℕ) (i : ℕ) where
@@ -42,13 +43,13 @@ module _ (kind : ℕ → Bool) (s : List ℕ) (at i : ℕ) (inv : at + before ki
 -- the same text is the same list
 same-cons : (x y : ℕ) (a b : List ℕ) → (sameText a b ≡ true → a ≡ b) → (t : Bool) → eqb x y ≡ t → and t (sameText a b) ≡ true → _≡_ {A = List ℕ} (x ∷ a) (y ∷ b)
 same-cons x y a b rest true q f = cc (rest f, eqb-true x y q)
-same-cons x y a b rest false q f = let z : _≡_ {A = ℕ} 0 1 = cc in absurd (omega arith)
+same-cons x y a b rest false q f = false-not-true f
 
 pub same-text-equal : (a b : List ℕ) → sameText a b ≡ true → a ≡ b
 unfolding sameText
 same-text-equal [] [] e = refl
-same-text-equal [] (y ∷ b) e = let z : _≡_ {A = ℕ} 0 1 = cc in absurd (omega arith)
-same-text-equal (x ∷ a) [] e = let z : _≡_ {A = ℕ} 0 1 = cc in absurd (omega arith)
+same-text-equal [] (y ∷ b) e = false-not-true e
+same-text-equal (x ∷ a) [] e = false-not-true e
 same-text-equal (x ∷ a) (y ∷ b) e = same-cons x y a b (same-text-equal a b) (eqb x y) refl e
 
 -- texts of different lengths differ

@@ -5,7 +5,7 @@ use mathlib.Core.List.{List, [], _∷_}
 use lib.Dec.{eqb, leb}
 use lib.ListN.{length, take, drop}
 use Rattle.lists.specs.Choice.{pick, or, and, not}
-use Rattle.text.specs.declared.word.Word.{Word}
+use Rattle.text.specs.declared.word.LineWord.{LineWord}
 
 -- a space, a tab, a carriage return
 abbrev pub blank : ℕ → Bool
@@ -30,7 +30,7 @@ before kind (c ∷ cs) = pick (kind c) 0 (suc (before kind cs))
 unfoldable pub startFrom : List ℕ → ℕ → ℕ
 startFrom s at = at + before outside (drop at s)
 
-unfoldable pub wordFrom : List ℕ → ℕ → Word
+unfoldable pub wordFrom : List ℕ → ℕ → LineWord
 wordFrom s at = record { from = startFrom s at; to = startFrom s at + before blank (drop (startFrom s at) s) }
 
 -- the characters between two places of a text, none where they do not lie in it

@@ -8,7 +8,7 @@ ghost use Rattle.lists.specs.Choice.{not};
 ghost use Rattle.text.specs.Words.{blank, feed, hash, before, outside, wordFrom, partOf, sameText};
 
 // Where a word begins and where it ends. They are equal where no word is left.
-pub struct Word {
+pub struct LineWord {
     pub from: usize,
     pub to: usize,
 }
@@ -82,12 +82,12 @@ fn word_end(s: &[u8], at: usize) -> usize
 }
 
 // The first word from a place on.
-pub fn next_word(s: &[u8], at: usize) -> Word
+pub fn next_word(s: &[u8], at: usize) -> LineWord
     ensures { λ r. ⌜ r ≡ wordFrom (now (s .entry)) at ⌝ }
 {
     let from = word_start(s, at);
     let to = word_end(s, from);
-    Word { from, to }
+    LineWord { from, to }
 }
 
 // The characters of a word: an empty part of the front where the word does not lie in the text.

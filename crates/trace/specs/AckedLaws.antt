@@ -10,7 +10,7 @@ use Rattle.trace.specs.Trace.{acked, nacked}
 double-suc : (i : ℕ) → 2 * suc i ≡ suc (suc (2 * i))
 double-suc i = omega arith
 
-double-suc-plus-one : (i : ℕ) → 2 * suc i + 1 ≡ suc (suc (2 * i + 1))
+pub double-suc-plus-one : (i : ℕ) → 2 * suc i + 1 ≡ suc (suc (2 * i + 1))
 double-suc-plus-one i = omega arith
 
 pub acked-byte : (bs : List ℕ) (i : ℕ) → i < length bs → getD (acked bs) (2 * i) 0 ≡ getD bs i 0

@@ -2,14 +2,14 @@
 -- shape's longest, which is 525 symbols at most, and one has so many.
 use mathlib.Core.Path.{_≡_, refl, _∙_}
 use mathlib.Core.Bool.{Bool, true, false}
-use Prim.Native.Nat.{ℕ, zero, suc, _≤_}
+use Prim.Native.Nat.{ℕ, _≤_}
 use native.Mathlib.Omega.{arith}
 use lib.Dec.{leb}
 use lib.ListN.{length, replicate, length-replicate}
 use borrow.Author.Tests.{leb-true}
 use Rattle.lists.specs.Choice.{pick}
 use Rattle.lists.specs.All.{all}
-use Rattle.lists.specs.Each.{Bytes}
+use Rattle.lists.specs.EachLaws.{zeros-bytes}
 use Rattle.trace.specs.declared.shape.Part.{Part}
 use Rattle.trace.specs.declared.shape.Part.the-variants.{Nothing, Fixed, Counted}
 use Rattle.trace.specs.declared.shape.Shape.{Shape}
@@ -78,10 +78,6 @@ longest protocol p t v =
     omega (arith, longest-of-shape (shapeOf protocol) p t v, h)
 
 -- and one is that long: Block Process Call with 200 bytes sent, 55 received and a PEC
-zeros-bytes : (k : ℕ) → Bytes (replicate k 0)
-zeros-bytes zero = tt
-zeros-bytes (suc k) = (omega arith, zeros-bytes k)
-
 abbrev so-many : Message
 so-many = record { address = 0x10; direction = 0; command = 7; sent = replicate 200 0; received = replicate 55 0 }
 

@@ -88,14 +88,6 @@ module _ (sh : Shape) where
     λ h. rw (h .0, h .1) (le-leb (countIn (sh .sent) m + countIn (sh .received) n) (sh .most) (h .2)),
   )
 
--- ---- rows: which protocols have a write phase, and which a read phase
-
-pub which-write : map writes shapes ≡ false ∷ true ∷ false ∷ true ∷ true ∷ true ∷ true ∷ true ∷ true ∷ true ∷ true ∷ []
-which-write = refl
-
-pub which-read : map reads shapes ≡ false ∷ false ∷ true ∷ false ∷ false ∷ true ∷ true ∷ true ∷ false ∷ true ∷ true ∷ []
-which-read = refl
-
 -- a number that is in no row has Quick's shape
 pub shape-above : (n : ℕ) → protocols ≤ n → shapeOf n ≡ shapeOf 0
 shape-above n h = List·getD-eq-default shapes noRow h

@@ -10,6 +10,7 @@ use Rattle.lists.specs.All.{all, EachBelow}
 use Rattle.lists.specs.AllLaws.{at-each, at-any, at-place, each-below}
 use Rattle.lists.specs.Choice.{or, not, same}
 use Rattle.lists.specs.ChoiceLaws.{both-true, same-true}
+use Rattle.trace.specs.Table.{lastProtocol}
 use Rattle.trace.specs.declared.shape.Part.{Part}
 use Rattle.trace.specs.declared.shape.Part.the-variants.{Nothing, Fixed, Counted}
 use Rattle.trace.specs.declared.shape.Shape.{Shape}
@@ -30,12 +31,12 @@ at-every-number test e f = at-any test shapes noRow e f
 pub by-row : (P : ℕ → Type 0) → EachBelow P protocols → (protocol : ℕ) → protocol < protocols → P protocol
 by-row P c = each-below P protocols c
 
--- the last row has the number 10
-pub to-10-known : (protocol : ℕ) → protocol ≤ 10 → protocol < protocols
-to-10-known protocol h = omega arith
+-- the last row is the last one of the table
+pub to-last-known : (protocol : ℕ) → protocol ≤ lastProtocol → protocol < protocols
+to-last-known protocol h = omega arith
 
-pub known-to-10 : (protocol : ℕ) → protocol < protocols → protocol ≤ 10
-known-to-10 protocol h = omega arith
+pub known-to-last : (protocol : ℕ) → protocol < protocols → protocol ≤ lastProtocol
+known-to-last protocol h = omega arith
 
 -- ---- the rows
 

@@ -12,6 +12,10 @@ use Rattle.wire.specs.Symbols.{START as S, STOP as P, ACK as A}
 use Rattle.trace.specs.Trace.{Message, acked, nacked, inPlace}
 use Rattle.trace.specs.Rows.{message}
 
+-- the number of the last row
+abbrev pub lastProtocol : ℕ
+lastProtocol = 10
+
 -- a line of the table: the protocol, the message, every byte that PEC covers, the symbols up to the target's last ACK, and the rest, whose
 -- ACKs are the controller's
 pub record Line : Type 0 where

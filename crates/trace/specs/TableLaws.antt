@@ -2,16 +2,17 @@
 -- of a protocol is a line.
 use mathlib.Core.Path.{_≡_, refl, sym, ap, ap₂, _∙_, subst}
 use mathlib.Core.Bool.{Bool, true, false}
-use mathlib.Core.List.{List, [], _∷_, _++_, append-nil}
+use mathlib.Core.List.{List, [], _∷_, _++_, map, append-nil}
 use mathlib.Core.Logic.{_↔_}
 use Prim.Native.Nat.{ℕ, _+_, _*_, _≤_, _<_}
 use native.Mathlib.Omega.{arith}
 use lib.ListN.{length}
+use Rattle.lists.specs.AbsurdLaws.{zero-is-one}
 use Rattle.lists.specs.Each.{Bytes}
 use Rattle.trace.specs.Rows.{message}
 use Rattle.trace.specs.Shaped.{Shaped}
 use Rattle.trace.specs.ShapeLaws.{by-row}
-use Rattle.trace.specs.Shapes.{protocols, shapeOf}
+use Rattle.trace.specs.Shapes.{shapes, protocols, shapeOf, writes, reads}
 use Rattle.trace.specs.Table.{Line, line, Row, quick, send-byte, receive-byte, write-byte, write-word, read-byte, read-word, process-call, block-write, block-read, block-process-call, TraceOf}
 use Rattle.trace.specs.Trace.{Message, acked, byTarget, byController, bytes, inPlace, pecOf, traceAt, trace, Valid}
 use Rattle.trace.specs.declared.shape.Shape.{Shape}
@@ -266,7 +267,12 @@ module _ (p : ℕ) (pec : Bool) (t : Message) (tr : List ℕ) where
 -- Quick has no PEC
 pub quick-plain : (pec : Bool) (y : ℕ) (x : Line) → Row (inPlace pec y) x → x .protocol ≡ 0 → pec ≡ false
 quick-plain false y x r e = refl
-quick-plain true y x r e = absurd (none (row-means (y ∷ []) x r .plain e))
-  where
-    none : y ∷ [] ≡ [] → ⊥
-    none z = let n : _≡_ {A = ℕ} 1 0 = ap length z in omega arith
+quick-plain true y x r e = zero-is-one (sym (ap length (row-means (y ∷ []) x r .plain e)))
+
+-- ---- which protocols have a write phase, and which a read phase
+
+pub which-write : map writes shapes ≡ false ∷ true ∷ false ∷ true ∷ true ∷ true ∷ true ∷ true ∷ true ∷ true ∷ true ∷ []
+which-write = refl
+
+pub which-read : map reads shapes ≡ false ∷ false ∷ true ∷ false ∷ false ∷ true ∷ true ∷ true ∷ false ∷ true ∷ true ∷ []
+which-read = refl

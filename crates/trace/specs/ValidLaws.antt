@@ -3,6 +3,7 @@ use mathlib.Core.Path.{_≡_, refl}
 use mathlib.Core.Bool.{Bool, true, false}
 use mathlib.Core.List.{List}
 use Prim.Native.Nat.{ℕ, _+_, _%_, _≤_, _<_}
+use native.Mathlib.Omega.{arith}
 use lib.Dec.{ltb, leb, eqb}
 use lib.ListN.{length}
 use borrow.Author.Tests.{ltb-true, leb-true, eqb-true, lt-ltb, le-leb, eq-eqb}
@@ -30,6 +31,10 @@ length-there least Counted s h = le-leb least (length s) h
 pub address-back : (b : Bool) (a : ℕ) → pick b (eqb a hostAddress) (ltb a 128) ≡ true → pick b (a ≡ hostAddress) (a < 128)
 address-back true a h = eqb-true a hostAddress h
 address-back false a h = ltb-true a 128 h
+
+pub address-below-128 : (b : Bool) (a : ℕ) → pick b (a ≡ hostAddress) (a < 128) → a < 128
+address-below-128 true a h = omega arith
+address-below-128 false a h = h
 
 pub address-there : (b : Bool) (a : ℕ) → pick b (a ≡ hostAddress) (a < 128) → pick b (eqb a hostAddress) (ltb a 128) ≡ true
 address-there true a h = eq-eqb a hostAddress h

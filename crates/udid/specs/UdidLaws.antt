@@ -12,6 +12,7 @@ use lib.ListN.{length, getD, take, drop, replicate, length-append}
 use lib.Seq.{take-at, drop-at, take-add, drop-drop, length-take-le}
 use borrow.Author.Tests.{eqb-true, eq-eqb, ne-eqb, le-ltb}
 use Rattle.lists.specs.Choice.{pick, or, and}
+use Rattle.lists.specs.ChoiceLaws.{false-not-true, not-both, or-none}
 use Rattle.lists.specs.EachLaws.{append-bytes}
 use Rattle.lists.specs.Each.{Bytes}
 use Rattle.udid.specs.Bytes.{number, numberFrom, bytesOf, bytesFrom, udidBytes, udidAt, less, putAt}
@@ -30,8 +31,8 @@ same-equal u v e = go (eqb (u .high) (v .high)) refl (eqb (u .low) (v .low)) ref
   where
     go : (a : Bool) → eqb (u .high) (v .high) ≡ a → (b : Bool) → eqb (u .low) (v .low) ≡ b → and a b ≡ true → u ≡ v
     go true h true l k = same-halves u v (eqb-true _ _ h) (eqb-true _ _ l)
-    go true h false l k = absurd (let z : _≡_ {A = ℕ} 0 1 = cc k in omega arith)
-    go false h b l k = absurd (let z : _≡_ {A = ℕ} 0 1 = cc k in omega arith)
+    go true h false l k = false-not-true k
+    go false h b l k = false-not-true k
 
 pub same-refl : (u : Udid) → sameUdid u u ≡ true
 same-refl u = simp (eq-eqb (u .high) (u .high) refl, eq-eqb (u .low) (u .low) refl)
@@ -149,14 +150,10 @@ below-bytes u v f g =
 pub below-halves : (u v : Udid) → u .low < 2 ^ 64 → v .low < 2 ^ 64 → isBelow u v ≡ pick (eqb (u .high) (v .high)) (ltb (u .low) (v .low)) (ltb (u .high) (v .high))
 below-halves u v a b = digits-order (u .high) (v .high) (2 ^ 64) (u .low) (v .low) (ltb (u .low) (v .low)) a b refl ∙ go (ℕ-discrete (u .high) (v .high))
   where
-    last : (t : Bool) → or t false ≡ t
-    last true = refl
-    last false = refl
-
     go : Dec (u .high ≡ v .high) → or (ltb (u .high) (v .high)) (and (eqb (u .high) (v .high)) (ltb (u .low) (v .low)))
         ≡ pick (eqb (u .high) (v .high)) (ltb (u .low) (v .low)) (ltb (u .high) (v .high))
     go (yes e) = rw (le-ltb (u .high) (v .high) (omega arith), eq-eqb (u .high) (v .high) e)
-    go (no e) = rw (ne-eqb (u .high) (v .high) e) (last (ltb (u .high) (v .high)))
+    go (no e) = rw (ne-eqb (u .high) (v .high) e) (or-none (ltb (u .high) (v .high)))
 
 -- ---- the top two bits
 
@@ -176,7 +173,7 @@ pub movable-first : (u : Udid) → Fits u → (isFixed u ≡ false) ↔ (64 ≤ 
 movable-first u f = (λ e. above e (decLt (getD (udidBytes u) 0 0) 64), λ h. ne-eqb (topBits u) 0 (λ e. omega (arith, top-of-first u f)))
   where
     above : isFixed u ≡ false → Dec (getD (udidBytes u) 0 0 < 64) → 64 ≤ getD (udidBytes u) 0 0
-    above e (yes h) = absurd (let z : _≡_ {A = ℕ} 0 1 = cc (e, fixed-first u f .1 h) in omega arith)
+    above e (yes h) = not-both e (fixed-first u f .1 h)
     above e (no h) = omega arith
 
 -- ---- one of them in numbers: the high half first, and in each half the highest byte first

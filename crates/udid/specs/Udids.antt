@@ -26,4 +26,4 @@ topBits u = u .high / 2 ^ 62
 
 -- all but 00 are treated as movable
 abbrev pub isFixed : Udid → Bool
-isFixed u = eqb (topBits u) 0
+isFixed u = eqb (u .high / 2 ^ 62) 0

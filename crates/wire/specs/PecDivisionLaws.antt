@@ -1,5 +1,5 @@
 -- The packet error code is the remainder of a division of polynomials: of the bytes, times x^8, by x^8+x^2+x+1. A remainder is a number
--- below 256: a polynomial of a degree below 8. pec-divides says that the code is a remainder, remainder-unique that there is one only, and
+-- below 256: a polynomial of a degree below 8. pec-divides says that the PEC is a remainder, remainder-unique that there is one only, and
 -- pec-is-remainder puts the two together.
 use mathlib.Core.Path.{_≡_, refl, sym, ap, _∙_}
 use mathlib.Core.Logic.{_↔_}
@@ -147,7 +147,7 @@ unfolding polynomialFrom pecFrom
 from-leaves n c [] h g l = l
 from-leaves n c (b ∷ bs) h g l = from-leaves (256 * n + b) (pecStep c b) bs (step-byte c b h (g .0)) (g .1) (next-byte n c b h (g .0) l)
 
--- the bytes times x^8 are a multiple of x^8+x^2+x+1, plus the code
+-- the bytes times x^8 are a multiple of x^8+x^2+x+1, plus the PEC
 pub pec-divides : (bs : List ℕ) → Bytes bs → (q : ℕ) × (256 * polynomial bs ≡ bitXor (timesG q) (pecOf bs))
 pec-divides bs h = from-leaves 0 0 bs (omega arith) h (leaves-self 0)
 
@@ -190,30 +190,30 @@ module _ (q q′ r r′ : ℕ) (h : r < 256) (h′ : r′ < 256) (e : bitXor (ti
   pub remainder-unique : r ≡ r′
   remainder-unique = cc (quotient-unique, xor-twice (timesG q) r, xor-twice (timesG q′) r′)
 
--- the code is the remainder of the bytes times x^8: a byte is what they leave if and only if it is the code
+-- the PEC is the remainder of the bytes times x^8: a byte is what they leave if and only if it is the PEC
 pub pec-is-remainder : (bs : List ℕ) → Bytes bs → (r : ℕ) → r < 256 → ((q : ℕ) × (256 * polynomial bs ≡ bitXor (timesG q) r)) ↔ (r ≡ pecOf bs)
-pec-is-remainder bs h r g = (is-code, code-is)
+pec-is-remainder bs h r g = (is-pec, pec-is)
   where
-    is-code : Leaves (256 * polynomial bs) r → r ≡ pecOf bs
-    is-code (q, e) =
+    is-pec : Leaves (256 * polynomial bs) r → r ≡ pecOf bs
+    is-pec (q, e) =
         let (q′, e′) = pec-divides bs h in
         remainder-unique q q′ r (pecOf bs) g (pec-byte 0 bs (omega arith) h) (sym e ∙ e′)
 
-    code-is : r ≡ pecOf bs → Leaves (256 * polynomial bs) r
-    code-is e = rw e (pec-divides bs h)
+    pec-is : r ≡ pecOf bs → Leaves (256 * polynomial bs) r
+    pec-is e = rw e (pec-divides bs h)
 
--- a byte more, after any code: the two added, times x^8, leave the new code, and no other byte
+-- a byte more, after any PEC: the two added, times x^8, leave the new PEC, and no other byte
 step-leaves : (c b : ℕ) → c < 256 → b < 256 → Leaves (256 * bitXor c b) (pecStep c b)
 unfolding pecStep
 step-leaves c b h g = eight-bits (bitXor c b) (bitXor c b) (xor-lt 8 c b h g) (leaves-self (bitXor c b))
 
 pub step-is-remainder : (c b r : ℕ) → c < 256 → b < 256 → r < 256 → ((q : ℕ) × (256 * bitXor c b ≡ bitXor (timesG q) r)) ↔ (r ≡ pecStep c b)
-step-is-remainder c b r h g k = (is-code, code-is)
+step-is-remainder c b r h g k = (is-pec, pec-is)
   where
-    is-code : Leaves (256 * bitXor c b) r → r ≡ pecStep c b
-    is-code (q, e) =
+    is-pec : Leaves (256 * bitXor c b) r → r ≡ pecStep c b
+    is-pec (q, e) =
         let (q′, e′) = step-leaves c b h g in
         remainder-unique q q′ r (pecStep c b) k (step-byte c b h g) (sym e ∙ e′)
 
-    code-is : r ≡ pecStep c b → Leaves (256 * bitXor c b) r
-    code-is e = rw e (step-leaves c b h g)
+    pec-is : r ≡ pecStep c b → Leaves (256 * bitXor c b) r
+    pec-is e = rw e (step-leaves c b h g)

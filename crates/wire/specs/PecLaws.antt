@@ -40,16 +40,16 @@ pub step-byte : (c b : ℕ) → c < 256 → b < 256 → pecStep c b < 256
 unfolding pecStep
 step-byte c b h g = bit-byte _ (bit-byte _ (bit-byte _ (bit-byte _ (bit-byte _ (bit-byte _ (bit-byte _ (bit-byte _ (xor-lt 8 c b h g))))))))
 
--- the code of bytes is a byte
+-- the PEC of bytes is a byte
 pub pec-byte : (c : ℕ) (bs : List ℕ) → c < 256 → Bytes bs → pecFrom c bs < 256
 unfolding pecFrom
 pec-byte c [] h g = h
 pec-byte c (b ∷ bs) h g = pec-byte (pecStep c b) bs (step-byte c b h (g .0)) (g .1)
 
--- bytes after those that gave c: the code of these bytes alone, with c added to the first of them
-pub after-code : (c b : ℕ) (bs : List ℕ) → pecFrom c (b ∷ bs) ≡ pecOf (bitXor c b ∷ bs)
+-- bytes after those that gave c: the PEC of these bytes alone, with c added to the first of them
+pub after-pec : (c b : ℕ) (bs : List ℕ) → pecFrom c (b ∷ bs) ≡ pecOf (bitXor c b ∷ bs)
 unfolding pecFrom pecStep
-after-code c b bs = ap (λ (x : ℕ). pecFrom (bitStep (bitStep (bitStep (bitStep (bitStep (bitStep (bitStep (bitStep x)))))))) bs) (sym (xor-zero-l (bitXor c b)))
+after-pec c b bs = ap (λ (x : ℕ). pecFrom (bitStep (bitStep (bitStep (bitStep (bitStep (bitStep (bitStep (bitStep x)))))))) bs) (sym (xor-zero-l (bitXor c b)))
 
 -- a turn of a loop over a slice, and its end
 pub pec-turn : (s : List ℕ) (c i : ℕ) → i < length s → pecFrom c (drop i s) ≡ pecFrom (pecStep c (getD s i 0)) (drop (i + 1) s)

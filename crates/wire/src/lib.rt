@@ -1,5 +1,6 @@
-// The bus's small vocabulary: addresses and wire bytes, symbols, words, and the packet error code. Rests on lists alone.
+// The bus's small vocabulary: addresses and wire bytes, symbols, words, the packet error code, and a difference. Rests on lists alone.
 pub mod address;
+pub mod number;
 pub mod pec;
 pub mod symbol;
 pub mod word;

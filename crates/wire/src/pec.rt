@@ -9,14 +9,14 @@ fn bit(c: u8) -> u8
     if c < 128 { 2 * c } else { 7 ^ (2 * (c - 128)) }
 }
 
-// The code of one byte more, after those that gave c.
+// The PEC of one byte more, after those that gave c.
 pub fn add_byte(c: u8, b: u8) -> u8
     ensures { λ r. ⌜ r ≡ pecStep c b ⌝ }
 {
     bit(bit(bit(bit(bit(bit(bit(bit(c ^ b))))))))
 }
 
-// The code of more bytes, after those that gave c.
+// The PEC of more bytes, after those that gave c.
 pub fn add_bytes(c: u8, s: &[u8]) -> u8
     ensures { λ r. ⌜ r ≡ pecFrom c (now (s .entry)) ⌝ }
 {
@@ -29,7 +29,7 @@ pub fn add_bytes(c: u8, s: &[u8]) -> u8
     z
 }
 
-// The code of bytes, from the first on.
+// The PEC of bytes, from the first on.
 pub fn of_bytes(s: &[u8]) -> u8
     ensures { λ r. ⌜ r ≡ pecOf (now (s .entry)) ⌝ }
 {

@@ -1,6 +1,6 @@
 use mathlib.Core.Path.{_≡_, sym, ap, _∙_, subst}
 use denote.Ref.{now}
-use Rattle.arp.specs.declared.command.Handed.{Handed}
+use Rattle.commands.specs.declared.command.Handed.{Handed}
 use Rattle.targets.specs.Records.{targetsOf, recordsWith}
 use Rattle.rule.specs.Acted.{acted}
 use Rattle.bus.specs.Turn.{Reaches}

@@ -1,8 +1,8 @@
 use mathlib.Core.Path.{_≡_, sym, ap, _∙_}
 use mathlib.Core.List.{List}
 use denote.Ref.{now}
-use Rattle.arp.specs.declared.command.Command.{Command}
-use Rattle.arp.specs.declared.command.Handed.the-variants.{Send}
+use Rattle.commands.specs.declared.command.Command.{Command}
+use Rattle.commands.specs.declared.command.Handed.the-variants.{Send}
 use Rattle.targets.specs.Records.{targetsOf, recordsWith}
 use Rattle.targets.specs.Target.{Target}
 use Rattle.rule.specs.Acted.{acted}

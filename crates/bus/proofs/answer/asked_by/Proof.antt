@@ -1,6 +1,6 @@
 use mathlib.Core.Path.{_≡_, sym, ap, _∙_}
 use Rattle.arp.specs.Numbers.{commandNumber}
-use Rattle.arp.specs.declared.command.Handed.{Handed}
+use Rattle.commands.specs.declared.command.Handed.{Handed}
 use Rattle.bus.specs.Run.{udidIn}
 use borrow.Author.Needs.{needs}
 use Rattle.bus.proofs.answer.asked_by.Statement.{statement}

@@ -1,6 +1,6 @@
 use mathlib.Core.Path.{_≡_, sym, ap, _∙_}
 use Rattle.arp.specs.Numbers.{endNumber}
-use Rattle.arp.specs.declared.command.End.{End}
+use Rattle.commands.specs.declared.command.End.{End}
 use Rattle.bus.specs.Run.{udidIn}
 use borrow.Author.Needs.{needs}
 use Rattle.bus.proofs.answer.named_by.Statement.{statement}

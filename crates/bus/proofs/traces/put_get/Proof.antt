@@ -4,8 +4,8 @@ use mathlib.Core.List.{List}
 use native.Mathlib.Omega.{arith}
 use lib.ListN.{length, take, drop}
 use denote.Ref.{now}
-use Rattle.arp.specs.SendingLaws.{get-sent}
-use Rattle.arp.specs.Requests.{traceOf}
+use Rattle.commands.specs.SendingLaws.{get-sent}
+use Rattle.commands.specs.Requests.{traceOf}
 use Rattle.lists.specs.EachLaws.{all-bytes}
 use Rattle.bus.specs.Turn.{lentPart}
 use Rattle.bus.specs.TurnLaws.{get-silence, get-winner, get-winner-part, get-length, winner-inside, winner-part-lent}

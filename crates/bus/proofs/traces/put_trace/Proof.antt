@@ -2,7 +2,7 @@ use Prim.Native.Nat.{ℕ, _≤_}
 use mathlib.Core.Path.{_≡_, sym, ap, _∙_, subst}
 use native.Mathlib.Omega.{arith}
 use denote.Ref.{now}
-use Rattle.arp.specs.declared.command.Handed.{Handed}
+use Rattle.commands.specs.declared.command.Handed.{Handed}
 use Rattle.targets.specs.Records.{targetsOf}
 use Rattle.rule.specs.Acknowledge.{sentPart, onBus}
 use Rattle.rule.specs.AcknowledgeLaws.{nothing-on-bus}

@@ -8,7 +8,7 @@ use Rattle.c_arp.proofs.pass.pass_command.Statement.{statement}
 use Rattle.c_arp.proofs.pass.pass_command.Tie as tie
 use Rattle.c_arp.proofs.pass.pass_command.Reads as reads
 use Rattle.c_arp.proofs.pass.pass_command.Lts as lts
-use Rattle.c_arp.proofs.commands.told_command.Reads as told-command-reads
+use Rattle.c_arp.proofs.kinds.told_command.Reads as told-command-reads
 use Rattle.c_arp.proofs.parts.pool_in.Reads as pool-in-reads
 use Rattle.c_arp.proofs.pass.run_pass.Reads as run-pass-reads
 

@@ -5,7 +5,7 @@ use Rattle.decode.proofs.received.received_place.Tie as tie
 use Rattle.decode.proofs.received.received_place.Reads as reads
 use Rattle.decode.proofs.received.received_place.Lts as lts
 use Rattle.decode.proofs.received.end_places.Reads as end-places-reads
-use Rattle.decode.proofs.received.less.Reads as less-reads
+use Rattle.wire.proofs.number.less.Reads as less-reads
 
 end-places-requires : tie.Need-end-places-requires
 end-places-requires c κs = search needs

@@ -1,4 +1,4 @@
-use Rattle.encode.proofs.CodeLaws.{part-code}
+use Rattle.encode.proofs.PecLaws.{part-pec}
 use borrow.Author.Needs.{needs}
 use Rattle.encode.proofs.pec.add_part.Statement.{statement}
 use Rattle.encode.proofs.pec.add_part.Tie as tie
@@ -23,7 +23,7 @@ add-bytes-requires c κs = search needs
 
 returns : tie.Need-returns
 returns c =
-    part-code _ _ _ (c .before .before .before .before .before .args .a) (c .before .before .before .before .before .args .s .now) _ _ (c .before .before .before .is-counted .ensures) (c .before .before .count-of .ensures) (c .before .add-byte-if .ensures) (c .add-bytes .ensures)
+    part-pec _ _ _ (c .before .before .before .before .before .args .a) (c .before .before .before .before .before .args .s .now) _ _ (c .before .before .before .is-counted .ensures) (c .before .before .count-of .ensures) (c .before .add-byte-if .ensures) (c .add-bytes .ensures)
 
 pub add-part-spec : {M : Type 1} → statement M
 add-part-spec =

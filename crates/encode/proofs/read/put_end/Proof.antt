@@ -24,7 +24,7 @@ same-length c = search needs
 returns : tie.Need-returns
 returns c =
     let e = c .before .before .put-byte-if .ensures in
-    let q = inPlace (c .before .before .before .before .before .args .pec) (c .before .before .before .before .before .args .code) in
+    let q = inPlace (c .before .before .before .before .before .args .pec) (c .before .before .before .before .before .args .pecbyte) in
     onto-stop (acked q) (c .before .before .before .before .before .args .out .now) (c .before .before .put-byte-if .last .0) _ (e .1) (omega (arith, e .0, length-acked q)) (omega (arith, e .0, c .before .before .before .before .before .pre))
 
 pub put-end-spec : {M : Type 1} → statement M

@@ -9,7 +9,7 @@ use Rattle.step.proofs.ending.finished.Reads as reads
 use Rattle.step.proofs.ending.finished.Lts as lts
 use Rattle.step.proofs.ending.count_bytes.Reads as count-bytes-reads
 use Rattle.step.proofs.ending.is_cut.Reads as is-cut-reads
-use Rattle.step.proofs.ending.less.Reads as less-reads
+use Rattle.wire.proofs.number.less.Reads as less-reads
 use Rattle.step.proofs.ending.transaction_of.Reads as transaction-of-reads
 use Rattle.step.proofs.refusal.is_over.Reads as is-over-reads
 

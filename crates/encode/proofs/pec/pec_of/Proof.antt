@@ -1,0 +1,28 @@
+use mathlib.Core.Path.{_∙_, ap}
+use borrow.Author.Tests.{not-true, not-false}
+use Prim.Native.Nat.{ℕ}
+use Rattle.wire.specs.Pec.{pecFrom}
+use Rattle.encode.specs.Pieces.{bytesAfter}
+use borrow.Author.Needs.{needs}
+use Rattle.encode.proofs.pec.pec_of.Statement.{statement}
+use Rattle.encode.proofs.pec.pec_of.Tie as tie
+use Rattle.encode.proofs.pec.pec_of.Reads as reads
+use Rattle.encode.proofs.pec.pec_of.Lts as lts
+use Rattle.encode.proofs.pec.read_pec.Reads as read-pec-reads
+use Rattle.encode.proofs.pec.write_pec.Reads as write-pec-reads
+
+returns : tie.Need-returns
+returns c = rw (not-true (c .before .before .before .args .pec) (c .if1 .taken))
+
+write-pec-requires : tie.Need-write-pec-requires
+write-pec-requires c κs = search needs
+
+read-pec-requires : tie.Need-read-pec-requires
+read-pec-requires c κs = search needs
+
+returns-2 : tie.Need-returns-2
+returns-2 c =
+    rw (not-false (c .before .before .before .before .before .args .pec) (c .before .before .if1 .left)) (c .read-pec .ensures ∙ ap (λ (x : ℕ). pecFrom x (bytesAfter (c .before .before .before .before .before .args .sh) (c .before .before .before .before .before .args .second .0) (c .before .before .before .before .before .args .received .now))) (c .before .write-pec .ensures))
+
+pub pec-of-spec : {M : Type 1} → statement M
+pec-of-spec = tie.close (tie.spec returns write-pec-requires read-pec-requires returns-2)
