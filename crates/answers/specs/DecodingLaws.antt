@@ -5,8 +5,8 @@ use mathlib.Core.Bool.{Bool, true, false}
 use lib.Dec.{ltb}
 use borrow.Author.Tests.{lt-ltb, le-ltb}
 use Rattle.text.specs.Chars.{chars}
-use Rattle.step.specs.Numbers.{refusalNumber, isNack}
-use Rattle.step.specs.declared.answer.Refusal.{Refusal}
+use Rattle.scan.specs.Numbers.{refusalNumber, isNack}
+use Rattle.scan.specs.declared.answer.Refusal.{Refusal}
 use Rattle.answers.specs.Decodings.{placeText, whereText}
 use Rattle.answers.specs.Pieces.{newline}
 

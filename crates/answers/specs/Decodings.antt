@@ -5,11 +5,11 @@ use Rattle.text.specs.Chars.{chars}
 use Rattle.text.specs.Written.{decimalOf, pairOf}
 use lib.Dec.{ltb}
 use Rattle.lists.specs.Choice.{pick}
-use Rattle.step.specs.Numbers.{refusalNumber, isNack}
+use Rattle.scan.specs.Numbers.{refusalNumber, isNack}
 use Rattle.trace.specs.declared.transaction.Transaction.{Transaction}
-use Rattle.step.specs.declared.answer.Decoded.{Decoded}
-use Rattle.step.specs.declared.answer.Decoded.the-variants.{Done, Refused}
-use Rattle.step.specs.declared.answer.Refusal.{Refusal}
+use Rattle.scan.specs.declared.answer.Decoded.{Decoded}
+use Rattle.scan.specs.declared.answer.Decoded.the-variants.{Done, Refused}
+use Rattle.scan.specs.declared.answer.Refusal.{Refusal}
 use Rattle.answers.specs.Pieces.{newline, front, bytesText}
 
 -- the fields of a transaction

@@ -14,12 +14,12 @@ use Rattle.lists.specs.Onto.{onto}
 use Rattle.wire.specs.declared.address.Address.{Address}
 use Rattle.trace.specs.ShapeLaws.{sane}
 use Rattle.trace.specs.Shapes.{shapeOf, forbidden}
-use Rattle.step.specs.AnswersLaws as step
-use Rattle.step.specs.Answers.{CutAt}
-use Rattle.step.specs.Handed.{lows, sentData, receivedData}
-use Rattle.step.specs.Numbers.{decodeNumber}
-use Rattle.step.specs.declared.answer.Decoded.{Decoded}
-use Rattle.step.specs.declared.answer.Decoded.the-variants.{Done, Refused}
+use Rattle.scan.specs.AnswersLaws as step
+use Rattle.scan.specs.Answers.{CutAt}
+use Rattle.scan.specs.Handed.{lows, sentData, receivedData}
+use Rattle.scan.specs.Numbers.{decodeNumber}
+use Rattle.scan.specs.declared.answer.Decoded.{Decoded}
+use Rattle.scan.specs.declared.answer.Decoded.the-variants.{Done, Refused}
 use Rattle.decode.specs.OutcomeLaws.{answer-by-trace}
 use Rattle.decode.specs.Outcome.{short, answeredBy, answered, Outcome}
 use Rattle.udid.specs.Bytes.{number, bytesFrom, udidAt}

@@ -9,9 +9,9 @@ use lib.Dec.{ltb, leb, eqb}
 use lib.ListN.{getD}
 use Rattle.lists.specs.AbsurdLaws.{zero-is-one}
 use Rattle.lists.specs.Choice.{pick, and}
-use Rattle.step.specs.Numbers.{isNack}
-use Rattle.step.specs.declared.answer.Decoded.{Decoded}
-use Rattle.step.specs.declared.answer.Decoded.the-variants.{Done, Refused}
+use Rattle.scan.specs.Numbers.{isNack}
+use Rattle.scan.specs.declared.answer.Decoded.{Decoded}
+use Rattle.scan.specs.declared.answer.Decoded.the-variants.{Done, Refused}
 use Rattle.pool.specs.declared.Pool.{Pool}
 use Rattle.pool.specs.declared.free.Free.{Free}
 use Rattle.pool.specs.declared.free.Free.the-variants.{At, AllUsed}

@@ -13,10 +13,10 @@ use Rattle.lists.specs.Each.{Bytes}
 use Rattle.wire.specs.declared.address.Address.{Address}
 use Rattle.trace.specs.Shapes.{forbidden}
 use Rattle.trace.specs.declared.transaction.Transaction.{Transaction}
-use Rattle.step.specs.NumberLaws.{refusal-is-not-0}
-use Rattle.step.specs.Numbers.{refusalNumber, decodeNumber}
-use Rattle.step.specs.declared.answer.Decoded.{Decoded}
-use Rattle.step.specs.declared.answer.Decoded.the-variants.{Done, Refused}
+use Rattle.scan.specs.NumberLaws.{refusal-is-not-0}
+use Rattle.scan.specs.Numbers.{refusalNumber, decodeNumber}
+use Rattle.scan.specs.declared.answer.Decoded.{Decoded}
+use Rattle.scan.specs.declared.answer.Decoded.the-variants.{Done, Refused}
 use Rattle.pool.specs.Free.{lowestFree}
 use Rattle.pool.specs.Free.{Lowest}
 use Rattle.pool.specs.FreeLaws.{lowest-is, none-free}

@@ -6,8 +6,8 @@ use mathlib.Core.Bool.{true, false}
 use mathlib.Core.List.{List}
 use mathlib.Core.Logic.{_⊎_}
 use lib.ListN.{length, getD}
-use Rattle.step.specs.Numbers.{decodeNumber}
-use Rattle.step.specs.declared.answer.Decoded.{Decoded}
+use Rattle.scan.specs.Numbers.{decodeNumber}
+use Rattle.scan.specs.declared.answer.Decoded.{Decoded}
 use Rattle.decode.specs.Outcome.{Outcome}
 use Rattle.pool.specs.Free.{Lowest}
 use Rattle.pool.specs.Pools.{member}

@@ -15,8 +15,8 @@ use Rattle.lists.specs.Choice.{pick}
 use Rattle.lists.specs.Each.{Bytes}
 use Rattle.lists.specs.EachLaws.{append-bytes}
 use Rattle.wire.specs.declared.address.Address.{Address}
-use Rattle.step.specs.declared.answer.Decoded.{Decoded}
-use Rattle.step.specs.declared.answer.Decoded.the-variants.{Done, Refused}
+use Rattle.scan.specs.declared.answer.Decoded.{Decoded}
+use Rattle.scan.specs.declared.answer.Decoded.the-variants.{Done, Refused}
 use Rattle.pool.specs.Free.{lowestFree}
 use Rattle.pool.specs.FreeLaws.{lowest-is, none-free}
 use Rattle.pool.specs.MemberLaws.{has-with-same, has-with-other, has-without-same, has-without-other}

@@ -17,10 +17,10 @@ use Rattle.lists.specs.Each.{Bytes}
 use Rattle.lists.specs.EachLaws.{append-bytes}
 use Rattle.wire.specs.declared.address.Address.{Address}
 use Rattle.trace.specs.declared.transaction.Transaction.{Transaction}
-use Rattle.step.specs.Answers.{summary}
-use Rattle.step.specs.Handed.{receivedLength}
-use Rattle.step.specs.declared.answer.Decoded.{Decoded}
-use Rattle.step.specs.declared.answer.Decoded.the-variants.{Done, Refused}
+use Rattle.scan.specs.Answers.{summary}
+use Rattle.scan.specs.Handed.{receivedLength}
+use Rattle.scan.specs.declared.answer.Decoded.{Decoded}
+use Rattle.scan.specs.declared.answer.Decoded.the-variants.{Done, Refused}
 use Rattle.pool.specs.Start.{emptyPool}
 use Rattle.udid.specs.Bytes.{udidAt, udidBytes}
 use Rattle.udid.specs.UdidLaws.{length-udid, udid-bytes, udid-back}

@@ -9,9 +9,9 @@ use Rattle.trace.specs.Shapes.{shapeOf}
 use Rattle.trace.specs.Trace.{Message, trace}
 use Rattle.encode.specs.declared.Encoded.{Encoded}
 use Rattle.encode.specs.Encode.{encodeNumber, encoded, symbolsOf}
-use Rattle.step.specs.Numbers.{refusalNumber}
-use Rattle.step.specs.declared.answer.Decoded.{Decoded}
-use Rattle.step.specs.declared.answer.Decoded.the-variants.{Done, Refused}
+use Rattle.scan.specs.Numbers.{refusalNumber}
+use Rattle.scan.specs.declared.answer.Decoded.{Decoded}
+use Rattle.scan.specs.declared.answer.Decoded.the-variants.{Done, Refused}
 use Rattle.decode.specs.Outcome.{Outcome}
 use Rattle.c_codec.specs.declared.answer.HbDecoded.{HbDecoded}
 use Rattle.c_codec.specs.declared.codec.HbWritten.{HbWritten}

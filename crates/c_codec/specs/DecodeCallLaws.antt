@@ -10,10 +10,10 @@ use Rattle.trace.specs.Table.{lastProtocol}
 use Rattle.trace.specs.Shapes.{forbidden}
 use Rattle.trace.specs.Table.{TraceOf}
 use Rattle.trace.specs.Trace.{Message}
-use Rattle.step.specs.declared.answer.Decoded.the-variants.{Done}
-use Rattle.step.specs.Answers.{summary}
-use Rattle.step.specs.Fitting.{Breaks, CutAt, Fits, Member, OtherPec}
-use Rattle.step.specs.Numbers.{decodeNumber}
+use Rattle.scan.specs.declared.answer.Decoded.the-variants.{Done}
+use Rattle.scan.specs.Answers.{summary}
+use Rattle.scan.specs.Fitting.{Breaks, CutAt, Fits, Member, OtherPec}
+use Rattle.scan.specs.Numbers.{decodeNumber}
 use Rattle.decode.specs.NumberLaws.{short-cases, decode-0, decode-1, decode-3, decode-4, decode-5, decode-6, decode-7, decode-8, decode-hands-over, decode-refusal}
 use Rattle.decode.specs.Outcome.{short, Entered, Outcome}
 use Rattle.c_codec.specs.declared.answer.HbDecoded.{HbDecoded}

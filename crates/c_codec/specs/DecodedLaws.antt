@@ -6,10 +6,10 @@ use mathlib.Core.Logic.{_↔_}
 use Prim.Native.Nat.{ℕ}
 use native.Mathlib.Omega.{arith}
 use Rattle.trace.specs.declared.transaction.Transaction.{Transaction}
-use Rattle.step.specs.declared.answer.Decoded.{Decoded}
-use Rattle.step.specs.declared.answer.Decoded.the-variants.{Done, Refused}
-use Rattle.step.specs.NumberLaws.{refusal-is-not-0}
-use Rattle.step.specs.Numbers.{decodeNumber}
+use Rattle.scan.specs.declared.answer.Decoded.{Decoded}
+use Rattle.scan.specs.declared.answer.Decoded.the-variants.{Done, Refused}
+use Rattle.scan.specs.NumberLaws.{refusal-is-not-0}
+use Rattle.scan.specs.Numbers.{decodeNumber}
 use Rattle.decode.specs.Outcome.{Outcome}
 use Rattle.c_codec.specs.declared.answer.HbDecoded.{HbDecoded}
 use Rattle.c_codec.specs.Codec.{toldDecoded, ReadSymbols}

@@ -13,11 +13,11 @@ use Rattle.lists.specs.AbsurdLaws.{zero-is-one}
 use Rattle.lists.specs.Choice.{pick, and}
 use Rattle.lists.specs.Onto.{onto}
 use Rattle.decode.specs.Outcome.{answeredBy, Outcome}
-use Rattle.step.specs.Handed.{sentData, receivedData}
-use Rattle.step.specs.Numbers.{isNack}
-use Rattle.step.specs.declared.answer.Decoded.{Decoded}
-use Rattle.step.specs.declared.answer.Decoded.the-variants.{Done, Refused}
-use Rattle.step.specs.declared.answer.Refusal.{Refusal}
+use Rattle.scan.specs.Handed.{sentData, receivedData}
+use Rattle.scan.specs.Numbers.{isNack}
+use Rattle.scan.specs.declared.answer.Decoded.{Decoded}
+use Rattle.scan.specs.declared.answer.Decoded.the-variants.{Done, Refused}
+use Rattle.scan.specs.declared.answer.Refusal.{Refusal}
 use Rattle.trace.specs.Shapes.{shapeOf}
 use Rattle.trace.specs.declared.transaction.Transaction.{Transaction}
 use Rattle.udid.specs.Bytes.{number, bytesFrom, udidAt}

@@ -8,11 +8,11 @@ use Rattle.lists.specs.Choice.{and}
 use Rattle.wire.specs.Addresses.{defaultAddress}
 use Rattle.trace.specs.Shapes.{shapeOf}
 use Rattle.trace.specs.declared.transaction.Transaction.{Transaction}
-use Rattle.step.specs.Handed.{sentData, receivedData}
-use Rattle.step.specs.Numbers.{isNack}
-use Rattle.step.specs.Run.{decodedBy}
-use Rattle.step.specs.declared.answer.Decoded.{Decoded}
-use Rattle.step.specs.declared.answer.Decoded.the-variants.{Done, Refused}
+use Rattle.scan.specs.Handed.{sentData, receivedData}
+use Rattle.scan.specs.Numbers.{isNack}
+use Rattle.scan.specs.Run.{decodedBy}
+use Rattle.scan.specs.declared.answer.Decoded.{Decoded}
+use Rattle.scan.specs.declared.answer.Decoded.the-variants.{Done, Refused}
 use Rattle.udid.specs.Bytes.{udidAt}
 use Rattle.udid.specs.Udids.{sameUdid}
 use Rattle.udid.specs.declared.Udid.{Udid}

@@ -5,7 +5,7 @@ use mathlib.Core.List.{List}
 use Prim.Native.Nat.{ℕ, _≤_}
 use lib.ListN.{length, take, drop}
 use Rattle.trace.specs.Shapes.{shapeOf}
-use Rattle.step.specs.Handed.{lows, sentLength, sentPlace, receivedLength, receivedPlace}
+use Rattle.scan.specs.Handed.{lows, sentLength, sentPlace, receivedLength, receivedPlace}
 use Rattle.decode.specs.LongTraceLaws.{same-decoded, decoded-none}
 use Rattle.commands.specs.Heard.{sendByte, blockRead, blockWrite, answer, sentIn, receivedIn}
 use Rattle.commands.specs.Told.{toldPrepare, toldGet, toldAssign, tells}

@@ -7,9 +7,9 @@ use lib.ListN.{getD}
 use Rattle.lists.specs.Choice.{pick}
 use Rattle.wire.specs.declared.address.Address.{Address}
 use Rattle.trace.specs.declared.transaction.Transaction.{Transaction}
-use Rattle.step.specs.Numbers.{isNack}
-use Rattle.step.specs.declared.answer.Decoded.{Decoded}
-use Rattle.step.specs.declared.answer.Decoded.the-variants.{Done, Refused}
+use Rattle.scan.specs.Numbers.{isNack}
+use Rattle.scan.specs.declared.answer.Decoded.{Decoded}
+use Rattle.scan.specs.declared.answer.Decoded.the-variants.{Done, Refused}
 use Rattle.udid.specs.Bytes.{udidAt}
 use Rattle.udid.specs.declared.Udid.{Udid}
 use Rattle.commands.specs.Heard.{sendByte, blockRead, blockWrite, answer, sentIn, receivedIn, isPrepare, isGet, isAssign, nobody}

@@ -9,10 +9,10 @@ use lib.ListN.{length, getD, drop}
 use Rattle.lists.specs.Choice.{pick}
 use Rattle.lists.specs.Each.{Bytes}
 use Rattle.trace.specs.declared.transaction.Transaction.{Transaction}
-use Rattle.step.specs.Handed.{lows, receivedLength, receivedPlace}
-use Rattle.step.specs.Numbers.{isNack}
-use Rattle.step.specs.declared.answer.Decoded.{Decoded}
-use Rattle.step.specs.declared.answer.Decoded.the-variants.{Done, Refused}
+use Rattle.scan.specs.Handed.{lows, receivedLength, receivedPlace}
+use Rattle.scan.specs.Numbers.{isNack}
+use Rattle.scan.specs.declared.answer.Decoded.{Decoded}
+use Rattle.scan.specs.declared.answer.Decoded.the-variants.{Done, Refused}
 use Rattle.udid.specs.Bytes.{udidAt}
 use Rattle.udid.specs.UdidLaws.{fits-at}
 use Rattle.udid.specs.Udids.{Fits}

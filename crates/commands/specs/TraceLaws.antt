@@ -18,15 +18,15 @@ use Rattle.trace.specs.ShapeLaws.{sane}
 use Rattle.trace.specs.Shapes.{shapeOf}
 use Rattle.trace.specs.Trace.{Message, trace, Valid}
 use Rattle.trace.specs.declared.transaction.Transaction.{Transaction}
-use Rattle.step.specs.AnswersLaws as step
-use Rattle.step.specs.Answers.{CutAt, Carries, summary}
-use Rattle.step.specs.Handed.{sentData, receivedData}
-use Rattle.step.specs.NumberLaws.{nack-is}
-use Rattle.step.specs.Numbers.{isNack}
-use Rattle.step.specs.declared.answer.Decoded.{Decoded}
-use Rattle.step.specs.declared.answer.Decoded.the-variants.{Done, Refused}
-use Rattle.step.specs.declared.answer.Refusal.{Refusal}
-use Rattle.step.specs.declared.answer.Refusal.the-variants.{NotAcknowledged}
+use Rattle.scan.specs.AnswersLaws as step
+use Rattle.scan.specs.Answers.{CutAt, Carries, summary}
+use Rattle.scan.specs.Handed.{sentData, receivedData}
+use Rattle.scan.specs.NumberLaws.{nack-is}
+use Rattle.scan.specs.Numbers.{isNack}
+use Rattle.scan.specs.declared.answer.Decoded.{Decoded}
+use Rattle.scan.specs.declared.answer.Decoded.the-variants.{Done, Refused}
+use Rattle.scan.specs.declared.answer.Refusal.{Refusal}
+use Rattle.scan.specs.declared.answer.Refusal.the-variants.{NotAcknowledged}
 use Rattle.udid.specs.Bytes.{udidBytes, udidAt}
 use Rattle.udid.specs.UdidLaws.{length-udid, udid-back, bytes-back, same-equal, same-refl}
 use Rattle.udid.specs.Udids.{Fits, sameUdid}

@@ -11,8 +11,8 @@ use Rattle.lists.specs.Choice.{pick}
 use Rattle.lists.specs.Onto.{onto}
 use Rattle.lists.specs.OntoLaws.{onto-put}
 use Rattle.trace.specs.declared.shape.Shape.{Shape}
-use Rattle.step.specs.DataLaws.{length-lows}
-use Rattle.step.specs.Handed.{lows, countPlaces, sentPlace, receivedPlace}
+use Rattle.scan.specs.DataLaws.{length-lows}
+use Rattle.scan.specs.Handed.{lows, countPlaces, sentPlace, receivedPlace}
 
 lows-more : (n : ℕ) (l : List ℕ) → lows (suc n) l ≡ lows n l ++ (getD l (2 * n) 0 % 256) ∷ []
 lows-more zero l = refl

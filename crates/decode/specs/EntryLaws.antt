@@ -15,13 +15,13 @@ use Rattle.trace.specs.declared.shape.Shape.{Shape}
 use Rattle.trace.specs.Shapes.{shapeOf, forbidden}
 use Rattle.trace.specs.Sane.{Sane}
 use Rattle.trace.specs.ShapeLaws.{sane}
-use Rattle.step.specs.declared.answer.Decoded.{Decoded}
-use Rattle.step.specs.declared.answer.Decoded.the-variants.{Refused}
-use Rattle.step.specs.declared.answer.Refusal.the-variants.{Forbidden, BufferTooShort}
-use Rattle.step.specs.Run.{decodedBy}
-use Rattle.step.specs.Handed.{sentLength, receivedLength, sentPlace, receivedPlace, sentData, receivedData}
-use Rattle.step.specs.Sizes.{Sizes}
-use Rattle.step.specs.SizeLaws.{sizes-of-answer}
+use Rattle.scan.specs.declared.answer.Decoded.{Decoded}
+use Rattle.scan.specs.declared.answer.Decoded.the-variants.{Refused}
+use Rattle.scan.specs.declared.answer.Refusal.the-variants.{Forbidden, BufferTooShort}
+use Rattle.scan.specs.Run.{decodedBy}
+use Rattle.scan.specs.Handed.{sentLength, receivedLength, sentPlace, receivedPlace, sentData, receivedData}
+use Rattle.scan.specs.Sizes.{Sizes}
+use Rattle.scan.specs.SizeLaws.{sizes-of-answer}
 use Rattle.decode.specs.Outcome.{short, answeredBy, OutcomeBy, Outcome}
 
 -- both buffers are long enough

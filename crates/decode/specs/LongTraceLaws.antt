@@ -16,22 +16,22 @@ use Rattle.trace.specs.ShapeLaws.{sane}
 use Rattle.trace.specs.Trace.{Message, inPlace, nacked, laid, byTarget, byController, traceAt, Valid}
 use Rattle.trace.specs.LengthLaws.{length-at, trace-length}
 use Rattle.trace.specs.ColumnsLaws.{longest}
-use Rattle.step.specs.declared.answer.Decoded.{Decoded}
-use Rattle.step.specs.declared.answer.Decoded.the-variants.{Done, Refused}
-use Rattle.step.specs.declared.answer.Refusal.the-variants.{Forbidden, BufferTooShort}
+use Rattle.scan.specs.declared.answer.Decoded.{Decoded}
+use Rattle.scan.specs.declared.answer.Decoded.the-variants.{Done, Refused}
+use Rattle.scan.specs.declared.answer.Refusal.the-variants.{Forbidden, BufferTooShort}
 use Rattle.step.specs.declared.state.Decoder.{Decoder}
-use Rattle.step.specs.declared.whole.Progress.{Progress}
-use Rattle.step.specs.declared.whole.Progress.the-variants.{Reading, Answered}
+use Rattle.scan.specs.declared.whole.Progress.{Progress}
+use Rattle.scan.specs.declared.whole.Progress.the-variants.{Reading, Answered}
 use Rattle.step.specs.State.{fresh}
 use Rattle.step.specs.Fits.{fits}
 use Rattle.step.specs.Move.{move}
-use Rattle.step.specs.Refusal.{why}
-use Rattle.step.specs.Run.{run, concluded, decodedBy}
-use Rattle.step.specs.Handed.{lows, sentLength, sentPlace, receivedLength, receivedPlace}
-use Rattle.step.specs.Answers.{Member, Fits, Answers}
-use Rattle.step.specs.RunLaws.{refused-not-reading}
-use Rattle.step.specs.MemberLaws.{fits-back}
-use Rattle.step.specs.DecideLaws.{answer-holds}
+use Rattle.scan.specs.Refusal.{why}
+use Rattle.scan.specs.Run.{run, concluded, decodedBy}
+use Rattle.scan.specs.Handed.{lows, sentLength, sentPlace, receivedLength, receivedPlace}
+use Rattle.scan.specs.Answers.{Member, Fits, Answers}
+use Rattle.scan.specs.RunLaws.{refused-not-reading}
+use Rattle.scan.specs.MemberLaws.{fits-back}
+use Rattle.scan.specs.DecideLaws.{answer-holds}
 use Rattle.decode.specs.Outcome.{short, answeredBy, answered, Outcome}
 
 module _ (protocol : ℕ) (p : Bool) where

@@ -1,4 +1,4 @@
--- The decoder's numbers, each if and only if its case, over the table of the protocols (trace/specs/Table, step/specs/Fitting): what a call
+-- The decoder's numbers, each if and only if its case, over the table of the protocols (trace/specs/Table, scan/specs/Fitting): what a call
 -- answers, and what it leaves in the two buffers.
 use mathlib.Core.Path.{_≡_, refl, ap, _∙_, subst}
 use mathlib.Core.Bool.{Bool, true, false}
@@ -19,15 +19,15 @@ use Rattle.trace.specs.Table.{TraceOf, send-byte}
 use Rattle.trace.specs.TableLaws.{listed-trace, trace-listed}
 use Rattle.trace.specs.Trace.{Message, trace, Valid}
 use Rattle.trace.specs.declared.shape.Shape.{Shape}
-use Rattle.step.specs.Answers.{summary}
-use Rattle.step.specs.AnswersLaws as step
-use Rattle.step.specs.BytesInLaws.{byte-more}
-use Rattle.step.specs.Fitting.{Member, Fits, Breaks, CutAt, OtherPec}
-use Rattle.step.specs.FittingLaws.{member-shaped, fits-shaped, breaks-shaped, cut-shaped, other-pec-shaped, other-pec-byte}
-use Rattle.step.specs.Numbers.{decodeNumber}
-use Rattle.step.specs.Run.{decodedBy}
-use Rattle.step.specs.declared.answer.Decoded.{Decoded}
-use Rattle.step.specs.declared.answer.Decoded.the-variants.{Done}
+use Rattle.scan.specs.Answers.{summary}
+use Rattle.scan.specs.AnswersLaws as step
+use Rattle.scan.specs.BytesInLaws.{byte-more}
+use Rattle.scan.specs.Fitting.{Member, Fits, Breaks, CutAt, OtherPec}
+use Rattle.scan.specs.FittingLaws.{member-shaped, fits-shaped, breaks-shaped, cut-shaped, other-pec-shaped, other-pec-byte}
+use Rattle.scan.specs.Numbers.{decodeNumber}
+use Rattle.scan.specs.Run.{decodedBy}
+use Rattle.scan.specs.declared.answer.Decoded.{Decoded}
+use Rattle.scan.specs.declared.answer.Decoded.the-variants.{Done}
 use Rattle.decode.specs.EntryLaws.{both-at-least-255}
 use Rattle.decode.specs.Outcome.{short, EnteredBy, Entered, Outcome}
 use Rattle.decode.specs.OutcomeLaws as decode

@@ -11,12 +11,12 @@ use Rattle.lists.specs.Onto.{onto}
 use Rattle.trace.specs.Table.{lastProtocol}
 use Rattle.trace.specs.declared.shape.Shape.{Shape}
 use Rattle.trace.specs.Shapes.{shapeOf, forbidden}
-use Rattle.step.specs.declared.answer.Decoded.{Decoded}
-use Rattle.step.specs.declared.answer.Decoded.the-variants.{Refused}
-use Rattle.step.specs.declared.answer.Refusal.the-variants.{Forbidden, BufferTooShort}
-use Rattle.step.specs.Run.{decodedBy}
-use Rattle.step.specs.Handed.{sentData, receivedData}
-use Rattle.step.specs.Answers.{Answers}
+use Rattle.scan.specs.declared.answer.Decoded.{Decoded}
+use Rattle.scan.specs.declared.answer.Decoded.the-variants.{Refused}
+use Rattle.scan.specs.declared.answer.Refusal.the-variants.{Forbidden, BufferTooShort}
+use Rattle.scan.specs.Run.{decodedBy}
+use Rattle.scan.specs.Handed.{sentData, receivedData}
+use Rattle.scan.specs.Answers.{Answers}
 
 -- 2: a buffer of under 255 bytes
 abbrev pub short : ℕ → ℕ → Bool

@@ -13,16 +13,16 @@ use Rattle.lists.specs.Onto.{onto}
 use Rattle.trace.specs.declared.shape.Shape.{Shape}
 use Rattle.trace.specs.Sane.{Sane}
 use Rattle.trace.specs.Trace.{Message, trace, Valid}
-use Rattle.step.specs.declared.answer.Decoded.{Decoded}
-use Rattle.step.specs.declared.answer.Decoded.the-variants.{Done, Refused}
-use Rattle.step.specs.declared.answer.Refusal.{Refusal}
-use Rattle.step.specs.declared.answer.Refusal.the-variants.{Forbidden, BufferTooShort}
-use Rattle.step.specs.Run.{decodedBy}
-use Rattle.step.specs.Handed.{sentData, receivedData}
-use Rattle.step.specs.NumberLaws.{refused-of}
-use Rattle.step.specs.Numbers.{refusalNumber, decodeNumber}
-use Rattle.step.specs.Answers.{Because, summary}
-use Rattle.step.specs.AnswersLaws as step
+use Rattle.scan.specs.declared.answer.Decoded.{Decoded}
+use Rattle.scan.specs.declared.answer.Decoded.the-variants.{Done, Refused}
+use Rattle.scan.specs.declared.answer.Refusal.{Refusal}
+use Rattle.scan.specs.declared.answer.Refusal.the-variants.{Forbidden, BufferTooShort}
+use Rattle.scan.specs.Run.{decodedBy}
+use Rattle.scan.specs.Handed.{sentData, receivedData}
+use Rattle.scan.specs.NumberLaws.{refused-of}
+use Rattle.scan.specs.Numbers.{refusalNumber, decodeNumber}
+use Rattle.scan.specs.Answers.{Because, summary}
+use Rattle.scan.specs.AnswersLaws as step
 use Rattle.decode.specs.EntryLaws.{both-at-least-255}
 use Rattle.decode.specs.Outcome.{short, EnteredBy, answeredBy, OutcomeBy, Unread, Read, MeansBy}
 

@@ -9,11 +9,11 @@ use lib.ListN.{length, drop}
 use Rattle.trace.specs.Shapes.{shapeOf, forbidden}
 use Rattle.trace.specs.ShapeLaws.{sane}
 use Rattle.trace.specs.Trace.{Message, trace, Valid}
-use Rattle.step.specs.declared.answer.Decoded.{Decoded}
-use Rattle.step.specs.declared.answer.Decoded.the-variants.{Done}
-use Rattle.step.specs.Run.{decodedBy}
-use Rattle.step.specs.Numbers.{decodeNumber}
-use Rattle.step.specs.Answers.{summary}
+use Rattle.scan.specs.declared.answer.Decoded.{Decoded}
+use Rattle.scan.specs.declared.answer.Decoded.the-variants.{Done}
+use Rattle.scan.specs.Run.{decodedBy}
+use Rattle.scan.specs.Numbers.{decodeNumber}
+use Rattle.scan.specs.Answers.{summary}
 use Rattle.decode.specs.Outcome.{short, Outcome, Means}
 use Rattle.decode.specs.OutcomeByLaws as shaped
 

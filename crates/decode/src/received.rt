@@ -1,8 +1,8 @@
 // The data received that an answer hands over: how many bytes, and where in the trace they begin. Only 0 has any.
 ghost use mathlib.Core.Path.{_≡_};
 ghost use Rattle.lists.specs.Choice.{pick};
-ghost use Rattle.step.specs.Handed.{receivedLength, receivedPlace};
-use step::answer::Decoded;
+ghost use Rattle.scan.specs.Handed.{receivedLength, receivedPlace};
+use scan::answer::Decoded;
 use wire::number::less;
 
 pub(crate) fn received_length(a: Decoded) -> usize

@@ -1,8 +1,8 @@
 // The data sent that an answer hands over: how many bytes, and where in the trace they begin. Only 0 has any.
 ghost use mathlib.Core.Path.{_≡_};
 ghost use Prim.Native.Nat.{_≤_};
-ghost use Rattle.step.specs.Handed.{sentLength, countPlaces, sentPlace};
-use step::answer::Decoded;
+ghost use Rattle.scan.specs.Handed.{sentLength, countPlaces, sentPlace};
+use scan::answer::Decoded;
 use trace::shape::Part;
 use trace::shape::Shape;
 

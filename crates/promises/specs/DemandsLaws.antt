@@ -27,11 +27,11 @@ use Rattle.encode.specs.NumberLaws as encode
 use Rattle.encode.specs.Listed.{Listed}
 use Rattle.encode.specs.declared.Encoded.{Encoded}
 use Rattle.encode.specs.declared.Encoded.the-variants.{Written, Forbidden, OutputTooShort}
-use Rattle.step.specs.Answers.{summary}
-use Rattle.step.specs.AnswersLaws.{one-message}
-use Rattle.step.specs.Numbers.{decodeNumber}
-use Rattle.step.specs.declared.answer.Decoded.{Decoded}
-use Rattle.step.specs.declared.answer.Decoded.the-variants.{Done}
+use Rattle.scan.specs.Answers.{summary}
+use Rattle.scan.specs.AnswersLaws.{one-message}
+use Rattle.scan.specs.Numbers.{decodeNumber}
+use Rattle.scan.specs.declared.answer.Decoded.{Decoded}
+use Rattle.scan.specs.declared.answer.Decoded.the-variants.{Done}
 use Rattle.decode.specs.NumberLaws as decode
 use Rattle.decode.specs.Outcome.{Outcome}
 use Rattle.pool.specs.Pools.{member}

@@ -19,8 +19,8 @@ use Rattle.trace.specs.Table.{receive-byte, block-read}
 use Rattle.trace.specs.Trace.{Message}
 use Rattle.encode.specs.Encode.{encodeNumber, refusedBy, encodedBy, encoded, Wrote}
 use Rattle.encode.specs.declared.Encoded.{Encoded}
-use Rattle.step.specs.Numbers.{decodeNumber}
-use Rattle.step.specs.Run.{run, finish, decodedBy}
+use Rattle.scan.specs.Numbers.{decodeNumber}
+use Rattle.scan.specs.Run.{run, finish, decodedBy}
 use Rattle.decode.specs.NumberLaws.{entered-taken, entered-long}
 use Rattle.decode.specs.OutcomeLaws.{answer-by-trace}
 use Rattle.pool.specs.Counts.{count}

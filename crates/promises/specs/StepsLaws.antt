@@ -12,8 +12,8 @@ use Rattle.lists.specs.ChoiceLaws.{false-not-true}
 use Rattle.lists.specs.Each.{Bytes}
 use Rattle.wire.specs.declared.address.Address.{Address}
 use Rattle.trace.specs.Shapes.{protocols, forbidden}
-use Rattle.step.specs.Fitting.{CutAt}
-use Rattle.step.specs.FittingLaws.{cut-shaped}
+use Rattle.scan.specs.Fitting.{CutAt}
+use Rattle.scan.specs.FittingLaws.{cut-shaped}
 use Rattle.pool.specs.Free.{lowestFree}
 use Rattle.pool.specs.FreeLaws.{lowest-is, none-free}
 use Rattle.pool.specs.Pools.{member}

@@ -9,11 +9,11 @@ pub use Rattle.trace.specs.Table.{lastProtocol, TraceOf}
 pub use Rattle.trace.specs.Trace.{Message}
 pub use Rattle.encode.specs.Encode.{encodeNumber, Wrote}
 pub use Rattle.encode.specs.declared.Encoded.{Encoded}
-pub use Rattle.step.specs.Answers.{summary}
-pub use Rattle.step.specs.Fitting.{Member, Fits, Breaks, CutAt, OtherPec}
-pub use Rattle.step.specs.Numbers.{decodeNumber}
-pub use Rattle.step.specs.declared.answer.Decoded.{Decoded}
-pub use Rattle.step.specs.declared.answer.Decoded.the-variants.{Done}
+pub use Rattle.scan.specs.Answers.{summary}
+pub use Rattle.scan.specs.Fitting.{Member, Fits, Breaks, CutAt, OtherPec}
+pub use Rattle.scan.specs.Numbers.{decodeNumber}
+pub use Rattle.scan.specs.declared.answer.Decoded.{Decoded}
+pub use Rattle.scan.specs.declared.answer.Decoded.the-variants.{Done}
 pub use Rattle.decode.specs.Outcome.{Entered, Outcome}
 -- the controller
 pub use Rattle.pool.specs.Pools.{member}

@@ -10,7 +10,7 @@ use borrow.Author.Tests.{lt-leb, le-ltb}
 use Rattle.wire.specs.Symbols.{START, STOP, ACK, NACK}
 use Rattle.wire.specs.declared.address.Address.{Address}
 use Rattle.trace.specs.Shapes.{shapeOf}
-use Rattle.step.specs.Answers.{CutAt}
+use Rattle.scan.specs.Answers.{CutAt}
 use Rattle.pool.specs.Pools.{member, withAddress}
 use Rattle.pool.specs.declared.Pool.{Pool}
 use Rattle.udid.specs.Bytes.{udidBytes, udidAt}

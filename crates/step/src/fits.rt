@@ -115,7 +115,7 @@ fn fits_slot(sh: Shape, slot: Slot, d: Decoder, x: u16) -> bool
 }
 
 // The symbol may stand next.
-pub(crate) fn may_stand(sh: Shape, d: Decoder, x: u16) -> bool
+pub fn may_stand(sh: Shape, d: Decoder, x: u16) -> bool
     ensures { λ r. ⌜ r ≡ fits sh d x ⌝ }
 {
     let due = d.due;

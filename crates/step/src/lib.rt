@@ -1,12 +1,5 @@
-// The decoder: what it does with one symbol, and the fold over a whole trace. Rests on wire and trace.
-//
-// The step on one symbol is three functions: may it stand here (fits), the state after it (moved), and the answer where it may not (refusal).
-pub mod answer;
-mod ending;
-mod fits;
-mod moved;
-mod next;
-pub mod number;
-mod refusal;
+// The decoder's step on one symbol: may it stand here (fits), and the state after it (moved). Rests on wire and trace.
+pub mod fits;
+pub mod moved;
+pub mod next;
 pub mod state;
-pub mod whole;

@@ -107,7 +107,7 @@ fn move_slot(sh: Shape, pec: bool, slot: Slot, d: Decoder, x: u8) -> Decoder
 }
 
 // After a symbol.
-pub(crate) fn moved(sh: Shape, pec: bool, d: Decoder, x: u16) -> Decoder
+pub fn moved(sh: Shape, pec: bool, d: Decoder, x: u16) -> Decoder
     ensures { λ r. ⌜ r ≡ move sh pec d x ⌝ }
 {
     let due = d.due;

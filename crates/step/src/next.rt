@@ -9,7 +9,7 @@ use trace::shape::has_read;
 use trace::shape::has_write;
 
 // The slot, and the data bytes that follow the next one there.
-pub(crate) struct Aim {
+pub struct Aim {
     pub slot: Slot,
     pub left: u8,
 }

@@ -46,7 +46,7 @@ pub struct Decoder {
 }
 
 // Before the first symbol.
-pub(crate) fn start() -> Decoder
+pub fn start() -> Decoder
     ensures { λ r. ⌜ r ≡ fresh ⌝ }
 {
     Decoder {

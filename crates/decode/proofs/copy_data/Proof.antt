@@ -1,5 +1,5 @@
 use Rattle.decode.proofs.Copies.{copy-turn}
-use Rattle.step.specs.Handed.{lows}
+use Rattle.scan.specs.Handed.{lows}
 use Rattle.lists.specs.Onto.{onto}
 use lib.ListN.{length, drop, length-set}
 use native.Mathlib.Omega.{arith}

@@ -8,7 +8,7 @@ use Rattle.decode.proofs.decode_into.Lts as lts
 use Rattle.decode.proofs.is_short.Reads as is-short-reads
 use Rattle.decode.proofs.put_received.Reads as put-received-reads
 use Rattle.decode.proofs.put_sent.Reads as put-sent-reads
-use Rattle.step.proofs.whole.decode_by.Reads as decode-by-reads
+use Rattle.scan.proofs.whole.decode_by.Reads as decode-by-reads
 
 returns : tie.Need-returns
 returns c =

@@ -1,5 +1,5 @@
 use Rattle.decode.proofs.Copies.{copy-asks, copied}
-use Rattle.step.specs.Handed.{receivedPlace}
+use Rattle.scan.specs.Handed.{receivedPlace}
 use lib.ListN.{length}
 use Prim.Native.Nat.{ℕ}
 use mathlib.Core.Path.{_≡_, _∙_, ap}

@@ -1,5 +1,5 @@
 use Rattle.answers.specs.Decodings.{decodedText}
-use Rattle.step.specs.declared.answer.Decoded.{Decoded}
+use Rattle.scan.specs.declared.answer.Decoded.{Decoded}
 use Rattle.text.specs.WrittenLaws.{appended-as}
 use mathlib.Core.Path.{sym, ap}
 use borrow.Author.Needs.{needs}

@@ -6,8 +6,8 @@ use Rattle.answers.proofs.decoded.put_where.Tie as tie
 use Rattle.answers.proofs.decoded.put_where.Reads as reads
 use Rattle.answers.proofs.decoded.put_where.Lts as lts
 use Rattle.answers.proofs.piece.number_line.Reads as number-line-reads
-use Rattle.step.proofs.number.is_nack.Reads as is-nack-reads
-use Rattle.step.proofs.number.refusal_number.Reads as refusal-number-reads
+use Rattle.scan.proofs.number.is_nack.Reads as is-nack-reads
+use Rattle.scan.proofs.number.refusal_number.Reads as refusal-number-reads
 use Rattle.text.proofs.write.put.Reads as put-reads
 
 refusal-number-requires : tie.Need-refusal-number-requires

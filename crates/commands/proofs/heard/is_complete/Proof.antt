@@ -1,6 +1,6 @@
 use mathlib.Core.Path.{sym, ap, _∙_}
 use denote.Ref.{now}
-use Rattle.step.specs.declared.answer.Decoded.{Decoded}
+use Rattle.scan.specs.declared.answer.Decoded.{Decoded}
 use Rattle.commands.specs.Heard.{completes}
 use borrow.Author.Needs.{needs}
 use Rattle.commands.proofs.heard.is_complete.Statement.{statement}

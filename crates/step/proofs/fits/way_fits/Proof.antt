@@ -1,4 +1,4 @@
-use Rattle.step.specs.TestLaws.{not-odd-is-even}
+use Rattle.step.specs.FirstByteLaws.{not-odd-is-even}
 use Rattle.lists.specs.Choice.{not}
 use mathlib.Core.Bool.{Bool}
 use mathlib.Core.Path.{_≡_, sym, ap, _∙_}

@@ -1,0 +1,27 @@
+use borrow.Author.Tests.{not-true, not-false}
+use mathlib.Core.Path.{_≡_, sym, _∙_}
+use borrow.Author.Needs.{needs}
+use Rattle.scan.proofs.refusal.why_not.Statement.{statement}
+use Rattle.scan.proofs.refusal.why_not.Tie as tie
+use Rattle.scan.proofs.refusal.why_not.Reads as reads
+use Rattle.scan.proofs.refusal.why_not.Lts as lts
+use Rattle.scan.proofs.refusal.is_over.Reads as is-over-reads
+use Rattle.wire.proofs.symbol.is_symbol.Reads as is-symbol-reads
+
+is-symbol-requires : tie.Need-is-symbol-requires
+is-symbol-requires c κs = search needs
+
+returns : tie.Need-returns
+returns c = rw (sym (c .before .is-symbol .ensures) ∙ not-true _ (c .if1 .taken))
+
+is-over-requires : tie.Need-is-over-requires
+is-over-requires c κs = search needs
+
+returns-2 : tie.Need-returns-2
+returns-2 c = rw (sym (c .before .before .before .is-symbol .ensures) ∙ not-false _ (c .before .before .if1 .left), sym (c .before .is-over .ensures) ∙ c .if2 .taken)
+
+returns-3 : tie.Need-returns-3
+returns-3 c = rw (sym (c .before .before .before .is-symbol .ensures) ∙ not-false _ (c .before .before .if1 .left), sym (c .before .is-over .ensures) ∙ c .if2 .left)
+
+pub why-not-spec : {M : Type 1} → statement M
+why-not-spec = tie.close (tie.spec is-symbol-requires returns is-over-requires returns-2 returns-3)

@@ -1,0 +1,42 @@
+-- WHAT FITS, over the table (trace/specs/Table). Let L be the whole traces with any byte in PEC's place, and those that are cut at a byte
+-- whose ACK is due from the target, with NACK there and then STOP. A trace fits if it is the beginning of a member of L.
+use mathlib.Core.Path.{_≡_}
+use mathlib.Core.Bool.{Bool, true}
+use mathlib.Core.List.{List, [], _∷_, _++_}
+use mathlib.Core.Logic.{_⊎_}
+use Prim.Native.Nat.{ℕ, suc, _+_, _<_}
+use lib.ListN.{length, take}
+use Rattle.wire.specs.Pec.{pecOf}
+use Rattle.trace.specs.Table.{Line, InTable, symbols}
+use Rattle.scan.specs.BytesIn.{bytesIn}
+
+abbrev pub Whole : ℕ → Bool → List ℕ → Type 0
+Whole protocol pec tr = (y : ℕ) × (x : Line) × InTable protocol pec y x × (tr ≡ symbols x)
+
+-- the byte at which it is cut is the last before the NACK; its number, from 0 and only bytes counted, is b
+pub record CutAt (protocol : ℕ) (pec : Bool) (tr : List ℕ) (b : ℕ) : Type 0 where
+  pub y : ℕ
+  pub row : Line
+  pub listed : InTable protocol pec y row
+  pub before : List ℕ
+  pub after : List ℕ
+  pub ack : row .byTarget ≡ before ++ 258 ∷ after
+  pub is : tr ≡ before ++ 259 ∷ 257 ∷ []
+  pub number : length (bytesIn before) ≡ suc b
+
+abbrev pub Member : ℕ → Bool → List ℕ → Type 0
+Member protocol pec tr = Whole protocol pec tr ⊎ ((b : ℕ) × CutAt protocol pec tr b)
+
+abbrev pub Fits : ℕ → Bool → List ℕ → Type 0
+Fits protocol pec tr = (rest : List ℕ) × Member protocol pec (tr ++ rest)
+
+-- the place k is the first whose beginning does not fit
+pub record Breaks (protocol : ℕ) (pec : Bool) (tr : List ℕ) (k : ℕ) : Type 0 where
+  pub inside : k < length tr
+  pub before : Fits protocol pec (take k tr)
+  pub here : Fits protocol pec (take (suc k) tr) → ⊥
+
+-- a whole trace but for its PEC, which is another than that of the bytes covered; the PEC's place is k
+abbrev pub OtherPec : ℕ → Bool → List ℕ → ℕ → Type 0
+OtherPec protocol pec tr k =
+    (pec ≡ true) × ((y : ℕ) × (x : Line) × InTable protocol pec y x × (tr ≡ symbols x) × (y ≡ pecOf (x .covered) → ⊥)) × (k + 3 ≡ length tr)

@@ -1,0 +1,46 @@
+// The fold of the step over a whole trace, and its answer.
+ghost use mathlib.Core.Path.{_≡_};
+ghost use Rattle.step.specs.State.{fresh};
+ghost use Rattle.scan.specs.Run.{run, decodedBy};
+use crate::answer::Decoded;
+use crate::ending::finished;
+use crate::refusal::why_not;
+use step::fits::may_stand;
+use step::moved::moved;
+use step::state::Decoder;
+use step::state::start;
+use trace::shape::Shape;
+
+// How far a trace was read: a refusal is not left again.
+pub enum Progress {
+    Reading(Decoder),
+    Answered(Decoded),
+}
+
+// The state at the trace's end, or the refusal at the first symbol that may not stand where it does.
+fn read_all(sh: Shape, pec: bool, tr: &[u16]) -> Progress
+    ensures { λ r. ⌜ r ≡ run sh pec fresh 0 (now (tr .entry)) ⌝ }
+{
+    let mut d = start();
+    let mut i: usize = 0;
+    while i < tr.len() {
+        let x = tr[i];
+        if !may_stand(sh, d, x) {
+            return Progress::Answered(why_not(d, i, x));
+        }
+        d = moved(sh, pec, d, x);
+        i += 1;
+    }
+    Progress::Reading(d)
+}
+
+// The answer for a trace of a shape, which is that of the protocol.
+pub fn decode_by(protocol: u8, sh: Shape, pec: bool, tr: &[u16]) -> Decoded
+    ensures { λ r. ⌜ r ≡ decodedBy protocol sh pec (now (tr .entry)) ⌝ }
+{
+    let g = read_all(sh, pec, tr);
+    match g {
+        Progress::Reading(d) => finished(protocol, sh, d, tr),
+        Progress::Answered(a) => a,
+    }
+}
