@@ -22,8 +22,8 @@ use Rattle.arp.specs.LookupLaws.{lookup-0}
 use Rattle.arp.specs.SoundLaws.{bound-to-is-bound, open-is-not-bound, find-cases}
 use Rattle.arp.specs.SlotsLaws.{held-same, held-other, held-cases, open-all}
 use Rattle.arp.specs.ChangedLaws.{told-is-changed, by-told}
-use Rattle.commands.specs.ToldLaws.{Known}
-use Rattle.commands.specs.TraceLaws.{assign-whole}
+use Rattle.hearing.specs.ToldLaws.{Known}
+use Rattle.hearing.specs.TraceLaws.{assign-whole}
 use Rattle.arp.specs.Numbers.{lookupNumber}
 use Rattle.arp.specs.Sound.{Pending, PendingIn, GoodState}
 use Rattle.arp.specs.Bindings.{boundTo, findFrom, freedAt, freed, bindingFor, bound}
@@ -42,8 +42,8 @@ use Rattle.arp.specs.declared.state.Binding.the-variants.{Open, Bound, C
 use Rattle.arp.specs.declared.state.Controller.{Controller}
 use Rattle.arp.specs.declared.slots.Slots.{Slots}
 use Rattle.arp.specs.declared.state.Stepped.{Stepped}
-use Rattle.commands.specs.declared.told.Told.{Told}
-use Rattle.commands.specs.declared.told.Told.the-variants.{Again, Over, GivenUp, Reply, Took, Unasked}
+use Rattle.hearing.specs.declared.told.Told.{Told}
+use Rattle.hearing.specs.declared.told.Told.the-variants.{Again, Over, GivenUp, Reply, Took, Unasked}
 
 abbrev address : ℕ → Address
 address a = record { 0 = a }

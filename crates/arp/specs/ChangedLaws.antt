@@ -3,11 +3,11 @@ use Prim.Native.Nat.{ℕ, _≤_}
 use mathlib.Core.Path.{_≡_, ap, _∙_}
 use mathlib.Core.List.{List}
 use lib.ListN.{length, take}
-use Rattle.commands.specs.LongTraceLaws.{same-told}
-use Rattle.commands.specs.Told.{tells}
-use Rattle.commands.specs.ToldLaws.{Known, told-known}
+use Rattle.hearing.specs.LongTraceLaws.{same-told}
+use Rattle.hearing.specs.Told.{tells}
+use Rattle.hearing.specs.ToldLaws.{Known, told-known}
 use Rattle.commands.specs.declared.command.Handed.{Handed}
-use Rattle.commands.specs.declared.told.Told.{Told}
+use Rattle.hearing.specs.declared.told.Told.{Told}
 use Rattle.arp.specs.Controller.{changed, stepped}
 use Rattle.arp.specs.declared.state.Controller.{Controller}
 

@@ -15,15 +15,15 @@ use Rattle.udid.specs.declared.Udid.{Udid}
 use Rattle.arp.specs.Bindings.{freed, bound}
 use Rattle.arp.specs.Slots.{noBindings}
 use Rattle.arp.specs.State.{stateOf, withPool, withSlots, withGets, withLast}
-use Rattle.commands.specs.Told.{tells}
+use Rattle.hearing.specs.Told.{tells}
 use Rattle.commands.specs.declared.command.Command.the-variants.{Prepare, GetUdid, Assign}
 use Rattle.commands.specs.declared.command.End.the-variants.{Nothing, Ended, NoneFree, Abandoned, NotOutstanding}
 use Rattle.commands.specs.declared.command.Handed.{Handed}
 use Rattle.commands.specs.declared.command.Handed.the-variants.{Send, Wait}
 use Rattle.arp.specs.declared.state.Controller.{Controller}
 use Rattle.arp.specs.declared.state.Stepped.{Stepped}
-use Rattle.commands.specs.declared.told.Told.{Told}
-use Rattle.commands.specs.declared.told.Told.the-variants.{Again, Over, GivenUp, Reply, Took, Unasked}
+use Rattle.hearing.specs.declared.told.Told.{Told}
+use Rattle.hearing.specs.declared.told.Told.the-variants.{Again, Over, GivenUp, Reply, Took, Unasked}
 
 abbrev pub newController : Pool → Controller
 newController occupied = stateOf (startingPool occupied) (startingPool occupied) noBindings 0 (Wait Nothing)

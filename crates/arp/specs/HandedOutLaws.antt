@@ -29,7 +29,8 @@ use Rattle.arp.specs.Story.{Story, onward, story}
 use Rattle.arp.specs.Sound.{SoundIn}
 use Rattle.arp.specs.Bindings.{freed, bound}
 use Rattle.arp.specs.Controller.{handed, counted, asked, chosen, issued, replied, stepped, changed}
-use Rattle.commands.specs.Heard.{sendByte, blockRead, blockWrite, answer, sentIn, receivedIn, isPrepare, isGet, isAssign}
+use Rattle.hearing.specs.Heard.{answer, sentIn, receivedIn, isPrepare, isGet, isAssign}
+use Rattle.commands.specs.Codes.{sendByte, blockRead, blockWrite}
 use Rattle.arp.specs.History.{Event, Start, Received, run, oneGet, getsSent}
 use Rattle.arp.specs.Replay.{Table, released, after, readAs, handedOut, table, again, picked, assigning, nextPrepare, nextReply, nextCommand, view, SameOutstanding}
 use Rattle.commands.specs.declared.command.Command.the-variants.{Prepare, GetUdid, Assign}
@@ -37,8 +38,8 @@ use Rattle.commands.specs.declared.command.End.the-variants.{Ended, Abandoned, 
 use Rattle.commands.specs.declared.command.Handed.{Handed}
 use Rattle.commands.specs.declared.command.Handed.the-variants.{Send, Wait}
 use Rattle.arp.specs.declared.state.Controller.{Controller}
-use Rattle.commands.specs.Told.{toldPrepare, toldReply, toldGet, toldAssign, tells, noCommand}
-use Rattle.commands.specs.declared.told.Told.the-variants.{Again, Over, GivenUp, Reply, Took}
+use Rattle.hearing.specs.Told.{toldPrepare, toldReply, toldGet, toldAssign, tells, noCommand}
+use Rattle.hearing.specs.declared.told.Told.the-variants.{Again, Over, GivenUp, Reply, Took}
 
 asked-command : (s : Controller) → asked s .command ≡ again (s .gets)
 unfolding asked

@@ -18,21 +18,21 @@ use Rattle.pool.specs.declared.free.Free.the-variants.{At, AllUsed}
 use Rattle.udid.specs.Udids.{isFixed}
 use Rattle.udid.specs.declared.Udid.{Udid}
 use Rattle.arp.specs.HistoryLaws.{reached-good}
-use Rattle.commands.specs.ToldLaws.{Known, told-known}
+use Rattle.hearing.specs.ToldLaws.{Known, told-known}
 use Rattle.arp.specs.Handing.{Kept}
 use Rattle.arp.specs.Sound.{Pending, PendingIn}
 use Rattle.arp.specs.Bindings.{findFrom, freedAt, freed, boundAt, bound}
 use Rattle.arp.specs.Controller.{handed, counted, asked, chosen, issued, replied, changed, stepped}
 use Rattle.arp.specs.History.{Event, Start, Received, run, oneGet, getsSent}
-use Rattle.commands.specs.Told.{tells, noCommand}
+use Rattle.hearing.specs.Told.{tells, noCommand}
 use Rattle.commands.specs.declared.command.Command.the-variants.{GetUdid, Assign}
 use Rattle.commands.specs.declared.command.End.the-variants.{Ended, NoneFree, Abandoned, NotOutstanding}
 use Rattle.commands.specs.declared.command.Handed.{Handed}
 use Rattle.commands.specs.declared.command.Handed.the-variants.{Send, Wait}
 use Rattle.arp.specs.declared.state.Controller.{Controller}
 use Rattle.arp.specs.declared.state.Stepped.{Stepped}
-use Rattle.commands.specs.declared.told.Told.{Told}
-use Rattle.commands.specs.declared.told.Told.the-variants.{Again, Over, GivenUp, Reply, Took, Unasked}
+use Rattle.hearing.specs.declared.told.Told.{Told}
+use Rattle.hearing.specs.declared.told.Told.the-variants.{Again, Over, GivenUp, Reply, Took, Unasked}
 
 plain : (s : Controller) (k : Handed) → oneGet k ≡ 0 → Kept s (handed s k)
 plain s k e = record { last = refl; gets = omega arith }

@@ -25,7 +25,7 @@ use Rattle.decode.specs.Outcome.{short, answeredBy, answered, Outcome}
 use Rattle.udid.specs.Bytes.{number, bytesFrom, udidAt}
 use Rattle.udid.specs.Udids.{sameUdid}
 use Rattle.udid.specs.declared.Udid.{Udid}
-use Rattle.commands.specs.Heard.{answer, sentIn, receivedIn}
+use Rattle.hearing.specs.Heard.{answer, sentIn, receivedIn}
 use Rattle.arp.specs.OneStep.{Gives}
 use Rattle.arp.specs.Replay.{Happened, Replied, Assigned, Other, Table, released, replyIn, assigns, assignIn, readAs, again, picked, assigning, nextPrepare, nextReply, nextCommand}
 use Rattle.commands.specs.declared.command.Command.the-variants.{Prepare, GetUdid, Assign}

@@ -21,7 +21,7 @@ use Rattle.arp.specs.ChosenLaws.{chosen-small-and-free}
 use Rattle.arp.specs.SoundLaws.{sound-open, sound-freed, sound-bound}
 use Rattle.arp.specs.SlotsLaws.{open-all}
 use Rattle.arp.specs.ChangedLaws.{by-told}
-use Rattle.commands.specs.ToldLaws.{Known}
+use Rattle.hearing.specs.ToldLaws.{Known}
 use Rattle.arp.specs.Sound.{SoundIn, Good, Pending, PendingIn, GoodState}
 use Rattle.arp.specs.Bindings.{findFrom, freedAt, freed, boundAt, bound}
 use Rattle.arp.specs.Slots.{heldAt}
@@ -33,8 +33,8 @@ use Rattle.commands.specs.declared.command.Handed.the-variants.{Send, Wait}
 use Rattle.arp.specs.declared.state.Binding.{Binding}
 use Rattle.arp.specs.declared.state.Binding.the-variants.{Bound, Claimed}
 use Rattle.arp.specs.declared.state.Controller.{Controller}
-use Rattle.commands.specs.declared.told.Told.{Told}
-use Rattle.commands.specs.declared.told.Told.the-variants.{Again, Over, GivenUp, Reply, Took, Unasked}
+use Rattle.hearing.specs.declared.told.Told.{Told}
+use Rattle.hearing.specs.declared.told.Told.the-variants.{Again, Over, GivenUp, Reply, Took, Unasked}
 
 -- ---- each function of the step keeps the state good
 

@@ -23,7 +23,7 @@ use Rattle.arp.specs.HandedOutLaws.{handed-out-by-table, table-is-story}
 use Rattle.arp.specs.ReadingLaws.{replied-exactly, reply-byte-received}
 use Rattle.arp.specs.Story.{Story, story, Full}
 use Rattle.arp.specs.Controller.{stepped}
-use Rattle.commands.specs.Heard.{answer, sentIn, receivedIn}
+use Rattle.hearing.specs.Heard.{answer, sentIn, receivedIn}
 use Rattle.arp.specs.History.{Event, run, getsSent}
 use Rattle.arp.specs.Numbers.{endNumber, commandNumber}
 use Rattle.arp.specs.Replay.{Happened, Replied, Assigned, Other, Table, released, replyIn, assigns, assignIn, readAs, handedOut, table, again, picked, NoneToPick, assigning, nextPrepare, nextReply, nextCommand}

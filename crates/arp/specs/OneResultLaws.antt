@@ -29,10 +29,11 @@ use Rattle.udid.specs.UdidLaws.{same-refl}
 use Rattle.udid.specs.declared.Udid.{Udid}
 use Rattle.arp.specs.HeardLaws.{gives-exactly}
 use Rattle.commands.specs.RequestLaws.{valid-get, reply-symbols}
-use Rattle.commands.specs.TraceLaws.{decoded-back, complete-get-is-its-trace, complete-get-data-fits}
+use Rattle.hearing.specs.TraceLaws.{decoded-back, complete-get-is-its-trace, complete-get-data-fits}
 use Rattle.arp.specs.SoundLaws.{bound-to-is-bound}
 use Rattle.arp.specs.Bindings.{boundTo}
-use Rattle.commands.specs.Heard.{blockRead, answer, receivedIn, isGet}
+use Rattle.hearing.specs.Heard.{answer, receivedIn, isGet}
+use Rattle.commands.specs.Codes.{blockRead}
 use Rattle.commands.specs.CommandTraces.{replyTrace, Reply}
 use Rattle.arp.specs.OneStep.{Gives, Hands, Asks, Chooses, Keeps, Same, BoundAt, Unbinds, Binds, Continues, EndsWith, Replies, Alike}
 use Rattle.commands.specs.Requests.{messageOf}

@@ -36,11 +36,12 @@ use Rattle.commands.specs.RequestLaws.{reply-symbols, prepare-symbols, assign-s
 use Rattle.arp.specs.SoundLaws.{bound-to-is-bound, open-is-not-bound, find-cases}
 use Rattle.arp.specs.SlotsLaws.{held-above-is-open, held-same, held-other}
 use Rattle.arp.specs.ChangedLaws.{told-is-changed}
-use Rattle.commands.specs.TraceLaws as traces
+use Rattle.hearing.specs.TraceLaws as traces
 use Rattle.arp.specs.Sound.{Nowhere}
 use Rattle.arp.specs.Bindings.{boundTo, findFrom, freedAt, freed, bindingFor, boundAt, bound}
 use Rattle.arp.specs.Controller.{handed, counted, asked, chosen, issued, replied, changed, stepped}
-use Rattle.commands.specs.Heard.{blockWrite, answer, sentIn, isAssign}
+use Rattle.hearing.specs.Heard.{answer, sentIn, isAssign}
+use Rattle.commands.specs.Codes.{blockWrite}
 use Rattle.commands.specs.CommandTraces.{prepareTrace, replyTrace, assignTrace}
 use Rattle.arp.specs.OneStep.{Gives, Hands, Asks, Chooses, Keeps, Same, BoundAt, Unbinds, Binds, Continues, EndsWith, Replies}
 use Rattle.arp.specs.Replay.{assigning}
@@ -54,8 +55,8 @@ use Rattle.arp.specs.declared.state.Binding.the-variants.{Open, Bound}
 use Rattle.arp.specs.declared.state.Controller.{Controller}
 use Rattle.arp.specs.declared.slots.Slots.{Slots}
 use Rattle.arp.specs.declared.state.Stepped.{Stepped}
-use Rattle.commands.specs.Told.{toldAssign, tells, noCommand}
-use Rattle.commands.specs.declared.told.Told.the-variants.{Again, Over, GivenUp, Reply, Took}
+use Rattle.hearing.specs.Told.{toldAssign, tells, noCommand}
+use Rattle.hearing.specs.declared.told.Told.the-variants.{Again, Over, GivenUp, Reply, Took}
 
 -- ---- what is handed out
 

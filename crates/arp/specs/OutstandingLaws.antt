@@ -15,22 +15,22 @@ use Rattle.pool.specs.declared.free.Free.{Free}
 use Rattle.pool.specs.declared.free.Free.the-variants.{At, AllUsed}
 use Rattle.udid.specs.declared.Udid.{Udid}
 use Rattle.arp.specs.HandingLaws.{busy-handed}
-use Rattle.commands.specs.ToldLaws.{Known, told-known}
+use Rattle.hearing.specs.ToldLaws.{Known, told-known}
 use Rattle.arp.specs.Handing.{Kept}
 use Rattle.arp.specs.Bindings.{freed, bound}
 use Rattle.arp.specs.Controller.{newController, handed, counted, asked, chosen, issued, replied, changed, stepped}
 use Rattle.arp.specs.History.{Event, Start, Received, run, tracesAlone}
 use Rattle.arp.specs.Numbers.{endNumber, commandNumber}
 use Rattle.arp.specs.Replay.{Other, readAs, handedOut, SameOutstanding}
-use Rattle.commands.specs.Told.{tells, noCommand}
+use Rattle.hearing.specs.Told.{tells, noCommand}
 use Rattle.commands.specs.declared.command.Command.the-variants.{Prepare, GetUdid, Assign}
 use Rattle.commands.specs.declared.command.End.{End}
 use Rattle.commands.specs.declared.command.End.the-variants.{Nothing, Ended, NoneFree, Abandoned, NotOutstanding}
 use Rattle.commands.specs.declared.command.Handed.{Handed}
 use Rattle.commands.specs.declared.command.Handed.the-variants.{Send, Wait}
 use Rattle.arp.specs.declared.state.Controller.{Controller}
-use Rattle.commands.specs.declared.told.Told.{Told}
-use Rattle.commands.specs.declared.told.Told.the-variants.{Again, Over, GivenUp, Reply, Took, Unasked}
+use Rattle.hearing.specs.declared.told.Told.{Told}
+use Rattle.hearing.specs.declared.told.Told.the-variants.{Again, Over, GivenUp, Reply, Took, Unasked}
 
 -- ---- none is outstanding, or what is handed out is kept
 

@@ -27,11 +27,12 @@ use Rattle.udid.specs.UdidLaws.{length-udid, udid-bytes, udid-back}
 use Rattle.udid.specs.Udids.{Fits, sameUdid}
 use Rattle.udid.specs.declared.Udid.{Udid}
 use Rattle.arp.specs.HeardLaws.{length-lows, reply-is-decode, assign-is-decode, next-prepare-is-decode, next-reply-is-decode}
-use Rattle.commands.specs.ToldLaws.{received-are-bytes}
+use Rattle.hearing.specs.ToldLaws.{received-are-bytes}
 use Rattle.commands.specs.RequestLaws.{valid-get, valid-assign, seventeen-bytes-are-udid-and-byte, reply-symbols, assign-symbols-small}
-use Rattle.commands.specs.TraceLaws.{decoded-back, complete-get-is-its-trace, assign-data-is-assign, complete-assign-is-its-trace}
+use Rattle.hearing.specs.TraceLaws.{decoded-back, complete-get-is-its-trace, assign-data-is-assign, complete-assign-is-its-trace}
 use Rattle.arp.specs.Controller.{newController}
-use Rattle.commands.specs.Heard.{blockRead, blockWrite, answer, sentIn, receivedIn, isGet, isAssign}
+use Rattle.hearing.specs.Heard.{answer, sentIn, receivedIn, isGet, isAssign}
+use Rattle.commands.specs.Codes.{blockRead, blockWrite}
 use Rattle.arp.specs.Replay.{Happened, Started, Replied, Assigned, Other, replyIn, assigns, assignIn, readAs}
 use Rattle.commands.specs.Requests.{assignData, messageOf, traceOf}
 use Rattle.commands.specs.CommandTraces.{replyTrace, assignTrace, ReplyOf}

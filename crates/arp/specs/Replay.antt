@@ -22,9 +22,9 @@ use Rattle.udid.specs.Udids.{sameUdid, isFixed}
 use Rattle.udid.specs.declared.Udid.{Udid}
 use Rattle.arp.specs.Slots.{heldAt}
 use Rattle.arp.specs.Controller.{started, stepped}
-use Rattle.commands.specs.Heard.{answer, sentIn, receivedIn}
+use Rattle.hearing.specs.Heard.{answer, sentIn, receivedIn}
 use Rattle.arp.specs.History.{Event, Start, Received, run}
-use Rattle.commands.specs.Told.{noCommand}
+use Rattle.hearing.specs.Told.{noCommand}
 use Rattle.commands.specs.declared.command.Command.the-variants.{Prepare, GetUdid, Assign}
 use Rattle.commands.specs.declared.command.End.the-variants.{Nothing, Ended, NoneFree, Abandoned, NotOutstanding}
 use Rattle.commands.specs.declared.command.Handed.{Handed}

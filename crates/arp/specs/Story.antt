@@ -18,7 +18,7 @@ use Rattle.arp.specs.Lookup.{lookedUp}
 use Rattle.arp.specs.Numbers.{commandNumber, lookupNumber}
 use Rattle.commands.specs.CommandTraces.{replyTrace}
 use Rattle.arp.specs.Replay.{Replied, Assigned, Table, released, readAs, numberOf, NoneToPick, nextCommand, emptied, after, handedOut}
-use Rattle.commands.specs.Told.{noCommand}
+use Rattle.hearing.specs.Told.{noCommand}
 use Rattle.commands.specs.declared.command.Command.the-variants.{Prepare, GetUdid}
 use Rattle.commands.specs.declared.command.End.the-variants.{Nothing}
 use Rattle.commands.specs.declared.command.Handed.{Handed}

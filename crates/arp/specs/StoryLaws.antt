@@ -30,7 +30,7 @@ use Rattle.arp.specs.History.{Event, Received, run}
 use Rattle.arp.specs.Lookup.{lookedUp}
 use Rattle.arp.specs.Numbers.{commandNumber, lookupNumber}
 use Rattle.arp.specs.Replay.{Happened, Started, Replied, Assigned, Other, holds, after, readAs, handedOut, table, numberOf, again, nextCommand}
-use Rattle.commands.specs.Told.{noCommand}
+use Rattle.hearing.specs.Told.{noCommand}
 use Rattle.commands.specs.declared.command.Command.the-variants.{Prepare, GetUdid}
 use Rattle.commands.specs.declared.command.End.the-variants.{Abandoned}
 use Rattle.commands.specs.declared.command.Handed.{Handed}

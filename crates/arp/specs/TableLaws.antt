@@ -33,7 +33,8 @@ use Rattle.arp.specs.Sound.{SoundIn, Nowhere, PendingIn}
 use Rattle.arp.specs.Bindings.{boundTo, findFrom, freedAt, freed, bindingFor, boundAt, bound}
 use Rattle.arp.specs.Slots.{Sized128, heldAt, withBinding}
 use Rattle.arp.specs.Controller.{newController, started, handed, counted, asked, chosen, issued, replied, stepped, changed}
-use Rattle.commands.specs.Heard.{sendByte, blockRead, blockWrite, answer, sentIn, receivedIn, isPrepare, isGet, isAssign}
+use Rattle.hearing.specs.Heard.{answer, sentIn, receivedIn, isPrepare, isGet, isAssign}
+use Rattle.commands.specs.Codes.{sendByte, blockRead, blockWrite}
 use Rattle.arp.specs.History.{Event, Start, Received, run}
 use Rattle.arp.specs.Lookup.{lookedUp}
 use Rattle.arp.specs.Numbers.{lookupNumber}
@@ -45,8 +46,8 @@ use Rattle.commands.specs.declared.command.Handed.the-variants.{Send, Wait}
 use Rattle.arp.specs.declared.state.Binding.{Binding}
 use Rattle.arp.specs.declared.state.Binding.the-variants.{Open, Bound, Claimed}
 use Rattle.arp.specs.declared.state.Controller.{Controller}
-use Rattle.commands.specs.Told.{toldPrepare, toldReply, toldGet, toldAssign, tells}
-use Rattle.commands.specs.declared.told.Told.the-variants.{Again, Over, GivenUp, Reply, Took}
+use Rattle.hearing.specs.Told.{toldPrepare, toldReply, toldGet, toldAssign, tells}
+use Rattle.hearing.specs.declared.told.Told.the-variants.{Again, Over, GivenUp, Reply, Took}
 
 tables : (t r : Table) → ((a : ℕ) → t .held a ≡ r .held a) → ((a : ℕ) → t .used a ≡ r .used a) → t ≡ r
 tables t r h u = ap₂ (λ (x : ℕ → Binding) (y : ℕ → Bool). record { held = x; used = y }) (fun-ext h) (fun-ext u)

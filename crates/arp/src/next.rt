@@ -7,8 +7,8 @@ use super::state::Stepped;
 use commands::command::Command;
 use commands::command::End;
 use commands::command::Handed;
-use commands::told::Told;
-use commands::told::tell;
+use hearing::told::Told;
+use hearing::told::tell;
 use pool::free::Free;
 use udid::Udid;
 

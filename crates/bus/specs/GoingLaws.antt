@@ -33,11 +33,12 @@ use Rattle.targets.specs.declared.winner.Winner.the-variants as winner
 use Rattle.arp.specs.ChosenLaws.{chosen-small-and-free}
 use Rattle.arp.specs.Bindings.{bound, freed}
 use Rattle.arp.specs.Controller.{handed, counted, asked, issued, chosen, replied, stepped, started, newController, changed}
-use Rattle.commands.specs.Heard.{answer, sentIn, blockWrite, isAssign}
+use Rattle.hearing.specs.Heard.{answer, sentIn, isAssign}
+use Rattle.commands.specs.Codes.{blockWrite}
 use Rattle.commands.specs.Requests.{traceOf}
-use Rattle.commands.specs.Told.{toldAssign, tells}
+use Rattle.hearing.specs.Told.{toldAssign, tells}
 use Rattle.arp.specs.ChangedLaws.{told-is-changed}
-use Rattle.commands.specs.TraceLaws.{prepare-accepted}
+use Rattle.hearing.specs.TraceLaws.{prepare-accepted}
 use Rattle.commands.specs.declared.command.Command.the-variants.{Prepare, GetUdid, Assign}
 use Rattle.commands.specs.declared.command.End.the-variants.{Abandoned}
 use Rattle.commands.specs.declared.command.Handed.{Handed}
@@ -58,7 +59,7 @@ use Rattle.bus.specs.RecordsBus.{recordsBus, Holds}
 use Rattle.bus.specs.RecordsBusLaws.{records-pass}
 use Rattle.bus.specs.Turn.{Fit, Reaches, isSent, worldOf, sentTo, Matches}
 use Rattle.bus.specs.TurnLaws.{get-silence, reached-as-meant}
-use Rattle.commands.specs.declared.told.Told.the-variants.{Again, Took}
+use Rattle.hearing.specs.declared.told.Told.the-variants.{Again, Took}
 
 -- ---- what is handed out reaches somebody
 

@@ -12,7 +12,7 @@ use Rattle.arp.specs.Controller.{newController, started, stepped}
 use Rattle.arp.specs.History.{Event, Start, Received, run}
 use Rattle.arp.specs.Numbers.{commandNumber}
 use Rattle.arp.specs.Replay.{handedOut}
-use Rattle.commands.specs.Told.{noCommand}
+use Rattle.hearing.specs.Told.{noCommand}
 use Rattle.commands.specs.declared.command.Command.the-variants.{Prepare}
 use Rattle.commands.specs.declared.command.Handed.{Handed}
 use Rattle.commands.specs.declared.command.Handed.the-variants.{Send}

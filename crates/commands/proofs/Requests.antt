@@ -17,7 +17,7 @@ use Rattle.udid.specs.WindowLaws.{put-fits}
 use Rattle.udid.specs.declared.Udid.{Udid}
 use Rattle.wire.specs.Addresses.{defaultAddress}
 use Rattle.wire.specs.declared.address.Address.{Address}
-use Rattle.commands.specs.Heard.{blockWrite}
+use Rattle.commands.specs.Codes.{blockWrite}
 use Rattle.commands.specs.Requests.{assignData, protocolFor, messageOf}
 use Rattle.commands.specs.declared.command.Command.the-variants.{Assign}
 use Rattle.commands.specs.declared.command.End.{End}

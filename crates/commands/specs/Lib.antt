@@ -1,12 +1,7 @@
 pub mod Codes
-pub mod Heard
-pub mod Told
 pub mod Requests
 pub mod CommandTraces
 pub mod CommandRows
 pub mod Sending
 pub mod RequestLaws
 pub mod SendingLaws
-pub mod TraceLaws
-pub mod ToldLaws
-pub mod LongTraceLaws

@@ -21,7 +21,7 @@ use Rattle.udid.specs.UdidLaws.{udid-bytes, length-udid, bytes-back, fits-at}
 use Rattle.udid.specs.Udids.{Fits}
 use Rattle.udid.specs.WindowLaws.{byte-at}
 use Rattle.udid.specs.declared.Udid.{Udid}
-use Rattle.commands.specs.Heard.{sendByte, blockRead, blockWrite}
+use Rattle.commands.specs.Codes.{sendByte, blockRead, blockWrite}
 use Rattle.commands.specs.Requests.{assignData, messageOf, traceOf}
 use Rattle.commands.specs.CommandTraces.{replyTrace, prepareTrace, assignTrace}
 use Rattle.commands.specs.CommandRows.{CommandRows}

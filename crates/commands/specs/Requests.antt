@@ -10,8 +10,7 @@ use Rattle.trace.specs.Trace.{Message, trace}
 use Rattle.encode.specs.Encode.{message}
 use Rattle.udid.specs.Bytes.{udidBytes}
 use Rattle.udid.specs.declared.Udid.{Udid}
-use Rattle.commands.specs.Codes.{prepareCode, getCode, assignCode}
-use Rattle.commands.specs.Heard.{sendByte, blockRead, blockWrite}
+use Rattle.commands.specs.Codes.{prepareCode, getCode, assignCode, sendByte, blockRead, blockWrite}
 use Rattle.commands.specs.declared.command.Command.the-variants.{Prepare, GetUdid, Assign}
 use Rattle.commands.specs.declared.command.Handed.{Handed}
 use Rattle.commands.specs.declared.command.Handed.the-variants.{Send, Wait}

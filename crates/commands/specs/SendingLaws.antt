@@ -33,7 +33,7 @@ use Rattle.udid.specs.UdidLaws.{length-udid}
 use Rattle.udid.specs.declared.Udid.{Udid}
 use Rattle.commands.specs.RequestLaws.{valid-prepare, valid-get, assign-data-has-17-bytes, assign-has-44-symbols, valid-assign, assign-symbols-small}
 use Rattle.commands.specs.Sending.{Sent, Unsendable, AssignWritten}
-use Rattle.commands.specs.Heard.{blockWrite}
+use Rattle.commands.specs.Codes.{blockWrite}
 use Rattle.commands.specs.Requests.{protocolOf, protocolFor, messageOf, traceOf}
 use Rattle.commands.specs.CommandTraces.{assignTrace}
 use Rattle.commands.specs.declared.command.Command.the-variants.{Prepare, GetUdid, Assign}

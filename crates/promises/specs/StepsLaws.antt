@@ -32,7 +32,7 @@ use Rattle.arp.specs.Numbers.{commandNumber}
 use Rattle.arp.specs.OneResultLaws.{same-trace-or-not, six-or-not, six-once, reply-or-not, continues-alike, ends-alike, binds-alike, replies-alike, chooses-address-or-none}
 use Rattle.arp.specs.OneStep.{Gives, Asks, Chooses, Continues, Replies, Alike}
 use Rattle.arp.specs.OneStepLaws as arp
-use Rattle.commands.specs.Told.{noCommand}
+use Rattle.hearing.specs.Told.{noCommand}
 use Rattle.commands.specs.RequestLaws.{seventeen-bytes-are-udid-and-byte}
 use Rattle.commands.specs.declared.command.Command.the-variants.{Prepare, GetUdid, Assign}
 use Rattle.commands.specs.declared.command.End.the-variants.{Ended, NoneFree, Abandoned, NotOutstanding}

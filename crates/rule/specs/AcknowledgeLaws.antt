@@ -14,7 +14,7 @@ use Rattle.trace.specs.Trace as trace
 use Rattle.udid.specs.Bytes.{udidBytes}
 use Rattle.udid.specs.declared.Udid.{Udid}
 use Rattle.targets.specs.Target.{Target}
-use Rattle.commands.specs.Heard.{blockWrite}
+use Rattle.commands.specs.Codes.{blockWrite}
 use Rattle.commands.specs.Requests.{messageOf, traceOf}
 use Rattle.commands.specs.RequestLaws.{assign-symbols}
 use Rattle.commands.specs.RequestLaws.{assign-has-44-symbols}

@@ -12,7 +12,7 @@ use Rattle.arp.specs.Handing.{Kept}
 use Rattle.arp.specs.HandingLaws.{busy-handed}
 use Rattle.arp.specs.Controller.{changed, stepped}
 use Rattle.arp.specs.History.{oneGet}
-use Rattle.commands.specs.Told.{tells}
+use Rattle.hearing.specs.Told.{tells}
 use Rattle.commands.specs.declared.command.Command.{Command}
 use Rattle.commands.specs.declared.command.Command.the-variants.{Prepare, GetUdid, Assign}
 use Rattle.commands.specs.declared.command.End.the-variants.{Ended}

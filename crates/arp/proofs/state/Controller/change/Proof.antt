@@ -1,6 +1,6 @@
 use mathlib.Core.Path.{_≡_, sym, ap, _∙_}
 use Rattle.arp.specs.Controller.{asked, changed}
-use Rattle.commands.specs.declared.told.Told.{Told}
+use Rattle.hearing.specs.declared.told.Told.{Told}
 use borrow.Author.Needs.{needs}
 use Rattle.arp.proofs.state.Controller.change.Statement.{statement}
 use Rattle.arp.proofs.state.Controller.change.Tie as tie

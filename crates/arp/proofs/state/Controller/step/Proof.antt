@@ -6,7 +6,7 @@ use Rattle.arp.proofs.state.Controller.step.Tie as tie
 use Rattle.arp.proofs.state.Controller.step.Reads as reads
 use Rattle.arp.proofs.state.Controller.step.Lts as lts
 use Rattle.arp.proofs.state.Controller.change.Reads as change-reads
-use Rattle.commands.proofs.told.tell.Reads as tell-reads
+use Rattle.hearing.proofs.told.tell.Reads as tell-reads
 
 tell-requires : tie.Need-tell-requires
 tell-requires c κs = search needs

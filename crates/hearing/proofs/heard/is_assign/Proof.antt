@@ -1,0 +1,28 @@
+use mathlib.Core.Path.{_≡_, refl, sym, ap, _∙_}
+use borrow.Author.Tests.{lt-ltb, le-ltb, le-leb, lt-leb, eq-eqb, ne-eqb, not-true, not-false}
+use borrow.Author.Needs.{needs}
+use Rattle.hearing.proofs.heard.is_assign.Statement.{statement}
+use Rattle.hearing.proofs.heard.is_assign.Tie as tie
+use Rattle.hearing.proofs.heard.is_assign.Reads as reads
+use Rattle.hearing.proofs.heard.is_assign.Lts as lts
+use Rattle.hearing.proofs.heard.is_command.Reads as is-command-reads
+use Rattle.hearing.proofs.heard.names_both.Reads as names-both-reads
+
+is-command-requires : tie.Need-is-command-requires
+is-command-requires c κs = search needs
+
+returns : tie.Need-returns
+returns c = let e = sym (c .before .is-command .ensures) ∙ not-true _ (c .if1 .taken) in simp e
+
+names-both-requires : tie.Need-names-both-requires
+names-both-requires c κs = search needs
+
+returns-2 : tie.Need-returns-2
+returns-2 c = let e = sym (c .before .before .before .before .is-command .ensures) ∙ not-false _ (c .before .before .before .if1 .left) in simp (e, eq-eqb _ _ (c .before .if2 .taken)) (c .names-both .ensures)
+
+returns-3 : tie.Need-returns-3
+returns-3 c = let e = sym (c .before .before .before .is-command .ensures) ∙ not-false _ (c .before .before .if1 .left) in simp (e, ne-eqb _ _ (c .if2 .left))
+
+pub is-assign-spec : {M : Type 1} → statement M
+is-assign-spec =
+    tie.close (tie.spec is-command-requires returns names-both-requires returns-2 returns-3)

@@ -1,0 +1,5 @@
+pub mod Heard
+pub mod Told
+pub mod TraceLaws
+pub mod ToldLaws
+pub mod LongTraceLaws
