@@ -39,7 +39,8 @@ use Rattle.rule.specs.ReadingLaws.{bound-given, given-bound, served-once}
 use Rattle.rule.specs.Reading.{Any, RecordOf, someOf, isBound, boundAt, OnePerUdid}
 use Rattle.rule.specs.RecordsLaws as records
 use Rattle.bus.specs.EndLaws.{entry-bound, leaves-rule}
-use Rattle.bus.specs.Run.{entryFor, entryOf, entryAt, Leaves, modelEnd}
+use Rattle.bus.specs.Run.{Leaves, modelEnd}
+use Rattle.report.specs.Report.{entryFor, entryOf, entryAt}
 use Rattle.bindings.specs.declared.answer.ModelAnswer.{ModelAnswer}
 
 bound-some : (h : Binding) → isBound h ≡ true → (u : Udid) × (h ≡ binding.Bound u)

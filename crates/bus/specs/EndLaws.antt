@@ -38,7 +38,8 @@ use Rattle.rule.specs.RecordsLaws.{end-targets-stored}
 use Rattle.rule.specs.Sent.{getsOnBus}
 use Rattle.rule.specs.SentLaws.{counted-on-bus}
 use Rattle.bus.specs.PassLaws.{leaves-pass, gets-of-pass}
-use Rattle.bus.specs.Run.{numberIn, udidIn, entryFor, entryOf, entryAt, Leaves, endedEnd, modelEnd}
+use Rattle.bus.specs.Run.{Leaves, endedEnd, modelEnd}
+use Rattle.report.specs.Report.{numberIn, udidIn, entryFor, entryOf, entryAt}
 use Rattle.bindings.specs.declared.answer.ModelAnswer.{ModelAnswer}
 
 -- ---- the last command of the rule's end, in the scope's numbers

@@ -7,7 +7,6 @@ pub mod RecordsBusLaws
 pub mod TurnLaws
 pub mod GoingLaws
 pub mod RunLaws
-pub mod BoundSetLaws
 pub mod RefusalLaws
 pub mod PassLaws
 pub mod EndLaws

@@ -18,7 +18,8 @@ use Rattle.targets.specs.declared.admit.Checked.the-variants.{Admitted}
 use Rattle.bindings.specs.BufferLaws.{bytes-there}
 use Rattle.bindings.specs.Entries.{entryBytes}
 use Rattle.rule.specs.Bus.{pass}
-use Rattle.bus.specs.Run.{numberIn, udidIn, entryOf, entryAt, ModelEnd, Leaves, endedEnd, modelEnd}
+use Rattle.bus.specs.Run.{ModelEnd, Leaves, endedEnd, modelEnd}
+use Rattle.report.specs.Report.{numberIn, udidIn, entryOf, entryAt}
 use Rattle.bus.specs.RunLaws.{end-checked}
 use Rattle.bindings.specs.declared.answer.ModelAnswer.{ModelAnswer}
 

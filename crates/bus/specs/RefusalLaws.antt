@@ -26,7 +26,8 @@ use Rattle.commands.specs.declared.command.Handed.{Handed}
 use Rattle.commands.specs.declared.command.Handed.the-variants.{Send, Wait}
 use Rattle.targets.specs.Records.{targetsOf}
 use Rattle.rule.specs.Bus.{pass}
-use Rattle.bus.specs.Run.{numberIn, modelNumber, refusedAnswer, ModelEnd, Leaves, refusedEnd, endChecked, modelEnd}
+use Rattle.bus.specs.Run.{ModelEnd, Leaves, refusedEnd, endChecked, modelEnd}
+use Rattle.report.specs.Report.{numberIn, modelNumber, refusedAnswer}
 use Rattle.bus.specs.RunLaws.{end-short, end-checked}
 use Rattle.bindings.specs.declared.answer.ModelAnswer.{ModelAnswer}
 

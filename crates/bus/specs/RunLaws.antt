@@ -12,7 +12,8 @@ use Rattle.targets.specs.Refusals.{checkedList}
 use Rattle.targets.specs.declared.admit.Checked.{Checked}
 use Rattle.targets.specs.declared.admit.Checked.the-variants.{Admitted, BadLength, Malformed, Repeated, Taken}
 use Rattle.rule.specs.Bus.{pass}
-use Rattle.bus.specs.Run.{refusedAnswer, ModelEnd, Leaves, refusedEnd, endedEnd, endChecked, modelEnd, Refused}
+use Rattle.bus.specs.Run.{ModelEnd, Leaves, refusedEnd, endedEnd, endChecked, modelEnd, Refused}
+use Rattle.report.specs.Report.{refusedAnswer}
 use Rattle.bindings.specs.declared.answer.ModelAnswer.{ModelAnswer}
 
 module _ (occupied : Pool) (s b : List ℕ) where

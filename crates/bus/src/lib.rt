@@ -2,8 +2,6 @@
 // Rests on arp, encode, targets and bindings, on wire, pool and udid below them, and for its promise on rule: there a pass ends as the plain
 // rule says.
 mod act;
-pub mod answer;
-mod bindings_of;
 mod pass;
 pub mod run;
 mod traces;

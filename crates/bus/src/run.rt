@@ -9,13 +9,13 @@ ghost use Rattle.targets.specs.declared.admit.Checked.the-variants.{Admitted};
 ghost use Rattle.bindings.specs.Entries.{bufferSize};
 ghost use Rattle.rule.specs.Bus.{pass};
 ghost use Rattle.bus.specs.Run.{Leaves, endedEnd, modelEnd};
-use super::answer::refused;
-use super::answer::report;
-use super::bindings_of::put_bindings;
 use super::pass::run_pass;
 use bindings::answer::ModelAnswer;
 use bindings::buffer::BUFFER;
 use pool::Pool;
+use report::answer::refused;
+use report::answer::report;
+use report::bindings_of::put_bindings;
 use targets::admit;
 use targets::admit::Checked;
 
@@ -27,8 +27,8 @@ fn run_admitted(occupied: Pool, records: &mut [u8], bindings: &mut [u8]) -> Mode
     let last = run_pass(occupied, &mut records[..]);
     let state = last.state;
     let slots = state.slots;
-    let bound = put_bindings(&mut bindings[..], slots);
-    report(last, bound)
+    put_bindings(&mut bindings[..], slots);
+    report(last)
 }
 
 // The records take each target's address byte and flag, the first 2,048 bytes of the binding buffer the identifier of address a at 16 a.

@@ -13,7 +13,7 @@ use Rattle.commands.specs.declared.command.End.{End}
 use Rattle.commands.specs.declared.command.End.the-variants.{Nothing, Ended, NoneFree, Abandoned, NotOutstanding}
 use Rattle.commands.specs.declared.command.Handed.{Handed}
 use Rattle.commands.specs.declared.command.Handed.the-variants.{Send, Wait}
-use Rattle.bus.specs.Run.{numberIn}
+use Rattle.report.specs.Report.{numberIn}
 use Rattle.c_arp.specs.declared.kinds.HbCommand.{HbCommand}
 use Rattle.c_arp.specs.Commands.{toldEnd, toldCommand}
 use Rattle.c_arp.specs.CommandParts.{CommandParts, EndIs, CommandIs, KindsAre}

@@ -9,7 +9,7 @@ use Rattle.commands.specs.declared.command.End.{End}
 use Rattle.commands.specs.declared.command.End.the-variants.{Nothing, Ended, NoneFree, Abandoned, NotOutstanding}
 use Rattle.commands.specs.declared.command.Handed.{Handed}
 use Rattle.commands.specs.declared.command.Handed.the-variants.{Send, Wait}
-use Rattle.bus.specs.Run.{noUdid}
+use Rattle.report.specs.Report.{noUdid}
 use Rattle.c_arp.specs.declared.kinds.HbCommand.{HbCommand}
 use Rattle.c_arp.specs.Parts.{toldUdid}
 

@@ -11,7 +11,7 @@ use Rattle.arp.specs.Numbers.{lookupNumber}
 use Rattle.arp.specs.declared.lookup.Found.{Found}
 use Rattle.arp.specs.declared.state.Binding.the-variants.{Open, Bound, Claimed}
 use Rattle.arp.specs.declared.state.Controller.{Controller}
-use Rattle.bus.specs.Run.{firstOf}
+use Rattle.report.specs.Report.{firstOf}
 use Rattle.c_arp.specs.declared.pass.HbFound.{HbFound}
 use Rattle.c_arp.specs.Pass.{foundOf, toldFound}
 use Rattle.arp.specs.LookupLaws.{lookup-0, lookup-15, lookup-16, lookup-1}

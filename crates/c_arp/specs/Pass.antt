@@ -12,7 +12,7 @@ use Rattle.arp.specs.Controller.{newController, started, stepped}
 use Rattle.arp.specs.Numbers.{lookupNumber}
 use Rattle.arp.specs.declared.lookup.Found.{Found}
 use Rattle.arp.specs.declared.state.Stepped.{Stepped}
-use Rattle.bus.specs.Run.{firstOf}
+use Rattle.report.specs.Report.{firstOf}
 use Rattle.c_arp.specs.declared.pass.HbFound.{HbFound}
 use Rattle.pairs.specs.Pairs.{symbolsIn}
 use Rattle.c_arp.specs.Parts.{toldUdid}

@@ -44,7 +44,8 @@ use Rattle.rule.specs.Bus.{World}
 use Rattle.rule.specs.PassEndLaws.{demand-3}
 use Rattle.rule.specs.PassEnd.{passEnd}
 use Rattle.rule.specs.PlainRule.{plainChoice}
-use Rattle.bus.specs.Run.{noUdid, numberIn, udidIn, entryAt, ModelEnd, endedEnd, modelEnd}
+use Rattle.bus.specs.Run.{ModelEnd, endedEnd, modelEnd}
+use Rattle.report.specs.Report.{noUdid, numberIn, udidIn, entryAt}
 use Rattle.bus.specs.RunLaws.{end-checked}
 use Rattle.bindings.specs.declared.answer.ModelAnswer.{ModelAnswer}
 use Rattle.promises.specs.Demands.{Marked}

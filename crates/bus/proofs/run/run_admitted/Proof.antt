@@ -4,14 +4,15 @@ use lib.ListN.{drop}
 use denote.Ref.{now}
 use Rattle.arp.specs.declared.state.Stepped.{Stepped}
 use Rattle.bindings.specs.Entries.{bufferSize, bufferOf}
-use Rattle.bus.specs.Run.{entryAt, reported}
+use Rattle.report.specs.Report.{entryAt, reported}
+use Rattle.report.specs.BufferEndLaws.{long-enough}
 use borrow.Author.Needs.{needs}
 use Rattle.bus.proofs.run.run_admitted.Statement.{statement}
 use Rattle.bus.proofs.run.run_admitted.Tie as tie
 use Rattle.bus.proofs.run.run_admitted.Reads as reads
 use Rattle.bus.proofs.run.run_admitted.Lts as lts
-use Rattle.bus.proofs.answer.report.Reads as report-reads
-use Rattle.bus.proofs.bindings_of.put_bindings.Reads as put-bindings-reads
+use Rattle.report.proofs.answer.report.Reads as report-reads
+use Rattle.report.proofs.bindings_of.put_bindings.Reads as put-bindings-reads
 use Rattle.bus.proofs.pass.run_pass.Reads as run-pass-reads
 
 run-pass-requires : tie.Need-run-pass-requires
@@ -33,7 +34,9 @@ returns : tie.Need-returns
 returns c = record {
   answered = c .report .ensures ∙ ap reported (c .before .before .before .before .before .before .before .before .before .run-pass .ensures .controller);
   records-hold = c .before .before .before .before .before .before .before .before .before .run-pass .ensures .stored;
-  bindings-hold = c .before .before .before .put-bindings .ensures .0 ∙ ap (λ (x : Stepped). bufferOf (entryAt (x .state .slots)) ++ drop bufferSize (now (c .before .before .before .before .before .before .before .before .before .before .before .before .before .args .bindings))) (c .before .before .before .before .before .before .before .before .before .run-pass .ensures .controller);
+  bindings-hold =
+    c .before .before .before .put-bindings .ensures ∙ long-enough (c .before .before .before .before .before .before .before .before .before .run-pass .result .state .slots) (now (c .before .before .before .before .before .before .before .before .before .before .before .before .before .args .bindings)) (search needs)
+      ∙ ap (λ (x : Stepped). bufferOf (entryAt (x .state .slots)) ++ drop bufferSize (now (c .before .before .before .before .before .before .before .before .before .before .before .before .before .args .bindings))) (c .before .before .before .before .before .before .before .before .before .run-pass .ensures .controller);
 }
 
 pub run-admitted-spec : {M : Type 1} → statement M

@@ -7,7 +7,7 @@ use Rattle.bus.proofs.run.run_model.Statement.{statement}
 use Rattle.bus.proofs.run.run_model.Tie as tie
 use Rattle.bus.proofs.run.run_model.Reads as reads
 use Rattle.bus.proofs.run.run_model.Lts as lts
-use Rattle.bus.proofs.answer.refused.Reads as refused-reads
+use Rattle.report.proofs.answer.refused.Reads as refused-reads
 use Rattle.bus.proofs.run.run_admitted.Reads as run-admitted-reads
 use Rattle.targets.proofs.admit.check.Reads as check-reads
 

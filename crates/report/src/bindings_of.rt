@@ -6,8 +6,9 @@ ghost use lib.ListN.{length, drop};
 ghost use Rattle.bindings.specs.Entries.{bufferSize, bufferOf, boundSet};
 ghost use Rattle.lists.specs.Choice.{pick};
 ghost use Rattle.bindings.specs.declared.entry.Entry.the-variants.{Nobody, Bound};
-ghost use Rattle.bus.specs.Run.{entryAt};
+ghost use Rattle.report.specs.Report.{entryAt, withBindings};
 use arp::slots::Slots;
+use bindings::buffer::BUFFER;
 use bindings::buffer::put_entry;
 use bindings::entry::Entry;
 use pool::Pool;
@@ -26,16 +27,16 @@ fn entry_of(bound: bool, u: Udid) -> Entry
 }
 
 // The addresses to which somebody is bound.
-fn bound_set(slots: Slots) -> Pool
+pub fn bound_set(slots: Slots) -> Pool
     ensures { λ r. ⌜ r ≡ boundSet (entryAt slots) ⌝ }
 {
     slots.bound
 }
 
-// The first 2,048 bytes: the identifier of address a at 16 a, zeros where none is bound. The addresses to which somebody is bound.
-pub(crate) fn put_bindings(out: &mut [u8], slots: Slots) -> Pool
+// The first 2,048 bytes of a buffer that has them: the identifier of address a at 16 a, zeros where none is bound.
+fn put_rows(out: &mut [u8], slots: Slots)
     requires { ⌜ bufferSize ≤ length (now out) ⌝ }
-    ensures { λ r. ⌜ (now (out .exit) ≡ bufferOf (entryAt slots) ++ drop bufferSize (now (out .entry))) × (r ≡ boundSet (entryAt slots)) ⌝ }
+    ensures { λ r. ⌜ now (out .exit) ≡ bufferOf (entryAt slots) ++ drop bufferSize (now (out .entry)) ⌝ }
 {
     let bound = slots.bound;
     let mut a: u8 = 0;
@@ -49,5 +50,14 @@ pub(crate) fn put_bindings(out: &mut [u8], slots: Slots) -> Pool
         put_entry(&mut out[..], Address(a), e);
         a += 1;
     }
-    bound_set(slots)
+}
+
+// The bindings into the first 2,048 bytes. A shorter buffer keeps what it has.
+pub fn put_bindings(out: &mut [u8], slots: Slots)
+    ensures { λ r. ⌜ now (out .exit) ≡ withBindings slots (now (out .entry)) ⌝ }
+{
+    if out.len() < BUFFER {
+        return;
+    }
+    put_rows(&mut out[..], slots);
 }

@@ -1,12 +1,12 @@
 use mathlib.Core.Path.{_≡_, sym, ap, _∙_}
 use Rattle.arp.specs.Numbers.{endNumber}
 use Rattle.commands.specs.declared.command.End.{End}
-use Rattle.bus.specs.Run.{udidIn}
+use Rattle.report.specs.Report.{udidIn}
 use borrow.Author.Needs.{needs}
-use Rattle.bus.proofs.answer.named_by.Statement.{statement}
-use Rattle.bus.proofs.answer.named_by.Tie as tie
-use Rattle.bus.proofs.answer.named_by.Reads as reads
-use Rattle.bus.proofs.answer.named_by.Lts as lts
+use Rattle.report.proofs.answer.named_by.Statement.{statement}
+use Rattle.report.proofs.answer.named_by.Tie as tie
+use Rattle.report.proofs.answer.named_by.Reads as reads
+use Rattle.report.proofs.answer.named_by.Lts as lts
 
 enum-told : tie.Need-enum-told
 enum-told c = search needs

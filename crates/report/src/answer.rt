@@ -1,8 +1,8 @@
 // What a model run answers. Rests on arp for how a pass ended; the scope's numbers are in arp's and targets' specs/Numbers.
 ghost use mathlib.Core.Path.{_≡_};
 ghost use Rattle.arp.specs.Numbers.{endNumber, commandNumber};
-ghost use Rattle.bindings.specs.Entries.{boundSet};
-ghost use Rattle.bus.specs.Run.{entryAt, numberIn, udidIn, refusedAnswer, reported};
+ghost use Rattle.report.specs.Report.{numberIn, udidIn, refusedAnswer, reported};
+use super::bindings_of::bound_set;
 use arp::state::Stepped;
 use bindings::answer::ModelAnswer;
 use commands::command::End;
@@ -11,7 +11,7 @@ use pool::Pool;
 use udid::Udid;
 
 // A refusal with its record: every other part is zero.
-pub(crate) fn refused(n: u32, i: usize) -> ModelAnswer
+pub fn refused(n: u32, i: usize) -> ModelAnswer
     ensures { λ r. ⌜ r ≡ refusedAnswer n i ⌝ }
 {
     ModelAnswer {
@@ -76,12 +76,13 @@ fn gets_sent(last: Stepped) -> u32
     state.gets
 }
 
-// What a pass answers that ended so, and bound these addresses.
-pub(crate) fn report(last: Stepped, bound: Pool) -> ModelAnswer
-    requires { ⌜ bound ≡ boundSet (entryAt (last .state .slots)) ⌝ }
+// What a pass answers that ended so.
+pub fn report(last: Stepped) -> ModelAnswer
     ensures { λ r. ⌜ r ≡ reported last ⌝ }
 {
     let command = last.command;
+    let state = last.state;
+    let bound = bound_set(state.slots);
     ModelAnswer {
         answer: number_of(command),
         place: 0,

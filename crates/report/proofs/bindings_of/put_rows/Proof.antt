@@ -13,14 +13,14 @@ use Rattle.arp.specs.Slots.{keptUdid}
 use Rattle.bindings.specs.Entries.{putEntry, rowsOf}
 use Rattle.bindings.specs.BufferLaws.{rows-none, rows-more}
 use Rattle.bindings.specs.declared.entry.Entry.the-variants.{Nobody, Bound}
-use Rattle.bus.specs.BoundSetLaws.{entry-by-bound}
-use Rattle.bus.specs.Run.{entryAt}
-use Rattle.bus.proofs.bindings_of.put_bindings.Statement.{statement}
-use Rattle.bus.proofs.bindings_of.put_bindings.Tie as tie
-use Rattle.bus.proofs.bindings_of.put_bindings.Reads as reads
-use Rattle.bus.proofs.bindings_of.put_bindings.Lts as lts
+use Rattle.report.specs.BoundSetLaws.{entry-by-bound}
+use Rattle.report.specs.Report.{entryAt}
+use Rattle.report.proofs.bindings_of.put_rows.Statement.{statement}
+use Rattle.report.proofs.bindings_of.put_rows.Tie as tie
+use Rattle.report.proofs.bindings_of.put_rows.Reads as reads
+use Rattle.report.proofs.bindings_of.put_rows.Lts as lts
 use Rattle.bindings.proofs.buffer.put_entry.Reads as put-entry-reads
-use Rattle.bus.proofs.bindings_of.entry_of.Reads as entry-of-reads
+use Rattle.report.proofs.bindings_of.entry_of.Reads as entry-of-reads
 use Rattle.pool.proofs.Pool.has.Reads as has-reads
 
 abbrev Inv-loop : tie.InvT-loop
@@ -76,21 +76,18 @@ loop-again c =
           ∙ ap (λ (n : ℕ). rowsOf held n ++ drop (n * 16) (now (s .args .out))) (sym (add-one (l .a))),
     )
 
-bound-set-requires : tie.Need-bound-set-requires Inv-loop μ-loop
-bound-set-requires c κs = search needs
-
 same-length : tie.Need-same-length Inv-loop μ-loop
-same-length c = c .before .before .loop .inv .1
+same-length c = c .before .loop .inv .1
 
 returns : tie.Need-returns Inv-loop μ-loop
 returns c =
-    let l = c .before .before .loop in
+    let l = c .before .loop in
     let n : l .a ≡ 128 = omega arith in
-    let s = c .before .before .before .before .before .args in
-    (l .inv .2 ∙ ap (λ (x : ℕ). rowsOf (entryAt (s .t2)) x ++ drop (x * 16) (now (s .out))) n, c .bound-set .ensures)
+    let s = c .before .before .before .before .args in
+    l .inv .2 ∙ ap (λ (x : ℕ). rowsOf (entryAt (s .t2)) x ++ drop (x * 16) (now (s .out))) n
 
-pub put-bindings-spec : {M : Type 1} → statement M
-put-bindings-spec =
+pub put-rows-spec : {M : Type 1} → statement M
+put-rows-spec =
     tie.close
     (tie.spec
     Inv-loop
@@ -107,6 +104,5 @@ put-bindings-spec =
     add-a
     loop-less
     loop-again
-    bound-set-requires
     same-length
     returns)

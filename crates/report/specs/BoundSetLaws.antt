@@ -11,7 +11,7 @@ use Rattle.arp.specs.declared.state.Binding.{Binding}
 use Rattle.bindings.specs.BoundLaws.{bound-set-exactly}
 use Rattle.bindings.specs.Entries.{isBound, boundSet}
 use Rattle.bindings.specs.declared.entry.Entry.the-variants.{Nobody, Bound}
-use Rattle.bus.specs.Run.{entryOf, entryAt}
+use Rattle.report.specs.Report.{entryOf, entryAt}
 
 -- nobody where the address is not in the set
 pub entry-by-bound : (s : Slots) (a : ℕ) → entryAt s a ≡ pick (member (s .bound) a) (Bound (keptUdid s a)) Nobody

@@ -1,11 +1,11 @@
 use mathlib.Core.Path.{ap}
 use Rattle.pool.specs.declared.Pool.{Pool}
-use Rattle.bus.specs.Run.{noUdid}
+use Rattle.report.specs.Report.{noUdid}
 use borrow.Author.Needs.{needs}
-use Rattle.bus.proofs.answer.refused.Statement.{statement}
-use Rattle.bus.proofs.answer.refused.Tie as tie
-use Rattle.bus.proofs.answer.refused.Reads as reads
-use Rattle.bus.proofs.answer.refused.Lts as lts
+use Rattle.report.proofs.answer.refused.Statement.{statement}
+use Rattle.report.proofs.answer.refused.Tie as tie
+use Rattle.report.proofs.answer.refused.Reads as reads
+use Rattle.report.proofs.answer.refused.Lts as lts
 use Rattle.pool.proofs.Pool.empty.Reads as empty-reads
 
 empty-requires : tie.Need-empty-requires
