@@ -3,3 +3,4 @@ pub mod AddressCallLaws
 pub mod PoolCallLaws
 pub mod UdidCallLaws
 pub mod RoundTripLaws
+pub mod ModelCallLaws

@@ -15,4 +15,3 @@ pub mod FoundParts
 pub mod LookupCallLaws
 pub mod Model
 pub mod ModelParts
-pub mod ModelCallLaws
