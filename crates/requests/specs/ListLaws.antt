@@ -2,10 +2,10 @@
 use Prim.Native.Nat.{ℕ, zero, suc}
 use mathlib.Core.Path.{_≡_, refl, ap, _∙_}
 use mathlib.Core.List.{List, [], _∷_, _++_}
-use Rattle.requests.specs.Said.{byteAt, symbolAt}
+use Rattle.words.specs.Said.{byteAt, symbolAt}
 use Rattle.requests.specs.Lists.{bytesFrom, bytesEnd, symbolsFrom, symbolsEnd}
-use Rattle.requests.specs.declared.word.ByteWord.the-variants.{Byte, NoByte}
-use Rattle.requests.specs.declared.word.SymbolWord.the-variants.{Symbol, NoSymbol}
+use Rattle.words.specs.declared.word.ByteWord.the-variants.{Byte, NoByte}
+use Rattle.words.specs.declared.word.SymbolWord.the-variants.{Symbol, NoSymbol}
 
 -- ---- bytes
 

@@ -1,11 +1,11 @@
 -- Lists of numbers in a line: the numbers, of which at most k are looked at, and the place of the first word that is none.
 use Prim.Native.Nat.{ℕ, zero, suc}
 use mathlib.Core.List.{List, [], _∷_}
-use Rattle.requests.specs.Said.{byteAt, symbolAt}
-use Rattle.requests.specs.declared.word.ByteWord.{ByteWord}
-use Rattle.requests.specs.declared.word.ByteWord.the-variants.{Byte, NoByte}
-use Rattle.requests.specs.declared.word.SymbolWord.{SymbolWord}
-use Rattle.requests.specs.declared.word.SymbolWord.the-variants.{Symbol, NoSymbol}
+use Rattle.words.specs.Said.{byteAt, symbolAt}
+use Rattle.words.specs.declared.word.ByteWord.{ByteWord}
+use Rattle.words.specs.declared.word.ByteWord.the-variants.{Byte, NoByte}
+use Rattle.words.specs.declared.word.SymbolWord.{SymbolWord}
+use Rattle.words.specs.declared.word.SymbolWord.the-variants.{Symbol, NoSymbol}
 
 abbrev pub byteOn : {A : Type 0} → ByteWord → (ℕ → ℕ → A) → (ℕ → A) → A
 byteOn (Byte b next) more end = more b next

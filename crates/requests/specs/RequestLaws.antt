@@ -7,14 +7,14 @@ use borrow.Author.Tests.{lt-ltb, le-ltb, le-leb, lt-leb}
 use Rattle.text.specs.declared.word.LineWord.{LineWord}
 use Rattle.text.specs.Chars.{chars}
 use Rattle.text.specs.Words.{wordFrom, partOf}
-use Rattle.requests.specs.Verbs.{verbOf}
-use Rattle.requests.specs.Said.{markAt}
+use Rattle.words.specs.Verbs.{verbOf}
+use Rattle.words.specs.Said.{markAt}
 use Rattle.requests.specs.Lists.{bytesEnd, symbolsEnd}
 use Rattle.requests.specs.Requests.{pecRequest, occupiedRequest, stepRequest, decodeTrace, encodeReceived, requestIn, requestOf}
 use Rattle.requests.specs.declared.expected.Expected.the-variants as expected
-use Rattle.requests.specs.declared.verb.Verb.{Verb}
-use Rattle.requests.specs.declared.word.MarkWord.{MarkWord}
-use Rattle.requests.specs.declared.word.MarkWord.the-variants.{Mark, Over, Another}
+use Rattle.words.specs.declared.verb.Verb.{Verb}
+use Rattle.words.specs.declared.word.MarkWord.{MarkWord}
+use Rattle.words.specs.declared.word.MarkWord.the-variants.{Mark, Over, Another}
 use Rattle.requests.specs.declared.request.Head.{Head}
 use Rattle.requests.specs.declared.request.Fields.{Fields}
 use Rattle.requests.specs.declared.request.Request.{Request}

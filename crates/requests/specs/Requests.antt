@@ -8,22 +8,22 @@ use Rattle.lists.specs.Choice.{pick}
 use Rattle.udid.specs.declared.Udid.{Udid}
 use Rattle.text.specs.Chars.{chars}
 use Rattle.text.specs.Words.{wordFrom}
-use Rattle.requests.specs.Verbs.{verbOf}
-use Rattle.requests.specs.Said.{wordIn, byteAt, udidAt, protocolAt, pecAt, markAt, restAt}
+use Rattle.words.specs.Verbs.{verbOf}
+use Rattle.words.specs.Said.{wordIn, byteAt, udidAt, protocolAt, pecAt, markAt, restAt}
 use Rattle.requests.specs.Lists.{bytesEnd, symbolsEnd}
 use Rattle.requests.specs.declared.expected.Expected.the-variants as expected
-use Rattle.requests.specs.declared.verb.Verb.{Verb}
-use Rattle.requests.specs.declared.verb.Verb.the-variants as verb
-use Rattle.requests.specs.declared.word.ByteWord.{ByteWord}
-use Rattle.requests.specs.declared.word.ByteWord.the-variants.{Byte, NoByte}
-use Rattle.requests.specs.declared.word.UdidWord.{UdidWord}
-use Rattle.requests.specs.declared.word.UdidWord.the-variants.{Identifier, NoIdentifier}
-use Rattle.requests.specs.declared.word.PecWord.{PecWord}
-use Rattle.requests.specs.declared.word.PecWord.the-variants.{With, Without, Neither}
-use Rattle.requests.specs.declared.word.MarkWord.{MarkWord}
-use Rattle.requests.specs.declared.word.MarkWord.the-variants.{Mark, Over, Another}
-use Rattle.requests.specs.declared.word.Rest.{Rest}
-use Rattle.requests.specs.declared.word.Rest.the-variants as left
+use Rattle.words.specs.declared.verb.Verb.{Verb}
+use Rattle.words.specs.declared.verb.Verb.the-variants as verb
+use Rattle.words.specs.declared.word.ByteWord.{ByteWord}
+use Rattle.words.specs.declared.word.ByteWord.the-variants.{Byte, NoByte}
+use Rattle.words.specs.declared.word.UdidWord.{UdidWord}
+use Rattle.words.specs.declared.word.UdidWord.the-variants.{Identifier, NoIdentifier}
+use Rattle.words.specs.declared.word.PecWord.{PecWord}
+use Rattle.words.specs.declared.word.PecWord.the-variants.{With, Without, Neither}
+use Rattle.words.specs.declared.word.MarkWord.{MarkWord}
+use Rattle.words.specs.declared.word.MarkWord.the-variants.{Mark, Over, Another}
+use Rattle.words.specs.declared.word.Rest.{Rest}
+use Rattle.words.specs.declared.word.Rest.the-variants as left
 use Rattle.requests.specs.declared.head.HeadWords.{HeadWords}
 use Rattle.requests.specs.declared.head.HeadWords.the-variants.{HeadIs, NoHead}
 use Rattle.requests.specs.declared.head.FieldWords.{FieldWords}

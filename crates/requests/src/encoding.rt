@@ -11,8 +11,8 @@ use crate::list::symbols_end;
 use crate::request::Fields;
 use crate::request::Head;
 use crate::request::Request;
-use crate::word::MarkWord;
-use crate::word::mark_word;
+use words::word::MarkWord;
+use words::word::mark_word;
 
 // pec B...
 pub(crate) fn pec(line: &[u8], from: usize) -> Request

@@ -4,11 +4,11 @@ ghost use Rattle.requests.specs.Requests.{headAt, fieldsAt, restOfFields
 use crate::expected::Expected;
 use crate::request::Fields;
 use crate::request::Head;
-use crate::word::ByteWord;
-use crate::word::PecWord;
-use crate::word::byte_word;
-use crate::word::pec_word;
-use crate::word::protocol_word;
+use words::word::ByteWord;
+use words::word::PecWord;
+use words::word::byte_word;
+use words::word::pec_word;
+use words::word::protocol_word;
 
 // A head and the place after it, or what was expected at which place.
 pub(crate) enum HeadWords {

@@ -4,10 +4,10 @@ ghost use mathlib.Core.Path.{_≡_};
 ghost use lib.ListN.{length};
 ghost use Rattle.text.specs.Written.{Appended};
 ghost use Rattle.requests.specs.Lists.{bytesEnd, symbolsEnd, bytesFrom, symbolsFrom};
-use crate::word::ByteWord;
-use crate::word::SymbolWord;
-use crate::word::byte_word;
-use crate::word::symbol_word;
+use words::word::ByteWord;
+use words::word::SymbolWord;
+use words::word::byte_word;
+use words::word::symbol_word;
 
 // The place of the first word from a place on that is no byte.
 pub(crate) fn bytes_end(line: &[u8], from: usize) -> usize

@@ -6,12 +6,12 @@ use crate::list::bytes_end;
 use crate::list::symbols_end;
 use crate::request::Record;
 use crate::request::Request;
-use crate::word::ByteWord;
-use crate::word::Rest;
-use crate::word::UdidWord;
-use crate::word::after_word;
-use crate::word::byte_word;
-use crate::word::udid_word;
+use words::word::ByteWord;
+use words::word::Rest;
+use words::word::UdidWord;
+use words::word::after_word;
+use words::word::byte_word;
+use words::word::udid_word;
 use udid::Udid;
 
 // A request, where no word is left for it.

@@ -1,5 +1,5 @@
 use mathlib.Core.Path.{sym, ap, _∙_}
-use Rattle.requests.specs.declared.verb.Verb.{Verb}
+use Rattle.words.specs.declared.verb.Verb.{Verb}
 use borrow.Author.Needs.{needs}
 use Rattle.requests.specs.Requests.{requestIn}
 use Rattle.requests.proofs.request.request_in.Statement.{statement}

@@ -1,0 +1,4 @@
+pub mod Verbs
+pub mod Protocols
+pub mod Said
+pub mod SaidLaws

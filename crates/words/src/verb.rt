@@ -1,0 +1,67 @@
+// The verbs: the first word of a request.
+ghost use mathlib.Core.Path.{_≡_};
+ghost use Rattle.words.specs.Verbs.{verbOf, passVerb};
+use text::word::same;
+
+pub enum Verb {
+    Pec,
+    Encode,
+    Decode,
+    Occupied,
+    Target,
+    Clear,
+    Run,
+    Start,
+    Step,
+    Lookup,
+    Grid,
+    // Any other word.
+    Other,
+}
+
+// The verbs of a pass.
+fn pass_verb(s: &[u8]) -> Verb
+    ensures { λ r. ⌜ r ≡ passVerb (now (s .entry)) ⌝ }
+{
+    if same(s, b"start") {
+        return Verb::Start;
+    }
+    if same(s, b"step") {
+        return Verb::Step;
+    }
+    if same(s, b"lookup") {
+        return Verb::Lookup;
+    }
+    if same(s, b"grid") {
+        return Verb::Grid;
+    }
+    Verb::Other
+}
+
+// The verb that a word is.
+pub fn verb_of(s: &[u8]) -> Verb
+    ensures { λ r. ⌜ r ≡ verbOf (now (s .entry)) ⌝ }
+{
+    if same(s, b"pec") {
+        return Verb::Pec;
+    }
+    if same(s, b"encode") {
+        return Verb::Encode;
+    }
+    if same(s, b"decode") {
+        return Verb::Decode;
+    }
+    if same(s, b"occupied") {
+        return Verb::Occupied;
+    }
+    if same(s, b"target") {
+        return Verb::Target;
+    }
+    if same(s, b"clear") {
+        return Verb::Clear;
+    }
+    if same(s, b"run") {
+        return Verb::Run;
+    }
+    pass_verb(s)
+}
