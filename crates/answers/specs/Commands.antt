@@ -11,7 +11,7 @@ use Rattle.commands.specs.declared.command.End.{End}
 use Rattle.commands.specs.declared.command.End.the-variants.{Nothing, Ended, NoneFree, Abandoned, NotOutstanding}
 use Rattle.commands.specs.declared.command.Handed.{Handed}
 use Rattle.commands.specs.declared.command.Handed.the-variants.{Send, Wait}
-use Rattle.answers.specs.Pieces.{newline, udidText}
+use Rattle.pieces.specs.Pieces.{newline, udidText}
 
 -- an address for a target
 abbrev pub assignText : Udid → Address → List ℕ

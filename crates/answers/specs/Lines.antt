@@ -1,52 +1,9 @@
--- Answers of one line.
-use Prim.Native.Nat.{ℕ, _+_, _%_, _^_}
+-- What is printed for occupied, target and clear: a line each.
+use Prim.Native.Nat.{ℕ}
 use mathlib.Core.List.{List, _++_}
 use Rattle.text.specs.Chars.{chars}
-use Rattle.text.specs.Written.{decimalOf, pairOf}
-use Rattle.requests.specs.declared.expected.Expected.{Expected}
-use Rattle.requests.specs.declared.expected.Expected.the-variants.{Verb, Byte, Symbol, Protocol, Pec, Sent, Received, Udid, End, Targets, Line}
-use Rattle.encode.specs.declared.Encoded.{Encoded}
-use Rattle.encode.specs.declared.Encoded.the-variants.{Written, Forbidden, OutputTooShort}
-use Rattle.arp.specs.declared.lookup.Found.{Found}
-use Rattle.arp.specs.declared.lookup.Found.the-variants.{Bound, Nobody, Two, NoAddress}
-use Rattle.answers.specs.Pieces.{newline, udidText, front, symbolsText}
-
--- ---- what is no request
-
-abbrev pub expectedText : Expected → List ℕ
-expectedText Verb = chars " expected a verb\n"
-expectedText Byte = chars " expected a byte, 0 to 255\n"
-expectedText Symbol = chars " expected a symbol, 0 to 65535\n"
-expectedText Protocol = chars " expected a protocol, by number or name\n"
-expectedText Pec = chars " expected p or -\n"
-expectedText Sent = chars " expected w\n"
-expectedText Received = chars " expected a byte, 0 to 255, or r\n"
-expectedText Udid = chars " expected a UDID of 32 hexadecimal digits\n"
-expectedText End = chars " expected the end of the line\n"
-expectedText Targets = chars " expected at most 120 targets\n"
-expectedText Line = chars " expected a line of at most 16384 characters\n"
-
--- the column of a place, in 64 bits
-abbrev pub column : ℕ → ℕ
-column place = (place + 1) % 2 ^ 64
-
-unfoldable pub unclearText : Expected → ℕ → List ℕ
-unclearText e place = (chars "? " ++ decimalOf (column place)) ++ expectedText e
-
--- ---- pec and encode
-
-abbrev pub pecText : ℕ → List ℕ
-pecText b = (chars "0 pec 0x" ++ pairOf b) ++ newline
-
-abbrev pub traceText : List ℕ → List ℕ
-traceText s = (chars "0 trace" ++ symbolsText s) ++ newline
-
-abbrev pub encodedText : Encoded → List ℕ → List ℕ
-encodedText (Written n) trace = traceText (front n trace)
-encodedText Forbidden trace = chars "1\n"
-encodedText OutputTooShort trace = chars "2\n"
-
--- ---- occupied, target and clear
+use Rattle.text.specs.Written.{decimalOf}
+use Rattle.pieces.specs.Pieces.{newline}
 
 abbrev pub occupiedText : ℕ → List ℕ
 occupiedText n = (chars "0 occupied " ++ decimalOf n) ++ newline
@@ -59,11 +16,3 @@ targetText i = (chars "0 target " ++ decimalOf i) ++ newline
 
 abbrev pub clearText : List ℕ
 clearText = chars "0 clear\n"
-
--- ---- lookup
-
-abbrev pub foundText : Found → List ℕ
-foundText (Bound u) = (chars "0 udid " ++ udidText u) ++ newline
-foundText Nobody = chars "15\n"
-foundText Two = chars "16\n"
-foundText NoAddress = chars "1\n"

@@ -11,7 +11,7 @@ use Rattle.udid.specs.Bytes.{udidAt}
 use Rattle.text.specs.Chars.{chars}
 use Rattle.text.specs.Written.{decimalOf, pairOf}
 use Rattle.bindings.specs.declared.answer.ModelAnswer.{ModelAnswer}
-use Rattle.answers.specs.Pieces.{newline, udidText, below}
+use Rattle.pieces.specs.Pieces.{newline, udidText, below}
 
 -- a bound address and its target, which stands in the binding buffer at 16 times the address
 abbrev pub boundText : List ℕ → ℕ → List ℕ

@@ -1,13 +1,13 @@
 // The answers of start and step: what the controller hands out.
 ghost use Rattle.text.specs.Written.{Appended};
 ghost use Rattle.answers.specs.Commands.{assignText, nextText, endText, commandText};
-use crate::piece::hex_line;
-use crate::piece::put_line;
-use crate::piece::put_udid;
-use crate::piece::udid_line;
 use commands::command::Command;
 use commands::command::End;
 use commands::command::Handed;
+use pieces::piece::hex_line;
+use pieces::piece::put_line;
+use pieces::piece::put_udid;
+use pieces::piece::udid_line;
 use udid::Udid;
 use wire::address::Address;
 

@@ -1,8 +1,8 @@
 // The answers of occupied, target and clear.
 ghost use Rattle.text.specs.Written.{Appended};
 ghost use Rattle.answers.specs.Lines.{occupiedText, noAddressText, targetText, clearText};
-use crate::piece::number_line;
-use crate::piece::put_line;
+use pieces::piece::number_line;
+use pieces::piece::put_line;
 
 // How many addresses are occupied.
 pub fn put_occupied(out: &mut [u8], at: usize, n: u32) -> usize

@@ -13,7 +13,7 @@ use crate::setup::occupied;
 use crate::setup::target;
 use crate::shelf::Shelf;
 use crate::shelf::Turn;
-use answers::unclear::put_unclear;
+use codec_answers::unclear::put_unclear;
 use requests::request::Request;
 use requests::request::read_request;
 

@@ -1,7 +1,7 @@
 // The requests of the codec: pec, encode and decode. A line has room for at most 8,192 numbers.
-use answers::codec::put_encoded;
-use answers::codec::put_pec;
-use answers::decoded::put_decoded;
+use codec_answers::codec::put_encoded;
+use codec_answers::codec::put_pec;
+use codec_answers::decoded::put_decoded;
 use requests::list::read_bytes;
 use requests::list::read_symbols;
 use requests::request::Fields;

@@ -8,7 +8,7 @@ use crate::print::room;
 use crate::shelf::Shelf;
 use crate::shelf::Turn;
 use crate::shelf::new_shelf;
-use answers::unclear::put_unclear;
+use codec_answers::unclear::put_unclear;
 use requests::expected::Expected;
 use text::word::comment;
 use text::word::line_end;

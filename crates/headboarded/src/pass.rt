@@ -2,10 +2,10 @@
 use crate::shelf::Shelf;
 use crate::shelf::Turn;
 use answers::command::put_command;
-use answers::found::put_found;
-use answers::grid::put_grid;
 use arp::state::Controller;
 use arp::state::Stepped;
+use lookups::found::put_found;
+use lookups::grid::put_grid;
 use requests::list::read_symbols;
 use wire::address::Address;
 

@@ -2,8 +2,8 @@
 // start and step drive is not.
 use crate::shelf::Shelf;
 use answers::run::put_run;
-use answers::unclear::put_unclear;
 use bus::run::run_model;
+use codec_answers::unclear::put_unclear;
 use pool::Pool;
 use requests::expected::Expected;
 

@@ -6,7 +6,7 @@ use answers::shelf::put_clear;
 use answers::shelf::put_no_address;
 use answers::shelf::put_occupied;
 use answers::shelf::put_target;
-use answers::unclear::put_unclear;
+use codec_answers::unclear::put_unclear;
 use pool::Pool;
 use requests::expected::Expected;
 use requests::list::read_bytes;

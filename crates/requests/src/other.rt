@@ -6,13 +6,13 @@ use crate::list::bytes_end;
 use crate::list::symbols_end;
 use crate::request::Record;
 use crate::request::Request;
+use udid::Udid;
 use words::word::ByteWord;
 use words::word::Rest;
 use words::word::UdidWord;
 use words::word::after_word;
 use words::word::byte_word;
 use words::word::udid_word;
-use udid::Udid;
 
 // A request, where no word is left for it.
 pub(crate) fn ending(q: Request, line: &[u8], from: usize) -> Request

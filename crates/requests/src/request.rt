@@ -11,11 +11,11 @@ use crate::other::lookup;
 use crate::other::occupied;
 use crate::other::step;
 use crate::other::target;
-use words::verb::Verb;
-use words::verb::verb_of;
 use text::word::next_word;
 use text::word::part;
 use udid::Udid;
+use words::verb::Verb;
+use words::verb::verb_of;
 
 // A protocol's number, and whether there is a PEC.
 pub struct Head {

@@ -1,4 +1,4 @@
-use Rattle.answers.specs.Pieces.{udidText, newline}
+use Rattle.pieces.specs.Pieces.{udidText, newline}
 use Rattle.text.specs.Chars.{chars}
 use Rattle.text.specs.WrittenLaws.{appended-on, appended-as}
 use Rattle.udid.specs.declared.Udid.{Udid}

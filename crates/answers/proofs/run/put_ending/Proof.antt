@@ -1,4 +1,4 @@
-use Rattle.answers.specs.Pieces.{udidText}
+use Rattle.pieces.specs.Pieces.{udidText}
 use Rattle.lists.specs.Choice.{pick}
 use Rattle.text.specs.Chars.{chars}
 use Rattle.text.specs.WrittenLaws.{appended-on, appended-as, appended-none}

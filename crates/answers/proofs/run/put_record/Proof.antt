@@ -1,5 +1,5 @@
 use Prim.Native.Nat.{ℕ}
-use Rattle.answers.specs.Pieces.{newline}
+use Rattle.pieces.specs.Pieces.{newline}
 use Rattle.text.specs.Chars.{chars}
 use Rattle.text.specs.Written.{decimalOf}
 use Rattle.text.specs.WrittenLaws.{appended-on, appended-as}

@@ -1,6 +1,6 @@
 use Prim.Native.Nat.{_-_, _/_}
-use Rattle.answers.specs.PieceLaws.{below-on, below-over}
-use Rattle.answers.specs.Pieces.{below}
+use Rattle.pieces.specs.PieceLaws.{below-on, below-over}
+use Rattle.pieces.specs.Pieces.{below}
 use Rattle.answers.specs.Runs.{recordText}
 use Rattle.text.specs.Written.{Came}
 use Rattle.text.specs.WrittenLaws.{came-start, came-turn, came-done}

@@ -35,7 +35,7 @@ returns c = record {
   answered = c .report .ensures ∙ ap reported (c .before .before .before .before .before .before .before .before .before .run-pass .ensures .controller);
   records-hold = c .before .before .before .before .before .before .before .before .before .run-pass .ensures .stored;
   bindings-hold =
-    c .before .before .before .put-bindings .ensures ∙ long-enough (c .before .before .before .before .before .before .before .before .before .run-pass .result .state .slots) (now (c .before .before .before .before .before .before .before .before .before .before .before .before .before .args .bindings)) (search needs)
+      c .before .before .before .put-bindings .ensures ∙ long-enough (c .before .before .before .before .before .before .before .before .before .run-pass .result .state .slots) (now (c .before .before .before .before .before .before .before .before .before .before .before .before .before .args .bindings)) (search needs)
       ∙ ap (λ (x : Stepped). bufferOf (entryAt (x .state .slots)) ++ drop bufferSize (now (c .before .before .before .before .before .before .before .before .before .before .before .before .before .args .bindings))) (c .before .before .before .before .before .before .before .before .before .run-pass .ensures .controller);
 }
 
