@@ -3,7 +3,7 @@ ghost use mathlib.Core.Path.{_≡_};
 ghost use Prim.Native.Nat.{_+_, _*_, _/_, _%_};
 ghost use lib.Dec.{ltb, eqb};
 ghost use Rattle.wire.specs.Addresses.{isReserved};
-ghost use Rattle.wire.specs.Pec.{pecStep, pecFrom, pecOf};
+ghost use Rattle.pec.specs.Pec.{pecStep, pecFrom, pecOf};
 ghost use Rattle.trace.specs.Lengths.{roomFor};
 ghost use Rattle.c_codec.specs.Numbers.{truth, bit};
 use c_codec::numbers::as_number;
@@ -15,7 +15,7 @@ use wire::address::WireByte;
 pub extern "C" fn hb_pec_byte(crc: u8, byte: u8) -> u8
     ensures { λ r. ⌜ r ≡ pecStep crc byte ⌝ }
 {
-    wire::pec::add_byte(crc, byte)
+    pec::add_byte(crc, byte)
 }
 
 // The packet error code after more bytes.
@@ -23,7 +23,7 @@ pub extern "C" fn hb_pec_byte(crc: u8, byte: u8) -> u8
 pub extern "C" fn hb_pec_bytes(crc: u8, s: &[u8]) -> u8
     ensures { λ r. ⌜ r ≡ pecFrom crc (now (s .entry)) ⌝ }
 {
-    wire::pec::add_bytes(crc, s)
+    pec::add_bytes(crc, s)
 }
 
 // The packet error code of bytes.
@@ -31,7 +31,7 @@ pub extern "C" fn hb_pec_bytes(crc: u8, s: &[u8]) -> u8
 pub extern "C" fn hb_pec(s: &[u8]) -> u8
     ensures { λ r. ⌜ r ≡ pecOf (now (s .entry)) ⌝ }
 {
-    wire::pec::of_bytes(s)
+    pec::of_bytes(s)
 }
 
 // The byte on the wire that asks the address for a write.

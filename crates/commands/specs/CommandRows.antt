@@ -3,7 +3,7 @@ use Prim.Native.Nat.{ℕ, _*_, _<_}
 use mathlib.Core.Path.{_≡_}
 use mathlib.Core.List.{List, [], _∷_, _++_}
 use lib.ListN.{length}
-use Rattle.wire.specs.Pec.{pecOf}
+use Rattle.pec.specs.Pec.{pecOf}
 use Rattle.wire.specs.declared.address.Address.{Address}
 use Rattle.trace.specs.Trace.{acked}
 use Rattle.udid.specs.Bytes.{udidBytes}

@@ -4,7 +4,7 @@ use mathlib.Core.List.{List, [], _∷_, _++_}
 use mathlib.Core.Path.{_≡_}
 use lib.ListN.{length}
 use Rattle.lists.specs.Each.{Bytes}
-use Rattle.wire.specs.Pec.{pecOf}
+use Rattle.pec.specs.Pec.{pecOf}
 use Rattle.trace.specs.Trace.{acked}
 use Rattle.udid.specs.Bytes.{udidBytes}
 use Rattle.udid.specs.declared.Udid.{Udid}

@@ -9,7 +9,7 @@ use lib.ListN.{length, getD, drop, length-append, length-drop}
 use lib.Seq.{split-at}
 use Rattle.lists.specs.Each.{Bytes}
 use Rattle.lists.specs.EachLaws.{append-bytes}
-use Rattle.wire.specs.Pec.{bitStep, pecStep, pecFrom, pecOf}
+use Rattle.pec.specs.Pec.{bitStep, pecStep, pecFrom, pecOf}
 use Rattle.wire.specs.declared.address.Address.{Address}
 use Rattle.trace.specs.RowsLaws.{rows}
 use Rattle.trace.specs.Lengths.{traceLength}

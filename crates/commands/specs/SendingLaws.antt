@@ -15,7 +15,7 @@ use Rattle.lists.specs.AbsurdLaws.{zero-is-one}
 use Rattle.lists.specs.Choice.{pick}
 use Rattle.lists.specs.Each.{Bytes}
 use Rattle.lists.specs.Onto.{onto}
-use Rattle.wire.specs.Pec.{pecOf}
+use Rattle.pec.specs.Pec.{pecOf}
 use Rattle.wire.specs.declared.address.Address.{Address}
 use Rattle.trace.specs.Shapes.{protocols, shapeOf}
 use Rattle.trace.specs.Trace.{Valid, Message, acked}

@@ -3,8 +3,8 @@ use mathlib.Core.Path.{_≡_, sym, ap, ap₂, _∙_}
 use mathlib.Core.Bool.{Bool, true, false}
 use mathlib.Core.List.{List, _++_}
 use Prim.Native.Nat.{ℕ}
-use Rattle.wire.specs.Pec.{pecStep, pecFrom, pecOf}
-use Rattle.wire.specs.PecLaws.{pec-append, pec-cons, pec-nil}
+use Rattle.pec.specs.Pec.{pecStep, pecFrom, pecOf}
+use Rattle.pec.specs.PecLaws.{pec-append, pec-cons, pec-nil}
 use Rattle.trace.specs.declared.shape.Part.{Part}
 use Rattle.trace.specs.declared.shape.Shape.{Shape}
 use Rattle.trace.specs.Shapes.{isCounted, writes, reads}

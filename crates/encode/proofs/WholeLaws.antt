@@ -14,8 +14,8 @@ use Rattle.lists.specs.ChoiceLaws.{false-not-true}
 use Rattle.lists.specs.Onto.{onto}
 use Rattle.lists.specs.OntoLaws.{onto-lent}
 use Rattle.wire.specs.Symbols.{START, STOP, ACK}
-use Rattle.wire.specs.Pec as Pec
-use Rattle.wire.specs.PecLaws.{pec-append}
+use Rattle.pec.specs.Pec as Pec
+use Rattle.pec.specs.PecLaws.{pec-append}
 use Rattle.trace.specs.declared.shape.Part.{Part}
 use Rattle.trace.specs.declared.shape.Part.the-variants.{Nothing, Fixed, Counted}
 use Rattle.trace.specs.declared.shape.Shape.{Shape}

@@ -7,7 +7,7 @@ use lib.Dec.{eqb}
 use lib.ListN.{length}
 use Rattle.lists.specs.Choice.{pick, and}
 use Rattle.wire.specs.Symbols.{START, STOP, ACK}
-use Rattle.wire.specs.Pec.{pecFrom, pecOf}
+use Rattle.pec.specs.Pec.{pecFrom, pecOf}
 use Rattle.trace.specs.declared.shape.Part.{Part}
 use Rattle.trace.specs.declared.shape.Shape.{Shape}
 use Rattle.trace.specs.Shapes.{isCounted, writes, reads}

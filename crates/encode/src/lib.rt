@@ -17,8 +17,8 @@ use trace::valid::direction_fits;
 use wire::address::Address;
 
 mod bytes;
-mod pec;
 mod read;
+mod trace_pec;
 mod write;
 
 // What the encoder answers: done, with the length of the trace that it wrote; 1; 2.
@@ -57,7 +57,7 @@ fn put_trace(
 {
     let first = write::first_byte(sh, address, direction);
     let second = address.for_read();
-    let pecbyte = pec::pec_of(pec, sh, first, second, command, sent, received);
+    let pecbyte = trace_pec::pec_of(pec, sh, first, second, command, sent, received);
     let n = write::put_write_phase(out, sh, first, command, sent);
     // What follows the write phase is lent, from its middle on, to the writer of the read phase.
     read::put_rest(&mut out[n..], sh, second, received, pec, pecbyte);

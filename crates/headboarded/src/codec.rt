@@ -12,7 +12,7 @@ use wire::address::Address;
 pub(crate) fn pec(text: &[u8], from: usize, out: &mut [u8], at: usize) -> usize {
     let mut bytes = [0u8; 8192];
     let n = read_bytes(text, from, &mut bytes);
-    put_pec(out, at, wire::pec::of_bytes(&bytes[..n]))
+    put_pec(out, at, pec::of_bytes(&bytes[..n]))
 }
 
 // The trace of a transaction.

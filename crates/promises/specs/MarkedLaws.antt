@@ -10,7 +10,7 @@ use borrow.Author.Tests.{ltb-true}
 use Rattle.lists.specs.AbsurdLaws.{zero-is-one}
 use Rattle.lists.specs.Choice.{pick}
 use Rattle.lists.specs.Each.{Each, Bytes}
-use Rattle.wire.specs.Pec.{bitStep, pecStep, pecFrom}
+use Rattle.pec.specs.Pec.{bitStep, pecStep, pecFrom}
 use Rattle.trace.specs.Allowed.{lengthsFit, allowed}
 use Rattle.trace.specs.Rows.{message}
 use Rattle.trace.specs.declared.shape.Shape.{Shape}

@@ -2,7 +2,7 @@
 pub use Rattle.lists.specs.Each.{Each, Bytes}
 -- the codec
 pub use Rattle.wire.specs.Addresses.{isReserved}
-pub use Rattle.wire.specs.Pec.{pecOf}
+pub use Rattle.pec.specs.Pec.{pecOf}
 pub use Rattle.wire.specs.declared.address.Address.{Address}
 pub use Rattle.trace.specs.Rows.{message}
 pub use Rattle.trace.specs.Table.{lastProtocol, TraceOf}
@@ -46,7 +46,8 @@ pub use Rattle.rule.specs.Bus.{pass}
 pub use Rattle.rule.specs.PlainRule.{Given, Ending, served, noneFree, Distinct, ruled}
 pub use Rattle.rule.specs.Reading.{Any, RecordOf, OnePerUdid}
 pub use Rattle.rule.specs.Sent.{getsOnBus}
-pub use Rattle.bus.specs.Run.{modelNumber, Leaves, modelEnd}
+pub use Rattle.report.specs.Report.{modelNumber}
+pub use Rattle.bus.specs.Run.{Leaves, modelEnd}
 pub use Rattle.bindings.specs.declared.answer.ModelAnswer.{ModelAnswer}
 -- the marked cases
 pub use Rattle.promises.specs.MarkedWords.{identifier, holding, Shows}

@@ -6,7 +6,7 @@ use mathlib.Core.List.{List, [], _∷_, _++_}
 use lib.Dec.{eqb}
 use lib.ListN.{getD, take}
 use Rattle.lists.specs.Choice.{pick, or, and}
-use Rattle.wire.specs.Pec.{pecOf}
+use Rattle.pec.specs.Pec.{pecOf}
 use Rattle.wire.specs.Symbols.{STOP, ACK, NACK}
 use Rattle.trace.specs.Trace.{nacked}
 use Rattle.udid.specs.Bytes.{udidBytes}

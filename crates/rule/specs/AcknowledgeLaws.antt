@@ -5,7 +5,7 @@ use mathlib.Core.List.{List, [], _∷_, _++_, append-assoc}
 use native.Mathlib.Omega.{arith}
 use lib.ListN.{length, take, drop, length-append}
 use lib.Seq.{take-at}
-use Rattle.wire.specs.Pec.{bitStep, pecStep, pecFrom, pecOf}
+use Rattle.pec.specs.Pec.{bitStep, pecStep, pecFrom, pecOf}
 use Rattle.wire.specs.Symbols.{STOP}
 use Rattle.wire.specs.declared.address.Address.{Address}
 use Rattle.trace.specs.Shapes.{shapeOf}

@@ -14,8 +14,8 @@ use Rattle.lists.specs.Choice.{pick, and}
 use Rattle.lists.specs.ChoiceLaws.{false-not-true}
 use Rattle.lists.specs.EachLaws.{append-bytes}
 use Rattle.lists.specs.Each.{Each, Bytes}
-use Rattle.wire.specs.Pec.{pecOf}
-use Rattle.wire.specs.PecLaws.{pec-byte}
+use Rattle.pec.specs.Pec.{pecOf}
+use Rattle.pec.specs.PecLaws.{pec-byte}
 use Rattle.wire.specs.Symbols.{STOP, ACK, NACK}
 use Rattle.wire.specs.declared.address.Address.{Address}
 use Rattle.trace.specs.LengthLaws.{length-acked}

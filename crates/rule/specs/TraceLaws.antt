@@ -13,8 +13,8 @@ use Rattle.lists.specs.Choice.{pick, or}
 use Rattle.lists.specs.ChoiceLaws.{or-last}
 use Rattle.lists.specs.Each.{Bytes}
 use Rattle.lists.specs.EachLaws.{append-bytes}
-use Rattle.wire.specs.Pec.{bitStep, pecStep, pecFrom, pecOf}
-use Rattle.wire.specs.PecLaws.{pec-byte}
+use Rattle.pec.specs.Pec.{bitStep, pecStep, pecFrom, pecOf}
+use Rattle.pec.specs.PecLaws.{pec-byte}
 use Rattle.wire.specs.Symbols.{START, STOP, ACK, NACK}
 use Rattle.arbitration.specs.Among.{Among}
 use Rattle.trace.specs.Trace.{acked}

@@ -12,7 +12,7 @@ use Rattle.lists.specs.Each.{Bytes}
 use Rattle.lists.specs.EachLaws.{zeros-bytes}
 use Rattle.wire.specs.Addresses.{hostAddress}
 use Rattle.wire.specs.Symbols.{START, STOP, ACK, NACK}
-use Rattle.wire.specs.Pec.{pecStep, pecFrom}
+use Rattle.pec.specs.Pec.{pecStep, pecFrom}
 use Rattle.trace.specs.declared.shape.Part.{Part}
 use Rattle.trace.specs.declared.shape.Part.the-variants.{Nothing, Fixed, Counted}
 use Rattle.trace.specs.declared.shape.Shape.{Shape}

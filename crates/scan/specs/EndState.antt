@@ -3,7 +3,7 @@ use mathlib.Core.Bool.{Bool, true}
 use Prim.Native.Nat.{ℕ, _+_}
 use lib.Dec.{eqb}
 use Rattle.lists.specs.Choice.{pick}
-use Rattle.wire.specs.Pec.{pecStep, pecFrom}
+use Rattle.pec.specs.Pec.{pecStep, pecFrom}
 use Rattle.trace.specs.declared.shape.Part.{Part}
 use Rattle.trace.specs.declared.shape.Shape.{Shape}
 use Rattle.trace.specs.Shapes.{writes, reads}

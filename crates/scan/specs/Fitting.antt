@@ -6,7 +6,7 @@ use mathlib.Core.List.{List, [], _∷_, _++_}
 use mathlib.Core.Logic.{_⊎_}
 use Prim.Native.Nat.{ℕ, suc, _+_, _<_}
 use lib.ListN.{length, take}
-use Rattle.wire.specs.Pec.{pecOf}
+use Rattle.pec.specs.Pec.{pecOf}
 use Rattle.trace.specs.Table.{Line, InTable, symbols}
 use Rattle.scan.specs.BytesIn.{bytesIn}
 

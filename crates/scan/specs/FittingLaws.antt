@@ -8,7 +8,7 @@ use Prim.Native.Nat.{ℕ, suc, _+_, _≤_, _<_}
 use native.Mathlib.Omega.{arith}
 use lib.ListN.{length, take}
 use Rattle.lists.specs.Each.{Bytes}
-use Rattle.wire.specs.Pec as Pec
+use Rattle.pec.specs.Pec as Pec
 use Rattle.trace.specs.Shapes.{protocols, shapeOf}
 use Rattle.trace.specs.Table.{Line, line, InTable}
 use Rattle.trace.specs.TableLaws.{row-means, row-of}

@@ -11,8 +11,8 @@ use Rattle.lists.specs.Choice.{pick, or, and}
 use Rattle.lists.specs.ChoiceLaws.{false-not-true}
 use Rattle.lists.specs.Each.{Bytes}
 use Rattle.wire.specs.Symbols.{START, STOP, ACK, NACK}
-use Rattle.wire.specs.Pec.{pecStep, pecFrom}
-use Rattle.wire.specs.PecLaws.{pec-append}
+use Rattle.pec.specs.Pec.{pecStep, pecFrom}
+use Rattle.pec.specs.PecLaws.{pec-append}
 use Rattle.trace.specs.declared.shape.Part.{Part}
 use Rattle.trace.specs.declared.shape.Part.the-variants.{Nothing, Fixed, Counted}
 use Rattle.trace.specs.declared.shape.Shape.{Shape}

@@ -7,7 +7,7 @@ use native.Mathlib.Omega.{arith}
 use Rattle.lists.specs.Choice.{pick}
 use Rattle.lists.specs.EachLaws.{append-bytes}
 use Rattle.lists.specs.Each.{Bytes}
-use Rattle.wire.specs.PecLaws as PecLaws
+use Rattle.pec.specs.PecLaws as PecLaws
 use Rattle.trace.specs.declared.shape.Part.{Part}
 use Rattle.trace.specs.declared.shape.Part.the-variants.{Nothing, Fixed, Counted}
 use Rattle.trace.specs.declared.shape.Shape.{Shape}

@@ -4,7 +4,7 @@ use Prim.Native.Nat.{ℕ, _%_}
 use lib.Dec.{eqb}
 use Rattle.lists.specs.Choice.{pick}
 use Rattle.wire.specs.Symbols.{ACK}
-use Rattle.wire.specs.Pec.{pecStep}
+use Rattle.pec.specs.Pec.{pecStep}
 use Rattle.trace.specs.declared.shape.Shape.{Shape}
 use Rattle.step.specs.declared.next.Aim.{Aim}
 use Rattle.step.specs.declared.state.Slot.{Slot}

@@ -11,8 +11,8 @@ use crate::next::to_sent;
 use crate::state::Decoder;
 use crate::state::Due;
 use crate::state::Slot;
+use pec::add_byte;
 use trace::shape::Shape;
-use wire::pec::add_byte;
 use wire::symbol::ACK;
 
 // At another slot.

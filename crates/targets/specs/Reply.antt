@@ -3,7 +3,7 @@ use Prim.Native.Nat.{ℕ}
 use mathlib.Core.Bool.{Bool}
 use mathlib.Core.List.{List, [], _∷_, _++_}
 use Rattle.lists.specs.Choice.{pick}
-use Rattle.wire.specs.Pec.{pecOf}
+use Rattle.pec.specs.Pec.{pecOf}
 use Rattle.trace.specs.Trace.{Message}
 use Rattle.udid.specs.Bytes.{udidBytes}
 use Rattle.arbitration.specs.Bits.{byteBits, bytesRead}

@@ -11,7 +11,7 @@ use borrow.Author.Tests.{lt-ltb}
 use Rattle.lists.specs.Choice.{pick}
 use Rattle.lists.specs.EachLaws.{append-bytes}
 use Rattle.lists.specs.Each.{Each, Bytes}
-use Rattle.wire.specs.PecLaws.{pec-byte}
+use Rattle.pec.specs.PecLaws.{pec-byte}
 use Rattle.udid.specs.Bytes.{udidBytes}
 use Rattle.udid.specs.Udids.{Fits, value, isBelow}
 use Rattle.udid.specs.UdidLaws.{length-udid, udid-bytes}

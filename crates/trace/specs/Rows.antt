@@ -7,7 +7,7 @@ use mathlib.Core.Bool.{true, false}
 use mathlib.Core.List.{List, [], _∷_, _++_}
 use Prim.Native.Nat.{ℕ, _+_, _*_}
 use lib.ListN.{length}
-use Rattle.wire.specs.Pec.{pecOf as pec}
+use Rattle.pec.specs.Pec.{pecOf as pec}
 use Rattle.trace.specs.Shapes.{shapeOf}
 use Rattle.trace.specs.Trace.{Message, acked, trace}
 

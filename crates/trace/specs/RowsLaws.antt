@@ -4,7 +4,7 @@ use mathlib.Core.List.{List, [], _∷_, _++_, append-assoc, append-nil}
 use Prim.Native.Nat.{ℕ, _+_, _*_}
 use native.Mathlib.Omega.{arith}
 use lib.ListN.{length, length-append}
-use Rattle.wire.specs.Pec.{pecOf as pec}
+use Rattle.pec.specs.Pec.{pecOf as pec}
 use Rattle.trace.specs.Trace.{W, R, acked, ackOf, nacked}
 use Rattle.trace.specs.Rows.{S, P, A, N, Rows}
 

@@ -7,7 +7,7 @@ use mathlib.Core.List.{List, [], _∷_, _++_}
 use Prim.Native.Nat.{ℕ, _+_, _*_, _≤_, _<_}
 use lib.ListN.{length}
 use Rattle.lists.specs.Each.{Bytes}
-use Rattle.wire.specs.Pec.{pecOf}
+use Rattle.pec.specs.Pec.{pecOf}
 use Rattle.wire.specs.Symbols.{START as S, STOP as P, ACK as A}
 use Rattle.trace.specs.Trace.{Message, acked, nacked, inPlace}
 use Rattle.trace.specs.Rows.{message}

@@ -16,7 +16,7 @@ use Rattle.trace.specs.Shapes.{shapes, protocols, shapeOf, writes, reads
 use Rattle.trace.specs.Table.{Line, line, Row, quick, send-byte, receive-byte, write-byte, write-word, read-byte, read-word, process-call, block-write, block-read, block-process-call, TraceOf}
 use Rattle.trace.specs.Trace.{Message, acked, byTarget, byController, bytes, inPlace, pecOf, traceAt, trace, Valid}
 use Rattle.trace.specs.declared.shape.Shape.{Shape}
-use Rattle.wire.specs.Pec as Pec
+use Rattle.pec.specs.Pec as Pec
 
 -- ---- a line of the table is a valid message with its symbols
 

@@ -8,7 +8,7 @@ use Rattle.lists.specs.Choice.{pick, or}
 use Rattle.lists.specs.Each.{Bytes}
 use Rattle.wire.specs.Addresses.{hostAddress}
 use Rattle.wire.specs.Symbols.{START, STOP, ACK, NACK}
-use Rattle.wire.specs.Pec as Pec
+use Rattle.pec.specs.Pec as Pec
 use Rattle.trace.specs.declared.shape.Part.{Part}
 use Rattle.trace.specs.declared.shape.Part.the-variants.{Nothing, Fixed, Counted}
 use Rattle.trace.specs.declared.shape.Shape.{Shape}

@@ -3,7 +3,7 @@ use mathlib.Core.Path.{_≡_}
 use mathlib.Core.List.{[], _∷_}
 use Prim.Native.Nat.{ℕ, _+_, _*_, _<_}
 use Rattle.wire.specs.Words.{wordBytes}
-use Rattle.wire.specs.Pec.{pecOf as pec}
+use Rattle.pec.specs.Pec.{pecOf as pec}
 use Rattle.trace.specs.Rows.{S, P, A, N, message, plain, checked}
 
 -- a is the address, c the command, w the word sent, v the word received

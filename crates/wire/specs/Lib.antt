@@ -3,8 +3,4 @@ pub mod AddressLaws
 pub mod Symbols
 pub mod Words
 pub mod WordsLaws
-pub mod Pec
-pub mod PecLaws
-pub mod PecDivision
 pub mod UniqueLaws
-pub mod PecDivisionLaws

@@ -1,6 +1,5 @@
-// The bus's small vocabulary: addresses and wire bytes, symbols, words, the packet error code, and a difference. Rests on lists alone.
+// The bus's small vocabulary: addresses and wire bytes, symbols, words, and a difference. Rests on lists alone.
 pub mod address;
 pub mod number;
-pub mod pec;
 pub mod symbol;
 pub mod word;

@@ -13,7 +13,7 @@ use lib.Dec.{ltb}
 use borrow.Author.Tests.{ltb-true}
 use Rattle.lists.specs.Choice.{pick}
 use Rattle.lists.specs.Each.{Bytes}
-use Rattle.wire.specs.Pec.{bitStep, pecStep, pecFrom, pecOf}
+use Rattle.pec.specs.Pec.{bitStep, pecStep, pecFrom, pecOf}
 
 pub pec-nil : (c : ℕ) → pecFrom c [] ≡ c
 unfolding pecFrom

@@ -2,13 +2,13 @@ use borrow.Author.Needs.{needs}
 use mathlib.Core.Path.{_≡_}
 use Prim.Native.Nat.{_≤_, _-_}
 use lib.ListN.{length, drop}
-use Rattle.wire.specs.Pec.{pecFrom}
-use Rattle.wire.specs.PecLaws.{pec-turn, pec-end}
-use Rattle.wire.proofs.pec.add_bytes.Statement.{statement}
-use Rattle.wire.proofs.pec.add_bytes.Tie as tie
-use Rattle.wire.proofs.pec.add_bytes.Reads as reads
-use Rattle.wire.proofs.pec.add_bytes.Lts as lts
-use Rattle.wire.proofs.pec.add_byte.Reads as add-byte-reads
+use Rattle.pec.specs.Pec.{pecFrom}
+use Rattle.pec.specs.PecLaws.{pec-turn, pec-end}
+use Rattle.pec.proofs.add_bytes.Statement.{statement}
+use Rattle.pec.proofs.add_bytes.Tie as tie
+use Rattle.pec.proofs.add_bytes.Reads as reads
+use Rattle.pec.proofs.add_bytes.Lts as lts
+use Rattle.pec.proofs.add_byte.Reads as add-byte-reads
 
 abbrev Inv-loop : tie.InvT-loop
 Inv-loop c s z₀ i₀ z i = (i ≤ length s) × (pecFrom c s ≡ pecFrom z (drop i s))

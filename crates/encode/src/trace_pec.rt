@@ -1,18 +1,18 @@
 // The packet error code over every byte of both phases, the address bytes and the counts included.
 ghost use mathlib.Core.Path.{_≡_};
 ghost use Rattle.lists.specs.Choice.{pick};
-ghost use Rattle.wire.specs.Pec.{pecFrom, pecOf};
+ghost use Rattle.pec.specs.Pec.{pecFrom, pecOf};
 ghost use Rattle.trace.specs.Trace.{inPlace};
 ghost use Rattle.encode.specs.Pieces.{partBytes, writeBytes, bytesAfter, pecOfPhases};
 use crate::bytes::count_of;
+use pec::add_byte;
+use pec::add_bytes;
 use trace::shape::Part;
 use trace::shape::Shape;
 use trace::shape::has_read;
 use trace::shape::has_write;
 use trace::shape::is_counted;
 use wire::address::WireByte;
-use wire::pec::add_byte;
-use wire::pec::add_bytes;
 
 // One byte more, where there is one.
 fn add_byte_if(c: u8, there: bool, b: u8) -> u8

@@ -1,6 +1,6 @@
-// The packet error code: CRC-8 with x^8+x^2+x+1, start 0, highest bit first, bit by bit.
+// The packet error code: CRC-8 with x^8+x^2+x+1, start 0, highest bit first, bit by bit. Rests on lists alone.
 ghost use mathlib.Core.Path.{_≡_};
-ghost use Rattle.wire.specs.Pec.{bitStep, pecStep, pecFrom, pecOf};
+ghost use Rattle.pec.specs.Pec.{bitStep, pecStep, pecFrom, pecOf};
 
 // One bit of the division: the register doubled, less the polynomial where the top bit falls out.
 fn bit(c: u8) -> u8

@@ -15,9 +15,9 @@ use lib.Pow.{pow-pos}
 use borrow.Author.Tests.{ltb-false}
 use Rattle.lists.specs.Choice.{pick}
 use Rattle.lists.specs.Each.{Bytes}
-use Rattle.wire.specs.Pec.{bitStep, pecStep, pecFrom, pecOf}
-use Rattle.wire.specs.PecDivision.{timesG, polynomialFrom, polynomial, Leaves}
-use Rattle.wire.specs.PecLaws.{bit-byte, step-byte, pec-byte}
+use Rattle.pec.specs.Pec.{bitStep, pecStep, pecFrom, pecOf}
+use Rattle.pec.specs.PecDivision.{timesG, polynomialFrom, polynomial, Leaves}
+use Rattle.pec.specs.PecLaws.{bit-byte, step-byte, pec-byte}
 
 -- x^8+x^2+x+1 itself
 pub the-divisor : timesG 1 ≡ 0x107

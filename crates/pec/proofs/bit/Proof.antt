@@ -1,10 +1,10 @@
 use borrow.Author.Needs.{needs}
 use borrow.Author.Tests.{lt-ltb, le-ltb}
-use Rattle.wire.specs.Pec.{bitStep}
-use Rattle.wire.proofs.pec.bit.Statement.{statement}
-use Rattle.wire.proofs.pec.bit.Tie as tie
-use Rattle.wire.proofs.pec.bit.Reads as reads
-use Rattle.wire.proofs.pec.bit.Lts as lts
+use Rattle.pec.specs.Pec.{bitStep}
+use Rattle.pec.proofs.bit.Statement.{statement}
+use Rattle.pec.proofs.bit.Tie as tie
+use Rattle.pec.proofs.bit.Reads as reads
+use Rattle.pec.proofs.bit.Lts as lts
 
 mul-result : tie.Need-mul-result
 mul-result c = search needs

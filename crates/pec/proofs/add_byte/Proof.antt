@@ -1,10 +1,10 @@
 use borrow.Author.Needs.{needs}
-use Rattle.wire.specs.Pec.{pecStep}
-use Rattle.wire.proofs.pec.add_byte.Statement.{statement}
-use Rattle.wire.proofs.pec.add_byte.Tie as tie
-use Rattle.wire.proofs.pec.add_byte.Reads as reads
-use Rattle.wire.proofs.pec.add_byte.Lts as lts
-use Rattle.wire.proofs.pec.bit.Reads as bit-reads
+use Rattle.pec.specs.Pec.{pecStep}
+use Rattle.pec.proofs.add_byte.Statement.{statement}
+use Rattle.pec.proofs.add_byte.Tie as tie
+use Rattle.pec.proofs.add_byte.Reads as reads
+use Rattle.pec.proofs.add_byte.Lts as lts
+use Rattle.pec.proofs.bit.Reads as bit-reads
 
 bit-requires : tie.Need-bit-requires
 bit-requires c κs = search needs

@@ -1,0 +1,4 @@
+pub mod Pec
+pub mod PecLaws
+pub mod PecDivision
+pub mod PecDivisionLaws
