@@ -20,27 +20,28 @@ use Rattle.udid.specs.declared.Udid.{Udid}
 use Rattle.arp.specs.HistoryLaws.{reached-good}
 use Rattle.arp.specs.LookupLaws.{lookup-0}
 use Rattle.arp.specs.SoundLaws.{bound-to-is-bound, open-is-not-bound, find-cases}
-use Rattle.arp.specs.SlotsLaws.{held-same, held-other, held-cases, open-all}
+use Rattle.slots.specs.SlotsLaws.{held-same, held-other, held-cases, open-all}
 use Rattle.arp.specs.ChangedLaws.{told-is-changed, by-told}
 use Rattle.hearing.specs.ToldLaws.{Known}
 use Rattle.hearing.specs.TraceLaws.{assign-whole}
 use Rattle.arp.specs.Numbers.{lookupNumber}
 use Rattle.arp.specs.Sound.{Pending, PendingIn, GoodState}
-use Rattle.arp.specs.Bindings.{boundTo, findFrom, freedAt, freed, bindingFor, bound}
+use Rattle.arp.specs.Bindings.{freedAt, freed, bindingFor, bound}
+use Rattle.slots.specs.Finding.{boundTo, findFrom}
 use Rattle.arp.specs.Controller.{handed, counted, asked, chosen, issued, replied, changed, stepped}
 use Rattle.arp.specs.History.{Event, Start, Received, run, Acknowledged, isHeld, withTraces}
 use Rattle.arp.specs.Lookup.{seen, lookedUp}
 use Rattle.commands.specs.Requests.{traceOf}
-use Rattle.arp.specs.Slots.{Sized128, heldAt}
+use Rattle.slots.specs.Slots.{Sized128, heldAt}
 use Rattle.commands.specs.declared.command.Command.the-variants.{GetUdid, Assign}
 use Rattle.commands.specs.declared.command.End.the-variants.{Abandoned}
 use Rattle.commands.specs.declared.command.Handed.{Handed}
 use Rattle.commands.specs.declared.command.Handed.the-variants.{Send, Wait}
 use Rattle.arp.specs.declared.lookup.Found.the-variants as found
-use Rattle.arp.specs.declared.state.Binding.{Binding}
-use Rattle.arp.specs.declared.state.Binding.the-variants.{Open, Bound, Claimed}
+use Rattle.slots.specs.declared.Binding.{Binding}
+use Rattle.slots.specs.declared.Binding.the-variants.{Open, Bound, Claimed}
 use Rattle.arp.specs.declared.state.Controller.{Controller}
-use Rattle.arp.specs.declared.slots.Slots.{Slots}
+use Rattle.slots.specs.declared.Slots.{Slots}
 use Rattle.arp.specs.declared.state.Stepped.{Stepped}
 use Rattle.hearing.specs.declared.told.Told.{Told}
 use Rattle.hearing.specs.declared.told.Told.the-variants.{Again, Over, GivenUp, Reply, Took, Unasked}

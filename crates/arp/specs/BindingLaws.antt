@@ -4,10 +4,10 @@ use mathlib.Core.Bool.{false}
 use mathlib.Core.List.{List, [], _∷_}
 use Rattle.lists.specs.AbsurdLaws.{zero-is-one}
 use Rattle.udid.specs.declared.Udid.{Udid}
-use Rattle.arp.specs.Bindings.{boundIn}
+use Rattle.slots.specs.Finding.{boundIn}
 use Rattle.arp.specs.History.{isHeld}
-use Rattle.arp.specs.declared.state.Binding.{Binding}
-use Rattle.arp.specs.declared.state.Binding.the-variants.{Open, Bound, Claimed}
+use Rattle.slots.specs.declared.Binding.{Binding}
+use Rattle.slots.specs.declared.Binding.the-variants.{Open, Bound, Claimed}
 
 first : {u v : Udid} {us vs : List Udid} → u ∷ us ≡ v ∷ vs → u ≡ v
 first e = cc e

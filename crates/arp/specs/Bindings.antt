@@ -1,37 +1,16 @@
--- The bindings: where a target is bound, the state with it unbound, and with it bound.
-use Prim.Native.Nat.{ℕ, zero, suc}
-use mathlib.Core.Bool.{Bool, false}
-use mathlib.Core.List.{List, [], _∷_}
+-- The bindings: the state with a target unbound, and with it bound.
+use Prim.Native.Nat.{ℕ}
+use mathlib.Core.Bool.{Bool}
 use lib.Dec.{ltb}
 use Rattle.lists.specs.Choice.{pick}
 use Rattle.pool.specs.Pools.{member, withAddress, withoutAddress}
-use Rattle.udid.specs.Udids.{sameUdid}
 use Rattle.udid.specs.declared.Udid.{Udid}
-use Rattle.arp.specs.Slots.{heldAt, withBinding}
+use Rattle.slots.specs.Slots.{withBinding}
 use Rattle.arp.specs.State.{withPool, withSlots}
-use Rattle.arp.specs.declared.slots.Slots.{Slots}
-use Rattle.arp.specs.declared.state.Binding.{Binding}
-use Rattle.arp.specs.declared.state.Binding.the-variants.{Open, Bound, Claimed}
+use Rattle.slots.specs.Finding.{findFrom}
+use Rattle.slots.specs.declared.Binding.{Binding}
+use Rattle.slots.specs.declared.Binding.the-variants.{Open, Bound, Claimed}
 use Rattle.arp.specs.declared.state.Controller.{Controller}
-
--- the target that is bound, where one is
-abbrev pub boundIn : Binding → List Udid
-boundIn Open = []
-boundIn (Bound u) = u ∷ []
-boundIn Claimed = []
-
--- the list is of this one
-abbrev pub isOnly : Udid → List Udid → Bool
-isOnly u [] = false
-isOnly u (v ∷ vs) = sameUdid v u
-
-abbrev pub boundTo : Udid → Binding → Bool
-boundTo u h = isOnly u (boundIn h)
-
--- the first of the n addresses from a on that u is bound to, or 128
-unfoldable pub findFrom : Udid → Slots → ℕ → ℕ → ℕ
-findFrom u slots zero a = 128
-findFrom u slots (suc n) a = pick (boundTo u (heldAt slots a)) a (findFrom u slots n (suc a))
 
 -- the address a is open, and out of the pool
 abbrev pub freedAt : Controller → ℕ → Controller

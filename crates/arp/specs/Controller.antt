@@ -13,7 +13,7 @@ use Rattle.pool.specs.declared.free.Free.the-variants.{At, AllUsed}
 use Rattle.udid.specs.Udids.{isFixed}
 use Rattle.udid.specs.declared.Udid.{Udid}
 use Rattle.arp.specs.Bindings.{freed, bound}
-use Rattle.arp.specs.Slots.{noBindings}
+use Rattle.slots.specs.Slots.{noBindings}
 use Rattle.arp.specs.State.{stateOf, withPool, withSlots, withGets, withLast}
 use Rattle.hearing.specs.Told.{tells}
 use Rattle.commands.specs.declared.command.Command.the-variants.{Prepare, GetUdid, Assign}

@@ -21,7 +21,8 @@ use Rattle.arp.specs.HistoryLaws.{reached-good}
 use Rattle.hearing.specs.ToldLaws.{Known, told-known}
 use Rattle.arp.specs.Handing.{Kept}
 use Rattle.arp.specs.Sound.{Pending, PendingIn}
-use Rattle.arp.specs.Bindings.{findFrom, freedAt, freed, boundAt, bound}
+use Rattle.arp.specs.Bindings.{freedAt, freed, boundAt, bound}
+use Rattle.slots.specs.Finding.{findFrom}
 use Rattle.arp.specs.Controller.{handed, counted, asked, chosen, issued, replied, changed, stepped}
 use Rattle.arp.specs.History.{Event, Start, Received, run, oneGet, getsSent}
 use Rattle.hearing.specs.Told.{tells, noCommand}

@@ -19,19 +19,20 @@ use Rattle.udid.specs.Udids.{Fits}
 use Rattle.udid.specs.declared.Udid.{Udid}
 use Rattle.arp.specs.ChosenLaws.{chosen-small-and-free}
 use Rattle.arp.specs.SoundLaws.{sound-open, sound-freed, sound-bound}
-use Rattle.arp.specs.SlotsLaws.{open-all}
+use Rattle.slots.specs.SlotsLaws.{open-all}
 use Rattle.arp.specs.ChangedLaws.{by-told}
 use Rattle.hearing.specs.ToldLaws.{Known}
 use Rattle.arp.specs.Sound.{SoundIn, Good, Pending, PendingIn, GoodState}
-use Rattle.arp.specs.Bindings.{findFrom, freedAt, freed, boundAt, bound}
-use Rattle.arp.specs.Slots.{heldAt}
+use Rattle.arp.specs.Bindings.{freedAt, freed, boundAt, bound}
+use Rattle.slots.specs.Finding.{findFrom}
+use Rattle.slots.specs.Slots.{heldAt}
 use Rattle.arp.specs.Controller.{newController, handed, counted, asked, chosen, issued, replied, changed, stepped}
 use Rattle.arp.specs.History.{Event, Start, Received, run, isHeld, Invariant, New}
 use Rattle.commands.specs.declared.command.Command.the-variants.{GetUdid, Assign}
 use Rattle.commands.specs.declared.command.End.the-variants.{Ended, Abandoned}
 use Rattle.commands.specs.declared.command.Handed.the-variants.{Send, Wait}
-use Rattle.arp.specs.declared.state.Binding.{Binding}
-use Rattle.arp.specs.declared.state.Binding.the-variants.{Bound, Claimed}
+use Rattle.slots.specs.declared.Binding.{Binding}
+use Rattle.slots.specs.declared.Binding.the-variants.{Bound, Claimed}
 use Rattle.arp.specs.declared.state.Controller.{Controller}
 use Rattle.hearing.specs.declared.told.Told.{Told}
 use Rattle.hearing.specs.declared.told.Told.the-variants.{Again, Over, GivenUp, Reply, Took, Unasked}

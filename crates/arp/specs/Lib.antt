@@ -1,4 +1,3 @@
-pub mod Slots
 pub mod State
 pub mod Bindings
 pub mod Controller
@@ -11,7 +10,6 @@ pub mod Replay
 pub mod Reading
 pub mod Story
 pub mod OneStep
-pub mod SlotsLaws
 pub mod ChangedLaws
 pub mod StateLaws
 pub mod HeardLaws

@@ -31,20 +31,20 @@ use Rattle.arp.specs.HeardLaws.{gives-exactly}
 use Rattle.commands.specs.RequestLaws.{valid-get, reply-symbols}
 use Rattle.hearing.specs.TraceLaws.{decoded-back, complete-get-is-its-trace, complete-get-data-fits}
 use Rattle.arp.specs.SoundLaws.{bound-to-is-bound}
-use Rattle.arp.specs.Bindings.{boundTo}
+use Rattle.slots.specs.Finding.{boundTo}
 use Rattle.hearing.specs.Heard.{answer, receivedIn, isGet}
 use Rattle.commands.specs.Codes.{blockRead}
 use Rattle.commands.specs.CommandTraces.{replyTrace, Reply}
 use Rattle.arp.specs.OneStep.{Gives, Hands, Asks, Chooses, Keeps, Same, BoundAt, Unbinds, Binds, Continues, EndsWith, Replies, Alike}
 use Rattle.commands.specs.Requests.{messageOf}
-use Rattle.arp.specs.Slots.{heldAt}
+use Rattle.slots.specs.Slots.{heldAt}
 use Rattle.commands.specs.declared.command.Command.the-variants.{GetUdid, Assign}
 use Rattle.commands.specs.declared.command.End.the-variants.{NoneFree}
 use Rattle.commands.specs.declared.command.Handed.{Handed}
 use Rattle.commands.specs.declared.command.Handed.the-variants.{Send, Wait}
-use Rattle.arp.specs.declared.state.Binding.the-variants.{Bound}
+use Rattle.slots.specs.declared.Binding.the-variants.{Bound}
 use Rattle.arp.specs.declared.state.Controller.{Controller}
-use Rattle.arp.specs.declared.slots.Slots.{Slots}
+use Rattle.slots.specs.declared.Slots.{Slots}
 use Rattle.arp.specs.declared.state.Stepped.{Stepped}
 
 -- ---- every trace

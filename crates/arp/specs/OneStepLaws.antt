@@ -34,26 +34,27 @@ use Rattle.arp.specs.HeardLaws.{six-exactly}
 use Rattle.arp.specs.OutstandingLaws.{idle-gives-21}
 use Rattle.commands.specs.RequestLaws.{reply-symbols, prepare-symbols, assign-symbols-small}
 use Rattle.arp.specs.SoundLaws.{bound-to-is-bound, open-is-not-bound, find-cases}
-use Rattle.arp.specs.SlotsLaws.{held-above-is-open, held-same, held-other}
+use Rattle.slots.specs.SlotsLaws.{held-above-is-open, held-same, held-other}
 use Rattle.arp.specs.ChangedLaws.{told-is-changed}
 use Rattle.hearing.specs.TraceLaws as traces
 use Rattle.arp.specs.Sound.{Nowhere}
-use Rattle.arp.specs.Bindings.{boundTo, findFrom, freedAt, freed, bindingFor, boundAt, bound}
+use Rattle.arp.specs.Bindings.{freedAt, freed, bindingFor, boundAt, bound}
+use Rattle.slots.specs.Finding.{boundTo, findFrom}
 use Rattle.arp.specs.Controller.{handed, counted, asked, chosen, issued, replied, changed, stepped}
 use Rattle.hearing.specs.Heard.{answer, sentIn, isAssign}
 use Rattle.commands.specs.Codes.{blockWrite}
 use Rattle.commands.specs.CommandTraces.{prepareTrace, replyTrace, assignTrace}
 use Rattle.arp.specs.OneStep.{Gives, Hands, Asks, Chooses, Keeps, Same, BoundAt, Unbinds, Binds, Continues, EndsWith, Replies}
 use Rattle.arp.specs.Replay.{assigning}
-use Rattle.arp.specs.Slots.{Sized128, heldAt, withBinding}
+use Rattle.slots.specs.Slots.{Sized128, heldAt, withBinding}
 use Rattle.commands.specs.declared.command.Command.the-variants.{Prepare, GetUdid, Assign}
 use Rattle.commands.specs.declared.command.End.the-variants.{Ended, NoneFree, Abandoned, NotOutstanding}
 use Rattle.commands.specs.declared.command.Handed.{Handed}
 use Rattle.commands.specs.declared.command.Handed.the-variants.{Send, Wait}
-use Rattle.arp.specs.declared.state.Binding.{Binding}
-use Rattle.arp.specs.declared.state.Binding.the-variants.{Open, Bound}
+use Rattle.slots.specs.declared.Binding.{Binding}
+use Rattle.slots.specs.declared.Binding.the-variants.{Open, Bound}
 use Rattle.arp.specs.declared.state.Controller.{Controller}
-use Rattle.arp.specs.declared.slots.Slots.{Slots}
+use Rattle.slots.specs.declared.Slots.{Slots}
 use Rattle.arp.specs.declared.state.Stepped.{Stepped}
 use Rattle.hearing.specs.Told.{toldAssign, tells, noCommand}
 use Rattle.hearing.specs.declared.told.Told.the-variants.{Again, Over, GivenUp, Reply, Took}

@@ -20,7 +20,7 @@ use Rattle.pool.specs.declared.free.Free.the-variants.{At, AllUsed}
 use Rattle.udid.specs.Bytes.{udidAt}
 use Rattle.udid.specs.Udids.{sameUdid, isFixed}
 use Rattle.udid.specs.declared.Udid.{Udid}
-use Rattle.arp.specs.Slots.{heldAt}
+use Rattle.slots.specs.Slots.{heldAt}
 use Rattle.arp.specs.Controller.{started, stepped}
 use Rattle.hearing.specs.Heard.{answer, sentIn, receivedIn}
 use Rattle.arp.specs.History.{Event, Start, Received, run}
@@ -29,8 +29,8 @@ use Rattle.commands.specs.declared.command.Command.the-variants.{Prepare, GetUd
 use Rattle.commands.specs.declared.command.End.the-variants.{Nothing, Ended, NoneFree, Abandoned, NotOutstanding}
 use Rattle.commands.specs.declared.command.Handed.{Handed}
 use Rattle.commands.specs.declared.command.Handed.the-variants.{Send, Wait}
-use Rattle.arp.specs.declared.state.Binding.{Binding}
-use Rattle.arp.specs.declared.state.Binding.the-variants.{Open, Bound, Claimed}
+use Rattle.slots.specs.declared.Binding.{Binding}
+use Rattle.slots.specs.declared.Binding.the-variants.{Open, Bound, Claimed}
 use Rattle.arp.specs.declared.state.Controller.{Controller}
 
 -- ---- what happens, and the table that it changes

@@ -9,15 +9,15 @@ use Rattle.pool.specs.Start.{startingPool}
 use Rattle.pool.specs.declared.Pool.{Pool}
 use Rattle.udid.specs.Udids.{Fits, isFixed}
 use Rattle.udid.specs.declared.Udid.{Udid}
-use Rattle.arp.specs.Bindings.{boundTo}
+use Rattle.slots.specs.Finding.{boundTo}
 use Rattle.arp.specs.History.{isHeld}
-use Rattle.arp.specs.Slots.{Sized128, heldAt}
+use Rattle.slots.specs.Slots.{Sized128, heldAt}
 use Rattle.commands.specs.declared.command.Command.the-variants.{Prepare, GetUdid, Assign}
 use Rattle.commands.specs.declared.command.Handed.{Handed}
 use Rattle.commands.specs.declared.command.Handed.the-variants.{Send, Wait}
-use Rattle.arp.specs.declared.state.Binding.the-variants.{Bound}
+use Rattle.slots.specs.declared.Binding.the-variants.{Bound}
 use Rattle.arp.specs.declared.state.Controller.{Controller}
-use Rattle.arp.specs.declared.slots.Slots.{Slots}
+use Rattle.slots.specs.declared.Slots.{Slots}
 
 -- of the starting pool, the pool and the slots: the pool has the starting addresses and those that are bound or claimed, and no others
 pub record Sound (starting pool : Pool) (slots : Slots) : Type 0 where

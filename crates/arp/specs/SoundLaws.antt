@@ -18,14 +18,15 @@ use Rattle.udid.specs.UdidLaws.{same-equal, same-refl}
 use Rattle.udid.specs.declared.Udid.{Udid}
 use Rattle.arp.specs.Sound.{Sound, SoundIn, Unbound, Nowhere}
 use Rattle.arp.specs.BindingLaws.{bound-in-is}
-use Rattle.arp.specs.Bindings.{boundIn, isOnly, boundTo, findFrom, freedAt, freed, bindingFor, bound}
+use Rattle.arp.specs.Bindings.{freedAt, freed, bindingFor, bound}
+use Rattle.slots.specs.Finding.{boundIn, isOnly, boundTo, findFrom}
 use Rattle.arp.specs.History.{isHeld}
-use Rattle.arp.specs.Slots.{keptUdid, heldAt, withBinding, noBindings}
-use Rattle.arp.specs.SlotsLaws.{by-bound, held-above-is-open, held-same, held-other, held-cases, open-all, sized-none, sized-with}
-use Rattle.arp.specs.declared.state.Binding.{Binding}
-use Rattle.arp.specs.declared.state.Binding.the-variants.{Open, Bound}
+use Rattle.slots.specs.Slots.{keptUdid, heldAt, withBinding, noBindings}
+use Rattle.slots.specs.SlotsLaws.{by-bound, held-above-is-open, held-same, held-other, held-cases, open-all, sized-none, sized-with}
+use Rattle.slots.specs.declared.Binding.{Binding}
+use Rattle.slots.specs.declared.Binding.the-variants.{Open, Bound}
 use Rattle.arp.specs.declared.state.Controller.{Controller}
-use Rattle.arp.specs.declared.slots.Slots.{Slots}
+use Rattle.slots.specs.declared.Slots.{Slots}
 
 -- ---- what a slot holds
 
@@ -54,14 +55,6 @@ sound-open p = record {
 }
 
 -- ---- the search for an identifier
-
--- bound to u: the address is in the set of bound ones, and both halves kept for it are those of u
-pub bound-by-halves : (s : Slots) (a : ℕ) (u : Udid) → boundTo u (heldAt s a) ≡ and (member (s .bound) a) (and (eqb (getD (s .high) a 0) (u .high)) (eqb (getD (s .low) a 0) (u .low)))
-bound-by-halves s a u = by-bound (boundTo u) false refl refl s a ∙ both (member (s .bound) a)
-  where
-    both : (b : Bool) → pick b (boundTo u (Bound (keptUdid s a))) false ≡ and b (and (eqb (getD (s .high) a 0) (u .high)) (eqb (getD (s .low) a 0) (u .low)))
-    both true = refl
-    both false = refl
 
 pub find-cases : (u : Udid) (slots : Slots) (n a : ℕ) → a + n ≡ 128
     → ((findFrom u slots n a ≡ 128) × Nowhere u slots a) ⊎ ((findFrom u slots n a < 128) × (boundTo u (heldAt slots (findFrom u slots n a)) ≡ true))

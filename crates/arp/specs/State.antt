@@ -2,7 +2,7 @@
 use Prim.Native.Nat.{ℕ}
 use Rattle.pool.specs.declared.Pool.{Pool}
 use Rattle.commands.specs.declared.command.Handed.{Handed}
-use Rattle.arp.specs.declared.slots.Slots.{Slots}
+use Rattle.slots.specs.declared.Slots.{Slots}
 use Rattle.arp.specs.declared.state.Controller.{Controller}
 
 -- the starting pool, the pool, what each address is known for, the count of Get UDIDs, what was handed out last

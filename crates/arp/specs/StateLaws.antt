@@ -4,7 +4,7 @@ use mathlib.Core.Path.{_≡_, refl}
 use Rattle.pool.specs.declared.Pool.{Pool}
 use Rattle.arp.specs.State.{withPool, withSlots, withGets, withLast}
 use Rattle.commands.specs.declared.command.Handed.{Handed}
-use Rattle.arp.specs.declared.slots.Slots.{Slots}
+use Rattle.slots.specs.declared.Slots.{Slots}
 use Rattle.arp.specs.declared.state.Controller.{Controller}
 
 -- t has the starting addresses of s, and beside them these

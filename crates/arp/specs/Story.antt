@@ -11,7 +11,7 @@ use Rattle.pool.specs.declared.Pool.{Pool}
 use Rattle.udid.specs.Bytes.{udidBytes}
 use Rattle.udid.specs.Udids.{Fits}
 use Rattle.udid.specs.declared.Udid.{Udid}
-use Rattle.arp.specs.Slots.{heldAt}
+use Rattle.slots.specs.Slots.{heldAt}
 use Rattle.arp.specs.Controller.{stepped}
 use Rattle.arp.specs.History.{Event, Start, Received, run, oneGet}
 use Rattle.arp.specs.Lookup.{lookedUp}

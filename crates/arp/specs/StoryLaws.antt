@@ -21,10 +21,10 @@ use Rattle.arp.specs.LookupLaws.{lookup-0, lookup-1, lookup-15}
 use Rattle.arp.specs.NoneFreeLaws.{step-13-by-story, number-13-is-none-free}
 use Rattle.arp.specs.OutstandingLaws.{step-21-by-events}
 use Rattle.arp.specs.ReadingLaws.{trace-is-no-start}
-use Rattle.arp.specs.SlotsLaws.{open-all}
+use Rattle.slots.specs.SlotsLaws.{open-all}
 use Rattle.arp.specs.TableLaws.{addresses-by-table, lookup-by-table}
 use Rattle.arp.specs.Story.{Story, story, Told, ByHistory}
-use Rattle.arp.specs.Slots.{heldAt}
+use Rattle.slots.specs.Slots.{heldAt}
 use Rattle.arp.specs.Controller.{started, stepped}
 use Rattle.arp.specs.History.{Event, Received, run}
 use Rattle.arp.specs.Lookup.{lookedUp}
@@ -35,7 +35,7 @@ use Rattle.commands.specs.declared.command.Command.the-variants.{Prepare, GetUd
 use Rattle.commands.specs.declared.command.End.the-variants.{Abandoned}
 use Rattle.commands.specs.declared.command.Handed.{Handed}
 use Rattle.commands.specs.declared.command.Handed.the-variants.{Send, Wait}
-use Rattle.arp.specs.declared.state.Binding.the-variants.{Open, Bound, Claimed}
+use Rattle.slots.specs.declared.Binding.the-variants.{Open, Bound, Claimed}
 use Rattle.arp.specs.declared.state.Controller.{Controller}
 
 -- THE EVENTS ALONE give what each address is known for, what the pool has, how many Get UDIDs were handed out and what was handed out last

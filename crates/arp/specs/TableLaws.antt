@@ -28,10 +28,11 @@ use Rattle.arp.specs.LookupLaws.{lookup-number}
 use Rattle.arp.specs.OutstandingLaws.{same-reading, last-is-handed-out}
 use Rattle.arp.specs.ReadingLaws.{is-assign-below-128}
 use Rattle.arp.specs.SoundLaws.{bound-to-is-bound, find-cases}
-use Rattle.arp.specs.SlotsLaws.{held-above-is-open, held-same, held-other, open-all}
+use Rattle.slots.specs.SlotsLaws.{held-above-is-open, held-same, held-other, open-all}
 use Rattle.arp.specs.Sound.{SoundIn, Nowhere, PendingIn}
-use Rattle.arp.specs.Bindings.{boundTo, findFrom, freedAt, freed, bindingFor, boundAt, bound}
-use Rattle.arp.specs.Slots.{Sized128, heldAt, withBinding}
+use Rattle.arp.specs.Bindings.{freedAt, freed, bindingFor, boundAt, bound}
+use Rattle.slots.specs.Finding.{boundTo, findFrom}
+use Rattle.slots.specs.Slots.{Sized128, heldAt, withBinding}
 use Rattle.arp.specs.Controller.{newController, started, handed, counted, asked, chosen, issued, replied, stepped, changed}
 use Rattle.hearing.specs.Heard.{answer, sentIn, receivedIn, isPrepare, isGet, isAssign}
 use Rattle.commands.specs.Codes.{sendByte, blockRead, blockWrite}
@@ -43,8 +44,8 @@ use Rattle.commands.specs.declared.command.Command.the-variants.{Prepare, GetUd
 use Rattle.commands.specs.declared.command.End.the-variants.{Ended, Abandoned}
 use Rattle.commands.specs.declared.command.Handed.{Handed}
 use Rattle.commands.specs.declared.command.Handed.the-variants.{Send, Wait}
-use Rattle.arp.specs.declared.state.Binding.{Binding}
-use Rattle.arp.specs.declared.state.Binding.the-variants.{Open, Bound, Claimed}
+use Rattle.slots.specs.declared.Binding.{Binding}
+use Rattle.slots.specs.declared.Binding.the-variants.{Open, Bound, Claimed}
 use Rattle.arp.specs.declared.state.Controller.{Controller}
 use Rattle.hearing.specs.Told.{toldPrepare, toldReply, toldGet, toldAssign, tells}
 use Rattle.hearing.specs.declared.told.Told.the-variants.{Again, Over, GivenUp, Reply, Took}

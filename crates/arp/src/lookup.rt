@@ -1,8 +1,8 @@
 // The lookup by address: the target that is bound there in the present pass. Rests on the state alone.
 ghost use mathlib.Core.Path.{_≡_};
 ghost use Rattle.arp.specs.Lookup.{lookedUp};
-use super::state::Binding;
 use super::state::Controller;
+use slots::Binding;
 use udid::Udid;
 use wire::address::Address;
 

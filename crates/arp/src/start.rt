@@ -1,13 +1,13 @@
 // A new controller, and the start of a pass. Rests on the starting pool of crate pool.
 ghost use mathlib.Core.Path.{_≡_};
 ghost use Rattle.arp.specs.Controller.{newController, started};
-use super::slots::Slots;
 use super::state::Controller;
 use super::state::Stepped;
 use commands::command::Command;
 use commands::command::End;
 use commands::command::Handed;
 use pool::Pool;
+use slots::Slots;
 
 impl Controller {
     // A controller before its first pass. The starting pool is the reserved addresses and the occupied ones.

@@ -1,15 +1,8 @@
 // The controller's state, which every method takes by value and hands back.
-use super::slots::Slots;
 use commands::command::Handed;
 use pool::Pool;
+use slots::Slots;
 use udid::Udid;
-
-// What an address is known for in this pass: nothing; the target bound there; that two targets claim it.
-pub enum Binding {
-    Open,
-    Bound(Udid),
-    Claimed,
-}
 
 pub struct Controller {
     // The addresses in use when a pass begins.

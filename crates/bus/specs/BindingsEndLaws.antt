@@ -17,11 +17,11 @@ use Rattle.pool.specs.declared.Pool.{Pool}
 use Rattle.udid.specs.Bytes.{udidBytes}
 use Rattle.udid.specs.declared.Udid.{Udid}
 use Rattle.arp.specs.BindingLaws.{bound-in-is}
-use Rattle.arp.specs.Bindings.{boundIn}
-use Rattle.arp.specs.Slots.{heldAt}
-use Rattle.arp.specs.declared.state.Binding.{Binding}
-use Rattle.arp.specs.declared.state.Binding.the-variants as binding
-use Rattle.arp.specs.declared.slots.Slots.{Slots}
+use Rattle.slots.specs.Finding.{boundIn}
+use Rattle.slots.specs.Slots.{heldAt}
+use Rattle.slots.specs.declared.Binding.{Binding}
+use Rattle.slots.specs.declared.Binding.the-variants as binding
+use Rattle.slots.specs.declared.Slots.{Slots}
 use Rattle.targets.specs.Admission.{AdmittedTargets}
 use Rattle.targets.specs.AdmissionLaws.{admitted-targets}
 use Rattle.targets.specs.Records.{targetsOf}

@@ -11,11 +11,11 @@ use Rattle.pool.specs.CountLaws.{count-cong}
 use Rattle.pool.specs.Start.{startingPool}
 use Rattle.pool.specs.declared.Pool.{Pool}
 use Rattle.udid.specs.declared.Udid.{Udid}
-use Rattle.arp.specs.Bindings.{boundIn}
+use Rattle.slots.specs.Finding.{boundIn}
 use Rattle.arp.specs.Numbers.{commandNumber}
-use Rattle.arp.specs.Slots.{heldAt}
-use Rattle.arp.specs.declared.state.Binding.{Binding}
-use Rattle.arp.specs.declared.slots.Slots.{Slots}
+use Rattle.slots.specs.Slots.{heldAt}
+use Rattle.slots.specs.declared.Binding.{Binding}
+use Rattle.slots.specs.declared.Slots.{Slots}
 use Rattle.targets.specs.Admission.{AdmittedTargets}
 use Rattle.targets.specs.AdmissionLaws.{admitted-length, admitted-targets}
 use Rattle.targets.specs.IndexLaws.{length-targets}

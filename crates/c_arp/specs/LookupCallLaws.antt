@@ -5,11 +5,11 @@ use mathlib.Core.Logic.{_↔_, Iff·trans}
 use Prim.Native.Nat.{ℕ, _<_}
 use native.Mathlib.Omega.{arith}
 use Rattle.udid.specs.declared.Udid.{Udid}
-use Rattle.arp.specs.Slots.{heldAt}
+use Rattle.slots.specs.Slots.{heldAt}
 use Rattle.arp.specs.Lookup.{lookedUp}
 use Rattle.arp.specs.Numbers.{lookupNumber}
 use Rattle.arp.specs.declared.lookup.Found.{Found}
-use Rattle.arp.specs.declared.state.Binding.the-variants.{Open, Bound, Claimed}
+use Rattle.slots.specs.declared.Binding.the-variants.{Open, Bound, Claimed}
 use Rattle.arp.specs.declared.state.Controller.{Controller}
 use Rattle.report.specs.Report.{firstOf}
 use Rattle.c_arp.specs.declared.pass.HbFound.{HbFound}

@@ -41,7 +41,7 @@ use Rattle.pool.specs.declared.Pool.{Pool}
 use Rattle.udid.specs.Bytes.{udidBytes}
 use Rattle.udid.specs.declared.Udid.{Udid}
 use Rattle.arp.specs.BindingLaws.{unheld-is-open}
-use Rattle.arp.specs.Slots.{heldAt}
+use Rattle.slots.specs.Slots.{heldAt}
 use Rattle.arp.specs.Numbers.{commandNumber}
 use Rattle.arp.specs.AssignedLaws.{found-acknowledged, claim-stays}
 use Rattle.commands.specs.CommandTraces.{prepareTrace, replyTrace, assignTrace}
@@ -50,16 +50,16 @@ use Rattle.arp.specs.LookupLaws as arp
 use Rattle.commands.specs.RequestLaws.{valid-prepare, valid-get, valid-assign, prepare-symbols, reply-symbols, assign-symbols-small}
 use Rattle.commands.specs.Requests.{assignData, protocolFor, messageOf}
 use Rattle.commands.specs.SendingLaws.{refused-exactly, small-address-protocol}
-use Rattle.arp.specs.Slots.{Sized128}
+use Rattle.slots.specs.Slots.{Sized128}
 use Rattle.arp.specs.Sound.{PendingIn}
-use Rattle.arp.specs.SlotsLaws.{open-all}
+use Rattle.slots.specs.SlotsLaws.{open-all}
 use Rattle.arp.specs.Controller.{stepped}
 use Rattle.arp.specs.History.{Event, run, isHeld}
 use Rattle.commands.specs.declared.command.Command.the-variants.{Prepare, GetUdid, Assign}
 use Rattle.commands.specs.declared.command.Handed.{Handed}
 use Rattle.commands.specs.declared.command.Handed.the-variants.{Send, Wait}
-use Rattle.arp.specs.declared.state.Binding.{Binding}
-use Rattle.arp.specs.declared.state.Binding.the-variants.{Open}
+use Rattle.slots.specs.declared.Binding.{Binding}
+use Rattle.slots.specs.declared.Binding.the-variants.{Open}
 use Rattle.arp.specs.declared.state.Controller.{Controller}
 use Rattle.targets.specs.ByteCases.{EvenOrFlag, SameAsEarlier, FixedOnTaken}
 use Rattle.targets.specs.ByteCasesLaws.{given-by-bytes}

@@ -30,7 +30,7 @@ use Rattle.pool.specs.Pools.{member, withAddress, unionOf}
 use Rattle.pool.specs.Start.{emptyPool, reservedPool, startingPool}
 use Rattle.pool.specs.declared.Pool.{Pool}
 use Rattle.udid.specs.Bytes.{numberFrom, bytesOf, bytesFrom, udidBytes, udidAt}
-use Rattle.arp.specs.Slots.{heldAt, withBinding, noBindings}
+use Rattle.slots.specs.Slots.{heldAt, withBinding, noBindings}
 use Rattle.arp.specs.Numbers.{commandNumber}
 use Rattle.targets.specs.AdmissionLaws.{admitted-targets}
 use Rattle.targets.specs.First.{firstFrom}

@@ -23,7 +23,7 @@ use Rattle.pool.specs.declared.free.Free.the-variants.{At, AllUsed}
 use Rattle.udid.specs.Bytes.{udidBytes, udidAt}
 use Rattle.udid.specs.Udids.{Fits}
 use Rattle.udid.specs.declared.Udid.{Udid}
-use Rattle.arp.specs.Slots.{Sized128, heldAt}
+use Rattle.slots.specs.Slots.{Sized128, heldAt}
 use Rattle.commands.specs.CommandTraces.{prepareTrace, replyTrace, assignTrace, Reply}
 use Rattle.arp.specs.Controller.{stepped}
 use Rattle.arp.specs.HeardLaws.{six-exactly}

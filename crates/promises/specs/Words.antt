@@ -22,7 +22,7 @@ pub use Rattle.pool.specs.declared.Pool.{Pool}
 pub use Rattle.udid.specs.Bytes.{udidBytes}
 pub use Rattle.udid.specs.Udids.{Fits as In128}
 pub use Rattle.udid.specs.declared.Udid.{Udid}
-pub use Rattle.arp.specs.Slots.{heldAt}
+pub use Rattle.slots.specs.Slots.{heldAt}
 pub use Rattle.commands.specs.CommandTraces.{prepareTrace, replyTrace, assignTrace}
 pub use Rattle.arp.specs.Controller.{newController, started, stepped}
 pub use Rattle.arp.specs.History.{Event, Received, run, Acknowledged}
@@ -34,7 +34,7 @@ pub use Rattle.commands.specs.declared.command.Command.the-variants.{Prepare, G
 pub use Rattle.commands.specs.declared.command.End.the-variants.{Nothing, Ended, Abandoned, NotOutstanding}
 pub use Rattle.commands.specs.declared.command.Handed.{Handed}
 pub use Rattle.commands.specs.declared.command.Handed.the-variants.{Send, Wait}
-pub use Rattle.arp.specs.declared.state.Binding.the-variants.{Open, Bound, Claimed}
+pub use Rattle.slots.specs.declared.Binding.the-variants.{Open, Bound, Claimed}
 pub use Rattle.arp.specs.declared.state.Controller.{Controller}
 pub use Rattle.arp.specs.declared.state.Stepped.{Stepped}
 -- the model

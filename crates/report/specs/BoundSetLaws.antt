@@ -4,10 +4,10 @@ use mathlib.Core.Path.{_≡_, refl, sym, _∙_}
 use mathlib.Core.Bool.{Bool, true, false}
 use Rattle.lists.specs.Choice.{pick}
 use Rattle.pool.specs.Pools.{Fits, member}
-use Rattle.arp.specs.Slots.{keptUdid}
-use Rattle.arp.specs.SlotsLaws.{by-bound}
-use Rattle.arp.specs.declared.slots.Slots.{Slots}
-use Rattle.arp.specs.declared.state.Binding.{Binding}
+use Rattle.slots.specs.Slots.{keptUdid}
+use Rattle.slots.specs.SlotsLaws.{by-bound}
+use Rattle.slots.specs.declared.Slots.{Slots}
+use Rattle.slots.specs.declared.Binding.{Binding}
 use Rattle.bindings.specs.BoundLaws.{bound-set-exactly}
 use Rattle.bindings.specs.Entries.{isBound, boundSet}
 use Rattle.bindings.specs.declared.entry.Entry.the-variants.{Nobody, Bound}

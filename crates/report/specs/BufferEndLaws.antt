@@ -5,7 +5,7 @@ use mathlib.Core.List.{List, _++_}
 use lib.ListN.{length, drop}
 use borrow.Author.Tests.{lt-ltb, le-ltb}
 use Rattle.bindings.specs.Entries.{bufferOf}
-use Rattle.arp.specs.declared.slots.Slots.{Slots}
+use Rattle.slots.specs.declared.Slots.{Slots}
 use Rattle.report.specs.Report.{entryAt, withBindings}
 
 pub long-enough : (slots : Slots) (b : List ℕ) → 2048 ≤ length b → withBindings slots b ≡ bufferOf (entryAt slots) ++ drop 2048 b

@@ -7,11 +7,11 @@ use Rattle.lists.specs.Choice.{pick}
 use Rattle.pool.specs.Free.{used}
 use Rattle.pool.specs.Start.{emptyPool}
 use Rattle.udid.specs.declared.Udid.{Udid}
-use Rattle.arp.specs.Bindings.{boundIn}
+use Rattle.slots.specs.Finding.{boundIn}
 use Rattle.arp.specs.Numbers.{commandNumber}
-use Rattle.arp.specs.Slots.{heldAt}
-use Rattle.arp.specs.declared.state.Binding.{Binding}
-use Rattle.arp.specs.declared.slots.Slots.{Slots}
+use Rattle.slots.specs.Slots.{heldAt}
+use Rattle.slots.specs.declared.Binding.{Binding}
+use Rattle.slots.specs.declared.Slots.{Slots}
 use Rattle.arp.specs.declared.state.Stepped.{Stepped}
 use Rattle.bindings.specs.Entries.{bufferOf, boundSet}
 use Rattle.bindings.specs.declared.entry.Entry.{Entry}

@@ -7,11 +7,11 @@ ghost use Rattle.bindings.specs.Entries.{bufferSize, bufferOf, boundSet};
 ghost use Rattle.lists.specs.Choice.{pick};
 ghost use Rattle.bindings.specs.declared.entry.Entry.the-variants.{Nobody, Bound};
 ghost use Rattle.report.specs.Report.{entryAt, withBindings};
-use arp::slots::Slots;
 use bindings::buffer::BUFFER;
 use bindings::buffer::put_entry;
 use bindings::entry::Entry;
 use pool::Pool;
+use slots::Slots;
 use udid::Udid;
 use wire::address::Address;
 

@@ -4,13 +4,13 @@ use mathlib.Core.List.{List, [], _∷_}
 use lib.ListN.{length}
 use Rattle.pool.specs.Pools.{withAddress}
 use Rattle.pool.specs.declared.Pool.{Pool}
-use Rattle.arp.specs.Slots.{withBinding, noBindings}
+use Rattle.slots.specs.Slots.{withBinding, noBindings}
 use Rattle.arp.specs.State.{stateOf}
 use Rattle.commands.specs.declared.command.End.the-variants.{Ended, NoneFree}
 use Rattle.commands.specs.declared.command.Handed.{Handed}
 use Rattle.commands.specs.declared.command.Handed.the-variants.{Wait}
-use Rattle.arp.specs.declared.state.Binding.the-variants.{Bound}
-use Rattle.arp.specs.declared.slots.Slots.{Slots}
+use Rattle.slots.specs.declared.Binding.the-variants.{Bound}
+use Rattle.slots.specs.declared.Slots.{Slots}
 use Rattle.arp.specs.declared.state.Stepped.{Stepped}
 use Rattle.targets.specs.Target.{Target, cleared, resolve}
 use Rattle.rule.specs.Bus.{World}

@@ -28,13 +28,13 @@ use Rattle.targets.specs.Target.{Target, isResolved, prepared, cleared, resolve
 use Rattle.targets.specs.Members.{Pairs}
 use Rattle.targets.specs.RecordLaws.{length-map}
 use Rattle.targets.specs.Admission.{FixedApart, FixedFree, AdmittedTargets}
-use Rattle.arp.specs.SlotsLaws.{open-all, sized-none}
-use Rattle.arp.specs.Bindings.{boundTo}
+use Rattle.slots.specs.SlotsLaws.{open-all, sized-none}
+use Rattle.slots.specs.Finding.{boundTo}
 use Rattle.arp.specs.Controller.{stepped}
-use Rattle.arp.specs.Slots.{withBinding, noBindings}
+use Rattle.slots.specs.Slots.{withBinding, noBindings}
 use Rattle.commands.specs.declared.command.Command.the-variants.{Prepare}
-use Rattle.arp.specs.declared.slots.Slots.{Slots}
-use Rattle.arp.specs.declared.state.Binding.the-variants.{Bound}
+use Rattle.slots.specs.declared.Slots.{Slots}
+use Rattle.slots.specs.declared.Binding.the-variants.{Bound}
 use Rattle.commands.specs.declared.command.Handed.the-variants.{Send}
 use Rattle.arp.specs.declared.state.Stepped.{Stepped}
 use Rattle.arp.specs.State.{stateOf}

@@ -9,10 +9,10 @@ use Rattle.lists.specs.Each.{Each}
 use Rattle.udid.specs.Bytes.{udidBytes}
 use Rattle.udid.specs.Udids.{sameUdid}
 use Rattle.udid.specs.declared.Udid.{Udid}
-use Rattle.arp.specs.Bindings.{boundIn}
-use Rattle.arp.specs.Slots.{heldAt}
-use Rattle.arp.specs.declared.state.Binding.{Binding}
-use Rattle.arp.specs.declared.slots.Slots.{Slots}
+use Rattle.slots.specs.Finding.{boundIn}
+use Rattle.slots.specs.Slots.{heldAt}
+use Rattle.slots.specs.declared.Binding.{Binding}
+use Rattle.slots.specs.declared.Slots.{Slots}
 use Rattle.targets.specs.Target.{Target, assignedTo}
 use Rattle.rule.specs.PlainRule.{Given}
 

@@ -22,11 +22,11 @@ use Rattle.udid.specs.Udids.{sameUdid, value}
 use Rattle.udid.specs.UdidLaws.{same-refl, same-equal, other-udid}
 use Rattle.udid.specs.declared.Udid.{Udid}
 use Rattle.arbitration.specs.Among.{Among}
-use Rattle.arp.specs.SlotsLaws.{held-same, held-other, open-all, sized-none, sized-with}
-use Rattle.arp.specs.Slots.{Sized128, heldAt, withBinding, noBindings}
-use Rattle.arp.specs.declared.state.Binding.{Binding}
-use Rattle.arp.specs.declared.state.Binding.the-variants.{Open, Bound, Claimed}
-use Rattle.arp.specs.declared.slots.Slots.{Slots}
+use Rattle.slots.specs.SlotsLaws.{held-same, held-other, open-all, sized-none, sized-with}
+use Rattle.slots.specs.Slots.{Sized128, heldAt, withBinding, noBindings}
+use Rattle.slots.specs.declared.Binding.{Binding}
+use Rattle.slots.specs.declared.Binding.the-variants.{Open, Bound, Claimed}
+use Rattle.slots.specs.declared.Slots.{Slots}
 use Rattle.targets.specs.Target.{Target, mapTargets, prepared, assignedTo, cleared, resolve}
 use Rattle.targets.specs.Members.{Pairs}
 use Rattle.targets.specs.Admission.{AdmittedTargets}

@@ -13,11 +13,11 @@ use Rattle.udid.specs.declared.Udid.{Udid}
 use Rattle.arbitration.specs.Among.{Among}
 use Rattle.targets.specs.Members.{Waits}
 use Rattle.targets.specs.Target.{Target, resolve}
-use Rattle.arp.specs.Bindings.{boundTo}
-use Rattle.arp.specs.Slots.{Sized128, heldAt, withBinding}
+use Rattle.slots.specs.Finding.{boundTo}
+use Rattle.slots.specs.Slots.{Sized128, heldAt, withBinding}
 use Rattle.commands.specs.declared.command.Command.the-variants.{GetUdid}
-use Rattle.arp.specs.declared.state.Binding.the-variants.{Bound}
-use Rattle.arp.specs.declared.slots.Slots.{Slots}
+use Rattle.slots.specs.declared.Binding.the-variants.{Bound}
+use Rattle.slots.specs.declared.Slots.{Slots}
 use Rattle.commands.specs.declared.command.Handed.the-variants.{Send}
 use Rattle.rule.specs.Bus.{World}
 use Rattle.rule.specs.PassEnd.{Outcome, out}

@@ -21,13 +21,13 @@ use Rattle.targets.specs.Target.{Target, isResolved, assignedTo, resolve, Sized
 use Rattle.targets.specs.MembersLaws.{waits-next}
 use Rattle.targets.specs.Members.{Least}
 use Rattle.targets.specs.RecordLaws.{length-map, assigned-keeps-udid}
-use Rattle.arp.specs.Bindings.{boundTo}
+use Rattle.slots.specs.Finding.{boundTo}
 use Rattle.arp.specs.Controller.{issued, stepped}
-use Rattle.arp.specs.Slots.{Sized128, heldAt, withBinding}
-use Rattle.arp.specs.SlotsLaws.{held-same, held-other, sized-with}
+use Rattle.slots.specs.Slots.{Sized128, heldAt, withBinding}
+use Rattle.slots.specs.SlotsLaws.{held-same, held-other, sized-with}
 use Rattle.commands.specs.declared.command.Command.the-variants.{GetUdid, Assign}
-use Rattle.arp.specs.declared.state.Binding.the-variants.{Bound}
-use Rattle.arp.specs.declared.slots.Slots.{Slots}
+use Rattle.slots.specs.declared.Binding.the-variants.{Bound}
+use Rattle.slots.specs.declared.Slots.{Slots}
 use Rattle.commands.specs.declared.command.Handed.the-variants.{Send}
 use Rattle.arp.specs.declared.state.Stepped.{Stepped}
 use Rattle.arp.specs.State.{stateOf}

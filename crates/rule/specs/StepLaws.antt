@@ -20,20 +20,21 @@ use Rattle.udid.specs.declared.Udid.{Udid}
 use Rattle.targets.specs.Target.{Target, Sized}
 use Rattle.targets.specs.Reply.{replyData}
 use Rattle.targets.specs.ReplyLaws.{length-reply-data, bytes-reply-data}
-use Rattle.arp.specs.Bindings.{findFrom, freed, bindingFor, bound}
+use Rattle.arp.specs.Bindings.{freed, bindingFor, bound}
+use Rattle.slots.specs.Finding.{findFrom}
 use Rattle.arp.specs.Controller.{handed, asked, chosen, issued, replied, stepped}
 use Rattle.commands.specs.Codes.{sendByte, blockRead}
 use Rattle.commands.specs.RequestLaws.{valid-prepare, valid-get}
 use Rattle.commands.specs.Requests.{messageOf, traceOf}
 use Rattle.arp.specs.ChangedLaws.{told-is-changed}
 use Rattle.hearing.specs.TraceLaws.{prepare-accepted, prepare-nobody, get-reply, get-nobody, assign-whole}
-use Rattle.arp.specs.Slots.{withBinding}
+use Rattle.slots.specs.Slots.{withBinding}
 use Rattle.commands.specs.declared.command.Command.the-variants.{Prepare, GetUdid, Assign}
 use Rattle.commands.specs.declared.command.End.the-variants.{Ended}
 use Rattle.commands.specs.declared.command.Handed.{Handed}
 use Rattle.commands.specs.declared.command.Handed.the-variants.{Send, Wait}
 use Rattle.arp.specs.declared.state.Controller.{Controller}
-use Rattle.arp.specs.declared.slots.Slots.{Slots}
+use Rattle.slots.specs.declared.Slots.{Slots}
 use Rattle.hearing.specs.declared.told.Told.the-variants.{Again, Over, Reply, Took}
 use Rattle.arp.specs.State.{stateOf}
 use Rattle.rule.specs.PassEnd.{out}

@@ -9,7 +9,7 @@ use denote.Ref.{now}
 use borrow.Author.Needs.{needs}
 use Rattle.lists.specs.Choice.{pick}
 use Rattle.udid.specs.declared.Udid.{Udid}
-use Rattle.arp.specs.Slots.{keptUdid}
+use Rattle.slots.specs.Slots.{keptUdid}
 use Rattle.bindings.specs.Entries.{putEntry, rowsOf}
 use Rattle.bindings.specs.BufferLaws.{rows-none, rows-more}
 use Rattle.bindings.specs.declared.entry.Entry.the-variants.{Nobody, Bound}

@@ -6,7 +6,7 @@ use Rattle.arp.proofs.state.Controller.bind.Tie as tie
 use Rattle.arp.proofs.state.Controller.bind.Reads as reads
 use Rattle.arp.proofs.state.Controller.bind.Lts as lts
 use Rattle.arp.proofs.bound.binding_for.Reads as binding-for-reads
-use Rattle.arp.proofs.slots.Slots.put.Reads as put-reads
+use Rattle.slots.proofs.Slots.put.Reads as put-reads
 use Rattle.pool.proofs.Pool.has.Reads as has-reads
 use Rattle.pool.proofs.Pool.with.Reads as with-reads
 

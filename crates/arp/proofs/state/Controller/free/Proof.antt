@@ -5,8 +5,8 @@ use Rattle.arp.proofs.state.Controller.free.Statement.{statement}
 use Rattle.arp.proofs.state.Controller.free.Tie as tie
 use Rattle.arp.proofs.state.Controller.free.Reads as reads
 use Rattle.arp.proofs.state.Controller.free.Lts as lts
-use Rattle.arp.proofs.slots.Slots.find.Reads as find-reads
-use Rattle.arp.proofs.slots.Slots.put.Reads as put-reads
+use Rattle.slots.proofs.Slots.find.Reads as find-reads
+use Rattle.slots.proofs.Slots.put.Reads as put-reads
 use Rattle.pool.proofs.Pool.without.Reads as without-reads
 
 find-requires : tie.Need-find-requires

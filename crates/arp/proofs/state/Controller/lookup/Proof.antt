@@ -6,7 +6,7 @@ use Rattle.arp.proofs.state.Controller.lookup.Statement.{statement}
 use Rattle.arp.proofs.state.Controller.lookup.Tie as tie
 use Rattle.arp.proofs.state.Controller.lookup.Reads as reads
 use Rattle.arp.proofs.state.Controller.lookup.Lts as lts
-use Rattle.arp.proofs.slots.Slots.held_at.Reads as held-at-reads
+use Rattle.slots.proofs.Slots.held_at.Reads as held-at-reads
 
 returns : tie.Need-returns
 returns c = simp (lt-ltb _ _ (c .if1 .taken))

@@ -1,9 +1,9 @@
-use Rattle.arp.specs.Slots.{withBinding}
+use Rattle.slots.specs.Slots.{withBinding}
 use borrow.Author.Needs.{needs}
-use Rattle.arp.proofs.slots.Slots.put_open.Statement.{statement}
-use Rattle.arp.proofs.slots.Slots.put_open.Tie as tie
-use Rattle.arp.proofs.slots.Slots.put_open.Reads as reads
-use Rattle.arp.proofs.slots.Slots.put_open.Lts as lts
+use Rattle.slots.proofs.Slots.put_open.Statement.{statement}
+use Rattle.slots.proofs.Slots.put_open.Tie as tie
+use Rattle.slots.proofs.Slots.put_open.Reads as reads
+use Rattle.slots.proofs.Slots.put_open.Lts as lts
 use Rattle.pool.proofs.Pool.without.Reads as without-reads
 
 without-requires : tie.Need-without-requires

@@ -1,21 +1,21 @@
 -- What the reader of the slots gives after the writer and at the start (specs/Slots.antt).
 use Prim.Native.Nat.{ℕ, _≤_, _<_}
-use mathlib.Core.Path.{_≡_, refl, sym, ap, _∙_}
+use mathlib.Core.Path.{_≡_, refl, sym, ap, subst, _∙_}
 use mathlib.Core.Bool.{Bool, true, false}
 use mathlib.Core.Logic.{_⊎_, inl, inr}
 use native.Mathlib.Decide.{ℕ-discrete}
 use native.Mathlib.Omega.{arith}
 use lib.ListN.{length-set, length-replicate}
-use lib.Seq.{getD-set-same, getD-set-other}
+use lib.Seq.{getD-set-same, getD-set-other, set-out}
 use Rattle.lists.specs.Choice.{pick}
-use Rattle.pool.specs.MemberLaws.{member-above, has-with-same, has-with-other, has-without-same, has-without-other}
+use Rattle.pool.specs.MemberLaws.{member-above, with-above, has-with-same, has-with-other, has-without-same, has-without-other}
 use Rattle.pool.specs.Pools.{member}
 use Rattle.pool.specs.StartLaws.{member-empty}
 use Rattle.udid.specs.declared.Udid.{Udid}
-use Rattle.arp.specs.Slots.{Sized128, keptUdid, heldAt, withBinding, noBindings}
-use Rattle.arp.specs.declared.slots.Slots.{Slots}
-use Rattle.arp.specs.declared.state.Binding.{Binding}
-use Rattle.arp.specs.declared.state.Binding.the-variants.{Open, Bound, Claimed}
+use Rattle.slots.specs.Slots.{Sized128, keptUdid, heldAt, withBinding, noBindings}
+use Rattle.slots.specs.declared.Slots.{Slots}
+use Rattle.slots.specs.declared.Binding.{Binding}
+use Rattle.slots.specs.declared.Binding.the-variants.{Open, Bound, Claimed}
 
 -- ---- what is held by the sets of bound and of claimed addresses
 
@@ -83,6 +83,16 @@ held-out-of-range s a i x h = go (ℕ-discrete i a)
     go : Dec (i ≡ a) → heldAt (withBinding s a x) i ≡ heldAt s i
     go (yes q) = held-above-is-open (withBinding s a x) i (omega arith) ∙ sym (held-above-is-open s i (omega arith))
     go (no q) = held-other s a i x q
+
+-- nor does anything that is kept
+pub put-above : (s : Slots) (a : ℕ) (u : Udid) → Sized128 s → 128 ≤ a → withBinding s a (Bound u) ≡ s
+unfolding withBinding
+put-above s a u z h = λ j. record {
+  bound = with-above (s .bound) a h j;
+  claimed = s .claimed;
+  high = set-out (s .high) a (u .high) (subst (λ (n : ℕ). n ≤ a) (sym (z .high)) h) j;
+  low = set-out (s .low) a (u .low) (subst (λ (n : ℕ). n ≤ a) (sym (z .low)) h) j;
+}
 
 -- what was put, or what was there elsewhere
 pub held-cases : (s : Slots) (a i : ℕ) (x h : Binding) → Sized128 s → a < 128 → heldAt (withBinding s a x) i ≡ h

@@ -1,9 +1,9 @@
-use Rattle.arp.specs.Slots.{withBinding}
+use Rattle.slots.specs.Slots.{withBinding}
 use borrow.Author.Needs.{needs}
-use Rattle.arp.proofs.slots.Slots.put_claimed.Statement.{statement}
-use Rattle.arp.proofs.slots.Slots.put_claimed.Tie as tie
-use Rattle.arp.proofs.slots.Slots.put_claimed.Reads as reads
-use Rattle.arp.proofs.slots.Slots.put_claimed.Lts as lts
+use Rattle.slots.proofs.Slots.put_claimed.Statement.{statement}
+use Rattle.slots.proofs.Slots.put_claimed.Tie as tie
+use Rattle.slots.proofs.Slots.put_claimed.Reads as reads
+use Rattle.slots.proofs.Slots.put_claimed.Lts as lts
 use Rattle.pool.proofs.Pool.with.Reads as with-reads
 use Rattle.pool.proofs.Pool.without.Reads as without-reads
 

@@ -1,11 +1,11 @@
 use mathlib.Core.Path.{_≡_, refl, sym, ap, ap₂, _∙_}
 use native.Mathlib.Omega.{arith}
-use Rattle.arp.specs.SlotsLaws.{held-bound, held-claimed, held-open, held-above-is-open}
+use Rattle.slots.specs.SlotsLaws.{held-bound, held-claimed, held-open, held-above-is-open}
 use borrow.Author.Needs.{needs}
-use Rattle.arp.proofs.slots.Slots.held_at.Statement.{statement}
-use Rattle.arp.proofs.slots.Slots.held_at.Tie as tie
-use Rattle.arp.proofs.slots.Slots.held_at.Reads as reads
-use Rattle.arp.proofs.slots.Slots.held_at.Lts as lts
+use Rattle.slots.proofs.Slots.held_at.Statement.{statement}
+use Rattle.slots.proofs.Slots.held_at.Tie as tie
+use Rattle.slots.proofs.Slots.held_at.Reads as reads
+use Rattle.slots.proofs.Slots.held_at.Lts as lts
 use Rattle.pool.proofs.Pool.has.Reads as has-reads
 
 returns : tie.Need-returns

@@ -4,16 +4,16 @@ use mathlib.Core.Bool.{Bool, true, false}
 use native.Mathlib.Numerals.{add-one}
 use native.Mathlib.Omega.{arith}
 use Rattle.udid.specs.declared.Udid.{Udid}
-use Rattle.arp.specs.Bindings.{boundTo, findFrom}
-use Rattle.arp.specs.Slots.{heldAt}
-use Rattle.arp.specs.SoundLaws.{bound-by-halves}
-use Rattle.arp.specs.declared.slots.Slots.{Slots}
+use Rattle.slots.specs.Finding.{boundTo, findFrom}
+use Rattle.slots.specs.Slots.{heldAt}
+use Rattle.slots.specs.FindingLaws.{bound-by-halves}
+use Rattle.slots.specs.declared.Slots.{Slots}
 use borrow.Author.Needs.{needs}
-use Rattle.arp.proofs.slots.Slots.find.Statement.{statement}
-use Rattle.arp.proofs.slots.Slots.find.Tie as tie
-use Rattle.arp.proofs.slots.Slots.find.Reads as reads
-use Rattle.arp.proofs.slots.Slots.find.Lts as lts
-use Rattle.arp.proofs.bound.is_bound_to.Reads as is-bound-to-reads
+use Rattle.slots.proofs.Slots.find.Statement.{statement}
+use Rattle.slots.proofs.Slots.find.Tie as tie
+use Rattle.slots.proofs.Slots.find.Reads as reads
+use Rattle.slots.proofs.Slots.find.Lts as lts
+use Rattle.slots.proofs.find.is_bound_to.Reads as is-bound-to-reads
 
 here : (u : Udid) (s : Slots) (a : ℕ) → a < 128 → boundTo u (heldAt s a) ≡ true → findFrom u s (128 - a) a ≡ a
 unfolding findFrom

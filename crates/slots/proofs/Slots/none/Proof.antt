@@ -1,9 +1,9 @@
-use Rattle.arp.specs.Slots.{noBindings}
+use Rattle.slots.specs.Slots.{noBindings}
 use borrow.Author.Needs.{needs}
-use Rattle.arp.proofs.slots.Slots.none.Statement.{statement}
-use Rattle.arp.proofs.slots.Slots.none.Tie as tie
-use Rattle.arp.proofs.slots.Slots.none.Reads as reads
-use Rattle.arp.proofs.slots.Slots.none.Lts as lts
+use Rattle.slots.proofs.Slots.none.Statement.{statement}
+use Rattle.slots.proofs.Slots.none.Tie as tie
+use Rattle.slots.proofs.Slots.none.Reads as reads
+use Rattle.slots.proofs.Slots.none.Lts as lts
 use Rattle.pool.proofs.Pool.empty.Reads as empty-reads
 
 empty-requires : tie.Need-empty-requires

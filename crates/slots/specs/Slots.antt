@@ -7,9 +7,9 @@ use Rattle.lists.specs.Choice.{pick}
 use Rattle.pool.specs.Pools.{member, withAddress, withoutAddress}
 use Rattle.pool.specs.Start.{emptyPool}
 use Rattle.udid.specs.declared.Udid.{Udid}
-use Rattle.arp.specs.declared.slots.Slots.{Slots}
-use Rattle.arp.specs.declared.state.Binding.{Binding}
-use Rattle.arp.specs.declared.state.Binding.the-variants.{Open, Bound, Claimed}
+use Rattle.slots.specs.declared.Slots.{Slots}
+use Rattle.slots.specs.declared.Binding.{Binding}
+use Rattle.slots.specs.declared.Binding.the-variants.{Open, Bound, Claimed}
 
 -- there is a place for each of the 128 addresses
 pub record Sized128 (s : Slots) : Type 0 where

@@ -1,12 +1,19 @@
 // What each address is known for. `held_at` is the one reader, `put` the one writer, `none` where a pass begins. Rests on crates pool and udid.
 ghost use mathlib.Core.Path.{_≡_};
-ghost use Prim.Native.Nat.{_<_};
-ghost use Rattle.arp.specs.Slots.{heldAt, withBinding, noBindings};
-ghost use Rattle.arp.specs.declared.state.Binding.the-variants.{Open, Bound, Claimed};
-use super::state::Binding;
+ghost use Rattle.slots.specs.Slots.{heldAt, withBinding, noBindings};
+ghost use Rattle.slots.specs.declared.Binding.the-variants.{Open, Bound, Claimed};
 use pool::Pool;
 use udid::Udid;
 use wire::address::Address;
+
+pub mod find;
+
+// What an address is known for in this pass: nothing; the target bound there; that two targets claim it.
+pub enum Binding {
+    Open,
+    Bound(Udid),
+    Claimed,
+}
 
 pub struct Slots {
     // The addresses to which a target is bound.
@@ -69,10 +76,12 @@ impl Slots {
 
     // The slots with the target bound to the address.
     fn put_bound(mut self, a: Address, u: Udid) -> Slots
-        requires { ⌜ a .0 < 128 ⌝ }
         ensures { λ r. ⌜ r ≡ withBinding self (a .0) (Bound u) ⌝ }
     {
         let n = a.0;
+        if n > 127 {
+            return self;
+        }
         let at = n as usize;
         let bound = self.bound;
         self.bound = bound.with(a);
@@ -92,9 +101,8 @@ impl Slots {
         self
     }
 
-    // The slots with the address known for this.
-    pub(crate) fn put(self, a: Address, held: Binding) -> Slots
-        requires { ⌜ a .0 < 128 ⌝ }
+    // The slots with the address known for this. A number above 127 is no address: they are what they were.
+    pub fn put(self, a: Address, held: Binding) -> Slots
         ensures { λ r. ⌜ r ≡ withBinding self (a .0) held ⌝ }
     {
         match held {

@@ -1,0 +1,4 @@
+pub mod Slots
+pub mod Finding
+pub mod FindingLaws
+pub mod SlotsLaws
