@@ -4,7 +4,7 @@ use mathlib.Core.List.{List, _++_}
 use Rattle.wire.specs.declared.address.Address.{Address}
 use Rattle.udid.specs.declared.Udid.{Udid}
 use Rattle.text.specs.Chars.{chars}
-use Rattle.text.specs.Written.{pairOf}
+use Rattle.writing.specs.Written.{pairOf}
 use Rattle.commands.specs.declared.command.Command.{Command}
 use Rattle.commands.specs.declared.command.Command.the-variants.{Prepare, GetUdid, Assign}
 use Rattle.commands.specs.declared.command.End.{End}

@@ -2,7 +2,7 @@
 use Prim.Native.Nat.{ℕ}
 use mathlib.Core.List.{List, _++_}
 use Rattle.text.specs.Chars.{chars}
-use Rattle.text.specs.Written.{decimalOf}
+use Rattle.writing.specs.Written.{decimalOf}
 use Rattle.pieces.specs.Pieces.{newline}
 
 abbrev pub occupiedText : ℕ → List ℕ

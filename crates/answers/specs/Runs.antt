@@ -9,7 +9,7 @@ use Rattle.pool.specs.declared.Pool.{Pool}
 use Rattle.pool.specs.Pools.{member}
 use Rattle.udid.specs.Bytes.{udidAt}
 use Rattle.text.specs.Chars.{chars}
-use Rattle.text.specs.Written.{decimalOf, pairOf}
+use Rattle.writing.specs.Written.{decimalOf, pairOf}
 use Rattle.bindings.specs.declared.answer.ModelAnswer.{ModelAnswer}
 use Rattle.pieces.specs.Pieces.{newline, udidText, below}
 

@@ -1,5 +1,5 @@
 // The answers of start and step: what the controller hands out.
-ghost use Rattle.text.specs.Written.{Appended};
+ghost use Rattle.writing.specs.Written.{Appended};
 ghost use Rattle.answers.specs.Commands.{assignText, nextText, endText, commandText};
 use commands::command::Command;
 use commands::command::End;

@@ -2,7 +2,7 @@
 ghost use mathlib.Core.Path.{_≡_};
 ghost use Prim.Native.Nat.{_+_, _*_, _≤_};
 ghost use lib.ListN.{length};
-ghost use Rattle.text.specs.Written.{Appended};
+ghost use Rattle.writing.specs.Written.{Appended};
 ghost use Rattle.answers.specs.Runs.{boundText, addressText, bindingsText, recordText, recordsText, endingText, firstText, refusalText, isRefusal, runText};
 use bindings::answer::ModelAnswer;
 use pieces::piece::number_line;
@@ -11,9 +11,9 @@ use pieces::piece::put_number;
 use pieces::piece::put_udid;
 use pieces::piece::udid_line;
 use pool::Pool;
-use text::write::put_decimal;
 use udid::Udid;
 use wire::address::Address;
+use writing::write::put_decimal;
 
 // A bound address and its target.
 fn put_bound(out: &mut [u8], at: usize, a: u8, bindings: &[u8]) -> usize

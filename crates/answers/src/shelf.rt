@@ -1,5 +1,5 @@
 // The answers of occupied, target and clear.
-ghost use Rattle.text.specs.Written.{Appended};
+ghost use Rattle.writing.specs.Written.{Appended};
 ghost use Rattle.answers.specs.Lines.{occupiedText, noAddressText, targetText, clearText};
 use pieces::piece::number_line;
 use pieces::piece::put_line;

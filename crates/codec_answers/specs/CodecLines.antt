@@ -2,7 +2,7 @@
 use Prim.Native.Nat.{ℕ, _+_, _%_, _^_}
 use mathlib.Core.List.{List, _++_}
 use Rattle.text.specs.Chars.{chars}
-use Rattle.text.specs.Written.{decimalOf, pairOf}
+use Rattle.writing.specs.Written.{decimalOf, pairOf}
 use Rattle.requests.specs.declared.expected.Expected.{Expected}
 use Rattle.requests.specs.declared.expected.Expected.the-variants.{Verb, Byte, Symbol, Protocol, Pec, Sent, Received, Udid, End, Targets, Line}
 use Rattle.encode.specs.declared.Encoded.{Encoded}

@@ -2,7 +2,7 @@
 use Prim.Native.Nat.{ℕ}
 use mathlib.Core.List.{List, _++_}
 use Rattle.text.specs.Chars.{chars}
-use Rattle.text.specs.Written.{decimalOf, pairOf}
+use Rattle.writing.specs.Written.{decimalOf, pairOf}
 use lib.Dec.{ltb}
 use Rattle.lists.specs.Choice.{pick}
 use Rattle.scan.specs.Numbers.{refusalNumber, isNack}

@@ -1,13 +1,13 @@
 // The answers of pec and encode.
 ghost use mathlib.Core.List.{_++_};
-ghost use Rattle.text.specs.Written.{Appended};
+ghost use Rattle.writing.specs.Written.{Appended};
 ghost use Rattle.codec_answers.specs.CodecLines.{pecText, traceText, encodedText};
 use encode::Encoded;
 use pieces::list::put_symbols;
 use pieces::list::symbols_part;
 use pieces::piece::hex_line;
 use pieces::piece::put_line;
-use text::write::put;
+use writing::write::put;
 
 // A packet error code.
 pub fn put_pec(out: &mut [u8], at: usize, b: u8) -> usize

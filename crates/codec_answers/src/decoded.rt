@@ -1,6 +1,6 @@
 // The answers of decode.
 ghost use mathlib.Core.List.{_++_};
-ghost use Rattle.text.specs.Written.{Appended};
+ghost use Rattle.writing.specs.Written.{Appended};
 ghost use Rattle.pieces.specs.Pieces.{bytesText};
 ghost use Rattle.codec_answers.specs.Decodings.{fieldsText, transactionText, whereText, refusedText, decodedText};
 use pieces::list::put_bytes;
@@ -12,9 +12,9 @@ use scan::answer::Refusal;
 use scan::number::is_nack;
 use scan::number::refusal_number;
 use text::word::part;
-use text::write::put;
-use text::write::put_decimal;
 use trace::transaction::Transaction;
+use writing::write::put;
+use writing::write::put_decimal;
 
 // The fields of a transaction.
 fn put_fields(out: &mut [u8], at: usize, t: Transaction) -> usize

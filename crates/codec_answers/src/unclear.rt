@@ -1,9 +1,9 @@
 // The line for what is no request: a question mark, the column, and what was expected there. A column is a place of the line plus 1.
-ghost use Rattle.text.specs.Written.{Appended};
+ghost use Rattle.writing.specs.Written.{Appended};
 ghost use Rattle.codec_answers.specs.CodecLines.{expectedText, unclearText};
 use pieces::piece::put_number;
 use requests::expected::Expected;
-use text::write::put;
+use writing::write::put;
 
 // What was expected, to the end of the line.
 fn put_expected(out: &mut [u8], at: usize, e: Expected) -> usize

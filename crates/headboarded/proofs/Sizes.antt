@@ -4,8 +4,8 @@ use mathlib.Core.Path.{_≡_, ap, _∙_}
 use mathlib.Core.List.{List}
 use native.Mathlib.Omega.{arith}
 use lib.ListN.{length}
-use Rattle.text.specs.Written.{Appended}
-use Rattle.text.specs.WrittenLaws.{appended-within, length-written}
+use Rattle.writing.specs.Written.{Appended}
+use Rattle.writing.specs.WrittenLaws.{appended-within, length-written}
 
 pub inside : {l xs l′ : List ℕ} {to : ℕ} → Appended l 0 xs l′ to → to ≤ length l′
 inside {l} {xs} {l′} {to} a =

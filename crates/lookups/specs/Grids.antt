@@ -5,7 +5,7 @@ use Rattle.lists.specs.Choice.{pick}
 use Rattle.pool.specs.declared.Pool.{Pool}
 use Rattle.pool.specs.Pools.{member}
 use Rattle.text.specs.Chars.{chars}
-use Rattle.text.specs.Written.{pairOf}
+use Rattle.writing.specs.Written.{pairOf}
 use Rattle.arp.specs.Lookup.{lookedUp}
 use Rattle.arp.specs.declared.lookup.Found.{Found}
 use Rattle.arp.specs.declared.lookup.Found.the-variants as found

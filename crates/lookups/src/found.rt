@@ -1,5 +1,5 @@
 // The answer of lookup.
-ghost use Rattle.text.specs.Written.{Appended};
+ghost use Rattle.writing.specs.Written.{Appended};
 ghost use Rattle.lookups.specs.FoundLines.{foundText};
 use arp::lookup::Found;
 use pieces::piece::put_line;

@@ -2,14 +2,14 @@
 // by two, and an address stands where a target is bound.
 ghost use mathlib.Core.Path.{_≡_};
 ghost use mathlib.Core.List.{_++_};
-ghost use Rattle.text.specs.Written.{Appended};
+ghost use Rattle.writing.specs.Written.{Appended};
 ghost use Rattle.lookups.specs.Grids.{freeOf, cellOf, cellText, cellsText, rowText, rowsText, gridText};
 use arp::lookup::Found;
 use arp::state::Controller;
 use pieces::piece::put_hex;
 use pool::Pool;
-use text::write::put;
 use wire::address::Address;
+use writing::write::put;
 
 // What the table shows at an address.
 pub(crate) enum Cell {

@@ -6,7 +6,7 @@ use Rattle.udid.specs.declared.Udid.{Udid}
 use Rattle.udid.specs.Bytes.{udidBytes}
 use Rattle.text.specs.Chars.{chars}
 use Rattle.text.specs.Words.{partOf}
-use Rattle.text.specs.Written.{decimalOf, pairOf, pairsOf}
+use Rattle.writing.specs.Written.{decimalOf, pairOf, pairsOf}
 
 -- the end of a line
 abbrev pub newline : List ℕ

@@ -1,6 +1,6 @@
 // Lists of bytes and of symbols, each number after a blank; and a part of a buffer.
 ghost use mathlib.Core.Path.{_≡_};
-ghost use Rattle.text.specs.Written.{Appended};
+ghost use Rattle.writing.specs.Written.{Appended};
 ghost use Rattle.pieces.specs.Pieces.{bytesText, symbolsText};
 ghost use Rattle.text.specs.Words.{partOf};
 use crate::piece::put_hex;

@@ -1,12 +1,12 @@
 // Pieces of answer lines: a label, and a number or an identifier after it.
 ghost use mathlib.Core.List.{_++_};
-ghost use Rattle.text.specs.Written.{Appended, decimalOf, pairOf};
+ghost use Rattle.writing.specs.Written.{Appended, decimalOf, pairOf};
 ghost use Rattle.pieces.specs.Pieces.{newline, udidText};
-use text::write::put;
-use text::write::put_decimal;
-use text::write::put_pair;
-use text::write::put_pairs;
 use udid::Udid;
+use writing::write::put;
+use writing::write::put_decimal;
+use writing::write::put_pair;
+use writing::write::put_pairs;
 
 // A decimal number after a label.
 pub fn put_number(out: &mut [u8], at: usize, label: &[u8], n: u64) -> usize

@@ -2,7 +2,7 @@
 // words are looked at. Rests on crate text.
 ghost use mathlib.Core.Path.{_≡_};
 ghost use lib.ListN.{length};
-ghost use Rattle.text.specs.Written.{Appended};
+ghost use Rattle.writing.specs.Written.{Appended};
 ghost use Rattle.requests.specs.Lists.{bytesEnd, symbolsEnd, bytesFrom, symbolsFrom};
 use words::word::ByteWord;
 use words::word::SymbolWord;

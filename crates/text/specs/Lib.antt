@@ -1,8 +1,3 @@
 pub mod Words
-pub mod Numbers
-pub mod Written
 pub mod Chars
 pub mod WordLaws
-pub mod NumberLaws
-pub mod WrittenLaws
-pub mod BackLaws

@@ -5,13 +5,13 @@ use lib.Dec.{ltb}
 use lib.ListN.{length}
 use Rattle.lists.specs.Choice.{pick}
 use Rattle.text.specs.declared.word.LineWord.{LineWord}
-use Rattle.text.specs.declared.number.Number.{Number}
-use Rattle.text.specs.declared.number.Number.the-variants.{Is, NoNumber, TooLarge}
-use Rattle.text.specs.declared.number.Halves.{Halves}
-use Rattle.text.specs.declared.number.Halves.the-variants.{Are, NoHalves}
+use Rattle.digits.specs.declared.number.Number.{Number}
+use Rattle.digits.specs.declared.number.Number.the-variants.{Is, NoNumber, TooLarge}
+use Rattle.digits.specs.declared.number.Halves.{Halves}
+use Rattle.digits.specs.declared.number.Halves.the-variants.{Are, NoHalves}
 use Rattle.text.specs.Chars.{chars}
 use Rattle.text.specs.Words.{wordFrom, partOf, sameText}
-use Rattle.text.specs.Numbers.{numberOf, halvesOf}
+use Rattle.digits.specs.Numbers.{numberOf, halvesOf}
 use Rattle.words.specs.Protocols.{noProtocol, protocolNamed}
 use Rattle.words.specs.declared.word.ByteWord.{ByteWord}
 use Rattle.words.specs.declared.word.ByteWord.the-variants.{Byte, NoByte}

@@ -6,13 +6,13 @@ use mathlib.Core.List.{List}
 use lib.ListN.{length}
 use borrow.Author.Tests.{lt-ltb, le-ltb}
 use Rattle.text.specs.declared.word.LineWord.{LineWord}
-use Rattle.text.specs.declared.number.Number.{Number}
-use Rattle.text.specs.declared.number.Number.the-variants.{Is, NoNumber, TooLarge}
-use Rattle.text.specs.declared.number.Halves.{Halves}
-use Rattle.text.specs.declared.number.Halves.the-variants.{Are, NoHalves}
+use Rattle.digits.specs.declared.number.Number.{Number}
+use Rattle.digits.specs.declared.number.Number.the-variants.{Is, NoNumber, TooLarge}
+use Rattle.digits.specs.declared.number.Halves.{Halves}
+use Rattle.digits.specs.declared.number.Halves.the-variants.{Are, NoHalves}
 use Rattle.text.specs.Chars.{chars}
 use Rattle.text.specs.Words.{wordFrom, partOf, sameText}
-use Rattle.text.specs.Numbers.{numberOf, halvesOf}
+use Rattle.digits.specs.Numbers.{numberOf, halvesOf}
 use Rattle.words.specs.Protocols.{noProtocol, protocolNamed}
 use Rattle.words.specs.Said.{byteAt, symbolAt, udidAt, protocolAt, pecAt, markAt, restAt}
 use Rattle.words.specs.declared.word.ByteWord.{ByteWord}

@@ -1,6 +1,6 @@
 use Rattle.answers.specs.Runs.{boundText}
 use Rattle.lists.specs.Choice.{pick}
-use Rattle.text.specs.WrittenLaws.{appended-as, appended-none}
+use Rattle.writing.specs.WrittenLaws.{appended-as, appended-none}
 use borrow.Author.Needs.{needs}
 use mathlib.Core.Bool.{Bool}
 use mathlib.Core.List.{[]}

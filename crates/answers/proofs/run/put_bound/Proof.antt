@@ -1,6 +1,6 @@
 use Rattle.pieces.specs.Pieces.{udidText, newline}
 use Rattle.text.specs.Chars.{chars}
-use Rattle.text.specs.WrittenLaws.{appended-on, appended-as}
+use Rattle.writing.specs.WrittenLaws.{appended-on, appended-as}
 use Rattle.udid.specs.declared.Udid.{Udid}
 use borrow.Author.Needs.{needs}
 use mathlib.Core.List.{_++_}

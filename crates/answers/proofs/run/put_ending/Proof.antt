@@ -1,7 +1,7 @@
 use Rattle.pieces.specs.Pieces.{udidText}
 use Rattle.lists.specs.Choice.{pick}
 use Rattle.text.specs.Chars.{chars}
-use Rattle.text.specs.WrittenLaws.{appended-on, appended-as, appended-none}
+use Rattle.writing.specs.WrittenLaws.{appended-on, appended-as, appended-none}
 use borrow.Author.Needs.{needs}
 use borrow.Author.Tests.{eq-eqb, ne-eqb}
 use mathlib.Core.Bool.{Bool}

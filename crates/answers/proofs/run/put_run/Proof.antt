@@ -1,6 +1,6 @@
 use Rattle.answers.specs.Runs.{refusalText, firstText, bindingsText, recordsText, runText}
 use Rattle.lists.specs.Choice.{pick}
-use Rattle.text.specs.WrittenLaws.{appended-on, appended-as}
+use Rattle.writing.specs.WrittenLaws.{appended-on, appended-as}
 use borrow.Author.Needs.{needs}
 use mathlib.Core.Bool.{Bool}
 use mathlib.Core.List.{_++_}

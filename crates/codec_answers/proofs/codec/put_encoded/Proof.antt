@@ -1,6 +1,6 @@
 use Rattle.codec_answers.specs.CodecLines.{encodedText, traceText}
 use Rattle.encode.specs.declared.Encoded.{Encoded}
-use Rattle.text.specs.WrittenLaws.{appended-as}
+use Rattle.writing.specs.WrittenLaws.{appended-as}
 use borrow.Author.Needs.{needs}
 use mathlib.Core.Path.{sym, ap, _∙_}
 use Rattle.codec_answers.proofs.codec.put_encoded.Statement.{statement}

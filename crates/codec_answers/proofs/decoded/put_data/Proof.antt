@@ -1,4 +1,4 @@
-use Rattle.text.specs.WrittenLaws.{appended-on}
+use Rattle.writing.specs.WrittenLaws.{appended-on}
 use borrow.Author.Needs.{needs}
 use Rattle.codec_answers.proofs.decoded.put_data.Statement.{statement}
 use Rattle.codec_answers.proofs.decoded.put_data.Tie as tie

@@ -1,6 +1,6 @@
 use Rattle.codec_answers.specs.Decodings.{decodedText}
 use Rattle.scan.specs.declared.answer.Decoded.{Decoded}
-use Rattle.text.specs.WrittenLaws.{appended-as}
+use Rattle.writing.specs.WrittenLaws.{appended-as}
 use mathlib.Core.Path.{sym, ap}
 use borrow.Author.Needs.{needs}
 use Rattle.codec_answers.proofs.decoded.put_decoded.Statement.{statement}

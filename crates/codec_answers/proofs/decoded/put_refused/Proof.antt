@@ -1,6 +1,6 @@
 use mathlib.Core.Path.{ap}
-use Rattle.text.specs.Written.{decimalOf}
-use Rattle.text.specs.WrittenLaws.{appended-on, appended-as}
+use Rattle.writing.specs.Written.{decimalOf}
+use Rattle.writing.specs.WrittenLaws.{appended-on, appended-as}
 use borrow.Author.Needs.{needs}
 use Rattle.codec_answers.proofs.decoded.put_refused.Statement.{statement}
 use Rattle.codec_answers.proofs.decoded.put_refused.Tie as tie
@@ -8,7 +8,7 @@ use Rattle.codec_answers.proofs.decoded.put_refused.Reads as reads
 use Rattle.codec_answers.proofs.decoded.put_refused.Lts as lts
 use Rattle.codec_answers.proofs.decoded.put_where.Reads as put-where-reads
 use Rattle.scan.proofs.number.refusal_number.Reads as refusal-number-reads
-use Rattle.text.proofs.write.put_decimal.Reads as put-decimal-reads
+use Rattle.writing.proofs.write.put_decimal.Reads as put-decimal-reads
 
 refusal-number-requires : tie.Need-refusal-number-requires
 refusal-number-requires c κs = search needs

@@ -1,7 +1,7 @@
 use Prim.Native.Nat.{ℕ}
 use Rattle.pieces.specs.Pieces.{bytesText}
 use Rattle.text.specs.Chars.{chars}
-use Rattle.text.specs.WrittenLaws.{appended-on, appended-as}
+use Rattle.writing.specs.WrittenLaws.{appended-on, appended-as}
 use borrow.Author.Needs.{needs}
 use mathlib.Core.List.{List, _++_}
 use mathlib.Core.Path.{ap}

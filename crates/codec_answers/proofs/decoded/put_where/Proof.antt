@@ -1,5 +1,5 @@
 use Rattle.codec_answers.specs.DecodingLaws.{not-read, which-byte, which-place}
-use Rattle.text.specs.WrittenLaws.{appended-as}
+use Rattle.writing.specs.WrittenLaws.{appended-as}
 use borrow.Author.Needs.{needs}
 use Rattle.codec_answers.proofs.decoded.put_where.Statement.{statement}
 use Rattle.codec_answers.proofs.decoded.put_where.Tie as tie
@@ -8,7 +8,7 @@ use Rattle.codec_answers.proofs.decoded.put_where.Lts as lts
 use Rattle.pieces.proofs.piece.number_line.Reads as number-line-reads
 use Rattle.scan.proofs.number.is_nack.Reads as is-nack-reads
 use Rattle.scan.proofs.number.refusal_number.Reads as refusal-number-reads
-use Rattle.text.proofs.write.put.Reads as put-reads
+use Rattle.writing.proofs.write.put.Reads as put-reads
 
 refusal-number-requires : tie.Need-refusal-number-requires
 refusal-number-requires c κs = search needs

@@ -1,5 +1,5 @@
 use Rattle.codec_answers.specs.CodecLines.{expectedText}
-use Rattle.text.specs.WrittenLaws.{appended-as}
+use Rattle.writing.specs.WrittenLaws.{appended-as}
 use borrow.Author.Needs.{needs}
 use mathlib.Core.Path.{sym, ap}
 use Rattle.codec_answers.proofs.unclear.put_expected.Statement.{statement}

@@ -1,5 +1,5 @@
 use Rattle.lookups.specs.FoundLines.{foundText}
-use Rattle.text.specs.WrittenLaws.{appended-as}
+use Rattle.writing.specs.WrittenLaws.{appended-as}
 use borrow.Author.Needs.{needs}
 use mathlib.Core.Path.{sym, ap}
 use Rattle.lookups.proofs.found.put_found.Statement.{statement}

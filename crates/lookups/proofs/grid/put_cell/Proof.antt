@@ -1,6 +1,6 @@
 use Rattle.lookups.specs.Grids.{cellText}
 use Rattle.lookups.specs.declared.grid.Cell.{Cell}
-use Rattle.text.specs.WrittenLaws.{appended-as}
+use Rattle.writing.specs.WrittenLaws.{appended-as}
 use borrow.Author.Needs.{needs}
 use mathlib.Core.Path.{sym, ap}
 use Rattle.lookups.proofs.grid.put_cell.Statement.{statement}

@@ -3,8 +3,8 @@ use Rattle.lookups.specs.Grids.{cellText, cellAt}
 use Rattle.pieces.specs.PieceLaws.{below-on, below-over}
 use Rattle.pieces.specs.Pieces.{below}
 use Rattle.lookups.specs.declared.grid.Cell.{Cell}
-use Rattle.text.specs.Written.{Came}
-use Rattle.text.specs.WrittenLaws.{appended-as, came-start, came-turn, came-done}
+use Rattle.writing.specs.Written.{Came}
+use Rattle.writing.specs.WrittenLaws.{appended-as, came-start, came-turn, came-done}
 use borrow.Author.Needs.{needs}
 use mathlib.Core.Path.{ap}
 use native.Mathlib.Omega.{arith}

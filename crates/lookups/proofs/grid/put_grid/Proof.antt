@@ -1,5 +1,5 @@
 use Rattle.lookups.specs.Grids.{gridText}
-use Rattle.text.specs.WrittenLaws.{appended-on}
+use Rattle.writing.specs.WrittenLaws.{appended-on}
 use borrow.Author.Needs.{needs}
 use Rattle.lookups.proofs.grid.put_grid.Statement.{statement}
 use Rattle.lookups.proofs.grid.put_grid.Tie as tie

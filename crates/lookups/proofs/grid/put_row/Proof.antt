@@ -1,4 +1,4 @@
-use Rattle.text.specs.WrittenLaws.{appended-on}
+use Rattle.writing.specs.WrittenLaws.{appended-on}
 use borrow.Author.Needs.{needs}
 use Rattle.lookups.proofs.grid.put_row.Statement.{statement}
 use Rattle.lookups.proofs.grid.put_row.Tie as tie

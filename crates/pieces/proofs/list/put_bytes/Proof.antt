@@ -1,8 +1,8 @@
 use Prim.Native.Nat.{_-_}
 use Rattle.pieces.specs.PieceLaws.{below-on, below-over}
 use Rattle.pieces.specs.Pieces.{below, byteText}
-use Rattle.text.specs.Written.{Came}
-use Rattle.text.specs.WrittenLaws.{came-start, came-turn, came-done}
+use Rattle.writing.specs.Written.{Came}
+use Rattle.writing.specs.WrittenLaws.{came-start, came-turn, came-done}
 use borrow.Author.Needs.{needs}
 use lib.ListN.{length}
 use native.Mathlib.Omega.{arith}

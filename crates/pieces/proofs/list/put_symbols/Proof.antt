@@ -2,8 +2,8 @@ use Prim.Native.Nat.{ℕ, _-_}
 use Rattle.pieces.specs.PieceLaws.{below-on, below-over}
 use Rattle.pieces.specs.Pieces.{below, symbolText}
 use Rattle.text.specs.Chars.{chars}
-use Rattle.text.specs.Written.{decimalOf, Came}
-use Rattle.text.specs.WrittenLaws.{appended-as, came-start, came-turn, came-done}
+use Rattle.writing.specs.Written.{decimalOf, Came}
+use Rattle.writing.specs.WrittenLaws.{appended-as, came-start, came-turn, came-done}
 use borrow.Author.Needs.{needs}
 use lib.ListN.{length}
 use mathlib.Core.List.{_++_}

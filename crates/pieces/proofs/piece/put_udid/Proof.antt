@@ -1,6 +1,6 @@
 use Rattle.pieces.specs.PieceLaws.{whole}
-use Rattle.text.specs.Written.{pairsOf}
-use Rattle.text.specs.WrittenLaws.{appended-on, appended-as}
+use Rattle.writing.specs.Written.{pairsOf}
+use Rattle.writing.specs.WrittenLaws.{appended-on, appended-as}
 use borrow.Author.Needs.{needs}
 use mathlib.Core.Path.{ap, _∙_, refl}
 use Rattle.pieces.proofs.piece.put_udid.Statement.{statement}

@@ -2,8 +2,8 @@ use mathlib.Core.Path.{_≡_, sym, _∙_}
 use Prim.Native.Nat.{_+_, _-_}
 use lib.ListN.{length}
 use native.Mathlib.Omega.{arith}
-use Rattle.text.specs.Written.{Came}
-use Rattle.text.specs.WrittenLaws.{came-start, came-turn, came-done, put-within}
+use Rattle.writing.specs.Written.{Came}
+use Rattle.writing.specs.WrittenLaws.{came-start, came-turn, came-done, put-within}
 use Rattle.requests.specs.Lists.{bytesFrom}
 use Rattle.requests.specs.ListLaws.{bytes-on, bytes-over, bytes-full}
 use borrow.Author.Needs.{needs}
