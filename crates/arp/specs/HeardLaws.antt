@@ -14,6 +14,7 @@ use Rattle.lists.specs.Onto.{onto}
 use Rattle.wire.specs.declared.address.Address.{Address}
 use Rattle.trace.specs.ShapeLaws.{sane}
 use Rattle.trace.specs.Shapes.{shapeOf, forbidden}
+use Rattle.scan.specs.declared.answer.Refusal.the-variants.{NotAcknowledged}
 use Rattle.scan.specs.AnswersLaws as step
 use Rattle.scan.specs.Answers.{CutAt}
 use Rattle.scan.specs.Handed.{lows, sentData, receivedData}
@@ -80,7 +81,7 @@ gives-exactly protocol tr n v f = (
 pub six-exactly : (protocol : ℕ) (tr : List ℕ) (b : ℕ) → forbidden protocol true ≡ false → Gives protocol tr 6 b ↔ CutAt (shapeOf protocol) true tr b
 six-exactly protocol tr b f =
     let g = gives-exactly protocol tr 6 b f in
-    let c = step.number-6 protocol (shapeOf protocol) (sane protocol) true tr b in
+    let c = step.refused-exactly protocol (shapeOf protocol) (sane protocol) true tr NotAcknowledged b in
     (λ h. c .0 (g .0 h), λ h. g .1 (c .1 h))
 
 -- ---- the front of a buffer reads as the data

@@ -3,18 +3,20 @@ use mathlib.Core.Path.{_≡_, refl, ap, _∙_, subst}
 use mathlib.Core.Bool.{Bool, true, false}
 use mathlib.Core.List.{List, _++_}
 use mathlib.Core.Logic.{_⊎_, inl, inr, _↔_, Iff·rfl, Iff·trans}
-use Prim.Native.Nat.{ℕ, _/_, _≤_, _<_}
+use Prim.Native.Nat.{ℕ, _/_, _<_}
 use native.Mathlib.Omega.{arith}
-use lib.ListN.{length, take, drop, getD}
+use lib.ListN.{length, drop}
 use Rattle.trace.specs.Table.{lastProtocol}
 use Rattle.trace.specs.Shapes.{forbidden}
 use Rattle.trace.specs.Table.{TraceOf}
 use Rattle.trace.specs.Trace.{Message}
 use Rattle.scan.specs.declared.answer.Decoded.the-variants.{Done}
 use Rattle.scan.specs.Answers.{summary}
-use Rattle.scan.specs.Fitting.{Breaks, CutAt, Fits, Member, OtherPec}
-use Rattle.scan.specs.Numbers.{decodeNumber}
-use Rattle.decode.specs.NumberLaws.{short-cases, decode-0, decode-1, decode-3, decode-4, decode-5, decode-6, decode-7, decode-8, decode-hands-over, decode-refusal}
+use Rattle.scan.specs.declared.answer.Refusal.{Refusal}
+use Rattle.scan.specs.Because.{Because}
+use Rattle.scan.specs.Fitting.{tableCases}
+use Rattle.scan.specs.Numbers.{refusalNumber, decodeNumber}
+use Rattle.decode.specs.NumberLaws.{short-cases, decode-0, decode-1, decode-refused, decode-hands-over, decode-refusal}
 use Rattle.decode.specs.Outcome.{short, Entered, Outcome}
 use Rattle.c_codec.specs.declared.answer.HbDecoded.{HbDecoded}
 use Rattle.c_codec.specs.Numbers.{truth}
@@ -91,29 +93,10 @@ module _ (protocol pec : ℕ) (tr sent₀ received₀ : List ℕ) (h : HbDecoded
       back : ((lastProtocol < protocol) ⊎ ((protocol ≡ 0) × (pec ≡ 0 → ⊥)) → ⊥) × ((length sent₀ < 255) ⊎ (length received₀ < 255)) → decodeNumber (d .answer) ≡ (2, 0)
       back (n, c) = two .1 (allowed n (forbidden protocol (truth pec)) refl, short-cases (length sent₀) (length received₀) .1 c)
 
-  -- 3: a number above 259 at the first place that does not fit
-  pub hb-decode-3 : (place : ℕ) → ((h .answer ≡ 3) × (h .value ≡ place)) ↔ (Entered protocol (truth pec) sent₀ received₀ × (Breaks protocol (truth pec) tr place × (259 < getD tr place 0)))
-  hb-decode-3 k = hb-decode-number 3 k (decode-3 protocol (truth pec) tr sent₀ received₀ (d .answer) sent received (d .outcome) k)
-
-  -- 4: the trace ends while it still fits
-  pub hb-decode-4 : (len : ℕ) → ((h .answer ≡ 4) × (h .value ≡ len)) ↔ (Entered protocol (truth pec) sent₀ received₀ × (Fits protocol (truth pec) tr × (Member protocol (truth pec) tr → ⊥) × (len ≡ length tr)))
-  hb-decode-4 k = hb-decode-number 4 k (decode-4 protocol (truth pec) tr sent₀ received₀ (d .answer) sent received (d .outcome) k)
-
-  -- 5: a symbol that can't stand there, and not after the last STOP
-  pub hb-decode-5 : (place : ℕ) → ((h .answer ≡ 5) × (h .value ≡ place)) ↔ (Entered protocol (truth pec) sent₀ received₀ × (Breaks protocol (truth pec) tr place × (Member protocol (truth pec) (take place tr) → ⊥) × (getD tr place 0 ≤ 259)))
-  hb-decode-5 k = hb-decode-number 5 k (decode-5 protocol (truth pec) tr sent₀ received₀ (d .answer) sent received (d .outcome) k)
-
-  -- 6: the target gave NACK where ACK is due, then STOP, then the end
-  pub hb-decode-6 : (byte : ℕ) → ((h .answer ≡ 6) × (h .value ≡ byte)) ↔ (Entered protocol (truth pec) sent₀ received₀ × CutAt protocol (truth pec) tr byte)
-  hb-decode-6 k = hb-decode-number 6 k (decode-6 protocol (truth pec) tr sent₀ received₀ (d .answer) sent received (d .outcome) k)
-
-  -- 7: the whole trace fits, to its end, but the PEC differs
-  pub hb-decode-7 : (place : ℕ) → ((h .answer ≡ 7) × (h .value ≡ place)) ↔ (Entered protocol (truth pec) sent₀ received₀ × OtherPec protocol (truth pec) tr place)
-  hb-decode-7 k = hb-decode-number 7 k (decode-7 protocol (truth pec) tr sent₀ received₀ (d .answer) sent received (d .outcome) k)
-
-  -- 8: symbols after STOP
-  pub hb-decode-8 : (place : ℕ) → ((h .answer ≡ 8) × (h .value ≡ place)) ↔ (Entered protocol (truth pec) sent₀ received₀ × ((place < length tr) × Member protocol (truth pec) (take place tr) × (getD tr place 0 ≤ 259)))
-  hb-decode-8 k = hb-decode-number 8 k (decode-8 protocol (truth pec) tr sent₀ received₀ (d .answer) sent received (d .outcome) k)
+  -- a refusal of the trace by its number (scan/specs/Numbers): the trace is read, and this is why it is refused (scan/specs/Because)
+  pub hb-decode-refused : (w : Refusal) (k : ℕ) → 2 < refusalNumber w
+      → ((h .answer ≡ refusalNumber w) × (h .value ≡ k)) ↔ (Entered protocol (truth pec) sent₀ received₀ × Because (tableCases protocol (truth pec) tr) tr w k)
+  hb-decode-refused w k n = hb-decode-number (refusalNumber w) k (decode-refused protocol (truth pec) tr sent₀ received₀ (d .answer) sent received (d .outcome) w k n)
 
   -- 0: the trace of a message of one of the rows
   pub hb-decode-whole : ((h .answer ≡ 0) × (h .value ≡ 0)) ↔ (Entered protocol (truth pec) sent₀ received₀ × ((m : Message) × TraceOf protocol (truth pec) m tr))

@@ -2,7 +2,7 @@
 ghost use mathlib.Core.Path.{_≡_};
 ghost use Rattle.c_codec.specs.Codec.{refusalOf, toldDecoded};
 use scan::answer::Decoded;
-use scan::number::refusal_number;
+use scan::answer::refusal_number;
 
 // The scope's number; the place, length or byte that comes with a refusal; and the transaction with 0. Whatever an answer lacks is 0.
 #[repr(C)]

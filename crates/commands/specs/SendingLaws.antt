@@ -10,7 +10,7 @@ use native.Mathlib.Decide.{decLt}
 use lib.ListN.{length, getD, drop}
 use lib.Dec.{ltb}
 use lib.Seq.{getD-at}
-use borrow.Author.Tests.{le-ltb, ltb-true, lt-ltb}
+use borrow.Author.Tests.{le-leb, le-ltb, ltb-true, lt-ltb}
 use Rattle.lists.specs.AbsurdLaws.{zero-is-one}
 use Rattle.lists.specs.Choice.{pick}
 use Rattle.lists.specs.Each.{Bytes}
@@ -19,8 +19,8 @@ use Rattle.pec.specs.Pec.{pecOf}
 use Rattle.wire.specs.declared.address.Address.{Address}
 use Rattle.trace.specs.Shapes.{protocols, shapeOf}
 use Rattle.trace.specs.Trace.{Valid, Message, acked}
-use Rattle.trace.specs.DataFits.{DataFits, send-byte, block-write, block-read}
-use Rattle.trace.specs.DataFitsLaws.{listed-lengths-fit}
+use Rattle.trace.specs.DataFits.{DataFits}
+use Rattle.trace.specs.DataFitsLaws.{listed-lengths-fit, fitting-lengths-listed}
 use Rattle.trace.specs.FieldLaws.{lengths-exactly}
 use Rattle.trace.specs.LengthLaws.{length-acked}
 use Rattle.encode.specs.Encode.{symbolsOf, Wrote, encodeNumber}
@@ -86,7 +86,7 @@ unlisted protocol t l h a d c f (lacking-direction q n) = n d
 unlisted protocol t l h a d c f (forbidden-length n) = n f
 
 prepare-listed : (reply : List ℕ) → Listed (protocolFor (Send Prepare)) true (messageOf (Send Prepare) reply) → ⊥
-prepare-listed reply = unlisted 1 (messageOf (Send Prepare) reply) (omega arith) (omega arith) (omega arith) refl (λ q. refl) (send-byte refl refl refl)
+prepare-listed reply = unlisted 1 (messageOf (Send Prepare) reply) (omega arith) (omega arith) (omega arith) refl (λ q. refl) (fitting-lengths-listed 1 (omega arith) 1 0 (lengths-exactly (shapeOf 1) 1 0 .1 (refl, refl, omega arith)))
 
 -- a Block Read of more than 255 bytes does not fit
 too-many : (n : ℕ) → 255 < n → DataFits 9 0 n → ⊥
@@ -99,12 +99,13 @@ get-listed reply = (λ l. go l (decLt 255 (length reply)), λ h. forbidden-lengt
     go l (yes h) = h
     go l (no h) =
         absurd
-        (unlisted 9 (messageOf (Send GetUdid) reply) (omega arith) (omega arith) (omega arith) refl (λ q. absurd (omega arith)) (block-read refl refl (omega arith)) l)
+        (unlisted 9 (messageOf (Send GetUdid) reply) (omega arith) (omega arith) (omega arith) refl (λ q. absurd (omega arith)) (fitting-lengths-listed 9 (omega arith) 0 (length reply) (lengths-exactly (shapeOf 9) 0 (length reply) .1 (refl, le-leb 0 (length reply) (omega arith), omega arith))) l)
 
 small-unlisted : (u : Udid) (a : Address) (reply : List ℕ) → Listed 8 true (messageOf (Send (Assign u a)) reply) → ⊥
 small-unlisted u a reply =
+    let n : ℕ = length (messageOf (Send (Assign u a)) reply .sent) in
     unlisted 8 (messageOf (Send (Assign u a)) reply) (omega arith) (omega arith) (omega arith) refl (λ q. absurd (omega arith))
-    (block-write refl (omega (arith, assign-data-has-17-bytes u (a .0))) refl)
+    (fitting-lengths-listed 8 (omega arith) n 0 (lengths-exactly (shapeOf 8) n 0 .1 (le-leb 0 n (omega arith), refl, omega (arith, assign-data-has-17-bytes u (a .0)))))
 
 assign-listed : (u : Udid) (a : Address) (reply : List ℕ) → Listed (protocolFor (Send (Assign u a))) true (messageOf (Send (Assign u a)) reply) ↔ (127 < a .0)
 assign-listed u a reply = (go (ltb 127 (a .0)) refl, λ h. unknown-protocol (rw (lt-ltb 127 (a .0) h) (omega arith)))

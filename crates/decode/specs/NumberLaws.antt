@@ -19,15 +19,19 @@ use Rattle.trace.specs.Table.{TraceOf, send-byte}
 use Rattle.trace.specs.TableLaws.{listed-trace, trace-listed}
 use Rattle.trace.specs.Trace.{Message, trace, Valid}
 use Rattle.trace.specs.declared.shape.Shape.{Shape}
-use Rattle.scan.specs.Answers.{summary}
+use Rattle.scan.specs.Answers.{summary, shapeCases}
 use Rattle.scan.specs.AnswersLaws as step
 use Rattle.scan.specs.BytesInLaws.{byte-more}
-use Rattle.scan.specs.Fitting.{Member, Fits, Breaks, CutAt, OtherPec}
-use Rattle.scan.specs.FittingLaws.{member-shaped, fits-shaped, breaks-shaped, cut-shaped, other-pec-shaped, other-pec-byte}
-use Rattle.scan.specs.Numbers.{decodeNumber}
+use Rattle.scan.specs.Because.{Because}
+use Rattle.scan.specs.BecauseLaws.{because-agrees}
+use Rattle.scan.specs.Fitting.{OtherPec, tableCases}
+use Rattle.scan.specs.FittingLaws.{cases-shaped, other-pec-shaped, other-pec-byte}
+use Rattle.scan.specs.Numbers.{refusalNumber, decodeNumber}
 use Rattle.scan.specs.Run.{decodedBy}
 use Rattle.scan.specs.declared.answer.Decoded.{Decoded}
 use Rattle.scan.specs.declared.answer.Decoded.the-variants.{Done}
+use Rattle.scan.specs.declared.answer.Refusal.{Refusal}
+use Rattle.scan.specs.declared.answer.Refusal.the-variants.{NotAcknowledged}
 use Rattle.decode.specs.EntryLaws.{both-at-least-255}
 use Rattle.decode.specs.Outcome.{short, EnteredBy, Entered, Outcome}
 use Rattle.decode.specs.OutcomeLaws as decode
@@ -97,64 +101,23 @@ module _ (protocol : ℕ) (pec : Bool) (tr sent₀ received₀ : List ℕ) (a : 
         λ k. q .1 (entered-taken (k .0), entered-long (k .0), e .1 (s (k .0) .0 (k .1))),
       )
 
-  -- 3: a number above 259 at the first place that does not fit
-  pub decode-3 : (place : ℕ) → (decodeNumber a ≡ (3, place)) ↔ (Here × (Breaks protocol pec tr place × (259 < getD tr place 0)))
-  decode-3 k =
-      by-trace _ _ 3 k (λ e. omega (arith, e)) (λ e. omega (arith, e))
-      (λ h. let s = breaks-shaped protocol pec (entered-known h) (h .1) tr k in (λ b. (s .0 (b .0), b .1), λ b. (s .1 (b .0), b .1)))
-      (step.number-3 protocol shape (sane protocol) pec tr k)
+  -- a refusal of the trace by its number: the trace is read, and this is why it is refused. 1 and 2 are given before
+  pub decode-refused : (w : Refusal) (k : ℕ) → 2 < refusalNumber w → (decodeNumber a ≡ (refusalNumber w, k)) ↔ (Here × Because (tableCases protocol pec tr) tr w k)
+  decode-refused w k n =
+      by-trace _ _ (refusalNumber w) k (λ e. omega (arith, e, n)) (λ e. omega (arith, e, n))
+      (λ h. because-agrees (tableCases protocol pec tr) (shapeCases shape pec tr) (cases-shaped protocol pec (entered-known h) (h .1) tr) tr w k)
+      (step.refused-exactly protocol shape (sane protocol) pec tr w k)
 
-  -- 4: the trace ends while it still fits
-  pub decode-4 : (len : ℕ) → (decodeNumber a ≡ (4, len)) ↔ (Here × (Fits protocol pec tr × (Member protocol pec tr → ⊥) × (len ≡ length tr)))
-  decode-4 n =
-      by-trace _ _ 4 n (λ e. omega (arith, e)) (λ e. omega (arith, e))
-      (λ h. let s = fits-shaped protocol pec (entered-known h) (h .1) tr in let m = member-shaped protocol pec (entered-known h) (h .1) tr in (
-        λ b. (s .0 (b .0), λ w. b .1 (m .1 w), b .2),
-        λ b. (s .1 (b .0), λ w. b .1 (m .0 w), b .2),
-      ))
-      (step.number-4 protocol shape (sane protocol) pec tr n)
-
-  -- 5: a symbol that can't stand there, and not after the last STOP
-  pub decode-5 : (place : ℕ) → (decodeNumber a ≡ (5, place))
-      ↔ (Here × (Breaks protocol pec tr place × (Member protocol pec (take place tr) → ⊥) × (getD tr place 0 ≤ 259)))
-  decode-5 k =
-      by-trace _ _ 5 k (λ e. omega (arith, e)) (λ e. omega (arith, e))
-      (λ h. let s = breaks-shaped protocol pec (entered-known h) (h .1) tr k in let m = member-shaped protocol pec (entered-known h) (h .1) (take k tr) in (
-        λ b. (s .0 (b .0), λ w. b .1 (m .1 w), b .2),
-        λ b. (s .1 (b .0), λ w. b .1 (m .0 w), b .2),
-      ))
-      (step.number-5 protocol shape (sane protocol) pec tr k)
-
-  -- 6: the target gave NACK where ACK is due, then STOP, then the end
-  pub decode-6 : (byte : ℕ) → (decodeNumber a ≡ (6, byte)) ↔ (Here × CutAt protocol pec tr byte)
-  decode-6 b =
-      by-trace _ _ 6 b (λ e. omega (arith, e)) (λ e. omega (arith, e)) (λ h. cut-shaped protocol pec (entered-known h) (h .1) tr b)
-      (step.number-6 protocol shape (sane protocol) pec tr b)
-
-  -- and which byte that is, by the length of the trace alone: two places a byte, one for START, one for a repeated START, NACK and STOP
+  -- with 6, which byte it is, by the length of the trace alone: two places a byte, one for START, one for a repeated START, NACK and STOP
   pub decode-6-byte : (byte : ℕ) → decodeNumber a ≡ (6, byte) → byte ≡ (length tr - 4) / 2
   decode-6-byte b e =
       let q = decode.other-number-exactly protocol pec tr sent₀ received₀ a sent received o 6 b (λ z. omega (arith, z)) (λ z. omega (arith, z)) .0 e in
       step.byte-by-length protocol shape (sane protocol) pec tr b (q .2)
 
-  -- 7: the whole trace fits, to its end, but the PEC differs
-  pub decode-7 : (place : ℕ) → (decodeNumber a ≡ (7, place)) ↔ (Here × OtherPec protocol pec tr place)
-  decode-7 k =
-      by-trace _ _ 7 k (λ e. omega (arith, e)) (λ e. omega (arith, e)) (λ h. other-pec-shaped protocol pec (entered-known h) (h .1) tr k)
-      (step.number-7 protocol shape (sane protocol) pec tr k)
-
-  -- and that place is where the PEC stands
+  -- with 7, the place is where the PEC stands
   pub decode-7-place : Here → (place : ℕ) (q : OtherPec protocol pec tr place) → getD tr place 0 ≡ q .1 .0
   decode-7-place h k q =
       step.pec-there protocol shape (sane protocol) pec tr k (other-pec-shaped protocol pec (entered-known h) (h .1) tr k .0 q) ∙ other-pec-byte protocol pec (entered-known h) (h .1) tr k q
-
-  -- 8: symbols after STOP
-  pub decode-8 : (place : ℕ) → (decodeNumber a ≡ (8, place))
-      ↔ (Here × ((place < length tr) × Member protocol pec (take place tr) × (getD tr place 0 ≤ 259)))
-  decode-8 k =
-      by-trace _ _ 8 k (λ e. omega (arith, e)) (λ e. omega (arith, e))
-      (λ h. let m = member-shaped protocol pec (entered-known h) (h .1) (take k tr) in (λ b. (b .0, m .0 (b .1), b .2), λ b. (b .0, m .1 (b .1), b .2)))
-      (step.number-8 protocol shape (sane protocol) pec tr k)
 
   -- 0: the trace is that of a message in the table
   pub decode-0 : (decodeNumber a ≡ (0, 0)) ↔ (Here × ((m : Message) × TraceOf protocol pec m tr))
@@ -182,7 +145,7 @@ module _ (protocol : ℕ) (pec : Bool) (tr sent₀ received₀ : List ℕ) (a : 
 pub send-byte-cut : (a d : ℕ) → a < 128 → d < 256 → (sent₀ received₀ : List ℕ) → 255 ≤ length sent₀ → 255 ≤ length received₀ → (r : Decoded) (sent received : List ℕ)
     → Outcome 1 false (256 ∷ 2 * a ∷ 258 ∷ d ∷ 259 ∷ 257 ∷ []) sent₀ received₀ r sent received → decodeNumber r ≡ (6, 1)
 send-byte-cut a d ha hd sent₀ received₀ ls lr r sent received o =
-    decode-6 1 false (256 ∷ 2 * a ∷ 258 ∷ d ∷ 259 ∷ 257 ∷ []) sent₀ received₀ r sent received o 1 .1 (
+    decode-refused 1 false (256 ∷ 2 * a ∷ 258 ∷ d ∷ 259 ∷ 257 ∷ []) sent₀ received₀ r sent received o NotAcknowledged 1 (omega arith) .1 (
       (omega arith, λ e. refl, ls, lr),
       record {
         y = 0;

@@ -5,7 +5,7 @@ ghost use Rattle.hearing.specs.Heard.{isCommand, isPrepare, names, isAss
 use commands::command::ASSIGN_ADDRESS;
 use commands::command::PREPARE_TO_ARP;
 use scan::answer::Decoded;
-use scan::number::is_nack;
+use scan::answer::is_nack;
 use trace::transaction::Transaction;
 use udid::Udid;
 use wire::address::Address;

@@ -11,7 +11,7 @@ use commands::command::Command;
 use commands::command::GET_UDID;
 use commands::command::Handed;
 use scan::answer::Decoded;
-use scan::number::is_nack;
+use scan::answer::is_nack;
 use trace::transaction::Transaction;
 use udid::Udid;
 use wire::address::Address;

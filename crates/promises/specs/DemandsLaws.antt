@@ -32,6 +32,7 @@ use Rattle.scan.specs.AnswersLaws.{one-message}
 use Rattle.scan.specs.Numbers.{decodeNumber}
 use Rattle.scan.specs.declared.answer.Decoded.{Decoded}
 use Rattle.scan.specs.declared.answer.Decoded.the-variants.{Done}
+use Rattle.scan.specs.declared.answer.Refusal.the-variants.{NoSymbol, EndsEarly, Unexpected, NotAcknowledged, PecDiffers, AfterStop}
 use Rattle.decode.specs.NumberLaws as decode
 use Rattle.decode.specs.Outcome.{Outcome}
 use Rattle.pool.specs.Pools.{member}
@@ -98,12 +99,12 @@ decodes protocol pec tr sent₀ received₀ a sent received o = record {
   decode-0 = decode.decode-0 protocol pec tr sent₀ received₀ a sent received o;
   decode-1 = decode.decode-1 protocol pec tr sent₀ received₀ a sent received o;
   decode-2 = decode.decode-2 protocol pec tr sent₀ received₀ a sent received o;
-  decode-3 = decode.decode-3 protocol pec tr sent₀ received₀ a sent received o;
-  decode-4 = decode.decode-4 protocol pec tr sent₀ received₀ a sent received o;
-  decode-5 = decode.decode-5 protocol pec tr sent₀ received₀ a sent received o;
-  decode-6 = decode.decode-6 protocol pec tr sent₀ received₀ a sent received o;
-  decode-7 = decode.decode-7 protocol pec tr sent₀ received₀ a sent received o;
-  decode-8 = decode.decode-8 protocol pec tr sent₀ received₀ a sent received o;
+  decode-3 = λ k. decode.decode-refused protocol pec tr sent₀ received₀ a sent received o NoSymbol k (omega arith);
+  decode-4 = λ k. decode.decode-refused protocol pec tr sent₀ received₀ a sent received o EndsEarly k (omega arith);
+  decode-5 = λ k. decode.decode-refused protocol pec tr sent₀ received₀ a sent received o Unexpected k (omega arith);
+  decode-6 = λ k. decode.decode-refused protocol pec tr sent₀ received₀ a sent received o NotAcknowledged k (omega arith);
+  decode-7 = λ k. decode.decode-refused protocol pec tr sent₀ received₀ a sent received o PecDiffers k (omega arith);
+  decode-8 = λ k. decode.decode-refused protocol pec tr sent₀ received₀ a sent received o AfterStop k (omega arith);
   handed = decode.decode-hands-over protocol pec tr sent₀ received₀ a sent received o;
   untouched = decode.decode-refusal protocol pec tr sent₀ received₀ a sent received o;
 }

@@ -4,8 +4,8 @@ use mathlib.Core.Path.{_≡_}
 use mathlib.Core.Bool.{Bool, true}
 use mathlib.Core.List.{List, [], _∷_, _++_}
 use mathlib.Core.Logic.{_⊎_}
-use Prim.Native.Nat.{ℕ, suc, _+_, _≤_, _<_}
-use lib.ListN.{length, take, getD}
+use Prim.Native.Nat.{ℕ, suc, _+_, _<_}
+use lib.ListN.{length, take}
 use Rattle.lists.specs.Each.{Bytes}
 use Rattle.trace.specs.declared.shape.Shape.{Shape}
 use Rattle.trace.specs.declared.transaction.Transaction.{Transaction}
@@ -13,7 +13,8 @@ use Rattle.trace.specs.Trace.{Message, Valid, inPlace, pecOf, byTarget, traceAt
 use Rattle.scan.specs.declared.answer.Decoded.{Decoded}
 use Rattle.scan.specs.declared.answer.Decoded.the-variants.{Done, Refused}
 use Rattle.scan.specs.declared.answer.Refusal.{Refusal}
-use Rattle.scan.specs.declared.answer.Refusal.the-variants.{Forbidden, BufferTooShort, NoSymbol, EndsEarly, Unexpected, NotAcknowledged, PecDiffers, AfterStop}
+use Rattle.scan.specs.Because as because
+use Rattle.scan.specs.Because.{Cases}
 use Rattle.scan.specs.BytesIn.{bytesIn}
 
 -- a whole trace, with any byte in PEC's place
@@ -75,16 +76,12 @@ pub record Carries (protocol : ℕ) (sh : Shape) (p : Bool) (tr : List ℕ) (t :
   pub data-sent : sent ≡ message .sent
   pub data-received : received ≡ message .received
 
--- why the trace tr is refused, with the place k; 1 and 2 are given before a trace is read
+-- why the trace tr is refused, with the place k
+abbrev pub shapeCases : Shape → Bool → List ℕ → Cases
+shapeCases sh p tr = record { fits = Fits sh p tr; member = Member sh p tr; member-to = λ k. Member sh p (take k tr); breaks = Breaks sh p tr; cut = CutAt sh p tr; other-pec = OtherPec sh p tr }
+
 abbrev pub Because : Shape → Bool → List ℕ → Refusal → ℕ → Type 0
-Because sh p tr Forbidden k = ⊥
-Because sh p tr BufferTooShort k = ⊥
-Because sh p tr NoSymbol k = Breaks sh p tr k × (259 < getD tr k 0)
-Because sh p tr EndsEarly k = Fits sh p tr × (Member sh p tr → ⊥) × (k ≡ length tr)
-Because sh p tr Unexpected k = Breaks sh p tr k × (Member sh p (take k tr) → ⊥) × (getD tr k 0 ≤ 259)
-Because sh p tr NotAcknowledged k = CutAt sh p tr k
-Because sh p tr PecDiffers k = OtherPec sh p tr k
-Because sh p tr AfterStop k = (k < length tr) × Member sh p (take k tr) × (getD tr k 0 ≤ 259)
+Because sh p tr w k = because.Because (shapeCases sh p tr) tr w k
 
 -- a is the answer for the trace tr, with the data s sent and r received; a refusal has none
 abbrev pub Answers : ℕ → Shape → Bool → List ℕ → Decoded → List ℕ → List ℕ → Type 0

@@ -16,7 +16,7 @@ use Rattle.trace.specs.Sane.{Sane}
 use Rattle.scan.specs.declared.answer.Decoded.{Decoded}
 use Rattle.scan.specs.declared.answer.Decoded.the-variants.{Done, Refused}
 use Rattle.scan.specs.declared.answer.Refusal.{Refusal}
-use Rattle.scan.specs.declared.answer.Refusal.the-variants.{NoSymbol, EndsEarly, Unexpected, NotAcknowledged, PecDiffers, AfterStop}
+use Rattle.scan.specs.declared.answer.Refusal.the-variants.{NoSymbol, NotAcknowledged, PecDiffers}
 use Rattle.step.specs.declared.state.Decoder.{Decoder}
 use Rattle.scan.specs.declared.whole.Progress.the-variants.{Reading, Answered}
 use Rattle.step.specs.State.{fresh}
@@ -94,7 +94,7 @@ module _ (num : ℕ) (sh : Shape) (hs : Sane sh) (p : Bool) where
     answer = decodedBy num sh p tr
 
     -- a refusal by its number: exactly where its reason holds
-    refused-exactly : (w : Refusal) (k : ℕ) → (decodeNumber answer ≡ (refusalNumber w, k)) ↔ Because sh p tr w k
+    pub refused-exactly : (w : Refusal) (k : ℕ) → (decodeNumber answer ≡ (refusalNumber w, k)) ↔ Because sh p tr w k
     refused-exactly w k = (
       λ e. answer-exactly tr (Refused w k) .0 (refused-of answer w k e) .0,
       λ h. ap decodeNumber (answer-exactly tr (Refused w k) .1 (h, refl, refl)),
@@ -106,32 +106,14 @@ module _ (num : ℕ) (sh : Shape) (hs : Sane sh) (p : Bool) where
       λ w. ap decodeNumber (ap (decodedBy num sh p) (w .2) ∙ round-trip (w .0) (w .1) .0),
     )
 
-    pub number-3 : (place : ℕ) → (decodeNumber answer ≡ (3, place)) ↔ (Breaks sh p tr place × (259 < getD tr place 0))
-    number-3 k = refused-exactly NoSymbol k
-
-    pub number-4 : (len : ℕ) → (decodeNumber answer ≡ (4, len)) ↔ (Fits sh p tr × (Member sh p tr → ⊥) × (len ≡ length tr))
-    number-4 n = refused-exactly EndsEarly n
-
-    pub number-5 : (place : ℕ) → (decodeNumber answer ≡ (5, place)) ↔ (Breaks sh p tr place × (Member sh p (take place tr) → ⊥) × (getD tr place 0 ≤ 259))
-    number-5 k = refused-exactly Unexpected k
-
-    pub number-6 : (byte : ℕ) → (decodeNumber answer ≡ (6, byte)) ↔ CutAt sh p tr byte
-    number-6 b = refused-exactly NotAcknowledged b
-
     -- which byte it is, by the length of the trace alone
     pub byte-by-length : (byte : ℕ) → decodeNumber answer ≡ (6, byte) → byte ≡ (length tr - 4) / 2
-    byte-by-length b e = cut-number sh hs p tr b (number-6 b .0 e)
-
-    pub number-7 : (place : ℕ) → (decodeNumber answer ≡ (7, place)) ↔ OtherPec sh p tr place
-    number-7 k = refused-exactly PecDiffers k
+    byte-by-length b e = cut-number sh hs p tr b (refused-exactly NotAcknowledged b .0 e)
 
     -- and the symbol at that place is the PEC that differs
     pub pec-there : (place : ℕ) (o : OtherPec sh p tr place) → getD tr place 0 ≡ o .pec
     pec-there k o =
         ap (λ (l : List ℕ). getD l k 0) (o .is) ∙ pec-found sh (o .message) (o .pec) k (o .place ∙ ap length (o .is))
-
-    pub number-8 : (place : ℕ) → (decodeNumber answer ≡ (8, place)) ↔ ((place < length tr) × Member sh p (take place tr) × (getD tr place 0 ≤ 259))
-    number-8 k = refused-exactly AfterStop k
 
     -- the order of the numbers. After the last STOP nothing fits, so that 8 stands at the first place that is wrong
     pub nothing-after : (place : ℕ) → place < length tr → Member sh p (take place tr) → Breaks sh p tr place
@@ -143,14 +125,14 @@ module _ (num : ℕ) (sh : Shape) (hs : Sane sh) (p : Bool) where
           here = λ g. (let q = fits-runs sh hs p (take (suc k) tr) g in reads-no-more sh p tr k fresh (r .0) h (r .1) (nothing-follows sh p (r .0) (getD tr k 0) (r .2)) (q .0) (q .1));
         }
 
-    -- 3 comes before 8 at one place; before 5 it comes by number-3
+    -- 3 comes before 8 at one place; before 5 it comes by refused-exactly
     pub three-before-eight : (place : ℕ) → place < length tr → Member sh p (take place tr) → 259 < getD tr place 0 → decodeNumber answer ≡ (3, place)
-    three-before-eight k h m g = number-3 k .1 (nothing-after k h m, g)
+    three-before-eight k h m g = refused-exactly NoSymbol k .1 (nothing-after k h m, g)
 
     -- 6 comes before 7: a trace that the target cut is none whose PEC differs
     pub six-before-seven : (byte place : ℕ) → CutAt sh p tr byte → OtherPec sh p tr place → ⊥
     six-before-seven b k h g =
-        let e = sym (ap (λ (q : ℕ × ℕ). q .0) (number-6 b .1 h)) ∙ ap (λ (q : ℕ × ℕ). q .0) (number-7 k .1 g) in
+        let e = sym (ap (λ (q : ℕ × ℕ). q .0) (refused-exactly NotAcknowledged b .1 h)) ∙ ap (λ (q : ℕ × ℕ). q .0) (refused-exactly PecDiffers k .1 g) in
         omega (arith, e)
 
   -- the first place that is wrong decides: what follows it does not matter

@@ -8,6 +8,7 @@ use Prim.Native.Nat.{ℕ, suc, _+_, _<_}
 use lib.ListN.{length, take}
 use Rattle.pec.specs.Pec.{pecOf}
 use Rattle.trace.specs.Table.{Line, InTable, symbols}
+use Rattle.scan.specs.Because.{Cases}
 use Rattle.scan.specs.BytesIn.{bytesIn}
 
 abbrev pub Whole : ℕ → Bool → List ℕ → Type 0
@@ -40,3 +41,7 @@ pub record Breaks (protocol : ℕ) (pec : Bool) (tr : List ℕ) (k : ℕ) : Type
 abbrev pub OtherPec : ℕ → Bool → List ℕ → ℕ → Type 0
 OtherPec protocol pec tr k =
     (pec ≡ true) × ((y : ℕ) × (x : Line) × InTable protocol pec y x × (tr ≡ symbols x) × (y ≡ pecOf (x .covered) → ⊥)) × (k + 3 ≡ length tr)
+
+-- why a trace is refused is said over these (Because)
+abbrev pub tableCases : ℕ → Bool → List ℕ → Cases
+tableCases protocol pec tr = record { fits = Fits protocol pec tr; member = Member protocol pec tr; member-to = λ k. Member protocol pec (take k tr); breaks = Breaks protocol pec tr; cut = CutAt protocol pec tr; other-pec = OtherPec protocol pec tr }

@@ -15,7 +15,8 @@ use Rattle.trace.specs.TableLaws.{row-means, row-of}
 use Rattle.trace.specs.Trace.{Message, inPlace, pecOf, bytes, byTarget, byController, traceAt, Valid}
 use Rattle.trace.specs.declared.shape.Shape.{Shape}
 use Rattle.scan.specs.Answers as shaped
-use Rattle.scan.specs.Fitting.{Whole, CutAt, Member, Fits, Breaks, OtherPec}
+use Rattle.scan.specs.BecauseLaws.{Agree}
+use Rattle.scan.specs.Fitting.{Whole, CutAt, Member, Fits, Breaks, OtherPec, tableCases}
 
 -- what a line of the table is, by its own protocol
 record Known (p : ℕ) (pec : Bool) (y : ℕ) (x : Line) : Type 0 where
@@ -167,3 +168,14 @@ module _ (p : ℕ) (pec : Bool) (k : p < protocols) (z : p ≡ 0 → pec ≡ fal
   pub other-pec-byte : (tr : List ℕ) (n : ℕ) (q : OtherPec p pec tr n) → other-pec-shaped tr n .0 q .pec ≡ q .1 .0
   unfolding other-pec-shaped
   other-pec-byte tr n q = refl
+
+  -- so a trace is refused for the same reasons
+  pub cases-shaped : (tr : List ℕ) → Agree (tableCases p pec tr) (shaped.shapeCases sh pec tr)
+  cases-shaped tr = record {
+    fits = fits-shaped tr;
+    member = member-shaped tr;
+    member-to = λ n. member-shaped (take n tr);
+    breaks = breaks-shaped tr;
+    cut = cut-shaped tr;
+    other-pec = other-pec-shaped tr;
+  }

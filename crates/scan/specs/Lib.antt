@@ -3,6 +3,8 @@ pub mod Run
 pub mod Handed
 pub mod BytesIn
 pub mod Numbers
+pub mod Because
+pub mod BecauseLaws
 pub mod Answers
 pub mod Leads
 pub mod EndState

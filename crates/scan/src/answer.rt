@@ -1,4 +1,6 @@
 // What the decoder answers. decodeNumber in specs/Numbers.antt gives the scope's number of each case, and what comes with it.
+ghost use mathlib.Core.Path.{_≡_};
+ghost use Rattle.scan.specs.Numbers.{refusalNumber, isNack};
 use trace::transaction::Transaction;
 
 // Why a trace, or a call, is refused.
@@ -27,4 +29,27 @@ pub enum Decoded {
     // Why, and where: the symbol's place; the trace's length where it ends early; which byte was not acknowledged, from 0, only bytes
     // counted; 0 where the trace was not read.
     Refused(Refusal, usize),
+}
+
+// The scope's number of a refusal.
+pub fn refusal_number(w: Refusal) -> u8
+    ensures { λ r. ⌜ r ≡ refusalNumber w ⌝ }
+{
+    match w {
+        Refusal::Forbidden => 1,
+        Refusal::BufferTooShort => 2,
+        Refusal::NoSymbol => 3,
+        Refusal::EndsEarly => 4,
+        Refusal::Unexpected => 5,
+        Refusal::NotAcknowledged => 6,
+        Refusal::PecDiffers => 7,
+        Refusal::AfterStop => 8,
+    }
+}
+
+// A byte that the target did not acknowledge.
+pub fn is_nack(w: Refusal) -> bool
+    ensures { λ r. ⌜ r ≡ isNack w ⌝ }
+{
+    refusal_number(w) == refusal_number(Refusal::NotAcknowledged)
 }

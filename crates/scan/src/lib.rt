@@ -1,6 +1,5 @@
 // The decoder over a whole trace: the fold of the step, the answer, and its number. Rests on step for one symbol.
 pub mod answer;
 mod ending;
-pub mod number;
 mod refusal;
 pub mod whole;

@@ -6,13 +6,15 @@ use mathlib.Core.Logic.{_⊎_, inl, inr, _↔_}
 use Prim.Native.Nat.{ℕ, _≤_, _<_}
 use native.Mathlib.Omega.{arith}
 use lib.ListN.{length}
+use borrow.Author.Tests.{le-leb}
 use Rattle.lists.specs.Choice.{pick}
 use Rattle.lists.specs.ChoiceLaws.{false-not-true}
 use Rattle.trace.specs.declared.shape.Shape.{Shape}
 use Rattle.trace.specs.Shapes.{protocols, shapeOf, forbidden}
 use Rattle.trace.specs.Allowed.{lengthsFit}
-use Rattle.trace.specs.DataFits.{DataFits, quick, send-byte, receive-byte, write-byte, write-word, read-byte, read-word, process-call, block-write, block-read, block-process-call}
+use Rattle.trace.specs.DataFits.{DataFits}
 use Rattle.trace.specs.DataFitsLaws.{listed-lengths-fit, fitting-lengths-listed}
+use Rattle.trace.specs.FieldLaws.{lengths-exactly}
 use Rattle.trace.specs.ForbiddenLaws.{forbidden-cases, taken-cases}
 use Rattle.trace.specs.Lengths.{traceLength, roomBy, roomFor}
 use Rattle.trace.specs.LengthLaws.{trace-length, pec-symbols}
@@ -64,8 +66,8 @@ no-room protocol pec m n = (λ e. there (forbidden protocol pec) (lengthsFit (sh
     back (inr z) = unfit (forbidden protocol pec) (lengthsFit (shapeOf protocol) m n) refl refl z
 
 -- else, that of the trace
-room-fits : (protocol : ℕ) (pec : Bool) (m n : ℕ) → forbidden protocol pec ≡ false → DataFits protocol m n → roomFor protocol pec m n ≡ traceLength (shapeOf protocol) pec m n
-room-fits protocol pec m n f d = room-by (shapeOf protocol) (forbidden protocol pec) pec m n false true f (listed-lengths-fit protocol m n d)
+room-fits : (protocol : ℕ) (pec : Bool) (m n : ℕ) → forbidden protocol pec ≡ false → lengthsFit (shapeOf protocol) m n ≡ true → roomFor protocol pec m n ≡ traceLength (shapeOf protocol) pec m n
+room-fits protocol pec m n f d = room-by (shapeOf protocol) (forbidden protocol pec) pec m n false true f d
 
 -- with or without PEC
 not-forbidden : (k : ℕ) (p : Bool) → 0 < k → k < protocols → forbidden k p ≡ false
@@ -73,20 +75,20 @@ not-forbidden k p l h = taken-cases k p .1 (h, λ z. absurd (omega arith))
 
 -- the room is what the last two columns say
 pub room-as-listed : Room
-unfolding traceLength
+unfolding traceLength lengthsFit
 room-as-listed =
     record {
-      quick-room = room-fits 0 false 0 0 refl (quick refl refl refl);
-      send-byte-room = λ p. omega (arith, room-fits 1 p 1 0 (not-forbidden 1 p (omega arith) (omega arith)) (send-byte refl refl refl), pec-symbols p);
-      receive-byte-room = λ p. omega (arith, room-fits 2 p 0 1 (not-forbidden 2 p (omega arith) (omega arith)) (receive-byte refl refl refl), pec-symbols p);
-      write-byte-room = λ p. omega (arith, room-fits 3 p 1 0 (not-forbidden 3 p (omega arith) (omega arith)) (write-byte refl refl refl), pec-symbols p);
-      write-word-room = λ p. omega (arith, room-fits 4 p 2 0 (not-forbidden 4 p (omega arith) (omega arith)) (write-word refl refl refl), pec-symbols p);
-      read-byte-room = λ p. omega (arith, room-fits 5 p 0 1 (not-forbidden 5 p (omega arith) (omega arith)) (read-byte refl refl refl), pec-symbols p);
-      read-word-room = λ p. omega (arith, room-fits 6 p 0 2 (not-forbidden 6 p (omega arith) (omega arith)) (read-word refl refl refl), pec-symbols p);
-      process-call-room = λ p. omega (arith, room-fits 7 p 2 2 (not-forbidden 7 p (omega arith) (omega arith)) (process-call refl refl refl), pec-symbols p);
-      block-write-room = λ p m h. omega (arith, room-fits 8 p m 0 (not-forbidden 8 p (omega arith) (omega arith)) (block-write refl h refl), pec-symbols p);
-      block-read-room = λ p n h. omega (arith, room-fits 9 p 0 n (not-forbidden 9 p (omega arith) (omega arith)) (block-read refl refl h), pec-symbols p);
-      block-process-call-room = λ p m n h. omega (arith, room-fits 10 p m n (not-forbidden 10 p (omega arith) (omega arith)) (block-process-call refl h), pec-symbols p);
+      quick-room = room-fits 0 false 0 0 refl refl;
+      send-byte-room = λ p. omega (arith, room-fits 1 p 1 0 (not-forbidden 1 p (omega arith) (omega arith)) refl, pec-symbols p);
+      receive-byte-room = λ p. omega (arith, room-fits 2 p 0 1 (not-forbidden 2 p (omega arith) (omega arith)) refl, pec-symbols p);
+      write-byte-room = λ p. omega (arith, room-fits 3 p 1 0 (not-forbidden 3 p (omega arith) (omega arith)) refl, pec-symbols p);
+      write-word-room = λ p. omega (arith, room-fits 4 p 2 0 (not-forbidden 4 p (omega arith) (omega arith)) refl, pec-symbols p);
+      read-byte-room = λ p. omega (arith, room-fits 5 p 0 1 (not-forbidden 5 p (omega arith) (omega arith)) refl, pec-symbols p);
+      read-word-room = λ p. omega (arith, room-fits 6 p 0 2 (not-forbidden 6 p (omega arith) (omega arith)) refl, pec-symbols p);
+      process-call-room = λ p. omega (arith, room-fits 7 p 2 2 (not-forbidden 7 p (omega arith) (omega arith)) refl, pec-symbols p);
+      block-write-room = λ p m h. omega (arith, room-fits 8 p m 0 (not-forbidden 8 p (omega arith) (omega arith)) (lengths-exactly (shapeOf 8) m 0 .1 (le-leb 0 m (omega arith), refl, omega arith)), pec-symbols p);
+      block-read-room = λ p n h. omega (arith, room-fits 9 p 0 n (not-forbidden 9 p (omega arith) (omega arith)) (lengths-exactly (shapeOf 9) 0 n .1 (refl, le-leb 0 n (omega arith), omega arith)), pec-symbols p);
+      block-process-call-room = λ p m n h. omega (arith, room-fits 10 p m n (not-forbidden 10 p (omega arith) (omega arith)) (lengths-exactly (shapeOf 10) m n .1 (le-leb 0 m (omega arith), le-leb 0 n (omega arith), h)), pec-symbols p);
     }
 
 -- for a valid message it is the length of its trace

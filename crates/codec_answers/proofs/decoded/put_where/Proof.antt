@@ -6,8 +6,8 @@ use Rattle.codec_answers.proofs.decoded.put_where.Tie as tie
 use Rattle.codec_answers.proofs.decoded.put_where.Reads as reads
 use Rattle.codec_answers.proofs.decoded.put_where.Lts as lts
 use Rattle.pieces.proofs.piece.number_line.Reads as number-line-reads
-use Rattle.scan.proofs.number.is_nack.Reads as is-nack-reads
-use Rattle.scan.proofs.number.refusal_number.Reads as refusal-number-reads
+use Rattle.scan.proofs.answer.is_nack.Reads as is-nack-reads
+use Rattle.scan.proofs.answer.refusal_number.Reads as refusal-number-reads
 use Rattle.writing.proofs.write.put.Reads as put-reads
 
 refusal-number-requires : tie.Need-refusal-number-requires

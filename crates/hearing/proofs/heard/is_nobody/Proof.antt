@@ -6,7 +6,7 @@ use Rattle.hearing.proofs.heard.is_nobody.Statement.{statement}
 use Rattle.hearing.proofs.heard.is_nobody.Tie as tie
 use Rattle.hearing.proofs.heard.is_nobody.Reads as reads
 use Rattle.hearing.proofs.heard.is_nobody.Lts as lts
-use Rattle.scan.proofs.number.is_nack.Reads as is-nack-reads
+use Rattle.scan.proofs.answer.is_nack.Reads as is-nack-reads
 
 enum-told : tie.Need-enum-told
 enum-told c = search needs

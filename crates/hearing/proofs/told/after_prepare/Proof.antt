@@ -8,7 +8,7 @@ use Rattle.hearing.proofs.told.after_prepare.Reads as reads
 use Rattle.hearing.proofs.told.after_prepare.Lts as lts
 use Rattle.hearing.proofs.heard.is_prepare.Reads as is-prepare-reads
 use Rattle.decode.proofs.decode.Reads as decode-reads
-use Rattle.scan.proofs.number.is_nack.Reads as is-nack-reads
+use Rattle.scan.proofs.answer.is_nack.Reads as is-nack-reads
 
 slice-aggregate-decode : tie.Need-slice-aggregate-decode
 slice-aggregate-decode c = search needs
