@@ -1,4 +1,3 @@
 pub mod Verbs
-pub mod Protocols
 pub mod Said
 pub mod SaidLaws

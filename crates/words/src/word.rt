@@ -1,12 +1,12 @@
 // One word of a line, read as what is due there. Rests on crate text.
 ghost use mathlib.Core.Path.{_≡_};
 ghost use Rattle.words.specs.Said.{byteAt, symbolAt, udidAt, protocolAt, pecAt, markAt, restAt};
-use crate::protocol::NO_PROTOCOL;
-use crate::protocol::protocol_named;
 use digits::number::Halves;
 use digits::number::Number;
 use digits::number::read_halves;
 use digits::number::read_number;
+use names::NO_PROTOCOL;
+use names::protocol_named;
 use text::word::next_word;
 use text::word::part;
 use text::word::same;
