@@ -17,14 +17,14 @@ pub as-many-as-rows : wordsIn 255 names 0 ≡ protocols
 unfolding wordsIn wordFrom startFrom before
 as-many-as-rows = refl
 
--- the first and the last of them
-pub first-name : protocolNamed (chars "quick") ≡ 0
+-- two of them
+pub quick-is-0 : protocolNamed (chars "quick") ≡ 0
 unfolding protocolNamed placeIn wordFrom startFrom before partOf sameText
-first-name = refl
+quick-is-0 = refl
 
-pub last-name : protocolNamed (chars "block_process_call") ≡ 10
+pub block-process-call-is-10 : protocolNamed (chars "block_process_call") ≡ 10
 unfolding protocolNamed placeIn wordFrom startFrom before partOf sameText
-last-name = refl
+block-process-call-is-10 = refl
 
 -- ---- word by word
 
