@@ -88,9 +88,9 @@ typedef struct {
 
 /* The PEC of n bytes; of none it is 0. */
 uint8_t hb_pec(const uint8_t *s, size_t n);
-/* The PEC after one byte more, and after n bytes more, where it was crc before. */
-uint8_t hb_pec_byte(uint8_t crc, uint8_t byte);
-uint8_t hb_pec_bytes(uint8_t crc, const uint8_t *s, size_t n);
+/* The PEC after one byte more, and after n bytes more, where it was pec before. */
+uint8_t hb_pec_byte(uint8_t pec, uint8_t byte);
+uint8_t hb_pec_bytes(uint8_t pec, const uint8_t *s, size_t n);
 
 /* Addresses. Nothing is written. */
 

@@ -14,6 +14,7 @@ use Rattle.lists.specs.Onto.{onto}
 use Rattle.wire.specs.declared.address.Address.{Address}
 use Rattle.trace.specs.ShapeLaws.{sane}
 use Rattle.trace.specs.Shapes.{shapeOf, forbidden}
+use Rattle.scan.specs.DataLaws.{length-lows}
 use Rattle.scan.specs.declared.answer.Refusal.the-variants.{NotAcknowledged}
 use Rattle.scan.specs.AnswersLaws as step
 use Rattle.scan.specs.Answers.{CutAt}
@@ -85,10 +86,6 @@ six-exactly protocol tr b f =
     (λ h. c .0 (g .0 h), λ h. g .1 (c .1 h))
 
 -- ---- the front of a buffer reads as the data
-
-pub length-lows : (n : ℕ) (l : List ℕ) → length (lows n l) ≡ n
-length-lows zero l = refl
-length-lows (suc n) l = ap suc (length-lows n (drop 2 l))
 
 front-at : (xs l : List ℕ) (i : ℕ) → i < length xs → getD (onto xs l) i 0 ≡ getD xs i 0
 front-at xs l i h = List·getD-append xs (drop (length xs) l) 0 i h

@@ -6,6 +6,7 @@ use mathlib.Core.List.{List, [], _∷_}
 use native.Mathlib.Omega.{arith}
 use lib.Dec.{ltb, leb}
 use borrow.Author.Tests.{leb-false}
+use Rattle.lists.specs.ChoiceLaws.{or-last}
 use Rattle.lists.specs.AbsurdLaws.{zero-is-one}
 use Rattle.lists.specs.Choice.{pick, or}
 use Rattle.pool.specs.CountLaws.{count-split}
@@ -106,19 +107,12 @@ module _ (occupied : Pool) where
 
 -- ---- the invariant, as specs/History.antt has it
 
-or-true : (a b : Bool) → a ≡ true → or a b ≡ true
-or-true a b e = rw e
-
-or-held : (a : Bool) → or a true ≡ true
-or-held true = refl
-or-held false = refl
-
 -- EVERY STATE that starts and received traces reach
 pub reached-invariant : (occupied : Pool) (es : List Event) → Invariant occupied (run occupied es)
 unfolding used
 reached-invariant occupied es = record {
   starting = reached-good occupied es .0 .starting;
-  contains = λ a e. v .exact a ∙ or-true (member (s .starting) a) (isHeld (heldAt (s .slots) a)) e;
+  contains = λ a e. v .exact a ∙ ap (λ (b : Bool). or b (isHeld (heldAt (s .slots) a))) e;
   bound-used = λ a u e. held-used a (Bound u) e refl;
   bound-new = λ a u e. v .new a u e;
   bound-one = λ a u w e f. same (sym e ∙ f);
@@ -137,7 +131,7 @@ reached-invariant occupied es = record {
     v = reached-good occupied es .0 .sound
 
     held-used : (a : ℕ) (x : Binding) → heldAt (run occupied es .slots) a ≡ x → isHeld x ≡ true → member (run occupied es .pool) a ≡ true
-    held-used a x e f = v .exact a ∙ ap (λ (b : Binding). or (member (run occupied es .starting) a) (isHeld b)) e ∙ ap (or (member (run occupied es .starting) a)) f ∙ or-held (member (run occupied es .starting) a)
+    held-used a x e f = v .exact a ∙ ap (λ (b : Binding). or (member (run occupied es .starting) a) (isHeld b)) e ∙ ap (or (member (run occupied es .starting) a)) f ∙ or-last (member (run occupied es .starting) a)
 
     same : {u w : Udid} → Bound u ≡ Bound w → u ≡ w
     same e = cc e

@@ -17,6 +17,7 @@ use Rattle.lists.specs.Each.{Bytes}
 use Rattle.lists.specs.EachLaws.{append-bytes}
 use Rattle.wire.specs.declared.address.Address.{Address}
 use Rattle.trace.specs.declared.transaction.Transaction.{Transaction}
+use Rattle.scan.specs.DataLaws.{length-lows}
 use Rattle.scan.specs.Answers.{summary}
 use Rattle.scan.specs.Handed.{receivedLength}
 use Rattle.scan.specs.declared.answer.Decoded.{Decoded}
@@ -26,7 +27,7 @@ use Rattle.udid.specs.Bytes.{udidAt, udidBytes}
 use Rattle.udid.specs.UdidLaws.{length-udid, udid-bytes, udid-back}
 use Rattle.udid.specs.Udids.{Fits, sameUdid}
 use Rattle.udid.specs.declared.Udid.{Udid}
-use Rattle.arp.specs.HeardLaws.{length-lows, reply-is-decode, assign-is-decode, next-prepare-is-decode, next-reply-is-decode}
+use Rattle.arp.specs.HeardLaws.{reply-is-decode, assign-is-decode, next-prepare-is-decode, next-reply-is-decode}
 use Rattle.hearing.specs.ToldLaws.{received-are-bytes}
 use Rattle.commands.specs.RequestLaws.{valid-get, valid-assign, seventeen-bytes-are-udid-and-byte, reply-symbols, assign-symbols-small}
 use Rattle.hearing.specs.TraceLaws.{decoded-back, complete-get-is-its-trace, assign-data-is-assign, complete-assign-is-its-trace}

@@ -12,18 +12,18 @@ use wire::address::WireByte;
 
 // The packet error code after one byte more.
 #[no_mangle]
-pub extern "C" fn hb_pec_byte(crc: u8, byte: u8) -> u8
-    ensures { λ r. ⌜ r ≡ pecStep crc byte ⌝ }
+pub extern "C" fn hb_pec_byte(pec: u8, byte: u8) -> u8
+    ensures { λ r. ⌜ r ≡ pecStep pec byte ⌝ }
 {
-    pec::add_byte(crc, byte)
+    pec::add_byte(pec, byte)
 }
 
 // The packet error code after more bytes.
 #[no_mangle]
-pub extern "C" fn hb_pec_bytes(crc: u8, s: &[u8]) -> u8
-    ensures { λ r. ⌜ r ≡ pecFrom crc (now (s .entry)) ⌝ }
+pub extern "C" fn hb_pec_bytes(pec: u8, s: &[u8]) -> u8
+    ensures { λ r. ⌜ r ≡ pecFrom pec (now (s .entry)) ⌝ }
 {
-    pec::add_bytes(crc, s)
+    pec::add_bytes(pec, s)
 }
 
 // The packet error code of bytes.

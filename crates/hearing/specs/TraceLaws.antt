@@ -9,6 +9,7 @@ use lib.Dec.{ltb, eqb}
 use lib.ListN.{length, getD, drop, length-drop}
 use lib.Seq.{getD-at, split-at}
 use borrow.Author.Tests.{ltb-true, lt-ltb, eqb-true, eq-eqb, ne-eqb}
+use Rattle.lists.specs.LengthLaws.{empty-of-length}
 use Rattle.lists.specs.Choice.{pick, and}
 use Rattle.lists.specs.Each.{Bytes}
 use Rattle.wire.specs.Addresses.{defaultAddress}
@@ -65,10 +66,6 @@ cut-back protocol tr w b e h =
 message-is : (m n : Message) → m .address ≡ n .address → m .direction ≡ n .direction → m .command ≡ n .command → m .sent ≡ n .sent → m .received ≡ n .received → m ≡ n
 message-is m n a d c s r = λ i. record { address = a i; direction = d i; command = c i; sent = s i; received = r i }
 
-empty : (xs : List ℕ) → length xs ≡ 0 → xs ≡ []
-empty [] e = refl
-empty (x ∷ xs) e = absurd (omega arith)
-
 -- ---- Prepare To ARP
 
 module _ (tr : List ℕ) where
@@ -82,7 +79,7 @@ module _ (tr : List ℕ) where
       c .is
       ∙ ap (trace (shapeOf sendByte) true)
       (message-is (c .message) (messageOf (Send Prepare) []) a (c .valid .direction) (c .valid .command) (byte (c .message .sent) (c .valid .sent-length) d)
-      (empty (c .message .received) (c .valid .received-length)))
+      (empty-of-length (c .message .received) (c .valid .received-length)))
     where
       byte : (xs : List ℕ) → length xs ≡ 1 → getD xs 0 0 ≡ 0x01 → xs ≡ 0x01 ∷ []
       byte [] l d = absurd (omega arith)
@@ -128,7 +125,7 @@ module _ (tr : List ℕ) where
       let d : c .message .command ≡ 0x03 = sym (ap (λ (x : Transaction). x .command) (c .fields)) ∙ eqb-true (t .command) 0x03 (b .1) in
       c .is
       ∙ ap (trace (shapeOf blockRead) true)
-      (message-is (c .message) (messageOf (Send GetUdid) (receivedIn blockRead tr)) a (c .valid .direction) d (empty (c .message .sent) (c .valid .sent-length)) (sym (c .data-received)))
+      (message-is (c .message) (messageOf (Send GetUdid) (receivedIn blockRead tr)) a (c .valid .direction) d (empty-of-length (c .message .sent) (c .valid .sent-length)) (sym (c .data-received)))
 
   -- the data of a complete Block Read are at most 255 bytes
   pub complete-get-data-fits : (t : Transaction) → answer blockRead tr ≡ Done t → Bytes (receivedIn blockRead tr) × (length (receivedIn blockRead tr) ≤ 255)
@@ -180,7 +177,7 @@ module _ (tr : List ℕ) where
 named : (u : Udid) (a : ℕ) (xs : List ℕ) → Bytes xs → length xs ≡ 17 → udidAt xs 0 ≡ u → getD xs 16 0 ≡ 2 * (a % 128) → xs ≡ assignData u a
 named u a xs h l e f =
     split-at xs 16 0 (omega arith)
-    ∙ ap₂ (λ (p q : List ℕ). p ++ q) (sym (bytes-back xs 0 h (omega arith)) ∙ ap udidBytes e) (ap₂ (λ (x : ℕ) (q : List ℕ). x ∷ q) f (empty (drop 17 xs) (length-drop 17 xs ∙ omega arith)))
+    ∙ ap₂ (λ (p q : List ℕ). p ++ q) (sym (bytes-back xs 0 h (omega arith)) ∙ ap udidBytes e) (ap₂ (λ (x : ℕ) (q : List ℕ). x ∷ q) f (empty-of-length (drop 17 xs) (length-drop 17 xs ∙ omega arith)))
 
 -- the command's own data are told as the Assign that was sent
 pub assign-data-is-assign : (u : Udid) (a : Address) → Fits u → isAssign u (a .0) (summary blockWrite (messageOf (Send (Assign u a)) [])) (assignData u (a .0)) ≡ true
@@ -207,7 +204,7 @@ module _ (u : Udid) (a : Address) (tr : List ℕ) where
       let w : getD (c .message .sent) 16 0 ≡ 2 * (a .0 % 128) = ap (λ (z : List ℕ). getD z 16 0) (sym (c .data-sent)) ∙ eqb-true (getD (sentIn blockWrite tr) 16 0) (2 * (a .0 % 128)) (n .1) in
       c .is
       ∙ ap (trace (shapeOf blockWrite) true)
-      (message-is (c .message) (messageOf (Send (Assign u a)) []) x (c .valid .direction) y (named u (a .0) (c .message .sent) (c .valid .sent-bytes) l v w) (empty (c .message .received) (c .valid .received-length)))
+      (message-is (c .message) (messageOf (Send (Assign u a)) []) x (c .valid .direction) y (named u (a .0) (c .message .sent) (c .valid .sent-bytes) l v w) (empty-of-length (c .message .received) (c .valid .received-length)))
 
   -- complete: the target took it
   pub assign-whole : Fits u → tr ≡ traceOf (Send (Assign u a)) [] → tells (Send (Assign u a)) tr ≡ Took u a

@@ -7,6 +7,7 @@ use mathlib.Core.Logic.{_↔_}
 use Prim.Native.Nat.{ℕ, _+_, _*_, _≤_, _<_}
 use native.Mathlib.Omega.{arith}
 use lib.ListN.{length}
+use Rattle.lists.specs.LengthLaws.{empty-of-length}
 use Rattle.lists.specs.AbsurdLaws.{zero-is-one}
 use Rattle.lists.specs.Each.{Bytes}
 use Rattle.trace.specs.Rows.{message}
@@ -133,10 +134,6 @@ row-means q x (block-process-call a c d r ha hc hd hr hl e) =
     })
 
 -- ---- a valid message is a line of the table
-
-empty-of-length : (l : List ℕ) → length l ≡ 0 → l ≡ []
-empty-of-length [] h = refl
-empty-of-length (x ∷ l) h = absurd (omega arith)
 
 one-of-length : (l : List ℕ) → length l ≡ 1 → (x : ℕ) × (l ≡ x ∷ [])
 one-of-length [] h = absurd (omega arith)
