@@ -1,7 +1,7 @@
 -- One way to be bound, and one way to be neither bound nor claimed: a case of Binding more is one line more in each.
 use mathlib.Core.Path.{_≡_, refl, ap}
 use mathlib.Core.Bool.{false}
-use mathlib.Core.List.{List, [], _∷_}
+use mathlib.Core.List.{List, _∷_}
 use Rattle.lists.specs.AbsurdLaws.{zero-is-one}
 use Rattle.udid.specs.declared.Udid.{Udid}
 use Rattle.slots.specs.Finding.{boundIn}

@@ -18,7 +18,7 @@ use Rattle.scan.specs.DataLaws.{length-lows}
 use Rattle.scan.specs.declared.answer.Refusal.the-variants.{NotAcknowledged}
 use Rattle.scan.specs.AnswersLaws as step
 use Rattle.scan.specs.Answers.{CutAt}
-use Rattle.scan.specs.Handed.{lows, sentData, receivedData}
+use Rattle.scan.specs.Handed.{sentData, receivedData}
 use Rattle.scan.specs.Numbers.{decodeNumber}
 use Rattle.scan.specs.declared.answer.Decoded.{Decoded}
 use Rattle.scan.specs.declared.answer.Decoded.the-variants.{Done, Refused}

@@ -29,7 +29,7 @@ use Rattle.slots.specs.Finding.{findFrom}
 use Rattle.slots.specs.Slots.{heldAt}
 use Rattle.arp.specs.Controller.{newController, handed, counted, asked, chosen, issued, replied, changed, stepped}
 use Rattle.arp.specs.History.{Event, Start, Received, run, isHeld, Invariant, New}
-use Rattle.commands.specs.declared.command.Command.the-variants.{GetUdid, Assign}
+use Rattle.commands.specs.declared.command.Command.the-variants.{GetUdid}
 use Rattle.commands.specs.declared.command.End.the-variants.{Ended, Abandoned}
 use Rattle.commands.specs.declared.command.Handed.the-variants.{Send, Wait}
 use Rattle.slots.specs.declared.Binding.{Binding}

@@ -22,7 +22,6 @@ use Rattle.scan.specs.Answers.{summary}
 use Rattle.scan.specs.Handed.{receivedLength}
 use Rattle.scan.specs.declared.answer.Decoded.{Decoded}
 use Rattle.scan.specs.declared.answer.Decoded.the-variants.{Done, Refused}
-use Rattle.pool.specs.Start.{emptyPool}
 use Rattle.udid.specs.Bytes.{udidAt, udidBytes}
 use Rattle.udid.specs.UdidLaws.{length-udid, udid-bytes, udid-back}
 use Rattle.udid.specs.Udids.{Fits, sameUdid}
@@ -31,7 +30,6 @@ use Rattle.arp.specs.HeardLaws.{reply-is-decode, assign-is-decode, next-
 use Rattle.hearing.specs.ToldLaws.{received-are-bytes}
 use Rattle.commands.specs.RequestLaws.{valid-get, valid-assign, seventeen-bytes-are-udid-and-byte, reply-symbols, assign-symbols-small}
 use Rattle.hearing.specs.TraceLaws.{decoded-back, complete-get-is-its-trace, assign-data-is-assign, complete-assign-is-its-trace}
-use Rattle.arp.specs.Controller.{newController}
 use Rattle.hearing.specs.Heard.{answer, sentIn, receivedIn, isGet, isAssign}
 use Rattle.commands.specs.Codes.{blockRead, blockWrite}
 use Rattle.arp.specs.Replay.{Happened, Started, Replied, Assigned, Other, replyIn, assigns, assignIn, readAs}

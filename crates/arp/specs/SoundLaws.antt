@@ -6,11 +6,10 @@ use mathlib.Core.List.{List, [], _∷_}
 use mathlib.Core.Logic.{_⊎_, inl, inr}
 use native.Mathlib.Decide.{ℕ-discrete, decLt}
 use native.Mathlib.Omega.{arith}
-use lib.Dec.{ltb, eqb}
-use lib.ListN.{getD}
+use lib.Dec.{ltb}
 use borrow.Author.Tests.{lt-ltb, le-ltb}
 use Rattle.lists.specs.AbsurdLaws.{zero-is-one}
-use Rattle.lists.specs.Choice.{pick, and, or}
+use Rattle.lists.specs.Choice.{pick, or}
 use Rattle.pool.specs.MemberLaws.{has-with-same, has-with-other, has-without-same, has-without-other}
 use Rattle.pool.specs.Pools.{member, withAddress, withoutAddress}
 use Rattle.pool.specs.declared.Pool.{Pool}
@@ -21,8 +20,8 @@ use Rattle.arp.specs.BindingLaws.{bound-in-is}
 use Rattle.arp.specs.Bindings.{freedAt, freed, bindingFor, bound}
 use Rattle.slots.specs.Finding.{boundIn, isOnly, boundTo, findFrom}
 use Rattle.arp.specs.History.{isHeld}
-use Rattle.slots.specs.Slots.{keptUdid, heldAt, withBinding, noBindings}
-use Rattle.slots.specs.SlotsLaws.{by-bound, held-above-is-open, held-same, held-other, held-cases, open-all, sized-none, sized-with}
+use Rattle.slots.specs.Slots.{heldAt, withBinding, noBindings}
+use Rattle.slots.specs.SlotsLaws.{held-above-is-open, held-same, held-other, held-cases, open-all, sized-none, sized-with}
 use Rattle.slots.specs.declared.Binding.{Binding}
 use Rattle.slots.specs.declared.Binding.the-variants.{Open, Bound}
 use Rattle.arp.specs.declared.state.Controller.{Controller}

@@ -41,7 +41,7 @@ use Rattle.arp.specs.Lookup.{lookedUp}
 use Rattle.arp.specs.Numbers.{lookupNumber}
 use Rattle.arp.specs.Replay.{Happened, Replied, Assigned, Other, Table, holds, emptied, after, replyIn, assignIn, readAs, handedOut, table, numberOf, view}
 use Rattle.commands.specs.declared.command.Command.the-variants.{Prepare, GetUdid, Assign}
-use Rattle.commands.specs.declared.command.End.the-variants.{Ended, Abandoned}
+use Rattle.commands.specs.declared.command.End.the-variants.{Abandoned}
 use Rattle.commands.specs.declared.command.Handed.{Handed}
 use Rattle.commands.specs.declared.command.Handed.the-variants.{Send, Wait}
 use Rattle.slots.specs.declared.Binding.{Binding}

@@ -15,7 +15,6 @@ use borrow.Author.Tests.{lt-ltb, le-ltb, ltb-true, ltb-false, le-leb, lt-leb, eq
 use Rattle.lists.specs.Choice.{pick, and}
 use Rattle.lists.specs.ChoiceLaws.{false-not-true}
 use Rattle.digits.specs.Numbers.{from-to, digitOf, baseOf, areDigits, valueFrom, valueOf, capped, digitsOf, isHex, numberOf, halvesOf}
-use Rattle.digits.specs.declared.number.Number.{Number}
 use Rattle.digits.specs.declared.number.Number.the-variants.{Is, NoNumber, TooLarge}
 use Rattle.digits.specs.declared.number.Halves.the-variants.{Are, NoHalves}
 

@@ -5,7 +5,7 @@ use mathlib.Core.List.{List, _++_}
 use mathlib.Core.Logic.{_↔_}
 use Prim.Native.Nat.{ℕ, _≤_, _<_}
 use native.Mathlib.Omega.{arith}
-use lib.ListN.{length, take, drop}
+use lib.ListN.{length, drop}
 use Rattle.lists.specs.ChoiceLaws.{not-both}
 use Rattle.lists.specs.Each.{Bytes}
 use Rattle.trace.specs.Shapes.{shapeOf}

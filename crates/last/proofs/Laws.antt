@@ -1,9 +1,9 @@
 -- From the tests that were made to what is chosen.
-use mathlib.Core.Path.{_≡_, refl, sym, ap, _∙_, subst}
+use mathlib.Core.Path.{_≡_, sym, ap, _∙_, subst}
 use mathlib.Core.Bool.{Bool, true, false}
 use mathlib.Core.List.{List}
 use Prim.Native.Nat.{ℕ, _≤_}
-use lib.ListN.{length, take}
+use lib.ListN.{take}
 use lib.Dec.{ltb, leb}
 use borrow.Author.Tests.{leb-true}
 use Rattle.lists.specs.Choice.{pick, and}

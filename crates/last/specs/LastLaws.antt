@@ -12,7 +12,7 @@ use Rattle.trace.specs.declared.transaction.Transaction.{Transaction}
 use Rattle.trace.specs.Shapes.{protocols, reads, shapeOf}
 use Rattle.trace.specs.Allowed.{lengthsFit}
 use Rattle.trace.specs.DataFitsLaws.{listed-lengths-fit, fitting-lengths-listed}
-use Rattle.last.specs.Last.{belongs, chosen, lastData, lastPlace, receives, Whole, Gives}
+use Rattle.last.specs.Last.{belongs, chosen, lastData, lastPlace, Whole, Gives}
 
 -- the tests pass exactly for a whole transaction
 pub belongs-exactly : (t : Transaction) (s r : ℕ) → (belongs t s r ≡ true) ↔ Whole t s r

@@ -1,5 +1,4 @@
 -- The packet error code: CRC-8, x^8+x^2+x+1, start 0, highest bit first.
-use mathlib.Core.Bool.{Bool, true, false}
 use mathlib.Core.List.{List, [], _∷_}
 use Prim.Native.Nat.{ℕ, _-_, _*_}
 use lib.Bits.{bitXor}

@@ -1,6 +1,6 @@
 -- How many numbers below a bound pass a test.
 use Prim.Native.Nat.{ℕ, zero, suc, _+_}
-use mathlib.Core.Bool.{Bool, true, false}
+use mathlib.Core.Bool.{Bool}
 use Rattle.lists.specs.Choice.{pick}
 
 abbrev pub one : Bool → ℕ

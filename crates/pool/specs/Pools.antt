@@ -1,7 +1,7 @@
 -- The pool as a set of addresses: which it has, and the pools with one more, one fewer, and those of two. MemberLaws says what each
 -- of them has.
 use Prim.Native.Nat.{ℕ, _%_, _^_, _<_}
-use mathlib.Core.Bool.{Bool, true, false}
+use mathlib.Core.Bool.{Bool, false}
 use lib.Dec.{ltb}
 use lib.Bits.{bitOr}
 use Rattle.lists.specs.Choice.{pick}

@@ -1,5 +1,4 @@
 -- The bytes of a trace: its numbers below 256, in their order. START, STOP, ACK and NACK are none.
-use mathlib.Core.Bool.{Bool}
 use mathlib.Core.List.{List, [], _∷_}
 use Prim.Native.Nat.{ℕ}
 use lib.Dec.{ltb}

@@ -1,5 +1,5 @@
 -- The tests of refusal 1, on numbers and on the lengths of the data.
-use mathlib.Core.Bool.{Bool, true, false}
+use mathlib.Core.Bool.{Bool, true}
 use Prim.Native.Nat.{ℕ, _+_, _%_}
 use lib.Dec.{ltb, leb, eqb}
 use Rattle.lists.specs.Choice.{pick, or, and}

@@ -1,7 +1,7 @@
 -- The last two columns of the scope's table: the symbols of each protocol's traces, two more with PEC. Once as the lengths of the traces,
 -- once as the room that the encoder needs.
 use mathlib.Core.Path.{_≡_}
-use mathlib.Core.Bool.{Bool, true, false}
+use mathlib.Core.Bool.{Bool, false}
 use Prim.Native.Nat.{ℕ, _+_, _*_, _≤_}
 use lib.ListN.{length}
 use Rattle.lists.specs.Choice.{pick}

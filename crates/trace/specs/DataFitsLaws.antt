@@ -1,16 +1,15 @@
 -- The tests on lengths pass exactly for the lengths of the table's lines.
 use mathlib.Core.Path.{_≡_, refl, sym, ap, ap₂, _∙_, subst}
 use mathlib.Core.Bool.{Bool, true, false}
-use mathlib.Core.List.{List}
 use Prim.Native.Nat.{ℕ, _<_}
 use native.Mathlib.Omega.{arith}
 use lib.Dec.{eqb, ltb}
 use lib.ListN.{length, replicate, length-replicate}
-use Rattle.lists.specs.Choice.{pick, or, and}
+use Rattle.lists.specs.Choice.{pick, or}
 use Rattle.lists.specs.EachLaws.{zeros-bytes}
 use Rattle.wire.specs.Addresses.{hostAddress}
 use Rattle.trace.specs.declared.shape.Shape.{Shape}
-use Rattle.trace.specs.Allowed.{lengthsFit, addressFits, directionFits, commandFits, allowed}
+use Rattle.trace.specs.Allowed.{lengthsFit, allowed}
 use Rattle.trace.specs.DataFits.{DataFits}
 use Rattle.trace.specs.Rows.{message}
 use Rattle.trace.specs.Shapes.{protocols, shapeOf, writes, reads}

@@ -1,7 +1,6 @@
 -- What the tests on parts and on fields say: for each kind of part, for shapes in general, and for each row of the table.
 use mathlib.Core.Path.{_≡_, refl, ap, _∙_}
 use mathlib.Core.Bool.{Bool, true, false}
-use mathlib.Core.List.{[], _∷_, map}
 use mathlib.Core.Logic.{_↔_}
 use Prim.Native.Nat.{ℕ, _+_, _%_, _≤_, _<_}
 use lib.Dec.{ltb, leb, eqb}

@@ -1,7 +1,7 @@
 -- Shapes whose limits make sense: counts that a byte holds, data of at most 255 bytes, and room for the smallest counts.
 use mathlib.Core.Path.{_≡_}
 use mathlib.Core.Bool.{Bool, true}
-use Prim.Native.Nat.{ℕ, _+_, _≤_}
+use Prim.Native.Nat.{_+_, _≤_}
 use lib.Dec.{leb, eqb}
 use Rattle.lists.specs.Choice.{and}
 use Rattle.trace.specs.declared.shape.Part.{Part}

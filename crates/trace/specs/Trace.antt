@@ -1,6 +1,6 @@
 -- What a trace is: a message of a shape, and the symbols that it is on the wire. specs/Rows.antt has each row as the scope writes it.
 use mathlib.Core.Path.{_≡_}
-use mathlib.Core.Bool.{Bool, true, false}
+use mathlib.Core.Bool.{Bool}
 use mathlib.Core.List.{List, [], _∷_, _++_}
 use Prim.Native.Nat.{ℕ, _+_, _*_, _%_, _≤_, _<_}
 use lib.ListN.{length}

@@ -7,14 +7,14 @@ use native.Mathlib.Omega.{arith}
 use lib.Dec.{ltb, leb, eqb}
 use lib.ListN.{length}
 use borrow.Author.Tests.{ltb-true, leb-true, eqb-true, lt-ltb, le-leb, eq-eqb}
-use Rattle.lists.specs.Choice.{pick, or, and}
+use Rattle.lists.specs.Choice.{pick, or}
 use Rattle.lists.specs.Each.{Bytes}
 use Rattle.lists.specs.ChoiceLaws.{both-true}
 use Rattle.wire.specs.Addresses.{hostAddress}
 use Rattle.trace.specs.declared.shape.Part.{Part}
 use Rattle.trace.specs.declared.shape.Part.the-variants.{Nothing, Fixed, Counted}
 use Rattle.trace.specs.declared.shape.Shape.{Shape}
-use Rattle.trace.specs.Shapes.{countIn, writes, reads}
+use Rattle.trace.specs.Shapes.{writes, reads}
 use Rattle.trace.specs.Trace.{Message, LengthOf, counted, Valid}
 use Rattle.trace.specs.Allowed.{lengthFits, lengthsFit, addressFits, directionFits, commandFits, allowed}
 

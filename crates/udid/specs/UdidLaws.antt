@@ -1,5 +1,5 @@
 -- Identifiers: the test of equality is equality, bytes and halves determine each other, and the order is that of the bytes.
-use Prim.Native.Nat.{ℕ, zero, suc, _+_, _*_, _-_, _/_, _%_, _^_, _<_, _≤_}
+use Prim.Native.Nat.{ℕ, _+_, _*_, _-_, _/_, _^_, _<_, _≤_}
 use mathlib.Core.Path.{_≡_, refl, sym, ap, ap₂, _∙_}
 use mathlib.Core.Bool.{Bool, true, false}
 use mathlib.Core.List.{List, [], _∷_, _++_, append-assoc}
@@ -9,7 +9,7 @@ use native.Mathlib.Nat.{mod-eq-of-lt}
 use native.Mathlib.Omega.{arith}
 use lib.Dec.{ltb, eqb}
 use lib.ListN.{length, getD, take, drop, replicate, length-append}
-use lib.Seq.{take-at, drop-at, take-add, drop-drop, length-take-le}
+use lib.Seq.{take-add, drop-drop, length-take-le}
 use borrow.Author.Tests.{eqb-true, eq-eqb, ne-eqb, le-ltb}
 use Rattle.lists.specs.Choice.{pick, or, and}
 use Rattle.lists.specs.ChoiceLaws.{false-not-true, not-both, or-none}

@@ -1,14 +1,11 @@
 -- Bytes that stand in a list from a place on: what is read there, zeros past the end, and what a write changes and leaves.
 use Prim.Native.Nat.{ℕ, zero, suc, _+_, _*_, _-_, _<_, _≤_}
 use mathlib.Core.Path.{_≡_, refl, sym, ap, ap₂, _∙_}
-use mathlib.Core.Bool.{Bool, true, false}
 use mathlib.Core.List.{List, [], _∷_, _++_, append-assoc}
 use native.Mathlib.Omega.{arith}
-use lib.Dec.{leb}
 use lib.ListN.{length, getD, take, drop, replicate, length-append, length-drop, List·getD-append}
 use lib.Seq.{drop-cons, drop-drop, drop-at, take-at, length-take-le, getD-append-add, getD-drop, getD-take}
 use borrow.Author.Tests.{le-leb, lt-leb}
-use Rattle.lists.specs.Choice.{pick}
 use Rattle.lists.specs.Each.{Bytes}
 use Rattle.udid.specs.Bytes.{number, numberFrom, bytesFrom, putAt}
 

@@ -1,5 +1,5 @@
 -- Addresses: the named ones, the 21 that are never given out, and those that can be.
-use mathlib.Core.Bool.{Bool, true, false}
+use mathlib.Core.Bool.{Bool}
 use mathlib.Core.List.{List}
 use Prim.Native.Nat.{ℕ}
 use lib.Dec.{leb, eqb}

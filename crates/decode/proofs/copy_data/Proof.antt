@@ -9,8 +9,6 @@ use mathlib.Core.Path.{_≡_, refl, _∙_, ap}
 use borrow.Author.Needs.{needs}
 use Rattle.decode.proofs.copy_data.Statement.{statement}
 use Rattle.decode.proofs.copy_data.Tie as tie
-use Rattle.decode.proofs.copy_data.Reads as reads
-use Rattle.decode.proofs.copy_data.Lts as lts
 
 abbrev Inv-loop : tie.InvT-loop
 Inv-loop buf₀ tr from n j₀ at₀ buf j at = (j ≤ n) × (at ≡ from + 2 * j) × (length buf ≡ length buf₀) × (buf ≡ onto (lows j (drop from tr)) buf₀)

@@ -2,11 +2,6 @@ use borrow.Author.Needs.{needs}
 use Rattle.decode.specs.EntryLaws.{sane-shape, outcome-at-table}
 use Rattle.decode.proofs.decode.Statement.{statement}
 use Rattle.decode.proofs.decode.Tie as tie
-use Rattle.decode.proofs.decode.Reads as reads
-use Rattle.decode.proofs.decode.Lts as lts
-use Rattle.decode.proofs.decode_into.Reads as decode-into-reads
-use Rattle.trace.proofs.protocol.is_forbidden.Reads as is-forbidden-reads
-use Rattle.trace.proofs.protocol.shape_of.Reads as shape-of-reads
 
 shape-of-requires : tie.Need-shape-of-requires
 shape-of-requires c κs = search needs

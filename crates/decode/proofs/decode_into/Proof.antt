@@ -1,14 +1,8 @@
 use Rattle.decode.specs.EntryLaws.{outcome-forbidden, outcome-short, sent-copy-fits, received-copy-fits, outcome-read}
-use mathlib.Core.Path.{_≡_, sym, _∙_}
+use mathlib.Core.Path.{sym, _∙_}
 use borrow.Author.Needs.{needs}
 use Rattle.decode.proofs.decode_into.Statement.{statement}
 use Rattle.decode.proofs.decode_into.Tie as tie
-use Rattle.decode.proofs.decode_into.Reads as reads
-use Rattle.decode.proofs.decode_into.Lts as lts
-use Rattle.decode.proofs.is_short.Reads as is-short-reads
-use Rattle.decode.proofs.put_received.Reads as put-received-reads
-use Rattle.decode.proofs.put_sent.Reads as put-sent-reads
-use Rattle.scan.proofs.whole.decode_by.Reads as decode-by-reads
 
 returns : tie.Need-returns
 returns c =

@@ -1,8 +1,6 @@
 use borrow.Author.Tests.{lt-ltb, le-ltb}
 use Rattle.decode.proofs.is_short.Statement.{statement}
 use Rattle.decode.proofs.is_short.Tie as tie
-use Rattle.decode.proofs.is_short.Reads as reads
-use Rattle.decode.proofs.is_short.Lts as lts
 
 returns : tie.Need-returns
 returns c = rw (lt-ltb _ _ (c .if1 .taken))

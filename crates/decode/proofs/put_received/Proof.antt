@@ -2,15 +2,10 @@ use Rattle.decode.proofs.Copies.{copy-asks, copied}
 use Rattle.scan.specs.Handed.{receivedPlace}
 use lib.ListN.{length}
 use Prim.Native.Nat.{ℕ}
-use mathlib.Core.Path.{_≡_, _∙_, ap}
+use mathlib.Core.Path.{_∙_, ap}
 use borrow.Author.Needs.{needs}
 use Rattle.decode.proofs.put_received.Statement.{statement}
 use Rattle.decode.proofs.put_received.Tie as tie
-use Rattle.decode.proofs.put_received.Reads as reads
-use Rattle.decode.proofs.put_received.Lts as lts
-use Rattle.decode.proofs.copy_data.Reads as copy-data-reads
-use Rattle.decode.proofs.received.received_length.Reads as received-length-reads
-use Rattle.decode.proofs.received.received_place.Reads as received-place-reads
 
 received-length-requires : tie.Need-received-length-requires
 received-length-requires c κs = search needs

@@ -2,11 +2,6 @@ use Rattle.decode.proofs.Copies.{copy-asks, copied}
 use borrow.Author.Needs.{needs}
 use Rattle.decode.proofs.put_sent.Statement.{statement}
 use Rattle.decode.proofs.put_sent.Tie as tie
-use Rattle.decode.proofs.put_sent.Reads as reads
-use Rattle.decode.proofs.put_sent.Lts as lts
-use Rattle.decode.proofs.copy_data.Reads as copy-data-reads
-use Rattle.decode.proofs.sent.sent_length.Reads as sent-length-reads
-use Rattle.decode.proofs.sent.sent_place.Reads as sent-place-reads
 
 sent-length-requires : tie.Need-sent-length-requires
 sent-length-requires c κs = search needs

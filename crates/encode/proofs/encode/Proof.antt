@@ -3,11 +3,6 @@ use Rattle.encode.specs.Encode.{message}
 use Rattle.encode.proofs.EntryLaws.{sane-shape, wrote-at-table}
 use Rattle.encode.proofs.encode.Statement.{statement}
 use Rattle.encode.proofs.encode.Tie as tie
-use Rattle.encode.proofs.encode.Reads as reads
-use Rattle.encode.proofs.encode.Lts as lts
-use Rattle.encode.proofs.encode_by.Reads as encode-by-reads
-use Rattle.trace.proofs.protocol.is_forbidden.Reads as is-forbidden-reads
-use Rattle.trace.proofs.protocol.shape_of.Reads as shape-of-reads
 
 shape-of-requires : tie.Need-shape-of-requires
 shape-of-requires c κs = search needs

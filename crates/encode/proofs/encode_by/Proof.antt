@@ -10,11 +10,6 @@ use Rattle.encode.proofs.EntryLaws.{room-zero, refused-wrote, fields-re
 use borrow.Author.Needs.{needs}
 use Rattle.encode.proofs.encode_by.Statement.{statement}
 use Rattle.encode.proofs.encode_by.Tie as tie
-use Rattle.encode.proofs.encode_by.Reads as reads
-use Rattle.encode.proofs.encode_by.Lts as lts
-use Rattle.encode.proofs.fields_fit.Reads as fields-fit-reads
-use Rattle.encode.proofs.put_trace.Reads as put-trace-reads
-use Rattle.trace.proofs.length.room_by.Reads as room-by-reads
 
 room-by-requires : tie.Need-room-by-requires
 room-by-requires c κs = search needs

@@ -3,11 +3,6 @@ use borrow.Author.Tests.{not-true, not-false}
 use borrow.Author.Needs.{needs}
 use Rattle.encode.proofs.fields_fit.Statement.{statement}
 use Rattle.encode.proofs.fields_fit.Tie as tie
-use Rattle.encode.proofs.fields_fit.Reads as reads
-use Rattle.encode.proofs.fields_fit.Lts as lts
-use Rattle.trace.proofs.valid.address_fits.Reads as address-fits-reads
-use Rattle.trace.proofs.valid.command_fits.Reads as command-fits-reads
-use Rattle.trace.proofs.valid.direction_fits.Reads as direction-fits-reads
 
 address-fits-requires : tie.Need-address-fits-requires
 address-fits-requires c κs = search needs

@@ -5,13 +5,6 @@ use Rattle.encode.proofs.WholeLaws.{write-asks, place-fits, rest-asks, 
 use borrow.Author.Needs.{needs}
 use Rattle.encode.proofs.put_trace.Statement.{statement}
 use Rattle.encode.proofs.put_trace.Tie as tie
-use Rattle.encode.proofs.put_trace.Reads as reads
-use Rattle.encode.proofs.put_trace.Lts as lts
-use Rattle.encode.proofs.trace_pec.pec_of.Reads as pec-of-reads
-use Rattle.encode.proofs.read.put_rest.Reads as put-rest-reads
-use Rattle.encode.proofs.write.first_byte.Reads as first-byte-reads
-use Rattle.encode.proofs.write.put_write_phase.Reads as put-write-phase-reads
-use Rattle.wire.proofs.address.Address.for_read.Reads as for-read-reads
 
 first-byte-requires : tie.Need-first-byte-requires
 first-byte-requires c κs = search needs

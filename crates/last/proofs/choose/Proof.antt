@@ -1,16 +1,10 @@
 use borrow.Author.Needs.{needs}
-use mathlib.Core.Path.{_≡_, refl, sym, _∙_, ap}
-use borrow.Author.Tests.{lt-ltb, le-ltb, lt-leb, le-leb, eq-eqb, ne-eqb, not-true, not-false}
+use mathlib.Core.Path.{refl, sym, _∙_}
+use borrow.Author.Tests.{not-true, not-false}
 use mathlib.Core.Bool.{true, false}
-use native.Mathlib.Omega.{arith}
 use Rattle.last.proofs.Laws.{chosen-is, belongs-in-buffers}
 use Rattle.last.proofs.choose.Statement.{statement}
 use Rattle.last.proofs.choose.Tie as tie
-use Rattle.last.proofs.choose.Reads as reads
-use Rattle.last.proofs.choose.Lts as lts
-use Rattle.last.proofs.is_whole.Reads as is-whole-reads
-use Rattle.trace.proofs.protocol.shape_of.Reads as shape-of-reads
-use Rattle.trace.proofs.shape.has_read.Reads as has-read-reads
 
 is-whole-requires : tie.Need-is-whole-requires
 is-whole-requires c κs = search needs

@@ -1,14 +1,10 @@
 use borrow.Author.Needs.{needs}
-use mathlib.Core.Path.{_≡_, refl, sym, _∙_, ap}
-use borrow.Author.Tests.{lt-ltb, le-ltb, lt-leb, le-leb, eq-eqb, ne-eqb, not-true, not-false}
+use mathlib.Core.Path.{refl, sym, _∙_}
+use borrow.Author.Tests.{lt-ltb, le-ltb, lt-leb, le-leb, not-true, not-false}
 use mathlib.Core.Bool.{true, false}
 use Rattle.last.proofs.Laws.{belongs-is}
 use Rattle.last.proofs.is_whole.Statement.{statement}
 use Rattle.last.proofs.is_whole.Tie as tie
-use Rattle.last.proofs.is_whole.Reads as reads
-use Rattle.last.proofs.is_whole.Lts as lts
-use Rattle.trace.proofs.protocol.shape_of.Reads as shape-of-reads
-use Rattle.trace.proofs.valid.lengths_fit.Reads as lengths-fit-reads
 
 returns : tie.Need-returns
 returns c = belongs-is (c .before .before .args .t) (c .before .before .args .sent) (c .before .before .args .received) _ false _ _ refl (le-ltb _ _ (c .if1 .taken)) refl refl

@@ -1,14 +1,11 @@
 use borrow.Author.Needs.{needs}
-use mathlib.Core.Path.{_≡_, refl, sym, _∙_, ap}
+use mathlib.Core.Path.{sym}
 use mathlib.Core.Bool.{true, false}
 use lib.ListN.{length}
 use lib.Seq.{length-take-le}
 use Rattle.last.proofs.Laws.{the-part, the-place, fits-part}
 use Rattle.last.proofs.last_data.Statement.{statement}
 use Rattle.last.proofs.last_data.Tie as tie
-use Rattle.last.proofs.last_data.Reads as reads
-use Rattle.last.proofs.last_data.Lts as lts
-use Rattle.last.proofs.choose.Reads as choose-reads
 
 choose-requires : tie.Need-choose-requires
 choose-requires c κs = search needs

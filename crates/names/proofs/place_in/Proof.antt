@@ -6,11 +6,6 @@ use Rattle.names.specs.NamesLaws.{place-over, place-here, place-on, plac
 use borrow.Author.Needs.{needs}
 use Rattle.names.proofs.place_in.Statement.{statement}
 use Rattle.names.proofs.place_in.Tie as tie
-use Rattle.names.proofs.place_in.Reads as reads
-use Rattle.names.proofs.place_in.Lts as lts
-use Rattle.text.proofs.word.next_word.Reads as next-word-reads
-use Rattle.text.proofs.word.part.Reads as part-reads
-use Rattle.text.proofs.word.same.Reads as same-reads
 
 abbrev Inv-loop : tie.InvT-loop
 Inv-loop names s at₀ k₀ at k = (k ≤ 255) × (placeIn 255 names s 0 0 ≡ placeIn (255 - k) names s at k)

@@ -2,9 +2,6 @@ use Rattle.names.specs.Names.{protocolNamed}
 use borrow.Author.Needs.{needs}
 use Rattle.names.proofs.protocol_named.Statement.{statement}
 use Rattle.names.proofs.protocol_named.Tie as tie
-use Rattle.names.proofs.protocol_named.Reads as reads
-use Rattle.names.proofs.protocol_named.Lts as lts
-use Rattle.names.proofs.place_in.Reads as place-in-reads
 
 slice-aggregate-place-in : tie.Need-slice-aggregate-place-in
 slice-aggregate-place-in c = search needs

@@ -2,9 +2,6 @@ use borrow.Author.Needs.{needs}
 use Rattle.pairs.specs.PairLaws.{put-none, put-all}
 use Rattle.pairs.proofs.put_pairs.Statement.{statement}
 use Rattle.pairs.proofs.put_pairs.Tie as tie
-use Rattle.pairs.proofs.put_pairs.Reads as reads
-use Rattle.pairs.proofs.put_pairs.Lts as lts
-use Rattle.pairs.proofs.write_pairs.Reads as write-pairs-reads
 
 returns : tie.Need-returns
 returns c = put-none _ _ (c .if1 .taken)

@@ -9,8 +9,6 @@ use Rattle.pairs.specs.Pairs.{symbolsIn}
 use Rattle.pairs.proofs.TurnLaws.{symbols-turn}
 use Rattle.pairs.proofs.read_pairs.Statement.{statement}
 use Rattle.pairs.proofs.read_pairs.Tie as tie
-use Rattle.pairs.proofs.read_pairs.Reads as reads
-use Rattle.pairs.proofs.read_pairs.Lts as lts
 
 abbrev Inv-loop : tie.InvT-loop
 Inv-loop symbols₀ bytes n i₀ symbols i = (i ≤ n) × (length symbols ≡ length symbols₀) × (symbols ≡ onto (symbolsIn i bytes) symbols₀)

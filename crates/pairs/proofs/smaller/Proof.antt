@@ -2,8 +2,6 @@ use borrow.Author.Needs.{needs}
 use borrow.Author.Tests.{lt-ltb, le-ltb}
 use Rattle.pairs.proofs.smaller.Statement.{statement}
 use Rattle.pairs.proofs.smaller.Tie as tie
-use Rattle.pairs.proofs.smaller.Reads as reads
-use Rattle.pairs.proofs.smaller.Lts as lts
 
 returns : tie.Need-returns
 returns c = rw (lt-ltb _ _ (c .if1 .taken)) (search needs)

@@ -10,8 +10,6 @@ use Rattle.pairs.specs.Pairs.{pairsOf}
 use Rattle.pairs.proofs.TurnLaws.{pairs-turn}
 use Rattle.pairs.proofs.write_pairs.Statement.{statement}
 use Rattle.pairs.proofs.write_pairs.Tie as tie
-use Rattle.pairs.proofs.write_pairs.Reads as reads
-use Rattle.pairs.proofs.write_pairs.Lts as lts
 
 abbrev Inv-loop : tie.InvT-loop
 Inv-loop out₀ symbols i₀ out i = (i ≤ length symbols) × (length out ≡ length out₀) × (out ≡ onto (pairsOf (take i symbols)) out₀)

@@ -1,13 +1,6 @@
 use borrow.Author.Needs.{needs}
 use Rattle.passes.proofs.main.Statement.{statement}
 use Rattle.passes.proofs.main.Tie as tie
-use Rattle.passes.proofs.main.Reads as reads
-use Rattle.passes.proofs.main.Lts as lts
-use Rattle.passes.proofs.answers.write_finds.Reads as write-finds-reads
-use Rattle.passes.proofs.go_on.Reads as go-on-reads
-use Rattle.passes.proofs.new_controller.Reads as new-controller-reads
-use Rattle.passes.proofs.script.read_operation.Reads as read-operation-reads
-use Rattle.passes.proofs.script.read_pool.Reads as read-pool-reads
 
 abbrev Inv-loop : tie.InvT-loop
 Inv-loop st₀ turns₀ st turns = Unit

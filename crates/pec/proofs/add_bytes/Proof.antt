@@ -6,9 +6,6 @@ use Rattle.pec.specs.Pec.{pecFrom}
 use Rattle.pec.specs.PecLaws.{pec-turn, pec-end}
 use Rattle.pec.proofs.add_bytes.Statement.{statement}
 use Rattle.pec.proofs.add_bytes.Tie as tie
-use Rattle.pec.proofs.add_bytes.Reads as reads
-use Rattle.pec.proofs.add_bytes.Lts as lts
-use Rattle.pec.proofs.add_byte.Reads as add-byte-reads
 
 abbrev Inv-loop : tie.InvT-loop
 Inv-loop c s z₀ i₀ z i = (i ≤ length s) × (pecFrom c s ≡ pecFrom z (drop i s))

@@ -3,8 +3,6 @@ use borrow.Author.Tests.{lt-ltb, le-ltb}
 use Rattle.pec.specs.Pec.{bitStep}
 use Rattle.pec.proofs.bit.Statement.{statement}
 use Rattle.pec.proofs.bit.Tie as tie
-use Rattle.pec.proofs.bit.Reads as reads
-use Rattle.pec.proofs.bit.Lts as lts
 
 mul-result : tie.Need-mul-result
 mul-result c = search needs

@@ -5,8 +5,6 @@ use borrow.Author.Needs.{needs}
 use Rattle.arbitration.specs.DropOutLaws.{drop-out-in-high-half, drop-out-in-low-half}
 use Rattle.arbitration.proofs.leave.drop_out.Statement.{statement}
 use Rattle.arbitration.proofs.leave.drop_out.Tie as tie
-use Rattle.arbitration.proofs.leave.drop_out.Reads as reads
-use Rattle.arbitration.proofs.leave.drop_out.Lts as lts
 
 add-result : tie.Need-add-result
 add-result c = omega (arith, leading-le 64 (bitXor (c .before .before .before .before .before .args .a .low) (c .before .before .before .before .before .args .b .low)))

@@ -4,10 +4,6 @@ use borrow.Author.Tests.{lt-ltb, le-ltb}
 use Rattle.arbitration.specs.WinLaws.{drop-out-test-below}
 use Rattle.arbitration.proofs.win.beats.Statement.{statement}
 use Rattle.arbitration.proofs.win.beats.Tie as tie
-use Rattle.arbitration.proofs.win.beats.Reads as reads
-use Rattle.arbitration.proofs.win.beats.Lts as lts
-use Rattle.arbitration.proofs.leave.drop_out.Reads as drop-out-reads
-use Rattle.arbitration.proofs.win.is_zero.Reads as is-zero-reads
 
 drop-out-requires : tie.Need-drop-out-requires
 drop-out-requires c κs = search needs

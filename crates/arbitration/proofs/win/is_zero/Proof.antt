@@ -7,8 +7,6 @@ use Rattle.lists.specs.Choice.{not}
 use Rattle.pool.specs.Digits.{digit}
 use Rattle.arbitration.proofs.win.is_zero.Statement.{statement}
 use Rattle.arbitration.proofs.win.is_zero.Tie as tie
-use Rattle.arbitration.proofs.win.is_zero.Reads as reads
-use Rattle.arbitration.proofs.win.is_zero.Lts as lts
 
 shr-result : tie.Need-shr-result
 shr-result c = search needs

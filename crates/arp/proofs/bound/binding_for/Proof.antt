@@ -1,8 +1,6 @@
 use borrow.Author.Needs.{needs}
 use Rattle.arp.proofs.bound.binding_for.Statement.{statement}
 use Rattle.arp.proofs.bound.binding_for.Tie as tie
-use Rattle.arp.proofs.bound.binding_for.Reads as reads
-use Rattle.arp.proofs.bound.binding_for.Lts as lts
 
 returns : tie.Need-returns
 returns c = search needs

@@ -1,12 +1,12 @@
 use Prim.Native.Nat.{ℕ, _/_}
-use mathlib.Core.Path.{_≡_, refl, sym, ap, _∙_}
-use mathlib.Core.Bool.{Bool, true, false}
-use borrow.Author.Tests.{lt-ltb, le-ltb, le-leb, lt-leb, eq-eqb, ne-eqb, not-true, not-false}
+use mathlib.Core.Path.{_≡_, sym, ap, _∙_}
+use mathlib.Core.Bool.{true, false}
+use borrow.Author.Tests.{eq-eqb, ne-eqb}
 use Rattle.pool.specs.Free.{lowestFree}
 use Rattle.pool.specs.Pools.{member}
 use Rattle.pool.specs.declared.Pool.{Pool}
 use Rattle.pool.specs.declared.free.Free.{Free}
-use Rattle.pool.specs.declared.free.Free.the-variants.{At, AllUsed}
+use Rattle.pool.specs.declared.free.Free.the-variants.{At}
 use Rattle.udid.specs.Udids.{isFixed}
 use Rattle.udid.specs.declared.Udid.{Udid}
 use Rattle.wire.specs.declared.address.Address.{Address}
@@ -14,12 +14,6 @@ use Rattle.arp.specs.Controller.{ownAddress, chosen}
 use borrow.Author.Needs.{needs}
 use Rattle.arp.proofs.choose.choose.Statement.{statement}
 use Rattle.arp.proofs.choose.choose.Tie as tie
-use Rattle.arp.proofs.choose.choose.Reads as reads
-use Rattle.arp.proofs.choose.choose.Lts as lts
-use Rattle.pool.proofs.Pool.has.Reads as has-reads
-use Rattle.pool.proofs.Pool.lowest_free.Reads as lowest-free-reads
-use Rattle.udid.proofs.Udid.is_fixed.Reads as is-fixed-reads
-use Rattle.wire.proofs.address.Address.from_wire.Reads as from-wire-reads
 
 -- a reply that names an address
 module _ (p : Pool) (u : Udid) (b : ℕ) (a : Address) (own : a .0 ≡ b / 2) (given : b ≡ 255 → ⊥) where

@@ -1,10 +1,6 @@
 use borrow.Author.Needs.{needs}
 use Rattle.bindings.proofs.bound.with_entry.Statement.{statement}
 use Rattle.bindings.proofs.bound.with_entry.Tie as tie
-use Rattle.bindings.proofs.bound.with_entry.Reads as reads
-use Rattle.bindings.proofs.bound.with_entry.Lts as lts
-use Rattle.bindings.proofs.entry.Entry.is_bound.Reads as is-bound-reads
-use Rattle.pool.proofs.Pool.with.Reads as with-reads
 
 is-bound-requires : tie.Need-is-bound-requires
 is-bound-requires c κs = search needs

@@ -6,10 +6,6 @@ use Rattle.bindings.specs.BufferLaws.{put-above, put-below}
 use borrow.Author.Needs.{needs}
 use Rattle.bindings.proofs.buffer.put_entry.Statement.{statement}
 use Rattle.bindings.proofs.buffer.put_entry.Tie as tie
-use Rattle.bindings.proofs.buffer.put_entry.Reads as reads
-use Rattle.bindings.proofs.buffer.put_entry.Lts as lts
-use Rattle.bindings.proofs.entry.Entry.udid.Reads as udid-reads
-use Rattle.udid.proofs.Udid.put_bytes.Reads as put-bytes-reads
 
 returns : tie.Need-returns
 returns c = let s = c .before .before .before .args in sym (put-above (s .out .now) (s .a .0) (s .e) (c .if1 .taken))

@@ -3,9 +3,6 @@ use Rattle.bindings.specs.BufferLaws.{read-above, read-below}
 use borrow.Author.Needs.{needs}
 use Rattle.bindings.proofs.buffer.udid_at.Statement.{statement}
 use Rattle.bindings.proofs.buffer.udid_at.Tie as tie
-use Rattle.bindings.proofs.buffer.udid_at.Reads as reads
-use Rattle.bindings.proofs.buffer.udid_at.Lts as lts
-use Rattle.udid.proofs.Udid.from_bytes.Reads as from-bytes-reads
 
 returns : tie.Need-returns
 returns c = sym (read-above _ _ (c .if1 .taken))

@@ -1,4 +1,4 @@
-use mathlib.Core.Path.{_≡_, sym, ap, _∙_, subst}
+use mathlib.Core.Path.{sym, ap, _∙_, subst}
 use denote.Ref.{now}
 use Rattle.commands.specs.declared.command.Handed.{Handed}
 use Rattle.targets.specs.Records.{targetsOf, recordsWith}
@@ -8,9 +8,6 @@ use Rattle.bus.specs.TurnLaws.{own-targets-stored}
 use borrow.Author.Needs.{needs}
 use Rattle.bus.proofs.act.act.Statement.{statement}
 use Rattle.bus.proofs.act.act.Tie as tie
-use Rattle.bus.proofs.act.act.Reads as reads
-use Rattle.bus.proofs.act.act.Lts as lts
-use Rattle.bus.proofs.act.act_on.Reads as act-on-reads
 
 enum-known-k : tie.Need-enum-known-k
 enum-known-k c = search needs

@@ -1,19 +1,13 @@
-use mathlib.Core.Path.{_≡_, sym, ap, _∙_}
-use mathlib.Core.List.{List}
+use mathlib.Core.Path.{sym, ap, _∙_}
 use denote.Ref.{now}
 use Rattle.commands.specs.declared.command.Command.{Command}
 use Rattle.commands.specs.declared.command.Handed.the-variants.{Send}
 use Rattle.targets.specs.Records.{targetsOf, recordsWith}
-use Rattle.targets.specs.Target.{Target}
 use Rattle.rule.specs.Acted.{acted}
 use Rattle.bus.specs.TurnLaws.{own-targets-stored, assign-acted}
 use borrow.Author.Needs.{needs}
 use Rattle.bus.proofs.act.act_on.Statement.{statement}
 use Rattle.bus.proofs.act.act_on.Tie as tie
-use Rattle.bus.proofs.act.act_on.Reads as reads
-use Rattle.bus.proofs.act.act_on.Lts as lts
-use Rattle.targets.proofs.assign.assign.Reads as assign-reads
-use Rattle.targets.proofs.prepare.prepare.Reads as prepare-reads
 
 enum-told : tie.Need-enum-told
 enum-told c = search needs

@@ -1,27 +1,18 @@
 use borrow.Author.Tests.{not-true, not-false}
-use Prim.Native.Nat.{ℕ, suc, _+_, _-_, _≤_, _<_}
-use mathlib.Core.Path.{_≡_, refl, sym, ap, _∙_}
-use mathlib.Core.Bool.{Bool, true, false}
+use Prim.Native.Nat.{suc, _+_, _-_, _≤_}
+use mathlib.Core.Path.{_≡_, sym, ap, _∙_}
 use native.Mathlib.Omega.{arith}
 use borrow.Author.Needs.{needs}
-use lib.ListN.{length}
 use lib.Seq.{length-take-le}
 use denote.Ref.{now}
 use Rattle.arp.specs.Controller.{started}
 use Rattle.lists.specs.EachLaws.{all-bytes}
-use Rattle.bus.specs.Turn.{isSent, worldOf}
+use Rattle.bus.specs.Turn.{worldOf}
 use Rattle.bus.specs.TurnLaws.{sent-matches}
 use Rattle.bus.specs.Going.{Running}
 use Rattle.bus.specs.GoingLaws.{running-first, running-next, running-last, running-still}
 use Rattle.bus.proofs.pass.run_pass.Statement.{statement}
 use Rattle.bus.proofs.pass.run_pass.Tie as tie
-use Rattle.bus.proofs.pass.run_pass.Reads as reads
-use Rattle.bus.proofs.pass.run_pass.Lts as lts
-use Rattle.arp.proofs.state.Controller.new.Reads as new-reads
-use Rattle.arp.proofs.state.Controller.start.Reads as start-reads
-use Rattle.arp.proofs.state.Controller.step.Reads as step-reads
-use Rattle.bus.proofs.pass.is_sent.Reads as is-sent-reads
-use Rattle.bus.proofs.turn.send.Reads as send-reads
 
 abbrev Inv-loop : tie.InvT-loop
 Inv-loop records₀ st₀ i₀ records st i = (i ≤ 300) × Running (worldOf st₀ records₀) records₀ (300 - i) st records

@@ -9,11 +9,6 @@ use Rattle.report.specs.BufferEndLaws.{long-enough}
 use borrow.Author.Needs.{needs}
 use Rattle.bus.proofs.run.run_admitted.Statement.{statement}
 use Rattle.bus.proofs.run.run_admitted.Tie as tie
-use Rattle.bus.proofs.run.run_admitted.Reads as reads
-use Rattle.bus.proofs.run.run_admitted.Lts as lts
-use Rattle.report.proofs.answer.report.Reads as report-reads
-use Rattle.report.proofs.bindings_of.put_bindings.Reads as put-bindings-reads
-use Rattle.bus.proofs.pass.run_pass.Reads as run-pass-reads
 
 run-pass-requires : tie.Need-run-pass-requires
 run-pass-requires c κs = search needs

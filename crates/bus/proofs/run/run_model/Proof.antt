@@ -5,11 +5,6 @@ use Rattle.targets.specs.declared.admit.Checked.the-variants.{BadLength, Malfor
 use borrow.Author.Needs.{needs}
 use Rattle.bus.proofs.run.run_model.Statement.{statement}
 use Rattle.bus.proofs.run.run_model.Tie as tie
-use Rattle.bus.proofs.run.run_model.Reads as reads
-use Rattle.bus.proofs.run.run_model.Lts as lts
-use Rattle.report.proofs.answer.refused.Reads as refused-reads
-use Rattle.bus.proofs.run.run_admitted.Reads as run-admitted-reads
-use Rattle.targets.proofs.admit.check.Reads as check-reads
 
 refused-requires : tie.Need-refused-requires
 refused-requires c κs = search needs

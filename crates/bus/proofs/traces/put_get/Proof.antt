@@ -1,22 +1,16 @@
-use Prim.Native.Nat.{ℕ, _+_, _*_, _-_, _≤_, _<_}
+use Prim.Native.Nat.{ℕ, _-_}
 use mathlib.Core.Path.{_≡_, sym, ap, _∙_}
 use mathlib.Core.List.{List}
 use native.Mathlib.Omega.{arith}
-use lib.ListN.{length, take, drop}
+use lib.ListN.{take}
 use denote.Ref.{now}
 use Rattle.commands.specs.SendingLaws.{get-sent}
-use Rattle.commands.specs.Requests.{traceOf}
 use Rattle.lists.specs.EachLaws.{all-bytes}
 use Rattle.bus.specs.Turn.{lentPart}
-use Rattle.bus.specs.TurnLaws.{get-silence, get-winner, get-winner-part, get-length, winner-inside, winner-part-lent}
+use Rattle.bus.specs.TurnLaws.{get-silence, get-winner-part, get-length, winner-inside, winner-part-lent}
 use borrow.Author.Needs.{needs}
 use Rattle.bus.proofs.traces.put_get.Statement.{statement}
 use Rattle.bus.proofs.traces.put_get.Tie as tie
-use Rattle.bus.proofs.traces.put_get.Reads as reads
-use Rattle.bus.proofs.traces.put_get.Lts as lts
-use Rattle.bus.proofs.traces.put_silence.Reads as put-silence-reads
-use Rattle.bus.proofs.traces.put_whole.Reads as put-whole-reads
-use Rattle.targets.proofs.winner.find.Reads as find-reads
 
 front : (r : ℕ) (l : List ℕ) → r ≡ 9 → take r l ≡ take 9 l
 front r l e = ap (λ (n : ℕ). take n l) e

@@ -1,5 +1,4 @@
-use Prim.Native.Nat.{ℕ, _≤_}
-use mathlib.Core.Path.{_≡_, sym, _∙_}
+use mathlib.Core.Path.{sym, _∙_}
 use mathlib.Core.List.{[]}
 use native.Mathlib.Omega.{arith}
 use lib.ListN.{length-set}
@@ -10,10 +9,6 @@ use Rattle.bus.proofs.Laws.{four-stored}
 use borrow.Author.Needs.{needs}
 use Rattle.bus.proofs.traces.put_prepare.Statement.{statement}
 use Rattle.bus.proofs.traces.put_prepare.Tie as tie
-use Rattle.bus.proofs.traces.put_prepare.Reads as reads
-use Rattle.bus.proofs.traces.put_prepare.Lts as lts
-use Rattle.bus.proofs.traces.put_whole.Reads as put-whole-reads
-use Rattle.targets.proofs.fields.count.Reads as count-reads
 
 count-requires : tie.Need-count-requires
 count-requires c κs = search needs

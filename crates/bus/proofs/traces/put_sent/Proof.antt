@@ -1,5 +1,4 @@
-use Prim.Native.Nat.{ℕ, _≤_}
-use mathlib.Core.Path.{_≡_, sym, ap, _∙_, subst}
+use mathlib.Core.Path.{sym, ap, _∙_, subst}
 use native.Mathlib.Omega.{arith}
 use denote.Ref.{now}
 use Rattle.targets.specs.Records.{targetsOf}
@@ -11,11 +10,6 @@ use Rattle.bus.specs.TurnLaws.{assign-on-bus, assign-written, assign-len
 use borrow.Author.Needs.{needs}
 use Rattle.bus.proofs.traces.put_sent.Statement.{statement}
 use Rattle.bus.proofs.traces.put_sent.Tie as tie
-use Rattle.bus.proofs.traces.put_sent.Reads as reads
-use Rattle.bus.proofs.traces.put_sent.Lts as lts
-use Rattle.bus.proofs.traces.put_get.Reads as put-get-reads
-use Rattle.bus.proofs.traces.put_prepare.Reads as put-prepare-reads
-use Rattle.bus.proofs.traces.put_whole.Reads as put-whole-reads
 
 enum-told : tie.Need-enum-told
 enum-told c = search needs

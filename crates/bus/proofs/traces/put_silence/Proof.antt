@@ -6,8 +6,6 @@ use Rattle.bus.proofs.Laws.{nine-stored}
 use borrow.Author.Needs.{needs}
 use Rattle.bus.proofs.traces.put_silence.Statement.{statement}
 use Rattle.bus.proofs.traces.put_silence.Tie as tie
-use Rattle.bus.proofs.traces.put_silence.Reads as reads
-use Rattle.bus.proofs.traces.put_silence.Lts as lts
 
 slice-write-out : tie.Need-slice-write-out
 slice-write-out c = search needs

@@ -1,5 +1,4 @@
-use Prim.Native.Nat.{ℕ, _≤_}
-use mathlib.Core.Path.{_≡_, sym, ap, _∙_, subst}
+use mathlib.Core.Path.{sym, ap, _∙_, subst}
 use native.Mathlib.Omega.{arith}
 use denote.Ref.{now}
 use Rattle.commands.specs.declared.command.Handed.{Handed}
@@ -10,9 +9,6 @@ use Rattle.bus.specs.Turn.{Reaches}
 use borrow.Author.Needs.{needs}
 use Rattle.bus.proofs.traces.put_trace.Statement.{statement}
 use Rattle.bus.proofs.traces.put_trace.Tie as tie
-use Rattle.bus.proofs.traces.put_trace.Reads as reads
-use Rattle.bus.proofs.traces.put_trace.Lts as lts
-use Rattle.bus.proofs.traces.put_sent.Reads as put-sent-reads
 
 enum-known-k : tie.Need-enum-known-k
 enum-known-k c = search needs

@@ -3,9 +3,6 @@ use Rattle.bus.proofs.Laws.{sent-front, sent-allowed, sent-roomy}
 use borrow.Author.Needs.{needs}
 use Rattle.bus.proofs.traces.put_whole.Statement.{statement}
 use Rattle.bus.proofs.traces.put_whole.Tie as tie
-use Rattle.bus.proofs.traces.put_whole.Reads as reads
-use Rattle.bus.proofs.traces.put_whole.Lts as lts
-use Rattle.commands.proofs.request.put_command.Reads as put-command-reads
 
 put-command-requires : tie.Need-put-command-requires
 put-command-requires c κs = search needs

@@ -1,12 +1,8 @@
 use borrow.Author.Needs.{needs}
-use mathlib.Core.Path.{_≡_, ap, _∙_}
+use mathlib.Core.Path.{ap, _∙_}
 use Rattle.c_codec.specs.Numbers.{bit}
 use Rattle.c_api.proofs.ground.hb_is_alert_response.Statement.{statement}
 use Rattle.c_api.proofs.ground.hb_is_alert_response.Tie as tie
-use Rattle.c_api.proofs.ground.hb_is_alert_response.Reads as reads
-use Rattle.c_api.proofs.ground.hb_is_alert_response.Lts as lts
-use Rattle.c_codec.proofs.numbers.as_number.Reads as as-number-reads
-use Rattle.wire.proofs.address.Address.is_alert_response.Reads as is-alert-response-reads
 
 is-alert-response-requires : tie.Need-is-alert-response-requires
 is-alert-response-requires c κs = search needs

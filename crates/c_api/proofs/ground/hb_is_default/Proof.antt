@@ -1,12 +1,8 @@
 use borrow.Author.Needs.{needs}
-use mathlib.Core.Path.{_≡_, ap, _∙_}
+use mathlib.Core.Path.{ap, _∙_}
 use Rattle.c_codec.specs.Numbers.{bit}
 use Rattle.c_api.proofs.ground.hb_is_default.Statement.{statement}
 use Rattle.c_api.proofs.ground.hb_is_default.Tie as tie
-use Rattle.c_api.proofs.ground.hb_is_default.Reads as reads
-use Rattle.c_api.proofs.ground.hb_is_default.Lts as lts
-use Rattle.c_codec.proofs.numbers.as_number.Reads as as-number-reads
-use Rattle.wire.proofs.address.Address.is_default.Reads as is-default-reads
 
 is-default-requires : tie.Need-is-default-requires
 is-default-requires c κs = search needs

@@ -1,12 +1,8 @@
 use borrow.Author.Needs.{needs}
-use mathlib.Core.Path.{_≡_, ap, _∙_}
+use mathlib.Core.Path.{ap, _∙_}
 use Rattle.c_codec.specs.Numbers.{bit}
 use Rattle.c_api.proofs.ground.hb_is_host.Statement.{statement}
 use Rattle.c_api.proofs.ground.hb_is_host.Tie as tie
-use Rattle.c_api.proofs.ground.hb_is_host.Reads as reads
-use Rattle.c_api.proofs.ground.hb_is_host.Lts as lts
-use Rattle.c_codec.proofs.numbers.as_number.Reads as as-number-reads
-use Rattle.wire.proofs.address.Address.is_host.Reads as is-host-reads
 
 is-host-requires : tie.Need-is-host-requires
 is-host-requires c κs = search needs

@@ -1,12 +1,8 @@
 use borrow.Author.Needs.{needs}
-use mathlib.Core.Path.{_≡_, ap, _∙_}
+use mathlib.Core.Path.{ap, _∙_}
 use Rattle.c_codec.specs.Numbers.{bit}
 use Rattle.c_api.proofs.ground.hb_is_reserved.Statement.{statement}
 use Rattle.c_api.proofs.ground.hb_is_reserved.Tie as tie
-use Rattle.c_api.proofs.ground.hb_is_reserved.Reads as reads
-use Rattle.c_api.proofs.ground.hb_is_reserved.Lts as lts
-use Rattle.c_codec.proofs.numbers.as_number.Reads as as-number-reads
-use Rattle.wire.proofs.address.Address.is_reserved.Reads as is-reserved-reads
 
 is-reserved-requires : tie.Need-is-reserved-requires
 is-reserved-requires c κs = search needs

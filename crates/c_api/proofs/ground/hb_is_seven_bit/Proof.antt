@@ -1,12 +1,8 @@
 use borrow.Author.Needs.{needs}
-use mathlib.Core.Path.{_≡_, ap, _∙_}
+use mathlib.Core.Path.{ap, _∙_}
 use Rattle.c_codec.specs.Numbers.{bit}
 use Rattle.c_api.proofs.ground.hb_is_seven_bit.Statement.{statement}
 use Rattle.c_api.proofs.ground.hb_is_seven_bit.Tie as tie
-use Rattle.c_api.proofs.ground.hb_is_seven_bit.Reads as reads
-use Rattle.c_api.proofs.ground.hb_is_seven_bit.Lts as lts
-use Rattle.c_codec.proofs.numbers.as_number.Reads as as-number-reads
-use Rattle.wire.proofs.address.Address.is_seven_bit.Reads as is-seven-bit-reads
 
 is-seven-bit-requires : tie.Need-is-seven-bit-requires
 is-seven-bit-requires c κs = search needs

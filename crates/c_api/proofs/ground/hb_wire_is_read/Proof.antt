@@ -1,12 +1,8 @@
 use borrow.Author.Needs.{needs}
-use mathlib.Core.Path.{_≡_, ap, _∙_}
+use mathlib.Core.Path.{ap, _∙_}
 use Rattle.c_codec.specs.Numbers.{bit}
 use Rattle.c_api.proofs.ground.hb_wire_is_read.Statement.{statement}
 use Rattle.c_api.proofs.ground.hb_wire_is_read.Tie as tie
-use Rattle.c_api.proofs.ground.hb_wire_is_read.Reads as reads
-use Rattle.c_api.proofs.ground.hb_wire_is_read.Lts as lts
-use Rattle.c_codec.proofs.numbers.as_number.Reads as as-number-reads
-use Rattle.wire.proofs.address.WireByte.is_read.Reads as is-read-reads
 
 is-read-requires : tie.Need-is-read-requires
 is-read-requires c κs = search needs

@@ -1,15 +1,10 @@
 use borrow.Author.Needs.{needs}
-use mathlib.Core.Path.{_≡_, ap, _∙_}
+use mathlib.Core.Path.{ap, _∙_}
 use Rattle.pool.specs.Pools.{member}
 use Rattle.pool.specs.declared.Pool.{Pool}
 use Rattle.c_codec.specs.Numbers.{bit}
 use Rattle.c_api.proofs.pools.hb_pool_has.Statement.{statement}
 use Rattle.c_api.proofs.pools.hb_pool_has.Tie as tie
-use Rattle.c_api.proofs.pools.hb_pool_has.Reads as reads
-use Rattle.c_api.proofs.pools.hb_pool_has.Lts as lts
-use Rattle.c_codec.proofs.numbers.as_number.Reads as as-number-reads
-use Rattle.c_arp.proofs.parts.pool_in.Reads as pool-in-reads
-use Rattle.pool.proofs.Pool.has.Reads as has-reads
 
 pool-in-requires : tie.Need-pool-in-requires
 pool-in-requires c κs = search needs

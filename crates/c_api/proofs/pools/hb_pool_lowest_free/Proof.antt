@@ -1,13 +1,9 @@
 use borrow.Author.Needs.{needs}
-use mathlib.Core.Path.{_≡_, ap, sym, _∙_}
+use mathlib.Core.Path.{ap, sym, _∙_}
 use Rattle.pool.specs.Free.{lowestFree}
 use Rattle.c_arp.specs.Parts.{freeNumber}
 use Rattle.c_api.proofs.pools.hb_pool_lowest_free.Statement.{statement}
 use Rattle.c_api.proofs.pools.hb_pool_lowest_free.Tie as tie
-use Rattle.c_api.proofs.pools.hb_pool_lowest_free.Reads as reads
-use Rattle.c_api.proofs.pools.hb_pool_lowest_free.Lts as lts
-use Rattle.c_arp.proofs.parts.pool_in.Reads as pool-in-reads
-use Rattle.pool.proofs.Pool.lowest_free.Reads as lowest-free-reads
 
 pool-in-requires : tie.Need-pool-in-requires
 pool-in-requires c κs = search needs

@@ -1,14 +1,9 @@
 use borrow.Author.Needs.{needs}
-use mathlib.Core.Path.{_≡_, ap, ap₂, _∙_}
+use mathlib.Core.Path.{ap, ap₂, _∙_}
 use Rattle.pool.specs.Pools.{unionOf}
 use Rattle.c_arp.specs.Parts.{toldPool}
 use Rattle.c_api.proofs.pools.hb_pool_union.Statement.{statement}
 use Rattle.c_api.proofs.pools.hb_pool_union.Tie as tie
-use Rattle.c_api.proofs.pools.hb_pool_union.Reads as reads
-use Rattle.c_api.proofs.pools.hb_pool_union.Lts as lts
-use Rattle.c_arp.proofs.parts.addresses.Reads as addresses-reads
-use Rattle.c_arp.proofs.parts.pool_in.Reads as pool-in-reads
-use Rattle.pool.proofs.Pool.union.Reads as union-reads
 
 pool-in-requires : tie.Need-pool-in-requires
 pool-in-requires c κs = search needs

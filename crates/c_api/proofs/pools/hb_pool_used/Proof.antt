@@ -1,12 +1,8 @@
 use borrow.Author.Needs.{needs}
-use mathlib.Core.Path.{_≡_, ap, _∙_}
+use mathlib.Core.Path.{ap, _∙_}
 use Rattle.pool.specs.Free.{used}
 use Rattle.c_api.proofs.pools.hb_pool_used.Statement.{statement}
 use Rattle.c_api.proofs.pools.hb_pool_used.Tie as tie
-use Rattle.c_api.proofs.pools.hb_pool_used.Reads as reads
-use Rattle.c_api.proofs.pools.hb_pool_used.Lts as lts
-use Rattle.c_arp.proofs.parts.pool_in.Reads as pool-in-reads
-use Rattle.pool.proofs.Pool.used.Reads as used-reads
 
 pool-in-requires : tie.Need-pool-in-requires
 pool-in-requires c κs = search needs

@@ -1,12 +1,8 @@
 use borrow.Author.Needs.{needs}
-use mathlib.Core.Path.{_≡_, ap, _∙_}
+use mathlib.Core.Path.{ap, _∙_}
 use Rattle.c_arp.specs.Parts.{toldUdid}
 use Rattle.c_api.proofs.udids.hb_udid_from_bytes.Statement.{statement}
 use Rattle.c_api.proofs.udids.hb_udid_from_bytes.Tie as tie
-use Rattle.c_api.proofs.udids.hb_udid_from_bytes.Reads as reads
-use Rattle.c_api.proofs.udids.hb_udid_from_bytes.Lts as lts
-use Rattle.c_arp.proofs.parts.identifier.Reads as identifier-reads
-use Rattle.udid.proofs.Udid.from_bytes.Reads as from-bytes-reads
 
 from-bytes-requires : tie.Need-from-bytes-requires
 from-bytes-requires c κs = search needs

@@ -1,14 +1,9 @@
 use borrow.Author.Needs.{needs}
-use mathlib.Core.Path.{_≡_, ap, ap₂, _∙_}
+use mathlib.Core.Path.{ap, ap₂, _∙_}
 use Rattle.udid.specs.Udids.{isBelow}
 use Rattle.c_codec.specs.Numbers.{bit}
 use Rattle.c_api.proofs.udids.hb_udid_is_below.Statement.{statement}
 use Rattle.c_api.proofs.udids.hb_udid_is_below.Tie as tie
-use Rattle.c_api.proofs.udids.hb_udid_is_below.Reads as reads
-use Rattle.c_api.proofs.udids.hb_udid_is_below.Lts as lts
-use Rattle.c_codec.proofs.numbers.as_number.Reads as as-number-reads
-use Rattle.c_arp.proofs.parts.udid_in.Reads as udid-in-reads
-use Rattle.udid.proofs.Udid.is_below.Reads as is-below-reads
 
 udid-in-requires : tie.Need-udid-in-requires
 udid-in-requires c κs = search needs

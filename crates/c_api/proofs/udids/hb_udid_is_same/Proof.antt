@@ -1,14 +1,9 @@
 use borrow.Author.Needs.{needs}
-use mathlib.Core.Path.{_≡_, ap, ap₂, _∙_}
+use mathlib.Core.Path.{ap, ap₂, _∙_}
 use Rattle.udid.specs.Udids.{sameUdid}
 use Rattle.c_codec.specs.Numbers.{bit}
 use Rattle.c_api.proofs.udids.hb_udid_is_same.Statement.{statement}
 use Rattle.c_api.proofs.udids.hb_udid_is_same.Tie as tie
-use Rattle.c_api.proofs.udids.hb_udid_is_same.Reads as reads
-use Rattle.c_api.proofs.udids.hb_udid_is_same.Lts as lts
-use Rattle.c_codec.proofs.numbers.as_number.Reads as as-number-reads
-use Rattle.c_arp.proofs.parts.udid_in.Reads as udid-in-reads
-use Rattle.udid.proofs.Udid.is_same.Reads as is-same-reads
 
 udid-in-requires : tie.Need-udid-in-requires
 udid-in-requires c κs = search needs

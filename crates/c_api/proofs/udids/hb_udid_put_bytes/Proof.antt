@@ -1,13 +1,9 @@
 use borrow.Author.Needs.{needs}
-use mathlib.Core.Path.{_≡_, ap, _∙_}
+use mathlib.Core.Path.{ap, _∙_}
 use Rattle.udid.specs.Bytes.{udidBytes, putAt}
 use Rattle.udid.specs.declared.Udid.{Udid}
 use Rattle.c_api.proofs.udids.hb_udid_put_bytes.Statement.{statement}
 use Rattle.c_api.proofs.udids.hb_udid_put_bytes.Tie as tie
-use Rattle.c_api.proofs.udids.hb_udid_put_bytes.Reads as reads
-use Rattle.c_api.proofs.udids.hb_udid_put_bytes.Lts as lts
-use Rattle.c_arp.proofs.parts.udid_in.Reads as udid-in-reads
-use Rattle.udid.proofs.Udid.put_bytes.Reads as put-bytes-reads
 
 udid-in-requires : tie.Need-udid-in-requires
 udid-in-requires c κs = search needs

@@ -1,16 +1,11 @@
 use borrow.Author.Needs.{needs}
-use mathlib.Core.Path.{_≡_, ap, _∙_}
+use mathlib.Core.Path.{ap, _∙_}
 use Rattle.pool.specs.Start.{startingPool}
 use Rattle.pool.specs.declared.Pool.{Pool}
 use Rattle.targets.specs.Refusals.{checkedList}
 use Rattle.c_arp.specs.Check.{toldChecked}
 use Rattle.c_arp.proofs.check.check_targets.Statement.{statement}
 use Rattle.c_arp.proofs.check.check_targets.Tie as tie
-use Rattle.c_arp.proofs.check.check_targets.Reads as reads
-use Rattle.c_arp.proofs.check.check_targets.Lts as lts
-use Rattle.c_arp.proofs.check.told_checked.Reads as told-checked-reads
-use Rattle.c_arp.proofs.parts.pool_in.Reads as pool-in-reads
-use Rattle.targets.proofs.admit.check.Reads as check-reads
 
 pool-in-requires : tie.Need-pool-in-requires
 pool-in-requires c κs = search needs

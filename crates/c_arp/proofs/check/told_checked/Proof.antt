@@ -1,11 +1,8 @@
 use borrow.Author.Needs.{needs}
-use mathlib.Core.Path.{_≡_, ap, sym, _∙_}
+use mathlib.Core.Path.{ap, sym, _∙_}
 use Rattle.c_arp.specs.Check.{toldChecked}
 use Rattle.c_arp.proofs.check.told_checked.Statement.{statement}
 use Rattle.c_arp.proofs.check.told_checked.Tie as tie
-use Rattle.c_arp.proofs.check.told_checked.Reads as reads
-use Rattle.c_arp.proofs.check.told_checked.Lts as lts
-use Rattle.c_arp.proofs.check.checked.Reads as checked-reads
 
 enum-told : tie.Need-enum-told
 enum-told c = search needs

@@ -1,9 +1,6 @@
-use borrow.Author.Needs.{needs}
 use borrow.Author.Tests.{eq-eqb, ne-eqb}
 use Rattle.c_arp.proofs.kinds.command_of.Statement.{statement}
 use Rattle.c_arp.proofs.kinds.command_of.Tie as tie
-use Rattle.c_arp.proofs.kinds.command_of.Reads as reads
-use Rattle.c_arp.proofs.kinds.command_of.Lts as lts
 
 returns : tie.Need-returns
 returns c = rw (eq-eqb _ _ (c .if1 .taken))

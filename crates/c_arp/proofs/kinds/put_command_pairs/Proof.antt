@@ -1,5 +1,5 @@
 use borrow.Author.Needs.{needs}
-use mathlib.Core.Path.{_≡_, refl, sym, _∙_, ap}
+use mathlib.Core.Path.{refl, sym, _∙_, ap}
 use native.Mathlib.Omega.{arith}
 use lib.Seq.{length-take-le}
 use Rattle.lists.specs.EachLaws.{all-bytes}
@@ -8,13 +8,6 @@ use Rattle.c_arp.specs.Commands.{commandOf}
 use Rattle.c_arp.proofs.CommandLaws.{command-refused, command-small, command-short, command-done}
 use Rattle.c_arp.proofs.kinds.put_command_pairs.Statement.{statement}
 use Rattle.c_arp.proofs.kinds.put_command_pairs.Tie as tie
-use Rattle.c_arp.proofs.kinds.put_command_pairs.Reads as reads
-use Rattle.c_arp.proofs.kinds.put_command_pairs.Lts as lts
-use Rattle.commands.proofs.request.put_command.Reads as put-command-reads
-use Rattle.c_arp.proofs.kinds.command_of.Reads as command-of-reads
-use Rattle.c_arp.proofs.parts.udid_in.Reads as udid-in-reads
-use Rattle.c_codec.proofs.codec.written.Reads as written-reads
-use Rattle.pairs.proofs.put_pairs.Reads as put-pairs-reads
 
 udid-in-requires : tie.Need-udid-in-requires
 udid-in-requires c κs = search needs

@@ -1,9 +1,6 @@
 use borrow.Author.Needs.{needs}
 use Rattle.c_arp.proofs.kinds.said.Statement.{statement}
 use Rattle.c_arp.proofs.kinds.said.Tie as tie
-use Rattle.c_arp.proofs.kinds.said.Reads as reads
-use Rattle.c_arp.proofs.kinds.said.Lts as lts
-use Rattle.c_arp.proofs.parts.identifier.Reads as identifier-reads
 
 cast-t6 : tie.Need-cast-t6
 cast-t6 c = search needs

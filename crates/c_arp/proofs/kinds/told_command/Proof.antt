@@ -1,10 +1,6 @@
 use borrow.Author.Needs.{needs}
 use Rattle.c_arp.proofs.kinds.told_command.Statement.{statement}
 use Rattle.c_arp.proofs.kinds.told_command.Tie as tie
-use Rattle.c_arp.proofs.kinds.told_command.Reads as reads
-use Rattle.c_arp.proofs.kinds.told_command.Lts as lts
-use Rattle.c_arp.proofs.kinds.told_end.Reads as told-end-reads
-use Rattle.c_arp.proofs.kinds.told_sent.Reads as told-sent-reads
 
 enum-known-k : tie.Need-enum-known-k
 enum-known-k c = search needs

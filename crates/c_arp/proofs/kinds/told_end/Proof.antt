@@ -1,9 +1,6 @@
 use borrow.Author.Needs.{needs}
 use Rattle.c_arp.proofs.kinds.told_end.Statement.{statement}
 use Rattle.c_arp.proofs.kinds.told_end.Tie as tie
-use Rattle.c_arp.proofs.kinds.told_end.Reads as reads
-use Rattle.c_arp.proofs.kinds.told_end.Lts as lts
-use Rattle.c_arp.proofs.kinds.said.Reads as said-reads
 
 enum-told : tie.Need-enum-told
 enum-told c = search needs

@@ -1,9 +1,6 @@
 use borrow.Author.Needs.{needs}
 use Rattle.c_arp.proofs.kinds.told_sent.Statement.{statement}
 use Rattle.c_arp.proofs.kinds.told_sent.Tie as tie
-use Rattle.c_arp.proofs.kinds.told_sent.Reads as reads
-use Rattle.c_arp.proofs.kinds.told_sent.Lts as lts
-use Rattle.c_arp.proofs.kinds.said.Reads as said-reads
 
 enum-told : tie.Need-enum-told
 enum-told c = search needs

@@ -2,12 +2,6 @@ use borrow.Author.Needs.{needs}
 use Rattle.c_arp.proofs.ModelLaws.{told-model}
 use Rattle.c_arp.proofs.model.model_run.Statement.{statement}
 use Rattle.c_arp.proofs.model.model_run.Tie as tie
-use Rattle.c_arp.proofs.model.model_run.Reads as reads
-use Rattle.c_arp.proofs.model.model_run.Lts as lts
-use Rattle.bus.proofs.run.run_model.Reads as run-model-reads
-use Rattle.c_arp.proofs.parts.addresses.Reads as addresses-reads
-use Rattle.c_arp.proofs.parts.identifier.Reads as identifier-reads
-use Rattle.c_arp.proofs.parts.pool_in.Reads as pool-in-reads
 
 pool-in-requires : tie.Need-pool-in-requires
 pool-in-requires c κs = search needs

@@ -1,9 +1,6 @@
 use borrow.Author.Needs.{needs}
 use Rattle.c_arp.proofs.pass.found.Statement.{statement}
 use Rattle.c_arp.proofs.pass.found.Tie as tie
-use Rattle.c_arp.proofs.pass.found.Reads as reads
-use Rattle.c_arp.proofs.pass.found.Lts as lts
-use Rattle.c_arp.proofs.parts.identifier.Reads as identifier-reads
 
 identifier-requires : tie.Need-identifier-requires
 identifier-requires c κs = search needs

@@ -1,16 +1,11 @@
 use borrow.Author.Needs.{needs}
-use mathlib.Core.Path.{_≡_, _∙_, ap}
+use mathlib.Core.Path.{_∙_, ap}
 use Rattle.pool.specs.declared.Pool.{Pool}
 use Rattle.arp.specs.declared.state.Stepped.{Stepped}
 use Rattle.c_arp.specs.Commands.{toldCommand}
 use Rattle.c_arp.specs.Pass.{passOver}
 use Rattle.c_arp.proofs.pass.pass_command.Statement.{statement}
 use Rattle.c_arp.proofs.pass.pass_command.Tie as tie
-use Rattle.c_arp.proofs.pass.pass_command.Reads as reads
-use Rattle.c_arp.proofs.pass.pass_command.Lts as lts
-use Rattle.c_arp.proofs.kinds.told_command.Reads as told-command-reads
-use Rattle.c_arp.proofs.parts.pool_in.Reads as pool-in-reads
-use Rattle.c_arp.proofs.pass.run_pass.Reads as run-pass-reads
 
 pool-in-requires : tie.Need-pool-in-requires
 pool-in-requires c κs = search needs

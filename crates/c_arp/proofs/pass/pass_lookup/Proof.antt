@@ -1,17 +1,11 @@
 use borrow.Author.Needs.{needs}
-use mathlib.Core.Path.{_≡_, _∙_, ap}
+use mathlib.Core.Path.{_∙_, ap}
 use Rattle.pool.specs.declared.Pool.{Pool}
 use Rattle.arp.specs.Lookup.{lookedUp}
 use Rattle.arp.specs.declared.state.Stepped.{Stepped}
 use Rattle.c_arp.specs.Pass.{passOver, toldFound}
 use Rattle.c_arp.proofs.pass.pass_lookup.Statement.{statement}
 use Rattle.c_arp.proofs.pass.pass_lookup.Tie as tie
-use Rattle.c_arp.proofs.pass.pass_lookup.Reads as reads
-use Rattle.c_arp.proofs.pass.pass_lookup.Lts as lts
-use Rattle.arp.proofs.state.Controller.lookup.Reads as lookup-reads
-use Rattle.c_arp.proofs.parts.pool_in.Reads as pool-in-reads
-use Rattle.c_arp.proofs.pass.run_pass.Reads as run-pass-reads
-use Rattle.c_arp.proofs.pass.told_found.Reads as told-found-reads
 
 pool-in-requires : tie.Need-pool-in-requires
 pool-in-requires c κs = search needs

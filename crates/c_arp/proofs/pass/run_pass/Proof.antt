@@ -6,12 +6,6 @@ use Rattle.c_arp.specs.Pass.{tracesIn, stepsOver}
 use Rattle.c_arp.proofs.PassLaws.{Leads, leads-first, leads-stop, leads-end, from-start, leads-turn}
 use Rattle.c_arp.proofs.pass.run_pass.Statement.{statement}
 use Rattle.c_arp.proofs.pass.run_pass.Tie as tie
-use Rattle.c_arp.proofs.pass.run_pass.Reads as reads
-use Rattle.c_arp.proofs.pass.run_pass.Lts as lts
-use Rattle.arp.proofs.state.Controller.new.Reads as new-reads
-use Rattle.arp.proofs.state.Controller.start.Reads as start-reads
-use Rattle.c_arp.proofs.pass.step_on.Reads as step-on-reads
-use Rattle.c_arp.proofs.pass.symbols_at.Reads as symbols-at-reads
 
 abbrev Inv-loop : tie.InvT-loop
 Inv-loop bytes st₀ at₀ st at = (at ≤ length bytes) × Leads bytes (stepsOver st₀ (tracesIn (length bytes) bytes)) st at

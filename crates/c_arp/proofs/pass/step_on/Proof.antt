@@ -1,14 +1,10 @@
 use borrow.Author.Needs.{needs}
-use mathlib.Core.Path.{_≡_, refl, sym, _∙_}
+use mathlib.Core.Path.{refl, sym, _∙_}
 use native.Mathlib.Omega.{arith}
 use lib.Seq.{length-take-le}
 use Rattle.c_arp.proofs.PassLaws.{step-on-front}
 use Rattle.c_arp.proofs.pass.step_on.Statement.{statement}
 use Rattle.c_arp.proofs.pass.step_on.Tie as tie
-use Rattle.c_arp.proofs.pass.step_on.Reads as reads
-use Rattle.c_arp.proofs.pass.step_on.Lts as lts
-use Rattle.arp.proofs.state.Controller.step.Reads as step-reads
-use Rattle.pairs.proofs.get_pairs.Reads as get-pairs-reads
 
 slice-aggregate-get-pairs : tie.Need-slice-aggregate-get-pairs
 slice-aggregate-get-pairs c = search needs

@@ -4,8 +4,6 @@ use native.Mathlib.Omega.{arith}
 use Rattle.c_arp.proofs.PassLaws.{counted-end, counted-cut, counted-whole}
 use Rattle.c_arp.proofs.pass.symbols_at.Statement.{statement}
 use Rattle.c_arp.proofs.pass.symbols_at.Tie as tie
-use Rattle.c_arp.proofs.pass.symbols_at.Reads as reads
-use Rattle.c_arp.proofs.pass.symbols_at.Lts as lts
 
 sub-left : tie.Need-sub-left
 sub-left c = search needs

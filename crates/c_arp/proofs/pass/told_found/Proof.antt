@@ -1,9 +1,6 @@
 use borrow.Author.Needs.{needs}
 use Rattle.c_arp.proofs.pass.told_found.Statement.{statement}
 use Rattle.c_arp.proofs.pass.told_found.Tie as tie
-use Rattle.c_arp.proofs.pass.told_found.Reads as reads
-use Rattle.c_arp.proofs.pass.told_found.Lts as lts
-use Rattle.c_arp.proofs.pass.found.Reads as found-reads
 
 enum-known-f : tie.Need-enum-known-f
 enum-known-f c = search needs

@@ -1,10 +1,6 @@
 use borrow.Author.Needs.{needs}
 use Rattle.c_codec.proofs.answer.decoded.Statement.{statement}
 use Rattle.c_codec.proofs.answer.decoded.Tie as tie
-use Rattle.c_codec.proofs.answer.decoded.Reads as reads
-use Rattle.c_codec.proofs.answer.decoded.Lts as lts
-use Rattle.c_codec.proofs.answer.refusal.Reads as refusal-reads
-use Rattle.scan.proofs.answer.refusal_number.Reads as refusal-number-reads
 
 enum-known-a : tie.Need-enum-known-a
 enum-known-a c = search needs

@@ -6,11 +6,6 @@ use Rattle.c_codec.specs.Numbers.{truth}
 use Rattle.c_codec.proofs.ReadLaws.{from-pairs, told-read}
 use Rattle.c_codec.proofs.codec.decode_pairs.Statement.{statement}
 use Rattle.c_codec.proofs.codec.decode_pairs.Tie as tie
-use Rattle.c_codec.proofs.codec.decode_pairs.Reads as reads
-use Rattle.c_codec.proofs.codec.decode_pairs.Lts as lts
-use Rattle.decode.proofs.decode.Reads as decode-reads
-use Rattle.c_codec.proofs.answer.decoded.Reads as decoded-reads
-use Rattle.pairs.proofs.get_pairs.Reads as get-pairs-reads
 
 slice-aggregate-get-pairs : tie.Need-slice-aggregate-get-pairs
 slice-aggregate-get-pairs c = search needs

@@ -10,11 +10,6 @@ use Rattle.c_codec.specs.Numbers.{truth}
 use Rattle.c_codec.proofs.CodecLaws.{refused-pairs, small, short-pairs, done-pairs}
 use Rattle.c_codec.proofs.codec.encode_pairs.Statement.{statement}
 use Rattle.c_codec.proofs.codec.encode_pairs.Tie as tie
-use Rattle.c_codec.proofs.codec.encode_pairs.Reads as reads
-use Rattle.c_codec.proofs.codec.encode_pairs.Lts as lts
-use Rattle.encode.proofs.encode.Reads as encode-reads
-use Rattle.pairs.proofs.put_pairs.Reads as put-pairs-reads
-use Rattle.c_codec.proofs.codec.written.Reads as written-reads
 
 slice-aggregate-encode : tie.Need-slice-aggregate-encode
 slice-aggregate-encode c = search needs

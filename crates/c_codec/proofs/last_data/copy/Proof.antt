@@ -1,5 +1,5 @@
 use borrow.Author.Needs.{needs}
-use mathlib.Core.Path.{_≡_, refl, _∙_, ap}
+use mathlib.Core.Path.{_≡_, _∙_, ap}
 use mathlib.Core.List.{List}
 use Prim.Native.Nat.{ℕ, _≤_, _-_}
 use native.Mathlib.Omega.{arith}
@@ -9,8 +9,6 @@ use Rattle.lists.specs.Onto.{onto}
 use Rattle.c_codec.proofs.LastLaws.{copy-turn}
 use Rattle.c_codec.proofs.last_data.copy.Statement.{statement}
 use Rattle.c_codec.proofs.last_data.copy.Tie as tie
-use Rattle.c_codec.proofs.last_data.copy.Reads as reads
-use Rattle.c_codec.proofs.last_data.copy.Lts as lts
 
 abbrev Inv-loop : tie.InvT-loop
 Inv-loop out₀ bytes i₀ out i = (i ≤ length bytes) × (length out ≡ length out₀) × (out ≡ onto (take i bytes) out₀)

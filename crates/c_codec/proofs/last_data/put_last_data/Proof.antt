@@ -2,11 +2,6 @@ use borrow.Author.Needs.{needs}
 use Rattle.c_codec.proofs.LastLaws.{copied-short, copied-done}
 use Rattle.c_codec.proofs.last_data.put_last_data.Statement.{statement}
 use Rattle.c_codec.proofs.last_data.put_last_data.Tie as tie
-use Rattle.c_codec.proofs.last_data.put_last_data.Reads as reads
-use Rattle.c_codec.proofs.last_data.put_last_data.Lts as lts
-use Rattle.c_codec.proofs.last_data.copy.Reads as copy-reads
-use Rattle.c_codec.proofs.last_data.part.Reads as part-reads
-use Rattle.last.proofs.last_data.Reads as last-data-reads
 
 last-data-requires : tie.Need-last-data-requires
 last-data-requires c κs = search needs

@@ -1,5 +1,5 @@
 use borrow.Author.Needs.{needs}
-use mathlib.Core.Path.{_≡_, refl, sym, _∙_, ap}
+use mathlib.Core.Path.{sym, ap}
 use Prim.Native.Nat.{_<_}
 use native.Mathlib.Omega.{arith}
 use Rattle.trace.specs.Trace.{Message}
@@ -10,9 +10,6 @@ use Rattle.c_codec.specs.Codec.{told}
 use Rattle.c_codec.proofs.CodecLaws.{small-symbols, wrote-symbols}
 use Rattle.c_codec.proofs.symbols.encode_symbols.Statement.{statement}
 use Rattle.c_codec.proofs.symbols.encode_symbols.Tie as tie
-use Rattle.c_codec.proofs.symbols.encode_symbols.Reads as reads
-use Rattle.c_codec.proofs.symbols.encode_symbols.Lts as lts
-use Rattle.encode.proofs.encode.Reads as encode-reads
 
 encode-requires : tie.Need-encode-requires
 encode-requires c κs = search needs

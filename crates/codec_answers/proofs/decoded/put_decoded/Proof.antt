@@ -5,10 +5,6 @@ use mathlib.Core.Path.{sym, ap}
 use borrow.Author.Needs.{needs}
 use Rattle.codec_answers.proofs.decoded.put_decoded.Statement.{statement}
 use Rattle.codec_answers.proofs.decoded.put_decoded.Tie as tie
-use Rattle.codec_answers.proofs.decoded.put_decoded.Reads as reads
-use Rattle.codec_answers.proofs.decoded.put_decoded.Lts as lts
-use Rattle.codec_answers.proofs.decoded.put_refused.Reads as put-refused-reads
-use Rattle.codec_answers.proofs.decoded.put_transaction.Reads as put-transaction-reads
 
 enum-known-d : tie.Need-enum-known-d
 enum-known-d c = search needs

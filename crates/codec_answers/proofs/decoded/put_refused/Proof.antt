@@ -4,11 +4,6 @@ use Rattle.writing.specs.WrittenLaws.{appended-on, appended-as}
 use borrow.Author.Needs.{needs}
 use Rattle.codec_answers.proofs.decoded.put_refused.Statement.{statement}
 use Rattle.codec_answers.proofs.decoded.put_refused.Tie as tie
-use Rattle.codec_answers.proofs.decoded.put_refused.Reads as reads
-use Rattle.codec_answers.proofs.decoded.put_refused.Lts as lts
-use Rattle.codec_answers.proofs.decoded.put_where.Reads as put-where-reads
-use Rattle.scan.proofs.answer.refusal_number.Reads as refusal-number-reads
-use Rattle.writing.proofs.write.put_decimal.Reads as put-decimal-reads
 
 refusal-number-requires : tie.Need-refusal-number-requires
 refusal-number-requires c κs = search needs

@@ -3,12 +3,6 @@ use Rattle.writing.specs.WrittenLaws.{appended-as}
 use borrow.Author.Needs.{needs}
 use Rattle.codec_answers.proofs.decoded.put_where.Statement.{statement}
 use Rattle.codec_answers.proofs.decoded.put_where.Tie as tie
-use Rattle.codec_answers.proofs.decoded.put_where.Reads as reads
-use Rattle.codec_answers.proofs.decoded.put_where.Lts as lts
-use Rattle.pieces.proofs.piece.number_line.Reads as number-line-reads
-use Rattle.scan.proofs.answer.is_nack.Reads as is-nack-reads
-use Rattle.scan.proofs.answer.refusal_number.Reads as refusal-number-reads
-use Rattle.writing.proofs.write.put.Reads as put-reads
 
 refusal-number-requires : tie.Need-refusal-number-requires
 refusal-number-requires c κs = search needs

@@ -1,15 +1,11 @@
-use mathlib.Core.Path.{_≡_, refl, sym, ap, _∙_}
+use mathlib.Core.Path.{ap, _∙_}
 use Prim.Native.Nat.{ℕ}
-use mathlib.Core.List.{List, [], _∷_, _++_}
+use mathlib.Core.List.{[], _∷_, _++_}
 use Rattle.udid.specs.Bytes.{udidBytes}
 use Rattle.commands.proofs.Requests.{udid-and-byte-written}
 use borrow.Author.Needs.{needs}
 use Rattle.commands.proofs.request.assign_data.Statement.{statement}
 use Rattle.commands.proofs.request.assign_data.Tie as tie
-use Rattle.commands.proofs.request.assign_data.Reads as reads
-use Rattle.commands.proofs.request.assign_data.Lts as lts
-use Rattle.udid.proofs.Udid.put_bytes.Reads as put-bytes-reads
-use Rattle.wire.proofs.address.Address.for_write.Reads as for-write-reads
 
 slice-aggregate-put-bytes : tie.Need-slice-aggregate-put-bytes
 slice-aggregate-put-bytes c = search needs

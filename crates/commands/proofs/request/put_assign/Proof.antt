@@ -4,10 +4,6 @@ use denote.Ref.{now}
 use borrow.Author.Needs.{needs}
 use Rattle.commands.proofs.request.put_assign.Statement.{statement}
 use Rattle.commands.proofs.request.put_assign.Tie as tie
-use Rattle.commands.proofs.request.put_assign.Reads as reads
-use Rattle.commands.proofs.request.put_assign.Lts as lts
-use Rattle.commands.proofs.request.assign_data.Reads as assign-data-reads
-use Rattle.encode.proofs.encode.Reads as encode-reads
 
 assign-data-requires : tie.Need-assign-data-requires
 assign-data-requires c κs = search needs

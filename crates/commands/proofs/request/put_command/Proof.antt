@@ -3,9 +3,6 @@ use Rattle.commands.proofs.Requests.{wrote-same-command, end-refused}
 use borrow.Author.Needs.{needs}
 use Rattle.commands.proofs.request.put_command.Statement.{statement}
 use Rattle.commands.proofs.request.put_command.Tie as tie
-use Rattle.commands.proofs.request.put_command.Reads as reads
-use Rattle.commands.proofs.request.put_command.Lts as lts
-use Rattle.commands.proofs.request.put_sent.Reads as put-sent-reads
 
 enum-known-k : tie.Need-enum-known-k
 enum-known-k c = search needs

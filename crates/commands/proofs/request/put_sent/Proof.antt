@@ -6,11 +6,6 @@ use Rattle.commands.specs.declared.command.Handed.the-variants.{Send}
 use borrow.Author.Needs.{needs}
 use Rattle.commands.proofs.request.put_sent.Statement.{statement}
 use Rattle.commands.proofs.request.put_sent.Tie as tie
-use Rattle.commands.proofs.request.put_sent.Reads as reads
-use Rattle.commands.proofs.request.put_sent.Lts as lts
-use Rattle.commands.proofs.request.put_assign.Reads as put-assign-reads
-use Rattle.commands.proofs.request.put_get.Reads as put-get-reads
-use Rattle.commands.proofs.request.put_prepare.Reads as put-prepare-reads
 
 enum-told : tie.Need-enum-told
 enum-told c = search needs

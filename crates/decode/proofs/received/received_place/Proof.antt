@@ -2,10 +2,6 @@ use Rattle.decode.proofs.Copies.{received-place-is}
 use borrow.Author.Needs.{needs}
 use Rattle.decode.proofs.received.received_place.Statement.{statement}
 use Rattle.decode.proofs.received.received_place.Tie as tie
-use Rattle.decode.proofs.received.received_place.Reads as reads
-use Rattle.decode.proofs.received.received_place.Lts as lts
-use Rattle.decode.proofs.received.end_places.Reads as end-places-reads
-use Rattle.wire.proofs.number.less.Reads as less-reads
 
 end-places-requires : tie.Need-end-places-requires
 end-places-requires c κs = search needs

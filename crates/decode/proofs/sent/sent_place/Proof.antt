@@ -3,9 +3,6 @@ use mathlib.Core.Bool.{true, false}
 use borrow.Author.Needs.{needs}
 use Rattle.decode.proofs.sent.sent_place.Statement.{statement}
 use Rattle.decode.proofs.sent.sent_place.Tie as tie
-use Rattle.decode.proofs.sent.sent_place.Reads as reads
-use Rattle.decode.proofs.sent.sent_place.Lts as lts
-use Rattle.decode.proofs.sent.count_places.Reads as count-places-reads
 
 count-places-requires : tie.Need-count-places-requires
 count-places-requires c κs = search needs

@@ -11,8 +11,6 @@ use Rattle.encode.proofs.WriterLaws.{byte-below-65536, acked-turn}
 use Rattle.lists.specs.OntoLaws.{onto-front}
 use Rattle.encode.proofs.bytes.put_acked.Statement.{statement}
 use Rattle.encode.proofs.bytes.put_acked.Tie as tie
-use Rattle.encode.proofs.bytes.put_acked.Reads as reads
-use Rattle.encode.proofs.bytes.put_acked.Lts as lts
 
 abbrev Inv-loop : tie.InvT-loop
 Inv-loop out₀ at s i₀ j₀ out i j = (i ≤ length s) × (j ≡ at + 2 * i) × (length out ≡ length out₀) × (out ≡ onto (take at out₀ ++ acked (take i s)) out₀)

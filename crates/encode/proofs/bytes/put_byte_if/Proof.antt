@@ -6,8 +6,6 @@ use Rattle.lists.specs.OntoLaws.{onto-front}
 use borrow.Author.Needs.{needs}
 use Rattle.encode.proofs.bytes.put_byte_if.Statement.{statement}
 use Rattle.encode.proofs.bytes.put_byte_if.Tie as tie
-use Rattle.encode.proofs.bytes.put_byte_if.Reads as reads
-use Rattle.encode.proofs.bytes.put_byte_if.Lts as lts
 
 mul-out : tie.Need-mul-out
 mul-out c =

@@ -2,12 +2,6 @@ use Rattle.encode.proofs.PhaseLaws.{count-asks, data-asks, part-put}
 use borrow.Author.Needs.{needs}
 use Rattle.encode.proofs.bytes.put_part.Statement.{statement}
 use Rattle.encode.proofs.bytes.put_part.Tie as tie
-use Rattle.encode.proofs.bytes.put_part.Reads as reads
-use Rattle.encode.proofs.bytes.put_part.Lts as lts
-use Rattle.encode.proofs.bytes.count_of.Reads as count-of-reads
-use Rattle.encode.proofs.bytes.put_acked.Reads as put-acked-reads
-use Rattle.encode.proofs.bytes.put_byte_if.Reads as put-byte-if-reads
-use Rattle.trace.proofs.shape.is_counted.Reads as is-counted-reads
 
 is-counted-requires : tie.Need-is-counted-requires
 is-counted-requires c κs = search needs

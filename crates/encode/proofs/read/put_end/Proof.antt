@@ -5,9 +5,6 @@ use Rattle.encode.proofs.WriterLaws.{onto-stop}
 use borrow.Author.Needs.{needs}
 use Rattle.encode.proofs.read.put_end.Statement.{statement}
 use Rattle.encode.proofs.read.put_end.Tie as tie
-use Rattle.encode.proofs.read.put_end.Reads as reads
-use Rattle.encode.proofs.read.put_end.Lts as lts
-use Rattle.encode.proofs.bytes.put_byte_if.Reads as put-byte-if-reads
 
 put-byte-if-requires : tie.Need-put-byte-if-requires
 put-byte-if-requires c κs = omega arith

@@ -2,12 +2,6 @@ use Rattle.encode.proofs.PhaseLaws.{turn-asks, received-asks, pec-asks,
 use borrow.Author.Needs.{needs}
 use Rattle.encode.proofs.read.put_read_phase.Statement.{statement}
 use Rattle.encode.proofs.read.put_read_phase.Tie as tie
-use Rattle.encode.proofs.read.put_read_phase.Reads as reads
-use Rattle.encode.proofs.read.put_read_phase.Lts as lts
-use Rattle.encode.proofs.bytes.put_byte_if.Reads as put-byte-if-reads
-use Rattle.encode.proofs.bytes.put_part.Reads as put-part-reads
-use Rattle.encode.proofs.read.put_nack_stop.Reads as put-nack-stop-reads
-use Rattle.encode.proofs.read.put_repeated_start.Reads as put-repeated-start-reads
 
 put-repeated-start-requires : tie.Need-put-repeated-start-requires
 put-repeated-start-requires c κs =

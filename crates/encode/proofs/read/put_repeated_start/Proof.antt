@@ -6,8 +6,6 @@ use Rattle.encode.proofs.WriterLaws.{put-start, turn-room}
 use borrow.Author.Needs.{needs}
 use Rattle.encode.proofs.read.put_repeated_start.Statement.{statement}
 use Rattle.encode.proofs.read.put_repeated_start.Tie as tie
-use Rattle.encode.proofs.read.put_repeated_start.Reads as reads
-use Rattle.encode.proofs.read.put_repeated_start.Lts as lts
 
 slice-write-out : tie.Need-slice-write-out
 slice-write-out c =

@@ -7,12 +7,6 @@ use Rattle.encode.proofs.PhaseLaws.{read-asks, end-asks, read-rest, end
 use borrow.Author.Needs.{needs}
 use Rattle.encode.proofs.read.put_rest.Statement.{statement}
 use Rattle.encode.proofs.read.put_rest.Tie as tie
-use Rattle.encode.proofs.read.put_rest.Reads as reads
-use Rattle.encode.proofs.read.put_rest.Lts as lts
-use Rattle.encode.proofs.read.put_end.Reads as put-end-reads
-use Rattle.encode.proofs.read.put_read_phase.Reads as put-read-phase-reads
-use Rattle.trace.proofs.shape.has_read.Reads as has-read-reads
-use Rattle.trace.proofs.shape.has_write.Reads as has-write-reads
 
 has-read-requires : tie.Need-has-read-requires
 has-read-requires c κs = search needs

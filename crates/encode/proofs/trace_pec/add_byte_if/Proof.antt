@@ -2,9 +2,6 @@ use Rattle.pec.specs.Pec.{pecFrom}
 use borrow.Author.Needs.{needs}
 use Rattle.encode.proofs.trace_pec.add_byte_if.Statement.{statement}
 use Rattle.encode.proofs.trace_pec.add_byte_if.Tie as tie
-use Rattle.encode.proofs.trace_pec.add_byte_if.Reads as reads
-use Rattle.encode.proofs.trace_pec.add_byte_if.Lts as lts
-use Rattle.pec.proofs.add_byte.Reads as add-byte-reads
 
 add-byte-requires : tie.Need-add-byte-requires
 add-byte-requires c κs = search needs

@@ -2,12 +2,6 @@ use Rattle.encode.proofs.PecLaws.{part-pec}
 use borrow.Author.Needs.{needs}
 use Rattle.encode.proofs.trace_pec.add_part.Statement.{statement}
 use Rattle.encode.proofs.trace_pec.add_part.Tie as tie
-use Rattle.encode.proofs.trace_pec.add_part.Reads as reads
-use Rattle.encode.proofs.trace_pec.add_part.Lts as lts
-use Rattle.encode.proofs.bytes.count_of.Reads as count-of-reads
-use Rattle.encode.proofs.trace_pec.add_byte_if.Reads as add-byte-if-reads
-use Rattle.trace.proofs.shape.is_counted.Reads as is-counted-reads
-use Rattle.pec.proofs.add_bytes.Reads as add-bytes-reads
 
 is-counted-requires : tie.Need-is-counted-requires
 is-counted-requires c κs = search needs

@@ -6,10 +6,6 @@ use Rattle.encode.specs.Pieces.{bytesAfter}
 use borrow.Author.Needs.{needs}
 use Rattle.encode.proofs.trace_pec.pec_of.Statement.{statement}
 use Rattle.encode.proofs.trace_pec.pec_of.Tie as tie
-use Rattle.encode.proofs.trace_pec.pec_of.Reads as reads
-use Rattle.encode.proofs.trace_pec.pec_of.Lts as lts
-use Rattle.encode.proofs.trace_pec.read_pec.Reads as read-pec-reads
-use Rattle.encode.proofs.trace_pec.write_pec.Reads as write-pec-reads
 
 returns : tie.Need-returns
 returns c = rw (not-true (c .before .before .before .args .pec) (c .if1 .taken))

@@ -4,12 +4,6 @@ use borrow.Author.Tests.{not-true, not-false}
 use borrow.Author.Needs.{needs}
 use Rattle.encode.proofs.trace_pec.read_pec.Statement.{statement}
 use Rattle.encode.proofs.trace_pec.read_pec.Tie as tie
-use Rattle.encode.proofs.trace_pec.read_pec.Reads as reads
-use Rattle.encode.proofs.trace_pec.read_pec.Lts as lts
-use Rattle.encode.proofs.trace_pec.add_byte_if.Reads as add-byte-if-reads
-use Rattle.encode.proofs.trace_pec.add_part.Reads as add-part-reads
-use Rattle.trace.proofs.shape.has_read.Reads as has-read-reads
-use Rattle.trace.proofs.shape.has_write.Reads as has-write-reads
 
 has-read-requires : tie.Need-has-read-requires
 has-read-requires c κs = search needs

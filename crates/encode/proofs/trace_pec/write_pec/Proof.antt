@@ -2,11 +2,6 @@ use Rattle.encode.proofs.PecLaws.{write-pec}
 use borrow.Author.Needs.{needs}
 use Rattle.encode.proofs.trace_pec.write_pec.Statement.{statement}
 use Rattle.encode.proofs.trace_pec.write_pec.Tie as tie
-use Rattle.encode.proofs.trace_pec.write_pec.Reads as reads
-use Rattle.encode.proofs.trace_pec.write_pec.Lts as lts
-use Rattle.encode.proofs.trace_pec.add_byte_if.Reads as add-byte-if-reads
-use Rattle.encode.proofs.trace_pec.add_part.Reads as add-part-reads
-use Rattle.pec.proofs.add_byte.Reads as add-byte-reads
 
 add-byte-requires : tie.Need-add-byte-requires
 add-byte-requires c κs = search needs

@@ -3,12 +3,6 @@ use borrow.Author.Tests.{eq-eqb, ne-eqb}
 use borrow.Author.Needs.{needs}
 use Rattle.encode.proofs.write.first_byte.Statement.{statement}
 use Rattle.encode.proofs.write.first_byte.Tie as tie
-use Rattle.encode.proofs.write.first_byte.Reads as reads
-use Rattle.encode.proofs.write.first_byte.Lts as lts
-use Rattle.trace.proofs.shape.has_read.Reads as has-read-reads
-use Rattle.trace.proofs.shape.has_write.Reads as has-write-reads
-use Rattle.wire.proofs.address.Address.for_read.Reads as for-read-reads
-use Rattle.wire.proofs.address.Address.for_write.Reads as for-write-reads
 
 has-write-requires : tie.Need-has-write-requires
 has-write-requires c κs = search needs

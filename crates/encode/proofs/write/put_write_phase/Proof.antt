@@ -5,10 +5,6 @@ use Rattle.encode.proofs.PhaseLaws.{start-asks, command-asks, sent-asks
 use borrow.Author.Needs.{needs}
 use Rattle.encode.proofs.write.put_write_phase.Statement.{statement}
 use Rattle.encode.proofs.write.put_write_phase.Tie as tie
-use Rattle.encode.proofs.write.put_write_phase.Reads as reads
-use Rattle.encode.proofs.write.put_write_phase.Lts as lts
-use Rattle.encode.proofs.bytes.put_byte_if.Reads as put-byte-if-reads
-use Rattle.encode.proofs.bytes.put_part.Reads as put-part-reads
 
 slice-write-out : tie.Need-slice-write-out
 slice-write-out c =

@@ -1,12 +1,10 @@
-use mathlib.Core.Path.{_≡_, refl, sym, ap, _∙_}
+use mathlib.Core.Path.{sym}
 use native.Mathlib.Omega.{arith}
 use denote.Ref.{now}
 use lib.ListN.{List·getD-eq-default}
 use borrow.Author.Needs.{needs}
 use Rattle.hearing.proofs.heard.byte_at.Statement.{statement}
 use Rattle.hearing.proofs.heard.byte_at.Tie as tie
-use Rattle.hearing.proofs.heard.byte_at.Reads as reads
-use Rattle.hearing.proofs.heard.byte_at.Lts as lts
 
 shared-slice-read-result : tie.Need-shared-slice-read-result
 shared-slice-read-result c = search needs

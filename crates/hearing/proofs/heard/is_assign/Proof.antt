@@ -1,12 +1,8 @@
-use mathlib.Core.Path.{_≡_, refl, sym, ap, _∙_}
-use borrow.Author.Tests.{lt-ltb, le-ltb, le-leb, lt-leb, eq-eqb, ne-eqb, not-true, not-false}
+use mathlib.Core.Path.{sym, _∙_}
+use borrow.Author.Tests.{eq-eqb, ne-eqb, not-true, not-false}
 use borrow.Author.Needs.{needs}
 use Rattle.hearing.proofs.heard.is_assign.Statement.{statement}
 use Rattle.hearing.proofs.heard.is_assign.Tie as tie
-use Rattle.hearing.proofs.heard.is_assign.Reads as reads
-use Rattle.hearing.proofs.heard.is_assign.Lts as lts
-use Rattle.hearing.proofs.heard.is_command.Reads as is-command-reads
-use Rattle.hearing.proofs.heard.names_both.Reads as names-both-reads
 
 is-command-requires : tie.Need-is-command-requires
 is-command-requires c κs = search needs

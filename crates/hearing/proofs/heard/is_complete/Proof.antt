@@ -5,9 +5,6 @@ use Rattle.hearing.specs.Heard.{completes}
 use borrow.Author.Needs.{needs}
 use Rattle.hearing.proofs.heard.is_complete.Statement.{statement}
 use Rattle.hearing.proofs.heard.is_complete.Tie as tie
-use Rattle.hearing.proofs.heard.is_complete.Reads as reads
-use Rattle.hearing.proofs.heard.is_complete.Lts as lts
-use Rattle.hearing.proofs.heard.is_assign.Reads as is-assign-reads
 
 enum-known-answer : tie.Need-enum-known-answer
 enum-known-answer c = search needs

@@ -1,12 +1,9 @@
 use mathlib.Core.Bool.{true, false}
-use mathlib.Core.Path.{_≡_, sym, _∙_}
+use mathlib.Core.Path.{sym, _∙_}
 use Rattle.hearing.proofs.Steps.{nobody-by-nack}
 use borrow.Author.Needs.{needs}
 use Rattle.hearing.proofs.heard.is_nobody.Statement.{statement}
 use Rattle.hearing.proofs.heard.is_nobody.Tie as tie
-use Rattle.hearing.proofs.heard.is_nobody.Reads as reads
-use Rattle.hearing.proofs.heard.is_nobody.Lts as lts
-use Rattle.scan.proofs.answer.is_nack.Reads as is-nack-reads
 
 enum-told : tie.Need-enum-told
 enum-told c = search needs

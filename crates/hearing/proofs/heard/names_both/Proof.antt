@@ -1,5 +1,5 @@
-use mathlib.Core.Path.{_≡_, refl, sym, ap, _∙_}
-use mathlib.Core.Bool.{Bool, true, false}
+use mathlib.Core.Path.{_≡_, sym, ap, _∙_}
+use mathlib.Core.Bool.{true, false}
 use denote.Ref.{now}
 use Rattle.udid.specs.Bytes.{udidAt}
 use Rattle.udid.specs.Udids.{sameUdid}
@@ -7,12 +7,6 @@ use Rattle.udid.specs.declared.Udid.{Udid}
 use borrow.Author.Needs.{needs}
 use Rattle.hearing.proofs.heard.names_both.Statement.{statement}
 use Rattle.hearing.proofs.heard.names_both.Tie as tie
-use Rattle.hearing.proofs.heard.names_both.Reads as reads
-use Rattle.hearing.proofs.heard.names_both.Lts as lts
-use Rattle.hearing.proofs.heard.byte_at.Reads as byte-at-reads
-use Rattle.udid.proofs.Udid.from_bytes.Reads as from-bytes-reads
-use Rattle.udid.proofs.Udid.is_same.Reads as is-same-reads
-use Rattle.wire.proofs.address.Address.for_write.Reads as for-write-reads
 
 from-bytes-requires : tie.Need-from-bytes-requires
 from-bytes-requires c κs = search needs

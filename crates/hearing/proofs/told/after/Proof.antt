@@ -1,4 +1,4 @@
-use mathlib.Core.Path.{_≡_, sym, ap, _∙_}
+use mathlib.Core.Path.{sym, ap, _∙_}
 use denote.Ref.{now}
 use Rattle.hearing.specs.Told.{tells}
 use Rattle.commands.specs.declared.command.Command.{Command}
@@ -6,11 +6,6 @@ use Rattle.commands.specs.declared.command.Handed.the-variants.{Send}
 use borrow.Author.Needs.{needs}
 use Rattle.hearing.proofs.told.after.Statement.{statement}
 use Rattle.hearing.proofs.told.after.Tie as tie
-use Rattle.hearing.proofs.told.after.Reads as reads
-use Rattle.hearing.proofs.told.after.Lts as lts
-use Rattle.hearing.proofs.told.after_assign.Reads as after-assign-reads
-use Rattle.hearing.proofs.told.after_get.Reads as after-get-reads
-use Rattle.hearing.proofs.told.after_prepare.Reads as after-prepare-reads
 
 enum-told : tie.Need-enum-told
 enum-told c = search needs

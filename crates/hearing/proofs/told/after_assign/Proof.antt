@@ -1,13 +1,9 @@
-use mathlib.Core.Path.{_≡_, sym, ap, _∙_}
+use mathlib.Core.Path.{sym, _∙_}
 use denote.Ref.{now}
 use Rattle.hearing.proofs.Steps.{assign-again, assign-complete}
 use borrow.Author.Needs.{needs}
 use Rattle.hearing.proofs.told.after_assign.Statement.{statement}
 use Rattle.hearing.proofs.told.after_assign.Tie as tie
-use Rattle.hearing.proofs.told.after_assign.Reads as reads
-use Rattle.hearing.proofs.told.after_assign.Lts as lts
-use Rattle.hearing.proofs.heard.is_complete.Reads as is-complete-reads
-use Rattle.decode.proofs.decode.Reads as decode-reads
 
 slice-aggregate-decode : tie.Need-slice-aggregate-decode
 slice-aggregate-decode c = search needs

@@ -1,14 +1,9 @@
-use mathlib.Core.Path.{_≡_, sym, ap, _∙_}
+use mathlib.Core.Path.{sym, _∙_}
 use denote.Ref.{now}
 use Rattle.hearing.proofs.Steps.{get-nobody, get-again, get-done}
 use borrow.Author.Needs.{needs}
 use Rattle.hearing.proofs.told.after_get.Statement.{statement}
 use Rattle.hearing.proofs.told.after_get.Tie as tie
-use Rattle.hearing.proofs.told.after_get.Reads as reads
-use Rattle.hearing.proofs.told.after_get.Lts as lts
-use Rattle.hearing.proofs.heard.is_nobody.Reads as is-nobody-reads
-use Rattle.hearing.proofs.told.reply_in.Reads as reply-in-reads
-use Rattle.decode.proofs.decode.Reads as decode-reads
 
 slice-aggregate-decode : tie.Need-slice-aggregate-decode
 slice-aggregate-decode c = search needs

@@ -1,14 +1,9 @@
-use mathlib.Core.Path.{_≡_, sym, ap, _∙_}
+use mathlib.Core.Path.{sym, _∙_}
 use denote.Ref.{now}
 use Rattle.hearing.proofs.Steps.{prepare-nack, prepare-other, prepare-accepted, prepare-another}
 use borrow.Author.Needs.{needs}
 use Rattle.hearing.proofs.told.after_prepare.Statement.{statement}
 use Rattle.hearing.proofs.told.after_prepare.Tie as tie
-use Rattle.hearing.proofs.told.after_prepare.Reads as reads
-use Rattle.hearing.proofs.told.after_prepare.Lts as lts
-use Rattle.hearing.proofs.heard.is_prepare.Reads as is-prepare-reads
-use Rattle.decode.proofs.decode.Reads as decode-reads
-use Rattle.scan.proofs.answer.is_nack.Reads as is-nack-reads
 
 slice-aggregate-decode : tie.Need-slice-aggregate-decode
 slice-aggregate-decode c = search needs

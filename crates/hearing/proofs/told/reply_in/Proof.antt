@@ -1,15 +1,10 @@
-use mathlib.Core.Path.{_≡_, sym, ap, _∙_}
+use mathlib.Core.Path.{sym, _∙_}
 use denote.Ref.{now}
 use borrow.Author.Tests.{not-true, not-false}
 use Rattle.hearing.proofs.Steps.{reply-other, reply-count, reply-whole}
 use borrow.Author.Needs.{needs}
 use Rattle.hearing.proofs.told.reply_in.Statement.{statement}
 use Rattle.hearing.proofs.told.reply_in.Tie as tie
-use Rattle.hearing.proofs.told.reply_in.Reads as reads
-use Rattle.hearing.proofs.told.reply_in.Lts as lts
-use Rattle.hearing.proofs.heard.byte_at.Reads as byte-at-reads
-use Rattle.hearing.proofs.heard.is_command.Reads as is-command-reads
-use Rattle.udid.proofs.Udid.from_bytes.Reads as from-bytes-reads
 
 is-command-requires : tie.Need-is-command-requires
 is-command-requires c κs = search needs

@@ -1,13 +1,10 @@
-use mathlib.Core.Path.{_≡_, sym, ap, _∙_}
+use mathlib.Core.Path.{sym, ap, _∙_}
 use denote.Ref.{now}
 use Rattle.hearing.specs.Told.{tells}
 use Rattle.commands.specs.declared.command.Handed.{Handed}
 use borrow.Author.Needs.{needs}
 use Rattle.hearing.proofs.told.tell.Statement.{statement}
 use Rattle.hearing.proofs.told.tell.Tie as tie
-use Rattle.hearing.proofs.told.tell.Reads as reads
-use Rattle.hearing.proofs.told.tell.Lts as lts
-use Rattle.hearing.proofs.told.after.Reads as after-reads
 
 enum-known-last : tie.Need-enum-known-last
 enum-known-last c = search needs

@@ -1,11 +1,8 @@
-use borrow.Author.Tests.{lt-ltb, le-ltb, not-true, not-false}
+use borrow.Author.Tests.{lt-ltb, le-ltb}
 use Rattle.pool.specs.Pools.{member}
 use borrow.Author.Needs.{needs}
 use Rattle.pool.proofs.Pool.has.Statement.{statement}
 use Rattle.pool.proofs.Pool.has.Tie as tie
-use Rattle.pool.proofs.Pool.has.Reads as reads
-use Rattle.pool.proofs.Pool.has.Lts as lts
-use Rattle.pool.proofs.bit.is_one.Reads as is-one-reads
 
 is-one-requires : tie.Need-is-one-requires
 is-one-requires c κs = search needs

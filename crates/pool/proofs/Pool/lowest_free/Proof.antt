@@ -1,19 +1,16 @@
 use Prim.Native.Nat.{ℕ, suc, _+_, _-_, _<_, _≤_}
-use mathlib.Core.Path.{_≡_, refl, sym, ap, _∙_}
-use mathlib.Core.Bool.{Bool, true, false}
-use borrow.Author.Tests.{lt-ltb, le-ltb, not-true, not-false}
+use mathlib.Core.Path.{_≡_, sym, ap, _∙_}
+use mathlib.Core.Bool.{true, false}
+use borrow.Author.Tests.{not-true, not-false}
 use native.Mathlib.Numerals.{add-one}
 use native.Mathlib.Omega.{arith}
 use Rattle.pool.specs.Free.{freeFrom}
 use Rattle.pool.specs.Pools.{member}
 use Rattle.pool.specs.declared.Pool.{Pool}
-use Rattle.pool.specs.declared.free.Free.the-variants.{At, AllUsed}
+use Rattle.pool.specs.declared.free.Free.the-variants.{At}
 use borrow.Author.Needs.{needs}
 use Rattle.pool.proofs.Pool.lowest_free.Statement.{statement}
 use Rattle.pool.proofs.Pool.lowest_free.Tie as tie
-use Rattle.pool.proofs.Pool.lowest_free.Reads as reads
-use Rattle.pool.proofs.Pool.lowest_free.Lts as lts
-use Rattle.pool.proofs.Pool.has.Reads as has-reads
 
 -- at an address below 128: it is the answer where it is free, and else the search goes on
 found : (p : Pool) (a : ℕ) → a < 128 → member p a ≡ false → freeFrom p (128 - a) a ≡ At (record { 0 = a })

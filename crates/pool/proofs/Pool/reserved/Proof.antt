@@ -2,8 +2,6 @@ use Rattle.pool.specs.Start.{reservedPool}
 use borrow.Author.Needs.{needs}
 use Rattle.pool.proofs.Pool.reserved.Statement.{statement}
 use Rattle.pool.proofs.Pool.reserved.Tie as tie
-use Rattle.pool.proofs.Pool.reserved.Reads as reads
-use Rattle.pool.proofs.Pool.reserved.Lts as lts
 
 returns : tie.Need-returns
 unfolding reservedPool

@@ -2,10 +2,6 @@ use Rattle.pool.specs.Start.{startingPool}
 use borrow.Author.Needs.{needs}
 use Rattle.pool.proofs.Pool.starting.Statement.{statement}
 use Rattle.pool.proofs.Pool.starting.Tie as tie
-use Rattle.pool.proofs.Pool.starting.Reads as reads
-use Rattle.pool.proofs.Pool.starting.Lts as lts
-use Rattle.pool.proofs.Pool.reserved.Reads as reserved-reads
-use Rattle.pool.proofs.Pool.union.Reads as union-reads
 
 reserved-requires : tie.Need-reserved-requires
 reserved-requires c κs = search needs

@@ -2,8 +2,6 @@ use Rattle.pool.specs.Pools.{unionOf}
 use borrow.Author.Needs.{needs}
 use Rattle.pool.proofs.Pool.union.Statement.{statement}
 use Rattle.pool.proofs.Pool.union.Tie as tie
-use Rattle.pool.proofs.Pool.union.Reads as reads
-use Rattle.pool.proofs.Pool.union.Lts as lts
 
 returns : tie.Need-returns
 unfolding unionOf

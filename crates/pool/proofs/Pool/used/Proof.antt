@@ -1,11 +1,9 @@
-use lib.Count.{ones, ones-le}
+use lib.Count.{ones-le}
 use native.Mathlib.Omega.{arith}
 use Rattle.pool.specs.FreeLaws.{used-ones}
 use borrow.Author.Needs.{needs}
 use Rattle.pool.proofs.Pool.used.Statement.{statement}
 use Rattle.pool.proofs.Pool.used.Tie as tie
-use Rattle.pool.proofs.Pool.used.Reads as reads
-use Rattle.pool.proofs.Pool.used.Lts as lts
 
 add-result : tie.Need-add-result
 add-result c = let s = c .before .before .args .self in omega (arith, ones-le 64 (s .low) (search needs), ones-le 64 (s .high) (search needs))

@@ -1,11 +1,8 @@
-use borrow.Author.Tests.{lt-ltb, le-ltb, not-true, not-false}
+use borrow.Author.Tests.{lt-ltb, le-ltb}
 use Rattle.pool.specs.Pools.{withAddress}
 use borrow.Author.Needs.{needs}
 use Rattle.pool.proofs.Pool.with.Statement.{statement}
 use Rattle.pool.proofs.Pool.with.Tie as tie
-use Rattle.pool.proofs.Pool.with.Reads as reads
-use Rattle.pool.proofs.Pool.with.Lts as lts
-use Rattle.pool.proofs.bit.with_one.Reads as with-one-reads
 
 with-one-requires : tie.Need-with-one-requires
 with-one-requires c κs = search needs

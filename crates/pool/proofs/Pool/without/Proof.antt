@@ -1,14 +1,10 @@
-use mathlib.Core.Path.{_≡_, refl, sym, ap, _∙_}
-use mathlib.Core.Bool.{Bool, true, false}
+use mathlib.Core.Path.{_≡_, sym, _∙_}
+use mathlib.Core.Bool.{true, false}
 use borrow.Author.Tests.{lt-ltb, le-ltb, not-true, not-false}
 use Rattle.pool.specs.Pools.{member, withoutAddress}
 use borrow.Author.Needs.{needs}
 use Rattle.pool.proofs.Pool.without.Statement.{statement}
 use Rattle.pool.proofs.Pool.without.Tie as tie
-use Rattle.pool.proofs.Pool.without.Reads as reads
-use Rattle.pool.proofs.Pool.without.Lts as lts
-use Rattle.pool.proofs.Pool.has.Reads as has-reads
-use Rattle.pool.proofs.bit.turned.Reads as turned-reads
 
 has-requires : tie.Need-has-requires
 has-requires c κs = search needs

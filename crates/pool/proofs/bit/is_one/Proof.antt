@@ -2,8 +2,6 @@ use Rattle.pool.specs.Digits.{digit}
 use borrow.Author.Needs.{needs}
 use Rattle.pool.proofs.bit.is_one.Statement.{statement}
 use Rattle.pool.proofs.bit.is_one.Tie as tie
-use Rattle.pool.proofs.bit.is_one.Reads as reads
-use Rattle.pool.proofs.bit.is_one.Lts as lts
 
 cast-result : tie.Need-cast-result
 cast-result c = search needs

@@ -1,5 +1,5 @@
 use Prim.Native.Nat.{ℕ, _*_, _%_, _^_, _<_}
-use mathlib.Core.Path.{_≡_, refl, sym, ap, _∙_}
+use mathlib.Core.Path.{_≡_, ap, _∙_}
 use native.Mathlib.Nat.{one-mul, mod-eq-of-lt}
 use native.Mathlib.Omega.{arith}
 use lib.Bits.{bitOr}
@@ -8,8 +8,6 @@ use Rattle.pool.specs.Digits.{plus}
 use borrow.Author.Needs.{needs}
 use Rattle.pool.proofs.bit.with_one.Statement.{statement}
 use Rattle.pool.proofs.bit.with_one.Tie as tie
-use Rattle.pool.proofs.bit.with_one.Reads as reads
-use Rattle.pool.proofs.bit.with_one.Lts as lts
 
 cast-result : tie.Need-cast-result
 cast-result c = search needs

@@ -1,13 +1,10 @@
-use mathlib.Core.Path.{_≡_, sym, ap, _∙_}
+use mathlib.Core.Path.{sym, ap, _∙_}
 use Rattle.arp.specs.Numbers.{commandNumber}
 use Rattle.commands.specs.declared.command.Handed.{Handed}
 use Rattle.report.specs.Report.{udidIn}
 use borrow.Author.Needs.{needs}
 use Rattle.report.proofs.answer.asked_by.Statement.{statement}
 use Rattle.report.proofs.answer.asked_by.Tie as tie
-use Rattle.report.proofs.answer.asked_by.Reads as reads
-use Rattle.report.proofs.answer.asked_by.Lts as lts
-use Rattle.report.proofs.answer.named_by.Reads as named-by-reads
 
 enum-told : tie.Need-enum-told
 enum-told c = search needs

@@ -1,12 +1,10 @@
-use mathlib.Core.Path.{_≡_, sym, ap, _∙_}
+use mathlib.Core.Path.{sym, ap}
 use Rattle.arp.specs.Numbers.{endNumber}
 use Rattle.commands.specs.declared.command.End.{End}
 use Rattle.report.specs.Report.{udidIn}
 use borrow.Author.Needs.{needs}
 use Rattle.report.proofs.answer.named_by.Statement.{statement}
 use Rattle.report.proofs.answer.named_by.Tie as tie
-use Rattle.report.proofs.answer.named_by.Reads as reads
-use Rattle.report.proofs.answer.named_by.Lts as lts
 
 enum-told : tie.Need-enum-told
 enum-told c = search needs

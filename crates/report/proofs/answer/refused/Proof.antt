@@ -4,9 +4,6 @@ use Rattle.report.specs.Report.{noUdid}
 use borrow.Author.Needs.{needs}
 use Rattle.report.proofs.answer.refused.Statement.{statement}
 use Rattle.report.proofs.answer.refused.Tie as tie
-use Rattle.report.proofs.answer.refused.Reads as reads
-use Rattle.report.proofs.answer.refused.Lts as lts
-use Rattle.pool.proofs.Pool.empty.Reads as empty-reads
 
 empty-requires : tie.Need-empty-requires
 empty-requires c κs = search needs

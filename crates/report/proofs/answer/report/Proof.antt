@@ -3,13 +3,6 @@ use Rattle.pool.specs.Free.{used}
 use borrow.Author.Needs.{needs}
 use Rattle.report.proofs.answer.report.Statement.{statement}
 use Rattle.report.proofs.answer.report.Tie as tie
-use Rattle.report.proofs.answer.report.Reads as reads
-use Rattle.report.proofs.answer.report.Lts as lts
-use Rattle.pool.proofs.Pool.used.Reads as used-reads
-use Rattle.report.proofs.answer.asked_by.Reads as asked-by-reads
-use Rattle.report.proofs.answer.gets_sent.Reads as gets-sent-reads
-use Rattle.report.proofs.answer.number_of.Reads as number-of-reads
-use Rattle.report.proofs.bindings_of.bound_set.Reads as bound-set-reads
 
 bound-set-requires : tie.Need-bound-set-requires
 bound-set-requires c κs = search needs

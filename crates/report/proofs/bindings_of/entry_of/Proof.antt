@@ -1,8 +1,5 @@
-use borrow.Author.Needs.{needs}
 use Rattle.report.proofs.bindings_of.entry_of.Statement.{statement}
 use Rattle.report.proofs.bindings_of.entry_of.Tie as tie
-use Rattle.report.proofs.bindings_of.entry_of.Reads as reads
-use Rattle.report.proofs.bindings_of.entry_of.Lts as lts
 
 returns : tie.Need-returns
 returns c = simp (c .if1 .taken)

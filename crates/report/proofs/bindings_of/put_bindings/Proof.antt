@@ -5,9 +5,6 @@ use Rattle.report.specs.BufferEndLaws.{too-short, long-enough}
 use borrow.Author.Needs.{needs}
 use Rattle.report.proofs.bindings_of.put_bindings.Statement.{statement}
 use Rattle.report.proofs.bindings_of.put_bindings.Tie as tie
-use Rattle.report.proofs.bindings_of.put_bindings.Reads as reads
-use Rattle.report.proofs.bindings_of.put_bindings.Lts as lts
-use Rattle.report.proofs.bindings_of.put_rows.Reads as put-rows-reads
 
 returns : tie.Need-returns
 returns c = sym (too-short (c .before .before .args .slots) (now (c .before .before .args .out)) (omega arith))

@@ -1,7 +1,7 @@
-use Prim.Native.Nat.{ℕ, suc, _+_, _*_, _-_, _≤_}
+use Prim.Native.Nat.{ℕ, _+_, _*_, _-_, _≤_}
 use mathlib.Core.Path.{_≡_, refl, sym, ap, _∙_}
 use mathlib.Core.Bool.{Bool}
-use mathlib.Core.List.{List, _++_}
+use mathlib.Core.List.{_++_}
 use native.Mathlib.Numerals.{add-one}
 use native.Mathlib.Omega.{arith}
 use lib.ListN.{length, drop}
@@ -17,11 +17,6 @@ use Rattle.report.specs.BoundSetLaws.{entry-by-bound}
 use Rattle.report.specs.Report.{entryAt}
 use Rattle.report.proofs.bindings_of.put_rows.Statement.{statement}
 use Rattle.report.proofs.bindings_of.put_rows.Tie as tie
-use Rattle.report.proofs.bindings_of.put_rows.Reads as reads
-use Rattle.report.proofs.bindings_of.put_rows.Lts as lts
-use Rattle.bindings.proofs.buffer.put_entry.Reads as put-entry-reads
-use Rattle.report.proofs.bindings_of.entry_of.Reads as entry-of-reads
-use Rattle.pool.proofs.Pool.has.Reads as has-reads
 
 abbrev Inv-loop : tie.InvT-loop
 Inv-loop out₀ slots bound a₀ out a = (a ≤ 128) × (length out ≡ length out₀) × (out ≡ rowsOf (entryAt slots) a ++ drop (a * 16) out₀)

@@ -1,9 +1,6 @@
 use borrow.Author.Needs.{needs}
 use Rattle.scan.proofs.answer.is_nack.Statement.{statement}
 use Rattle.scan.proofs.answer.is_nack.Tie as tie
-use Rattle.scan.proofs.answer.is_nack.Reads as reads
-use Rattle.scan.proofs.answer.is_nack.Lts as lts
-use Rattle.scan.proofs.answer.refusal_number.Reads as refusal-number-reads
 
 refusal-number-requires : tie.Need-refusal-number-requires
 refusal-number-requires c κs = search needs

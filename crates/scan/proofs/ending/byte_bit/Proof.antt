@@ -1,11 +1,8 @@
 use native.Mathlib.Omega.{arith}
-use mathlib.Core.Path.{_≡_, sym, _∙_}
+use mathlib.Core.Path.{sym, _∙_}
 use borrow.Author.Needs.{needs}
 use Rattle.scan.proofs.ending.byte_bit.Statement.{statement}
 use Rattle.scan.proofs.ending.byte_bit.Tie as tie
-use Rattle.scan.proofs.ending.byte_bit.Reads as reads
-use Rattle.scan.proofs.ending.byte_bit.Lts as lts
-use Rattle.wire.proofs.symbol.is_byte.Reads as is-byte-reads
 
 is-byte-requires : tie.Need-is-byte-requires
 is-byte-requires c κs = search needs

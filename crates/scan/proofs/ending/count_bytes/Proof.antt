@@ -1,15 +1,12 @@
 use Rattle.scan.proofs.Loops.{count-turn, count-end}
 use Rattle.scan.specs.Run.{byteCount}
 use lib.ListN.{length, drop}
-use Prim.Native.Nat.{ℕ, _≤_, _-_, _+_}
+use Prim.Native.Nat.{_≤_, _-_, _+_}
 use native.Mathlib.Omega.{arith}
-use mathlib.Core.Path.{_≡_, refl, sym, _∙_, ap}
+use mathlib.Core.Path.{_≡_}
 use borrow.Author.Needs.{needs}
 use Rattle.scan.proofs.ending.count_bytes.Statement.{statement}
 use Rattle.scan.proofs.ending.count_bytes.Tie as tie
-use Rattle.scan.proofs.ending.count_bytes.Reads as reads
-use Rattle.scan.proofs.ending.count_bytes.Lts as lts
-use Rattle.scan.proofs.ending.byte_bit.Reads as byte-bit-reads
 
 abbrev Inv-loop : tie.InvT-loop
 Inv-loop tr n₀ i₀ n i = (i ≤ length tr) × (n ≤ i) × (byteCount tr ≡ n + byteCount (drop i tr))

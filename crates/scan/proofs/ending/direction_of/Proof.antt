@@ -1,11 +1,7 @@
-use mathlib.Core.Path.{_≡_, sym, _∙_}
+use mathlib.Core.Path.{sym, _∙_}
 use borrow.Author.Needs.{needs}
 use Rattle.scan.proofs.ending.direction_of.Statement.{statement}
 use Rattle.scan.proofs.ending.direction_of.Tie as tie
-use Rattle.scan.proofs.ending.direction_of.Reads as reads
-use Rattle.scan.proofs.ending.direction_of.Lts as lts
-use Rattle.trace.proofs.shape.has_read.Reads as has-read-reads
-use Rattle.trace.proofs.shape.has_write.Reads as has-write-reads
 
 has-write-requires : tie.Need-has-write-requires
 has-write-requires c κs = search needs

@@ -1,17 +1,10 @@
 use Rattle.scan.specs.TestLaws.{finish-is}
 use borrow.Author.Tests.{not-true, not-false}
 use mathlib.Core.Bool.{true, false}
-use mathlib.Core.Path.{_≡_, refl, sym, _∙_}
+use mathlib.Core.Path.{refl, sym, _∙_}
 use borrow.Author.Needs.{needs}
 use Rattle.scan.proofs.ending.finished.Statement.{statement}
 use Rattle.scan.proofs.ending.finished.Tie as tie
-use Rattle.scan.proofs.ending.finished.Reads as reads
-use Rattle.scan.proofs.ending.finished.Lts as lts
-use Rattle.scan.proofs.ending.count_bytes.Reads as count-bytes-reads
-use Rattle.scan.proofs.ending.is_cut.Reads as is-cut-reads
-use Rattle.wire.proofs.number.less.Reads as less-reads
-use Rattle.scan.proofs.ending.transaction_of.Reads as transaction-of-reads
-use Rattle.scan.proofs.refusal.is_over.Reads as is-over-reads
 
 is-cut-requires : tie.Need-is-cut-requires
 is-cut-requires c κs = search needs

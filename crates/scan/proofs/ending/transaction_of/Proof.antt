@@ -2,11 +2,6 @@ use Rattle.scan.specs.TestLaws.{transaction-is}
 use borrow.Author.Needs.{needs}
 use Rattle.scan.proofs.ending.transaction_of.Statement.{statement}
 use Rattle.scan.proofs.ending.transaction_of.Tie as tie
-use Rattle.scan.proofs.ending.transaction_of.Reads as reads
-use Rattle.scan.proofs.ending.transaction_of.Lts as lts
-use Rattle.scan.proofs.ending.data_length.Reads as data-length-reads
-use Rattle.scan.proofs.ending.direction_of.Reads as direction-of-reads
-use Rattle.wire.proofs.address.Address.from_wire.Reads as from-wire-reads
 
 from-wire-requires : tie.Need-from-wire-requires
 from-wire-requires c κs = search needs

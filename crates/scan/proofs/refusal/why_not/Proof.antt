@@ -1,12 +1,8 @@
 use borrow.Author.Tests.{not-true, not-false}
-use mathlib.Core.Path.{_≡_, sym, _∙_}
+use mathlib.Core.Path.{sym, _∙_}
 use borrow.Author.Needs.{needs}
 use Rattle.scan.proofs.refusal.why_not.Statement.{statement}
 use Rattle.scan.proofs.refusal.why_not.Tie as tie
-use Rattle.scan.proofs.refusal.why_not.Reads as reads
-use Rattle.scan.proofs.refusal.why_not.Lts as lts
-use Rattle.scan.proofs.refusal.is_over.Reads as is-over-reads
-use Rattle.wire.proofs.symbol.is_symbol.Reads as is-symbol-reads
 
 is-symbol-requires : tie.Need-is-symbol-requires
 is-symbol-requires c κs = search needs

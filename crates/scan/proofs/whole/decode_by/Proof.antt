@@ -1,12 +1,8 @@
 use Rattle.scan.specs.Run.{decodedBy, concluded}
-use mathlib.Core.Path.{_≡_, refl, sym, _∙_, ap}
+use mathlib.Core.Path.{sym, _∙_, ap}
 use borrow.Author.Needs.{needs}
 use Rattle.scan.proofs.whole.decode_by.Statement.{statement}
 use Rattle.scan.proofs.whole.decode_by.Tie as tie
-use Rattle.scan.proofs.whole.decode_by.Reads as reads
-use Rattle.scan.proofs.whole.decode_by.Lts as lts
-use Rattle.scan.proofs.ending.finished.Reads as finished-reads
-use Rattle.scan.proofs.whole.read_all.Reads as read-all-reads
 
 read-all-requires : tie.Need-read-all-requires
 read-all-requires c κs = search needs

@@ -3,17 +3,11 @@ use Rattle.scan.specs.Run.{run}
 use Rattle.step.specs.State.{fresh}
 use borrow.Author.Tests.{not-true, not-false}
 use lib.ListN.{length, drop}
-use Prim.Native.Nat.{ℕ, _≤_, _-_, _+_}
-use mathlib.Core.Path.{_≡_, refl, sym, _∙_, ap}
+use Prim.Native.Nat.{_≤_, _-_}
+use mathlib.Core.Path.{_≡_, sym, _∙_}
 use borrow.Author.Needs.{needs}
 use Rattle.scan.proofs.whole.read_all.Statement.{statement}
 use Rattle.scan.proofs.whole.read_all.Tie as tie
-use Rattle.scan.proofs.whole.read_all.Reads as reads
-use Rattle.scan.proofs.whole.read_all.Lts as lts
-use Rattle.step.proofs.fits.may_stand.Reads as may-stand-reads
-use Rattle.step.proofs.moved.moved.Reads as moved-reads
-use Rattle.scan.proofs.refusal.why_not.Reads as why-not-reads
-use Rattle.step.proofs.state.start.Reads as start-reads
 
 abbrev Inv-loop : tie.InvT-loop
 Inv-loop sh pec tr d₀ i₀ d i = (i ≤ length tr) × (run sh pec fresh 0 tr ≡ run sh pec d i (drop i tr))

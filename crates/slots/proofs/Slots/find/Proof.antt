@@ -1,6 +1,6 @@
 use Prim.Native.Nat.{ℕ, suc, _+_, _-_, _<_, _≤_}
 use mathlib.Core.Path.{_≡_, refl, sym, ap, _∙_}
-use mathlib.Core.Bool.{Bool, true, false}
+use mathlib.Core.Bool.{true, false}
 use native.Mathlib.Numerals.{add-one}
 use native.Mathlib.Omega.{arith}
 use Rattle.udid.specs.declared.Udid.{Udid}
@@ -11,9 +11,6 @@ use Rattle.slots.specs.declared.Slots.{Slots}
 use borrow.Author.Needs.{needs}
 use Rattle.slots.proofs.Slots.find.Statement.{statement}
 use Rattle.slots.proofs.Slots.find.Tie as tie
-use Rattle.slots.proofs.Slots.find.Reads as reads
-use Rattle.slots.proofs.Slots.find.Lts as lts
-use Rattle.slots.proofs.find.is_bound_to.Reads as is-bound-to-reads
 
 here : (u : Udid) (s : Slots) (a : ℕ) → a < 128 → boundTo u (heldAt s a) ≡ true → findFrom u s (128 - a) a ≡ a
 unfolding findFrom

@@ -2,9 +2,6 @@ use Rattle.slots.specs.Slots.{noBindings}
 use borrow.Author.Needs.{needs}
 use Rattle.slots.proofs.Slots.none.Statement.{statement}
 use Rattle.slots.proofs.Slots.none.Tie as tie
-use Rattle.slots.proofs.Slots.none.Reads as reads
-use Rattle.slots.proofs.Slots.none.Lts as lts
-use Rattle.pool.proofs.Pool.empty.Reads as empty-reads
 
 empty-requires : tie.Need-empty-requires
 empty-requires c κs = search needs

@@ -1,13 +1,8 @@
-use mathlib.Core.Path.{_≡_, refl, sym, ap, ap₂, _∙_}
+use mathlib.Core.Path.{sym, ap, _∙_}
 use Rattle.slots.specs.Slots.{withBinding}
 use borrow.Author.Needs.{needs}
 use Rattle.slots.proofs.Slots.put.Statement.{statement}
 use Rattle.slots.proofs.Slots.put.Tie as tie
-use Rattle.slots.proofs.Slots.put.Reads as reads
-use Rattle.slots.proofs.Slots.put.Lts as lts
-use Rattle.slots.proofs.Slots.put_bound.Reads as put-bound-reads
-use Rattle.slots.proofs.Slots.put_claimed.Reads as put-claimed-reads
-use Rattle.slots.proofs.Slots.put_open.Reads as put-open-reads
 
 enum-told : tie.Need-enum-told
 enum-told c = search needs

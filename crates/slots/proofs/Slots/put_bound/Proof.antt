@@ -5,9 +5,6 @@ use Rattle.slots.specs.SlotsLaws.{put-above}
 use borrow.Author.Needs.{needs}
 use Rattle.slots.proofs.Slots.put_bound.Statement.{statement}
 use Rattle.slots.proofs.Slots.put_bound.Tie as tie
-use Rattle.slots.proofs.Slots.put_bound.Reads as reads
-use Rattle.slots.proofs.Slots.put_bound.Lts as lts
-use Rattle.pool.proofs.Pool.with.Reads as with-reads
 
 returns : tie.Need-returns
 returns c = let s = c .before .args .t1 in let h = c .before .good in sym (put-above s (c .before .args .a .0) (c .before .args .u) (record { high = search needs; low = search needs }) (omega arith))

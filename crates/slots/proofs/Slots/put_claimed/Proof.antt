@@ -2,10 +2,6 @@ use Rattle.slots.specs.Slots.{withBinding}
 use borrow.Author.Needs.{needs}
 use Rattle.slots.proofs.Slots.put_claimed.Statement.{statement}
 use Rattle.slots.proofs.Slots.put_claimed.Tie as tie
-use Rattle.slots.proofs.Slots.put_claimed.Reads as reads
-use Rattle.slots.proofs.Slots.put_claimed.Lts as lts
-use Rattle.pool.proofs.Pool.with.Reads as with-reads
-use Rattle.pool.proofs.Pool.without.Reads as without-reads
 
 without-requires : tie.Need-without-requires
 without-requires c κs = search needs

@@ -2,9 +2,6 @@ use Rattle.slots.specs.Slots.{withBinding}
 use borrow.Author.Needs.{needs}
 use Rattle.slots.proofs.Slots.put_open.Statement.{statement}
 use Rattle.slots.proofs.Slots.put_open.Tie as tie
-use Rattle.slots.proofs.Slots.put_open.Reads as reads
-use Rattle.slots.proofs.Slots.put_open.Lts as lts
-use Rattle.pool.proofs.Pool.without.Reads as without-reads
 
 without-requires : tie.Need-without-requires
 without-requires c κs = search needs

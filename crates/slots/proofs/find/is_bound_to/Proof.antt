@@ -8,9 +8,6 @@ use Rattle.pool.specs.Pools.{member}
 use borrow.Author.Needs.{needs}
 use Rattle.slots.proofs.find.is_bound_to.Statement.{statement}
 use Rattle.slots.proofs.find.is_bound_to.Tie as tie
-use Rattle.slots.proofs.find.is_bound_to.Reads as reads
-use Rattle.slots.proofs.find.is_bound_to.Lts as lts
-use Rattle.pool.proofs.Pool.has.Reads as has-reads
 
 none-of-both : (b h : Bool) → false ≡ and b (and h false)
 none-of-both true true = refl

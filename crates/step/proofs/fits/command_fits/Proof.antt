@@ -1,12 +1,8 @@
 use borrow.Author.Tests.{not-true, not-false}
-use mathlib.Core.Path.{_≡_, sym, _∙_}
+use mathlib.Core.Path.{sym, _∙_}
 use borrow.Author.Needs.{needs}
 use Rattle.step.proofs.fits.command_fits.Statement.{statement}
 use Rattle.step.proofs.fits.command_fits.Tie as tie
-use Rattle.step.proofs.fits.command_fits.Reads as reads
-use Rattle.step.proofs.fits.command_fits.Lts as lts
-use Rattle.trace.proofs.valid.sender_fits.Reads as sender-fits-reads
-use Rattle.wire.proofs.symbol.is_byte.Reads as is-byte-reads
 
 is-byte-requires : tie.Need-is-byte-requires
 is-byte-requires c κs = search needs

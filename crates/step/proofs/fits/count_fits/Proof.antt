@@ -2,9 +2,6 @@ use borrow.Author.Tests.{lt-leb, le-leb}
 use borrow.Author.Needs.{needs}
 use Rattle.step.proofs.fits.count_fits.Statement.{statement}
 use Rattle.step.proofs.fits.count_fits.Tie as tie
-use Rattle.step.proofs.fits.count_fits.Reads as reads
-use Rattle.step.proofs.fits.count_fits.Lts as lts
-use Rattle.step.proofs.fits.less.Reads as less-reads
 
 cast-if1 : tie.Need-cast-if1
 cast-if1 c = search needs

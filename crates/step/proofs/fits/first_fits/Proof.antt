@@ -1,16 +1,10 @@
 use Rattle.step.specs.FirstByteLaws.{first-is}
 use borrow.Author.Tests.{not-true, not-false}
 use mathlib.Core.Bool.{true, false}
-use mathlib.Core.Path.{_≡_, refl, sym, ap, _∙_}
+use mathlib.Core.Path.{refl, sym, _∙_}
 use borrow.Author.Needs.{needs}
 use Rattle.step.proofs.fits.first_fits.Statement.{statement}
 use Rattle.step.proofs.fits.first_fits.Tie as tie
-use Rattle.step.proofs.fits.first_fits.Reads as reads
-use Rattle.step.proofs.fits.first_fits.Lts as lts
-use Rattle.step.proofs.fits.way_fits.Reads as way-fits-reads
-use Rattle.trace.proofs.valid.address_fits.Reads as address-fits-reads
-use Rattle.wire.proofs.address.Address.from_wire.Reads as from-wire-reads
-use Rattle.wire.proofs.symbol.is_byte.Reads as is-byte-reads
 
 is-byte-requires : tie.Need-is-byte-requires
 is-byte-requires c κs = search needs

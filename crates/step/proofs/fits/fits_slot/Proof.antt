@@ -1,13 +1,6 @@
 use borrow.Author.Needs.{needs}
 use Rattle.step.proofs.fits.fits_slot.Statement.{statement}
 use Rattle.step.proofs.fits.fits_slot.Tie as tie
-use Rattle.step.proofs.fits.fits_slot.Reads as reads
-use Rattle.step.proofs.fits.fits_slot.Lts as lts
-use Rattle.step.proofs.fits.command_fits.Reads as command-fits-reads
-use Rattle.step.proofs.fits.count_fits.Reads as count-fits-reads
-use Rattle.step.proofs.fits.first_fits.Reads as first-fits-reads
-use Rattle.trace.proofs.shape.least_of.Reads as least-of-reads
-use Rattle.wire.proofs.symbol.is_byte.Reads as is-byte-reads
 
 enum-told : tie.Need-enum-told
 enum-told c = search needs

@@ -2,10 +2,6 @@ use borrow.Author.Tests.{eq-eqb, ne-eqb}
 use borrow.Author.Needs.{needs}
 use Rattle.step.proofs.fits.may_stand.Statement.{statement}
 use Rattle.step.proofs.fits.may_stand.Tie as tie
-use Rattle.step.proofs.fits.may_stand.Reads as reads
-use Rattle.step.proofs.fits.may_stand.Lts as lts
-use Rattle.step.proofs.fits.ack_at.Reads as ack-at-reads
-use Rattle.step.proofs.fits.fits_slot.Reads as fits-slot-reads
 
 enum-told : tie.Need-enum-told
 enum-told c = search needs

@@ -1,15 +1,8 @@
 use Rattle.step.specs.FirstByteLaws.{not-odd-is-even}
-use Rattle.lists.specs.Choice.{not}
-use mathlib.Core.Bool.{Bool}
-use mathlib.Core.Path.{_≡_, sym, ap, _∙_}
+use mathlib.Core.Path.{sym, _∙_}
 use borrow.Author.Needs.{needs}
 use Rattle.step.proofs.fits.way_fits.Statement.{statement}
 use Rattle.step.proofs.fits.way_fits.Tie as tie
-use Rattle.step.proofs.fits.way_fits.Reads as reads
-use Rattle.step.proofs.fits.way_fits.Lts as lts
-use Rattle.trace.proofs.shape.has_read.Reads as has-read-reads
-use Rattle.trace.proofs.shape.has_write.Reads as has-write-reads
-use Rattle.wire.proofs.address.WireByte.is_read.Reads as is-read-reads
 
 has-write-requires : tie.Need-has-write-requires
 has-write-requires c κs = search needs

@@ -1,20 +1,6 @@
 use borrow.Author.Needs.{needs}
 use Rattle.step.proofs.moved.move_slot.Statement.{statement}
 use Rattle.step.proofs.moved.move_slot.Tie as tie
-use Rattle.step.proofs.moved.move_slot.Reads as reads
-use Rattle.step.proofs.moved.move_slot.Lts as lts
-use Rattle.step.proofs.moved.byte_read.Reads as byte-read-reads
-use Rattle.step.proofs.moved.command_read.Reads as command-read-reads
-use Rattle.step.proofs.moved.first_read.Reads as first-read-reads
-use Rattle.step.proofs.moved.moved_to.Reads as moved-to-reads
-use Rattle.step.proofs.moved.pec_read.Reads as pec-read-reads
-use Rattle.step.proofs.moved.read_count_read.Reads as read-count-read-reads
-use Rattle.step.proofs.moved.sent_count_read.Reads as sent-count-read-reads
-use Rattle.step.proofs.next.after_first.Reads as after-first-reads
-use Rattle.step.proofs.next.to_data.Reads as to-data-reads
-use Rattle.step.proofs.next.to_read.Reads as to-read-reads
-use Rattle.step.proofs.next.to_read_data.Reads as to-read-data-reads
-use Rattle.step.proofs.next.to_sent.Reads as to-sent-reads
 
 enum-told : tie.Need-enum-told
 enum-told c = search needs

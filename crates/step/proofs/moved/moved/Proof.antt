@@ -2,10 +2,6 @@ use borrow.Author.Tests.{eq-eqb, ne-eqb}
 use borrow.Author.Needs.{needs}
 use Rattle.step.proofs.moved.moved.Statement.{statement}
 use Rattle.step.proofs.moved.moved.Tie as tie
-use Rattle.step.proofs.moved.moved.Reads as reads
-use Rattle.step.proofs.moved.moved.Lts as lts
-use Rattle.step.proofs.moved.move_slot.Reads as move-slot-reads
-use Rattle.step.proofs.moved.moved_to.Reads as moved-to-reads
 
 enum-told : tie.Need-enum-told
 enum-told c = search needs

@@ -1,9 +1,6 @@
 use borrow.Author.Needs.{needs}
 use Rattle.step.proofs.moved.pec_read.Statement.{statement}
 use Rattle.step.proofs.moved.pec_read.Tie as tie
-use Rattle.step.proofs.moved.pec_read.Reads as reads
-use Rattle.step.proofs.moved.pec_read.Lts as lts
-use Rattle.step.proofs.moved.moved_to.Reads as moved-to-reads
 
 moved-to-requires : tie.Need-moved-to-requires
 moved-to-requires c κs = search needs

@@ -1,10 +1,6 @@
 use borrow.Author.Needs.{needs}
 use Rattle.step.proofs.next.after_first.Statement.{statement}
 use Rattle.step.proofs.next.after_first.Tie as tie
-use Rattle.step.proofs.next.after_first.Reads as reads
-use Rattle.step.proofs.next.after_first.Lts as lts
-use Rattle.step.proofs.next.aim_at.Reads as aim-at-reads
-use Rattle.step.proofs.next.to_sent.Reads as to-sent-reads
 
 aim-at-requires : tie.Need-aim-at-requires
 aim-at-requires c κs = search needs

@@ -1,9 +1,6 @@
 use borrow.Author.Needs.{needs}
 use Rattle.step.proofs.next.after_read.Statement.{statement}
 use Rattle.step.proofs.next.after_read.Tie as tie
-use Rattle.step.proofs.next.after_read.Reads as reads
-use Rattle.step.proofs.next.after_read.Lts as lts
-use Rattle.step.proofs.next.aim_at.Reads as aim-at-reads
 
 aim-at-requires : tie.Need-aim-at-requires
 aim-at-requires c κs = search needs

@@ -2,12 +2,6 @@ use mathlib.Core.Path.{sym, _∙_}
 use borrow.Author.Needs.{needs}
 use Rattle.step.proofs.next.after_write.Statement.{statement}
 use Rattle.step.proofs.next.after_write.Tie as tie
-use Rattle.step.proofs.next.after_write.Reads as reads
-use Rattle.step.proofs.next.after_write.Lts as lts
-use Rattle.step.proofs.next.aim_at.Reads as aim-at-reads
-use Rattle.step.proofs.next.to_read.Reads as to-read-reads
-use Rattle.trace.proofs.shape.has_read.Reads as has-read-reads
-use Rattle.trace.proofs.shape.has_write.Reads as has-write-reads
 
 has-read-requires : tie.Need-has-read-requires
 has-read-requires c κs = search needs

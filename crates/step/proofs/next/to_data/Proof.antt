@@ -2,9 +2,6 @@ use borrow.Author.Tests.{eq-eqb, ne-eqb}
 use borrow.Author.Needs.{needs}
 use Rattle.step.proofs.next.to_data.Statement.{statement}
 use Rattle.step.proofs.next.to_data.Tie as tie
-use Rattle.step.proofs.next.to_data.Reads as reads
-use Rattle.step.proofs.next.to_data.Lts as lts
-use Rattle.step.proofs.next.after_write.Reads as after-write-reads
 
 after-write-requires : tie.Need-after-write-requires
 after-write-requires c κs = search needs

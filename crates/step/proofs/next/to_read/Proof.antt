@@ -1,11 +1,6 @@
 use borrow.Author.Needs.{needs}
 use Rattle.step.proofs.next.to_read.Statement.{statement}
 use Rattle.step.proofs.next.to_read.Tie as tie
-use Rattle.step.proofs.next.to_read.Reads as reads
-use Rattle.step.proofs.next.to_read.Lts as lts
-use Rattle.step.proofs.next.after_read.Reads as after-read-reads
-use Rattle.step.proofs.next.aim_at.Reads as aim-at-reads
-use Rattle.step.proofs.next.to_read_data.Reads as to-read-data-reads
 
 enum-told : tie.Need-enum-told
 enum-told c = search needs

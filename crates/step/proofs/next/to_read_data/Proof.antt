@@ -2,9 +2,6 @@ use borrow.Author.Tests.{eq-eqb, ne-eqb}
 use borrow.Author.Needs.{needs}
 use Rattle.step.proofs.next.to_read_data.Statement.{statement}
 use Rattle.step.proofs.next.to_read_data.Tie as tie
-use Rattle.step.proofs.next.to_read_data.Reads as reads
-use Rattle.step.proofs.next.to_read_data.Lts as lts
-use Rattle.step.proofs.next.after_read.Reads as after-read-reads
 
 after-read-requires : tie.Need-after-read-requires
 after-read-requires c κs = search needs

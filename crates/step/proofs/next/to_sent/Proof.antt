@@ -1,11 +1,6 @@
 use borrow.Author.Needs.{needs}
 use Rattle.step.proofs.next.to_sent.Statement.{statement}
 use Rattle.step.proofs.next.to_sent.Tie as tie
-use Rattle.step.proofs.next.to_sent.Reads as reads
-use Rattle.step.proofs.next.to_sent.Lts as lts
-use Rattle.step.proofs.next.after_write.Reads as after-write-reads
-use Rattle.step.proofs.next.aim_at.Reads as aim-at-reads
-use Rattle.step.proofs.next.to_data.Reads as to-data-reads
 
 enum-told : tie.Need-enum-told
 enum-told c = search needs

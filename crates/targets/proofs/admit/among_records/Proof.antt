@@ -1,15 +1,9 @@
-use Prim.Native.Nat.{_-_, _/_}
+use Prim.Native.Nat.{_-_}
 use borrow.Author.Tests.{lt-ltb, le-ltb}
 use Rattle.targets.specs.Refusals.{amongRecords}
 use borrow.Author.Needs.{needs}
 use Rattle.targets.proofs.admit.among_records.Statement.{statement}
 use Rattle.targets.proofs.admit.among_records.Tie as tie
-use Rattle.targets.proofs.admit.among_records.Reads as reads
-use Rattle.targets.proofs.admit.among_records.Lts as lts
-use Rattle.targets.proofs.fields.count.Reads as count-reads
-use Rattle.targets.proofs.malformed.first_malformed.Reads as first-malformed-reads
-use Rattle.targets.proofs.same.first_repeated.Reads as first-repeated-reads
-use Rattle.targets.proofs.taken.first_taken.Reads as first-taken-reads
 
 count-requires : tie.Need-count-requires
 count-requires c κs = search needs

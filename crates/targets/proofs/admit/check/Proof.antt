@@ -1,13 +1,8 @@
-use Prim.Native.Nat.{_-_, _/_}
+use Prim.Native.Nat.{_-_}
 use Rattle.targets.specs.Refusals.{checkedList}
 use borrow.Author.Needs.{needs}
 use Rattle.targets.proofs.admit.check.Statement.{statement}
 use Rattle.targets.proofs.admit.check.Tie as tie
-use Rattle.targets.proofs.admit.check.Reads as reads
-use Rattle.targets.proofs.admit.check.Lts as lts
-use Rattle.pool.proofs.Pool.starting.Reads as starting-reads
-use Rattle.targets.proofs.admit.among_records.Reads as among-records-reads
-use Rattle.targets.proofs.admit.is_bad_length.Reads as is-bad-length-reads
 
 is-bad-length-requires : tie.Need-is-bad-length-requires
 is-bad-length-requires c κs = search needs

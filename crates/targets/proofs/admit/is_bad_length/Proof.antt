@@ -2,8 +2,6 @@ use borrow.Author.Tests.{lt-ltb, le-ltb}
 use borrow.Author.Needs.{needs}
 use Rattle.targets.proofs.admit.is_bad_length.Statement.{statement}
 use Rattle.targets.proofs.admit.is_bad_length.Tie as tie
-use Rattle.targets.proofs.admit.is_bad_length.Reads as reads
-use Rattle.targets.proofs.admit.is_bad_length.Lts as lts
 
 mul-if1 : tie.Need-mul-if1
 mul-if1 c = search needs

@@ -12,9 +12,6 @@ use Rattle.targets.specs.ChangeLaws.{assigned-above, assigned-below}
 use Rattle.targets.specs.RecordLaws.{change-one-more, length-put}
 use Rattle.targets.proofs.assign.assign.Statement.{statement}
 use Rattle.targets.proofs.assign.assign.Tie as tie
-use Rattle.targets.proofs.assign.assign.Reads as reads
-use Rattle.targets.proofs.assign.assign.Lts as lts
-use Rattle.targets.proofs.assign.assign_one.Reads as assign-one-reads
 
 onward : (u : Udid) (a : ℕ) (s : List ℕ) (n i : ℕ) → i < n
     → putFrom (resolve u a (targetsFrom s (n - i) i)) i s

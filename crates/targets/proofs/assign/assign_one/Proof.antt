@@ -1,5 +1,5 @@
-use Prim.Native.Nat.{ℕ, _+_, _*_, _-_, _/_, _%_}
-use mathlib.Core.Path.{_≡_, sym, ap, _∙_}
+use Prim.Native.Nat.{ℕ, _+_, _*_, _-_, _%_}
+use mathlib.Core.Path.{_≡_, sym, _∙_}
 use native.Mathlib.Omega.{arith}
 use mathlib.Core.Bool.{true, false}
 use mathlib.Core.List.{List}
@@ -12,10 +12,6 @@ use Rattle.targets.specs.RecordLaws.{put-self}
 use borrow.Author.Needs.{needs}
 use Rattle.targets.proofs.assign.assign_one.Statement.{statement}
 use Rattle.targets.proofs.assign.assign_one.Tie as tie
-use Rattle.targets.proofs.assign.assign_one.Reads as reads
-use Rattle.targets.proofs.assign.assign_one.Lts as lts
-use Rattle.udid.proofs.Udid.stands_at.Reads as stands-at-reads
-use Rattle.wire.proofs.address.Address.for_read.Reads as for-read-reads
 
 taken-by : (i : ℕ) (u : Udid) (a : ℕ) (s : List ℕ) (b : ℕ) → sameUdid (udidOf s i) u ≡ true → b ≡ 2 * (a % 128) + 1
     → putTarget i (assignedTo u a (targetAt s i)) s ≡ set (set s (i * 18 + 16) b) (i * 18 + 17) 1

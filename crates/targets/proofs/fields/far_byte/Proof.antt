@@ -4,8 +4,6 @@ use lib.ListN.{List·getD-eq-default}
 use borrow.Author.Needs.{needs}
 use Rattle.targets.proofs.fields.far_byte.Statement.{statement}
 use Rattle.targets.proofs.fields.far_byte.Tie as tie
-use Rattle.targets.proofs.fields.far_byte.Reads as reads
-use Rattle.targets.proofs.fields.far_byte.Lts as lts
 
 returns : tie.Need-returns
 returns c = sym (List·getD-eq-default (c .before .args .records .now) 0 (omega arith))

@@ -6,9 +6,6 @@ use Rattle.targets.specs.FieldLaws.{udid-past-end}
 use borrow.Author.Needs.{needs}
 use Rattle.targets.proofs.fields.high_of.Statement.{statement}
 use Rattle.targets.proofs.fields.high_of.Tie as tie
-use Rattle.targets.proofs.fields.high_of.Reads as reads
-use Rattle.targets.proofs.fields.high_of.Lts as lts
-use Rattle.udid.proofs.Udid.high_at.Reads as high-at-reads
 
 returns : tie.Need-returns
 returns c = ap (λ (u : Udid). u .high) (sym (udid-past-end (c .before .before .args .records .now) (c .before .before .args .i * 18) (omega arith)))

@@ -7,10 +7,6 @@ use Rattle.targets.specs.FieldLaws.{udid-past-end}
 use borrow.Author.Needs.{needs}
 use Rattle.targets.proofs.fields.is_of.Statement.{statement}
 use Rattle.targets.proofs.fields.is_of.Tie as tie
-use Rattle.targets.proofs.fields.is_of.Reads as reads
-use Rattle.targets.proofs.fields.is_of.Lts as lts
-use Rattle.udid.proofs.Udid.is_same.Reads as is-same-reads
-use Rattle.udid.proofs.Udid.stands_at.Reads as stands-at-reads
 
 is-same-requires : tie.Need-is-same-requires
 is-same-requires c κs = search needs

@@ -5,9 +5,6 @@ use Rattle.targets.specs.FieldLaws.{udid-past-end}
 use borrow.Author.Needs.{needs}
 use Rattle.targets.proofs.fields.udid_of.Statement.{statement}
 use Rattle.targets.proofs.fields.udid_of.Tie as tie
-use Rattle.targets.proofs.fields.udid_of.Reads as reads
-use Rattle.targets.proofs.fields.udid_of.Lts as lts
-use Rattle.udid.proofs.Udid.from_bytes.Reads as from-bytes-reads
 
 returns : tie.Need-returns
 returns c = sym (udid-past-end (c .before .before .args .records .now) (c .before .before .args .i * 18) (omega arith))

@@ -1,4 +1,4 @@
-use Prim.Native.Nat.{_-_, _/_, _≤_}
+use Prim.Native.Nat.{_-_, _≤_}
 use mathlib.Core.Path.{_≡_, sym, _∙_}
 use native.Mathlib.Omega.{arith}
 use Rattle.targets.specs.First.{firstFrom, first}
@@ -7,9 +7,6 @@ use Rattle.targets.specs.Refusals.{isMalformed}
 use borrow.Author.Needs.{needs}
 use Rattle.targets.proofs.malformed.first_malformed.Statement.{statement}
 use Rattle.targets.proofs.malformed.first_malformed.Tie as tie
-use Rattle.targets.proofs.malformed.first_malformed.Reads as reads
-use Rattle.targets.proofs.malformed.first_malformed.Lts as lts
-use Rattle.targets.proofs.malformed.is_malformed.Reads as is-malformed-reads
 
 abbrev Inv-loop : tie.InvT-loop
 Inv-loop records n i₀ i = (i ≤ n) × (first (isMalformed (records)) n ≡ firstFrom (isMalformed (records)) (n - i) i)

@@ -2,10 +2,6 @@ use borrow.Author.Tests.{eq-eqb, ne-eqb}
 use borrow.Author.Needs.{needs}
 use Rattle.targets.proofs.malformed.is_malformed.Statement.{statement}
 use Rattle.targets.proofs.malformed.is_malformed.Tie as tie
-use Rattle.targets.proofs.malformed.is_malformed.Reads as reads
-use Rattle.targets.proofs.malformed.is_malformed.Lts as lts
-use Rattle.targets.proofs.fields.address_byte.Reads as address-byte-reads
-use Rattle.targets.proofs.fields.flag_of.Reads as flag-of-reads
 
 address-byte-requires : tie.Need-address-byte-requires
 address-byte-requires c κs = search needs

@@ -10,8 +10,6 @@ use Rattle.targets.specs.Target.{prepared, cleared}
 use Rattle.targets.specs.RecordLaws.{change-one-more, put-prepared}
 use Rattle.targets.proofs.prepare.prepare.Statement.{statement}
 use Rattle.targets.proofs.prepare.prepare.Tie as tie
-use Rattle.targets.proofs.prepare.prepare.Reads as reads
-use Rattle.targets.proofs.prepare.prepare.Lts as lts
 
 onward : (s : List ℕ) (n i : ℕ) → i < n
     → putFrom (cleared (targetsFrom s (n - i) i)) i s ≡ putFrom (cleared (targetsFrom (set s (i * 18 + 17) 0) (n - (i + 1)) (i + 1))) (i + 1) (set s (i * 18 + 17) 0)

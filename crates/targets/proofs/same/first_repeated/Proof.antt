@@ -1,4 +1,4 @@
-use Prim.Native.Nat.{ℕ, _-_, _/_, _≤_}
+use Prim.Native.Nat.{ℕ, _-_, _≤_}
 use mathlib.Core.Path.{_≡_, sym, ap, _∙_}
 use borrow.Author.Needs.{needs}
 use native.Mathlib.Omega.{arith}
@@ -9,9 +9,6 @@ use Rattle.targets.specs.Refusals.{isRepeated}
 use lib.Dec.{ltb}
 use Rattle.targets.proofs.same.first_repeated.Statement.{statement}
 use Rattle.targets.proofs.same.first_repeated.Tie as tie
-use Rattle.targets.proofs.same.first_repeated.Reads as reads
-use Rattle.targets.proofs.same.first_repeated.Lts as lts
-use Rattle.targets.proofs.same.first_same.Reads as first-same-reads
 
 abbrev Inv-loop : tie.InvT-loop
 Inv-loop records n i₀ i = (i ≤ n) × (first (isRepeated (records)) n ≡ firstFrom (isRepeated (records)) (n - i) i)

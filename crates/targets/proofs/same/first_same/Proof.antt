@@ -1,4 +1,4 @@
-use Prim.Native.Nat.{_-_, _/_, _≤_}
+use Prim.Native.Nat.{_-_, _≤_}
 use mathlib.Core.Path.{_≡_, sym, ap, _∙_}
 use native.Mathlib.Omega.{arith}
 use Rattle.targets.specs.First.{firstFrom, first}
@@ -6,14 +6,9 @@ use Rattle.targets.specs.FirstLaws.{first-start, first-found, first-onwa
 use Rattle.targets.specs.Refusals.{isSameAs}
 use Rattle.targets.specs.Records.{udidOf}
 use Rattle.udid.specs.Udids.{sameUdid}
-use Rattle.udid.specs.declared.Udid.{Udid}
 use borrow.Author.Needs.{needs}
 use Rattle.targets.proofs.same.first_same.Statement.{statement}
 use Rattle.targets.proofs.same.first_same.Tie as tie
-use Rattle.targets.proofs.same.first_same.Reads as reads
-use Rattle.targets.proofs.same.first_same.Lts as lts
-use Rattle.targets.proofs.fields.is_of.Reads as is-of-reads
-use Rattle.targets.proofs.fields.udid_of.Reads as udid-of-reads
 
 abbrev Inv-loop : tie.InvT-loop
 Inv-loop records i u j₀ j = (j ≤ i) × (u ≡ udidOf records i) × (first (isSameAs records i) i ≡ firstFrom (isSameAs records i) (i - j) j)

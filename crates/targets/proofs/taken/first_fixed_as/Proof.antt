@@ -1,4 +1,4 @@
-use Prim.Native.Nat.{_-_, _/_, _≤_}
+use Prim.Native.Nat.{_-_, _≤_}
 use mathlib.Core.Path.{_≡_, sym, _∙_}
 use native.Mathlib.Omega.{arith}
 use Rattle.targets.specs.First.{firstFrom, first}
@@ -7,9 +7,6 @@ use Rattle.targets.specs.Refusals.{isFixedAs}
 use borrow.Author.Needs.{needs}
 use Rattle.targets.proofs.taken.first_fixed_as.Statement.{statement}
 use Rattle.targets.proofs.taken.first_fixed_as.Tie as tie
-use Rattle.targets.proofs.taken.first_fixed_as.Reads as reads
-use Rattle.targets.proofs.taken.first_fixed_as.Lts as lts
-use Rattle.targets.proofs.taken.is_fixed_as.Reads as is-fixed-as-reads
 
 abbrev Inv-loop : tie.InvT-loop
 Inv-loop records i j₀ j = (j ≤ i) × (first (isFixedAs (records) (i)) i ≡ firstFrom (isFixedAs (records) (i)) (i - j) j)

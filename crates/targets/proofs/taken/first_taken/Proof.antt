@@ -1,4 +1,4 @@
-use Prim.Native.Nat.{_-_, _/_, _≤_}
+use Prim.Native.Nat.{_-_, _≤_}
 use mathlib.Core.Path.{_≡_, sym, _∙_}
 use borrow.Author.Needs.{needs}
 use native.Mathlib.Omega.{arith}
@@ -7,9 +7,6 @@ use Rattle.targets.specs.FirstLaws.{first-start, first-found, first-onwa
 use Rattle.targets.specs.Refusals.{isTaken}
 use Rattle.targets.proofs.taken.first_taken.Statement.{statement}
 use Rattle.targets.proofs.taken.first_taken.Tie as tie
-use Rattle.targets.proofs.taken.first_taken.Reads as reads
-use Rattle.targets.proofs.taken.first_taken.Lts as lts
-use Rattle.targets.proofs.taken.is_taken.Reads as is-taken-reads
 
 abbrev Inv-loop : tie.InvT-loop
 Inv-loop records n starting i₀ i = (i ≤ n) × (first (isTaken (starting) (records)) n ≡ firstFrom (isTaken (starting) (records)) (n - i) i)

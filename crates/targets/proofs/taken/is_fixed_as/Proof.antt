@@ -9,11 +9,6 @@ use Rattle.targets.specs.Records.{udidOf}
 use borrow.Author.Needs.{needs}
 use Rattle.targets.proofs.taken.is_fixed_as.Statement.{statement}
 use Rattle.targets.proofs.taken.is_fixed_as.Tie as tie
-use Rattle.targets.proofs.taken.is_fixed_as.Reads as reads
-use Rattle.targets.proofs.taken.is_fixed_as.Lts as lts
-use Rattle.targets.proofs.fields.address_of.Reads as address-of-reads
-use Rattle.targets.proofs.fields.udid_of.Reads as udid-of-reads
-use Rattle.udid.proofs.Udid.is_fixed.Reads as is-fixed-reads
 
 -- another address, and the same
 elsewhere : (x : Bool) (a b p q : ℕ) → a ≡ p → b ≡ q → (b ≡ a → ⊥) → false ≡ and x (eqb q p)

@@ -8,13 +8,6 @@ use Rattle.pool.specs.Pools.{member}
 use borrow.Author.Needs.{needs}
 use Rattle.targets.proofs.taken.is_taken.Statement.{statement}
 use Rattle.targets.proofs.taken.is_taken.Tie as tie
-use Rattle.targets.proofs.taken.is_taken.Reads as reads
-use Rattle.targets.proofs.taken.is_taken.Lts as lts
-use Rattle.pool.proofs.Pool.has.Reads as has-reads
-use Rattle.targets.proofs.fields.address_of.Reads as address-of-reads
-use Rattle.targets.proofs.fields.udid_of.Reads as udid-of-reads
-use Rattle.targets.proofs.taken.first_fixed_as.Reads as first-fixed-as-reads
-use Rattle.udid.proofs.Udid.is_fixed.Reads as is-fixed-reads
 
 udid-of-requires : tie.Need-udid-of-requires
 udid-of-requires c κs = search needs

@@ -1,13 +1,9 @@
-use Prim.Native.Nat.{_-_, _/_}
+use Prim.Native.Nat.{_-_}
 use borrow.Author.Tests.{lt-ltb, le-ltb}
 use Rattle.targets.specs.Winner.{winnerOf}
 use borrow.Author.Needs.{needs}
 use Rattle.targets.proofs.winner.find.Statement.{statement}
 use Rattle.targets.proofs.winner.find.Tie as tie
-use Rattle.targets.proofs.winner.find.Reads as reads
-use Rattle.targets.proofs.winner.find.Lts as lts
-use Rattle.targets.proofs.fields.count.Reads as count-reads
-use Rattle.targets.proofs.winner.least.Reads as least-reads
 
 count-requires : tie.Need-count-requires
 count-requires c κs = search needs

@@ -1,5 +1,5 @@
 use Prim.Native.Nat.{ℕ, _+_, _*_, _^_, _≤_, _<_}
-use mathlib.Core.Path.{_≡_, refl, sym, ap, _∙_}
+use mathlib.Core.Path.{_≡_, sym, ap, _∙_}
 use mathlib.Core.Bool.{true, false}
 use mathlib.Core.List.{List}
 use native.Mathlib.Omega.{arith}
@@ -12,12 +12,6 @@ use Rattle.targets.specs.declared.winner.Best.{Best}
 use borrow.Author.Needs.{needs}
 use Rattle.targets.proofs.winner.is_better.Statement.{statement}
 use Rattle.targets.proofs.winner.is_better.Tie as tie
-use Rattle.targets.proofs.winner.is_better.Reads as reads
-use Rattle.targets.proofs.winner.is_better.Lts as lts
-use Rattle.arbitration.proofs.win.beats.Reads as beats-reads
-use Rattle.targets.proofs.fields.flag_of.Reads as flag-of-reads
-use Rattle.targets.proofs.fields.high_of.Reads as high-of-reads
-use Rattle.targets.proofs.fields.udid_of.Reads as udid-of-reads
 
 -- the ends
 resolved : (s : List ℕ) (n i b : ℕ) → flagOf s i ≡ 1 → false ≡ isBetter s n i b

@@ -1,5 +1,5 @@
 use Prim.Native.Nat.{ℕ, _+_, _-_, _≤_, _<_}
-use mathlib.Core.Path.{_≡_, refl, sym, ap, _∙_}
+use mathlib.Core.Path.{_≡_, sym, ap, _∙_}
 use mathlib.Core.List.{List}
 use native.Mathlib.Nat.{sub-zero}
 use native.Mathlib.Omega.{arith}
@@ -12,10 +12,6 @@ use Rattle.targets.specs.declared.winner.Best.{Best}
 use borrow.Author.Needs.{needs}
 use Rattle.targets.proofs.winner.least.Statement.{statement}
 use Rattle.targets.proofs.winner.least.Tie as tie
-use Rattle.targets.proofs.winner.least.Reads as reads
-use Rattle.targets.proofs.winner.least.Lts as lts
-use Rattle.targets.proofs.fields.udid_of.Reads as udid-of-reads
-use Rattle.targets.proofs.winner.next_better.Reads as next-better-reads
 
 none-yet : (s : List ℕ) (n : ℕ) (u : Udid) → Holds s n (record { place = n; udid = u })
 unfolding Holds

@@ -1,14 +1,10 @@
-use Prim.Native.Nat.{ℕ, _-_, _≤_, _<_}
+use Prim.Native.Nat.{ℕ, _-_, _≤_}
 use mathlib.Core.Path.{_≡_, refl, sym, ap, _∙_}
 use native.Mathlib.Omega.{arith}
 use Rattle.targets.specs.Winner.{bestFrom}
 use Rattle.targets.specs.SearchLaws.{passed, taken}
-use borrow.Author.Needs.{needs}
 use Rattle.targets.proofs.winner.next_better.Statement.{statement}
 use Rattle.targets.proofs.winner.next_better.Tie as tie
-use Rattle.targets.proofs.winner.next_better.Reads as reads
-use Rattle.targets.proofs.winner.next_better.Lts as lts
-use Rattle.targets.proofs.winner.is_better.Reads as is-better-reads
 
 abbrev Inv-loop : tie.InvT-loop
 Inv-loop records n from best i₀ i = (from ≤ i) × (i ≤ n) × (bestFrom records n (n - from) from (best .place) ≡ bestFrom records n (n - i) i (best .place))

@@ -1,17 +1,11 @@
 use borrow.Author.Needs.{needs}
-use mathlib.Core.Path.{_≡_, refl, sym, _∙_, ap}
-use borrow.Author.Tests.{lt-ltb, le-ltb, lt-leb, le-leb, eq-eqb, ne-eqb, not-true, not-false}
+use mathlib.Core.Path.{refl, sym, _∙_}
+use borrow.Author.Tests.{not-true, not-false}
 use mathlib.Core.Bool.{true, false}
 use native.Mathlib.Omega.{arith}
 use Rattle.trace.proofs.Fields.{read-length-is}
 use Rattle.trace.proofs.length.read_length.Statement.{statement}
 use Rattle.trace.proofs.length.read_length.Tie as tie
-use Rattle.trace.proofs.length.read_length.Reads as reads
-use Rattle.trace.proofs.length.read_length.Lts as lts
-use Rattle.trace.proofs.length.one_if.Reads as one-if-reads
-use Rattle.trace.proofs.shape.has_read.Reads as has-read-reads
-use Rattle.trace.proofs.shape.has_write.Reads as has-write-reads
-use Rattle.trace.proofs.shape.is_counted.Reads as is-counted-reads
 
 has-read-requires : tie.Need-has-read-requires
 has-read-requires c κs = search needs

@@ -1,14 +1,10 @@
 use borrow.Author.Needs.{needs}
 use borrow.Author.Tests.{not-true, not-false}
-use mathlib.Core.Path.{_≡_, refl, sym, _∙_}
+use mathlib.Core.Path.{refl, sym, _∙_}
 use mathlib.Core.Bool.{true, false}
 use Rattle.trace.specs.RoomLaws.{room-by}
 use Rattle.trace.proofs.length.room_by.Statement.{statement}
 use Rattle.trace.proofs.length.room_by.Tie as tie
-use Rattle.trace.proofs.length.room_by.Reads as reads
-use Rattle.trace.proofs.length.room_by.Lts as lts
-use Rattle.trace.proofs.length.trace_length.Reads as trace-length-reads
-use Rattle.trace.proofs.valid.lengths_fit.Reads as lengths-fit-reads
 
 returns : tie.Need-returns
 returns c = sym (room-by (c .before .args .sh) (c .before .args .forbidden) (c .before .args .pec) (c .before .args .m) (c .before .args .n) true _ (c .if1 .taken) refl)

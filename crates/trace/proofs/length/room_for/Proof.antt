@@ -5,11 +5,6 @@ use Rattle.trace.specs.Lengths.{roomBy}
 use Rattle.trace.specs.declared.shape.Shape.{Shape}
 use Rattle.trace.proofs.length.room_for.Statement.{statement}
 use Rattle.trace.proofs.length.room_for.Tie as tie
-use Rattle.trace.proofs.length.room_for.Reads as reads
-use Rattle.trace.proofs.length.room_for.Lts as lts
-use Rattle.trace.proofs.length.room_by.Reads as room-by-reads
-use Rattle.trace.proofs.protocol.is_forbidden.Reads as is-forbidden-reads
-use Rattle.trace.proofs.protocol.shape_of.Reads as shape-of-reads
 
 shape-of-requires : tie.Need-shape-of-requires
 shape-of-requires c κs = search needs

@@ -1,13 +1,7 @@
 use borrow.Author.Needs.{needs}
-use mathlib.Core.Path.{_≡_, refl, sym, _∙_, ap}
 use Rattle.trace.proofs.Fields.{trace-length-is}
 use Rattle.trace.proofs.length.trace_length.Statement.{statement}
 use Rattle.trace.proofs.length.trace_length.Tie as tie
-use Rattle.trace.proofs.length.trace_length.Reads as reads
-use Rattle.trace.proofs.length.trace_length.Lts as lts
-use Rattle.trace.proofs.length.one_if.Reads as one-if-reads
-use Rattle.trace.proofs.length.read_length.Reads as read-length-reads
-use Rattle.trace.proofs.shape.is_counted.Reads as is-counted-reads
 
 one-if-requires : tie.Need-one-if-requires
 one-if-requires c κs = search needs

@@ -1,13 +1,9 @@
 use borrow.Author.Needs.{needs}
-use mathlib.Core.Path.{_≡_, refl, sym, _∙_, ap}
 use borrow.Author.Tests.{lt-leb, le-leb}
 use mathlib.Core.Bool.{true, false}
 use Rattle.trace.proofs.Fields.{forbidden-is}
 use Rattle.trace.proofs.protocol.is_forbidden.Statement.{statement}
 use Rattle.trace.proofs.protocol.is_forbidden.Tie as tie
-use Rattle.trace.proofs.protocol.is_forbidden.Reads as reads
-use Rattle.trace.proofs.protocol.is_forbidden.Lts as lts
-use Rattle.trace.proofs.protocol.shape_of.Reads as shape-of-reads
 
 returns : tie.Need-returns
 returns c = rw (le-leb _ _ (c .if1 .taken))

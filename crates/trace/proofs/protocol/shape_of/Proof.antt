@@ -1,14 +1,11 @@
 use borrow.Author.Needs.{needs}
-use mathlib.Core.Path.{_≡_, refl, sym, _∙_, ap}
+use mathlib.Core.Path.{sym}
 use Prim.Native.Nat.{_≤_, zero-le}
 use Rattle.trace.specs.FieldLaws.{shape-above}
 use Rattle.trace.specs.Shapes.{protocols}
 use Rattle.trace.proofs.Fields.{up}
 use Rattle.trace.proofs.protocol.shape_of.Statement.{statement}
 use Rattle.trace.proofs.protocol.shape_of.Tie as tie
-use Rattle.trace.proofs.protocol.shape_of.Reads as reads
-use Rattle.trace.proofs.protocol.shape_of.Lts as lts
-use Rattle.trace.proofs.protocol.row.Reads as row-reads
 
 row-requires : tie.Need-row-requires
 row-requires c κs = search needs

@@ -1,13 +1,9 @@
 use borrow.Author.Needs.{needs}
-use mathlib.Core.Path.{_≡_, refl, sym, _∙_, ap}
+use mathlib.Core.Path.{_∙_}
 use mathlib.Core.Bool.{true, false}
 use Rattle.trace.proofs.Fields.{address-is}
 use Rattle.trace.proofs.valid.address_fits.Statement.{statement}
 use Rattle.trace.proofs.valid.address_fits.Tie as tie
-use Rattle.trace.proofs.valid.address_fits.Reads as reads
-use Rattle.trace.proofs.valid.address_fits.Lts as lts
-use Rattle.wire.proofs.address.Address.is_host.Reads as is-host-reads
-use Rattle.wire.proofs.address.Address.is_seven_bit.Reads as is-seven-bit-reads
 
 is-host-requires : tie.Need-is-host-requires
 is-host-requires c κs = search needs

@@ -1,12 +1,9 @@
 use borrow.Author.Needs.{needs}
-use mathlib.Core.Path.{_≡_, refl, sym, _∙_, ap}
+use mathlib.Core.Path.{_∙_}
 use mathlib.Core.Bool.{true, false}
 use Rattle.trace.proofs.Fields.{command-is}
 use Rattle.trace.proofs.valid.command_fits.Statement.{statement}
 use Rattle.trace.proofs.valid.command_fits.Tie as tie
-use Rattle.trace.proofs.valid.command_fits.Reads as reads
-use Rattle.trace.proofs.valid.command_fits.Lts as lts
-use Rattle.trace.proofs.valid.sender_fits.Reads as sender-fits-reads
 
 sender-fits-requires : tie.Need-sender-fits-requires
 sender-fits-requires c κs = search needs

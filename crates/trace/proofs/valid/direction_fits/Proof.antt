@@ -1,11 +1,7 @@
 use borrow.Author.Needs.{needs}
-use mathlib.Core.Path.{_≡_, refl, sym, _∙_, ap}
+use mathlib.Core.Path.{sym, _∙_}
 use Rattle.trace.proofs.valid.direction_fits.Statement.{statement}
 use Rattle.trace.proofs.valid.direction_fits.Tie as tie
-use Rattle.trace.proofs.valid.direction_fits.Reads as reads
-use Rattle.trace.proofs.valid.direction_fits.Lts as lts
-use Rattle.trace.proofs.shape.has_read.Reads as has-read-reads
-use Rattle.trace.proofs.shape.has_write.Reads as has-write-reads
 
 has-write-requires : tie.Need-has-write-requires
 has-write-requires c κs = search needs

@@ -1,10 +1,7 @@
 use borrow.Author.Needs.{needs}
 use Rattle.trace.proofs.Fields.{nothing-fits, fixed-fits, counted-fits}
-use mathlib.Core.Path.{_≡_, refl, sym, _∙_, ap}
 use Rattle.trace.proofs.valid.length_fits.Statement.{statement}
 use Rattle.trace.proofs.valid.length_fits.Tie as tie
-use Rattle.trace.proofs.valid.length_fits.Reads as reads
-use Rattle.trace.proofs.valid.length_fits.Lts as lts
 
 enum-told : tie.Need-enum-told
 enum-told c = search needs

@@ -1,14 +1,10 @@
 use borrow.Author.Needs.{needs}
-use mathlib.Core.Path.{_≡_, refl, sym, _∙_, ap}
+use mathlib.Core.Path.{sym, _∙_}
 use borrow.Author.Tests.{not-true, not-false}
 use native.Mathlib.Omega.{arith}
 use Rattle.trace.proofs.Fields.{first-unfit, second-unfit, too-many, both-fit}
 use Rattle.trace.proofs.valid.lengths_fit.Statement.{statement}
 use Rattle.trace.proofs.valid.lengths_fit.Tie as tie
-use Rattle.trace.proofs.valid.lengths_fit.Reads as reads
-use Rattle.trace.proofs.valid.lengths_fit.Lts as lts
-use Rattle.trace.proofs.shape.count_in.Reads as count-in-reads
-use Rattle.trace.proofs.valid.length_fits.Reads as length-fits-reads
 
 cast-most : tie.Need-cast-most
 cast-most c = search needs

@@ -1,11 +1,8 @@
 use borrow.Author.Needs.{needs}
-use mathlib.Core.Path.{_≡_, refl, sym, _∙_, ap}
-use mathlib.Core.Bool.{true, false}
+use mathlib.Core.Bool.{true}
 use Rattle.trace.proofs.Fields.{sender-is}
 use Rattle.trace.proofs.valid.sender_fits.Statement.{statement}
 use Rattle.trace.proofs.valid.sender_fits.Tie as tie
-use Rattle.trace.proofs.valid.sender_fits.Reads as reads
-use Rattle.trace.proofs.valid.sender_fits.Lts as lts
 
 returns : tie.Need-returns
 returns c = sender-is (c .before .args .sh) (c .before .args .c) true (c .if1 .taken)

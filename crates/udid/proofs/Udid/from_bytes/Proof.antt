@@ -2,10 +2,6 @@ use Rattle.udid.specs.Bytes.{udidAt}
 use borrow.Author.Needs.{needs}
 use Rattle.udid.proofs.Udid.from_bytes.Statement.{statement}
 use Rattle.udid.proofs.Udid.from_bytes.Tie as tie
-use Rattle.udid.proofs.Udid.from_bytes.Reads as reads
-use Rattle.udid.proofs.Udid.from_bytes.Lts as lts
-use Rattle.udid.proofs.Udid.from_few.Reads as from-few-reads
-use Rattle.udid.proofs.read.whole.Reads as whole-reads
 
 sub-if2 : tie.Need-sub-if2
 sub-if2 c = search needs

@@ -1,14 +1,11 @@
-use Prim.Native.Nat.{ℕ, _+_}
-use mathlib.Core.Path.{_≡_, refl, sym, ap, _∙_}
+use Prim.Native.Nat.{ℕ}
+use mathlib.Core.Path.{_≡_, ap, _∙_}
 use denote.Ref.{now}
 use native.Mathlib.Nat.{add-zero}
 use Rattle.udid.specs.Bytes.{number, bytesFrom, udidAt}
 use borrow.Author.Needs.{needs}
 use Rattle.udid.proofs.Udid.from_few.Statement.{statement}
 use Rattle.udid.proofs.Udid.from_few.Tie as tie
-use Rattle.udid.proofs.Udid.from_few.Reads as reads
-use Rattle.udid.proofs.Udid.from_few.Lts as lts
-use Rattle.udid.proofs.read.word.Reads as word-reads
 
 word-requires : tie.Need-word-requires
 word-requires c κs = search needs

@@ -1,13 +1,9 @@
-use mathlib.Core.Path.{_≡_, ap}
+use mathlib.Core.Path.{ap}
 use Rattle.udid.specs.Bytes.{udidAt}
 use Rattle.udid.specs.declared.Udid.{Udid}
 use borrow.Author.Needs.{needs}
 use Rattle.udid.proofs.Udid.high_at.Statement.{statement}
 use Rattle.udid.proofs.Udid.high_at.Tie as tie
-use Rattle.udid.proofs.Udid.high_at.Reads as reads
-use Rattle.udid.proofs.Udid.high_at.Lts as lts
-use Rattle.udid.proofs.Udid.from_few.Reads as from-few-reads
-use Rattle.udid.proofs.read.whole.Reads as whole-reads
 
 sub-if2 : tie.Need-sub-if2
 sub-if2 c = search needs

@@ -1,11 +1,9 @@
-use borrow.Author.Tests.{lt-ltb, le-ltb, eq-eqb, ne-eqb}
-use mathlib.Core.Path.{_≡_, refl, sym, ap, _∙_}
+use borrow.Author.Tests.{eq-eqb, ne-eqb}
+use mathlib.Core.Path.{sym, _∙_}
 use Rattle.udid.specs.UdidLaws.{below-halves}
 use borrow.Author.Needs.{needs}
 use Rattle.udid.proofs.Udid.is_below.Statement.{statement}
 use Rattle.udid.proofs.Udid.is_below.Tie as tie
-use Rattle.udid.proofs.Udid.is_below.Reads as reads
-use Rattle.udid.proofs.Udid.is_below.Lts as lts
 
 returns : tie.Need-returns
 returns c =

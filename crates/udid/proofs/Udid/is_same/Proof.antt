@@ -1,9 +1,6 @@
-use borrow.Author.Tests.{lt-ltb, le-ltb, eq-eqb, ne-eqb}
-use borrow.Author.Needs.{needs}
+use borrow.Author.Tests.{eq-eqb, ne-eqb}
 use Rattle.udid.proofs.Udid.is_same.Statement.{statement}
 use Rattle.udid.proofs.Udid.is_same.Tie as tie
-use Rattle.udid.proofs.Udid.is_same.Reads as reads
-use Rattle.udid.proofs.Udid.is_same.Lts as lts
 
 returns : tie.Need-returns
 returns c = simp (eq-eqb _ _ (c .before .before .if1 .taken))

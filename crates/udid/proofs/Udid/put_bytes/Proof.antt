@@ -1,4 +1,4 @@
-use mathlib.Core.Path.{_≡_, refl, sym, ap, _∙_}
+use mathlib.Core.Path.{sym}
 use native.Mathlib.Omega.{arith}
 use denote.Ref.{now}
 use Rattle.udid.specs.Bytes.{bytesOf, udidBytes}
@@ -8,9 +8,6 @@ use Rattle.udid.specs.WindowLaws.{put-short, put-two}
 use borrow.Author.Needs.{needs}
 use Rattle.udid.proofs.Udid.put_bytes.Statement.{statement}
 use Rattle.udid.proofs.Udid.put_bytes.Tie as tie
-use Rattle.udid.proofs.Udid.put_bytes.Reads as reads
-use Rattle.udid.proofs.Udid.put_bytes.Lts as lts
-use Rattle.udid.proofs.write.put_word.Reads as put-word-reads
 
 returns : tie.Need-returns
 returns c =

@@ -10,11 +10,6 @@ use Rattle.udid.specs.declared.Udid.{Udid}
 use borrow.Author.Needs.{needs}
 use Rattle.udid.proofs.Udid.stands_at.Statement.{statement}
 use Rattle.udid.proofs.Udid.stands_at.Tie as tie
-use Rattle.udid.proofs.Udid.stands_at.Reads as reads
-use Rattle.udid.proofs.Udid.stands_at.Lts as lts
-use Rattle.udid.proofs.Udid.from_bytes.Reads as from-bytes-reads
-use Rattle.udid.proofs.Udid.is_same.Reads as is-same-reads
-use Rattle.udid.proofs.read.whole.Reads as whole-reads
 
 -- the low halves differ
 other-low : (s : List ℕ) (i r : ℕ) (u : Udid) → r ≡ number (bytesFrom s (i + 8) 8) → (r ≡ u .low → ⊥) → sameUdid (udidAt s i) u ≡ false

@@ -1,13 +1,10 @@
-use mathlib.Core.Path.{_≡_, refl, sym, ap, _∙_}
+use mathlib.Core.Path.{sym}
 use native.Mathlib.Omega.{arith}
 use denote.Ref.{now}
 use lib.ListN.{List·getD-eq-default}
 use borrow.Author.Needs.{needs}
 use Rattle.udid.proofs.read.byte.Statement.{statement}
 use Rattle.udid.proofs.read.byte.Tie as tie
-use Rattle.udid.proofs.read.byte.Reads as reads
-use Rattle.udid.proofs.read.byte.Lts as lts
-use Rattle.udid.proofs.read.wide.Reads as wide-reads
 
 returns : tie.Need-returns
 returns c = (sym (List·getD-eq-default (now (c .before .before .args .s)) 0 (omega arith)), omega arith)

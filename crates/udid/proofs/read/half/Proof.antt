@@ -1,5 +1,5 @@
-use Prim.Native.Nat.{ℕ, zero, suc, _+_, _*_}
-use mathlib.Core.Path.{_≡_, refl, sym, ap, _∙_}
+use Prim.Native.Nat.{ℕ, suc, _+_, _*_}
+use mathlib.Core.Path.{_≡_, ap, _∙_}
 use mathlib.Core.List.{List}
 use native.Mathlib.Omega.{arith}
 use denote.Ref.{now}
@@ -8,9 +8,6 @@ use Rattle.udid.specs.Bytes.{number, numberFrom, bytesFrom}
 use borrow.Author.Needs.{needs}
 use Rattle.udid.proofs.read.half.Statement.{statement}
 use Rattle.udid.proofs.read.half.Tie as tie
-use Rattle.udid.proofs.read.half.Reads as reads
-use Rattle.udid.proofs.read.half.Lts as lts
-use Rattle.udid.proofs.read.wide.Reads as wide-reads
 
 -- four bytes in one sum
 flat : (s : List ℕ) (i a b c d : ℕ) → a ≡ getD s i 0 → b ≡ getD s (i + 1) 0 → c ≡ getD s (i + 2) 0 → d ≡ getD s (i + 3) 0

@@ -3,9 +3,6 @@ use Rattle.udid.specs.WindowLaws.{number-halves}
 use borrow.Author.Needs.{needs}
 use Rattle.udid.proofs.read.whole.Statement.{statement}
 use Rattle.udid.proofs.read.whole.Tie as tie
-use Rattle.udid.proofs.read.whole.Reads as reads
-use Rattle.udid.proofs.read.whole.Lts as lts
-use Rattle.udid.proofs.read.half.Reads as half-reads
 
 half-requires : tie.Need-half-requires
 half-requires c κs = search needs

@@ -1,6 +1,6 @@
-use Prim.Native.Nat.{ℕ, zero, suc, _+_, _-_, _*_, _^_, _<_, _≤_}
-use mathlib.Core.Path.{_≡_, refl, sym, ap, _∙_}
-use mathlib.Core.List.{List, [], _∷_, _++_}
+use Prim.Native.Nat.{ℕ, suc, _+_, _-_, _*_, _^_, _<_, _≤_}
+use mathlib.Core.Path.{_≡_, sym, ap, _∙_}
+use mathlib.Core.List.{List}
 use native.Mathlib.Omega.{arith}
 use denote.Ref.{now}
 use lib.Arith.{digits-lt}
@@ -10,9 +10,6 @@ use Rattle.udid.specs.Bytes.{number, numberFrom, bytesFrom}
 use borrow.Author.Needs.{needs}
 use Rattle.udid.proofs.read.word.Statement.{statement}
 use Rattle.udid.proofs.read.word.Tie as tie
-use Rattle.udid.proofs.read.word.Reads as reads
-use Rattle.udid.proofs.read.word.Lts as lts
-use Rattle.udid.proofs.read.byte.Reads as byte-reads
 
 -- a byte more: the number has eight bits more, and 64 at most
 bound : (n b k : ℕ) → n < 2 ^ (8 * k) → b < 256 → 256 * n + b < 2 ^ (8 * (k + 1))

@@ -1,19 +1,15 @@
-use Prim.Native.Nat.{ℕ, zero, suc, _+_, _-_, _*_, _/_, _%_, _^_, _<_, _≤_}
-use mathlib.Core.Path.{_≡_, refl, sym, ap, _∙_}
-use mathlib.Core.List.{List, [], _∷_, _++_, append-assoc}
+use Prim.Native.Nat.{ℕ, suc, _+_, _-_, _/_, _%_, _^_, _<_, _≤_}
+use mathlib.Core.Path.{_≡_, sym, ap, _∙_}
+use mathlib.Core.List.{List, _++_}
 use native.Mathlib.Omega.{arith}
 use denote.Ref.{now}
-use lib.ListN.{length, getD, take, drop, set, take-append-drop, length-append, length-drop}
-use lib.Seq.{take-suc, set-at, length-take-le}
-use native.Mathlib.Nat.{add-zero, pow-suc, div-one, div-div-eq-div-mul}
+use lib.ListN.{length, take, drop, set}
+use native.Mathlib.Nat.{pow-suc, div-one, div-div-eq-div-mul}
 use Rattle.udid.specs.Bytes.{bytesOf}
-use Rattle.udid.specs.ByteLaws.{length-bytes}
 use Rattle.udid.specs.WriteLaws.{start, finish, kept, next}
 use borrow.Author.Needs.{needs}
 use Rattle.udid.proofs.write.put_number.Statement.{statement}
 use Rattle.udid.proofs.write.put_number.Tie as tie
-use Rattle.udid.proofs.write.put_number.Reads as reads
-use Rattle.udid.proofs.write.put_number.Lts as lts
 
 -- what is left of the number
 less-one : (n k rest : ℕ) → 0 < k → k ≤ 8 → rest ≡ n / 256 ^ (8 - k) → rest / 256 ≡ n / 256 ^ (8 - (k - 1))

@@ -1,5 +1,5 @@
 use Prim.Native.Nat.{ℕ, _+_}
-use mathlib.Core.Path.{_≡_, sym, ap, _∙_}
+use mathlib.Core.Path.{sym, ap, _∙_}
 use mathlib.Core.List.{_++_}
 use denote.Ref.{now}
 use lib.ListN.{take, drop}
@@ -7,10 +7,6 @@ use Rattle.udid.specs.Bytes.{bytesOf}
 use borrow.Author.Needs.{needs}
 use Rattle.udid.proofs.write.put_word.Statement.{statement}
 use Rattle.udid.proofs.write.put_word.Tie as tie
-use Rattle.udid.proofs.write.put_word.Reads as reads
-use Rattle.udid.proofs.write.put_word.Lts as lts
-use Rattle.udid.proofs.write.put_number.Reads as put-number-reads
-use Rattle.udid.proofs.write.put_zeros.Reads as put-zeros-reads
 
 put-zeros-requires : tie.Need-put-zeros-requires
 put-zeros-requires c κs = search needs

@@ -1,4 +1,4 @@
-use Prim.Native.Nat.{ℕ, _+_, _-_, _/_, _^_, _≤_}
+use Prim.Native.Nat.{ℕ, _+_, _-_, _^_, _≤_}
 use mathlib.Core.Path.{_≡_, sym, ap, _∙_}
 use mathlib.Core.List.{List, _++_}
 use native.Mathlib.Nat.{zero-div}
@@ -10,8 +10,6 @@ use Rattle.udid.specs.WriteLaws.{start, finish, kept, next}
 use borrow.Author.Needs.{needs}
 use Rattle.udid.proofs.write.put_zeros.Statement.{statement}
 use Rattle.udid.proofs.write.put_zeros.Tie as tie
-use Rattle.udid.proofs.write.put_zeros.Reads as reads
-use Rattle.udid.proofs.write.put_zeros.Lts as lts
 
 abbrev Inv-loop : tie.InvT-loop
 Inv-loop out₀ at k₀ out k = (k ≤ 8) × (out ≡ take (at + k) out₀ ++ (bytesOf (8 - k) 0 ++ drop (at + 8) out₀))

@@ -1,12 +1,9 @@
 use native.Mathlib.Omega.{arith}
-use borrow.Author.Tests.{lt-ltb, le-ltb, le-leb, lt-leb, eq-eqb, ne-eqb, not-true, not-false}
+use borrow.Author.Tests.{le-leb, lt-leb}
 use Rattle.arp.specs.Controller.{asked}
 use borrow.Author.Needs.{needs}
 use Rattle.arp.proofs.state.Controller.ask.Statement.{statement}
 use Rattle.arp.proofs.state.Controller.ask.Tie as tie
-use Rattle.arp.proofs.state.Controller.ask.Reads as reads
-use Rattle.arp.proofs.state.Controller.ask.Lts as lts
-use Rattle.arp.proofs.state.Controller.hand.Reads as hand-reads
 
 hand-requires : tie.Need-hand-requires
 hand-requires c κs = search needs

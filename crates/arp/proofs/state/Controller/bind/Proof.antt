@@ -1,14 +1,8 @@
-use borrow.Author.Tests.{lt-ltb, le-ltb, le-leb, lt-leb, eq-eqb, ne-eqb, not-true, not-false}
+use borrow.Author.Tests.{lt-ltb, le-ltb}
 use Rattle.arp.specs.Bindings.{bound}
 use borrow.Author.Needs.{needs}
 use Rattle.arp.proofs.state.Controller.bind.Statement.{statement}
 use Rattle.arp.proofs.state.Controller.bind.Tie as tie
-use Rattle.arp.proofs.state.Controller.bind.Reads as reads
-use Rattle.arp.proofs.state.Controller.bind.Lts as lts
-use Rattle.arp.proofs.bound.binding_for.Reads as binding-for-reads
-use Rattle.slots.proofs.Slots.put.Reads as put-reads
-use Rattle.pool.proofs.Pool.has.Reads as has-reads
-use Rattle.pool.proofs.Pool.with.Reads as with-reads
 
 returns : tie.Need-returns
 unfolding bound

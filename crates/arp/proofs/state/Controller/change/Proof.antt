@@ -1,15 +1,8 @@
-use mathlib.Core.Path.{_≡_, sym, ap, _∙_}
+use mathlib.Core.Path.{sym, ap, _∙_}
 use Rattle.arp.specs.Controller.{asked, changed}
-use Rattle.hearing.specs.declared.told.Told.{Told}
 use borrow.Author.Needs.{needs}
 use Rattle.arp.proofs.state.Controller.change.Statement.{statement}
 use Rattle.arp.proofs.state.Controller.change.Tie as tie
-use Rattle.arp.proofs.state.Controller.change.Reads as reads
-use Rattle.arp.proofs.state.Controller.change.Lts as lts
-use Rattle.arp.proofs.state.Controller.ask.Reads as ask-reads
-use Rattle.arp.proofs.state.Controller.bind.Reads as bind-reads
-use Rattle.arp.proofs.state.Controller.hand.Reads as hand-reads
-use Rattle.arp.proofs.state.Controller.on_reply.Reads as on-reply-reads
 
 enum-told : tie.Need-enum-told
 enum-told c = search needs

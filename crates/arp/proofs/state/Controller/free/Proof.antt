@@ -1,13 +1,8 @@
-use borrow.Author.Tests.{lt-ltb, le-ltb, le-leb, lt-leb, eq-eqb, ne-eqb, not-true, not-false}
+use borrow.Author.Tests.{lt-ltb, le-ltb}
 use Rattle.arp.specs.Bindings.{freed}
 use borrow.Author.Needs.{needs}
 use Rattle.arp.proofs.state.Controller.free.Statement.{statement}
 use Rattle.arp.proofs.state.Controller.free.Tie as tie
-use Rattle.arp.proofs.state.Controller.free.Reads as reads
-use Rattle.arp.proofs.state.Controller.free.Lts as lts
-use Rattle.slots.proofs.Slots.find.Reads as find-reads
-use Rattle.slots.proofs.Slots.put.Reads as put-reads
-use Rattle.pool.proofs.Pool.without.Reads as without-reads
 
 find-requires : tie.Need-find-requires
 find-requires c κs = search needs

@@ -1,12 +1,9 @@
-use mathlib.Core.Path.{_≡_, refl, sym, ap, ap₂, _∙_}
-use borrow.Author.Tests.{lt-ltb, le-ltb, le-leb, lt-leb, eq-eqb, ne-eqb, not-true, not-false}
+use mathlib.Core.Path.{sym, ap, _∙_}
+use borrow.Author.Tests.{lt-ltb, le-ltb}
 use Rattle.arp.specs.Lookup.{seen}
 use borrow.Author.Needs.{needs}
 use Rattle.arp.proofs.state.Controller.lookup.Statement.{statement}
 use Rattle.arp.proofs.state.Controller.lookup.Tie as tie
-use Rattle.arp.proofs.state.Controller.lookup.Reads as reads
-use Rattle.arp.proofs.state.Controller.lookup.Lts as lts
-use Rattle.slots.proofs.Slots.held_at.Reads as held-at-reads
 
 returns : tie.Need-returns
 returns c = simp (lt-ltb _ _ (c .if1 .taken))

@@ -1,10 +1,6 @@
 use borrow.Author.Needs.{needs}
 use Rattle.arp.proofs.state.Controller.new.Statement.{statement}
 use Rattle.arp.proofs.state.Controller.new.Tie as tie
-use Rattle.arp.proofs.state.Controller.new.Reads as reads
-use Rattle.arp.proofs.state.Controller.new.Lts as lts
-use Rattle.slots.proofs.Slots.none.Reads as none-reads
-use Rattle.pool.proofs.Pool.starting.Reads as starting-reads
 
 starting-requires : tie.Need-starting-requires
 starting-requires c κs = search needs

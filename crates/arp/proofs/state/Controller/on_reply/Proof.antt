@@ -2,11 +2,6 @@ use Rattle.arp.proofs.Steps.{reply-none, reply-at}
 use borrow.Author.Needs.{needs}
 use Rattle.arp.proofs.state.Controller.on_reply.Statement.{statement}
 use Rattle.arp.proofs.state.Controller.on_reply.Tie as tie
-use Rattle.arp.proofs.state.Controller.on_reply.Reads as reads
-use Rattle.arp.proofs.state.Controller.on_reply.Lts as lts
-use Rattle.arp.proofs.choose.choose.Reads as choose-reads
-use Rattle.arp.proofs.state.Controller.free.Reads as free-reads
-use Rattle.arp.proofs.state.Controller.hand.Reads as hand-reads
 
 free-requires : tie.Need-free-requires
 free-requires c κs = search needs

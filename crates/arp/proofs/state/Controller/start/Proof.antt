@@ -1,10 +1,6 @@
 use borrow.Author.Needs.{needs}
 use Rattle.arp.proofs.state.Controller.start.Statement.{statement}
 use Rattle.arp.proofs.state.Controller.start.Tie as tie
-use Rattle.arp.proofs.state.Controller.start.Reads as reads
-use Rattle.arp.proofs.state.Controller.start.Lts as lts
-use Rattle.slots.proofs.Slots.none.Reads as none-reads
-use Rattle.arp.proofs.state.Controller.hand.Reads as hand-reads
 
 none-requires : tie.Need-none-requires
 none-requires c κs = search needs

@@ -1,12 +1,8 @@
-use mathlib.Core.Path.{_≡_, ap, _∙_}
+use mathlib.Core.Path.{ap, _∙_}
 use Rattle.arp.specs.Controller.{changed, stepped}
 use borrow.Author.Needs.{needs}
 use Rattle.arp.proofs.state.Controller.step.Statement.{statement}
 use Rattle.arp.proofs.state.Controller.step.Tie as tie
-use Rattle.arp.proofs.state.Controller.step.Reads as reads
-use Rattle.arp.proofs.state.Controller.step.Lts as lts
-use Rattle.arp.proofs.state.Controller.change.Reads as change-reads
-use Rattle.hearing.proofs.told.tell.Reads as tell-reads
 
 tell-requires : tie.Need-tell-requires
 tell-requires c κs = search needs

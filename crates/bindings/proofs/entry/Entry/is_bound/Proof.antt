@@ -3,8 +3,6 @@ use Rattle.bindings.specs.Entries.{isBound}
 use borrow.Author.Needs.{needs}
 use Rattle.bindings.proofs.entry.Entry.is_bound.Statement.{statement}
 use Rattle.bindings.proofs.entry.Entry.is_bound.Tie as tie
-use Rattle.bindings.proofs.entry.Entry.is_bound.Reads as reads
-use Rattle.bindings.proofs.entry.Entry.is_bound.Lts as lts
 
 enum-told : tie.Need-enum-told
 enum-told c = search needs

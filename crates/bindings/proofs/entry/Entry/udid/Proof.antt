@@ -3,8 +3,6 @@ use Rattle.bindings.specs.Entries.{entryUdid}
 use borrow.Author.Needs.{needs}
 use Rattle.bindings.proofs.entry.Entry.udid.Statement.{statement}
 use Rattle.bindings.proofs.entry.Entry.udid.Tie as tie
-use Rattle.bindings.proofs.entry.Entry.udid.Reads as reads
-use Rattle.bindings.proofs.entry.Entry.udid.Lts as lts
 
 enum-told : tie.Need-enum-told
 enum-told c = search needs

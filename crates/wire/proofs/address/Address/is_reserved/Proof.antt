@@ -2,8 +2,6 @@ use borrow.Author.Tests.{le-leb, lt-leb, eq-eqb, ne-eqb}
 use Rattle.wire.specs.Addresses.{isReserved}
 use Rattle.wire.proofs.address.Address.is_reserved.Statement.{statement}
 use Rattle.wire.proofs.address.Address.is_reserved.Tie as tie
-use Rattle.wire.proofs.address.Address.is_reserved.Reads as reads
-use Rattle.wire.proofs.address.Address.is_reserved.Lts as lts
 
 returns : tie.Need-returns
 unfolding isReserved
