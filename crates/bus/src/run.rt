@@ -1,4 +1,4 @@
-// The model run: refusals 2, 9, 10, 11 and 12, or a whole pass. Rests on targets for the refusals, and on pass, answer and bindings_of.
+// The model run: refusals 2, 9, 10, 11 and 12, or a whole pass. Rests on targets for the refusals, on pass, and on crate report.
 ghost use mathlib.Core.Path.{_≡_};
 ghost use Prim.Native.Nat.{_≤_};
 ghost use lib.ListN.{length};

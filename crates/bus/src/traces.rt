@@ -1,4 +1,4 @@
-// The trace that stands on the bus for a command. Rests on arp's put_command for the traces that are acknowledged whole, and on the
+// The trace that stands on the bus for a command. Rests on put_command of crate commands for the traces that are acknowledged whole, and on the
 // winner among the records; that this is what the bus shows bit by bit is in specs/TurnLaws.
 ghost use mathlib.Core.Path.{_≡_};
 ghost use Prim.Native.Nat.{_≤_};

@@ -1,4 +1,4 @@
-// The decoder at its entry: the refusals 1 and 2, the answer for the trace, and the data into the two lent buffers. Rests on step.
+// The decoder at its entry: the refusals 1 and 2, the answer for the trace, and the data into the two lent buffers. Rests on scan.
 //
 // The trace is read whole before a byte of the buffers is written, so that a refusal changes neither.
 ghost use mathlib.Core.Path.{_≡_};

@@ -1,4 +1,4 @@
-// A request is answered: by the libraries, and in the words of crate answers.
+// A request is answered: by the libraries, and in the words of codec_answers, answers and lookups.
 use crate::codec::decode;
 use crate::codec::encode;
 use crate::codec::pec;

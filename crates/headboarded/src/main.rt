@@ -1,6 +1,6 @@
 // headboarded: the console. It reads standard input to its end, one request a line, and writes an answer for each, in order; the requests
 // are listed by the argument help. Whatever it cannot read as a request it says so, with the column, and goes on.
-// Rests on crate requests for what a line means, on the libraries for every answer, and on crate answers for what is printed.
+// Rests on crate requests for what a line means, on the libraries for every answer, and on codec_answers, answers and lookups for what is printed.
 mod answer;
 mod codec;
 mod help;

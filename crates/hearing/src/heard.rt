@@ -1,4 +1,4 @@
-// Whether a transaction that was decoded is the command that was sent. Rests on crates step, trace, udid and wire.
+// Whether a transaction that was decoded is the command that was sent. Rests on crates scan, trace, udid and wire.
 ghost use mathlib.Core.Path.{_≡_};
 ghost use lib.ListN.{getD};
 ghost use Rattle.hearing.specs.Heard.{isCommand, isPrepare, names, isAssign, completes, nobody};

@@ -1,4 +1,4 @@
-// The controller's bindings in the binding buffer, and the set of bound addresses. Rests on arp's slots and on bindings.
+// The controller's bindings in the binding buffer, and the set of bound addresses. Rests on crates slots and bindings.
 ghost use mathlib.Core.Path.{_≡_};
 ghost use mathlib.Core.List.{_++_};
 ghost use Prim.Native.Nat.{_≤_};

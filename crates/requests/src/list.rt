@@ -1,5 +1,5 @@
 // Lists of numbers in a line. A list ends at the first word that is none of its numbers. No line has more words than characters, so as many
-// words are looked at. Rests on crate text.
+// words are looked at. Rests on crate words.
 ghost use mathlib.Core.Path.{_≡_};
 ghost use lib.ListN.{length};
 ghost use Rattle.writing.specs.Written.{Appended};

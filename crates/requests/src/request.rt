@@ -1,5 +1,5 @@
 // A line of the console as a request. A list of numbers is given by the place where it begins: read_bytes and read_symbols of module list
-// read it. Rests on crate text.
+// read it. Rests on crate words.
 ghost use mathlib.Core.Path.{_≡_};
 ghost use Rattle.requests.specs.Requests.{requestOf, requestIn};
 use crate::encoding::decode;

@@ -1,4 +1,4 @@
-// One word of a line, read as what is due there. Rests on crate text.
+// One word of a line, read as what is due there. Rests on crates text, digits and names.
 ghost use mathlib.Core.Path.{_≡_};
 ghost use Rattle.words.specs.Said.{byteAt, symbolAt, udidAt, protocolAt, pecAt, markAt, restAt};
 use digits::number::Halves;
