@@ -8,7 +8,7 @@ use native.Mathlib.Omega.{arith}
 use lib.ListN.{length-set, length-replicate}
 use lib.Seq.{getD-set-same, getD-set-other, set-out}
 use Rattle.lists.specs.Choice.{pick}
-use Rattle.pool.specs.MemberLaws.{member-above, with-above, has-with-same, has-with-other, has-without-same, has-without-other}
+use Rattle.pool.specs.MemberLaws.{member-above, with-above, without-above, has-with-same, has-with-other, has-without-same, has-without-other}
 use Rattle.pool.specs.Pools.{member}
 use Rattle.pool.specs.StartLaws.{member-empty}
 use Rattle.udid.specs.declared.Udid.{Udid}
@@ -85,14 +85,16 @@ held-out-of-range s a i x h = go (ℕ-discrete i a)
     go (no q) = held-other s a i x q
 
 -- nor does anything that is kept
-pub put-above : (s : Slots) (a : ℕ) (u : Udid) → Sized128 s → 128 ≤ a → withBinding s a (Bound u) ≡ s
+pub put-above : (s : Slots) (a : ℕ) (x : Binding) → Sized128 s → 128 ≤ a → withBinding s a x ≡ s
 unfolding withBinding
-put-above s a u z h = λ j. record {
+put-above s a Open z h = λ j. record { bound = without-above (s .bound) a h j; claimed = without-above (s .claimed) a h j; high = s .high; low = s .low }
+put-above s a (Bound u) z h = λ j. record {
   bound = with-above (s .bound) a h j;
   claimed = s .claimed;
   high = set-out (s .high) a (u .high) (subst (λ (n : ℕ). n ≤ a) (sym (z .high)) h) j;
   low = set-out (s .low) a (u .low) (subst (λ (n : ℕ). n ≤ a) (sym (z .low)) h) j;
 }
+put-above s a Claimed z h = λ j. record { bound = without-above (s .bound) a h j; claimed = with-above (s .claimed) a h j; high = s .high; low = s .low }
 
 -- what was put, or what was there elsewhere
 pub held-cases : (s : Slots) (a i : ℕ) (x h : Binding) → Sized128 s → a < 128 → heldAt (withBinding s a x) i ≡ h

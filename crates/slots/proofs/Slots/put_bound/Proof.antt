@@ -2,12 +2,13 @@ use mathlib.Core.Path.{sym}
 use native.Mathlib.Omega.{arith}
 use Rattle.slots.specs.Slots.{withBinding}
 use Rattle.slots.specs.SlotsLaws.{put-above}
+use Rattle.slots.specs.declared.Binding.the-variants.{Bound}
 use borrow.Author.Needs.{needs}
 use Rattle.slots.proofs.Slots.put_bound.Statement.{statement}
 use Rattle.slots.proofs.Slots.put_bound.Tie as tie
 
 returns : tie.Need-returns
-returns c = let s = c .before .args .t1 in let h = c .before .good in sym (put-above s (c .before .args .a .0) (c .before .args .u) (record { high = search needs; low = search needs }) (omega arith))
+returns c = let s = c .before .args .t1 in let h = c .before .good in sym (put-above s (c .before .args .a .0) (Bound (c .before .args .u)) (record { high = search needs; low = search needs }) (omega arith))
 
 cast-at : tie.Need-cast-at
 cast-at c = search needs
