@@ -2,3 +2,7 @@ pub mod Pec
 pub mod PecLaws
 pub mod PecDivision
 pub mod PecDivisionLaws
+pub mod Table
+pub mod TableLaws
+pub mod Single
+pub mod SingleLaws

@@ -92,13 +92,13 @@ leaves-self : (p : ℕ) → Leaves p p
 unfolding timesG
 leaves-self p = (0, refl)
 
-leaves-trans : (p c r : ℕ) → Leaves p c → Leaves c r → Leaves p r
+pub leaves-trans : (p c r : ℕ) → Leaves p c → Leaves c r → Leaves p r
 leaves-trans p c r (a, e) (b, f) = (bitXor a b, cc (timesG-xor a b, xor-assoc (timesG a) (timesG b) r))
 
 leaves-double : (p c : ℕ) → Leaves p c → Leaves (2 * p) (2 * c)
 leaves-double p c (a, e) = (2 * a, (let t = times-power 1 (timesG a) c in cc (timesG-double a)))
 
-leaves-plus : (p c b : ℕ) → Leaves p c → Leaves (bitXor p b) (bitXor c b)
+pub leaves-plus : (p c b : ℕ) → Leaves p c → Leaves (bitXor p b) (bitXor c b)
 leaves-plus p c b (a, e) = (a, cc (xor-assoc (timesG a) c b))
 
 -- ---- the register

@@ -1,32 +1,36 @@
-// The packet error code: CRC-8 with x^8+x^2+x+1, start 0, highest bit first, bit by bit. Rests on lists alone.
+// The packet error code: CRC-8 with x^8+x^2+x+1, start 0, highest bit first. Bytes in a row go by a table, one look-up for each.
+// A byte by itself goes by two multiplications, since the table would have to be copied for it. Rests on lists alone.
 ghost use mathlib.Core.Path.{_≡_};
-ghost use Rattle.pec.specs.Pec.{bitStep, pecStep, pecFrom, pecOf};
+ghost use Prim.Native.Nat.{_<_};
+ghost use Rattle.pec.specs.Pec.{pecStep, pecFrom, pecOf};
+ghost use Rattle.pec.specs.Single.{timesSeven};
 
-// One bit of the division: the register doubled, less the polynomial where the top bit falls out.
-fn bit(c: u8) -> u8
-    ensures { λ r. ⌜ r ≡ bitStep c ⌝ }
+mod remainders;
+pub mod table;
+
+// A polynomial times x^2+x+1, which is what x^8 leaves.
+fn times_seven(n: u16) -> u16
+    requires { ⌜ n < 256 ⌝ }
+    ensures { λ r. ⌜ r ≡ timesSeven n ⌝ }
 {
-    if c < 128 { 2 * c } else { 7 ^ (2 * (c - 128)) }
+    4 * n ^ (2 * n ^ n)
 }
 
-// The PEC of one byte more, after those that gave c.
+// The PEC of one byte more, after those that gave c. The two added, times x^8: what that has above x^7 is times x^8 once more.
 pub fn add_byte(c: u8, b: u8) -> u8
     ensures { λ r. ⌜ r ≡ pecStep c b ⌝ }
 {
-    bit(bit(bit(bit(bit(bit(bit(bit(c ^ b))))))))
+    let y = times_seven((c ^ b) as u16);
+    let z = times_seven(y / 256);
+    ((y ^ z) % 256) as u8
 }
 
 // The PEC of more bytes, after those that gave c.
 pub fn add_bytes(c: u8, s: &[u8]) -> u8
     ensures { λ r. ⌜ r ≡ pecFrom c (now (s .entry)) ⌝ }
 {
-    let mut z: u8 = c;
-    let mut i: usize = 0;
-    while i < s.len() {
-        z = add_byte(z, s[i]);
-        i += 1;
-    }
-    z
+    let t = table::table();
+    table::add_bytes_by(&t, c, s)
 }
 
 // The PEC of bytes, from the first on.

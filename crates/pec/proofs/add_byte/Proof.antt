@@ -1,46 +1,29 @@
 use borrow.Author.Needs.{needs}
-use Rattle.pec.specs.Pec.{pecStep}
+use mathlib.Core.Path.{_∙_, ap}
+use native.Mathlib.Omega.{arith}
+use lib.Bits.{xor-lt}
+use Rattle.pec.specs.SingleLaws.{single-step, seven-of-byte}
 use Rattle.pec.proofs.add_byte.Statement.{statement}
 use Rattle.pec.proofs.add_byte.Tie as tie
 
-bit-requires : tie.Need-bit-requires
-bit-requires c κs = search needs
+cast-times-seven : tie.Need-cast-times-seven
+cast-times-seven c = record { fits = (let h = xor-lt 8 (c .args .c) (c .args .b) (omega arith) (omega arith) in omega arith) }
 
-bit-requires-2 : tie.Need-bit-requires-2
-bit-requires-2 c κs = search needs
+times-seven-requires : tie.Need-times-seven-requires
+times-seven-requires c κs = xor-lt 8 (c .args .c) (c .args .b) (omega arith) (omega arith)
 
-bit-requires-3 : tie.Need-bit-requires-3
-bit-requires-3 c κs = search needs
+times-seven-requires-2 : tie.Need-times-seven-requires-2
+times-seven-requires-2 c κs = search needs
 
-bit-requires-4 : tie.Need-bit-requires-4
-bit-requires-4 c κs = search needs
-
-bit-requires-5 : tie.Need-bit-requires-5
-bit-requires-5 c κs = search needs
-
-bit-requires-6 : tie.Need-bit-requires-6
-bit-requires-6 c κs = search needs
-
-bit-requires-7 : tie.Need-bit-requires-7
-bit-requires-7 c κs = search needs
-
-bit-requires-8 : tie.Need-bit-requires-8
-bit-requires-8 c κs = search needs
+cast-result : tie.Need-cast-result
+cast-result c = search needs
 
 returns : tie.Need-returns
-unfolding pecStep
-returns c = cc
+returns c =
+    let a = c .before .before .args in
+    rw (c .times-seven2 .ensures, c .before .times-seven .ensures) (single-step (a .c) (a .b) (omega arith) (omega arith))
 
 pub add-byte-spec : {M : Type 1} → statement M
 add-byte-spec =
     tie.close
-    (tie.spec
-    bit-requires
-    bit-requires-2
-    bit-requires-3
-    bit-requires-4
-    bit-requires-5
-    bit-requires-6
-    bit-requires-7
-    bit-requires-8
-    returns)
+    (tie.spec cast-times-seven times-seven-requires times-seven-requires-2 cast-result returns)

@@ -5,11 +5,8 @@ use Rattle.step.proofs.moved.byte_read.Tie as tie
 moved-to-requires : tie.Need-moved-to-requires
 moved-to-requires c κs = search needs
 
-add-byte-requires : tie.Need-add-byte-requires
-add-byte-requires c κs = search needs
-
 returns : tie.Need-returns
-returns c = rw (c .add-byte .ensures, c .before .moved-to .ensures)
+returns c = rw (c .moved-to .ensures)
 
 pub byte-read-spec : {M : Type 1} → statement M
-byte-read-spec = tie.close (tie.spec moved-to-requires add-byte-requires returns)
+byte-read-spec = tie.close (tie.spec moved-to-requires returns)
