@@ -1,12 +1,14 @@
-// The packet error code over every byte of both phases, the address bytes and the counts included.
+// The packet error code over every byte of both phases, the address bytes and the counts included. The table is taken once and lent.
 ghost use mathlib.Core.Path.{_≡_};
 ghost use Rattle.lists.specs.Choice.{pick};
 ghost use Rattle.pec.specs.Pec.{pecFrom, pecOf};
+ghost use Rattle.pec.specs.Table.{Remainders};
 ghost use Rattle.trace.specs.Trace.{inPlace};
 ghost use Rattle.encode.specs.Pieces.{partBytes, writeBytes, bytesAfter, pecOfPhases};
 use crate::bytes::count_of;
-use pec::add_byte;
-use pec::add_bytes;
+use pec::table::add_byte_by;
+use pec::table::add_bytes_by;
+use pec::table::table;
 use trace::shape::Part;
 use trace::shape::Shape;
 use trace::shape::has_read;
@@ -15,40 +17,45 @@ use trace::shape::is_counted;
 use wire::address::WireByte;
 
 // One byte more, where there is one.
-fn add_byte_if(c: u8, there: bool, b: u8) -> u8
+fn add_byte_if(t: &[u8; 256], c: u8, there: bool, b: u8) -> u8
+    requires { ⌜ Remainders (now t) ⌝ }
     ensures { λ r. ⌜ r ≡ pecFrom c (inPlace there b) ⌝ }
 {
-    if there { add_byte(c, b) } else { c }
+    if there { add_byte_by(t, c, b) } else { c }
 }
 
 // A part of a message: its count, where it is counted, and its data.
-fn add_part(c: u8, a: Part, s: &[u8]) -> u8
+fn add_part(t: &[u8; 256], c: u8, a: Part, s: &[u8]) -> u8
+    requires { ⌜ Remainders (now t) ⌝ }
     ensures { λ r. ⌜ r ≡ pecFrom c (partBytes a (now (s .entry))) ⌝ }
 {
-    add_bytes(add_byte_if(c, is_counted(a), count_of(s)), s)
+    add_bytes_by(t, add_byte_if(t, c, is_counted(a), count_of(s)), s)
 }
 
 // The write phase.
-fn write_pec(sh: Shape, first: WireByte, command: u8, sent: &[u8]) -> u8
+fn write_pec(t: &[u8; 256], sh: Shape, first: WireByte, command: u8, sent: &[u8]) -> u8
+    requires { ⌜ Remainders (now t) ⌝ }
     ensures { λ r. ⌜ r ≡ pecOf (writeBytes sh (first .0) command (now (sent .entry))) ⌝ }
 {
     let a = sh.sent;
     add_part(
-        add_byte_if(add_byte(0, first.0), sh.command, command),
+        t,
+        add_byte_if(t, add_byte_by(t, 0, first.0), sh.command, command),
         a,
         sent,
     )
 }
 
 // The read phase after it, where there is one.
-fn read_pec(c: u8, sh: Shape, second: WireByte, received: &[u8]) -> u8
+fn read_pec(t: &[u8; 256], c: u8, sh: Shape, second: WireByte, received: &[u8]) -> u8
+    requires { ⌜ Remainders (now t) ⌝ }
     ensures { λ r. ⌜ r ≡ pecFrom c (bytesAfter sh (second .0) (now (received .entry))) ⌝ }
 {
     let a = sh.received;
     if !has_read(sh) {
         return c;
     }
-    add_part(add_byte_if(c, has_write(sh), second.0), a, received)
+    add_part(t, add_byte_if(t, c, has_write(sh), second.0), a, received)
 }
 
 // The PEC of the whole; 0 where none is used, and no time is spent on it.
@@ -66,5 +73,7 @@ pub(crate) fn pec_of(
     if !pec {
         return 0;
     }
-    read_pec(write_pec(sh, first, command, sent), sh, second, received)
+    let t = table();
+    let c = write_pec(&t, sh, first, command, sent);
+    read_pec(&t, c, sh, second, received)
 }
