@@ -1,7 +1,7 @@
 /* Calls the library's and the plain encoder and decoder on each protocol, with and without PEC,
    checks that they agree, and dumps callgrind's count after each. Of the library both entries are called: library takes
    16-bit symbols, pairs takes a symbol as two bytes. A dump's label is
-   WORK library|pairs|plain PROTOCOL PEC SENT RECEIVED SYMBOLS */
+   WORK library|pairs|plain|table PROTOCOL PEC SENT RECEIVED SYMBOLS */
 #include "baseline.h"
 #include "symbols.h"
 
@@ -34,10 +34,6 @@ static uint8_t *const trace = (uint8_t *)symbols_out;
 static uint8_t *const other_trace = (uint8_t *)other_out;
 static uint8_t sent_back[ROOM], received_back[ROOM];
 
-typedef hb_written encoder(uint8_t, uint8_t, uint8_t, uint8_t, uint8_t, const uint8_t *, size_t,
-                           const uint8_t *, size_t, uint8_t *, size_t);
-typedef hb_decoded decoder(uint8_t, uint8_t, const uint8_t *, size_t, uint8_t *, size_t, uint8_t *, size_t);
-typedef uint8_t checker(const uint8_t *, size_t);
 
 static hb_written library_encode(uint8_t protocol, uint8_t pec, uint8_t address, uint8_t direction, uint8_t command,
                                  const uint8_t *s, size_t s_len, const uint8_t *r, size_t r_len, uint8_t *out,
@@ -111,23 +107,29 @@ static void measure_pec(const char *who, checker *pec_of, const struct transacti
         stop("the PEC differs");
 }
 
+/* The library's first: its trace is what the others' are held against. */
+static const struct program {
+    const char *name;
+    encoder *encode;
+    decoder *decode;
+    checker *pec;
+} programs[] = {
+    { "library", library_encode, library_decode, hb_pec }, { "pairs", hb_encode, hb_decode, hb_pec },
+    { "plain", plain_encode, plain_decode, plain_pec }, { "table", table_encode, table_decode, table_pec },
+};
+
 static void measure(const struct transaction *t, uint8_t pec)
 {
     uint32_t symbols = plain_encode(t->protocol, pec, ADDRESS, 0, t->command, sent, t->sent, received, t->received,
                                     trace, TRACE_ROOM).symbols;
-    measure_encode("library", library_encode, t, pec, symbols, trace);
-    measure_encode("pairs", hb_encode, t, pec, symbols, other_trace);
-    if (memcmp(trace, other_trace, TRACE_ROOM) != 0)
-        stop("the library's two encoders differ");
-    measure_encode("plain", plain_encode, t, pec, symbols, other_trace);
-    if (memcmp(trace, other_trace, TRACE_ROOM) != 0)
-        stop("the encoders differ");
-    measure_decode("library", library_decode, t, pec, symbols);
-    measure_decode("pairs", hb_decode, t, pec, symbols);
-    measure_decode("plain", plain_decode, t, pec, symbols);
-    if (pec) {
-        measure_pec("library", hb_pec, t, symbols);
-        measure_pec("plain", plain_pec, t, symbols);
+    for (size_t k = 0; k < sizeof programs / sizeof programs[0]; k++) {
+        const struct program *p = &programs[k];
+        measure_encode(p->name, p->encode, t, pec, symbols, k == 0 ? trace : other_trace);
+        if (k > 0 && memcmp(trace, other_trace, TRACE_ROOM) != 0)
+            stop("the encoders differ");
+        measure_decode(p->name, p->decode, t, pec, symbols);
+        if (pec)
+            measure_pec(p->name, p->pec, t, symbols);
     }
 }
 

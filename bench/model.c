@@ -1,4 +1,4 @@
-/* Runs the library's and the plain model over shelves of 1, 10, 60 and 120 targets, checks that they agree on the answer and
+/* Runs the library's and the plain models over shelves of 1, 10, 60 and 120 targets, checks that they agree on the answer and
    on every byte of both buffers, also on lists that are refused, and dumps callgrind's count after each. A dump's label is
    WHO TARGETS ANSWER BOUND GETS */
 #include "baseline.h"
@@ -10,12 +10,11 @@
 
 enum { RECORD = 18, MOST = 120, ROOM = 2048, BEYOND = 32, LIST_ROOM = (MOST + 2) * RECORD };
 
-typedef hb_model runner(hb_pool, uint8_t *, size_t, uint8_t *, size_t);
-
 static const struct program {
     const char *name;
     runner *run;
-} programs[] = { { "library", hb_run_model }, { "plain", plain_run_model } };
+} programs[] = { { "library", hb_run_model }, { "plain", plain_run_model }, { "table", table_run_model } };
+enum { PROGRAMS = sizeof programs / sizeof programs[0] };
 
 struct result {
     hb_model answer;
@@ -76,18 +75,20 @@ static int same(const hb_model *a, const hb_model *b)
         && a->bound.high == b->bound.high;
 }
 
-/* Both programs on one input: the answer that both give. */
+/* All programs on one input: the answer that all give. */
 static hb_model compare(uint64_t occupied, const uint8_t *records, size_t length, size_t room)
 {
     static struct result a, b;
     run(&programs[0], occupied, records, length, room, NULL, &a);
-    run(&programs[1], occupied, records, length, room, NULL, &b);
-    if (!same(&a.answer, &b.answer))
-        stop("the library and plain C answer differently");
-    if (memcmp(a.records, b.records, sizeof a.records) != 0)
-        stop("the library and plain C leave other records");
-    if (memcmp(a.bindings, b.bindings, sizeof a.bindings) != 0)
-        stop("the library and plain C leave other bindings");
+    for (int k = 1; k < PROGRAMS; k++) {
+        run(&programs[k], occupied, records, length, room, NULL, &b);
+        if (!same(&a.answer, &b.answer))
+            stop("the library and plain C answer differently");
+        if (memcmp(a.records, b.records, sizeof a.records) != 0)
+            stop("the library and plain C leave other records");
+        if (memcmp(a.bindings, b.bindings, sizeof a.bindings) != 0)
+            stop("the library and plain C leave other bindings");
+    }
     return a.answer;
 }
 
@@ -128,7 +129,7 @@ static void measure(size_t targets)
     for (size_t n = 0; n <= targets; n++)
         compare(0xff00000000 * n, records, n * RECORD, ROOM + n % BEYOND);
     m = compare(0, records, targets * RECORD, ROOM);
-    for (int k = 0; k < 2; k++) {
+    for (int k = 0; k < PROGRAMS; k++) {
         snprintf(label, sizeof label, "%s %zu %u %u %u", programs[k].name, targets, m.answer, m.count, m.gets);
         run(&programs[k], 0, records, targets * RECORD, ROOM, label, &r);
     }

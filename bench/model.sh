@@ -1,13 +1,14 @@
 #!/bin/sh
 # Instructions of a model run with 1, 10, 60 and 120 targets, by callgrind: the library, and plain C beside it that applies the
-# plain rule and writes and reads the same traces. Their answers and buffers are compared first. Fails where the ratio is above the
-# limit of its size, or where a target among 120 costs more than its limit times what it costs among 10.
+# plain rule and writes and reads the same traces, with the PEC bit by bit and with a table. Their answers and buffers are compared first.
+# Fails where a ratio is above the limit of its size, or where a target among 120 costs more than its limit times what it costs among 10.
 # What it makes goes to build/.
 #   bench/model.sh [LIBRARY]
 set -eu
 cd "$(dirname "$0")/.."
-limits='1:1.5 10:1.3 60:1.3 120:1.3'
-growth=1.3
+# The targets, the limit against plain C bit by bit, and that against plain C with a table.
+limits='1:1.5:2.1 10:1.3:1.85 60:1.3:1.85 120:1.3:1.7'
+growth=1.35
 out=build/bench
 library=${1:-target/staticlib/libc_api.a}
 mkdir -p "$out"
@@ -15,7 +16,9 @@ mkdir -p "$out"
     cat build/staticlib.log
     exit 1
 }
-gcc -std=c11 -O2 -Wall -Wextra -Werror -Iinclude bench/model.c bench/baseline.c bench/plain_model.c "$library" -o "$out/model"
+sh bench/plain.sh
+gcc -std=c11 -O2 -Wall -Wextra -Werror -Iinclude bench/model.c "$out/bit.o" "$out/bit_model.o" "$out/table.o" "$out/table_model.o" \
+    "$library" -o "$out/model"
 rm -f "$out/model.callgrind"
 valgrind --tool=callgrind --combine-dumps=yes --callgrind-out-file="$out/model.callgrind" "$out/model" \
     >"$out/model.log" 2>&1 || {
@@ -23,6 +26,13 @@ valgrind --tool=callgrind --combine-dumps=yes --callgrind-out-file="$out/model.c
     exit 1
 }
 awk -v limits="$limits" -v growth="$growth" '
+# The count of a plain program for n targets, and how it is to the library and its limit.
+function beside(who, n, limit,    plain) {
+    plain = cost[who, n]
+    if (!(ours > 0 && plain > 0 && ours <= limit * plain))
+        above = above " " who " " n
+    printf " %12d %6.2f %6s", plain, plain ? ours / plain : 0, limit
+}
 /^desc: Trigger: Client Request:/ {
     sub(/^desc: Trigger: Client Request: */, "")
     split($0, word, " ")
@@ -36,19 +46,17 @@ awk -v limits="$limits" -v growth="$growth" '
 }
 END {
     print "model run, instructions"
-    printf "%8s %7s %6s %9s %12s %12s %6s %6s\n", "targets", "answer", "bound", "Get UDIDs", "library", "plain C", "ratio", "limit"
+    form = "%8s %7s %6s %9s %12s %12s %6s %6s %12s %6s %6s\n"
+    printf form, "targets", "answer", "bound", "Get UDIDs", "library", "bit by bit", "ratio", "limit", "with a table", "ratio", "limit"
     rows = split(limits, row, " ")
     for (k = 1; k <= rows; k++) {
         split(row[k], word, ":")
         n = word[1]
-        limit = word[2]
         ours = cost["library", n]
-        plain = cost["plain", n]
-        if (!(ours > 0 && plain > 0 && ours <= limit * plain))
-            above = above " " n
-        ratio = plain ? ours / plain : 0
-        form = "%8d %7d %6d %9d %12d %12d %6.2f %6s\n"
-        printf form, n, answer[n], bound[n], gets[n], ours, plain, ratio, limit
+        printf "%8d %7d %6d %9d %12d", n, answer[n], bound[n], gets[n], ours
+        beside("plain", n, word[2])
+        beside("table", n, word[3])
+        print ""
     }
     few = cost["library", 10] / 10
     many = cost["library", 120] / 120

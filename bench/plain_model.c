@@ -107,11 +107,11 @@ struct bus {
 static int exchange(struct bus *bus, uint8_t protocol, uint8_t command, const uint8_t *sent, size_t sent_len,
                     const uint8_t *received, size_t received_len)
 {
-    hb_written w = plain_encode(protocol, 1, DEFAULT_ADDRESS, 0, command, sent, sent_len, received, received_len,
-                                bus->trace, sizeof bus->trace);
+    hb_written w = NAMED(encode)(protocol, 1, DEFAULT_ADDRESS, 0, command, sent, sent_len, received, received_len,
+                                 bus->trace, sizeof bus->trace);
     return w.answer == 0
-        && plain_decode(protocol, 1, bus->trace, 2 * (size_t)w.symbols, bus->sent, sizeof bus->sent, bus->received,
-                        sizeof bus->received).answer == 0;
+        && NAMED(decode)(protocol, 1, bus->trace, 2 * (size_t)w.symbols, bus->sent, sizeof bus->sent, bus->received,
+                         sizeof bus->received).answer == 0;
 }
 
 /* Writes a trace that is cut by a NACK, and reads it back. */
@@ -121,8 +121,8 @@ static int cut(struct bus *bus, uint8_t protocol, const uint16_t *symbols, size_
         bus->trace[2 * i] = (uint8_t)symbols[i];
         bus->trace[2 * i + 1] = (uint8_t)(symbols[i] >> 8);
     }
-    return plain_decode(protocol, 1, bus->trace, 2 * n, bus->sent, sizeof bus->sent, bus->received,
-                        sizeof bus->received).answer == 6;
+    return NAMED(decode)(protocol, 1, bus->trace, 2 * n, bus->sent, sizeof bus->sent, bus->received,
+                         sizeof bus->received).answer == 6;
 }
 
 static const uint16_t nobody[] = { START, 2 * DEFAULT_ADDRESS, NACK, STOP };
@@ -201,7 +201,7 @@ static hb_model pass(struct used used, uint8_t *records, size_t n, uint8_t *bind
     return m;
 }
 
-hb_model plain_run_model(hb_pool occupied, uint8_t *records, size_t records_len, uint8_t *bindings, size_t bindings_len)
+hb_model NAMED(run_model)(hb_pool occupied, uint8_t *records, size_t records_len, uint8_t *bindings, size_t bindings_len)
 {
     size_t n = records_len / RECORD, place;
     struct used used = starting(occupied.low, occupied.high);

@@ -37,7 +37,9 @@ file == 4 && $1 ~ /^[0-9]+$/ {
     gets[$1] = $4
     run["library", $1] = $5
     run["plain", $1] = $6
-    limit[$1] = $8
+    limit["plain", $1] = $8
+    run["table", $1] = $9
+    limit["table", $1] = $11
 }
 
 file == 4 && /^a target among/ {
@@ -68,30 +70,41 @@ function each_target(who, n) {
     return sprintf("%d", run[who, n] / n)
 }
 
-function pec_table(lengths, n, k) {
+function pec_table(lengths, n, k, m) {
     print "## PEC\n"
-    print "|bytes|library|plain C|ratio|library, a byte|\n|-:|-:|-:|-:|-:|"
+    print "|bytes|library|a byte|plain C bit by bit|ratio|plain C with a table|ratio|\n|-:|-:|-:|-:|-:|-:|-:|"
     n = split("1 16 255 65536", lengths, " ")
-    for (k = 1; k <= n; k++)
-        printf "|%d|%d|%d|%s|%.1f|\n", lengths[k], pec["library", lengths[k]], pec["plain", lengths[k]], \
-            ratio(pec["library", lengths[k]], pec["plain", lengths[k]]), pec["library", lengths[k]] / lengths[k]
+    for (k = 1; k <= n; k++) {
+        m = lengths[k]
+        printf "|%d|%d|%.2f|%d|%s|%d|%s|\n", m, pec["library", m], pec["library", m] / m, pec["plain", m], \
+            ratio(pec["library", m], pec["plain", m]), pec["table", m], ratio(pec["library", m], pec["table", m])
+    }
+}
+
+# A row of the library beside a plain program.
+function codec_row(who, beside, row, used, word) {
+    split(row, word, " ")
+    printf "|%s|%s|%s|%s|%s|%d|%d|%s|%d|%d|%s|\n", word[1], used, word[3], word[4], word[5], \
+        cost["encode", who, row], cost["encode", beside, row], ratio(cost["encode", who, row], cost["encode", beside, row]), \
+        cost["decode", who, row], cost["decode", beside, row], ratio(cost["decode", who, row], cost["decode", beside, row])
 }
 
 function codec_table(who, k, word) {
     print "|protocol|PEC|sent|received|symbols|encode|plain C|ratio|decode|plain C|ratio|\n|-:|-|-:|-:|-:|-:|-:|-:|-:|-:|-:|"
     for (k = 1; k <= count; k++) {
         split(rows[k], word, " ")
-        printf "|%s|%s|%s|%s|%s|%d|%d|%s|%d|%d|%s|\n", word[1], word[2] == "p" ? "yes" : "no", word[3], word[4], word[5], \
-            cost["encode", who, rows[k]], cost["encode", "plain", rows[k]], \
-            ratio(cost["encode", who, rows[k]], cost["encode", "plain", rows[k]]), \
-            cost["decode", who, rows[k]], cost["decode", "plain", rows[k]], \
-            ratio(cost["decode", who, rows[k]], cost["decode", "plain", rows[k]])
+        if (word[2] == "p") {
+            codec_row(who, "plain", rows[k], "bit by bit")
+            codec_row(who, "table", rows[k], "table")
+        } else
+            codec_row(who, "plain", rows[k], "no")
     }
 }
 
 function codec_tables() {
     print "\n## Encode and decode\n"
-    print "A whole call each, PEC work included, of `hb_encode_symbols` and `hb_decode_symbols`.\n"
+    print "A whole call each, PEC work included, of `hb_encode_symbols` and `hb_decode_symbols`. Where there is a PEC, a row has"
+    print "plain C that works it out bit by bit, and the next one plain C with a table.\n"
     codec_table("library")
     print "\nThe same of `hb_encode` and `hb_decode`, which write and read a symbol as two bytes.\n"
     codec_table("pairs")
@@ -100,36 +113,41 @@ function codec_tables() {
 function run_table(k, n) {
     print "\n## Model run\n"
     print "Plain C sorts the targets, applies the plain rule, and writes and reads the same traces.\n"
-    print "|targets|answer|bound|Get UDIDs|library|plain C|ratio|limit|\n|-:|-:|-:|-:|-:|-:|-:|-:|"
+    print "|targets|answer|bound|Get UDIDs|library|plain C bit by bit|ratio|limit|with a table|ratio|limit|\n|-:|-:|-:|-:|-:|-:|-:|-:|-:|-:|-:|"
     for (k = 1; k <= runs; k++) {
         n = sizes[k]
-        printf "|%d|%d|%d|%d|%d|%d|%s|%s|\n", n, answer[n], bound[n], gets[n], run["library", n], run["plain", n], \
-            ratio(run["library", n], run["plain", n]), limit[n]
+        printf "|%d|%d|%d|%d|%d|%d|%s|%s|%d|%s|%s|\n", n, answer[n], bound[n], gets[n], run["library", n], \
+            run["plain", n], ratio(run["library", n], run["plain", n]), limit["plain", n], \
+            run["table", n], ratio(run["library", n], run["table", n]), limit["table", n]
     }
 }
 
 END {
-    if (file != 4 || count == 0 || runs == 0 || step == "" || grows == "" || pec["plain", 65536] == 0) {
+    if (file != 4 || count == 0 || runs == 0 || step == "" || grows == "" || !pec["table", 65536] || !run["table", 120] || !cost["decode", "table", rows[count]]) {
         print "bench: nothing counted" >"/dev/stderr"
         exit 1
     }
     print "# Instructions, counted by callgrind\n"
-    print "Written by `bench/run`. Plain C is `bench/baseline.c` and `bench/plain_model.c`, with gcc " compiler " -O2. Both sides'"
-    print "results are compared before anything is counted.\n"
+    print "Written by `bench/run`. Plain C is `bench/baseline.c` and `bench/plain_model.c`, with gcc " compiler " -O2. It is compiled"
+    print "twice: with the PEC bit by bit, and with a table. What all sides give is compared, and a difference ends the run.\n"
     pec_table()
     codec_tables()
     print "\n## A controller step\n"
     print step "."
     run_table()
     print "\n## How it grows\n"
+    print "Plain C is here with the PEC bit by bit, unless a table is named.\n"
     print "- With the trace: linear. From a Block Write of 32 bytes to one of 255, without PEC, a symbol more costs"
     print "  " growth("encode", "library") " instructions to encode (plain C " growth("encode", "plain") ") and " \
         growth("decode", "library") " to decode (plain C " growth("decode", "plain") "). With PEC the long one costs"
-    print "  " with_pec("encode", "library") " more to encode (plain C " with_pec("encode", "plain") ") and " \
-        with_pec("decode", "library") " more to decode (plain C " with_pec("decode", "plain") ")."
+    print "  " with_pec("encode", "library") " more to encode (plain C " with_pec("encode", "plain") ", with a table " \
+        with_pec("encode", "table") ") and " with_pec("decode", "library") " more to decode (plain C"
+    print "  " with_pec("decode", "plain") ", with a table " with_pec("decode", "table") "). The library's decoder works the PEC out also where"
+    print "  none is used."
     print "- With the targets: between linear and quadratic. A target costs " each_target("library", 10) " instructions in a run with 10,"
     print "  " each_target("library", 60) " with 60 and " each_target("library", 120) " with 120 (plain C " each_target("plain", 10) ", " \
-        each_target("plain", 60) " and " each_target("plain", 120) "). The traces and the controller's steps cost the same"
+        each_target("plain", 60) " and " each_target("plain", 120) ","
+    print "  with a table " each_target("table", 10) ", " each_target("table", 60) " and " each_target("table", 120) "). The traces and the controller's steps cost the same"
     print "  for each target. The search for the winner looks at every record for each Get UDID. The check of the list compares"
     print "  every two records. 120 targets are more than the 107 addresses there are, so that run ends with 13."
     print "  Held to a limit: " grows "."

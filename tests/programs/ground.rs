@@ -11,14 +11,17 @@ use reference::random::Random;
 use reference::text::{hex, transaction_text};
 use reference::{pec, stored, table};
 
-/// Every register value with every byte. The register is the PEC of some message of one byte.
+/// Every register value with every byte. The register is the PEC of some message of one byte. The byte goes by itself, and as a
+/// slice of one byte, which goes by the table: so every entry is looked up.
 fn pec_bytes() {
     let mut family = Family::new("pec bytes");
     for first in 0..=255 {
         let crc = pec::pec(&[first]);
         for byte in 0..=255 {
-            let input = || format!("crc {crc:02x} byte {byte:02x}");
-            family.same(input, &pec::pec(&[first, byte]), &library::pec_byte(crc, byte));
+            let due = pec::pec(&[first, byte]);
+            let input = |how| move || format!("crc {crc:02x} byte {byte:02x} {how}");
+            family.same(input("by itself"), &due, &library::pec_byte(crc, byte));
+            family.same(input("as a slice"), &due, &library::pec_bytes(crc, &[byte]));
         }
     }
     family.done();

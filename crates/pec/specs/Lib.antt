@@ -4,5 +4,5 @@ pub mod PecDivision
 pub mod PecDivisionLaws
 pub mod Table
 pub mod TableLaws
-pub mod Single
-pub mod SingleLaws
+pub mod Fold
+pub mod FoldLaws

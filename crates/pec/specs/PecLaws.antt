@@ -3,12 +3,9 @@
 use mathlib.Core.Path.{_≡_, refl, sym, ap}
 use mathlib.Core.Bool.{Bool, true, false}
 use mathlib.Core.List.{List, [], _∷_, _++_}
-use Prim.Native.Nat.{ℕ, _+_, _-_, _*_, _≤_, _<_}
+use Prim.Native.Nat.{ℕ, _-_, _*_, _<_}
 use native.Mathlib.Omega.{arith}
-use native.Mathlib.Numerals.{add-one}
 use lib.Bits.{bitXor, xor-lt, xor-zero-l}
-use lib.ListN.{length, drop, getD, drop-of-length-le}
-use lib.Seq.{drop-cons}
 use lib.Dec.{ltb}
 use borrow.Author.Tests.{ltb-true}
 use Rattle.lists.specs.Choice.{pick}
@@ -50,12 +47,3 @@ pec-byte c (b ∷ bs) h g = pec-byte (pecStep c b) bs (step-byte c b h (g .0)) (
 pub after-pec : (c b : ℕ) (bs : List ℕ) → pecFrom c (b ∷ bs) ≡ pecOf (bitXor c b ∷ bs)
 unfolding pecFrom pecStep
 after-pec c b bs = ap (λ (x : ℕ). pecFrom (bitStep (bitStep (bitStep (bitStep (bitStep (bitStep (bitStep (bitStep x)))))))) bs) (sym (xor-zero-l (bitXor c b)))
-
--- a turn of a loop over a slice, and its end
-pub pec-turn : (s : List ℕ) (c i : ℕ) → i < length s → pecFrom c (drop i s) ≡ pecFrom (pecStep c (getD s i 0)) (drop (i + 1) s)
-unfolding pecFrom
-pec-turn s c i h = rw (add-one, drop-cons s i 0)
-
-pub pec-end : (s : List ℕ) (c i : ℕ) → length s ≤ i → pecFrom c (drop i s) ≡ c
-unfolding pecFrom
-pec-end s c i h = rw drop-of-length-le

@@ -7,14 +7,14 @@ use mathlib.Core.Logic.{_↔_}
 use Prim.Native.Nat.{ℕ, _+_, _*_, _≤_, _<_}
 use native.Mathlib.Omega.{arith}
 use native.Mathlib.Numerals.{add-one}
-use lib.Bits.{bitXor, xor-lt, xor-zero-l}
+use lib.Bits.{bitXor, xor-lt}
 use lib.ListN.{length, drop, getD, drop-of-length-le}
 use lib.Seq.{drop-cons, ext-getD}
 use borrow.Author.Tests.{eqb-true}
 use Rattle.lists.specs.All.{allPlaced}
 use Rattle.lists.specs.AllLaws.{at-place}
 use Rattle.lists.specs.Each.{Bytes}
-use Rattle.pec.specs.Pec.{pecStep, pecFrom, pecOf}
+use Rattle.pec.specs.Pec.{pecStep, pecFrom}
 use Rattle.pec.specs.PecLaws.{step-byte}
 use Rattle.pec.specs.PecDivision.{timesG}
 use Rattle.pec.specs.PecDivisionLaws.{step-is-remainder}
@@ -27,7 +27,7 @@ pub all-entries : (t : List ℕ) → length t ≡ 256 → allPlaced isRemainder 
 unfolding Remainders isRemainder
 all-entries t l e k h = eqb-true (getD t k 0) (pecStep 0 k) (at-place isRemainder t 0 e k (rw l h))
 
--- what is added to nothing
+-- the code so far enters with the byte
 step-alone : (c b : ℕ) → pecStep 0 (bitXor c b) ≡ pecStep c b
 unfolding pecStep
 step-alone c b = refl
@@ -36,6 +36,9 @@ module _ (t : List ℕ) (r : Remainders t) where
   pub entry-is-step : (k : ℕ) → k < 256 → getD t k 0 ≡ pecStep 0 k
   unfolding Remainders
   entry-is-step k h = r k h
+
+  pub entry-byte : (k : ℕ) → k < 256 → getD t k 0 < 256
+  entry-byte k h = rw (entry-is-step k h) (step-byte 0 k (omega arith) h)
 
   -- the entry of k is the remainder of k times x^8: a byte is what k times x^8 leaves if and only if it is the entry
   pub entry-is-remainder : (k x : ℕ) → k < 256 → x < 256 → ((q : ℕ) × (256 * k ≡ bitXor (timesG q) x)) ↔ (x ≡ getD t k 0)

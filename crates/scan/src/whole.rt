@@ -48,6 +48,7 @@ fn read_by(t: &[u8; 256], sh: Shape, pec: bool, tr: &[u16]) -> Progress
     Progress::Reading(d)
 }
 
+// The same with the table of remainders.
 fn read_all(sh: Shape, pec: bool, tr: &[u16]) -> Progress
     ensures { λ r. ⌜ r ≡ run sh pec fresh 0 (now (tr .entry)) ⌝ }
 {

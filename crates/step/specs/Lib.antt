@@ -2,4 +2,5 @@ pub mod State
 pub mod Next
 pub mod Fits
 pub mod Move
+pub mod MoveLaws
 pub mod FirstByteLaws
