@@ -81,30 +81,28 @@ function pec_table(lengths, n, k, m) {
     }
 }
 
-# A row of the library beside a plain program.
-function codec_row(who, beside, row, used, word) {
-    split(row, word, " ")
-    printf "|%s|%s|%s|%s|%s|%d|%d|%s|%d|%d|%s|\n", word[1], used, word[3], word[4], word[5], \
-        cost["encode", who, row], cost["encode", beside, row], ratio(cost["encode", who, row], cost["encode", beside, row]), \
-        cost["decode", who, row], cost["decode", beside, row], ratio(cost["decode", who, row], cost["decode", beside, row])
+# The count of one work for a row, then plain C's two and how it is to each.
+function beside(work, who, row, ours, plain, table) {
+    ours = cost[work, who, row]
+    plain = cost[work, "plain", row]
+    table = cost[work, "table", row]
+    return sprintf("%d|%d|%s|%d|%s|", ours, plain, ratio(ours, plain), table, ratio(ours, table))
 }
 
 function codec_table(who, k, word) {
-    print "|protocol|PEC|sent|received|symbols|encode|plain C|ratio|decode|plain C|ratio|\n|-:|-|-:|-:|-:|-:|-:|-:|-:|-:|-:|"
+    print "|protocol|PEC|sent|received|symbols|encode|bit by bit|ratio|table|ratio|decode|bit by bit|ratio|table|ratio|"
+    print "|-:|-|-:|-:|-:|-:|-:|-:|-:|-:|-:|-:|-:|-:|-:|"
     for (k = 1; k <= count; k++) {
         split(rows[k], word, " ")
-        if (word[2] == "p") {
-            codec_row(who, "plain", rows[k], "bit by bit")
-            codec_row(who, "table", rows[k], "table")
-        } else
-            codec_row(who, "plain", rows[k], "no")
+        printf "|%s|%s|%s|%s|%s|%s%s\n", word[1], word[2] == "p" ? "yes" : "no", word[3], word[4], word[5], \
+            beside("encode", who, rows[k]), beside("decode", who, rows[k])
     }
 }
 
 function codec_tables() {
     print "\n## Encode and decode\n"
-    print "A whole call each, PEC work included, of `hb_encode_symbols` and `hb_decode_symbols`. Where there is a PEC, a row has"
-    print "plain C that works it out bit by bit, and the next one plain C with a table.\n"
+    print "A whole call each, PEC work included, of `hb_encode_symbols` and `hb_decode_symbols`. Beside each stands plain C that works"
+    print "out the PEC bit by bit, and plain C with a table. Where there is no PEC the two differ by what gcc makes of them.\n"
     codec_table("library")
     print "\nThe same of `hb_encode` and `hb_decode`, which write and read a symbol as two bytes.\n"
     codec_table("pairs")
