@@ -34,7 +34,6 @@ static uint8_t *const trace = (uint8_t *)symbols_out;
 static uint8_t *const other_trace = (uint8_t *)other_out;
 static uint8_t sent_back[ROOM], received_back[ROOM];
 
-
 static hb_written library_encode(uint8_t protocol, uint8_t pec, uint8_t address, uint8_t direction, uint8_t command,
                                  const uint8_t *s, size_t s_len, const uint8_t *r, size_t r_len, uint8_t *out,
                                  size_t out_len)

@@ -121,7 +121,8 @@ function run_table(k, n) {
 }
 
 END {
-    if (file != 4 || count == 0 || runs == 0 || step == "" || grows == "" || !pec["table", 65536] || !run["table", 120] || !cost["decode", "table", rows[count]]) {
+    if (file != 4 || count == 0 || runs == 0 || step == "" || grows == "" || \
+        !pec["table", 65536] || !run["table", 120] || !cost["decode", "table", rows[count]]) {
         print "bench: nothing counted" >"/dev/stderr"
         exit 1
     }
