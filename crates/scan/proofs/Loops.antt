@@ -21,7 +21,7 @@ module _ (sh : Shape) (p : Bool) (s : List ℕ) (d : Decoder) (i : ℕ) where
   pub read-turn : i < length s → fits sh d (getD s i 0) ≡ true → run sh p d i (drop i s) ≡ run sh p (move sh p d (getD s i 0)) (i + 1) (drop (i + 1) s)
   read-turn h f = rw (add-one, drop-cons s i 0) (run-fits sh p d i (getD s i 0) (drop (suc i) s) f)
 
-  pub read-stop : i < length s → fits sh d (getD s i 0) ≡ false → run sh p d i (drop i s) ≡ Answered (why d i (getD s i 0))
+  pub read-stop : i < length s → fits sh d (getD s i 0) ≡ false → run sh p d i (drop i s) ≡ Answered (why sh d i (getD s i 0))
   read-stop h f = rw (drop-cons s i 0) (run-stops sh p d i (getD s i 0) (drop (suc i) s) f)
 
   pub read-end : length s ≤ i → run sh p d i (drop i s) ≡ Reading d

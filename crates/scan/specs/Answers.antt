@@ -78,7 +78,7 @@ pub record Carries (protocol : ℕ) (sh : Shape) (p : Bool) (tr : List ℕ) (t :
 
 -- why the trace tr is refused, with the place k
 abbrev pub shapeCases : Shape → Bool → List ℕ → Cases
-shapeCases sh p tr = record { fits = Fits sh p tr; member = Member sh p tr; member-to = λ k. Member sh p (take k tr); breaks = Breaks sh p tr; cut = CutAt sh p tr; other-pec = OtherPec sh p tr }
+shapeCases sh p tr = record { fits = Fits sh p tr; member = Member sh p tr; member-to = λ k. Member sh p (take k tr); breaks = Breaks sh p tr; cut = CutAt sh p tr; other-pec = OtherPec sh p tr; next = λ k y. Fits sh p (take k tr ++ y ∷ []); to-host = sh .tohost ≡ true }
 
 abbrev pub Because : Shape → Bool → List ℕ → Refusal → ℕ → Type 0
 Because sh p tr w k = because.Because (shapeCases sh p tr) tr w k

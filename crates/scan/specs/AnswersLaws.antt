@@ -149,5 +149,5 @@ module _ (num : ℕ) (sh : Shape) (hs : Sane sh) (p : Bool) where
   rest-ignored w xs ys x f n =
       let r = fits-runs sh hs p w f in
       let s = stuck-at w x (r .0) (r .1) n in
-      let a : (zs : List ℕ) → run sh p fresh 0 (w ++ x ∷ zs) ≡ Answered (why (r .0) (0 + length w) x) = λ zs. run-append sh p w (x ∷ zs) fresh (r .0) 0 (r .1) ∙ run-stops sh p (r .0) _ x zs s in
+      let a : (zs : List ℕ) → run sh p fresh 0 (w ++ x ∷ zs) ≡ Answered (why sh (r .0) (0 + length w) x) = λ zs. run-append sh p w (x ∷ zs) fresh (r .0) 0 (r .1) ∙ run-stops sh p (r .0) _ x zs s in
       ap (concluded num sh (w ++ x ∷ xs)) (a xs) ∙ sym (ap (concluded num sh (w ++ x ∷ ys)) (a ys))

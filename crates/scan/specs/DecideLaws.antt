@@ -1,7 +1,7 @@
 -- The computed answer is one that the declared meaning allows, and the meaning allows no other. AnswersLaws draws from it what is promised.
 use mathlib.Core.Path.{_≡_, refl, sym, _∙_, ap, subst}
 use mathlib.Core.Bool.{Bool, true, false}
-use mathlib.Core.List.{List, [], _∷_}
+use mathlib.Core.List.{List, [], _∷_, _++_}
 use Prim.Native.Nat.{ℕ, suc, _+_, _-_, _≤_, _<_}
 use native.Mathlib.Omega.{arith}
 use lib.ListN.{length, take, drop, getD}
@@ -23,16 +23,23 @@ use Rattle.step.specs.declared.state.Decoder.{Decoder}
 use Rattle.scan.specs.declared.answer.Decoded.{Decoded}
 use Rattle.scan.specs.declared.answer.Decoded.the-variants.{Done, Refused}
 use Rattle.scan.specs.declared.answer.Refusal.{Refusal}
-use Rattle.scan.specs.declared.answer.Refusal.the-variants.{Forbidden, BufferTooShort, NoSymbol, EndsEarly, Unexpected, NotAcknowledged, PecDiffers, AfterStop}
+use Rattle.scan.specs.declared.answer.Refusal.the-variants.{Forbidden, BufferTooShort, NoSymbol, EndsEarly, Unexpected, NotAcknowledged, PecDiffers, AfterStop, WrongAck, WrongAddress, WrongCount}
 use Rattle.scan.specs.declared.whole.Progress.{Progress}
 use Rattle.scan.specs.declared.whole.Progress.the-variants.{Reading, Answered}
 use Rattle.step.specs.State.{fresh}
 use Rattle.step.specs.Fits.{fits}
-use Rattle.scan.specs.Refusal.{over, why}
+use Rattle.scan.specs.Refusal.{over, refusalOf, why}
 use Rattle.scan.specs.BytesInLaws.{byte-count-is}
 use Rattle.scan.specs.Run.{run, byteCount, transaction, isCut, finish, concluded, decodedBy}
 use Rattle.scan.specs.Handed.{sentPlace, receivedPlace, lows, sentData, receivedData}
-use Rattle.scan.specs.Answers.{Whole, CutAt, Member, Fits, summary, Breaks, OtherPec, Carries, Because, Answers}
+use Rattle.misfit.specs.CasesLaws.{one-kind}
+use Rattle.misfit.specs.Kinds.{kindOf}
+use Rattle.misfit.specs.declared.kind.Kind.{Kind}
+use Rattle.misfit.specs.declared.kind.Kind.the-variants.{Swapped, Misaddressed, Miscounted, Other}
+use Rattle.scan.specs.Because.{AfterStart, Wrong, OfKind}
+use Rattle.scan.specs.BecauseLaws.{of-kind}
+use Rattle.scan.specs.WrongLaws.{kind-holds}
+use Rattle.scan.specs.Answers.{Whole, CutAt, Member, Fits, summary, Breaks, OtherPec, Carries, shapeCases, Because, Answers}
 use Rattle.scan.specs.RunLaws.{same-state}
 use Rattle.scan.specs.EndState.{endState}
 use Rattle.scan.specs.JoinedLaws.{trace-joined}
@@ -155,15 +162,17 @@ module _ (num : ℕ) (sh : Shape) (hs : Sane sh) (p : Bool) (tr : List ℕ) wher
   no-member k d q f m = let r = member-runs sh hs p (take k tr) m in not-both f (ap (λ (u : Decoder). over (u .due) (u .slot)) (same-state (sym q ∙ r .1)) ∙ r .2)
 
   why-right : (k : ℕ) (d : Decoder) → k < length tr → run sh p fresh 0 (take k tr) ≡ Reading d → fits sh d (getD tr k 0) ≡ false
-      → (b c : Bool) → leb (getD tr k 0) NACK ≡ b → over (d .due) (d .slot) ≡ c → Right num sh p tr (pick b (pick c (Refused AfterStop k) (Refused Unexpected k)) (Refused NoSymbol k))
+      → (b c : Bool) → leb (getD tr k 0) NACK ≡ b → over (d .due) (d .slot) ≡ c → Right num sh p tr (pick b (pick c (Refused AfterStop k) (Refused (refusalOf (kindOf sh d (getD tr k 0))) k)) (Refused NoSymbol k))
   why-right k d h q f false c e g = ((breaks k d h q f, leb-false (getD tr k 0) NACK e), refl, refl)
   why-right k d h q f true true e g = ((h, member-back sh hs p (take k tr) d q g, leb-true (getD tr k 0) NACK e), refl, refl)
-  why-right k d h q f true false e g = ((breaks k d h q f, no-member k d q g, leb-true (getD tr k 0) NACK e), refl, refl)
+  why-right k d h q f true false e g =
+      let w : Wrong (shapeCases sh p tr) tr k = (breaks k d h q f, no-member k d q g, leb-true (getD tr k 0) NACK e) in
+      (of-kind (shapeCases sh p tr) tr k (kindOf sh d (getD tr k 0)) w (kind-holds sh hs p tr k d w q f), refl, refl)
 
   stopped-right : (a : Decoded) → Stopped sh p fresh 0 tr a → Right num sh p tr a
   stopped-right a s =
       let k : 0 + s .place ≡ s .place = omega arith in
-      subst (Right num sh p tr) (sym (s .is ∙ ap (λ (n : ℕ). why (s .state) n (getD tr (s .place) 0)) k))
+      subst (Right num sh p tr) (sym (s .is ∙ ap (λ (n : ℕ). why sh (s .state) n (getD tr (s .place) 0)) k))
       (why-right (s .place) (s .state) (s .inside) (s .leads) (s .stuck) _ _ refl refl)
 
   right-by : (g : Progress) → run sh p fresh 0 tr ≡ g → Right num sh p tr (concluded num sh tr g)
@@ -183,7 +192,7 @@ module _ (num : ℕ) (sh : Shape) (hs : Sane sh) (p : Bool) (tr : List ℕ) wher
   by-reading d b c g q e f h = rw q (rw (e, f, h))
 
   by-stop : (k : ℕ) (d : Decoder) (b c : Bool) → k < length tr → run sh p fresh 0 (take k tr) ≡ Reading d → fits sh d (getD tr k 0) ≡ false
-      → leb (getD tr k 0) NACK ≡ b → over (d .due) (d .slot) ≡ c → decodedBy num sh p tr ≡ pick b (pick c (Refused AfterStop k) (Refused Unexpected k)) (Refused NoSymbol k)
+      → leb (getD tr k 0) NACK ≡ b → over (d .due) (d .slot) ≡ c → decodedBy num sh p tr ≡ pick b (pick c (Refused AfterStop k) (Refused (refusalOf (kindOf sh d (getD tr k 0))) k)) (Refused NoSymbol k)
   unfolding decodedBy
   by-stop k d b c h q f e g = rw (stops-at sh p tr k fresh d h q f) (rw (e, g))
 
@@ -245,6 +254,26 @@ module _ (num : ℕ) (sh : Shape) (hs : Sane sh) (p : Bool) (tr : List ℕ) wher
       go d q false e = refl
       go d q true e = absurd (n (member-back sh hs p tr d q e))
 
+  -- a wrong symbol: the kind that is worked out, and no other
+  wrong-is : (k : ℕ) → Wrong (shapeCases sh p tr) tr k → (w : Kind) × OfKind (shapeCases sh p tr) tr k w × (decodedBy num sh p tr ≡ Refused (refusalOf w) k)
+  wrong-is k h =
+      let z = h .0 in
+      let f = fits-runs sh hs p (take k tr) (z .before) in
+      let s = stuck k z (f .0) (f .1) in (
+        kindOf sh (f .0) (getD tr k 0),
+        kind-holds sh hs p tr k (f .0) h (f .1) s,
+        by-stop k (f .0) true false (z .inside) (f .1) s (le-leb (getD tr k 0) NACK (h .2)) (not-over k (f .0) (f .1) (h .1)),
+      )
+
+  only-wrong : (w : Kind) (k : ℕ) → Wrong (shapeCases sh p tr) tr k → OfKind (shapeCases sh p tr) tr k w → decodedBy num sh p tr ≡ Refused (refusalOf w) k
+  only-wrong w k h m =
+      let r = wrong-is k h in
+      r .2 ∙ ap (λ (u : Kind). Refused (refusalOf u) k) (one-kind (λ y. Fits sh p (take k tr ++ y ∷ [])) (AfterStart tr k) (sh .tohost ≡ true) (getD tr k 0) (r .0) w (r .1) m)
+
+  -- every wrong symbol is refused for its kind
+  pub wrong-decided : (k : ℕ) → Wrong (shapeCases sh p tr) tr k → (w : Kind) × Because sh p tr (refusalOf w) k
+  wrong-decided k h = let r = wrong-is k h in (r .0, of-kind (shapeCases sh p tr) tr k (r .0) h (r .1))
+
   only-refused : (w : Refusal) (k : ℕ) → Because sh p tr w k → decodedBy num sh p tr ≡ Refused w k
   only-refused Forbidden k h = absurd h
   only-refused BufferTooShort k h = absurd h
@@ -253,12 +282,12 @@ module _ (num : ℕ) (sh : Shape) (hs : Sane sh) (p : Bool) (tr : List ℕ) wher
       let f = fits-runs sh hs p (take k tr) (z .before) in
       by-stop k (f .0) false _ (z .inside) (f .1) (stuck k z (f .0) (f .1)) (lt-leb (getD tr k 0) NACK (h .1)) refl
   only-refused EndsEarly k h = only-early (h .0) (h .1) ∙ ap (Refused EndsEarly) (sym (h .2))
-  only-refused Unexpected k h =
-      let z = h .0 in
-      let f = fits-runs sh hs p (take k tr) (z .before) in
-      by-stop k (f .0) true false (z .inside) (f .1) (stuck k z (f .0) (f .1)) (le-leb (getD tr k 0) NACK (h .2)) (not-over k (f .0) (f .1) (h .1))
+  only-refused Unexpected k h = only-wrong Other k (h .0) (h .1)
   only-refused NotAcknowledged k h = only-cut k h
   only-refused PecDiffers k h = only-pec k h
+  only-refused WrongAck k h = only-wrong Swapped k (h .0) (h .1)
+  only-refused WrongAddress k h = only-wrong Misaddressed k (h .0) (h .1)
+  only-refused WrongCount k h = only-wrong Miscounted k (h .0) (h .1)
   only-refused AfterStop k h =
       let m = member-runs sh hs p (take k tr) (h .1) in
       by-stop k (m .0) true true (h .0) (m .1) (nothing-follows sh p (m .0) (getD tr k 0) (m .2)) (le-leb (getD tr k 0) NACK (h .2)) (m .2)

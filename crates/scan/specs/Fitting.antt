@@ -4,10 +4,10 @@ use mathlib.Core.Path.{_≡_}
 use mathlib.Core.Bool.{Bool, true}
 use mathlib.Core.List.{List, [], _∷_, _++_}
 use mathlib.Core.Logic.{_⊎_}
-use Prim.Native.Nat.{ℕ, suc, _+_, _<_}
-use lib.ListN.{length, take}
+use Prim.Native.Nat.{ℕ, suc, _+_, _≤_, _<_}
+use lib.ListN.{length, take, getD}
 use Rattle.pec.specs.Pec.{pecOf}
-use Rattle.trace.specs.Table.{Line, InTable, symbols}
+use Rattle.trace.specs.Table.{Line, Row, InTable, symbols}
 use Rattle.scan.specs.Because.{Cases}
 use Rattle.scan.specs.BytesIn.{bytesIn}
 
@@ -42,6 +42,28 @@ abbrev pub OtherPec : ℕ → Bool → List ℕ → ℕ → Type 0
 OtherPec protocol pec tr k =
     (pec ≡ true) × ((y : ℕ) × (x : Line) × InTable protocol pec y x × (tr ≡ symbols x) × (y ≡ pecOf (x .covered) → ⊥)) × (k + 3 ≡ length tr)
 
+-- the first k symbols fit with y behind them
+abbrev pub FitsNext : ℕ → Bool → List ℕ → ℕ → ℕ → Type 0
+FitsNext protocol pec tr k y = Fits protocol pec (take k tr ++ y ∷ [])
+
+-- a protocol that goes to the host alone: each of its lines has the address 08h. None of the eleven does
+abbrev pub ToHost : ℕ → Type 0
+ToHost protocol = (q : List ℕ) (x : Line) → Row q x → x .protocol ≡ protocol → x .message .address ≡ 0x08
+
 -- why a trace is refused is said over these (Because)
 abbrev pub tableCases : ℕ → Bool → List ℕ → Cases
-tableCases protocol pec tr = record { fits = Fits protocol pec tr; member = Member protocol pec tr; member-to = λ k. Member protocol pec (take k tr); breaks = Breaks protocol pec tr; cut = CutAt protocol pec tr; other-pec = OtherPec protocol pec tr }
+tableCases protocol pec tr =
+    record {
+      fits = Fits protocol pec tr;
+      member = Member protocol pec tr;
+      member-to = λ k. Member protocol pec (take k tr);
+      breaks = Breaks protocol pec tr;
+      cut = CutAt protocol pec tr;
+      other-pec = OtherPec protocol pec tr;
+      next = FitsNext protocol pec tr;
+      to-host = ToHost protocol;
+    }
+
+-- a wrong symbol stands at k: its place is the first whose beginning does not fit, no member ends before it, and it is a symbol
+abbrev pub Wrong : ℕ → Bool → List ℕ → ℕ → Type 0
+Wrong protocol pec tr k = Breaks protocol pec tr k × (Member protocol pec (take k tr) → ⊥) × (getD tr k 0 ≤ 259)

@@ -7,16 +7,22 @@ use mathlib.Core.Logic.{inl, inr, _↔_}
 use Prim.Native.Nat.{ℕ, suc, _+_, _<_}
 use native.Mathlib.Omega.{arith}
 use lib.ListN.{take}
+use Rattle.lists.specs.Choice.{pick}
 use Rattle.lists.specs.Each.{Bytes}
+use Rattle.wire.specs.Addresses.{hostAddress}
 use Rattle.pec.specs.Pec as Pec
 use Rattle.trace.specs.Shapes.{protocols, shapeOf}
-use Rattle.trace.specs.Table.{Line, line, InTable}
+use Rattle.trace.specs.ShapeLaws.{sane}
+use Rattle.trace.specs.Table.{Line, Row, line, InTable}
 use Rattle.trace.specs.TableLaws.{row-means, row-of}
 use Rattle.trace.specs.Trace.{Message, inPlace, pecOf, bytes, byTarget, byController, traceAt, Valid}
 use Rattle.trace.specs.declared.shape.Shape.{Shape}
+use Rattle.step.specs.State.{fresh}
 use Rattle.scan.specs.Answers as shaped
+use Rattle.scan.specs.MemberLaws.{fits-back}
+use Rattle.scan.specs.Run.{run}
 use Rattle.scan.specs.BecauseLaws.{Agree}
-use Rattle.scan.specs.Fitting.{Whole, CutAt, Member, Fits, Breaks, OtherPec, tableCases}
+use Rattle.scan.specs.Fitting.{Whole, CutAt, Member, Fits, Breaks, OtherPec, ToHost, tableCases}
 
 -- what a line of the table is, by its own protocol
 record Known (p : ℕ) (pec : Bool) (y : ℕ) (x : Line) : Type 0 where
@@ -169,6 +175,44 @@ module _ (p : ℕ) (pec : Bool) (k : p < protocols) (z : p ≡ 0 → pec ≡ fal
   unfolding other-pec-shaped
   other-pec-byte tr n q = refl
 
+  -- the address 0 is one of a protocol that does not go to the host alone
+  other-address : sh .tohost ≡ false → ToHost p → ⊥
+  unfolding run
+  other-address h f =
+      let m = fitting-message in
+      let t : Message = record { address = 0; direction = m .0 .direction; command = m .0 .command; sent = m .0 .sent; received = m .0 .received } in
+      let v : Valid sh t = record {
+        address = rw h (omega arith);
+        direction = m .1 .direction;
+        command = m .1 .command;
+        sent-length = m .1 .sent-length;
+        sent-bytes = m .1 .sent-bytes;
+        received-length = m .1 .received-length;
+        received-bytes = m .1 .received-bytes;
+        counts = m .1 .counts;
+      } in
+      let e = f (inPlace false 0) (line p t (bytes sh t) (byTarget sh t []) (byController sh t [])) (row-of p k t [] (λ q. refl) v) refl in
+      omega (arith, e)
+    where
+      fitting-message : (m : Message) × Valid sh m
+      fitting-message = go (fits-back sh (sane p) pec [] fresh refl .1)
+        where
+          go : {tr : List ℕ} → shaped.Member sh pec tr → (m : Message) × Valid sh m
+          go (inl w) = (w .message, w .valid)
+          go (inr (b, c)) = (c .message, c .valid)
+
+  pub to-host-shaped : ToHost p ↔ (sh .tohost ≡ true)
+  to-host-shaped = (λ f. there (sh .tohost) refl f, λ h q x r e. at-host h q x r e)
+    where
+      there : (b : Bool) → sh .tohost ≡ b → ToHost p → b ≡ true
+      there true h f = refl
+      there false h f = absurd (other-address h f)
+
+      at-host : sh .tohost ≡ true → (q : List ℕ) (x : Line) → Row q x → x .protocol ≡ p → x .message .address ≡ 0x08
+      at-host h q x r e =
+          let v = subst (λ (n : ℕ). Valid (shapeOf n) (x .message)) e (row-means q x r .valid) in
+          subst (λ (b : Bool). pick b (x .message .address ≡ hostAddress) (x .message .address < 128)) h (v .address)
+
   -- so a trace is refused for the same reasons
   pub cases-shaped : (tr : List ℕ) → Agree (tableCases p pec tr) (shaped.shapeCases sh pec tr)
   cases-shaped tr = record {
@@ -178,4 +222,6 @@ module _ (p : ℕ) (pec : Bool) (k : p < protocols) (z : p ≡ 0 → pec ≡ fal
     breaks = breaks-shaped tr;
     cut = cut-shaped tr;
     other-pec = other-pec-shaped tr;
+    next = λ n y. fits-shaped (take n tr ++ y ∷ []);
+    to-host = to-host-shaped;
   }

@@ -25,6 +25,7 @@ pub mod RoomyLaws
 pub mod CompletionLaws
 pub mod MemberLaws
 pub mod PlaceLaws
+pub mod WrongLaws
 pub mod DataLaws
 pub mod PecByteLaws
 pub mod CutLaws

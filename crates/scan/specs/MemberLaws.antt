@@ -201,12 +201,12 @@ module _ (sh : Shape) (hs : Sane sh) (p : Bool) where
       zero-is-one cc
   after-nack d e i (x ∷ []) q c = go (eqb x STOP) refl q
     where
-      go : (b : Bool) → eqb x STOP ≡ b → pick b (Reading (at d (d .slot) Cut 0)) (Answered (why (at d (d .slot) Halted (d .left)) i x)) ≡ Reading e → x ∷ [] ≡ STOP ∷ []
+      go : (b : Bool) → eqb x STOP ≡ b → pick b (Reading (at d (d .slot) Cut 0)) (Answered (why sh (at d (d .slot) Halted (d .left)) i x)) ≡ Reading e → x ∷ [] ≡ STOP ∷ []
       go true h q = ap (λ (n : ℕ). n ∷ []) (eqb-true x 257 h)
       go false h q = absurd (refused-not-reading q)
   after-nack d e i (x ∷ y ∷ ys) q c = go (eqb x STOP) q
     where
-      go : (b : Bool) → pick b (Answered (why (at d (d .slot) Cut 0) (suc i) y)) (Answered (why (at d (d .slot) Halted (d .left)) i x)) ≡ Reading e → x ∷ y ∷ ys ≡ STOP ∷ []
+      go : (b : Bool) → pick b (Answered (why sh (at d (d .slot) Cut 0) (suc i) y)) (Answered (why sh (at d (d .slot) Halted (d .left)) i x)) ≡ Reading e → x ∷ y ∷ ys ≡ STOP ∷ []
       go true q = absurd (refused-not-reading q)
       go false q = absurd (refused-not-reading q)
 
@@ -233,7 +233,7 @@ module _ (sh : Shape) (hs : Sane sh) (p : Bool) where
           let r = ih g q in
           record { pre = x ∷ r .pre; state = r .state; is = ap (_∷_ x) (r .is); leads = rw h (run-from sh p (r .pre) (move sh p d x) (r .state) 0 1 (r .leads)); target = r .target }
 
-      go : (b : Bool) → fits sh d x ≡ b → pick b (run sh p (move sh p d x) (suc i) xs) (Answered (why d i x)) ≡ Reading e
+      go : (b : Bool) → fits sh d x ≡ b → pick b (run sh p (move sh p d x) (suc i) xs) (Answered (why sh d i x)) ≡ Reading e
           → (halting ((move sh p d x) .due) ≡ false → run sh p (move sh p d x) (suc i) xs ≡ Reading e → Inside sh p (move sh p d x) xs)
           → Inside sh p d (x ∷ xs)
       go true h q ih = again h q (halting ((move sh p d x) .due)) refl ih

@@ -1,8 +1,8 @@
 -- Each refusal has a number of its own, and none is 0: a number and its place tell the answer.
 use mathlib.Core.Path.{_≡_, refl, sym, ap, _∙_}
 use mathlib.Core.Bool.{true}
-use mathlib.Core.List.{[], _∷_}
-use Prim.Native.Nat.{ℕ, _≤_}
+use mathlib.Core.List.{List, [], _∷_}
+use Prim.Native.Nat.{ℕ, _-_, _≤_}
 use native.Mathlib.Omega.{arith}
 use lib.ListN.{getD}
 use borrow.Author.Tests.{eqb-true}
@@ -10,12 +10,19 @@ use Rattle.trace.specs.declared.transaction.Transaction.{Transaction}
 use Rattle.scan.specs.declared.answer.Decoded.{Decoded}
 use Rattle.scan.specs.declared.answer.Decoded.the-variants.{Done, Refused}
 use Rattle.scan.specs.declared.answer.Refusal.{Refusal}
-use Rattle.scan.specs.declared.answer.Refusal.the-variants.{Forbidden, BufferTooShort, NoSymbol, EndsEarly, Unexpected, NotAcknowledged, PecDiffers, AfterStop}
+use Rattle.scan.specs.declared.answer.Refusal.the-variants.{Forbidden, BufferTooShort, NoSymbol, EndsEarly, Unexpected, NotAcknowledged, PecDiffers, AfterStop, WrongAck, WrongAddress, WrongCount}
 use Rattle.scan.specs.Numbers.{refusalNumber, decodeNumber, isNack}
+
+-- the refusals from 1 on, and those from 17 on
+abbrev low : List Refusal
+low = Forbidden ∷ Forbidden ∷ BufferTooShort ∷ NoSymbol ∷ EndsEarly ∷ Unexpected ∷ NotAcknowledged ∷ PecDiffers ∷ AfterStop ∷ []
+
+abbrev high : List Refusal
+high = WrongAck ∷ WrongAddress ∷ WrongCount ∷ []
 
 -- the refusal of a number
 abbrev numbered : ℕ → Refusal
-numbered n = getD (Forbidden ∷ Forbidden ∷ BufferTooShort ∷ NoSymbol ∷ EndsEarly ∷ Unexpected ∷ NotAcknowledged ∷ PecDiffers ∷ AfterStop ∷ []) n Forbidden
+numbered n = getD low n (getD high (n - 17) Forbidden)
 
 numbered-is : (w : Refusal) → (w ≡ numbered (refusalNumber w)) × (1 ≤ refusalNumber w)
 numbered-is Forbidden = (refl, omega arith)
@@ -26,6 +33,9 @@ numbered-is Unexpected = (refl, omega arith)
 numbered-is NotAcknowledged = (refl, omega arith)
 numbered-is PecDiffers = (refl, omega arith)
 numbered-is AfterStop = (refl, omega arith)
+numbered-is WrongAck = (refl, omega arith)
+numbered-is WrongAddress = (refl, omega arith)
+numbered-is WrongCount = (refl, omega arith)
 
 -- a refusal's number is not 0, the number of Done
 pub refusal-is-not-0 : (w : Refusal) → 1 ≤ refusalNumber w

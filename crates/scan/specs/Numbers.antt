@@ -5,7 +5,7 @@ use lib.Dec.{eqb}
 use Rattle.scan.specs.declared.answer.Decoded.{Decoded}
 use Rattle.scan.specs.declared.answer.Decoded.the-variants.{Done, Refused}
 use Rattle.scan.specs.declared.answer.Refusal.{Refusal}
-use Rattle.scan.specs.declared.answer.Refusal.the-variants.{Forbidden, BufferTooShort, NoSymbol, EndsEarly, Unexpected, NotAcknowledged, PecDiffers, AfterStop}
+use Rattle.scan.specs.declared.answer.Refusal.the-variants.{Forbidden, BufferTooShort, NoSymbol, EndsEarly, Unexpected, NotAcknowledged, PecDiffers, AfterStop, WrongAck, WrongAddress, WrongCount}
 
 abbrev pub refusalNumber : Refusal → ℕ
 refusalNumber Forbidden = 1
@@ -16,6 +16,9 @@ refusalNumber Unexpected = 5
 refusalNumber NotAcknowledged = 6
 refusalNumber PecDiffers = 7
 refusalNumber AfterStop = 8
+refusalNumber WrongAck = 17
+refusalNumber WrongAddress = 18
+refusalNumber WrongCount = 19
 
 abbrev pub decodeNumber : Decoded → ℕ × ℕ
 decodeNumber (Done t) = (0, 0)

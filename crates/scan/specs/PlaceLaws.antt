@@ -32,7 +32,7 @@ module _ (sh : Shape) (p : Bool) where
   refused-at-place [] d i a q = absurd (refused-not-reading (sym q))
   refused-at-place (x ∷ xs) d i a q = go (fits sh d x) refl q (λ k. refused-at-place xs (move sh p d x) (suc i) a k)
     where
-      go : (b : Bool) → fits sh d x ≡ b → pick b (run sh p (move sh p d x) (suc i) xs) (Answered (why d i x)) ≡ Answered a
+      go : (b : Bool) → fits sh d x ≡ b → pick b (run sh p (move sh p d x) (suc i) xs) (Answered (why sh d i x)) ≡ Answered a
           → (run sh p (move sh p d x) (suc i) xs ≡ Answered a → Stopped sh p (move sh p d x) (suc i) xs a) → Stopped sh p d i (x ∷ xs) a
       go true h q ih =
           let s = ih q in
@@ -43,15 +43,15 @@ module _ (sh : Shape) (p : Bool) where
             inside = omega (arith, s .inside);
             leads = rw h (run-from sh p (take (s .place) xs) (move sh p d x) (s .state) 0 1 (s .leads));
             stuck = s .stuck;
-            is = s .is ∙ ap (λ (n : ℕ). why (s .state) n (getD xs (s .place) 0)) j;
+            is = s .is ∙ ap (λ (n : ℕ). why sh (s .state) n (getD xs (s .place) 0)) j;
           }
       go false h q ih =
           let j : i ≡ i + 0 = omega arith in
-          record { place = 0; state = d; inside = omega arith; leads = refl; stuck = h; is = sym (same-answer q) ∙ ap (λ (n : ℕ). why d n x) j }
+          record { place = 0; state = d; inside = omega arith; leads = refl; stuck = h; is = sym (same-answer q) ∙ ap (λ (n : ℕ). why sh d n x) j }
 
   -- and the other way
   pub stops-at : (tr : List ℕ) (k : ℕ) (d e : Decoder) → k < length tr → run sh p d 0 (take k tr) ≡ Reading e → fits sh e (getD tr k 0) ≡ false
-      → run sh p d 0 tr ≡ Answered (why e k (getD tr k 0))
+      → run sh p d 0 tr ≡ Answered (why sh e k (getD tr k 0))
   stops-at tr k d e h q f =
       let l : 0 + length (take k tr) ≡ k = omega (arith, length-take-le k tr (omega arith)) in
       ap (run sh p d 0) (split-at tr k 0 h) ∙ run-append sh p (take k tr) _ d e 0 q

@@ -5,8 +5,13 @@ use lib.Dec.{leb}
 use Rattle.lists.specs.Choice.{pick}
 use Rattle.wire.specs.Symbols.{NACK}
 use Rattle.scan.specs.declared.answer.Decoded.{Decoded}
+use Rattle.trace.specs.declared.shape.Shape.{Shape}
+use Rattle.misfit.specs.declared.kind.Kind.{Kind}
+use Rattle.misfit.specs.declared.kind.Kind.the-variants.{Swapped, Misaddressed, Miscounted, Other}
+use Rattle.misfit.specs.Kinds.{kindOf}
 use Rattle.scan.specs.declared.answer.Decoded.the-variants.{Refused}
-use Rattle.scan.specs.declared.answer.Refusal.the-variants.{NoSymbol, Unexpected, AfterStop}
+use Rattle.scan.specs.declared.answer.Refusal.{Refusal}
+use Rattle.scan.specs.declared.answer.Refusal.the-variants.{NoSymbol, Unexpected, AfterStop, WrongAck, WrongAddress, WrongCount}
 use Rattle.step.specs.declared.state.Slot.{Slot}
 use Rattle.step.specs.declared.state.Slot.the-variants.{Start, First, Command, Count, Data, Pec, Restart, Second, ReadCount, ReadData, ReadPec, Stop, End}
 use Rattle.step.specs.declared.state.Due.{Due}
@@ -36,6 +41,13 @@ over Controller s = false
 over Halted s = false
 over Cut s = true
 
--- the answer for a symbol x at place i that may not stand there: 3, else 8, else 5
-abbrev pub why : Decoder → ℕ → ℕ → Decoded
-why d i x = pick (leb x NACK) (pick (over (d .due) (d .slot)) (Refused AfterStop i) (Refused Unexpected i)) (Refused NoSymbol i)
+-- a wrong symbol is refused by its kind
+abbrev pub refusalOf : Kind → Refusal
+refusalOf Swapped = WrongAck
+refusalOf Misaddressed = WrongAddress
+refusalOf Miscounted = WrongCount
+refusalOf Other = Unexpected
+
+-- the answer for a symbol x at place i that may not stand there: 3, else 8, else 17, 18, 19 or 5
+abbrev pub why : Shape → Decoder → ℕ → ℕ → Decoded
+why sh d i x = pick (leb x NACK) (pick (over (d .due) (d .slot)) (Refused AfterStop i) (Refused (refusalOf (kindOf sh d x)) i)) (Refused NoSymbol i)

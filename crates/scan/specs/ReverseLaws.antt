@@ -290,7 +290,7 @@ unfolding run
 run-in-lang sh hs p [] d e i q s g = subst (λ (u : Decoder). Lang sh p u []) (sym (same-state q)) (rw (g, s))
 run-in-lang sh hs p (x ∷ xs) d e i q s g = go (fits sh d x) refl q (λ k. run-in-lang sh hs p xs (move sh p d x) e (suc i) k s g)
   where
-    go : (b : Bool) → fits sh d x ≡ b → pick b (run sh p (move sh p d x) (suc i) xs) (Answered (why d i x)) ≡ Reading e
+    go : (b : Bool) → fits sh d x ≡ b → pick b (run sh p (move sh p d x) (suc i) xs) (Answered (why sh d i x)) ≡ Reading e
         → (run sh p (move sh p d x) (suc i) xs ≡ Reading e → Lang sh p (move sh p d x) xs) → Lang sh p d (x ∷ xs)
     go true h q ih = due-back sh hs p d x xs (d .due) h (ih q)
     go false h q ih = absurd (refused-not-reading q)

@@ -116,7 +116,7 @@ module _ (sh : Shape) (hs : Sane sh) (p : Bool) where
   run-keeps [] d e i h q = subst (Roomy sh) (same-state q) h
   run-keeps (x ∷ xs) d e i h q = go (fits sh d x) refl q (λ g k. run-keeps xs (move sh p d x) e (suc i) g k)
     where
-      go : (b : Bool) → fits sh d x ≡ b → pick b (run sh p (move sh p d x) (suc i) xs) (Answered (why d i x)) ≡ Reading e
+      go : (b : Bool) → fits sh d x ≡ b → pick b (run sh p (move sh p d x) (suc i) xs) (Answered (why sh d i x)) ≡ Reading e
           → (Roomy sh (move sh p d x) → run sh p (move sh p d x) (suc i) xs ≡ Reading e → Roomy sh e) → Roomy sh e
       go true f q ih = ih (due-keeps d x (d .due) h f) q
       go false f q ih = absurd (refused-not-reading q)

@@ -26,7 +26,7 @@ use Rattle.scan.specs.Refusal.{over, why}
 -- from the state d, with i symbols read, over the rest of the trace
 unfoldable pub run : Shape → Bool → Decoder → ℕ → List ℕ → Progress
 run sh p d i [] = Reading d
-run sh p d i (x ∷ xs) = pick (fits sh d x) (run sh p (move sh p d x) (suc i) xs) (Answered (why d i x))
+run sh p d i (x ∷ xs) = pick (fits sh d x) (run sh p (move sh p d x) (suc i) xs) (Answered (why sh d i x))
 
 -- the bytes of a trace are its numbers below 256
 unfoldable pub byteCount : List ℕ → ℕ

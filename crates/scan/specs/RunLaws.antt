@@ -29,7 +29,7 @@ module _ (sh : Shape) (p : Bool) where
   unfolding run
   run-fits d i x xs h = rw h
 
-  pub run-stops : (d : Decoder) (i x : ℕ) (xs : List ℕ) → fits sh d x ≡ false → run sh p d i (x ∷ xs) ≡ Answered (why d i x)
+  pub run-stops : (d : Decoder) (i x : ℕ) (xs : List ℕ) → fits sh d x ≡ false → run sh p d i (x ∷ xs) ≡ Answered (why sh d i x)
   unfolding run
   run-stops d i x xs h = rw h
 
@@ -38,9 +38,9 @@ module _ (sh : Shape) (p : Bool) where
   run-append [] ys d e i q = ap (λ (u : Decoder). run sh p u i ys) (same-state q) ∙ ap (λ (n : ℕ). run sh p e n ys) (omega arith)
   run-append (x ∷ xs) ys d e i q = go (fits sh d x) q (λ k. run-append xs ys (move sh p d x) e (suc i) k)
     where
-      go : (b : Bool) → pick b (run sh p (move sh p d x) (suc i) xs) (Answered (why d i x)) ≡ Reading e
+      go : (b : Bool) → pick b (run sh p (move sh p d x) (suc i) xs) (Answered (why sh d i x)) ≡ Reading e
           → (run sh p (move sh p d x) (suc i) xs ≡ Reading e → run sh p (move sh p d x) (suc i) (xs ++ ys) ≡ run sh p e (suc i + length xs) ys)
-          → pick b (run sh p (move sh p d x) (suc i) (xs ++ ys)) (Answered (why d i x)) ≡ run sh p e (i + suc (length xs)) ys
+          → pick b (run sh p (move sh p d x) (suc i) (xs ++ ys)) (Answered (why sh d i x)) ≡ run sh p e (i + suc (length xs)) ys
       go true q ih = ih q ∙ ap (λ (n : ℕ). run sh p e n ys) (omega arith)
       go false q ih = absurd (refused-not-reading q)
 
@@ -51,9 +51,9 @@ module _ (sh : Shape) (p : Bool) where
   run-before [] ys d e i q = (d, refl, ap (λ (n : ℕ). run sh p d n ys) (omega arith) ∙ q)
   run-before (x ∷ xs) ys d e i q = go (fits sh d x) q (λ k. run-before xs ys (move sh p d x) e (suc i) k)
     where
-      go : (b : Bool) → pick b (run sh p (move sh p d x) (suc i) (xs ++ ys)) (Answered (why d i x)) ≡ Reading e
+      go : (b : Bool) → pick b (run sh p (move sh p d x) (suc i) (xs ++ ys)) (Answered (why sh d i x)) ≡ Reading e
           → (run sh p (move sh p d x) (suc i) (xs ++ ys) ≡ Reading e → (m : Decoder) × (run sh p (move sh p d x) (suc i) xs ≡ Reading m) × (run sh p m (suc i + length xs) ys ≡ Reading e))
-          → (m : Decoder) × (pick b (run sh p (move sh p d x) (suc i) xs) (Answered (why d i x)) ≡ Reading m) × (run sh p m (i + suc (length xs)) ys ≡ Reading e)
+          → (m : Decoder) × (pick b (run sh p (move sh p d x) (suc i) xs) (Answered (why sh d i x)) ≡ Reading m) × (run sh p m (i + suc (length xs)) ys ≡ Reading e)
       go true q ih =
           let r = ih q in
           (r .0, r .1, ap (λ (n : ℕ). run sh p (r .0) n ys) (omega arith) ∙ r .2)
@@ -65,8 +65,8 @@ module _ (sh : Shape) (p : Bool) where
   run-from [] d e i j q = q
   run-from (x ∷ xs) d e i j q = go (fits sh d x) q (λ k. run-from xs (move sh p d x) e (suc i) (suc j) k)
     where
-      go : (b : Bool) → pick b (run sh p (move sh p d x) (suc i) xs) (Answered (why d i x)) ≡ Reading e
+      go : (b : Bool) → pick b (run sh p (move sh p d x) (suc i) xs) (Answered (why sh d i x)) ≡ Reading e
           → (run sh p (move sh p d x) (suc i) xs ≡ Reading e → run sh p (move sh p d x) (suc j) xs ≡ Reading e)
-          → pick b (run sh p (move sh p d x) (suc j) xs) (Answered (why d j x)) ≡ Reading e
+          → pick b (run sh p (move sh p d x) (suc j) xs) (Answered (why sh d j x)) ≡ Reading e
       go true q ih = ih q
       go false q ih = absurd (refused-not-reading q)

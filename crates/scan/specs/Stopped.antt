@@ -18,4 +18,4 @@ pub record Stopped (sh : Shape) (p : Bool) (d : Decoder) (i : ℕ) (tr : List �
   pub inside : place < length tr
   pub leads : run sh p d 0 (take place tr) ≡ Reading state
   pub stuck : fits sh state (getD tr place 0) ≡ false
-  pub is : a ≡ why state (i + place) (getD tr place 0)
+  pub is : a ≡ why sh state (i + place) (getD tr place 0)

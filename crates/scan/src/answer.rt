@@ -13,7 +13,7 @@ pub enum Refusal {
     NoSymbol,
     // The trace fits, and is not whole.
     EndsEarly,
-    // A symbol that can't stand there.
+    // A symbol that can't stand there, and is none of the three kinds below.
     Unexpected,
     // The target did not acknowledge a byte.
     NotAcknowledged,
@@ -21,6 +21,12 @@ pub enum Refusal {
     PecDiffers,
     // A symbol after the last STOP.
     AfterStop,
+    // The controller's ACK where its NACK is due, or its NACK where its ACK is.
+    WrongAck,
+    // An address byte with another address, or for the other direction.
+    WrongAddress,
+    // A count that is not allowed.
+    WrongCount,
 }
 
 pub enum Decoded {
@@ -44,6 +50,9 @@ pub fn refusal_number(w: Refusal) -> u8
         Refusal::NotAcknowledged => 6,
         Refusal::PecDiffers => 7,
         Refusal::AfterStop => 8,
+        Refusal::WrongAck => 17,
+        Refusal::WrongAddress => 18,
+        Refusal::WrongCount => 19,
     }
 }
 

@@ -1,11 +1,14 @@
 // Which answer a symbol gets that may not stand where it does.
 ghost use mathlib.Core.Path.{_≡_};
-ghost use Rattle.scan.specs.Refusal.{ended, over, why};
+ghost use Rattle.scan.specs.Refusal.{ended, over, refusalOf, why};
 use crate::answer::Decoded;
 use crate::answer::Refusal;
+use misfit::kind::Kind;
+use misfit::kind::kind_of;
 use step::state::Decoder;
 use step::state::Due;
 use step::state::Slot;
+use trace::shape::Shape;
 use wire::symbol::is_symbol;
 
 fn is_ended(slot: Slot) -> bool
@@ -43,8 +46,20 @@ pub(crate) fn is_over(d: Decoder) -> bool
     }
 }
 
-pub(crate) fn why_not(d: Decoder, place: usize, x: u16) -> Decoded
-    ensures { λ r. ⌜ r ≡ why d place x ⌝ }
+// The refusal of a wrong symbol, by its kind.
+fn refusal_of(k: Kind) -> Refusal
+    ensures { λ r. ⌜ r ≡ refusalOf k ⌝ }
+{
+    match k {
+        Kind::Swapped => Refusal::WrongAck,
+        Kind::Misaddressed => Refusal::WrongAddress,
+        Kind::Miscounted => Refusal::WrongCount,
+        Kind::Other => Refusal::Unexpected,
+    }
+}
+
+pub(crate) fn why_not(sh: Shape, d: Decoder, place: usize, x: u16) -> Decoded
+    ensures { λ r. ⌜ r ≡ why sh d place x ⌝ }
 {
     if !is_symbol(x) {
         return Decoded::Refused(Refusal::NoSymbol, place);
@@ -52,5 +67,5 @@ pub(crate) fn why_not(d: Decoder, place: usize, x: u16) -> Decoded
     if is_over(d) {
         return Decoded::Refused(Refusal::AfterStop, place);
     }
-    Decoded::Refused(Refusal::Unexpected, place)
+    Decoded::Refused(refusal_of(kind_of(sh, d, x)), place)
 }

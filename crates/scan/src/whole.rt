@@ -40,7 +40,7 @@ fn read_by(t: &[u8; 256], sh: Shape, pec: bool, tr: &[u16]) -> Progress
     while i < tr.len() {
         let x = tr[i];
         if !may_stand(sh, d, x) {
-            return Progress::Answered(why_not(d, i, x));
+            return Progress::Answered(why_not(sh, d, i, x));
         }
         d = moved(sh, pec, d, x, pec_after(t, d.pec, x));
         i += 1;

@@ -1,0 +1,5 @@
+pub mod Kinds
+pub mod Cases
+pub mod CasesLaws
+pub mod KindLaws
+pub mod StartLaws
