@@ -69,9 +69,9 @@ module _ (protocol : ℕ) (p : Bool) where
   refused-on [] ys d i a q = absurd (refused-not-reading (sym q))
   refused-on (x ∷ xs) ys d i a q = go (fits sh d x) q (λ k. refused-on xs ys (move sh p d x) (suc i) a k)
     where
-      go : (b : Bool) → pick b (run sh p (move sh p d x) (suc i) xs) (Answered (why d i x)) ≡ Answered a
+      go : (b : Bool) → pick b (run sh p (move sh p d x) (suc i) xs) (Answered (why sh d i x)) ≡ Answered a
           → (run sh p (move sh p d x) (suc i) xs ≡ Answered a → run sh p (move sh p d x) (suc i) (xs ++ ys) ≡ Answered a)
-          → pick b (run sh p (move sh p d x) (suc i) (xs ++ ys)) (Answered (why d i x)) ≡ Answered a
+          → pick b (run sh p (move sh p d x) (suc i) (xs ++ ys)) (Answered (why sh d i x)) ≡ Answered a
       go true q ih = ih q
       go false q ih = q
 

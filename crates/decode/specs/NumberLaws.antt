@@ -19,19 +19,24 @@ use Rattle.trace.specs.Table.{TraceOf, send-byte}
 use Rattle.trace.specs.TableLaws.{listed-trace, trace-listed}
 use Rattle.trace.specs.Trace.{Message, trace, Valid}
 use Rattle.trace.specs.declared.shape.Shape.{Shape}
+use Rattle.misfit.specs.declared.kind.Kind.{Kind}
+use Rattle.misfit.specs.declared.kind.Kind.the-variants.{Swapped, Misaddressed, Miscounted, Other}
 use Rattle.scan.specs.Answers.{summary, shapeCases}
 use Rattle.scan.specs.AnswersLaws as step
 use Rattle.scan.specs.BytesInLaws.{byte-more}
 use Rattle.scan.specs.Because.{Because}
-use Rattle.scan.specs.BecauseLaws.{because-agrees}
-use Rattle.scan.specs.Fitting.{OtherPec, tableCases}
+use Rattle.scan.specs.BecauseLaws.{Agree, wrong-agrees, because-agrees}
+use Rattle.scan.specs.CountFittingLaws.{count-too-high}
+use Rattle.scan.specs.DecideLaws as Decides
+use Rattle.scan.specs.Fitting.{OtherPec, Wrong, CountTooHigh, tableCases}
 use Rattle.scan.specs.FittingLaws.{cases-shaped, other-pec-shaped, other-pec-byte}
 use Rattle.scan.specs.Numbers.{refusalNumber, decodeNumber}
+use Rattle.scan.specs.Refusal.{refusalOf}
 use Rattle.scan.specs.Run.{decodedBy}
 use Rattle.scan.specs.declared.answer.Decoded.{Decoded}
 use Rattle.scan.specs.declared.answer.Decoded.the-variants.{Done}
 use Rattle.scan.specs.declared.answer.Refusal.{Refusal}
-use Rattle.scan.specs.declared.answer.Refusal.the-variants.{NotAcknowledged}
+use Rattle.scan.specs.declared.answer.Refusal.the-variants.{Unexpected, NotAcknowledged, WrongAck, WrongAddress, WrongCount}
 use Rattle.decode.specs.EntryLaws.{both-at-least-255}
 use Rattle.decode.specs.Outcome.{short, EnteredBy, Entered, Outcome}
 use Rattle.decode.specs.OutcomeLaws as decode
@@ -107,6 +112,34 @@ module _ (protocol : ℕ) (pec : Bool) (tr sent₀ received₀ : List ℕ) (a : 
       by-trace _ _ (refusalNumber w) k (λ e. omega (arith, e, n)) (λ e. omega (arith, e, n))
       (λ h. because-agrees (tableCases protocol pec tr) (shapeCases shape pec tr) (cases-shaped protocol pec (entered-known h) (h .1) tr) tr w k)
       (step.refused-exactly protocol shape (sane protocol) pec tr w k)
+
+  -- a wrong symbol is refused by its kind: 5, 17, 18 and 19 together are given where there is one
+  pub decode-wrong : (k : ℕ) → ((decodeNumber a ≡ (5, k)) ⊎ ((decodeNumber a ≡ (17, k)) ⊎ ((decodeNumber a ≡ (18, k)) ⊎ (decodeNumber a ≡ (19, k))))) ↔ (Here × Wrong protocol pec tr k)
+  decode-wrong k = (there, λ h. back h (Decides.wrong-decided protocol shape (sane protocol) pec tr k (wrong-agrees (tableCases protocol pec tr) (shapeCases shape pec tr) (agree (h .0)) tr k .0 (h .1))))
+    where
+      agree : Here → Agree (tableCases protocol pec tr) (shapeCases shape pec tr)
+      agree h = cases-shaped protocol pec (entered-known h) (h .1) tr
+
+      there : (decodeNumber a ≡ (5, k)) ⊎ ((decodeNumber a ≡ (17, k)) ⊎ ((decodeNumber a ≡ (18, k)) ⊎ (decodeNumber a ≡ (19, k)))) → Here × Wrong protocol pec tr k
+      there (inl e) = let r = decode-refused Unexpected k (omega arith) .0 e in (r .0, r .1 .0)
+      there (inr (inl e)) = let r = decode-refused WrongAck k (omega arith) .0 e in (r .0, r .1 .0)
+      there (inr (inr (inl e))) = let r = decode-refused WrongAddress k (omega arith) .0 e in (r .0, r .1 .0)
+      there (inr (inr (inr e))) = let r = decode-refused WrongCount k (omega arith) .0 e in (r .0, r .1 .0)
+
+      given : Here → (w : Refusal) → 2 < refusalNumber w → Because (shapeCases shape pec tr) tr w k → decodeNumber a ≡ (refusalNumber w, k)
+      given h w n b = decode-refused w k n .1 (h, because-agrees (tableCases protocol pec tr) (shapeCases shape pec tr) (agree h) tr w k .1 b)
+
+      back : Here × Wrong protocol pec tr k → (w : Kind) × Because (shapeCases shape pec tr) tr (refusalOf w) k → (decodeNumber a ≡ (5, k)) ⊎ ((decodeNumber a ≡ (17, k)) ⊎ ((decodeNumber a ≡ (18, k)) ⊎ (decodeNumber a ≡ (19, k))))
+      back h (Other, b) = inl (given (h .0) Unexpected (omega arith) b)
+      back h (Swapped, b) = inr (inl (given (h .0) WrongAck (omega arith) b))
+      back h (Misaddressed, b) = inr (inr (inl (given (h .0) WrongAddress (omega arith) b)))
+      back h (Miscounted, b) = inr (inr (inr (given (h .0) WrongCount (omega arith) b)))
+
+  -- 19 worked out over the table
+  pub decode-count : (k : ℕ) → (decodeNumber a ≡ (19, k)) ↔ (Here × CountTooHigh protocol tr k)
+  decode-count k =
+      by-trace _ _ 19 k (λ e. omega (arith, e)) (λ e. omega (arith, e)) (λ h. count-too-high protocol pec (entered-known h) tr k)
+      (step.refused-exactly protocol shape (sane protocol) pec tr WrongCount k)
 
   -- with 6, which byte it is, by the length of the trace alone: two places a byte, one for START, one for a repeated START, NACK and STOP
   pub decode-6-byte : (byte : ℕ) → decodeNumber a ≡ (6, byte) → byte ≡ (length tr - 4) / 2

@@ -6,6 +6,7 @@ use Prim.Native.Nat.{ℕ, _+_, _-_, _≤_, _<_, _%_}
 use native.Mathlib.Omega.{arith}
 use lib.Dec.{ltb, leb, eqb}
 use borrow.Author.Tests.{ltb-true, ltb-false, leb-true, eqb-true, eqb-false, eq-eqb, lt-ltb}
+use Rattle.lists.specs.AbsurdLaws.{zero-is-one}
 use Rattle.lists.specs.Choice.{pick, or, and}
 use Rattle.lists.specs.ChoiceLaws.{false-not-true, not-both, both-true, neither}
 use Rattle.wire.specs.Symbols.{ACK, NACK}
@@ -159,3 +160,26 @@ module _ (sh : Shape) (hs : Sane sh) (d : Decoder) where
         → Means (λ y. fits sh d y ≡ true) (addressNext (d .due) (d .slot) ≡ true) (sh .tohost ≡ true) x (kindOf sh d x)
     unfolding kindOf
     kind-means f y g = due-means (d .due) f y g
+
+-- a byte that is a wrong count stands where a count does, with no ACK due
+pub count-slot : (sh : Shape) (d : Decoder) (x : ℕ) → kindOf sh d x ≡ Miscounted → (d .due ≡ Nobody) × (isCount (d .slot) ≡ true)
+unfolding kindOf
+count-slot sh d x e = by-due (d .due) refl e
+  where
+    by-slot : (b h a c : Bool) → isCount (d .slot) ≡ c → pick b (pick h Other (pick a Misaddressed (pick c Miscounted Other))) Other ≡ Miscounted → isCount (d .slot) ≡ true
+    by-slot b h a true q e = q
+    by-slot true true a false q e = zero-is-one cc
+    by-slot true false true false q e = zero-is-one cc
+    by-slot true false false false q e = zero-is-one cc
+    by-slot false h a false q e = zero-is-one cc
+
+    by-ack : (b : Bool) → pick b Swapped Other ≡ Miscounted → ⊥
+    by-ack true e = zero-is-one cc
+    by-ack false e = zero-is-one cc
+
+    by-due : (a : Due) → d .due ≡ a → kindDue (sh .tohost) a (d .slot) x ≡ Miscounted → (d .due ≡ Nobody) × (isCount (d .slot) ≡ true)
+    by-due Nobody q e = (q, by-slot (ltb x 256) (sh .tohost) (isAddress (d .slot)) (isCount (d .slot)) refl e)
+    by-due Controller q e = absurd (by-ack (or (eqb x ACK) (eqb x NACK)) e)
+    by-due Target q e = zero-is-one cc
+    by-due Halted q e = zero-is-one cc
+    by-due Cut q e = zero-is-one cc

@@ -23,7 +23,7 @@ use mathlib.Core.List.{List, [], _∷_, _++_}
 use mathlib.Core.Logic.{_⊎_, _↔_}
 use Prim.Native.Nat.{ℕ, suc, _+_, _*_, _/_, _%_, _^_, _≤_, _<_}
 use lib.ListN.{length, take, drop, getD, replicate}
-use Rattle.promises.specs.Words.{Each, Bytes, isReserved, pecOf, Address, lastProtocol, TraceOf, Message, message, encodeNumber, Wrote, Encoded, summary, Member, Fits, Breaks, CutAt, OtherPec, decodeNumber, Decoded, Done, Entered, Outcome}
+use Rattle.promises.specs.Words.{Each, Bytes, isReserved, pecOf, Address, lastProtocol, TraceOf, Message, message, encodeNumber, Wrote, Encoded, summary, Member, Fits, Breaks, Wrong, AfterStart, FitsNext, ToHost, IsSwapped, IsMisaddressed, IsMiscounted, IsOther, CountTooHigh, CutAt, OtherPec, decodeNumber, Decoded, Done, Entered, Outcome}
 use Rattle.promises.specs.Words.{member, emptyPool, startingPool, Pool, udidBytes, In128, Udid, heldAt, prepareTrace, replyTrace, assignTrace, newController, started, stepped, Event, Received, run, Acknowledged, lookedUp, commandNumber, lookupNumber}
 use Rattle.promises.specs.Words.{Asks, Binds, Continues, EndsWith, Replies, protocolFor, messageOf, traceOf, Handed, Send, Wait, Nothing, Prepare, GetUdid, Assign, Ended, Abandoned, NotOutstanding, Open, Bound, Claimed, Controller, Stepped}
 use Rattle.promises.specs.Words.{EvenOrFlag, SameAsEarlier, FixedOnTaken, LengthIsBad, None, FirstOf, targetsOf, movable, leftFree, pass, Given, Ending, served, noneFree, Distinct, ruled, Any, RecordOf, OnePerUdid, getsOnBus, modelNumber, Leaves, modelEnd, ModelAnswer, identifier, holding, Shows}
@@ -51,10 +51,16 @@ pub record Decodes (protocol : ℕ) (pec : Bool) (tr sent₀ received₀ : List 
   pub decode-2 : (decodeNumber a ≡ (2, 0)) ↔ ((protocol ≤ lastProtocol) × (protocol ≡ 0 → pec ≡ false) × ((length sent₀ < 255) ⊎ (length received₀ < 255)))
   pub decode-3 : (k : ℕ) → (decodeNumber a ≡ (3, k)) ↔ (Entered protocol pec sent₀ received₀ × (Breaks protocol pec tr k × (259 < getD tr k 0)))
   pub decode-4 : (n : ℕ) → (decodeNumber a ≡ (4, n)) ↔ (Entered protocol pec sent₀ received₀ × (Fits protocol pec tr × (Member protocol pec tr → ⊥) × (n ≡ length tr)))
-  pub decode-5 : (k : ℕ) → (decodeNumber a ≡ (5, k)) ↔ (Entered protocol pec sent₀ received₀ × (Breaks protocol pec tr k × (Member protocol pec (take k tr) → ⊥) × (getD tr k 0 ≤ 259)))
+  pub decode-5 : (k : ℕ) → (decodeNumber a ≡ (5, k)) ↔ (Entered protocol pec sent₀ received₀ × (Wrong protocol pec tr k × IsOther (FitsNext protocol pec tr k) (AfterStart tr k) (ToHost protocol) (getD tr k 0)))
   pub decode-6 : (b : ℕ) → (decodeNumber a ≡ (6, b)) ↔ (Entered protocol pec sent₀ received₀ × CutAt protocol pec tr b)
   pub decode-7 : (k : ℕ) → (decodeNumber a ≡ (7, k)) ↔ (Entered protocol pec sent₀ received₀ × OtherPec protocol pec tr k)
   pub decode-8 : (k : ℕ) → (decodeNumber a ≡ (8, k)) ↔ (Entered protocol pec sent₀ received₀ × ((k < length tr) × Member protocol pec (take k tr) × (getD tr k 0 ≤ 259)))
+  -- the kinds of a wrong symbol: 17 ACK for NACK or NACK for ACK, 18 a byte right after START, 19 a byte elsewhere for which another would have fitted; else 5
+  pub decode-17 : (k : ℕ) → (decodeNumber a ≡ (17, k)) ↔ (Entered protocol pec sent₀ received₀ × (Wrong protocol pec tr k × IsSwapped (FitsNext protocol pec tr k) (getD tr k 0)))
+  pub decode-18 : (k : ℕ) → (decodeNumber a ≡ (18, k)) ↔ (Entered protocol pec sent₀ received₀ × (Wrong protocol pec tr k × IsMisaddressed (AfterStart tr k) (ToHost protocol) (getD tr k 0)))
+  pub decode-19 : (k : ℕ) → (decodeNumber a ≡ (19, k)) ↔ (Entered protocol pec sent₀ received₀ × (Wrong protocol pec tr k × IsMiscounted (FitsNext protocol pec tr k) (AfterStart tr k) (ToHost protocol) (getD tr k 0)))
+  pub counts : (k : ℕ) → (decodeNumber a ≡ (19, k)) ↔ (Entered protocol pec sent₀ received₀ × CountTooHigh protocol tr k)
+  pub wrong : (k : ℕ) → ((decodeNumber a ≡ (5, k)) ⊎ ((decodeNumber a ≡ (17, k)) ⊎ ((decodeNumber a ≡ (18, k)) ⊎ (decodeNumber a ≡ (19, k))))) ↔ (Entered protocol pec sent₀ received₀ × Wrong protocol pec tr k)
   -- with 0 the message is handed over: its fields, and its data at the fronts of the buffers, which are as they were behind
   pub handed : Entered protocol pec sent₀ received₀ → (m : Message) → TraceOf protocol pec m tr
       → (a ≡ Done (summary protocol m)) × (sent ≡ m .sent ++ drop (length (m .sent)) sent₀) × (received ≡ m .received ++ drop (length (m .received)) received₀)

@@ -32,7 +32,7 @@ use Rattle.scan.specs.AnswersLaws.{one-message}
 use Rattle.scan.specs.Numbers.{decodeNumber}
 use Rattle.scan.specs.declared.answer.Decoded.{Decoded}
 use Rattle.scan.specs.declared.answer.Decoded.the-variants.{Done}
-use Rattle.scan.specs.declared.answer.Refusal.the-variants.{NoSymbol, EndsEarly, Unexpected, NotAcknowledged, PecDiffers, AfterStop}
+use Rattle.scan.specs.declared.answer.Refusal.the-variants.{NoSymbol, EndsEarly, Unexpected, NotAcknowledged, PecDiffers, AfterStop, WrongAck, WrongAddress, WrongCount}
 use Rattle.decode.specs.NumberLaws as decode
 use Rattle.decode.specs.Outcome.{Outcome}
 use Rattle.pool.specs.Pools.{member}
@@ -105,6 +105,11 @@ decodes protocol pec tr sent₀ received₀ a sent received o = record {
   decode-6 = λ k. decode.decode-refused protocol pec tr sent₀ received₀ a sent received o NotAcknowledged k (omega arith);
   decode-7 = λ k. decode.decode-refused protocol pec tr sent₀ received₀ a sent received o PecDiffers k (omega arith);
   decode-8 = λ k. decode.decode-refused protocol pec tr sent₀ received₀ a sent received o AfterStop k (omega arith);
+  decode-17 = λ k. decode.decode-refused protocol pec tr sent₀ received₀ a sent received o WrongAck k (omega arith);
+  decode-18 = λ k. decode.decode-refused protocol pec tr sent₀ received₀ a sent received o WrongAddress k (omega arith);
+  decode-19 = λ k. decode.decode-refused protocol pec tr sent₀ received₀ a sent received o WrongCount k (omega arith);
+  counts = decode.decode-count protocol pec tr sent₀ received₀ a sent received o;
+  wrong = decode.decode-wrong protocol pec tr sent₀ received₀ a sent received o;
   handed = decode.decode-hands-over protocol pec tr sent₀ received₀ a sent received o;
   untouched = decode.decode-refusal protocol pec tr sent₀ received₀ a sent received o;
 }

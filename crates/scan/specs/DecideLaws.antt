@@ -191,13 +191,13 @@ module _ (num : ℕ) (sh : Shape) (hs : Sane sh) (p : Bool) (tr : List ℕ) wher
   unfolding decodedBy finish
   by-reading d b c g q e f h = rw q (rw (e, f, h))
 
-  by-stop : (k : ℕ) (d : Decoder) (b c : Bool) → k < length tr → run sh p fresh 0 (take k tr) ≡ Reading d → fits sh d (getD tr k 0) ≡ false
+  pub by-stop : (k : ℕ) (d : Decoder) (b c : Bool) → k < length tr → run sh p fresh 0 (take k tr) ≡ Reading d → fits sh d (getD tr k 0) ≡ false
       → leb (getD tr k 0) NACK ≡ b → over (d .due) (d .slot) ≡ c → decodedBy num sh p tr ≡ pick b (pick c (Refused AfterStop k) (Refused (refusalOf (kindOf sh d (getD tr k 0))) k)) (Refused NoSymbol k)
   unfolding decodedBy
   by-stop k d b c h q f e g = rw (stops-at sh p tr k fresh d h q f) (rw (e, g))
 
   -- where the first k symbols fit and one more do not
-  stuck : (k : ℕ) (z : Breaks sh p tr k) (d : Decoder) → run sh p fresh 0 (take k tr) ≡ Reading d → fits sh d (getD tr k 0) ≡ false
+  pub stuck : (k : ℕ) (z : Breaks sh p tr k) (d : Decoder) → run sh p fresh 0 (take k tr) ≡ Reading d → fits sh d (getD tr k 0) ≡ false
   stuck k z d q = go (fits sh d (getD tr k 0)) refl
     where
       go : (b : Bool) → fits sh d (getD tr k 0) ≡ b → b ≡ false

@@ -4,10 +4,12 @@ use mathlib.Core.Path.{_≡_}
 use mathlib.Core.Bool.{Bool, true}
 use mathlib.Core.List.{List, [], _∷_, _++_}
 use mathlib.Core.Logic.{_⊎_}
-use Prim.Native.Nat.{ℕ, suc, _+_, _≤_, _<_}
+use Prim.Native.Nat.{ℕ, suc, _+_, _*_, _≤_, _<_}
 use lib.ListN.{length, take, getD}
+use Rattle.lists.specs.Each.{Bytes}
 use Rattle.pec.specs.Pec.{pecOf}
 use Rattle.trace.specs.Table.{Line, Row, InTable, symbols}
+use Rattle.trace.specs.Trace.{acked}
 use Rattle.scan.specs.Because.{Cases}
 use Rattle.scan.specs.BytesIn.{bytesIn}
 
@@ -67,3 +69,9 @@ tableCases protocol pec tr =
 -- a wrong symbol stands at k: its place is the first whose beginning does not fit, no member ends before it, and it is a symbol
 abbrev pub Wrong : ℕ → Bool → List ℕ → ℕ → Type 0
 Wrong protocol pec tr k = Breaks protocol pec tr k × (Member protocol pec (take k tr) → ⊥) × (getD tr k 0 ≤ 259)
+
+-- a wrong count, worked out: of a Block Process Call, at the place of the count received, which comes to more than 255 with the count sent
+abbrev pub CountTooHigh : ℕ → List ℕ → ℕ → Type 0
+CountTooHigh protocol tr k =
+    (protocol ≡ 10) × (k < length tr) × (getD tr k 0 < 256) × ((a : ℕ) × (c : ℕ) × (d : List ℕ) × (a < 128) × (c < 256) × Bytes d × (length d < 256) × (255 < length d + getD tr k 0)
+    × (take k tr ≡ 256 ∷ 2 * a ∷ 258 ∷ c ∷ 258 ∷ length d ∷ 258 ∷ (acked d ++ 256 ∷ (2 * a + 1) ∷ 258 ∷ [])))

@@ -36,6 +36,12 @@ module _ (by : Due → Bool) (sh : Shape) (p : Bool) where
   leads-run [] d e i q = ap Reading q
   leads-run (x ∷ xs) d e i q = rw (q .0) (leads-run xs (move sh p d x) e (suc i) (q .2))
 
+  -- a path in two parts
+  pub leads-parted : (xs ys : List ℕ) (d e : Decoder) → Leads by sh p d (xs ++ ys) e → (m : Decoder) × Leads by sh p d xs m × Leads by sh p m ys e
+  unfolding Leads
+  leads-parted [] ys d e q = (d, refl, q)
+  leads-parted (x ∷ xs) ys d e q = let r = leads-parted xs ys (move sh p d x) e (q .2) in (r .0, (q .0, q .1, r .1), r .2)
+
   -- the state at any place of a path, and what holds of the next symbol there
   pub leads-inside : (xs : List ℕ) (x : ℕ) (ys : List ℕ) (d e : Decoder) → Leads by sh p d (xs ++ x ∷ ys) e
       → (m : Decoder) × (Leads by sh p d xs m) × (fits sh m x ≡ true) × (by (m .due) ≡ true)

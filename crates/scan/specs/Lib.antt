@@ -31,6 +31,8 @@ pub mod PecByteLaws
 pub mod CutLaws
 pub mod DecideLaws
 pub mod AnswersLaws
+pub mod CountLaws
 pub mod SizeLaws
 pub mod Fitting
 pub mod FittingLaws
+pub mod CountFittingLaws

@@ -115,11 +115,11 @@ ended-is-end ReadPec h = false-not-true h
 ended-is-end Stop h = false-not-true h
 
 -- two ways to part a list
-data Parted (us bs cs : List ℕ) (x : ℕ) (ds : List ℕ) : Type 0 where
+pub data Parted (us bs cs : List ℕ) (x : ℕ) (ds : List ℕ) : Type 0 where
   early : (post : List ℕ) → us ≡ cs ++ x ∷ post → Parted us bs cs x ds
   late : (mid : List ℕ) → cs ≡ us ++ mid → bs ≡ mid ++ x ∷ ds → Parted us bs cs x ds
 
-split-at-symbol : (us bs cs : List ℕ) (x : ℕ) (ds : List ℕ) → us ++ bs ≡ cs ++ x ∷ ds → Parted us bs cs x ds
+pub split-at-symbol : (us bs cs : List ℕ) (x : ℕ) (ds : List ℕ) → us ++ bs ≡ cs ++ x ∷ ds → Parted us bs cs x ds
 split-at-symbol [] bs cs x ds e = late cs refl e
 split-at-symbol (a ∷ us) bs [] x ds e = early us (cc)
 split-at-symbol (a ∷ us) bs (c ∷ cs) x ds e = go (split-at-symbol us bs cs x ds (cc))
