@@ -30,8 +30,8 @@ enum {
     HB_TOO_SHORT = 2,        /* a buffer that is too short */
     HB_NO_SYMBOL = 3,        /* of a trace: a number that is no symbol */
     HB_ENDS_EARLY = 4,       /* its end while it still fits */
-    HB_UNEXPECTED = 5,       /* a symbol that cannot stand there */
-    HB_NOT_ACKNOWLEDGED = 6, /* NACK where ACK is due */
+    HB_UNEXPECTED = 5,       /* a symbol that cannot stand there, and is none of 17, 18 and 19 */
+    HB_NOT_ACKNOWLEDGED = 6, /* the target's NACK where its ACK is due */
     HB_PEC_DIFFERS = 7,      /* a PEC that differs */
     HB_AFTER_STOP = 8,       /* symbols after STOP */
     HB_BAD_LENGTH = 9,       /* of a target list: its length */
@@ -42,6 +42,9 @@ enum {
     HB_PASS_ABANDONED = 14,  /* abandoned */
     HB_NOBODY = 15,          /* of the lookup: nobody is bound there */
     HB_TWO = 16,             /* two claim the address */
+    HB_WRONG_ACK = 17,       /* of a trace: the controller's ACK for its NACK, or its NACK for its ACK */
+    HB_WRONG_ADDRESS = 18,   /* an address byte with another address, or for the other direction */
+    HB_WRONG_COUNT = 19,     /* a count that is not allowed */
     HB_NO_COMMAND = 21       /* of a pass: no command outstanding */
 };
 

@@ -83,9 +83,10 @@ fn kind_at(host: bool, slot: Slot, x: u16) -> Kind
     ensures { λ r. ⌜ r ≡ Kinds.kindAt host slot x ⌝ }
 {
     if is_byte(x) {
-        return kind_of_byte(host, slot);
+        kind_of_byte(host, slot)
+    } else {
+        Kind::Other
     }
-    Kind::Other
 }
 
 // Where the controller's ACK or NACK is due.

@@ -2,28 +2,29 @@
 -- ≡ is 'equal', ↔ 'if and only if', × 'and', ⊎ 'or', P → ⊥ 'not P', (x : A) × P 'there is an x with P'; getD l i 0 is number i of the list l.
 -- A parameter such as (contract : Wrote ..) is what a function's `ensures` says, word for word. It need not be believed: the code meets it.
 -- CONTRACTS: Leaves, Outcome, Wrote, lookedUp, messageOf, modelEnd, newController, protocolFor, started, stepped, traceOf.
--- BELIEVED: 599 lines, without imports, comments and blanks. Crate/file, then the lines of each definition; src is a type of the code. tests/programs/believed.rs counts them.
+-- BELIEVED: 625 lines, without imports, comments and blanks. Crate/file, then the lines of each definition; src is a type of the code. tests/programs/believed.rs counts them.
 -- lists/Choice: and 3, not 3, or 3, pick 3; lists/Each: Bytes 3, Each 3; wire/Addresses: isReserved 2; wire/Symbols: ACK 2, NACK 2, START 2, STOP 2; wire/src: Address 1; pec/Pec: bitStep 2, pecFrom 3, pecOf 2, pecStep 2;
 -- trace/Rows: message 2; trace/Table: InTable 2, Line 6, Row 22, TraceOf 2, lastProtocol 2, line 2, symbols 2; trace/Trace: Message 6, ackOf 3, acked 3, inPlace 2, nacked 3; trace/src: Transaction 8;
--- encode/Encode: encodeNumber 4; encode/src: Encoded 5; scan/Answers: summary 3; scan/BytesIn: bytesIn 3; scan/Fitting: Breaks 4, CutAt 9, Fits 2, Member 2, OtherPec 3, Whole 2; scan/Numbers: decodeNumber 3, refusalNumber 9;
--- scan/src: Decoded 4, Refusal 10; decode/Outcome: Entered 2; pool/Counts: count 3, one 2; pool/Digits: digit 2, plus 2; pool/Free: Lowest 4, freeFrom 3, lowestFree 2, used 2; pool/Pools: member 2, unionOf 2, withAddress 4;
--- pool/Start: emptyPool 2, reservedPool 2, startingPool 2; pool/src: Free 4, Pool 4; udid/Bytes: bytesFrom 3, bytesOf 3, number 2, numberFrom 3, udidAt 2, udidBytes 2; udid/Udids: Fits 3, isFixed 2, sameUdid 2, value 2;
--- udid/src: Udid 4; slots/Slots: heldAt 2; slots/src: Binding 5, Slots 6; commands/CommandTraces: assignTrace 2, prepareTrace 2, replyTrace 3; commands/src: Command 5, End 7, Handed 4; arp/History: Acknowledged 5, Event 3, run 4;
--- arp/Numbers: commandNumber 3, endNumber 6, lookupNumber 5; arp/OneStep: Asks 3, Binds 5, BoundAt 3, Chooses 5, Continues 2, EndsWith 2, Hands 5, Keeps 3, Replies 4, Same 2, Unbinds 3; arp/src: Controller 7, Found 6, Stepped 4;
--- arbitration/Bits: bits 3, byteBits 3, bytesRead 3, numberOf 3; arbitration/Wire: heard 3, later 3, level 3, next 3, staying 3; targets/ByteCases: EvenOrFlag 2, FixedAt 2, FixedOnTaken 2, SameAsEarlier 2, addressAt 2;
--- targets/Cases: FirstOf 4, LengthIsBad 2, None 2; targets/Records: addressByte 2, flagOf 2, recordCount 2, targetAt 2, targetsFrom 3, targetsOf 2, udidOf 2; targets/Reply: OnWire 3, coveredBytes 2, onWire 3, replyBytes 2,
--- replyData 2, replyPec 2, sends 2, waiting 3; targets/Target: Target 4, isResolved 2, mapTargets 3; bindings/src: ModelAnswer 8; report/Report: modelNumber 2; rule/Acknowledge: acknowledges 4, afterwards 2, answered 4, asking 2,
--- assigningBytes 2, begins 4, gettingBytes 2, onBus 2, preparingBytes 2, received 3, sentPart 5, somebody 3, standing 3; rule/AllBound: leftFree 2, movable 3, withFixed 3; rule/AnyBus: Bus 3, WorldOver 3, beginningOver 2,
--- passOf 2, runOver 3, tookOver 3, turnOver 2; rule/Bus: modelBus 2, pass 2; rule/Effect: addressIn 2, effect 5, isForMe 2, same 5; rule/PlainRule: Distinct 3, Ending 3, Given 3, Ruled 3, ascending 3, held 2, insert 3, next 3,
--- plainChoice 4, rule 3, ruled 2; rule/Reading: Any 3, OnePerUdid 3, RecordOf 2; rule/Sent: getsAmong 3, getsOnBus 2, getsOver 2, oneIn 2, tracesOver 3; bus/Run: ModelEnd 4; promises/MarkedWords: Shows 2, holding 2, identifier 2,
--- windows 3.
+-- encode/Encode: encodeNumber 4; encode/src: Encoded 5; misfit/Cases: IsMisaddressed 2, IsMiscounted 2, IsOther 2, IsSwapped 2; scan/Answers: summary 3; scan/Because: AfterStart 2; scan/BytesIn: bytesIn 3; scan/Fitting: Breaks 4,
+-- CountTooHigh 4, CutAt 9, Fits 2, FitsNext 2, Member 2, OtherPec 3, ToHost 2, Whole 2, Wrong 2; scan/Numbers: decodeNumber 3, refusalNumber 12; scan/src: Decoded 4, Refusal 13; decode/Outcome: Entered 2; pool/Counts: count 3,
+-- one 2; pool/Digits: digit 2, plus 2; pool/Free: Lowest 4, freeFrom 3, lowestFree 2, used 2; pool/Pools: member 2, unionOf 2, withAddress 4; pool/Start: emptyPool 2, reservedPool 2, startingPool 2; pool/src: Free 4, Pool 4;
+-- udid/Bytes: bytesFrom 3, bytesOf 3, number 2, numberFrom 3, udidAt 2, udidBytes 2; udid/Udids: Fits 3, isFixed 2, sameUdid 2, value 2; udid/src: Udid 4; slots/Slots: heldAt 2; slots/src: Binding 5, Slots 6;
+-- commands/CommandTraces: assignTrace 2, prepareTrace 2, replyTrace 3; commands/src: Command 5, End 7, Handed 4; arp/History: Acknowledged 5, Event 3, run 4; arp/Numbers: commandNumber 3, endNumber 6, lookupNumber 5;
+-- arp/OneStep: Asks 3, Binds 5, BoundAt 3, Chooses 5, Continues 2, EndsWith 2, Hands 5, Keeps 3, Replies 4, Same 2, Unbinds 3; arp/src: Controller 7, Found 6, Stepped 4; arbitration/Bits: bits 3, byteBits 3, bytesRead 3,
+-- numberOf 3; arbitration/Wire: heard 3, later 3, level 3, next 3, staying 3; targets/ByteCases: EvenOrFlag 2, FixedAt 2, FixedOnTaken 2, SameAsEarlier 2, addressAt 2; targets/Cases: FirstOf 4, LengthIsBad 2, None 2;
+-- targets/Records: addressByte 2, flagOf 2, recordCount 2, targetAt 2, targetsFrom 3, targetsOf 2, udidOf 2; targets/Reply: OnWire 3, coveredBytes 2, onWire 3, replyBytes 2, replyData 2, replyPec 2, sends 2, waiting 3;
+-- targets/Target: Target 4, isResolved 2, mapTargets 3; bindings/src: ModelAnswer 8; report/Report: modelNumber 2; rule/Acknowledge: acknowledges 4, afterwards 2, answered 4, asking 2, assigningBytes 2, begins 4, gettingBytes 2,
+-- onBus 2, preparingBytes 2, received 3, sentPart 5, somebody 3, standing 3; rule/AllBound: leftFree 2, movable 3, withFixed 3; rule/AnyBus: Bus 3, WorldOver 3, beginningOver 2, passOf 2, runOver 3, tookOver 3, turnOver 2;
+-- rule/Bus: modelBus 2, pass 2; rule/Effect: addressIn 2, effect 5, isForMe 2, same 5; rule/PlainRule: Distinct 3, Ending 3, Given 3, Ruled 3, ascending 3, held 2, insert 3, next 3, plainChoice 4, rule 3, ruled 2;
+-- rule/Reading: Any 3, OnePerUdid 3, RecordOf 2; rule/Sent: getsAmong 3, getsOnBus 2, getsOver 2, oneIn 2, tracesOver 3; bus/Run: ModelEnd 4; promises/MarkedWords: Shows 2, holding 2, identifier 2, windows 3.
 use mathlib.Core.Path.{_≡_}
 use mathlib.Core.Bool.{Bool, true, false}
 use mathlib.Core.List.{List, [], _∷_, _++_}
 use mathlib.Core.Logic.{_⊎_, _↔_}
 use Prim.Native.Nat.{ℕ, suc, _+_, _*_, _/_, _%_, _^_, _≤_, _<_}
 use lib.ListN.{length, take, drop, getD, replicate}
-use Rattle.promises.specs.Words.{Each, Bytes, isReserved, pecOf, Address, lastProtocol, TraceOf, Message, message, encodeNumber, Wrote, Encoded, summary, Member, Fits, Breaks, Wrong, AfterStart, FitsNext, ToHost, IsSwapped, IsMisaddressed, IsMiscounted, IsOther, CountTooHigh, CutAt, OtherPec, decodeNumber, Decoded, Done, Entered, Outcome}
+use Rattle.promises.specs.Words.{Each, Bytes, isReserved, pecOf, Address, lastProtocol, TraceOf, Message, message, encodeNumber, Wrote, Encoded}
+use Rattle.promises.specs.Words.{summary, Member, Fits, Breaks, Wrong, AfterStart, FitsNext, ToHost, IsSwapped, IsMisaddressed, IsMiscounted, IsOther, CountTooHigh, CutAt, OtherPec, decodeNumber, Decoded, Done, Entered, Outcome}
 use Rattle.promises.specs.Words.{member, emptyPool, startingPool, Pool, udidBytes, In128, Udid, heldAt, prepareTrace, replyTrace, assignTrace, newController, started, stepped, Event, Received, run, Acknowledged, lookedUp, commandNumber, lookupNumber}
 use Rattle.promises.specs.Words.{Asks, Binds, Continues, EndsWith, Replies, protocolFor, messageOf, traceOf, Handed, Send, Wait, Nothing, Prepare, GetUdid, Assign, Ended, Abandoned, NotOutstanding, Open, Bound, Claimed, Controller, Stepped}
 use Rattle.promises.specs.Words.{EvenOrFlag, SameAsEarlier, FixedOnTaken, LengthIsBad, None, FirstOf, targetsOf, movable, leftFree, pass, Given, Ending, served, noneFree, Distinct, ruled, Any, RecordOf, OnePerUdid, getsOnBus, modelNumber, Leaves, modelEnd, ModelAnswer, identifier, holding, Shows}
@@ -55,7 +56,7 @@ pub record Decodes (protocol : ℕ) (pec : Bool) (tr sent₀ received₀ : List 
   pub decode-6 : (b : ℕ) → (decodeNumber a ≡ (6, b)) ↔ (Entered protocol pec sent₀ received₀ × CutAt protocol pec tr b)
   pub decode-7 : (k : ℕ) → (decodeNumber a ≡ (7, k)) ↔ (Entered protocol pec sent₀ received₀ × OtherPec protocol pec tr k)
   pub decode-8 : (k : ℕ) → (decodeNumber a ≡ (8, k)) ↔ (Entered protocol pec sent₀ received₀ × ((k < length tr) × Member protocol pec (take k tr) × (getD tr k 0 ≤ 259)))
-  -- the kinds of a wrong symbol: 17 ACK for NACK or NACK for ACK, 18 a byte right after START, 19 a byte elsewhere for which another would have fitted; else 5
+  -- the kinds of a wrong symbol: 17 ACK for NACK or NACK for ACK, 18 a byte right after START, 19 a byte elsewhere for which another would have fitted (worked out: counts); else 5
   pub decode-17 : (k : ℕ) → (decodeNumber a ≡ (17, k)) ↔ (Entered protocol pec sent₀ received₀ × (Wrong protocol pec tr k × IsSwapped (FitsNext protocol pec tr k) (getD tr k 0)))
   pub decode-18 : (k : ℕ) → (decodeNumber a ≡ (18, k)) ↔ (Entered protocol pec sent₀ received₀ × (Wrong protocol pec tr k × IsMisaddressed (AfterStart tr k) (ToHost protocol) (getD tr k 0)))
   pub decode-19 : (k : ℕ) → (decodeNumber a ≡ (19, k)) ↔ (Entered protocol pec sent₀ received₀ × (Wrong protocol pec tr k × IsMiscounted (FitsNext protocol pec tr k) (AfterStart tr k) (ToHost protocol) (getD tr k 0)))
@@ -81,11 +82,9 @@ pub record Commands (reply before : List ℕ) (r : Encoded) (after : List ℕ) :
   pub traces : (traceOf (Send Prepare) reply ≡ prepareTrace) × (traceOf (Send GetUdid) reply ≡ replyTrace reply) × ((u : Udid) (a : Address) → a .0 < 128 → traceOf (Send (Assign u a)) [] ≡ assignTrace (udidBytes u) (2 * a .0))
   pub prepare : Wrote (protocolFor (Send Prepare)) true (messageOf (Send Prepare) reply) before r after → Puts ⊥ prepareTrace before r after
   pub get : Wrote (protocolFor (Send GetUdid)) true (messageOf (Send GetUdid) reply) before r after → Puts (255 < length reply) (replyTrace reply) before r after
-  pub assign : (u : Udid) (a : Address) → Wrote (protocolFor (Send (Assign u a))) true (messageOf (Send (Assign u a)) reply) before r after
-      → Puts (127 < a .0) (assignTrace (udidBytes u) (2 * a .0)) before r after
+  pub assign : (u : Udid) (a : Address) → Wrote (protocolFor (Send (Assign u a))) true (messageOf (Send (Assign u a)) reply) before r after → Puts (127 < a .0) (assignTrace (udidBytes u) (2 * a .0)) before r after
   -- what is no command is refused
-  pub none : (k : Handed) → (k ≡ Send Prepare → ⊥) → (k ≡ Send GetUdid → ⊥) → ((u : Udid) (a : Address) → k ≡ Send (Assign u a) → ⊥)
-      → Wrote (protocolFor k) true (messageOf k reply) before r after → Puts Unit [] before r after
+  pub none : (k : Handed) → (k ≡ Send Prepare → ⊥) → (k ≡ Send GetUdid → ⊥) → ((u : Udid) (a : Address) → k ≡ Send (Assign u a) → ⊥) → Wrote (protocolFor k) true (messageOf k reply) before r after → Puts Unit [] before r after
 
 -- lookup of the address a in the state s
 pub record LooksUp (s : Controller) (a : ℕ) : Type 0 where
@@ -102,8 +101,7 @@ pub record Checks (occupied : Pool) (s b : List ℕ) (bytes : Bytes s) (r : Mode
   pub model-2 : (modelNumber r ≡ (2, 0)) ↔ (length b < 2048)
   pub model-9 : (modelNumber r ≡ (9, 0)) ↔ ((2048 ≤ length b) × LengthIsBad s)
   pub model-10 : (i : ℕ) → (modelNumber r ≡ (10, i)) ↔ ((2048 ≤ length b) × ((LengthIsBad s → ⊥) × FirstOf (EvenOrFlag s) (length s / 18) i))
-  pub model-11 : (i : ℕ) → (modelNumber r ≡ (11, i))
-      ↔ ((2048 ≤ length b) × ((LengthIsBad s → ⊥) × None (EvenOrFlag s) (length s / 18) × FirstOf (SameAsEarlier s) (length s / 18) i))
+  pub model-11 : (i : ℕ) → (modelNumber r ≡ (11, i)) ↔ ((2048 ≤ length b) × ((LengthIsBad s → ⊥) × None (EvenOrFlag s) (length s / 18) × FirstOf (SameAsEarlier s) (length s / 18) i))
   pub model-12 : (i : ℕ) → (modelNumber r ≡ (12, i)) ↔ ((2048 ≤ length b) × ((LengthIsBad s → ⊥) × None (EvenOrFlag s) (length s / 18)
       × None (SameAsEarlier s) (length s / 18) × FirstOf (FixedOnTaken (startingPool occupied) s) (length s / 18) i))
   pub untouched : Refused r → (s′ ≡ s) × (b′ ≡ b) × (r .udid ≡ record { high = 0; low = 0 }) × (r .bound ≡ emptyPool) × (r .count ≡ 0) × (r .gets ≡ 0)
@@ -141,15 +139,13 @@ pub record Meets (occupied : Pool) (s b : List ℕ) (given : List Given) (ending
   pub rest : drop 2048 b′ ≡ drop 2048 b
   -- the records: a bound one has twice its address plus 1 and flag 1, any other its address byte as it was and flag 0; no other byte changes
   pub same-length : length s′ ≡ length s
-  pub bound-record : (i : ℕ) → i < length s / 18
-      → Each (λ (g : Given). RecordOf s i g → (getD s′ (18 * i + 16) 0 ≡ 2 * g .address + 1) × (getD s′ (18 * i + 17) 0 ≡ 1)) given
+  pub bound-record : (i : ℕ) → i < length s / 18 → Each (λ (g : Given). RecordOf s i g → (getD s′ (18 * i + 16) 0 ≡ 2 * g .address + 1) × (getD s′ (18 * i + 17) 0 ≡ 1)) given
   pub unbound-record : (i : ℕ) → i < length s / 18 → (Any (RecordOf s i) given → ⊥) → (getD s′ (18 * i + 16) 0 ≡ getD s (18 * i + 16) 0) × (getD s′ (18 * i + 17) 0 ≡ 0)
   pub others : (j : ℕ) → j % 18 < 16 → getD s′ j 0 ≡ getD s j 0
   -- all are bound if and only if the movable targets do not outnumber the addresses that the fixed ones leave free
   pub all-bound : (r .count ≡ length (targetsOf s)) ↔ (movable (targetsOf s) ≤ leftFree (startingPool occupied) (targetsOf s))
   -- and this is the end of the pass, which runs the delivered start and steps against the targets, trace by trace: its targets, and whom its controller has bound
-  pub of-pass : (targetsOf s′ ≡ pass occupied (targetsOf s) .targets)
-      × ((a : ℕ) (u : Udid) → a < 128 → heldAt (pass occupied (targetsOf s) .now .state .slots) a ≡ Bound u → take 16 (drop (16 * a) b′) ≡ udidBytes u)
+  pub of-pass : (targetsOf s′ ≡ pass occupied (targetsOf s) .targets) × ((a : ℕ) (u : Udid) → a < 128 → heldAt (pass occupied (targetsOf s) .now .state .slots) a ≡ Bound u → take 16 (drop (16 * a) b′) ≡ udidBytes u)
 
 pub record Demand3 (occupied : Pool) (s b : List ℕ) (bytes : Bytes s) (r : ModelAnswer) (s′ b′ : List ℕ) (contract : Leaves (modelEnd occupied s b) r s′ b′) : Type 0 where
   pub meets : 2048 ≤ length b → (LengthIsBad s → ⊥) → None (EvenOrFlag s) (length s / 18) → None (SameAsEarlier s) (length s / 18) → None (FixedOnTaken (startingPool occupied) s) (length s / 18)
@@ -239,8 +235,7 @@ pub record Marked (b : List ℕ) (room : 2048 ≤ length b) : Type 0 where
   pub m6 : (before : List ℕ) (r : Encoded) (after : List ℕ) → length before ≡ 525 → (Wrote 10 false (message 0x10 0 7 (replicate 200 0) (replicate 55 0)) before r after → encodeNumber r ≡ (0, 523))
       × (Wrote 10 true (message 0x10 0 7 (replicate 200 0) (replicate 55 0)) before r after → encodeNumber r ≡ (0, 525))
       × ((pec : Bool) → Wrote 10 pec (message 0x10 0 7 (replicate 200 0) (replicate 56 0)) before r after → encodeNumber r ≡ (1, 0))
-  pub m7 : (protocol : ℕ) (pec : Bool) (sent₀ received₀ : List ℕ) (a : Decoded) (sent received : List ℕ) → Entered protocol pec sent₀ received₀
-      → Outcome protocol pec [] sent₀ received₀ a sent received → decodeNumber a ≡ (4, 0)
+  pub m7 : (protocol : ℕ) (pec : Bool) (sent₀ received₀ : List ℕ) (a : Decoded) (sent received : List ℕ) → Entered protocol pec sent₀ received₀ → Outcome protocol pec [] sent₀ received₀ a sent received → decodeNumber a ≡ (4, 0)
   -- 80h.. with FFh, 00h.. fixed at 09h, 40h.. holding 20h, nothing occupied: 09h fixed, 20h kept, 0Ah given to 80h..; four Get UDIDs
   pub m8 : Shows (modelEnd emptyPool (holding 0x80 0xFF 0 ++ holding 0x00 0x13 0 ++ holding 0x40 0x41 0) b)
       (record { answer = 0; place = 0; udid = record { high = 0; low = 0 }; bound = record { low = 2 ^ 0x09 + 2 ^ 0x0A + 2 ^ 0x20; high = 0 }; count = 3; gets = 4 })
@@ -251,5 +246,4 @@ pub record Marked (b : List ℕ) (room : 2048 ≤ length b) : Type 0 where
       (holding 0x40 0x13 1 ++ holding 0x80 0x15 1) (0x09 ∷ 0x0A ∷ 0x0B ∷ []) (identifier 0x40 ++ identifier 0x80 ++ replicate 16 0)
   -- all 128 occupied, one movable target: 13, none bound, one Get UDID
   pub m10 : Shows (modelEnd (record { low = 18446744073709551615; high = 18446744073709551615 }) (holding 0x80 0x41 1) b)
-      (record { answer = 13; place = 0; udid = record { high = 0x80 * 2 ^ 56; low = 1 }; bound = emptyPool; count = 0; gets = 1 })
-      (holding 0x80 0x41 0) (0x09 ∷ 0x20 ∷ []) (replicate 32 0)
+      (record { answer = 13; place = 0; udid = record { high = 0x80 * 2 ^ 56; low = 1 }; bound = emptyPool; count = 0; gets = 1 }) (holding 0x80 0x41 0) (0x09 ∷ 0x20 ∷ []) (replicate 32 0)
