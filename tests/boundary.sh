@@ -7,6 +7,9 @@ set -eu
 cd "$(dirname "$0")/.."
 library=$1
 symbols=$2
+# On another processor than x86-64 tests/emulated.sh names a compiler for it and an emulator.
+compiler=${CC_FOR_C:-gcc}
+runner=${RUN_C:-valgrind -q --error-exitcode=9 --leak-check=full --errors-for-leak-kinds=all}
 out=build/tests
 mkdir -p "$out"
 
@@ -52,8 +55,9 @@ inside { sub(/;$/, ""); fields = fields " " $1 " " $2 }' include/headboarded.h |
 same 'the structs of the crates are not those of include/headboarded.h'
 printf '%-36s %8d cases\n' 'structs of the header' "$(wc -l <"$out/due")"
 
-gcc -std=c11 -O1 -g -Wall -Wextra -Werror -Iinclude tests/c/*.c "$library" "$symbols" -o "$out/from_c"
-valgrind -q --error-exitcode=9 --leak-check=full --errors-for-leak-kinds=all "$out/from_c" >"$out/from_c.log" 2>&1 || {
+# shellcheck disable=SC2086
+$compiler -std=c11 -O1 -g -Wall -Wextra -Werror -Iinclude tests/c/*.c "$library" "$symbols" -o "$out/from_c"
+$runner "$out/from_c" >"$out/from_c.log" 2>&1 || {
     cat "$out/from_c.log"
     exit 1
 }

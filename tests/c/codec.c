@@ -107,29 +107,52 @@ static void check_refusals(void)
     free(r);
 }
 
-/* Traces of a Send Byte of 05h to 2ch that are refused: the header's name of each number, and where. */
+/* Traces to and from 2ch that are refused: the number, the header's name of it, and where. */
 static const struct {
-    uint8_t pec;
-    uint32_t answer;
+    uint8_t protocol, pec;
+    uint32_t number, name;
     size_t value, symbols;
-    uint16_t trace[8];
+    uint16_t trace[14];
 } refused[] = {
-    { 0, HB_NO_SYMBOL, 1, 2, { HB_START, 260 } },
-    { 0, HB_ENDS_EARLY, 3, 3, { HB_START, 0x58, HB_ACK } },
-    { 0, HB_UNEXPECTED, 1, 2, { HB_START, HB_STOP } },
-    { 0, HB_NOT_ACKNOWLEDGED, 1, 6, { HB_START, 0x58, HB_ACK, 0x05, HB_NACK, HB_STOP } },
-    { 1, HB_PEC_DIFFERS, 5, 8, { HB_START, 0x58, HB_ACK, 0x05, HB_ACK, 0x00, HB_ACK, HB_STOP } },
-    { 0, HB_AFTER_STOP, 6, 7, { HB_START, 0x58, HB_ACK, 0x05, HB_ACK, HB_STOP, HB_STOP } },
+    { HB_SEND_BYTE, 0, 3, HB_NO_SYMBOL, 1, 2, { HB_START, 260 } },
+    { HB_SEND_BYTE, 0, 4, HB_ENDS_EARLY, 3, 3, { HB_START, 0x58, HB_ACK } },
+    { HB_SEND_BYTE, 0, 5, HB_UNEXPECTED, 1, 2, { HB_START, HB_STOP } },
+    { HB_SEND_BYTE, 0, 6, HB_NOT_ACKNOWLEDGED, 1, 6, { HB_START, 0x58, HB_ACK, 0x05, HB_NACK, HB_STOP } },
+    { HB_SEND_BYTE, 1, 7, HB_PEC_DIFFERS, 5, 8, { HB_START, 0x58, HB_ACK, 0x05, HB_ACK, 0x00, HB_ACK, HB_STOP } },
+    { HB_SEND_BYTE, 0, 8, HB_AFTER_STOP, 6, 7, { HB_START, 0x58, HB_ACK, 0x05, HB_ACK, HB_STOP, HB_STOP } },
+    /* the last byte received gets ACK, one before it NACK; anything else in that place */
+    { HB_RECEIVE_BYTE, 0, 17, HB_WRONG_ACK, 4, 6, { HB_START, 0x59, HB_ACK, 0x05, HB_ACK, HB_STOP } },
+    { HB_RECEIVE_BYTE, 1, 17, HB_WRONG_ACK, 4, 6, { HB_START, 0x59, HB_ACK, 0x05, HB_NACK, HB_STOP } },
+    { HB_RECEIVE_BYTE, 1, 5, HB_UNEXPECTED, 4, 5, { HB_START, 0x59, HB_ACK, 0x05, HB_STOP } },
+    { HB_RECEIVE_BYTE, 1, 5, HB_UNEXPECTED, 4, 5, { HB_START, 0x59, HB_ACK, 0x05, 0x05 } },
+    /* the wrong direction, first and repeated; another address; no byte at all */
+    { HB_SEND_BYTE, 0, 18, HB_WRONG_ADDRESS, 1, 2, { HB_START, 0x59 } },
+    { HB_RECEIVE_BYTE, 0, 18, HB_WRONG_ADDRESS, 1, 2, { HB_START, 0x58 } },
+    { HB_READ_BYTE, 1, 18, HB_WRONG_ADDRESS, 6, 7, { HB_START, 0x58, HB_ACK, 0x10, HB_ACK, HB_START, 0x58 } },
+    { HB_READ_BYTE, 1, 18, HB_WRONG_ADDRESS, 6, 7, { HB_START, 0x58, HB_ACK, 0x10, HB_ACK, HB_START, 0x5b } },
+    { HB_READ_BYTE, 1, 5, HB_UNEXPECTED, 6, 7, { HB_START, 0x58, HB_ACK, 0x10, HB_ACK, HB_START, HB_ACK } },
+    /* one byte sent: 255 received are too many, 254 are not */
+    { HB_BLOCK_PROCESS_CALL, 0, 19, HB_WRONG_COUNT, 12, 13,
+      { HB_START, 0x58, HB_ACK, 0x10, HB_ACK, 1, HB_ACK, 0x05, HB_ACK, HB_START, 0x59, HB_ACK, 255 } },
+    { HB_BLOCK_PROCESS_CALL, 0, 4, HB_ENDS_EARLY, 13, 13,
+      { HB_START, 0x58, HB_ACK, 0x10, HB_ACK, 1, HB_ACK, 0x05, HB_ACK, HB_START, 0x59, HB_ACK, 254 } },
+    { HB_BLOCK_PROCESS_CALL, 0, 5, HB_UNEXPECTED, 12, 13,
+      { HB_START, 0x58, HB_ACK, 0x10, HB_ACK, 1, HB_ACK, 0x05, HB_ACK, HB_START, 0x59, HB_ACK, HB_NACK } },
 };
 
-/* The numbers 3 to 8 in turn. */
+/* The numbers 3 to 8 and 17 to 19: nothing is written, and nothing else is answered. */
 static void check_numbers(void)
 {
     for (size_t k = 0; k < sizeof refused / sizeof refused[0]; k++) {
         uint8_t *s = block(HB_DECODE_ROOM, 0xee), *r = block(HB_DECODE_ROOM, 0xee);
-        hb_decoded d = hb_decode(HB_SEND_BYTE, refused[k].pec, (const uint8_t *)refused[k].trace, 2 * refused[k].symbols, s,
+        size_t n = refused[k].symbols;
+        hb_decoded d = hb_decode(refused[k].protocol, refused[k].pec, (const uint8_t *)refused[k].trace, 2 * n, s,
                                  HB_DECODE_ROOM, r, HB_DECODE_ROOM);
-        CHECK(d.answer == k + 3 && d.answer == refused[k].answer && d.value == refused[k].value);
+        hb_decoded e = hb_decode_symbols(refused[k].protocol, refused[k].pec, refused[k].trace, n, s, HB_DECODE_ROOM, r,
+                                         HB_DECODE_ROOM);
+        CHECK(d.answer == refused[k].number && d.answer == refused[k].name && d.value == refused[k].value);
+        CHECK(d.address == 0 && d.direction == 0 && d.command == 0 && d.sent == 0 && d.received == 0);
+        CHECK(e.answer == d.answer && e.value == d.value);
         CHECK(all(s, 0, HB_DECODE_ROOM, 0xee) && all(r, 0, HB_DECODE_ROOM, 0xee));
         free(s);
         free(r);

@@ -133,6 +133,27 @@ static void check_ends(void)
     free(l.bytes);
 }
 
+/* A wrong symbol, whichever its number: 14 after Prepare To ARP, else Get UDID again. */
+static void check_wrong_symbols(void)
+{
+    static const uint16_t direction[] = { HB_START, 0xc3 };
+    static const uint16_t nack[] = { HB_START, 0xc2, HB_ACK, 3, HB_ACK, HB_START, 0xc3, HB_ACK, 17, HB_NACK };
+    static const uint16_t stop[] = { HB_START, 0xc2, HB_ACK, 3, HB_ACK, HB_START, 0xc3, HB_ACK, 17, HB_STOP };
+    struct list l = { NULL, 0 }, first = { NULL, 0 };
+    append(&first, (const uint8_t *)direction, 2);
+    CHECK(hb_pass(nothing, first.bytes, first.length).kind == HB_ABANDONED);
+    CHECK(hb_pass(nothing, first.bytes, first.length).answer == HB_PASS_ABANDONED);
+    send(&l, HB_PREPARE, 0, NULL, 0);
+    append(&l, (const uint8_t *)direction, 2);
+    expect(&l, HB_GET_UDID, 0, 2);
+    append(&l, (const uint8_t *)nack, 10);
+    expect(&l, HB_GET_UDID, 0, 3);
+    append(&l, (const uint8_t *)stop, 10);
+    expect(&l, HB_GET_UDID, 0, 4);
+    free(first.bytes);
+    free(l.bytes);
+}
+
 /* Two fixed targets at one address: it is claimed by two. */
 static void check_claimed(void)
 {
@@ -160,5 +181,6 @@ void check_passes(void)
     check_numbers();
     check_bound();
     check_ends();
+    check_wrong_symbols();
     check_claimed();
 }

@@ -15,6 +15,29 @@ use std::time::Duration;
 const SESSIONS: u64 = 150;
 const LINES: usize = 1000;
 
+/// Wrong symbols worked out by hand: requests of one session, and the answer due to each.
+const WRONG_SYMBOLS: [(&str, &str); 19] = [
+    ("decode read_byte - 256 64 258 16 258 256 65 258 7 258", "17 place 9"),
+    ("decode read_byte - 256 64 258 16 258 256 67", "18 place 6"),
+    ("decode read_byte - 256 65", "18 place 1"),
+    ("decode read_byte - 256 64 258 16 258 256 65 258 7 257", "5 place 9"),
+    ("decode receive_byte p 256 65 258 7 259", "17 place 4"),
+    ("decode receive_byte - 256 64", "18 place 1"),
+    ("decode receive_byte - 256 65 258 258", "5 place 3"),
+    ("decode receive_byte - 256 65 259 258", "5 place 3"),
+    ("decode send_byte - 256 258", "5 place 1"),
+    ("decode send_byte - 256 300", "3 place 1"),
+    ("decode 10 - 256 64 258 16 258 1 258 9 258 256 65 258 255", "19 place 12"),
+    ("decode 10 - 256 64 258 16 258 1 258 9 258 256 65 258 254", "4 place 13"),
+    ("decode block_process_call p 256 64 258 16 258 1 258 9 258 256 65 258 258", "5 place 12"),
+    ("start", "0 next prepare"),
+    ("step 256 195", "14 end"),
+    ("start", "0 next prepare"),
+    ("step 256 194 258 1 258 192 258 257", "0 next get"),
+    ("step 256 194 258 3 258 256 195 258 17 259", "0 next get"),
+    ("step 256 194 258 3 258 256 197", "0 next get"),
+];
+
 fn fail(text: &str) -> ! {
     eprintln!("FAILED {text}");
     exit(1)
@@ -96,6 +119,17 @@ fn file(program: &str, path: &str) -> usize {
     count
 }
 
+/// The answers worked out by hand: the reference and the program give them.
+fn by_hand(program: &str) -> usize {
+    let input: String = WRONG_SYMBOLS.iter().map(|(line, _)| format!("{line}\n")).collect();
+    let due: Vec<(Vec<u8>, String)> =
+        WRONG_SYMBOLS.iter().map(|(line, due)| (line.as_bytes().to_vec(), format!("{due}\n"))).collect();
+    let reference: String = answers_to(input.as_bytes()).into_iter().map(|(_, answer)| answer).collect();
+    compare("wrong symbols, the reference", &due, reference.as_bytes());
+    compare("wrong symbols", &due, &run(program, &[], input.into_bytes()));
+    due.len()
+}
+
 /// A session of random lines. Every second one ends without a line feed.
 fn session(program: &str, seed: u64, tally: &mut [usize; 24]) -> usize {
     let mut random = Random::new(seed);
@@ -153,13 +187,15 @@ fn main() {
         return files.iter().for_each(|path| write(path));
     }
     let requests: usize = files.iter().map(|path| file(program, path)).sum();
+    let by_hand = by_hand(program);
     let mut tally = [0; 24];
     let random: usize = (0..SESSIONS).map(|seed| session(program, seed, &mut tally)).sum();
-    for number in [0, 1, 3, 4, 5, 6, 7, 8, 10, 11, 12, 13, 14, 15, 16, 21, 22] {
+    for number in [0, 1, 3, 4, 5, 6, 7, 8, 10, 11, 12, 13, 14, 15, 16, 17, 18, 19, 21, 22] {
         assert!(tally[number] > 20, "too few lines are answered with {number}");
     }
     typed(program);
     arguments(program);
     println!("{:<28}{requests:>9} requests in files", "console");
+    println!("{:<28}{by_hand:>9} requests answered by hand", "console");
     println!("{:<28}{random:>9} random lines, answers by number {tally:?}", "console");
 }

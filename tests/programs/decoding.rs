@@ -1,9 +1,10 @@
 //! Families of cases for the decoder.
 
 use crate::codec_abi::{decode, Content, Decoded, Lent};
-use reference::damage::{appended, cut, moved, nacked, places, replaced};
 use crate::family::Family;
+use reference::damage::*;
 use reference::decode::{decode as reference_decode, Answer};
+use reference::numbers::{Tally, WRONG_SYMBOL};
 use reference::random::Random;
 use reference::samples::{combinations, notable_sizes, random_sizes, transaction};
 use reference::stored;
@@ -13,9 +14,7 @@ use reference::text::{pec_use, trace_text};
 /// What the reference answers, and what it writes to the two buffers.
 fn due(answer: Answer) -> (Decoded, Vec<u8>, Vec<u8>) {
     match answer {
-        Answer::Refused { number, value } => {
-            (Decoded { answer: number, value, ..Decoded::default() }, vec![], vec![])
-        }
+        Answer::Refused { number, value } => (Decoded { answer: number, value, ..Decoded::default() }, vec![], vec![]),
         Answer::Done(t) => {
             let decoded = Decoded {
                 answer: 0,
@@ -31,18 +30,34 @@ fn due(answer: Answer) -> (Decoded, Vec<u8>, Vec<u8>) {
     }
 }
 
-/// One call: the answer, and both buffers with their margins.
-fn case_in(family: &mut Family, protocol: u8, with_pec: bool, trace: &[u16], rooms: (usize, usize)) {
-    let (answer, sent, received) = due(reference_decode(protocol, with_pec, trace, rooms.0, rooms.1));
+/// One call: the answer, and both buffers with their margins. The answer due is handed back.
+fn case_in(family: &mut Family, protocol: u8, with_pec: bool, trace: &[u16], rooms: (usize, usize)) -> Answer {
+    let answer = reference_decode(protocol, with_pec, trace, rooms.0, rooms.1);
+    let (decoded, sent, received) = due(answer.clone());
     let (mut sent_lent, mut received_lent) = (Lent::new(rooms.0), Lent::new(rooms.1));
     let given = decode(protocol, with_pec, trace, &mut sent_lent, &mut received_lent);
-    let due = (answer, Content::due(rooms.0, &sent), Content::due(rooms.1, &received));
+    let due = (decoded, Content::due(rooms.0, &sent), Content::due(rooms.1, &received));
     let input = || format!("{protocol} {} | {} | rooms {rooms:?}", pec_use(with_pec), trace_text(trace));
     family.same(input, &due, &(given, sent_lent.content(), received_lent.content()));
+    answer
 }
 
-fn case(family: &mut Family, protocol: u8, with_pec: bool, trace: &[u16]) {
-    case_in(family, protocol, with_pec, trace, (255, 255));
+fn case(family: &mut Family, protocol: u8, with_pec: bool, trace: &[u16]) -> Answer {
+    case_in(family, protocol, with_pec, trace, (255, 255))
+}
+
+fn print_numbers(reached: &Tally) {
+    println!("{:<28}{:?}", "  answers by number", reached.totals());
+}
+
+/// The count of a family that has to reach every number for a wrong symbol.
+fn done(family: Family, reached: &Tally) -> usize {
+    let cases = family.done();
+    print_numbers(reached);
+    for number in WRONG_SYMBOL {
+        assert!(reached.totals().get(&number).is_some_and(|&times| times >= 20), "too few answers {number}");
+    }
+    cases
 }
 
 fn sample(random: &mut Random, protocol: u8, with_pec: bool, sizes: (usize, usize)) -> Vec<u16> {
@@ -84,28 +99,27 @@ struct Damages {
     cut: Family,
     nacked: Family,
     appended: Family,
+    misled: Family,
+    reached: Tally,
 }
 
 impl Damages {
     /// Every damage at the places given.
     fn try_at(&mut self, protocol: u8, with_pec: bool, trace: &[u16], places: &[usize]) {
+        let reached = &mut self.reached;
+        let mut each = |family: &mut Family, traces: Vec<Vec<u16>>| {
+            for damaged in traces {
+                reached.add(protocol, with_pec, &case(family, protocol, with_pec, &damaged));
+            }
+        };
         for &place in places {
-            for damaged in replaced(trace, place) {
-                case(&mut self.replaced, protocol, with_pec, &damaged);
-            }
-            for damaged in moved(trace, place) {
-                case(&mut self.moved, protocol, with_pec, &damaged);
-            }
-            for damaged in cut(trace, place) {
-                case(&mut self.cut, protocol, with_pec, &damaged);
-            }
-            for damaged in nacked(trace, place) {
-                case(&mut self.nacked, protocol, with_pec, &damaged);
-            }
+            each(&mut self.replaced, replaced(trace, place));
+            each(&mut self.moved, moved(trace, place));
+            each(&mut self.cut, cut(trace, place));
+            each(&mut self.nacked, nacked(trace, place));
         }
-        for damaged in appended(trace) {
-            case(&mut self.appended, protocol, with_pec, &damaged);
-        }
+        each(&mut self.appended, appended(trace));
+        each(&mut self.misled, [readdressed(trace), recounted(trace), reanswered(trace)].concat());
     }
 }
 
@@ -118,6 +132,8 @@ fn damaged() -> usize {
         cut: Family::new("decode cut"),
         nacked: Family::new("decode nacked"),
         appended: Family::new("decode appended"),
+        misled: Family::new("decode misled"),
+        reached: Tally::default(),
     };
     for (protocol, with_pec) in combinations() {
         let mut all_sizes = notable_sizes(protocol);
@@ -133,8 +149,60 @@ fn damaged() -> usize {
         let every: Vec<usize> = (0..trace.len()).collect();
         damages.try_at(protocol, true, &trace, &every);
     }
-    let Damages { replaced, moved, cut, nacked, appended } = damages;
-    replaced.done() + moved.done() + cut.done() + nacked.done() + appended.done()
+    let Damages { replaced, moved, cut, nacked, appended, misled, reached } = damages;
+    let cases = replaced.done() + moved.done() + cut.done() + nacked.done() + appended.done() + misled.done();
+    print_numbers(&reached);
+    reached.check("decode damages", &combinations(), 20);
+    cases
+}
+
+/// Every number at a place, symbol or not, the trace whole and cut after it. The answers to the cut ones are counted.
+fn every_number(family: &mut Family, reached: &mut Tally, told: (u8, bool), trace: &[u16], place: usize) {
+    for number in 0..=261 {
+        let mut damaged = trace.to_vec();
+        damaged[place] = number;
+        case(family, told.0, told.1, &damaged);
+        reached.add(told.0, told.1, &case(family, told.0, told.1, &damaged[..=place]));
+    }
+}
+
+/// Every number for each address byte. Half of the bytes have the wrong direction for the first, outside Quick.
+/// All but one are wrong for a repeated one.
+fn address_bytes() -> usize {
+    let mut family = Family::new("decode address bytes");
+    let mut random = Random::new(58);
+    let mut reached = Tally::default();
+    let (mut first, mut repeated) = (0, 0);
+    for told in combinations() {
+        let sizes = random_sizes(&mut random, told.0, 5);
+        let trace = sample(&mut random, told.0, told.1, sizes);
+        for place in bytes_after_start(&trace, 1) {
+            every_number(&mut family, &mut reached, told, &trace, place);
+            first += usize::from(place == 1 && told.0 != QUICK);
+            repeated += usize::from(place > 1);
+        }
+    }
+    let totals = reached.totals();
+    assert_eq!((first, repeated), (20, 10));
+    assert_eq!((totals[&5], totals[&18]), (4 * (1 + first + repeated), 128 * first + 255 * repeated));
+    family.done()
+}
+
+/// Every number for the received count of a Block Process Call. As many bytes are too high as were sent.
+fn received_counts() -> usize {
+    const SENT: [usize; 10] = [0, 1, 2, 31, 32, 127, 128, 200, 254, 255];
+    let mut family = Family::new("decode received counts");
+    let mut random = Random::new(59);
+    let mut reached = Tally::default();
+    for with_pec in [false, true] {
+        for m in SENT {
+            let trace = sample(&mut random, BLOCK_PROCESS_CALL, with_pec, (m, BLOCK_LIMIT - m));
+            every_number(&mut family, &mut reached, (BLOCK_PROCESS_CALL, with_pec), &trace, 10 + 2 * m);
+        }
+    }
+    let totals = reached.totals();
+    assert_eq!((totals[&5], totals[&19]), (2 * 4 * SENT.len(), 2 * SENT.iter().sum::<usize>()));
+    family.done()
 }
 
 /// Every other PEC; with the end cut, more after STOP, and the PEC not acknowledged.
@@ -226,47 +294,60 @@ fn rubbish_symbol(random: &mut Random, kind: usize, place: usize) -> u16 {
     }
 }
 
+/// How much of a trace is kept before rubbish: nothing, all up to an address byte or the byte that follows one, or any part.
+fn kept(random: &mut Random, trace: &[u16], kind: usize) -> usize {
+    match kind {
+        0 => 0,
+        1 => random.pick(&[bytes_after_start(trace, 1), bytes_after_start(trace, 3)].concat()),
+        _ => random.below(trace.len() + 1),
+    }
+}
+
 /// Rubbish of up to 2,000 symbols, by itself or after a beginning that fits.
 fn rubbish() -> usize {
     let mut family = Family::new("decode rubbish");
     let mut random = Random::new(55);
+    let mut reached = Tally::default();
     for (protocol, with_pec) in combinations() {
         for round in 0..4800 {
-            let sizes = random_sizes(&mut random, protocol, if round % 8 == 0 { BLOCK_LIMIT } else { 5 });
+            let sizes = random_sizes(&mut random, protocol, if round % 7 == 0 { BLOCK_LIMIT } else { 5 });
             let mut trace = sample(&mut random, protocol, with_pec, sizes);
-            let kept = random.below(trace.len() + 1);
-            trace.truncate(if round % 3 == 0 { 0 } else { kept });
+            trace.truncate(kept(&mut random, &trace, round % 3));
             let more = random.below(if round % 50 == 0 { 2000 } else { 24 });
             for place in 0..more {
                 trace.push(rubbish_symbol(&mut random, round % 4, place));
             }
-            case(&mut family, protocol, with_pec, &trace);
+            reached.add(protocol, with_pec, &case(&mut family, protocol, with_pec, &trace));
         }
     }
-    family.done()
+    done(family, &reached)
 }
 
 /// From a beginning that fits: each symbol of a few after it, and on from there where it still fits.
-fn walk(family: &mut Family, protocol: u8, with_pec: bool, trace: &mut Vec<u16>, limit: usize) {
-    case(family, protocol, with_pec, trace);
-    let fits = Answer::Refused { number: 4, value: trace.len() };
-    if trace.len() == limit || reference_decode(protocol, with_pec, trace, 255, 255) != fits {
+/// The highest byte is among them for an address byte and for the byte after one, which may be a count.
+fn walk(family: &mut Family, reached: &mut Tally, told: (u8, bool), trace: &mut Vec<u16>, limit: usize) {
+    let answer = case(family, told.0, told.1, trace);
+    reached.add(told.0, told.1, &answer);
+    if trace.len() == limit || answer.number() != 4 {
         return;
     }
-    for symbol in [0, 1, 254, START, STOP, ACK, NACK, 260] {
+    let start_before = |distance| trace.len() >= distance && trace[trace.len() - distance] == START;
+    let highest = (start_before(1) || start_before(3)).then_some(255);
+    for symbol in [0, 1, 254, START, STOP, ACK, NACK, 260].into_iter().chain(highest) {
         trace.push(symbol);
-        walk(family, protocol, with_pec, trace, limit);
+        walk(family, reached, told, trace, limit);
         trace.pop();
     }
 }
 
 fn short_traces() -> usize {
     let mut family = Family::new("decode all short traces");
+    let mut reached = Tally::default();
     for (protocol, with_pec) in combinations() {
         let limit = if protocol < BLOCK_WRITE { 20 } else { 18 };
-        walk(&mut family, protocol, with_pec, &mut vec![], limit);
+        walk(&mut family, &mut reached, (protocol, with_pec), &mut vec![], limit);
     }
-    family.done()
+    done(family, &reached)
 }
 
 /// So many symbols more that the length does not go into 16 bits.
@@ -310,5 +391,6 @@ fn buffers() -> usize {
 pub fn all(folder: &str) -> usize {
     let whole = stored_vectors(folder) + random_valid();
     let broken = damaged() + wrong_pecs() + turned_bits() + count_sums();
-    whole + broken + wrongly_told(folder) + rubbish() + short_traces() + very_long() + buffers()
+    let wrong = address_bytes() + received_counts();
+    whole + broken + wrong + wrongly_told(folder) + rubbish() + short_traces() + very_long() + buffers()
 }

@@ -1,7 +1,9 @@
 //! What fits, by listing: every beginning, up to a limit, of every trace that can be made
 //! of a few bytes. The decoder is then asked about each beginning and each way to leave it.
+//! A wrong symbol gets its number from the list alone: by itself, and by what else might have followed the beginning.
 
 use reference::decode::{decode, Answer};
+use reference::numbers::Tally;
 use reference::table::*;
 use reference::text::{pec_use, trace_text};
 use std::collections::{HashMap, HashSet};
@@ -11,6 +13,7 @@ const BYTES: [u8; 3] = [0, 1, 255];
 const SYMBOLS: [u16; 9] = [0, 1, 255, START, STOP, ACK, NACK, 260, 65535];
 const TAILS: [&[u16]; 5] = [&[0], &[STOP], &[STOP, 65535], &[NACK, STOP], &[ACK, 1, ACK, STOP]];
 
+#[derive(Default)]
 struct Language {
     /// Beginnings that fit, each with the symbols that may follow.
     begins: HashMap<Vec<u16>, HashSet<u16>>,
@@ -115,17 +118,25 @@ impl Language {
         }
     }
 
+    /// The number for a symbol that may not follow a beginning that fits.
+    fn number(&self, begin: &[u16], symbol: u16) -> u32 {
+        let next = &self.begins[begin];
+        match symbol {
+            260.. => 3,
+            _ if self.members.contains_key(begin) => 8,
+            ACK if next.contains(&NACK) => 17,
+            NACK if next.contains(&ACK) => 17,
+            0..=255 if begin.last() == Some(&START) => 18,
+            0..=255 if next.iter().any(|&other| other < 256) => 19,
+            _ => 5,
+        }
+    }
+
     /// The answer read off the list.
     fn answer(&self, trace: &[u16]) -> Answer {
         let misfit = (0..trace.len()).find(|&place| !self.begins.contains_key(&trace[..=place]));
         if let Some(place) = misfit {
-            let ended = self.members.contains_key(&trace[..place]);
-            let number = match trace[place] {
-                260.. => 3,
-                _ if ended => 8,
-                _ => 5,
-            };
-            return Answer::Refused { number, value: place };
+            return Answer::Refused { number: self.number(&trace[..place], trace[place]), value: place };
         }
         match self.members.get(trace) {
             Some(answer) => answer.clone(),
@@ -133,37 +144,52 @@ impl Language {
         }
     }
 
-    fn compare(&self, protocol: u8, with_pec: bool, trace: &[u16]) {
+    fn compare(&self, tally: &mut Tally, protocol: u8, with_pec: bool, trace: &[u16]) {
         let (due, given) = (self.answer(trace), decode(protocol, with_pec, trace, 255, 255));
         if due != given {
             eprintln!("protocol {protocol} {} trace {}", pec_use(with_pec), trace_text(trace));
             eprintln!("listed  {due:?}\ndecoded {given:?}");
             std::process::exit(1);
         }
+        tally.add(protocol, with_pec, &due);
     }
 }
 
-/// Compares the decoder with the list for one protocol and PEC use; the number of traces.
-pub fn compare_all(protocol: u8, with_pec: bool) -> usize {
+/// Compares the decoder with the list for one protocol and PEC use.
+pub fn compare_all(tally: &mut Tally, protocol: u8, with_pec: bool) {
     let limit = if protocol < BLOCK_WRITE { 19 } else { 17 };
-    let mut language = Language { begins: HashMap::new(), members: HashMap::new() };
+    let mut language = Language::default();
     for t in all_transactions(protocol, with_pec) {
         language.add_transaction(&t, limit);
     }
-    language.compare(protocol, with_pec, &[]);
-    let mut traces = 1;
+    language.compare(tally, protocol, with_pec, &[]);
     for (begin, next) in language.begins.iter().filter(|(begin, _)| begin.len() < limit) {
         for &symbol in SYMBOLS.iter().chain(next.iter().filter(|symbol| !SYMBOLS.contains(symbol))) {
             let trace = [&begin[..], &[symbol]].concat();
-            language.compare(protocol, with_pec, &trace);
-            traces += 1;
+            language.compare(tally, protocol, with_pec, &trace);
             if !language.begins.contains_key(&trace) {
                 for tail in TAILS {
-                    language.compare(protocol, with_pec, &[&trace[..], tail].concat());
-                    traces += 1;
+                    language.compare(tally, protocol, with_pec, &[&trace[..], tail].concat());
                 }
             }
         }
     }
-    traces
+}
+
+/// Compares the decoder with a list of whole Block Process Calls that send as much, one for each received count.
+/// It is asked about every symbol in that count's place. What a target's NACK has cut does not go so far.
+pub fn compare_counts(tally: &mut Tally, with_pec: bool, sent: usize) {
+    let (protocol, address, direction, command) = (BLOCK_PROCESS_CALL, 127, 0, 255);
+    let place = 10 + 2 * sent;
+    let mut language = Language::default();
+    for received in 0..=BLOCK_LIMIT - sent {
+        let (sent, received) = (vec![1; sent], vec![0; received]);
+        let t = Transaction { protocol, pec: with_pec, address, direction, command, sent, received };
+        language.add(build(&t).expect("listed transactions are valid"), place + 1, Answer::Done(t));
+    }
+    for begin in language.begins.keys().filter(|begin| begin.len() == place) {
+        for symbol in 0..=261 {
+            language.compare(tally, protocol, with_pec, &[&begin[..], &[symbol]].concat());
+        }
+    }
 }

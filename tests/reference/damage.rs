@@ -69,6 +69,38 @@ pub fn nacked(trace: &[u16], place: usize) -> Vec<Vec<u16>> {
     all
 }
 
+/// The trace with one symbol replaced, for each symbol given.
+fn each_at(trace: &[u16], place: usize, others: &[u16]) -> Vec<Vec<u16>> {
+    let others = others.iter().filter(|&&other| other != trace[place]);
+    others.map(|&other| spliced(trace, place, place + 1, &[other])).collect()
+}
+
+/// The places of bytes that stand so far after a START.
+pub fn bytes_after_start(trace: &[u16], distance: usize) -> Vec<usize> {
+    let starts = (0..trace.len()).filter(|&place| trace[place] == START).map(|place| place + distance);
+    starts.filter(|&place| trace.get(place).is_some_and(|&symbol| symbol < 256)).collect()
+}
+
+/// One address byte with the other direction, with another address, or with both.
+pub fn readdressed(trace: &[u16]) -> Vec<Vec<u16>> {
+    let places = bytes_after_start(trace, 1).into_iter();
+    places.flat_map(|place| each_at(trace, place, &[1, 2, 3, 128, 255].map(|bits| trace[place] ^ bits))).collect()
+}
+
+/// A higher byte after the last address byte, where a block that is received has its count.
+pub fn recounted(trace: &[u16]) -> Vec<Vec<u16>> {
+    let Some(&place) = bytes_after_start(trace, 3).last() else {
+        return vec![];
+    };
+    each_at(trace, place, &[255.min(trace[place] + 1), 254, 255])
+}
+
+/// NACK for one ACK, or ACK for one NACK.
+pub fn reanswered(trace: &[u16]) -> Vec<Vec<u16>> {
+    let places = (0..trace.len()).filter(|&place| matches!(trace[place], ACK | NACK));
+    places.flat_map(|place| each_at(trace, place, &[ACK, NACK])).collect()
+}
+
 /// Symbols after the last.
 pub fn appended(trace: &[u16]) -> Vec<Vec<u16>> {
     let tails: [&[u16]; 12] = [

@@ -1,5 +1,6 @@
 //! The decoder without a state machine: take each field from the place where its row has it,
 //! rebuild the trace of those fields, and let the first place that differs decide.
+//! What the rebuilt trace has there tells which number a wrong symbol gets.
 
 use crate::table::*;
 
@@ -7,6 +8,15 @@ use crate::table::*;
 pub enum Answer {
     Done(Transaction),
     Refused { number: u32, value: usize },
+}
+
+impl Answer {
+    pub fn number(&self) -> u32 {
+        match self {
+            Answer::Done(_) => 0,
+            Answer::Refused { number, .. } => *number,
+        }
+    }
 }
 
 fn refused(number: u32, value: usize) -> Answer {
@@ -35,6 +45,11 @@ fn bytes_from(trace: &[u16], place: usize, count: u8) -> Vec<u8> {
     (0..usize::from(count)).map(|k| byte_at(trace, place + 2 * k)).collect()
 }
 
+/// Where a Block Process Call has its received count: after the sent count and data, START, the address byte and its ACK.
+fn received_count_place(trace: &[u16]) -> usize {
+    10 + 2 * usize::from(byte_at(trace, 5))
+}
+
 /// The data sent and received, from their places in the protocol's row.
 /// A second count that is too high is taken as the highest allowed, so that its place differs.
 fn guess_data(protocol: u8, trace: &[u16]) -> (Vec<u8>, Vec<u8>) {
@@ -52,7 +67,7 @@ fn guess_data(protocol: u8, trace: &[u16]) -> (Vec<u8>, Vec<u8>) {
         9 => (vec![], bytes(10, byte_at(trace, 8))),
         _ => {
             let m = byte_at(trace, 5);
-            let count_place = 10 + 2 * usize::from(m);
+            let count_place = received_count_place(trace);
             let n = byte_at(trace, count_place).min(255 - m);
             (bytes(7, m), bytes(count_place + 2, n))
         }
@@ -83,6 +98,32 @@ fn is_target_ack(whole: &[u16], place: usize) -> bool {
     place == phase + 2 || whole[phase + 1] % 2 == 0
 }
 
+/// Does the controller answer the byte before this place? It does wherever the target does not.
+fn is_controller_ack(whole: &[u16], place: usize) -> bool {
+    matches!(whole[place], ACK | NACK) && !is_target_ack(whole, place)
+}
+
+/// An address byte stands after each START.
+fn is_address(whole: &[u16], place: usize) -> bool {
+    place > 0 && whole[place - 1] == START
+}
+
+/// The only count that can be too high. The fields have the highest allowed for it, so that a byte differs if it is higher.
+fn is_limited_count(protocol: u8, whole: &[u16], place: usize) -> bool {
+    protocol == BLOCK_PROCESS_CALL && place == received_count_place(whole)
+}
+
+/// The number for a symbol that differs from what the whole trace has there.
+/// 17: the controller's NACK for its ACK, or its ACK for its NACK. 18: a byte for an address byte. 19: a byte for a count.
+fn number_for(protocol: u8, symbol: u16, whole: &[u16], place: usize) -> u32 {
+    match symbol {
+        ACK | NACK if is_controller_ack(whole, place) => 17,
+        0..=255 if is_address(whole, place) => 18,
+        0..=255 if is_limited_count(protocol, whole, place) => 19,
+        _ => 5,
+    }
+}
+
 /// A target's NACK at the place given: STOP and the end are what fits.
 fn after_nack(trace: &[u16], nack: usize) -> Answer {
     if trace.len() == nack + 1 {
@@ -98,7 +139,7 @@ fn after_nack(trace: &[u16], nack: usize) -> Answer {
 }
 
 /// The answer of the first place that differs from the whole trace, any byte standing for PEC.
-fn first_difference(trace: &[u16], whole: &[u16], pec_place: Option<usize>) -> Option<Answer> {
+fn first_difference(protocol: u8, trace: &[u16], whole: &[u16], pec_place: Option<usize>) -> Option<Answer> {
     for (place, &symbol) in trace.iter().enumerate() {
         if place == whole.len() {
             return Some(wrong(trace, place, 8));
@@ -110,7 +151,7 @@ fn first_difference(trace: &[u16], whole: &[u16], pec_place: Option<usize>) -> O
         if symbol == NACK && is_target_ack(whole, place) {
             return Some(after_nack(trace, place));
         }
-        return Some(wrong(trace, place, 5));
+        return Some(wrong(trace, place, number_for(protocol, symbol, whole, place)));
     }
     None
 }
@@ -126,7 +167,7 @@ pub fn decode(protocol: u8, with_pec: bool, trace: &[u16], sent_room: usize, rec
     let fields = guess(protocol, with_pec, trace);
     let whole = build(&fields).expect("guessed fields are valid");
     let pec_place = if with_pec { Some(whole.len() - 3) } else { None };
-    if let Some(answer) = first_difference(trace, &whole, pec_place) {
+    if let Some(answer) = first_difference(protocol, trace, &whole, pec_place) {
         return answer;
     }
     if trace.len() < whole.len() {

@@ -5,6 +5,7 @@ use reference::commands::*;
 use reference::controller::*;
 use reference::decode::{decode, Answer};
 use reference::families::FAMILIES;
+use reference::numbers::Tally;
 use reference::recorder::{apply, Due, Op};
 use reference::table::{BLOCK_READ, BLOCK_WRITE, SEND_BYTE};
 use std::collections::{BTreeMap, BTreeSet};
@@ -93,7 +94,7 @@ const REACHED: [&str; 18] = [
 ];
 
 /// The protocol of the command that a step answers, and what the decoder makes of the trace.
-fn decoded(before: &Controller, op: &Op) -> Option<(u8, u32)> {
+fn decoded(before: &Controller, op: &Op) -> Option<(u8, Answer)> {
     let protocol = match before.last {
         Command::Prepare => SEND_BYTE,
         Command::GetUdid => BLOCK_READ,
@@ -103,22 +104,23 @@ fn decoded(before: &Controller, op: &Op) -> Option<(u8, u32)> {
     let Op::Step(trace) = op else {
         return None;
     };
-    match decode(protocol, true, trace, 255, 255) {
-        Answer::Done(_) => Some((protocol, 0)),
-        Answer::Refused { number, .. } => Some((protocol, number)),
-    }
+    Some((protocol, decode(protocol, true, trace, 255, 255)))
 }
 
-/// Every answer of the decoder to a trace, for every command.
-fn every_answer() -> BTreeSet<(u8, u32)> {
-    let numbers = [0, 3, 4, 5, 6, 7, 8];
-    [SEND_BYTE, BLOCK_READ, BLOCK_WRITE].into_iter().flat_map(|p| numbers.map(|number| (p, number))).collect()
+/// After a refusal other than 6 nothing changes but what comes next: 14 after Prepare, else Get UDID again, if there may be another.
+fn refused(before: &Controller, after: &Controller) -> bool {
+    let next = match before.last {
+        Command::Prepare => Command::Abandoned,
+        _ if before.get_udids == MOST_GET_UDIDS => Command::Abandoned,
+        _ => Command::GetUdid,
+    };
+    after.last == next && after.bindings == before.bindings && after.pool == before.pool
 }
 
 /// Every script once more, step by step; the number of operations.
 pub fn all() -> usize {
     let mut reached: BTreeMap<&str, usize> = BTreeMap::new();
-    let mut answers = BTreeSet::new();
+    let mut answers = Tally::default();
     for (name, make) in FAMILIES {
         let mut controller = Controller::new(&Addresses::new());
         for (k, (op, due)) in make().entries.iter().enumerate() {
@@ -128,7 +130,11 @@ pub fn all() -> usize {
             assert!(consistent(&controller), "{name}, entry {k}: {controller:02x?}");
             assert!(follows(&before, op, &controller, due), "{name}, entry {k}: {op:?} {due:02x?}");
             *reached.entry(event(&before, op, &controller)).or_default() += 1;
-            answers.extend(decoded(&before, op));
+            if let Some((protocol, answer)) = decoded(&before, op) {
+                let kept = matches!(answer.number(), 0 | 6) || refused(&before, &controller);
+                assert!(kept, "{name}, entry {k}: {op:?} {answer:?} {due:02x?}");
+                answers.add(protocol, true, &answer);
+            }
         }
     }
     for wanted in REACHED {
@@ -136,6 +142,7 @@ pub fn all() -> usize {
         assert!(times >= 20, "{wanted}: {times} times");
     }
     assert_eq!(reached.len(), REACHED.len(), "{reached:?}");
-    assert_eq!(answers, every_answer());
+    answers.check("answers to commands", &[SEND_BYTE, BLOCK_READ, BLOCK_WRITE].map(|protocol| (protocol, true)), 20);
+    println!("{:<28}{:?}", "answers to commands", answers.totals());
     reached.values().sum()
 }

@@ -15,6 +15,7 @@ pub mod good;
 pub mod hostile;
 pub mod mistakes;
 pub mod model;
+pub mod numbers;
 pub mod pec;
 pub mod plain_rule;
 pub mod random;

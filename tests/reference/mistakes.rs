@@ -36,6 +36,19 @@ pub fn damaged(random: &mut Random, trace: &[u16]) -> Vec<u16> {
     ways[random.below(ways.len())].clone()
 }
 
+/// A trace with a symbol of the right sort that is wrong: an address byte, a byte where a count may stand, ACK or NACK.
+pub fn misled(random: &mut Random, trace: &[u16]) -> Vec<u16> {
+    let ways = match random.below(3) {
+        0 => readdressed(trace),
+        1 => recounted(trace),
+        _ => reanswered(trace),
+    };
+    if ways.is_empty() {
+        return damaged(random, trace);
+    }
+    ways[random.below(ways.len())].clone()
+}
+
 /// The data phase that an ARP command or its reply has.
 fn data(t: &mut Transaction) -> &mut Vec<u8> {
     if t.received.is_empty() {
@@ -101,7 +114,7 @@ pub fn rubbish(random: &mut Random) -> Vec<u16> {
 /// A wrong answer of any sort. That of a Get UDID may be a good one of another target or end the pass.
 pub fn mistaken(random: &mut Random, t: &Transaction) -> Vec<u16> {
     let right = trace_of(t);
-    match random.below(10) {
+    match random.below(11) {
         0 | 1 => damaged(random, &right),
         2 => elsewhere(random, t),
         3 => other_command(random, t),
@@ -110,6 +123,7 @@ pub fn mistaken(random: &mut Random, t: &Transaction) -> Vec<u16> {
         6 => rubbish(random),
         7 => other_count(random, t),
         8 => nacked_at(&right, random.below(bytes_of(&right).len())),
+        9 => misled(random, &right),
         _ => other_data(random, t),
     }
 }

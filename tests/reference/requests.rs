@@ -106,10 +106,11 @@ fn any_trace_of(random: &mut Random, protocol: u8, with_pec: bool) -> Vec<u16> {
     let limit = random.pick(&[2, 20, 255]);
     let sizes = random_sizes(random, protocol, limit);
     let trace = trace_of(&transaction(random, protocol, with_pec, sizes));
-    match random.below(6) {
+    match random.below(8) {
         0 | 1 => trace,
         2 if with_pec => wrong_pec(random, &trace),
         3 => rubbish(random),
+        4 | 5 => misled(random, &trace),
         _ => damaged(random, &trace),
     }
 }

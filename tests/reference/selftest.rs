@@ -4,12 +4,14 @@
 mod brute;
 
 use reference::decode::{decode, Answer};
+use reference::numbers::{numbers, Tally, WRONG_SYMBOL};
 use reference::pec::pec;
 use reference::random::Random;
 use reference::samples::{combinations, notable_sizes, random_sizes, transaction};
 use reference::stored;
 use reference::table::*;
 use reference::text::{pec_use, trace_text};
+use std::collections::{BTreeMap, BTreeSet};
 
 fn report(name: &str, cases: usize) {
     assert!(cases > 0, "{name}: no cases");
@@ -72,6 +74,17 @@ fn marked_cases() {
     report("marked cases", 7 + combinations().len());
 }
 
+/// Every number that a protocol has for a wrong symbol is among its answers, without PEC and with it.
+fn all_wrong_symbols(vectors: &[stored::AnswerVector]) {
+    let there: BTreeSet<(u8, bool, u32)> = vectors.iter().map(|v| (v.protocol, v.pec, v.answer.number())).collect();
+    for (protocol, with_pec) in combinations() {
+        for number in numbers(protocol, with_pec).into_iter().filter(|number| WRONG_SYMBOL.contains(number)) {
+            let wanted = (protocol, with_pec, number);
+            assert!(there.contains(&wanted), "no answer {number} of protocol {protocol} {}", pec_use(with_pec));
+        }
+    }
+}
+
 fn hand_written(folder: &str) {
     let vectors = stored::answer_vectors(folder);
     for v in &vectors {
@@ -79,6 +92,7 @@ fn hand_written(folder: &str) {
         let input = format!("protocol {} {} trace {}", v.protocol, pec_use(v.pec), trace_text(&v.trace));
         assert_eq!(given, v.answer, "{input}");
     }
+    all_wrong_symbols(&vectors);
     report("answers written by hand", vectors.len());
 }
 
@@ -101,6 +115,36 @@ fn round_trips() {
     report("round trips", cases);
 }
 
+fn report_numbers(name: &str, tally: &Tally) {
+    report(name, tally.cases());
+    println!("{:<28}{:?}", "  answers by number", tally.totals());
+}
+
+/// Every protocol and PEC use.
+fn lists() {
+    let mut tally = Tally::default();
+    for (protocol, with_pec) in combinations() {
+        brute::compare_all(&mut tally, protocol, with_pec);
+    }
+    tally.check("decoder against lists", &combinations(), 2);
+    report_numbers("decoder against lists", &tally);
+}
+
+/// Received counts after data of many lengths. Of 262 numbers two are no symbols, four no bytes, and as many bytes
+/// too high as were sent; after any other the trace goes on.
+fn listed_counts() {
+    let mut tally = Tally::default();
+    let lengths: Vec<usize> = (0..=BLOCK_LIMIT).step_by(15).chain([1, 2, 254]).collect();
+    for &sent in &lengths {
+        brute::compare_counts(&mut tally, false, sent);
+        brute::compare_counts(&mut tally, true, sent);
+    }
+    let (calls, too_high) = (2 * lengths.len(), 2 * lengths.iter().sum::<usize>());
+    let due = BTreeMap::from([(3, 2 * calls), (4, 256 * calls - too_high), (5, 4 * calls), (19, too_high)]);
+    assert_eq!(tally.totals(), due);
+    report_numbers("received counts, listed", &tally);
+}
+
 fn main() {
     let folder = std::env::args().nth(1).expect("selftest FOLDER");
     published_pecs();
@@ -108,6 +152,6 @@ fn main() {
     marked_cases();
     hand_written(&folder);
     round_trips();
-    let listed = combinations().into_iter().map(|(protocol, with_pec)| brute::compare_all(protocol, with_pec));
-    report("decoder against lists", listed.sum());
+    lists();
+    listed_counts();
 }

@@ -4,8 +4,10 @@ use reference::addresses::*;
 use reference::commands::Command::*;
 use reference::commands::*;
 use reference::controller::{Controller, Found};
+use reference::decode::decode;
 use reference::good::{all_resolved, reply_trace};
 use reference::mistakes::{nacked_at, trace_of};
+use reference::table::{BLOCK_READ, BLOCK_WRITE, SEND_BYTE};
 
 /// Fixed, fixed, and two that are movable.
 const F: Udid = [0x01; 16];
@@ -156,9 +158,48 @@ fn preparing() {
     }
 }
 
+/// A wrong symbol, whichever its number: 14 after Prepare, else Get UDID again, and nobody is bound.
+fn wrong_symbols() {
+    let number = |protocol, trace: &[u16]| decode(protocol, true, trace, 255, 255).number();
+    for (trace, due) in [(&[256, 257][..], 5), (&[256, 195], 18)] {
+        assert_eq!(number(SEND_BYTE, trace), due);
+        let mut pass = Pass(Controller::new(&Addresses::new()));
+        pass.0.start();
+        assert_eq!(pass.0.step(trace), Abandoned);
+    }
+    let mut pass = Pass::begin(&[]);
+    let reads: [(&[u16], u32); 5] = [
+        (&[256, 194, 258, 3, 258, 256, 195, 258, 17, 257], 5),
+        (&[256, 194, 258, 3, 258, 256, 195, 258, 17, 259, 257], 17),
+        (&[256, 194, 258, 3, 258, 256, 195, 258, 0, 258, 0, 258, 257], 17),
+        (&[256, 194, 258, 3, 258, 256, 194], 18),
+        (&[256, 195, 259, 257], 18),
+    ];
+    for (trace, due) in reads {
+        assert_eq!(number(BLOCK_READ, trace), due);
+        assert_eq!(pass.0.step(trace), GetUdid);
+    }
+    for (trace, due) in [(&[256, 194, 258, 4, 258, 258][..], 5), (&[256, 195, 258, 4, 258], 18)] {
+        assert_eq!(number(BLOCK_WRITE, trace), due);
+        pass.offered(M, 0x41, 0x20);
+        assert_eq!(pass.0.step(trace), GetUdid);
+        pass.bound(&[]);
+    }
+    pass.taken(M, 0x41, 0x20);
+}
+
 pub fn all() -> usize {
-    let passes: [fn(); 8] =
-        [two_fixed, fixed_after_movable, fixed_on_used, replies_again, no_address, none_free, too_many, preparing];
+    let passes: [fn(); 9] = [
+        two_fixed,
+        fixed_after_movable,
+        fixed_on_used,
+        replies_again,
+        no_address,
+        none_free,
+        too_many,
+        preparing,
+        wrong_symbols,
+    ];
     passes.iter().for_each(|pass| pass());
     passes.len()
 }

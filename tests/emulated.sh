@@ -1,0 +1,61 @@
+#!/bin/sh
+# What tests/run runs on a processor other than x86-64. rt builds programs and libraries for x86-64 alone, so there they run under the emulator
+# of rt's kit (tests/emulate.sh), and what is in C is compiled for x86-64 by the kit's compiler. Not run there are the Rust programs that link
+# the library, valgrind over the C tests, and the benchmarks: that is said at the end. What it makes goes to build/.
+set -eu
+cd "$(dirname "$0")/.."
+out=build/tests
+emulated=build/emulated
+library=target/staticlib/libc_api.a
+symbols=target/staticlib/libbench_api.a
+mkdir -p "$out" "$emulated"
+
+build() { # LOG WORDS..: rt, and what it said where it fails
+    log=build/$1.log
+    shift
+    rt "$@" >"$log" 2>&1 || {
+        cat "$log"
+        exit 1
+    }
+}
+build programs check c_api bench_api passes drive headboarded
+build c_api staticlib c_api
+build bench_api staticlib bench_api
+
+for name in passes drive headboarded; do
+    printf '#!/bin/sh\nexec sh "%s/tests/emulate.sh" "%s/target/bin/%s" "$@"\n' "$PWD" "$PWD" "$name" >"$emulated/$name"
+    chmod +x "$emulated/$name"
+done
+
+compile() { # NAME FOLDER: the program FOLDER/NAME.rs over the reference
+    rustc --edition 2021 -O -D warnings --extern reference="$out/libreference.rlib" -o "$out/$1" "$2/$1.rs"
+}
+rustc --edition 2021 -O -D warnings --crate-type rlib --crate-name reference \
+    -o "$out/libreference.rlib" tests/reference/lib.rs
+
+sh tests/types.sh
+
+compile believed tests/programs
+"$out/believed" crates
+
+compile selftest tests/reference
+"$out/selftest" tests/vectors
+
+compile arp_selftest tests/reference
+"$out/arp_selftest"
+
+compile vectors tests/reference
+"$out/vectors" check tests/vectors
+
+compile passes tests/programs
+"$out/passes" "$emulated/passes"
+
+compile console tests/programs
+"$out/console" "$emulated/headboarded" crates/headboarded/stdin examples/shelf.txt
+
+CC_FOR_C="sh tests/x86_cc.sh" RUN_C="sh tests/emulate.sh" sh tests/boundary.sh "$library" "$symbols"
+
+CONSOLE=$emulated/headboarded sh tests/documents.sh
+
+echo "tests: not run on $(uname -m): the Rust programs that link the library, valgrind, the benchmarks"
+echo "tests: ok"
