@@ -1,4 +1,4 @@
-//! The compiled console against the reference: request files, and sessions of random and hostile lines.
+//! The compiled console against the reference: request files, wrong symbols by hand, random and hostile sessions.
 //!   console PROGRAM FILES..     each FILE holds requests; what is due stands beside it, in stdout for stdin, else in NAME.expected
 //!   console write FILES..       writes what is due anew, from the reference
 
@@ -176,6 +176,9 @@ fn arguments(program: &str) {
     for verb in ["pec", "encode", "decode", "occupied", "target", "clear", "run", "start", "step", "lookup", "grid"] {
         assert!(help.lines().any(|line| line.split(' ').next() == Some(verb)), "help has {verb}");
     }
+    for number in ["3", "4", "5", "6", "7", "8", "17", "18", "19"] {
+        assert!(help.lines().any(|line| line.split(' ').next() == Some(number)), "help has {number}");
+    }
     assert!(run(program, &["version"], vec![]).starts_with(b"headboarded "), "version");
     assert!(run(program, &["versions"], vec![]).starts_with(b"? "), "an argument that is none");
 }
@@ -196,6 +199,6 @@ fn main() {
     typed(program);
     arguments(program);
     println!("{:<28}{requests:>9} requests in files", "console");
-    println!("{:<28}{by_hand:>9} requests answered by hand", "console");
+    println!("{:<28}{by_hand:>9} requests worked out by hand", "console");
     println!("{:<28}{random:>9} random lines, answers by number {tally:?}", "console");
 }

@@ -294,7 +294,7 @@ fn rubbish_symbol(random: &mut Random, kind: usize, place: usize) -> u16 {
     }
 }
 
-/// How much of a trace is kept before rubbish: nothing, all up to an address byte or the byte that follows one, or any part.
+/// How much of a trace is kept before rubbish: nothing, all up to an address byte or the byte after one, or any part.
 fn kept(random: &mut Random, trace: &[u16], kind: usize) -> usize {
     match kind {
         0 => 0,

@@ -45,7 +45,7 @@ fn bytes_from(trace: &[u16], place: usize, count: u8) -> Vec<u8> {
     (0..usize::from(count)).map(|k| byte_at(trace, place + 2 * k)).collect()
 }
 
-/// Where a Block Process Call has its received count: after the sent count and data, START, the address byte and its ACK.
+/// Where a Block Process Call has its received count: after what is sent, START, the address byte and its ACK.
 fn received_count_place(trace: &[u16]) -> usize {
     10 + 2 * usize::from(byte_at(trace, 5))
 }
@@ -108,13 +108,14 @@ fn is_address(whole: &[u16], place: usize) -> bool {
     place > 0 && whole[place - 1] == START
 }
 
-/// The only count that can be too high. The fields have the highest allowed for it, so that a byte differs if it is higher.
+/// The only count that can be too high: the received one of a Block Process Call. The whole trace then has the highest
+/// allowed there.
 fn is_limited_count(protocol: u8, whole: &[u16], place: usize) -> bool {
     protocol == BLOCK_PROCESS_CALL && place == received_count_place(whole)
 }
 
-/// The number for a symbol that differs from what the whole trace has there.
-/// 17: the controller's NACK for its ACK, or its ACK for its NACK. 18: a byte for an address byte. 19: a byte for a count.
+/// The number for a symbol that differs from what the whole trace has there. 17: the controller's ACK for its NACK, or
+/// its NACK for its ACK. 18: another byte for an address byte. 19: a byte for the count that can be too high.
 fn number_for(protocol: u8, symbol: u16, whole: &[u16], place: usize) -> u32 {
     match symbol {
         ACK | NACK if is_controller_ack(whole, place) => 17,

@@ -107,7 +107,8 @@ fn decoded(before: &Controller, op: &Op) -> Option<(u8, Answer)> {
     Some((protocol, decode(protocol, true, trace, 255, 255)))
 }
 
-/// After a refusal other than 6 nothing changes but what comes next: 14 after Prepare, else Get UDID again, if there may be another.
+/// After a refusal other than 6 nobody is bound or unbound. 14 comes after Prepare, else Get UDID again if there may be
+/// another.
 fn refused(before: &Controller, after: &Controller) -> bool {
     let next = match before.last {
         Command::Prepare => Command::Abandoned,
