@@ -2,7 +2,7 @@
  * identifiers, the ARP controller's commands and passes, target lists and the model run.
  *
  * Every function answers for every input. A buffer is a pointer and a length; NULL goes with the length 0. A function writes only what
- * is said of it, and nothing at all where it answers 1 to 12, 15, 16 or 21. No function keeps anything: two calls with the same
+ * is said of it, and nothing at all where it answers 1 to 12, 15 to 19 or 21. No function keeps anything: two calls with the same
  * inputs give the same.
  *
  * A truth value is 0 or 1; as an input, any number but 0 is true. A symbol of a trace is a number: 0 to 255 a byte, HB_START, HB_STOP,

@@ -1,7 +1,7 @@
 #!/bin/sh
 # What tests/run runs on a processor other than x86-64. rt builds programs and libraries for x86-64 alone, so there they run under the emulator
 # of rt's kit (tests/emulate.sh), and what is in C is compiled for x86-64 by the kit's compiler. Not run there are the Rust programs that link
-# the library, valgrind over the C tests, and the benchmarks: that is said at the end. What it makes goes to build/.
+# the library, valgrind over the C tests, the benchmarks and two examples of README.md: that is said at the end. What it makes goes to build/.
 set -eu
 cd "$(dirname "$0")/.."
 out=build/tests
@@ -22,7 +22,7 @@ build programs check c_api bench_api passes drive headboarded
 build c_api staticlib c_api
 build bench_api staticlib bench_api
 
-for name in passes drive headboarded; do
+for name in passes headboarded; do
     printf '#!/bin/sh\nexec sh "%s/tests/emulate.sh" "%s/target/bin/%s" "$@"\n' "$PWD" "$PWD" "$name" >"$emulated/$name"
     chmod +x "$emulated/$name"
 done
@@ -55,7 +55,8 @@ compile console tests/programs
 
 CC_FOR_C="sh tests/x86_cc.sh" RUN_C="sh tests/emulate.sh" sh tests/boundary.sh "$library" "$symbols"
 
-CONSOLE=$emulated/headboarded sh tests/documents.sh
+HB_CONSOLE=$emulated/headboarded sh tests/documents.sh
 
-echo "tests: not run on $(uname -m): the Rust programs that link the library, valgrind, the benchmarks"
+echo "tests: not run on $(uname -m): the Rust programs that link the library, valgrind, the benchmarks, the examples of README.md that start"
+echo "tests: target/bin/drive or link the library"
 echo "tests: ok"

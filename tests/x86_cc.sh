@@ -5,6 +5,7 @@
 set -eu
 kit=${RATTLE_HOME:-$(dirname "$(dirname "$(readlink -f "$(command -v rt)")")")}
 tools=$kit/on/$(uname -m)/toolchain
+[ -x "$tools/bin/clang" ] || { echo "x86_cc: no compiler in $tools" >&2; exit 1; }
 work=build/x86_cc
 rm -rf "$work"
 mkdir -p "$work"

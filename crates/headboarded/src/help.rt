@@ -40,17 +40,17 @@ or ? with the column and what was expected there.\n",
     );
 }
 
-// What the refusals of a trace say to who looks for the fault: which side of the wire sent the symbol that is wrong.
+// What the refusals of a trace say to who looks for the fault: which side of the wire sent what is wrong.
 fn help_refusals() {
     io::write_all(
         OUTPUT,
-        b"\nWhere to look when decode refuses a trace, and at which place:\n\
+        b"\nWhere to look when decode refuses a trace. See first that P, and p or -, are the trace's.\n\
 3   no symbol at all: the capture\n\
-4   it ends early: the capture, or a controller that stopped\n\
-5   a symbol out of its place: the wires or the capture; no side can be named\n\
+4   it ends early: the capture, or one side stopped\n\
+5   a symbol out of its place: START or STOP is the controller's, else the wires or the capture\n\
 6   no ACK from the target: the target, or nobody is at the address\n\
 7   the PEC differs: the wires, or the side that sent the PEC\n\
-8   more after STOP: the capture has a second transaction\n\
+8   more after STOP: the capture goes on after the transaction\n\
 17  ACK for NACK, or NACK for ACK, after a received byte: the controller's side\n\
 18  the address byte after a START, or its direction: the controller's side\n\
 19  a received count that is too high: the target's side\n",

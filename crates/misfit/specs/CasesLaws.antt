@@ -1,9 +1,9 @@
 -- A wrong symbol is of one kind alone, and of the same kind wherever the same fits.
 use mathlib.Core.Path.{_≡_, refl}
-use mathlib.Core.Logic.{_⊎_, inl, inr, _↔_}
-use Prim.Native.Nat.{ℕ, _≤_, _<_}
+use mathlib.Core.Logic.{inl, inr, _↔_}
+use Prim.Native.Nat.{ℕ, _<_}
 use native.Mathlib.Omega.{arith}
-use Rattle.misfit.specs.Cases.{IsSwapped, IsMisaddressed, IsMiscounted, IsOther, Means}
+use Rattle.misfit.specs.Cases.{IsSwapped, IsMisaddressed, IsMiscounted, Means}
 use Rattle.misfit.specs.declared.kind.Kind.{Kind}
 use Rattle.misfit.specs.declared.kind.Kind.the-variants.{Swapped, Misaddressed, Miscounted, Other}
 

@@ -1,5 +1,5 @@
 -- The kind that is worked out from the state is the kind that Cases means, for every symbol that does not fit where some other does.
-use mathlib.Core.Path.{_≡_, refl, sym, ap, _∙_, subst}
+use mathlib.Core.Path.{_≡_, refl, sym, ap, _∙_}
 use mathlib.Core.Bool.{Bool, true, false}
 use mathlib.Core.Logic.{_⊎_, inl, inr}
 use Prim.Native.Nat.{ℕ, _+_, _-_, _≤_, _<_, _%_}
@@ -21,8 +21,8 @@ use Rattle.step.specs.declared.state.Decoder.{Decoder}
 use Rattle.step.specs.Fits.{ackAt, countFits, fitsSlot, fitsDue, fits}
 use Rattle.misfit.specs.declared.kind.Kind.{Kind}
 use Rattle.misfit.specs.declared.kind.Kind.the-variants.{Swapped, Misaddressed, Miscounted, Other}
-use Rattle.misfit.specs.Cases.{IsSwapped, IsMiscounted, IsOther, Means}
-use Rattle.misfit.specs.Kinds.{isAddress, isCount, kindOfByte, kindAt, kindOfAck, kindDue, kindOf, addressNext}
+use Rattle.misfit.specs.Cases.{IsSwapped, IsOther, Means}
+use Rattle.misfit.specs.Kinds.{isAddress, isCount, kindOfByte, kindAt, kindDue, kindOf, addressNext}
 
 -- the controller's bit is ACK or NACK
 pub ack-or-nack : (s : Slot) → (ackAt s ≡ 258) ⊎ (ackAt s ≡ 259)
@@ -180,6 +180,25 @@ count-slot sh d x e = by-due (d .due) refl e
     by-due : (a : Due) → d .due ≡ a → kindDue (sh .tohost) a (d .slot) x ≡ Miscounted → (d .due ≡ Nobody) × (isCount (d .slot) ≡ true)
     by-due Nobody q e = (q, by-slot (ltb x 256) (sh .tohost) (isAddress (d .slot)) (isCount (d .slot)) refl e)
     by-due Controller q e = absurd (by-ack (or (eqb x ACK) (eqb x NACK)) e)
+    by-due Target q e = zero-is-one cc
+    by-due Halted q e = zero-is-one cc
+    by-due Cut q e = zero-is-one cc
+
+-- an ACK or a NACK is told to be swapped only where the controller's bit is due
+pub swapped-due : (sh : Shape) (d : Decoder) (x : ℕ) → kindOf sh d x ≡ Swapped → d .due ≡ Controller
+unfolding kindOf
+swapped-due sh d x e = by-due (d .due) refl e
+  where
+    no-byte : (b h a c : Bool) → pick b (pick h Other (pick a Misaddressed (pick c Miscounted Other))) Other ≡ Swapped → ⊥
+    no-byte true true a c e = zero-is-one cc
+    no-byte true false true c e = zero-is-one cc
+    no-byte true false false true e = zero-is-one cc
+    no-byte true false false false e = zero-is-one cc
+    no-byte false h a c e = zero-is-one cc
+
+    by-due : (a : Due) → d .due ≡ a → kindDue (sh .tohost) a (d .slot) x ≡ Swapped → d .due ≡ Controller
+    by-due Controller q e = q
+    by-due Nobody q e = absurd (no-byte (ltb x 256) (sh .tohost) (isAddress (d .slot)) (isCount (d .slot)) e)
     by-due Target q e = zero-is-one cc
     by-due Halted q e = zero-is-one cc
     by-due Cut q e = zero-is-one cc

@@ -1,12 +1,12 @@
 -- A wrong count over the table is what it is worked out to be: a Block Process Call's count received, too much with the count sent.
 use mathlib.Core.Path.{_≡_, refl, sym, subst}
 use mathlib.Core.Bool.{Bool, true, false}
-use mathlib.Core.List.{List, [], _∷_}
+use mathlib.Core.List.{List, []}
 use mathlib.Core.Logic.{_↔_}
-use Prim.Native.Nat.{ℕ, _+_, _<_}
+use Prim.Native.Nat.{ℕ, _<_}
 use native.Mathlib.Omega.{arith}
 use lib.Dec.{eqb}
-use lib.ListN.{length, take, getD}
+use lib.ListN.{take, getD}
 use borrow.Author.Tests.{eqb-true}
 use Rattle.lists.specs.AllLaws.{at-place}
 use Rattle.lists.specs.Choice.{or, and, not}

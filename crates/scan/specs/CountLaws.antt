@@ -3,10 +3,10 @@
 use mathlib.Core.Path.{_≡_, refl, sym, _∙_, ap, ap₂, subst}
 use mathlib.Core.Bool.{Bool, true, false}
 use mathlib.Core.List.{List, [], _∷_, _++_, append-nil}
-use mathlib.Core.Logic.{_⊎_, inl, inr, _↔_}
-use Prim.Native.Nat.{ℕ, suc, _+_, _-_, _≤_, _<_, _%_}
+use mathlib.Core.Logic.{_⊎_, inl, inr}
+use Prim.Native.Nat.{ℕ, suc, _+_, _-_, _<_, _%_}
 use native.Mathlib.Omega.{arith}
-use lib.Dec.{ltb, leb, eqb}
+use lib.Dec.{leb, eqb}
 use lib.ListN.{length, take, getD}
 use borrow.Author.Tests.{le-leb, lt-leb, leb-false, lt-ltb}
 use Rattle.lists.specs.AbsurdLaws.{zero-is-one}
@@ -18,7 +18,7 @@ use Rattle.trace.specs.declared.shape.Part.{Part}
 use Rattle.trace.specs.declared.shape.Part.the-variants.{Nothing, Fixed, Counted}
 use Rattle.trace.specs.declared.shape.Shape.{Shape}
 use Rattle.trace.specs.Sane.{Sane, Limits}
-use Rattle.trace.specs.Shapes.{some, isCounted, countIn, leastOf, writes, reads}
+use Rattle.trace.specs.Shapes.{some, isCounted, leastOf, writes, reads}
 use Rattle.trace.specs.Trace.{Message, inPlace, byTarget, byController, counted, Valid}
 use Rattle.step.specs.declared.state.Slot.{Slot}
 use Rattle.step.specs.declared.state.Slot.the-variants.{Start, First, Command, Count, Data, Pec, Restart, Second, ReadCount, ReadData, ReadPec, Stop, End}
@@ -36,7 +36,7 @@ use Rattle.misfit.specs.declared.kind.Kind.the-variants.{Miscounted}
 use Rattle.scan.specs.declared.answer.Refusal.the-variants.{WrongCount}
 use Rattle.scan.specs.declared.answer.Decoded.the-variants.{Refused}
 use Rattle.scan.specs.declared.whole.Progress.the-variants.{Reading, Answered}
-use Rattle.scan.specs.Answers.{Fits, shapeCases, Because}
+use Rattle.scan.specs.Answers.{Fits, Because}
 use Rattle.scan.specs.Because.{AfterStart}
 use Rattle.scan.specs.CompletionLaws.{acknowledged-ends}
 use Rattle.scan.specs.AnswersLaws.{answer-exactly}
@@ -50,13 +50,13 @@ use Rattle.scan.specs.MemberLaws.{Parted, early, late, split-at-symbol, 
 use Rattle.scan.specs.Refusal.{over, refusalOf, why}
 use Rattle.scan.specs.ReverseLaws.{ended-is-whole}
 use Rattle.scan.specs.RoomyLaws.{reached-roomy, least-of-le}
-use Rattle.scan.specs.Run.{run, decodedBy}
+use Rattle.scan.specs.Run.{run}
 use Rattle.scan.specs.RunLaws.{refused-not-reading, same-state, run-append, run-from}
 use Rattle.scan.specs.WrongLaws.{kind-holds}
 
 -- ---- the slot of the count received comes once
 
--- behind the count received, or at it
+-- the slots behind the count received
 abbrev beyond : Slot → Bool
 beyond ReadData = true
 beyond ReadPec = true
@@ -72,6 +72,7 @@ beyond Restart = false
 beyond Second = false
 beyond ReadCount = false
 
+-- and with its own
 abbrev reached : Slot → Bool
 reached ReadCount = true
 reached ReadData = true
@@ -180,7 +181,7 @@ module _ (sh : Shape) (p : Bool) where
 
 -- ---- what stands before a wrong count
 
--- of the write phase of the message, with the count x behind it that comes to too much
+-- w is what a message has up to the target's last ACK, and a count x behind it comes to too much with the count sent
 pub record TooMuch (sh : Shape) (p : Bool) (w : List ℕ) (x : ℕ) : Type 0 where
   pub message : Message
   pub valid : Valid sh message
@@ -190,20 +191,21 @@ pub record TooMuch (sh : Shape) (p : Bool) (w : List ℕ) (x : ℕ) : Type 0 whe
   pub both : (isCounted (sh .sent) ≡ true) × (isCounted (sh .received) ≡ true)
   pub sum : 255 < length (message .sent) + x
 
-is-read-count : (s : Slot) → isCount s ≡ true → (s ≡ Count) ⊎ (s ≡ ReadCount)
-is-read-count Count h = inl refl
-is-read-count ReadCount h = inr refl
-is-read-count Start h = false-not-true h
-is-read-count First h = false-not-true h
-is-read-count Command h = false-not-true h
-is-read-count Data h = false-not-true h
-is-read-count Pec h = false-not-true h
-is-read-count Restart h = false-not-true h
-is-read-count Second h = false-not-true h
-is-read-count ReadData h = false-not-true h
-is-read-count ReadPec h = false-not-true h
-is-read-count Stop h = false-not-true h
-is-read-count End h = false-not-true h
+-- a slot of a count is one of two
+one-of-two : (s : Slot) → isCount s ≡ true → (s ≡ Count) ⊎ (s ≡ ReadCount)
+one-of-two Count h = inl refl
+one-of-two ReadCount h = inr refl
+one-of-two Start h = false-not-true h
+one-of-two First h = false-not-true h
+one-of-two Command h = false-not-true h
+one-of-two Data h = false-not-true h
+one-of-two Pec h = false-not-true h
+one-of-two Restart h = false-not-true h
+one-of-two Second h = false-not-true h
+one-of-two ReadData h = false-not-true h
+one-of-two ReadPec h = false-not-true h
+one-of-two Stop h = false-not-true h
+one-of-two End h = false-not-true h
 
 -- the state where the controller's ACKs begin
 turn-nobody : (p w r : Bool) (a : Part) (z f c m y : ℕ) → (turned p w r a z f c m y) .due ≡ Nobody
@@ -318,7 +320,7 @@ module _ (sh : Shape) (hs : Sane sh) (limits : Limits sh) (p : Bool) where
         let m = kind-holds sh hs p tr k (r .0) (h .0) (r .1) f in
         let e = one-kind (λ y. Fits sh p (take k tr ++ y ∷ [])) (AfterStart tr k) (sh .tohost ≡ true) x (kindOf sh (r .0) x) Miscounted m (h .1) in
         let c = count-slot sh (r .0) x e in
-        go (r .0) (r .1) f (c .0) (is-read-count ((r .0) .slot) (c .1))
+        go (r .0) (r .1) f (c .0) (one-of-two ((r .0) .slot) (c .1))
       where
         go : (d : Decoder) → run sh p fresh 0 (take k tr) ≡ Reading d → fits sh d (getD tr k 0) ≡ false → d .due ≡ Nobody → (d .slot ≡ Count) ⊎ (d .slot ≡ ReadCount) → TooMuch sh p (take k tr) (getD tr k 0)
         go d q f a (inl s) =

@@ -12,7 +12,7 @@ use Rattle.lists.specs.Each.{Bytes}
 use Rattle.wire.specs.Addresses.{hostAddress}
 use Rattle.pec.specs.Pec as Pec
 use Rattle.trace.specs.Shapes.{protocols, shapeOf}
-use Rattle.trace.specs.ShapeLaws.{sane}
+use Rattle.trace.specs.ShapeLaws.{sane, none-to-host}
 use Rattle.trace.specs.Table.{Line, Row, line, InTable}
 use Rattle.trace.specs.TableLaws.{row-means, row-of}
 use Rattle.trace.specs.Trace.{Message, inPlace, pecOf, bytes, byTarget, byController, traceAt, Valid}
@@ -200,6 +200,10 @@ module _ (p : ℕ) (pec : Bool) (k : p < protocols) (z : p ≡ 0 → pec ≡ fal
           go : {tr : List ℕ} → shaped.Member sh pec tr → (m : Message) × Valid sh m
           go (inl w) = (w .message, w .valid)
           go (inr (b, c)) = (c .message, c .valid)
+
+  -- so none of the table goes to the host alone
+  pub none-to-host-alone : ToHost p → ⊥
+  none-to-host-alone = other-address (none-to-host p)
 
   pub to-host-shaped : ToHost p ↔ (sh .tohost ≡ true)
   to-host-shaped = (λ f. there (sh .tohost) refl f, λ h q x r e. at-host h q x r e)

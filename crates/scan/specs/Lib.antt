@@ -36,3 +36,4 @@ pub mod SizeLaws
 pub mod Fitting
 pub mod FittingLaws
 pub mod CountFittingLaws
+pub mod WrongCasesLaws

@@ -28,7 +28,7 @@ use Rattle.scan.specs.Answers.{Member, Fits, shapeCases}
 use Rattle.scan.specs.Because.{AfterStart, Wrong, OfKind}
 use Rattle.scan.specs.Refusal.{why}
 use Rattle.scan.specs.Run.{run}
-use Rattle.scan.specs.RunLaws.{refused-not-reading, same-state, run-append, run-before, run-fits, run-stops}
+use Rattle.scan.specs.RunLaws.{refused-not-reading, same-state, run-append, run-before, run-fits}
 use Rattle.scan.specs.MemberLaws.{fits-back, fits-runs}
 
 module _ (sh : Shape) (hs : Sane sh) (p : Bool) where
