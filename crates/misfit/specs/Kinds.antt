@@ -51,9 +51,12 @@ kindOfByte host s = pick host Other (pick (isAddress s) Misaddressed (pick (isCo
 abbrev pub kindAt : Bool → Slot → ℕ → Kind
 kindAt host s x = pick (ltb x 256) (kindOfByte host s) Other
 
+abbrev pub isAnswer : ℕ → Bool
+isAnswer x = or (eqb x ACK) (eqb x NACK)
+
 -- where the controller's ACK or NACK is due
 abbrev pub kindOfAck : ℕ → Kind
-kindOfAck x = pick (or (eqb x ACK) (eqb x NACK)) Swapped Other
+kindOfAck x = pick (isAnswer x) Swapped Other
 
 abbrev pub kindDue : Bool → Due → Slot → ℕ → Kind
 kindDue host Nobody s x = kindAt host s x

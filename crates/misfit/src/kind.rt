@@ -89,14 +89,21 @@ fn kind_at(host: bool, slot: Slot, x: u16) -> Kind
     }
 }
 
+// ACK or NACK.
+fn is_answer(x: u16) -> bool
+    ensures { λ r. ⌜ r ≡ Kinds.isAnswer x ⌝ }
+{
+    if x == ACK {
+        return true;
+    }
+    x == NACK
+}
+
 // Where the controller's ACK or NACK is due.
 fn kind_of_ack(x: u16) -> Kind
     ensures { λ r. ⌜ r ≡ Kinds.kindOfAck x ⌝ }
 {
-    if x == ACK {
-        return Kind::Swapped;
-    }
-    if x == NACK {
+    if is_answer(x) {
         return Kind::Swapped;
     }
     Kind::Other
