@@ -14,8 +14,8 @@ use std::process::exit;
 
 const PAGE: &str = "promises/specs/Demands.antt";
 const PAGE_LINES: usize = 250;
-// 600 for the base, and what the requests add: 26 for the kinds of a wrong symbol.
-const BELIEVED_LINES: usize = 600 + 26;
+// 600 for the base, and what the requests add: 30 for the kinds of a wrong symbol.
+const BELIEVED_LINES: usize = 600 + 30;
 const WIDTH: usize = 230;
 
 /// A crate and a file of its specs.

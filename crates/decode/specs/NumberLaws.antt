@@ -28,11 +28,12 @@ use Rattle.scan.specs.Because.{Because}
 use Rattle.scan.specs.BecauseLaws.{Agree, wrong-agrees, because-agrees}
 use Rattle.scan.specs.CountFittingLaws.{count-too-high}
 use Rattle.scan.specs.DecideLaws as Decides
-use Rattle.scan.specs.Fitting.{OtherPec, Wrong, CountTooHigh, tableCases}
-use Rattle.scan.specs.FittingLaws.{cases-shaped, other-pec-shaped, other-pec-byte}
+use Rattle.scan.specs.Fitting.{OtherPec, Wrong, BitSwapped, CountTooHigh, tableCases}
+use Rattle.scan.specs.FittingLaws.{cases-shaped, other-pec-shaped, other-pec-byte, bit-shaped}
 use Rattle.scan.specs.Numbers.{refusalNumber, decodeNumber}
 use Rattle.scan.specs.Refusal.{refusalOf}
 use Rattle.scan.specs.Run.{decodedBy}
+use Rattle.scan.specs.SwapLaws.{wrong-ack-is, is-wrong-ack}
 use Rattle.scan.specs.declared.answer.Decoded.{Decoded}
 use Rattle.scan.specs.declared.answer.Decoded.the-variants.{Done}
 use Rattle.scan.specs.declared.answer.Refusal.{Refusal}
@@ -135,7 +136,13 @@ module _ (protocol : ℕ) (pec : Bool) (tr sent₀ received₀ : List ℕ) (a : 
       back h (Misaddressed, b) = inr (inr (inl (given (h .0) WrongAddress (omega arith) b)))
       back h (Miscounted, b) = inr (inr (inr (given (h .0) WrongCount (omega arith) b)))
 
-  -- 19 worked out over the table
+  -- 17 and 19 worked out over the table
+  pub decode-bit : (k : ℕ) → (decodeNumber a ≡ (17, k)) ↔ (Here × BitSwapped protocol pec tr k)
+  decode-bit k =
+      by-trace _ _ 17 k (λ e. omega (arith, e)) (λ e. omega (arith, e))
+      (λ h. (let b = bit-shaped protocol pec (entered-known h) (h .1) tr k in (λ s. is-wrong-ack shape (sane protocol) pec tr k (b .0 s), λ w. b .1 (wrong-ack-is shape (sane protocol) pec tr k w))))
+      (step.refused-exactly protocol shape (sane protocol) pec tr WrongAck k)
+
   pub decode-count : (k : ℕ) → (decodeNumber a ≡ (19, k)) ↔ (Here × CountTooHigh protocol tr k)
   decode-count k =
       by-trace _ _ 19 k (λ e. omega (arith, e)) (λ e. omega (arith, e)) (λ h. count-too-high protocol pec (entered-known h) tr k)

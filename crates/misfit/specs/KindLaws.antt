@@ -53,7 +53,7 @@ module _ (sh : Shape) (hs : Sane sh) (d : Decoder) where
   count-is-byte k y h = omega (arith, leb-true y (sh .most - k) (both-true (leb (sh .least) y) _ h .1), hs .most-byte)
 
   -- where no ACK is due neither ACK nor NACK fits
-  no-ack-fits : (s : Slot) (y : ℕ) → fitsSlot sh s d y ≡ true → y < 258
+  pub no-ack-fits : (s : Slot) (y : ℕ) → fitsSlot sh s d y ≡ true → y < 258
   no-ack-fits Start y h = omega (arith, eqb-true y 256 h)
   no-ack-fits First y h = omega (arith, ltb-true y 256 (both-true (ltb y 256) _ h .0))
   no-ack-fits Command y h = omega (arith, ltb-true y 256 (both-true (ltb y 256) _ h .0))

@@ -108,6 +108,7 @@ decodes protocol pec tr sent₀ received₀ a sent received o = record {
   decode-17 = λ k. decode.decode-refused protocol pec tr sent₀ received₀ a sent received o WrongAck k (omega arith);
   decode-18 = λ k. decode.decode-refused protocol pec tr sent₀ received₀ a sent received o WrongAddress k (omega arith);
   decode-19 = λ k. decode.decode-refused protocol pec tr sent₀ received₀ a sent received o WrongCount k (omega arith);
+  bits = decode.decode-bit protocol pec tr sent₀ received₀ a sent received o;
   counts = decode.decode-count protocol pec tr sent₀ received₀ a sent received o;
   wrong = decode.decode-wrong protocol pec tr sent₀ received₀ a sent received o;
   handed = decode.decode-hands-over protocol pec tr sent₀ received₀ a sent received o;

@@ -12,7 +12,7 @@ pub use Rattle.encode.specs.declared.Encoded.{Encoded}
 pub use Rattle.scan.specs.Answers.{summary}
 pub use Rattle.misfit.specs.Cases.{IsSwapped, IsMisaddressed, IsMiscounted, IsOther}
 pub use Rattle.scan.specs.Because.{AfterStart}
-pub use Rattle.scan.specs.Fitting.{Member, Fits, Breaks, CutAt, OtherPec, FitsNext, ToHost, Wrong, CountTooHigh}
+pub use Rattle.scan.specs.Fitting.{Member, Fits, Breaks, CutAt, OtherPec, FitsNext, ToHost, Wrong, BitSwapped, CountTooHigh}
 pub use Rattle.scan.specs.Numbers.{decodeNumber}
 pub use Rattle.scan.specs.declared.answer.Decoded.{Decoded}
 pub use Rattle.scan.specs.declared.answer.Decoded.the-variants.{Done}

@@ -70,6 +70,12 @@ tableCases protocol pec tr =
 abbrev pub Wrong : ℕ → Bool → List ℕ → ℕ → Type 0
 Wrong protocol pec tr k = Breaks protocol pec tr k × (Member protocol pec (take k tr) → ⊥) × (getD tr k 0 ≤ 259)
 
+-- a swapped bit, worked out: where a whole trace has the controller's ACK or NACK, the other of the two stands
+abbrev pub BitSwapped : ℕ → Bool → List ℕ → ℕ → Type 0
+BitSwapped protocol pec tr k =
+    (k < length tr) × ((y : ℕ) × (x : Line) × (u : List ℕ) × (s : ℕ) × (v : List ℕ) × InTable protocol pec y x × (x .byController ≡ u ++ s ∷ v) × (take k tr ≡ x .byTarget ++ u)
+    × (((s ≡ 258) × (getD tr k 0 ≡ 259)) ⊎ ((s ≡ 259) × (getD tr k 0 ≡ 258))))
+
 -- a wrong count, worked out: of a Block Process Call, at the place of the count received, which comes to more than 255 with the count sent
 abbrev pub CountTooHigh : ℕ → List ℕ → ℕ → Type 0
 CountTooHigh protocol tr k =

@@ -21,8 +21,9 @@ use Rattle.step.specs.State.{fresh}
 use Rattle.scan.specs.Answers as shaped
 use Rattle.scan.specs.MemberLaws.{fits-back}
 use Rattle.scan.specs.Run.{run}
+use Rattle.scan.specs.SwapLaws.{SwappedAt}
 use Rattle.scan.specs.BecauseLaws.{Agree}
-use Rattle.scan.specs.Fitting.{Whole, CutAt, Member, Fits, Breaks, OtherPec, ToHost, tableCases}
+use Rattle.scan.specs.Fitting.{Whole, CutAt, Member, Fits, Breaks, OtherPec, ToHost, BitSwapped, tableCases}
 
 -- what a line of the table is, by its own protocol
 record Known (p : ℕ) (pec : Bool) (y : ℕ) (x : Line) : Type 0 where
@@ -174,6 +175,43 @@ module _ (p : ℕ) (pec : Bool) (k : p < protocols) (z : p ≡ 0 → pec ≡ fal
   pub other-pec-byte : (tr : List ℕ) (n : ℕ) (q : OtherPec p pec tr n) → other-pec-shaped tr n .0 q .pec ≡ q .1 .0
   unfolding other-pec-shaped
   other-pec-byte tr n q = refl
+
+  pub bit-shaped : (tr : List ℕ) (n : ℕ) → BitSwapped p pec tr n ↔ SwappedAt sh pec tr n
+  bit-shaped tr n = (there, back)
+    where
+      there : BitSwapped p pec tr n → SwappedAt sh pec tr n
+      there (h, (y, x, u, s, v, i, o, g, e)) =
+          let w = known p pec y x i in
+          record {
+            message = x .message;
+            pec = y;
+            valid = w .valid;
+            byte = w .byte;
+            before = u;
+            bit = s;
+            after = v;
+            own = sym (w .controller) ∙ o;
+            is = g ∙ ap (λ (l : List ℕ). l ++ u) (w .target);
+            inside = h;
+            other = e;
+          }
+
+      back : SwappedAt sh pec tr n → BitSwapped p pec tr n
+      back c =
+          let same = placed-same pec (c .pec) in (
+            c .inside,
+            (
+              placed pec (c .pec),
+              lineOf (c .message) (placed pec (c .pec)),
+              c .before,
+              c .bit,
+              c .after,
+              in-table (c .message) (c .pec) (c .valid) (c .byte),
+              ap (λ (q : List ℕ). byController sh (c .message) q) same ∙ c .own,
+              c .is ∙ ap (λ (q : List ℕ). byTarget sh (c .message) q ++ c .before) (sym same),
+              c .other,
+            ),
+          )
 
   -- the address 0 is one of a protocol that does not go to the host alone
   other-address : sh .tohost ≡ false → ToHost p → ⊥

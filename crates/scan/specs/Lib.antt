@@ -32,6 +32,7 @@ pub mod CutLaws
 pub mod DecideLaws
 pub mod AnswersLaws
 pub mod CountLaws
+pub mod SwapLaws
 pub mod SizeLaws
 pub mod Fitting
 pub mod FittingLaws
