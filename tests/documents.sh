@@ -1,5 +1,6 @@
 #!/bin/sh
 # What the documents show is true: every example in them is run, and compared. Needs rt, gcc, rustc, and what tests/run builds.
+# HB_CONSOLE names another console than target/bin/headboarded.
 # What it makes goes to build/documents/. Everything is tried, and every difference is printed, before it fails.
 #
 # How examples are written. A block of code is fenced, and the words after its fence say what it is:

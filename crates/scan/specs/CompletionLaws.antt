@@ -38,7 +38,7 @@ use Rattle.scan.specs.ForwardLaws.{to-data, to-read-data, target-ack-lea
 use Rattle.scan.specs.Roomy.{AtCount, Roomy}
 use Rattle.scan.specs.RoomyLaws.{least-of-le}
 
-zero-byte : (p : Bool) → Bytes (inPlace p 0)
+pub zero-byte : (p : Bool) → Bytes (inPlace p 0)
 zero-byte true = (omega arith, tt)
 zero-byte false = tt
 

@@ -1,6 +1,6 @@
 -- A wrong count over the table is what it is worked out to be: a Block Process Call's count received, too much with the count sent.
 use mathlib.Core.Path.{_≡_, refl, sym, subst}
-use mathlib.Core.Bool.{Bool, true, false}
+use mathlib.Core.Bool.{Bool, true}
 use mathlib.Core.List.{List, []}
 use mathlib.Core.Logic.{_↔_}
 use Prim.Native.Nat.{ℕ, _<_}
@@ -10,13 +10,12 @@ use lib.ListN.{take, getD}
 use borrow.Author.Tests.{eqb-true}
 use Rattle.lists.specs.AllLaws.{at-place}
 use Rattle.lists.specs.Choice.{or, and, not}
-use Rattle.lists.specs.Each.{Bytes}
 use Rattle.trace.specs.Rows.{message}
 use Rattle.trace.specs.ShapeLaws.{sane, none-to-host, limits-of-row}
 use Rattle.trace.specs.Shapes.{shapes, protocols, noRow, shapeOf, isCounted}
-use Rattle.trace.specs.Trace.{inPlace}
 use Rattle.trace.specs.declared.shape.Shape.{Shape}
 use Rattle.scan.specs.Answers.{Because}
+use Rattle.scan.specs.CompletionLaws.{zero-byte}
 use Rattle.scan.specs.CountLaws.{TooMuch, wrong-count-is, is-wrong-count}
 use Rattle.scan.specs.Fitting.{CountTooHigh}
 use Rattle.scan.specs.declared.answer.Refusal.the-variants.{WrongCount}
@@ -29,10 +28,6 @@ only-ten n h s r =
   where
     go : (a b : Bool) → a ≡ true → b ≡ true → or (not (and a b)) (eqb n 10) ≡ true → n ≡ 10
     go a b s r e = eqb-true n 10 (subst (λ (u : Bool). or (not (and u true)) (eqb n 10) ≡ true) s (subst (λ (u : Bool). or (not (and a u)) (eqb n 10) ≡ true) r e))
-
-no-pec : (pec : Bool) → Bytes (inPlace pec 0)
-no-pec true = (omega arith, tt)
-no-pec false = tt
 
 module _ (p : ℕ) (pec : Bool) (h : p < protocols) (tr : List ℕ) (k : ℕ) where
   there : Because (shapeOf p) pec tr WrongCount k → CountTooHigh p tr k
@@ -65,7 +60,7 @@ module _ (p : ℕ) (pec : Bool) (h : p < protocols) (tr : List ℕ) (k : ℕ) wh
           counts = omega (arith, hl);
         };
         pec = 0;
-        byte = no-pec pec;
+        byte = zero-byte pec;
         before = w;
         both = (refl, refl);
         sum = s;

@@ -15,7 +15,6 @@ use Rattle.lists.specs.ChoiceLaws.{false-not-true, not-both}
 use Rattle.lists.specs.Each.{Bytes}
 use Rattle.wire.specs.Symbols.{START, STOP, ACK, NACK}
 use Rattle.trace.specs.declared.shape.Shape.{Shape}
-use Rattle.trace.specs.Shapes.{leastOf}
 use Rattle.trace.specs.Trace.{Message, firstByte, byTarget, byController, traceAt, inPlace, Valid}
 use Rattle.trace.specs.Sane.{Sane}
 use Rattle.step.specs.declared.state.Slot.{Slot}
@@ -27,6 +26,7 @@ use Rattle.scan.specs.declared.whole.Progress.the-variants.{Reading, Ans
 use Rattle.step.specs.State.{fresh}
 use Rattle.step.specs.Fits.{fitsSlot, fitsDue, fits}
 use Rattle.step.specs.Move.{at, moveSlot, moveDue, move}
+use Rattle.misfit.specs.KindLaws.{no-ack-fits}
 use Rattle.scan.specs.Refusal.{ended, over, why}
 use Rattle.scan.specs.BytesIn.{bytesIn}
 use Rattle.scan.specs.BytesInLaws.{byte-count-is}
@@ -37,7 +37,7 @@ use Rattle.scan.specs.Leads.{Leads, noController, noTarget}
 use Rattle.scan.specs.LeadLaws.{leads-run, leads-inside}
 use Rattle.scan.specs.EndState.{turnState, endState}
 use Rattle.scan.specs.ForwardLaws.{target-part-leads, controller-part-leads, first-byte-fits}
-use Rattle.scan.specs.ReverseLaws.{count-back, ended-is-whole}
+use Rattle.scan.specs.ReverseLaws.{ended-is-whole}
 use Rattle.scan.specs.Roomy.{Roomy}
 use Rattle.scan.specs.RoomyLaws.{reached-roomy}
 use Rattle.scan.specs.Ends.{Ends}
@@ -52,19 +52,7 @@ module _ (sh : Shape) (hs : Sane sh) (p : Bool) where
 
   -- a byte is followed by no ACK but the one that is due
   no-ack : (s : Slot) (d : Decoder) → fitsSlot sh s d ACK ≡ true → ⊥
-  no-ack Start d h = false-not-true h
-  no-ack First d h = false-not-true h
-  no-ack Command d h = false-not-true h
-  no-ack Count d h = let e = count-back sh (leastOf (sh .received) (sh .least)) ACK h in omega (arith, e .1, hs .most-byte)
-  no-ack Data d h = false-not-true h
-  no-ack Pec d h = false-not-true h
-  no-ack Restart d h = false-not-true h
-  no-ack Second d h = let e = eqb-true 258 ((d .first + 1) % 256) h in omega arith
-  no-ack ReadCount d h = let e = count-back sh (d .sentcount) ACK h in omega (arith, e .1, hs .most-byte)
-  no-ack ReadData d h = false-not-true h
-  no-ack ReadPec d h = false-not-true h
-  no-ack Stop d h = false-not-true h
-  no-ack End d h = false-not-true h
+  no-ack s d h = omega (arith, no-ack-fits sh hs d s ACK h)
 
   ack-due : (d : Decoder) (a : Due) → fitsDue sh a d ACK ≡ true → noController a ≡ true → a ≡ Target
   ack-due d Nobody h g = absurd (no-ack (d .slot) d h)

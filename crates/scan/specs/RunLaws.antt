@@ -33,6 +33,15 @@ module _ (sh : Shape) (p : Bool) where
   unfolding run
   run-stops d i x xs h = rw h
 
+  -- the first symbol of a run that goes on fits
+  pub first-fits : (d e : Decoder) (i x : ℕ) (xs : List ℕ) → run sh p d i (x ∷ xs) ≡ Reading e → fits sh d x ≡ true
+  unfolding run
+  first-fits d e i x xs q = go (fits sh d x) refl q
+    where
+      go : (b : Bool) → fits sh d x ≡ b → pick b (run sh p (move sh p d x) (suc i) xs) (Answered (why sh d i x)) ≡ Reading e → fits sh d x ≡ true
+      go true h q = h
+      go false h q = absurd (refused-not-reading q)
+
   pub run-append : (xs ys : List ℕ) (d e : Decoder) (i : ℕ) → run sh p d i xs ≡ Reading e → run sh p d i (xs ++ ys) ≡ run sh p e (i + length xs) ys
   unfolding run
   run-append [] ys d e i q = ap (λ (u : Decoder). run sh p u i ys) (same-state q) ∙ ap (λ (n : ℕ). run sh p e n ys) (omega arith)

@@ -4,13 +4,13 @@ use mathlib.Core.Path.{_≡_, refl, sym, _∙_, ap, subst}
 use mathlib.Core.Bool.{Bool, true, false}
 use mathlib.Core.List.{List, [], _∷_, _++_}
 use mathlib.Core.Logic.{_⊎_, inl, inr}
-use Prim.Native.Nat.{ℕ, suc, _≤_, _<_}
+use Prim.Native.Nat.{ℕ, _≤_, _<_}
 use native.Mathlib.Omega.{arith}
 use lib.Dec.{eqb}
 use lib.ListN.{length, take, getD}
 use borrow.Author.Tests.{eqb-true, ne-eqb, le-leb}
 use Rattle.lists.specs.AbsurdLaws.{zero-is-one}
-use Rattle.lists.specs.Choice.{pick, or}
+use Rattle.lists.specs.Choice.{or}
 use Rattle.lists.specs.ChoiceLaws.{false-not-true}
 use Rattle.lists.specs.Each.{Bytes}
 use Rattle.wire.specs.Symbols.{NACK}
@@ -22,7 +22,7 @@ use Rattle.step.specs.declared.state.Due.the-variants.{Nobody, Target, Controll
 use Rattle.step.specs.declared.state.Decoder.{Decoder}
 use Rattle.step.specs.State.{fresh}
 use Rattle.step.specs.Fits.{ackAt, fitsDue, fits}
-use Rattle.step.specs.Move.{at, move}
+use Rattle.step.specs.Move.{at}
 use Rattle.misfit.specs.Cases.{IsSwapped}
 use Rattle.misfit.specs.CasesLaws.{one-kind}
 use Rattle.misfit.specs.KindLaws.{no-ack-fits, swapped-due}
@@ -30,7 +30,7 @@ use Rattle.misfit.specs.Kinds.{kindOf}
 use Rattle.misfit.specs.declared.kind.Kind.the-variants.{Swapped}
 use Rattle.scan.specs.declared.answer.Refusal.the-variants.{WrongAck}
 use Rattle.scan.specs.declared.answer.Decoded.the-variants.{Refused}
-use Rattle.scan.specs.declared.whole.Progress.the-variants.{Reading, Answered}
+use Rattle.scan.specs.declared.whole.Progress.the-variants.{Reading}
 use Rattle.scan.specs.Answers.{Fits, Because}
 use Rattle.scan.specs.AnswersLaws.{answer-exactly}
 use Rattle.scan.specs.Because.{AfterStart}
@@ -42,11 +42,11 @@ use Rattle.scan.specs.ForwardLaws.{target-part-leads, controller-part-le
 use Rattle.scan.specs.LeadLaws.{leads-run, leads-inside}
 use Rattle.scan.specs.Leads.{Leads, noController, noTarget}
 use Rattle.scan.specs.MemberLaws.{Parted, early, late, split-at-symbol, fits-runs}
-use Rattle.scan.specs.Refusal.{over, refusalOf, why}
+use Rattle.scan.specs.Refusal.{over, refusalOf}
 use Rattle.scan.specs.ReverseLaws.{ended-is-whole}
 use Rattle.scan.specs.RoomyLaws.{reached-roomy}
 use Rattle.scan.specs.Run.{run}
-use Rattle.scan.specs.RunLaws.{refused-not-reading, same-state, run-append, run-from}
+use Rattle.scan.specs.RunLaws.{same-state, first-fits, run-append, run-from}
 use Rattle.scan.specs.WrongLaws.{fits-behind, kind-holds}
 
 -- the symbol at k is the other of ACK and NACK than s, which a whole trace has there among the controller's
@@ -64,14 +64,6 @@ pub record SwappedAt (sh : Shape) (p : Bool) (tr : List ℕ) (k : ℕ) : Type 0 
   pub other : ((bit ≡ 258) × (getD tr k 0 ≡ 259)) ⊎ ((bit ≡ 259) × (getD tr k 0 ≡ 258))
 
 module _ (sh : Shape) (hs : Sane sh) (p : Bool) where
-  first-fits : (d e : Decoder) (i x : ℕ) (xs : List ℕ) → run sh p d i (x ∷ xs) ≡ Reading e → fits sh d x ≡ true
-  unfolding run
-  first-fits d e i x xs q = go (fits sh d x) refl q
-    where
-      go : (b : Bool) → fits sh d x ≡ b → pick b (run sh p (move sh p d x) (suc i) xs) (Answered (why sh d i x)) ≡ Reading e → fits sh d x ≡ true
-      go true h q = h
-      go false h q = absurd (refused-not-reading q)
-
   -- where the controller's bit is due, it alone fits
   bit-fits : (d : Decoder) (y : ℕ) → d .due ≡ Controller → fits sh d y ≡ eqb y (ackAt (d .slot))
   bit-fits d y a = ap (λ (u : Due). fitsDue sh u d y) a
@@ -116,7 +108,7 @@ module _ (sh : Shape) (hs : Sane sh) (p : Bool) where
         go (y ∷ ys) e =
             let l = subst (λ (l : List ℕ). run sh p d 0 l ≡ Reading (ends .last)) e (ends .leads) in
             let r = ended-is-whole sh hs p (take k tr ++ y ∷ ys) (ends .last) 0 (run-append sh p (take k tr) (y ∷ ys) fresh d 0 q ∙ run-from sh p (y ∷ ys) d (ends .last) 0 _ l) (ends .slot) (ends .due) in
-            at-bit (r .message) (r .pec) (r .valid) (r .byte) y ys (eqb-true y (ackAt (d .slot)) (sym (bit-fits d y a) ∙ first-fits d (ends .last) 0 y ys l)) (split-at-symbol _ _ (take k tr) y ys (sym (r .is)))
+            at-bit (r .message) (r .pec) (r .valid) (r .byte) y ys (eqb-true y (ackAt (d .slot)) (sym (bit-fits d y a) ∙ first-fits sh p d (ends .last) 0 y ys l)) (split-at-symbol _ _ (take k tr) y ys (sym (r .is)))
 
     -- 17 is given there
     pub wrong-ack-is : Because sh p tr WrongAck k → SwappedAt sh p tr k

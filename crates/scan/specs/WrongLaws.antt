@@ -28,18 +28,16 @@ use Rattle.scan.specs.Answers.{Member, Fits, shapeCases}
 use Rattle.scan.specs.Because.{AfterStart, Wrong, OfKind}
 use Rattle.scan.specs.Refusal.{why}
 use Rattle.scan.specs.Run.{run}
-use Rattle.scan.specs.RunLaws.{refused-not-reading, same-state, run-append, run-before, run-fits}
+use Rattle.scan.specs.RunLaws.{refused-not-reading, same-state, first-fits, run-append, run-before, run-fits}
 use Rattle.scan.specs.MemberLaws.{fits-back, fits-runs}
 
 module _ (sh : Shape) (hs : Sane sh) (p : Bool) where
   -- one symbol was read
   one-read : (m e : Decoder) (i x : ℕ) → run sh p m i (x ∷ []) ≡ Reading e → (fits sh m x ≡ true) × (move sh p m x ≡ e)
   unfolding run
-  one-read m e i x q = go (fits sh m x) refl q
-    where
-      go : (b : Bool) → fits sh m x ≡ b → pick b (Reading (move sh p m x)) (Answered (why sh m i x)) ≡ Reading e → (fits sh m x ≡ true) × (move sh p m x ≡ e)
-      go true h q = (h, same-state q)
-      go false h q = absurd (refused-not-reading q)
+  one-read m e i x q =
+      let h = first-fits sh p m e i x [] q in
+      (h, same-state (sym (run-fits sh p m i x [] h) ∙ q))
 
   -- every state that is reached is steady
   run-steady : (tr : List ℕ) (d e : Decoder) (i : ℕ) → Steady d → run sh p d i tr ≡ Reading e → Steady e
