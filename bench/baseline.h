@@ -23,7 +23,8 @@ typedef hb_decoded decoder(uint8_t protocol, uint8_t pec, const uint8_t *trace, 
                            uint8_t *sent, size_t sent_len, uint8_t *received, size_t received_len);
 decoder plain_decode, table_decode;
 
-typedef hb_model runner(hb_pool occupied, uint8_t *records, size_t records_len, uint8_t *bindings, size_t bindings_len);
+typedef hb_model runner(hb_pool occupied, uint8_t last, uint8_t *records, size_t records_len, uint8_t *bindings,
+                        size_t bindings_len);
 runner plain_run_model, table_run_model;
 
 #endif

@@ -8,7 +8,7 @@
 #include <string.h>
 #include <valgrind/callgrind.h>
 
-enum { RECORD = 18, MOST = 120, ROOM = 2048, BEYOND = 32, LIST_ROOM = (MOST + 2) * RECORD };
+enum { RECORD = 18, MOST = 120, ROOM = 2048, BEYOND = 32, LIST_ROOM = (MOST + 2) * RECORD, NEVER = 127 };
 
 static const struct program {
     const char *name;
@@ -55,7 +55,7 @@ static void fill(uint8_t *records, size_t n)
     }
 }
 
-static void run(const struct program *p, uint64_t low, const uint8_t *records, size_t length, size_t room,
+static void run(const struct program *p, uint64_t low, uint8_t last, const uint8_t *records, size_t length, size_t room,
                 const char *label, struct result *r)
 {
     hb_pool occupied = { low, 0 };
@@ -63,25 +63,25 @@ static void run(const struct program *p, uint64_t low, const uint8_t *records, s
     memset(r->bindings, 0xa5, sizeof r->bindings);
     memset(&r->answer, 0, sizeof r->answer);
     CALLGRIND_ZERO_STATS;
-    r->answer = p->run(occupied, r->records, length, r->bindings, room);
+    r->answer = p->run(occupied, last, r->records, length, r->bindings, room);
     if (label != NULL)
         CALLGRIND_DUMP_STATS_AT(label);
 }
 
 static int same(const hb_model *a, const hb_model *b)
 {
-    return a->answer == b->answer && a->count == b->count && a->gets == b->gets && a->place == b->place
-        && a->udid.high == b->udid.high && a->udid.low == b->udid.low && a->bound.low == b->bound.low
+    return a->answer == b->answer && a->count == b->count && a->gets == b->gets && a->picked == b->picked
+        && a->place == b->place && a->udid.high == b->udid.high && a->udid.low == b->udid.low && a->bound.low == b->bound.low
         && a->bound.high == b->bound.high;
 }
 
 /* All programs on one input: the answer that all give. */
-static hb_model compare(uint64_t occupied, const uint8_t *records, size_t length, size_t room)
+static hb_model compare(uint64_t occupied, uint8_t last, const uint8_t *records, size_t length, size_t room)
 {
     static struct result a, b;
-    run(&programs[0], occupied, records, length, room, NULL, &a);
+    run(&programs[0], occupied, last, records, length, room, NULL, &a);
     for (int k = 1; k < PROGRAMS; k++) {
-        run(&programs[k], occupied, records, length, room, NULL, &b);
+        run(&programs[k], occupied, last, records, length, room, NULL, &b);
         if (!same(&a.answer, &b.answer))
             stop("the library and plain C answer differently");
         if (memcmp(a.records, b.records, sizeof a.records) != 0)
@@ -109,13 +109,17 @@ static void compare_refusals(void)
         memcpy(bad, good, sizeof bad);
         if (faults[k].byte != 0)
             bad[faults[k].byte] = faults[k].value;
-        if (compare(0, bad, faults[k].length, faults[k].room).answer != faults[k].answer)
+        if (compare(0, NEVER, bad, faults[k].length, faults[k].room).answer != faults[k].answer)
             stop("a list was refused with another number");
+        if (compare(0, NEVER + 1, bad, faults[k].length, faults[k].room).answer != 1)
+            stop("a last pick was not refused first");
     }
     memcpy(bad, good, sizeof bad);
     memcpy(bad + 7 * RECORD, bad + 3 * RECORD, 16);
-    if (compare(0, bad, 10 * RECORD, ROOM).answer != 11 || compare(0, bad, 0, ROOM + BEYOND).gets != 0)
+    if (compare(0, NEVER, bad, 10 * RECORD, ROOM).answer != 11 || compare(0, NEVER, bad, 0, ROOM + BEYOND).gets != 0)
         stop("a list was refused with another number");
+    if (compare(0, 255, bad, 10 * RECORD, ROOM).answer != 1)
+        stop("a last pick was not refused first");
 }
 
 static void measure(size_t targets)
@@ -127,12 +131,31 @@ static void measure(size_t targets)
     memset(records, 0, sizeof records);
     fill(records, targets);
     for (size_t n = 0; n <= targets; n++)
-        compare(0xff00000000 * n, records, n * RECORD, ROOM + n % BEYOND);
-    m = compare(0, records, targets * RECORD, ROOM);
+        compare(0xff00000000 * n, (uint8_t)(n * 37 % (NEVER + 1)), records, n * RECORD, ROOM + n % BEYOND);
+    m = compare(0, NEVER, records, targets * RECORD, ROOM);
     for (int k = 0; k < PROGRAMS; k++) {
         snprintf(label, sizeof label, "%s %zu %u %u %u", programs[k].name, targets, m.answer, m.count, m.gets);
-        run(&programs[k], 0, records, targets * RECORD, ROOM, label, &r);
+        run(&programs[k], 0, NEVER, records, targets * RECORD, ROOM, label, &r);
     }
+}
+
+/* A shelf of 10 targets after every last pick: the runs end with many different ones. */
+static void compare_last_picks(void)
+{
+    static uint8_t records[LIST_ROOM];
+    uint8_t seen[NEVER + 1] = { 0 };
+    size_t different = 0;
+    memset(records, 0, sizeof records);
+    fill(records, 10);
+    for (unsigned last = 0; last <= NEVER; last++) {
+        hb_model m = compare(0, (uint8_t)last, records, 10 * RECORD, ROOM);
+        if (m.answer != 0 || m.picked > NEVER)
+            stop("a run after a last pick did not end");
+        different += !seen[m.picked];
+        seen[m.picked] = 1;
+    }
+    if (different < 50)
+        stop("the last pick makes too little of a difference");
 }
 
 int main(void)
@@ -142,5 +165,6 @@ int main(void)
     measure(10);
     measure(60);
     measure(120);
+    compare_last_picks();
     return 0;
 }

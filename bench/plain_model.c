@@ -28,11 +28,15 @@ static struct used starting(uint64_t low, uint64_t high)
     return used;
 }
 
-static int lowest_free(const struct used *used)
+/* The first free address after the last pick, round from 7Fh to 00h; the last pick itself comes at the end. */
+static int next_free(const struct used *used, unsigned last)
 {
-    for (int a = 0; a < ADDRESSES; a++)
+    for (unsigned a = last + 1; a < ADDRESSES; a++)
         if (!used->has[a])
-            return a;
+            return (int)a;
+    for (unsigned a = 0; a <= last; a++)
+        if (!used->has[a])
+            return (int)a;
     return -1;
 }
 
@@ -143,7 +147,7 @@ static int abandoned(hb_model *m)
     return 0;
 }
 
-/* One target: its reply, its address by the plain rule, and the Assign. */
+/* One target: its reply, its address by the plain rule, and the Assign. A pick is the last pick from then on. */
 static int serve(struct bus *bus, struct used *used, uint8_t *record, uint8_t *bindings, hb_model *m)
 {
     uint8_t data[UDID_BYTES + 1];
@@ -153,13 +157,15 @@ static int serve(struct bus *bus, struct used *used, uint8_t *record, uint8_t *b
         return abandoned(m);
     own = bus->received[ADDRESS_BYTE] / 2;
     keeps = bus->received[ADDRESS_BYTE] != NO_ADDRESS && (is_fixed(bus->received) || !used->has[own]);
-    a = keeps ? own : lowest_free(used);
+    a = keeps ? own : next_free(used, m->picked);
     if (a < 0) {
         m->answer = 13;
         m->udid.high = half(bus->received);
         m->udid.low = half(bus->received + 8);
         return 0;
     }
+    if (!keeps)
+        m->picked = (uint32_t)a;
     memcpy(data, bus->received, UDID_BYTES);
     data[UDID_BYTES] = (uint8_t)(2 * a);
     if (!exchange(bus, BLOCK_WRITE, ASSIGN, data, sizeof data, NULL, 0))
@@ -173,12 +179,13 @@ static int serve(struct bus *bus, struct used *used, uint8_t *record, uint8_t *b
     return 1;
 }
 
-static hb_model pass(struct used used, uint8_t *records, size_t n, uint8_t *bindings)
+static hb_model pass(struct used used, uint8_t last, uint8_t *records, size_t n, uint8_t *bindings)
 {
     static const uint8_t prepare[] = { PREPARE };
     hb_model m = refused(0, 0);
     struct bus bus;
     uint8_t order[MOST];
+    m.picked = last;
     memset(bindings, 0, ROOM);
     if (n == 0) {
         if (!cut(&bus, SEND_BYTE, nobody, sizeof nobody / sizeof nobody[0]))
@@ -201,10 +208,13 @@ static hb_model pass(struct used used, uint8_t *records, size_t n, uint8_t *bind
     return m;
 }
 
-hb_model NAMED(run_model)(hb_pool occupied, uint8_t *records, size_t records_len, uint8_t *bindings, size_t bindings_len)
+hb_model NAMED(run_model)(hb_pool occupied, uint8_t last, uint8_t *records, size_t records_len, uint8_t *bindings,
+                          size_t bindings_len)
 {
     size_t n = records_len / RECORD, place;
     struct used used = starting(occupied.low, occupied.high);
+    if (last >= ADDRESSES)
+        return refused(1, 0);
     if (bindings_len < ROOM)
         return refused(2, 0);
     if (records_len % RECORD != 0 || n > MOST)
@@ -215,5 +225,5 @@ hb_model NAMED(run_model)(hb_pool occupied, uint8_t *records, size_t records_len
         return refused(11, place);
     if ((place = misplaced(records, n, used)) < n)
         return refused(12, place);
-    return pass(used, records, n, bindings);
+    return pass(used, last, records, n, bindings);
 }

@@ -1,4 +1,4 @@
-# bench/RESULTS.md from what the benchmarks left: pec.txt, codec.callgrind, step.txt and model.txt, in this order.
+# bench/RESULTS.md from what the benchmarks left: pec.txt, codec.callgrind, step.txt, model.txt and pick.txt, in this order.
 
 FNR == 1 {
     file++
@@ -44,6 +44,10 @@ file == 4 && $1 ~ /^[0-9]+$/ {
 
 file == 4 && /^a target among/ {
     grows = $0
+}
+
+file == 5 && $4 ~ /^[0-9]+$/ {
+    picks[++searches] = "|" $1 "|" $2 "|" $3 "|" $4 "|" $5 "|" $6 "|"
 }
 
 function ratio(a, b) {
@@ -120,8 +124,17 @@ function run_table(k, n) {
     }
 }
 
+function pick_table(k) {
+    print "\n## The next free address\n"
+    print "A call of `hb_pool_next_free` with the used addresses and the last pick; 128 is picked where none is free. In the sets with one"
+    print "free address that one is the last pick. Plain C walks from address to address.\n"
+    print "|used|last|picked|library|limit|plain C|\n|-|-:|-:|-:|-:|-:|"
+    for (k = 1; k <= searches; k++)
+        print picks[k]
+}
+
 END {
-    if (file != 4 || count == 0 || runs == 0 || step == "" || grows == "" || \
+    if (file != 5 || count == 0 || runs == 0 || searches == 0 || step == "" || grows == "" || \
         !pec["table", 65536] || !run["table", 120] || !cost["decode", "table", rows[count]]) {
         print "bench: nothing counted" >"/dev/stderr"
         exit 1
@@ -134,6 +147,7 @@ END {
     print "\n## A controller step\n"
     print step "."
     run_table()
+    pick_table()
     print "\n## How it grows\n"
     print "Plain C is here with the PEC bit by bit, unless a table is named.\n"
     print "- With the trace: linear. From a Block Write of 32 bytes to one of 255, without PEC, a symbol more costs"

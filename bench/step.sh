@@ -19,8 +19,9 @@ gcc -std=c11 -O2 -Wall -Wextra -Werror -Iinclude bench/step.c "$library" -o "$ou
 "$out/step" 2 >"$out/before.script"
 "$out/step" 3 >"$out/bound.script"
 
-lookup() { # SCRIPT: what the program answers for address 20h after it: 0 where a target is bound, 15 where nobody is
-    { cat "$1" && printf '\003'; } | "$program" | tail -c $((128 * 17)) | od -An -tu1 -j $((32 * 17)) -N 1 | tr -d ' '
+lookup() { # SCRIPT: what the program answers for address 20h after it: 0 where a target is bound, 15 where nobody is. The finds
+    # are followed by the last pick, one byte
+    { cat "$1" && printf '\003'; } | "$program" | tail -c $((128 * 17 + 1)) | od -An -tu1 -j $((32 * 17)) -N 1 | tr -d ' '
 }
 
 instructions() { # SCRIPT WORDS..: of the whole run, or of what the words name

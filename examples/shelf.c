@@ -1,4 +1,5 @@
-/* Headboarded from C. A word is read from a module: its trace is written, and read back. Then a pass gives two modules their addresses. */
+/* Headboarded from C. A word is read from a module: its trace is written, and read back. Then a pass gives two modules their addresses.
+ * One of them is pulled and another comes: in the next pass it does not get the address that became free. */
 #include <inttypes.h>
 #include <stdio.h>
 
@@ -11,6 +12,17 @@ static uint8_t shelf[2 * HB_RECORD] = {
 };
 static uint8_t trace[2 * HB_LONGEST_TRACE], sent[HB_DECODE_ROOM], received[HB_DECODE_ROOM], bindings[HB_BINDINGS_ROOM];
 
+/* Who is bound where. */
+static void show(hb_pool bound)
+{
+    for (int a = 0; a < 128; a++) {
+        if (hb_pool_has(bound, a)) {
+            hb_udid u = hb_udid_from_bytes(bindings, sizeof bindings, 16 * a);
+            printf("0x%02x: %016" PRIx64 "%016" PRIx64 "\n", a, u.high, u.low);
+        }
+    }
+}
+
 int main(void)
 {
     /* README.md shows the lines from here .. */
@@ -22,14 +34,18 @@ int main(void)
     printf("decode: %u, word %d\n", d.answer, received[0] + 256 * received[1]);
 
     hb_pool occupied = {0, 0}; /* no address is in use yet */
-    hb_model m = hb_run_model(occupied, shelf, sizeof shelf, bindings, sizeof bindings);
-    printf("model: %u, %u bound, %u Get UDIDs\n", m.answer, m.count, m.gets);
-    for (int a = 0; a < 128; a++) {
-        if (hb_pool_has(m.bound, a)) {
-            hb_udid u = hb_udid_from_bytes(bindings, sizeof bindings, 16 * a);
-            printf("0x%02x: %016" PRIx64 "%016" PRIx64 "\n", a, u.high, u.low);
-        }
-    }
+    uint8_t last = 127;        /* and none was ever picked */
+    hb_model m = hb_run_model(occupied, last, shelf, sizeof shelf, bindings, sizeof bindings);
+    printf("model: %u, %u bound, %u Get UDIDs, last pick 0x%02x\n", m.answer, m.count, m.gets, m.picked);
+    show(m.bound);
+
+    /* The second module is pulled, and another comes. Its address is picked after the last one: it does not get 0Ah. */
+    shelf[HB_RECORD + 15] = 0x05;
+    shelf[HB_RECORD + 16] = 0xff;
+    last = m.picked;
+    m = hb_run_model(occupied, last, shelf, sizeof shelf, bindings, sizeof bindings);
+    printf("model: %u, %u bound, %u Get UDIDs, last pick 0x%02x\n", m.answer, m.count, m.gets, m.picked);
+    show(m.bound);
     /* .. to here. */
     return 0;
 }

@@ -22,6 +22,7 @@ extern "C" {
 enum { HB_START = 256, HB_STOP = 257, HB_ACK = 258, HB_NACK = 259 };
 enum { HB_DEFAULT_ADDRESS = 0x61, HB_HOST_ADDRESS = 0x08, HB_ALERT_RESPONSE_ADDRESS = 0x0c };
 enum { HB_LONGEST_TRACE = 525, HB_DECODE_ROOM = 255, HB_BINDINGS_ROOM = 2048, HB_RECORD = 18, HB_MOST_TARGETS = 120 };
+enum { HB_NEVER_PICKED = 127 }; /* the last pick of a controller that has picked no address yet */
 
 /* The numbers answered. */
 enum {
@@ -168,6 +169,9 @@ hb_pool hb_pool_starting(hb_pool occupied);
 /* How many addresses the set has, and the lowest that it does not have: 128 where it has all. */
 uint32_t hb_pool_used(hb_pool pool);
 uint8_t hb_pool_lowest_free(hb_pool pool);
+/* The first address after the last one picked, going from 7Fh round to 00h, that the set does not have: 128 where it has all. The last
+ * one itself comes last. After 127, and after any number above, it is the lowest. */
+uint8_t hb_pool_next_free(hb_pool pool, uint8_t last);
 
 /* Device identifiers. */
 
@@ -190,28 +194,32 @@ uint8_t hb_udid_is_fixed(hb_udid udid);
 hb_written hb_put_command(uint8_t kind, hb_udid udid, uint8_t address,
                           const uint8_t *reply, size_t reply_len, uint8_t *out, size_t out_len);
 
-/* What was handed out last, the number of an end, and the Get UDIDs sent in the pass. The address is that of HB_ASSIGN; the identifier
- * that of HB_ASSIGN and HB_NONE_FREE. Whatever a kind lacks is 0. With 21 every part is 0 but the answer and the kind, which is no
- * part of a result but says which of the cases it is: HB_NOT_OUTSTANDING. */
+/* What was handed out last, the number of an end, the Get UDIDs sent in the pass, and the last pick: the address picked last, in this
+ * pass or before it. The address is that of HB_ASSIGN; the identifier that of HB_ASSIGN and HB_NONE_FREE. Whatever a kind lacks is 0.
+ * With 1 and 21 every part is 0 but the answer and the kind, which is no part of a result but says which of the cases it is:
+ * HB_NOT_OUTSTANDING. */
 typedef struct {
     uint32_t kind;
     uint32_t answer;
     uint32_t address;
     uint32_t gets;
+    uint32_t picked;
     hb_udid udid;
 } hb_command;
 
-/* A pass from its start with these addresses occupied, a step for each trace of a list. A trace of the list is the number of its symbols
- * and the symbols, all as pairs; the list ends where no whole trace is left. Nothing is written. */
-hb_command hb_pass(hb_pool occupied, const uint8_t *traces, size_t traces_len);
+/* A pass from its start with these addresses occupied, a step for each trace of a list. The last pick is that of the pass before, or
+ * HB_NEVER_PICKED; above 127 is 1. A trace of the list is the number of its symbols and the symbols, all as pairs; the list ends where
+ * no whole trace is left. Nothing is written. */
+hb_command hb_pass(hb_pool occupied, uint8_t last, const uint8_t *traces, size_t traces_len);
 
 typedef struct {
     uint32_t answer;
     hb_udid udid;
 } hb_found;
 
-/* Who is bound at an address after such a pass: 0 with the identifier; else 1, 15 or 16, and the identifier is 0. Nothing is written. */
-hb_found hb_pass_lookup(hb_pool occupied, const uint8_t *traces, size_t traces_len, uint8_t address);
+/* Who is bound at an address after such a pass: 0 with the identifier; else 1, for a last pick or an address above 127, 15 or 16, and the
+ * identifier is 0. Nothing is written. */
+hb_found hb_pass_lookup(hb_pool occupied, uint8_t last, const uint8_t *traces, size_t traces_len, uint8_t address);
 
 /* Targets. A record has HB_RECORD bytes: the identifier, the address byte, and the resolved flag. */
 
@@ -224,21 +232,23 @@ typedef struct {
  * written. */
 hb_checked hb_check_targets(hb_pool occupied, const uint8_t *records, size_t records_len);
 
-/* How a model run ended: 0, or 13 with the identifier that asked; how many addresses are bound and which; the Get UDIDs sent. A refusal
- * has its record in place, and its other parts are 0. */
+/* How a model run ended: 0, or 13 with the identifier that asked; how many addresses are bound and which; the Get UDIDs sent; and the
+ * last pick, to be given to the next run. A refusal has its record in place, and its other parts are 0. */
 typedef struct {
     uint32_t answer;
     uint32_t count;
     uint32_t gets;
+    uint32_t picked;
     size_t place;
     hb_udid udid;
     hb_pool bound;
 } hb_model;
 
-/* A whole pass against targets. With 0 or 13 it writes the last two bytes of each record and the first HB_BINDINGS_ROOM bytes of the
- * binding buffer: the identifier of address a at 16 * a, zeros where nobody is bound; the rest of both is as it was. With 2 and 9 to 12
- * both are as they were. */
-hb_model hb_run_model(hb_pool occupied, uint8_t *records, size_t records_len, uint8_t *bindings, size_t bindings_len);
+/* A whole pass against targets, with the last pick of the run before, or HB_NEVER_PICKED; above 127 is 1. With 0 or 13 it writes the
+ * last two bytes of each record and the first HB_BINDINGS_ROOM bytes of the binding buffer: the identifier of address a at 16 * a,
+ * zeros where nobody is bound; the rest of both is as it was. With 1, 2 and 9 to 12 both are as they were. */
+hb_model hb_run_model(hb_pool occupied, uint8_t last, uint8_t *records, size_t records_len,
+                      uint8_t *bindings, size_t bindings_len);
 
 #ifdef __cplusplus
 }

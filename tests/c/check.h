@@ -13,6 +13,9 @@ extern unsigned long checks;
 /* No address, and all of them. */
 extern const hb_pool nothing, everything;
 
+/* The last pick of a controller that has never picked. */
+enum { NEVER = 127 };
+
 /* Counts, and stops at the first that does not hold. */
 #define CHECK(holds) \
     do { \

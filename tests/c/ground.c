@@ -63,6 +63,40 @@ static void check_sets(void)
     }
 }
 
+static int is_free(hb_pool pool, unsigned n)
+{
+    return ((n < 64 ? pool.low >> n : pool.high >> (n - 64)) & 1) == 0;
+}
+
+/* Every last pick: the walk from it on, round from 7Fh to 00h, stops at the first free address; where none is free it is 128. */
+static void check_next_free(hb_pool pool)
+{
+    for (unsigned last = 0; last < 256; last++) {
+        unsigned steps = 1, from = last > NEVER ? NEVER : last;
+        while (steps <= 128 && !is_free(pool, (from + steps) % 128))
+            steps++;
+        CHECK(hb_pool_next_free(pool, (uint8_t)last) == (steps > 128 ? 128 : (from + steps) % 128));
+    }
+    CHECK(hb_pool_next_free(pool, NEVER) == hb_pool_lowest_free(pool));
+}
+
+static void check_picks(void)
+{
+    hb_pool two = hb_pool_without(hb_pool_without(everything, 0x09), 0x77);
+    check_next_free(nothing);
+    check_next_free(everything);
+    check_next_free(hb_pool_starting(nothing));
+    check_next_free(two);
+    for (unsigned n = 0; n < 128; n++) {
+        check_next_free(hb_pool_without(everything, (uint8_t)n));
+        CHECK(hb_pool_next_free(hb_pool_without(everything, (uint8_t)n), (uint8_t)n) == n);
+    }
+    CHECK(hb_pool_next_free(nothing, 0) == 1 && hb_pool_next_free(nothing, 126) == 127 && hb_pool_next_free(nothing, 127) == 0);
+    CHECK(hb_pool_next_free(nothing, 63) == 64 && hb_pool_next_free(nothing, 128) == 0 && hb_pool_next_free(nothing, 255) == 0);
+    CHECK(hb_pool_next_free(two, 0x08) == 0x09 && hb_pool_next_free(two, 0x09) == 0x77 && hb_pool_next_free(two, 0x77) == 0x09);
+    CHECK(hb_pool_next_free(everything, 0) == 128 && hb_pool_next_free(everything, 255) == 128);
+}
+
 static void check_starting(void)
 {
     hb_pool occupied = { 1 << 9, 1 }, start = hb_pool_starting(nothing), either = hb_pool_union(start, occupied);
@@ -114,6 +148,7 @@ static void check_identifiers(void)
 void check_pools(void)
 {
     check_sets();
+    check_picks();
     check_starting();
     check_identifiers();
 }

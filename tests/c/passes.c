@@ -1,4 +1,4 @@
-/* Commands and passes: a target that is bound, one that finds no address, an Assign that is not acknowledged. */
+/* Commands and passes: a target that is bound, one that finds no address, an Assign that is not acknowledged, last picks. */
 #include "check.h"
 
 static const hb_udid module = { 0x8001020304050607, 0x08090a0b0c0d0e0f };
@@ -64,14 +64,20 @@ static void check_numbers(void)
     }
 }
 
-static void expect(const struct list *l, uint32_t kind, uint32_t address, uint32_t gets)
+/* A command or a good end after a last pick, with every part of it. */
+static void expect_after(uint8_t last, const struct list *l, uint32_t kind, uint32_t address, uint32_t gets, uint32_t picked)
 {
-    hb_command c = hb_pass(nothing, l->bytes, l->length);
-    CHECK(c.kind == kind && c.answer == HB_DONE && c.address == address && c.gets == gets);
+    hb_command c = hb_pass(nothing, last, l->bytes, l->length);
+    CHECK(c.kind == kind && c.answer == HB_DONE && c.address == address && c.gets == gets && c.picked == picked);
     CHECK(hb_udid_is_same(c.udid, kind == HB_ASSIGN ? module : nobody));
 }
 
-/* One target that holds 20h: it is bound there, and the pass ends. */
+static void expect(const struct list *l, uint32_t kind, uint32_t address, uint32_t gets, uint32_t picked)
+{
+    expect_after(NEVER, l, kind, address, gets, picked);
+}
+
+/* One target that holds 20h: it is bound there, nothing is picked, and the pass ends. */
 static void check_bound(void)
 {
     struct list l = { NULL, 0 };
@@ -80,28 +86,28 @@ static void check_bound(void)
     static const uint8_t silence[] = { 0, 1, 0xc2, 0, 2, 1, 3, 0, 2, 1, 0, 1, 0xc3, 0, 3, 1, 1, 1 };
     hb_udid_put_bytes(module, reply, sizeof reply, 0);
     reply[16] = 2 * 0x20 + 1;
-    expect(&l, HB_PREPARE, 0, 0);
+    expect(&l, HB_PREPARE, 0, 0, NEVER);
     send(&l, HB_PREPARE, 0, NULL, 0);
-    expect(&l, HB_GET_UDID, 0, 1);
+    expect(&l, HB_GET_UDID, 0, 1, NEVER);
     send(&l, HB_GET_UDID, 0, reply, sizeof reply);
-    expect(&l, HB_ASSIGN, 0x20, 1);
-    CHECK(hb_pass_lookup(nothing, l.bytes, l.length, 0x20).answer == HB_NOBODY);
+    expect(&l, HB_ASSIGN, 0x20, 1, NEVER);
+    CHECK(hb_pass_lookup(nothing, NEVER, l.bytes, l.length, 0x20).answer == HB_NOBODY);
     send(&l, HB_ASSIGN, 0x20, NULL, 0);
-    expect(&l, HB_GET_UDID, 0, 2);
+    expect(&l, HB_GET_UDID, 0, 2, NEVER);
     append(&l, silence, 9);
-    expect(&l, HB_ENDED, 0, 2);
-    CHECK(hb_pass_lookup(nothing, l.bytes, l.length, 0x20).answer == HB_DONE);
-    CHECK(hb_pass_lookup(nothing, l.bytes, l.length, 0x20).udid.high == module.high);
-    CHECK(hb_pass_lookup(nothing, l.bytes, l.length, 0x20).udid.low == module.low);
-    CHECK(hb_pass_lookup(nothing, l.bytes, l.length, 0x21).answer == HB_NOBODY);
-    CHECK(hb_pass_lookup(nothing, l.bytes, l.length, 128).answer == HB_FORBIDDEN);
+    expect(&l, HB_ENDED, 0, 2, NEVER);
+    CHECK(hb_pass_lookup(nothing, NEVER, l.bytes, l.length, 0x20).answer == HB_DONE);
+    CHECK(hb_pass_lookup(nothing, NEVER, l.bytes, l.length, 0x20).udid.high == module.high);
+    CHECK(hb_pass_lookup(nothing, NEVER, l.bytes, l.length, 0x20).udid.low == module.low);
+    CHECK(hb_pass_lookup(nothing, NEVER, l.bytes, l.length, 0x21).answer == HB_NOBODY);
+    CHECK(hb_pass_lookup(nothing, NEVER, l.bytes, l.length, 128).answer == HB_FORBIDDEN);
     append(&l, silence, 9);
-    c = hb_pass(nothing, l.bytes, l.length);
+    c = hb_pass(nothing, NEVER, l.bytes, l.length);
     CHECK(c.kind == HB_NOT_OUTSTANDING && c.answer == HB_NO_COMMAND);
-    CHECK(c.address == 0 && c.gets == 0 && c.udid.high == 0 && c.udid.low == 0);
-    CHECK(hb_pass_lookup(nothing, l.bytes, l.length, 0x20).answer == HB_DONE);
+    CHECK(c.address == 0 && c.gets == 0 && c.picked == 0 && c.udid.high == 0 && c.udid.low == 0);
+    CHECK(hb_pass_lookup(nothing, NEVER, l.bytes, l.length, 0x20).answer == HB_DONE);
     l.bytes[l.length - 20] = 10;
-    expect(&l, HB_ENDED, 0, 2);
+    expect(&l, HB_ENDED, 0, 2, NEVER);
     free(l.bytes);
 }
 
@@ -115,21 +121,22 @@ static void check_ends(void)
     reply[16] = 0xff;
     send(&l, HB_PREPARE, 0, NULL, 0);
     send(&l, HB_GET_UDID, 0, reply, sizeof reply);
-    c = hb_pass(everything, l.bytes, l.length);
+    c = hb_pass(everything, NEVER, l.bytes, l.length);
     CHECK(c.kind == HB_NONE_FREE && c.answer == HB_NO_FREE_ADDRESS && hb_udid_is_same(c.udid, module) && c.gets == 1);
-    expect(&l, HB_ASSIGN, 0x09, 1);
+    CHECK(c.address == 0 && c.picked == NEVER && hb_pass(everything, 0x33, l.bytes, l.length).picked == 0x33);
+    expect(&l, HB_ASSIGN, 0x09, 1, 0x09);
     append(&l, reply, 0);
-    expect(&l, HB_GET_UDID, 0, 2);
-    CHECK(hb_pass_lookup(nothing, l.bytes, l.length, 0x09).answer == HB_NOBODY);
+    expect(&l, HB_GET_UDID, 0, 2, 0x09);
+    CHECK(hb_pass_lookup(nothing, NEVER, l.bytes, l.length, 0x09).answer == HB_NOBODY);
     l.bytes[l.length - 2] = 1;
-    expect(&l, HB_ASSIGN, 0x09, 1);
+    expect(&l, HB_ASSIGN, 0x09, 1, 0x09);
     free(l.bytes);
-    CHECK(hb_pass(nothing, NULL, 0).kind == HB_PREPARE && hb_pass_lookup(nothing, NULL, 0, 0x09).answer == HB_NOBODY);
+    CHECK(hb_pass(nothing, NEVER, NULL, 0).kind == HB_PREPARE && hb_pass_lookup(nothing, NEVER, NULL, 0, 0x09).answer == HB_NOBODY);
     l.bytes = block(1, 0);
-    CHECK(hb_pass(nothing, l.bytes, 1).kind == HB_PREPARE);
+    CHECK(hb_pass(nothing, NEVER, l.bytes, 1).kind == HB_PREPARE);
     free(l.bytes);
     l.bytes = block(2, 0);
-    CHECK(hb_pass(nothing, l.bytes, 2).kind == HB_ABANDONED && hb_pass(nothing, l.bytes, 2).answer == HB_PASS_ABANDONED);
+    CHECK(hb_pass(nothing, NEVER, l.bytes, 2).kind == HB_ABANDONED && hb_pass(nothing, NEVER, l.bytes, 2).answer == HB_PASS_ABANDONED);
     free(l.bytes);
 }
 
@@ -141,15 +148,15 @@ static void check_wrong_symbols(void)
     static const uint16_t stop[] = { HB_START, 0xc2, HB_ACK, 3, HB_ACK, HB_START, 0xc3, HB_ACK, 17, HB_STOP };
     struct list l = { NULL, 0 }, first = { NULL, 0 };
     append(&first, (const uint8_t *)direction, 2);
-    CHECK(hb_pass(nothing, first.bytes, first.length).kind == HB_ABANDONED);
-    CHECK(hb_pass(nothing, first.bytes, first.length).answer == HB_PASS_ABANDONED);
+    CHECK(hb_pass(nothing, NEVER, first.bytes, first.length).kind == HB_ABANDONED);
+    CHECK(hb_pass(nothing, NEVER, first.bytes, first.length).answer == HB_PASS_ABANDONED);
     send(&l, HB_PREPARE, 0, NULL, 0);
     append(&l, (const uint8_t *)direction, 2);
-    expect(&l, HB_GET_UDID, 0, 2);
+    expect(&l, HB_GET_UDID, 0, 2, NEVER);
     append(&l, (const uint8_t *)nack, 10);
-    expect(&l, HB_GET_UDID, 0, 3);
+    expect(&l, HB_GET_UDID, 0, 3, NEVER);
     append(&l, (const uint8_t *)stop, 10);
-    expect(&l, HB_GET_UDID, 0, 4);
+    expect(&l, HB_GET_UDID, 0, 4, NEVER);
     free(first.bytes);
     free(l.bytes);
 }
@@ -169,9 +176,69 @@ static void check_claimed(void)
         append(&l, out, w.symbols);
         w = hb_put_command(HB_ASSIGN, fixed, 0x30, NULL, 0, out, sizeof out);
         append(&l, out, w.symbols);
-        CHECK(hb_pass_lookup(nothing, l.bytes, l.length, 0x30).answer == (high == 1 ? HB_DONE : HB_TWO));
+        CHECK(hb_pass_lookup(nothing, NEVER, l.bytes, l.length, 0x30).answer == (high == 1 ? HB_DONE : HB_TWO));
     }
-    CHECK(hb_pass(nothing, l.bytes, l.length).gets == 3);
+    CHECK(hb_pass(nothing, NEVER, l.bytes, l.length).gets == 3);
+    free(l.bytes);
+}
+
+/* The last picks up to 127, and the address that is picked after each: 21 addresses are reserved, and 7Fh goes round to 00h. */
+static uint32_t after(unsigned last)
+{
+    do
+        last = (last + 1) % 128;
+    while (hb_is_reserved((uint8_t)last));
+    return last;
+}
+
+/* A target without an address, after every last pick: the address picked is the last pick, also where the Assign fails, and the next
+ * reply gets the one after it. Above 127 the pass and the lookup are refused, whatever the list is. */
+static void check_last_picks(void)
+{
+    struct list l = { NULL, 0 }, replied = { NULL, 0 }, failed = { NULL, 0 };
+    uint8_t reply[17];
+    hb_udid_put_bytes(module, reply, sizeof reply, 0);
+    reply[16] = 0xff;
+    send(&replied, HB_PREPARE, 0, NULL, 0);
+    send(&replied, HB_GET_UDID, 0, reply, sizeof reply);
+    send(&failed, HB_PREPARE, 0, NULL, 0);
+    send(&failed, HB_GET_UDID, 0, reply, sizeof reply);
+    append(&failed, reply, 0);
+    send(&failed, HB_GET_UDID, 0, reply, sizeof reply);
+    for (unsigned last = 0; last < 128; last++) {
+        expect_after((uint8_t)last, &l, HB_PREPARE, 0, 0, last);
+        expect_after((uint8_t)last, &replied, HB_ASSIGN, after(last), 1, after(last));
+        expect_after((uint8_t)last, &failed, HB_ASSIGN, after(after(last)), 2, after(after(last)));
+        CHECK(hb_pass_lookup(nothing, (uint8_t)last, replied.bytes, replied.length, 0x20).answer == HB_NOBODY);
+    }
+    CHECK(after(0x76) == 0x77 && after(0x77) == 0x09 && after(126) == 0x09 && after(127) == 0x09 && after(0) == 0x09);
+    for (unsigned last = 128; last < 256; last++) {
+        hb_command c = hb_pass(nothing, (uint8_t)last, replied.bytes, last % 2 == 0 ? replied.length : 0);
+        hb_found f = hb_pass_lookup(nothing, (uint8_t)last, replied.bytes, replied.length, (uint8_t)(last - 100));
+        CHECK(c.kind == HB_NOT_OUTSTANDING && c.answer == HB_FORBIDDEN && c.address == 0 && c.gets == 0 && c.picked == 0);
+        CHECK(c.udid.high == 0 && c.udid.low == 0);
+        CHECK(f.answer == HB_FORBIDDEN && f.udid.high == 0 && f.udid.low == 0);
+    }
+    CHECK(hb_pass(nothing, 128, NULL, 0).answer == HB_FORBIDDEN && hb_pass_lookup(nothing, 255, NULL, 0, 0x09).answer == HB_FORBIDDEN);
+    free(replied.bytes);
+    free(failed.bytes);
+}
+
+/* The address that was picked is bound, and another pass, begun after it, gives the next newcomer another. */
+static void check_vacated(void)
+{
+    struct list l = { NULL, 0 };
+    uint8_t reply[17];
+    hb_udid_put_bytes(module, reply, sizeof reply, 0);
+    reply[16] = 0xff;
+    send(&l, HB_PREPARE, 0, NULL, 0);
+    send(&l, HB_GET_UDID, 0, reply, sizeof reply);
+    send(&l, HB_ASSIGN, 0x0a, NULL, 0);
+    expect_after(0x09, &l, HB_GET_UDID, 0, 2, 0x0a);
+    CHECK(hb_pass_lookup(nothing, 0x09, l.bytes, l.length, 0x0a).answer == HB_DONE);
+    CHECK(hb_udid_is_same(hb_pass_lookup(nothing, 0x09, l.bytes, l.length, 0x0a).udid, module));
+    CHECK(hb_pass_lookup(nothing, 0x0a, l.bytes, l.length, 0x0a).answer == HB_NOBODY);
+    expect_after(0x0a, &l, HB_GET_UDID, 0, 2, 0x0b);
     free(l.bytes);
 }
 
@@ -183,4 +250,6 @@ void check_passes(void)
     check_ends();
     check_wrong_symbols();
     check_claimed();
+    check_last_picks();
+    check_vacated();
 }

@@ -1,8 +1,8 @@
-//! Target lists and binding buffers that are refused, and those just beside them.
+//! Target lists, binding buffers and last picks that are refused, and those just beside them.
 
 use crate::family::Family;
 use crate::good_shelves::case;
-use reference::addresses::Addresses;
+use reference::addresses::{Addresses, NEVER};
 use reference::model::{record_of, BINDINGS, MOST_TARGETS, RECORD};
 use reference::random::Random;
 use reference::shelves;
@@ -15,20 +15,19 @@ fn lengths() -> usize {
     let targets = shelves::targets(&mut random, MOST_TARGETS, &Addresses::new());
     let whole: Vec<u8> = targets.iter().chain(&targets).flat_map(record_of).collect();
     for length in 0..=2200 {
-        let input =
-            Input { list: whole[..length].to_vec(), buffer: random.bytes(BINDINGS), occupied: Addresses::new() };
-        case(&mut family, &input);
+        let (list, buffer) = (whole[..length].to_vec(), random.bytes(BINDINGS));
+        case(&mut family, &Input { list, buffer, occupied: Addresses::new(), last_pick: NEVER });
     }
     family.done()
 }
 
-/// Binding buffers that are too short, just long enough, and longer.
+/// Binding buffers that are too short, just long enough, and longer; with last picks that are refused before them.
 fn rooms() -> usize {
     let mut family = Family::new("model binding buffers");
     let mut random = Random::new(96);
     for count in [0, 1, 2, 30, MOST_TARGETS] {
         for room in [0, 1, 16, 2047, 2048, 2049, 2064, 4096, 5000] {
-            for faults in [vec![], vec![9], vec![10]] {
+            for faults in [vec![], vec![1], vec![9], vec![10], vec![1, 9], vec![1, 10]] {
                 let mut input = Input::good(&mut random, count);
                 for &number in faults.iter().filter(|_| count > 0) {
                     spoil(&mut input, &mut random, number);
@@ -105,6 +104,24 @@ fn places() -> usize {
     family.done()
 }
 
+/// Every last pick above 127, and the highest that is taken, with each other refusal and with none. Above 127 the
+/// answer is 1 whatever else is wrong.
+fn last_picks() -> usize {
+    let mut family = Family::new("model last picks refused");
+    let mut random = Random::new(101);
+    for last_pick in 126..=255 {
+        for others in [&[][..], &[2], &[9], &[10], &[11], &[12], &[2, 9], &[2, 10, 12]] {
+            let mut input = Input { last_pick, ..Input::good(&mut random, 5) };
+            for &number in others {
+                spoil_whole(&mut input, &mut random, number);
+            }
+            let answer = case(&mut family, &input).answer();
+            assert_eq!(answer == 1, last_pick > NEVER, "last pick {last_pick}, {others:?}");
+        }
+    }
+    family.done()
+}
+
 pub fn all() -> usize {
-    lengths() + rooms() + faults() + places()
+    lengths() + rooms() + faults() + places() + last_picks()
 }

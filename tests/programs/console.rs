@@ -1,4 +1,5 @@
-//! The compiled console against the reference: request files, wrong symbols by hand, random and hostile sessions.
+//! The compiled console against the reference: request files, wrong symbols and last picks by hand, random and hostile
+//! sessions.
 //!   console PROGRAM FILES..     each FILE holds requests; what is due stands beside it, in stdout for stdin, else in NAME.expected
 //!   console write FILES..       writes what is due anew, from the reference
 
@@ -36,6 +37,95 @@ const WRONG_SYMBOLS: [(&str, &str); 19] = [
     ("step 256 194 258 1 258 192 258 257", "0 next get"),
     ("step 256 194 258 3 258 256 195 258 17 259", "0 next get"),
     ("step 256 194 258 3 258 256 197", "0 next get"),
+];
+
+/// Answers to the three commands: the reply of the UDID 80.. with no address, and with 20h as its own; the Assign of 09h
+/// to it; and nobody who answers Get UDID.
+const PREPARED: &str = "step 256 194 258 1 258 192 258 257";
+const REPLY_80: &str = "step 256 194 258 3 258 256 195 258 17 258 128 258 0 258 0 258 0 258 0 258 0 258 0 258 0 258 0 \
+258 0 258 0 258 0 258 0 258 0 258 0 258 0 258 255 258 71 259 257";
+const REPLY_80_AT_20: &str = "step 256 194 258 3 258 256 195 258 17 258 128 258 0 258 0 258 0 258 0 258 0 258 0 258 0 \
+258 0 258 0 258 0 258 0 258 0 258 0 258 0 258 0 258 65 258 116 259 257";
+const ASSIGN_09: &str = "step 256 194 258 4 258 17 258 128 258 0 258 0 258 0 258 0 258 0 258 0 258 0 258 0 258 0 \
+258 0 258 0 258 0 258 0 258 0 258 0 258 18 258 181 258 257";
+const SILENCE: &str = "step 256 194 258 3 258 256 195 259 257";
+
+/// Last picks worked out by hand: requests of one session, and the answer due to each.
+const LAST_PICKS: [(&str, &str); 53] = [
+    ("target 80000000000000000000000000000000 0xff 0", "0 target 0"),
+    ("run 0x77", "0 bound 1 get 2 last 0x09\n 0x09 80000000000000000000000000000000\n target 0 0x13 1"),
+    ("run", "0 bound 1 get 2 last 0x7f\n 0x09 80000000000000000000000000000000\n target 0 0x13 1"),
+    ("run 128", "1"),
+    ("run 255", "1"),
+    ("run 256", "? 5 expected a byte, 0 to 255"),
+    ("run now", "? 5 expected a byte, 0 to 255"),
+    ("run 9 9", "? 7 expected the end of the line"),
+    ("run 128 9", "? 9 expected the end of the line"),
+    ("clear", "0 clear"),
+    ("target 80000000000000000000000000000000 0xff 0", "0 target 0"),
+    ("target 00000000000000000000000000000000 0x13 0", "0 target 1"),
+    ("target 40000000000000000000000000000000 0x41 0", "0 target 2"),
+    (
+        "run 10",
+        "0 bound 3 get 4 last 0x0b\n \
+0x09 00000000000000000000000000000000\n \
+0x0b 80000000000000000000000000000000\n \
+0x20 40000000000000000000000000000000\n \
+target 0 0x17 1\n \
+target 1 0x13 1\n \
+target 2 0x41 1",
+    ),
+    ("clear", "0 clear"),
+    ("target 81000000000000000000000000000000 0xff 1", "0 target 0"),
+    ("run 0x0b", "0 bound 1 get 2 last 0x0d\n 0x0d 81000000000000000000000000000000\n target 0 0x1b 1"),
+    ("target 81000000000000000000000000000000 0xff 0", "0 target 1"),
+    ("run 126", "11 record 1"),
+    ("run 128", "1"),
+    ("clear", "0 clear"),
+    ("run", "0 bound 0 get 0 last 0x7f"),
+    ("run 5", "0 bound 0 get 0 last 0x05"),
+    ("start", "0 next prepare"),
+    (PREPARED, "0 next get"),
+    (REPLY_80, "0 next assign 80000000000000000000000000000000 0x09"),
+    (ASSIGN_09, "0 next get"),
+    (REPLY_80, "0 next assign 80000000000000000000000000000000 0x0a"),
+    ("step", "0 next get"),
+    (REPLY_80, "0 next assign 80000000000000000000000000000000 0x0b"),
+    ("start", "0 next prepare"),
+    (PREPARED, "0 next get"),
+    (REPLY_80_AT_20, "0 next assign 80000000000000000000000000000000 0x20"),
+    ("step", "0 next get"),
+    (REPLY_80, "0 next assign 80000000000000000000000000000000 0x0d"),
+    ("step", "0 next get"),
+    (SILENCE, "0 end"),
+    ("run", "0 bound 0 get 0 last 0x7f"),
+    ("start", "0 next prepare"),
+    (PREPARED, "0 next get"),
+    (REPLY_80, "0 next assign 80000000000000000000000000000000 0x0e"),
+    ("clear", "0 clear"),
+    ("start", "0 next prepare"),
+    (PREPARED, "0 next get"),
+    (REPLY_80, "0 next assign 80000000000000000000000000000000 0x09"),
+    ("occupied 0 1 2 3 4 5 6 7 8 9 10 11 12 13 14 15 16 17 18 19 20 21 22 23 24 25 26 27 28 29 30 31", "0 occupied 32"),
+    (
+        "occupied 32 33 34 35 36 37 38 39 40 41 42 43 44 45 46 47 48 49 50 51 52 53 54 55 56 57 58 59 60 61 \
+62 63",
+        "0 occupied 64",
+    ),
+    (
+        "occupied 64 65 66 67 68 69 70 71 72 73 74 75 76 77 78 79 80 81 82 83 84 85 86 87 88 89 90 91 92 93 \
+94 95",
+        "0 occupied 96",
+    ),
+    (
+        "occupied 96 97 98 99 100 101 102 103 104 105 106 107 108 109 110 111 112 113 114 115 116 117 118 \
+119 120 121 122 123 124 125 126 127",
+        "0 occupied 128",
+    ),
+    ("target 80000000000000000000000000000000 0xff 1", "0 target 0"),
+    ("run 0x33", "13 udid 80000000000000000000000000000000 bound 0 get 1 last 0x33\n target 0 0xff 0"),
+    ("run", "13 udid 80000000000000000000000000000000 bound 0 get 1 last 0x7f\n target 0 0xff 0"),
+    ("run 200", "1"),
 ];
 
 fn fail(text: &str) -> ! {
@@ -120,18 +210,46 @@ fn file(program: &str, path: &str) -> usize {
 }
 
 /// The answers worked out by hand: the reference and the program give them.
-fn by_hand(program: &str) -> usize {
-    let input: String = WRONG_SYMBOLS.iter().map(|(line, _)| format!("{line}\n")).collect();
+fn by_hand(program: &str, name: &str, session: &[(&str, &str)]) -> usize {
+    let input: String = session.iter().map(|(line, _)| format!("{line}\n")).collect();
     let due: Vec<(Vec<u8>, String)> =
-        WRONG_SYMBOLS.iter().map(|(line, due)| (line.as_bytes().to_vec(), format!("{due}\n"))).collect();
+        session.iter().map(|(line, due)| (line.as_bytes().to_vec(), format!("{due}\n"))).collect();
     let reference: String = answers_to(input.as_bytes()).into_iter().map(|(_, answer)| answer).collect();
-    compare("wrong symbols, the reference", &due, reference.as_bytes());
-    compare("wrong symbols", &due, &run(program, &[], input.into_bytes()));
+    compare(&format!("{name}, the reference"), &due, reference.as_bytes());
+    compare(name, &due, &run(program, &[], input.into_bytes()));
     due.len()
 }
 
+/// The last pick that a model run was given, if the line is one that gives it, and the number of the answer.
+fn given_last_pick(line: &[u8], answer: &str) -> Option<(u8, u32)> {
+    let text = std::str::from_utf8(line).ok()?;
+    let mut words = text.split('#').next()?.split_whitespace();
+    if words.next() != Some("run") {
+        return None;
+    }
+    let word = words.next()?;
+    let last_pick = match word.strip_prefix("0x") {
+        Some(digits) => u8::from_str_radix(digits, 16).ok()?,
+        None => word.parse().ok()?,
+    };
+    Some((last_pick, answer.split_whitespace().next()?.parse().ok()?))
+}
+
+/// The random model runs have last picks of every kind, those that matter among them, and end in each way.
+fn check_last_picks(given: &[(u8, u32)]) {
+    for wanted in [0, 126, 127, 128, 255] {
+        let times = given.iter().filter(|(last_pick, _)| *last_pick == wanted).count();
+        assert!(times > 20, "too few model runs have the last pick {wanted}");
+    }
+    for wanted in [0, 1, 10, 11, 12, 13] {
+        let times = given.iter().filter(|(_, number)| *number == wanted).count();
+        assert!(times > 20, "too few model runs with a last pick are answered with {wanted}");
+    }
+    assert!(given.iter().all(|(last_pick, number)| (*last_pick > 127) == (*number == 1)), "1 is for those above 127");
+}
+
 /// A session of random lines. Every second one ends without a line feed.
-fn session(program: &str, seed: u64, tally: &mut [usize; 24]) -> usize {
+fn session(program: &str, seed: u64, tally: &mut [usize; 24], last_picks: &mut Vec<(u8, u32)>) -> usize {
     let mut random = Random::new(seed);
     let mut console = Console::new();
     let mut answers = vec![];
@@ -140,6 +258,7 @@ fn session(program: &str, seed: u64, tally: &mut [usize; 24]) -> usize {
         let due = console.answer(&line);
         let first = due.split_whitespace().next().unwrap_or("");
         tally[if first == "?" { 22 } else { first.parse().unwrap_or(23) }] += 1;
+        last_picks.extend(given_last_pick(&line, &due));
         answers.push((line, due));
     }
     let mut input: Vec<u8> = answers.iter().flat_map(|(line, _)| [&line[..], b"\n"].concat()).collect();
@@ -176,6 +295,7 @@ fn arguments(program: &str) {
     for verb in ["pec", "encode", "decode", "occupied", "target", "clear", "run", "start", "step", "lookup", "grid"] {
         assert!(help.lines().any(|line| line.split(' ').next() == Some(verb)), "help has {verb}");
     }
+    assert!(help.lines().any(|line| line.starts_with("run ") && line.contains("LAST")), "help has run LAST");
     for number in ["3", "4", "5", "6", "7", "8", "17", "18", "19"] {
         assert!(help.lines().any(|line| line.split(' ').next() == Some(number)), "help has {number}");
     }
@@ -190,9 +310,11 @@ fn main() {
         return files.iter().for_each(|path| write(path));
     }
     let requests: usize = files.iter().map(|path| file(program, path)).sum();
-    let by_hand = by_hand(program);
+    let by_hand = by_hand(program, "wrong symbols", &WRONG_SYMBOLS) + by_hand(program, "last picks", &LAST_PICKS);
     let mut tally = [0; 24];
-    let random: usize = (0..SESSIONS).map(|seed| session(program, seed, &mut tally)).sum();
+    let mut last_picks = vec![];
+    let random: usize = (0..SESSIONS).map(|seed| session(program, seed, &mut tally, &mut last_picks)).sum();
+    check_last_picks(&last_picks);
     for number in [0, 1, 3, 4, 5, 6, 7, 8, 10, 11, 12, 13, 14, 15, 16, 17, 18, 19, 21, 22] {
         assert!(tally[number] > 20, "too few lines are answered with {number}");
     }
@@ -201,4 +323,5 @@ fn main() {
     println!("{:<28}{requests:>9} requests in files", "console");
     println!("{:<28}{by_hand:>9} requests worked out by hand", "console");
     println!("{:<28}{random:>9} random lines, answers by number {tally:?}", "console");
+    println!("{:<28}{:>9} random model runs with a last pick", "console", last_picks.len());
 }

@@ -25,7 +25,7 @@ pub fn halves(udid: &commands::Udid) -> Udid {
     Udid { high: (whole >> 64) as u64, low: whole as u64 }
 }
 
-/// Every address and every number above, against sets.
+/// Every address and every number above, against sets. Any of them is a last pick too.
 fn pools() -> usize {
     let mut family = Family::new("exported pools");
     let mut random = Random::new(70);
@@ -47,6 +47,23 @@ fn pools() -> usize {
             family.same(input, &a.contains(&number), &pool.has(number));
             family.same(input, &pool_of(&more), &pool.with(number));
             family.same(input, &pool_of(&fewer), &pool.without(number));
+            family.same(input, &next_free(&a, number).unwrap_or(ADDRESSES), &pool.next_free(number));
+        }
+    }
+    family.done()
+}
+
+/// The next free address after every last pick, where few are free: none, each one alone, and two.
+fn next_free_ones() -> usize {
+    let mut family = Family::new("exported next free");
+    let mut random = Random::new(78);
+    for one in 0..=ADDRESSES {
+        for other in [one, random.byte() % ADDRESSES] {
+            let used: Addresses = (0..ADDRESSES).filter(|&address| address != one && address != other).collect();
+            for last in 0..=255 {
+                let input = || format!("all but {one:02x} and {other:02x}, after {last:02x}");
+                family.same(input, &next_free(&used, last).unwrap_or(ADDRESSES), &pool_of(&used).next_free(last));
+            }
         }
     }
     family.done()
@@ -133,10 +150,10 @@ fn checks() -> usize {
         let count = 2 + random.below(119);
         let mut input = Input::good(&mut random, count);
         if round % 4 > 0 {
-            let number = random.pick(&NUMBERS[1..]);
+            let number = random.pick(&NUMBERS[2..]);
             spoil(&mut input, &mut random, number);
         }
-        let (answer, length) = refusal(&input.list, BINDINGS, &input.occupied).unwrap_or((0, 0));
+        let (answer, length) = refusal(&input.list, BINDINGS, &input.occupied, NEVER).unwrap_or((0, 0));
         let given = check_targets(pool_of(&input.occupied), &input.list);
         family.same(|| format!("{:02x?}", input.list), &Part { answer, length }, &given);
     }
@@ -144,7 +161,7 @@ fn checks() -> usize {
 }
 
 fn main() {
-    let parts = pools() + identifiers() + last_phases() + checks();
+    let parts = pools() + next_free_ones() + identifiers() + last_phases() + checks();
     let passes = exported_passes::all();
     println!("{:<28}{:>9} cases", "exported, all", parts + passes);
 }

@@ -35,6 +35,7 @@ pub struct Command {
     pub answer: u32,
     pub address: u32,
     pub gets: u32,
+    pub picked: u32,
     pub udid: Udid,
 }
 
@@ -56,6 +57,7 @@ mod raw {
         pub fn hb_pool_starting(occupied: Pool) -> Pool;
         pub fn hb_pool_used(pool: Pool) -> u32;
         pub fn hb_pool_lowest_free(pool: Pool) -> u8;
+        pub fn hb_pool_next_free(pool: Pool, last: u8) -> u8;
         pub fn hb_udid_from_bytes(s: *const u8, n: usize, at: usize) -> Udid;
         pub fn hb_udid_put_bytes(udid: Udid, out: *mut u8, out_len: usize, at: usize);
         pub fn hb_udid_is_same(one: Udid, other: Udid) -> u8;
@@ -81,8 +83,8 @@ mod raw {
             out: *mut u8,
             out_len: usize,
         ) -> Written;
-        pub fn hb_pass(occupied: Pool, traces: *const u8, traces_len: usize) -> Command;
-        pub fn hb_pass_lookup(occupied: Pool, traces: *const u8, traces_len: usize, address: u8) -> Found;
+        pub fn hb_pass(occupied: Pool, last: u8, traces: *const u8, traces_len: usize) -> Command;
+        pub fn hb_pass_lookup(occupied: Pool, last: u8, traces: *const u8, traces_len: usize, address: u8) -> Found;
         pub fn hb_check_targets(occupied: Pool, records: *const u8, records_len: usize) -> Part;
     }
 }
@@ -114,6 +116,10 @@ impl Pool {
 
     pub fn lowest_free(self) -> u8 {
         unsafe { raw::hb_pool_lowest_free(self) }
+    }
+
+    pub fn next_free(self, last: u8) -> u8 {
+        unsafe { raw::hb_pool_next_free(self, last) }
     }
 }
 
@@ -150,12 +156,12 @@ pub fn put_command(kind: u8, udid: Udid, address: u8, reply: &[u8], out: &mut [u
     unsafe { raw::hb_put_command(kind, udid, address, r, reply.len(), o, out.len()) }
 }
 
-pub fn pass(occupied: Pool, traces: &[u8]) -> Command {
-    unsafe { raw::hb_pass(occupied, traces.as_ptr(), traces.len()) }
+pub fn pass(occupied: Pool, last: u8, traces: &[u8]) -> Command {
+    unsafe { raw::hb_pass(occupied, last, traces.as_ptr(), traces.len()) }
 }
 
-pub fn pass_lookup(occupied: Pool, traces: &[u8], address: u8) -> Found {
-    unsafe { raw::hb_pass_lookup(occupied, traces.as_ptr(), traces.len(), address) }
+pub fn pass_lookup(occupied: Pool, last: u8, traces: &[u8], address: u8) -> Found {
+    unsafe { raw::hb_pass_lookup(occupied, last, traces.as_ptr(), traces.len(), address) }
 }
 
 /// The number and the record.

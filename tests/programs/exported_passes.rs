@@ -3,12 +3,12 @@
 use crate::exported_abi::{pass, pass_lookup, put_command, Command, Found, Pool, Udid, Written};
 use crate::family::Family;
 use crate::{halves, pool_of};
-use reference::addresses::{Addresses, ADDRESSES};
+use reference::addresses::{Addresses, ADDRESSES, NEVER};
 use reference::commands;
-use reference::controller;
+use reference::controller::{self, Controller};
 use reference::families::FAMILIES;
 use reference::random::Random;
-use reference::recorder::{Due, Op};
+use reference::recorder::{apply, Due, Op};
 use reference::shelves;
 use reference::table::{build, Refused, LONGEST_TRACE};
 
@@ -71,8 +71,8 @@ fn assigned_numbers() -> usize {
     family.done()
 }
 
-fn told(command: &commands::Command, gets: u32) -> Command {
-    let plain = |kind, answer| Command { kind, answer, gets, ..Command::default() };
+fn told(command: &commands::Command, gets: u32, picked: u32) -> Command {
+    let plain = |kind, answer| Command { kind, answer, gets, picked, ..Command::default() };
     match command {
         commands::Command::Prepare => plain(0, 0),
         commands::Command::GetUdid => plain(1, 0),
@@ -91,33 +91,59 @@ fn found(found: &controller::Found) -> Found {
     }
 }
 
-/// A pass of a script so far: the list of its traces, and the Get UDIDs.
+/// A pass of a script so far: the last pick before it, the list of its traces, and the Get UDIDs.
 struct Pass {
     occupied: Pool,
+    last_pick: u8,
     started: bool,
     list: Vec<u8>,
     gets: u32,
 }
 
+/// What every pass with a last pick above 127 is refused with.
+const NO_PASS: Command = Command { kind: 6, answer: 1, address: 0, gets: 0, picked: 0, udid: Udid { high: 0, low: 0 } };
+const NO_LOOKUP: Found = Found { answer: 1, udid: Udid { high: 0, low: 0 } };
+
 impl Pass {
-    fn new(occupied: &Addresses) -> Pass {
-        Pass { occupied: pool_of(occupied), started: false, list: vec![], gets: 0 }
+    fn new(occupied: &Addresses, last_pick: u8) -> Pass {
+        Pass { occupied: pool_of(occupied), last_pick, started: false, list: vec![], gets: 0 }
     }
 
-    fn command(&mut self, family: &mut Family, due: &commands::Command, look: bool) {
+    /// The pass starts anew after the last pick of those before.
+    fn start(&mut self, last_pick: u8) {
+        *self = Pass { occupied: self.occupied, last_pick, started: true, list: vec![], gets: 0 };
+    }
+
+    fn trace(&mut self, trace: &[u16]) {
+        self.list.extend(pairs(&[trace.len() as u16]));
+        self.list.extend(pairs(trace));
+    }
+
+    fn text(&self) -> String {
+        format!("occupied {:x?} last pick {} traces {:02x?}", self.occupied, self.last_pick, self.list)
+    }
+
+    /// The command that is due, and the last pick then.
+    fn command(&mut self, family: &mut Family, due: &commands::Command, picked: u8, look: bool) {
         self.gets += u32::from(*due == commands::Command::GetUdid);
         if look {
-            let input = || format!("occupied {:x?} traces {:02x?}", self.occupied, self.list);
-            family.same(input, &told(due, self.gets), &pass(self.occupied, &self.list));
+            let all = told(due, self.gets, u32::from(picked));
+            let due = if self.last_pick > NEVER { NO_PASS } else { all };
+            family.same(|| self.text(), &due, &pass(self.occupied, self.last_pick, &self.list));
         }
+    }
+
+    fn lookup(&self, address: u8) -> Found {
+        pass_lookup(self.occupied, self.last_pick, &self.list, address)
     }
 
     fn lookups(&self, family: &mut Family, due: &[controller::Found], random: &mut Random) {
         let address = random.below(due.len());
-        let input = || format!("occupied {:x?} address {address:02x} traces {:02x?}", self.occupied, self.list);
-        family.same(input, &found(&due[address]), &pass_lookup(self.occupied, &self.list, address as u8));
+        let input = || format!("address {address:02x} {}", self.text());
+        let due = if self.last_pick > NEVER { NO_LOOKUP } else { found(&due[address]) };
+        family.same(input, &due, &self.lookup(address as u8));
         let above = ADDRESSES + random.byte() % ADDRESSES;
-        family.same(input, &1, &pass_lookup(self.occupied, &self.list, above).answer);
+        family.same(input, &NO_LOOKUP, &self.lookup(above));
     }
 }
 
@@ -126,20 +152,23 @@ fn scripts() -> usize {
     let mut family = Family::new("exported passes");
     let mut random = Random::new(75);
     for (_, make) in FAMILIES {
-        let mut now = Pass::new(&Addresses::new());
+        let mut now = Pass::new(&Addresses::new(), NEVER);
+        let mut controller = Controller::new(&Addresses::new(), NEVER);
         for (op, due) in make().entries {
+            let before = controller.last_pick;
+            apply(&mut controller, &op);
+            let picked = controller.last_pick;
             match (op, due) {
-                (Op::New(occupied), _) => now = Pass::new(&occupied),
+                (Op::New(occupied, last_pick), _) => now = Pass::new(&occupied, last_pick),
                 (Op::Start, Due::Command(command)) => {
-                    now = Pass { started: true, list: vec![], gets: 0, ..now };
-                    now.command(&mut family, &command, random.below(8) == 0);
+                    now.start(before);
+                    now.command(&mut family, &command, picked, random.below(8) == 0);
                 }
                 (Op::Step(trace), Due::Command(command)) if now.started => {
-                    now.list.extend(pairs(&[trace.len() as u16]));
-                    now.list.extend(pairs(&trace));
-                    now.command(&mut family, &command, random.below(16) == 0);
+                    now.trace(&trace);
+                    now.command(&mut family, &command, picked, random.below(16) == 0);
                 }
-                (Op::Lookups, Due::Found(all)) if now.started && random.below(8) == 0 => {
+                (Op::Lookups, Due::Found(all, _)) if now.started && random.below(8) == 0 => {
                     now.lookups(&mut family, &all, &mut random);
                 }
                 _ => {}
@@ -149,9 +178,34 @@ fn scripts() -> usize {
     family.done()
 }
 
+/// Every number as the last pick of a pass in which a target without an address replies: before the reply, with the
+/// Assign outstanding, and with that refused. Above 127 all is refused, whatever the list is.
+fn last_picks() -> usize {
+    let mut family = Family::new("passes with last picks");
+    let mut random = Random::new(79);
+    for last_pick in 0..=255 {
+        let occupied = shelves::occupied(&mut random);
+        let mut controller = Controller::new(&occupied, last_pick);
+        let mut now = Pass::new(&occupied, last_pick);
+        let first = controller.start();
+        now.command(&mut family, &first, controller.last_pick, true);
+        let rubbish: Vec<u16> = random.bytes(9).into_iter().map(u16::from).collect();
+        let reply = commands::get_udid(&commands::reply_bytes(&shelves::any_udid(&mut random), 0xff));
+        for trace in [build(&commands::prepare()), build(&reply), Ok(rubbish)] {
+            let trace = trace.expect("the trace of a command");
+            now.trace(&trace);
+            let command = controller.step(&trace);
+            now.command(&mut family, &command, controller.last_pick, true);
+            let all: Vec<controller::Found> = (0..ADDRESSES).map(|address| controller.lookup(address)).collect();
+            now.lookups(&mut family, &all, &mut random);
+        }
+    }
+    family.done()
+}
+
 /// The good traces of a pass that binds one target: to Prepare To ARP, Get UDID and Assign Address, as these are handed out.
 fn good_traces(udid: &commands::Udid) -> Vec<Vec<u16>> {
-    let mut controller = controller::Controller::new(&Addresses::new());
+    let mut controller = Controller::new(&Addresses::new(), NEVER);
     let mut command = controller.start();
     let mut traces = vec![];
     for _ in 0..3 {
@@ -176,17 +230,16 @@ fn long_traces() -> usize {
         for (kept, symbol) in [(last.len(), 0), (last.len(), 65_535), (last.len() - 1, 257), (0, 256), (0, 258)] {
             for length in [524, 525, 526, 527, 528, 1_000, 65_535] {
                 let long = [&last[..kept], &vec![symbol; length - kept]].concat();
-                let mut controller = controller::Controller::new(&Addresses::new());
-                let mut now = Pass::new(&Addresses::new());
-                now.command(&mut family, &controller.start(), false);
+                let mut controller = Controller::new(&Addresses::new(), NEVER);
+                let mut now = Pass::new(&Addresses::new(), NEVER);
+                now.command(&mut family, &controller.start(), NEVER, false);
                 for trace in good[..place].iter().chain([&long]) {
-                    now.list.extend(pairs(&[trace.len() as u16]));
-                    now.list.extend(pairs(trace));
-                    now.command(&mut family, &controller.step(trace), true);
+                    now.trace(trace);
+                    let command = controller.step(trace);
+                    now.command(&mut family, &command, controller.last_pick, true);
                 }
                 let input = || format!("place {place} kept {kept} symbol {symbol} length {length}");
-                let due = found(&controller.lookup(0x09));
-                family.same(input, &due, &pass_lookup(now.occupied, &now.list, 0x09));
+                family.same(input, &found(&controller.lookup(0x09)), &now.lookup(0x09));
             }
         }
     }
@@ -194,5 +247,5 @@ fn long_traces() -> usize {
 }
 
 pub fn all() -> usize {
-    command_traces() + assigned_numbers() + scripts() + long_traces()
+    command_traces() + assigned_numbers() + scripts() + last_picks() + long_traces()
 }

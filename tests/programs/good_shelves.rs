@@ -1,4 +1,5 @@
-//! Shelves that run: every kind of target, every number of them, many occupied sets, and addresses that run out.
+//! Shelves that run: every kind of target, every number of them, many occupied sets, every last pick, and addresses
+//! that run out.
 
 use crate::family::Family;
 use crate::model_abi::{by_library, by_reference, text, Ran};
@@ -6,14 +7,19 @@ use reference::addresses::*;
 use reference::bus::Target;
 use reference::commands::{is_fixed, Udid, NO_ADDRESS};
 use reference::model::{record_of, BINDINGS, MOST_TARGETS};
+use reference::plain_rule::plain_rule;
 use reference::random::Random;
 use reference::shelves::{self, KINDS};
 use reference::spoiled::Input;
+use std::collections::BTreeMap;
 
 const ASSIGNABLE: usize = ADDRESSES as usize - RESERVED.len();
 
+/// An input with any last pick.
 fn input(random: &mut Random, targets: &[Target], occupied: &Addresses, room: usize) -> Input {
-    Input { list: targets.iter().flat_map(record_of).collect(), buffer: random.bytes(room), occupied: occupied.clone() }
+    let last_pick = shelves::last_pick(random);
+    let list = targets.iter().flat_map(record_of).collect();
+    Input { list, buffer: random.bytes(room), occupied: occupied.clone(), last_pick }
 }
 
 /// One run, compared; what it answered.
@@ -27,24 +33,68 @@ fn target(first: u8, address_byte: u8) -> Target {
     Target { udid: [first; 16], address_byte, resolved: false }
 }
 
-/// M8, M9, M10, no target, and the UDID zero, fixed and bound.
+/// M8, M9, M10, no target, and the UDID zero, fixed and bound: never picked before.
 fn marked() -> usize {
     let mut family = Family::new("model marked");
     let mut random = Random::new(90);
     let none = Addresses::new();
     let all: Addresses = (0..ADDRESSES).collect();
-    let cases: [(&[Target], &Addresses, u32, u32); 5] = [
-        (&[target(0x80, 0xff), target(0x00, 0x13), target(0x40, 0x41)], &none, 0, 3),
-        (&[target(0x40, 0xff), target(0x80, 0x13)], &none, 0, 2),
-        (&[target(0x80, 0xff)], &all, 13, 0),
-        (&[], &none, 0, 0),
-        (&[target(0x00, 0x13)], &none, 0, 1),
+    let cases: [(&[Target], &Addresses, u32, u32, u32); 5] = [
+        (&[target(0x80, 0xff), target(0x00, 0x13), target(0x40, 0x41)], &none, 0, 3, 0x0a),
+        (&[target(0x40, 0xff), target(0x80, 0x13)], &none, 0, 2, 0x0a),
+        (&[target(0x80, 0xff)], &all, 13, 0, 127),
+        (&[], &none, 0, 0, 127),
+        (&[target(0x00, 0x13)], &none, 0, 1, 127),
     ];
-    for (targets, occupied, answer, bound) in cases {
-        let input = input(&mut random, targets, occupied, BINDINGS);
+    for (targets, occupied, answer, bound, picked) in cases {
+        let input = Input { last_pick: NEVER, ..input(&mut random, targets, occupied, BINDINGS) };
         let ran = case(&mut family, &input);
-        assert_eq!((ran.answer(), ran.bound()), (answer, bound), "{}", text(&input));
+        assert_eq!((ran.answer(), ran.bound(), ran.picked()), (answer, bound, picked), "{}", text(&input));
     }
+    family.done()
+}
+
+/// Every number as the last pick, with targets that pick and with those that do not, and few addresses free or many.
+/// Above 127 all are refused.
+fn last_picks() -> usize {
+    let mut family = Family::new("model last picks");
+    let mut random = Random::new(99);
+    let mut endings = BTreeMap::new();
+    for last_pick in 0..=255 {
+        for count in [0, 1, 2, 3, 20] {
+            for left in [0, 1, 3, ASSIGNABLE] {
+                let occupied = shelves::leaving(&mut random, left);
+                let targets = of_kind(&mut random, KINDS[1], count, &occupied);
+                let input = Input { last_pick, ..input(&mut random, &targets, &occupied, BINDINGS) };
+                let ran = case(&mut family, &input);
+                let moved = ran.picked() != u32::from(last_pick);
+                *endings.entry((ran.answer(), moved)).or_insert(0) += 1;
+            }
+        }
+    }
+    let reached: Vec<(u32, bool)> = endings.into_iter().filter(|&(_, times)| times >= 20).map(|(end, _)| end).collect();
+    assert_eq!(reached, [(0, false), (0, true), (1, true), (13, false), (13, true)], "last picks, endings reached");
+    family.done()
+}
+
+/// Runs one after the other, each with the last pick of the one before. Targets come without an address, keep what they
+/// were given, and are pulled.
+fn in_turn() -> usize {
+    let mut family = Family::new("model runs in turn");
+    let mut random = Random::new(100);
+    let (mut last_pick, mut rounds, mut staying) = (NEVER, 0, vec![]);
+    for _ in 0..600 {
+        let udid = fresh(&mut random, KINDS[2], &staying);
+        staying.push(Target { udid, address_byte: NO_ADDRESS, resolved: false });
+        let input = Input { last_pick, ..input(&mut random, &staying, &Addresses::new(), BINDINGS) };
+        let picked = case(&mut family, &input).picked() as u8;
+        let given = plain_rule(&staying, &Addresses::new(), last_pick).bound;
+        staying.iter_mut().for_each(|target| target.address_byte = 2 * given[&target.udid] + 1);
+        staying.retain(|_| random.below(12) > 0);
+        rounds += usize::from(picked < last_pick);
+        last_pick = picked;
+    }
+    assert!(rounds > 3, "the picks went round {rounds} times");
     family.done()
 }
 
@@ -142,7 +192,8 @@ fn address_bytes() -> usize {
                 let mut record = shelves::with_kind(udid, kind).to_vec();
                 record.extend([byte, flag]);
                 let occupied = shelves::occupied(&mut random);
-                case(&mut family, &Input { list: record, buffer: random.bytes(BINDINGS), occupied });
+                let last_pick = shelves::last_pick(&mut random);
+                case(&mut family, &Input { list: record, buffer: random.bytes(BINDINGS), occupied, last_pick });
             }
         }
     }
@@ -150,5 +201,5 @@ fn address_bytes() -> usize {
 }
 
 pub fn all() -> usize {
-    marked() + kinds() + sizes() + exhausted() + address_bytes()
+    marked() + last_picks() + in_turn() + kinds() + sizes() + exhausted() + address_bytes()
 }

@@ -10,6 +10,7 @@ mod raw {
     extern "C" {
         pub fn hb_run_model(
             occupied: Pool,
+            last: u8,
             records: *mut u8,
             records_len: usize,
             bindings: *mut u8,
@@ -32,6 +33,7 @@ pub struct Ran {
     answer: u32,
     count: u32,
     gets: u32,
+    picked: u32,
     place: usize,
     udid_high: u64,
     udid_low: u64,
@@ -49,6 +51,7 @@ fn ran(outcome: &Outcome) -> Ran {
         answer: outcome.answer,
         count: outcome.how_many as u32,
         gets: outcome.get_udids as u32,
+        picked: u32::from(outcome.last_pick),
         place: outcome.record,
         udid_high: (udid >> 64) as u64,
         udid_low: udid as u64,
@@ -84,7 +87,7 @@ impl std::fmt::Debug for Left {
 
 pub fn by_reference(input: &Input) -> Left {
     let (mut records, mut bindings) = (input.list.clone(), input.buffer.clone());
-    let outcome = run_model(&mut records, &mut bindings, &input.occupied);
+    let outcome = run_model(&mut records, &mut bindings, &input.occupied, input.last_pick);
     Left { ran: ran(&outcome), records: framed(&records), bindings: framed(&bindings) }
 }
 
@@ -100,12 +103,14 @@ fn lent(bytes: &mut [u8]) -> (*mut u8, usize) {
 pub fn by_library(input: &Input) -> Left {
     let (mut records, mut bindings) = (framed(&input.list), framed(&input.buffer));
     let (list, buffer) = (lent(&mut records), lent(&mut bindings));
-    let ran = unsafe { raw::hb_run_model(pool(&input.occupied), list.0, list.1, buffer.0, buffer.1) };
+    let occupied = pool(&input.occupied);
+    let ran = unsafe { raw::hb_run_model(occupied, input.last_pick, list.0, list.1, buffer.0, buffer.1) };
     Left { ran, records, bindings }
 }
 
 pub fn text(input: &Input) -> String {
-    format!("records {}\nroom {}\noccupied {:02x?}", hex(&input.list), input.buffer.len(), input.occupied)
+    let (list, room) = (hex(&input.list), input.buffer.len());
+    format!("records {list}\nroom {room}\noccupied {:02x?}\nlast pick {}", input.occupied, input.last_pick)
 }
 
 impl Ran {
@@ -115,5 +120,9 @@ impl Ran {
 
     pub fn bound(&self) -> u32 {
         self.count
+    }
+
+    pub fn picked(&self) -> u32 {
+        self.picked
     }
 }

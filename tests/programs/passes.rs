@@ -34,17 +34,19 @@ fn run(program: &str, input: Vec<u8>) -> (Vec<u8>, Option<String>) {
 
 fn op_text(op: &Op) -> String {
     match op {
-        Op::New(occupied) => format!("new, occupied {}", hex(&occupied.iter().copied().collect::<Vec<_>>())),
+        Op::New(occupied, last_pick) => {
+            format!("new, occupied {}, last pick {last_pick:02x}", hex(&occupied.iter().copied().collect::<Vec<_>>()))
+        }
         Op::Start => "start".to_string(),
         Op::Step(trace) => format!("step {}", trace_text(trace)),
-        Op::Lookups => "lookups".to_string(),
+        Op::Lookups => "lookups and the last pick".to_string(),
     }
 }
 
 /// The last operations up to the one at fault: the controller, and the pass from its start.
 fn history(entries: &[(Op, Due)], at: usize) -> String {
     let last = |wanted: fn(&Op) -> bool| entries[..=at].iter().rposition(|(op, _)| wanted(op)).unwrap_or(0);
-    let new = last(|op| matches!(op, Op::New(_)));
+    let new = last(|op| matches!(op, Op::New(..)));
     let start = last(|op| matches!(op, Op::Start)).max(new + 1).min(at);
     let shown = [new].into_iter().chain(start..=at);
     let line = |k: usize| match &entries[k] {
@@ -54,7 +56,8 @@ fn history(entries: &[(Op, Due)], at: usize) -> String {
     shown.map(line).collect()
 }
 
-/// The place of the first difference, told by the part of an answer that it is in.
+/// The place of the first difference, told by the part of an answer that it is in. Of lookups part 128 is the last
+/// pick.
 fn difference(due: &[u8], given: &[u8]) -> String {
     let part = if due.len() > 18 { 17 } else { 18 };
     let place = (0..due.len()).find(|&k| due.get(k) != given.get(k)).unwrap_or(0) / part;

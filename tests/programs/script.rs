@@ -1,8 +1,9 @@
 //! A script as bytes, and its answers: what the program `passes` reads and writes.
-//!   0, occupied addresses 0 to 63, then 64 to 127      a new controller; no answer
+//!   0, occupied addresses 0 to 63, then 64 to 127,
+//!      the last pick, one byte                         a new controller; no answer
 //!   1                                                  starts a pass; a command
 //!   2, count of 16 bits, so many symbols of 16 bits    a step; a command
-//!   3                                                  all lookups; 128 finds
+//!   3                                                  all lookups; 128 finds, and the last pick, one byte
 //! A command is a tag, a UDID, an address; a find is a tag and a UDID. Numbers are low byte first, UDIDs highest first.
 
 use reference::addresses::Addresses;
@@ -19,7 +20,7 @@ fn occupied_bits(occupied: &Addresses) -> [u8; 16] {
 
 pub fn input(op: &Op) -> Vec<u8> {
     match op {
-        Op::New(occupied) => [&[0], &occupied_bits(occupied)[..]].concat(),
+        Op::New(occupied, last_pick) => [&[0], &occupied_bits(occupied)[..], &[*last_pick]].concat(),
         Op::Start => vec![1],
         Op::Step(trace) => {
             let count = u16::try_from(trace.len()).expect("a trace of a script is short");
@@ -54,6 +55,6 @@ pub fn output(due: &Due) -> Vec<u8> {
     match due {
         Due::Nothing => vec![],
         Due::Command(command) => command_bytes(command),
-        Due::Found(all) => all.iter().flat_map(found_bytes).collect(),
+        Due::Found(all, last_pick) => [all.iter().flat_map(found_bytes).collect(), vec![*last_pick]].concat(),
     }
 }

@@ -23,3 +23,13 @@ pub fn starting_pool(occupied: &Addresses) -> Addresses {
 pub fn lowest_free(used: &Addresses) -> Option<u8> {
     (0..ADDRESSES).find(|address| !used.contains(address))
 }
+
+/// The last pick of a controller that has never picked.
+pub const NEVER: u8 = 127;
+
+/// The first address outside a set on the way round: after the last pick up to 7Fh, then from 00h on, the last pick at
+/// the end. A number above 127 counts as never picked.
+pub fn next_free(used: &Addresses, last: u8) -> Option<u8> {
+    let last = last.min(NEVER);
+    (last + 1..ADDRESSES).chain(0..=last).find(|address| !used.contains(address))
+}

@@ -1,7 +1,10 @@
-//! The reference controller, bus and model run: the marked cases, the plain rule, bad lists, and what holds in every pass.
+//! The reference controller, bus and model run: picks, the marked cases, the plain rule, bad lists, and what holds in
+//! every pass.
 
 mod bad_lists;
 mod invariants;
+mod picks;
+mod rotation;
 mod shelf_runs;
 mod worked_passes;
 
@@ -11,9 +14,16 @@ fn report(name: &str, cases: usize) {
 }
 
 fn main() {
+    report("picks worked by hand", picks::worked());
+    report("two ways to pick", picks::two_ways());
+    report("picks that go round", picks::rotation());
+    report("picks that do not", picks::lowest_is_noticed());
     report("passes worked by hand", worked_passes::all());
     report("marked cases of ARP", shelf_runs::marked_cases());
+    report("last picks worked by hand", shelf_runs::last_picks_by_hand());
     report("model against plain rule", shelf_runs::random_shelves());
+    report("with every last pick", shelf_runs::every_last_pick());
+    report("runs in turn", shelf_runs::runs_in_turn());
     report("bad target lists", bad_lists::single_faults());
     report("worse target lists", bad_lists::double_faults());
     report("passes, step by step", invariants::all());

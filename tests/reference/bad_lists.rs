@@ -7,7 +7,7 @@ use reference::spoiled::*;
 /// The run refuses so, and changes nothing.
 fn check(input: &Input, answer: u32, record: usize) {
     let mut after = input.clone();
-    let outcome = run_model(&mut after.list, &mut after.buffer, &input.occupied);
+    let outcome = run_model(&mut after.list, &mut after.buffer, &input.occupied, input.last_pick);
     assert_eq!(outcome, Outcome { answer, record, ..Outcome::default() }, "{:02x?}", input.list);
     assert!(after.list == input.list && after.buffer == input.buffer, "{:02x?}", input.list);
 }

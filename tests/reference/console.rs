@@ -94,6 +94,16 @@ impl<'a> Line<'a> {
         self.take(BYTE, |word| number_of(word)?.try_into().ok())
     }
 
+    /// The last pick of a model run, alone on the rest of the line. Where it is missing nothing was ever picked.
+    fn last_pick(&mut self) -> Outcome<u8> {
+        if self.words.is_empty() {
+            return Ok(NEVER);
+        }
+        let last_pick = self.byte()?;
+        self.finish(END)?;
+        Ok(last_pick)
+    }
+
     fn protocol(&mut self) -> Outcome<u8> {
         let named = |word: &[u8]| NAMES.iter().position(|name| name.as_bytes() == word).map(|k| k as u8);
         let numbered = |word: &[u8]| number_of(word)?.try_into().ok();
@@ -203,7 +213,7 @@ impl Default for Console {
 impl Console {
     pub fn new() -> Console {
         let none = Addresses::new();
-        Console { controller: Controller::new(&none), occupied: none, records: vec![] }
+        Console { controller: Controller::new(&none, NEVER), occupied: none, records: vec![] }
     }
 
     /// The command outstanding, or how the pass ended.
@@ -227,7 +237,7 @@ impl Console {
             b"occupied" => self.occupy(line),
             b"target" => self.target(line),
             b"clear" => line.finish(END).map(|()| self.clear()),
-            b"run" => line.finish(END).map(|()| self.run()),
+            b"run" => line.last_pick().map(|last_pick| self.run(last_pick)),
             b"start" => line.finish(END).map(|()| self.start()),
             b"step" => line.all_symbols().map(|symbols| command_text(&self.controller.step(&symbols))),
             b"lookup" => self.lookup(line),
@@ -265,16 +275,16 @@ impl Console {
         "0 clear\n".to_string()
     }
 
-    fn run(&mut self) -> String {
+    fn run(&mut self, last_pick: u8) -> String {
         let mut bindings = [0; BINDINGS];
-        let outcome = run_model(&mut self.records, &mut bindings, &self.occupied);
+        let outcome = run_model(&mut self.records, &mut bindings, &self.occupied, last_pick);
         let mut text = match outcome.answer {
-            0 => format!("0 bound {} get {}\n", outcome.how_many, outcome.get_udids),
-            13 => {
-                format!("13 udid {} bound {} get {}\n", udid_text(&outcome.udid), outcome.how_many, outcome.get_udids)
-            }
+            0 => "0".to_string(),
+            1 => return "1\n".to_string(),
+            13 => format!("13 udid {}", udid_text(&outcome.udid)),
             number => return format!("{number} record {}\n", outcome.record),
         };
+        text += &format!(" bound {} get {} last 0x{:02x}\n", outcome.how_many, outcome.get_udids, outcome.last_pick);
         for address in outcome.bound {
             let place = 16 * usize::from(address);
             let udid: Udid = bindings[place..place + 16].try_into().expect("16 bytes");
@@ -286,8 +296,9 @@ impl Console {
         text
     }
 
+    /// A pass with the occupied set of now; of the controller before, its last pick stays.
     fn start(&mut self) -> String {
-        self.controller = Controller::new(&self.occupied);
+        self.controller = Controller::new(&self.occupied, self.controller.last_pick);
         command_text(&self.controller.start())
     }
 

@@ -29,6 +29,9 @@ pub struct Controller {
     pub pool: Addresses,
     pub bindings: BTreeMap<u8, Binding>,
     pub get_udids: usize,
+    /// The address picked last, in this pass or an earlier one. Until the first pick it is the number given at the
+    /// making; one above 127 acts as never picked.
+    pub last_pick: u8,
     /// What was answered last; a step is due if it was sent on the bus.
     pub last: Command,
 }
@@ -51,12 +54,14 @@ fn reply_in(trace: &[u16]) -> Reply {
 }
 
 impl Controller {
-    pub fn new(occupied: &Addresses) -> Controller {
+    pub fn new(occupied: &Addresses, last_pick: u8) -> Controller {
         let starting = starting_pool(occupied);
         let pool = starting.clone();
-        Controller { starting, pool, bindings: BTreeMap::new(), get_udids: 0, last: Command::NotOutstanding }
+        let bindings = BTreeMap::new();
+        Controller { starting, pool, bindings, get_udids: 0, last_pick, last: Command::NotOutstanding }
     }
 
+    /// Forgets everything of the passes before but the last pick.
     pub fn start(&mut self) -> Command {
         self.pool = self.starting.clone();
         self.bindings.clear();
@@ -126,15 +131,22 @@ impl Controller {
         }
     }
 
-    fn choose(&self, udid: &Udid, address_byte: u8) -> Option<u8> {
+    fn choose(&mut self, udid: &Udid, address_byte: u8) -> Option<u8> {
         let own = address_byte / 2;
         if address_byte == NO_ADDRESS {
-            lowest_free(&self.pool)
+            self.pick()
         } else if is_fixed(udid) || !self.pool.contains(&own) {
             Some(own)
         } else {
-            lowest_free(&self.pool)
+            self.pick()
         }
+    }
+
+    /// The next free address, which is the last pick from now on. Where none is free nothing moves.
+    fn pick(&mut self) -> Option<u8> {
+        let picked = next_free(&self.pool, self.last_pick)?;
+        self.last_pick = picked;
+        Some(picked)
     }
 
     fn assigned(&mut self, udid: &Udid, address: u8, trace: &[u16]) -> Command {

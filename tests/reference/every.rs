@@ -1,4 +1,5 @@
-//! Scripts that go through every byte, count, address, command, PEC and place of the answers to a controller.
+//! Scripts that go through every byte, count, address, command, PEC and place of the answers to a controller, and
+//! through every last pick.
 
 use crate::addresses::*;
 use crate::commands::*;
@@ -11,13 +12,15 @@ use crate::table::*;
 
 const MOVABLE: Udid = [0x80, 1, 2, 3, 4, 5, 6, 7, 8, 9, 10, 11, 12, 13, 14, 15];
 
-/// A pass with two bound, one address claimed by two, and Get UDID outstanding.
+/// A pass with three bound, one of them at 30h, one address claimed by two, and Get UDID outstanding. One address is
+/// picked, another one in each pass; the others are taken by then.
 fn scene(recorder: &mut Recorder) {
     begin(recorder);
-    join(recorder, &[0x40; 16], NO_ADDRESS);
     join(recorder, &[0x01; 16], 0x41);
     join(recorder, &[0x02; 16], 0x53);
     join(recorder, &[0x03; 16], 0x53);
+    join(recorder, &MOVABLE, 0x61);
+    join(recorder, &[0x40; 16], NO_ADDRESS);
 }
 
 #[derive(Clone, Copy, PartialEq, Eq)]
@@ -47,7 +50,7 @@ fn bring(recorder: &mut Recorder, to: To) {
     }
 }
 
-/// The right transaction for the command: after the scene 30h is free.
+/// The right transaction for the command: after the scene 30h is held by the one that replies, or free.
 fn right(to: To) -> Transaction {
     match to {
         To::Prepare => prepare(),
@@ -69,7 +72,7 @@ fn answered(to: To, traces: Vec<Vec<u16>>, recorder: &mut Recorder) {
 }
 
 fn for_each_command(traces: fn(To, &Transaction) -> Vec<Vec<u16>>) -> Recorder {
-    let mut recorder = Recorder::new(&Addresses::from([0x10, 0x11]));
+    let mut recorder = Recorder::new(&Addresses::from([0x10, 0x11]), NEVER);
     for to in COMMANDS {
         answered(to, traces(to, &right(to)), &mut recorder);
     }
@@ -78,9 +81,9 @@ fn for_each_command(traces: fn(To, &Transaction) -> Vec<Vec<u16>>) -> Recorder {
 
 /// Every address byte of a reply, from every kind of target, alone and beside others.
 pub fn address_bytes() -> Recorder {
-    let mut recorder = Recorder::new(&Addresses::new());
-    for occupied in [Addresses::new(), (0..0x22).collect()] {
-        recorder.renew(&occupied);
+    let mut recorder = Recorder::new(&Addresses::new(), NEVER);
+    for (occupied, last_pick) in [(Addresses::new(), NEVER), ((0..0x22).collect(), 0x76), (Addresses::new(), 0xff)] {
+        recorder.renew(&occupied, last_pick);
         for kind in KINDS {
             for address_byte in 0..=255 {
                 begin(&mut recorder);
@@ -178,4 +181,36 @@ pub fn damages() -> Recorder {
             |place| [replaced(&trace, place), moved(&trace, place), cut(&trace, place), nacked(&trace, place)].concat();
         (0..trace.len()).flat_map(at).chain(appended(&trace)).collect()
     })
+}
+
+/// Two passes of a new controller. In the first, two targets without an address; in the second, a third one, which
+/// takes what it is given only at the second time.
+fn picked_from(recorder: &mut Recorder, free: &[u8], last_pick: u8) {
+    let occupied = (0..ADDRESSES).filter(|address| !free.contains(address)).collect();
+    recorder.renew(&occupied, last_pick);
+    recorder.lookups();
+    begin(recorder);
+    join(recorder, &MOVABLE, NO_ADDRESS);
+    recorder.lookups();
+    join(recorder, &[0x01; 16], NO_ADDRESS);
+    finish(recorder);
+    begin(recorder);
+    reply(recorder, &[0xc0; 16], NO_ADDRESS);
+    refuse(recorder);
+    recorder.lookups();
+    join(recorder, &[0xc0; 16], NO_ADDRESS);
+    finish(recorder);
+}
+
+/// Every number as the last pick of a new controller, with all assignable addresses free, with three, with one and with
+/// none.
+pub fn last_picks() -> Recorder {
+    let assignable: Vec<u8> = (0..ADDRESSES).filter(|address| !RESERVED.contains(address)).collect();
+    let mut recorder = Recorder::new(&Addresses::new(), NEVER);
+    for last_pick in 0..=255 {
+        for free in [&assignable[..], &[0x09, 0x40, 0x77], &[0x40], &[]] {
+            picked_from(&mut recorder, free, last_pick);
+        }
+    }
+    recorder
 }

@@ -3,7 +3,7 @@
 use crate::recorder::Recorder;
 use crate::{every, hostile, shelf_passes};
 
-pub const FAMILIES: [(&str, fn() -> Recorder); 16] = [
+pub const FAMILIES: [(&str, fn() -> Recorder); 17] = [
     ("every address byte", every::address_bytes),
     ("every nack", every::nacks),
     ("every count", every::counts),
@@ -11,6 +11,7 @@ pub const FAMILIES: [(&str, fn() -> Recorder); 16] = [
     ("every pec", every::pecs),
     ("every assign byte", every::assigns),
     ("every damage", every::damages),
+    ("every last pick", every::last_picks),
     ("repeated udids", hostile::repeats),
     ("fixed at one address", hostile::claimed),
     ("few free addresses", hostile::none_free),

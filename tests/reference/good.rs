@@ -26,6 +26,14 @@ pub fn accept(recorder: &mut Recorder) -> Command {
     }
 }
 
+/// Nobody acknowledges the last byte of the Assign Address that is outstanding, if one is.
+pub fn refuse(recorder: &mut Recorder) -> Command {
+    match recorder.outstanding() {
+        Command::Assign(udid, address) => recorder.step(nacked_at(&trace_of(&assign(&udid, address)), 20)),
+        other => other,
+    }
+}
+
 /// A target replies and takes what it is given.
 pub fn join(recorder: &mut Recorder, udid: &Udid, address_byte: u8) -> Command {
     reply(recorder, udid, address_byte);

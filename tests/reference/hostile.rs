@@ -109,10 +109,10 @@ fn pass(recorder: &mut Recorder, random: &mut Random, temper: Temper, faces: &Fa
 /// So many controllers, each with a few passes among faces of its own.
 fn controllers(seed: u64, count: usize, temper: Temper, setting: fn(&mut Random) -> (Addresses, Faces)) -> Recorder {
     let mut random = Random::new(seed);
-    let mut recorder = Recorder::new(&Addresses::new());
+    let mut recorder = Recorder::new(&Addresses::new(), NEVER);
     for _ in 0..count {
         let (occupied, faces) = setting(&mut random);
-        recorder.renew(&occupied);
+        recorder.renew(&occupied, any_last_pick(&mut random));
         idle(&mut recorder, &mut random);
         for _ in 0..1 + random.below(4) {
             pass(&mut recorder, &mut random, temper, &faces);

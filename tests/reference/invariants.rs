@@ -1,5 +1,6 @@
 //! What holds after every operation of every script, and what the scripts have to reach.
 
+use crate::rotation::Rotation;
 use reference::addresses::*;
 use reference::commands::*;
 use reference::controller::*;
@@ -37,7 +38,68 @@ fn follows(before: &Controller, op: &Op, after: &Controller, due: &Due) -> bool 
         (Op::Step(_), Due::Command(Command::Prepare)) => false,
         (Op::Step(_), _) => before.last.is_sent(),
         (Op::Lookups, _) => before == after,
-        (Op::New(_), _) => true,
+        (Op::New(..), _) => true,
+    }
+}
+
+/// How a step came to the address of the Assign that it hands out, if it does. A picked address is never the one that
+/// the reply has: that is in use, or FFh, for 7Fh, which is reserved.
+fn choice(before: &Controller, op: &Op, after: &Controller) -> Option<&'static str> {
+    let (Op::Step(trace), Command::GetUdid, Command::Assign(udid, address)) = (op, before.last, after.last) else {
+        return None;
+    };
+    let Answer::Done(reply) = decode(BLOCK_READ, true, trace, 255, 255) else {
+        return None;
+    };
+    Some(match before.last_pick {
+        _ if reply.received[16] / 2 == address && is_fixed(&udid) => "fixed",
+        _ if reply.received[16] / 2 == address => "kept",
+        128.. => "picked, no last pick",
+        last if address == last => "the last pick again",
+        last if address < last => "picked, round from 7Fh",
+        _ => "picked further on",
+    })
+}
+
+const CHOICES: [&str; 6] =
+    ["fixed", "kept", "picked, no last pick", "the last pick again", "picked, round from 7Fh", "picked further on"];
+
+/// The last pick that a controller is made with.
+fn made_with(op: &Op) -> Option<&'static str> {
+    match op {
+        Op::New(_, 0) => Some("made with 0"),
+        Op::New(_, 126) => Some("made with 126"),
+        Op::New(_, NEVER) => Some("made with 127"),
+        Op::New(_, 128..) => Some("made with more"),
+        Op::New(..) => Some("made with another"),
+        _ => None,
+    }
+}
+
+const MADE: [&str; 5] = ["made with 0", "made with 126", "made with 127", "made with more", "made with another"];
+
+/// Only a pick moves the last pick, and to the address picked; of the last pick again no other address was free.
+fn moves(before: &Controller, op: &Op, after: &Controller) -> bool {
+    match (op, choice(before, op, after), after.last) {
+        (Op::New(_, last_pick), ..) => after.last_pick == *last_pick,
+        (_, None | Some("fixed" | "kept"), _) => after.last_pick == before.last_pick,
+        (_, Some("the last pick again"), Command::Assign(_, address)) => {
+            after.last_pick == address && after.pool.len() == usize::from(ADDRESSES) - 1
+        }
+        (_, Some(_), Command::Assign(_, address)) => after.last_pick == address && !after.pool.contains(&address),
+        _ => false,
+    }
+}
+
+/// The picks of a controller go round, over all its passes.
+fn goes_round(rotation: &mut Rotation, before: &Controller, op: &Op, after: &Controller) -> bool {
+    if matches!(op, Op::New(..)) {
+        *rotation = Rotation::default();
+    }
+    match (choice(before, op, after), after.last) {
+        (None | Some("fixed" | "kept"), _) => true,
+        (_, Command::Assign(_, address)) => rotation.is_kept_by(&after.pool, address),
+        _ => false,
     }
 }
 
@@ -48,7 +110,7 @@ fn event(before: &Controller, op: &Op, after: &Controller) -> &'static str {
     };
     let grown = |claimed| count(after, claimed) > count(before, claimed);
     match (op, before.last, after.last) {
-        (Op::New(_), ..) => "new",
+        (Op::New(..), ..) => "new",
         (Op::Start, ..) if before.last.is_sent() => "start in a pass",
         (Op::Start, ..) => "start",
         (Op::Lookups, ..) => "lookups",
@@ -118,19 +180,40 @@ fn refused(before: &Controller, after: &Controller) -> bool {
     after.last == next && after.bindings == before.bindings && after.pool == before.pool
 }
 
+/// Each of these was reached 20 times, and nothing else.
+fn check_reached(wanted: &[&str], reached: &BTreeMap<&str, usize>) {
+    for name in wanted {
+        let times = reached.get(name).copied().unwrap_or(0);
+        assert!(times >= 20, "{name}: {times} times");
+    }
+    assert_eq!(reached.len(), wanted.len(), "{reached:?}");
+}
+
 /// Every script once more, step by step; the number of operations.
 pub fn all() -> usize {
     let mut reached: BTreeMap<&str, usize> = BTreeMap::new();
+    let mut choices: BTreeMap<&str, usize> = BTreeMap::new();
+    let mut made: BTreeMap<&str, usize> = BTreeMap::new();
     let mut answers = Tally::default();
     for (name, make) in FAMILIES {
-        let mut controller = Controller::new(&Addresses::new());
+        let mut controller = Controller::new(&Addresses::new(), NEVER);
+        let mut rotation = Rotation::default();
         for (k, (op, due)) in make().entries.iter().enumerate() {
             let before = controller.clone();
             let again = apply(&mut controller, op);
             assert_eq!(&again, due, "{name}, entry {k}");
             assert!(consistent(&controller), "{name}, entry {k}: {controller:02x?}");
             assert!(follows(&before, op, &controller, due), "{name}, entry {k}: {op:?} {due:02x?}");
+            assert!(moves(&before, op, &controller), "{name}, entry {k}: {op:?} {controller:02x?}");
+            let in_turn = goes_round(&mut rotation, &before, op, &controller);
+            assert!(in_turn, "{name}, entry {k}: {op:?} {controller:02x?}");
             *reached.entry(event(&before, op, &controller)).or_default() += 1;
+            if let Some(choice) = choice(&before, op, &controller) {
+                *choices.entry(choice).or_default() += 1;
+            }
+            if let Some(kind) = made_with(op) {
+                *made.entry(kind).or_default() += 1;
+            }
             if let Some((protocol, answer)) = decoded(&before, op) {
                 let kept = matches!(answer.number(), 0 | 6) || refused(&before, &controller);
                 assert!(kept, "{name}, entry {k}: {op:?} {answer:?} {due:02x?}");
@@ -138,12 +221,12 @@ pub fn all() -> usize {
             }
         }
     }
-    for wanted in REACHED {
-        let times = reached.get(wanted).copied().unwrap_or(0);
-        assert!(times >= 20, "{wanted}: {times} times");
-    }
-    assert_eq!(reached.len(), REACHED.len(), "{reached:?}");
+    check_reached(&REACHED, &reached);
+    check_reached(&CHOICES, &choices);
+    check_reached(&MADE, &made);
     answers.check("answers to commands", &[SEND_BYTE, BLOCK_READ, BLOCK_WRITE].map(|protocol| (protocol, true)), 20);
     println!("{:<28}{:?}", "answers to commands", answers.totals());
+    println!("{:<28}{:?}", "addresses in commands", choices);
+    println!("{:<28}{:?}", "controllers", made);
     reached.values().sum()
 }

@@ -20,6 +20,8 @@ pub struct Outcome {
     pub bound: Addresses,
     pub how_many: usize,
     pub get_udids: usize,
+    /// The last pick then, with 0 and 13.
+    pub last_pick: u8,
 }
 
 fn udid_in(record: &[u8]) -> Udid {
@@ -44,7 +46,10 @@ fn misplaced(records: &[&[u8]], k: usize, starting: &Addresses) -> bool {
 }
 
 /// The first refusal, with its record; a binding buffer of so many bytes.
-pub fn refusal(list: &[u8], room: usize, occupied: &Addresses) -> Option<(u32, usize)> {
+pub fn refusal(list: &[u8], room: usize, occupied: &Addresses, last_pick: u8) -> Option<(u32, usize)> {
+    if last_pick > NEVER {
+        return Some((1, 0));
+    }
     if room < BINDINGS {
         return Some((2, 0));
     }
@@ -87,12 +92,12 @@ fn write_bindings(controller: &Controller, buffer: &mut [u8]) -> Addresses {
     bound
 }
 
-pub fn run_model(list: &mut [u8], buffer: &mut [u8], occupied: &Addresses) -> Outcome {
-    if let Some((answer, record)) = refusal(list, buffer.len(), occupied) {
+pub fn run_model(list: &mut [u8], buffer: &mut [u8], occupied: &Addresses, last_pick: u8) -> Outcome {
+    if let Some((answer, record)) = refusal(list, buffer.len(), occupied, last_pick) {
         return Outcome { answer, record, ..Outcome::default() };
     }
     let mut bus = Bus { targets: list.chunks(RECORD).map(target_in).collect() };
-    let mut controller = Controller::new(occupied);
+    let mut controller = Controller::new(occupied, last_pick);
     let (end, get_udids) = pass(&mut controller, &mut bus);
     for (record, target) in list.chunks_mut(RECORD).zip(&bus.targets) {
         record.copy_from_slice(&record_of(target));
@@ -103,5 +108,6 @@ pub fn run_model(list: &mut [u8], buffer: &mut [u8], occupied: &Addresses) -> Ou
         Command::NoneFree(udid) => (13, udid),
         other => panic!("a model run ended with {other:?}"),
     };
-    Outcome { answer, record: 0, udid, how_many: bound.len(), bound, get_udids }
+    let last_pick = controller.last_pick;
+    Outcome { answer, record: 0, udid, how_many: bound.len(), bound, get_udids, last_pick }
 }

@@ -6,11 +6,11 @@ use crate::controller::{Controller, Found};
 
 #[derive(Clone, Debug)]
 pub enum Op {
-    /// A new controller, with these addresses occupied.
-    New(Addresses),
+    /// A new controller, with these addresses occupied and this last pick.
+    New(Addresses, u8),
     Start,
     Step(Vec<u16>),
-    /// All 128 addresses.
+    /// All 128 addresses, and the last pick.
     Lookups,
 }
 
@@ -18,7 +18,7 @@ pub enum Op {
 pub enum Due {
     Nothing,
     Command(Command),
-    Found(Vec<Found>),
+    Found(Vec<Found>, u8),
 }
 
 pub struct Recorder {
@@ -29,20 +29,23 @@ pub struct Recorder {
 /// What an operation does to a controller, and its answer.
 pub fn apply(controller: &mut Controller, op: &Op) -> Due {
     match op {
-        Op::New(occupied) => {
-            *controller = Controller::new(occupied);
+        Op::New(occupied, last_pick) => {
+            *controller = Controller::new(occupied, *last_pick);
             Due::Nothing
         }
         Op::Start => Due::Command(controller.start()),
         Op::Step(trace) => Due::Command(controller.step(trace)),
-        Op::Lookups => Due::Found((0..ADDRESSES).map(|address| controller.lookup(address)).collect()),
+        Op::Lookups => {
+            let all = (0..ADDRESSES).map(|address| controller.lookup(address)).collect();
+            Due::Found(all, controller.last_pick)
+        }
     }
 }
 
 impl Recorder {
-    pub fn new(occupied: &Addresses) -> Recorder {
-        let mut recorder = Recorder { controller: Controller::new(occupied), entries: vec![] };
-        recorder.renew(occupied);
+    pub fn new(occupied: &Addresses, last_pick: u8) -> Recorder {
+        let mut recorder = Recorder { controller: Controller::new(occupied, last_pick), entries: vec![] };
+        recorder.renew(occupied, last_pick);
         recorder
     }
 
@@ -51,8 +54,8 @@ impl Recorder {
         self.entries.push((op, due));
     }
 
-    pub fn renew(&mut self, occupied: &Addresses) {
-        self.record(Op::New(occupied.clone()));
+    pub fn renew(&mut self, occupied: &Addresses, last_pick: u8) {
+        self.record(Op::New(occupied.clone(), last_pick));
     }
 
     pub fn start(&mut self) -> Command {

@@ -6,7 +6,7 @@ use crate::good::{all_resolved, reply_trace};
 use crate::mistakes::*;
 use crate::random::Random;
 use crate::samples::{combinations, random_sizes, transaction};
-use crate::shelves::{any_udid, with_kind, KINDS};
+use crate::shelves::{any_last_pick, any_udid, with_kind, KINDS};
 use crate::table::*;
 
 const NAMES: [&str; 13] = [
@@ -169,6 +169,15 @@ fn step(random: &mut Random, last: Command) -> String {
     format!("step{}", numbers(random, &trace))
 }
 
+/// A model run: never picked, or with a last pick, now and then above 127.
+fn run(random: &mut Random) -> String {
+    if random.below(3) == 0 {
+        return "run".to_string();
+    }
+    let last_pick = any_last_pick(random);
+    format!("run{}", numbers(random, &[last_pick]))
+}
+
 /// A request that can be read.
 pub fn good(random: &mut Random, console: &Console) -> String {
     let count = random.pick(&[0, 1, 9, 300]);
@@ -182,7 +191,7 @@ pub fn good(random: &mut Random, console: &Console) -> String {
         7 => occupied(random),
         8..=10 => target(random),
         11 if random.below(3) == 0 => "clear".to_string(),
-        11 | 12 => "run".to_string(),
+        11 | 12 => run(random),
         13 if random.below(5) == 0 => "start".to_string(),
         13 if !console.last().is_sent() => "start".to_string(),
         14 => {

@@ -19,7 +19,7 @@ fn disturbed(random: &mut Random, trace: Vec<u16>, percent: usize) -> Vec<u16> {
 /// Passes over a shelf on which targets come and go, and keep what they were given.
 fn shelf(recorder: &mut Recorder, random: &mut Random, percent: usize) {
     let occupied = occupied(random);
-    recorder.renew(&occupied);
+    recorder.renew(&occupied, any_last_pick(random));
     let count = random.below(24);
     let mut bus = Bus { targets: targets(random, count, &occupied) };
     for _ in 0..1 + random.below(4) {
@@ -40,7 +40,7 @@ fn shelf(recorder: &mut Recorder, random: &mut Random, percent: usize) {
 
 fn shelves(seed: u64, count: usize, percent: usize) -> Recorder {
     let mut random = Random::new(seed);
-    let mut recorder = Recorder::new(&Addresses::new());
+    let mut recorder = Recorder::new(&Addresses::new(), NEVER);
     for _ in 0..count {
         shelf(&mut recorder, &mut random, percent);
     }

@@ -77,6 +77,34 @@ pub fn occupied(random: &mut Random) -> Addresses {
     }
 }
 
+/// A last pick that a model run takes: never picked, one at either end or beside a reserved one, or any.
+pub fn last_pick(random: &mut Random) -> u8 {
+    match random.below(8) {
+        0 | 1 => NEVER,
+        2 => 0,
+        3 => 126,
+        4 => random.pick(&[0x08, 0x09, 0x0b, 0x0c, 0x60, 0x61, 0x76, 0x77]),
+        _ => random.byte() % ADDRESSES,
+    }
+}
+
+/// A number above 127, which is no last pick.
+pub fn no_last_pick(random: &mut Random) -> u8 {
+    match random.below(4) {
+        0 => 128,
+        1 => 255,
+        _ => ADDRESSES + random.byte() % ADDRESSES,
+    }
+}
+
+/// Any number that a controller may be made with.
+pub fn any_last_pick(random: &mut Random) -> u8 {
+    if random.below(5) == 0 {
+        return no_last_pick(random);
+    }
+    last_pick(random)
+}
+
 /// All addresses but so many assignable ones.
 pub fn leaving(random: &mut Random, count: usize) -> Addresses {
     let mut assignable: Vec<u8> = (0..ADDRESSES).filter(|address| !RESERVED.contains(address)).collect();

@@ -12,13 +12,16 @@ pub struct Input {
     pub list: Vec<u8>,
     pub buffer: Vec<u8>,
     pub occupied: Addresses,
+    pub last_pick: u8,
 }
 
 impl Input {
     pub fn good(random: &mut Random, count: usize) -> Input {
         let occupied = shelves::occupied(random);
         let targets = shelves::targets(random, count, &occupied);
-        Input { list: targets.iter().flat_map(record_of).collect(), buffer: random.bytes(BINDINGS), occupied }
+        let last_pick = shelves::last_pick(random);
+        let list = targets.iter().flat_map(record_of).collect();
+        Input { list, buffer: random.bytes(BINDINGS), occupied, last_pick }
     }
 
     pub fn records(&self) -> usize {
@@ -64,12 +67,13 @@ fn misplace(input: &mut Input, random: &mut Random, k: usize) {
 }
 
 /// The numbers of refusals, in the order in which they are looked for.
-pub const NUMBERS: [u32; 5] = [2, 9, 10, 11, 12];
+pub const NUMBERS: [u32; 6] = [1, 2, 9, 10, 11, 12];
 
 /// Spoils an input so that it is refused with the number, and says for which record.
 pub fn spoil(input: &mut Input, random: &mut Random, number: u32) -> usize {
     let k = random.below(input.records());
     match number {
+        1 => input.last_pick = shelves::no_last_pick(random),
         2 => input.buffer.truncate(random.below(BINDINGS)),
         9 => wrong_length(input, random),
         10 if random.below(2) == 0 => input.record(k)[16] &= 0xfe,

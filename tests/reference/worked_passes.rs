@@ -18,8 +18,13 @@ const N: Udid = [0x82; 16];
 struct Pass(Controller);
 
 impl Pass {
+    /// Of a controller that has never picked.
     fn begin(occupied: &[u8]) -> Pass {
-        let mut pass = Pass(Controller::new(&occupied.iter().copied().collect()));
+        Pass::begin_after(occupied, NEVER)
+    }
+
+    fn begin_after(occupied: &[u8], last_pick: u8) -> Pass {
+        let mut pass = Pass(Controller::new(&occupied.iter().copied().collect(), last_pick));
         pass.again();
         pass
     }
@@ -38,6 +43,16 @@ impl Pass {
     fn taken(&mut self, udid: Udid, address_byte: u8, address: u8) {
         self.offered(udid, address_byte, address);
         assert_eq!(self.0.step(&trace_of(&assign(&udid, address))), GetUdid);
+    }
+
+    /// The same, and the target does not acknowledge the last byte of the Assign.
+    fn refused(&mut self, udid: Udid, address_byte: u8, address: u8) {
+        self.offered(udid, address_byte, address);
+        assert_eq!(self.0.step(&nacked_at(&trace_of(&assign(&udid, address)), 20)), GetUdid);
+    }
+
+    fn last_pick(&self, due: u8) {
+        assert_eq!(self.0.last_pick, due);
     }
 
     fn bound(&self, due: &[(u8, Udid)]) {
@@ -149,7 +164,7 @@ fn too_many() {
 fn preparing() {
     let right = trace_of(&prepare());
     for (trace, due) in [(nacked_at(&right, 0), Ended), (nacked_at(&right, 2), Ended), (vec![], Abandoned)] {
-        let mut pass = Pass(Controller::new(&Addresses::new()));
+        let mut pass = Pass(Controller::new(&Addresses::new(), NEVER));
         assert_eq!(pass.0.step(&trace), NotOutstanding);
         pass.0.start();
         assert_eq!(pass.0.step(&trace), due);
@@ -163,7 +178,7 @@ fn wrong_symbols() {
     let number = |protocol, trace: &[u16]| decode(protocol, true, trace, 255, 255).number();
     for (trace, due) in [(&[256, 257][..], 5), (&[256, 195], 18)] {
         assert_eq!(number(SEND_BYTE, trace), due);
-        let mut pass = Pass(Controller::new(&Addresses::new()));
+        let mut pass = Pass(Controller::new(&Addresses::new(), NEVER));
         pass.0.start();
         assert_eq!(pass.0.step(trace), Abandoned);
     }
@@ -188,8 +203,97 @@ fn wrong_symbols() {
     pass.taken(M, 0x41, 0x20);
 }
 
+/// A module at 09h is pulled: in the next pass another one gets 0Ah, and only what lies between is passed over.
+fn vacated() {
+    let mut pass = Pass::begin(&[]);
+    pass.last_pick(127);
+    pass.taken(M, 0xff, 0x09);
+    pass.last_pick(0x09);
+    assert_eq!(pass.0.step(&all_resolved()), Ended);
+    pass.again();
+    pass.last_pick(0x09);
+    pass.taken(N, 0xff, 0x0a);
+    pass.again();
+    pass.taken(M, 0xff, 0x0b);
+    pass.taken(N, 0xff, 0x0d);
+    pass.bound(&[(0x0b, M), (0x0d, N)]);
+    pass.last_pick(0x0d);
+}
+
+/// From 7Fh round to 00h: 77h is the last that is not reserved, 09h the first.
+fn round() {
+    for (last_pick, address) in [(0x76, 0x77), (0x77, 0x09), (126, 0x09), (127, 0x09), (0, 0x09), (0x60, 0x62)] {
+        let mut pass = Pass::begin_after(&[], last_pick);
+        pass.taken(M, 0xff, address);
+        pass.last_pick(address);
+    }
+    let mut pass = Pass::begin_after(&[0x77, 0x09], 0x76);
+    pass.taken(M, 0xff, 0x0a);
+}
+
+/// The last pick moves when the Assign goes out, whatever becomes of it.
+fn refused_assigns() {
+    let mut pass = Pass::begin(&[]);
+    pass.offered(M, 0xff, 0x09);
+    pass.last_pick(0x09);
+    assert_eq!(pass.0.step(&[]), GetUdid);
+    pass.last_pick(0x09);
+    pass.refused(M, 0xff, 0x0a);
+    pass.refused(M, 0x19, 0x0b);
+    pass.bound(&[]);
+    pass.offered(M, 0xff, 0x0d);
+    pass.again();
+    pass.last_pick(0x0d);
+    pass.taken(M, 0xff, 0x0e);
+}
+
+/// An address that is kept, or fixed, or claimed by two, moves nothing; nor does a reply that is refused.
+fn moved_by_picks_alone() {
+    let mut pass = Pass::begin_after(&[], 0x30);
+    pass.taken(M, 0x41, 0x20);
+    pass.taken(F, 0x81, 0x40);
+    pass.taken(G, 0x81, 0x40);
+    pass.refused(N, 0x83, 0x41);
+    assert_eq!(pass.0.step(&[256]), GetUdid);
+    pass.last_pick(0x30);
+    pass.taken(N, 0x81, 0x31);
+    pass.last_pick(0x31);
+    pass.taken(G, 0xff, 0x32);
+    pass.last_pick(0x32);
+    assert_eq!(pass.0.step(&all_resolved()), Ended);
+    assert_eq!(pass.0.step(&reply_trace(&M, 0xff)), NotOutstanding);
+    pass.last_pick(0x32);
+}
+
+/// One address is free, and it is the last pick: it is picked again. With none free 13 moves nothing.
+fn the_last_pick_again() {
+    let all_but_one: Vec<u8> = (0..ADDRESSES).filter(|&address| address != 0x40).collect();
+    let mut pass = Pass::begin_after(&all_but_one, 0x41);
+    pass.taken(M, 0xff, 0x40);
+    pass.taken(M, 0xff, 0x40);
+    pass.again();
+    pass.taken(N, 0xff, 0x40);
+    assert_eq!(pass.0.step(&reply_trace(&M, 0xff)), NoneFree(M));
+    pass.last_pick(0x40);
+    let mut pass = Pass::begin_after(&(0..ADDRESSES).collect::<Vec<u8>>(), 0x33);
+    assert_eq!(pass.0.step(&reply_trace(&M, 0x41)), NoneFree(M));
+    pass.last_pick(0x33);
+}
+
+/// A number above 127 acts as never picked, and stays until the first pick.
+fn no_last_pick() {
+    let mut pass = Pass::begin_after(&[], 200);
+    pass.taken(M, 0x41, 0x20);
+    pass.last_pick(200);
+    pass.again();
+    pass.last_pick(200);
+    pass.taken(M, 0xff, 0x09);
+    pass.last_pick(0x09);
+    assert_eq!(Controller::new(&Addresses::new(), 255).last_pick, 255);
+}
+
 pub fn all() -> usize {
-    let passes: [fn(); 9] = [
+    let passes: [fn(); 15] = [
         two_fixed,
         fixed_after_movable,
         fixed_on_used,
@@ -199,6 +303,12 @@ pub fn all() -> usize {
         too_many,
         preparing,
         wrong_symbols,
+        vacated,
+        round,
+        refused_assigns,
+        moved_by_picks_alone,
+        the_last_pick_again,
+        no_last_pick,
     ];
     passes.iter().for_each(|pass| pass());
     passes.len()

@@ -2,7 +2,7 @@
 use Prim.Native.Nat.{ℕ, _+_, _*_, _/_}
 use mathlib.Core.Bool.{Bool}
 use mathlib.Core.List.{List, [], _++_}
-use lib.Dec.{eqb, leb}
+use lib.Dec.{eqb, ltb, leb}
 use lib.ListN.{length, getD}
 use Rattle.lists.specs.Choice.{pick, and}
 use Rattle.pool.specs.declared.Pool.{Pool}
@@ -36,11 +36,15 @@ recordsText records = below (recordText records) 0 (length records / 18)
 abbrev pub endingText : ModelAnswer → List ℕ
 endingText a = decimalOf (a .answer) ++ pick (eqb (a .answer) 13) (chars " udid " ++ udidText (a .udid)) []
 
+-- the first line, which ends in the last pick
 abbrev pub firstText : ModelAnswer → List ℕ
-firstText a = (endingText a ++ (chars " bound " ++ decimalOf (a .count))) ++ ((chars " get " ++ decimalOf (a .gets)) ++ newline)
+firstText a =
+    ((endingText a ++ (chars " bound " ++ decimalOf (a .count))) ++ (chars " get " ++ decimalOf (a .gets)))
+    ++ ((chars " last 0x" ++ pairOf (a .picked)) ++ newline)
 
+-- a refusal: those from 10 on are of a record, and have its index
 abbrev pub refusalText : ModelAnswer → List ℕ
-refusalText a = decimalOf (a .answer) ++ ((chars " record " ++ decimalOf (a .place)) ++ newline)
+refusalText a = decimalOf (a .answer) ++ pick (ltb (a .answer) 10) newline ((chars " record " ++ decimalOf (a .place)) ++ newline)
 
 -- refusals are 1 to 12
 abbrev pub isRefusal : ℕ → Bool

@@ -5,6 +5,7 @@ ghost use lib.ListN.{length};
 ghost use Rattle.writing.specs.Written.{Appended};
 ghost use Rattle.answers.specs.Runs.{boundText, addressText, bindingsText, recordText, recordsText, endingText, firstText, refusalText, isRefusal, runText};
 use bindings::answer::ModelAnswer;
+use pieces::piece::hex_line;
 use pieces::piece::number_line;
 use pieces::piece::put_hex;
 use pieces::piece::put_number;
@@ -13,6 +14,7 @@ use pieces::piece::udid_line;
 use pool::Pool;
 use udid::Udid;
 use wire::address::Address;
+use writing::write::put;
 use writing::write::put_decimal;
 
 // A bound address and its target.
@@ -91,20 +93,24 @@ fn put_ending(out: &mut [u8], at: usize, a: ModelAnswer) -> usize
     b
 }
 
-// The first line of a run that came to its end.
+// The first line of a run that came to its end. The last pick stands at its end, also with 13.
 fn put_first(out: &mut [u8], at: usize, a: ModelAnswer) -> usize
     ensures { λ r. ⌜ Appended (now (out .entry)) at (firstText a) (now (out .exit)) r ⌝ }
 {
     let b = put_ending(out, at, a);
     let c = put_number(out, b, b" bound ", a.count as u64);
-    number_line(out, c, b" get ", a.gets as u64)
+    let d = put_number(out, c, b" get ", a.gets as u64);
+    hex_line(out, d, b" last 0x", a.picked)
 }
 
-// A refusal, with the record.
+// A refusal; from 10 on it is of a record, and has the record's index.
 fn put_refusal(out: &mut [u8], at: usize, a: ModelAnswer) -> usize
     ensures { λ r. ⌜ Appended (now (out .entry)) at (refusalText a) (now (out .exit)) r ⌝ }
 {
     let to = put_decimal(out, at, a.answer as u64);
+    if a.answer < 10 {
+        return put(out, to, b"\n");
+    }
     number_line(out, to, b" record ", a.place as u64)
 }
 

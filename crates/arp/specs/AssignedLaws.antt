@@ -28,7 +28,7 @@ use Rattle.arp.specs.Numbers.{lookupNumber}
 use Rattle.arp.specs.Sound.{Pending, PendingIn, GoodState}
 use Rattle.arp.specs.Bindings.{freedAt, freed, bindingFor, bound}
 use Rattle.slots.specs.Finding.{boundTo, findFrom}
-use Rattle.arp.specs.Controller.{handed, counted, asked, chosen, issued, replied, changed, stepped}
+use Rattle.arp.specs.Controller.{handed, counted, asked, hasToPick, chosen, issued, replied, changed, stepped}
 use Rattle.arp.specs.History.{Event, Start, Received, run, Acknowledged, isHeld, withTraces}
 use Rattle.arp.specs.Lookup.{seen, lookedUp}
 use Rattle.commands.specs.Requests.{traceOf}
@@ -108,13 +108,13 @@ bound-elsewhere s u n i h q = rw (le-ltb 127 n (omega arith)) (held-other (s .sl
 -- ---- a step
 
 -- after a reply the slots are as they were, or with an identifier freed
-issued-slots : (s : Controller) (u : Udid) (k : Free) → issued s u k .state .slots ≡ s .slots
-issued-slots s u (At a) = refl
-issued-slots s u AllUsed = refl
+issued-slots : (s : Controller) (u : Udid) (picks : Bool) (k : Free) → issued s u picks k .state .slots ≡ s .slots
+issued-slots s u picks (At a) = refl
+issued-slots s u picks AllUsed = refl
 
 replied-slots : (s : Controller) (u : Udid) (b : ℕ) → replied s u b .state .slots ≡ freed s u .slots
 unfolding replied
-replied-slots s u b = issued-slots (freed s u) u (chosen (freed s u .pool) u b)
+replied-slots s u b = issued-slots (freed s u) u (hasToPick (freed s u .pool) u b) (chosen (freed s u .pool) (freed s u .picked) u b)
 
 module _ (occupied : Pool) (s : Controller) (tr : List ℕ) (g : GoodState occupied s) where
   -- what is bound after a step was bound before it, or comes from an Assign whose trace was received
@@ -190,26 +190,26 @@ module _ (occupied : Pool) (s : Controller) (tr : List ℕ) (g : GoodState occup
 
 -- ---- bindings
 
-pub bound-acknowledged : (occupied : Pool) (es : List Event) (a : ℕ) (u : Udid) → heldAt (run occupied es .slots) a ≡ Bound u → Acknowledged occupied es u a
+pub bound-acknowledged : (occupied : Pool) (last : ℕ) (es : List Event) (a : ℕ) (u : Udid) → heldAt (run occupied last es .slots) a ≡ Bound u → Acknowledged occupied last es u a
 unfolding run Acknowledged
-bound-acknowledged occupied [] a u e = open-is-not-bound _ u (open-all a) e
-bound-acknowledged occupied (Start ∷ es) a u e = open-is-not-bound _ u (open-all a) e
-bound-acknowledged occupied (Received tr ∷ es) a u e = go (bound-before-or-assigned occupied (run occupied es) tr (reached-good occupied es) a u e) (λ k. bound-acknowledged occupied es a u k)
+bound-acknowledged occupied last [] a u e = open-is-not-bound _ u (open-all a) e
+bound-acknowledged occupied last (Start ∷ es) a u e = open-is-not-bound _ u (open-all a) e
+bound-acknowledged occupied last (Received tr ∷ es) a u e = go (bound-before-or-assigned occupied (run occupied last es) tr (reached-good occupied last es) a u e) (λ k. bound-acknowledged occupied last es a u k)
   where
-    go : From occupied (run occupied es) tr (reached-good occupied es) u a → (heldAt (run occupied es .slots) a ≡ Bound u → Acknowledged occupied es u a)
-        → ((run occupied es .last ≡ Send (Assign u (address a))) × (tr ≡ traceOf (Send (Assign u (address a))) [])) ⊎ Acknowledged occupied es u a
+    go : From occupied (run occupied last es) tr (reached-good occupied last es) u a → (heldAt (run occupied last es .slots) a ≡ Bound u → Acknowledged occupied last es u a)
+        → ((run occupied last es .last ≡ Send (Assign u (address a))) × (tr ≡ traceOf (Send (Assign u (address a))) [])) ⊎ Acknowledged occupied last es u a
     go (inl k) ih = inr (ih k)
     go (inr k) ih = inl k
 
 -- 0 WITH AN IDENTIFIER is answered only where an Assign of that address to it was acknowledged whole, in the present pass
-pub found-acknowledged : (occupied : Pool) (es : List Event) (a : ℕ) (u : Udid) → lookupNumber (lookedUp (run occupied es) a) ≡ (0, u ∷ []) → Acknowledged occupied es u a
-found-acknowledged occupied es a u e = bound-acknowledged occupied es a u (lookup-0 (run occupied es) a u .0 e .1)
+pub found-acknowledged : (occupied : Pool) (last : ℕ) (es : List Event) (a : ℕ) (u : Udid) → lookupNumber (lookedUp (run occupied last es) a) ≡ (0, u ∷ []) → Acknowledged occupied last es u a
+found-acknowledged occupied last es a u e = bound-acknowledged occupied last es a u (lookup-0 (run occupied last es) a u .0 e .1)
 
 -- ---- claims
 
 -- A CLAIM STAYS for the rest of the pass, whatever is received
-pub claim-stays : (occupied : Pool) (es : List Event) (trs : List (List ℕ)) (a : ℕ) → heldAt (run occupied es .slots) a ≡ Claimed
-    → heldAt (run occupied (withTraces trs es) .slots) a ≡ Claimed
+pub claim-stays : (occupied : Pool) (last : ℕ) (es : List Event) (trs : List (List ℕ)) (a : ℕ) → heldAt (run occupied last es .slots) a ≡ Claimed
+    → heldAt (run occupied last (withTraces trs es) .slots) a ≡ Claimed
 unfolding run
-claim-stays occupied es [] a e = e
-claim-stays occupied es (tr ∷ trs) a e = step-keeps-claim occupied (run occupied (withTraces trs es)) tr (reached-good occupied (withTraces trs es)) a (claim-stays occupied es trs a e)
+claim-stays occupied last es [] a e = e
+claim-stays occupied last es (tr ∷ trs) a e = step-keeps-claim occupied (run occupied last (withTraces trs es)) tr (reached-good occupied last (withTraces trs es)) a (claim-stays occupied last es trs a e)

@@ -1,10 +1,11 @@
 -- What the controller does, as the scope says it.
 use Prim.Native.Nat.{ℕ, _+_, _/_}
+use mathlib.Core.Bool.{Bool, true, false}
 use mathlib.Core.List.{List}
-use lib.Dec.{leb, eqb}
+use lib.Dec.{ltb, leb, eqb}
 use Rattle.lists.specs.Choice.{pick}
 use Rattle.wire.specs.declared.address.Address.{Address}
-use Rattle.pool.specs.Free.{lowestFree}
+use Rattle.pool.specs.NextFree.{nextFree}
 use Rattle.pool.specs.Pools.{member}
 use Rattle.pool.specs.Start.{startingPool}
 use Rattle.pool.specs.declared.Pool.{Pool}
@@ -14,7 +15,7 @@ use Rattle.udid.specs.Udids.{isFixed}
 use Rattle.udid.specs.declared.Udid.{Udid}
 use Rattle.arp.specs.Bindings.{freed, bound}
 use Rattle.slots.specs.Slots.{noBindings}
-use Rattle.arp.specs.State.{stateOf, withPool, withSlots, withGets, withLast}
+use Rattle.arp.specs.State.{stateOf, withPool, withSlots, withGets, withLast, withPicked}
 use Rattle.hearing.specs.Told.{tells}
 use Rattle.commands.specs.declared.command.Command.the-variants.{Prepare, GetUdid, Assign}
 use Rattle.commands.specs.declared.command.End.the-variants.{Nothing, Ended, NoneFree, Abandoned, NotOutstanding}
@@ -25,14 +26,19 @@ use Rattle.arp.specs.declared.state.Stepped.{Stepped}
 use Rattle.hearing.specs.declared.told.Told.{Told}
 use Rattle.hearing.specs.declared.told.Told.the-variants.{Again, Over, GivenUp, Reply, Took, Unasked}
 
-abbrev pub newController : Pool → Controller
-newController occupied = stateOf (startingPool occupied) (startingPool occupied) noBindings 0 (Wait Nothing)
+-- the last pick that a controller is made with: a number above 127 counts as 127, never picked
+unfoldable pub lastPick : ℕ → ℕ
+lastPick last = pick (ltb 127 last) 127 last
+
+-- made with these addresses occupied, and this last pick
+abbrev pub newController : Pool → ℕ → Controller
+newController occupied last = stateOf (lastPick last) (startingPool occupied) (startingPool occupied) noBindings 0 (Wait Nothing)
 
 -- the state with k handed out
 abbrev pub handed : Controller → Handed → Stepped
 handed s k = record { state = withLast s k; command = k }
 
--- starting a pass empties all bindings and claims and sets the pool back to the starting pool
+-- starting a pass empties all bindings and claims and sets the pool back to the starting pool; the last pick stays
 abbrev pub started : Controller → Stepped
 started s = handed (withGets (withSlots (withPool s (s .starting)) noBindings) 0) (Send Prepare)
 
@@ -48,21 +54,22 @@ asked s = pick (leb 128 (s .gets)) (handed s (Wait Abandoned)) (handed (counted 
 abbrev pub ownAddress : ℕ → Address
 ownAddress b = record { 0 = b / 2 }
 
--- FFh: a free address is picked. Else fixed: its own. Else movable: its own if not in the pool, otherwise a free one. Picked is the lowest free
-unfoldable pub chosen : Pool → Udid → ℕ → Free
-chosen p u b =
-    pick (eqb b 0xFF) (lowestFree p)
-    (pick (isFixed u) (At (ownAddress b))
-    (pick (member p (b / 2)) (lowestFree p) (At (ownAddress b))))
+-- FFh: a free address is picked. Else fixed: its own. Else movable: its own if not in the pool, otherwise a free one is picked
+unfoldable pub hasToPick : Pool → Udid → ℕ → Bool
+hasToPick p u b = pick (eqb b 0xFF) true (pick (isFixed u) false (member p (b / 2)))
 
--- none free: 13 with the UDID that asked. Then Assign Address
-abbrev pub issued : Controller → Udid → Free → Stepped
-issued s u (At a) = handed s (Send (Assign u a))
-issued s u AllUsed = handed s (Wait (NoneFree u))
+-- picked is the first free address after the last one picked
+unfoldable pub chosen : Pool → ℕ → Udid → ℕ → Free
+chosen p last u b = pick (hasToPick p u b) (nextFree p last) (At (ownAddress b))
+
+-- none free: 13 with the UDID that asked. Then Assign Address; if its address was picked it is the last pick from now on
+abbrev pub issued : Controller → Udid → Bool → Free → Stepped
+issued s u picks (At a) = handed (withPicked s (pick picks (a .0) (s .picked))) (Send (Assign u a))
+issued s u picks AllUsed = handed s (Wait (NoneFree u))
 
 -- a reply with a UDID already bound first unbinds it and frees its address; then an address is chosen
 unfoldable pub replied : Controller → Udid → ℕ → Stepped
-replied s u b = issued (freed s u) u (chosen (freed s u .pool) u b)
+replied s u b = issued (freed s u) u (hasToPick (freed s u .pool) u b) (chosen (freed s u .pool) (freed s u .picked) u b)
 
 -- 21: no command of a pass is outstanding, and the state stays as it is
 abbrev pub notOutstanding : Controller → Stepped

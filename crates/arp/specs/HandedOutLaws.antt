@@ -1,6 +1,6 @@
 -- Each command that a step hands out is the one that the table of the events, the count of Get UDIDs and the command outstanding give. So the
 -- story of the events alone gives all three.
-use Prim.Native.Nat.{ℕ, _+_}
+use Prim.Native.Nat.{ℕ, _+_, _<_}
 use mathlib.Core.Path.{_≡_, refl, sym, ap, ap₂, _∙_}
 use mathlib.Core.Bool.{Bool, true, false}
 use mathlib.Core.List.{List, [], _∷_}
@@ -20,19 +20,21 @@ use Rattle.pool.specs.declared.free.Free.{Free}
 use Rattle.pool.specs.declared.free.Free.the-variants.{At, AllUsed}
 use Rattle.udid.specs.Bytes.{udidAt}
 use Rattle.udid.specs.declared.Udid.{Udid}
-use Rattle.arp.specs.ChosenLaws.{chosen-is-picked}
+use Rattle.arp.specs.ChosenLaws.{chosen-is-given}
 use Rattle.arp.specs.HandingLaws.{bound-keeps-gets, gets-are-sent}
 use Rattle.arp.specs.HistoryLaws.{reached-good}
 use Rattle.arp.specs.OutstandingLaws.{last-is-handed-out}
+use Rattle.arp.specs.PickedLaws.{freed-keeps-picked, step-picked}
+use Rattle.arp.specs.RunPicks.{pickedThen}
 use Rattle.arp.specs.TableLaws.{freed-as-replied, view-is-table}
 use Rattle.arp.specs.Story.{Story, onward, story}
 use Rattle.arp.specs.Sound.{SoundIn}
 use Rattle.arp.specs.Bindings.{freed, bound}
-use Rattle.arp.specs.Controller.{handed, counted, asked, chosen, issued, replied, stepped, changed}
+use Rattle.arp.specs.Controller.{handed, counted, asked, hasToPick, chosen, issued, replied, stepped, changed}
 use Rattle.hearing.specs.Heard.{answer, sentIn, receivedIn, isPrepare, isGet, isAssign}
 use Rattle.commands.specs.Codes.{sendByte, blockRead, blockWrite}
 use Rattle.arp.specs.History.{Event, Start, Received, run, oneGet, getsSent}
-use Rattle.arp.specs.Replay.{Table, released, after, readAs, handedOut, table, again, picked, assigning, nextPrepare, nextReply, nextCommand, view, SameOutstanding}
+use Rattle.arp.specs.Replay.{Table, emptied, released, after, readAs, handedOut, table, again, givenTo, assigning, nextPrepare, nextReply, nextCommand, view, SameOutstanding}
 use Rattle.commands.specs.declared.command.Command.the-variants.{Prepare, GetUdid, Assign}
 use Rattle.commands.specs.declared.command.End.the-variants.{Ended, Abandoned, NotOutstanding}
 use Rattle.commands.specs.declared.command.Handed.{Handed}
@@ -49,9 +51,9 @@ asked-command s = go (leb 128 (s .gets))
     go true = refl
     go false = refl
 
-issued-command : (s : Controller) (u : Udid) (k : Free) → issued s u k .command ≡ assigning u k
-issued-command s u (At a) = refl
-issued-command s u AllUsed = refl
+issued-command : (s : Controller) (u : Udid) (picks : Bool) (k : Free) → issued s u picks k .command ≡ assigning u k
+issued-command s u picks (At a) = refl
+issued-command s u picks AllUsed = refl
 
 module _ (s : Controller) where
   prepare-command : (d : Decoded) (xs : List ℕ) → changed s (toldPrepare d xs) .command ≡ nextPrepare (s .gets) d xs
@@ -74,24 +76,25 @@ module _ (s : Controller) where
       go false = asked-command s
   assign-command u n (Refused w k) xs = asked-command s
 
-module _ (s : Controller) (v : SoundIn s) where
-  replied-command : (u : Udid) (b : ℕ) → replied s u b .command ≡ assigning u (picked (released u (view s) .used) u b)
+module _ (s : Controller) (v : SoundIn s) (small : s .picked < 128) where
+  replied-command : (u : Udid) (b : ℕ) → replied s u b .command ≡ assigning u (givenTo (released u (view s) .used) (s .picked) u b)
   unfolding replied
   replied-command u b =
-      issued-command (freed s u) u (chosen (freed s u .pool) u b)
-      ∙ ap (assigning u) (chosen-is-picked (freed s u .pool) u b)
-      ∙ ap (λ (t : Table). assigning u (picked (t .used) u b)) (freed-as-replied (member (s .pool)) s v u)
+      issued-command (freed s u) u (hasToPick (freed s u .pool) u b) (chosen (freed s u .pool) (freed s u .picked) u b)
+      ∙ ap (λ (l : ℕ). assigning u (chosen (freed s u .pool) l u b)) (freed-keeps-picked s u)
+      ∙ ap (assigning u) (chosen-is-given (freed s u .pool) (s .picked) u b small)
+      ∙ ap (λ (t : Table). assigning u (givenTo (t .used) (s .picked) u b)) (freed-as-replied (member (s .pool)) s v u)
 
-  reply-command : (t : Transaction) (xs : List ℕ) → changed s (toldReply t xs) .command ≡ nextReply (view s) (s .gets) (Done t) xs
+  reply-command : (t : Transaction) (xs : List ℕ) → changed s (toldReply t xs) .command ≡ nextReply (view s) (s .picked) (s .gets) (Done t) xs
   reply-command t xs = go (isGet t) (eqb (t .received) 17)
     where
       go : (p q : Bool) → changed s (pick p (pick q (Reply (udidAt xs 0) (getD xs 16 0)) Over) Again) .command
-          ≡ pick p (pick q (assigning (udidAt xs 0) (picked (released (udidAt xs 0) (view s) .used) (udidAt xs 0) (getD xs 16 0))) (Wait Ended)) (again (s .gets))
+          ≡ pick p (pick q (assigning (udidAt xs 0) (givenTo (released (udidAt xs 0) (view s) .used) (s .picked) (udidAt xs 0) (getD xs 16 0))) (Wait Ended)) (again (s .gets))
       go true true = replied-command (udidAt xs 0) (getD xs 16 0)
       go true false = refl
       go false q = asked-command s
 
-  get-command : (d : Decoded) (xs : List ℕ) → changed s (toldGet d xs) .command ≡ nextReply (view s) (s .gets) d xs
+  get-command : (d : Decoded) (xs : List ℕ) → changed s (toldGet d xs) .command ≡ nextReply (view s) (s .picked) (s .gets) d xs
   get-command (Done t) xs = reply-command t xs
   get-command (Refused w k) xs = go (and (isNack w) (ltb k 3))
     where
@@ -99,50 +102,51 @@ module _ (s : Controller) (v : SoundIn s) where
       go true = refl
       go false = asked-command s
 
-  step-command : (tr : List ℕ) → stepped s tr .command ≡ nextCommand (view s) (s .gets) (s .last) tr
+  step-command : (tr : List ℕ) → stepped s tr .command ≡ nextCommand (view s) (s .picked) (s .gets) (s .last) tr
   unfolding stepped
   step-command tr = go (s .last)
     where
-      go : (k : Handed) → changed s (tells k tr) .command ≡ nextCommand (view s) (s .gets) k tr
+      go : (k : Handed) → changed s (tells k tr) .command ≡ nextCommand (view s) (s .picked) (s .gets) k tr
       go (Send Prepare) = prepare-command s (answer sendByte tr) (sentIn sendByte tr)
       go (Send GetUdid) = get-command (answer blockRead tr) (receivedIn blockRead tr)
       go (Send (Assign u a)) = assign-command s u (a .0) (answer blockWrite tr) (sentIn blockWrite tr)
       go (Wait e) = refl
 
-idle-next : (t : Table) (n : ℕ) (k : Handed) (tr : List ℕ) → noCommand k ≡ true → nextCommand t n k tr ≡ Wait NotOutstanding
-idle-next t n (Send k) tr i = zero-is-one (cc i)
-idle-next t n (Wait e) tr i = refl
+idle-next : (t : Table) (last n : ℕ) (k : Handed) (tr : List ℕ) → noCommand k ≡ true → nextCommand t last n k tr ≡ Wait NotOutstanding
+idle-next t last n (Send k) tr i = zero-is-one (cc i)
+idle-next t last n (Wait e) tr i = refl
 
-same-next : (t : Table) (n : ℕ) (k m : Handed) (tr : List ℕ) → SameOutstanding k m → nextCommand t n k tr ≡ nextCommand t n m tr
-same-next t n k m tr (inl e) = ap (λ (x : Handed). nextCommand t n x tr) e
-same-next t n k m tr (inr h) = idle-next t n k tr (h .0) ∙ sym (idle-next t n m tr (h .1))
+same-next : (t : Table) (last n : ℕ) (k m : Handed) (tr : List ℕ) → SameOutstanding k m → nextCommand t last n k tr ≡ nextCommand t last n m tr
+same-next t last n k m tr (inl e) = ap (λ (x : Handed). nextCommand t last n x tr) e
+same-next t last n k m tr (inr h) = idle-next t last n k tr (h .0) ∙ sym (idle-next t last n m tr (h .1))
 
 -- EACH COMMAND THAT A STEP HANDS OUT is the one that the table, the count of Get UDIDs and the command outstanding give
-pub handed-out-by-table : (occupied : Pool) (es : List Event) (tr : List ℕ)
-    → stepped (run occupied es) tr .command ≡ nextCommand (table occupied es) (getsSent occupied es) (handedOut occupied es) tr
-handed-out-by-table occupied es tr =
-    step-command (run occupied es) (reached-good occupied es .0 .sound) tr
-    ∙ same-next (view (run occupied es)) (run occupied es .gets) (run occupied es .last) (handedOut occupied es) tr (last-is-handed-out occupied es)
-    ∙ ap₂ (λ (t : Table) (n : ℕ). nextCommand t n (handedOut occupied es) tr) (view-is-table occupied es) (gets-are-sent occupied es)
+pub handed-out-by-table : (occupied : Pool) (last : ℕ) (es : List Event) (tr : List ℕ)
+    → stepped (run occupied last es) tr .command ≡ nextCommand (table occupied last es) (run occupied last es .picked) (getsSent occupied last es) (handedOut occupied last es) tr
+handed-out-by-table occupied last es tr =
+    step-command (run occupied last es) (reached-good occupied last es .0 .sound) (reached-good occupied last es .0 .picked) tr
+    ∙ same-next (view (run occupied last es)) (run occupied last es .picked) (run occupied last es .gets) (run occupied last es .last) (handedOut occupied last es) tr (last-is-handed-out occupied last es)
+    ∙ ap₂ (λ (t : Table) (n : ℕ). nextCommand t (run occupied last es .picked) n (handedOut occupied last es) tr) (view-is-table occupied last es) (gets-are-sent occupied last es)
 
 -- ---- by the events alone
 
-stories : (x y : Story) → x .known ≡ y .known → x .gets ≡ y .gets → x .command ≡ y .command → x ≡ y
-stories x y p q r = λ i. record { known = p i; gets = q i; command = r i }
+stories : (x y : Story) → x .known ≡ y .known → x .gets ≡ y .gets → x .command ≡ y .command → x .picked ≡ y .picked → x ≡ y
+stories x y p q r l = λ i. record { known = p i; gets = q i; command = r i; picked = l i }
 
-pub table-is-story : (occupied : Pool) (es : List Event) → record { known = table occupied es; gets = getsSent occupied es; command = handedOut occupied es } ≡ story occupied es
-unfolding story table getsSent handedOut
-table-is-story occupied [] = refl
-table-is-story occupied (Start ∷ es) = refl
-table-is-story occupied (Received tr ∷ es) =
-    stories
-    (record {
-      known = after (member (startingPool occupied)) (readAs (handedOut occupied es) tr) (table occupied es);
-      gets = getsSent occupied es + oneGet (stepped (run occupied es) tr .command);
-      command = stepped (run occupied es) tr .command;
-    })
-    (onward (member (startingPool occupied)) (Received tr) (record { known = table occupied es; gets = getsSent occupied es; command = handedOut occupied es }))
+-- the table, the count, the command and the last pick of a run
+abbrev pub told : Pool → ℕ → List Event → Story
+told occupied last es = record { known = table occupied last es; gets = getsSent occupied last es; command = handedOut occupied last es; picked = run occupied last es .picked }
+
+pub table-is-story : (occupied : Pool) (last : ℕ) (es : List Event) → told occupied last es ≡ story occupied last es
+unfolding story table getsSent handedOut run
+table-is-story occupied last [] = refl
+table-is-story occupied last (Start ∷ es) =
+    ap (λ (w : Story). record { known = emptied (member (startingPool occupied)); gets = 0; command = Send Prepare; picked = w .picked }) (table-is-story occupied last es)
+table-is-story occupied last (Received tr ∷ es) =
+    let e = handed-out-by-table occupied last es tr in
+    stories (told occupied last (Received tr ∷ es)) (onward (member (startingPool occupied)) (Received tr) (told occupied last es))
     refl
-    (ap (λ (k : Handed). getsSent occupied es + oneGet k) (handed-out-by-table occupied es tr))
-    (handed-out-by-table occupied es tr)
-    ∙ ap (onward (member (startingPool occupied)) (Received tr)) (table-is-story occupied es)
+    (ap (λ (k : Handed). getsSent occupied last es + oneGet k) e)
+    e
+    (step-picked (run occupied last es) tr ∙ ap (pickedThen (run occupied last es .picked) tr) e)
+    ∙ ap (onward (member (startingPool occupied)) (Received tr)) (table-is-story occupied last es)

@@ -23,7 +23,7 @@ use Rattle.arp.specs.Handing.{Kept}
 use Rattle.arp.specs.Sound.{Pending, PendingIn}
 use Rattle.arp.specs.Bindings.{freedAt, freed, boundAt, bound}
 use Rattle.slots.specs.Finding.{findFrom}
-use Rattle.arp.specs.Controller.{handed, counted, asked, chosen, issued, replied, changed, stepped}
+use Rattle.arp.specs.Controller.{handed, counted, asked, hasToPick, chosen, issued, replied, changed, stepped}
 use Rattle.arp.specs.History.{Event, Start, Received, run, oneGet, getsSent}
 use Rattle.hearing.specs.Told.{tells, noCommand}
 use Rattle.commands.specs.declared.command.Command.the-variants.{GetUdid, Assign}
@@ -67,9 +67,9 @@ from : (s r : Controller) (x : Stepped) → r .gets ≡ s .gets → Kept r x →
 from s r x e h = record { last = h .last; gets = h .gets ∙ ap (λ (n : ℕ). n + oneGet (x .command)) e }
 
 module _ (s : Controller) where
-  issued-handed : (u : Udid) (k : Free) → Kept s (issued (freed s u) u k)
-  issued-handed u (At a) = from s (freed s u) (issued (freed s u) u (At a)) (freed-keeps-gets s u) (plain (freed s u) (Send (Assign u a)) refl)
-  issued-handed u AllUsed = from s (freed s u) (issued (freed s u) u AllUsed) (freed-keeps-gets s u) (plain (freed s u) (Wait (NoneFree u)) refl)
+  issued-handed : (u : Udid) (picks : Bool) (k : Free) → Kept s (issued (freed s u) u picks k)
+  issued-handed u picks (At a) = record { last = refl; gets = omega (arith, freed-keeps-gets s u) }
+  issued-handed u picks AllUsed = from s (freed s u) (issued (freed s u) u picks AllUsed) (freed-keeps-gets s u) (plain (freed s u) (Wait (NoneFree u)) refl)
 
   -- whatever is told where a command is outstanding is handed out and kept
   told-kept : (t : Told) → (t ≡ Unasked → ⊥) → Kept s (changed s t)
@@ -77,7 +77,7 @@ module _ (s : Controller) where
   told-kept Again n = asked-handed s
   told-kept Over n = plain s (Wait Ended) refl
   told-kept GivenUp n = plain s (Wait Abandoned) refl
-  told-kept (Reply u b) n = issued-handed u (chosen (freed s u .pool) u b)
+  told-kept (Reply u b) n = issued-handed u (hasToPick (freed s u .pool) u b) (chosen (freed s u .pool) (freed s u .picked) u b)
   told-kept (Took u a) n = from s (bound s u (a .0)) (asked (bound s u (a .0))) (bound-keeps-gets s u (a .0)) (asked-handed (bound s u (a .0)))
   told-kept Unasked n = absurd (n refl)
 
@@ -95,24 +95,24 @@ module _ (s : Controller) where
       go (Wait e) = inl (refl, refl)
 
 -- the count in the state is that of the Get UDIDs handed out in this pass
-pub gets-are-sent : (occupied : Pool) (es : List Event) → run occupied es .gets ≡ getsSent occupied es
+pub gets-are-sent : (occupied : Pool) (last : ℕ) (es : List Event) → run occupied last es .gets ≡ getsSent occupied last es
 unfolding run getsSent
-gets-are-sent occupied [] = refl
-gets-are-sent occupied (Start ∷ es) = refl
-gets-are-sent occupied (Received tr ∷ es) = go (step-21-or-handed (run occupied es) tr) (gets-are-sent occupied es)
+gets-are-sent occupied last [] = refl
+gets-are-sent occupied last (Start ∷ es) = refl
+gets-are-sent occupied last (Received tr ∷ es) = go (step-21-or-handed (run occupied last es) tr) (gets-are-sent occupied last es)
   where
-    go : ((stepped (run occupied es) tr .command ≡ Wait NotOutstanding) × (stepped (run occupied es) tr .state ≡ run occupied es)) ⊎ Kept (run occupied es) (stepped (run occupied es) tr)
-        → run occupied es .gets ≡ getsSent occupied es
-        → stepped (run occupied es) tr .state .gets ≡ getsSent occupied es + oneGet (stepped (run occupied es) tr .command)
-    go (inl h) e = ap (λ (x : Controller). x .gets) (h .1) ∙ e ∙ sym (ap (λ (k : Handed). getsSent occupied es + oneGet k) (h .0) ∙ add-zero (getsSent occupied es))
-    go (inr h) e = h .gets ∙ ap (λ (n : ℕ). n + oneGet (stepped (run occupied es) tr .command)) e
+    go : ((stepped (run occupied last es) tr .command ≡ Wait NotOutstanding) × (stepped (run occupied last es) tr .state ≡ run occupied last es)) ⊎ Kept (run occupied last es) (stepped (run occupied last es) tr)
+        → run occupied last es .gets ≡ getsSent occupied last es
+        → stepped (run occupied last es) tr .state .gets ≡ getsSent occupied last es + oneGet (stepped (run occupied last es) tr .command)
+    go (inl h) e = ap (λ (x : Controller). x .gets) (h .1) ∙ e ∙ sym (ap (λ (k : Handed). getsSent occupied last es + oneGet k) (h .0) ∙ add-zero (getsSent occupied last es))
+    go (inr h) e = h .gets ∙ ap (λ (n : ℕ). n + oneGet (stepped (run occupied last es) tr .command)) e
 
 -- an Assign that names an address in use is for a fixed target: only these are ever claimed by two
-pub claims-are-fixed : (occupied : Pool) (es : List Event) (u : Udid) (a : Address) → run occupied es .last ≡ Send (Assign u a) → member (run occupied es .pool) (a .0) ≡ true → isFixed u ≡ true
-claims-are-fixed occupied es u a e h = go (isFixed u) refl
+pub claims-are-fixed : (occupied : Pool) (last : ℕ) (es : List Event) (u : Udid) (a : Address) → run occupied last es .last ≡ Send (Assign u a) → member (run occupied last es .pool) (a .0) ≡ true → isFixed u ≡ true
+claims-are-fixed occupied last es u a e h = go (isFixed u) refl
   where
-    p : Pending (run occupied es) u (a .0)
-    p = subst (PendingIn (run occupied es)) e (reached-good occupied es .1)
+    p : Pending (run occupied last es) u (a .0)
+    p = subst (PendingIn (run occupied last es)) e (reached-good occupied last es .1)
 
     go : (b : Bool) → isFixed u ≡ b → isFixed u ≡ true
     go true q = q

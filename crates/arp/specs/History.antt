@@ -1,5 +1,5 @@
 -- The states that a controller reaches, by starts and received traces in any order, and what holds in all of them.
-use Prim.Native.Nat.{ℕ, _+_, _≤_}
+use Prim.Native.Nat.{ℕ, _+_, _≤_, _<_}
 use mathlib.Core.Path.{_≡_}
 use mathlib.Core.Bool.{Bool, true, false}
 use mathlib.Core.List.{List, [], _∷_}
@@ -36,26 +36,29 @@ withTraces (tr ∷ trs) es = Received tr ∷ withTraces trs es
 abbrev pub tracesAlone : List (List ℕ) → List Event
 tracesAlone trs = withTraces trs []
 
--- the state after events, the latest first, of a controller that was made with these addresses occupied
-unfoldable pub run : Pool → List Event → Controller
-run occupied [] = newController occupied
-run occupied (Start ∷ es) = started (run occupied es) .state
-run occupied (Received tr ∷ es) = stepped (run occupied es) tr .state
+-- the state after events, the latest first, of a controller that was made with these addresses occupied and this last pick
+unfoldable pub run : Pool → ℕ → List Event → Controller
+run occupied last [] = newController occupied last
+run occupied last (Start ∷ es) = started (run occupied last es) .state
+run occupied last (Received tr ∷ es) = stepped (run occupied last es) tr .state
 
--- a new controller: the starting pool in both places, nothing bound or claimed, no Get UDID counted, and nothing handed out
-pub record New (occupied : Pool) (s : Controller) : Type 0 where
+-- a new controller: the starting pool in both places, nothing bound or claimed, no Get UDID counted, nothing handed out, and the last pick as given;
+-- a number above 127 is never picked
+pub record New (occupied : Pool) (l : ℕ) (s : Controller) : Type 0 where
   pub starting : s .starting ≡ startingPool occupied
   pub pool : s .pool ≡ startingPool occupied
   pub held : (a : ℕ) → heldAt (s .slots) a ≡ Open
   pub gets : s .gets ≡ 0
   pub last : s .last ≡ Wait Nothing
+  pub picked : l < 128 → s .picked ≡ l
+  pub never : 127 < l → s .picked ≡ 127
 
 -- since the latest start, an Assign of a to u was outstanding and the trace received was that Assign, whole: every byte acknowledged
-unfoldable pub Acknowledged : Pool → List Event → Udid → ℕ → Type 0
-Acknowledged occupied [] u a = ⊥
-Acknowledged occupied (Start ∷ es) u a = ⊥
-Acknowledged occupied (Received tr ∷ es) u a =
-    ((run occupied es .last ≡ Send (Assign u (record { 0 = a }))) × (tr ≡ traceOf (Send (Assign u (record { 0 = a }))) [])) ⊎ Acknowledged occupied es u a
+unfoldable pub Acknowledged : Pool → ℕ → List Event → Udid → ℕ → Type 0
+Acknowledged occupied last [] u a = ⊥
+Acknowledged occupied last (Start ∷ es) u a = ⊥
+Acknowledged occupied last (Received tr ∷ es) u a =
+    ((run occupied last es .last ≡ Send (Assign u (record { 0 = a }))) × (tr ≡ traceOf (Send (Assign u (record { 0 = a }))) [])) ⊎ Acknowledged occupied last es u a
 
 abbrev pub isHeld : Binding → Bool
 isHeld Open = false
@@ -85,6 +88,8 @@ pub record Invariant (occupied : Pool) (s : Controller) : Type 0 where
   -- there is a slot for each address, and at most 128 Get UDIDs were sent
   pub size : Sized128 (s .slots)
   pub gets : s .gets ≤ 128
+  -- the last pick is an address
+  pub picked : s .picked < 128
 
 -- 1 for a Get UDID
 abbrev pub oneGet : Handed → ℕ
@@ -94,7 +99,7 @@ oneGet (Send (Assign u a)) = 0
 oneGet (Wait e) = 0
 
 -- how many Get UDIDs were handed out since the latest start
-unfoldable pub getsSent : Pool → List Event → ℕ
-getsSent occupied [] = 0
-getsSent occupied (Start ∷ es) = 0
-getsSent occupied (Received tr ∷ es) = getsSent occupied es + oneGet (stepped (run occupied es) tr .command)
+unfoldable pub getsSent : Pool → ℕ → List Event → ℕ
+getsSent occupied last [] = 0
+getsSent occupied last (Start ∷ es) = 0
+getsSent occupied last (Received tr ∷ es) = getsSent occupied last es + oneGet (stepped (run occupied last es) tr .command)

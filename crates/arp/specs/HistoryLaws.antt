@@ -19,6 +19,7 @@ use Rattle.pool.specs.declared.free.Free.the-variants.{At, AllUsed}
 use Rattle.udid.specs.Udids.{Fits}
 use Rattle.udid.specs.declared.Udid.{Udid}
 use Rattle.arp.specs.ChosenLaws.{chosen-small-and-free}
+use Rattle.arp.specs.LastPickLaws.{last-pick-is, last-pick-above, last-pick-small}
 use Rattle.arp.specs.SoundLaws.{sound-open, sound-freed, sound-bound}
 use Rattle.slots.specs.SlotsLaws.{open-all}
 use Rattle.arp.specs.ChangedLaws.{by-told}
@@ -27,7 +28,7 @@ use Rattle.arp.specs.Sound.{SoundIn, Good, Pending, PendingIn, GoodState
 use Rattle.arp.specs.Bindings.{freedAt, freed, boundAt, bound}
 use Rattle.slots.specs.Finding.{findFrom}
 use Rattle.slots.specs.Slots.{heldAt}
-use Rattle.arp.specs.Controller.{newController, handed, counted, asked, chosen, issued, replied, changed, stepped}
+use Rattle.arp.specs.Controller.{newController, handed, counted, asked, hasToPick, chosen, issued, replied, changed, stepped}
 use Rattle.arp.specs.History.{Event, Start, Received, run, isHeld, Invariant, New}
 use Rattle.commands.specs.declared.command.Command.the-variants.{GetUdid}
 use Rattle.commands.specs.declared.command.End.the-variants.{Ended, Abandoned}
@@ -46,14 +47,14 @@ module _ (occupied : Pool) where
   good-asked s g = go (leb 128 (s .gets)) refl
     where
       go : (t : Bool) → leb 128 (s .gets) ≡ t → GoodState occupied (pick t (handed s (Wait Abandoned)) (handed (counted s) (Send GetUdid)) .state)
-      go true e = (record { sound = g .sound; gets = g .gets; starting = g .starting }, tt)
-      go false e = (record { sound = g .sound; gets = (let l = leb-false 128 (s .gets) e in omega arith); starting = g .starting }, tt)
+      go true e = (record { sound = g .sound; gets = g .gets; starting = g .starting; picked = g .picked }, tt)
+      go false e = (record { sound = g .sound; gets = (let l = leb-false 128 (s .gets) e in omega arith); starting = g .starting; picked = g .picked }, tt)
 
   good-ended : (s : Controller) → Good occupied s → GoodState occupied (handed s (Wait Ended) .state)
-  good-ended s g = (record { sound = g .sound; gets = g .gets; starting = g .starting }, tt)
+  good-ended s g = (record { sound = g .sound; gets = g .gets; starting = g .starting; picked = g .picked }, tt)
 
   good-abandoned : (s : Controller) → Good occupied s → GoodState occupied (handed s (Wait Abandoned) .state)
-  good-abandoned s g = (record { sound = g .sound; gets = g .gets; starting = g .starting }, tt)
+  good-abandoned s g = (record { sound = g .sound; gets = g .gets; starting = g .starting; picked = g .picked }, tt)
 
   -- unbinding and binding change the pool and the slots alone
   good-freed : (s : Controller) (u : Udid) → Good occupied s → Good occupied (freed s u)
@@ -62,7 +63,7 @@ module _ (occupied : Pool) where
     where
       go : (t : Bool) → SoundIn (pick t s (freedAt s (findFrom u (s .slots) 128 0))) → Good occupied (pick t s (freedAt s (findFrom u (s .slots) 128 0)))
       go true v = g
-      go false v = record { sound = v; gets = g .gets; starting = g .starting }
+      go false v = record { sound = v; gets = g .gets; starting = g .starting; picked = g .picked }
 
   good-bound : (s : Controller) (u : Udid) (a : ℕ) → Good occupied s → Pending s u a → Good occupied (bound s u a)
   unfolding bound
@@ -70,20 +71,27 @@ module _ (occupied : Pool) where
     where
       go : (t : Bool) → SoundIn (pick t s (boundAt s u a)) → Good occupied (pick t s (boundAt s u a))
       go true v = g
-      go false v = record { sound = v; gets = g .gets; starting = g .starting }
+      go false v = record { sound = v; gets = g .gets; starting = g .starting; picked = g .picked }
 
   good-replied : (s : Controller) (u : Udid) (b : ℕ) → Good occupied s → Fits u → b < 256 → GoodState occupied (replied s u b .state)
   unfolding replied
-  good-replied s u b g f h = go (chosen (freed s u .pool) u b) refl
+  good-replied s u b g f h = go (chosen (freed s u .pool) (freed s u .picked) u b) refl
     where
       v : Good occupied (freed s u)
       v = good-freed s u g
 
-      go : (k : Free) → chosen (freed s u .pool) u b ≡ k → GoodState occupied (issued (freed s u) u k .state)
+      picks : Bool
+      picks = hasToPick (freed s u .pool) u b
+
+      either : (t : Bool) (a : ℕ) → a < 128 → pick t a (freed s u .picked) < 128
+      either true a l = l
+      either false a l = v .picked
+
+      go : (k : Free) → chosen (freed s u .pool) (freed s u .picked) u b ≡ k → GoodState occupied (issued (freed s u) u picks k .state)
       go (At a) e =
-          let c = chosen-small-and-free (freed s u .pool) u b a h e in
-          (record { sound = v .sound; gets = v .gets; starting = v .starting }, record { small = c .0; unbound = sound-freed s u (g .sound) .1; fits = f; free = c .1 })
-      go AllUsed e = (record { sound = v .sound; gets = v .gets; starting = v .starting }, tt)
+          let c = chosen-small-and-free (freed s u .pool) (freed s u .picked) u b a h e in
+          (record { sound = v .sound; gets = v .gets; starting = v .starting; picked = either picks (a .0) (c .0) }, record { small = c .0; unbound = sound-freed s u (g .sound) .1; fits = f; free = c .1 })
+      go AllUsed e = (record { sound = v .sound; gets = v .gets; starting = v .starting; picked = v .picked }, tt)
 
   pub step-keeps-good : (s : Controller) (tr : List ℕ) → GoodState occupied s → GoodState occupied (stepped s tr .state)
   unfolding stepped
@@ -98,20 +106,21 @@ module _ (occupied : Pool) where
       go Unasked h = g
 
   -- EVERY STATE
-  pub reached-good : (es : List Event) → GoodState occupied (run occupied es)
+  pub reached-good : (last : ℕ) (es : List Event) → GoodState occupied (run occupied last es)
   unfolding run
-  reached-good [] = (record { sound = sound-open (startingPool occupied); gets = omega arith; starting = refl }, tt)
-  reached-good (Start ∷ es) =
-      (record { sound = sound-open (run occupied es .starting); gets = omega arith; starting = reached-good es .0 .starting }, tt)
-  reached-good (Received tr ∷ es) = step-keeps-good (run occupied es) tr (reached-good es)
+  reached-good last [] = (record { sound = sound-open (startingPool occupied); gets = omega arith; starting = refl; picked = last-pick-small last }, tt)
+  reached-good last (Start ∷ es) =
+      let g = reached-good last es .0 in
+      (record { sound = sound-open (run occupied last es .starting); gets = omega arith; starting = g .starting; picked = g .picked }, tt)
+  reached-good last (Received tr ∷ es) = step-keeps-good (run occupied last es) tr (reached-good last es)
 
 -- ---- the invariant, as specs/History.antt has it
 
 -- EVERY STATE that starts and received traces reach
-pub reached-invariant : (occupied : Pool) (es : List Event) → Invariant occupied (run occupied es)
+pub reached-invariant : (occupied : Pool) (last : ℕ) (es : List Event) → Invariant occupied (run occupied last es)
 unfolding used
-reached-invariant occupied es = record {
-  starting = reached-good occupied es .0 .starting;
+reached-invariant occupied last es = record {
+  starting = reached-good occupied last es .0 .starting;
   contains = λ a e. v .exact a ∙ ap (λ (b : Bool). or b (isHeld (heldAt (s .slots) a))) e;
   bound-used = λ a u e. held-used a (Bound u) e refl;
   bound-new = λ a u e. v .new a u e;
@@ -121,22 +130,31 @@ reached-invariant occupied es = record {
   claimed-used = λ a e. held-used a Claimed e refl;
   number = count-split (member (s .starting)) (λ a. isHeld (heldAt (s .slots) a)) (member (s .pool)) 128 (λ a h. v .exact a);
   size = v .size;
-  gets = reached-good occupied es .0 .gets;
+  gets = reached-good occupied last es .0 .gets;
+  picked = reached-good occupied last es .0 .picked;
 }
   where
     s : Controller
-    s = run occupied es
+    s = run occupied last es
 
-    v : SoundIn (run occupied es)
-    v = reached-good occupied es .0 .sound
+    v : SoundIn (run occupied last es)
+    v = reached-good occupied last es .0 .sound
 
-    held-used : (a : ℕ) (x : Binding) → heldAt (run occupied es .slots) a ≡ x → isHeld x ≡ true → member (run occupied es .pool) a ≡ true
-    held-used a x e f = v .exact a ∙ ap (λ (b : Binding). or (member (run occupied es .starting) a) (isHeld b)) e ∙ ap (or (member (run occupied es .starting) a)) f ∙ or-last (member (run occupied es .starting) a)
+    held-used : (a : ℕ) (x : Binding) → heldAt (run occupied last es .slots) a ≡ x → isHeld x ≡ true → member (run occupied last es .pool) a ≡ true
+    held-used a x e f = v .exact a ∙ ap (λ (b : Binding). or (member (run occupied last es .starting) a) (isHeld b)) e ∙ ap (or (member (run occupied last es .starting) a)) f ∙ or-last (member (run occupied last es .starting) a)
 
     same : {u w : Udid} → Bound u ≡ Bound w → u ≡ w
     same e = cc e
 
 -- ---- a new controller
 
-pub new-controller-is-new : (occupied : Pool) → New occupied (newController occupied)
-new-controller-is-new occupied = record { starting = refl; pool = refl; held = open-all; gets = refl; last = refl }
+pub new-controller-is-new : (occupied : Pool) (last : ℕ) → New occupied last (newController occupied last)
+new-controller-is-new occupied last = record {
+  starting = refl;
+  pool = refl;
+  held = open-all;
+  gets = refl;
+  last = refl;
+  picked = last-pick-is last;
+  never = last-pick-above last;
+}

@@ -6,6 +6,7 @@ pub mod Numbers
 pub mod History
 pub mod Sound
 pub mod Handing
+pub mod RunPicks
 pub mod Replay
 pub mod Reading
 pub mod Story
@@ -15,7 +16,9 @@ pub mod StateLaws
 pub mod HeardLaws
 pub mod BindingLaws
 pub mod SoundLaws
+pub mod FreeAfterLaws
 pub mod ChosenLaws
+pub mod LastPickLaws
 pub mod HistoryLaws
 pub mod HandingLaws
 pub mod LookupLaws
@@ -24,6 +27,8 @@ pub mod OutstandingLaws
 pub mod OneStepLaws
 pub mod OneResultLaws
 pub mod ReadingLaws
+pub mod PickedLaws
+pub mod RunPicksLaws
 pub mod TableLaws
 pub mod HandedOutLaws
 pub mod NoneFreeLaws

@@ -17,9 +17,8 @@ use Rattle.scan.specs.NumberLaws.{refusal-is-not-0}
 use Rattle.scan.specs.Numbers.{refusalNumber, decodeNumber}
 use Rattle.scan.specs.declared.answer.Decoded.{Decoded}
 use Rattle.scan.specs.declared.answer.Decoded.the-variants.{Done, Refused}
-use Rattle.pool.specs.Free.{lowestFree}
-use Rattle.pool.specs.Free.{Lowest}
-use Rattle.pool.specs.FreeLaws.{lowest-is, none-free}
+use Rattle.pool.specs.NextFree.{nextFree, Next}
+use Rattle.pool.specs.NextFreeLaws.{next-is, next-none}
 use Rattle.pool.specs.Pools.{member}
 use Rattle.pool.specs.declared.Pool.{Pool}
 use Rattle.pool.specs.declared.free.Free.{Free}
@@ -107,21 +106,22 @@ reply-or-not s tr = go (answer blockRead tr) refl
 
 -- ---- what two results agree with
 
-hands-both : (s : Controller) (r q : Stepped) (k : Handed) (n : ℕ) → Hands s r k n → Hands s q k n → ((a : ℕ) → Same (q .state) (r .state) a) → Alike r q
-hands-both s r q k n h g e = record {
+hands-both : (s : Controller) (r q : Stepped) (k : Handed) (n : ℕ) → Hands s r k n → Hands s q k n → r .state .picked ≡ q .state .picked → ((a : ℕ) → Same (q .state) (r .state) a) → Alike r q
+hands-both s r q k n h g l e = record {
   command = h .command ∙ sym (g .command);
   last = h .last ∙ sym (g .last);
   gets = h .gets ∙ sym (g .gets);
   starting = h .starting ∙ sym (g .starting);
+  picked = l;
   same = e;
 }
 
-asks-both : (s : Controller) (r q : Stepped) → Asks s r → Asks s q → ((a : ℕ) → Same (q .state) (r .state) a) → Alike r q
-asks-both s r q h g e = go (decLt (s .gets) 128)
+asks-both : (s : Controller) (r q : Stepped) → Asks s r → Asks s q → r .state .picked ≡ q .state .picked → ((a : ℕ) → Same (q .state) (r .state) a) → Alike r q
+asks-both s r q h g p e = go (decLt (s .gets) 128)
   where
     go : Dec (s .gets < 128) → Alike r q
-    go (yes l) = hands-both s r q _ _ (h .again l) (g .again l) e
-    go (no l) = hands-both s r q _ _ (h .limit (omega arith)) (g .limit (omega arith)) e
+    go (yes l) = hands-both s r q _ _ (h .again l) (g .again l) p e
+    go (no l) = hands-both s r q _ _ (h .limit (omega arith)) (g .limit (omega arith)) p e
 
 keeps-both : (s t v : Controller) → Keeps s t → Keeps s v → (a : ℕ) → Same v t a
 keeps-both s t v h g a = (
@@ -130,16 +130,16 @@ keeps-both s t v h g a = (
 )
 
 pub continues-alike : (s : Controller) (r q : Stepped) → Continues s r → Continues s q → Alike r q
-continues-alike s r q h g = asks-both s r q (h .0) (g .0) (keeps-both s (r .state) (q .state) (h .1) (g .1))
+continues-alike s r q h g = asks-both s r q (h .0) (g .0) (h .1 .picked ∙ sym (g .1 .picked)) (keeps-both s (r .state) (q .state) (h .1) (g .1))
 
 pub ends-alike : (s : Controller) (r q : Stepped) (k : Handed) → EndsWith s r k → EndsWith s q k → Alike r q
-ends-alike s r q k h g = hands-both s r q k (s .gets) (h .0) (g .0) (keeps-both s (r .state) (q .state) (h .1) (g .1))
+ends-alike s r q k h g = hands-both s r q k (s .gets) (h .0) (g .0) (h .1 .picked ∙ sym (g .1 .picked)) (keeps-both s (r .state) (q .state) (h .1) (g .1))
 
 same-both : (s t v : Controller) (a : ℕ) → Same s t a → Same s v a → Same v t a
 same-both s t v a h g = (h .0 ∙ sym (g .0), h .1 ∙ sym (g .1))
 
 pub binds-alike : (u : Udid) (n : ℕ) (s : Controller) (r q : Stepped) → Asks s r × Binds u n s (r .state) → Asks s q × Binds u n s (q .state) → Alike r q
-binds-alike u n s r q h g = asks-both s r q (h .0) (g .0) (λ a. at a (ℕ-discrete a n) (member (s .pool) n) refl)
+binds-alike u n s r q h g = asks-both s r q (h .0) (g .0) (h .1 .picked ∙ sym (g .1 .picked)) (λ a. at a (ℕ-discrete a n) (member (s .pool) n) refl)
   where
     at : (a : ℕ) → Dec (a ≡ n) → (b : Bool) → member (s .pool) n ≡ b → Same (q .state) (r .state) a
     at a (no m) b e = same-both s (r .state) (q .state) a (h .1 .elsewhere a m) (g .1 .elsewhere a m)
@@ -183,45 +183,49 @@ unbinds-both u s t v h g a = go (bound-at (s .slots) u a)
     go (yes w) = (h .there a w .0 ∙ sym (g .there a w .0), h .there a w .1 ∙ sym (g .there a w .1))
     go (no n) = same-both s t v a (h .elsewhere a n) (g .elsewhere a n)
 
--- one choice, where the pools have the same addresses
-chooses-both : (p o : Pool) (u : Udid) (b : ℕ) (k m : Handed) → ((a : ℕ) → member p a ≡ member o a) → Chooses p u b k → Chooses o u b m → k ≡ m
-chooses-both p o u b k m e h g = go (ℕ-discrete b 0xFF) (decLt (getD (udidBytes u) 0 0) 64) (member p (b / 2)) refl
+-- one choice and one last pick, where the pools have the same addresses
+chooses-both : (p o : Pool) (last : ℕ) (u : Udid) (b : ℕ) (k m : Handed) (x y : ℕ) → last < 128 → ((a : ℕ) → member p a ≡ member o a)
+    → Chooses p last u b k x → Chooses o last u b m y → (k ≡ m) × (x ≡ y)
+chooses-both p o last u b k m x y small e h g = go (ℕ-discrete b 0xFF) (decLt (getD (udidBytes u) 0 0) 64) (member p (b / 2)) refl
   where
-    Picks : Pool → Type 0
-    Picks x = (b ≡ 0xFF) ⊎ ((64 ≤ getD (udidBytes u) 0 0) × (member x (b / 2) ≡ true))
+    To-pick : Pool → Type 0
+    To-pick z = (b ≡ 0xFF) ⊎ ((64 ≤ getD (udidBytes u) 0 0) × (member z (b / 2) ≡ true))
 
-    pick-one : Picks p → Picks o → (f : Free) → lowestFree p ≡ f → k ≡ m
-    pick-one w x (At a) q = h .picked w (a .0) l ∙ sym (g .picked x (a .0) there)
+    one : {l n : Handed} {i j : ℕ} → (k ≡ l) × (x ≡ i) → (m ≡ n) × (y ≡ j) → l ≡ n → i ≡ j → (k ≡ m) × (x ≡ y)
+    one v w q r = (v .0 ∙ q ∙ sym (w .0), v .1 ∙ r ∙ sym (w .1))
+
+    pick-one : To-pick p → To-pick o → (f : Free) → nextFree p last ≡ f → (k ≡ m) × (x ≡ y)
+    pick-one v w (At a) q = one (h .picked v (a .0) l) (g .picked w (a .0) there) refl refl
       where
-        l : Lowest p (a .0)
-        l = lowest-is p (a .0) .0 q
+        l : Next p last (a .0)
+        l = next-is p last (a .0) small .0 q
 
-        there : Lowest o (a .0)
-        there = record { small = l .small; free = sym (e (a .0)) ∙ l .free; below = λ c k. sym (e c) ∙ l .below c k }
-    pick-one w x AllUsed q = h .none-free w (none-free p .0 q) ∙ sym (g .none-free x (λ c l. sym (e c) ∙ none-free p .0 q c l))
+        there : Next o last (a .0)
+        there = record { small = l .small; free = sym (e (a .0)) ∙ l .free; nearest = λ c n i. l .nearest c n (e c ∙ i) }
+    pick-one v w AllUsed q = one (h .none-free v (next-none p last .0 q)) (g .none-free w (λ c l. sym (e c) ∙ next-none p last .0 q c l)) refl refl
 
-    go : Dec (b ≡ 0xFF) → Dec (getD (udidBytes u) 0 0 < 64) → (t : Bool) → member p (b / 2) ≡ t → k ≡ m
-    go (yes q) d t z = pick-one (inl q) (inl q) (lowestFree p) refl
-    go (no n) (yes l) t z = h .fixed n l ∙ sym (g .fixed n l)
-    go (no n) (no l) false z = h .own n (omega arith) z ∙ sym (g .own n (omega arith) (sym (e (b / 2)) ∙ z))
-    go (no n) (no l) true z = pick-one (inr (omega arith, z)) (inr (omega arith, sym (e (b / 2)) ∙ z)) (lowestFree p) refl
+    go : Dec (b ≡ 0xFF) → Dec (getD (udidBytes u) 0 0 < 64) → (t : Bool) → member p (b / 2) ≡ t → (k ≡ m) × (x ≡ y)
+    go (yes q) d t z = pick-one (inl q) (inl q) (nextFree p last) refl
+    go (no n) (yes l) t z = one (h .fixed n l) (g .fixed n l) refl refl
+    go (no n) (no l) false z = one (h .own n (omega arith) z) (g .own n (omega arith) (sym (e (b / 2)) ∙ z)) refl refl
+    go (no n) (no l) true z = pick-one (inr (omega arith, z)) (inr (omega arith, sym (e (b / 2)) ∙ z)) (nextFree p last) refl
 
-pub replies-alike : (s : Controller) (u : Udid) (b : ℕ) (r q : Stepped) → Replies s u b r → Replies s u b q → Alike r q
-replies-alike s u b r q h g =
+pub replies-alike : (s : Controller) (u : Udid) (b : ℕ) (r q : Stepped) → s .picked < 128 → Replies s u b r → Replies s u b q → Alike r q
+replies-alike s u b r q small h g =
     let e : (a : ℕ) → Same (q .state) (r .state) a = unbinds-both u s (r .state) (q .state) (h .unbinds) (g .unbinds) in
-    let k : r .command ≡ q .command = chooses-both (r .state .pool) (q .state .pool) u b (r .command) (q .command) (λ a. e a .1) (h .chooses) (g .chooses) in
-    hands-both s r q (q .command) (s .gets) (subst (λ (x : Handed). Hands s r x (s .gets)) k (h .hands)) (g .hands) e
+    let k = chooses-both (r .state .pool) (q .state .pool) (s .picked) u b (r .command) (q .command) (r .state .picked) (q .state .picked) small (λ a. e a .1) (h .chooses) (g .chooses) in
+    hands-both s r q (q .command) (s .gets) (subst (λ (x : Handed). Hands s r x (s .gets)) (k .0) (h .hands)) (g .hands) (k .1) e
 
 -- and it is an address, or none is free
-pub chooses-address-or-none : (p : Pool) (u : Udid) (b : ℕ) (k : Handed) → Chooses p u b k → ((a : Address) × (k ≡ Send (Assign u a))) ⊎ (k ≡ Wait (NoneFree u))
-chooses-address-or-none p u b k h = go (ℕ-discrete b 0xFF) (decLt (getD (udidBytes u) 0 0) 64) (member p (b / 2)) refl
+pub chooses-address-or-none : (p : Pool) (last : ℕ) (u : Udid) (b : ℕ) (k : Handed) (m : ℕ) → last < 128 → Chooses p last u b k m → ((a : Address) × (k ≡ Send (Assign u a))) ⊎ (k ≡ Wait (NoneFree u))
+chooses-address-or-none p last u b k m small h = go (ℕ-discrete b 0xFF) (decLt (getD (udidBytes u) 0 0) 64) (member p (b / 2)) refl
   where
-    pick-one : (b ≡ 0xFF) ⊎ ((64 ≤ getD (udidBytes u) 0 0) × (member p (b / 2) ≡ true)) → (f : Free) → lowestFree p ≡ f → ((a : Address) × (k ≡ Send (Assign u a))) ⊎ (k ≡ Wait (NoneFree u))
-    pick-one w (At a) q = inl (a, h .picked w (a .0) (lowest-is p (a .0) .0 q))
-    pick-one w AllUsed q = inr (h .none-free w (none-free p .0 q))
+    pick-one : (b ≡ 0xFF) ⊎ ((64 ≤ getD (udidBytes u) 0 0) × (member p (b / 2) ≡ true)) → (f : Free) → nextFree p last ≡ f → ((a : Address) × (k ≡ Send (Assign u a))) ⊎ (k ≡ Wait (NoneFree u))
+    pick-one w (At a) q = inl (a, h .picked w (a .0) (next-is p last (a .0) small .0 q) .0)
+    pick-one w AllUsed q = inr (h .none-free w (next-none p last .0 q) .0)
 
     go : Dec (b ≡ 0xFF) → Dec (getD (udidBytes u) 0 0 < 64) → (t : Bool) → member p (b / 2) ≡ t → ((a : Address) × (k ≡ Send (Assign u a))) ⊎ (k ≡ Wait (NoneFree u))
-    go (yes q) d t z = pick-one (inl q) (lowestFree p) refl
-    go (no n) (yes l) t z = inl (_, h .fixed n l)
-    go (no n) (no l) false z = inl (_, h .own n (omega arith) z)
-    go (no n) (no l) true z = pick-one (inr (omega arith, z)) (lowestFree p) refl
+    go (yes q) d t z = pick-one (inl q) (nextFree p last) refl
+    go (no n) (yes l) t z = inl (_, h .fixed n l .0)
+    go (no n) (no l) false z = inl (_, h .own n (omega arith) z .0)
+    go (no n) (no l) true z = pick-one (inr (omega arith, z)) (nextFree p last) refl

@@ -9,7 +9,7 @@ use lib.ListN.{length, getD}
 use Rattle.scan.specs.Numbers.{decodeNumber}
 use Rattle.scan.specs.declared.answer.Decoded.{Decoded}
 use Rattle.decode.specs.Outcome.{Outcome}
-use Rattle.pool.specs.Free.{Lowest}
+use Rattle.pool.specs.NextFree.{Next}
 use Rattle.pool.specs.Pools.{member}
 use Rattle.pool.specs.declared.Pool.{Pool}
 use Rattle.udid.specs.Bytes.{udidBytes}
@@ -52,22 +52,24 @@ pub record Asks (s : Controller) (r : Stepped) : Type 0 where
   pub again : s .gets < 128 → Hands s r (Send GetUdid) (s .gets + 1)
   pub limit : 128 ≤ s .gets → Hands s r (Wait Abandoned) (s .gets)
 
--- for a target with this identifier and this address byte, where the addresses of p are in use
-pub record Chooses (p : Pool) (u : Udid) (b : ℕ) (k : Handed) : Type 0 where
-  -- FFh, or movable (the top two bits not 00) with its own address in the pool: the lowest free one is assigned, and 13 if none is free
-  pub picked : (b ≡ 0xFF) ⊎ ((64 ≤ getD (udidBytes u) 0 0) × (member p (b / 2) ≡ true)) → (a : ℕ) → Lowest p a → k ≡ Send (Assign u (record { 0 = a }))
-  pub none-free : (b ≡ 0xFF) ⊎ ((64 ≤ getD (udidBytes u) 0 0) × (member p (b / 2) ≡ true)) → ((a : ℕ) → a < 128 → member p a ≡ true) → k ≡ Wait (NoneFree u)
+-- for a target with this identifier and this address byte, where the addresses of p are in use and l is the last pick; m is it then
+pub record Chooses (p : Pool) (l : ℕ) (u : Udid) (b : ℕ) (k : Handed) (m : ℕ) : Type 0 where
+  -- FFh, or movable (the top two bits not 00) with its own address in the pool: the first free one after the last pick is assigned, and is the last
+  -- pick then; 13 if none is free
+  pub picked : (b ≡ 0xFF) ⊎ ((64 ≤ getD (udidBytes u) 0 0) × (member p (b / 2) ≡ true)) → (a : ℕ) → Next p l a → (k ≡ Send (Assign u (record { 0 = a }))) × (m ≡ a)
+  pub none-free : (b ≡ 0xFF) ⊎ ((64 ≤ getD (udidBytes u) 0 0) × (member p (b / 2) ≡ true)) → ((a : ℕ) → a < 128 → member p a ≡ true) → (k ≡ Wait (NoneFree u)) × (m ≡ l)
   -- else fixed: its own
-  pub fixed : (b ≡ 0xFF → ⊥) → getD (udidBytes u) 0 0 < 64 → k ≡ Send (Assign u (record { 0 = b / 2 }))
+  pub fixed : (b ≡ 0xFF → ⊥) → getD (udidBytes u) 0 0 < 64 → (k ≡ Send (Assign u (record { 0 = b / 2 }))) × (m ≡ l)
   -- else movable with its own not in the pool: its own
-  pub own : (b ≡ 0xFF → ⊥) → 64 ≤ getD (udidBytes u) 0 0 → member p (b / 2) ≡ false → k ≡ Send (Assign u (record { 0 = b / 2 }))
+  pub own : (b ≡ 0xFF → ⊥) → 64 ≤ getD (udidBytes u) 0 0 → member p (b / 2) ≡ false → (k ≡ Send (Assign u (record { 0 = b / 2 }))) × (m ≡ l)
 
 -- ---- what becomes of the addresses
 
--- nothing is bound, unbound or claimed, and the pool stays
+-- nothing is bound, unbound or claimed, and the pool and the last pick stay
 pub record Keeps (s t : Controller) : Type 0 where
   pub slots : t .slots ≡ s .slots
   pub pool : t .pool ≡ s .pool
+  pub picked : t .picked ≡ s .picked
 
 -- what an address is known for and whether the pool has it are as they were
 abbrev pub Same : Controller → Controller → ℕ → Type 0
@@ -84,12 +86,13 @@ pub record Unbinds (u : Udid) (s t : Controller) : Type 0 where
   pub elsewhere : (a : ℕ) → (BoundAt (s .slots) u a → ⊥) → Same s t a
 
 -- the address is bound to the identifier, or, if it was in the pool just before, claimed by two; it is in the pool then, and every other
--- address is as it was
+-- address is as it was, and the last pick
 pub record Binds (u : Udid) (a : ℕ) (s t : Controller) : Type 0 where
   pub free : member (s .pool) a ≡ false → heldAt (t .slots) a ≡ Bound u
   pub taken : member (s .pool) a ≡ true → heldAt (t .slots) a ≡ Claimed
   pub used : member (t .pool) a ≡ true
   pub elsewhere : (b : ℕ) → (b ≡ a → ⊥) → Same s t b
+  pub picked : t .picked ≡ s .picked
 
 -- ---- both together
 
@@ -104,7 +107,7 @@ EndsWith s r k = Hands s r k (s .gets) × Keeps s (r .state)
 -- a reply with this identifier and this address byte: the identifier is unbound first, then an address is chosen
 pub record Replies (s : Controller) (u : Udid) (b : ℕ) (r : Stepped) : Type 0 where
   pub unbinds : Unbinds u s (r .state)
-  pub chooses : Chooses (r .state .pool) u b (r .command)
+  pub chooses : Chooses (r .state .pool) (s .picked) u b (r .command) (r .state .picked)
   pub hands : Hands s r (r .command) (s .gets)
 
 -- ---- two results are the same in all that these sentences speak of
@@ -114,4 +117,5 @@ pub record Alike (r q : Stepped) : Type 0 where
   pub last : r .state .last ≡ q .state .last
   pub gets : r .state .gets ≡ q .state .gets
   pub starting : r .state .starting ≡ q .state .starting
+  pub picked : r .state .picked ≡ q .state .picked
   pub same : (a : ℕ) → Same (q .state) (r .state) a

@@ -17,8 +17,8 @@ use Rattle.lists.specs.EachLaws.{append-bytes}
 use Rattle.wire.specs.declared.address.Address.{Address}
 use Rattle.scan.specs.declared.answer.Decoded.{Decoded}
 use Rattle.scan.specs.declared.answer.Decoded.the-variants.{Done, Refused}
-use Rattle.pool.specs.Free.{lowestFree}
-use Rattle.pool.specs.FreeLaws.{lowest-is, none-free}
+use Rattle.pool.specs.NextFree.{nextFree}
+use Rattle.pool.specs.NextFreeLaws.{next-is, next-none}
 use Rattle.pool.specs.MemberLaws.{has-with-same, has-with-other, has-without-same, has-without-other}
 use Rattle.pool.specs.Pools.{member}
 use Rattle.pool.specs.declared.Pool.{Pool}
@@ -28,10 +28,11 @@ use Rattle.udid.specs.Bytes.{udidBytes, udidAt}
 use Rattle.udid.specs.UdidLaws.{same-refl, length-udid, udid-bytes, udid-back, fixed-first, movable-first}
 use Rattle.udid.specs.Udids.{Fits}
 use Rattle.udid.specs.declared.Udid.{Udid}
-use Rattle.arp.specs.ChosenLaws.{chosen-ff-lowest, chosen-fixed-own, chosen-movable-own, chosen-movable-lowest}
+use Rattle.arp.specs.ChosenLaws.{ff-picks, fixed-picks-none, movable-picks, chosen-picked, chosen-own}
 use Rattle.arp.specs.HandingLaws.{bound-keeps-gets, freed-keeps-gets}
 use Rattle.arp.specs.HeardLaws.{six-exactly}
 use Rattle.arp.specs.OutstandingLaws.{idle-gives-21}
+use Rattle.arp.specs.PickedLaws.{freed-keeps-picked}
 use Rattle.commands.specs.RequestLaws.{reply-symbols, prepare-symbols, assign-symbols-small}
 use Rattle.arp.specs.SoundLaws.{bound-to-is-bound, open-is-not-bound, find-cases}
 use Rattle.slots.specs.SlotsLaws.{held-above-is-open, held-same, held-other}
@@ -40,7 +41,7 @@ use Rattle.hearing.specs.TraceLaws as traces
 use Rattle.arp.specs.Sound.{Nowhere}
 use Rattle.arp.specs.Bindings.{freedAt, freed, bindingFor, boundAt, bound}
 use Rattle.slots.specs.Finding.{boundTo, findFrom}
-use Rattle.arp.specs.Controller.{handed, counted, asked, chosen, issued, replied, changed, stepped}
+use Rattle.arp.specs.Controller.{handed, counted, asked, hasToPick, chosen, issued, replied, changed, stepped}
 use Rattle.hearing.specs.Heard.{answer, sentIn, isAssign}
 use Rattle.commands.specs.Codes.{blockWrite}
 use Rattle.commands.specs.CommandTraces.{prepareTrace, replyTrace, assignTrace}
@@ -83,14 +84,14 @@ unfolding asked
 keeps-asked s = go (leb 128 (s .gets))
   where
     go : (b : Bool) → Keeps s (pick b (handed s (Wait Abandoned)) (handed (counted s) (Send GetUdid)) .state)
-    go true = record { slots = refl; pool = refl }
-    go false = record { slots = refl; pool = refl }
+    go true = record { slots = refl; pool = refl; picked = refl }
+    go false = record { slots = refl; pool = refl; picked = refl }
 
 continues : (s : Controller) → Continues s (asked s)
 continues s = (asks s s refl refl, keeps-asked s)
 
 ends-with : (s : Controller) (k : Handed) → EndsWith s (handed s k) k
-ends-with s k = (hands s s k (s .gets) refl refl, record { slots = refl; pool = refl })
+ends-with s k = (hands s s k (s .gets) refl refl, record { slots = refl; pool = refl; picked = refl })
 
 -- ---- unbinding
 
@@ -165,6 +166,7 @@ module _ (s : Controller) (u : Udid) (a : ℕ) (size : Sized128 (s .slots)) (h :
     taken = λ e. slot-is true e;
     used = has-with-same (s .pool) a h;
     elsewhere = λ b n. (held-other (s .slots) a b (bindingFor (member (s .pool) a) u) n, has-with-other (s .pool) a b n);
+    picked = refl;
   }
 
   binds : Binds u a s (bound s u a)
@@ -181,6 +183,7 @@ binds-kept u a s t r b k = record {
     ap (λ (x : Slots). heldAt x c) (k .slots) ∙ b .elsewhere c n .0,
     ap (λ (p : Pool). member p c) (k .pool) ∙ b .elsewhere c n .1,
   );
+  picked = k .picked ∙ b .picked;
 }
 
 starting-bound : (s : Controller) (u : Udid) (a : ℕ) → bound s u a .starting ≡ s .starting
@@ -201,39 +204,64 @@ starting-freed s u = go (ltb 127 (findFrom u (s .slots) 128 0))
 
 -- ---- choosing
 
-module _ (p : Pool) (u : Udid) (b : ℕ) (f : Fits u) where
-  to-pick : (b ≡ 0xFF) ⊎ ((64 ≤ getD (udidBytes u) 0 0) × (member p (b / 2) ≡ true)) → chosen p u b ≡ lowestFree p
-  to-pick (inl e) = ap (chosen p u) e ∙ chosen-ff-lowest p u
+-- the last pick after a choice
+abbrev then : ℕ → Bool → Free → ℕ
+then last t (At a) = pick t (a .0) last
+then last t AllUsed = last
+
+module _ (p : Pool) (last : ℕ) (u : Udid) (b : ℕ) (small : last < 128) (f : Fits u) where
+  to-pick : (b ≡ 0xFF) ⊎ ((64 ≤ getD (udidBytes u) 0 0) × (member p (b / 2) ≡ true)) → hasToPick p u b ≡ true
+  to-pick (inl e) = ap (hasToPick p u) e ∙ ff-picks p u
   to-pick (inr w) = go (ℕ-discrete b 0xFF)
     where
-      go : Dec (b ≡ 0xFF) → chosen p u b ≡ lowestFree p
-      go (yes e) = ap (chosen p u) e ∙ chosen-ff-lowest p u
-      go (no n) = chosen-movable-lowest p u b n (movable-first u f .1 (w .0)) (w .1)
+      go : Dec (b ≡ 0xFF) → hasToPick p u b ≡ true
+      go (yes e) = ap (hasToPick p u) e ∙ ff-picks p u
+      go (no n) = movable-picks p u b n (movable-first u f .1 (w .0)) ∙ w .1
 
-  chooses : Chooses p u b (assigning u (chosen p u b))
+  picks : hasToPick p u b ≡ true → (g : Free) → nextFree p last ≡ g → (chosen p last u b ≡ g) × (hasToPick p u b ≡ true)
+  picks e g q = (chosen-picked p last u b e ∙ q, e)
+
+  keeps : hasToPick p u b ≡ false → (chosen p last u b ≡ At (record { 0 = b / 2 })) × (hasToPick p u b ≡ false)
+  keeps e = (chosen-own p last u b e, e)
+
+  both : (g : Free) (t : Bool) → (chosen p last u b ≡ g) × (hasToPick p u b ≡ t)
+      → (assigning u (chosen p last u b) ≡ assigning u g) × (then last (hasToPick p u b) (chosen p last u b) ≡ then last t g)
+  both g t e = (ap (assigning u) (e .0), ap₂ (then last) (e .1) (e .0))
+
+  chooses : Chooses p last u b (assigning u (chosen p last u b)) (then last (hasToPick p u b) (chosen p last u b))
   chooses = record {
-    picked = λ w a l. ap (assigning u) (to-pick w ∙ lowest-is p a .1 l);
-    none-free = λ w l. ap (assigning u) (to-pick w ∙ none-free p .1 l);
-    fixed = λ n l. ap (assigning u) (chosen-fixed-own p u b n (fixed-first u f .1 l));
-    own = λ n l m. ap (assigning u) (chosen-movable-own p u b n (movable-first u f .1 l) m);
+    picked = λ w a n. both (At (record { 0 = a })) true (picks (to-pick w) (At (record { 0 = a })) (next-is p last a small .1 n));
+    none-free = λ w l. both AllUsed true (picks (to-pick w) AllUsed (next-none p last .1 l));
+    fixed = λ n l. both (At (record { 0 = b / 2 })) false (keeps (fixed-picks-none p u b n (fixed-first u f .1 l)));
+    own = λ n l m. both (At (record { 0 = b / 2 })) false (keeps (movable-picks p u b n (movable-first u f .1 l) ∙ m));
   }
 
-module _ (s : Controller) (u : Udid) (b : ℕ) (f : Fits u) (size : Sized128 (s .slots)) where
-  replies-with : (k : Free) → k ≡ chosen (freed s u .pool) u b → Replies s u b (issued (freed s u) u k)
+module _ (s : Controller) (u : Udid) (b : ℕ) (small : s .picked < 128) (f : Fits u) (size : Sized128 (s .slots)) where
+  freed-small : freed s u .picked < 128
+  freed-small = omega (arith, freed-keeps-picked s u)
+
+  chooses-freed : (k : Free) → chosen (freed s u .pool) (freed s u .picked) u b ≡ k
+      → Chooses (freed s u .pool) (s .picked) u b (assigning u k) (then (freed s u .picked) (hasToPick (freed s u .pool) u b) k)
+  chooses-freed k e =
+      subst (λ (l : ℕ). Chooses (freed s u .pool) l u b (assigning u k) (then (freed s u .picked) (hasToPick (freed s u .pool) u b) k)) (freed-keeps-picked s u)
+      (subst (λ (x : Free). Chooses (freed s u .pool) (freed s u .picked) u b (assigning u x) (then (freed s u .picked) (hasToPick (freed s u .pool) u b) x)) e
+      (chooses (freed s u .pool) (freed s u .picked) u b freed-small f))
+
+  replies-with : (k : Free) → chosen (freed s u .pool) (freed s u .picked) u b ≡ k → Replies s u b (issued (freed s u) u (hasToPick (freed s u .pool) u b) k)
   replies-with (At a) e = record {
     unbinds = record { there = unbinds s u size .there; elsewhere = unbinds s u size .elsewhere };
-    chooses = subst (Chooses (freed s u .pool) u b) (ap (assigning u) (sym e)) (chooses (freed s u .pool) u b f);
-    hands = hands s (freed s u) (Send (Assign u a)) (s .gets) (freed-keeps-gets s u) (starting-freed s u);
+    chooses = chooses-freed (At a) e;
+    hands = record { command = refl; last = refl; gets = freed-keeps-gets s u; starting = starting-freed s u };
   }
   replies-with AllUsed e = record {
     unbinds = record { there = unbinds s u size .there; elsewhere = unbinds s u size .elsewhere };
-    chooses = subst (Chooses (freed s u .pool) u b) (ap (assigning u) (sym e)) (chooses (freed s u .pool) u b f);
+    chooses = chooses-freed AllUsed e;
     hands = hands s (freed s u) (Wait (NoneFree u)) (s .gets) (freed-keeps-gets s u) (starting-freed s u);
   }
 
   replies : Replies s u b (replied s u b)
   unfolding replied
-  replies = replies-with (chosen (freed s u .pool) u b) refl
+  replies = replies-with (chosen (freed s u .pool) (freed s u .picked) u b) refl
 
 -- ---- THE SENTENCES
 
@@ -288,8 +316,8 @@ module _ (s : Controller) (tr : List ℕ) where
       (continues s)
 
   -- a reply of 17 bytes
-  pub get-reply : Sized128 (s .slots) → s .last ≡ Send GetUdid → (u : Udid) (b : ℕ) → Fits u → b < 256 → tr ≡ replyTrace (udidBytes u ++ b ∷ []) → Replies s u b (stepped s tr)
-  get-reply size e u b f h q =
+  pub get-reply : Sized128 (s .slots) → s .picked < 128 → s .last ≡ Send GetUdid → (u : Udid) (b : ℕ) → Fits u → b < 256 → tr ≡ replyTrace (udidBytes u ++ b ∷ []) → Replies s u b (stepped s tr)
+  get-reply size small e u b f h q =
       let xs : List ℕ = udidBytes u ++ b ∷ [] in
       let n : length (udidBytes u ++ b ∷ []) ≡ 17 = omega (arith, length-append (udidBytes u) (b ∷ []), length-udid u) in
       let v : udidAt (udidBytes u ++ b ∷ []) 0 ≡ u = udid-back [] (b ∷ []) 0 u f refl in
@@ -298,7 +326,7 @@ module _ (s : Controller) (tr : List ℕ) where
       (sym (told-is-changed s tr (Send GetUdid) (Reply (udidAt (udidBytes u ++ b ∷ []) 0) (getD (udidBytes u ++ b ∷ []) 16 0)) e
       (traces.get-reply tr (udidBytes u ++ b ∷ []) (append-bytes (udidBytes u) (b ∷ []) (udid-bytes u) (h, tt)) (omega arith) (q ∙ sym (reply-symbols (udidBytes u ++ b ∷ []))) n)
       ∙ ap₂ (replied s) v g))
-      (replies s u b f size)
+      (replies s u b small f size)
 
   -- Assign complete: bind, and add to the pool; then Get UDID
   pub assign-whole : Sized128 (s .slots) → (u : Udid) (a : Address) → s .last ≡ Send (Assign u a) → Fits u → a .0 < 128 → tr ≡ assignTrace (udidBytes u) (2 * a .0)

@@ -18,7 +18,7 @@ use Rattle.arp.specs.HandingLaws.{busy-handed}
 use Rattle.hearing.specs.ToldLaws.{Known, told-known}
 use Rattle.arp.specs.Handing.{Kept}
 use Rattle.arp.specs.Bindings.{freed, bound}
-use Rattle.arp.specs.Controller.{newController, handed, counted, asked, chosen, issued, replied, changed, stepped}
+use Rattle.arp.specs.Controller.{newController, handed, counted, asked, hasToPick, chosen, issued, replied, changed, stepped}
 use Rattle.arp.specs.History.{Event, Start, Received, run, tracesAlone}
 use Rattle.arp.specs.Numbers.{endNumber, commandNumber}
 use Rattle.arp.specs.Replay.{Other, readAs, handedOut, SameOutstanding}
@@ -53,17 +53,17 @@ unfolding stepped
 busy-keeps s tr h = busy-handed s (s .last) tr h
 
 -- THE COMMAND OUTSTANDING is the one that was handed out last
-pub last-is-handed-out : (occupied : Pool) (es : List Event) → SameOutstanding (run occupied es .last) (handedOut occupied es)
+pub last-is-handed-out : (occupied : Pool) (last : ℕ) (es : List Event) → SameOutstanding (run occupied last es .last) (handedOut occupied last es)
 unfolding run handedOut
-last-is-handed-out occupied [] = inl refl
-last-is-handed-out occupied (Start ∷ es) = inl refl
-last-is-handed-out occupied (Received tr ∷ es) = go (noCommand (run occupied es .last)) refl
+last-is-handed-out occupied last [] = inl refl
+last-is-handed-out occupied last (Start ∷ es) = inl refl
+last-is-handed-out occupied last (Received tr ∷ es) = go (noCommand (run occupied last es .last)) refl
   where
-    go : (b : Bool) → noCommand (run occupied es .last) ≡ b → SameOutstanding (stepped (run occupied es) tr .state .last) (stepped (run occupied es) tr .command)
+    go : (b : Bool) → noCommand (run occupied last es .last) ≡ b → SameOutstanding (stepped (run occupied last es) tr .state .last) (stepped (run occupied last es) tr .command)
     go true e =
-        let h = idle-gives-21 (run occupied es) tr e in
+        let h = idle-gives-21 (run occupied last es) tr e in
         inr (ap (λ (s : Controller). noCommand (s .last)) (h .0) ∙ e, ap noCommand (h .1))
-    go false e = inl (busy-keeps (run occupied es) tr e .last)
+    go false e = inl (busy-keeps (run occupied last es) tr e .last)
 
 idle-reads : (k : Handed) (tr : List ℕ) → noCommand k ≡ true → readAs k tr ≡ Other
 idle-reads (Send Prepare) tr i = refl
@@ -113,9 +113,9 @@ asked-not s = go (leb 128 (s .gets))
     go true = refl
     go false = refl
 
-issued-not : (s : Controller) (u : Udid) (f : Free) → is-21 (issued s u f .command) ≡ false
-issued-not s u (At a) = refl
-issued-not s u AllUsed = refl
+issued-not : (s : Controller) (u : Udid) (picks : Bool) (f : Free) → is-21 (issued s u picks f .command) ≡ false
+issued-not s u picks (At a) = refl
+issued-not s u picks AllUsed = refl
 
 module _ (s : Controller) where
   told-not : (k : Handed) (tr : List ℕ) → noCommand k ≡ false → (t : Told) → Known k tr t → is-21 (changed s t .command) ≡ false
@@ -123,7 +123,7 @@ module _ (s : Controller) where
   told-not k tr n Again h = asked-not s
   told-not k tr n Over h = refl
   told-not k tr n GivenUp h = refl
-  told-not k tr n (Reply u b) h = issued-not (freed s u) u (chosen (freed s u .pool) u b)
+  told-not k tr n (Reply u b) h = issued-not (freed s u) u (hasToPick (freed s u .pool) u b) (chosen (freed s u .pool) (freed s u .picked) u b)
   told-not k tr n (Took u a) h = asked-not (bound s u (a .0))
   told-not k tr n Unasked h = not-both n h
 
@@ -147,21 +147,21 @@ same-none k m (inl e) = ap noCommand e
 same-none k m (inr h) = h .0 ∙ sym (h .1)
 
 -- so exactly if the latest start or step handed out no command
-pub step-21-by-events : (occupied : Pool) (es : List Event) (tr : List ℕ)
-    → (commandNumber (stepped (run occupied es) tr .command) ≡ (21, []) ∷ []) ↔ (noCommand (handedOut occupied es) ≡ true)
-step-21-by-events occupied es tr =
-    let e : noCommand (run occupied es .last) ≡ noCommand (handedOut occupied es) = same-none (run occupied es .last) (handedOut occupied es) (last-is-handed-out occupied es) in
-    (λ q. sym e ∙ step-21 (run occupied es) tr .0 q, λ q. step-21 (run occupied es) tr .1 (e ∙ q))
+pub step-21-by-events : (occupied : Pool) (last : ℕ) (es : List Event) (tr : List ℕ)
+    → (commandNumber (stepped (run occupied last es) tr .command) ≡ (21, []) ∷ []) ↔ (noCommand (handedOut occupied last es) ≡ true)
+step-21-by-events occupied last es tr =
+    let e : noCommand (run occupied last es .last) ≡ noCommand (handedOut occupied last es) = same-none (run occupied last es .last) (handedOut occupied last es) (last-is-handed-out occupied last es) in
+    (λ q. sym e ∙ step-21 (run occupied last es) tr .0 q, λ q. step-21 (run occupied last es) tr .1 (e ∙ q))
 
 -- ---- before the first start
 
-unstarted : (occupied : Pool) (trs : List (List ℕ)) → run occupied (tracesAlone trs) ≡ newController occupied
+unstarted : (occupied : Pool) (last : ℕ) (trs : List (List ℕ)) → run occupied last (tracesAlone trs) ≡ newController occupied last
 unfolding run
-unstarted occupied [] = refl
-unstarted occupied (tr ∷ trs) = ap (λ (s : Controller). stepped s tr .state) (unstarted occupied trs) ∙ idle-gives-21 (newController occupied) tr refl .0
+unstarted occupied last [] = refl
+unstarted occupied last (tr ∷ trs) = ap (λ (s : Controller). stepped s tr .state) (unstarted occupied last trs) ∙ idle-gives-21 (newController occupied last) tr refl .0
 
 -- EVERY STEP GIVES 21, and the controller stays new
-pub refused-before-start : (occupied : Pool) (trs : List (List ℕ)) (tr : List ℕ)
-    → (run occupied (tracesAlone trs) ≡ newController occupied) × (commandNumber (stepped (run occupied (tracesAlone trs)) tr .command) ≡ (21, []) ∷ [])
-refused-before-start occupied trs tr =
-    (unstarted occupied trs, ap (λ (s : Controller). commandNumber (stepped s tr .command)) (unstarted occupied trs) ∙ ap commandNumber (idle-gives-21 (newController occupied) tr refl .1))
+pub refused-before-start : (occupied : Pool) (last : ℕ) (trs : List (List ℕ)) (tr : List ℕ)
+    → (run occupied last (tracesAlone trs) ≡ newController occupied last) × (commandNumber (stepped (run occupied last (tracesAlone trs)) tr .command) ≡ (21, []) ∷ [])
+refused-before-start occupied last trs tr =
+    (unstarted occupied last trs, ap (λ (s : Controller). commandNumber (stepped s tr .command)) (unstarted occupied last trs) ∙ ap commandNumber (idle-gives-21 (newController occupied last) tr refl .1))

@@ -1,14 +1,14 @@
 -- What is bound, what is claimed and what the pool has, told by the events alone, in the scope's sentences. Nothing here cites the
 -- controller's own definitions of freeing, binding or stepping: an event is read from the command that was handed out last and from what
 -- decode answers for the trace (specs/Reading.antt).
-use Prim.Native.Nat.{ℕ, zero, suc, _*_, _/_, _<_}
+use Prim.Native.Nat.{ℕ, zero, suc, _*_, _/_, _%_, _<_}
 use mathlib.Core.Path.{_≡_}
 use mathlib.Core.Bool.{Bool, true, false}
 use mathlib.Core.List.{List, [], _∷_}
 use mathlib.Core.Logic.{_⊎_}
 use lib.Dec.{ltb, leb, eqb}
 use lib.ListN.{getD}
-use Rattle.lists.specs.Choice.{pick, and}
+use Rattle.lists.specs.Choice.{pick, and, or, not}
 use Rattle.scan.specs.Numbers.{isNack}
 use Rattle.scan.specs.declared.answer.Decoded.{Decoded}
 use Rattle.scan.specs.declared.answer.Decoded.the-variants.{Done, Refused}
@@ -111,19 +111,19 @@ readAs (Wait e) tr = Other
 -- ---- the events of a history
 
 -- what the latest start or step handed out; nothing before the first
-unfoldable pub handedOut : Pool → List Event → Handed
-handedOut occupied [] = Wait Nothing
-handedOut occupied (Start ∷ es) = started (run occupied es) .command
-handedOut occupied (Received tr ∷ es) = stepped (run occupied es) tr .command
+unfoldable pub handedOut : Pool → ℕ → List Event → Handed
+handedOut occupied last [] = Wait Nothing
+handedOut occupied last (Start ∷ es) = started (run occupied last es) .command
+handedOut occupied last (Received tr ∷ es) = stepped (run occupied last es) tr .command
 
-abbrev pub happened : Pool → List Event → Event → Happened
-happened occupied es Start = Started
-happened occupied es (Received tr) = readAs (handedOut occupied es) tr
+abbrev pub happened : Pool → ℕ → List Event → Event → Happened
+happened occupied last es Start = Started
+happened occupied last es (Received tr) = readAs (handedOut occupied last es) tr
 
 -- the table after events, the latest first
-unfoldable pub table : Pool → List Event → Table
-table occupied [] = emptied (member (startingPool occupied))
-table occupied (e ∷ es) = after (member (startingPool occupied)) (happened occupied es e) (table occupied es)
+unfoldable pub table : Pool → ℕ → List Event → Table
+table occupied last [] = emptied (member (startingPool occupied))
+table occupied last (e ∷ es) = after (member (startingPool occupied)) (happened occupied last es e) (table occupied last es)
 
 -- the scope's number of a lookup for what an address is known for
 abbrev pub numberOf : Binding → ℕ × List Udid
@@ -135,23 +135,27 @@ numberOf Claimed = (16, [])
 abbrev pub SameOutstanding : Handed → Handed → Type 0
 SameOutstanding k m = (k ≡ m) ⊎ ((noCommand k ≡ true) × (noCommand m ≡ true))
 
--- ---- what is handed out next, from the table, the count of Get UDIDs handed out in this pass, and the command outstanding
+-- ---- what is handed out next, from the table, the last pick, the count of Get UDIDs handed out in this pass, and the command outstanding
 
 -- Get UDID; when it would be the 129th of the pass: 14
 abbrev pub again : ℕ → Handed
 again n = pick (leb 128 n) (Wait Abandoned) (Send GetUdid)
 
--- the lowest address that is not in the pool, of the n from a on
-unfoldable pub lowest : (ℕ → Bool) → ℕ → ℕ → Free
-lowest used zero a = AllUsed
-lowest used (suc n) a = pick (used a) (lowest used n (suc a)) (At (record { 0 = a }))
+-- the first address that is not in the pool, of the n from a on, going from 7Fh round to 00h
+unfoldable pub firstFree : (ℕ → Bool) → ℕ → ℕ → Free
+firstFree used zero a = AllUsed
+firstFree used (suc n) a = pick (used (a % 128)) (firstFree used n (suc a)) (At (record { 0 = a % 128 }))
 
--- FFh: the lowest free address. Else fixed: its own. Else movable: its own if not in the pool, otherwise the lowest free one
-abbrev pub picked : (ℕ → Bool) → Udid → ℕ → Free
-picked used u b =
-    pick (eqb b 0xFF) (lowest used 128 0)
+-- all the way round after the last pick
+abbrev pub freeAfter : (ℕ → Bool) → ℕ → Free
+freeAfter used last = firstFree used 128 (suc last)
+
+-- FFh: the first free address after the last pick. Else fixed: its own. Else movable: its own if not in the pool, otherwise the first free one
+abbrev pub givenTo : (ℕ → Bool) → ℕ → Udid → ℕ → Free
+givenTo used last u b =
+    pick (eqb b 0xFF) (freeAfter used last)
     (pick (isFixed u) (At (record { 0 = b / 2 }))
-    (pick (used (b / 2)) (lowest used 128 0) (At (record { 0 = b / 2 }))))
+    (pick (used (b / 2)) (freeAfter used last) (At (record { 0 = b / 2 }))))
 
 -- no address to pick: the pool is full, and the byte is FFh or the target is movable with its own address in the pool
 abbrev pub NoneToPick : (ℕ → Bool) → Udid → ℕ → Type 0
@@ -167,18 +171,18 @@ abbrev pub nextPrepare : ℕ → Decoded → List ℕ → Handed
 nextPrepare n (Done t) sent = pick (and (eqb (t .address .0) 0x61) (eqb (getD sent 0 0) 0x01)) (again n) (Wait Abandoned)
 nextPrepare n (Refused w k) sent = pick (isNack w) (Wait Ended) (Wait Abandoned)
 
--- a reply of 17 bytes: an address is assigned, picked from the pool with what the identifier was bound to freed. A complete reply of another
+-- a reply of 17 bytes: an address is assigned, from the pool with what the identifier was bound to freed. A complete reply of another
 -- count, or answer 6 at byte 0, 1 or 2: the pass ends. Another address or command, or any other refusal: Get UDID again
-abbrev pub nextReply : Table → ℕ → Decoded → List ℕ → Handed
-nextReply t n (Done x) received =
+abbrev pub nextReply : Table → ℕ → ℕ → Decoded → List ℕ → Handed
+nextReply t last n (Done x) received =
     pick (and (eqb (x .address .0) 0x61) (eqb (x .command) 0x03))
-    (pick (eqb (x .received) 17) (assigning (udidAt received 0) (picked (released (udidAt received 0) t .used) (udidAt received 0) (getD received 16 0))) (Wait Ended))
+    (pick (eqb (x .received) 17) (assigning (udidAt received 0) (givenTo (released (udidAt received 0) t .used) last (udidAt received 0) (getD received 16 0))) (Wait Ended))
     (again n)
-nextReply t n (Refused w k) received = pick (and (isNack w) (ltb k 3)) (Wait Ended) (again n)
+nextReply t last n (Refused w k) received = pick (and (isNack w) (ltb k 3)) (Wait Ended) (again n)
 
 -- after an Assign, complete or not: Get UDID. With no command of a pass outstanding: 21
-abbrev pub nextCommand : Table → ℕ → Handed → List ℕ → Handed
-nextCommand t n (Send Prepare) tr = nextPrepare n (answer 1 tr) (sentIn 1 tr)
-nextCommand t n (Send GetUdid) tr = nextReply t n (answer 9 tr) (receivedIn 9 tr)
-nextCommand t n (Send (Assign u a)) tr = again n
-nextCommand t n (Wait e) tr = Wait NotOutstanding
+abbrev pub nextCommand : Table → ℕ → ℕ → Handed → List ℕ → Handed
+nextCommand t last n (Send Prepare) tr = nextPrepare n (answer 1 tr) (sentIn 1 tr)
+nextCommand t last n (Send GetUdid) tr = nextReply t last n (answer 9 tr) (receivedIn 9 tr)
+nextCommand t last n (Send (Assign u a)) tr = again n
+nextCommand t last n (Wait e) tr = Wait NotOutstanding

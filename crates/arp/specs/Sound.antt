@@ -42,6 +42,7 @@ pub record Good (occupied : Pool) (s : Controller) : Type 0 where
   pub sound : SoundIn s
   pub gets : s .gets ≤ 128
   pub starting : s .starting ≡ startingPool occupied
+  pub picked : s .picked < 128
 
 -- an Assign that is outstanding names a seven-bit address, an identifier of two halves that is bound nowhere, and, if that is movable, a free address
 pub record Pending (s : Controller) (u : Udid) (a : ℕ) : Type 0 where

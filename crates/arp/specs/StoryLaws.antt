@@ -39,79 +39,80 @@ use Rattle.slots.specs.declared.Binding.the-variants.{Open, Bound, Claimed}
 use Rattle.arp.specs.declared.state.Controller.{Controller}
 
 -- THE EVENTS ALONE give what each address is known for, what the pool has, how many Get UDIDs were handed out and what was handed out last
-pub state-by-story : (occupied : Pool) (es : List Event) → Told occupied es
-state-by-story occupied es = record {
-  held = λ a. addresses-by-table occupied es a .0 ∙ ap (λ (w : Story). w .known .held a) (table-is-story occupied es);
-  pool = λ a. addresses-by-table occupied es a .1 ∙ ap (λ (w : Story). w .known .used a) (table-is-story occupied es);
-  gets = gets-are-sent occupied es ∙ ap (λ (w : Story). w .gets) (table-is-story occupied es);
-  command = ap (λ (w : Story). w .command) (table-is-story occupied es);
+pub state-by-story : (occupied : Pool) (last : ℕ) (es : List Event) → Told occupied last es
+state-by-story occupied last es = record {
+  held = λ a. addresses-by-table occupied last es a .0 ∙ ap (λ (w : Story). w .known .held a) (table-is-story occupied last es);
+  pool = λ a. addresses-by-table occupied last es a .1 ∙ ap (λ (w : Story). w .known .used a) (table-is-story occupied last es);
+  gets = gets-are-sent occupied last es ∙ ap (λ (w : Story). w .gets) (table-is-story occupied last es);
+  command = ap (λ (w : Story). w .command) (table-is-story occupied last es);
+  picked = ap (λ (w : Story). w .picked) (table-is-story occupied last es);
 }
 
 -- A BINDING STAYS, but for a reply with its identifier, a complete Assign of its address, or a start
-pub binding-stays : (occupied : Pool) (es : List Event) (tr : List ℕ) (a : ℕ) (u : Udid)
-    → heldAt (run occupied es .slots) a ≡ Bound u
-    → (readAs (handedOut occupied es) tr ≡ Replied u → ⊥)
-    → ((w : Udid) → readAs (handedOut occupied es) tr ≡ Assigned w a → ⊥)
-    → heldAt (run occupied (Received tr ∷ es) .slots) a ≡ Bound u
+pub binding-stays : (occupied : Pool) (last : ℕ) (es : List Event) (tr : List ℕ) (a : ℕ) (u : Udid)
+    → heldAt (run occupied last es .slots) a ≡ Bound u
+    → (readAs (handedOut occupied last es) tr ≡ Replied u → ⊥)
+    → ((w : Udid) → readAs (handedOut occupied last es) tr ≡ Assigned w a → ⊥)
+    → heldAt (run occupied last (Received tr ∷ es) .slots) a ≡ Bound u
 unfolding table
-binding-stays occupied es tr a u e n m = addresses-by-table occupied (Received tr ∷ es) a .0 ∙ go (readAs (handedOut occupied es) tr) no-start n m
+binding-stays occupied last es tr a u e n m = addresses-by-table occupied last (Received tr ∷ es) a .0 ∙ go (readAs (handedOut occupied last es) tr) no-start n m
   where
-    here : table occupied es .held a ≡ Bound u
-    here = sym (addresses-by-table occupied es a .0) ∙ e
+    here : table occupied last es .held a ≡ Bound u
+    here = sym (addresses-by-table occupied last es a .0) ∙ e
 
-    no-start : readAs (handedOut occupied es) tr ≡ Started → ⊥
-    no-start q = trace-is-no-start (handedOut occupied es) tr q
+    no-start : readAs (handedOut occupied last es) tr ≡ Started → ⊥
+    no-start q = trace-is-no-start (handedOut occupied last es) tr q
 
     go : (x : Happened) → (x ≡ Started → ⊥) → (x ≡ Replied u → ⊥) → ((w : Udid) → x ≡ Assigned w a → ⊥)
-        → after (member (startingPool occupied)) x (table occupied es) .held a ≡ Bound u
+        → after (member (startingPool occupied)) x (table occupied last es) .held a ≡ Bound u
     go Started s p q = absurd (s refl)
     go (Replied w) s p q =
-        ap (λ (b : Bool). pick b Open (table occupied es .held a))
+        ap (λ (b : Bool). pick b Open (table occupied last es .held a))
         (ap (holds w) here ∙ other-udid u w (λ k. p (ap Replied (sym k))))
         ∙ here
     go (Assigned w b) s p q =
-        ap (λ (c : Bool). pick c (pick (table occupied es .used b) Claimed (Bound w)) (table occupied es .held a)) (ne-eqb a b (λ k. q w (ap (Assigned w) (sym k))))
+        ap (λ (c : Bool). pick c (pick (table occupied last es .used b) Claimed (Bound w)) (table occupied last es .held a)) (ne-eqb a b (λ k. q w (ap (Assigned w) (sym k))))
         ∙ here
     go Other s p q = here
 
 -- by the events alone, in the scope's numbers
-pub lookup-by-story : (occupied : Pool) (es : List Event) (a : ℕ) → a < 128 → lookupNumber (lookedUp (run occupied es) a) ≡ numberOf (story occupied es .known .held a)
-lookup-by-story occupied es a h = lookup-by-table occupied es a h ∙ ap (λ (w : Story). numberOf (w .known .held a)) (table-is-story occupied es)
+pub lookup-by-story : (occupied : Pool) (last : ℕ) (es : List Event) (a : ℕ) → a < 128 → lookupNumber (lookedUp (run occupied last es) a) ≡ numberOf (story occupied last es .known .held a)
+lookup-by-story occupied last es a h = lookup-by-table occupied last es a h ∙ ap (λ (w : Story). numberOf (w .known .held a)) (table-is-story occupied last es)
 
 -- ---- by the story
 
-module _ (occupied : Pool) (es : List Event) (tr : List ℕ) where
+module _ (occupied : Pool) (last : ℕ) (es : List Event) (tr : List ℕ) where
   -- EACH COMMAND THAT A STEP HANDS OUT is given by the events
-  pub handed-out-by-story : stepped (run occupied es) tr .command ≡ nextCommand (story occupied es .known) (story occupied es .gets) (story occupied es .command) tr
-  handed-out-by-story = handed-out-by-table occupied es tr ∙ ap (λ (w : Story). nextCommand (w .known) (w .gets) (w .command) tr) (table-is-story occupied es)
+  pub handed-out-by-story : stepped (run occupied last es) tr .command ≡ nextCommand (story occupied last es .known) (story occupied last es .picked) (story occupied last es .gets) (story occupied last es .command) tr
+  handed-out-by-story = handed-out-by-table occupied last es tr ∙ ap (λ (w : Story). nextCommand (w .known) (w .picked) (w .gets) (w .command) tr) (table-is-story occupied last es)
 
   -- 21, exactly if the latest start or step handed out no command
-  pub step-21-by-story : (commandNumber (stepped (run occupied es) tr .command) ≡ (21, []) ∷ []) ↔ (noCommand (story occupied es .command) ≡ true)
+  pub step-21-by-story : (commandNumber (stepped (run occupied last es) tr .command) ≡ (21, []) ∷ []) ↔ (noCommand (story occupied last es .command) ≡ true)
   step-21-by-story =
-      subst (λ (w : Story). (commandNumber (stepped (run occupied es) tr .command) ≡ (21, []) ∷ []) ↔ (noCommand (w .command) ≡ true)) (table-is-story occupied es)
-      (step-21-by-events occupied es tr)
+      subst (λ (w : Story). (commandNumber (stepped (run occupied last es) tr .command) ≡ (21, []) ∷ []) ↔ (noCommand (w .command) ≡ true)) (table-is-story occupied last es)
+      (step-21-by-events occupied last es tr)
 
   -- A BINDING STAYS, but for a reply with its identifier, a complete Assign of its address, or a start
-  pub binding-stays-by-story : (a : ℕ) (u : Udid) → heldAt (run occupied es .slots) a ≡ Bound u → (readAs (story occupied es .command) tr ≡ Replied u → ⊥)
-      → ((w : Udid) → readAs (story occupied es .command) tr ≡ Assigned w a → ⊥) → heldAt (run occupied (Received tr ∷ es) .slots) a ≡ Bound u
+  pub binding-stays-by-story : (a : ℕ) (u : Udid) → heldAt (run occupied last es .slots) a ≡ Bound u → (readAs (story occupied last es .command) tr ≡ Replied u → ⊥)
+      → ((w : Udid) → readAs (story occupied last es .command) tr ≡ Assigned w a → ⊥) → heldAt (run occupied last (Received tr ∷ es) .slots) a ≡ Bound u
   binding-stays-by-story a u e n m =
-      let q : handedOut occupied es ≡ story occupied es .command = state-by-story occupied es .command in
-      binding-stays occupied es tr a u e (λ k. n (ap (λ (x : Handed). readAs x tr) (sym q) ∙ k)) (λ w k. m w (ap (λ (x : Handed). readAs x tr) (sym q) ∙ k))
+      let q : handedOut occupied last es ≡ story occupied last es .command = state-by-story occupied last es .command in
+      binding-stays occupied last es tr a u e (λ k. n (ap (λ (x : Handed). readAs x tr) (sym q) ∙ k)) (λ w k. m w (ap (λ (x : Handed). readAs x tr) (sym q) ∙ k))
 
 -- ---- ALL OF IT: from any new controller, over any starts and traces
 
-pub by-history : (occupied : Pool) (es : List Event) → ByHistory occupied es
-by-history occupied es = record {
-  told = state-by-story occupied es;
-  lookup = λ a h. lookup-by-story occupied es a h;
-  no-address = λ a h. lookup-1 (run occupied es) a .1 h;
-  next = λ tr. handed-out-by-story occupied es tr;
-  refused = λ tr. step-21-by-story occupied es tr;
+pub by-history : (occupied : Pool) (last : ℕ) (es : List Event) → ByHistory occupied last es
+by-history occupied last es = record {
+  told = state-by-story occupied last es;
+  lookup = λ a h. lookup-by-story occupied last es a h;
+  no-address = λ a h. lookup-1 (run occupied last es) a .1 h;
+  next = λ tr. handed-out-by-story occupied last es tr;
+  refused = λ tr. step-21-by-story occupied last es tr;
   full = λ tr u f. (
-    λ e. step-13-by-story occupied es tr u f .0 (number-13-is-none-free (stepped (run occupied es) tr .command) u e),
-    λ w. ap commandNumber (step-13-by-story occupied es tr u f .1 w),
+    λ e. step-13-by-story occupied last es tr u f .0 (number-13-is-none-free (stepped (run occupied last es) tr .command) u e),
+    λ w. ap commandNumber (step-13-by-story occupied last es tr u f .1 w),
   );
-  stays = λ tr a u e n m. (let w = lookup-0 (run occupied es) a u .0 e in lookup-0 (run occupied (Received tr ∷ es)) a u .1 (w .0, binding-stays-by-story occupied es tr a u (w .1) n m));
+  stays = λ tr a u e n m. (let w = lookup-0 (run occupied last es) a u .0 e in lookup-0 (run occupied last (Received tr ∷ es)) a u .1 (w .0, binding-stays-by-story occupied last es tr a u (w .1) n m));
 }
 
 -- ---- Get UDID, and starts
@@ -120,12 +121,13 @@ by-history occupied es = record {
 pub get-udid-limit : (n : ℕ) → (n < 128 → again n ≡ Send GetUdid) × (128 ≤ n → again n ≡ Wait Abandoned)
 get-udid-limit n = (λ h. rw (lt-leb 128 n h), λ h. rw (le-leb 128 n h))
 
--- FROM EVERY STATE a start hands out Prepare; lookup of every address is 15 then, the pool is the starting one, and no Get UDID is counted
+-- FROM EVERY STATE a start hands out Prepare; lookup of every address is 15 then, the pool is the starting one, no Get UDID is counted, and
+-- the last pick stays
 pub start-by-history : (s : Controller) → (started s .command ≡ Send Prepare) × (started s .state .last ≡ Send Prepare)
     × ((a : ℕ) → a < 128 → lookupNumber (lookedUp (started s .state) a) ≡ (15, [])) × (started s .state .pool ≡ s .starting) × (started s .state .starting ≡ s .starting)
-    × (started s .state .gets ≡ 0)
-start-by-history s = (refl, refl, λ a h. lookup-15 (started s .state) a .1 (h, open-all a), refl, refl, refl)
+    × (started s .state .gets ≡ 0) × (started s .state .picked ≡ s .picked)
+start-by-history s = (refl, refl, λ a h. lookup-15 (started s .state) a .1 (h, open-all a), refl, refl, refl, refl)
 
 -- and that has the 21 reserved addresses and the occupied ones, and no other
-pub pool-at-start : (occupied : Pool) (es : List Event) (a : ℕ) → member (started (run occupied es) .state .pool) a ≡ or (isReserved a) (member occupied a)
-pool-at-start occupied es a = ap (λ (p : Pool). member p a) (reached-good occupied es .0 .starting) ∙ member-starting occupied a
+pub pool-at-start : (occupied : Pool) (last : ℕ) (es : List Event) (a : ℕ) → member (started (run occupied last es) .state .pool) a ≡ or (isReserved a) (member occupied a)
+pool-at-start occupied last es a = ap (λ (p : Pool). member p a) (reached-good occupied last es .0 .starting) ∙ member-starting occupied a

@@ -33,7 +33,7 @@ use Rattle.arp.specs.Sound.{SoundIn, Nowhere, PendingIn}
 use Rattle.arp.specs.Bindings.{freedAt, freed, bindingFor, boundAt, bound}
 use Rattle.slots.specs.Finding.{boundTo, findFrom}
 use Rattle.slots.specs.Slots.{Sized128, heldAt, withBinding}
-use Rattle.arp.specs.Controller.{newController, started, handed, counted, asked, chosen, issued, replied, stepped, changed}
+use Rattle.arp.specs.Controller.{newController, started, handed, counted, asked, hasToPick, chosen, issued, replied, stepped, changed}
 use Rattle.hearing.specs.Heard.{answer, sentIn, receivedIn, isPrepare, isGet, isAssign}
 use Rattle.commands.specs.Codes.{sendByte, blockRead, blockWrite}
 use Rattle.arp.specs.History.{Event, Start, Received, run}
@@ -68,9 +68,9 @@ asked-view s = go (leb 128 (s .gets))
     go true = refl
     go false = refl
 
-issued-view : (s : Controller) (u : Udid) (k : Free) → view (issued s u k .state) ≡ view s
-issued-view s u (At a) = refl
-issued-view s u AllUsed = refl
+issued-view : (s : Controller) (u : Udid) (picks : Bool) (k : Free) → view (issued s u picks k .state) ≡ view s
+issued-view s u picks (At a) = refl
+issued-view s u picks AllUsed = refl
 
 -- ---- a reply
 
@@ -125,7 +125,7 @@ module _ (starting : ℕ → Bool) (s : Controller) (v : SoundIn s) (u : Udid) w
 
   replied-view : (b : ℕ) → view (replied s u b .state) ≡ after starting (Replied u) (view s)
   unfolding replied
-  replied-view b = issued-view (freed s u) u (chosen (freed s u .pool) u b) ∙ freed-as-replied
+  replied-view b = issued-view (freed s u) u (hasToPick (freed s u .pool) u b) (chosen (freed s u .pool) (freed s u .picked) u b) ∙ freed-as-replied
 
 -- ---- a complete Assign
 
@@ -211,22 +211,22 @@ module _ (starting : ℕ → Bool) (s : Controller) (v : SoundIn s) where
 
 -- ---- EVERY STATE
 
-pub view-is-table : (occupied : Pool) (es : List Event) → view (run occupied es) ≡ table occupied es
+pub view-is-table : (occupied : Pool) (last : ℕ) (es : List Event) → view (run occupied last es) ≡ table occupied last es
 unfolding run table
-view-is-table occupied [] = tables (view (newController occupied)) (emptied (member (startingPool occupied))) open-all (λ a. refl)
-view-is-table occupied (Start ∷ es) =
-    tables (view (started (run occupied es) .state)) (emptied (member (startingPool occupied))) open-all
-    (λ a. ap (λ (p : Pool). member p a) (reached-good occupied es .0 .starting))
-view-is-table occupied (Received tr ∷ es) =
-    step-view (member (startingPool occupied)) (run occupied es) (reached-good occupied es .0 .sound) (reached-good occupied es .1) tr
-    ∙ ap (λ (x : Happened). after (member (startingPool occupied)) x (view (run occupied es))) (same-reading (run occupied es .last) (handedOut occupied es) tr (last-is-handed-out occupied es))
-    ∙ ap (after (member (startingPool occupied)) (readAs (handedOut occupied es) tr)) (view-is-table occupied es)
+view-is-table occupied last [] = tables (view (newController occupied last)) (emptied (member (startingPool occupied))) open-all (λ a. refl)
+view-is-table occupied last (Start ∷ es) =
+    tables (view (started (run occupied last es) .state)) (emptied (member (startingPool occupied))) open-all
+    (λ a. ap (λ (p : Pool). member p a) (reached-good occupied last es .0 .starting))
+view-is-table occupied last (Received tr ∷ es) =
+    step-view (member (startingPool occupied)) (run occupied last es) (reached-good occupied last es .0 .sound) (reached-good occupied last es .1) tr
+    ∙ ap (λ (x : Happened). after (member (startingPool occupied)) x (view (run occupied last es))) (same-reading (run occupied last es .last) (handedOut occupied last es) tr (last-is-handed-out occupied last es))
+    ∙ ap (after (member (startingPool occupied)) (readAs (handedOut occupied last es) tr)) (view-is-table occupied last es)
 
 -- THE CONTROLLER BY ITS HISTORY: what each address is known for, and whether the pool has it, is what the events give
-pub addresses-by-table : (occupied : Pool) (es : List Event) (a : ℕ)
-    → (heldAt (run occupied es .slots) a ≡ table occupied es .held a) × (member (run occupied es .pool) a ≡ table occupied es .used a)
-addresses-by-table occupied es a = (ap (λ (t : Table). t .held a) (view-is-table occupied es), ap (λ (t : Table). t .used a) (view-is-table occupied es))
+pub addresses-by-table : (occupied : Pool) (last : ℕ) (es : List Event) (a : ℕ)
+    → (heldAt (run occupied last es .slots) a ≡ table occupied last es .held a) × (member (run occupied last es .pool) a ≡ table occupied last es .used a)
+addresses-by-table occupied last es a = (ap (λ (t : Table). t .held a) (view-is-table occupied last es), ap (λ (t : Table). t .used a) (view-is-table occupied last es))
 
 -- in the scope's numbers: lookup answers 0 with the identifier, 15 or 16 as the events give it
-pub lookup-by-table : (occupied : Pool) (es : List Event) (a : ℕ) → a < 128 → lookupNumber (lookedUp (run occupied es) a) ≡ numberOf (table occupied es .held a)
-lookup-by-table occupied es a h = lookup-number (run occupied es) a h ∙ ap numberOf (addresses-by-table occupied es a .0)
+pub lookup-by-table : (occupied : Pool) (last : ℕ) (es : List Event) (a : ℕ) → a < 128 → lookupNumber (lookedUp (run occupied last es) a) ≡ numberOf (table occupied last es .held a)
+lookup-by-table occupied last es a h = lookup-number (run occupied last es) a h ∙ ap numberOf (addresses-by-table occupied last es a .0)

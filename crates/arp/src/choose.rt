@@ -1,26 +1,40 @@
 // Which address a target gets. Rests on crates pool and udid.
 ghost use mathlib.Core.Path.{_≡_};
-ghost use Rattle.arp.specs.Controller.{chosen};
+ghost use Rattle.lists.specs.Choice.{pick};
+ghost use Rattle.arp.specs.Controller.{hasToPick, chosen};
 use pool::Pool;
 use pool::free::Free;
 use udid::Udid;
 use wire::address::Address;
 use wire::address::WireByte;
 
-// The address for a target that replied with this identifier and this address byte, where these addresses are in use: for FFh the
-// lowest free one; else a fixed target's own, and a movable one's own if it is free, otherwise the lowest free one.
-pub fn choose(pool: Pool, u: Udid, b: u8) -> Free
-    ensures { λ r. ⌜ r ≡ chosen pool u b ⌝ }
+// Whether an address has to be picked for a target that replied with this identifier and this address byte, where these addresses are in
+// use: its byte is FFh, or it is movable and its own address is in use.
+pub fn has_to_pick(pool: Pool, u: Udid, b: u8) -> bool
+    ensures { λ r. ⌜ r ≡ hasToPick pool u b ⌝ }
 {
     if b == 0xFF {
-        return pool.lowest_free();
+        return true;
     }
-    let own = Address::from_wire(WireByte(b));
     if u.is_fixed() {
-        return Free::At(own);
+        return false;
     }
-    if pool.has(own) {
-        return pool.lowest_free();
+    pool.has(Address::from_wire(WireByte(b)))
+}
+
+// The address for such a target: where one has to be picked, the first free one after the last pick; else the target's own.
+pub fn choose(pool: Pool, last: u8, u: Udid, b: u8) -> Free
+    ensures { λ r. ⌜ r ≡ chosen pool last u b ⌝ }
+{
+    if has_to_pick(pool, u, b) {
+        return pool.next_free(last);
     }
-    Free::At(own)
+    Free::At(Address::from_wire(WireByte(b)))
+}
+
+// The last pick after the address a was chosen: a itself if it was picked, else what it was.
+pub(crate) fn pick_after(picks: bool, a: Address, last: u8) -> u8
+    ensures { λ r. ⌜ r ≡ pick picks (a .0) last ⌝ }
+{
+    if picks { a.0 } else { last }
 }

@@ -21,6 +21,7 @@ impl Controller {
             slots: slots,
             gets: self.gets,
             last: k,
+            picked: self.picked,
         };
         Stepped {
             state: state,

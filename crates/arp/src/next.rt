@@ -2,6 +2,8 @@
 ghost use mathlib.Core.Path.{_≡_};
 ghost use Rattle.arp.specs.Controller.{replied, changed, stepped};
 use super::choose::choose;
+use super::choose::has_to_pick;
+use super::choose::pick_after;
 use super::state::Controller;
 use super::state::Stepped;
 use commands::command::Command;
@@ -13,15 +15,18 @@ use pool::free::Free;
 use udid::Udid;
 
 impl Controller {
-    // A target has replied: whatever it was bound to is free again, and it is sent the address chosen for it.
+    // A target has replied: whatever it was bound to is free again, and it is sent the address chosen for it. An address that was picked is
+    // the last pick from then on, whatever becomes of the command.
     fn on_reply(self, u: Udid, b: u8) -> Stepped
         ensures { λ r. ⌜ r ≡ replied self u b ⌝ }
     {
-        let next = self.free(u);
+        let mut next = self.free(u);
         let pool = next.pool;
-        let Free::At(a) = choose(pool, u, b) else {
+        let last = next.picked;
+        let Free::At(a) = choose(pool, last, u, b) else {
             return next.hand(Handed::Wait(End::NoneFree(u)));
         };
+        next.picked = pick_after(has_to_pick(pool, u, b), a, last);
         next.hand(Handed::Send(Command::Assign(u, a)))
     }
 

@@ -1,6 +1,6 @@
 // A new controller, and the start of a pass. Rests on the starting pool of crate pool.
 ghost use mathlib.Core.Path.{_≡_};
-ghost use Rattle.arp.specs.Controller.{newController, started};
+ghost use Rattle.arp.specs.Controller.{lastPick, newController, started};
 use super::state::Controller;
 use super::state::Stepped;
 use commands::command::Command;
@@ -9,10 +9,18 @@ use commands::command::Handed;
 use pool::Pool;
 use slots::Slots;
 
+// The last pick that a controller is made with. A number above 127 is no address, and counts as never picked.
+fn last_pick(last: u8) -> u8
+    ensures { λ r. ⌜ r ≡ lastPick last ⌝ }
+{
+    if last > 127 { 127 } else { last }
+}
+
 impl Controller {
-    // A controller before its first pass. The starting pool is the reserved addresses and the occupied ones.
-    pub fn new(occupied: Pool) -> Controller
-        ensures { λ r. ⌜ r ≡ newController occupied ⌝ }
+    // A controller before its first pass, with the addresses that are occupied and the last pick; 127 is never picked. The starting pool is
+    // the reserved addresses and the occupied ones.
+    pub fn new(occupied: Pool, last: u8) -> Controller
+        ensures { λ r. ⌜ r ≡ newController occupied last ⌝ }
     {
         let starting = Pool::starting(occupied);
         Controller {
@@ -21,10 +29,11 @@ impl Controller {
             slots: Slots::none(),
             gets: 0,
             last: Handed::Wait(End::Nothing),
+            picked: last_pick(last),
         }
     }
 
-    // A pass begins, at any time: nothing is bound or claimed, the pool is the starting pool, and Prepare To ARP goes out.
+    // A pass begins, at any time: nothing is bound or claimed, the pool is the starting pool, and Prepare To ARP goes out. The last pick stays.
     pub fn start(mut self) -> Stepped
         ensures { λ r. ⌜ r ≡ started self ⌝ }
     {

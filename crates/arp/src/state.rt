@@ -15,6 +15,8 @@ pub struct Controller {
     pub gets: u32,
     // What was handed out last.
     pub last: Handed,
+    // The address picked last, in this pass or an earlier one; 127 before the first pick.
+    pub picked: u8,
 }
 
 // The state after a step, and what it hands out.

@@ -52,17 +52,17 @@ bound-some h e = go (boundIn h) refl e
 
 -- ---- whom the plain rule gives which address
 
-module _ (occupied : Pool) (s : List ℕ) (bytes : Bytes s) (e : checkedList (startingPool occupied) s ≡ Admitted) where
+module _ (occupied : Pool) (last : ℕ) (s : List ℕ) (bytes : Bytes s) (e : checkedList (startingPool occupied) s ≡ Admitted) where
   admitted : AdmittedTargets (startingPool occupied) (targetsOf s)
   admitted = admitted-targets (startingPool occupied) s bytes e
 
   -- each is a record of the list
-  pub given-in-records : Each (λ (g : Given). (i : ℕ) × (i < length s / 18) × RecordOf s i g) (ruled (startingPool occupied) (targetsOf s) .given)
-  given-in-records = records.given-records occupied s bytes admitted
+  pub given-in-records : Each (λ (g : Given). (i : ℕ) × (i < length s / 18) × RecordOf s i g) (ruled (startingPool occupied) last (targetsOf s) .given)
+  given-in-records = records.given-records occupied last s bytes admitted
 
   -- each address is below 128, not reserved and not occupied
-  pub given-assignable : Each (λ (g : Given). (g .address < 128) × (isReserved (g .address) ≡ false) × (member occupied (g .address) ≡ false)) (ruled (startingPool occupied) (targetsOf s) .given)
-  given-assignable = each-map (ruled (startingPool occupied) (targetsOf s) .given) at (given-free-distinct occupied (targetsOf s) admitted .0)
+  pub given-assignable : Each (λ (g : Given). (g .address < 128) × (isReserved (g .address) ≡ false) × (member occupied (g .address) ≡ false)) (ruled (startingPool occupied) last (targetsOf s) .given)
+  given-assignable = each-map (ruled (startingPool occupied) last (targetsOf s) .given) at (given-free-distinct occupied last (targetsOf s) admitted .0)
     where
       at : (g : Given) → FreeIn (startingPool occupied) g → (g .address < 128) × (isReserved (g .address) ≡ false) × (member occupied (g .address) ≡ false)
       at g f =
@@ -70,44 +70,44 @@ module _ (occupied : Pool) (s : List ℕ) (bytes : Bytes s) (e : checkedList (st
           (f .0, n .0, n .1)
 
   -- no two addresses are alike, and each identifier is given one once
-  pub given-distinct : Distinct (ruled (startingPool occupied) (targetsOf s) .given)
-  given-distinct = given-free-distinct occupied (targetsOf s) admitted .1
+  pub given-distinct : Distinct (ruled (startingPool occupied) last (targetsOf s) .given)
+  given-distinct = given-free-distinct occupied last (targetsOf s) admitted .1
 
-  pub given-once : OnePerUdid (ruled (startingPool occupied) (targetsOf s) .given)
-  given-once = served-once (startingPool occupied) (targetsOf s) admitted
+  pub given-once : OnePerUdid (ruled (startingPool occupied) last (targetsOf s) .given)
+  given-once = served-once (startingPool occupied) last (targetsOf s) admitted
 
 -- ---- what the run answers and leaves of it: a list that is not refused, a buffer that is long enough, and what run_model's contract says
 
-module _ (occupied : Pool) (s b : List ℕ) (bytes : Bytes s) (long : 2048 ≤ length b) (e : checkedList (startingPool occupied) s ≡ Admitted) (r : ModelAnswer) (s′ b′ : List ℕ)
-    (l : Leaves (modelEnd occupied s b) r s′ b′) where
+module _ (occupied : Pool) (last : ℕ) (small : last < 128) (s b : List ℕ) (bytes : Bytes s) (long : 2048 ≤ length b) (e : checkedList (startingPool occupied) s ≡ Admitted) (r : ModelAnswer) (s′ b′ : List ℕ)
+    (l : Leaves (modelEnd occupied last s b) r s′ b′) where
   abbrev given : List Given
-  given = ruled (startingPool occupied) (targetsOf s) .given
+  given = ruled (startingPool occupied) last (targetsOf s) .given
 
   abbrev slots : Slots
-  slots = passEnd (startingPool occupied) (targetsOf s) .now .state .slots
+  slots = passEnd (startingPool occupied) last (targetsOf s) .now .state .slots
 
   has-bound : (a : ℕ) → a < 128 → member (r .bound) a ≡ boundAt slots a
   has-bound a h =
-      ap (λ (x : ModelAnswer). member (x .bound) a) (leaves-rule occupied s b bytes long e r s′ b′ l .answered)
+      ap (λ (x : ModelAnswer). member (x .bound) a) (leaves-rule occupied last small s b bytes long e r s′ b′ l .answered)
       ∙ bound-set-has (entryAt slots) a h ∙ entry-bound (heldAt slots a)
 
   -- an address is in the set answered if and only if it was given
   pub bound-exactly : (a : ℕ) → a < 128 → (member (r .bound) a ≡ true) ↔ Any (λ (g : Given). g .address ≡ a) given
   bound-exactly a h = (
-    λ q. (let w = bound-some (heldAt slots a) (sym (has-bound a h) ∙ q) in any-map given (λ g p. p .0) (bound-given occupied (targetsOf s) (admitted occupied s bytes e) a (w .0) (w .1))),
-    λ q. any-constant given (any-each given (λ g p k. has-bound a h ∙ ap (boundAt slots) (sym p) ∙ ap isBound k) q (given-bound occupied (targetsOf s) (admitted occupied s bytes e))),
+    λ q. (let w = bound-some (heldAt slots a) (sym (has-bound a h) ∙ q) in any-map given (λ g p. p .0) (bound-given occupied last (targetsOf s) (admitted occupied last s bytes e) a (w .0) (w .1))),
+    λ q. any-constant given (any-each given (λ g p k. has-bound a h ∙ ap (boundAt slots) (sym p) ∙ ap isBound k) q (given-bound occupied last (targetsOf s) (admitted occupied last s bytes e))),
   )
 
   buffer-at : (a : ℕ) → a < 128 → take 16 (drop (16 * a) b′) ≡ entries.entryBytes (entryAt slots a)
   buffer-at a h =
-      ap (λ (x : List ℕ). take 16 (drop (16 * a) x)) (leaves-rule occupied s b bytes long e r s′ b′ l .bindings-hold)
+      ap (λ (x : List ℕ). take 16 (drop (16 * a) x)) (leaves-rule occupied last small s b bytes long e r s′ b′ l .bindings-hold)
       ∙ bytes-there (entryAt slots) (drop 2048 b) a h
 
   -- who is bound stands at 16 times the address
   pub bytes-of-bound : Each (λ (g : Given). take 16 (drop (16 * g .address) b′) ≡ udidBytes (g .who .udid)) given
   bytes-of-bound =
       each-both given (λ g k f. buffer-at (g .address) (f .0) ∙ ap (λ (h : Binding). entries.entryBytes (entryOf h)) k)
-      (given-bound occupied (targetsOf s) (admitted occupied s bytes e)) (given-free-distinct occupied (targetsOf s) (admitted occupied s bytes e) .0)
+      (given-bound occupied last (targetsOf s) (admitted occupied last s bytes e)) (given-free-distinct occupied last (targetsOf s) (admitted occupied last s bytes e) .0)
 
   -- zeros where nobody is
   pub bytes-of-free : (a : ℕ) → a < 128 → (Any (λ (g : Given). g .address ≡ a) given → ⊥) → take 16 (drop (16 * a) b′) ≡ replicate 16 0
@@ -115,8 +115,8 @@ module _ (occupied : Pool) (s b : List ℕ) (bytes : Bytes s) (long : 2048 ≤ l
     where
       go : (us : List Udid) → boundIn (heldAt slots a) ≡ us → entryFor us ≡ Nobody
       go [] q = refl
-      go (u ∷ us) q = absurd (n (any-map given (λ g p. p .0) (bound-given occupied (targetsOf s) (admitted occupied s bytes e) a u (bound-in-is (heldAt slots a) u us q))))
+      go (u ∷ us) q = absurd (n (any-map given (λ g p. p .0) (bound-given occupied last (targetsOf s) (admitted occupied last s bytes e) a u (bound-in-is (heldAt slots a) u us q))))
 
   -- all after 2,048 bytes as it was
   pub bytes-after-kept : drop 2048 b′ ≡ drop 2048 b
-  bytes-after-kept = ap (drop 2048) (leaves-rule occupied s b bytes long e r s′ b′ l .bindings-hold) ∙ rest-there (entryAt slots) (drop 2048 b)
+  bytes-after-kept = ap (drop 2048) (leaves-rule occupied last small s b bytes long e r s′ b′ l .bindings-hold) ∙ rest-there (entryAt slots) (drop 2048 b)

@@ -28,6 +28,7 @@ use Rattle.bindings.specs.Entries as entries
 use Rattle.rule.specs.AllBoundLaws.{all-served, all-given}
 use Rattle.rule.specs.AllBound.{movable, leftFree}
 use Rattle.rule.specs.Bus.{World, pass}
+use Rattle.arp.specs.LastPickLaws.{last-pick-is}
 use Rattle.rule.specs.PassEndLaws.{demand-3}
 use Rattle.rule.specs.EndAnswer.{numberOf, askerOf, getsFor}
 use Rattle.rule.specs.PassEnd.{lastCommand, passEnd}
@@ -52,17 +53,21 @@ last-asker : (e : Ending) → udidIn (commandNumber (lastCommand e)) ≡ askerOf
 last-asker served = refl
 last-asker (noneFree u) = refl
 
-end-number : (p : Pool) (ts : List Target) → numberIn (commandNumber (passEnd p ts .now .command)) ≡ numberOf (ruled p ts .ending)
-end-number p [] = refl
-end-number p (t ∷ ts) = last-number (ruled p (t ∷ ts) .ending)
+end-number : (p : Pool) (last : ℕ) (ts : List Target) → numberIn (commandNumber (passEnd p last ts .now .command)) ≡ numberOf (ruled p last ts .ending)
+end-number p last [] = refl
+end-number p last (t ∷ ts) = last-number (ruled p last (t ∷ ts) .ending)
 
-end-asker : (p : Pool) (ts : List Target) → udidIn (commandNumber (passEnd p ts .now .command)) ≡ askerOf (ruled p ts .ending)
-end-asker p [] = refl
-end-asker p (t ∷ ts) = last-asker (ruled p (t ∷ ts) .ending)
+end-asker : (p : Pool) (last : ℕ) (ts : List Target) → udidIn (commandNumber (passEnd p last ts .now .command)) ≡ askerOf (ruled p last ts .ending)
+end-asker p last [] = refl
+end-asker p last (t ∷ ts) = last-asker (ruled p last (t ∷ ts) .ending)
 
-end-gets : (p : Pool) (ts : List Target) → passEnd p ts .now .state .gets ≡ getsFor (length ts) (length (ruled p ts .given))
-end-gets p [] = refl
-end-gets p (t ∷ ts) = omega arith
+end-gets : (p : Pool) (last : ℕ) (ts : List Target) → passEnd p last ts .now .state .gets ≡ getsFor (length ts) (length (ruled p last ts .given))
+end-gets p last [] = refl
+end-gets p last (t ∷ ts) = omega arith
+
+end-picked : (p : Pool) (last : ℕ) (ts : List Target) → passEnd p last ts .now .state .picked ≡ ruled p last ts .picked
+end-picked p last [] = refl
+end-picked p last (t ∷ ts) = refl
 
 -- a list of whole records is empty if and only if it has none
 gets-by-length : (n l k : ℕ) → n ≡ l / 18 → l ≡ l / 18 * 18 → getsFor n k ≡ getsFor l k
@@ -79,67 +84,74 @@ entry-bound h = go (boundIn h)
     go [] = refl
     go (u ∷ us) = refl
 
-last-command : (p : Pool) (ts : List Target) → commandNumber (passEnd p ts .now .command) ≡ commandNumber (lastCommand (ruled p ts .ending))
-last-command p [] = refl
-last-command p (t ∷ ts) = refl
+last-command : (p : Pool) (last : ℕ) (ts : List Target) → commandNumber (passEnd p last ts .now .command) ≡ commandNumber (lastCommand (ruled p last ts .ending))
+last-command p last [] = refl
+last-command p last (t ∷ ts) = refl
 
 -- a list that is not refused, a buffer that is long enough, and what run_model's contract says of an answer and of the lists left
-module _ (occupied : Pool) (s b : List ℕ) (bytes : Bytes s) (long : 2048 ≤ length b) (e : checkedList (startingPool occupied) s ≡ Admitted) (r : ModelAnswer) (s′ b′ : List ℕ)
-    (l : Leaves (modelEnd occupied s b) r s′ b′) where
+module _ (occupied : Pool) (last : ℕ) (small : last < 128) (s b : List ℕ) (bytes : Bytes s) (long : 2048 ≤ length b) (e : checkedList (startingPool occupied) s ≡ Admitted) (r : ModelAnswer) (s′ b′ : List ℕ)
+    (l : Leaves (modelEnd occupied last s b) r s′ b′) where
   admitted : AdmittedTargets (startingPool occupied) (targetsOf s)
   admitted = admitted-targets (startingPool occupied) s bytes e
 
+  as-rule : pass occupied last (targetsOf s) ≡ passEnd (startingPool occupied) last (targetsOf s)
+  as-rule = demand-3 occupied last (targetsOf s) admitted ∙ ap (λ (n : ℕ). passEnd (startingPool occupied) n (targetsOf s)) (last-pick-is last small)
+
   -- THE RUN ENDS as the plain rule does
-  pub leaves-rule : Leaves (endedEnd (passEnd (startingPool occupied) (targetsOf s)) s b) r s′ b′
-  leaves-rule = subst (λ (w : World). Leaves (endedEnd w s b) r s′ b′) (demand-3 occupied (targetsOf s) admitted) (leaves-pass occupied s b long e r s′ b′ l)
+  pub leaves-rule : Leaves (endedEnd (passEnd (startingPool occupied) last (targetsOf s)) s b) r s′ b′
+  leaves-rule = subst (λ (w : World). Leaves (endedEnd w s b) r s′ b′) (as-rule) (leaves-pass occupied last small s b long e r s′ b′ l)
 
   -- the answer: 0 or 13, the identifier that asked, no record
-  pub answer-of-rule : r .answer ≡ numberOf (ruled (startingPool occupied) (targetsOf s) .ending)
-  answer-of-rule = ap (λ (x : ModelAnswer). x .answer) (leaves-rule .answered) ∙ end-number (startingPool occupied) (targetsOf s)
+  pub answer-of-rule : r .answer ≡ numberOf (ruled (startingPool occupied) last (targetsOf s) .ending)
+  answer-of-rule = ap (λ (x : ModelAnswer). x .answer) (leaves-rule .answered) ∙ end-number (startingPool occupied) last (targetsOf s)
 
-  pub asker-of-rule : r .udid ≡ askerOf (ruled (startingPool occupied) (targetsOf s) .ending)
-  asker-of-rule = ap (λ (x : ModelAnswer). x .udid) (leaves-rule .answered) ∙ end-asker (startingPool occupied) (targetsOf s)
+  pub asker-of-rule : r .udid ≡ askerOf (ruled (startingPool occupied) last (targetsOf s) .ending)
+  asker-of-rule = ap (λ (x : ModelAnswer). x .udid) (leaves-rule .answered) ∙ end-asker (startingPool occupied) last (targetsOf s)
 
   -- the last command of the pass over the bus has that number too
-  pub command-of-rule : commandNumber (pass occupied (targetsOf s) .now .command) ≡ commandNumber (lastCommand (ruled (startingPool occupied) (targetsOf s) .ending))
-  command-of-rule = ap (λ (w : World). commandNumber (w .now .command)) (demand-3 occupied (targetsOf s) admitted) ∙ last-command (startingPool occupied) (targetsOf s)
+  pub command-of-rule : commandNumber (pass occupied last (targetsOf s) .now .command) ≡ commandNumber (lastCommand (ruled (startingPool occupied) last (targetsOf s) .ending))
+  command-of-rule = ap (λ (w : World). commandNumber (w .now .command)) (as-rule) ∙ last-command (startingPool occupied) last (targetsOf s)
 
   -- and the targets of the records that are left are those of the pass
-  pub targets-of-pass : targetsOf s′ ≡ pass occupied (targetsOf s) .targets
+  pub targets-of-pass : targetsOf s′ ≡ pass occupied last (targetsOf s) .targets
   targets-of-pass =
-      ap targetsOf (leaves-rule .records-hold) ∙ end-targets-stored (startingPool occupied) s
-      ∙ sym (ap (λ (w : World). w .targets) (demand-3 occupied (targetsOf s) admitted))
+      ap targetsOf (leaves-rule .records-hold) ∙ end-targets-stored (startingPool occupied) last s
+      ∙ sym (ap (λ (w : World). w .targets) (as-rule))
+
+  -- the last pick is the rule's, which is the controller's at the end of the pass
+  pub picked-of-rule : r .picked ≡ ruled (startingPool occupied) last (targetsOf s) .picked
+  picked-of-rule = ap (λ (x : ModelAnswer). x .picked) (leaves-rule .answered) ∙ end-picked (startingPool occupied) last (targetsOf s)
 
   pub place-zero : r .place ≡ 0
   place-zero = ap (λ (x : ModelAnswer). x .place) (leaves-rule .answered)
 
   abbrev slots : Slots
-  slots = passEnd (startingPool occupied) (targetsOf s) .now .state .slots
+  slots = passEnd (startingPool occupied) last (targetsOf s) .now .state .slots
 
   -- how many are bound
-  pub count-of-rule : r .count ≡ length (ruled (startingPool occupied) (targetsOf s) .given)
+  pub count-of-rule : r .count ≡ length (ruled (startingPool occupied) last (targetsOf s) .given)
   count-of-rule =
       ap (λ (x : ModelAnswer). x .count) (leaves-rule .answered)
       ∙ bound-set-count (entryAt slots)
       ∙ count-cong (λ (a : ℕ). entries.isBound (entryAt slots a)) (boundAt slots) 128 (λ a h. entry-bound (heldAt slots a))
-      ∙ bound-as-many-as-given occupied (targetsOf s) admitted
+      ∙ bound-as-many-as-given occupied last (targetsOf s) admitted
 
   -- the Get UDIDs: as many as stood on the bus, counted by their symbols; one more than targets are bound, or none on an empty bus
-  pub gets-on-bus : r .gets ≡ getsOnBus occupied (targetsOf s)
-  gets-on-bus = gets-of-pass occupied s b long e r s′ b′ l ∙ counted-on-bus occupied (targetsOf s) admitted
+  pub gets-on-bus : r .gets ≡ getsOnBus occupied last (targetsOf s)
+  gets-on-bus = gets-of-pass occupied last small s b long e r s′ b′ l ∙ counted-on-bus occupied last (targetsOf s) admitted
 
-  pub gets-of-rule : r .gets ≡ getsFor (length s) (length (ruled (startingPool occupied) (targetsOf s) .given))
+  pub gets-of-rule : r .gets ≡ getsFor (length s) (length (ruled (startingPool occupied) last (targetsOf s) .given))
   gets-of-rule =
       ap (λ (x : ModelAnswer). x .gets) (leaves-rule .answered)
-      ∙ end-gets (startingPool occupied) (targetsOf s)
-      ∙ gets-by-length (length (targetsOf s)) (length s) (length (ruled (startingPool occupied) (targetsOf s) .given))
+      ∙ end-gets (startingPool occupied) last (targetsOf s)
+      ∙ gets-by-length (length (targetsOf s)) (length s) (length (ruled (startingPool occupied) last (targetsOf s) .given))
       (length-targets s (recordCount s) 0) (admitted-length (startingPool occupied) s bytes e .1)
 
   -- all are bound if and only if the movable ones do not outnumber the addresses that the fixed ones leave free
   pub all-bound : (r .answer ≡ 0) ↔ (movable (targetsOf s) ≤ leftFree (startingPool occupied) (targetsOf s))
   all-bound = (
-    λ q. all-served occupied (targetsOf s) admitted .0 (zero-served (ruled (startingPool occupied) (targetsOf s) .ending) (sym answer-of-rule ∙ q)),
-    λ h. answer-of-rule ∙ ap numberOf (all-served occupied (targetsOf s) admitted .1 h),
+    λ q. all-served occupied last (targetsOf s) admitted .0 (zero-served (ruled (startingPool occupied) last (targetsOf s) .ending) (sym answer-of-rule ∙ q)),
+    λ h. answer-of-rule ∙ ap numberOf (all-served occupied last (targetsOf s) admitted .1 h),
   )
     where
       zero-served : (x : Ending) → numberOf x ≡ 0 → x ≡ served
@@ -148,7 +160,7 @@ module _ (occupied : Pool) (s b : List ℕ) (bytes : Bytes s) (long : 2048 ≤ l
 
   pub all-counted : (r .count ≡ length (targetsOf s)) ↔ (movable (targetsOf s) ≤ leftFree (startingPool occupied) (targetsOf s))
   all-counted =
-      let g = all-given occupied (targetsOf s) admitted in
+      let g = all-given occupied last (targetsOf s) admitted in
       (λ q. g .0 (sym count-of-rule ∙ q), λ h. count-of-rule ∙ g .1 h)
 
   -- with at least one target, Get UDID is sent once more than targets are bound; with none, not at all
@@ -161,8 +173,8 @@ module _ (occupied : Pool) (s b : List ℕ) (bytes : Bytes s) (long : 2048 ≤ l
 
       none : (ts : List Target) → targetsOf s ≡ ts → length s ≡ 0 → (r .gets ≡ 0) × (r .answer ≡ 0) × (r .count ≡ 0)
       none [] q h = (
-        gets-of-rule ∙ ap (λ (k : ℕ). getsFor k (length (ruled (startingPool occupied) (targetsOf s) .given))) h,
-        answer-of-rule ∙ ap (λ (x : List Target). numberOf (ruled (startingPool occupied) x .ending)) q,
-        count-of-rule ∙ ap (λ (x : List Target). length (ruled (startingPool occupied) x .given)) q,
+        gets-of-rule ∙ ap (λ (k : ℕ). getsFor k (length (ruled (startingPool occupied) last (targetsOf s) .given))) h,
+        answer-of-rule ∙ ap (λ (x : List Target). numberOf (ruled (startingPool occupied) last x .ending)) q,
+        count-of-rule ∙ ap (λ (x : List Target). length (ruled (startingPool occupied) last x .given)) q,
       )
       none (t ∷ ts) q h = absurd (omega (arith, ap length q, length-targets s (recordCount s) 0, h))

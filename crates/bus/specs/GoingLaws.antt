@@ -32,7 +32,7 @@ use Rattle.targets.specs.declared.winner.Winner.{Winner}
 use Rattle.targets.specs.declared.winner.Winner.the-variants as winner
 use Rattle.arp.specs.ChosenLaws.{chosen-small-and-free}
 use Rattle.arp.specs.Bindings.{bound, freed}
-use Rattle.arp.specs.Controller.{handed, counted, asked, issued, chosen, replied, stepped, started, newController, changed}
+use Rattle.arp.specs.Controller.{handed, counted, asked, issued, hasToPick, chosen, replied, stepped, started, newController, changed}
 use Rattle.hearing.specs.Heard.{answer, sentIn, isAssign}
 use Rattle.commands.specs.Codes.{blockWrite}
 use Rattle.commands.specs.Requests.{traceOf}
@@ -71,9 +71,9 @@ fine-asked c ts h = go (leb 128 (c .gets))
     go true = (refl, tt)
     go false = (refl, h)
 
-fine-issued : (c : Controller) (t : Target) (f : Free) (ts : List Target) → Among t ts → ((a : Address) → f ≡ At a → a .0 < 128) → Fine (issued c (t .udid) f) ts
-fine-issued c t (At a) ts m h = (refl, (t, m, refl, h a refl))
-fine-issued c t AllUsed ts m h = (refl, tt)
+fine-issued : (c : Controller) (t : Target) (picks : Bool) (f : Free) (ts : List Target) → Among t ts → ((a : Address) → f ≡ At a → a .0 < 128) → Fine (issued c (t .udid) picks f) ts
+fine-issued c t picks (At a) ts m h = (refl, (t, m, refl, h a refl))
+fine-issued c t picks AllUsed ts m h = (refl, tt)
 
 -- whatever an Assign is told: a Get UDID is due
 fine-assigned : (c : Controller) (u : Udid) (a : Address) (d : Decoded) (sent : List ℕ) (ts : List Target) → 0 < length ts → Fine (changed c (toldAssign u a d sent)) ts
@@ -98,7 +98,8 @@ fine-replied : (c : Controller) (ts : List Target) (t : Target) → Among t ts �
 unfolding replied
 fine-replied c ts t m b =
     let p : Pool = freed c (t .udid) .pool in
-    fine-issued (freed c (t .udid)) t (chosen p (t .udid) (t .addressByte)) ts m (λ a e. chosen-small-and-free p (t .udid) (t .addressByte) a b e .0)
+    let l : ℕ = freed c (t .udid) .picked in
+    fine-issued (freed c (t .udid)) t (hasToPick p (t .udid) (t .addressByte)) (chosen p l (t .udid) (t .addressByte)) ts m (λ a e. chosen-small-and-free p l (t .udid) (t .addressByte) a b e .0)
 
 fine-get : (c : Controller) (s : List ℕ) → Bytes s → Fit s → c .last ≡ Send GetUdid → 0 < length (targetsOf s) → Fine (stepped c (onBus (Send GetUdid) (targetsOf s))) (targetsOf s)
 fine-get c s b f e h = go (winnerOf s) refl
@@ -166,9 +167,9 @@ fit-put ts s after f e = subst Fit (sym e) (record {
   apart = λ i h r. f .apart i (omega (arith, h, ap (λ (n : ℕ). n / 18) (length-put-from ts 0 s))) (r .0, r .1, sym (put-from-keeps-udid ts 0 s (r .0)) ∙ r .2 ∙ put-from-keeps-udid ts 0 s i);
 })
 
-pub running-first : (occupied : Pool) (st : Stepped) (s : List ℕ) → st ≡ started (newController occupied) → Bytes s → checkedList (startingPool occupied) s ≡ Admitted
+pub running-first : (occupied : Pool) (last : ℕ) (st : Stepped) (s : List ℕ) → st ≡ started (newController occupied last) → Bytes s → checkedList (startingPool occupied) s ≡ Admitted
     → Running (worldOf st s) s 300 st s
-running-first occupied st s q b e = record {
+running-first occupied last st s q b e = record {
   bytes = b;
   fit = record { whole = admitted-length (startingPool occupied) s b e .1; apart = given-exactly (startingPool occupied) s Admitted .0 (sym e) .2 };
   going = subst (λ (x : Stepped). Going x s) (sym q) (record { handed = refl; reaches = tt });
@@ -189,17 +190,17 @@ running-next w first m st r s after v b e q =
     }
 
 -- the run over the records from the start of a pass is the pass
-module _ (occupied : Pool) (first : List ℕ) (st₀ : Stepped) (q : st₀ ≡ started (newController occupied)) where
+module _ (occupied : Pool) (last : ℕ) (first : List ℕ) (st₀ : Stepped) (q : st₀ ≡ started (newController occupied last)) where
   -- no turn is left, or none is taken any more
   running-ended : (m : ℕ) (st : Stepped) (s : List ℕ) → Running (worldOf st₀ first) first m st s → runOver recordsBus m (worldOf st s) ≡ worldOf st s
-      → Matches (pass occupied (targetsOf first)) st first s
+      → Matches (pass occupied last (targetsOf first)) st first s
   running-ended m st s v e =
-      let x : passOf recordsBus occupied first ≡ worldOf st s = ap (λ (y : Stepped). runOver recordsBus 300 (worldOf y first)) (sym q) ∙ v .leads ∙ e in
-      let w = subst (λ (y : WorldOver (List ℕ)). SameWorld (Holds first) y (pass occupied (targetsOf first))) x (records-pass first occupied) in
+      let x : passOf recordsBus occupied last first ≡ worldOf st s = ap (λ (y : Stepped). runOver recordsBus 300 (worldOf y first)) (sym q) ∙ v .leads ∙ e in
+      let w = subst (λ (y : WorldOver (List ℕ)). SameWorld (Holds first) y (pass occupied last (targetsOf first))) x (records-pass first occupied last) in
       record { controller = w .now; targets = w .targets .targets; stored = w .targets .stored }
 
-  pub running-last : (m : ℕ) (st : Stepped) (s : List ℕ) → m ≡ 0 → Running (worldOf st₀ first) first m st s → Matches (pass occupied (targetsOf first)) st first s
+  pub running-last : (m : ℕ) (st : Stepped) (s : List ℕ) → m ≡ 0 → Running (worldOf st₀ first) first m st s → Matches (pass occupied last (targetsOf first)) st first s
   running-last m st s e v = running-ended m st s v (ap (λ (n : ℕ). runOver recordsBus n (worldOf st s)) e)
 
-  pub running-still : (m : ℕ) (st : Stepped) (s : List ℕ) → isSent (st .command) ≡ false → Running (worldOf st₀ first) first m st s → Matches (pass occupied (targetsOf first)) st first s
+  pub running-still : (m : ℕ) (st : Stepped) (s : List ℕ) → isSent (st .command) ≡ false → Running (worldOf st₀ first) first m st s → Matches (pass occupied last (targetsOf first)) st first s
   running-still m st s e v = running-ended m st s v (silent-run recordsBus m (worldOf st s) (end-silent (st .command) (targetsOf s) e))

@@ -43,11 +43,11 @@ module _ (first : List ℕ) where
   }
 
   -- ONE CONTROLLER AT THE END, and the records of the targets at the end
-  pub records-pass : (occupied : Pool) → SameWorld (Holds first) (passOf recordsBus occupied first) (pass occupied (targetsOf first))
+  pub records-pass : (occupied : Pool) (last : ℕ) → SameWorld (Holds first) (passOf recordsBus occupied last first) (pass occupied last (targetsOf first))
   unfolding pass
-  records-pass occupied = same-pass recordsBus modelBus (Holds first) records-agree occupied first (targetsOf first) (holds-first (started (newController occupied)))
+  records-pass occupied last = same-pass recordsBus modelBus (Holds first) records-agree occupied last first (targetsOf first) (holds-first (started (newController occupied last)))
 
   -- and as many Get UDIDs on the one bus as on the other
-  pub records-gets : (occupied : Pool) → getsOver recordsBus occupied first ≡ getsOnBus occupied (targetsOf first)
+  pub records-gets : (occupied : Pool) (last : ℕ) → getsOver recordsBus occupied last first ≡ getsOnBus occupied last (targetsOf first)
   unfolding getsOnBus
-  records-gets occupied = same-gets recordsBus modelBus (Holds first) records-agree occupied first (targetsOf first) (holds-first (started (newController occupied)))
+  records-gets occupied last = same-gets recordsBus modelBus (Holds first) records-agree occupied last first (targetsOf first) (holds-first (started (newController occupied last)))

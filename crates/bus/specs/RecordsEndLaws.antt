@@ -25,33 +25,33 @@ use Rattle.bus.specs.Run.{Leaves, modelEnd}
 use Rattle.bindings.specs.declared.answer.ModelAnswer.{ModelAnswer}
 
 -- a list that is not refused, a buffer that is long enough, and what run_model's contract says of an answer and of the lists left
-module _ (occupied : Pool) (s b : List ℕ) (bytes : Bytes s) (long : 2048 ≤ length b) (e : checkedList (startingPool occupied) s ≡ Admitted) (r : ModelAnswer) (s′ b′ : List ℕ)
-    (l : Leaves (modelEnd occupied s b) r s′ b′) where
+module _ (occupied : Pool) (last : ℕ) (small : last < 128) (s b : List ℕ) (bytes : Bytes s) (long : 2048 ≤ length b) (e : checkedList (startingPool occupied) s ≡ Admitted) (r : ModelAnswer) (s′ b′ : List ℕ)
+    (l : Leaves (modelEnd occupied last s b) r s′ b′) where
   admitted : AdmittedTargets (startingPool occupied) (targetsOf s)
   admitted = admitted-targets (startingPool occupied) s bytes e
 
   -- the list as long as it was
   pub records-length : length s′ ≡ length s
-  records-length = ap length (leaves-rule occupied s b bytes long e r s′ b′ l .records-hold) ∙ records.same-length occupied s bytes admitted
+  records-length = ap length (leaves-rule occupied last small s b bytes long e r s′ b′ l .records-hold) ∙ records.same-length occupied last s bytes admitted
 
   -- a record whose identifier is bound: twice its address plus 1, and flag 1
   pub record-of-bound : (i : ℕ) → i < length s / 18
-      → Each (λ (g : Given). RecordOf s i g → (getD s′ (18 * i + 16) 0 ≡ 2 * g .address + 1) × (getD s′ (18 * i + 17) 0 ≡ 1)) (ruled (startingPool occupied) (targetsOf s) .given)
+      → Each (λ (g : Given). RecordOf s i g → (getD s′ (18 * i + 16) 0 ≡ 2 * g .address + 1) × (getD s′ (18 * i + 17) 0 ≡ 1)) (ruled (startingPool occupied) last (targetsOf s) .given)
   record-of-bound i h =
-      subst (λ (x : List ℕ). Each (λ (g : Given). RecordOf s i g → (getD x (18 * i + 16) 0 ≡ 2 * g .address + 1) × (getD x (18 * i + 17) 0 ≡ 1)) (ruled (startingPool occupied) (targetsOf s) .given))
-      (sym (leaves-rule occupied s b bytes long e r s′ b′ l .records-hold)) (records.bound-record occupied s bytes admitted i h)
+      subst (λ (x : List ℕ). Each (λ (g : Given). RecordOf s i g → (getD x (18 * i + 16) 0 ≡ 2 * g .address + 1) × (getD x (18 * i + 17) 0 ≡ 1)) (ruled (startingPool occupied) last (targetsOf s) .given))
+      (sym (leaves-rule occupied last small s b bytes long e r s′ b′ l .records-hold)) (records.bound-record occupied last s bytes admitted i h)
 
   -- any other record: its address byte as it was, and flag 0
-  pub record-of-unbound : (i : ℕ) → i < length s / 18 → (Any (RecordOf s i) (ruled (startingPool occupied) (targetsOf s) .given) → ⊥)
+  pub record-of-unbound : (i : ℕ) → i < length s / 18 → (Any (RecordOf s i) (ruled (startingPool occupied) last (targetsOf s) .given) → ⊥)
       → (getD s′ (18 * i + 16) 0 ≡ getD s (18 * i + 16) 0) × (getD s′ (18 * i + 17) 0 ≡ 0)
   record-of-unbound i h n =
-      let q = records.other-record occupied s bytes admitted i h n in
-      let w = leaves-rule occupied s b bytes long e r s′ b′ l .records-hold in
+      let q = records.other-record occupied last s bytes admitted i h n in
+      let w = leaves-rule occupied last small s b bytes long e r s′ b′ l .records-hold in
       (ap (λ (x : List ℕ). getD x (18 * i + 16) 0) w ∙ q .0, ap (λ (x : List ℕ). getD x (18 * i + 17) 0) w ∙ q .1)
 
   -- no other byte changes
   pub other-bytes-kept : (j : ℕ) → j % 18 < 16 → getD s′ j 0 ≡ getD s j 0
-  other-bytes-kept j h = ap (λ (x : List ℕ). getD x j 0) (leaves-rule occupied s b bytes long e r s′ b′ l .records-hold) ∙ records.other-bytes occupied s bytes admitted j h
+  other-bytes-kept j h = ap (λ (x : List ℕ). getD x j 0) (leaves-rule occupied last small s b bytes long e r s′ b′ l .records-hold) ∙ records.other-bytes occupied last s bytes admitted j h
 
 -- ---- nothing is left open: two lists of records t and u that are so left of s are equal
 

@@ -1,4 +1,4 @@
--- The refusals of the model run: 2, 9, 10, 11 and 12 are given exactly in their listed cases, with the record, and then nothing lent
+-- The refusals of the model run: 1, 2, 9, 10, 11 and 12 are given exactly in their listed cases, with the record, and then nothing lent
 -- changes and every other part of the answer is zero.
 use Prim.Native.Nat.{ℕ, _/_, _%_, _≤_, _<_}
 use mathlib.Core.Path.{_≡_, refl, sym, ap, _∙_, subst}
@@ -26,9 +26,9 @@ use Rattle.commands.specs.declared.command.Handed.{Handed}
 use Rattle.commands.specs.declared.command.Handed.the-variants.{Send, Wait}
 use Rattle.targets.specs.Records.{targetsOf}
 use Rattle.rule.specs.Bus.{pass}
-use Rattle.bus.specs.Run.{ModelEnd, Leaves, refusedEnd, endChecked, modelEnd}
+use Rattle.bus.specs.Run.{ModelEnd, Leaves, refusedEnd, endChecked, runEnd, modelEnd}
 use Rattle.report.specs.Report.{numberIn, modelNumber, refusedAnswer}
-use Rattle.bus.specs.RunLaws.{end-short, end-checked}
+use Rattle.bus.specs.RunLaws.{end-short, end-checked, end-forbidden, end-going}
 use Rattle.bindings.specs.declared.answer.ModelAnswer.{ModelAnswer}
 
 -- ---- a pass ends with none of these numbers
@@ -45,14 +45,12 @@ number-is : (k : Handed) → (numberIn (commandNumber k) ≡ 0) ⊎ (13 ≤ numb
 number-is (Send k) = inl refl
 number-is (Wait e) = end-number-is e
 
-not-in-pass : (k : Handed) (n : ℕ) → numberIn (commandNumber k) ≡ n → (n ≡ 2) ⊎ ((9 ≤ n) × (n ≤ 12)) → ⊥
-not-in-pass k n e h = go (number-is k) h
+not-in-pass : (k : Handed) (n : ℕ) → numberIn (commandNumber k) ≡ n → (1 ≤ n) × (n ≤ 12) → ⊥
+not-in-pass k n e h = go (number-is k)
   where
-    go : (numberIn (commandNumber k) ≡ 0) ⊎ (13 ≤ numberIn (commandNumber k)) → (n ≡ 2) ⊎ ((9 ≤ n) × (n ≤ 12)) → ⊥
-    go (inl z) (inl h) = omega arith
-    go (inl z) (inr h) = omega arith
-    go (inr z) (inl h) = omega arith
-    go (inr z) (inr h) = omega arith
+    go : (numberIn (commandNumber k) ≡ 0) ⊎ (13 ≤ numberIn (commandNumber k)) → ⊥
+    go (inl z) = omega (arith, h .0)
+    go (inr z) = omega (arith, h .1)
 
 refusal-9-to-12 : (k : Checked) → (k ≡ Admitted → ⊥) → (9 ≤ answerOf k .number) × (answerOf k .number ≤ 12)
 refusal-9-to-12 Admitted n = absurd (n refl)
@@ -62,12 +60,12 @@ refusal-9-to-12 (Repeated i) n = (omega arith, omega arith)
 refusal-9-to-12 (Taken i) n = (omega arith, omega arith)
 
 -- a refused list: the answer's number and record are those of the refusal
-refused-end-of-check : (k : Checked) → (k ≡ Admitted → ⊥) → (occupied : Pool) (s b : List ℕ) → endChecked k occupied s b ≡ refusedEnd (answerOf k .number) (answerOf k .value) s b
-refused-end-of-check Admitted n occupied s b = absurd (n refl)
-refused-end-of-check BadLength n occupied s b = refl
-refused-end-of-check (Malformed i) n occupied s b = refl
-refused-end-of-check (Repeated i) n occupied s b = refl
-refused-end-of-check (Taken i) n occupied s b = refl
+refused-end-of-check : (k : Checked) → (k ≡ Admitted → ⊥) → (occupied : Pool) (last : ℕ) (s b : List ℕ) → endChecked k occupied last s b ≡ refusedEnd (answerOf k .number) (answerOf k .value) s b
+refused-end-of-check Admitted n occupied last s b = absurd (n refl)
+refused-end-of-check BadLength n occupied last s b = refl
+refused-end-of-check (Malformed i) n occupied last s b = refl
+refused-end-of-check (Repeated i) n occupied last s b = refl
+refused-end-of-check (Taken i) n occupied last s b = refl
 
 pairs-tell-apart : (k j : Checked) → _≡_ {A = ℕ × ℕ} (answerOf k .number, answerOf k .value) (answerOf j .number, answerOf j .value) → k ≡ j
 pairs-tell-apart k j e =
@@ -82,55 +80,74 @@ admitted-or-not (Malformed i) = inr (λ e. zero-is-one (cc e))
 admitted-or-not (Repeated i) = inr (λ e. zero-is-one (cc e))
 admitted-or-not (Taken i) = inr (λ e. zero-is-one (cc e))
 
--- what run_model's contract says of an answer and of what the lent lists hold then
-module _ (occupied : Pool) (s b : List ℕ) (r : ModelAnswer) (s′ b′ : List ℕ) (l : Leaves (modelEnd occupied s b) r s′ b′) where
+-- ---- with a last pick up to 127
+
+module _ (occupied : Pool) (last : ℕ) (s b : List ℕ) (r : ModelAnswer) (s′ b′ : List ℕ) (l : Leaves (runEnd occupied last s b) r s′ b′) where
   -- the end of each case
   short-end : length b < 2048 → Leaves (refusedEnd 2 0 s b) r s′ b′
-  short-end h = subst (λ (x : ModelEnd). Leaves x r s′ b′) (end-short occupied s b h) l
+  short-end h = subst (λ (x : ModelEnd). Leaves x r s′ b′) (end-short occupied last s b h) l
 
-  checked-end : 2048 ≤ length b → Leaves (endChecked (checkedList (startingPool occupied) s) occupied s b) r s′ b′
-  checked-end h = subst (λ (x : ModelEnd). Leaves x r s′ b′) (end-checked occupied s b (checkedList (startingPool occupied) s) h refl) l
+  checked-end : 2048 ≤ length b → Leaves (endChecked (checkedList (startingPool occupied) s) occupied last s b) r s′ b′
+  checked-end h = subst (λ (x : ModelEnd). Leaves x r s′ b′) (end-checked occupied last s b (checkedList (startingPool occupied) s) h refl) l
 
   refused-end : 2048 ≤ length b → (checkedList (startingPool occupied) s ≡ Admitted → ⊥)
       → Leaves (refusedEnd (answerOf (checkedList (startingPool occupied) s) .number) (answerOf (checkedList (startingPool occupied) s) .value) s b) r s′ b′
-  refused-end h n = subst (λ (x : ModelEnd). Leaves x r s′ b′) (refused-end-of-check (checkedList (startingPool occupied) s) n occupied s b) (checked-end h)
+  refused-end h n = subst (λ (x : ModelEnd). Leaves x r s′ b′) (refused-end-of-check (checkedList (startingPool occupied) s) n occupied last s b) (checked-end h)
 
-  pass-number : 2048 ≤ length b → checkedList (startingPool occupied) s ≡ Admitted → (r .answer ≡ 2) ⊎ ((9 ≤ r .answer) × (r .answer ≤ 12)) → ⊥
+  pass-number : 2048 ≤ length b → checkedList (startingPool occupied) s ≡ Admitted → (1 ≤ r .answer) × (r .answer ≤ 12) → ⊥
   pass-number h e =
-      let q = subst (λ (k : Checked). Leaves (endChecked k occupied s b) r s′ b′) e (checked-end h) in
-      not-in-pass (pass occupied (targetsOf s) .now .command) (r .answer) (sym (ap (λ (x : ModelAnswer). x .answer) (q .answered)))
+      let q = subst (λ (k : Checked). Leaves (endChecked k occupied last s b) r s′ b′) e (checked-end h) in
+      not-in-pass (pass occupied last (targetsOf s) .now .command) (r .answer) (sym (ap (λ (x : ModelAnswer). x .answer) (q .answered)))
+
+  -- what the number is: 2 with a short buffer, 9 to 12 with a refused list, and none from 1 to 12 with a pass
+  run-cases : (1 ≤ r .answer) × (r .answer ≤ 12)
+      → ((length b < 2048) × (r .answer ≡ 2)) ⊎ ((2048 ≤ length b) × (checkedList (startingPool occupied) s ≡ Admitted → ⊥) × ((9 ≤ r .answer) × (r .answer ≤ 12)))
+  run-cases h = go (decLt (length b) 2048) (admitted-or-not (checkedList (startingPool occupied) s))
+    where
+      go : Dec (length b < 2048) → (checkedList (startingPool occupied) s ≡ Admitted) ⊎ (checkedList (startingPool occupied) s ≡ Admitted → ⊥)
+          → ((length b < 2048) × (r .answer ≡ 2)) ⊎ ((2048 ≤ length b) × (checkedList (startingPool occupied) s ≡ Admitted → ⊥) × ((9 ≤ r .answer) × (r .answer ≤ 12)))
+      go (yes k) c = inl (k, ap (λ (x : ModelAnswer). x .answer) (short-end k .answered))
+      go (no k) (inl a) = absurd (pass-number (omega arith) a h)
+      go (no k) (inr n) =
+          let q = refusal-9-to-12 (checkedList (startingPool occupied) s) n in
+          let e : r .answer ≡ answerOf (checkedList (startingPool occupied) s) .number = ap (λ (x : ModelAnswer). x .answer) (refused-end (omega arith) n .answered) in
+          inr (omega arith, n, (omega (arith, q .0), omega (arith, q .1)))
+
+  -- never 1
+  run-not-1 : r .answer ≡ 1 → ⊥
+  run-not-1 e = go (run-cases (omega arith, omega arith))
+    where
+      go : ((length b < 2048) × (r .answer ≡ 2)) ⊎ ((2048 ≤ length b) × (checkedList (startingPool occupied) s ≡ Admitted → ⊥) × ((9 ≤ r .answer) × (r .answer ≤ 12))) → ⊥
+      go (inl w) = omega (arith, w .1)
+      go (inr w) = omega (arith, w .2 .0)
 
   -- 2: the binding buffer is under 2,048 bytes
-  pub model-2 : (modelNumber r ≡ (2, 0)) ↔ (length b < 2048)
-  model-2 = (λ e. there e (decLt (length b) 2048), λ h. ap modelNumber (short-end h .answered))
+  run-2 : (modelNumber r ≡ (2, 0)) ↔ (length b < 2048)
+  run-2 = (λ e. there (ap (λ (p : ℕ × ℕ). p .0) e), λ h. ap modelNumber (short-end h .answered))
     where
-      there : modelNumber r ≡ (2, 0) → Dec (length b < 2048) → length b < 2048
-      there e (yes h) = h
-      there e (no h) = absurd (go (admitted-or-not (checkedList (startingPool occupied) s)))
+      there : r .answer ≡ 2 → length b < 2048
+      there e = go (run-cases (omega arith, omega arith))
         where
-          two : r .answer ≡ 2
-          two = ap (λ (p : ℕ × ℕ). p .0) e
-
-          go : (checkedList (startingPool occupied) s ≡ Admitted) ⊎ (checkedList (startingPool occupied) s ≡ Admitted → ⊥) → ⊥
-          go (inl a) = pass-number (omega arith) a (inl two)
-          go (inr n) =
-              let q = refusal-9-to-12 (checkedList (startingPool occupied) s) n in
-              omega (arith, q .0, ap (λ (x : ModelAnswer). x .answer) (refused-end (omega arith) n .answered), two)
+          go : ((length b < 2048) × (r .answer ≡ 2)) ⊎ ((2048 ≤ length b) × (checkedList (startingPool occupied) s ≡ Admitted → ⊥) × ((9 ≤ r .answer) × (r .answer ≤ 12))) → length b < 2048
+          go (inl w) = w .0
+          go (inr w) = absurd (omega (arith, w .2 .0))
 
   -- 9, 10, 11 and 12: the buffer is long enough, and the list is what the scope lists for that number and record
-  pub model-refused : (k : Checked) → (k ≡ Admitted → ⊥) → (modelNumber r ≡ (answerOf k .number, answerOf k .value)) ↔ ((2048 ≤ length b) × Given (startingPool occupied) s k)
-  model-refused k n = (λ e. there e (decLt (length b) 2048) (admitted-or-not (checkedList (startingPool occupied) s)), back)
+  run-refused : (k : Checked) → (k ≡ Admitted → ⊥) → (modelNumber r ≡ (answerOf k .number, answerOf k .value)) ↔ ((2048 ≤ length b) × Given (startingPool occupied) s k)
+  run-refused k n = (there, back)
     where
-      there : modelNumber r ≡ (answerOf k .number, answerOf k .value) → Dec (length b < 2048) → (checkedList (startingPool occupied) s ≡ Admitted) ⊎ (checkedList (startingPool occupied) s ≡ Admitted → ⊥)
-          → (2048 ≤ length b) × Given (startingPool occupied) s k
-      there e (yes h) c =
-          absurd (omega (arith, refusal-9-to-12 k n .0, ap (λ (p : ℕ × ℕ). p .0) e, ap (λ (x : ModelAnswer). x .answer) (short-end h .answered)))
-      there e (no h) (inl a) =
-          let q : r .answer ≡ answerOf k .number = ap (λ (p : ℕ × ℕ). p .0) e in
-          absurd (pass-number (omega arith) a (inr (omega (arith, q, refusal-9-to-12 k n .0), omega (arith, q, refusal-9-to-12 k n .1))))
-      there e (no h) (inr c) =
-          let q = pairs-tell-apart k (checkedList (startingPool occupied) s) (sym e ∙ ap modelNumber (refused-end (omega arith) c .answered)) in
-          (omega arith, given-exactly (startingPool occupied) s k .0 q)
+      there : modelNumber r ≡ (answerOf k .number, answerOf k .value) → (2048 ≤ length b) × Given (startingPool occupied) s k
+      there e = go (run-cases (omega (arith, q, refusal-9-to-12 k n .0), omega (arith, q, refusal-9-to-12 k n .1)))
+        where
+          q : r .answer ≡ answerOf k .number
+          q = ap (λ (p : ℕ × ℕ). p .0) e
+
+          go : ((length b < 2048) × (r .answer ≡ 2)) ⊎ ((2048 ≤ length b) × (checkedList (startingPool occupied) s ≡ Admitted → ⊥) × ((9 ≤ r .answer) × (r .answer ≤ 12)))
+              → (2048 ≤ length b) × Given (startingPool occupied) s k
+          go (inl w) = absurd (omega (arith, w .1, q, refusal-9-to-12 k n .0))
+          go (inr w) =
+              let m = pairs-tell-apart k (checkedList (startingPool occupied) s) (sym e ∙ ap modelNumber (refused-end (w .0) (w .1) .answered)) in
+              (w .0, given-exactly (startingPool occupied) s k .0 m)
 
       back : (2048 ≤ length b) × Given (startingPool occupied) s k → modelNumber r ≡ (answerOf k .number, answerOf k .value)
       back (h, g) =
@@ -138,49 +155,88 @@ module _ (occupied : Pool) (s b : List ℕ) (r : ModelAnswer) (s′ b′ : List 
           let m = refused-end h (λ a. n (q ∙ a)) in
           ap modelNumber (m .answered) ∙ ap (λ (x : Checked). (answerOf x .number, answerOf x .value)) (sym q)
 
-  -- and then nothing that was lent has changed, and all else in the answer is zero
-  pub model-untouched : (r .answer ≡ 2) ⊎ ((9 ≤ r .answer) × (r .answer ≤ 12)) → (s′ ≡ s) × (b′ ≡ b) × (r ≡ refusedAnswer (r .answer) (r .place))
-  model-untouched h = go (decLt (length b) 2048) (admitted-or-not (checkedList (startingPool occupied) s))
-    where
-      same : (n i : ℕ) → Leaves (refusedEnd n i s b) r s′ b′ → (s′ ≡ s) × (b′ ≡ b) × (r ≡ refusedAnswer (r .answer) (r .place))
-      same n i q = (
-        q .records-hold,
-        q .bindings-hold,
-        q .answered ∙ sym (ap (λ (x : ModelAnswer). refusedAnswer (x .answer) (x .place)) (q .answered)),
-      )
+-- a refusal changes nothing lent, and all else in the answer is zero
+abbrev Untouched : List ℕ → List ℕ → ModelAnswer → List ℕ → List ℕ → Type 0
+Untouched s b r s′ b′ = (s′ ≡ s) × (b′ ≡ b) × (r ≡ refusedAnswer (r .answer) (r .place))
 
-      go : Dec (length b < 2048) → (checkedList (startingPool occupied) s ≡ Admitted) ⊎ (checkedList (startingPool occupied) s ≡ Admitted → ⊥) → (s′ ≡ s) × (b′ ≡ b) × (r ≡ refusedAnswer (r .answer) (r .place))
-      go (yes k) c = same 2 0 (short-end k)
-      go (no k) (inl a) = absurd (pass-number (omega arith) a h)
-      go (no k) (inr n) = same (answerOf (checkedList (startingPool occupied) s) .number) (answerOf (checkedList (startingPool occupied) s) .value) (refused-end (omega arith) n)
+untouched : (s b : List ℕ) (r : ModelAnswer) (s′ b′ : List ℕ) (n i : ℕ) → Leaves (refusedEnd n i s b) r s′ b′ → Untouched s b r s′ b′
+untouched s b r s′ b′ n i q = (
+  q .records-hold,
+  q .bindings-hold,
+  q .answered ∙ sym (ap (λ (x : ModelAnswer). refusedAnswer (x .answer) (x .place)) (q .answered)),
+)
+
+-- ---- with any last pick: what run_model's contract says of an answer and of what the lent lists hold then
+module _ (occupied : Pool) (last : ℕ) (s b : List ℕ) (r : ModelAnswer) (s′ b′ : List ℕ) (l : Leaves (modelEnd occupied last s b) r s′ b′) where
+  forbidden-end : 127 < last → Leaves (refusedEnd 1 0 s b) r s′ b′
+  forbidden-end h = subst (λ (x : ModelEnd). Leaves x r s′ b′) (end-forbidden occupied last s b h) l
+
+  going-end : last < 128 → Leaves (runEnd occupied last s b) r s′ b′
+  going-end h = subst (λ (x : ModelEnd). Leaves x r s′ b′) (end-going occupied last s b h) l
+
+  -- 1: the last pick is above 127
+  pub model-1 : (modelNumber r ≡ (1, 0)) ↔ (127 < last)
+  model-1 = (λ e. there (ap (λ (p : ℕ × ℕ). p .0) e) (decLt 127 last), λ h. ap modelNumber (forbidden-end h .answered))
+    where
+      there : r .answer ≡ 1 → Dec (127 < last) → 127 < last
+      there e (yes h) = h
+      there e (no h) = absurd (run-not-1 occupied last s b r s′ b′ (going-end (omega arith)) e)
+
+  -- any other number is given where the last pick is up to 127, in the case that it has there
+  other-number : (n i : ℕ) (P : Type 0) → (n ≡ 1 → ⊥) → (Leaves (runEnd occupied last s b) r s′ b′ → (modelNumber r ≡ (n, i)) ↔ P) → (modelNumber r ≡ (n, i)) ↔ ((last < 128) × P)
+  other-number n i P m f = (λ e. go e (decLt 127 last), λ h. f (going-end (h .0)) .1 (h .1))
+    where
+      go : modelNumber r ≡ (n, i) → Dec (127 < last) → (last < 128) × P
+      go e (yes h) = absurd (m (sym (ap (λ (p : ℕ × ℕ). p .0) e) ∙ ap (λ (x : ModelAnswer). x .answer) (forbidden-end h .answered)))
+      go e (no h) = (omega arith, f (going-end (omega arith)) .0 e)
+
+  pub model-2 : (modelNumber r ≡ (2, 0)) ↔ ((last < 128) × (length b < 2048))
+  model-2 = other-number 2 0 (length b < 2048) (λ e. omega arith) (λ v. run-2 occupied last s b r s′ b′ v)
+
+  -- and then nothing that was lent has changed, and all else in the answer is zero
+  pub model-untouched : (1 ≤ r .answer) × (r .answer ≤ 12) → (s′ ≡ s) × (b′ ≡ b) × (r ≡ refusedAnswer (r .answer) (r .place))
+  model-untouched h = go (decLt 127 last)
+    where
+      run : Leaves (runEnd occupied last s b) r s′ b′ → Untouched s b r s′ b′
+      run v = at (run-cases occupied last s b r s′ b′ v h)
+        where
+          at : ((length b < 2048) × (r .answer ≡ 2)) ⊎ ((2048 ≤ length b) × (checkedList (startingPool occupied) s ≡ Admitted → ⊥) × ((9 ≤ r .answer) × (r .answer ≤ 12))) → Untouched s b r s′ b′
+          at (inl w) = untouched s b r s′ b′ 2 0 (short-end occupied last s b r s′ b′ v (w .0))
+          at (inr w) = untouched s b r s′ b′ _ _ (refused-end occupied last s b r s′ b′ v (w .0) (w .1))
+
+      go : Dec (127 < last) → Untouched s b r s′ b′
+      go (yes k) = untouched s b r s′ b′ 1 0 (forbidden-end k)
+      go (no k) = run (going-end (omega arith))
 
   -- the numbers, each if and only if its case, by the bytes of the records: record i is the 18 bytes from 18 i on
   module _ (bytes : Bytes s) where
-    refused-by-bytes : (k : Checked) → (k ≡ Admitted → ⊥) → (modelNumber r ≡ (answerOf k .number, answerOf k .value)) ↔ ((2048 ≤ length b) × GivenByBytes (startingPool occupied) s k)
+    refused-by-bytes : (k : Checked) → (k ≡ Admitted → ⊥) → (modelNumber r ≡ (answerOf k .number, answerOf k .value)) ↔ ((last < 128) × ((2048 ≤ length b) × GivenByBytes (startingPool occupied) s k))
     refused-by-bytes k n =
-        let m = model-refused k n in
+        other-number (answerOf k .number) (answerOf k .value) ((2048 ≤ length b) × GivenByBytes (startingPool occupied) s k) (λ e. omega (arith, refusal-9-to-12 k n .0)) (λ v.
+        let m = run-refused occupied last s b r s′ b′ v k n in
         let g = given-by-bytes (startingPool occupied) s bytes k in
-        (λ e. (m .0 e .0, g .0 (m .0 e .1)), λ h. m .1 (h .0, g .1 (h .1)))
+        (λ e. (m .0 e .0, g .0 (m .0 e .1)), λ h. m .1 (h .0, g .1 (h .1))))
 
     -- 9: over 2,160 bytes, or no multiple of 18
-    pub model-9 : (modelNumber r ≡ (9, 0)) ↔ ((2048 ≤ length b) × ((2160 < length s) ⊎ (length s % 18 ≡ 0 → ⊥)))
+    pub model-9 : (modelNumber r ≡ (9, 0)) ↔ ((last < 128) × ((2048 ≤ length b) × ((2160 < length s) ⊎ (length s % 18 ≡ 0 → ⊥))))
     model-9 = refused-by-bytes BadLength (λ e. zero-is-one (cc e))
 
     -- 10: the first record whose byte 16 is even or byte 17 above 1
-    pub model-10 : (i : ℕ) → (modelNumber r ≡ (10, i)) ↔ ((2048 ≤ length b) × ((LengthIsBad s → ⊥) × FirstOf (EvenOrFlag s) (length s / 18) i))
+    pub model-10 : (i : ℕ) → (modelNumber r ≡ (10, i)) ↔ ((last < 128) × ((2048 ≤ length b) × ((LengthIsBad s → ⊥) × FirstOf (EvenOrFlag s) (length s / 18) i)))
     model-10 i = refused-by-bytes (Malformed i) (λ e. zero-is-one (cc e))
 
     -- 11: the first record whose 16 bytes of identifier are those of an earlier one
-    pub model-11 : (i : ℕ) → (modelNumber r ≡ (11, i)) ↔ ((2048 ≤ length b) × ((LengthIsBad s → ⊥) × None (EvenOrFlag s) (length s / 18) × FirstOf (SameAsEarlier s) (length s / 18) i))
+    pub model-11 : (i : ℕ) → (modelNumber r ≡ (11, i)) ↔ ((last < 128) × ((2048 ≤ length b) × ((LengthIsBad s → ⊥) × None (EvenOrFlag s) (length s / 18) × FirstOf (SameAsEarlier s) (length s / 18) i)))
     model-11 i = refused-by-bytes (Repeated i) (λ e. zero-is-one (cc e))
 
     -- 12: the first fixed target whose address is in the starting pool or is that of an earlier fixed one
     pub model-12 : (i : ℕ) → (modelNumber r ≡ (12, i))
-        ↔ ((2048 ≤ length b) × ((LengthIsBad s → ⊥) × None (EvenOrFlag s) (length s / 18) × None (SameAsEarlier s) (length s / 18) × FirstOf (FixedOnTaken (startingPool occupied) s) (length s / 18) i))
+        ↔ ((last < 128) × ((2048 ≤ length b) × ((LengthIsBad s → ⊥) × None (EvenOrFlag s) (length s / 18) × None (SameAsEarlier s) (length s / 18) × FirstOf (FixedOnTaken (startingPool occupied) s) (length s / 18) i)))
     model-12 i = refused-by-bytes (Taken i) (λ e. zero-is-one (cc e))
 
   -- every other part of a refusal is zero
-  pub model-zero : (r .answer ≡ 2) ⊎ ((9 ≤ r .answer) × (r .answer ≤ 12)) → (r .udid .high ≡ 0) × (r .udid .low ≡ 0) × (r .bound .low ≡ 0) × (r .bound .high ≡ 0) × (r .count ≡ 0) × (r .gets ≡ 0)
+  pub model-zero : (1 ≤ r .answer) × (r .answer ≤ 12)
+      → (r .udid .high ≡ 0) × (r .udid .low ≡ 0) × (r .bound .low ≡ 0) × (r .bound .high ≡ 0) × (r .count ≡ 0) × (r .gets ≡ 0) × (r .picked ≡ 0)
   model-zero h = (
     ap (λ (x : ModelAnswer). x .udid .high) (model-untouched h .2),
     ap (λ (x : ModelAnswer). x .udid .low) (model-untouched h .2),
@@ -188,4 +244,5 @@ module _ (occupied : Pool) (s b : List ℕ) (r : ModelAnswer) (s′ b′ : List 
     ap (λ (x : ModelAnswer). x .bound .high) (model-untouched h .2),
     ap (λ (x : ModelAnswer). x .count) (model-untouched h .2),
     ap (λ (x : ModelAnswer). x .gets) (model-untouched h .2),
+    ap (λ (x : ModelAnswer). x .picked) (model-untouched h .2),
   )

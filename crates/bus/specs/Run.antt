@@ -53,13 +53,17 @@ endedEnd w s b = record {
 }
 
 -- 9, 10, 11, 12, or the pass
-abbrev pub endChecked : Checked → Pool → List ℕ → List ℕ → ModelEnd
-endChecked Admitted occupied s b = endedEnd (pass occupied (targetsOf s)) s b
-endChecked BadLength occupied s b = refusedEnd (answerOf BadLength .number) (answerOf BadLength .value) s b
-endChecked (Malformed i) occupied s b = refusedEnd (answerOf (Malformed i) .number) (answerOf (Malformed i) .value) s b
-endChecked (Repeated i) occupied s b = refusedEnd (answerOf (Repeated i) .number) (answerOf (Repeated i) .value) s b
-endChecked (Taken i) occupied s b = refusedEnd (answerOf (Taken i) .number) (answerOf (Taken i) .value) s b
+abbrev pub endChecked : Checked → Pool → ℕ → List ℕ → List ℕ → ModelEnd
+endChecked Admitted occupied last s b = endedEnd (pass occupied last (targetsOf s)) s b
+endChecked BadLength occupied last s b = refusedEnd (answerOf BadLength .number) (answerOf BadLength .value) s b
+endChecked (Malformed i) occupied last s b = refusedEnd (answerOf (Malformed i) .number) (answerOf (Malformed i) .value) s b
+endChecked (Repeated i) occupied last s b = refusedEnd (answerOf (Repeated i) .number) (answerOf (Repeated i) .value) s b
+endChecked (Taken i) occupied last s b = refusedEnd (answerOf (Taken i) .number) (answerOf (Taken i) .value) s b
 
 -- 2 comes before them
-unfoldable pub modelEnd : Pool → List ℕ → List ℕ → ModelEnd
-modelEnd occupied s b = pick (ltb (length b) 2048) (refusedEnd 2 0 s b) (endChecked (checkedList (startingPool occupied) s) occupied s b)
+unfoldable pub runEnd : Pool → ℕ → List ℕ → List ℕ → ModelEnd
+runEnd occupied last s b = pick (ltb (length b) 2048) (refusedEnd 2 0 s b) (endChecked (checkedList (startingPool occupied) s) occupied last s b)
+
+-- and 1 before all: the last pick is above 127
+unfoldable pub modelEnd : Pool → ℕ → List ℕ → List ℕ → ModelEnd
+modelEnd occupied last s b = pick (ltb 127 last) (refusedEnd 1 0 s b) (runEnd occupied last s b)

@@ -27,11 +27,11 @@ fn is_sent(k: Handed) -> bool
     }
 }
 
-pub(crate) fn run_pass(occupied: Pool, records: &mut [u8]) -> Stepped
+pub(crate) fn run_pass(occupied: Pool, last: u8, records: &mut [u8]) -> Stepped
     requires { ⌜ checkedList (startingPool occupied) (now records) ≡ Admitted ⌝ }
-    ensures { λ r. ⌜ Matches (pass occupied (targetsOf (now (records .entry)))) r (now (records .entry)) (now (records .exit)) ⌝ }
+    ensures { λ r. ⌜ Matches (pass occupied last (targetsOf (now (records .entry)))) r (now (records .entry)) (now (records .exit)) ⌝ }
 {
-    let c = Controller::new(occupied);
+    let c = Controller::new(occupied, last);
     let mut st = c.start();
     let mut i: u32 = 0;
     while i < MOST_COMMANDS {

@@ -1,6 +1,6 @@
 -- What the functions on pools answer for C, in numbers.
 use mathlib.Core.Path.{_≡_, refl, sym, ap, _∙_, subst}
-use mathlib.Core.Bool.{Bool, true}
+use mathlib.Core.Bool.{Bool, true, false}
 use mathlib.Core.Logic.{_⊎_, inl, inr, _↔_, Iff·trans, Iff·symm}
 use Prim.Native.Nat.{ℕ, _+_, _-_, _/_, _%_, _^_, _≤_, _<_}
 use native.Mathlib.Decide.{decLt}
@@ -13,6 +13,8 @@ use Rattle.lists.specs.TestLaws.{eqb-is, or-is, and-is, false-is, not-is}
 use Rattle.wire.specs.Addresses.{isReserved}
 use Rattle.pool.specs.Digits.{digit}
 use Rattle.pool.specs.Free.{used, lowestFree, Lowest}
+use Rattle.pool.specs.NextFree.{nextFree, Next}
+use Rattle.pool.specs.NextFreeLaws.{next-is, next-none, next-first, next-above}
 use Rattle.pool.specs.FreeLaws.{used-ones, lowest-is, none-free}
 use Rattle.pool.specs.MemberLaws.{member-low, member-high, member-above, member-with, member-without, member-union}
 use Rattle.pool.specs.Pools.{member, withAddress, withoutAddress, unionOf}
@@ -116,3 +118,23 @@ hb-pool-lowest-free pool r e = go (lowestFree (poolIn pool)) refl e
         let w : Lowest (poolIn pool) r = subst (Lowest (poolIn pool)) (sym h) (lowest-is (poolIn pool) (a .0) .0 q) in
         inl (w .small, false-is (member (poolIn pool) r) (pool-is (pool .low) (pool .high) r) .0 (w .free), λ b l. pool-is (pool .low) (pool .high) b .0 (w .below b l))
     go AllUsed q h = inr (h, λ b l. pool-is (pool .low) (pool .high) b .0 (none-free (poolIn pool) .0 q b l))
+
+-- below 128: not in the pool, and of all that are not the one at the least distance after the last; 128: all are. Above 127 the last counts as 127
+pub hb-pool-next-free : (pool : HbPool) (last r : ℕ) → last < 128 → r ≡ freeNumber (nextFree (poolIn pool) last)
+    → ((r < 128) × (InPool (pool .low) (pool .high) r → ⊥) × ((a : ℕ) → a < 128 → (InPool (pool .low) (pool .high) a → ⊥) → (r + 127 - last) % 128 ≤ (a + 127 - last) % 128))
+    ⊎ ((r ≡ 128) × ((a : ℕ) → a < 128 → InPool (pool .low) (pool .high) a))
+hb-pool-next-free pool last r small e = go (nextFree (poolIn pool) last) refl e
+  where
+    free : (a : ℕ) → (member (poolIn pool) a ≡ false) ↔ (InPool (pool .low) (pool .high) a → ⊥)
+    free a = false-is (member (poolIn pool) a) (pool-is (pool .low) (pool .high) a)
+
+    go : (f : Free) → nextFree (poolIn pool) last ≡ f → r ≡ freeNumber f
+        → ((r < 128) × (InPool (pool .low) (pool .high) r → ⊥) × ((a : ℕ) → a < 128 → (InPool (pool .low) (pool .high) a → ⊥) → (r + 127 - last) % 128 ≤ (a + 127 - last) % 128))
+        ⊎ ((r ≡ 128) × ((a : ℕ) → a < 128 → InPool (pool .low) (pool .high) a))
+    go (At a) q h =
+        let w : Next (poolIn pool) last r = subst (Next (poolIn pool) last) (sym h) (next-is (poolIn pool) last (a .0) small .0 q) in
+        inl (w .small, free r .0 (w .free), λ b l n. w .nearest b l (free b .1 n))
+    go AllUsed q h = inr (h, λ b l. pool-is (pool .low) (pool .high) b .0 (next-none (poolIn pool) last .0 q b l))
+
+pub hb-pool-next-above : (pool : HbPool) (last : ℕ) → 127 ≤ last → freeNumber (nextFree (poolIn pool) last) ≡ freeNumber (nextFree (poolIn pool) 127)
+hb-pool-next-above pool last h = ap freeNumber (next-above (poolIn pool) last h ∙ sym (next-first (poolIn pool)))

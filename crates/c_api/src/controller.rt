@@ -1,13 +1,12 @@
 // Traces of the ARP controller's commands, and a pass over a list of traces. The controller's state does not cross to C: a pass starts anew
-// at each call, and takes one step for each trace.
+// at each call, with the last pick that is given, and takes one step for each trace.
 ghost use mathlib.Core.Path.{_≡_};
 ghost use mathlib.Core.Bool.{true};
-ghost use Rattle.arp.specs.Lookup.{lookedUp};
 ghost use Rattle.commands.specs.Requests.{protocolFor, messageOf};
 ghost use Rattle.c_codec.specs.Codec.{WrotePairs};
-ghost use Rattle.c_arp.specs.Commands.{commandOf, toldCommand};
+ghost use Rattle.c_arp.specs.Commands.{commandOf};
 ghost use Rattle.c_arp.specs.Parts.{poolIn, udidIn};
-ghost use Rattle.c_arp.specs.Pass.{passOver, toldFound};
+ghost use Rattle.c_arp.specs.Pass.{passCommand, passFound};
 use c_arp::kinds::HbCommand;
 use c_arp::kinds::put_command_pairs;
 use c_arp::parts::HbPool;
@@ -31,18 +30,18 @@ pub extern "C" fn hb_put_command(
     put_command_pairs(kind, udid, address, reply, out)
 }
 
-// What the last step handed out; with no trace, Prepare To ARP.
+// What the last step handed out, and the last pick then; with no trace, Prepare To ARP.
 #[no_mangle]
-pub extern "C" fn hb_pass(occupied: HbPool, traces: &[u8]) -> HbCommand
-    ensures { λ r. ⌜ r ≡ toldCommand (passOver (poolIn occupied) (now (traces .entry)) .command) (passOver (poolIn occupied) (now (traces .entry)) .state .gets) ⌝ }
+pub extern "C" fn hb_pass(occupied: HbPool, last: u8, traces: &[u8]) -> HbCommand
+    ensures { λ r. ⌜ r ≡ passCommand (poolIn occupied) last (now (traces .entry)) ⌝ }
 {
-    pass_command(occupied, traces)
+    pass_command(occupied, last, traces)
 }
 
 // Who is bound at an address after such a pass.
 #[no_mangle]
-pub extern "C" fn hb_pass_lookup(occupied: HbPool, traces: &[u8], address: u8) -> HbFound
-    ensures { λ r. ⌜ r ≡ toldFound (lookedUp (passOver (poolIn occupied) (now (traces .entry)) .state) address) ⌝ }
+pub extern "C" fn hb_pass_lookup(occupied: HbPool, last: u8, traces: &[u8], address: u8) -> HbFound
+    ensures { λ r. ⌜ r ≡ passFound (poolIn occupied) last (now (traces .entry)) address ⌝ }
 {
-    pass_lookup(occupied, traces, address)
+    pass_lookup(occupied, last, traces, address)
 }

@@ -19,10 +19,15 @@ pub extern "C" fn hb_check_targets(occupied: HbPool, records: &[u8]) -> HbChecke
     check_targets(occupied, records)
 }
 
-// A whole pass against targets.
+// A whole pass against targets, from a last pick.
 #[no_mangle]
-pub extern "C" fn hb_run_model(occupied: HbPool, records: &mut [u8], bindings: &mut [u8]) -> HbModel
-    ensures { λ r. ⌜ RanModel (poolIn occupied) (now (records .entry)) (now (bindings .entry)) r (now (records .exit)) (now (bindings .exit)) ⌝ }
+pub extern "C" fn hb_run_model(
+    occupied: HbPool,
+    last: u8,
+    records: &mut [u8],
+    bindings: &mut [u8],
+) -> HbModel
+    ensures { λ r. ⌜ RanModel (poolIn occupied) last (now (records .entry)) (now (bindings .entry)) r (now (records .exit)) (now (bindings .exit)) ⌝ }
 {
-    model_run(occupied, records, bindings)
+    model_run(occupied, last, records, bindings)
 }

@@ -2,6 +2,7 @@
 ghost use mathlib.Core.Path.{_≡_};
 ghost use Rattle.pool.specs.Pools.{member, withAddress, withoutAddress, unionOf};
 ghost use Rattle.pool.specs.Free.{used, lowestFree};
+ghost use Rattle.pool.specs.NextFree.{nextFree};
 ghost use Rattle.pool.specs.Start.{startingPool};
 ghost use Rattle.c_codec.specs.Numbers.{bit};
 ghost use Rattle.c_arp.specs.Parts.{poolIn, toldPool, freeNumber};
@@ -73,6 +74,19 @@ pub extern "C" fn hb_pool_lowest_free(pool: HbPool) -> u8
 {
     let p = pool_in(pool);
     let f = p.lowest_free();
+    match f {
+        Free::At(a) => a.0,
+        Free::AllUsed => 128,
+    }
+}
+
+// The first address after the last one, going from 7Fh round to 00h, that the set does not have, or 128.
+#[no_mangle]
+pub extern "C" fn hb_pool_next_free(pool: HbPool, last: u8) -> u8
+    ensures { λ r. ⌜ r ≡ freeNumber (nextFree (poolIn pool) last) ⌝ }
+{
+    let p = pool_in(pool);
+    let f = p.next_free(last);
     match f {
         Free::At(a) => a.0,
         Free::AllUsed => 128,

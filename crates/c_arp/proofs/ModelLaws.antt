@@ -12,12 +12,12 @@ use Rattle.c_arp.specs.Parts.{toldUdid, toldPool}
 use Rattle.c_arp.specs.Model.{toldModel, RanModel}
 
 abbrev withParts : ModelAnswer → HbUdid → HbPool → HbModel
-withParts a u p = record { answer = a .answer; count = a .count; gets = a .gets; place = a .place; udid = u; bound = p }
+withParts a u p = record { answer = a .answer; count = a .count; gets = a .gets; picked = a .picked; place = a .place; udid = u; bound = p }
 
 -- the run is over the pool that was given, in the shape of its struct
-pub told-model : (given occupied : Pool) (s b : List ℕ) (a : ModelAnswer) (s′ b′ : List ℕ) (u : HbUdid) (p : HbPool) → given ≡ occupied
-    → Leaves (modelEnd given s b) a s′ b′ → u ≡ toldUdid (a .udid) → p ≡ toldPool (a .bound) → RanModel occupied s b (withParts a u p) s′ b′
-told-model given occupied s b a s′ b′ u p g l e f = subst (λ (x : Pool). RanModel x s b (withParts a u p) s′ b′) g (record {
+pub told-model : (given occupied : Pool) (last : ℕ) (s b : List ℕ) (a : ModelAnswer) (s′ b′ : List ℕ) (u : HbUdid) (p : HbPool) → given ≡ occupied
+    → Leaves (modelEnd given last s b) a s′ b′ → u ≡ toldUdid (a .udid) → p ≡ toldPool (a .bound) → RanModel occupied last s b (withParts a u p) s′ b′
+told-model given occupied last s b a s′ b′ u p g l e f = subst (λ (x : Pool). RanModel x last s b (withParts a u p) s′ b′) g (record {
   answered = ap₂ (withParts a) e f ∙ ap toldModel (l .answered);
   records-hold = l .records-hold;
   bindings-hold = l .bindings-hold;

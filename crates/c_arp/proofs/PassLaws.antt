@@ -152,6 +152,6 @@ module _ (s : Controller) (bytes zeros filled : List ℕ) (n : ℕ) (z : length 
           ∙ step-of-front s whole (omega (arith, length-symbols (length bytes / 2) bytes))
 
 -- the loop began where a pass does
-pub from-start : (occupied : Pool) (l : List ℕ) (c : Controller) (first st : Stepped) → c ≡ newController occupied → first ≡ started c
-    → st ≡ stepsOver first (tracesIn (length l) l) → st ≡ passOver occupied l
-from-start occupied l c first st e f g = g ∙ ap (λ (x : Stepped). stepsOver x (tracesIn (length l) l)) (f ∙ ap started e)
+pub from-start : (occupied : Pool) (last : ℕ) (l : List ℕ) (c : Controller) (first st : Stepped) → c ≡ newController occupied last → first ≡ started c
+    → st ≡ stepsOver first (tracesIn (length l) l) → st ≡ passOver occupied last l
+from-start occupied last l c first st e f g = g ∙ ap (λ (x : Stepped). stepsOver x (tracesIn (length l) l)) (f ∙ ap started e)

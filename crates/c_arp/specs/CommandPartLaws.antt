@@ -19,58 +19,72 @@ use Rattle.c_arp.specs.Commands.{toldEnd, toldCommand}
 use Rattle.c_arp.specs.CommandParts.{CommandParts, EndIs, CommandIs, KindsAre}
 
 -- the answer is the scope's number, 0 where there is none
-told-end-number : (e : End) (gets : ℕ) → toldEnd e gets .answer ≡ numberIn (endNumber e)
-told-end-number Ended gets = refl
-told-end-number (NoneFree u) gets = refl
-told-end-number Abandoned gets = refl
-told-end-number NotOutstanding gets = refl
-told-end-number Nothing gets = refl
+told-end-number : (e : End) (gets picked : ℕ) → toldEnd e gets picked .answer ≡ numberIn (endNumber e)
+told-end-number Ended gets picked = refl
+told-end-number (NoneFree u) gets picked = refl
+told-end-number Abandoned gets picked = refl
+told-end-number NotOutstanding gets picked = refl
+told-end-number Nothing gets picked = refl
 
-pub told-command-number : (k : Handed) (gets : ℕ) → toldCommand k gets .answer ≡ numberIn (commandNumber k)
-told-command-number (Send Prepare) gets = refl
-told-command-number (Send GetUdid) gets = refl
-told-command-number (Send (Assign u a)) gets = refl
-told-command-number (Wait e) gets = told-end-number e gets
+-- which is never 1
+end-never-1 : (e : End) (gets picked : ℕ) → toldEnd e gets picked .answer ≡ 1 → ⊥
+end-never-1 Ended gets picked q = omega arith
+end-never-1 (NoneFree u) gets picked q = omega arith
+end-never-1 Abandoned gets picked q = omega arith
+end-never-1 NotOutstanding gets picked q = omega arith
+end-never-1 Nothing gets picked q = omega arith
 
-end-parts : (e : End) (gets : ℕ) → EndIs e gets (toldEnd e gets)
-end-parts Ended gets = record { kind-is = refl; answer-is = refl; address-is = refl; gets-is = refl; high-is = refl; low-is = refl }
-end-parts (NoneFree u) gets = record { kind-is = refl; answer-is = refl; address-is = refl; gets-is = refl; high-is = refl; low-is = refl }
-end-parts Abandoned gets = record { kind-is = refl; answer-is = refl; address-is = refl; gets-is = refl; high-is = refl; low-is = refl }
-end-parts NotOutstanding gets = record { kind-is = refl; answer-is = refl; address-is = refl; gets-is = refl; high-is = refl; low-is = refl }
-end-parts Nothing gets = record { kind-is = refl; answer-is = refl; address-is = refl; gets-is = refl; high-is = refl; low-is = refl }
+pub never-1 : (k : Handed) (gets picked : ℕ) → toldCommand k gets picked .answer ≡ 1 → ⊥
+never-1 (Send Prepare) gets picked q = omega arith
+never-1 (Send GetUdid) gets picked q = omega arith
+never-1 (Send (Assign u a)) gets picked q = omega arith
+never-1 (Wait e) gets picked q = end-never-1 e gets picked q
 
-pub command-parts : (k : Handed) (gets : ℕ) (r : HbCommand) → r ≡ toldCommand k gets → CommandIs k gets r
-command-parts k gets r e = subst (CommandIs k gets) (sym e) (go k)
+pub told-command-number : (k : Handed) (gets picked : ℕ) → toldCommand k gets picked .answer ≡ numberIn (commandNumber k)
+told-command-number (Send Prepare) gets picked = refl
+told-command-number (Send GetUdid) gets picked = refl
+told-command-number (Send (Assign u a)) gets picked = refl
+told-command-number (Wait e) gets picked = told-end-number e gets picked
+
+end-parts : (e : End) (gets picked : ℕ) → EndIs e gets picked (toldEnd e gets picked)
+end-parts Ended gets picked = record { kind-is = refl; answer-is = refl; address-is = refl; gets-is = refl; picked-is = refl; high-is = refl; low-is = refl }
+end-parts (NoneFree u) gets picked = record { kind-is = refl; answer-is = refl; address-is = refl; gets-is = refl; picked-is = refl; high-is = refl; low-is = refl }
+end-parts Abandoned gets picked = record { kind-is = refl; answer-is = refl; address-is = refl; gets-is = refl; picked-is = refl; high-is = refl; low-is = refl }
+end-parts NotOutstanding gets picked = record { kind-is = refl; answer-is = refl; address-is = refl; gets-is = refl; picked-is = refl; high-is = refl; low-is = refl }
+end-parts Nothing gets picked = record { kind-is = refl; answer-is = refl; address-is = refl; gets-is = refl; picked-is = refl; high-is = refl; low-is = refl }
+
+pub command-parts : (k : Handed) (gets picked : ℕ) (r : HbCommand) → r ≡ toldCommand k gets picked → CommandIs k gets picked r
+command-parts k gets picked r e = subst (CommandIs k gets picked) (sym e) (go k)
   where
-    go : (k : Handed) → CommandIs k gets (toldCommand k gets)
-    go (Send Prepare) = record { kind-is = refl; answer-is = refl; address-is = refl; gets-is = refl; high-is = refl; low-is = refl }
-    go (Send GetUdid) = record { kind-is = refl; answer-is = refl; address-is = refl; gets-is = refl; high-is = refl; low-is = refl }
-    go (Send (Assign u a)) = record { kind-is = refl; answer-is = refl; address-is = refl; gets-is = refl; high-is = refl; low-is = refl }
-    go (Wait x) = end-parts x gets
+    go : (k : Handed) → CommandIs k gets picked (toldCommand k gets picked)
+    go (Send Prepare) = record { kind-is = refl; answer-is = refl; address-is = refl; gets-is = refl; picked-is = refl; high-is = refl; low-is = refl }
+    go (Send GetUdid) = record { kind-is = refl; answer-is = refl; address-is = refl; gets-is = refl; picked-is = refl; high-is = refl; low-is = refl }
+    go (Send (Assign u a)) = record { kind-is = refl; answer-is = refl; address-is = refl; gets-is = refl; picked-is = refl; high-is = refl; low-is = refl }
+    go (Wait x) = end-parts x gets picked
 
 -- 21, exactly where the controller gives it, and then every other part is zero; the kind is the number of the case
-end-21 : (e : End) (gets : ℕ) → toldEnd e gets .answer ≡ 21 → (endNumber e ≡ (21, []) ∷ []) × CommandParts (toldEnd e gets) 6 21 0 0 0 0
-end-21 Ended gets q = absurd (omega arith)
-end-21 (NoneFree u) gets q = absurd (omega arith)
-end-21 Abandoned gets q = absurd (omega arith)
-end-21 NotOutstanding gets q = (refl, record { kind-is = refl; answer-is = refl; address-is = refl; gets-is = refl; high-is = refl; low-is = refl })
-end-21 Nothing gets q = absurd (omega arith)
+end-21 : (e : End) (gets picked : ℕ) → toldEnd e gets picked .answer ≡ 21 → (endNumber e ≡ (21, []) ∷ []) × CommandParts (toldEnd e gets picked) 6 21 0 0 0 0 0
+end-21 Ended gets picked q = absurd (omega arith)
+end-21 (NoneFree u) gets picked q = absurd (omega arith)
+end-21 Abandoned gets picked q = absurd (omega arith)
+end-21 NotOutstanding gets picked q = (refl, record { kind-is = refl; answer-is = refl; address-is = refl; gets-is = refl; picked-is = refl; high-is = refl; low-is = refl })
+end-21 Nothing gets picked q = absurd (omega arith)
 
-handed-21 : (k : Handed) (gets : ℕ) → toldCommand k gets .answer ≡ 21 → (commandNumber k ≡ (21, []) ∷ []) × CommandParts (toldCommand k gets) 6 21 0 0 0 0
-handed-21 (Send Prepare) gets q = absurd (omega arith)
-handed-21 (Send GetUdid) gets q = absurd (omega arith)
-handed-21 (Send (Assign u a)) gets q = absurd (omega arith)
-handed-21 (Wait e) gets q = end-21 e gets q
+handed-21 : (k : Handed) (gets picked : ℕ) → toldCommand k gets picked .answer ≡ 21 → (commandNumber k ≡ (21, []) ∷ []) × CommandParts (toldCommand k gets picked) 6 21 0 0 0 0 0
+handed-21 (Send Prepare) gets picked q = absurd (omega arith)
+handed-21 (Send GetUdid) gets picked q = absurd (omega arith)
+handed-21 (Send (Assign u a)) gets picked q = absurd (omega arith)
+handed-21 (Wait e) gets picked q = end-21 e gets picked q
 
-module _ (k : Handed) (gets : ℕ) (r : HbCommand) (e : r ≡ toldCommand k gets) where
-  answer-told : r .answer ≡ toldCommand k gets .answer
+module _ (k : Handed) (gets picked : ℕ) (r : HbCommand) (e : r ≡ toldCommand k gets picked) where
+  answer-told : r .answer ≡ toldCommand k gets picked .answer
   answer-told = ap (λ (x : HbCommand). x .answer) e
 
   pub command-21 : (r .answer ≡ 21) ↔ (commandNumber k ≡ (21, []) ∷ [])
-  command-21 = (λ q. handed-21 k gets (sym answer-told ∙ q) .0, λ q. answer-told ∙ told-command-number k gets ∙ ap numberIn q)
+  command-21 = (λ q. handed-21 k gets picked (sym answer-told ∙ q) .0, λ q. answer-told ∙ told-command-number k gets picked ∙ ap numberIn q)
 
-  pub command-21-zero : r .answer ≡ 21 → CommandParts r 6 21 0 0 0 0
-  command-21-zero q = subst (λ (x : HbCommand). CommandParts x 6 21 0 0 0 0) (sym e) (handed-21 k gets (sym answer-told ∙ q) .1)
+  pub command-21-zero : r .answer ≡ 21 → CommandParts r 6 21 0 0 0 0 0
+  command-21-zero q = subst (λ (x : HbCommand). CommandParts x 6 21 0 0 0 0 0) (sym e) (handed-21 k gets picked (sym answer-told ∙ q) .1)
 
 -- each kind that a caller gives is its command
 pub commands-of-kinds : (u : Udid) (a : Address) → KindsAre u a

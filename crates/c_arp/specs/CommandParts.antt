@@ -11,29 +11,30 @@ use Rattle.commands.specs.declared.command.Handed.the-variants.{Send, Wait}
 use Rattle.c_arp.specs.declared.kinds.HbCommand.{HbCommand}
 use Rattle.c_arp.specs.Commands.{commandOf}
 
-pub record CommandParts (r : HbCommand) (kind answer address gets high low : ℕ) : Type 0 where
+pub record CommandParts (r : HbCommand) (kind answer address gets picked high low : ℕ) : Type 0 where
   pub kind-is : r .kind ≡ kind
   pub answer-is : r .answer ≡ answer
   pub address-is : r .address ≡ address
   pub gets-is : r .gets ≡ gets
+  pub picked-is : r .picked ≡ picked
   pub high-is : r .udid .high ≡ high
   pub low-is : r .udid .low ≡ low
 
--- an end: its kind, the scope's number, the Get UDIDs so far, and the identifier of the target that found no address. With 21 all but the
+-- an end: its kind, the scope's number, the Get UDIDs so far, the last pick, and the identifier of the target that found no address. With 21 all but the
 -- kind and the number is zero
-abbrev pub EndIs : End → ℕ → HbCommand → Type 0
-EndIs Ended gets r = CommandParts r 3 0 0 gets 0 0
-EndIs (NoneFree u) gets r = CommandParts r 4 13 0 gets (u .high) (u .low)
-EndIs Abandoned gets r = CommandParts r 5 14 0 gets 0 0
-EndIs NotOutstanding gets r = CommandParts r 6 21 0 0 0 0
-EndIs Nothing gets r = CommandParts r 7 0 0 gets 0 0
+abbrev pub EndIs : End → ℕ → ℕ → HbCommand → Type 0
+EndIs Ended gets picked r = CommandParts r 3 0 0 gets picked 0 0
+EndIs (NoneFree u) gets picked r = CommandParts r 4 13 0 gets picked (u .high) (u .low)
+EndIs Abandoned gets picked r = CommandParts r 5 14 0 gets picked 0 0
+EndIs NotOutstanding gets picked r = CommandParts r 6 21 0 0 0 0 0
+EndIs Nothing gets picked r = CommandParts r 7 0 0 gets picked 0 0
 
--- the kind of each command, the Get UDIDs so far, and the address and the identifier of an Assign
-abbrev pub CommandIs : Handed → ℕ → HbCommand → Type 0
-CommandIs (Send Prepare) gets r = CommandParts r 0 0 0 gets 0 0
-CommandIs (Send GetUdid) gets r = CommandParts r 1 0 0 gets 0 0
-CommandIs (Send (Assign u a)) gets r = CommandParts r 2 0 (a .0) gets (u .high) (u .low)
-CommandIs (Wait e) gets r = EndIs e gets r
+-- the kind of each command, the Get UDIDs so far, the last pick, and the address and the identifier of an Assign
+abbrev pub CommandIs : Handed → ℕ → ℕ → HbCommand → Type 0
+CommandIs (Send Prepare) gets picked r = CommandParts r 0 0 0 gets picked 0 0
+CommandIs (Send GetUdid) gets picked r = CommandParts r 1 0 0 gets picked 0 0
+CommandIs (Send (Assign u a)) gets picked r = CommandParts r 2 0 (a .0) gets picked (u .high) (u .low)
+CommandIs (Wait e) gets picked r = EndIs e gets picked r
 
 -- the kinds that a caller gives: 0 Prepare To ARP, 1 Get UDID, 2 Assign Address, any other none
 pub record KindsAre (u : Udid) (a : Address) : Type 0 where

@@ -17,19 +17,19 @@ use Rattle.c_arp.specs.Parts.{toldUdid}
 abbrev pub commandOf : ℕ → Udid → Address → Handed
 commandOf kind u a = pick (eqb kind 0) (Send Prepare) (pick (eqb kind 1) (Send GetUdid) (pick (eqb kind 2) (Send (Assign u a)) (Wait Nothing)))
 
-abbrev pub saidOf : ℕ → ℕ → Udid → ℕ → ℕ → HbCommand
-saidOf kind answer u a gets = record { kind = kind; answer = answer; address = a; gets = gets; udid = toldUdid u }
+abbrev pub saidOf : ℕ → ℕ → Udid → ℕ → ℕ → ℕ → HbCommand
+saidOf kind answer u a gets picked = record { kind = kind; answer = answer; address = a; gets = gets; picked = picked; udid = toldUdid u }
 
--- an end: its kind, its number and the target that found no address; with 21 the Get UDIDs are not told
-abbrev pub toldEnd : End → ℕ → HbCommand
-toldEnd Ended gets = saidOf 3 0 noUdid 0 gets
-toldEnd (NoneFree u) gets = saidOf 4 13 u 0 gets
-toldEnd Abandoned gets = saidOf 5 14 noUdid 0 gets
-toldEnd NotOutstanding gets = saidOf 6 21 noUdid 0 0
-toldEnd Nothing gets = saidOf 7 0 noUdid 0 gets
+-- an end: its kind, its number and the target that found no address; with 21 neither the Get UDIDs nor the last pick are told
+abbrev pub toldEnd : End → ℕ → ℕ → HbCommand
+toldEnd Ended gets picked = saidOf 3 0 noUdid 0 gets picked
+toldEnd (NoneFree u) gets picked = saidOf 4 13 u 0 gets picked
+toldEnd Abandoned gets picked = saidOf 5 14 noUdid 0 gets picked
+toldEnd NotOutstanding gets picked = saidOf 6 21 noUdid 0 0 0
+toldEnd Nothing gets picked = saidOf 7 0 noUdid 0 gets picked
 
-abbrev pub toldCommand : Handed → ℕ → HbCommand
-toldCommand (Send Prepare) gets = saidOf 0 0 noUdid 0 gets
-toldCommand (Send GetUdid) gets = saidOf 1 0 noUdid 0 gets
-toldCommand (Send (Assign u a)) gets = saidOf 2 0 u (a .0) gets
-toldCommand (Wait e) gets = toldEnd e gets
+abbrev pub toldCommand : Handed → ℕ → ℕ → HbCommand
+toldCommand (Send Prepare) gets picked = saidOf 0 0 noUdid 0 gets picked
+toldCommand (Send GetUdid) gets picked = saidOf 1 0 noUdid 0 gets picked
+toldCommand (Send (Assign u a)) gets picked = saidOf 2 0 u (a .0) gets picked
+toldCommand (Wait e) gets picked = toldEnd e gets picked

@@ -16,6 +16,6 @@ abbrev pub eventsOf : List (List ℕ) → List Event
 eventsOf trs = since (Start ∷ []) trs
 
 -- the state and the command of a pass are those of a history
-pub record IsHistory (occupied : Pool) (es : List Event) (st : Stepped) : Type 0 where
-  pub state : st .state ≡ run occupied es
-  pub command : st .command ≡ handedOut occupied es
+pub record IsHistory (occupied : Pool) (last : ℕ) (es : List Event) (st : Stepped) : Type 0 where
+  pub state : st .state ≡ run occupied last es
+  pub command : st .command ≡ handedOut occupied last es

@@ -7,6 +7,7 @@ pub mod CommandPartLaws
 pub mod PutCommand
 pub mod PutCommandLaws
 pub mod Pass
+pub mod PassCallLaws
 pub mod TraceLists
 pub mod TraceListLaws
 pub mod Histories

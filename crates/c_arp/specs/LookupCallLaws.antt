@@ -13,7 +13,9 @@ use Rattle.slots.specs.declared.Binding.the-variants.{Open, Bound, Claimed}
 use Rattle.arp.specs.declared.state.Controller.{Controller}
 use Rattle.report.specs.Report.{firstOf}
 use Rattle.c_arp.specs.declared.pass.HbFound.{HbFound}
-use Rattle.c_arp.specs.Pass.{foundOf, toldFound}
+use Rattle.c_arp.specs.PassCallLaws.{found-forbidden, found-told as found-told′}
+use Rattle.pool.specs.declared.Pool.{Pool}
+use Rattle.c_arp.specs.Pass.{passOver, foundOf, toldFound, passFound}
 use Rattle.arp.specs.LookupLaws.{lookup-0, lookup-15, lookup-16, lookup-1}
 use Rattle.c_arp.specs.FoundParts.{FoundParts, FoundIs}
 use Rattle.arp.specs.declared.lookup.Found.the-variants as found
@@ -65,3 +67,11 @@ module _ (s : Controller) (a : ℕ) (r : HbFound) (e : r ≡ toldFound (lookedUp
 
   pub hb-lookup-1 : FoundParts r 1 0 0 ↔ (127 < a)
   hb-lookup-1 = Iff·trans (found-told found.NoAddress) (lookup-1 s a)
+
+-- after a pass with the last pick that is given: 1 where that is above 127, and else what the lookup in the pass's state gives
+pub hb-lookup-last : (occupied : Pool) (last : ℕ) (l : List ℕ) (a : ℕ) (r : HbFound) → r ≡ passFound occupied last l a
+    → (127 < last → FoundParts r 1 0 0) × (last < 128 → r ≡ toldFound (lookedUp (passOver occupied last l .state) a))
+hb-lookup-last occupied last l a r e = (
+  λ h. subst (λ (x : HbFound). FoundParts x 1 0 0) (sym (e ∙ found-forbidden occupied last l a h)) (record { answer-is = refl; high-is = refl; low-is = refl }),
+  λ h. e ∙ found-told′ occupied last l a h,
+)

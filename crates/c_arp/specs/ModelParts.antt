@@ -12,12 +12,14 @@ answerIn h = record {
   bound = record { low = h .bound .low; high = h .bound .high };
   count = h .count;
   gets = h .gets;
+  picked = h .picked;
 }
 
 -- a refusal's other parts
 pub record ModelZero (h : HbModel) : Type 0 where
   pub count : h .count ≡ 0
   pub gets : h .gets ≡ 0
+  pub picked : h .picked ≡ 0
   pub udid-high : h .udid .high ≡ 0
   pub udid-low : h .udid .low ≡ 0
   pub bound-low : h .bound .low ≡ 0

@@ -3,16 +3,19 @@ use Prim.Native.Nat.{ℕ, zero, suc, _+_, _*_, _≤_, _<_}
 use mathlib.Core.Path.{_≡_}
 use mathlib.Core.Bool.{Bool, false}
 use mathlib.Core.List.{List, [], _∷_}
-use lib.Dec.{leb}
+use lib.Dec.{ltb, leb}
 use lib.ListN.{length, drop, getD}
 use Rattle.lists.specs.Choice.{pick}
 use Rattle.pool.specs.declared.Pool.{Pool}
 use Rattle.udid.specs.declared.Udid.{Udid}
 use Rattle.arp.specs.Controller.{newController, started, stepped}
+use Rattle.arp.specs.Lookup.{lookedUp}
 use Rattle.arp.specs.Numbers.{lookupNumber}
 use Rattle.arp.specs.declared.lookup.Found.{Found}
 use Rattle.arp.specs.declared.state.Stepped.{Stepped}
-use Rattle.report.specs.Report.{firstOf}
+use Rattle.report.specs.Report.{firstOf, noUdid}
+use Rattle.c_arp.specs.Commands.{saidOf, toldCommand}
+use Rattle.c_arp.specs.declared.kinds.HbCommand.{HbCommand}
 use Rattle.c_arp.specs.declared.pass.HbFound.{HbFound}
 use Rattle.pairs.specs.Pairs.{symbolsIn}
 use Rattle.c_arp.specs.Parts.{toldUdid}
@@ -34,9 +37,20 @@ unfoldable pub stepsOver : Stepped → List (List ℕ) → Stepped
 stepsOver st [] = st
 stepsOver st (tr ∷ trs) = stepsOver (stepped (st .state) tr) trs
 
--- a pass from its start; bytes hold no more traces than they are
-abbrev pub passOver : Pool → List ℕ → Stepped
-passOver occupied l = stepsOver (started (newController occupied)) (tracesIn (length l) l)
+-- a pass from its start, of a controller made with these addresses occupied and this last pick; bytes hold no more traces than they are
+abbrev pub passOver : Pool → ℕ → List ℕ → Stepped
+passOver occupied last l = stepsOver (started (newController occupied last)) (tracesIn (length l) l)
+
+-- what a pass handed out last, the Get UDIDs, and the last pick
+abbrev pub toldPass : Stepped → HbCommand
+toldPass st = toldCommand (st .command) (st .state .gets) (st .state .picked)
+
+-- 1 where the last pick given is above 127: no command is outstanding, and all else is zero
+abbrev pub refusedPass : HbCommand
+refusedPass = saidOf 6 1 noUdid 0 0 0
+
+unfoldable pub passCommand : Pool → ℕ → List ℕ → HbCommand
+passCommand occupied last l = pick (ltb 127 last) refusedPass (toldPass (passOver occupied last l))
 
 -- for the code: the number of symbols of the first trace, or 65,536 where there is none
 abbrev pub numberAt : List ℕ → ℕ
@@ -53,3 +67,6 @@ foundOf n u = record { answer = n; udid = toldUdid u }
 
 abbrev pub toldFound : Found → HbFound
 toldFound f = foundOf (lookupNumber f .0) (firstOf (lookupNumber f .1))
+
+unfoldable pub passFound : Pool → ℕ → List ℕ → ℕ → HbFound
+passFound occupied last l a = pick (ltb 127 last) (foundOf 1 noUdid) (toldFound (lookedUp (passOver occupied last l .state) a))

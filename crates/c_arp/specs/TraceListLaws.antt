@@ -56,5 +56,5 @@ pub traces-back : (trs : List (List ℕ)) (rest : List ℕ) → Cut rest → tra
 traces-back trs rest c = traces-in trs rest c (length (listBytes trs ++ rest)) (omega arith)
 
 -- a pass over its bytes takes a step for each of its traces
-pub pass-steps : (occupied : Pool) (trs : List (List ℕ)) (rest : List ℕ) → Cut rest → passOver occupied (listBytes trs ++ rest) ≡ stepsOver (started (newController occupied)) trs
-pass-steps occupied trs rest c = ap (stepsOver (started (newController occupied))) (traces-back trs rest c)
+pub pass-steps : (occupied : Pool) (last : ℕ) (trs : List (List ℕ)) (rest : List ℕ) → Cut rest → passOver occupied last (listBytes trs ++ rest) ≡ stepsOver (started (newController occupied last)) trs
+pass-steps occupied last trs rest c = ap (stepsOver (started (newController occupied last))) (traces-back trs rest c)

@@ -37,61 +37,63 @@ fn command_of(kind: u8, u: Udid, a: Address) -> Handed
 }
 
 // What the controller handed out: the kind, the scope's number of an end, the identifier and the address of an Assign or the
-// identifier that found no address, and the Get UDIDs sent so far. Whatever a kind lacks is 0. With 21 all is 0 but the kind, which
-// says which case it is, and the answer.
+// identifier that found no address, the Get UDIDs sent so far, and the last pick. Whatever a kind lacks is 0. With 1 and 21 all is 0
+// but the kind, which says which case it is, and the answer.
 #[repr(C)]
 pub struct HbCommand {
     pub kind: u32,
     pub answer: u32,
     pub address: u32,
     pub gets: u32,
+    pub picked: u32,
     pub udid: HbUdid,
 }
 
-fn said(kind: u32, answer: u32, u: Udid, a: Address, gets: u32) -> HbCommand
-    ensures { λ r. ⌜ r ≡ saidOf kind answer u (a .0) gets ⌝ }
+pub(crate) fn said(kind: u32, answer: u32, u: Udid, a: Address, gets: u32, picked: u8) -> HbCommand
+    ensures { λ r. ⌜ r ≡ saidOf kind answer u (a .0) gets picked ⌝ }
 {
     HbCommand {
         kind: kind,
         answer: answer,
         address: a.0 as u32,
         gets: gets,
+        picked: picked as u32,
         udid: identifier(u),
     }
 }
 
-// Why nothing is to be sent, and the Get UDIDs so far, as a struct.
-fn told_end(e: End, gets: u32) -> HbCommand
-    ensures { λ r. ⌜ r ≡ toldEnd e gets ⌝ }
+// Why nothing is to be sent, the Get UDIDs so far and the last pick, as a struct.
+fn told_end(e: End, gets: u32, picked: u8) -> HbCommand
+    ensures { λ r. ⌜ r ≡ toldEnd e gets picked ⌝ }
 {
     let none = Udid { high: 0, low: 0 };
     match e {
-        End::Ended => said(3, 0, none, Address(0), gets),
-        End::NoneFree(u) => said(4, 13, u, Address(0), gets),
-        End::Abandoned => said(5, 14, none, Address(0), gets),
-        End::NotOutstanding => said(6, 21, none, Address(0), 0),
-        End::Nothing => said(7, 0, none, Address(0), gets),
+        End::Ended => said(3, 0, none, Address(0), gets, picked),
+        End::NoneFree(u) => said(4, 13, u, Address(0), gets, picked),
+        End::Abandoned => said(5, 14, none, Address(0), gets, picked),
+        End::NotOutstanding => said(6, 21, none, Address(0), 0, 0),
+        End::Nothing => said(7, 0, none, Address(0), gets, picked),
     }
 }
 
-fn told_sent(k: Command, gets: u32) -> HbCommand
-    ensures { λ r. ⌜ r ≡ toldCommand (Handed.Send k) gets ⌝ }
+fn told_sent(k: Command, gets: u32, picked: u8) -> HbCommand
+    ensures { λ r. ⌜ r ≡ toldCommand (Handed.Send k) gets picked ⌝ }
 {
     let none = Udid { high: 0, low: 0 };
     match k {
-        Command::Prepare => said(0, 0, none, Address(0), gets),
-        Command::GetUdid => said(1, 0, none, Address(0), gets),
-        Command::Assign(u, a) => said(2, 0, u, a, gets),
+        Command::Prepare => said(0, 0, none, Address(0), gets, picked),
+        Command::GetUdid => said(1, 0, none, Address(0), gets, picked),
+        Command::Assign(u, a) => said(2, 0, u, a, gets, picked),
     }
 }
 
-// What was handed out, and the Get UDIDs so far, as a struct.
-pub fn told_command(k: Handed, gets: u32) -> HbCommand
-    ensures { λ r. ⌜ r ≡ toldCommand k gets ⌝ }
+// What was handed out, the Get UDIDs so far and the last pick, as a struct.
+pub fn told_command(k: Handed, gets: u32, picked: u8) -> HbCommand
+    ensures { λ r. ⌜ r ≡ toldCommand k gets picked ⌝ }
 {
     match k {
-        Handed::Send(c) => told_sent(c, gets),
-        Handed::Wait(e) => told_end(e, gets),
+        Handed::Send(c) => told_sent(c, gets, picked),
+        Handed::Wait(e) => told_end(e, gets, picked),
     }
 }
 

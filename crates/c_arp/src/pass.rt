@@ -8,9 +8,9 @@ ghost use Rattle.arp.specs.Controller.{stepped};
 ghost use Rattle.arp.specs.Lookup.{lookedUp};
 ghost use Rattle.pairs.specs.Pairs.{symbolsIn};
 ghost use Rattle.c_arp.specs.Parts.{poolIn};
-ghost use Rattle.c_arp.specs.Commands.{toldCommand};
-ghost use Rattle.c_arp.specs.Pass.{Counted, passOver, foundOf, toldFound};
+ghost use Rattle.c_arp.specs.Pass.{Counted, passOver, toldPass, passCommand, foundOf, toldFound, passFound};
 use crate::kinds::HbCommand;
+use crate::kinds::said;
 use crate::kinds::told_command;
 use crate::parts::HbPool;
 use crate::parts::HbUdid;
@@ -52,10 +52,10 @@ fn step_on(state: Controller, bytes: &[u8]) -> Stepped
 }
 
 // The whole pass.
-fn run_pass(occupied: Pool, bytes: &[u8]) -> Stepped
-    ensures { λ r. ⌜ r ≡ passOver occupied (now (bytes .entry)) ⌝ }
+fn run_pass(occupied: Pool, last: u8, bytes: &[u8]) -> Stepped
+    ensures { λ r. ⌜ r ≡ passOver occupied last (now (bytes .entry)) ⌝ }
 {
-    let c = Controller::new(occupied);
+    let c = Controller::new(occupied, last);
     let mut st = c.start();
     let mut at: usize = 0;
     while at < bytes.len() {
@@ -73,13 +73,24 @@ fn run_pass(occupied: Pool, bytes: &[u8]) -> Stepped
 }
 
 // What the last step handed out; with no trace, Prepare To ARP.
-pub fn pass_command(occupied: HbPool, traces: &[u8]) -> HbCommand
-    ensures { λ r. ⌜ r ≡ toldCommand (passOver (poolIn occupied) (now (traces .entry)) .command) (passOver (poolIn occupied) (now (traces .entry)) .state .gets) ⌝ }
+fn command_after(occupied: HbPool, last: u8, traces: &[u8]) -> HbCommand
+    ensures { λ r. ⌜ r ≡ toldPass (passOver (poolIn occupied) last (now (traces .entry))) ⌝ }
 {
-    let st = run_pass(pool_in(occupied), traces);
+    let st = run_pass(pool_in(occupied), last, traces);
     let state = st.state;
     let k = st.command;
-    told_command(k, state.gets)
+    told_command(k, state.gets, state.picked)
+}
+
+// The same, and 1 where the last pick that the controller is made with is above 127.
+pub fn pass_command(occupied: HbPool, last: u8, traces: &[u8]) -> HbCommand
+    ensures { λ r. ⌜ r ≡ passCommand (poolIn occupied) last (now (traces .entry)) ⌝ }
+{
+    if last > 127 {
+        let none = Udid { high: 0, low: 0 };
+        return said(6, 1, none, Address(0), 0, 0);
+    }
+    command_after(occupied, last, traces)
 }
 
 // The scope's number, and with 0 the identifier that is bound at the address.
@@ -111,10 +122,20 @@ fn told_found(f: Found) -> HbFound
 }
 
 // Who is bound at an address after such a pass.
-pub fn pass_lookup(occupied: HbPool, traces: &[u8], address: u8) -> HbFound
-    ensures { λ r. ⌜ r ≡ toldFound (lookedUp (passOver (poolIn occupied) (now (traces .entry)) .state) address) ⌝ }
+fn found_after(occupied: HbPool, last: u8, traces: &[u8], address: u8) -> HbFound
+    ensures { λ r. ⌜ r ≡ toldFound (lookedUp (passOver (poolIn occupied) last (now (traces .entry)) .state) address) ⌝ }
 {
-    let st = run_pass(pool_in(occupied), traces);
+    let st = run_pass(pool_in(occupied), last, traces);
     let state = st.state;
     told_found(state.lookup(Address(address)))
+}
+
+// The same, and 1 where the last pick that the controller is made with is above 127.
+pub fn pass_lookup(occupied: HbPool, last: u8, traces: &[u8], address: u8) -> HbFound
+    ensures { λ r. ⌜ r ≡ passFound (poolIn occupied) last (now (traces .entry)) address ⌝ }
+{
+    if last > 127 {
+        return found(1, Udid { high: 0, low: 0 });
+    }
+    found_after(occupied, last, traces, address)
 }

@@ -98,7 +98,8 @@ fn exchange(turn: Stepped, reply: &[u8]) -> Stepped {
 }
 
 fn main() {
-    let controller = Controller::new(Pool::empty()); // no address is occupied besides the reserved ones
+    // No address is occupied besides the reserved ones, and 127 says that none was ever picked.
+    let controller = Controller::new(Pool::empty(), 127);
     let reply = reply_data(); // what the one target here answers to Get UDID
     let first = controller.start();
     let second = exchange(first, &reply[..0]);

@@ -22,7 +22,7 @@ fn help_shelf() {
         b"occupied A...             0 occupied N\n\
 target UDID BYTE FLAG     0 target I\n\
 clear                     0 clear\n\
-run                       0 bound N get G, 13 udid UDID bound N get G, and who is bound\n\
+run LAST                  0 bound N get G last A, 13 udid UDID bound N get G last A; who is bound\n\
 start                     0 next prepare\n\
 step SYMBOL...            0 next get, 0 next assign UDID A, 0 end, 13 end UDID, 14 end\n\
 lookup A                  0 udid UDID\n\
@@ -35,7 +35,8 @@ fn help_rest() {
         OUTPUT,
         b"P is a protocol by number or name: quick send_byte receive_byte write_byte write_word\n\
 read_byte read_word process_call block_write block_read block_process_call.\n\
-p is with PEC, - without. The first word of an answer is the number of the answer,\n\
+p is with PEC, - without. LAST is the address picked last, 127 before the first pick;\n\
+run alone is run 127. The first word of an answer is the number of the answer,\n\
 or ? with the column and what was expected there.\n",
     );
 }

@@ -9,10 +9,11 @@ use lookups::grid::put_grid;
 use requests::list::read_symbols;
 use wire::address::Address;
 
-// A controller with the addresses that are occupied now begins a pass.
+// A controller with the addresses that are occupied now begins a pass. Its last pick is that of the controller before it.
 pub(crate) fn start(s: Shelf) -> Stepped {
     let occupied = s.occupied;
-    let c = Controller::new(occupied);
+    let before = s.controller;
+    let c = Controller::new(occupied, before.picked);
     c.start()
 }
 

@@ -17,10 +17,13 @@ pub(crate) struct Turn {
     pub at: usize,
 }
 
+// The last pick of a controller that has never picked.
+const NEVER_PICKED: u8 = 127;
+
 // No targets, nothing occupied, the controller as new.
 pub(crate) fn new_shelf() -> Shelf {
     let occupied = Pool::empty();
-    let controller = Controller::new(occupied);
+    let controller = Controller::new(occupied, NEVER_PICKED);
     Shelf {
         occupied,
         count: 0,

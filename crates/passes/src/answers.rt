@@ -1,5 +1,5 @@
-// What is written: commands and finds. A command is a tag, a UDID highest byte first and an address; a find is a tag and a UDID. What
-// there is not is zeros.
+// What is written: commands, finds and the last pick. A command is a tag, a UDID highest byte first and an address; a find is a tag and a
+// UDID; the last pick is a byte. What there is not is zeros.
 ghost use Prim.Native.Nat.{_+_, _≤_};
 ghost use lib.ListN.{length};
 use arp::lookup::Found;
@@ -81,9 +81,10 @@ fn put_finds(out: &mut [u8], c: Controller)
     }
 }
 
-// All addresses looked up.
+// All addresses looked up, and the last pick.
 pub(crate) fn write_finds(c: Controller) {
-    let mut out = [0u8; 2176];
+    let mut out = [0u8; 2177];
+    out[2176] = c.picked;
     put_finds(&mut out, c);
     io::write_all(OUTPUT, &out);
 }

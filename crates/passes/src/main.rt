@@ -1,9 +1,10 @@
 // passes: runs a script over the ARP controller and writes what it answers, for tests. An operation is a byte:
 //
-//   0, and 16 bytes            a new controller: the occupied addresses 0 to 63 as one number, low byte first, then 64 to 127
+//   0, and 17 bytes            a new controller: the occupied addresses 0 to 63 as one number, low byte first, then 64 to 127; and the
+//                              last pick, where 127 is never picked
 //   1                          a pass starts; the command is written
 //   2, a count, and symbols    a step; the command is written. Count and symbols are byte pairs, low byte first; at most 1,000
-//   3                          all addresses are looked up; 128 finds are written
+//   3                          all addresses are looked up; 128 finds are written, and a byte with the last pick
 //
 // The first byte that is none of these, or the end of the input, ends the run. Standard input is read and standard output is written.
 mod answers;
@@ -16,16 +17,23 @@ use arp::state::Stepped;
 use commands::command::End;
 use commands::command::Handed;
 use pool::Pool;
-use script::read_operation;
+use script::read_byte;
 use script::read_pool;
 use script::read_trace;
 
 // A new controller, which has handed out nothing.
-fn new_controller(occupied: Pool) -> Stepped {
+fn new_controller(occupied: Pool, last: u8) -> Stepped {
     Stepped {
-        state: Controller::new(occupied),
+        state: Controller::new(occupied, last),
         command: Handed::Wait(End::Nothing),
     }
+}
+
+// The controller that the script asks for.
+fn read_controller() -> Stepped {
+    let occupied = read_pool();
+    let last = read_byte();
+    new_controller(occupied, last)
 }
 
 fn step_on(c: Controller) -> Stepped {
@@ -48,13 +56,13 @@ fn go_on(c: Controller, operation: u8) -> Stepped {
 
 // A proved loop has to end, and nothing says that an input does: the turns are counted down from a number that no run uses up.
 fn main() {
-    let mut st = new_controller(Pool { low: 0, high: 0 });
+    let mut st = new_controller(Pool { low: 0, high: 0 }, 127);
     let mut turns = u64::MAX;
     while turns > 0 {
-        let operation = read_operation();
+        let operation = read_byte();
         match operation {
             0 => {
-                st = new_controller(read_pool());
+                st = read_controller();
             }
             1 | 2 => {
                 st = go_on(st.state, operation);

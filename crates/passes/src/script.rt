@@ -5,8 +5,8 @@ use pool::Pool;
 
 const INPUT: i32 = 0;
 
-// The next operation; 255, which is none, at the end.
-pub(crate) fn read_operation() -> u8 {
+// The next byte; 255, which is no operation, at the end.
+pub(crate) fn read_byte() -> u8 {
     let mut byte = [255u8; 1];
     io::read_full(INPUT, &mut byte);
     byte[0]

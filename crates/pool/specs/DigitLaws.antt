@@ -134,7 +134,7 @@ digit-zero : (n : ℕ) → one (digit n 0) ≡ n % 2
 unfolding digit
 digit-zero n = rw (div-one n) (one-eqb (n % 2) (omega arith))
 
-digit-suc : (n j : ℕ) → digit n (suc j) ≡ digit (n / 2) j
+pub digit-suc : (n j : ℕ) → digit n (suc j) ≡ digit (n / 2) j
 unfolding digit
 digit-suc n j = ap (λ (x : ℕ). eqb (x % 2) 1) (ap (λ (x : ℕ). n / x) (pow-suc 2 j ∙ mul-comm (2 ^ j) 2) ∙ sym (div-div-eq-div-mul n 2 (2 ^ j)))
 

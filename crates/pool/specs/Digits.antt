@@ -1,5 +1,6 @@
 -- The binary digits of a number, as a set of places: k is in n where digit k of n is one.
-use Prim.Native.Nat.{ℕ, _/_, _%_, _^_}
+use Prim.Native.Nat.{ℕ, _/_, _%_, _^_, _<_, _≤_}
+use mathlib.Core.Path.{_≡_}
 use mathlib.Core.Bool.{Bool, true, false}
 use lib.Dec.{eqb}
 use lib.Bits.{bitOr, bitXor}
@@ -21,3 +22,10 @@ flip n k = bitXor n (2 ^ k)
 abbrev pub differs : Bool → Bool → Bool
 differs true b = not b
 differs false b = b
+
+-- r is the first place from k on at which n has a zero, or it is 64, and all from k to 63 are one
+pub record FirstZero (n k r : ℕ) : Type 0 where
+  pub from : k ≤ r
+  pub most : r ≤ 64
+  pub ones : (j : ℕ) → k ≤ j → j < r → digit n j ≡ true
+  pub zero : r < 64 → digit n r ≡ false

@@ -64,7 +64,7 @@ used-without p a h e = sym (count-more (member (withoutAddress p a)) (member p) 
 
 -- ---- the lowest that is free
 
-from-free : (p : Pool) (n a b : ℕ) → freeFrom p n a ≡ At (address b) → (member p b ≡ false) × (a ≤ b) × (b < a + n) × ((j : ℕ) → a ≤ j → j < b → member p j ≡ true)
+pub from-free : (p : Pool) (n a b : ℕ) → freeFrom p n a ≡ At (address b) → (member p b ≡ false) × (a ≤ b) × (b < a + n) × ((j : ℕ) → a ≤ j → j < b → member p j ≡ true)
 unfolding freeFrom
 from-free p zero a b e = zero-is-one cc
 from-free p (suc n) a b e = go (λ q. from-free p n (suc a) b q) (member p a) refl
@@ -85,7 +85,7 @@ from-free p (suc n) a b e = go (λ q. from-free p n (suc a) b q) (member p a) re
         let m : a ≡ b = ap (λ (x : Address). x .0) k in
         (ap (member p) (sym m) ∙ h, omega arith, omega arith, λ j l o. absurd (omega arith))
 
-from-full : (p : Pool) (n a j : ℕ) → freeFrom p n a ≡ AllUsed → a ≤ j → j < a + n → member p j ≡ true
+pub from-full : (p : Pool) (n a j : ℕ) → freeFrom p n a ≡ AllUsed → a ≤ j → j < a + n → member p j ≡ true
 unfolding freeFrom
 from-full p zero a j e l h = absurd (omega arith)
 from-full p (suc n) a j e l h = go (λ q m k. from-full p n (suc a) j q m k) (member p a) refl (ℕ-discrete a j)
@@ -96,7 +96,7 @@ from-full p (suc n) a j e l h = go (λ q m k. from-full p n (suc a) j q m k) (me
     go ih false k d = let q : At (address a) ≡ AllUsed = simp k at e in zero-is-one cc
 
 -- either all n from a on are in use, or one of them is found
-from-cases : (p : Pool) (n a b : ℕ) → a ≤ b → b < a + n → member p b ≡ false → ((j : ℕ) → a ≤ j → j < b → member p j ≡ true) → freeFrom p n a ≡ At (address b)
+pub from-cases : (p : Pool) (n a b : ℕ) → a ≤ b → b < a + n → member p b ≡ false → ((j : ℕ) → a ≤ j → j < b → member p j ≡ true) → freeFrom p n a ≡ At (address b)
 unfolding freeFrom
 from-cases p zero a b l h e m = absurd (omega arith)
 from-cases p (suc n) a b l h e m = go (ℕ-discrete a b) (λ k. from-cases p n (suc a) b k (omega arith) e (λ j o q. m j (omega arith) q))
@@ -105,7 +105,7 @@ from-cases p (suc n) a b l h e m = go (ℕ-discrete a b) (λ k. from-cases p n (
     go (yes d) ih = let z : member p a ≡ false = ap (member p) d ∙ e in rw (z, d)
     go (no d) ih = let z : member p a ≡ true = m a (omega arith) (omega arith) in rw z (ih (omega arith))
 
-from-all : (p : Pool) (n a : ℕ) → ((j : ℕ) → a ≤ j → j < a + n → member p j ≡ true) → freeFrom p n a ≡ AllUsed
+pub from-all : (p : Pool) (n a : ℕ) → ((j : ℕ) → a ≤ j → j < a + n → member p j ≡ true) → freeFrom p n a ≡ AllUsed
 unfolding freeFrom
 from-all p zero a m = refl
 from-all p (suc n) a m = let z : member p a ≡ true = m a (omega arith) (omega arith) in rw z (from-all p n (suc a) (λ j l h. m j (omega arith) (omega arith)))

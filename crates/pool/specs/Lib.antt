@@ -9,3 +9,9 @@ pub mod MemberLaws
 pub mod HalfLaws
 pub mod StartLaws
 pub mod FreeLaws
+pub mod FirstZeroLaws
+pub mod HalfSearchLaws
+pub mod NextFree
+pub mod NextFreeLaws
+pub mod Picks
+pub mod PickLaws

@@ -28,7 +28,7 @@ use Rattle.promises.specs.Words.{Each, Bytes, isReserved, pecOf, Address
 use Rattle.promises.specs.Words.{summary, Member, Fits, Breaks, Wrong, AfterStart, FitsNext, ToHost, IsSwapped, IsMisaddressed, IsMiscounted, IsOther, BitSwapped, CountTooHigh, CutAt, OtherPec, decodeNumber, Decoded, Done, Entered, Outcome}
 use Rattle.promises.specs.Words.{member, emptyPool, startingPool, Pool, udidBytes, In128, Udid, heldAt, prepareTrace, replyTrace, assignTrace, newController, started, stepped, Event, Received, run, Acknowledged, lookedUp, commandNumber, lookupNumber}
 use Rattle.promises.specs.Words.{Asks, Binds, Continues, EndsWith, Replies, protocolFor, messageOf, traceOf, Handed, Send, Wait, Nothing, Prepare, GetUdid, Assign, Ended, Abandoned, NotOutstanding, Open, Bound, Claimed, Controller, Stepped}
-use Rattle.promises.specs.Words.{EvenOrFlag, SameAsEarlier, FixedOnTaken, LengthIsBad, None, FirstOf, targetsOf, movable, leftFree, pass, Given, Ending, served, noneFree, Distinct, ruled, Any, RecordOf, OnePerUdid, getsOnBus, modelNumber, Leaves, modelEnd, ModelAnswer, identifier, holding, Shows}
+use Rattle.promises.specs.Words.{EvenOrFlag, SameAsEarlier, FixedOnTaken, LengthIsBad, None, FirstOf, targetsOf, movable, leftFree, pass, Given, Ending, served, noneFree, Distinct, ruled, Any, RecordOf, OnePerUdid, getsOnBus, modelNumber, Leaves, modelEnd, ModelAnswer, nextFree, Next, At, AllUsed, Pick, latestOf, picksOf, FreeAtEach, Picked, identifier, holding, Shows}
 
 -- ---- DEMAND 1: EACH NUMBER, IF AND ONLY IF ITS CASE; A REFUSAL CHANGES NOTHING THAT WAS LENT
 -- a message as the encoder's types have it: its command and its data are bytes
@@ -94,17 +94,18 @@ pub record LooksUp (s : Controller) (a : ℕ) : Type 0 where
   pub lookup-15 : (lookupNumber (lookedUp s a) ≡ (15, [])) ↔ ((a < 128) × (heldAt (s .slots) a ≡ Open))
   pub lookup-16 : (lookupNumber (lookedUp s a) ≡ (16, [])) ↔ ((a < 128) × (heldAt (s .slots) a ≡ Claimed))
 
--- run_model over the records s and the binding buffer b, which hold s′ and b′ after. i is a record
+-- run_model with the last pick `last`, 127 if none ever was, over the records s and the binding buffer b, which hold s′ and b′ after. i is a record
 abbrev pub Refused : ModelAnswer → Type 0
-Refused r = (r .answer ≡ 2) ⊎ ((9 ≤ r .answer) × (r .answer ≤ 12))
+Refused r = (1 ≤ r .answer) × (r .answer ≤ 12)
 
-pub record Checks (occupied : Pool) (s b : List ℕ) (bytes : Bytes s) (r : ModelAnswer) (s′ b′ : List ℕ) (contract : Leaves (modelEnd occupied s b) r s′ b′) : Type 0 where
-  pub model-2 : (modelNumber r ≡ (2, 0)) ↔ (length b < 2048)
-  pub model-9 : (modelNumber r ≡ (9, 0)) ↔ ((2048 ≤ length b) × LengthIsBad s)
-  pub model-10 : (i : ℕ) → (modelNumber r ≡ (10, i)) ↔ ((2048 ≤ length b) × ((LengthIsBad s → ⊥) × FirstOf (EvenOrFlag s) (length s / 18) i))
-  pub model-11 : (i : ℕ) → (modelNumber r ≡ (11, i)) ↔ ((2048 ≤ length b) × ((LengthIsBad s → ⊥) × None (EvenOrFlag s) (length s / 18) × FirstOf (SameAsEarlier s) (length s / 18) i))
-  pub model-12 : (i : ℕ) → (modelNumber r ≡ (12, i)) ↔ ((2048 ≤ length b) × ((LengthIsBad s → ⊥) × None (EvenOrFlag s) (length s / 18) × None (SameAsEarlier s) (length s / 18) × FirstOf (FixedOnTaken (startingPool occupied) s) (length s / 18) i))
-  pub untouched : Refused r → (s′ ≡ s) × (b′ ≡ b) × (r .udid ≡ record { high = 0; low = 0 }) × (r .bound ≡ emptyPool) × (r .count ≡ 0) × (r .gets ≡ 0)
+pub record Checks (occupied : Pool) (last : ℕ) (s b : List ℕ) (bytes : Bytes s) (r : ModelAnswer) (s′ b′ : List ℕ) (contract : Leaves (modelEnd occupied last s b) r s′ b′) : Type 0 where
+  pub model-1 : (modelNumber r ≡ (1, 0)) ↔ (127 < last)
+  pub model-2 : (modelNumber r ≡ (2, 0)) ↔ ((last < 128) × (length b < 2048))
+  pub model-9 : (modelNumber r ≡ (9, 0)) ↔ ((last < 128) × ((2048 ≤ length b) × LengthIsBad s))
+  pub model-10 : (i : ℕ) → (modelNumber r ≡ (10, i)) ↔ ((last < 128) × ((2048 ≤ length b) × ((LengthIsBad s → ⊥) × FirstOf (EvenOrFlag s) (length s / 18) i)))
+  pub model-11 : (i : ℕ) → (modelNumber r ≡ (11, i)) ↔ ((last < 128) × ((2048 ≤ length b) × ((LengthIsBad s → ⊥) × None (EvenOrFlag s) (length s / 18) × FirstOf (SameAsEarlier s) (length s / 18) i)))
+  pub model-12 : (i : ℕ) → (modelNumber r ≡ (12, i)) ↔ ((last < 128) × ((2048 ≤ length b) × ((LengthIsBad s → ⊥) × None (EvenOrFlag s) (length s / 18) × None (SameAsEarlier s) (length s / 18) × FirstOf (FixedOnTaken (startingPool occupied) s) (length s / 18) i)))
+  pub untouched : Refused r → (s′ ≡ s) × (b′ ≡ b) × (r .udid ≡ record { high = 0; low = 0 }) × (r .bound ≡ emptyPool) × (r .count ≡ 0) × (r .gets ≡ 0) × (r .picked ≡ 0)
 
 -- ---- DEMAND 2: THE DECODER READS WHAT THE ENCODER WRITES, AND NOTHING ELSE
 pub record Demand2 (protocol : ℕ) (pec : Bool) : Type 0 where
@@ -120,14 +121,14 @@ pub record Demand2 (protocol : ℕ) (pec : Bool) : Type 0 where
   pub one : (m t : Message) (tr : List ℕ) → TraceOf protocol pec m tr → TraceOf protocol pec t tr → m ≡ t
 
 -- ---- DEMAND 3: THE RUN OVER THE BUS, BIT BY BIT, ENDS AS THE PLAIN RULE DOES
--- `given` are the bindings of the plain rule over the targets of the records s, `ending` is its end
-pub record Meets (occupied : Pool) (s b : List ℕ) (given : List Given) (ending : Ending) (r : ModelAnswer) (s′ b′ : List ℕ) : Type 0 where
+-- `given` are the bindings of the plain rule over the targets of the records s, `ending` is its end, `picked` its last pick
+pub record Meets (occupied : Pool) (last : ℕ) (s b : List ℕ) (given : List Given) (ending : Ending) (picked : ℕ) (r : ModelAnswer) (s′ b′ : List ℕ) : Type 0 where
   -- the answer: 0, or 13 with the identifier that asked; it is the number of the last command of the pass over the bus
-  pub answer-0 : ending ≡ served → (r .answer ≡ 0) × (r .udid ≡ record { high = 0; low = 0 }) × (commandNumber (pass occupied (targetsOf s) .now .command) ≡ (0, []) ∷ [])
-  pub answer-13 : (u : Udid) → ending ≡ noneFree u → (r .answer ≡ 13) × (r .udid ≡ u) × (commandNumber (pass occupied (targetsOf s) .now .command) ≡ (13, u ∷ []) ∷ [])
+  pub answer-0 : ending ≡ served → (r .answer ≡ 0) × (r .udid ≡ record { high = 0; low = 0 }) × (commandNumber (pass occupied last (targetsOf s) .now .command) ≡ (0, []) ∷ [])
+  pub answer-13 : (u : Udid) → ending ≡ noneFree u → (r .answer ≡ 13) × (r .udid ≡ u) × (commandNumber (pass occupied last (targetsOf s) .now .command) ≡ (13, u ∷ []) ∷ [])
   -- no record; how many are bound; the Get UDIDs that stood on the bus: one more than are bound, none on an empty bus
   pub counted : (r .place ≡ 0) × (r .count ≡ length given)
-  pub gets : (r .gets ≡ getsOnBus occupied (targetsOf s)) × (0 < length s → r .gets ≡ suc (r .count)) × (length s ≡ 0 → r .gets ≡ 0)
+  pub gets : (r .gets ≡ getsOnBus occupied last (targetsOf s)) × (0 < length s → r .gets ≡ suc (r .count)) × (length s ≡ 0 → r .gets ≡ 0)
   -- who is bound: targets of the records, to addresses that are neither reserved nor occupied, no two to one, each identifier once
   pub who : Each (λ (g : Given). (i : ℕ) × (i < length s / 18) × RecordOf s i g) given
   pub assignable : Each (λ (g : Given). (g .address < 128) × (isReserved (g .address) ≡ false) × (member occupied (g .address) ≡ false)) given
@@ -144,12 +145,14 @@ pub record Meets (occupied : Pool) (s b : List ℕ) (given : List Given) (ending
   pub others : (j : ℕ) → j % 18 < 16 → getD s′ j 0 ≡ getD s j 0
   -- all are bound if and only if the movable targets do not outnumber the addresses that the fixed ones leave free
   pub all-bound : (r .count ≡ length (targetsOf s)) ↔ (movable (targetsOf s) ≤ leftFree (startingPool occupied) (targetsOf s))
+  -- the last pick is the rule's, and the controller's at the end of the pass
+  pub last-pick : (r .picked ≡ picked) × (r .picked ≡ pass occupied last (targetsOf s) .now .state .picked)
   -- and this is the end of the pass, which runs the delivered start and steps against the targets, trace by trace: its targets, and whom its controller has bound
-  pub of-pass : (targetsOf s′ ≡ pass occupied (targetsOf s) .targets) × ((a : ℕ) (u : Udid) → a < 128 → heldAt (pass occupied (targetsOf s) .now .state .slots) a ≡ Bound u → take 16 (drop (16 * a) b′) ≡ udidBytes u)
+  pub of-pass : (targetsOf s′ ≡ pass occupied last (targetsOf s) .targets) × ((a : ℕ) (u : Udid) → a < 128 → heldAt (pass occupied last (targetsOf s) .now .state .slots) a ≡ Bound u → take 16 (drop (16 * a) b′) ≡ udidBytes u)
 
-pub record Demand3 (occupied : Pool) (s b : List ℕ) (bytes : Bytes s) (r : ModelAnswer) (s′ b′ : List ℕ) (contract : Leaves (modelEnd occupied s b) r s′ b′) : Type 0 where
-  pub meets : 2048 ≤ length b → (LengthIsBad s → ⊥) → None (EvenOrFlag s) (length s / 18) → None (SameAsEarlier s) (length s / 18) → None (FixedOnTaken (startingPool occupied) s) (length s / 18)
-      → Meets occupied s b (ruled (startingPool occupied) (targetsOf s) .given) (ruled (startingPool occupied) (targetsOf s) .ending) r s′ b′
+pub record Demand3 (occupied : Pool) (last : ℕ) (s b : List ℕ) (bytes : Bytes s) (r : ModelAnswer) (s′ b′ : List ℕ) (contract : Leaves (modelEnd occupied last s b) r s′ b′) : Type 0 where
+  pub meets : last < 128 → 2048 ≤ length b → (LengthIsBad s → ⊥) → None (EvenOrFlag s) (length s / 18) → None (SameAsEarlier s) (length s / 18) → None (FixedOnTaken (startingPool occupied) s) (length s / 18)
+      → let q = ruled (startingPool occupied) last (targetsOf s) in Meets occupied last s b (q .given) (q .ending) (q .picked) r s′ b′
 
 -- ---- THE CONTROLLER
 -- no command of a pass is outstanding
@@ -192,9 +195,9 @@ pub record StepNumbers (s : Controller) (tr : List ℕ) (r : Stepped) : Type 0 w
       × (((s .last ≡ Send Prepare) × (tr ≡ prepareTrace)) ⊎ (((s .last ≡ Send GetUdid) × NoReply tr × (NobodyLeft tr → ⊥)) ⊎ ((u : Udid) × (a : Address) × (s .last ≡ Send (Assign u a)))))))
   pub step-21 : (commandNumber (r .command) ≡ (21, []) ∷ []) ↔ Idle s
 
--- a state has a slot for each address, and the identifier of an outstanding Assign has 128 bits
+-- a state has a slot for each address, the identifier of an outstanding Assign has 128 bits, and the last pick is up to 127
 abbrev pub Sound : Controller → Type 0
-Sound s = ((length (s .slots .high) ≡ 128) × (length (s .slots .low) ≡ 128)) × ((u : Udid) (a : Address) → s .last ≡ Send (Assign u a) → In128 u)
+Sound s = ((length (s .slots .high) ≡ 128) × (length (s .slots .low) ≡ 128)) × ((u : Udid) (a : Address) → s .last ≡ Send (Assign u a) → In128 u) × (s .picked < 128)
 
 -- what holds in every state that starts and traces reach
 pub record Reached (occupied : Pool) (s : Controller) : Type 0 where
@@ -208,22 +211,38 @@ pub record Reached (occupied : Pool) (s : Controller) : Type 0 where
   pub gets : s .gets ≤ 128
 
 pub record Control : Type 0 where
-  -- the starting pool: the reserved and the occupied addresses. A new controller has nothing bound, claimed or outstanding; a start, at any time, makes it so again
+  -- the starting pool: the reserved and the occupied addresses. A new controller has nothing bound, claimed or outstanding; a start, at any time, makes it so again,
+  -- but the last pick stays. Above 127 it is made as never having picked
   pub starting-pool : (occupied : Pool) (a : ℕ) → (member (startingPool occupied) a ≡ true) ↔ ((isReserved a ≡ true) ⊎ (member occupied a ≡ true))
-  pub new : (occupied : Pool) → (newController occupied .starting ≡ startingPool occupied) × (newController occupied .pool ≡ startingPool occupied)
-      × (newController occupied .last ≡ Wait Nothing) × (newController occupied .gets ≡ 0) × ((a : ℕ) → heldAt (newController occupied .slots) a ≡ Open)
+  pub new : (occupied : Pool) (last : ℕ) → let c = newController occupied last in (c .starting ≡ startingPool occupied) × (c .pool ≡ startingPool occupied)
+      × (c .last ≡ Wait Nothing) × (c .gets ≡ 0) × ((a : ℕ) → heldAt (c .slots) a ≡ Open) × (last < 128 → c .picked ≡ last) × (127 < last → c .picked ≡ 127)
   pub start : (s : Controller) → (started s .command ≡ Send Prepare) × (started s .state .last ≡ Send Prepare) × (started s .state .gets ≡ 0)
-      × (started s .state .pool ≡ s .starting) × (started s .state .starting ≡ s .starting) × ((a : ℕ) → heldAt (started s .state .slots) a ≡ Open)
+      × (started s .state .pool ≡ s .starting) × (started s .state .starting ≡ s .starting) × ((a : ℕ) → heldAt (started s .state .slots) a ≡ Open) × (started s .state .picked ≡ s .picked)
   -- every step is as the sentences say, and its number is given in its case alone; the sentences leave one result
   pub step : (s : Controller) (tr : List ℕ) → Sound s → Steps s tr (stepped s tr) × StepNumbers s tr (stepped s tr)
   pub one-step : (s : Controller) (tr : List ℕ) (r q : Stepped) → Sound s → Steps s tr r → Steps s tr q
-      → (r .command ≡ q .command) × (r .state .last ≡ q .state .last) × (r .state .gets ≡ q .state .gets) × (r .state .starting ≡ q .state .starting)
+      → (r .command ≡ q .command) × (r .state .last ≡ q .state .last) × (r .state .gets ≡ q .state .gets) × (r .state .starting ≡ q .state .starting) × (r .state .picked ≡ q .state .picked)
       × ((a : ℕ) → (heldAt (r .state .slots) a ≡ heldAt (q .state .slots) a) × (member (r .state .pool) a ≡ member (q .state .pool) a))
   -- over any starts and traces, the latest first
-  pub reached : (occupied : Pool) (es : List Event) → Reached occupied (run occupied es)
+  pub reached : (occupied : Pool) (last : ℕ) (es : List Event) → Reached occupied (run occupied last es)
   -- what lookup answers was assigned in this pass, and acknowledged byte for byte; a claim stays for the rest of the pass
-  pub acknowledged : (occupied : Pool) (es : List Event) (a : ℕ) (u : Udid) → lookupNumber (lookedUp (run occupied es) a) ≡ (0, u ∷ []) → Acknowledged occupied es u a
-  pub claim-stays : (occupied : Pool) (es : List Event) (tr : List ℕ) (a : ℕ) → heldAt (run occupied es .slots) a ≡ Claimed → heldAt (run occupied (Received tr ∷ es) .slots) a ≡ Claimed
+  pub acknowledged : (occupied : Pool) (last : ℕ) (es : List Event) (a : ℕ) (u : Udid) → lookupNumber (lookedUp (run occupied last es) a) ≡ (0, u ∷ []) → Acknowledged occupied last es u a
+  pub claim-stays : (occupied : Pool) (last : ℕ) (es : List Event) (tr : List ℕ) (a : ℕ) → heldAt (run occupied last es .slots) a ≡ Claimed → heldAt (run occupied last (Received tr ∷ es) .slots) a ≡ Claimed
+
+-- PICKS
+pub record Picking : Type 0 where
+  -- the pick from the pool p after l: the free address at the least distance (a + 127 − l) mod 128; none exactly if all 128 are used; after 127 the lowest; l itself
+  -- only if no other is free
+  pub pick : (p : Pool) (l a : ℕ) → l < 128 → (nextFree p l ≡ At (record { 0 = a })) ↔ Next p l a
+  pub none : (p : Pool) (l : ℕ) → (nextFree p l ≡ AllUsed) ↔ ((a : ℕ) → a < 128 → member p a ≡ true)
+  pub first : (p : Pool) (a : ℕ) → (nextFree p 127 ≡ At (record { 0 = a })) ↔ ((a < 128) × (member p a ≡ false) × ((b : ℕ) → b < a → member p b ≡ true))
+  pub again : (p : Pool) (l : ℕ) → nextFree p l ≡ At (record { 0 = l }) → (b : ℕ) → b < 128 → (b ≡ l → ⊥) → member p b ≡ true
+  -- over any starts and traces the last pick is the address of the latest pick, else what the controller was made with; picksOf tells the picks by the traces and the
+  -- commands handed out
+  pub latest : (occupied : Pool) (last : ℕ) (es : List Event) → run occupied last es .picked ≡ latestOf (newController occupied last .picked) (picksOf occupied last es)
+  -- an address that was picked, x, is not picked again, y, before every other one that was free at each pick since then has been picked
+  pub not-again : (occupied : Pool) (last : ℕ) (es : List Event) (before : List Pick) (x : Pick) (between : List Pick) (y : Pick) (rest : List Pick)
+      → picksOf occupied last es ≡ before ++ (x ∷ (between ++ (y ∷ rest))) → y .at ≡ x .at → (b : ℕ) → b < 128 → (b ≡ x .at → ⊥) → FreeAtEach b (between ++ (y ∷ [])) → Picked b between
 
 -- ---- THE MARKED CASES, whatever binding buffer of at least 2,048 bytes is lent
 pub record Marked (b : List ℕ) (room : 2048 ≤ length b) : Type 0 where
@@ -236,14 +255,19 @@ pub record Marked (b : List ℕ) (room : 2048 ≤ length b) : Type 0 where
       × (Wrote 10 true (message 0x10 0 7 (replicate 200 0) (replicate 55 0)) before r after → encodeNumber r ≡ (0, 525))
       × ((pec : Bool) → Wrote 10 pec (message 0x10 0 7 (replicate 200 0) (replicate 56 0)) before r after → encodeNumber r ≡ (1, 0))
   pub m7 : (protocol : ℕ) (pec : Bool) (sent₀ received₀ : List ℕ) (a : Decoded) (sent received : List ℕ) → Entered protocol pec sent₀ received₀ → Outcome protocol pec [] sent₀ received₀ a sent received → decodeNumber a ≡ (4, 0)
-  -- 80h.. with FFh, 00h.. fixed at 09h, 40h.. holding 20h, nothing occupied: 09h fixed, 20h kept, 0Ah given to 80h..; four Get UDIDs
-  pub m8 : Shows (modelEnd emptyPool (holding 0x80 0xFF 0 ++ holding 0x00 0x13 0 ++ holding 0x40 0x41 0) b)
-      (record { answer = 0; place = 0; udid = record { high = 0; low = 0 }; bound = record { low = 2 ^ 0x09 + 2 ^ 0x0A + 2 ^ 0x20; high = 0 }; count = 3; gets = 4 })
+  -- 80h.. with FFh, 00h.. fixed at 09h, 40h.. holding 20h, nothing occupied, never picked: 09h fixed, 20h kept, 0Ah picked for 80h..; four Get UDIDs
+  pub m8 : Shows (modelEnd emptyPool 127 (holding 0x80 0xFF 0 ++ holding 0x00 0x13 0 ++ holding 0x40 0x41 0) b)
+      (record { answer = 0; place = 0; udid = record { high = 0; low = 0 }; bound = record { low = 2 ^ 0x09 + 2 ^ 0x0A + 2 ^ 0x20; high = 0 }; count = 3; gets = 4; picked = 0x0A })
       (holding 0x80 0x15 1 ++ holding 0x00 0x13 1 ++ holding 0x40 0x41 1) (0x09 ∷ 0x0A ∷ 0x0B ∷ 0x20 ∷ []) (identifier 0x00 ++ identifier 0x80 ++ replicate 16 0 ++ identifier 0x40)
   -- two movable targets, the smaller with none, the larger holding 09h: 09h and 0Ah
-  pub m9 : Shows (modelEnd emptyPool (holding 0x40 0xFF 0 ++ holding 0x80 0x13 0) b)
-      (record { answer = 0; place = 0; udid = record { high = 0; low = 0 }; bound = record { low = 2 ^ 0x09 + 2 ^ 0x0A; high = 0 }; count = 2; gets = 3 })
+  pub m9 : Shows (modelEnd emptyPool 127 (holding 0x40 0xFF 0 ++ holding 0x80 0x13 0) b)
+      (record { answer = 0; place = 0; udid = record { high = 0; low = 0 }; bound = record { low = 2 ^ 0x09 + 2 ^ 0x0A; high = 0 }; count = 2; gets = 3; picked = 0x0A })
       (holding 0x40 0x13 1 ++ holding 0x80 0x15 1) (0x09 ∷ 0x0A ∷ 0x0B ∷ []) (identifier 0x40 ++ identifier 0x80 ++ replicate 16 0)
   -- all 128 occupied, one movable target: 13, none bound, one Get UDID
-  pub m10 : Shows (modelEnd (record { low = 18446744073709551615; high = 18446744073709551615 }) (holding 0x80 0x41 1) b)
-      (record { answer = 13; place = 0; udid = record { high = 0x80 * 2 ^ 56; low = 1 }; bound = emptyPool; count = 0; gets = 1 }) (holding 0x80 0x41 0) (0x09 ∷ 0x20 ∷ []) (replicate 32 0)
+  pub m10 : Shows (modelEnd (record { low = 18446744073709551615; high = 18446744073709551615 }) 127 (holding 0x80 0x41 1) b)
+      (record { answer = 13; place = 0; udid = record { high = 0x80 * 2 ^ 56; low = 1 }; bound = emptyPool; count = 0; gets = 1; picked = 127 }) (holding 0x80 0x41 0) (0x09 ∷ 0x20 ∷ []) (replicate 32 0)
+  -- #106: 09h was picked last, and is free again; the newcomer gets 0Ah. And at 77h the way goes round, to 09h
+  pub vacated : Shows (modelEnd emptyPool 0x09 (holding 0x80 0xFF 0) b)
+      (record { answer = 0; place = 0; udid = record { high = 0; low = 0 }; bound = record { low = 2 ^ 0x0A; high = 0 }; count = 1; gets = 2; picked = 0x0A }) (holding 0x80 0x15 1) (0x09 ∷ 0x0A ∷ []) (replicate 16 0 ++ identifier 0x80)
+  pub round : Shows (modelEnd emptyPool 0x77 (holding 0x80 0xFF 0) b)
+      (record { answer = 0; place = 0; udid = record { high = 0; low = 0 }; bound = record { low = 2 ^ 0x09; high = 0 }; count = 1; gets = 2; picked = 0x09 }) (holding 0x80 0x13 1) (0x09 ∷ 0x0A ∷ []) (identifier 0x80 ++ replicate 16 0)

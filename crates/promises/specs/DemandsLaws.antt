@@ -46,6 +46,9 @@ use Rattle.slots.specs.Slots.{heldAt}
 use Rattle.arp.specs.Numbers.{commandNumber}
 use Rattle.arp.specs.AssignedLaws.{found-acknowledged, claim-stays}
 use Rattle.commands.specs.CommandTraces.{prepareTrace, replyTrace, assignTrace}
+use Rattle.pool.specs.FreeLaws.{lowest-is}
+use Rattle.pool.specs.NextFreeLaws.{next-is, next-none, next-first, again-only-if}
+use Rattle.arp.specs.RunPicksLaws.{last-is-latest, not-picked-again}
 use Rattle.arp.specs.HistoryLaws.{reached-good, new-controller-is-new}
 use Rattle.arp.specs.LookupLaws as arp
 use Rattle.commands.specs.RequestLaws.{valid-prepare, valid-get, valid-assign, prepare-symbols, reply-symbols, assign-symbols-small}
@@ -72,13 +75,13 @@ use Rattle.bus.specs.BindingsEndLaws.{given-in-records, given-assignable, given
 use Rattle.rule.specs.EndAnswer.{numberOf, askerOf}
 use Rattle.rule.specs.PassEnd.{lastCommand}
 use Rattle.rule.specs.PlainRule.{Ending}
-use Rattle.bus.specs.EndLaws.{answer-of-rule, asker-of-rule, command-of-rule, targets-of-pass, place-zero, count-of-rule, gets-on-bus, gets-are, all-counted}
-use Rattle.bus.specs.PassLaws.{bindings-of-pass}
+use Rattle.bus.specs.EndLaws.{answer-of-rule, asker-of-rule, command-of-rule, targets-of-pass, picked-of-rule, place-zero, count-of-rule, gets-on-bus, gets-are, all-counted}
+use Rattle.bus.specs.PassLaws.{bindings-of-pass, picked-of-pass}
 use Rattle.bus.specs.RecordsEndLaws.{records-length, record-of-bound, record-of-unbound, other-bytes-kept}
 use Rattle.bus.specs.RefusalLaws as bus
 use Rattle.bus.specs.Run.{Leaves, modelEnd}
 use Rattle.bindings.specs.declared.answer.ModelAnswer.{ModelAnswer}
-use Rattle.promises.specs.Demands.{OfBytes, Encodes, Decodes, Puts, Commands, LooksUp, Checks, Demand2, Demand3, Reached, Control}
+use Rattle.promises.specs.Demands.{OfBytes, Encodes, Decodes, Puts, Commands, LooksUp, Checks, Demand2, Demand3, Reached, Control, Picking}
 use Rattle.promises.specs.StepsLaws.{sentences, one-step, each-number-exactly}
 
 -- ---- demand 1
@@ -194,21 +197,23 @@ commands reply before r after = record {
 pub looks-up : (s : Controller) (a : ℕ) → LooksUp s a
 looks-up s a = record { lookup-0 = arp.lookup-0 s a; lookup-1 = arp.lookup-1 s a; lookup-15 = arp.lookup-15 s a; lookup-16 = arp.lookup-16 s a }
 
-pub checks : (occupied : Pool) (s b : List ℕ) (bytes : Bytes s) (r : ModelAnswer) (s′ b′ : List ℕ) (contract : Leaves (modelEnd occupied s b) r s′ b′)
-    → Checks occupied s b bytes r s′ b′ contract
-checks occupied s b bytes r s′ b′ l = record {
-  model-2 = bus.model-2 occupied s b r s′ b′ l;
-  model-9 = bus.model-9 occupied s b r s′ b′ l bytes;
-  model-10 = bus.model-10 occupied s b r s′ b′ l bytes;
-  model-11 = bus.model-11 occupied s b r s′ b′ l bytes;
-  model-12 = bus.model-12 occupied s b r s′ b′ l bytes;
-  untouched = λ h. (let u = bus.model-untouched occupied s b r s′ b′ l h in (
+pub checks : (occupied : Pool) (last : ℕ) (s b : List ℕ) (bytes : Bytes s) (r : ModelAnswer) (s′ b′ : List ℕ) (contract : Leaves (modelEnd occupied last s b) r s′ b′)
+    → Checks occupied last s b bytes r s′ b′ contract
+checks occupied last s b bytes r s′ b′ l = record {
+  model-1 = bus.model-1 occupied last s b r s′ b′ l;
+  model-2 = bus.model-2 occupied last s b r s′ b′ l;
+  model-9 = bus.model-9 occupied last s b r s′ b′ l bytes;
+  model-10 = bus.model-10 occupied last s b r s′ b′ l bytes;
+  model-11 = bus.model-11 occupied last s b r s′ b′ l bytes;
+  model-12 = bus.model-12 occupied last s b r s′ b′ l bytes;
+  untouched = λ h. (let u = bus.model-untouched occupied last s b r s′ b′ l h in (
     u .0,
     u .1,
     ap (λ (x : ModelAnswer). x .udid) (u .2),
     ap (λ (x : ModelAnswer). x .bound) (u .2),
     ap (λ (x : ModelAnswer). x .count) (u .2),
     ap (λ (x : ModelAnswer). x .gets) (u .2),
+    ap (λ (x : ModelAnswer). x .picked) (u .2),
   ));
 }
 
@@ -271,39 +276,40 @@ pub admitted : (occupied : Pool) (s : List ℕ) → Bytes s → (LengthIsBad s �
 admitted occupied s bytes n m k f =
     sym (given-exactly (startingPool occupied) s Admitted .1 (given-by-bytes (startingPool occupied) s bytes Admitted .1 (n, m, k, f)))
 
-pub demand-3 : (occupied : Pool) (s b : List ℕ) (bytes : Bytes s) (r : ModelAnswer) (s′ b′ : List ℕ) (contract : Leaves (modelEnd occupied s b) r s′ b′)
-    → Demand3 occupied s b bytes r s′ b′ contract
-demand-3 occupied s b bytes r s′ b′ l = record {
-  meets = λ long n m k f. (let e = admitted occupied s bytes n m k f in record {
+pub demand-3 : (occupied : Pool) (last : ℕ) (s b : List ℕ) (bytes : Bytes s) (r : ModelAnswer) (s′ b′ : List ℕ) (contract : Leaves (modelEnd occupied last s b) r s′ b′)
+    → Demand3 occupied last s b bytes r s′ b′ contract
+demand-3 occupied last s b bytes r s′ b′ l = record {
+  meets = λ small long n m k f. (let e = admitted occupied s bytes n m k f in record {
     answer-0 = λ q. (
-      answer-of-rule occupied s b bytes long e r s′ b′ l ∙ ap numberOf q,
-      asker-of-rule occupied s b bytes long e r s′ b′ l ∙ ap askerOf q,
-      command-of-rule occupied s b bytes long e r s′ b′ l ∙ ap (λ (x : Ending). commandNumber (lastCommand x)) q,
+      answer-of-rule occupied last small s b bytes long e r s′ b′ l ∙ ap numberOf q,
+      asker-of-rule occupied last small s b bytes long e r s′ b′ l ∙ ap askerOf q,
+      command-of-rule occupied last small s b bytes long e r s′ b′ l ∙ ap (λ (x : Ending). commandNumber (lastCommand x)) q,
     );
     answer-13 = λ u q. (
-      answer-of-rule occupied s b bytes long e r s′ b′ l ∙ ap numberOf q,
-      asker-of-rule occupied s b bytes long e r s′ b′ l ∙ ap askerOf q,
-      command-of-rule occupied s b bytes long e r s′ b′ l ∙ ap (λ (x : Ending). commandNumber (lastCommand x)) q,
+      answer-of-rule occupied last small s b bytes long e r s′ b′ l ∙ ap numberOf q,
+      asker-of-rule occupied last small s b bytes long e r s′ b′ l ∙ ap askerOf q,
+      command-of-rule occupied last small s b bytes long e r s′ b′ l ∙ ap (λ (x : Ending). commandNumber (lastCommand x)) q,
     );
-    counted = (place-zero occupied s b bytes long e r s′ b′ l, count-of-rule occupied s b bytes long e r s′ b′ l);
+    counted = (place-zero occupied last small s b bytes long e r s′ b′ l, count-of-rule occupied last small s b bytes long e r s′ b′ l);
     gets = (
-      gets-on-bus occupied s b bytes long e r s′ b′ l,
-      gets-are occupied s b bytes long e r s′ b′ l .0,
-      λ z. gets-are occupied s b bytes long e r s′ b′ l .1 z .0,
+      gets-on-bus occupied last small s b bytes long e r s′ b′ l,
+      gets-are occupied last small s b bytes long e r s′ b′ l .0,
+      λ z. gets-are occupied last small s b bytes long e r s′ b′ l .1 z .0,
     );
-    who = given-in-records occupied s bytes e;
-    assignable = given-assignable occupied s bytes e;
-    distinct = (given-distinct occupied s bytes e, given-once occupied s bytes e);
-    bound = bound-exactly occupied s b bytes long e r s′ b′ l;
-    bound-bytes = bytes-of-bound occupied s b bytes long e r s′ b′ l;
-    free-bytes = bytes-of-free occupied s b bytes long e r s′ b′ l;
-    rest = bytes-after-kept occupied s b bytes long e r s′ b′ l;
-    same-length = records-length occupied s b bytes long e r s′ b′ l;
-    bound-record = record-of-bound occupied s b bytes long e r s′ b′ l;
-    unbound-record = record-of-unbound occupied s b bytes long e r s′ b′ l;
-    others = other-bytes-kept occupied s b bytes long e r s′ b′ l;
-    all-bound = all-counted occupied s b bytes long e r s′ b′ l;
-    of-pass = (targets-of-pass occupied s b bytes long e r s′ b′ l, bindings-of-pass occupied s b long e r s′ b′ l);
+    who = given-in-records occupied last s bytes e;
+    assignable = given-assignable occupied last s bytes e;
+    distinct = (given-distinct occupied last s bytes e, given-once occupied last s bytes e);
+    bound = bound-exactly occupied last small s b bytes long e r s′ b′ l;
+    bound-bytes = bytes-of-bound occupied last small s b bytes long e r s′ b′ l;
+    free-bytes = bytes-of-free occupied last small s b bytes long e r s′ b′ l;
+    rest = bytes-after-kept occupied last small s b bytes long e r s′ b′ l;
+    same-length = records-length occupied last small s b bytes long e r s′ b′ l;
+    bound-record = record-of-bound occupied last small s b bytes long e r s′ b′ l;
+    unbound-record = record-of-unbound occupied last small s b bytes long e r s′ b′ l;
+    others = other-bytes-kept occupied last small s b bytes long e r s′ b′ l;
+    all-bound = all-counted occupied last small s b bytes long e r s′ b′ l;
+    last-pick = (picked-of-rule occupied last small s b bytes long e r s′ b′ l, picked-of-pass occupied last small s b long e r s′ b′ l);
+    of-pass = (targets-of-pass occupied last small s b bytes long e r s′ b′ l, bindings-of-pass occupied last small s b long e r s′ b′ l);
   });
 }
 
@@ -322,13 +328,13 @@ pool-exactly false y h e = go (isHeld h) refl
         back (inl z) = false-not-true z
         back (inr n) = absurd (n (unheld-is-open h k))
 
-pub reached : (occupied : Pool) (es : List Event) → Reached occupied (run occupied es)
-reached occupied es =
-    let g = reached-good occupied es in
+pub reached : (occupied : Pool) (last : ℕ) (es : List Event) → Reached occupied (run occupied last es)
+reached occupied last es =
+    let g = reached-good occupied last es in
     record {
-      sound = ((g .0 .sound .size .high, g .0 .sound .size .low), λ u a e. subst (PendingIn (run occupied es)) e (g .1) .fits);
+      sound = ((g .0 .sound .size .high, g .0 .sound .size .low), λ u a e. subst (PendingIn (run occupied last es)) e (g .1) .fits, g .0 .picked);
       starting = g .0 .starting;
-      pool = λ a. pool-exactly (member (run occupied es .starting) a) (member (run occupied es .pool) a) (heldAt (run occupied es .slots) a) (g .0 .sound .exact a);
+      pool = λ a. pool-exactly (member (run occupied last es .starting) a) (member (run occupied last es .pool) a) (heldAt (run occupied last es .slots) a) (g .0 .sound .exact a);
       new = g .0 .sound .new;
       once = g .0 .sound .once;
       gets = g .0 .gets;
@@ -345,11 +351,26 @@ either-true x false z e = (λ h. inr (sym e ∙ h), back)
 pub control : Control
 control = record {
   starting-pool = λ occupied a. either-true (member (startingPool occupied) a) (isReserved a) (member occupied a) (member-starting occupied a);
-  new = λ occupied. (let n = new-controller-is-new occupied in (n .starting, n .pool, n .last, n .gets, n .held));
-  start = λ s. (refl, refl, refl, refl, refl, open-all);
-  step = λ s tr f. let n : Sized128 (s .slots) = record { high = f .0 .0; low = f .0 .1 } in (sentences s tr n, each-number-exactly s tr (f .1) (stepped s tr) (sentences s tr n));
-  one-step = λ s tr r q f h g. (let a = one-step s tr r q (f .1) h g in (a .command, a .last, a .gets, a .starting, a .same));
+  new = λ occupied last. (let n = new-controller-is-new occupied last in (n .starting, n .pool, n .last, n .gets, n .held, n .picked, n .never));
+  start = λ s. (refl, refl, refl, refl, refl, open-all, refl);
+  step = λ s tr f. let n : Sized128 (s .slots) = record { high = f .0 .0; low = f .0 .1 } in (sentences s tr n (f .2), each-number-exactly s tr (f .1) (f .2) (stepped s tr) (sentences s tr n (f .2)));
+  one-step = λ s tr r q f h g. (let a = one-step s tr r q (f .1) (f .2) h g in (a .command, a .last, a .gets, a .starting, a .picked, a .same));
   reached = reached;
   acknowledged = found-acknowledged;
-  claim-stays = λ occupied es tr a e. claim-stays occupied es (tr ∷ []) a e;
+  claim-stays = λ occupied last es tr a e. claim-stays occupied last es (tr ∷ []) a e;
+}
+
+-- ---- picks
+
+pub picking : Picking
+picking = record {
+  pick = λ p l a h. next-is p l a h;
+  none = next-none;
+  first = λ p a. (
+    λ e. (let w = lowest-is p a .0 (sym (next-first p) ∙ e) in (w .small, w .free, w .below)),
+    λ w. next-first p ∙ lowest-is p a .1 (record { small = w .0; free = w .1; below = w .2 }),
+  );
+  again = again-only-if;
+  latest = last-is-latest;
+  not-again = not-picked-again;
 }

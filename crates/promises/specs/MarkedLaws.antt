@@ -26,6 +26,7 @@ use Rattle.decode.specs.OutcomeLaws.{answer-by-trace}
 use Rattle.pool.specs.Counts.{count}
 use Rattle.pool.specs.Digits.{digit, plus}
 use Rattle.pool.specs.Free.{used, freeFrom}
+use Rattle.pool.specs.NextFree.{nextFree}
 use Rattle.pool.specs.Pools.{member, withAddress, unionOf}
 use Rattle.pool.specs.Start.{emptyPool, reservedPool, startingPool}
 use Rattle.pool.specs.declared.Pool.{Pool}
@@ -43,19 +44,21 @@ use Rattle.bindings.specs.declared.entry.Entry.{Entry}
 use Rattle.rule.specs.Bus.{World}
 use Rattle.rule.specs.PassEndLaws.{demand-3}
 use Rattle.rule.specs.PassEnd.{passEnd}
-use Rattle.rule.specs.PlainRule.{plainChoice}
+use Rattle.rule.specs.PlainRule.{isPickedFor, plainChoice}
 use Rattle.bus.specs.Run.{ModelEnd, endedEnd, modelEnd}
 use Rattle.report.specs.Report.{noUdid, numberIn, udidIn, entryAt}
-use Rattle.bus.specs.RunLaws.{end-checked}
+use Rattle.arp.specs.LastPickLaws.{last-pick-is}
+use Rattle.bus.specs.RunLaws.{end-checked, end-going}
 use Rattle.bindings.specs.declared.answer.ModelAnswer.{ModelAnswer}
 use Rattle.promises.specs.Demands.{Marked}
 use Rattle.promises.specs.MarkedWords.{identifier, holding, windows, Shows}
 
 -- ---- the model's cases
 
--- a run: the occupied addresses and the records lent; the answer, the records after it, and whose bytes stand at which addresses
+-- a run: the occupied addresses, the last pick and the records lent; the answer, the records after it, and whose bytes stand at which addresses
 record Run : Type 0 where
   occupied : Pool
+  last : ℕ
   records : List ℕ
   answer : ModelAnswer
   after : List ℕ
@@ -66,8 +69,9 @@ record Run : Type 0 where
 abbrev run8 : Run
 run8 = record {
   occupied = emptyPool;
+  last = 127;
   records = holding 0x80 0xFF 0 ++ holding 0x00 0x13 0 ++ holding 0x40 0x41 0;
-  answer = record { answer = 0; place = 0; udid = noUdid; bound = record { low = 2 ^ 0x09 + 2 ^ 0x0A + 2 ^ 0x20; high = 0 }; count = 3; gets = 4 };
+  answer = record { answer = 0; place = 0; udid = noUdid; bound = record { low = 2 ^ 0x09 + 2 ^ 0x0A + 2 ^ 0x20; high = 0 }; count = 3; gets = 4; picked = 0x0A };
   after = holding 0x80 0x15 1 ++ holding 0x00 0x13 1 ++ holding 0x40 0x41 1;
   places = 0x09 ∷ 0x0A ∷ 0x0B ∷ 0x20 ∷ [];
   buffer = identifier 0x00 ++ identifier 0x80 ++ replicate 16 0 ++ identifier 0x40;
@@ -77,8 +81,9 @@ run8 = record {
 abbrev run9 : Run
 run9 = record {
   occupied = emptyPool;
+  last = 127;
   records = holding 0x40 0xFF 0 ++ holding 0x80 0x13 0;
-  answer = record { answer = 0; place = 0; udid = noUdid; bound = record { low = 2 ^ 0x09 + 2 ^ 0x0A; high = 0 }; count = 2; gets = 3 };
+  answer = record { answer = 0; place = 0; udid = noUdid; bound = record { low = 2 ^ 0x09 + 2 ^ 0x0A; high = 0 }; count = 2; gets = 3; picked = 0x0A };
   after = holding 0x40 0x13 1 ++ holding 0x80 0x15 1;
   places = 0x09 ∷ 0x0A ∷ 0x0B ∷ [];
   buffer = identifier 0x40 ++ identifier 0x80 ++ replicate 16 0;
@@ -88,11 +93,36 @@ run9 = record {
 abbrev run10 : Run
 run10 = record {
   occupied = record { low = 18446744073709551615; high = 18446744073709551615 };
+  last = 127;
   records = holding 0x80 0x41 1;
-  answer = record { answer = 13; place = 0; udid = record { high = 0x80 * 2 ^ 56; low = 1 }; bound = emptyPool; count = 0; gets = 1 };
+  answer = record { answer = 13; place = 0; udid = record { high = 0x80 * 2 ^ 56; low = 1 }; bound = emptyPool; count = 0; gets = 1; picked = 127 };
   after = holding 0x80 0x41 0;
   places = 0x09 ∷ 0x20 ∷ [];
   buffer = replicate 32 0;
+}
+
+-- 09h was picked last, and is free: the newcomer gets 0Ah
+abbrev run-vacated : Run
+run-vacated = record {
+  occupied = emptyPool;
+  last = 0x09;
+  records = holding 0x80 0xFF 0;
+  answer = record { answer = 0; place = 0; udid = noUdid; bound = record { low = 2 ^ 0x0A; high = 0 }; count = 1; gets = 2; picked = 0x0A };
+  after = holding 0x80 0x15 1;
+  places = 0x09 ∷ 0x0A ∷ [];
+  buffer = replicate 16 0 ++ identifier 0x80;
+}
+
+-- after 77h the way goes round, to 09h
+abbrev run-round : Run
+run-round = record {
+  occupied = emptyPool;
+  last = 0x77;
+  records = holding 0x80 0xFF 0;
+  answer = record { answer = 0; place = 0; udid = noUdid; bound = record { low = 2 ^ 0x09; high = 0 }; count = 1; gets = 2; picked = 0x09 };
+  after = holding 0x80 0x13 1;
+  places = 0x09 ∷ 0x0A ∷ [];
+  buffer = identifier 0x80 ++ replicate 16 0;
 }
 
 -- bytes, by computing
@@ -111,7 +141,7 @@ computed (x ∷ xs) h = go (ltb x 256) refl h (λ k. computed xs k)
 -- ---- by demand 3 the run's end is the plain rule's, and that is computed
 
 abbrev endOf : Run → World
-endOf m = passEnd (startingPool (m .occupied)) (targetsOf (m .records))
+endOf m = passEnd (startingPool (m .occupied)) (m .last) (targetsOf (m .records))
 
 -- the lists of some numbers, one after another
 abbrev joined : (ℕ → List ℕ) → List ℕ → List ℕ
@@ -119,6 +149,7 @@ joined f [] = []
 joined f (x ∷ xs) = f x ++ joined f xs
 
 record Comes (m : Run) : Type 0 where
+  let-in : m .last < 128
   bytes : Bytes (m .records)
   admitted : checkedList (startingPool (m .occupied)) (m .records) ≡ Admitted
   number : numberIn (commandNumber (endOf m .now .command)) ≡ m .answer .answer
@@ -127,6 +158,7 @@ record Comes (m : Run) : Type 0 where
   bound : boundSet (entryAt (endOf m .now .state .slots)) ≡ m .answer .bound
   counted : used (m .answer .bound) ≡ m .answer .count
   gets : endOf m .now .state .gets ≡ m .answer .gets
+  picked : endOf m .now .state .picked ≡ m .answer .picked
   stored : recordsWith (endOf m .targets) (m .records) ≡ m .after
   small : Each (λ (a : ℕ). a < 128) (m .places)
   shown : joined (λ (a : ℕ). entryBytes (entryAt (endOf m .now .state .slots) a)) (m .places) ≡ m .buffer
@@ -135,21 +167,24 @@ windows-are : (held : ℕ → Entry) (rest as′ : List ℕ) → Each (λ (a : �
 windows-are held rest [] h = refl
 windows-are held rest (a ∷ as′) h = ap₂ (λ (x y : List ℕ). x ++ y) (bytes-there held rest a (h .0)) (windows-are held rest as′ (h .1))
 
-shows : (m : Run) → Comes m → (b : List ℕ) → 2048 ≤ length b → Shows (modelEnd (m .occupied) (m .records) b) (m .answer) (m .after) (m .places) (m .buffer)
+shows : (m : Run) → Comes m → (b : List ℕ) → 2048 ≤ length b → Shows (modelEnd (m .occupied) (m .last) (m .records) b) (m .answer) (m .after) (m .places) (m .buffer)
 shows m v b h =
-    let e : modelEnd (m .occupied) (m .records) b ≡ endedEnd (endOf m) (m .records) b =
-    end-checked (m .occupied) (m .records) b Admitted h (v .admitted)
-    ∙ ap (λ (w : World). endedEnd w (m .records) b) (demand-3 (m .occupied) (targetsOf (m .records)) (admitted-targets (startingPool (m .occupied)) (m .records) (v .bytes) (v .admitted))) in (
+    let e : modelEnd (m .occupied) (m .last) (m .records) b ≡ endedEnd (endOf m) (m .records) b =
+    end-going (m .occupied) (m .last) (m .records) b (v .let-in)
+    ∙ end-checked (m .occupied) (m .last) (m .records) b Admitted h (v .admitted)
+    ∙ ap (λ (w : World). endedEnd w (m .records) b) (demand-3 (m .occupied) (m .last) (targetsOf (m .records)) (admitted-targets (startingPool (m .occupied)) (m .records) (v .bytes) (v .admitted))
+    ∙ ap (λ (l : ℕ). passEnd (startingPool (m .occupied)) l (targetsOf (m .records))) (last-pick-is (m .last) (v .let-in))) in (
       ap (λ (x : ModelEnd). x .answer) e
-          ∙ (λ i. record { answer = v .number i; place = v .nowhere i; udid = v .asker i; bound = v .bound i; count = (ap used (v .bound) ∙ v .counted) i; gets = v .gets i }),
+          ∙ (λ i. record { answer = v .number i; place = v .nowhere i; udid = v .asker i; bound = v .bound i; count = (ap used (v .bound) ∙ v .counted) i; gets = v .gets i; picked = v .picked i }),
       ap (λ (x : ModelEnd). x .records) e ∙ v .stored,
       ap (λ (x : ModelEnd). windows (x .bindings) (m .places)) e
           ∙ windows-are (entryAt (endOf m .now .state .slots)) (drop 2048 b) (m .places) (v .small) ∙ v .shown,
     )
 
 comes-8 : Comes run8
-unfolding amongRecords checkedList firstFrom startingPool unionOf reservedPool member digit withAddress plus freeFrom numberFrom bytesFrom bytesOf udidAt udidBytes targetAt plainChoice putTarget boundFrom used count heldAt withBinding noBindings
+unfolding amongRecords checkedList firstFrom startingPool unionOf reservedPool member digit withAddress plus freeFrom nextFree isPickedFor numberFrom bytesFrom bytesOf udidAt udidBytes targetAt plainChoice putTarget boundFrom used count heldAt withBinding noBindings
 comes-8 = record {
+  let-in = omega arith;
   bytes = computed (run8 .records) refl;
   admitted = refl;
   number = refl;
@@ -158,14 +193,16 @@ comes-8 = record {
   bound = refl;
   counted = refl;
   gets = refl;
+  picked = refl;
   stored = refl;
   small = (omega arith, (omega arith, (omega arith, (omega arith, tt))));
   shown = refl;
 }
 
 comes-9 : Comes run9
-unfolding amongRecords checkedList firstFrom startingPool unionOf reservedPool member digit withAddress plus freeFrom numberFrom bytesFrom bytesOf udidAt udidBytes targetAt plainChoice putTarget boundFrom used count heldAt withBinding noBindings
+unfolding amongRecords checkedList firstFrom startingPool unionOf reservedPool member digit withAddress plus freeFrom nextFree isPickedFor numberFrom bytesFrom bytesOf udidAt udidBytes targetAt plainChoice putTarget boundFrom used count heldAt withBinding noBindings
 comes-9 = record {
+  let-in = omega arith;
   bytes = computed (run9 .records) refl;
   admitted = refl;
   number = refl;
@@ -174,14 +211,16 @@ comes-9 = record {
   bound = refl;
   counted = refl;
   gets = refl;
+  picked = refl;
   stored = refl;
   small = (omega arith, (omega arith, (omega arith, tt)));
   shown = refl;
 }
 
 comes-10 : Comes run10
-unfolding amongRecords checkedList firstFrom startingPool unionOf reservedPool member digit withAddress plus freeFrom numberFrom bytesFrom bytesOf udidAt udidBytes targetAt plainChoice putTarget boundFrom used count heldAt withBinding noBindings
+unfolding amongRecords checkedList firstFrom startingPool unionOf reservedPool member digit withAddress plus freeFrom nextFree isPickedFor numberFrom bytesFrom bytesOf udidAt udidBytes targetAt plainChoice putTarget boundFrom used count heldAt withBinding noBindings
 comes-10 = record {
+  let-in = omega arith;
   bytes = computed (run10 .records) refl;
   admitted = refl;
   number = refl;
@@ -190,6 +229,43 @@ comes-10 = record {
   bound = refl;
   counted = refl;
   gets = refl;
+  picked = refl;
+  stored = refl;
+  small = (omega arith, (omega arith, tt));
+  shown = refl;
+}
+
+comes-vacated : Comes run-vacated
+unfolding amongRecords checkedList firstFrom startingPool unionOf reservedPool member digit withAddress plus freeFrom nextFree isPickedFor numberFrom bytesFrom bytesOf udidAt udidBytes targetAt plainChoice putTarget boundFrom used count heldAt withBinding noBindings
+comes-vacated = record {
+  let-in = omega arith;
+  bytes = computed (run-vacated .records) refl;
+  admitted = refl;
+  number = refl;
+  nowhere = refl;
+  asker = refl;
+  bound = refl;
+  counted = refl;
+  gets = refl;
+  picked = refl;
+  stored = refl;
+  small = (omega arith, (omega arith, tt));
+  shown = refl;
+}
+
+comes-round : Comes run-round
+unfolding amongRecords checkedList firstFrom startingPool unionOf reservedPool member digit withAddress plus freeFrom nextFree isPickedFor numberFrom bytesFrom bytesOf udidAt udidBytes targetAt plainChoice putTarget boundFrom used count heldAt withBinding noBindings
+comes-round = record {
+  let-in = omega arith;
+  bytes = computed (run-round .records) refl;
+  admitted = refl;
+  number = refl;
+  nowhere = refl;
+  asker = refl;
+  bound = refl;
+  counted = refl;
+  gets = refl;
+  picked = refl;
   stored = refl;
   small = (omega arith, (omega arith, tt));
   shown = refl;
@@ -240,4 +316,6 @@ marked b room = record {
   m8 = shows run8 comes-8 b room;
   m9 = shows run9 comes-9 b room;
   m10 = shows run10 comes-10 b room;
+  vacated = shows run-vacated comes-vacated b room;
+  round = shows run-round comes-round b room;
 }

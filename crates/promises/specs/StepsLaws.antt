@@ -14,8 +14,8 @@ use Rattle.wire.specs.declared.address.Address.{Address}
 use Rattle.trace.specs.Shapes.{protocols, forbidden}
 use Rattle.scan.specs.Fitting.{CutAt}
 use Rattle.scan.specs.FittingLaws.{cut-shaped}
-use Rattle.pool.specs.Free.{lowestFree}
-use Rattle.pool.specs.FreeLaws.{lowest-is, none-free}
+use Rattle.pool.specs.NextFree.{nextFree}
+use Rattle.pool.specs.NextFreeLaws.{next-is, next-none}
 use Rattle.pool.specs.Pools.{member}
 use Rattle.pool.specs.declared.Pool.{Pool}
 use Rattle.pool.specs.declared.free.Free.{Free}
@@ -69,12 +69,12 @@ idle-no-command s i = go (s .last) refl
 
 -- ---- every step is as the sentences say
 
-pub sentences : (s : Controller) (tr : List ℕ) → Sized128 (s .slots) → Steps s tr (stepped s tr)
-sentences s tr size = record {
+pub sentences : (s : Controller) (tr : List ℕ) → Sized128 (s .slots) → s .picked < 128 → Steps s tr (stepped s tr)
+sentences s tr size small = record {
   prepare-accepted = arp.prepare-accepted s tr;
   prepare-nobody = λ e b w. arp.prepare-nobody s tr e b (six-1 tr b .1 w);
   prepare-other = λ e n m. arp.prepare-other s tr e n (λ b w. m b (six-1 tr b .0 w));
-  get-reply = arp.get-reply s tr size;
+  get-reply = arp.get-reply s tr size small;
   get-count = arp.get-count s tr;
   get-nobody = λ e w. arp.get-nobody s tr e (w .0) (w .1) (six-9 tr (w .0) .1 (w .2));
   get-again = λ e n m. arp.get-again s tr e n (λ b l w. m (b, l, six-9 tr b .0 w));
@@ -151,18 +151,19 @@ idle-both s tr r q h g =
       last = ap (λ (x : Controller). x .last) m;
       gets = ap (λ (x : Controller). x .gets) m;
       starting = ap (λ (x : Controller). x .starting) m;
+      picked = ap (λ (x : Controller). x .picked) m;
       same = λ a. (ap (λ (x : Controller). heldAt (x .slots) a) m, ap (λ (x : Controller). member (x .pool) a) m);
     }
 
 -- ONE RESULT: two results that the sentences allow are the same
-pub one-step : (s : Controller) (tr : List ℕ) (r q : Stepped) → FitsLast s → Steps s tr r → Steps s tr q → Alike r q
-one-step s tr r q f h g = go (every-case s tr f)
+pub one-step : (s : Controller) (tr : List ℕ) (r q : Stepped) → FitsLast s → s .picked < 128 → Steps s tr r → Steps s tr q → Alike r q
+one-step s tr r q f small h g = go (every-case s tr f)
   where
     go : Case s tr → Alike r q
     go (Accepted e t) = continues-alike s r q (h .prepare-accepted e t) (g .prepare-accepted e t)
     go (Nobody e b w) = ends-alike s r q (Wait Ended) (h .prepare-nobody e b w) (g .prepare-nobody e b w)
     go (Refused e n m) = ends-alike s r q (Wait Abandoned) (h .prepare-other e n m) (g .prepare-other e n m)
-    go (Replied e u b k l t) = replies-alike s u b r q (h .get-reply e u b k l t) (g .get-reply e u b k l t)
+    go (Replied e u b k l t) = replies-alike s u b r q small (h .get-reply e u b k l t) (g .get-reply e u b k l t)
     go (Counted e xs d l n t) = ends-alike s r q (Wait Ended) (h .get-count e xs d l n t) (g .get-count e xs d l n t)
     go (Left e w) = ends-alike s r q (Wait Ended) (h .get-nobody e w) (g .get-nobody e w)
     go (Again e n m) = continues-alike s r q (h .get-again e n m) (g .get-again e n m)
@@ -183,26 +184,26 @@ asked [] = []
 asked (n ∷ ns) = n .1
 
 -- no address is chosen exactly where one has to be picked and none is free
-none-chosen : (p : Pool) (u : Udid) (b : ℕ) (k : Handed) → Chooses p u b k → k ≡ Wait (NoneFree u)
+none-chosen : (p : Pool) (last : ℕ) (u : Udid) (b : ℕ) (k : Handed) (m : ℕ) → last < 128 → Chooses p last u b k m → k ≡ Wait (NoneFree u)
     → ((b ≡ 0xFF) ⊎ ((64 ≤ getD (udidBytes u) 0 0) × (member p (b / 2) ≡ true))) × ((a : ℕ) → a < 128 → member p a ≡ true)
-none-chosen p u b k c e = go (ℕ-discrete b 0xFF) (decLt (getD (udidBytes u) 0 0) 64) (member p (b / 2)) refl
+none-chosen p last u b k m small c e = go (ℕ-discrete b 0xFF) (decLt (getD (udidBytes u) 0 0) 64) (member p (b / 2)) refl
   where
     assigned : (a : Address) → k ≡ Send (Assign u a) → ⊥
     assigned a q = let z : _≡_ {A = ℕ} 99 13 = ap (λ (x : Handed). tag (commandNumber x)) (sym q ∙ e) in omega arith
 
-    picked : (b ≡ 0xFF) ⊎ ((64 ≤ getD (udidBytes u) 0 0) × (member p (b / 2) ≡ true)) → (f : Free) → lowestFree p ≡ f
+    picked : (b ≡ 0xFF) ⊎ ((64 ≤ getD (udidBytes u) 0 0) × (member p (b / 2) ≡ true)) → (f : Free) → nextFree p last ≡ f
         → ((b ≡ 0xFF) ⊎ ((64 ≤ getD (udidBytes u) 0 0) × (member p (b / 2) ≡ true))) × ((a : ℕ) → a < 128 → member p a ≡ true)
-    picked w (At a) q = absurd (assigned _ (c .picked w (a .0) (lowest-is p (a .0) .0 q)))
-    picked w AllUsed q = (w, none-free p .0 q)
+    picked w (At a) q = absurd (assigned _ (c .picked w (a .0) (next-is p last (a .0) small .0 q) .0))
+    picked w AllUsed q = (w, next-none p last .0 q)
 
     go : Dec (b ≡ 0xFF) → Dec (getD (udidBytes u) 0 0 < 64) → (t : Bool) → member p (b / 2) ≡ t
         → ((b ≡ 0xFF) ⊎ ((64 ≤ getD (udidBytes u) 0 0) × (member p (b / 2) ≡ true))) × ((a : ℕ) → a < 128 → member p a ≡ true)
-    go (yes q) d t z = picked (inl q) (lowestFree p) refl
-    go (no n) (yes l) t z = absurd (assigned _ (c .fixed n l))
-    go (no n) (no l) false z = absurd (assigned _ (c .own n (omega arith) z))
-    go (no n) (no l) true z = picked (inr (omega arith, z)) (lowestFree p) refl
+    go (yes q) d t z = picked (inl q) (nextFree p last) refl
+    go (no n) (yes l) t z = absurd (assigned _ (c .fixed n l .0))
+    go (no n) (no l) false z = absurd (assigned _ (c .own n (omega arith) z .0))
+    go (no n) (no l) true z = picked (inr (omega arith, z)) (nextFree p last) refl
 
-module _ (s : Controller) (tr : List ℕ) (f : FitsLast s) (r : Stepped) (h : Steps s tr r) where
+module _ (s : Controller) (tr : List ℕ) (f : FitsLast s) (small : s .picked < 128) (r : Stepped) (h : Steps s tr r) where
   -- a command has its own number and no other
   apart : (k : Handed) (n : ℕ) (us : List Udid) → r .command ≡ k → (tag (commandNumber k) ≡ n → ⊥) → commandNumber (r .command) ≡ (n, us) ∷ [] → ⊥
   apart k n us e d q = d (ap (λ (x : Handed). tag (commandNumber x)) (sym e) ∙ ap tag q)
@@ -224,7 +225,7 @@ module _ (s : Controller) (tr : List ℕ) (f : FitsLast s) (r : Stepped) (h : St
 
   -- Assign Address, or 13
   replies-not : (u : Udid) (b n : ℕ) (us : List Udid) → n < 99 → (n ≡ 13 → ⊥) → Replies s u b r → commandNumber (r .command) ≡ (n, us) ∷ [] → ⊥
-  replies-not u b n us l d w q = go (chooses-address-or-none (r .state .pool) u b (r .command) (w .chooses))
+  replies-not u b n us l d w q = go (chooses-address-or-none (r .state .pool) (s .picked) u b (r .command) (r .state .picked) small (w .chooses))
     where
       go : ((a : Address) × (r .command ≡ Send (Assign u a))) ⊎ (r .command ≡ Wait (NoneFree u)) → ⊥
       go (inl (a, e)) = apart (Send (Assign u a)) n us e (λ z. omega (arith, z)) q
@@ -271,11 +272,11 @@ module _ (s : Controller) (tr : List ℕ) (f : FitsLast s) (r : Stepped) (h : St
   none-exactly u = (λ q. there q (every-case s tr f), back)
     where
       replied : commandNumber (r .command) ≡ (13, u ∷ []) ∷ [] → s .last ≡ Send GetUdid → (v : Udid) (b : ℕ) → Fits v → b < 256 → tr ≡ replyTrace (udidBytes v ++ b ∷ [])
-          → ((a : Address) × (r .command ≡ Send (Assign v a))) ⊎ (r .command ≡ Wait (NoneFree v)) → Chooses (r .state .pool) v b (r .command) → NoneDue u
+          → ((a : Address) × (r .command ≡ Send (Assign v a))) ⊎ (r .command ≡ Wait (NoneFree v)) → Chooses (r .state .pool) (s .picked) v b (r .command) (r .state .picked) → NoneDue u
       replied q e v b k l t (inl (a, z)) c = absurd (apart (Send (Assign v a)) 13 (u ∷ []) z (λ y. omega (arith, y)) q)
       replied q e v b k l t (inr z) c =
           let m : v ≡ u = same (sym (ap commandNumber z) ∙ q) in
-          let n = none-chosen (r .state .pool) u b (r .command) (subst (λ (x : Udid). Chooses (r .state .pool) x b (r .command)) m c) (number-13-is-none-free (r .command) u q) in
+          let n = none-chosen (r .state .pool) (s .picked) u b (r .command) (r .state .picked) small (subst (λ (x : Udid). Chooses (r .state .pool) (s .picked) x b (r .command) (r .state .picked)) m c) (number-13-is-none-free (r .command) u q) in
           (e, (b, subst Fits m k, l, t ∙ ap (λ (x : Udid). replyTrace (udidBytes x ++ b ∷ [])) m, n .0, n .1))
         where
           same : _≡_ {A = List (ℕ × List Udid)} ((13, v ∷ []) ∷ []) ((13, u ∷ []) ∷ []) → v ≡ u
@@ -290,7 +291,7 @@ module _ (s : Controller) (tr : List ℕ) (f : FitsLast s) (r : Stepped) (h : St
       there q (Refused e n m) = absurd (apart (Wait Abandoned) 13 _ (h .prepare-other e n m .0 .command) (λ z. omega (arith, z)) q)
       there q (Replied e v b k l t) =
           let w = h .get-reply e v b k l t in
-          replied q e v b k l t (chooses-address-or-none (r .state .pool) v b (r .command) (w .chooses)) (w .chooses)
+          replied q e v b k l t (chooses-address-or-none (r .state .pool) (s .picked) v b (r .command) (r .state .picked) small (w .chooses)) (w .chooses)
       there q (Counted e xs d l n t) = absurd (apart (Wait Ended) 13 _ (h .get-count e xs d l n t .0 .command) (λ z. omega (arith, z)) q)
       there q (Left e w) = absurd (apart (Wait Ended) 13 _ (h .get-nobody e w .0 .command) (λ z. omega (arith, z)) q)
       there q (Again e n m) = absurd (asks-not 13 _ (omega arith) (λ z. omega (arith, z)) (h .get-again e n m .0) q)
@@ -299,7 +300,7 @@ module _ (s : Controller) (tr : List ℕ) (f : FitsLast s) (r : Stepped) (h : St
       there q (None i) = absurd (apart (Wait NotOutstanding) 13 _ (h .none-outstanding i .1) (λ z. omega (arith, z)) q)
 
       back : NoneDue u → commandNumber (r .command) ≡ (13, u ∷ []) ∷ []
-      back (e, (b, k, l, t, w, a)) = ap commandNumber (h .get-reply e u b k l t .chooses .none-free w a)
+      back (e, (b, k, l, t, w, a)) = ap commandNumber (h .get-reply e u b k l t .chooses .none-free w a .0)
 
   -- 14: the pass is abandoned
   abbrev AbandonDue : Type 0

@@ -18,9 +18,12 @@ pub use Rattle.scan.specs.declared.answer.Decoded.{Decoded}
 pub use Rattle.scan.specs.declared.answer.Decoded.the-variants.{Done}
 pub use Rattle.decode.specs.Outcome.{Entered, Outcome}
 -- the controller
+pub use Rattle.pool.specs.NextFree.{nextFree, Next}
+pub use Rattle.pool.specs.Picks.{Pick, latestOf, FreeAtEach, Picked}
 pub use Rattle.pool.specs.Pools.{member}
 pub use Rattle.pool.specs.Start.{emptyPool, startingPool}
 pub use Rattle.pool.specs.declared.Pool.{Pool}
+pub use Rattle.pool.specs.declared.free.Free.the-variants.{At, AllUsed}
 pub use Rattle.udid.specs.Bytes.{udidBytes}
 pub use Rattle.udid.specs.Udids.{Fits as In128}
 pub use Rattle.udid.specs.declared.Udid.{Udid}
@@ -29,6 +32,7 @@ pub use Rattle.commands.specs.CommandTraces.{prepareTrace, replyTrace, assignTr
 pub use Rattle.arp.specs.Controller.{newController, started, stepped}
 pub use Rattle.arp.specs.History.{Event, Received, run, Acknowledged}
 pub use Rattle.arp.specs.Lookup.{lookedUp}
+pub use Rattle.arp.specs.RunPicks.{picksOf}
 pub use Rattle.arp.specs.Numbers.{commandNumber, lookupNumber}
 pub use Rattle.arp.specs.OneStep.{Asks, Binds, Continues, EndsWith, Replies}
 pub use Rattle.commands.specs.Requests.{protocolFor, messageOf, traceOf}

@@ -56,9 +56,9 @@ modelNumber r = (r .answer, r .place)
 
 -- a refusal: its number and the record, and all else zero
 abbrev pub refusedAnswer : ℕ → ℕ → ModelAnswer
-refusedAnswer n i = record { answer = n; place = i; udid = noUdid; bound = emptyPool; count = 0; gets = 0 }
+refusedAnswer n i = record { answer = n; place = i; udid = noUdid; bound = emptyPool; count = 0; gets = 0; picked = 0 }
 
--- a pass: its number, the identifier that asked, the bound addresses and how many they are, and the Get UDIDs
+-- a pass: its number, the identifier that asked, the bound addresses and how many they are, the Get UDIDs, and the last pick
 abbrev pub reported : Stepped → ModelAnswer
 reported last = record {
   answer = numberIn (commandNumber (last .command));
@@ -67,6 +67,7 @@ reported last = record {
   bound = boundSet (entryAt (last .state .slots));
   count = used (boundSet (entryAt (last .state .slots)));
   gets = last .state .gets;
+  picked = last .state .picked;
 }
 
 -- the bindings in the first 2,048 bytes; a shorter buffer keeps what it has

@@ -21,6 +21,7 @@ pub fn refused(n: u32, i: usize) -> ModelAnswer
         bound: Pool::empty(),
         count: 0,
         gets: 0,
+        picked: 0,
     }
 }
 
@@ -90,5 +91,6 @@ pub fn report(last: Stepped) -> ModelAnswer
         bound: bound,
         count: bound.used(),
         gets: gets_sent(last),
+        picked: state.picked,
     }
 }

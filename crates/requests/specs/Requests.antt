@@ -131,6 +131,23 @@ decodeOn line (NoHead e place) = Unclear e place
 unfoldable pub decodeRequest : List ℕ → ℕ → Request
 decodeRequest line at = decodeOn line (headAt line at)
 
+-- ---- run, or run LAST
+
+-- the last pick that a run begins with: a byte, and 127, never picked, where no word is left
+abbrev pub lastIs : List ℕ → ℕ → Rest → ByteWord
+lastIs line at left.Nothing = Byte 127 at
+lastIs line at (left.Word place) = byteAt line at
+
+unfoldable pub lastAt : List ℕ → ℕ → ByteWord
+lastAt line at = lastIs line at (restAt line at)
+
+abbrev pub runOn : List ℕ → ByteWord → Request
+runOn line (Byte last next) = ended (Run last) line next
+runOn line (NoByte place) = Unclear expected.Byte place
+
+unfoldable pub runRequest : List ℕ → ℕ → Request
+runRequest line at = runOn line (lastAt line at)
+
 -- ---- occupied A..., step SYMBOL..., lookup A
 
 unfoldable pub occupiedRequest : List ℕ → ℕ → Request
@@ -178,7 +195,7 @@ requestIn verb.Decode line place at = decodeRequest line at
 requestIn verb.Occupied line place at = occupiedRequest line at
 requestIn verb.Target line place at = targetRequest line at
 requestIn verb.Clear line place at = ended Clear line at
-requestIn verb.Run line place at = ended Run line at
+requestIn verb.Run line place at = runRequest line at
 requestIn verb.Start line place at = ended Start line at
 requestIn verb.Step line place at = stepRequest line at
 requestIn verb.Lookup line place at = lookupRequest line at

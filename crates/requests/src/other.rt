@@ -1,6 +1,6 @@
 // The requests of the shelf and of the controller.
 ghost use mathlib.Core.Path.{_≡_};
-ghost use Rattle.requests.specs.Requests.{occupiedRequest, stepRequest, lookupRequest, targetRequest, targetByte, targetFlag, ended};
+ghost use Rattle.requests.specs.Requests.{occupiedRequest, lastAt, runRequest, stepRequest, lookupRequest, targetRequest, targetByte, targetFlag, ended};
 use crate::expected::Expected;
 use crate::list::bytes_end;
 use crate::list::symbols_end;
@@ -13,6 +13,9 @@ use words::word::UdidWord;
 use words::word::after_word;
 use words::word::byte_word;
 use words::word::udid_word;
+
+// The last pick of a controller that has never picked.
+const NEVER_PICKED: u8 = 127;
 
 // A request, where no word is left for it.
 pub(crate) fn ending(q: Request, line: &[u8], from: usize) -> Request
@@ -34,6 +37,28 @@ pub(crate) fn occupied(line: &[u8], from: usize) -> Request
         return Request::Unclear(Expected::Byte, end);
     }
     Request::Occupied(from)
+}
+
+// LAST, a byte; where no word is left, never picked.
+fn last_pick(line: &[u8], from: usize) -> ByteWord
+    ensures { λ r. ⌜ r ≡ lastAt (now (line .entry)) from ⌝ }
+{
+    let e = after_word(line, from);
+    match e {
+        Rest::Nothing => ByteWord::Byte(NEVER_PICKED, from),
+        Rest::Word(_) => byte_word(line, from),
+    }
+}
+
+// run, or run LAST
+pub(crate) fn run(line: &[u8], from: usize) -> Request
+    ensures { λ r. ⌜ r ≡ runRequest (now (line .entry)) from ⌝ }
+{
+    let l = last_pick(line, from);
+    match l {
+        ByteWord::Byte(last, next) => ending(Request::Run(last), line, next),
+        ByteWord::NoByte(place) => Request::Unclear(Expected::Byte, place),
+    }
 }
 
 // step SYMBOL...

@@ -9,6 +9,7 @@ use crate::expected::Expected;
 use crate::other::ending;
 use crate::other::lookup;
 use crate::other::occupied;
+use crate::other::run;
 use crate::other::step;
 use crate::other::target;
 use text::word::next_word;
@@ -54,7 +55,8 @@ pub enum Request {
     // Another target, and the place of its words.
     Target(Record, usize),
     Clear,
-    Run,
+    // The model run, with the last pick that it begins with; 127 is never picked.
+    Run(u8),
     Start,
     // The controller hears the symbols from a place on.
     Step(usize),
@@ -74,7 +76,7 @@ fn request_in(v: Verb, line: &[u8], verb: usize, from: usize) -> Request
         Verb::Occupied => occupied(line, from),
         Verb::Target => target(line, from),
         Verb::Clear => ending(Request::Clear, line, from),
-        Verb::Run => ending(Request::Run, line, from),
+        Verb::Run => run(line, from),
         Verb::Start => ending(Request::Start, line, from),
         Verb::Step => step(line, from),
         Verb::Lookup => lookup(line, from),

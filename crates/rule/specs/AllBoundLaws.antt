@@ -1,5 +1,5 @@
 -- When all targets are bound: if and only if the movable ones do not outnumber the addresses that the fixed ones leave free.
-use Prim.Native.Nat.{suc, _+_, _/_, _≤_, _<_}
+use Prim.Native.Nat.{ℕ, suc, _+_, _/_, _≤_, _<_}
 use mathlib.Core.Path.{_≡_, refl, sym, _∙_}
 use mathlib.Core.Bool.{Bool, true, false}
 use mathlib.Core.Logic.{inl, inr, _↔_}
@@ -48,7 +48,7 @@ used-and-movable (t ∷ ts) p v = go (isFixed (t .udid)) refl (λ w. used-and-mo
         let r = jh (record { sized = λ x m. v .sized x (inr m); free = λ x m. v .free x (inr m); apart = v .apart .1 }) in
         omega (arith, r)
 
-module _ (occupied : Pool) (ts : List Target) (v : AdmittedTargets (startingPool occupied) ts) where
+module _ (occupied : Pool) (last : ℕ) (ts : List Target) (v : AdmittedTargets (startingPool occupied) ts) where
   own : Own (startingPool occupied) ts
   own = record { sized = λ t m. v .sized t m .addressByte; free = v .fixed-free; apart = v .fixed-apart }
 
@@ -59,9 +59,9 @@ module _ (occupied : Pool) (ts : List Target) (v : AdmittedTargets (startingPool
       (λ h. omega (arith, e, l, h), λ h. omega (arith, e, l, h))
 
   -- ALL ARE SERVED IF AND ONLY IF the movable ones do not outnumber the addresses left free
-  pub all-served : (ruled (startingPool occupied) ts .ending ≡ served) ↔ (movable ts ≤ leftFree (startingPool occupied) ts)
-  all-served = (λ e. room-exactly .1 (served-exactly occupied ts v .0 e), λ h. served-exactly occupied ts v .1 (room-exactly .0 h))
+  pub all-served : (ruled (startingPool occupied) last ts .ending ≡ served) ↔ (movable ts ≤ leftFree (startingPool occupied) ts)
+  all-served = (λ e. room-exactly .1 (served-exactly occupied last ts v .0 e), λ h. served-exactly occupied last ts v .1 (room-exactly .0 h))
 
   -- AND THEN, AND ONLY THEN, each is given an address
-  pub all-given : (length (ruled (startingPool occupied) ts .given) ≡ length ts) ↔ (movable ts ≤ leftFree (startingPool occupied) ts)
-  all-given = (λ e. all-served .0 (each-given-served occupied ts v e), λ h. room-gives-each occupied ts v (room-exactly .0 h))
+  pub all-given : (length (ruled (startingPool occupied) last ts .given) ≡ length ts) ↔ (movable ts ≤ leftFree (startingPool occupied) ts)
+  all-given = (λ e. all-served .0 (each-given-served occupied last ts v e), λ h. room-gives-each occupied last ts v (room-exactly .0 h))

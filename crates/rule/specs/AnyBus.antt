@@ -29,10 +29,10 @@ abbrev pub runOver : {A : Type 0} → Bus A → ℕ → WorldOver A → WorldOve
 runOver bus zero w = w
 runOver bus (suc n) w = runOver bus n (turnOver bus w)
 
--- a pass over targets with these addresses occupied. A pass sends Prepare once, Get UDID at most 128 times and no more Assigns than
+-- a pass over targets with these addresses occupied and this last pick. A pass sends Prepare once, Get UDID at most 128 times and no more Assigns than
 -- that: after 300 commands it has ended
-abbrev pub beginningOver : {A : Type 0} → Pool → A → WorldOver A
-beginningOver occupied ts = record { now = started (newController occupied); targets = ts }
+abbrev pub beginningOver : {A : Type 0} → Pool → ℕ → A → WorldOver A
+beginningOver occupied last ts = record { now = started (newController occupied last); targets = ts }
 
-abbrev pub passOf : {A : Type 0} → Bus A → Pool → A → WorldOver A
-passOf bus occupied ts = runOver bus 300 (beginningOver occupied ts)
+abbrev pub passOf : {A : Type 0} → Bus A → Pool → ℕ → A → WorldOver A
+passOf bus occupied last ts = runOver bus 300 (beginningOver occupied last ts)

@@ -13,8 +13,8 @@ abbrev pub modelBus : Bus (List Target)
 modelBus = record { stands = onBus; acts = λ tr ts. mapTargets (effect tr) ts }
 
 -- A PASS over it
-unfoldable pub pass : Pool → List Target → WorldOver (List Target)
-pass occupied ts = passOf modelBus occupied ts
+unfoldable pub pass : Pool → ℕ → List Target → WorldOver (List Target)
+pass occupied last ts = passOf modelBus occupied last ts
 
 -- ---- what the laws of a run over it speak of
 
@@ -33,5 +33,5 @@ turn w = turnOver modelBus w
 abbrev pub run : ℕ → World → World
 run n w = runOver modelBus n w
 
-abbrev pub beginning : Pool → List Target → World
-beginning occupied ts = beginningOver occupied ts
+abbrev pub beginning : Pool → ℕ → List Target → World
+beginning occupied last ts = beginningOver occupied last ts

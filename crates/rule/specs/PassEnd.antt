@@ -21,9 +21,9 @@ abbrev pub lastCommand : Ending → Handed
 lastCommand served = Wait Ended
 lastCommand (noneFree u) = Wait (NoneFree u)
 
--- the controller's state with a command out
-abbrev pub out : Pool → Pool → Slots → ℕ → Handed → Stepped
-out b p s n k = record { state = stateOf b p s n k; command = k }
+-- the controller's state with a command out; l is the last pick
+abbrev pub out : ℕ → Pool → Pool → Slots → ℕ → Handed → Stepped
+out l b p s n k = record { state = stateOf l b p s n k; command = k }
 
 pub record Outcome : Type 0 where
   pub pool : Pool
@@ -31,10 +31,11 @@ pub record Outcome : Type 0 where
   pub bound : ℕ
   pub targets : List Target
   pub ending : Ending
+  pub picked : ℕ
 
 -- one Get UDID for each that was served, and one more
 abbrev pub ended : Pool → Outcome → World
-ended b o = record { now = out b (o .pool) (o .slots) (suc (o .bound)) (lastCommand (o .ending)); targets = o .targets }
+ended b o = record { now = out (o .picked) b (o .pool) (o .slots) (suc (o .bound)) (lastCommand (o .ending)); targets = o .targets }
 
 -- what a list of bindings makes of the pool, the slots and the targets
 abbrev pub addAll : List Given → Pool → Pool
@@ -56,13 +57,14 @@ outcome r p s k ts = record {
   bound = length (r .given) + k;
   targets = resolveAll (r .given) ts;
   ending = r .ending;
+  picked = r .picked;
 }
 
 -- with no target: nobody acknowledges Prepare, and no Get UDID is sent
-abbrev pub nobodyThere : Pool → World
-nobodyThere b = record { now = out b b noBindings 0 (Wait Ended); targets = [] }
+abbrev pub nobodyThere : Pool → ℕ → World
+nobodyThere b last = record { now = out last b b noBindings 0 (Wait Ended); targets = [] }
 
 -- how a pass over these targets ends
-abbrev pub passEnd : Pool → List Target → World
-passEnd b [] = nobodyThere b
-passEnd b (t ∷ ts) = ended b (outcome (ruled b (t ∷ ts)) b noBindings 0 (cleared (t ∷ ts)))
+abbrev pub passEnd : Pool → ℕ → List Target → World
+passEnd b last [] = nobodyThere b last
+passEnd b last (t ∷ ts) = ended b (outcome (ruled b last (t ∷ ts)) b noBindings 0 (cleared (t ∷ ts)))

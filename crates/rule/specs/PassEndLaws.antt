@@ -30,7 +30,7 @@ use Rattle.targets.specs.RecordLaws.{length-map}
 use Rattle.targets.specs.Admission.{FixedApart, FixedFree, AdmittedTargets}
 use Rattle.slots.specs.SlotsLaws.{open-all, sized-none}
 use Rattle.slots.specs.Finding.{boundTo}
-use Rattle.arp.specs.Controller.{stepped}
+use Rattle.arp.specs.Controller.{lastPick, stepped}
 use Rattle.slots.specs.Slots.{withBinding, noBindings}
 use Rattle.commands.specs.declared.command.Command.the-variants.{Prepare}
 use Rattle.slots.specs.declared.Slots.{Slots}
@@ -41,7 +41,7 @@ use Rattle.arp.specs.State.{stateOf}
 use Rattle.rule.specs.AnyBusLaws.{run-add}
 use Rattle.rule.specs.Bus.{modelBus, turn, run, beginning, pass}
 use Rattle.rule.specs.BusLaws.{turn-takes}
-use Rattle.rule.specs.PlainRule.{insert, ascending, plainChoice, served, noneFree, Given, next, rule, ruled, FreeIn, Distinct}
+use Rattle.rule.specs.PlainRule.{insert, ascending, isPickedFor, plainChoice, pickAfter, served, noneFree, Given, next, rule, ruled, FreeIn, Distinct}
 use Rattle.rule.specs.PassEnd.{ended, outcome, nobodyThere, passEnd}
 use Rattle.rule.specs.EffectLaws.{effect-as-meant}
 use Rattle.rule.specs.TraceLaws as on-bus
@@ -54,16 +54,16 @@ use Rattle.rule.specs.ServingLaws.{ended-run-stays, run-serves-rest}
 
 -- ---- the rule with all that it changes is the rule
 
-plain-outcome : (rest : List Target) (p : Pool) (s : Slots) (k : ℕ) (ts : List Target) → plain rest p s k ts ≡ outcome (rule rest p) p s k ts
-plain-outcome [] p s k ts = ap (λ (n : ℕ). record { pool = p; slots = s; bound = n; targets = ts; ending = served }) (sym (zero-add k))
-plain-outcome (t ∷ rest) p s k ts =
-    go (plainChoice p t) (λ a. plain-outcome rest (withAddress p (a .0)) (withBinding s (a .0) (Bound (t .udid))) (suc k) (resolve (t .udid) (a .0) ts))
+plain-outcome : (rest : List Target) (p : Pool) (last : ℕ) (s : Slots) (k : ℕ) (ts : List Target) → plain rest p last s k ts ≡ outcome (rule rest p last) p s k ts
+plain-outcome [] p last s k ts = ap (λ (n : ℕ). record { pool = p; slots = s; bound = n; targets = ts; ending = served; picked = last }) (sym (zero-add k))
+plain-outcome (t ∷ rest) p last s k ts =
+    go (plainChoice p last t) (λ a. plain-outcome rest (withAddress p (a .0)) (pickAfter p last t (a .0)) (withBinding s (a .0) (Bound (t .udid))) (suc k) (resolve (t .udid) (a .0) ts))
   where
     go : (c : Free)
-        → ((a : Address) → plain rest (withAddress p (a .0)) (withBinding s (a .0) (Bound (t .udid))) (suc k) (resolve (t .udid) (a .0) ts)
-        ≡ outcome (rule rest (withAddress p (a .0))) (withAddress p (a .0)) (withBinding s (a .0) (Bound (t .udid))) (suc k) (resolve (t .udid) (a .0) ts))
-        → serve (λ p′ s′ k′ ts′. plain rest p′ s′ k′ ts′) t p s k ts c ≡ outcome (next (λ q. rule rest q) t p c) p s k ts
-    go AllUsed ih = ap (λ (n : ℕ). record { pool = p; slots = s; bound = n; targets = ts; ending = noneFree (t .udid) }) (sym (zero-add k))
+        → ((a : Address) → plain rest (withAddress p (a .0)) (pickAfter p last t (a .0)) (withBinding s (a .0) (Bound (t .udid))) (suc k) (resolve (t .udid) (a .0) ts)
+        ≡ outcome (rule rest (withAddress p (a .0)) (pickAfter p last t (a .0))) (withAddress p (a .0)) (withBinding s (a .0) (Bound (t .udid))) (suc k) (resolve (t .udid) (a .0) ts))
+        → serve (λ p′ l′ s′ k′ ts′. plain rest p′ l′ s′ k′ ts′) t p last s k ts c ≡ outcome (next (λ q l. rule rest q l) t p last c) p s k ts
+    go AllUsed ih = ap (λ (n : ℕ). record { pool = p; slots = s; bound = n; targets = ts; ending = noneFree (t .udid); picked = last }) (sym (zero-add k))
     go (At a) ih = ih a ∙ simp (add-suc, suc-add)
 
 -- ---- clearing the flags changes nothing that the rule looks at
@@ -81,20 +81,21 @@ ascending-cleared : (ts : List Target) → ascending (cleared ts) ≡ cleared (a
 ascending-cleared [] = refl
 ascending-cleared (t ∷ ts) = ap (insert (prepared t)) (ascending-cleared ts) ∙ insert-cleared t (ascending ts)
 
-choice-cleared : (p : Pool) (t : Target) → plainChoice p (prepared t) ≡ plainChoice p t
-unfolding plainChoice
-choice-cleared p t = refl
+choice-cleared : (p : Pool) (last : ℕ) (t : Target) → plainChoice p last (prepared t) ≡ plainChoice p last t
+unfolding plainChoice isPickedFor
+choice-cleared p last t = refl
 
-plain-cleared : (rest : List Target) (p : Pool) (s : Slots) (k : ℕ) (ts : List Target) → plain (cleared rest) p s k ts ≡ plain rest p s k ts
-plain-cleared [] p s k ts = refl
-plain-cleared (t ∷ rest) p s k ts =
-    ap (serve (λ p′ s′ k′ ts′. plain (cleared rest) p′ s′ k′ ts′) (prepared t) p s k ts) (choice-cleared p t)
-    ∙ go (plainChoice p t) (λ a. plain-cleared rest (withAddress p (a .0)) (withBinding s (a .0) (Bound (t .udid))) (suc k) (resolve (t .udid) (a .0) ts))
+plain-cleared : (rest : List Target) (p : Pool) (last : ℕ) (s : Slots) (k : ℕ) (ts : List Target) → plain (cleared rest) p last s k ts ≡ plain rest p last s k ts
+unfolding isPickedFor
+plain-cleared [] p last s k ts = refl
+plain-cleared (t ∷ rest) p last s k ts =
+    ap (serve (λ p′ l′ s′ k′ ts′. plain (cleared rest) p′ l′ s′ k′ ts′) (prepared t) p last s k ts) (choice-cleared p last t)
+    ∙ go (plainChoice p last t) (λ a. plain-cleared rest (withAddress p (a .0)) (pickAfter p last t (a .0)) (withBinding s (a .0) (Bound (t .udid))) (suc k) (resolve (t .udid) (a .0) ts))
   where
     go : (c : Free)
-        → ((a : Address) → plain (cleared rest) (withAddress p (a .0)) (withBinding s (a .0) (Bound (t .udid))) (suc k) (resolve (t .udid) (a .0) ts)
-        ≡ plain rest (withAddress p (a .0)) (withBinding s (a .0) (Bound (t .udid))) (suc k) (resolve (t .udid) (a .0) ts))
-        → serve (λ p′ s′ k′ ts′. plain (cleared rest) p′ s′ k′ ts′) (prepared t) p s k ts c ≡ serve (λ p′ s′ k′ ts′. plain rest p′ s′ k′ ts′) t p s k ts c
+        → ((a : Address) → plain (cleared rest) (withAddress p (a .0)) (pickAfter p last t (a .0)) (withBinding s (a .0) (Bound (t .udid))) (suc k) (resolve (t .udid) (a .0) ts)
+        ≡ plain rest (withAddress p (a .0)) (pickAfter p last t (a .0)) (withBinding s (a .0) (Bound (t .udid))) (suc k) (resolve (t .udid) (a .0) ts))
+        → serve (λ p′ l′ s′ k′ ts′. plain (cleared rest) p′ l′ s′ k′ ts′) (prepared t) p last s k ts c ≡ serve (λ p′ l′ s′ k′ ts′. plain rest p′ l′ s′ k′ ts′) t p last s k ts c
     go AllUsed ih = refl
     go (At a) ih = ih a
 
@@ -136,14 +137,14 @@ pub last-address-used : (occupied : Pool) → member (startingPool occupied) 127
 unfolding isReserved
 last-address-used occupied = member-starting occupied 127
 
-module _ (b : Pool) (last : member b 127 ≡ true) (ts : List Target) (v : AdmittedTargets b ts) where
+module _ (b : Pool) (top : member b 127 ≡ true) (ts : List Target) (v : AdmittedTargets b ts) where
   ready-first : Ready b (ascending ts)
   ready-first = record {
     apart = pairs-map (ascending ts) apart′ (ascending-is-lower-first ts (v .differ));
     sized = λ t m. v .sized t (ascending-adds-none ts t m);
     fixed-free = λ t m. v .fixed-free t (ascending-adds-none ts t m);
-    fixed-some = λ t m f e. zero-is-one (cc (v .fixed-free t (ascending-adds-none ts t m) f, ap (λ (n : ℕ). member b (n / 2)) e, last));
-    last-used = last;
+    fixed-some = λ t m f e. zero-is-one (cc (v .fixed-free t (ascending-adds-none ts t m) f, ap (λ (n : ℕ). member b (n / 2)) e, top));
+    last-used = top;
   }
     where
       elsewhere′ : (x y : Target) → (x ≡ y) ⊎ FixedApart x y → Lower x y → FixedApart x y
@@ -177,55 +178,55 @@ length-turns : (l : List Target) → turns l ≡ suc (2 * length l)
 length-turns [] = refl
 length-turns (t ∷ l) = omega (arith, length-turns l)
 
-module _ (occupied : Pool) where
+module _ (occupied : Pool) (last : ℕ) where
   start : Pool
   start = startingPool occupied
 
-  first-turn : (t : Target) (ts : List Target) → AdmittedTargets start (t ∷ ts) → turn (beginning occupied (t ∷ ts)) ≡ asking start start noBindings 1 (cleared (t ∷ ts))
+  first-turn : (t : Target) (ts : List Target) → AdmittedTargets start (t ∷ ts) → turn (beginning occupied last (t ∷ ts)) ≡ asking (lastPick last) start start noBindings 1 (cleared (t ∷ ts))
   unfolding start
   first-turn t ts v =
-      turn-takes (beginning occupied (t ∷ ts) .now) (t ∷ ts) (Send Prepare) refl
+      turn-takes (beginning occupied last (t ∷ ts) .now) (t ∷ ts) (Send Prepare) refl
       ∙ ap₂ (λ (x : Stepped) (us : List Target). record { now = x; targets = us })
-      (ap (stepped (stateOf start start noBindings 0 (Send Prepare))) (on-bus.prepare-whole t ts) ∙ prepare-asks-first start start noBindings)
+      (ap (stepped (stateOf (lastPick last) start start noBindings 0 (Send Prepare))) (on-bus.prepare-whole t ts) ∙ prepare-asks-first (lastPick last) start start noBindings)
       (effect-as-meant (Send Prepare) (t ∷ ts) tt (λ x m. v .sized x m .udid))
 
-  nobody-turn : turn (beginning occupied []) ≡ nobodyThere start
+  nobody-turn : turn (beginning occupied last []) ≡ nobodyThere start (lastPick last)
   unfolding start
   nobody-turn =
-      turn-takes (beginning occupied [] .now) [] (Send Prepare) refl
+      turn-takes (beginning occupied last [] .now) [] (Send Prepare) refl
       ∙ ap (λ (x : Stepped). record { now = x; targets = [] })
-      (ap (stepped (stateOf start start noBindings 0 (Send Prepare))) on-bus.prepare-cut ∙ prepare-silence-ends start start noBindings)
+      (ap (stepped (stateOf (lastPick last) start start noBindings 0 (Send Prepare))) on-bus.prepare-cut ∙ prepare-silence-ends (lastPick last) start start noBindings)
 
-  some-targets : (t : Target) (ts : List Target) → AdmittedTargets start (t ∷ ts) → run 300 (beginning occupied (t ∷ ts)) ≡ passEnd start (t ∷ ts)
+  some-targets : (t : Target) (ts : List Target) → AdmittedTargets start (t ∷ ts) → run 300 (beginning occupied last (t ∷ ts)) ≡ passEnd start (lastPick last) (t ∷ ts)
   unfolding start
   some-targets t ts v =
       let us : List Target = cleared (t ∷ ts) in
       let v′ = admitted-cleared start (t ∷ ts) v in
       let n : ℕ = turns (ascending us) in
       let e : 300 ≡ suc (n + (299 - n)) = omega (arith, length-turns (ascending us), length-ascending us, v′ .at-most-120) in
-      ap (λ (k : ℕ). run k (beginning occupied (t ∷ ts))) e
+      ap (λ (k : ℕ). run k (beginning occupied last (t ∷ ts))) e
       ∙ ap (run (n + (299 - n))) (first-turn t ts v)
-      ∙ run-add modelBus n (299 - n) (asking start start noBindings 1 us)
+      ∙ run-add modelBus n (299 - n) (asking (lastPick last) start start noBindings 1 us)
       ∙ ap (run (299 - n))
-      (run-serves-rest start start noBindings 0 us (ascending us) (inv-first start (last-address-used occupied) us v′ (omega arith) (open-cleared (t ∷ ts)))
+      (run-serves-rest (lastPick last) start start noBindings 0 us (ascending us) (inv-first start (last-address-used occupied) us v′ (omega arith) (open-cleared (t ∷ ts)))
       ∙ ap (ended start)
-      (ap (λ (l : List Target). plain l start noBindings 0 us) (ascending-cleared (t ∷ ts))
-      ∙ plain-cleared (ascending (t ∷ ts)) start noBindings 0 us
-      ∙ plain-outcome (ascending (t ∷ ts)) start noBindings 0 us))
-      ∙ ended-run-stays (299 - n) _ _ _ _ (rule (ascending (t ∷ ts)) start .ending) _
+      (ap (λ (l : List Target). plain l start (lastPick last) noBindings 0 us) (ascending-cleared (t ∷ ts))
+      ∙ plain-cleared (ascending (t ∷ ts)) start (lastPick last) noBindings 0 us
+      ∙ plain-outcome (ascending (t ∷ ts)) start (lastPick last) noBindings 0 us))
+      ∙ ended-run-stays (299 - n) _ _ _ _ _ (rule (ascending (t ∷ ts)) start (lastPick last) .ending) _
 
 -- THE PASS ENDS AS THE PLAIN RULE SAYS: bindings, pool and last command of the controller, and every target
-pub demand-3 : (occupied : Pool) (ts : List Target) → AdmittedTargets (startingPool occupied) ts → pass occupied ts ≡ passEnd (startingPool occupied) ts
+pub demand-3 : (occupied : Pool) (last : ℕ) (ts : List Target) → AdmittedTargets (startingPool occupied) ts → pass occupied last ts ≡ passEnd (startingPool occupied) (lastPick last) ts
 unfolding pass start
-demand-3 occupied [] v = ap (run 299) (nobody-turn occupied) ∙ ended-run-stays 299 (startingPool occupied) (startingPool occupied) noBindings 0 served []
-demand-3 occupied (t ∷ ts) v = some-targets occupied t ts v
+demand-3 occupied last [] v = ap (run 299) (nobody-turn occupied last) ∙ ended-run-stays 299 (lastPick last) (startingPool occupied) (startingPool occupied) noBindings 0 served []
+demand-3 occupied last (t ∷ ts) v = some-targets occupied last t ts v
 
 -- with no target, the pass ends when nobody acknowledges Prepare To ARP
-pub nobody-ends-first-turn : (occupied : Pool) → turn (beginning occupied []) ≡ nobodyThere (startingPool occupied)
+pub nobody-ends-first-turn : (occupied : Pool) (last : ℕ) → turn (beginning occupied last []) ≡ nobodyThere (startingPool occupied) (lastPick last)
 unfolding start
-nobody-ends-first-turn occupied = nobody-turn occupied
+nobody-ends-first-turn occupied last = nobody-turn occupied last
 
-module _ (occupied : Pool) (ts : List Target) (v : AdmittedTargets (startingPool occupied) ts) where
+module _ (occupied : Pool) (last : ℕ) (ts : List Target) (v : AdmittedTargets (startingPool occupied) ts) where
   ready : Ready (startingPool occupied) (ascending ts)
   ready = ready-first (startingPool occupied) (last-address-used occupied) ts v
 
@@ -233,22 +234,22 @@ module _ (occupied : Pool) (ts : List Target) (v : AdmittedTargets (startingPool
   ascending-count = length-ascending ts
 
   -- the addresses given are below 128, neither reserved nor occupied, and none is given twice
-  pub given-free-distinct : Each (FreeIn (startingPool occupied)) (ruled (startingPool occupied) ts .given) × Distinct (ruled (startingPool occupied) ts .given)
-  given-free-distinct = rule-gives-free (ascending ts) (startingPool occupied) ready
+  pub given-free-distinct : Each (FreeIn (startingPool occupied)) (ruled (startingPool occupied) last ts .given) × Distinct (ruled (startingPool occupied) last ts .given)
+  given-free-distinct = rule-gives-free (ascending ts) (startingPool occupied) last ready
 
   -- all are served if and only if the targets do not outnumber the free addresses, and then each is given one
-  pub served-exactly : (ruled (startingPool occupied) ts .ending ≡ served) ↔ (used (startingPool occupied) + length ts ≤ 128)
+  pub served-exactly : (ruled (startingPool occupied) last ts .ending ≡ served) ↔ (used (startingPool occupied) + length ts ≤ 128)
   served-exactly = (
-    λ e. omega (arith, ascending-count, served-has-room (ascending ts) (startingPool occupied) ready e),
-    λ h. room-serves-all (ascending ts) (startingPool occupied) ready (omega (arith, ascending-count)) .0,
+    λ e. omega (arith, ascending-count, served-has-room (ascending ts) (startingPool occupied) last ready e),
+    λ h. room-serves-all (ascending ts) (startingPool occupied) last ready (omega (arith, ascending-count)) .0,
   )
 
-  pub room-gives-each : used (startingPool occupied) + length ts ≤ 128 → length (ruled (startingPool occupied) ts .given) ≡ length ts
-  room-gives-each h = room-serves-all (ascending ts) (startingPool occupied) ready (omega (arith, ascending-count)) .1 ∙ ascending-count
+  pub room-gives-each : used (startingPool occupied) + length ts ≤ 128 → length (ruled (startingPool occupied) last ts .given) ≡ length ts
+  room-gives-each h = room-serves-all (ascending ts) (startingPool occupied) last ready (omega (arith, ascending-count)) .1 ∙ ascending-count
 
-  pub each-given-served : length (ruled (startingPool occupied) ts .given) ≡ length ts → ruled (startingPool occupied) ts .ending ≡ served
-  each-given-served e = all-given-served (ascending ts) (startingPool occupied) (e ∙ sym ascending-count)
+  pub each-given-served : length (ruled (startingPool occupied) last ts .given) ≡ length ts → ruled (startingPool occupied) last ts .ending ≡ served
+  each-given-served e = all-given-served (ascending ts) (startingPool occupied) last (e ∙ sym ascending-count)
 
   -- those served are targets of the bus
-  pub given-among-targets : Each (λ (g : Given). Among (g .who) ts) (ruled (startingPool occupied) ts .given)
-  given-among-targets = each-map (ruled (startingPool occupied) ts .given) (λ g m. ascending-adds-none ts (g .who) m) (rule-serves-these (ascending ts) (startingPool occupied))
+  pub given-among-targets : Each (λ (g : Given). Among (g .who) ts) (ruled (startingPool occupied) last ts .given)
+  given-among-targets = each-map (ruled (startingPool occupied) last ts .given) (λ g m. ascending-adds-none ts (g .who) m) (rule-serves-these (ascending ts) (startingPool occupied) last)

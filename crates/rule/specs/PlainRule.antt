@@ -1,13 +1,13 @@
 -- THE PLAIN RULE: the targets in ascending order of their identifiers, each served in turn, until one cannot be.
 use Prim.Native.Nat.{ℕ, _/_, _<_}
 use mathlib.Core.Path.{_≡_}
-use mathlib.Core.Bool.{false}
+use mathlib.Core.Bool.{Bool, false}
 use mathlib.Core.List.{List, [], _∷_}
 use lib.Dec.{ltb}
 use Rattle.lists.specs.Choice.{pick}
 use Rattle.lists.specs.Each.{Each}
 use Rattle.wire.specs.declared.address.Address.{Address}
-use Rattle.pool.specs.Free.{lowestFree}
+use Rattle.pool.specs.NextFree.{nextFree}
 use Rattle.pool.specs.Pools.{member, withAddress}
 use Rattle.pool.specs.declared.Pool.{Pool}
 use Rattle.pool.specs.declared.free.Free.{Free}
@@ -33,11 +33,17 @@ ascending (t ∷ ts) = insert t (ascending ts)
 abbrev pub held : Target → Address
 held t = record { 0 = t .addressByte / 2 }
 
--- a fixed target keeps its address, a movable one keeps a free address that it holds, else gets the lowest free
-unfoldable pub plainChoice : Pool → Target → Free
-plainChoice p t =
-    pick (isFixed (t .udid)) (At (held t))
-    (pick (member p (t .addressByte / 2)) (lowestFree p) (At (held t)))
+-- one is picked for a movable target whose address is not free; a fixed target keeps its own, a movable one keeps a free one that it holds
+unfoldable pub isPickedFor : Pool → Target → Bool
+isPickedFor p t = pick (isFixed (t .udid)) false (member p (t .addressByte / 2))
+
+-- picked is the first free address after the last pick, going from 7Fh round to 00h
+unfoldable pub plainChoice : Pool → ℕ → Target → Free
+plainChoice p last t = pick (isPickedFor p t) (nextFree p last) (At (held t))
+
+-- the last pick once a target has the address a: a if it was picked, else as it was
+abbrev pub pickAfter : Pool → ℕ → Target → ℕ → ℕ
+pickAfter p last t a = pick (isPickedFor p t) a last
 
 -- all are served, or none is free for this identifier
 pub data Ending : Type 0 where
@@ -49,23 +55,27 @@ pub record Given : Type 0 where
   pub who : Target
   pub address : ℕ
 
+-- the last pick at the end, too
 pub record Ruled : Type 0 where
   pub given : List Given
   pub ending : Ending
+  pub picked : ℕ
 
 -- none free: the end; else this one at its address, and then the others
-abbrev pub next : (Pool → Ruled) → Target → Pool → Free → Ruled
-next others t p AllUsed = record { given = []; ending = noneFree (t .udid) }
-next others t p (At a) = let q = others (withAddress p (a .0)) in record { given = record { who = t; address = a .0 } ∷ q .given; ending = q .ending }
+abbrev pub next : (Pool → ℕ → Ruled) → Target → Pool → ℕ → Free → Ruled
+next others t p last AllUsed = record { given = []; ending = noneFree (t .udid); picked = last }
+next others t p last (At a) =
+    let q = others (withAddress p (a .0)) (pickAfter p last t (a .0)) in
+    record { given = record { who = t; address = a .0 } ∷ q .given; ending = q .ending; picked = q .picked }
 
--- the targets in ascending order, and the pool
-abbrev pub rule : List Target → Pool → Ruled
-rule [] p = record { given = []; ending = served }
-rule (t ∷ rest) p = next (λ q. rule rest q) t p (plainChoice p t)
+-- the targets in ascending order, the pool, and the last pick
+abbrev pub rule : List Target → Pool → ℕ → Ruled
+rule [] p last = record { given = []; ending = served; picked = last }
+rule (t ∷ rest) p last = next (λ q l. rule rest q l) t p last (plainChoice p last t)
 
--- what the rule gives these targets as they are lent, starting from this pool: nobody's flag is looked at
-abbrev pub ruled : Pool → List Target → Ruled
-ruled b ts = rule (ascending ts) b
+-- what the rule gives these targets as they are lent, starting from this pool and this last pick: nobody's flag is looked at
+abbrev pub ruled : Pool → ℕ → List Target → Ruled
+ruled b last ts = rule (ascending ts) b last
 
 -- ---- of what it gives
 

@@ -30,7 +30,7 @@ use Rattle.slots.specs.declared.Slots.{Slots}
 use Rattle.targets.specs.Target.{Target, mapTargets, prepared, assignedTo, cleared, resolve}
 use Rattle.targets.specs.Members.{Pairs}
 use Rattle.targets.specs.Admission.{AdmittedTargets}
-use Rattle.rule.specs.PlainRule.{plainChoice, Given, next, rule, FreeIn, Distinct, ascending, ruled}
+use Rattle.rule.specs.PlainRule.{plainChoice, pickAfter, Given, next, rule, FreeIn, Distinct, ascending, ruled}
 use Rattle.rule.specs.RuleLaws.{rule-serves-these}
 use Rattle.rule.specs.Ready.{Lower}
 use Rattle.rule.specs.SortLaws.{ascending-is-lower-first}
@@ -74,9 +74,9 @@ free-room b [] h = tt
 free-room b (g ∷ gs) h = ((h .0 .0, open-none (g .address)), free-room b gs (h .1))
 
 -- the slots at the end
-end-slots : (b : Pool) (ts : List Target) → passEnd b ts .now .state .slots ≡ putAll (ruled b ts .given) noBindings
-end-slots b [] = refl
-end-slots b (t ∷ ts) = refl
+end-slots : (b : Pool) (last : ℕ) (ts : List Target) → passEnd b last ts .now .state .slots ≡ putAll (ruled b last ts .given) noBindings
+end-slots b last [] = refl
+end-slots b last (t ∷ ts) = refl
 
 -- ---- WHO is bound where: only what was given
 
@@ -128,41 +128,41 @@ unclaimed (g ∷ gs) s h l f a = unclaimed gs (withBinding s (g .address) (Bound
 open-unclaimed : (a : ℕ) → heldAt noBindings a ≡ Claimed → ⊥
 open-unclaimed a e = let q : Open ≡ Claimed = sym (open-all a) ∙ e in zero-is-one (cc q)
 
-module _ (occupied : Pool) (ts : List Target) (v : AdmittedTargets (startingPool occupied) ts) where
+module _ (occupied : Pool) (last : ℕ) (ts : List Target) (v : AdmittedTargets (startingPool occupied) ts) where
   -- as many are bound as the plain rule serves
-  pub bound-as-many-as-given : count (boundAt (passEnd (startingPool occupied) ts .now .state .slots)) 128 ≡ length (ruled (startingPool occupied) ts .given)
+  pub bound-as-many-as-given : count (boundAt (passEnd (startingPool occupied) last ts .now .state .slots)) 128 ≡ length (ruled (startingPool occupied) last ts .given)
   bound-as-many-as-given =
-      let r = given-free-distinct occupied ts v in
-      ap (λ (s : Slots). count (boundAt s) 128) (end-slots (startingPool occupied) ts)
-      ∙ count-given (ruled (startingPool occupied) ts .given) noBindings sized-none (free-room (startingPool occupied) (ruled (startingPool occupied) ts .given) (r .0)) (r .1)
+      let r = given-free-distinct occupied last ts v in
+      ap (λ (s : Slots). count (boundAt s) 128) (end-slots (startingPool occupied) last ts)
+      ∙ count-given (ruled (startingPool occupied) last ts .given) noBindings sized-none (free-room (startingPool occupied) (ruled (startingPool occupied) last ts .given) (r .0)) (r .1)
       ∙ omega (arith, open-count)
 
   -- who is bound was given that address
-  pub bound-given : (a : ℕ) (u : Udid) → heldAt (passEnd (startingPool occupied) ts .now .state .slots) a ≡ Bound u → Any (GivenAt a u) (ruled (startingPool occupied) ts .given)
+  pub bound-given : (a : ℕ) (u : Udid) → heldAt (passEnd (startingPool occupied) last ts .now .state .slots) a ≡ Bound u → Any (GivenAt a u) (ruled (startingPool occupied) last ts .given)
   bound-given a u e =
-      go (held-given (ruled (startingPool occupied) ts .given) noBindings a u sized-none
-      (given-below-128 (startingPool occupied) (ruled (startingPool occupied) ts .given) (given-free-distinct occupied ts v .0))
-      (ap (λ (s : Slots). heldAt s a) (sym (end-slots (startingPool occupied) ts)) ∙ e))
+      go (held-given (ruled (startingPool occupied) last ts .given) noBindings a u sized-none
+      (given-below-128 (startingPool occupied) (ruled (startingPool occupied) last ts .given) (given-free-distinct occupied last ts v .0))
+      (ap (λ (s : Slots). heldAt s a) (sym (end-slots (startingPool occupied) last ts)) ∙ e))
     where
-      go : (heldAt noBindings a ≡ Bound u) ⊎ Any (GivenAt a u) (ruled (startingPool occupied) ts .given) → Any (GivenAt a u) (ruled (startingPool occupied) ts .given)
+      go : (heldAt noBindings a ≡ Bound u) ⊎ Any (GivenAt a u) (ruled (startingPool occupied) last ts .given) → Any (GivenAt a u) (ruled (startingPool occupied) last ts .given)
       go (inl k) = zero-is-one (cc (open-none a, ap isBound k))
       go (inr k) = k
 
   -- who was given an address is bound there
-  pub given-bound : Each (λ (g : Given). heldAt (passEnd (startingPool occupied) ts .now .state .slots) (g .address) ≡ Bound (g .who .udid)) (ruled (startingPool occupied) ts .given)
+  pub given-bound : Each (λ (g : Given). heldAt (passEnd (startingPool occupied) last ts .now .state .slots) (g .address) ≡ Bound (g .who .udid)) (ruled (startingPool occupied) last ts .given)
   given-bound =
-      let r = given-free-distinct occupied ts v in
-      rw (end-slots (startingPool occupied) ts)
-      (given-held (ruled (startingPool occupied) ts .given) noBindings sized-none
-      (given-below-128 (startingPool occupied) (ruled (startingPool occupied) ts .given) (r .0)) (r .1))
+      let r = given-free-distinct occupied last ts v in
+      rw (end-slots (startingPool occupied) last ts)
+      (given-held (ruled (startingPool occupied) last ts .given) noBindings sized-none
+      (given-below-128 (startingPool occupied) (ruled (startingPool occupied) last ts .given) (r .0)) (r .1))
 
   -- no address is claimed by two
-  pub none-claimed : (a : ℕ) → heldAt (passEnd (startingPool occupied) ts .now .state .slots) a ≡ Claimed → ⊥
+  pub none-claimed : (a : ℕ) → heldAt (passEnd (startingPool occupied) last ts .now .state .slots) a ≡ Claimed → ⊥
   none-claimed a e =
-      let r = given-free-distinct occupied ts v in
-      unclaimed (ruled (startingPool occupied) ts .given) noBindings open-unclaimed sized-none
-      (given-below-128 (startingPool occupied) (ruled (startingPool occupied) ts .given) (r .0)) a
-      (ap (λ (s : Slots). heldAt s a) (sym (end-slots (startingPool occupied) ts)) ∙ e)
+      let r = given-free-distinct occupied last ts v in
+      unclaimed (ruled (startingPool occupied) last ts .given) noBindings open-unclaimed sized-none
+      (given-below-128 (startingPool occupied) (ruled (startingPool occupied) last ts .given) (r .0)) a
+      (ap (λ (s : Slots). heldAt s a) (sym (end-slots (startingPool occupied) last ts)) ∙ e)
 
 -- ---- WHAT EACH TARGET ends with
 
@@ -179,9 +179,9 @@ resolved-as-served [] ts = sym (map-identity ts)
 resolved-as-served (g ∷ gs) ts = resolved-as-served gs (resolve (g .who .udid) (g .address) ts) ∙ map-twice (servedBy gs) (assignedTo (g .who .udid) (g .address)) ts
 
 -- every target, in its place
-pub end-targets : (b : Pool) (ts : List Target) → passEnd b ts .targets ≡ mapTargets (λ (t : Target). servedBy (ruled b ts .given) (prepared t)) ts
-end-targets b [] = refl
-end-targets b (t ∷ ts) = resolved-as-served (ruled b (t ∷ ts) .given) (cleared (t ∷ ts)) ∙ map-twice (servedBy (ruled b (t ∷ ts) .given)) prepared (t ∷ ts)
+pub end-targets : (b : Pool) (last : ℕ) (ts : List Target) → passEnd b last ts .targets ≡ mapTargets (λ (t : Target). servedBy (ruled b last ts .given) (prepared t)) ts
+end-targets b last [] = refl
+end-targets b last (t ∷ ts) = resolved-as-served (ruled b last (t ∷ ts) .given) (cleared (t ∷ ts)) ∙ map-twice (servedBy (ruled b last (t ∷ ts) .given)) prepared (t ∷ ts)
 
 -- one that is not served keeps its address byte
 pub unserved-stays : (gs : List Given) (t : Target) → Each (λ (g : Given). sameUdid (t .udid) (g .who .udid) ≡ false) gs → servedBy gs t ≡ t
@@ -206,13 +206,13 @@ lower-other t rest (g ∷ gs) l h = (other-udid (t .udid) (g .who .udid) (λ e. 
     apart : value (t .udid) < value (g .who .udid) → value (t .udid) ≡ value (g .who .udid) → ⊥
     apart k e = omega arith
 
-rule-serves-once : (rest : List Target) (p : Pool) → Pairs Lower rest → OnePerUdid (rule rest p .given)
-rule-serves-once [] p l = tt
-rule-serves-once (t ∷ rest) p l = go (plainChoice p t) (λ a. rule-serves-once rest (withAddress p (a .0)) (l .1))
+rule-serves-once : (rest : List Target) (p : Pool) (last : ℕ) → Pairs Lower rest → OnePerUdid (rule rest p last .given)
+rule-serves-once [] p last l = tt
+rule-serves-once (t ∷ rest) p last l = go (plainChoice p last t) (λ a. rule-serves-once rest (withAddress p (a .0)) (pickAfter p last t (a .0)) (l .1))
   where
-    go : (c : Free) → ((a : Address) → OnePerUdid (rule rest (withAddress p (a .0)) .given)) → OnePerUdid (next (λ q. rule rest q) t p c .given)
+    go : (c : Free) → ((a : Address) → OnePerUdid (rule rest (withAddress p (a .0)) (pickAfter p last t (a .0)) .given)) → OnePerUdid (next (λ q l. rule rest q l) t p last c .given)
     go AllUsed ih = tt
-    go (At a) ih = (lower-other t rest (rule rest (withAddress p (a .0)) .given) (l .0) (rule-serves-these rest (withAddress p (a .0))), ih a)
+    go (At a) ih = (lower-other t rest (rule rest (withAddress p (a .0)) (pickAfter p last t (a .0)) .given) (l .0) (rule-serves-these rest (withAddress p (a .0)) (pickAfter p last t (a .0))), ih a)
 
 each-equal : (hs : List Given) (u v : Udid) → u ≡ v → Each (λ (h : Given). sameUdid u (h .who .udid) ≡ false) hs → Each (λ (h : Given). sameUdid v (h .who .udid) ≡ false) hs
 each-equal [] u v e a = tt
@@ -238,11 +238,11 @@ taken-by (g ∷ gs) t o = (first, taken-by-more g gs t gs (taken-by gs t (o .1))
         let q : sameUdid (t .udid) (g .who .udid) ≡ true = ap (λ (x : Udid). sameUdid x (g .who .udid)) e ∙ same-refl (g .who .udid) in
         rw q (unserved-stays gs (taken t (g .address)) (each-equal gs (g .who .udid) (t .udid) (sym e) (o .0)))
 
-module _ (b : Pool) (ts : List Target) (v : AdmittedTargets b ts) where
+module _ (b : Pool) (last : ℕ) (ts : List Target) (v : AdmittedTargets b ts) where
   -- A SERVED TARGET ends with its address and flag 1
-  pub served-takes-address : (t : Target) → Each (TakenBy (ruled b ts .given) (prepared t)) (ruled b ts .given)
-  served-takes-address t = taken-by (ruled b ts .given) (prepared t) (rule-serves-once (ascending ts) b (ascending-is-lower-first ts (v .differ)))
+  pub served-takes-address : (t : Target) → Each (TakenBy (ruled b last ts .given) (prepared t)) (ruled b last ts .given)
+  served-takes-address t = taken-by (ruled b last ts .given) (prepared t) (rule-serves-once (ascending ts) b last (ascending-is-lower-first ts (v .differ)))
 
   -- no identifier is served map-twice
-  pub served-once : OnePerUdid (ruled b ts .given)
-  served-once = rule-serves-once (ascending ts) b (ascending-is-lower-first ts (v .differ))
+  pub served-once : OnePerUdid (ruled b last ts .given)
+  served-once = rule-serves-once (ascending ts) b last (ascending-is-lower-first ts (v .differ))

@@ -43,24 +43,24 @@ not-any : {P Q : Given → Type 0} (gs : List Given) → ((g : Given) → (P g �
 not-any [] f n = tt
 not-any (g ∷ gs) f n = (f g (λ p. n (inl p)), not-any gs f (λ p. n (inr p)))
 
-module _ (occupied : Pool) (s : List ℕ) (b : Bytes s) (v : AdmittedTargets (startingPool occupied) (targetsOf s)) where
+module _ (occupied : Pool) (last : ℕ) (s : List ℕ) (b : Bytes s) (v : AdmittedTargets (startingPool occupied) (targetsOf s)) where
   abbrev given : List Given
-  given = ruled (startingPool occupied) (targetsOf s) .given
+  given = ruled (startingPool occupied) last (targetsOf s) .given
 
   -- the records as the pass leaves them
   abbrev after : List ℕ
-  after = recordsWith (passEnd (startingPool occupied) (targetsOf s) .targets) s
+  after = recordsWith (passEnd (startingPool occupied) last (targetsOf s) .targets) s
 
   changed : Changed (λ (t : Target). servedBy given (prepared t)) s after
   changed = changed-exactly (λ (t : Target). servedBy given (prepared t)) (λ t. served-keeps given (prepared t)) s after .0
-      (ap (λ (ts : List Target). recordsWith ts s) (end-targets (startingPool occupied) (targetsOf s)))
+      (ap (λ (ts : List Target). recordsWith ts s) (end-targets (startingPool occupied) last (targetsOf s)))
 
   pub same-length : length after ≡ length s
   same-length = changed .same-length
 
   -- each who was given an address is a record of the list
   pub given-records : Each (λ (g : Given). (i : ℕ) × (i < length s / 18) × RecordOf s i g) given
-  given-records = each-map given at (given-among-targets occupied (targetsOf s) v)
+  given-records = each-map given at (given-among-targets occupied last (targetsOf s) v)
     where
       at : (g : Given) → Among (g .who) (targetsOf s) → (i : ℕ) × (i < length s / 18) × RecordOf s i g
       at g m =
@@ -82,7 +82,7 @@ module _ (occupied : Pool) (s : List ℕ) (b : Bytes s) (v : AdmittedTargets (st
   pub bound-record : (i : ℕ) → i < length s / 18
       → Each (λ (g : Given). RecordOf s i g → (getD after (18 * i + 16) 0 ≡ 2 * g .address + 1) × (getD after (18 * i + 17) 0 ≡ 1)) given
   bound-record i h =
-      each-both given (λ g f. f) (each-both given at (given-free-distinct occupied (targetsOf s) v .0) (given-among-targets occupied (targetsOf s) v)) (served-takes-address (startingPool occupied) (targetsOf s) v (targetAt s i))
+      each-both given (λ g f. f) (each-both given at (given-free-distinct occupied last (targetsOf s) v .0) (given-among-targets occupied last (targetsOf s) v)) (served-takes-address (startingPool occupied) last (targetsOf s) v (targetAt s i))
     where
       at : (g : Given) → FreeIn (startingPool occupied) g → Among (g .who) (targetsOf s) → TakenBy given (prepared (targetAt s i)) g → RecordOf s i g
           → (getD after (18 * i + 16) 0 ≡ 2 * g .address + 1) × (getD after (18 * i + 17) 0 ≡ 1)
@@ -108,12 +108,12 @@ module _ (occupied : Pool) (s : List ℕ) (b : Bytes s) (v : AdmittedTargets (st
   other-bytes j h = changed .others j (λ i l. (λ e. omega (arith, e), λ e. omega (arith, e)))
 
 -- the records that the pass leaves are those of its targets
-pub end-targets-stored : (b : Pool) (s : List ℕ) → targetsOf (recordsWith (passEnd b (targetsOf s) .targets) s) ≡ passEnd b (targetsOf s) .targets
-end-targets-stored b s =
-    let f : Target → Target = λ t. servedBy (ruled b (targetsOf s) .given) (prepared t) in
-    let e : passEnd b (targetsOf s) .targets ≡ mapTargets f (targetsOf s) = end-targets b (targetsOf s) in
+pub end-targets-stored : (b : Pool) (last : ℕ) (s : List ℕ) → targetsOf (recordsWith (passEnd b last (targetsOf s) .targets) s) ≡ passEnd b last (targetsOf s) .targets
+end-targets-stored b last s =
+    let f : Target → Target = λ t. servedBy (ruled b last (targetsOf s) .given) (prepared t) in
+    let e : passEnd b last (targetsOf s) .targets ≡ mapTargets f (targetsOf s) = end-targets b last (targetsOf s) in
     let n : recordCount (recordsWith (mapTargets f (targetsOf s)) s) ≡ recordCount s = ap (λ (k : ℕ). k / 18) (length-put-from (mapTargets f (targetsOf s)) 0 s) in
     ap (λ (ts : List Target). targetsOf (recordsWith ts s)) e
     ∙ ap (λ (k : ℕ). targetsFrom (recordsWith (mapTargets f (targetsOf s)) s) k 0) n
-    ∙ changed-targets f (λ t. served-keeps (ruled b (targetsOf s) .given) (prepared t)) (recordCount s) 0 s (omega arith)
+    ∙ changed-targets f (λ t. served-keeps (ruled b last (targetsOf s) .given) (prepared t)) (recordCount s) 0 s (omega arith)
     ∙ sym e

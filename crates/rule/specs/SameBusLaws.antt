@@ -35,12 +35,12 @@ module _ {A B : Type 0} (a : Bus A) (b : Bus B) (R : Stepped → A → B → Typ
   same-traces (suc n) v w q = ap₂ _∷_ (same-stands v w q) (same-traces n (turnOver a v) (turnOver b w) (same-turn v w q))
 
   -- A PASS, and the Get UDIDs that stood on the bus in it
-  module _ (occupied : Pool) (x : A) (y : B) (r : R (started (newController occupied)) x y) where
-    first : SameWorld R (beginningOver occupied x) (beginningOver occupied y)
+  module _ (occupied : Pool) (last : ℕ) (x : A) (y : B) (r : R (started (newController occupied last)) x y) where
+    first : SameWorld R (beginningOver occupied last x) (beginningOver occupied last y)
     first = record { now = refl; targets = r }
 
-    pub same-pass : SameWorld R (passOf a occupied x) (passOf b occupied y)
-    same-pass = same-run 300 (beginningOver occupied x) (beginningOver occupied y) first
+    pub same-pass : SameWorld R (passOf a occupied last x) (passOf b occupied last y)
+    same-pass = same-run 300 (beginningOver occupied last x) (beginningOver occupied last y) first
 
-    pub same-gets : getsOver a occupied x ≡ getsOver b occupied y
-    same-gets = ap getsAmong (same-traces 300 (beginningOver occupied x) (beginningOver occupied y) first)
+    pub same-gets : getsOver a occupied last x ≡ getsOver b occupied last y
+    same-gets = ap getsAmong (same-traces 300 (beginningOver occupied last x) (beginningOver occupied last y) first)

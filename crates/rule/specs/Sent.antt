@@ -23,8 +23,8 @@ getsAmong [] = 0
 getsAmong (tr ∷ trs) = oneIn tr + getsAmong trs
 
 -- HOW MANY GET UDIDS STOOD ON THE BUS in the turns of a pass
-abbrev pub getsOver : {A : Type 0} → Bus A → Pool → A → ℕ
-getsOver bus occupied ts = getsAmong (tracesOver bus 300 (beginningOver occupied ts))
+abbrev pub getsOver : {A : Type 0} → Bus A → Pool → ℕ → A → ℕ
+getsOver bus occupied last ts = getsAmong (tracesOver bus 300 (beginningOver occupied last ts))
 
 -- ---- on the model's bus
 
@@ -34,5 +34,5 @@ stands w = modelBus .stands (w .now .command) (w .targets)
 abbrev pub traces : ℕ → World → List (List ℕ)
 traces n w = tracesOver modelBus n w
 
-unfoldable pub getsOnBus : Pool → List Target → ℕ
-getsOnBus occupied ts = getsOver modelBus occupied ts
+unfoldable pub getsOnBus : Pool → ℕ → List Target → ℕ
+getsOnBus occupied last ts = getsOver modelBus occupied last ts

@@ -10,7 +10,7 @@ use Rattle.targets.specs.Admission.{AdmittedTargets}
 use Rattle.targets.specs.Target.{Target}
 use Rattle.arp.specs.Handing.{Kept}
 use Rattle.arp.specs.HandingLaws.{busy-handed}
-use Rattle.arp.specs.Controller.{changed, stepped}
+use Rattle.arp.specs.Controller.{lastPick, changed, stepped}
 use Rattle.arp.specs.History.{oneGet}
 use Rattle.hearing.specs.Told.{tells}
 use Rattle.commands.specs.declared.command.Command.{Command}
@@ -117,37 +117,37 @@ end-counts : (e : Ending) → oneGet (lastCommand e) ≡ 0
 end-counts served = refl
 end-counts (noneFree u) = refl
 
-nobody-there-silent : (n : ℕ) (b : Pool) → traces n (nobodyThere b) ≡ replicate n []
-nobody-there-silent zero b = refl
-nobody-there-silent (suc n) b =
+nobody-there-silent : (n : ℕ) (b : Pool) (last : ℕ) → traces n (nobodyThere b last) ≡ replicate n []
+nobody-there-silent zero b last = refl
+nobody-there-silent (suc n) b last =
     ap₂ (λ (x : List ℕ) (l : List (List ℕ)). x ∷ l) (end-silent served [])
-    (ap (traces n) (turn-still (nobodyThere b .now) [] (Wait Ended) refl) ∙ nobody-there-silent n b)
+    (ap (traces n) (turn-still (nobodyThere b last .now) [] (Wait Ended) refl) ∙ nobody-there-silent n b last)
 
-module _ (occupied : Pool) where
+module _ (occupied : Pool) (last : ℕ) where
   -- WITH NO TARGET: Prepare To ARP, whose first byte gets NACK, and nothing after it
-  pub nobody-there-traces : (n : ℕ) → traces (suc n) (beginning occupied []) ≡ (256 ∷ 194 ∷ 259 ∷ 257 ∷ []) ∷ replicate n []
-  nobody-there-traces n = ap₂ (λ (x : List ℕ) (l : List (List ℕ)). x ∷ l) on-bus.prepare-cut (ap (traces n) (nobody-ends-first-turn occupied) ∙ nobody-there-silent n (startingPool occupied))
+  pub nobody-there-traces : (n : ℕ) → traces (suc n) (beginning occupied last []) ≡ (256 ∷ 194 ∷ 259 ∷ 257 ∷ []) ∷ replicate n []
+  nobody-there-traces n = ap₂ (λ (x : List ℕ) (l : List (List ℕ)). x ∷ l) on-bus.prepare-cut (ap (traces n) (nobody-ends-first-turn occupied last) ∙ nobody-there-silent n (startingPool occupied) (lastPick last))
 
   -- AFTER THE PASS THE BUS IS SILENT: no Get UDID follows those that are counted
-  pub silent-after : (ts : List Target) → AdmittedTargets (startingPool occupied) ts → stands (pass occupied ts) ≡ []
-  silent-after ts v = ap stands (demand-3 occupied ts v) ∙ go ts
+  pub silent-after : (ts : List Target) → AdmittedTargets (startingPool occupied) ts → stands (pass occupied last ts) ≡ []
+  silent-after ts v = ap stands (demand-3 occupied last ts v) ∙ go ts
     where
-      go : (ts : List Target) → stands (passEnd (startingPool occupied) ts) ≡ []
+      go : (ts : List Target) → stands (passEnd (startingPool occupied) (lastPick last) ts) ≡ []
       go [] = end-silent served []
-      go (t ∷ ts) = end-silent (ruled (startingPool occupied) (t ∷ ts) .ending) (passEnd (startingPool occupied) (t ∷ ts) .targets)
+      go (t ∷ ts) = end-silent (ruled (startingPool occupied) (lastPick last) (t ∷ ts) .ending) (passEnd (startingPool occupied) (lastPick last) (t ∷ ts) .targets)
 
   -- THE CONTROLLER'S COUNT IS THAT OF THE GET UDIDS ON THE BUS
-  pub counted-on-bus : (ts : List Target) → AdmittedTargets (startingPool occupied) ts → pass occupied ts .now .state .gets ≡ getsOnBus occupied ts
+  pub counted-on-bus : (ts : List Target) → AdmittedTargets (startingPool occupied) ts → pass occupied last ts .now .state .gets ≡ getsOnBus occupied last ts
   unfolding getsOnBus pass
-  counted-on-bus [] v = ap (λ (w : World). w .now .state .gets) (demand-3 occupied [] v) ∙ sym (gets-none 300 (beginning occupied []) refl)
+  counted-on-bus [] v = ap (λ (w : World). w .now .state .gets) (demand-3 occupied last [] v) ∙ sym (gets-none 300 (beginning occupied last []) refl)
   counted-on-bus (t ∷ ts) v =
-      gets-whole 300 (beginning occupied (t ∷ ts)) refl (omega arith) refl refl
-      (ap (λ (w : World). oneGet (w .now .command)) (demand-3 occupied (t ∷ ts) v) ∙ end-counts (ruled (startingPool occupied) (t ∷ ts) .ending))
+      gets-whole 300 (beginning occupied last (t ∷ ts)) refl (omega arith) refl refl
+      (ap (λ (w : World). oneGet (w .now .command)) (demand-3 occupied last (t ∷ ts) v) ∙ end-counts (ruled (startingPool occupied) (lastPick last) (t ∷ ts) .ending))
 
   -- ONE MORE THAN TARGETS ARE BOUND, where there is a target; with none, no Get UDID
-  pub gets-one-more-than-bound : (t : Target) (ts : List Target) → AdmittedTargets (startingPool occupied) (t ∷ ts) → getsOnBus occupied (t ∷ ts) ≡ suc (length (ruled (startingPool occupied) (t ∷ ts) .given))
-  gets-one-more-than-bound t ts v = sym (counted-on-bus (t ∷ ts) v) ∙ ap (λ (w : World). w .now .state .gets) (demand-3 occupied (t ∷ ts) v) ∙ omega arith
+  pub gets-one-more-than-bound : (t : Target) (ts : List Target) → AdmittedTargets (startingPool occupied) (t ∷ ts) → getsOnBus occupied last (t ∷ ts) ≡ suc (length (ruled (startingPool occupied) (lastPick last) (t ∷ ts) .given))
+  gets-one-more-than-bound t ts v = sym (counted-on-bus (t ∷ ts) v) ∙ ap (λ (w : World). w .now .state .gets) (demand-3 occupied last (t ∷ ts) v) ∙ omega arith
 
-  pub no-gets-without-target : getsOnBus occupied [] ≡ 0
+  pub no-gets-without-target : getsOnBus occupied last [] ≡ 0
   unfolding getsOnBus
-  no-gets-without-target = gets-none 300 (beginning occupied []) refl
+  no-gets-without-target = gets-none 300 (beginning occupied last []) refl

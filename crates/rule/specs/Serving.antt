@@ -21,20 +21,20 @@ use Rattle.slots.specs.declared.Slots.{Slots}
 use Rattle.commands.specs.declared.command.Handed.the-variants.{Send}
 use Rattle.rule.specs.Bus.{World}
 use Rattle.rule.specs.PassEnd.{Outcome, out}
-use Rattle.rule.specs.PlainRule.{served, noneFree, plainChoice}
+use Rattle.rule.specs.PlainRule.{served, noneFree, plainChoice, pickAfter}
 use Rattle.rule.specs.Ready.{Ready}
 
 -- ---- the plain rule with all that it changes carried along
 
 -- one target served, and then the others; or the end
-abbrev pub serve : (Pool → Slots → ℕ → List Target → Outcome) → Target → Pool → Slots → ℕ → List Target → Free → Outcome
-serve next t p s k ts AllUsed = record { pool = p; slots = s; bound = k; targets = ts; ending = noneFree (t .udid) }
-serve next t p s k ts (At a) = next (withAddress p (a .0)) (withBinding s (a .0) (Bound (t .udid))) (suc k) (resolve (t .udid) (a .0) ts)
+abbrev pub serve : (Pool → ℕ → Slots → ℕ → List Target → Outcome) → Target → Pool → ℕ → Slots → ℕ → List Target → Free → Outcome
+serve next t p last s k ts AllUsed = record { pool = p; slots = s; bound = k; targets = ts; ending = noneFree (t .udid); picked = last }
+serve next t p last s k ts (At a) = next (withAddress p (a .0)) (pickAfter p last t (a .0)) (withBinding s (a .0) (Bound (t .udid))) (suc k) (resolve (t .udid) (a .0) ts)
 
--- the targets to serve, in ascending order; the pool, the bindings, how many are bound, and all targets
-abbrev pub plain : List Target → Pool → Slots → ℕ → List Target → Outcome
-plain [] p s k ts = record { pool = p; slots = s; bound = k; targets = ts; ending = served }
-plain (t ∷ rest) p s k ts = serve (λ p′ s′ k′ ts′. plain rest p′ s′ k′ ts′) t p s k ts (plainChoice p t)
+-- the targets to serve, in ascending order; the pool, the last pick, the bindings, how many are bound, and all targets
+abbrev pub plain : List Target → Pool → ℕ → Slots → ℕ → List Target → Outcome
+plain [] p last s k ts = record { pool = p; slots = s; bound = k; targets = ts; ending = served; picked = last }
+plain (t ∷ rest) p last s k ts = serve (λ p′ l′ s′ k′ ts′. plain rest p′ l′ s′ k′ ts′) t p last s k ts (plainChoice p last t)
 
 -- ---- what holds whenever Get UDID is out: `rest` are the unresolved targets in ascending order, and somebody is on the bus
 
@@ -58,5 +58,5 @@ abbrev pub turns : List Target → ℕ
 turns [] = 1
 turns (t ∷ ts) = suc (suc (turns ts))
 
-abbrev pub asking : Pool → Pool → Slots → ℕ → List Target → World
-asking b p s n ts = record { now = out b p s n (Send GetUdid); targets = ts }
+abbrev pub asking : ℕ → Pool → Pool → Slots → ℕ → List Target → World
+asking l b p s n ts = record { now = out l b p s n (Send GetUdid); targets = ts }

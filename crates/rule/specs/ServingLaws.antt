@@ -36,11 +36,11 @@ use Rattle.rule.specs.AcknowledgeLaws.{nothing-on-bus}
 use Rattle.rule.specs.AnyBusLaws.{silent-run}
 use Rattle.rule.specs.Bus.{World, modelBus, run}
 use Rattle.rule.specs.BusLaws.{turn-takes}
-use Rattle.rule.specs.PlainRule.{Ending, served, noneFree, plainChoice}
+use Rattle.rule.specs.PlainRule.{Ending, served, noneFree, isPickedFor, plainChoice, pickAfter}
 use Rattle.rule.specs.PassEnd.{lastCommand, out, ended}
 use Rattle.rule.specs.EffectLaws.{effect-as-meant}
 use Rattle.rule.specs.TraceLaws as on-bus
-use Rattle.rule.specs.RuleLaws.{controller-chooses-as-rule, ready-choice-free, ready-next}
+use Rattle.rule.specs.RuleLaws.{controller-picks-as-rule, controller-chooses-as-rule, ready-choice-free, ready-next}
 use Rattle.rule.specs.Serving.{Unbound, serve, plain, Inv, turns, asking}
 use Rattle.rule.specs.StepLaws.{get-silence-ends, get-issued, assign-bound}
 
@@ -58,11 +58,11 @@ fits-next : (u : Udid) (a : ℕ) (ts : List Target) → ((t : Target) → Among 
 fits-next u a (x ∷ ts) h t (inl e) = subst Fits (sym (assigned-keeps-udid u a x) ∙ ap (λ (y : Target). y .udid) e) (h x (inl refl))
 fits-next u a (x ∷ ts) h t (inr m) = fits-next u a ts (λ y k. h y (inr k)) t m
 
-inv-next : (p : Pool) (s : Slots) (k : ℕ) (ts rest : List Target) (r : Target) (a : Address) → Inv p s k ts (r ∷ rest) → plainChoice p r ≡ At a
+inv-next : (p : Pool) (last : ℕ) (s : Slots) (k : ℕ) (ts rest : List Target) (r : Target) (a : Address) → Inv p s k ts (r ∷ rest) → plainChoice p last r ≡ At a
     → Inv (withAddress p (a .0)) (withBinding s (a .0) (Bound (r .udid))) (suc k) (resolve (r .udid) (a .0) ts) rest
-inv-next p s k ts rest r a v e =
-    let free = ready-choice-free p r rest a (v .ready) e in record {
-      ready = ready-next p r rest a (v .ready) e;
+inv-next p last s k ts rest r a v e =
+    let free = ready-choice-free p last r rest a (v .ready) e in record {
+      ready = ready-next p last r rest a (v .ready) e;
       waits = waits-next ts rest r (a .0) (v .waits) (λ x m. v .ready .apart .0 x m .lower);
       unbound = λ t m. unbound-set (t .udid) r s (a .0) (v .room) (free .0) (other-udid (r .udid) (t .udid) (λ q. above t (v .ready .apart .0 t m .lower) (ap value q))) (v .unbound t (inr m));
       room = sized-with s (a .0) (Bound (r .udid)) (v .room);
@@ -81,29 +81,29 @@ abbrev world : Stepped → List Target → World
 world x ts = record { now = x; targets = ts }
 
 -- an ended pass stays as it is
-pub ended-run-stays : (n : ℕ) (b p : Pool) (s : Slots) (m : ℕ) (e : Ending) (ts : List Target)
-    → run n (record { now = out b p s m (lastCommand e); targets = ts }) ≡ record { now = out b p s m (lastCommand e); targets = ts }
-ended-run-stays n b p s m served ts = silent-run modelBus n (world (out b p s m (lastCommand served)) ts) (nothing-on-bus (lastCommand served) ts refl)
-ended-run-stays n b p s m (noneFree u) ts = silent-run modelBus n (world (out b p s m (lastCommand (noneFree u))) ts) (nothing-on-bus (lastCommand (noneFree u)) ts refl)
+pub ended-run-stays : (n last : ℕ) (b p : Pool) (s : Slots) (m : ℕ) (e : Ending) (ts : List Target)
+    → run n (record { now = out last b p s m (lastCommand e); targets = ts }) ≡ record { now = out last b p s m (lastCommand e); targets = ts }
+ended-run-stays n last b p s m served ts = silent-run modelBus n (world (out last b p s m (lastCommand served)) ts) (nothing-on-bus (lastCommand served) ts refl)
+ended-run-stays n last b p s m (noneFree u) ts = silent-run modelBus n (world (out last b p s m (lastCommand (noneFree u))) ts) (nothing-on-bus (lastCommand (noneFree u)) ts refl)
 
 -- nobody is left
-all-resolved-ends : (b p : Pool) (s : Slots) (n : ℕ) (ts : List Target) → 0 < length ts → ((t : Target) → Among t ts → isResolved t ≡ false → ⊥)
-    → stepped (stateOf b p s n (Send GetUdid)) (onBus (Send GetUdid) ts) ≡ out b p s n (lastCommand served)
-all-resolved-ends b p s n [] l h = absurd (omega arith)
-all-resolved-ends b p s n (t ∷ ts) l h = ap (stepped (stateOf b p s n (Send GetUdid))) (on-bus.get-cut t ts (λ x m. all x m (isResolved x) refl)) ∙ get-silence-ends b p s n
+all-resolved-ends : (last : ℕ) (b p : Pool) (s : Slots) (n : ℕ) (ts : List Target) → 0 < length ts → ((t : Target) → Among t ts → isResolved t ≡ false → ⊥)
+    → stepped (stateOf last b p s n (Send GetUdid)) (onBus (Send GetUdid) ts) ≡ out last b p s n (lastCommand served)
+all-resolved-ends last b p s n [] l h = absurd (omega arith)
+all-resolved-ends last b p s n (t ∷ ts) l h = ap (stepped (stateOf last b p s n (Send GetUdid))) (on-bus.get-cut t ts (λ x m. all x m (isResolved x) refl)) ∙ get-silence-ends last b p s n
   where
     all : (x : Target) → Among x (t ∷ ts) → (c : Bool) → isResolved x ≡ c → isResolved x ≡ true
     all x m true e = e
     all x m false e = absurd (h x m e)
 
-pub run-serves-rest : (b p : Pool) (s : Slots) (k : ℕ) (ts rest : List Target) → Inv p s k ts rest
-    → run (turns rest) (asking b p s (suc k) ts) ≡ ended b (plain rest p s k ts)
-run-serves-rest b p s k ts [] v = turn-takes (out b p s (suc k) (Send GetUdid)) ts (Send GetUdid) refl ∙ ap₂ world (all-resolved-ends b p s (suc k) ts (v .present) (λ t m e. v .waits .known t m e)) (effect-as-meant (Send GetUdid) ts tt (v .fits))
-run-serves-rest b p s k ts (r ∷ rest) v =
-    ap (run (suc (turns rest))) (turn-takes (out b p s (suc k) (Send GetUdid)) ts (Send GetUdid) refl)
+pub run-serves-rest : (last : ℕ) (b p : Pool) (s : Slots) (k : ℕ) (ts rest : List Target) → Inv p s k ts rest
+    → run (turns rest) (asking last b p s (suc k) ts) ≡ ended b (plain rest p last s k ts)
+run-serves-rest last b p s k ts [] v = turn-takes (out last b p s (suc k) (Send GetUdid)) ts (Send GetUdid) refl ∙ ap₂ world (all-resolved-ends last b p s (suc k) ts (v .present) (λ t m e. v .waits .known t m e)) (effect-as-meant (Send GetUdid) ts tt (v .fits))
+run-serves-rest last b p s k ts (r ∷ rest) v =
+    ap (run (suc (turns rest))) (turn-takes (out last b p s (suc k) (Send GetUdid)) ts (Send GetUdid) refl)
     ∙ ap₂ (λ (x : Stepped) (us : List Target). run (suc (turns rest)) (world x us)) reply-issues-choice (effect-as-meant (Send GetUdid) ts tt (v .fits))
-    ∙ go (plainChoice p r) refl
-    (λ a e. run-serves-rest b (withAddress p (a .0)) (withBinding s (a .0) (Bound (r .udid))) (suc k) (resolve (r .udid) (a .0) ts) rest (inv-next p s k ts rest r a v e))
+    ∙ go (plainChoice p last r) refl
+    (λ a e. run-serves-rest (pickAfter p last r (a .0)) b (withAddress p (a .0)) (withBinding s (a .0) (Bound (r .udid))) (suc k) (resolve (r .udid) (a .0) ts) rest (inv-next p last s k ts rest r a v e))
   where
     least : Least ts r
     least = record {
@@ -117,26 +117,27 @@ run-serves-rest b p s k ts (r ∷ rest) v =
         later t (inl e) = inl e
         later t (inr m) = inr (v .ready .sized t (inr m), v .ready .apart .0 t m .lower)
 
-    reply-issues-choice : stepped (stateOf b p s (suc k) (Send GetUdid)) (onBus (Send GetUdid) ts) ≡ issued (stateOf b p s (suc k) (Send GetUdid)) (r .udid) (plainChoice p r)
+    reply-issues-choice : stepped (stateOf last b p s (suc k) (Send GetUdid)) (onBus (Send GetUdid) ts) ≡ issued (stateOf last b p s (suc k) (Send GetUdid)) (r .udid) (isPickedFor p r) (plainChoice p last r)
     reply-issues-choice =
-        ap (stepped (stateOf b p s (suc k) (Send GetUdid))) (on-bus.get-whole ts r least)
-        ∙ get-issued b p s (suc k) r (v .ready .sized r (inl refl)) (v .unbound r (inl refl))
-        ∙ ap (issued (stateOf b p s (suc k) (Send GetUdid)) (r .udid)) (controller-chooses-as-rule p r (v .ready .last-used) (v .ready .fixed-some r (inl refl)))
+        ap (stepped (stateOf last b p s (suc k) (Send GetUdid))) (on-bus.get-whole ts r least)
+        ∙ get-issued last b p s (suc k) r (v .ready .sized r (inl refl)) (v .unbound r (inl refl))
+        ∙ ap₂ (issued (stateOf last b p s (suc k) (Send GetUdid)) (r .udid)) (controller-picks-as-rule p r (v .ready .last-used) (v .ready .fixed-some r (inl refl)))
+        (controller-chooses-as-rule p last r (v .ready .last-used) (v .ready .fixed-some r (inl refl)))
 
-    go : (c : Free) → plainChoice p r ≡ c
-        → ((a : Address) → plainChoice p r ≡ At a
-        → run (turns rest) (asking b (withAddress p (a .0)) (withBinding s (a .0) (Bound (r .udid))) (suc (suc k)) (resolve (r .udid) (a .0) ts))
-        ≡ ended b (plain rest (withAddress p (a .0)) (withBinding s (a .0) (Bound (r .udid))) (suc k) (resolve (r .udid) (a .0) ts)))
-        → run (suc (turns rest)) (record { now = issued (stateOf b p s (suc k) (Send GetUdid)) (r .udid) (plainChoice p r); targets = ts })
-        ≡ ended b (serve (λ p′ s′ k′ ts′. plain rest p′ s′ k′ ts′) r p s k ts (plainChoice p r))
-    go AllUsed e ih = rw e (ended-run-stays (suc (turns rest)) b p s (suc k) (noneFree (r .udid)) ts)
+    go : (c : Free) → plainChoice p last r ≡ c
+        → ((a : Address) → plainChoice p last r ≡ At a
+        → run (turns rest) (asking (pickAfter p last r (a .0)) b (withAddress p (a .0)) (withBinding s (a .0) (Bound (r .udid))) (suc (suc k)) (resolve (r .udid) (a .0) ts))
+        ≡ ended b (plain rest (withAddress p (a .0)) (pickAfter p last r (a .0)) (withBinding s (a .0) (Bound (r .udid))) (suc k) (resolve (r .udid) (a .0) ts)))
+        → run (suc (turns rest)) (record { now = issued (stateOf last b p s (suc k) (Send GetUdid)) (r .udid) (isPickedFor p r) (plainChoice p last r); targets = ts })
+        ≡ ended b (serve (λ p′ l′ s′ k′ ts′. plain rest p′ l′ s′ k′ ts′) r p last s k ts (plainChoice p last r))
+    go AllUsed e ih = rw e (ended-run-stays (suc (turns rest)) last b p s (suc k) (noneFree (r .udid)) ts)
     go (At a) e ih =
-        let f = ready-choice-free p r rest a (v .ready) e in
+        let f = ready-choice-free p last r rest a (v .ready) e in
         rw e
-        (ap (run (turns rest)) (turn-takes (out b p s (suc k) (Send (Assign (r .udid) a))) ts (Send (Assign (r .udid) a)) refl)
+        (ap (run (turns rest)) (turn-takes (out (pickAfter p last r (a .0)) b p s (suc k) (Send (Assign (r .udid) a))) ts (Send (Assign (r .udid) a)) refl)
         ∙ ap₂ (λ (x : Stepped) (us : List Target). run (turns rest) (world x us))
-        (ap (stepped (stateOf b p s (suc k) (Send (Assign (r .udid) a)))) (on-bus.assign-whole ts (r .udid) a r (v .waits .there r (inl refl)) refl)
-        ∙ assign-bound b p s (suc k) (r .udid) a (omega (arith, v .below-128)) (v .ready .sized r (inl refl) .udid) (f .0)
+        (ap (stepped (stateOf (pickAfter p last r (a .0)) b p s (suc k) (Send (Assign (r .udid) a)))) (on-bus.assign-whole ts (r .udid) a r (v .waits .there r (inl refl)) refl)
+        ∙ assign-bound (pickAfter p last r (a .0)) b p s (suc k) (r .udid) a (omega (arith, v .below-128)) (v .ready .sized r (inl refl) .udid) (f .0)
         ∙ simp (f .1, add-one (suc k)))
         (effect-as-meant (Send (Assign (r .udid) a)) ts (v .ready .sized r (inl refl) .udid) (v .fits))
         ∙ ih a e)

@@ -22,7 +22,7 @@ use Rattle.targets.specs.Reply.{replyData}
 use Rattle.targets.specs.ReplyLaws.{length-reply-data, bytes-reply-data}
 use Rattle.arp.specs.Bindings.{freed, bindingFor, bound}
 use Rattle.slots.specs.Finding.{findFrom}
-use Rattle.arp.specs.Controller.{handed, asked, chosen, issued, replied, stepped}
+use Rattle.arp.specs.Controller.{handed, asked, hasToPick, chosen, issued, replied, stepped}
 use Rattle.commands.specs.Codes.{sendByte, blockRead}
 use Rattle.commands.specs.RequestLaws.{valid-prepare, valid-get}
 use Rattle.commands.specs.Requests.{messageOf, traceOf}
@@ -43,9 +43,9 @@ use Rattle.rule.specs.Serving.{Unbound}
 -- ---- Prepare To ARP
 
 -- accepted: the first Get UDID
-pub prepare-asks-first : (b p : Pool) (s : Slots) → stepped (stateOf b p s 0 (Send Prepare)) (traceOf (Send Prepare) []) ≡ out b p s 1 (Send GetUdid)
+pub prepare-asks-first : (l : ℕ) (b p : Pool) (s : Slots) → stepped (stateOf l b p s 0 (Send Prepare)) (traceOf (Send Prepare) []) ≡ out l b p s 1 (Send GetUdid)
 unfolding asked
-prepare-asks-first b p s = told-is-changed (stateOf b p s 0 (Send Prepare)) (traceOf (Send Prepare) []) (Send Prepare) Again refl (prepare-accepted (traceOf (Send Prepare) []) refl)
+prepare-asks-first l b p s = told-is-changed (stateOf l b p s 0 (Send Prepare)) (traceOf (Send Prepare) []) (Send Prepare) Again refl (prepare-accepted (traceOf (Send Prepare) []) refl)
 
 -- S C2 N P: byte 0 was not acknowledged
 cut-prepare : CutAt (shapeOf sendByte) true (START ∷ 0xC2 ∷ NACK ∷ STOP ∷ []) 0
@@ -65,8 +65,8 @@ cut-prepare = record {
 pub prepare-unheard : (c : Controller) → c .last ≡ Send Prepare → stepped c (START ∷ 0xC2 ∷ NACK ∷ STOP ∷ []) ≡ handed c (Wait Ended)
 prepare-unheard c e = told-is-changed c (START ∷ 0xC2 ∷ NACK ∷ STOP ∷ []) (Send Prepare) Over e (prepare-nobody (START ∷ 0xC2 ∷ NACK ∷ STOP ∷ []) 0 cut-prepare)
 
-pub prepare-silence-ends : (b p : Pool) (s : Slots) → stepped (stateOf b p s 0 (Send Prepare)) (START ∷ 0xC2 ∷ NACK ∷ STOP ∷ []) ≡ out b p s 0 (Wait Ended)
-prepare-silence-ends b p s = prepare-unheard (stateOf b p s 0 (Send Prepare)) refl
+pub prepare-silence-ends : (l : ℕ) (b p : Pool) (s : Slots) → stepped (stateOf l b p s 0 (Send Prepare)) (START ∷ 0xC2 ∷ NACK ∷ STOP ∷ []) ≡ out l b p s 0 (Wait Ended)
+prepare-silence-ends l b p s = prepare-unheard (stateOf l b p s 0 (Send Prepare)) refl
 
 -- ---- Get UDID
 
@@ -89,9 +89,9 @@ get-unheard c e =
     let tr : List ℕ = START ∷ 0xC2 ∷ ACK ∷ 0x03 ∷ ACK ∷ START ∷ 0xC3 ∷ NACK ∷ STOP ∷ [] in
     told-is-changed c tr (Send GetUdid) Over e (get-nobody tr 2 cut-get (omega arith))
 
-pub get-silence-ends : (b p : Pool) (s : Slots) (n : ℕ)
-    → stepped (stateOf b p s n (Send GetUdid)) (START ∷ 0xC2 ∷ ACK ∷ 0x03 ∷ ACK ∷ START ∷ 0xC3 ∷ NACK ∷ STOP ∷ []) ≡ out b p s n (Wait Ended)
-get-silence-ends b p s n = get-unheard (stateOf b p s n (Send GetUdid)) refl
+pub get-silence-ends : (l : ℕ) (b p : Pool) (s : Slots) (n : ℕ)
+    → stepped (stateOf l b p s n (Send GetUdid)) (START ∷ 0xC2 ∷ ACK ∷ 0x03 ∷ ACK ∷ START ∷ 0xC3 ∷ NACK ∷ STOP ∷ []) ≡ out l b p s n (Wait Ended)
+get-silence-ends l b p s n = get-unheard (stateOf l b p s n (Send GetUdid)) refl
 
 -- a reply is read as its target's identifier and address byte
 pub get-replied : (c : Controller) (t : Target) → c .last ≡ Send GetUdid → Sized t → stepped c (traceOf (Send GetUdid) (replyData t)) ≡ replied c (t .udid) (t .addressByte)
@@ -108,24 +108,24 @@ unfolding findFrom
 unbound-not-found u s h zero a = refl
 unbound-not-found u s h (suc n) a = rw (h a) (unbound-not-found u s h n (suc a))
 
-unbound-frees-nothing : (b p : Pool) (s : Slots) (n : ℕ) (k : Handed) (u : Udid) → Unbound u s → freed (stateOf b p s n k) u ≡ stateOf b p s n k
+unbound-frees-nothing : (l : ℕ) (b p : Pool) (s : Slots) (n : ℕ) (k : Handed) (u : Udid) → Unbound u s → freed (stateOf l b p s n k) u ≡ stateOf l b p s n k
 unfolding freed
-unbound-frees-nothing b p s n k u h = rw (unbound-not-found u s h 128 0)
+unbound-frees-nothing l b p s n k u h = rw (unbound-not-found u s h 128 0)
 
 -- who is not bound yet is issued the address chosen
-pub get-issued : (b p : Pool) (s : Slots) (n : ℕ) (t : Target) → Sized t → Unbound (t .udid) s
-    → stepped (stateOf b p s n (Send GetUdid)) (traceOf (Send GetUdid) (replyData t)) ≡ issued (stateOf b p s n (Send GetUdid)) (t .udid) (chosen p (t .udid) (t .addressByte))
+pub get-issued : (l : ℕ) (b p : Pool) (s : Slots) (n : ℕ) (t : Target) → Sized t → Unbound (t .udid) s
+    → stepped (stateOf l b p s n (Send GetUdid)) (traceOf (Send GetUdid) (replyData t)) ≡ issued (stateOf l b p s n (Send GetUdid)) (t .udid) (hasToPick p (t .udid) (t .addressByte)) (chosen p l (t .udid) (t .addressByte))
 unfolding replied
-get-issued b p s n t z h =
-    get-replied (stateOf b p s n (Send GetUdid)) t refl z
-    ∙ ap (λ (c : Controller). issued c (t .udid) (chosen (c .pool) (t .udid) (t .addressByte))) (unbound-frees-nothing b p s n (Send GetUdid) (t .udid) h)
+get-issued l b p s n t z h =
+    get-replied (stateOf l b p s n (Send GetUdid)) t refl z
+    ∙ ap (λ (c : Controller). issued c (t .udid) (hasToPick (c .pool) (t .udid) (t .addressByte)) (chosen (c .pool) (c .picked) (t .udid) (t .addressByte))) (unbound-frees-nothing l b p s n (Send GetUdid) (t .udid) h)
 
 -- ---- Assign Address
 
 -- complete: bound, and the next Get UDID
-pub assign-bound : (b p : Pool) (s : Slots) (n : ℕ) (u : Udid) (a : Address) → n < 128 → Fits u → a .0 < 128
-    → stepped (stateOf b p s n (Send (Assign u a))) (traceOf (Send (Assign u a)) []) ≡ out b (withAddress p (a .0)) (withBinding s (a .0) (bindingFor (member p (a .0)) u)) (n + 1) (Send GetUdid)
+pub assign-bound : (l : ℕ) (b p : Pool) (s : Slots) (n : ℕ) (u : Udid) (a : Address) → n < 128 → Fits u → a .0 < 128
+    → stepped (stateOf l b p s n (Send (Assign u a))) (traceOf (Send (Assign u a)) []) ≡ out l b (withAddress p (a .0)) (withBinding s (a .0) (bindingFor (member p (a .0)) u)) (n + 1) (Send GetUdid)
 unfolding asked bound
-assign-bound b p s n u a h f l =
-    told-is-changed (stateOf b p s n (Send (Assign u a))) (traceOf (Send (Assign u a)) []) (Send (Assign u a)) (Took u a) refl (assign-whole u a (traceOf (Send (Assign u a)) []) f refl)
+assign-bound l b p s n u a h f m =
+    told-is-changed (stateOf l b p s n (Send (Assign u a))) (traceOf (Send (Assign u a)) []) (Send (Assign u a)) (Took u a) refl (assign-whole u a (traceOf (Send (Assign u a)) []) f refl)
     ∙ rw (le-ltb 127 (a .0) (omega arith), lt-leb 128 n h)

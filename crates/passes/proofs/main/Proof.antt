@@ -14,14 +14,11 @@ new-controller-requires c κs = search needs
 loop-holds : tie.Need-loop-holds Inv-loop μ-loop
 loop-holds c = search needs
 
-read-operation-requires : tie.Need-read-operation-requires Inv-loop μ-loop
-read-operation-requires c κs = search needs
+read-byte-requires : tie.Need-read-byte-requires Inv-loop μ-loop
+read-byte-requires c κs = search needs
 
-read-pool-requires : tie.Need-read-pool-requires Inv-loop μ-loop
-read-pool-requires c κs = search needs
-
-new-controller-requires-2 : tie.Need-new-controller-requires-2 Inv-loop μ-loop
-new-controller-requires-2 c κs = search needs
+read-controller-requires : tie.Need-read-controller-requires Inv-loop μ-loop
+read-controller-requires c κs = search needs
 
 write-finds-requires : tie.Need-write-finds-requires Inv-loop μ-loop
 write-finds-requires c κs = search needs
@@ -52,9 +49,8 @@ main-spec =
     μ-loop
     new-controller-requires
     loop-holds
-    read-operation-requires
-    read-pool-requires
-    new-controller-requires-2
+    read-byte-requires
+    read-controller-requires
     write-finds-requires
     go-on-requires
     returns

@@ -15,10 +15,10 @@ use Rattle.bus.proofs.pass.run_pass.Statement.{statement}
 use Rattle.bus.proofs.pass.run_pass.Tie as tie
 
 abbrev Inv-loop : tie.InvT-loop
-Inv-loop records₀ st₀ i₀ records st i = (i ≤ 300) × Running (worldOf st₀ records₀) records₀ (300 - i) st records
+Inv-loop last records₀ st₀ i₀ records st i = (i ≤ 300) × Running (worldOf st₀ records₀) records₀ (300 - i) st records
 
 abbrev μ-loop : tie.MeasureT-loop
-μ-loop records₀ st₀ i₀ records st i = 300 - i
+μ-loop last records₀ st₀ i₀ records st i = 300 - i
 
 new-requires : tie.Need-new-requires Inv-loop μ-loop
 new-requires c κs = search needs
@@ -27,7 +27,7 @@ start-requires : tie.Need-start-requires Inv-loop μ-loop
 start-requires c κs = search needs
 
 loop-holds : tie.Need-loop-holds Inv-loop μ-loop
-loop-holds c = (omega arith, running-first (c .before .before .before .args .occupied) (c .start .result) (now (c .before .before .before .args .records)) (c .start .ensures ∙ ap started (c .before .new .ensures)) (all-bytes (now (c .before .before .before .args .records)) (λ j. omega (arith, c .before .before .slice-known .given j))) (c .before .before .before .pre))
+loop-holds c = (omega arith, running-first (c .before .before .before .args .occupied) (c .before .before .before .args .last) (c .start .result) (now (c .before .before .before .args .records)) (c .start .ensures ∙ ap started (c .before .new .ensures)) (all-bytes (now (c .before .before .before .args .records)) (λ j. omega (arith, c .before .before .slice-known .given j))) (c .before .before .before .pre))
 
 is-sent-requires : tie.Need-is-sent-requires Inv-loop μ-loop
 is-sent-requires c κs = search needs
@@ -36,7 +36,7 @@ same-length : tie.Need-same-length Inv-loop μ-loop
 same-length c = c .before .before .before .loop .inv .1 .same-size
 
 returns : tie.Need-returns Inv-loop μ-loop
-returns c = let l = c .before .before .before .loop in running-still (c .before .before .before .before .before .before .before .args .occupied) (now (c .before .before .before .before .before .before .before .args .records)) (c .before .before .before .before .start .result) (c .before .before .before .before .start .ensures ∙ ap started (c .before .before .before .before .before .new .ensures)) (300 - l .i) (l .st) (l .records) (sym (c .before .is-sent .ensures) ∙ not-true _ (c .if1 .taken)) (l .inv .1)
+returns c = let l = c .before .before .before .loop in running-still (c .before .before .before .before .before .before .before .args .occupied) (c .before .before .before .before .before .before .before .args .last) (now (c .before .before .before .before .before .before .before .args .records)) (c .before .before .before .before .start .result) (c .before .before .before .before .start .ensures ∙ ap started (c .before .before .before .before .before .new .ensures)) (300 - l .i) (l .st) (l .records) (sym (c .before .is-sent .ensures) ∙ not-true _ (c .if1 .taken)) (l .inv .1)
 
 slice-aggregate-send : tie.Need-slice-aggregate-send Inv-loop μ-loop
 slice-aggregate-send c = search needs
@@ -74,7 +74,7 @@ same-length-2 : tie.Need-same-length-2 Inv-loop μ-loop
 same-length-2 c = c .before .loop .inv .1 .same-size
 
 returns-2 : tie.Need-returns-2 Inv-loop μ-loop
-returns-2 c = let l = c .before .loop in running-last (c .before .before .before .before .before .args .occupied) (now (c .before .before .before .before .before .args .records)) (c .before .before .start .result) (c .before .before .start .ensures ∙ ap started (c .before .before .before .new .ensures)) (300 - l .i) (l .st) (l .records) (omega arith) (l .inv .1)
+returns-2 c = let l = c .before .loop in running-last (c .before .before .before .before .before .args .occupied) (c .before .before .before .before .before .args .last) (now (c .before .before .before .before .before .args .records)) (c .before .before .start .result) (c .before .before .start .ensures ∙ ap started (c .before .before .before .new .ensures)) (300 - l .i) (l .st) (l .records) (omega arith) (l .inv .1)
 
 pub run-pass-spec : {M : Type 1} → statement M
 run-pass-spec =

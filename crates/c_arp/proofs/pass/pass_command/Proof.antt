@@ -1,24 +1,34 @@
+use mathlib.Core.Path.{sym, _∙_}
+use native.Mathlib.Omega.{arith}
+use Rattle.c_arp.specs.Parts.{poolIn}
+use Rattle.c_arp.specs.PassCallLaws.{command-forbidden, command-told}
 use borrow.Author.Needs.{needs}
-use mathlib.Core.Path.{_∙_, ap}
-use Rattle.pool.specs.declared.Pool.{Pool}
-use Rattle.arp.specs.declared.state.Stepped.{Stepped}
-use Rattle.c_arp.specs.Commands.{toldCommand}
-use Rattle.c_arp.specs.Pass.{passOver}
 use Rattle.c_arp.proofs.pass.pass_command.Statement.{statement}
 use Rattle.c_arp.proofs.pass.pass_command.Tie as tie
+use Rattle.c_arp.proofs.pass.pass_command.Reads as reads
+use Rattle.c_arp.proofs.pass.pass_command.Lts as lts
+use Rattle.c_arp.proofs.kinds.said.Reads as said-reads
+use Rattle.c_arp.proofs.pass.command_after.Reads as command-after-reads
 
-pool-in-requires : tie.Need-pool-in-requires
-pool-in-requires c κs = search needs
+-- src/pass.rt:91:9
+said-requires : tie.Need-said-requires
+said-requires c κs = search needs
 
-run-pass-requires : tie.Need-run-pass-requires
-run-pass-requires c κs = search needs
-
-told-command-requires : tie.Need-told-command-requires
-told-command-requires c κs = search needs
-
+-- src/pass.rt:91:9
 returns : tie.Need-returns
-returns c = c .told-command .ensures ∙ ap (λ (x : Stepped). toldCommand (x .command) (x .state .gets)) (c .before .before .run-pass .ensures ∙ ap (λ (p : Pool). passOver p (c .before .before .before .before .before .args .traces .now)) (c .before .before .before .pool-in .ensures))
+returns c =
+    let a = c .before .before .before .args in
+    c .said .ensures ∙ sym (command-forbidden (poolIn (a .occupied)) (a .last) (a .traces .now) (c .before .if1 .taken))
+
+-- src/pass.rt:93:5
+command-after-requires : tie.Need-command-after-requires
+command-after-requires c κs = search needs
+
+-- src/pass.rt:86:1
+returns-2 : tie.Need-returns-2
+returns-2 c =
+    let a = c .before .before .before .args in
+    c .command-after .ensures ∙ sym (command-told (poolIn (a .occupied)) (a .last) (a .traces .now) (omega (arith, c .before .if1 .left)))
 
 pub pass-command-spec : {M : Type 1} → statement M
-pass-command-spec =
-    tie.close (tie.spec pool-in-requires run-pass-requires told-command-requires returns)
+pass-command-spec = tie.close (tie.spec said-requires returns command-after-requires returns-2)

@@ -1,31 +1,34 @@
+use mathlib.Core.Path.{sym, _∙_}
+use native.Mathlib.Omega.{arith}
+use Rattle.c_arp.specs.Parts.{poolIn}
+use Rattle.c_arp.specs.PassCallLaws.{found-forbidden, found-told}
 use borrow.Author.Needs.{needs}
-use mathlib.Core.Path.{_∙_, ap}
-use Rattle.pool.specs.declared.Pool.{Pool}
-use Rattle.arp.specs.Lookup.{lookedUp}
-use Rattle.arp.specs.declared.state.Stepped.{Stepped}
-use Rattle.c_arp.specs.Pass.{passOver, toldFound}
 use Rattle.c_arp.proofs.pass.pass_lookup.Statement.{statement}
 use Rattle.c_arp.proofs.pass.pass_lookup.Tie as tie
+use Rattle.c_arp.proofs.pass.pass_lookup.Reads as reads
+use Rattle.c_arp.proofs.pass.pass_lookup.Lts as lts
+use Rattle.c_arp.proofs.pass.found.Reads as found-reads
+use Rattle.c_arp.proofs.pass.found_after.Reads as found-after-reads
 
-pool-in-requires : tie.Need-pool-in-requires
-pool-in-requires c κs = search needs
+-- src/pass.rt:138:9
+found-requires : tie.Need-found-requires
+found-requires c κs = search needs
 
-run-pass-requires : tie.Need-run-pass-requires
-run-pass-requires c κs = search needs
-
-lookup-requires : tie.Need-lookup-requires
-lookup-requires c κs = search needs
-
-told-found-requires : tie.Need-told-found-requires
-told-found-requires c κs = search needs
-
+-- src/pass.rt:138:9
 returns : tie.Need-returns
 returns c =
-    let a = c .before .before .before .before .before .before .args in
-    c .told-found .ensures
-    ∙ ap toldFound (c .before .lookup .ensures ∙ ap (λ (x : Stepped). lookedUp (x .state) (a .address)) (c .before .before .before .run-pass .ensures ∙ ap (λ (p : Pool). passOver p (a .traces .now)) (c .before .before .before .before .pool-in .ensures)))
+    let a = c .before .before .before .args in
+    c .found .ensures ∙ sym (found-forbidden (poolIn (a .occupied)) (a .last) (a .traces .now) (a .address) (c .before .if1 .taken))
+
+-- src/pass.rt:140:5
+found-after-requires : tie.Need-found-after-requires
+found-after-requires c κs = search needs
+
+-- src/pass.rt:134:1
+returns-2 : tie.Need-returns-2
+returns-2 c =
+    let a = c .before .before .before .args in
+    c .found-after .ensures ∙ sym (found-told (poolIn (a .occupied)) (a .last) (a .traces .now) (a .address) (omega (arith, c .before .if1 .left)))
 
 pub pass-lookup-spec : {M : Type 1} → statement M
-pass-lookup-spec =
-    tie.close
-    (tie.spec pool-in-requires run-pass-requires lookup-requires told-found-requires returns)
+pass-lookup-spec = tie.close (tie.spec found-requires returns found-after-requires returns-2)

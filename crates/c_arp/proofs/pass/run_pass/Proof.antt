@@ -8,10 +8,10 @@ use Rattle.c_arp.proofs.pass.run_pass.Statement.{statement}
 use Rattle.c_arp.proofs.pass.run_pass.Tie as tie
 
 abbrev Inv-loop : tie.InvT-loop
-Inv-loop bytes st₀ at₀ st at = (at ≤ length bytes) × Leads bytes (stepsOver st₀ (tracesIn (length bytes) bytes)) st at
+Inv-loop last bytes st₀ at₀ st at = (at ≤ length bytes) × Leads bytes (stepsOver st₀ (tracesIn (length bytes) bytes)) st at
 
 abbrev μ-loop : tie.MeasureT-loop
-μ-loop bytes st₀ at₀ st at = length bytes - at
+μ-loop last bytes st₀ at₀ st at = length bytes - at
 
 new-requires : tie.Need-new-requires Inv-loop μ-loop
 new-requires c κs = search needs
@@ -26,7 +26,7 @@ symbols-at-requires : tie.Need-symbols-at-requires Inv-loop μ-loop
 symbols-at-requires c κs = c .before .loop .inv .0
 
 returns : tie.Need-returns Inv-loop μ-loop
-returns c = from-start _ (c .before .before .before .before .before .before .before .args .bytes .now) _ _ _ (c .before .before .before .before .before .new .ensures) (c .before .before .before .before .start .ensures) (leads-stop _ _ _ _ _ (c .before .before .before .loop .inv .1) (c .before .symbols-at .ensures) (c .if1 .taken))
+returns c = from-start _ _ (c .before .before .before .before .before .before .before .args .bytes .now) _ _ _ (c .before .before .before .before .before .new .ensures) (c .before .before .before .before .start .ensures) (leads-stop _ _ _ _ _ (c .before .before .before .loop .inv .1) (c .before .symbols-at .ensures) (c .if1 .taken))
 
 add-from : tie.Need-add-from Inv-loop μ-loop
 add-from c = omega (arith, c .before .before .symbols-at .ensures .room (omega (arith, c .before .if1 .left)))
@@ -56,7 +56,7 @@ loop-again : tie.Need-loop-again Inv-loop μ-loop
 loop-again c = (omega (arith, c .before .before .before .before .symbols-at .ensures .room (omega (arith, c .before .before .before .if1 .left))), leads-turn _ _ _ _ _ (c .before .before .before .before .before .loop-test .taken) (c .before .before .before .before .before .before .loop .inv .1) (c .before .before .before .before .symbols-at .ensures) (omega (arith, c .before .before .before .if1 .left)) _ (c .step-on .ensures))
 
 returns-2 : tie.Need-returns-2 Inv-loop μ-loop
-returns-2 c = from-start _ (c .before .before .before .before .before .args .bytes .now) _ _ _ (c .before .before .before .new .ensures) (c .before .before .start .ensures) (leads-end _ _ _ _ (c .before .loop .inv .1) (c .loop-test .left))
+returns-2 c = from-start _ _ (c .before .before .before .before .before .args .bytes .now) _ _ _ (c .before .before .before .new .ensures) (c .before .before .start .ensures) (leads-end _ _ _ _ (c .before .loop .inv .1) (c .loop-test .left))
 
 pub run-pass-spec : {M : Type 1} → statement M
 run-pass-spec =

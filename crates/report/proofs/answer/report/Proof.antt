@@ -20,7 +20,7 @@ gets-sent-requires : tie.Need-gets-sent-requires
 gets-sent-requires c κs = search needs
 
 returns : tie.Need-returns
-returns c = λ j. record { answer = c .before .before .before .number-of .ensures j; place = 0; udid = c .before .before .asked-by .ensures j; bound = c .before .before .before .before .bound-set .ensures j; count = (c .before .used .ensures ∙ ap used (c .before .before .before .before .bound-set .ensures)) j; gets = c .gets-sent .ensures j }
+returns c = λ j. record { answer = c .before .before .before .number-of .ensures j; place = 0; udid = c .before .before .asked-by .ensures j; bound = c .before .before .before .before .bound-set .ensures j; count = (c .before .used .ensures ∙ ap used (c .before .before .before .before .bound-set .ensures)) j; gets = c .gets-sent .ensures j; picked = c .before .before .before .before .before .before .args .last .state .picked }
 
 pub report-spec : {M : Type 1} → statement M
 report-spec =

@@ -44,14 +44,14 @@ ending-requires c κs = search needs
 enum-told-7 : tie.Need-enum-told-7
 enum-told-7 c = search needs
 
-ending-requires-2 : tie.Need-ending-requires-2
-ending-requires-2 c κs = search needs
+run-requires : tie.Need-run-requires
+run-requires c κs = search needs
 
 enum-told-8 : tie.Need-enum-told-8
 enum-told-8 c = search needs
 
-ending-requires-3 : tie.Need-ending-requires-3
-ending-requires-3 c κs = search needs
+ending-requires-2 : tie.Need-ending-requires-2
+ending-requires-2 c κs = search needs
 
 enum-told-9 : tie.Need-enum-told-9
 enum-told-9 c = search needs
@@ -68,8 +68,8 @@ lookup-requires c κs = search needs
 enum-told-11 : tie.Need-enum-told-11
 enum-told-11 c = search needs
 
-ending-requires-4 : tie.Need-ending-requires-4
-ending-requires-4 c κs = search needs
+ending-requires-3 : tie.Need-ending-requires-3
+ending-requires-3 c κs = search needs
 
 enum-told-12 : tie.Need-enum-told-12
 enum-told-12 c = search needs
@@ -93,10 +93,10 @@ returns-6 : tie.Need-returns-6
 returns-6 c = c .ending .ensures ∙ sym (ap (λ (v : Verb). requestIn v (c .before .before .before .before .args .line .now) (c .before .before .before .before .args .verb) (c .before .before .before .before .args .from)) (c .before .enum-told6 .given .1))
 
 returns-7 : tie.Need-returns-7
-returns-7 c = c .ending2 .ensures ∙ sym (ap (λ (v : Verb). requestIn v (c .before .before .before .before .args .line .now) (c .before .before .before .before .args .verb) (c .before .before .before .before .args .from)) (c .before .enum-told7 .given .1))
+returns-7 c = c .run .ensures ∙ sym (ap (λ (v : Verb). requestIn v (c .before .before .before .before .args .line .now) (c .before .before .before .before .args .verb) (c .before .before .before .before .args .from)) (c .before .enum-told7 .given .1))
 
 returns-8 : tie.Need-returns-8
-returns-8 c = c .ending3 .ensures ∙ sym (ap (λ (v : Verb). requestIn v (c .before .before .before .before .args .line .now) (c .before .before .before .before .args .verb) (c .before .before .before .before .args .from)) (c .before .enum-told8 .given .1))
+returns-8 c = c .ending2 .ensures ∙ sym (ap (λ (v : Verb). requestIn v (c .before .before .before .before .args .line .now) (c .before .before .before .before .args .verb) (c .before .before .before .before .args .from)) (c .before .enum-told8 .given .1))
 
 returns-9 : tie.Need-returns-9
 returns-9 c = c .step .ensures ∙ sym (ap (λ (v : Verb). requestIn v (c .before .before .before .before .args .line .now) (c .before .before .before .before .args .verb) (c .before .before .before .before .args .from)) (c .before .enum-told9 .given .1))
@@ -105,7 +105,7 @@ returns-10 : tie.Need-returns-10
 returns-10 c = c .lookup .ensures ∙ sym (ap (λ (v : Verb). requestIn v (c .before .before .before .before .args .line .now) (c .before .before .before .before .args .verb) (c .before .before .before .before .args .from)) (c .before .enum-told10 .given .1))
 
 returns-11 : tie.Need-returns-11
-returns-11 c = c .ending4 .ensures ∙ sym (ap (λ (v : Verb). requestIn v (c .before .before .before .before .args .line .now) (c .before .before .before .before .args .verb) (c .before .before .before .before .args .from)) (c .before .enum-told11 .given .1))
+returns-11 c = c .ending3 .ensures ∙ sym (ap (λ (v : Verb). requestIn v (c .before .before .before .before .args .line .now) (c .before .before .before .before .args .verb) (c .before .before .before .before .args .from)) (c .before .enum-told11 .given .1))
 
 returns-12 : tie.Need-returns-12
 returns-12 c = sym (ap (λ (v : Verb). requestIn v (c .before .before .before .args .line .now) (c .before .before .before .args .verb) (c .before .before .before .args .from)) (c .enum-told12 .given .1))
@@ -127,15 +127,15 @@ request-in-spec =
     enum-told-6
     ending-requires
     enum-told-7
-    ending-requires-2
+    run-requires
     enum-told-8
-    ending-requires-3
+    ending-requires-2
     enum-told-9
     step-requires
     enum-told-10
     lookup-requires
     enum-told-11
-    ending-requires-4
+    ending-requires-3
     enum-told-12
     returns
     returns-2
