@@ -30,7 +30,7 @@ pub struct Controller {
     pub bindings: BTreeMap<u8, Binding>,
     pub get_udids: usize,
     /// The address picked last, in this pass or an earlier one. Until the first pick it is the number given at the
-    /// making; one above 127 acts as never picked.
+    /// making; one above 127 counts as 127, never picked.
     pub last_pick: u8,
     /// What was answered last; a step is due if it was sent on the bus.
     pub last: Command,
@@ -58,6 +58,7 @@ impl Controller {
         let starting = starting_pool(occupied);
         let pool = starting.clone();
         let bindings = BTreeMap::new();
+        let last_pick = last_pick.min(NEVER);
         Controller { starting, pool, bindings, get_udids: 0, last_pick, last: Command::NotOutstanding }
     }
 

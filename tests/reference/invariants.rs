@@ -54,7 +54,7 @@ fn choice(before: &Controller, op: &Op, after: &Controller) -> Option<&'static s
     Some(match before.last_pick {
         _ if reply.received[16] / 2 == address && is_fixed(&udid) => "fixed",
         _ if reply.received[16] / 2 == address => "kept",
-        128.. => "picked, no last pick",
+        NEVER => "picked, no last pick",
         last if address == last => "the last pick again",
         last if address < last => "picked, round from 7Fh",
         _ => "picked further on",
@@ -81,7 +81,7 @@ const MADE: [&str; 5] = ["made with 0", "made with 126", "made with 127", "made 
 /// Only a pick moves the last pick, and to the address picked; of the last pick again no other address was free.
 fn moves(before: &Controller, op: &Op, after: &Controller) -> bool {
     match (op, choice(before, op, after), after.last) {
-        (Op::New(_, last_pick), ..) => after.last_pick == *last_pick,
+        (Op::New(_, last_pick), ..) => after.last_pick == NEVER.min(*last_pick),
         (_, None | Some("fixed" | "kept"), _) => after.last_pick == before.last_pick,
         (_, Some("the last pick again"), Command::Assign(_, address)) => {
             after.last_pick == address && after.pool.len() == usize::from(ADDRESSES) - 1

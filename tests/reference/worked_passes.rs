@@ -280,16 +280,16 @@ fn the_last_pick_again() {
     pass.last_pick(0x33);
 }
 
-/// A number above 127 acts as never picked, and stays until the first pick.
+/// A number above 127 counts as never picked.
 fn no_last_pick() {
     let mut pass = Pass::begin_after(&[], 200);
     pass.taken(M, 0x41, 0x20);
-    pass.last_pick(200);
+    pass.last_pick(127);
     pass.again();
-    pass.last_pick(200);
+    pass.last_pick(127);
     pass.taken(M, 0xff, 0x09);
     pass.last_pick(0x09);
-    assert_eq!(Controller::new(&Addresses::new(), 255).last_pick, 255);
+    assert_eq!(Controller::new(&Addresses::new(), 255).last_pick, 127);
 }
 
 pub fn all() -> usize {
