@@ -39,7 +39,7 @@ impl Pool {
         let above = self.free_from(last + 1);
         match above {
             Free::At(a) => Free::At(a),
-            Free::AllUsed => self.lowest_free(),
+            Free::AllUsed => self.free_from(0),
         }
     }
 

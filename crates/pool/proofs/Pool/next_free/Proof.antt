@@ -48,8 +48,8 @@ enum-told : tie.Need-enum-told
 enum-told c = search needs
 
 -- src/free.rt:42:30
-lowest-free-requires-2 : tie.Need-lowest-free-requires-2
-lowest-free-requires-2 c κs = search needs
+free-from-requires-2 : tie.Need-free-from-requires-2
+free-from-requires-2 c κs = search needs
 
 -- src/free.rt:33:5
 returns-2 : tie.Need-returns-2
@@ -65,7 +65,7 @@ returns-3 c =
     let a = c .before .before .before .before .before .args in
     let f = c .before .before .before .free-from in
     let e = c .before .enum-told .given .1 in
-    c .lowest-free2 .ensures
+    c .free-from2 .ensures
     ∙ sym (next (a .self) (a .last) (f .result) (omega (arith, c .before .before .before .before .if1 .left)) (f .ensures) ∙ ap (λ (x : Free). orElse x (lowestFree (a .self))) e)
 
 pub next-free-spec : {M : Type 1} → statement M
@@ -78,6 +78,6 @@ next-free-spec =
     free-from-requires
     enum-known-above
     enum-told
-    lowest-free-requires-2
+    free-from-requires-2
     returns-2
     returns-3)
