@@ -34,7 +34,7 @@ int main(void)
     printf("decode: %u, word %d\n", d.answer, received[0] + 256 * received[1]);
 
     hb_pool occupied = {0, 0}; /* no address is in use yet */
-    uint8_t last = 127;        /* and none was ever picked */
+    uint8_t last = HB_NEVER_PICKED;
     hb_model m = hb_run_model(occupied, last, shelf, sizeof shelf, bindings, sizeof bindings);
     printf("model: %u, %u bound, %u Get UDIDs, last pick 0x%02x\n", m.answer, m.count, m.gets, m.picked);
     show(m.bound);
