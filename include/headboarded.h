@@ -64,8 +64,8 @@ enum {
     HB_BLOCK_PROCESS_CALL = 10
 };
 
-/* What the controller hands out: the kind of an hb_command. The first three are commands to send. HB_NONE_FREE, HB_ABANDONED and
- * HB_NOT_OUTSTANDING come with the answers HB_NO_FREE_ADDRESS, HB_PASS_ABANDONED and HB_NO_COMMAND. */
+/* What the controller hands out: the kind of an hb_command. The first three are commands to send. HB_NONE_FREE and HB_ABANDONED
+ * come with the answers HB_NO_FREE_ADDRESS and HB_PASS_ABANDONED, and HB_NOT_OUTSTANDING with HB_NO_COMMAND and HB_FORBIDDEN. */
 enum {
     HB_PREPARE = 0,
     HB_GET_UDID = 1,
@@ -196,8 +196,7 @@ hb_written hb_put_command(uint8_t kind, hb_udid udid, uint8_t address,
 
 /* What was handed out last, the number of an end, the Get UDIDs sent in the pass, and the last pick: the address picked last, in this
  * pass or before it. The address is that of HB_ASSIGN; the identifier that of HB_ASSIGN and HB_NONE_FREE. Whatever a kind lacks is 0.
- * With 1 and 21 every part is 0 but the answer and the kind, which is no part of a result but says which of the cases it is:
- * HB_NOT_OUTSTANDING. */
+ * With 1 and 21 every part is 0 but the answer and the kind, HB_NOT_OUTSTANDING; the last pick is then what it was before. */
 typedef struct {
     uint32_t kind;
     uint32_t answer;

@@ -4,7 +4,7 @@ use mathlib.Core.Path.{_≡_, refl, sym, ap, ap₂, _∙_}
 use mathlib.Core.Bool.{Bool, true, false}
 use mathlib.Core.Logic.{_↔_}
 use native.Mathlib.Decide.{ℕ-discrete}
-use native.Mathlib.Nat.{suc-add, add-suc, zero-add, add-zero}
+use native.Mathlib.Nat.{suc-add, zero-add, add-zero}
 use native.Mathlib.Omega.{arith}
 use Rattle.lists.specs.AbsurdLaws.{zero-is-one}
 use Rattle.lists.specs.Choice.{pick}

@@ -34,7 +34,7 @@ use Rattle.arp.specs.Controller.{handed, counted, asked, hasToPick, chos
 use Rattle.hearing.specs.Heard.{answer, sentIn, receivedIn, isPrepare, isGet, isAssign}
 use Rattle.commands.specs.Codes.{sendByte, blockRead, blockWrite}
 use Rattle.arp.specs.History.{Event, Start, Received, run, oneGet, getsSent}
-use Rattle.arp.specs.Replay.{Table, emptied, released, after, readAs, handedOut, table, again, givenTo, assigning, nextPrepare, nextReply, nextCommand, view, SameOutstanding}
+use Rattle.arp.specs.Replay.{Table, emptied, released, handedOut, table, again, givenTo, assigning, nextPrepare, nextReply, nextCommand, view, SameOutstanding}
 use Rattle.commands.specs.declared.command.Command.the-variants.{Prepare, GetUdid, Assign}
 use Rattle.commands.specs.declared.command.End.the-variants.{Ended, Abandoned, NotOutstanding}
 use Rattle.commands.specs.declared.command.Handed.{Handed}

@@ -43,7 +43,7 @@ run occupied last (Start ∷ es) = started (run occupied last es) .state
 run occupied last (Received tr ∷ es) = stepped (run occupied last es) tr .state
 
 -- a new controller: the starting pool in both places, nothing bound or claimed, no Get UDID counted, nothing handed out, and the last pick as given;
--- a number above 127 is never picked
+-- one above 127 counts as 127, never picked
 pub record New (occupied : Pool) (l : ℕ) (s : Controller) : Type 0 where
   pub starting : s .starting ≡ startingPool occupied
   pub pool : s .pool ≡ startingPool occupied

@@ -52,7 +52,7 @@ pub record Asks (s : Controller) (r : Stepped) : Type 0 where
   pub again : s .gets < 128 → Hands s r (Send GetUdid) (s .gets + 1)
   pub limit : 128 ≤ s .gets → Hands s r (Wait Abandoned) (s .gets)
 
--- for a target with this identifier and this address byte, where the addresses of p are in use and l is the last pick; m is it then
+-- for a target with this identifier and this address byte, where the addresses of p are in use and l is the last pick; m is the last pick after it
 pub record Chooses (p : Pool) (l : ℕ) (u : Udid) (b : ℕ) (k : Handed) (m : ℕ) : Type 0 where
   -- FFh, or movable (the top two bits not 00) with its own address in the pool: the first free one after the last pick is assigned, and is the last
   -- pick then; 13 if none is free

@@ -1,4 +1,5 @@
--- The picks of a run, told from the traces received and the commands handed out. Nothing here cites how an address is chosen.
+-- The picks of a run, told from the traces received and the commands handed out, each with the pool that it was picked from. Nothing here
+-- cites how an address is chosen.
 use Prim.Native.Nat.{ℕ, _/_}
 use mathlib.Core.Bool.{Bool}
 use mathlib.Core.List.{List, [], _∷_, _++_}

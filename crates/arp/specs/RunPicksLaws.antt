@@ -1,5 +1,5 @@
--- The picks of a run are one round of the circle after another: each is the first free address after the one before it. So the state's last pick
--- is the address of the latest, and an address that was picked is not picked again before each other one that stayed free.
+-- The picks of a run are each the first free address after the one before it. So the state's last pick is the address of the latest, and an
+-- address that was picked is not picked again before every other one that stayed free has been picked.
 use Prim.Native.Nat.{ℕ, _<_}
 use mathlib.Core.Path.{_≡_, refl, sym, ap, _∙_, subst}
 use mathlib.Core.Bool.{Bool, true, false}
@@ -105,7 +105,8 @@ run-picks occupied last (Received tr ∷ es) =
     picks-on (lastPick last) (picksOf occupied last es) (pickIn tr (stepped s tr .state .pool) (stepped s tr .command)) (run-picks occupied last es)
     (subst (λ (l : ℕ). Picks l (pickIn tr (stepped s tr .state .pool) (stepped s tr .command))) (last-is-latest occupied last es) (step-picks s tr))
 
--- AN ADDRESS THAT WAS PICKED IS NOT PICKED AGAIN before each other one that was free at every pick since then, the later one included
+-- AN ADDRESS THAT WAS PICKED IS NOT PICKED AGAIN before every other one that was free at each pick since then, the later one included, has been
+-- picked
 pub not-picked-again : (occupied : Pool) (last : ℕ) (es : List Event) (before : List Pick) (x : Pick) (between : List Pick) (y : Pick) (rest : List Pick)
     → picksOf occupied last es ≡ before ++ (x ∷ (between ++ (y ∷ rest))) → y .at ≡ x .at
     → (b : ℕ) → b < 128 → (b ≡ x .at → ⊥) → FreeAtEach b (between ++ (y ∷ [])) → Picked b between

@@ -2,7 +2,6 @@
 use commands::command::Handed;
 use pool::Pool;
 use slots::Slots;
-use udid::Udid;
 
 pub struct Controller {
     // The addresses in use when a pass begins.
@@ -15,7 +14,7 @@ pub struct Controller {
     pub gets: u32,
     // What was handed out last.
     pub last: Handed,
-    // The address picked last, in this pass or an earlier one; 127 before the first pick.
+    // The address picked last, in this pass or an earlier one. Before the first pick it is what the controller was made with, up to 127.
     pub picked: u8,
 }
 

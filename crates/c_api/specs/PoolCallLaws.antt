@@ -119,7 +119,7 @@ hb-pool-lowest-free pool r e = go (lowestFree (poolIn pool)) refl e
         inl (w .small, false-is (member (poolIn pool) r) (pool-is (pool .low) (pool .high) r) .0 (w .free), λ b l. pool-is (pool .low) (pool .high) b .0 (w .below b l))
     go AllUsed q h = inr (h, λ b l. pool-is (pool .low) (pool .high) b .0 (none-free (poolIn pool) .0 q b l))
 
--- below 128: not in the pool, and of all that are not the one at the least distance after the last; 128: all are. Above 127 the last counts as 127
+-- below 128: not in the pool, and of all that are not the one at the least distance after the last; 128: all are
 pub hb-pool-next-free : (pool : HbPool) (last r : ℕ) → last < 128 → r ≡ freeNumber (nextFree (poolIn pool) last)
     → ((r < 128) × (InPool (pool .low) (pool .high) r → ⊥) × ((a : ℕ) → a < 128 → (InPool (pool .low) (pool .high) a → ⊥) → (r + 127 - last) % 128 ≤ (a + 127 - last) % 128))
     ⊎ ((r ≡ 128) × ((a : ℕ) → a < 128 → InPool (pool .low) (pool .high) a))
@@ -136,5 +136,6 @@ hb-pool-next-free pool last r small e = go (nextFree (poolIn pool) last) refl e
         inl (w .small, free r .0 (w .free), λ b l n. w .nearest b l (free b .1 n))
     go AllUsed q h = inr (h, λ b l. pool-is (pool .low) (pool .high) b .0 (next-none (poolIn pool) last .0 q b l))
 
+-- from 127 on the last counts as 127
 pub hb-pool-next-above : (pool : HbPool) (last : ℕ) → 127 ≤ last → freeNumber (nextFree (poolIn pool) last) ≡ freeNumber (nextFree (poolIn pool) 127)
 hb-pool-next-above pool last h = ap freeNumber (next-above (poolIn pool) last h ∙ sym (next-first (poolIn pool)))

@@ -30,7 +30,7 @@ use Rattle.c_arp.specs.CommandPartLaws.{never-1, command-parts, command-
 use Rattle.c_arp.specs.PassCallLaws.{command-forbidden, command-told}
 use Rattle.c_arp.specs.TraceListLaws.{pass-steps}
 use Rattle.c_arp.specs.TraceLists.{listBytes}
-use Rattle.c_arp.specs.CommandParts.{CommandParts}
+use Rattle.c_arp.specs.CommandParts.{CommandParts, CommandIs}
 use Rattle.c_arp.specs.Histories.{since, eventsOf, IsHistory}
 
 since-steps : (occupied : Pool) (last : ℕ) (es : List Event) (st : Stepped) (trs : List (List ℕ)) → IsHistory occupied last es st → IsHistory occupied last (since es trs) (stepsOver st trs)
@@ -63,9 +63,12 @@ module _ (given : HbPool) (last : ℕ) (l : List ℕ) (r : HbCommand) (e : r ≡
   forbidden : 127 < last → r ≡ refusedPass
   forbidden h = e ∙ command-forbidden (poolIn given) last l h
 
-  -- up to 127 the struct tells the pass
-  pub hb-pass-told : last < 128 → r ≡ toldPass (passOver (poolIn given) last l)
-  hb-pass-told h = e ∙ command-told (poolIn given) last l h
+  told : last < 128 → r ≡ toldPass (passOver (poolIn given) last l)
+  told h = e ∙ command-told (poolIn given) last l h
+
+  -- up to 127 the struct tells what the pass handed out last, its Get UDIDs and its last pick
+  pub hb-pass-told : last < 128 → let st = passOver (poolIn given) last l in CommandIs (st .command) (st .state .gets) (st .state .picked) r
+  hb-pass-told h = let st = passOver (poolIn given) last l in command-parts (st .command) (st .state .gets) (st .state .picked) r (told h)
 
   -- 1 exactly if it is above 127, and then every part but the kind is zero
   pub hb-pass-1 : (r .answer ≡ 1) ↔ (127 < last)
@@ -75,7 +78,7 @@ module _ (given : HbPool) (last : ℕ) (l : List ℕ) (r : HbCommand) (e : r ≡
       go q (yes h) = h
       go q (no h) =
           let st : Stepped = passOver (poolIn given) last l in
-          absurd (never-1 (st .command) (st .state .gets) (st .state .picked) (sym (ap (λ (x : HbCommand). x .answer) (hb-pass-told (omega arith))) ∙ q))
+          absurd (never-1 (st .command) (st .state .gets) (st .state .picked) (sym (ap (λ (x : HbCommand). x .answer) (told (omega arith))) ∙ q))
 
   pub hb-pass-1-zero : r .answer ≡ 1 → CommandParts r 6 1 0 0 0 0 0
   hb-pass-1-zero q =
@@ -91,10 +94,10 @@ hb-pass-21 given last trs tr rest small cut r e =
     let p : Pool = record { low = given .low; high = given .high } in
     let st : Stepped = passOver (poolIn given) last (listBytes (trs ++ tr ∷ []) ++ rest) in
     let c : st .command ≡ stepped (run p last (eventsOf trs)) tr .command = hb-pass-history given last (trs ++ tr ∷ []) rest cut .command ∙ ap (handedOut p last) (since-last (Start ∷ []) trs tr) in
-    Iff·trans (command-21 (st .command) (st .state .gets) (st .state .picked) r (hb-pass-told given last (listBytes (trs ++ tr ∷ []) ++ rest) r e small))
+    Iff·trans (command-21 (st .command) (st .state .gets) (st .state .picked) r (told given last (listBytes (trs ++ tr ∷ []) ++ rest) r e small))
     (subst (λ (k : Handed). (commandNumber k ≡ (21, []) ∷ []) ↔ (noCommand (handedOut p last (eventsOf trs)) ≡ true)) (sym c) (step-21-by-events p last (eventsOf trs) tr))
 
 pub hb-pass-start : (given : HbPool) (last : ℕ) (r : HbCommand) → last < 128 → r ≡ passCommand (poolIn given) last [] → CommandParts r 0 0 0 0 last 0 0
 unfolding tracesIn stepsOver
 hb-pass-start given last r small e =
-    command-parts (Send Prepare) 0 last r (hb-pass-told given last [] r e small ∙ ap (toldCommand (Send Prepare) 0) (last-pick-is last small))
+    command-parts (Send Prepare) 0 last r (told given last [] r e small ∙ ap (toldCommand (Send Prepare) 0) (last-pick-is last small))

@@ -1,5 +1,4 @@
--- The first free address after the last one picked: what the answer means. How far an address lies after last, on the circle of the
--- 128: 0 is the next one, 127 is last itself.
+-- The first free address after the last one picked: what the answer means, by how far an address lies after it on the circle of the 128.
 use Prim.Native.Nat.{ℕ, suc, _+_, _-_, _%_, _<_, _≤_}
 use mathlib.Core.Path.{_≡_, refl, sym, ap, _∙_}
 use mathlib.Core.Bool.{Bool, true, false}
@@ -33,7 +32,7 @@ behind l a b h k m =
     let y : (b + 127 - l) % 128 ≡ b + 127 - l = omega arith in
     omega arith
 
--- a free address nearer than a is not free
+-- no free address lies nearer than a
 ahead-back : (l a b : ℕ) → a < 128 → l < b → b < a → (a + 127 - l) % 128 ≤ (b + 127 - l) % 128 → ⊥
 ahead-back l a b h k m n =
     let x : (a + 127 - l) % 128 ≡ a - suc l = omega arith in

@@ -1,23 +1,23 @@
 -- THE PAGE OF PROMISES: statements only. DemandsLaws has one inhabitant of each record, and so its proof.
 -- ≡ is 'equal', ↔ 'if and only if', × 'and', ⊎ 'or', P → ⊥ 'not P', (x : A) × P 'there is an x with P'; getD l i 0 is number i of the list l.
 -- A parameter such as (contract : Wrote ..) is what a function's `ensures` says, word for word. It need not be believed: the code meets it.
--- CONTRACTS: Leaves, Outcome, Wrote, lookedUp, messageOf, modelEnd, newController, protocolFor, started, stepped, traceOf.
--- BELIEVED: 667 lines, without imports, comments and blanks. Crate/file, then the lines of each definition; src is a type of the code. tests/programs/believed.rs counts them.
+-- CONTRACTS: Leaves, Outcome, Wrote, lookedUp, messageOf, modelEnd, newController, nextFree, protocolFor, started, stepped, traceOf.
+-- BELIEVED: 666 lines, without imports, comments and blanks. Crate/file, then the lines of each definition; src is a type of the code. tests/programs/believed.rs counts them.
 -- lists/Choice: and 3, not 3, or 3, pick 3; lists/Each: Bytes 3, Each 3; wire/Addresses: isReserved 2; wire/Symbols: ACK 2, NACK 2, START 2, STOP 2; wire/src: Address 1; pec/Pec: bitStep 2, pecFrom 3, pecOf 2, pecStep 2;
 -- trace/Rows: message 2; trace/Table: InTable 2, Line 6, Row 22, TraceOf 2, lastProtocol 2, line 2, symbols 2; trace/Trace: Message 6, ackOf 3, acked 3, inPlace 2, nacked 3; trace/src: Transaction 8;
 -- encode/Encode: encodeNumber 4; encode/src: Encoded 5; misfit/Cases: IsMisaddressed 2, IsMiscounted 2, IsOther 2, IsSwapped 2; scan/Answers: summary 3; scan/Because: AfterStart 2; scan/BytesIn: bytesIn 3;
 -- scan/Fitting: BitSwapped 4, Breaks 4, CountTooHigh 4, CutAt 9, Fits 2, FitsNext 2, Member 2, OtherPec 3, ToHost 2, Whole 2, Wrong 2; scan/Numbers: decodeNumber 3, refusalNumber 12; scan/src: Decoded 4, Refusal 13;
--- decode/Outcome: Entered 2; pool/Counts: count 3, one 2; pool/Digits: digit 2, plus 2; pool/Free: freeFrom 3, lowestFree 2, used 2; pool/NextFree: Next 4, nextFree 2, orElse 3; pool/Picks: FreeAtEach 3, Pick 3, Picked 3,
--- latestOf 3; pool/Pools: member 2, unionOf 2, withAddress 4; pool/Start: emptyPool 2, reservedPool 2, startingPool 2; pool/src: Free 4, Pool 4; udid/Bytes: bytesFrom 3, bytesOf 3, number 2, numberFrom 3, udidAt 2, udidBytes 2;
--- udid/Udids: Fits 3, isFixed 2, sameUdid 2, value 2; udid/src: Udid 4; slots/Slots: heldAt 2; slots/src: Binding 5, Slots 6; commands/CommandTraces: assignTrace 2, prepareTrace 2, replyTrace 3; commands/src: Command 5, End 7,
--- Handed 4; arp/History: Acknowledged 5, Event 3, run 4; arp/Numbers: commandNumber 3, endNumber 6, lookupNumber 5; arp/OneStep: Asks 3, Binds 6, BoundAt 3, Chooses 5, Continues 2, EndsWith 2, Hands 5, Keeps 4, Replies 4, Same 2,
--- Unbinds 3; arp/RunPicks: isPicked 2, pickIn 5, picksOf 5; arp/src: Controller 8, Found 6, Stepped 4; arbitration/Bits: bits 3, byteBits 3, bytesRead 3, numberOf 3; arbitration/Wire: heard 3, later 3, level 3, next 3, staying 3;
--- targets/ByteCases: EvenOrFlag 2, FixedAt 2, FixedOnTaken 2, SameAsEarlier 2, addressAt 2; targets/Cases: FirstOf 4, LengthIsBad 2, None 2; targets/Records: addressByte 2, flagOf 2, recordCount 2, targetAt 2, targetsFrom 3,
--- targetsOf 2, udidOf 2; targets/Reply: OnWire 3, coveredBytes 2, onWire 3, replyBytes 2, replyData 2, replyPec 2, sends 2, waiting 3; targets/Target: Target 4, isResolved 2, mapTargets 3; bindings/src: ModelAnswer 9;
--- report/Report: modelNumber 2; rule/Acknowledge: acknowledges 4, afterwards 2, answered 4, asking 2, assigningBytes 2, begins 4, gettingBytes 2, onBus 2, preparingBytes 2, received 3, sentPart 5, somebody 3, standing 3;
--- rule/AllBound: leftFree 2, movable 3, withFixed 3; rule/AnyBus: Bus 3, WorldOver 3, beginningOver 2, passOf 2, runOver 3, tookOver 3, turnOver 2; rule/Bus: modelBus 2, pass 2; rule/Effect: addressIn 2, effect 5, isForMe 2,
--- same 5; rule/PlainRule: Distinct 3, Ending 3, Given 3, Ruled 4, ascending 3, held 2, insert 3, isPickedFor 2, next 5, pickAfter 2, plainChoice 2, rule 3, ruled 2; rule/Reading: Any 3, OnePerUdid 3, RecordOf 2;
--- rule/Sent: getsAmong 3, getsOnBus 2, getsOver 2, oneIn 2, tracesOver 3; bus/Run: ModelEnd 4; promises/MarkedWords: Shows 2, holding 2, identifier 2, windows 3.
+-- decode/Outcome: Entered 2; pool/Counts: count 3, one 2; pool/Digits: digit 2, plus 2; pool/Free: used 2; pool/NextFree: Next 4; pool/Picks: FreeAtEach 3, Pick 3, Picked 3, Picks 3, latestOf 3; pool/Pools: member 2, unionOf 2,
+-- withAddress 4; pool/Start: emptyPool 2, reservedPool 2, startingPool 2; pool/src: Free 4, Pool 4; udid/Bytes: bytesFrom 3, bytesOf 3, number 2, numberFrom 3, udidAt 2, udidBytes 2; udid/Udids: Fits 3, isFixed 2, sameUdid 2,
+-- value 2; udid/src: Udid 4; slots/Slots: heldAt 2; slots/src: Binding 5, Slots 6; commands/CommandTraces: assignTrace 2, prepareTrace 2, replyTrace 3; commands/src: Command 5, End 7, Handed 4; arp/History: Acknowledged 5,
+-- Event 3, run 4; arp/Numbers: commandNumber 3, endNumber 6, lookupNumber 5; arp/OneStep: Asks 3, Binds 6, BoundAt 3, Chooses 5, Continues 2, EndsWith 2, Hands 5, Keeps 4, Replies 4, Same 2, Unbinds 3; arp/RunPicks: isPicked 2,
+-- pickIn 5, picksOf 5; arp/src: Controller 8, Found 6, Stepped 4; arbitration/Bits: bits 3, byteBits 3, bytesRead 3, numberOf 3; arbitration/Wire: heard 3, later 3, level 3, next 3, staying 3; targets/ByteCases: EvenOrFlag 2,
+-- FixedAt 2, FixedOnTaken 2, SameAsEarlier 2, addressAt 2; targets/Cases: FirstOf 4, LengthIsBad 2, None 2; targets/Records: addressByte 2, flagOf 2, recordCount 2, targetAt 2, targetsFrom 3, targetsOf 2, udidOf 2;
+-- targets/Reply: OnWire 3, coveredBytes 2, onWire 3, replyBytes 2, replyData 2, replyPec 2, sends 2, waiting 3; targets/Target: Target 4, isResolved 2, mapTargets 3; bindings/src: ModelAnswer 9; report/Report: modelNumber 2;
+-- rule/Acknowledge: acknowledges 4, afterwards 2, answered 4, asking 2, assigningBytes 2, begins 4, gettingBytes 2, onBus 2, preparingBytes 2, received 3, sentPart 5, somebody 3, standing 3; rule/AllBound: leftFree 2, movable 3,
+-- withFixed 3; rule/AnyBus: Bus 3, WorldOver 3, beginningOver 2, passOf 2, runOver 3, tookOver 3, turnOver 2; rule/Bus: modelBus 2, pass 2; rule/Effect: addressIn 2, effect 5, isForMe 2, same 5; rule/PlainRule: Distinct 3,
+-- Ending 3, Given 3, Ruled 4, ascending 3, held 2, insert 3, isPickedFor 2, next 5, pickAfter 2, plainChoice 2, rule 3, ruled 2; rule/Reading: Any 3, OnePerUdid 3, RecordOf 2; rule/Sent: getsAmong 3, getsOnBus 2, getsOver 2,
+-- heardAfter 4, historyOnBus 2, oneIn 2, tracesOver 3; bus/Run: ModelEnd 4; promises/MarkedWords: Shows 2, holding 2, identifier 2, windows 3.
 use mathlib.Core.Path.{_≡_}
 use mathlib.Core.Bool.{Bool, true, false}
 use mathlib.Core.List.{List, [], _∷_, _++_}
@@ -28,7 +28,7 @@ use Rattle.promises.specs.Words.{Each, Bytes, isReserved, pecOf, Address
 use Rattle.promises.specs.Words.{summary, Member, Fits, Breaks, Wrong, AfterStart, FitsNext, ToHost, IsSwapped, IsMisaddressed, IsMiscounted, IsOther, BitSwapped, CountTooHigh, CutAt, OtherPec, decodeNumber, Decoded, Done, Entered, Outcome}
 use Rattle.promises.specs.Words.{member, emptyPool, startingPool, Pool, udidBytes, In128, Udid, heldAt, prepareTrace, replyTrace, assignTrace, newController, started, stepped, Event, Received, run, Acknowledged, lookedUp, commandNumber, lookupNumber}
 use Rattle.promises.specs.Words.{Asks, Binds, Continues, EndsWith, Replies, protocolFor, messageOf, traceOf, Handed, Send, Wait, Nothing, Prepare, GetUdid, Assign, Ended, Abandoned, NotOutstanding, Open, Bound, Claimed, Controller, Stepped}
-use Rattle.promises.specs.Words.{EvenOrFlag, SameAsEarlier, FixedOnTaken, LengthIsBad, None, FirstOf, targetsOf, movable, leftFree, pass, Given, Ending, served, noneFree, Distinct, ruled, Any, RecordOf, OnePerUdid, getsOnBus, modelNumber, Leaves, modelEnd, ModelAnswer, nextFree, Next, At, AllUsed, Pick, latestOf, picksOf, FreeAtEach, Picked, identifier, holding, Shows}
+use Rattle.promises.specs.Words.{EvenOrFlag, SameAsEarlier, FixedOnTaken, LengthIsBad, None, FirstOf, targetsOf, movable, leftFree, pass, Given, Ending, served, noneFree, Distinct, ruled, Any, RecordOf, OnePerUdid, getsOnBus, historyOnBus, modelNumber, Leaves, modelEnd, ModelAnswer, nextFree, Next, At, AllUsed, Pick, Picks, latestOf, picksOf, FreeAtEach, Picked, identifier, holding, Shows}
 
 -- ---- DEMAND 1: EACH NUMBER, IF AND ONLY IF ITS CASE; A REFUSAL CHANGES NOTHING THAT WAS LENT
 -- a message as the encoder's types have it: its command and its data are bytes
@@ -145,8 +145,9 @@ pub record Meets (occupied : Pool) (last : ℕ) (s b : List ℕ) (given : List G
   pub others : (j : ℕ) → j % 18 < 16 → getD s′ j 0 ≡ getD s j 0
   -- all are bound if and only if the movable targets do not outnumber the addresses that the fixed ones leave free
   pub all-bound : (r .count ≡ length (targetsOf s)) ↔ (movable (targetsOf s) ≤ leftFree (startingPool occupied) (targetsOf s))
-  -- the last pick is the rule's, and the controller's at the end of the pass
+  -- the last pick is the rule's, and the controller's at the end of the pass, whose history is a start and the traces that stood on the bus
   pub last-pick : (r .picked ≡ picked) × (r .picked ≡ pass occupied last (targetsOf s) .now .state .picked)
+  pub history : pass occupied last (targetsOf s) .now .state ≡ run occupied last (historyOnBus occupied last (targetsOf s))
   -- and this is the end of the pass, which runs the delivered start and steps against the targets, trace by trace: its targets, and whom its controller has bound
   pub of-pass : (targetsOf s′ ≡ pass occupied last (targetsOf s) .targets) × ((a : ℕ) (u : Udid) → a < 128 → heldAt (pass occupied last (targetsOf s) .now .state .slots) a ≡ Bound u → take 16 (drop (16 * a) b′) ≡ udidBytes u)
 
@@ -212,7 +213,7 @@ pub record Reached (occupied : Pool) (s : Controller) : Type 0 where
 
 pub record Control : Type 0 where
   -- the starting pool: the reserved and the occupied addresses. A new controller has nothing bound, claimed or outstanding; a start, at any time, makes it so again,
-  -- but the last pick stays. Above 127 it is made as never having picked
+  -- but the last pick stays. A last pick above 127 counts as 127, never picked
   pub starting-pool : (occupied : Pool) (a : ℕ) → (member (startingPool occupied) a ≡ true) ↔ ((isReserved a ≡ true) ⊎ (member occupied a ≡ true))
   pub new : (occupied : Pool) (last : ℕ) → let c = newController occupied last in (c .starting ≡ startingPool occupied) × (c .pool ≡ startingPool occupied)
       × (c .last ≡ Wait Nothing) × (c .gets ≡ 0) × ((a : ℕ) → heldAt (c .slots) a ≡ Open) × (last < 128 → c .picked ≡ last) × (127 < last → c .picked ≡ 127)
@@ -237,12 +238,15 @@ pub record Picking : Type 0 where
   pub none : (p : Pool) (l : ℕ) → (nextFree p l ≡ AllUsed) ↔ ((a : ℕ) → a < 128 → member p a ≡ true)
   pub first : (p : Pool) (a : ℕ) → (nextFree p 127 ≡ At (record { 0 = a })) ↔ ((a < 128) × (member p a ≡ false) × ((b : ℕ) → b < a → member p b ≡ true))
   pub again : (p : Pool) (l : ℕ) → nextFree p l ≡ At (record { 0 = l }) → (b : ℕ) → b < 128 → (b ≡ l → ⊥) → member p b ≡ true
-  -- over any starts and traces the last pick is the address of the latest pick, else what the controller was made with; picksOf tells the picks by the traces and the
-  -- commands handed out
+  -- picksOf has the picks of a controller over any starts and traces, told by the traces and the commands handed out, each with its pool. Each follows the one before it,
+  -- the first what the controller was made with. The last pick is the address of the latest
+  pub each : (occupied : Pool) (last : ℕ) (es : List Event) → Picks (newController occupied last .picked) (picksOf occupied last es)
   pub latest : (occupied : Pool) (last : ℕ) (es : List Event) → run occupied last es .picked ≡ latestOf (newController occupied last .picked) (picksOf occupied last es)
-  -- an address that was picked, x, is not picked again, y, before every other one that was free at each pick since then has been picked
-  pub not-again : (occupied : Pool) (last : ℕ) (es : List Event) (before : List Pick) (x : Pick) (between : List Pick) (y : Pick) (rest : List Pick)
-      → picksOf occupied last es ≡ before ++ (x ∷ (between ++ (y ∷ rest))) → y .at ≡ x .at → (b : ℕ) → b < 128 → (b ≡ x .at → ⊥) → FreeAtEach b (between ++ (y ∷ [])) → Picked b between
+  -- picks of controllers and model runs that hand the last pick on are one run of picks
+  pub joined : (l : ℕ) (xs ys : List Pick) → Picks l xs → Picks (latestOf l xs) ys → Picks l (xs ++ ys)
+  -- in any run of picks: an address that was picked, x, is not picked again, y, before every other one that was free at each pick since then has been picked
+  pub not-again : (l : ℕ) (before : List Pick) (x : Pick) (between : List Pick) (y : Pick) (rest : List Pick) → Picks l (before ++ (x ∷ (between ++ (y ∷ rest)))) → y .at ≡ x .at
+      → (b : ℕ) → b < 128 → (b ≡ x .at → ⊥) → FreeAtEach b (between ++ (y ∷ [])) → Picked b between
 
 -- ---- THE MARKED CASES, whatever binding buffer of at least 2,048 bytes is lent
 pub record Marked (b : List ℕ) (room : 2048 ≤ length b) : Type 0 where
@@ -266,7 +270,7 @@ pub record Marked (b : List ℕ) (room : 2048 ≤ length b) : Type 0 where
   -- all 128 occupied, one movable target: 13, none bound, one Get UDID
   pub m10 : Shows (modelEnd (record { low = 18446744073709551615; high = 18446744073709551615 }) 127 (holding 0x80 0x41 1) b)
       (record { answer = 13; place = 0; udid = record { high = 0x80 * 2 ^ 56; low = 1 }; bound = emptyPool; count = 0; gets = 1; picked = 127 }) (holding 0x80 0x41 0) (0x09 ∷ 0x20 ∷ []) (replicate 32 0)
-  -- #106: 09h was picked last, and is free again; the newcomer gets 0Ah. And at 77h the way goes round, to 09h
+  -- 09h was picked last, and is free again: the newcomer gets 0Ah. After 77h the way goes round, to 09h
   pub vacated : Shows (modelEnd emptyPool 0x09 (holding 0x80 0xFF 0) b)
       (record { answer = 0; place = 0; udid = record { high = 0; low = 0 }; bound = record { low = 2 ^ 0x0A; high = 0 }; count = 1; gets = 2; picked = 0x0A }) (holding 0x80 0x15 1) (0x09 ∷ 0x0A ∷ []) (replicate 16 0 ++ identifier 0x80)
   pub round : Shows (modelEnd emptyPool 0x77 (holding 0x80 0xFF 0) b)

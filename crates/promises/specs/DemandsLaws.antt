@@ -3,7 +3,7 @@ use mathlib.Core.Path.{_≡_, refl, sym, ap, _∙_, subst}
 use mathlib.Core.Bool.{Bool, true, false}
 use mathlib.Core.List.{List, [], _∷_, _++_}
 use mathlib.Core.Logic.{_⊎_, inl, inr, _↔_}
-use Prim.Native.Nat.{ℕ, _+_, _*_, _/_, _%_, _≤_, _<_}
+use Prim.Native.Nat.{ℕ, _*_, _/_, _%_, _≤_, _<_}
 use native.Mathlib.Decide.{decLt}
 use native.Mathlib.Nat.{mod-eq-of-lt}
 use native.Mathlib.Omega.{arith}
@@ -48,7 +48,8 @@ use Rattle.arp.specs.AssignedLaws.{found-acknowledged, claim-stays}
 use Rattle.commands.specs.CommandTraces.{prepareTrace, replyTrace, assignTrace}
 use Rattle.pool.specs.FreeLaws.{lowest-is}
 use Rattle.pool.specs.NextFreeLaws.{next-is, next-none, next-first, again-only-if}
-use Rattle.arp.specs.RunPicksLaws.{last-is-latest, not-picked-again}
+use Rattle.arp.specs.RunPicksLaws.{last-is-latest, run-picks}
+use Rattle.pool.specs.PickLaws.{picks-on, rotation}
 use Rattle.arp.specs.HistoryLaws.{reached-good, new-controller-is-new}
 use Rattle.arp.specs.LookupLaws as arp
 use Rattle.commands.specs.RequestLaws.{valid-prepare, valid-get, valid-assign, prepare-symbols, reply-symbols, assign-symbols-small}
@@ -72,6 +73,8 @@ use Rattle.targets.specs.RefusalLaws.{given-exactly}
 use Rattle.targets.specs.Refusals.{checkedList}
 use Rattle.targets.specs.declared.admit.Checked.the-variants.{Admitted}
 use Rattle.bus.specs.BindingsEndLaws.{given-in-records, given-assignable, given-distinct, given-once, bound-exactly, bytes-of-bound, bytes-of-free, bytes-after-kept}
+use Rattle.targets.specs.Records.{targetsOf}
+use Rattle.rule.specs.PassHistoryLaws.{pass-is-history}
 use Rattle.rule.specs.EndAnswer.{numberOf, askerOf}
 use Rattle.rule.specs.PassEnd.{lastCommand}
 use Rattle.rule.specs.PlainRule.{Ending}
@@ -309,6 +312,7 @@ demand-3 occupied last s b bytes r s′ b′ l = record {
     others = other-bytes-kept occupied last small s b bytes long e r s′ b′ l;
     all-bound = all-counted occupied last small s b bytes long e r s′ b′ l;
     last-pick = (picked-of-rule occupied last small s b bytes long e r s′ b′ l, picked-of-pass occupied last small s b long e r s′ b′ l);
+    history = pass-is-history occupied last (targetsOf s);
     of-pass = (targets-of-pass occupied last small s b bytes long e r s′ b′ l, bindings-of-pass occupied last small s b long e r s′ b′ l);
   });
 }
@@ -371,6 +375,8 @@ picking = record {
     λ w. next-first p ∙ lowest-is p a .1 (record { small = w .0; free = w .1; below = w .2 }),
   );
   again = again-only-if;
+  each = run-picks;
   latest = last-is-latest;
-  not-again = not-picked-again;
+  joined = picks-on;
+  not-again = rotation;
 }

@@ -19,7 +19,7 @@ pub use Rattle.scan.specs.declared.answer.Decoded.the-variants.{Done}
 pub use Rattle.decode.specs.Outcome.{Entered, Outcome}
 -- the controller
 pub use Rattle.pool.specs.NextFree.{nextFree, Next}
-pub use Rattle.pool.specs.Picks.{Pick, latestOf, FreeAtEach, Picked}
+pub use Rattle.pool.specs.Picks.{Pick, Picks, latestOf, FreeAtEach, Picked}
 pub use Rattle.pool.specs.Pools.{member}
 pub use Rattle.pool.specs.Start.{emptyPool, startingPool}
 pub use Rattle.pool.specs.declared.Pool.{Pool}
@@ -51,7 +51,7 @@ pub use Rattle.rule.specs.AllBound.{movable, leftFree}
 pub use Rattle.rule.specs.Bus.{pass}
 pub use Rattle.rule.specs.PlainRule.{Given, Ending, served, noneFree, Distinct, ruled}
 pub use Rattle.rule.specs.Reading.{Any, RecordOf, OnePerUdid}
-pub use Rattle.rule.specs.Sent.{getsOnBus}
+pub use Rattle.rule.specs.Sent.{getsOnBus, historyOnBus}
 pub use Rattle.report.specs.Report.{modelNumber}
 pub use Rattle.bus.specs.Run.{Leaves, modelEnd}
 pub use Rattle.bindings.specs.declared.answer.ModelAnswer.{ModelAnswer}

@@ -28,3 +28,4 @@ pub mod AnyLaws
 pub mod RecordsLaws
 pub mod AllBound
 pub mod AllBoundLaws
+pub mod PassHistoryLaws

@@ -1,10 +1,11 @@
--- What stood on the bus in a pass, trace after trace, and how many Get UDIDs are among it: counted by the symbols, whatever the controller
--- counts.
+-- What stood on the bus in a pass, trace after trace: how many Get UDIDs are among it, counted by the symbols, whatever the controller counts;
+-- and the history that the controller has then.
 use Prim.Native.Nat.{ℕ, zero, suc, _+_}
 use mathlib.Core.List.{List, [], _∷_}
 use Rattle.lists.specs.Choice.{pick}
 use Rattle.pool.specs.declared.Pool.{Pool}
 use Rattle.targets.specs.Target.{Target}
+use Rattle.arp.specs.History.{Event, Start, Received}
 use Rattle.rule.specs.Acknowledge.{begins}
 use Rattle.rule.specs.AnyBus.{Bus, WorldOver, turnOver, beginningOver}
 use Rattle.rule.specs.Bus.{World, modelBus}
@@ -26,6 +27,12 @@ getsAmong (tr ∷ trs) = oneIn tr + getsAmong trs
 abbrev pub getsOver : {A : Type 0} → Bus A → Pool → ℕ → A → ℕ
 getsOver bus occupied last ts = getsAmong (tracesOver bus 300 (beginningOver occupied last ts))
 
+-- the events that a controller's history has for these traces, after others; no symbol is no event
+abbrev pub heardAfter : List Event → List (List ℕ) → List Event
+heardAfter es [] = es
+heardAfter es ([] ∷ trs) = heardAfter es trs
+heardAfter es ((x ∷ tr) ∷ trs) = heardAfter (Received (x ∷ tr) ∷ es) trs
+
 -- ---- on the model's bus
 
 abbrev pub stands : World → List ℕ
@@ -36,3 +43,7 @@ traces n w = tracesOver modelBus n w
 
 unfoldable pub getsOnBus : Pool → ℕ → List Target → ℕ
 getsOnBus occupied last ts = getsOver modelBus occupied last ts
+
+-- THE HISTORY OF A PASS: a start, and the traces of its turns
+unfoldable pub historyOnBus : Pool → ℕ → List Target → List Event
+historyOnBus occupied last ts = heardAfter (Start ∷ []) (tracesOver modelBus 300 (beginningOver occupied last ts))
