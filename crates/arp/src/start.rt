@@ -9,16 +9,19 @@ use commands::command::Handed;
 use pool::Pool;
 use slots::Slots;
 
+// The last pick of a controller that has picked no address yet.
+pub const NEVER_PICKED: u8 = 127;
+
 // The last pick that a controller is made with. A number above 127 is no address, and counts as never picked.
 fn last_pick(last: u8) -> u8
     ensures { λ r. ⌜ r ≡ lastPick last ⌝ }
 {
-    if last > 127 { 127 } else { last }
+    if last > 127 { NEVER_PICKED } else { last }
 }
 
 impl Controller {
-    // A controller before its first pass, with the addresses that are occupied and the last pick; 127 is never picked. The starting pool is
-    // the reserved addresses and the occupied ones.
+    // A controller before its first pass, with the addresses that are occupied and the last pick. The starting pool is the reserved
+    // addresses and the occupied ones.
     pub fn new(occupied: Pool, last: u8) -> Controller
         ensures { λ r. ⌜ r ≡ newController occupied last ⌝ }
     {

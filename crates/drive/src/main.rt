@@ -3,6 +3,7 @@ ghost use Prim.Native.Nat.{_≤_};
 ghost use mathlib.Core.Path.{_≡_};
 ghost use lib.ListN.{length};
 use arp::lookup::Found;
+use arp::start::NEVER_PICKED;
 use arp::state::Controller;
 use arp::state::Stepped;
 use commands::command::Command;
@@ -98,8 +99,7 @@ fn exchange(turn: Stepped, reply: &[u8]) -> Stepped {
 }
 
 fn main() {
-    // No address is occupied besides the reserved ones, and 127 says that none was ever picked.
-    let controller = Controller::new(Pool::empty(), 127);
+    let controller = Controller::new(Pool::empty(), NEVER_PICKED); // no address is occupied besides the reserved ones
     let reply = reply_data(); // what the one target here answers to Get UDID
     let first = controller.start();
     let second = exchange(first, &reply[..0]);

@@ -1,4 +1,5 @@
 // What the console keeps between requests, beside the target records, which lie in a lent buffer.
+use arp::start::NEVER_PICKED;
 use arp::state::Controller;
 use pool::Pool;
 
@@ -16,9 +17,6 @@ pub(crate) struct Turn {
     pub shelf: Shelf,
     pub at: usize,
 }
-
-// The last pick of a controller that has never picked.
-const NEVER_PICKED: u8 = 127;
 
 // No targets, nothing occupied, the controller as new.
 pub(crate) fn new_shelf() -> Shelf {

@@ -12,6 +12,7 @@ mod script;
 
 use answers::write_command;
 use answers::write_finds;
+use arp::start::NEVER_PICKED;
 use arp::state::Controller;
 use arp::state::Stepped;
 use commands::command::End;
@@ -56,7 +57,7 @@ fn go_on(c: Controller, operation: u8) -> Stepped {
 
 // A proved loop has to end, and nothing says that an input does: the turns are counted down from a number that no run uses up.
 fn main() {
-    let mut st = new_controller(Pool { low: 0, high: 0 }, 127);
+    let mut st = new_controller(Pool { low: 0, high: 0 }, NEVER_PICKED);
     let mut turns = u64::MAX;
     while turns > 0 {
         let operation = read_byte();
