@@ -30,6 +30,13 @@ static void send(struct list *l, uint8_t kind, uint8_t address, const uint8_t *r
     append(l, out, w.symbols);
 }
 
+/* The data of the module's reply to Get UDID, with this address byte. */
+static void reply_with(uint8_t reply[17], uint8_t byte)
+{
+    hb_udid_put_bytes(module, reply, 17, 0);
+    reply[16] = byte;
+}
+
 static void check_commands(void)
 {
     static const uint16_t prepare[] = { 256, 194, 258, 1, 258, 192, 258, 257 };
@@ -84,8 +91,7 @@ static void check_bound(void)
     uint8_t reply[17];
     hb_command c;
     static const uint8_t silence[] = { 0, 1, 0xc2, 0, 2, 1, 3, 0, 2, 1, 0, 1, 0xc3, 0, 3, 1, 1, 1 };
-    hb_udid_put_bytes(module, reply, sizeof reply, 0);
-    reply[16] = 2 * 0x20 + 1;
+    reply_with(reply, 2 * 0x20 + 1);
     expect(&l, HB_PREPARE, 0, 0, NEVER);
     send(&l, HB_PREPARE, 0, NULL, 0);
     expect(&l, HB_GET_UDID, 0, 1, NEVER);
@@ -117,8 +123,7 @@ static void check_ends(void)
     struct list l = { NULL, 0 };
     uint8_t reply[17];
     hb_command c;
-    hb_udid_put_bytes(module, reply, sizeof reply, 0);
-    reply[16] = 0xff;
+    reply_with(reply, 0xff);
     send(&l, HB_PREPARE, 0, NULL, 0);
     send(&l, HB_GET_UDID, 0, reply, sizeof reply);
     c = hb_pass(everything, NEVER, l.bytes, l.length);
@@ -197,8 +202,7 @@ static void check_last_picks(void)
 {
     struct list l = { NULL, 0 }, replied = { NULL, 0 }, failed = { NULL, 0 };
     uint8_t reply[17];
-    hb_udid_put_bytes(module, reply, sizeof reply, 0);
-    reply[16] = 0xff;
+    reply_with(reply, 0xff);
     send(&replied, HB_PREPARE, 0, NULL, 0);
     send(&replied, HB_GET_UDID, 0, reply, sizeof reply);
     send(&failed, HB_PREPARE, 0, NULL, 0);
@@ -229,8 +233,7 @@ static void check_vacated(void)
 {
     struct list l = { NULL, 0 };
     uint8_t reply[17];
-    hb_udid_put_bytes(module, reply, sizeof reply, 0);
-    reply[16] = 0xff;
+    reply_with(reply, 0xff);
     send(&l, HB_PREPARE, 0, NULL, 0);
     send(&l, HB_GET_UDID, 0, reply, sizeof reply);
     send(&l, HB_ASSIGN, 0x0a, NULL, 0);
