@@ -14,7 +14,7 @@ extern unsigned long checks;
 extern const hb_pool nothing, everything;
 
 /* The last pick of a controller that has never picked. */
-enum { NEVER = 127 };
+enum { NEVER = HB_NEVER_PICKED };
 
 /* Counts, and stops at the first that does not hold. */
 #define CHECK(holds) \
