@@ -5,6 +5,7 @@
 set -eu
 cd "$(dirname "$0")/.."
 limit=150
+cases=18 # in bench/pick.c
 out=build/bench
 library=${1:-target/staticlib/libc_api.a}
 mkdir -p "$out"
@@ -19,7 +20,7 @@ valgrind --tool=callgrind --combine-dumps=yes --callgrind-out-file="$out/pick.ca
     cat "$out/pick.log"
     exit 1
 }
-awk -v limit="$limit" '
+awk -v limit="$limit" -v cases="$cases" '
 /^desc: Trigger: Client Request:/ {
     sub(/^desc: Trigger: Client Request: */, "")
     split($0, word, " ")
@@ -44,8 +45,8 @@ END {
         if (!(ours > 0 && plain > 0 && ours <= limit))
             above = above " " word[1] " after " word[2] ";"
     }
-    if (count == 0 || above != "") {
-        print "bench: above the limit, or nothing counted:" above
+    if (count != cases || above != "") {
+        print "bench: above the limit, or not all counted:" above
         exit 1
     }
 }' "$out/pick.callgrind"

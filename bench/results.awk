@@ -126,7 +126,7 @@ function run_table(k, n) {
 
 function pick_table(k) {
     print "\n## The next free address\n"
-    print "A call of `hb_pool_next_free` with the used addresses and the last pick; 128 is picked where none is free. In the sets with one"
+    print "A call of `hb_pool_next_free` with the used addresses and the last pick; 128 is answered where none is free. In the sets with one"
     print "free address that one is the last pick. Plain C walks from address to address.\n"
     print "|used|last|picked|library|limit|plain C|\n|-|-:|-:|-:|-:|-:|"
     for (k = 1; k <= searches; k++)
@@ -140,8 +140,9 @@ END {
         exit 1
     }
     print "# Instructions, counted by callgrind\n"
-    print "Written by `bench/run`. Plain C is `bench/baseline.c` and `bench/plain_model.c`, with gcc " compiler " -O2. It is compiled"
-    print "twice: with the PEC bit by bit, and with a table. What all sides give is compared, and a difference ends the run.\n"
+    print "Written by `bench/run`. Plain C is `bench/baseline.c` and `bench/plain_model.c`, with gcc " compiler " -O2. These are compiled"
+    print "twice: with the PEC bit by bit, and with a table. For picks it is in `bench/pick.c`. What all sides give is compared, and a"
+    print "difference ends the run.\n"
     pec_table()
     codec_tables()
     print "\n## A controller step\n"

@@ -42,7 +42,8 @@ int main(void)
     /* The second module is pulled, and another comes. Its address is picked after the last one: it does not get 0Ah. */
     shelf[HB_RECORD + 15] = 0x05;
     shelf[HB_RECORD + 16] = 0xff;
-    last = m.picked;
+    if (m.answer == HB_DONE || m.answer == HB_NO_FREE_ADDRESS)
+        last = m.picked; /* of a refused run it is 0, and no last pick */
     m = hb_run_model(occupied, last, shelf, sizeof shelf, bindings, sizeof bindings);
     printf("model: %u, %u bound, %u Get UDIDs, last pick 0x%02x\n", m.answer, m.count, m.gets, m.picked);
     show(m.bound);

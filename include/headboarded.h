@@ -65,7 +65,7 @@ enum {
 };
 
 /* What the controller hands out: the kind of an hb_command. The first three are commands to send. HB_NONE_FREE and HB_ABANDONED
- * come with the answers HB_NO_FREE_ADDRESS and HB_PASS_ABANDONED, and HB_NOT_OUTSTANDING with HB_NO_COMMAND and HB_FORBIDDEN. */
+ * come with the answers HB_NO_FREE_ADDRESS and HB_PASS_ABANDONED, HB_NOT_OUTSTANDING with HB_NO_COMMAND or HB_FORBIDDEN. */
 enum {
     HB_PREPARE = 0,
     HB_GET_UDID = 1,
@@ -169,8 +169,8 @@ hb_pool hb_pool_starting(hb_pool occupied);
 /* How many addresses the set has, and the lowest that it does not have: 128 where it has all. */
 uint32_t hb_pool_used(hb_pool pool);
 uint8_t hb_pool_lowest_free(hb_pool pool);
-/* The first address after the last one picked, going from 7Fh round to 00h, that the set does not have: 128 where it has all. The last
- * one itself comes last. After 127, and after any number above, it is the lowest. */
+/* The first address after the last pick, going from 7Fh round to 00h, that the set does not have: 128 where it has all. The last pick
+ * itself is tried at the end. After HB_NEVER_PICKED, and after any number above it, the answer is the lowest. */
 uint8_t hb_pool_next_free(hb_pool pool, uint8_t last);
 
 /* Device identifiers. */
@@ -195,8 +195,9 @@ hb_written hb_put_command(uint8_t kind, hb_udid udid, uint8_t address,
                           const uint8_t *reply, size_t reply_len, uint8_t *out, size_t out_len);
 
 /* What was handed out last, the number of an end, the Get UDIDs sent in the pass, and the last pick: the address picked last, in this
- * pass or before it. The address is that of HB_ASSIGN; the identifier that of HB_ASSIGN and HB_NONE_FREE. Whatever a kind lacks is 0.
- * With 1 and 21 every part is 0 but the answer and the kind, HB_NOT_OUTSTANDING; the last pick is then what it was before. */
+ * pass or before it, and HB_NEVER_PICKED if none ever was. The address is that of HB_ASSIGN; the identifier that of HB_ASSIGN and
+ * HB_NONE_FREE. Whatever a kind lacks is 0. With 1 and 21 every part is 0 but the answer and the kind, HB_NOT_OUTSTANDING. The part
+ * picked is 0 then too, and is no last pick: after 21, that of the pass is told by the list without the traces after its end. */
 typedef struct {
     uint32_t kind;
     uint32_t answer;
@@ -206,9 +207,9 @@ typedef struct {
     hb_udid udid;
 } hb_command;
 
-/* A pass from its start with these addresses occupied, a step for each trace of a list. The last pick is that of the pass before, or
- * HB_NEVER_PICKED; above 127 is 1. A trace of the list is the number of its symbols and the symbols, all as pairs; the list ends where
- * no whole trace is left. Nothing is written. */
+/* A pass from its start with these addresses occupied, a step for each trace of a list. The last pick is the one before this pass, or
+ * HB_NEVER_PICKED, and stays the same while the list of a pass grows; one above 127 is answered with 1. A trace of the list is the
+ * number of its symbols and the symbols, all as pairs; the list ends where no whole trace is left. Nothing is written. */
 hb_command hb_pass(hb_pool occupied, uint8_t last, const uint8_t *traces, size_t traces_len);
 
 typedef struct {
@@ -216,8 +217,8 @@ typedef struct {
     hb_udid udid;
 } hb_found;
 
-/* Who is bound at an address after such a pass: 0 with the identifier; else 1, for a last pick or an address above 127, 15 or 16, and the
- * identifier is 0. Nothing is written. */
+/* Who is bound at an address after such a pass: 0 with the identifier. Else the identifier is 0, and the answer is 1 (a last pick or an
+ * address above 127), 15 or 16. Nothing is written. */
 hb_found hb_pass_lookup(hb_pool occupied, uint8_t last, const uint8_t *traces, size_t traces_len, uint8_t address);
 
 /* Targets. A record has HB_RECORD bytes: the identifier, the address byte, and the resolved flag. */
@@ -232,7 +233,8 @@ typedef struct {
 hb_checked hb_check_targets(hb_pool occupied, const uint8_t *records, size_t records_len);
 
 /* How a model run ended: 0, or 13 with the identifier that asked; how many addresses are bound and which; the Get UDIDs sent; and the
- * last pick, to be given to the next run. A refusal has its record in place, and its other parts are 0. */
+ * last pick, to be given to the next run, HB_NEVER_PICKED if there never was a pick. A refusal has its record in place, and its other
+ * parts are 0. The part picked is 0 then too, and is no last pick to be given on. */
 typedef struct {
     uint32_t answer;
     uint32_t count;
@@ -243,9 +245,9 @@ typedef struct {
     hb_pool bound;
 } hb_model;
 
-/* A whole pass against targets, with the last pick of the run before, or HB_NEVER_PICKED; above 127 is 1. With 0 or 13 it writes the
- * last two bytes of each record and the first HB_BINDINGS_ROOM bytes of the binding buffer: the identifier of address a at 16 * a,
- * zeros where nobody is bound; the rest of both is as it was. With 1, 2 and 9 to 12 both are as they were. */
+/* A whole pass against targets, with the last pick of the run before, or HB_NEVER_PICKED; one above 127 is answered with 1. With 0 or
+ * 13 it writes the last two bytes of each record and the first HB_BINDINGS_ROOM bytes of the binding buffer: the identifier of address
+ * a at 16 * a, zeros where nobody is bound; the rest of both is as it was. With 1, 2 and 9 to 12 both are as they were. */
 hb_model hb_run_model(hb_pool occupied, uint8_t last, uint8_t *records, size_t records_len,
                       uint8_t *bindings, size_t bindings_len);
 

@@ -84,13 +84,22 @@ static void expect(const struct list *l, uint32_t kind, uint32_t address, uint32
     expect_after(NEVER, l, kind, address, gets, picked);
 }
 
+/* Get UDID, whose read address nobody acknowledges: 9 symbols. */
+static const uint8_t silence[] = { 0, 1, 0xc2, 0, 2, 1, 3, 0, 2, 1, 0, 1, 0xc3, 0, 3, 1, 1, 1 };
+
+/* A trace with no command outstanding: every part is 0 but the answer and the kind, and so is the last pick. */
+static void expect_none_outstanding(uint8_t last, const struct list *l)
+{
+    hb_command c = hb_pass(nothing, last, l->bytes, l->length);
+    CHECK(c.kind == HB_NOT_OUTSTANDING && c.answer == HB_NO_COMMAND);
+    CHECK(c.address == 0 && c.gets == 0 && c.picked == 0 && c.udid.high == 0 && c.udid.low == 0);
+}
+
 /* One target that holds 20h: it is bound there, nothing is picked, and the pass ends. */
 static void check_bound(void)
 {
     struct list l = { NULL, 0 };
     uint8_t reply[17];
-    hb_command c;
-    static const uint8_t silence[] = { 0, 1, 0xc2, 0, 2, 1, 3, 0, 2, 1, 0, 1, 0xc3, 0, 3, 1, 1, 1 };
     reply_with(reply, 2 * 0x20 + 1);
     expect(&l, HB_PREPARE, 0, 0, NEVER);
     send(&l, HB_PREPARE, 0, NULL, 0);
@@ -108,9 +117,7 @@ static void check_bound(void)
     CHECK(hb_pass_lookup(nothing, NEVER, l.bytes, l.length, 0x21).answer == HB_NOBODY);
     CHECK(hb_pass_lookup(nothing, NEVER, l.bytes, l.length, 128).answer == HB_FORBIDDEN);
     append(&l, silence, 9);
-    c = hb_pass(nothing, NEVER, l.bytes, l.length);
-    CHECK(c.kind == HB_NOT_OUTSTANDING && c.answer == HB_NO_COMMAND);
-    CHECK(c.address == 0 && c.gets == 0 && c.picked == 0 && c.udid.high == 0 && c.udid.low == 0);
+    expect_none_outstanding(NEVER, &l);
     CHECK(hb_pass_lookup(nothing, NEVER, l.bytes, l.length, 0x20).answer == HB_DONE);
     l.bytes[l.length - 20] = 10;
     expect(&l, HB_ENDED, 0, 2, NEVER);
@@ -187,7 +194,7 @@ static void check_claimed(void)
     free(l.bytes);
 }
 
-/* The last picks up to 127, and the address that is picked after each: 21 addresses are reserved, and 7Fh goes round to 00h. */
+/* The address that is picked after a last pick where nothing is occupied: the next that is not reserved, from 7Fh round to 00h. */
 static uint32_t after(unsigned last)
 {
     do
@@ -228,7 +235,8 @@ static void check_last_picks(void)
     free(failed.bytes);
 }
 
-/* The address that was picked is bound, and another pass, begun after it, gives the next newcomer another. */
+/* The address that was picked is bound, and another pass, begun after it, gives the next newcomer another. The last pick is told at the
+ * end of the pass, and no longer by a list that goes on behind it. */
 static void check_vacated(void)
 {
     struct list l = { NULL, 0 };
@@ -242,6 +250,11 @@ static void check_vacated(void)
     CHECK(hb_udid_is_same(hb_pass_lookup(nothing, 0x09, l.bytes, l.length, 0x0a).udid, module));
     CHECK(hb_pass_lookup(nothing, 0x0a, l.bytes, l.length, 0x0a).answer == HB_NOBODY);
     expect_after(0x0a, &l, HB_GET_UDID, 0, 2, 0x0b);
+    append(&l, silence, 9);
+    expect_after(0x09, &l, HB_ENDED, 0, 2, 0x0a);
+    append(&l, silence, 9);
+    expect_none_outstanding(0x09, &l);
+    CHECK(hb_pass_lookup(nothing, 0x09, l.bytes, l.length, 0x0a).answer == HB_DONE);
     free(l.bytes);
 }
 

@@ -40,7 +40,7 @@ const WRONG_SYMBOLS: [(&str, &str); 19] = [
 ];
 
 /// Answers to the three commands: the reply of the UDID 80.. with no address, and with 20h as its own; the Assign of 09h
-/// to it; and nobody who answers Get UDID.
+/// to it; the reply of 00.., which is fixed, with no address; and nobody who answers Get UDID.
 const PREPARED: &str = "step 256 194 258 1 258 192 258 257";
 const REPLY_80: &str = "step 256 194 258 3 258 256 195 258 17 258 128 258 0 258 0 258 0 258 0 258 0 258 0 258 0 258 0 \
 258 0 258 0 258 0 258 0 258 0 258 0 258 0 258 255 258 71 259 257";
@@ -48,10 +48,12 @@ const REPLY_80_AT_20: &str = "step 256 194 258 3 258 256 195 258 17 258 128 258 
 258 0 258 0 258 0 258 0 258 0 258 0 258 0 258 0 258 65 258 116 259 257";
 const ASSIGN_09: &str = "step 256 194 258 4 258 17 258 128 258 0 258 0 258 0 258 0 258 0 258 0 258 0 258 0 258 0 \
 258 0 258 0 258 0 258 0 258 0 258 0 258 18 258 181 258 257";
+const REPLY_00: &str = "step 256 194 258 3 258 256 195 258 17 258 0 258 0 258 0 258 0 258 0 258 0 258 0 258 0 258 0 \
+258 0 258 0 258 0 258 0 258 0 258 0 258 0 258 255 258 82 259 257";
 const SILENCE: &str = "step 256 194 258 3 258 256 195 259 257";
 
 /// Last picks worked out by hand: requests of one session, and the answer due to each.
-const LAST_PICKS: [(&str, &str); 53] = [
+const LAST_PICKS: [(&str, &str); 67] = [
     ("target 80000000000000000000000000000000 0xff 0", "0 target 0"),
     ("run 0x77", "0 bound 1 get 2 last 0x09\n 0x09 80000000000000000000000000000000\n target 0 0x13 1"),
     ("run", "0 bound 1 get 2 last 0x7f\n 0x09 80000000000000000000000000000000\n target 0 0x13 1"),
@@ -126,6 +128,20 @@ target 2 0x41 1",
     ("run 0x33", "13 udid 80000000000000000000000000000000 bound 0 get 1 last 0x33\n target 0 0xff 0"),
     ("run", "13 udid 80000000000000000000000000000000 bound 0 get 1 last 0x7f\n target 0 0xff 0"),
     ("run 200", "1"),
+    ("clear", "0 clear"),
+    ("target 80000000000000000000000000000000 0xff 0", "0 target 0"),
+    ("run 128", "1"),
+    ("run 256", "? 5 expected a byte, 0 to 255"),
+    ("run 9 9", "? 7 expected the end of the line"),
+    ("run", "0 bound 1 get 2 last 0x09\n 0x09 80000000000000000000000000000000\n target 0 0x13 1"),
+    ("start", "0 next prepare"),
+    (PREPARED, "0 next get"),
+    (REPLY_00, "0 next assign 00000000000000000000000000000000 0x09"),
+    ("step", "0 next get"),
+    ("occupied 10", "0 occupied 1"),
+    ("start", "0 next prepare"),
+    (PREPARED, "0 next get"),
+    (REPLY_80, "0 next assign 80000000000000000000000000000000 0x0b"),
 ];
 
 fn fail(text: &str) -> ! {

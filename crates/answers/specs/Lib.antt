@@ -1,3 +1,4 @@
 pub mod Lines
 pub mod Commands
 pub mod Runs
+pub mod RunsLaws

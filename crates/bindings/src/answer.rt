@@ -14,6 +14,6 @@ pub struct ModelAnswer {
     pub count: u32,
     // How many Get UDIDs were sent.
     pub gets: u32,
-    // The address picked last, here or before; 127 if none ever was.
+    // The address picked last, here or before; 127 if none ever was, and 0 in a refusal.
     pub picked: u8,
 }

@@ -233,16 +233,3 @@ module _ (occupied : Pool) (last : ℕ) (s b : List ℕ) (r : ModelAnswer) (s′
     pub model-12 : (i : ℕ) → (modelNumber r ≡ (12, i))
         ↔ ((last < 128) × ((2048 ≤ length b) × ((LengthIsBad s → ⊥) × None (EvenOrFlag s) (length s / 18) × None (SameAsEarlier s) (length s / 18) × FirstOf (FixedOnTaken (startingPool occupied) s) (length s / 18) i)))
     model-12 i = refused-by-bytes (Taken i) (λ e. zero-is-one (cc e))
-
-  -- every other part of a refusal is zero
-  pub model-zero : (1 ≤ r .answer) × (r .answer ≤ 12)
-      → (r .udid .high ≡ 0) × (r .udid .low ≡ 0) × (r .bound .low ≡ 0) × (r .bound .high ≡ 0) × (r .count ≡ 0) × (r .gets ≡ 0) × (r .picked ≡ 0)
-  model-zero h = (
-    ap (λ (x : ModelAnswer). x .udid .high) (model-untouched h .2),
-    ap (λ (x : ModelAnswer). x .udid .low) (model-untouched h .2),
-    ap (λ (x : ModelAnswer). x .bound .low) (model-untouched h .2),
-    ap (λ (x : ModelAnswer). x .bound .high) (model-untouched h .2),
-    ap (λ (x : ModelAnswer). x .count) (model-untouched h .2),
-    ap (λ (x : ModelAnswer). x .gets) (model-untouched h .2),
-    ap (λ (x : ModelAnswer). x .picked) (model-untouched h .2),
-  )

@@ -14,7 +14,7 @@ use Rattle.wire.specs.Addresses.{isReserved}
 use Rattle.pool.specs.Digits.{digit}
 use Rattle.pool.specs.Free.{used, lowestFree, Lowest}
 use Rattle.pool.specs.NextFree.{nextFree, Next}
-use Rattle.pool.specs.NextFreeLaws.{next-is, next-none, next-first, next-above}
+use Rattle.pool.specs.NextFreeLaws.{next-is, next-none, next-above}
 use Rattle.pool.specs.FreeLaws.{used-ones, lowest-is, none-free}
 use Rattle.pool.specs.MemberLaws.{member-low, member-high, member-above, member-with, member-without, member-union}
 use Rattle.pool.specs.Pools.{member, withAddress, withoutAddress, unionOf}
@@ -138,4 +138,4 @@ hb-pool-next-free pool last r small e = go (nextFree (poolIn pool) last) refl e
 
 -- from 127 on the last counts as 127
 pub hb-pool-next-above : (pool : HbPool) (last : ℕ) → 127 ≤ last → freeNumber (nextFree (poolIn pool) last) ≡ freeNumber (nextFree (poolIn pool) 127)
-hb-pool-next-above pool last h = ap freeNumber (next-above (poolIn pool) last h ∙ sym (next-first (poolIn pool)))
+hb-pool-next-above pool last h = ap freeNumber (next-above (poolIn pool) last h ∙ sym (next-above (poolIn pool) 127 (omega arith)))

@@ -38,7 +38,7 @@ fn command_of(kind: u8, u: Udid, a: Address) -> Handed
 
 // What the controller handed out: the kind, the scope's number of an end, the identifier and the address of an Assign or the
 // identifier that found no address, the Get UDIDs sent so far, and the last pick. Whatever a kind lacks is 0. With 1 and 21 all is 0
-// but the kind, which says which case it is, and the answer.
+// but the answer and the kind, which says that no command is outstanding.
 #[repr(C)]
 pub struct HbCommand {
     pub kind: u32,

@@ -82,7 +82,7 @@ fn command_after(occupied: HbPool, last: u8, traces: &[u8]) -> HbCommand
     told_command(k, state.gets, state.picked)
 }
 
-// The same, and 1 where the last pick that the controller is made with is above 127.
+// The same, and 1 where the last pick that is given is above 127.
 pub fn pass_command(occupied: HbPool, last: u8, traces: &[u8]) -> HbCommand
     ensures { λ r. ⌜ r ≡ passCommand (poolIn occupied) last (now (traces .entry)) ⌝ }
 {
@@ -130,7 +130,7 @@ fn found_after(occupied: HbPool, last: u8, traces: &[u8], address: u8) -> HbFoun
     told_found(state.lookup(Address(address)))
 }
 
-// The same, and 1 where the last pick that the controller is made with is above 127.
+// The same, and 1 where the last pick that is given is above 127.
 pub fn pass_lookup(occupied: HbPool, last: u8, traces: &[u8], address: u8) -> HbFound
     ensures { λ r. ⌜ r ≡ passFound (poolIn occupied) last (now (traces .entry)) address ⌝ }
 {

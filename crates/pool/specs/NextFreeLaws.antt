@@ -122,11 +122,7 @@ module _ (p : Pool) (l a : ℕ) (h : l < 128) where
 pub next-is : (p : Pool) (l a : ℕ) → l < 128 → (nextFree p l ≡ At (address a)) ↔ Next p l a
 next-is p l a h = (to p l a h, from p l a h)
 
--- after 127 it is the lowest that is free; and so it is after any number above
-pub next-first : (p : Pool) → nextFree p 127 ≡ lowestFree p
-unfolding nextFree freeFrom
-next-first p = refl
-
+-- after 127, and after any number above it, it is the lowest that is free
 pub next-above : (p : Pool) (l : ℕ) → 127 ≤ l → nextFree p l ≡ lowestFree p
 unfolding nextFree freeFrom
 next-above p l h = let e : 127 - l ≡ 0 = omega arith in rw e

@@ -238,8 +238,8 @@ pub record Picking : Type 0 where
   pub none : (p : Pool) (l : ℕ) → (nextFree p l ≡ AllUsed) ↔ ((a : ℕ) → a < 128 → member p a ≡ true)
   pub first : (p : Pool) (a : ℕ) → (nextFree p 127 ≡ At (record { 0 = a })) ↔ ((a < 128) × (member p a ≡ false) × ((b : ℕ) → b < a → member p b ≡ true))
   pub again : (p : Pool) (l : ℕ) → nextFree p l ≡ At (record { 0 = l }) → (b : ℕ) → b < 128 → (b ≡ l → ⊥) → member p b ≡ true
-  -- picksOf has the picks of a controller over any starts and traces, told by the traces and the commands handed out, each with its pool. Each follows the one before it,
-  -- the first what the controller was made with. The last pick is the address of the latest
+  -- picksOf has the picks of a controller over any starts and traces, told by the traces and the commands handed out, each with its pool. Each is the pick after the one
+  -- before it, and the first is the pick after what the controller was made with. The state's last pick is the latest of them; with none, what the controller was made with
   pub each : (occupied : Pool) (last : ℕ) (es : List Event) → Picks (newController occupied last .picked) (picksOf occupied last es)
   pub latest : (occupied : Pool) (last : ℕ) (es : List Event) → run occupied last es .picked ≡ latestOf (newController occupied last .picked) (picksOf occupied last es)
   -- picks of controllers and model runs that hand the last pick on are one run of picks
@@ -270,7 +270,7 @@ pub record Marked (b : List ℕ) (room : 2048 ≤ length b) : Type 0 where
   -- all 128 occupied, one movable target: 13, none bound, one Get UDID
   pub m10 : Shows (modelEnd (record { low = 18446744073709551615; high = 18446744073709551615 }) 127 (holding 0x80 0x41 1) b)
       (record { answer = 13; place = 0; udid = record { high = 0x80 * 2 ^ 56; low = 1 }; bound = emptyPool; count = 0; gets = 1; picked = 127 }) (holding 0x80 0x41 0) (0x09 ∷ 0x20 ∷ []) (replicate 32 0)
-  -- 09h was picked last, and is free again: the newcomer gets 0Ah. After 77h the way goes round, to 09h
+  -- two that are no cases of the scope. 09h was picked last, and is free again: the newcomer gets 0Ah. After 77h the way goes round, to 09h
   pub vacated : Shows (modelEnd emptyPool 0x09 (holding 0x80 0xFF 0) b)
       (record { answer = 0; place = 0; udid = record { high = 0; low = 0 }; bound = record { low = 2 ^ 0x0A; high = 0 }; count = 1; gets = 2; picked = 0x0A }) (holding 0x80 0x15 1) (0x09 ∷ 0x0A ∷ []) (replicate 16 0 ++ identifier 0x80)
   pub round : Shows (modelEnd emptyPool 0x77 (holding 0x80 0xFF 0) b)

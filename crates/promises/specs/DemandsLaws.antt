@@ -47,7 +47,7 @@ use Rattle.arp.specs.Numbers.{commandNumber}
 use Rattle.arp.specs.AssignedLaws.{found-acknowledged, claim-stays}
 use Rattle.commands.specs.CommandTraces.{prepareTrace, replyTrace, assignTrace}
 use Rattle.pool.specs.FreeLaws.{lowest-is}
-use Rattle.pool.specs.NextFreeLaws.{next-is, next-none, next-first, again-only-if}
+use Rattle.pool.specs.NextFreeLaws.{next-is, next-none, next-above, again-only-if}
 use Rattle.arp.specs.RunPicksLaws.{last-is-latest, run-picks}
 use Rattle.pool.specs.PickLaws.{picks-on, rotation}
 use Rattle.arp.specs.HistoryLaws.{reached-good, new-controller-is-new}
@@ -371,8 +371,8 @@ picking = record {
   pick = λ p l a h. next-is p l a h;
   none = next-none;
   first = λ p a. (
-    λ e. (let w = lowest-is p a .0 (sym (next-first p) ∙ e) in (w .small, w .free, w .below)),
-    λ w. next-first p ∙ lowest-is p a .1 (record { small = w .0; free = w .1; below = w .2 }),
+    λ e. (let w = lowest-is p a .0 (sym (next-above p 127 (omega arith)) ∙ e) in (w .small, w .free, w .below)),
+    λ w. next-above p 127 (omega arith) ∙ lowest-is p a .1 (record { small = w .0; free = w .1; below = w .2 }),
   );
   again = again-only-if;
   each = run-picks;

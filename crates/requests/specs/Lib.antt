@@ -2,3 +2,4 @@ pub mod Lists
 pub mod Requests
 pub mod RequestLaws
 pub mod ListLaws
+pub mod RunLaws
