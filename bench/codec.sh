@@ -18,10 +18,5 @@ mkdir -p "$out"
 }
 sh bench/plain.sh
 gcc -std=c11 -O2 -Wall -Wextra -Werror -Iinclude bench/codec.c "$out/bit.o" "$out/table.o" "$library" "$symbols" -o "$out/codec"
-rm -f "$out/codec.callgrind"
-valgrind --tool=callgrind --combine-dumps=yes --callgrind-out-file="$out/codec.callgrind" "$out/codec" \
-    >"$out/codec.log" 2>&1 || {
-    cat "$out/codec.log"
-    exit 1
-}
+sh bench/counted.sh codec
 awk -f bench/codec.awk "$out/codec.callgrind"

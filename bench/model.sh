@@ -19,12 +19,7 @@ mkdir -p "$out"
 sh bench/plain.sh
 gcc -std=c11 -O2 -Wall -Wextra -Werror -Iinclude bench/model.c "$out/bit.o" "$out/bit_model.o" "$out/table.o" "$out/table_model.o" \
     "$library" -o "$out/model"
-rm -f "$out/model.callgrind"
-valgrind --tool=callgrind --combine-dumps=yes --callgrind-out-file="$out/model.callgrind" "$out/model" \
-    >"$out/model.log" 2>&1 || {
-    cat "$out/model.log"
-    exit 1
-}
+sh bench/counted.sh model
 awk -v limits="$limits" -v growth="$growth" '
 # The count of a plain program for n targets, and how it is to the library and its limit.
 function beside(who, n, limit,    plain) {

@@ -14,12 +14,7 @@ mkdir -p "$out"
     exit 1
 }
 gcc -std=c11 -O2 -Wall -Wextra -Werror -Iinclude bench/pick.c "$library" -o "$out/pick"
-rm -f "$out/pick.callgrind"
-valgrind --tool=callgrind --combine-dumps=yes --callgrind-out-file="$out/pick.callgrind" "$out/pick" \
-    >"$out/pick.log" 2>&1 || {
-    cat "$out/pick.log"
-    exit 1
-}
+sh bench/counted.sh pick
 awk -v limit="$limit" -v cases="$cases" '
 /^desc: Trigger: Client Request:/ {
     sub(/^desc: Trigger: Client Request: */, "")
