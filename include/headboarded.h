@@ -234,7 +234,7 @@ hb_checked hb_check_targets(hb_pool occupied, const uint8_t *records, size_t rec
 
 /* How a model run ended: 0, or 13 with the identifier that asked; how many addresses are bound and which; the Get UDIDs sent; and the
  * last pick, to be given to the next run, HB_NEVER_PICKED if there never was a pick. A refusal has its record in place, and its other
- * parts are 0. The part picked is 0 then too, and is no last pick to be given on. */
+ * parts are 0. The part picked is 0 then too, and is no last pick to be handed on. */
 typedef struct {
     uint32_t answer;
     uint32_t count;
