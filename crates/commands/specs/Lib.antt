@@ -1,6 +1,8 @@
 pub mod Codes
 pub mod Requests
 pub mod CommandTraces
+pub mod SameTrace
+pub mod SameTraceLaws
 pub mod CommandRows
 pub mod Sending
 pub mod RequestLaws

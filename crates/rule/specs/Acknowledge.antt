@@ -12,7 +12,7 @@ use Rattle.trace.specs.Trace.{nacked}
 use Rattle.udid.specs.Bytes.{udidBytes}
 use Rattle.targets.specs.Target.{Target, isResolved}
 use Rattle.targets.specs.Reply.{waiting, OnWire, silence, shown, onWire}
-use Rattle.rule.specs.Effect.{same}
+use Rattle.commands.specs.SameTrace.{same}
 use Rattle.commands.specs.Requests.{traceOf}
 use Rattle.commands.specs.declared.command.Command.the-variants.{Prepare, GetUdid, Assign}
 use Rattle.commands.specs.declared.command.Handed.{Handed}

@@ -15,7 +15,8 @@ use Rattle.rule.specs.Acknowledge.{sentPart, onBus}
 use Rattle.rule.specs.AcknowledgeLaws.{nothing-on-bus, start-on-bus}
 use Rattle.rule.specs.AnyBusLaws.{took-nothing, took-trace}
 use Rattle.rule.specs.Bus.{modelBus, reached, took}
-use Rattle.rule.specs.Effect.{addressIn, same, isForMe, effect}
+use Rattle.commands.specs.SameTrace.{same}
+use Rattle.rule.specs.Effect.{addressIn, isForMe, effect}
 
 -- nothing is sent
 pub turn-still : (s : Stepped) (ts : List Target) (k : Handed) → sentPart k ≡ [] → took s ts (onBus k ts) ≡ record { now = s; targets = ts }

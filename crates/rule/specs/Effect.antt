@@ -1,24 +1,18 @@
 -- What a trace does to a target, by the symbols on the bus alone: which command the controller meant is not looked at.
 use Prim.Native.Nat.{ℕ, _+_, _*_, _/_}
-use mathlib.Core.Bool.{Bool, true, false}
-use mathlib.Core.List.{List, [], _∷_}
-use lib.Dec.{eqb, ltb}
+use mathlib.Core.Bool.{Bool}
+use mathlib.Core.List.{List}
+use lib.Dec.{ltb}
 use lib.ListN.{getD}
 use Rattle.lists.specs.Choice.{pick, and}
 use Rattle.udid.specs.Bytes.{udidBytes}
 use Rattle.commands.specs.CommandTraces.{prepareTrace, assignTrace}
+use Rattle.commands.specs.SameTrace.{same}
 use Rattle.targets.specs.Target.{Target}
 
 -- where the address byte of an Assign Address stands: behind START, 19 bytes and their ACKs
 abbrev pub addressIn : List ℕ → ℕ
 addressIn tr = getD tr 39 0
-
--- two lists of symbols are the same
-unfoldable pub same : List ℕ → List ℕ → Bool
-same [] [] = true
-same [] (y ∷ ys) = false
-same (x ∷ xs) [] = false
-same (x ∷ xs) (y ∷ ys) = and (eqb x y) (same xs ys)
 
 -- the trace is an Assign Address with this target's own identifier, and a byte for the address
 abbrev pub isForMe : List ℕ → Target → Bool

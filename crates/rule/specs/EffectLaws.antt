@@ -8,10 +8,9 @@ use native.Mathlib.Omega.{arith}
 use lib.Dec.{eqb, ltb}
 use lib.ListN.{length, getD, drop}
 use lib.Seq.{getD-at}
-use borrow.Author.Tests.{eq-eqb, eqb-true, lt-ltb, ltb-true}
+use borrow.Author.Tests.{eqb-true, lt-ltb, ltb-true}
 use Rattle.lists.specs.AbsurdLaws.{zero-is-one}
 use Rattle.lists.specs.Choice.{pick, and}
-use Rattle.lists.specs.ChoiceLaws.{false-not-true}
 use Rattle.lists.specs.EachLaws.{append-bytes}
 use Rattle.lists.specs.Each.{Each, Bytes}
 use Rattle.pec.specs.Pec.{pecOf}
@@ -34,34 +33,11 @@ use Rattle.commands.specs.declared.command.Handed.{Handed}
 use Rattle.commands.specs.declared.command.Handed.the-variants.{Send, Wait}
 use Rattle.rule.specs.Acknowledge.{begins, acknowledges, somebody, answered, standing, sentPart, onBus}
 use Rattle.rule.specs.AcknowledgeLaws.{assign-stop}
-use Rattle.rule.specs.Effect.{addressIn, same, effect}
+use Rattle.commands.specs.SameTrace.{same}
+use Rattle.commands.specs.SameTraceLaws.{same-self, same-true, same-false}
+use Rattle.rule.specs.Effect.{addressIn, effect}
 use Rattle.rule.specs.TraceLaws as on-bus
 use Rattle.rule.specs.Acted.{acted, Names}
-
--- ---- the test of lists
-
-same-self : (xs : List ℕ) → same xs xs ≡ true
-unfolding same
-same-self [] = refl
-same-self (x ∷ xs) = rw (eq-eqb x x refl) (same-self xs)
-
-same-true : (xs ys : List ℕ) → same xs ys ≡ true → xs ≡ ys
-unfolding same
-same-true [] [] e = refl
-same-true [] (y ∷ ys) e = false-not-true e
-same-true (x ∷ xs) [] e = false-not-true e
-same-true (x ∷ xs) (y ∷ ys) e = go (eqb x y) refl e (λ q. same-true xs ys q)
-  where
-    go : (b : Bool) → eqb x y ≡ b → and b (same xs ys) ≡ true → (same xs ys ≡ true → xs ≡ ys) → x ∷ xs ≡ y ∷ ys
-    go true h k ih = ap₂ (λ (z : ℕ) (l : List ℕ). z ∷ l) (eqb-true x y h) (ih k)
-    go false h k ih = false-not-true k
-
-same-false : (xs ys : List ℕ) → (xs ≡ ys → ⊥) → same xs ys ≡ false
-same-false xs ys n = go (same xs ys) refl
-  where
-    go : (b : Bool) → same xs ys ≡ b → same xs ys ≡ false
-    go true e = absurd (n (same-true xs ys e))
-    go false e = e
 
 -- ---- THE THREE CASES
 

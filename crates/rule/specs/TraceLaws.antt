@@ -32,7 +32,7 @@ use Rattle.commands.specs.declared.command.Command.the-variants.{Prepare, GetUd
 use Rattle.commands.specs.declared.command.Handed.the-variants.{Send}
 use Rattle.rule.specs.Acknowledge.{begins, assigningBytes, acknowledges, somebody, answered, received, asking, standing, sentPart, onBus}
 use Rattle.rule.specs.AcknowledgeLaws.{assign-by-target, assign-stop}
-use Rattle.rule.specs.Effect.{same}
+use Rattle.commands.specs.SameTrace.{same}
 
 -- ---- who acknowledges
 
