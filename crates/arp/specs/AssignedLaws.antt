@@ -1,9 +1,8 @@
--- Where bindings and claims come from: a target that the lookup finds was assigned its address in the present pass, by an Assign that was
--- acknowledged whole; and an address that two claim stays claimed.
+-- An Assign that completes binds its address, or marks it as claimed by two; and an address that two claim stays claimed.
 use Prim.Native.Nat.{ℕ, _≤_, _<_}
 use mathlib.Core.Path.{_≡_, refl, sym, ap, ap₂, _∙_, subst}
 use mathlib.Core.Bool.{Bool, true, false}
-use mathlib.Core.List.{List, [], _∷_}
+use mathlib.Core.List.{List, [], _∷_, _++_}
 use mathlib.Core.Logic.{_⊎_, inl, inr}
 use native.Mathlib.Decide.{ℕ-discrete}
 use native.Mathlib.Omega.{arith}
@@ -17,7 +16,11 @@ use Rattle.pool.specs.declared.Pool.{Pool}
 use Rattle.pool.specs.declared.free.Free.{Free}
 use Rattle.pool.specs.declared.free.Free.the-variants.{At, AllUsed}
 use Rattle.udid.specs.declared.Udid.{Udid}
+use Rattle.arp.specs.Gone.{reported}
+use Rattle.arp.specs.GoneLaws.{which-bound, nothing-reported, removed}
 use Rattle.arp.specs.HistoryLaws.{reached-good}
+use Rattle.arp.specs.Replay.{isBound}
+use Rattle.arp.specs.declared.gone.Reported.{Reported}
 use Rattle.arp.specs.LookupLaws.{lookup-0}
 use Rattle.arp.specs.SoundLaws.{bound-to-is-bound, open-is-not-bound, find-cases}
 use Rattle.slots.specs.SlotsLaws.{held-same, held-other, held-cases, open-all}
@@ -29,7 +32,7 @@ use Rattle.arp.specs.Sound.{Pending, PendingIn, GoodState}
 use Rattle.arp.specs.Bindings.{freedAt, freed, bindingFor, bound}
 use Rattle.slots.specs.Finding.{boundTo, findFrom}
 use Rattle.arp.specs.Controller.{handed, counted, asked, hasToPick, chosen, issued, replied, changed, stepped}
-use Rattle.arp.specs.History.{Event, Start, Received, run, Acknowledged, isHeld, withTraces}
+use Rattle.arp.specs.History.{Event, Start, Received, Gone, run, isHeld, NoStart}
 use Rattle.arp.specs.Lookup.{seen, lookedUp}
 use Rattle.commands.specs.Requests.{traceOf}
 use Rattle.slots.specs.Slots.{Sized128, heldAt}
@@ -39,7 +42,7 @@ use Rattle.commands.specs.declared.command.Handed.{Handed}
 use Rattle.commands.specs.declared.command.Handed.the-variants.{Send, Wait}
 use Rattle.arp.specs.declared.lookup.Found.the-variants as found
 use Rattle.slots.specs.declared.Binding.{Binding}
-use Rattle.slots.specs.declared.Binding.the-variants.{Open, Bound, Claimed}
+use Rattle.slots.specs.declared.Binding.the-variants.{Open, Bound, Claimed, Left}
 use Rattle.arp.specs.declared.state.Controller.{Controller}
 use Rattle.slots.specs.declared.Slots.{Slots}
 use Rattle.arp.specs.declared.state.Stepped.{Stepped}
@@ -188,28 +191,26 @@ module _ (occupied : Pool) (s : Controller) (tr : List ℕ) (g : GoodState occup
       known true = refl
       known false = refl
 
--- ---- bindings
-
-pub bound-acknowledged : (occupied : Pool) (last : ℕ) (es : List Event) (a : ℕ) (u : Udid) → heldAt (run occupied last es .slots) a ≡ Bound u → Acknowledged occupied last es u a
-unfolding run Acknowledged
-bound-acknowledged occupied last [] a u e = open-is-not-bound _ u (open-all a) e
-bound-acknowledged occupied last (Start ∷ es) a u e = open-is-not-bound _ u (open-all a) e
-bound-acknowledged occupied last (Received tr ∷ es) a u e = go (bound-before-or-assigned occupied (run occupied last es) tr (reached-good occupied last es) a u e) (λ k. bound-acknowledged occupied last es a u k)
-  where
-    go : From occupied (run occupied last es) tr (reached-good occupied last es) u a → (heldAt (run occupied last es .slots) a ≡ Bound u → Acknowledged occupied last es u a)
-        → ((run occupied last es .last ≡ Send (Assign u (address a))) × (tr ≡ traceOf (Send (Assign u (address a))) [])) ⊎ Acknowledged occupied last es u a
-    go (inl k) ih = inr (ih k)
-    go (inr k) ih = inl k
-
--- 0 WITH AN IDENTIFIER is answered only where an Assign of that address to it was acknowledged whole, in the present pass
-pub found-acknowledged : (occupied : Pool) (last : ℕ) (es : List Event) (a : ℕ) (u : Udid) → lookupNumber (lookedUp (run occupied last es) a) ≡ (0, u ∷ []) → Acknowledged occupied last es u a
-found-acknowledged occupied last es a u e = bound-acknowledged occupied last es a u (lookup-0 (run occupied last es) a u .0 e .1)
-
 -- ---- claims
 
--- A CLAIM STAYS for the rest of the pass, whatever is received
-pub claim-stays : (occupied : Pool) (last : ℕ) (es : List Event) (trs : List (List ℕ)) (a : ℕ) → heldAt (run occupied last es .slots) a ≡ Claimed
-    → heldAt (run occupied last (withTraces trs es) .slots) a ≡ Claimed
+-- a report removes no claim
+report-keeps-claim : (s : Controller) (b a : ℕ) → heldAt (s .slots) a ≡ Claimed → heldAt (reported s b .state .slots) a ≡ Claimed
+report-keeps-claim s b a e = go (isBound (heldAt (s .slots) b)) refl
+  where
+    at : (w : Udid) × (heldAt (s .slots) b ≡ Bound w) → heldAt (reported s b .state .slots) a ≡ Claimed
+    at (w, k) =
+        ap (λ (r : Reported). heldAt (r .state .slots) a) (removed s b w k)
+        ∙ held-other (s .slots) b a Left (λ q. zero-is-one (cc (k, ap (heldAt (s .slots)) q, e))) ∙ e
+
+    go : (t : Bool) → isBound (heldAt (s .slots) b) ≡ t → heldAt (reported s b .state .slots) a ≡ Claimed
+    go true k = at (which-bound (heldAt (s .slots) b) k)
+    go false k = ap (λ (x : Controller). heldAt (x .slots) a) (nothing-reported s b k) ∙ e
+
+-- A CLAIM STAYS for the rest of the pass, whatever is received and reported
+pub claim-stays : (occupied : Pool) (last : ℕ) (es later : List Event) → NoStart later → (a : ℕ) → heldAt (run occupied last es .slots) a ≡ Claimed
+    → heldAt (run occupied last (later ++ es) .slots) a ≡ Claimed
 unfolding run
-claim-stays occupied last es [] a e = e
-claim-stays occupied last es (tr ∷ trs) a e = step-keeps-claim occupied (run occupied last (withTraces trs es)) tr (reached-good occupied last (withTraces trs es)) a (claim-stays occupied last es trs a e)
+claim-stays occupied last es [] n a e = e
+claim-stays occupied last es (Start ∷ later) n a e = absurd n
+claim-stays occupied last es (Received tr ∷ later) n a e = step-keeps-claim occupied (run occupied last (later ++ es)) tr (reached-good occupied last (later ++ es)) a (claim-stays occupied last es later n a e)
+claim-stays occupied last es (Gone b ∷ later) n a e = report-keeps-claim (run occupied last (later ++ es)) b a (claim-stays occupied last es later n a e)

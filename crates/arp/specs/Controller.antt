@@ -38,7 +38,7 @@ newController occupied last = stateOf (lastPick last) (startingPool occupied) (s
 abbrev pub handed : Controller → Handed → Stepped
 handed s k = record { state = withLast s k; command = k }
 
--- starting a pass empties all bindings and claims and sets the pool back to the starting pool; the last pick stays
+-- starting a pass empties all bindings, claims and what is left, and sets the pool back to the starting pool; the last pick stays
 abbrev pub started : Controller → Stepped
 started s = handed (withGets (withSlots (withPool s (s .starting)) noBindings) 0) (Send Prepare)
 

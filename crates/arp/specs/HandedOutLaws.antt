@@ -22,6 +22,7 @@ use Rattle.udid.specs.Bytes.{udidAt}
 use Rattle.udid.specs.declared.Udid.{Udid}
 use Rattle.arp.specs.ChosenLaws.{chosen-is-given}
 use Rattle.arp.specs.HandingLaws.{bound-keeps-gets, gets-are-sent}
+use Rattle.arp.specs.GoneLaws.{report-rest}
 use Rattle.arp.specs.HistoryLaws.{reached-good}
 use Rattle.arp.specs.OutstandingLaws.{last-is-handed-out}
 use Rattle.arp.specs.PickedLaws.{freed-keeps-picked, step-picked}
@@ -33,7 +34,7 @@ use Rattle.arp.specs.Bindings.{freed, bound}
 use Rattle.arp.specs.Controller.{handed, counted, asked, hasToPick, chosen, issued, replied, stepped, changed}
 use Rattle.hearing.specs.Heard.{answer, sentIn, receivedIn, isPrepare, isGet, isAssign}
 use Rattle.commands.specs.Codes.{sendByte, blockRead, blockWrite}
-use Rattle.arp.specs.History.{Event, Start, Received, run, oneGet, getsSent}
+use Rattle.arp.specs.History.{Event, Start, Received, Gone, run, oneGet, getsSent}
 use Rattle.arp.specs.Replay.{Table, emptied, released, handedOut, table, again, givenTo, assigning, nextPrepare, nextReply, nextCommand, view, SameOutstanding}
 use Rattle.commands.specs.declared.command.Command.the-variants.{Prepare, GetUdid, Assign}
 use Rattle.commands.specs.declared.command.End.the-variants.{Ended, Abandoned, NotOutstanding}
@@ -150,3 +151,6 @@ table-is-story occupied last (Received tr ∷ es) =
     e
     (step-picked (run occupied last es) tr ∙ ap (pickedThen (run occupied last es .picked) tr) e)
     ∙ ap (onward (member (startingPool occupied)) (Received tr)) (table-is-story occupied last es)
+table-is-story occupied last (Gone a ∷ es) =
+    stories (told occupied last (Gone a ∷ es)) (onward (member (startingPool occupied)) (Gone a) (told occupied last es)) refl refl refl (report-rest (run occupied last es) a .picked)
+    ∙ ap (onward (member (startingPool occupied)) (Gone a)) (table-is-story occupied last es)

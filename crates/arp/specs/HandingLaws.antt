@@ -17,6 +17,7 @@ use Rattle.pool.specs.declared.free.Free.{Free}
 use Rattle.pool.specs.declared.free.Free.the-variants.{At, AllUsed}
 use Rattle.udid.specs.Udids.{isFixed}
 use Rattle.udid.specs.declared.Udid.{Udid}
+use Rattle.arp.specs.GoneLaws.{report-rest}
 use Rattle.arp.specs.HistoryLaws.{reached-good}
 use Rattle.hearing.specs.ToldLaws.{Known, told-known}
 use Rattle.arp.specs.Handing.{Kept}
@@ -24,7 +25,7 @@ use Rattle.arp.specs.Sound.{Pending, PendingIn}
 use Rattle.arp.specs.Bindings.{freedAt, freed, boundAt, bound}
 use Rattle.slots.specs.Finding.{findFrom}
 use Rattle.arp.specs.Controller.{handed, counted, asked, hasToPick, chosen, issued, replied, changed, stepped}
-use Rattle.arp.specs.History.{Event, Start, Received, run, oneGet, getsSent}
+use Rattle.arp.specs.History.{Event, Start, Received, Gone, run, oneGet, getsSent}
 use Rattle.hearing.specs.Told.{tells, noCommand}
 use Rattle.commands.specs.declared.command.Command.the-variants.{GetUdid, Assign}
 use Rattle.commands.specs.declared.command.End.the-variants.{Ended, NoneFree, Abandoned, NotOutstanding}
@@ -99,6 +100,7 @@ pub gets-are-sent : (occupied : Pool) (last : ℕ) (es : List Event) → run occ
 unfolding run getsSent
 gets-are-sent occupied last [] = refl
 gets-are-sent occupied last (Start ∷ es) = refl
+gets-are-sent occupied last (Gone a ∷ es) = report-rest (run occupied last es) a .gets ∙ gets-are-sent occupied last es
 gets-are-sent occupied last (Received tr ∷ es) = go (step-21-or-handed (run occupied last es) tr) (gets-are-sent occupied last es)
   where
     go : ((stepped (run occupied last es) tr .command ≡ Wait NotOutstanding) × (stepped (run occupied last es) tr .state ≡ run occupied last es)) ⊎ Kept (run occupied last es) (stepped (run occupied last es) tr)

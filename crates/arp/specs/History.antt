@@ -1,9 +1,8 @@
--- The states that a controller reaches, by starts and received traces in any order, and what holds in all of them.
+-- The states that a controller reaches, by starts, received traces and reports in any order, and what holds in all of them.
 use Prim.Native.Nat.{ℕ, _+_, _≤_, _<_}
 use mathlib.Core.Path.{_≡_}
 use mathlib.Core.Bool.{Bool, true, false}
 use mathlib.Core.List.{List, [], _∷_}
-use mathlib.Core.Logic.{_⊎_}
 use Rattle.lists.specs.Choice.{and, not}
 use Rattle.pool.specs.Counts.{count}
 use Rattle.pool.specs.Free.{used}
@@ -13,36 +12,37 @@ use Rattle.pool.specs.declared.Pool.{Pool}
 use Rattle.udid.specs.declared.Udid.{Udid}
 use Rattle.slots.specs.Slots.{Sized128, heldAt}
 use Rattle.arp.specs.Controller.{newController, started, stepped}
-use Rattle.commands.specs.Requests.{traceOf}
+use Rattle.arp.specs.Gone.{reported}
 use Rattle.commands.specs.declared.command.Command.the-variants.{Prepare, GetUdid, Assign}
 use Rattle.commands.specs.declared.command.End.the-variants.{Nothing}
 use Rattle.commands.specs.declared.command.Handed.{Handed}
 use Rattle.commands.specs.declared.command.Handed.the-variants.{Send, Wait}
 use Rattle.slots.specs.declared.Binding.{Binding}
-use Rattle.slots.specs.declared.Binding.the-variants.{Open, Bound, Claimed}
+use Rattle.slots.specs.declared.Binding.the-variants.{Open, Bound, Claimed, Left}
 use Rattle.arp.specs.declared.state.Controller.{Controller}
 
 -- what can happen to a controller
 pub data Event : Type 0 where
   Start : Event
   Received : List ℕ → Event
+  -- the module at the address is reported gone
+  Gone : ℕ → Event
 
--- more traces, and no start
-abbrev pub withTraces : List (List ℕ) → List Event → List Event
-withTraces [] es = es
-withTraces (tr ∷ trs) es = Received tr ∷ withTraces trs es
-
--- traces alone, and no start
-abbrev pub tracesAlone : List (List ℕ) → List Event
-tracesAlone trs = withTraces trs []
+-- traces and reports, and no start
+abbrev pub NoStart : List Event → Type 0
+NoStart [] = Unit
+NoStart (Start ∷ es) = ⊥
+NoStart (Received tr ∷ es) = NoStart es
+NoStart (Gone a ∷ es) = NoStart es
 
 -- the state after events, the latest first, of a controller that was made with these addresses occupied and this last pick
 unfoldable pub run : Pool → ℕ → List Event → Controller
 run occupied last [] = newController occupied last
 run occupied last (Start ∷ es) = started (run occupied last es) .state
 run occupied last (Received tr ∷ es) = stepped (run occupied last es) tr .state
+run occupied last (Gone a ∷ es) = reported (run occupied last es) a .state
 
--- a new controller: the starting pool in both places, nothing bound or claimed, no Get UDID counted, nothing handed out, and the last pick as given;
+-- a new controller: the starting pool in both places, nothing bound, claimed or left, no Get UDID counted, nothing handed out, and the last pick as given;
 -- one above 127 counts as 127, never picked
 pub record New (occupied : Pool) (l : ℕ) (s : Controller) : Type 0 where
   pub starting : s .starting ≡ startingPool occupied
@@ -53,17 +53,11 @@ pub record New (occupied : Pool) (l : ℕ) (s : Controller) : Type 0 where
   pub picked : l < 128 → s .picked ≡ l
   pub never : 127 < l → s .picked ≡ 127
 
--- since the latest start, an Assign of a to u was outstanding and the trace received was that Assign, whole: every byte acknowledged
-unfoldable pub Acknowledged : Pool → ℕ → List Event → Udid → ℕ → Type 0
-Acknowledged occupied last [] u a = ⊥
-Acknowledged occupied last (Start ∷ es) u a = ⊥
-Acknowledged occupied last (Received tr ∷ es) u a =
-    ((run occupied last es .last ≡ Send (Assign u (record { 0 = a }))) × (tr ≡ traceOf (Send (Assign u (record { 0 = a }))) [])) ⊎ Acknowledged occupied last es u a
-
 abbrev pub isHeld : Binding → Bool
 isHeld Open = false
 isHeld (Bound u) = true
 isHeld Claimed = true
+isHeld Left = false
 
 -- bound or claimed, and not in the starting pool
 abbrev pub isNew : Controller → ℕ → Bool
@@ -83,6 +77,8 @@ pub record Invariant (occupied : Pool) (s : Controller) : Type 0 where
   pub bound-once : (a b : ℕ) (u : Udid) → heldAt (s .slots) a ≡ Bound u → heldAt (s .slots) b ≡ Bound u → a ≡ b
   -- a claimed address is in the pool
   pub claimed-used : (a : ℕ) → heldAt (s .slots) a ≡ Claimed → member (s .pool) a ≡ true
+  -- an address that is left is free
+  pub left-free : (a : ℕ) → heldAt (s .slots) a ≡ Left → member (s .pool) a ≡ false
   -- the used addresses are those of the starting pool and the bound and claimed ones: together they number the used ones
   pub number : used (s .pool) ≡ used (s .starting) + count (isNew s) 128
   -- there is a slot for each address, and at most 128 Get UDIDs were sent
@@ -103,3 +99,4 @@ unfoldable pub getsSent : Pool → ℕ → List Event → ℕ
 getsSent occupied last [] = 0
 getsSent occupied last (Start ∷ es) = 0
 getsSent occupied last (Received tr ∷ es) = getsSent occupied last es + oneGet (stepped (run occupied last es) tr .command)
+getsSent occupied last (Gone a ∷ es) = getsSent occupied last es

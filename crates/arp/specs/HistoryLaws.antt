@@ -1,12 +1,16 @@
--- Every state that starts and received traces reach is sound, so the invariant of specs/History.antt holds in it; and what a new controller is.
+-- Every state that starts, received traces and reports reach is sound, so the invariant of specs/History.antt holds in it; and what a new controller is.
 use Prim.Native.Nat.{ℕ, _<_}
-use mathlib.Core.Path.{_≡_, refl, sym, ap, _∙_, subst}
+use mathlib.Core.Path.{_≡_, refl, sym, ap, ap₂, _∙_, subst}
 use mathlib.Core.Bool.{Bool, true, false}
 use mathlib.Core.List.{List, [], _∷_}
 use native.Mathlib.Omega.{arith}
 use lib.Dec.{ltb, leb}
 use borrow.Author.Tests.{leb-false}
 use Rattle.lists.specs.ChoiceLaws.{or-last}
+use Rattle.arp.specs.Gone.{leftAt, reported}
+use Rattle.arp.specs.GoneLaws.{which-bound, bound-small, nothing-reported, removed, sound-left, pending-left}
+use Rattle.arp.specs.Replay.{isBound}
+use Rattle.wire.specs.declared.address.Address.{Address}
 use Rattle.lists.specs.AbsurdLaws.{zero-is-one}
 use Rattle.lists.specs.Choice.{pick, or}
 use Rattle.pool.specs.CountLaws.{count-split}
@@ -29,12 +33,14 @@ use Rattle.arp.specs.Bindings.{freedAt, freed, boundAt, bound}
 use Rattle.slots.specs.Finding.{findFrom}
 use Rattle.slots.specs.Slots.{heldAt}
 use Rattle.arp.specs.Controller.{newController, handed, counted, asked, hasToPick, chosen, issued, replied, changed, stepped}
-use Rattle.arp.specs.History.{Event, Start, Received, run, isHeld, Invariant, New}
-use Rattle.commands.specs.declared.command.Command.the-variants.{GetUdid}
+use Rattle.arp.specs.History.{Event, Start, Received, Gone, run, isHeld, Invariant, New}
+use Rattle.commands.specs.declared.command.Command.the-variants.{Prepare, GetUdid, Assign}
 use Rattle.commands.specs.declared.command.End.the-variants.{Ended, Abandoned}
+use Rattle.commands.specs.declared.command.Handed.{Handed}
 use Rattle.commands.specs.declared.command.Handed.the-variants.{Send, Wait}
 use Rattle.slots.specs.declared.Binding.{Binding}
-use Rattle.slots.specs.declared.Binding.the-variants.{Bound, Claimed}
+use Rattle.slots.specs.declared.Binding.the-variants.{Bound, Claimed, Left}
+use Rattle.arp.specs.declared.gone.Reported.{Reported}
 use Rattle.arp.specs.declared.state.Controller.{Controller}
 use Rattle.hearing.specs.declared.told.Told.{Told}
 use Rattle.hearing.specs.declared.told.Told.the-variants.{Again, Over, GivenUp, Reply, Took, Unasked}
@@ -67,7 +73,7 @@ module _ (occupied : Pool) where
 
   good-bound : (s : Controller) (u : Udid) (a : ℕ) → Good occupied s → Pending s u a → Good occupied (bound s u a)
   unfolding bound
-  good-bound s u a g p = go (ltb 127 a) (sound-bound s u a (g .sound) (p .unbound) (p .small))
+  good-bound s u a g p = go (ltb 127 a) (sound-bound s u a (g .sound) (p .unbound) (p .fits) (p .small))
     where
       go : (t : Bool) → SoundIn (pick t s (boundAt s u a)) → Good occupied (pick t s (boundAt s u a))
       go true v = g
@@ -105,6 +111,25 @@ module _ (occupied : Pool) where
       go (Took u a) h = good-asked (bound s u (a .0)) (good-bound s u (a .0) (g .0) (subst (PendingIn s) (h .0) (g .1)))
       go Unasked h = g
 
+  -- a report changes an address alone, and what is outstanding stays so
+  pending-then : (s : Controller) (w : Udid) (a : ℕ) → SoundIn s → heldAt (s .slots) a ≡ Bound w → (k : Handed) → PendingIn s k → PendingIn (leftAt s a) k
+  pending-then s w a v e (Send Prepare) p = tt
+  pending-then s w a v e (Send GetUdid) p = tt
+  pending-then s w a v e (Send (Assign u n)) p = pending-left s u w (n .0) a v e p
+  pending-then s w a v e (Wait k) p = tt
+
+  pub report-keeps-good : (s : Controller) (a : ℕ) → GoodState occupied s → GoodState occupied (reported s a .state)
+  report-keeps-good s a g = go (isBound (heldAt (s .slots) a)) refl
+    where
+      at : (w : Udid) × (heldAt (s .slots) a ≡ Bound w) → GoodState occupied (reported s a .state)
+      at (w, e) =
+          subst (λ (x : Controller). GoodState occupied x) (sym (ap (λ (r : Reported). r .state) (removed s a w e)))
+          (record { sound = sound-left s w a (g .0 .sound) e (bound-small (s .slots) a w e); gets = g .0 .gets; starting = g .0 .starting; picked = g .0 .picked }, pending-then s w a (g .0 .sound) e (s .last) (g .1))
+
+      go : (t : Bool) → isBound (heldAt (s .slots) a) ≡ t → GoodState occupied (reported s a .state)
+      go true e = at (which-bound (heldAt (s .slots) a) e)
+      go false e = subst (GoodState occupied) (sym (nothing-reported s a e)) g
+
   -- EVERY STATE
   pub reached-good : (last : ℕ) (es : List Event) → GoodState occupied (run occupied last es)
   unfolding run
@@ -113,10 +138,11 @@ module _ (occupied : Pool) where
       let g = reached-good last es .0 in
       (record { sound = sound-open (run occupied last es .starting); gets = omega arith; starting = g .starting; picked = g .picked }, tt)
   reached-good last (Received tr ∷ es) = step-keeps-good (run occupied last es) tr (reached-good last es)
+  reached-good last (Gone a ∷ es) = report-keeps-good (run occupied last es) a (reached-good last es)
 
 -- ---- the invariant, as specs/History.antt has it
 
--- EVERY STATE that starts and received traces reach
+-- EVERY STATE that starts, received traces and reports reach
 pub reached-invariant : (occupied : Pool) (last : ℕ) (es : List Event) → Invariant occupied (run occupied last es)
 unfolding used
 reached-invariant occupied last es = record {
@@ -128,6 +154,7 @@ reached-invariant occupied last es = record {
   bound-unclaimed = λ a u e f. zero-is-one (cc (e, f));
   bound-once = λ a b u e f. v .once a b u e f;
   claimed-used = λ a e. held-used a Claimed e refl;
+  left-free = λ a e. v .exact a ∙ ap₂ (λ (b : Bool) (x : Binding). or b (isHeld x)) (v .left a e) e;
   number = count-split (member (s .starting)) (λ a. isHeld (heldAt (s .slots) a)) (member (s .pool)) 128 (λ a h. v .exact a);
   size = v .size;
   gets = reached-good occupied last es .0 .gets;

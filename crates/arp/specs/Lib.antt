@@ -2,6 +2,7 @@ pub mod State
 pub mod Bindings
 pub mod Controller
 pub mod Lookup
+pub mod Gone
 pub mod Numbers
 pub mod History
 pub mod Sound
@@ -10,18 +11,21 @@ pub mod RunPicks
 pub mod Replay
 pub mod Reading
 pub mod Story
+pub mod SinceStart
+pub mod Account
 pub mod OneStep
 pub mod ChangedLaws
 pub mod StateLaws
 pub mod HeardLaws
 pub mod BindingLaws
 pub mod SoundLaws
+pub mod LookupLaws
+pub mod GoneLaws
 pub mod FreeAfterLaws
 pub mod ChosenLaws
 pub mod LastPickLaws
 pub mod HistoryLaws
 pub mod HandingLaws
-pub mod LookupLaws
 pub mod AssignedLaws
 pub mod OutstandingLaws
 pub mod OneStepLaws
@@ -33,3 +37,5 @@ pub mod TableLaws
 pub mod HandedOutLaws
 pub mod NoneFreeLaws
 pub mod StoryLaws
+pub mod SinceStartLaws
+pub mod AccountLaws

@@ -1,5 +1,5 @@
--- The number of a lookup: 0 with the identifier that is bound there, 15 where nobody is, 16 where two claim the address, 1 above 127; each exactly
--- in its case.
+-- The number of a lookup: 0 with the identifier that is bound there, 15 where nobody is, 16 where two claim the address, 20 where its target was
+-- reported gone, 1 above 127; each exactly in its case.
 use Prim.Native.Nat.{ℕ, _<_}
 use mathlib.Core.Path.{_≡_, refl, sym, ap, _∙_}
 use mathlib.Core.List.{List, [], _∷_}
@@ -18,7 +18,7 @@ use Rattle.arp.specs.Replay.{numberOf}
 use Rattle.arp.specs.declared.lookup.Found.{Found}
 use Rattle.arp.specs.declared.lookup.Found.the-variants as found
 use Rattle.slots.specs.declared.Binding.{Binding}
-use Rattle.slots.specs.declared.Binding.the-variants.{Open, Bound, Claimed}
+use Rattle.slots.specs.declared.Binding.the-variants.{Open, Bound, Claimed, Left}
 use Rattle.arp.specs.declared.state.Controller.{Controller}
 
 -- what is held where a lookup gives this answer
@@ -26,17 +26,19 @@ abbrev heldFor : Found → Binding → Type 0
 heldFor (found.Bound u) h = h ≡ Bound u
 heldFor found.Nobody h = h ≡ Open
 heldFor found.Two h = h ≡ Claimed
+heldFor found.Left h = h ≡ Left
 heldFor found.NoAddress h = ⊥
 
 -- the answer of a number
 abbrev numbered : ℕ × List Udid → Found
-numbered (n, []) = pick (eqb n 15) found.Nobody (pick (eqb n 16) found.Two found.NoAddress)
+numbered (n, []) = pick (eqb n 15) found.Nobody (pick (eqb n 16) found.Two (pick (eqb n 20) found.Left found.NoAddress))
 numbered (n, u ∷ us) = found.Bound u
 
 numbered-is : (x : Found) → x ≡ numbered (lookupNumber x)
 numbered-is (found.Bound u) = refl
 numbered-is found.Nobody = refl
 numbered-is found.Two = refl
+numbered-is found.Left = refl
 numbered-is found.NoAddress = refl
 
 number-tells : (x y : Found) → lookupNumber x ≡ lookupNumber y → x ≡ y
@@ -47,22 +49,26 @@ abbrev unseen : Found → Binding
 unseen (found.Bound u) = Bound u
 unseen found.Nobody = Open
 unseen found.Two = Claimed
+unseen found.Left = Left
 unseen found.NoAddress = Open
 
 unseen-is : (h : Binding) → h ≡ unseen (seen h)
 unseen-is Open = refl
 unseen-is (Bound u) = refl
 unseen-is Claimed = refl
+unseen-is Left = refl
 
 seen-some : (h : Binding) → seen h ≡ found.NoAddress → ⊥
 seen-some Open e = zero-is-one (cc e)
 seen-some (Bound u) e = zero-is-one (cc e)
 seen-some Claimed e = zero-is-one (cc e)
+seen-some Left e = zero-is-one (cc e)
 
 seen-is : (x : Found) (h : Binding) → (seen h ≡ x) ↔ heldFor x h
 seen-is (found.Bound u) h = (λ e. unseen-is h ∙ ap unseen e, λ e. ap seen e)
 seen-is found.Nobody h = (λ e. unseen-is h ∙ ap unseen e, λ e. ap seen e)
 seen-is found.Two h = (λ e. unseen-is h ∙ ap unseen e, λ e. ap seen e)
+seen-is found.Left h = (λ e. unseen-is h ∙ ap unseen e, λ e. ap seen e)
 seen-is found.NoAddress h = (λ e. seen-some h e, λ e. absurd e)
 
 module _ (s : Controller) (a : ℕ) where
@@ -102,6 +108,10 @@ module _ (s : Controller) (a : ℕ) where
   pub lookup-16 : (lookupNumber (lookedUp s a) ≡ (16, [])) ↔ ((a < 128) × (heldAt (s .slots) a ≡ Claimed))
   lookup-16 = only-small found.Two (λ e. zero-is-one (cc e))
 
+  -- 20: its target was reported gone
+  pub lookup-20 : (lookupNumber (lookedUp s a) ≡ (20, [])) ↔ ((a < 128) × (heldAt (s .slots) a ≡ Left))
+  lookup-20 = only-small found.Left (λ e. zero-is-one (cc e))
+
   -- 1: an address above 127
   pub lookup-1 : (lookupNumber (lookedUp s a) ≡ (1, [])) ↔ (127 < a)
   lookup-1 = (λ e. go (answers found.NoAddress .0 e), λ h. ap lookupNumber (above h))
@@ -116,6 +126,7 @@ seen-number : (h : Binding) → lookupNumber (seen h) ≡ numberOf h
 seen-number Open = refl
 seen-number (Bound u) = refl
 seen-number Claimed = refl
+seen-number Left = refl
 
 pub lookup-number : (s : Controller) (a : ℕ) → a < 128 → lookupNumber (lookedUp s a) ≡ numberOf (heldAt (s .slots) a)
 lookup-number s a h = ap lookupNumber (small s a h) ∙ seen-number (heldAt (s .slots) a)

@@ -1,4 +1,4 @@
--- The scope's number of what the controller hands out and of what the lookup answers, with the identifier that comes with it.
+-- The scope's number of what the controller hands out and of what the lookup and a report answer, with the identifier that comes with it.
 use Prim.Native.Nat.{ℕ}
 use mathlib.Core.List.{List, [], _∷_}
 use Rattle.udid.specs.declared.Udid.{Udid}
@@ -7,7 +7,7 @@ use Rattle.commands.specs.declared.command.End.the-variants.{Nothing, Ended, No
 use Rattle.commands.specs.declared.command.Handed.{Handed}
 use Rattle.commands.specs.declared.command.Handed.the-variants.{Send, Wait}
 use Rattle.arp.specs.declared.lookup.Found.{Found}
-use Rattle.arp.specs.declared.lookup.Found.the-variants.{Bound, Nobody, Two, NoAddress}
+use Rattle.arp.specs.declared.lookup.Found.the-variants.{Bound, Nobody, Two, Left, NoAddress}
 
 -- the number of an end; where no pass has begun there is none
 abbrev pub endNumber : End → List (ℕ × List Udid)
@@ -26,4 +26,5 @@ abbrev pub lookupNumber : Found → ℕ × List Udid
 lookupNumber (Bound u) = (0, u ∷ [])
 lookupNumber Nobody = (15, [])
 lookupNumber Two = (16, [])
+lookupNumber Left = (20, [])
 lookupNumber NoAddress = (1, [])

@@ -1,4 +1,4 @@
--- What a step does, in the scope's words: the decoder's number for a trace, what is handed out, and what becomes of each address. Nothing here
+-- What a step does, and a report, in the scope's words: the decoder's number for a trace, what is handed out, and what becomes of each address. Nothing here
 -- cites how the step is computed. The record Steps of crate promises puts the sentences together.
 use Prim.Native.Nat.{ℕ, _+_, _/_, _≤_, _<_}
 use mathlib.Core.Path.{_≡_}
@@ -19,7 +19,7 @@ use Rattle.commands.specs.declared.command.Command.the-variants.{GetUdid, Assig
 use Rattle.commands.specs.declared.command.End.the-variants.{NoneFree, Abandoned}
 use Rattle.commands.specs.declared.command.Handed.{Handed}
 use Rattle.commands.specs.declared.command.Handed.the-variants.{Send, Wait}
-use Rattle.slots.specs.declared.Binding.the-variants.{Open, Bound, Claimed}
+use Rattle.slots.specs.declared.Binding.the-variants.{Open, Bound, Claimed, Left}
 use Rattle.arp.specs.declared.state.Controller.{Controller}
 use Rattle.slots.specs.declared.Slots.{Slots}
 use Rattle.arp.specs.declared.state.Stepped.{Stepped}
@@ -93,6 +93,20 @@ pub record Binds (u : Udid) (a : ℕ) (s t : Controller) : Type 0 where
   pub used : member (t .pool) a ≡ true
   pub elsewhere : (b : ℕ) → (b ≡ a → ⊥) → Same s t b
   pub picked : t .picked ≡ s .picked
+
+-- nothing changes but the addresses
+pub record Rest (s t : Controller) : Type 0 where
+  pub starting : t .starting ≡ s .starting
+  pub gets : t .gets ≡ s .gets
+  pub last : t .last ≡ s .last
+  pub picked : t .picked ≡ s .picked
+
+-- the address is left, and out of the pool unless the starting pool has it; every other address is as it was
+pub record Removes (a : ℕ) (s t : Controller) : Type 0 where
+  pub left : heldAt (t .slots) a ≡ Left
+  pub out : member (s .starting) a ≡ false → member (t .pool) a ≡ false
+  pub stays : member (s .starting) a ≡ true → member (t .pool) a ≡ member (s .pool) a
+  pub elsewhere : (b : ℕ) → (b ≡ a → ⊥) → Same s t b
 
 -- ---- both together
 

@@ -1,7 +1,7 @@
 -- The command outstanding: it is the one that was handed out last. A step gives 21 exactly where none is outstanding, as before the first
 -- start, and the state stays as it is then.
 use Prim.Native.Nat.{ℕ}
-use mathlib.Core.Path.{_≡_, refl, sym, ap, _∙_}
+use mathlib.Core.Path.{_≡_, refl, sym, ap, _∙_, subst}
 use mathlib.Core.Bool.{Bool, true, false}
 use mathlib.Core.List.{List, [], _∷_}
 use mathlib.Core.Logic.{inl, inr, _↔_}
@@ -14,15 +14,20 @@ use Rattle.pool.specs.declared.Pool.{Pool}
 use Rattle.pool.specs.declared.free.Free.{Free}
 use Rattle.pool.specs.declared.free.Free.the-variants.{At, AllUsed}
 use Rattle.udid.specs.declared.Udid.{Udid}
+use Rattle.arp.specs.Gone.{reported}
+use Rattle.arp.specs.GoneLaws.{nothing-reported, report-rest}
 use Rattle.arp.specs.HandingLaws.{busy-handed}
+use Rattle.arp.specs.Replay.{isBound}
+use Rattle.slots.specs.SlotsLaws.{open-all}
 use Rattle.hearing.specs.ToldLaws.{Known, told-known}
 use Rattle.arp.specs.Handing.{Kept}
 use Rattle.arp.specs.Bindings.{freed, bound}
 use Rattle.arp.specs.Controller.{newController, handed, counted, asked, hasToPick, chosen, issued, replied, changed, stepped}
-use Rattle.arp.specs.History.{Event, Start, Received, run, tracesAlone}
+use Rattle.arp.specs.History.{Event, Start, Received, Gone, run, NoStart}
 use Rattle.arp.specs.Numbers.{endNumber, commandNumber}
 use Rattle.arp.specs.Replay.{Other, readAs, handedOut, SameOutstanding}
 use Rattle.hearing.specs.Told.{tells, noCommand}
+use Rattle.commands.specs.declared.command.Command.{Command}
 use Rattle.commands.specs.declared.command.Command.the-variants.{Prepare, GetUdid, Assign}
 use Rattle.commands.specs.declared.command.End.{End}
 use Rattle.commands.specs.declared.command.End.the-variants.{Nothing, Ended, NoneFree, Abandoned, NotOutstanding}
@@ -57,6 +62,8 @@ pub last-is-handed-out : (occupied : Pool) (last : ℕ) (es : List Event) → Sa
 unfolding run handedOut
 last-is-handed-out occupied last [] = inl refl
 last-is-handed-out occupied last (Start ∷ es) = inl refl
+last-is-handed-out occupied last (Gone a ∷ es) =
+    subst (λ (k : Handed). SameOutstanding k (handedOut occupied last es)) (sym (report-rest (run occupied last es) a .last)) (last-is-handed-out occupied last es)
 last-is-handed-out occupied last (Received tr ∷ es) = go (noCommand (run occupied last es .last)) refl
   where
     go : (b : Bool) → noCommand (run occupied last es .last) ≡ b → SameOutstanding (stepped (run occupied last es) tr .state .last) (stepped (run occupied last es) tr .command)
@@ -64,6 +71,14 @@ last-is-handed-out occupied last (Received tr ∷ es) = go (noCommand (run occup
         let h = idle-gives-21 (run occupied last es) tr e in
         inr (ap (λ (s : Controller). noCommand (s .last)) (h .0) ∙ e, ap noCommand (h .1))
     go false e = inl (busy-keeps (run occupied last es) tr e .last)
+
+-- a command that was handed out last is outstanding
+pub handed-out-is-last : (occupied : Pool) (last : ℕ) (es : List Event) (c : Command) → handedOut occupied last es ≡ Send c → run occupied last es .last ≡ Send c
+handed-out-is-last occupied last es c e = go (last-is-handed-out occupied last es)
+  where
+    go : SameOutstanding (run occupied last es .last) (handedOut occupied last es) → run occupied last es .last ≡ Send c
+    go (inl q) = q ∙ e
+    go (inr h) = zero-is-one (cc (h .1, ap noCommand e))
 
 idle-reads : (k : Handed) (tr : List ℕ) → noCommand k ≡ true → readAs k tr ≡ Other
 idle-reads (Send Prepare) tr i = refl
@@ -155,13 +170,15 @@ step-21-by-events occupied last es tr =
 
 -- ---- before the first start
 
-unstarted : (occupied : Pool) (last : ℕ) (trs : List (List ℕ)) → run occupied last (tracesAlone trs) ≡ newController occupied last
+unstarted : (occupied : Pool) (last : ℕ) (es : List Event) → NoStart es → run occupied last es ≡ newController occupied last
 unfolding run
-unstarted occupied last [] = refl
-unstarted occupied last (tr ∷ trs) = ap (λ (s : Controller). stepped s tr .state) (unstarted occupied last trs) ∙ idle-gives-21 (newController occupied last) tr refl .0
+unstarted occupied last [] n = refl
+unstarted occupied last (Start ∷ es) n = absurd n
+unstarted occupied last (Received tr ∷ es) n = ap (λ (s : Controller). stepped s tr .state) (unstarted occupied last es n) ∙ idle-gives-21 (newController occupied last) tr refl .0
+unstarted occupied last (Gone a ∷ es) n = ap (λ (s : Controller). reported s a .state) (unstarted occupied last es n) ∙ nothing-reported (newController occupied last) a (ap isBound (open-all a))
 
--- EVERY STEP GIVES 21, and the controller stays new
-pub refused-before-start : (occupied : Pool) (last : ℕ) (trs : List (List ℕ)) (tr : List ℕ)
-    → (run occupied last (tracesAlone trs) ≡ newController occupied last) × (commandNumber (stepped (run occupied last (tracesAlone trs)) tr .command) ≡ (21, []) ∷ [])
-refused-before-start occupied last trs tr =
-    (unstarted occupied last trs, ap (λ (s : Controller). commandNumber (stepped s tr .command)) (unstarted occupied last trs) ∙ ap commandNumber (idle-gives-21 (newController occupied last) tr refl .1))
+-- EVERY STEP GIVES 21, and the controller stays new, whatever is reported
+pub refused-before-start : (occupied : Pool) (last : ℕ) (es : List Event) → NoStart es → (tr : List ℕ)
+    → (run occupied last es ≡ newController occupied last) × (commandNumber (stepped (run occupied last es) tr .command) ≡ (21, []) ∷ [])
+refused-before-start occupied last es n tr =
+    (unstarted occupied last es n, ap (λ (s : Controller). commandNumber (stepped s tr .command)) (unstarted occupied last es n) ∙ ap commandNumber (idle-gives-21 (newController occupied last) tr refl .1))

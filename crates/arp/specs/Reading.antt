@@ -12,10 +12,18 @@ use Rattle.udid.specs.Bytes.{udidBytes}
 use Rattle.udid.specs.Udids.{Fits}
 use Rattle.udid.specs.declared.Udid.{Udid}
 use Rattle.commands.specs.CommandTraces.{assignTrace, ReplyOf}
-use Rattle.arp.specs.Replay.{Started, Replied, Assigned, Table, replyIn, assignIn, readAs, nextPrepare, nextReply, nextCommand}
+use Rattle.arp.specs.Replay.{Happened, Started, Replied, Assigned, Pulled, Other, Table, replyIn, assignIn, readAs, nextPrepare, nextReply, nextCommand}
 use Rattle.commands.specs.declared.command.Command.the-variants.{Prepare, GetUdid, Assign}
 use Rattle.commands.specs.declared.command.Handed.{Handed}
 use Rattle.commands.specs.declared.command.Handed.the-variants.{Send}
+
+-- what a trace is read as: it is no start and no report
+abbrev pub OfTrace : Happened → Type 0
+OfTrace Started = ⊥
+OfTrace (Replied u) = Unit
+OfTrace (Assigned u a) = Unit
+OfTrace (Pulled a) = ⊥
+OfTrace Other = Unit
 
 pub record Reading (tr : List ℕ) : Type 0 where
   -- by what decode answers for it, for every call with PEC and two buffers of at least 255 bytes: for Block Read, with the data received, where
@@ -31,5 +39,5 @@ pub record Reading (tr : List ℕ) : Type 0 where
   pub replied : (k : Handed) (u : Udid) → Fits u → (readAs k tr ≡ Replied u) ↔ ((k ≡ Send GetUdid) × ReplyOf u tr)
   -- a complete Assign, exactly if it is outstanding and the trace is that Assign, acknowledged whole
   pub assigned : (k : Handed) (u : Udid) (a : Address) → Fits u → a .0 < 128 → (readAs k tr ≡ Assigned u (a .0)) ↔ ((k ≡ Send (Assign u a)) × (tr ≡ assignTrace (udidBytes u) (2 * a .0)))
-  -- and no trace is a start
-  pub no-start : (k : Handed) → readAs k tr ≡ Started → ⊥
+  -- and no trace is a start or a report
+  pub of-trace : (k : Handed) → OfTrace (readAs k tr)

@@ -32,10 +32,10 @@ use Rattle.commands.specs.RequestLaws.{valid-get, valid-assign, seventeen-bytes
 use Rattle.hearing.specs.TraceLaws.{decoded-back, complete-get-is-its-trace, assign-data-is-assign, complete-assign-is-its-trace}
 use Rattle.hearing.specs.Heard.{answer, sentIn, receivedIn, isGet, isAssign}
 use Rattle.commands.specs.Codes.{blockRead, blockWrite}
-use Rattle.arp.specs.Replay.{Happened, Started, Replied, Assigned, Other, replyIn, assigns, assignIn, readAs}
+use Rattle.arp.specs.Replay.{Happened, Replied, Assigned, Other, replyIn, assigns, assignIn, readAs}
 use Rattle.commands.specs.Requests.{assignData, messageOf, traceOf}
 use Rattle.commands.specs.CommandTraces.{replyTrace, assignTrace, ReplyOf}
-use Rattle.arp.specs.Reading.{Reading}
+use Rattle.arp.specs.Reading.{OfTrace, Reading}
 use Rattle.commands.specs.declared.command.Command.the-variants.{Prepare, GetUdid, Assign}
 use Rattle.commands.specs.declared.command.Handed.{Handed}
 use Rattle.commands.specs.declared.command.Handed.the-variants.{Send, Wait}
@@ -106,30 +106,30 @@ read-as-reply-is-get-udid tr u e = only (answer 9 tr) refl e
     only (Done t) k g = done t k (isGet t) refl (eqb (t .received) 17) refl g
     only (Refused w i) k g = absurd (differ g)
 
--- ---- no trace is a start
+-- ---- no trace is a start or a report
 
-reply-not-started : (d : Decoded) (xs : List ℕ) → replyIn d xs ≡ Started → ⊥
-reply-not-started (Done t) xs e = go (and (eqb (t .address .0) 0x61) (eqb (t .command) 0x03)) (eqb (t .received) 17) e
+reply-of-trace : (d : Decoded) (xs : List ℕ) → OfTrace (replyIn d xs)
+reply-of-trace (Done t) xs = go (and (eqb (t .address .0) 0x61) (eqb (t .command) 0x03)) (eqb (t .received) 17)
   where
-    go : (p q : Bool) → pick p (pick q (Replied (udidAt xs 0)) Other) Other ≡ Started → ⊥
-    go true true k = zero-is-one (cc k)
-    go true false k = zero-is-one (cc k)
-    go false q k = zero-is-one (cc k)
-reply-not-started (Refused w k) xs e = zero-is-one (cc e)
+    go : (p q : Bool) → OfTrace (pick p (pick q (Replied (udidAt xs 0)) Other) Other)
+    go true true = tt
+    go true false = tt
+    go false q = tt
+reply-of-trace (Refused w k) xs = tt
 
-assign-not-started : (u : Udid) (a : ℕ) (d : Decoded) (xs : List ℕ) → assignIn u a d xs ≡ Started → ⊥
-assign-not-started u a (Done t) xs e = go (and (and (eqb (t .address .0) 0x61) (eqb (t .command) 0x04)) (and (eqb (t .sent) 17) (assigns u a xs))) e
+assign-of-trace : (u : Udid) (a : ℕ) (d : Decoded) (xs : List ℕ) → OfTrace (assignIn u a d xs)
+assign-of-trace u a (Done t) xs = go (and (and (eqb (t .address .0) 0x61) (eqb (t .command) 0x04)) (and (eqb (t .sent) 17) (assigns u a xs)))
   where
-    go : (p : Bool) → pick p (Assigned u a) Other ≡ Started → ⊥
-    go true k = zero-is-one (cc k)
-    go false k = zero-is-one (cc k)
-assign-not-started u a (Refused w k) xs e = zero-is-one (cc e)
+    go : (p : Bool) → OfTrace (pick p (Assigned u a) Other)
+    go true = tt
+    go false = tt
+assign-of-trace u a (Refused w k) xs = tt
 
-pub trace-is-no-start : (k : Handed) (tr : List ℕ) → readAs k tr ≡ Started → ⊥
-trace-is-no-start (Send GetUdid) tr e = reply-not-started (answer 9 tr) (receivedIn 9 tr) e
-trace-is-no-start (Send (Assign u a)) tr e = assign-not-started u (a .0) (answer 8 tr) (sentIn 8 tr) e
-trace-is-no-start (Send Prepare) tr e = zero-is-one (cc e)
-trace-is-no-start (Wait i) tr e = zero-is-one (cc e)
+pub read-of-trace : (k : Handed) (tr : List ℕ) → OfTrace (readAs k tr)
+read-of-trace (Send GetUdid) tr = reply-of-trace (answer 9 tr) (receivedIn 9 tr)
+read-of-trace (Send (Assign u a)) tr = assign-of-trace u (a .0) (answer 8 tr) (sentIn 8 tr)
+read-of-trace (Send Prepare) tr = tt
+read-of-trace (Wait i) tr = tt
 
 -- ---- which traces are read as what
 
@@ -164,7 +164,7 @@ reply-only tr u e =
     )
 
 -- each trace is read as a reply or as nothing, as complete or as nothing
-reply-cases : (d : Decoded) (xs : List ℕ) → (replyIn d xs ≡ Other) ⊎ (replyIn d xs ≡ Replied (udidAt xs 0))
+pub reply-cases : (d : Decoded) (xs : List ℕ) → (replyIn d xs ≡ Other) ⊎ (replyIn d xs ≡ Replied (udidAt xs 0))
 reply-cases (Done t) xs = go (and (eqb (t .address .0) 0x61) (eqb (t .command) 0x03)) (eqb (t .received) 17)
   where
     go : (p q : Bool) → (pick p (pick q (Replied (udidAt xs 0)) Other) Other ≡ Other) ⊎ (pick p (pick q (Replied (udidAt xs 0)) Other) Other ≡ Replied (udidAt xs 0))
@@ -173,7 +173,7 @@ reply-cases (Done t) xs = go (and (eqb (t .address .0) 0x61) (eqb (t .command) 0
     go false q = inl refl
 reply-cases (Refused w k) xs = inl refl
 
-assign-cases : (v : Udid) (n : ℕ) (d : Decoded) (xs : List ℕ) → (assignIn v n d xs ≡ Other) ⊎ (assignIn v n d xs ≡ Assigned v n)
+pub assign-cases : (v : Udid) (n : ℕ) (d : Decoded) (xs : List ℕ) → (assignIn v n d xs ≡ Other) ⊎ (assignIn v n d xs ≡ Assigned v n)
 assign-cases v n (Done t) xs = go (and (and (eqb (t .address .0) 0x61) (eqb (t .command) 0x04)) (and (eqb (t .sent) 17) (assigns v n xs)))
   where
     go : (q : Bool) → (pick q (Assigned v n) Other ≡ Other) ⊎ (pick q (Assigned v n) Other ≡ Assigned v n)
@@ -198,36 +198,42 @@ replied-exactly k tr u f = (there k, λ w. ap (λ (x : Handed). readAs x tr) (w 
     there (Send Prepare) e = absurd (differ e)
     there (Wait i) e = absurd (differ e)
 
--- A COMPLETE ASSIGN: it is outstanding, and the trace is that Assign, acknowledged whole
-pub assigned-exactly : (k : Handed) (tr : List ℕ) (u : Udid) (a : Address) → Fits u → a .0 < 128 → (readAs k tr ≡ Assigned u (a .0)) ↔ ((k ≡ Send (Assign u a)) × (tr ≡ assignTrace (udidBytes u) (2 * a .0)))
-assigned-exactly k tr u a f h =
-    (there k, λ w. ap (λ (x : Handed). readAs x tr) (w .0) ∙ reads-assign-exactly u a tr f h .1 (w .1 ∙ sym (assign-symbols-small u a h)))
+-- what is read as a complete Assign is the one that is outstanding
+pub read-assign-is-outstanding : (k : Handed) (tr : List ℕ) (u : Udid) (a : ℕ) → readAs k tr ≡ Assigned u a → k ≡ Send (Assign u (record { 0 = a }))
+read-assign-is-outstanding k tr u a = there k
   where
-    differ : Other ≡ Assigned u (a .0) → ⊥
+    differ : Other ≡ Assigned u a → ⊥
     differ e = zero-is-one (cc e)
 
-    replied : (v : Udid) (x : Happened) → (x ≡ Other) ⊎ (x ≡ Replied v) → x ≡ Assigned u (a .0) → ⊥
+    replied : (v : Udid) (x : Happened) → (x ≡ Other) ⊎ (x ≡ Replied v) → x ≡ Assigned u a → ⊥
     replied v x (inl q) e = differ (sym q ∙ e)
-    replied v x (inr q) e = let m : Replied v ≡ Assigned u (a .0) = sym q ∙ e in zero-is-one (cc m)
+    replied v x (inr q) e = let m : Replied v ≡ Assigned u a = sym q ∙ e in zero-is-one (cc m)
 
-    same : (v : Udid) (c : Address) → Assigned v (c .0) ≡ Assigned u (a .0) → (Send (Assign v c)) ≡ Send (Assign u a)
+    same : (v : Udid) (c : Address) → Assigned v (c .0) ≡ Assigned u a → (Send (Assign v c)) ≡ Send (Assign u (record { 0 = a }))
     same v c e =
         let p : v ≡ u = cc e in
-        let q : c .0 ≡ a .0 = cc e in
+        let q : c .0 ≡ a = cc e in
         λ i. (Send (Assign (p i) (record { 0 = q i })))
 
-    own : (v : Udid) (c : Address) → readAs (Send (Assign v c)) tr ≡ Assigned u (a .0) → (readAs (Send (Assign v c)) tr ≡ Other) ⊎ (readAs (Send (Assign v c)) tr ≡ Assigned v (c .0))
-        → ((Send (Assign v c)) ≡ Send (Assign u a)) × (tr ≡ assignTrace (udidBytes u) (2 * a .0))
-    own v c e (inl q) = absurd (differ (sym q ∙ e))
-    own v c e (inr q) =
-        let m : (Send (Assign v c)) ≡ (Send (Assign u a)) = same v c (sym q ∙ e) in
-        (m, reads-assign-exactly u a tr f h .0 (ap (λ (x : Handed). readAs x tr) (sym m) ∙ e) ∙ assign-symbols-small u a h)
+    own : (v : Udid) (c : Address) (x : Happened) → (x ≡ Other) ⊎ (x ≡ Assigned v (c .0)) → x ≡ Assigned u a → (Send (Assign v c)) ≡ Send (Assign u (record { 0 = a }))
+    own v c x (inl q) e = absurd (differ (sym q ∙ e))
+    own v c x (inr q) e = same v c (sym q ∙ e)
 
-    there : (k : Handed) → readAs k tr ≡ Assigned u (a .0) → (k ≡ Send (Assign u a)) × (tr ≡ assignTrace (udidBytes u) (2 * a .0))
+    there : (k : Handed) → readAs k tr ≡ Assigned u a → k ≡ Send (Assign u (record { 0 = a }))
     there (Send GetUdid) e = absurd (replied (udidAt (receivedIn 9 tr) 0) (readAs (Send GetUdid) tr) (reply-cases (answer 9 tr) (receivedIn 9 tr)) e)
-    there (Send (Assign v c)) e = own v c e (assign-cases v (c .0) (answer 8 tr) (sentIn 8 tr))
+    there (Send (Assign v c)) e = own v c (readAs (Send (Assign v c)) tr) (assign-cases v (c .0) (answer 8 tr) (sentIn 8 tr)) e
     there (Send Prepare) e = absurd (differ e)
     there (Wait i) e = absurd (differ e)
+
+-- A COMPLETE ASSIGN: it is outstanding, and the trace is that Assign, acknowledged whole
+pub assigned-exactly : (k : Handed) (tr : List ℕ) (u : Udid) (a : Address) → Fits u → a .0 < 128 → (readAs k tr ≡ Assigned u (a .0)) ↔ ((k ≡ Send (Assign u a)) × (tr ≡ assignTrace (udidBytes u) (2 * a .0)))
+assigned-exactly k tr u a f h = (
+  λ e. (
+      let m : k ≡ Send (Assign u a) = read-assign-is-outstanding k tr u (a .0) e in
+      (m, reads-assign-exactly u a tr f h .0 (ap (λ (x : Handed). readAs x tr) (sym m) ∙ e) ∙ assign-symbols-small u a h)
+      ),
+  λ w. ap (λ (x : Handed). readAs x tr) (w .0) ∙ reads-assign-exactly u a tr f h .1 (w .1 ∙ sym (assign-symbols-small u a h)),
+)
 
 -- ---- ALL OF IT
 
@@ -238,5 +244,5 @@ reading-is-decode tr = record {
   prepare = λ sent₀ received₀ d sent received l m o. next-prepare-is-decode tr sent₀ received₀ d sent received l m o;
   replied = λ k u f. replied-exactly k tr u f;
   assigned = λ k u a f h. assigned-exactly k tr u a f h;
-  no-start = λ k e. trace-is-no-start k tr e;
+  of-trace = λ k. read-of-trace k tr;
 }

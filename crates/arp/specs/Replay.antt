@@ -1,4 +1,4 @@
--- What is bound, what is claimed and what the pool has, told by the events alone, in the scope's sentences. Nothing here cites the
+-- What is bound, claimed and left, and what the pool has, told by the events alone, in the scope's sentences. Nothing here cites the
 -- controller's own definitions of freeing, binding or stepping: an event is read from the command that was handed out last and from what
 -- decode answers for the trace (specs/Reading.antt).
 use Prim.Native.Nat.{ℕ, zero, suc, _*_, _/_, _%_, _<_}
@@ -23,14 +23,14 @@ use Rattle.udid.specs.declared.Udid.{Udid}
 use Rattle.slots.specs.Slots.{heldAt}
 use Rattle.arp.specs.Controller.{started, stepped}
 use Rattle.hearing.specs.Heard.{answer, sentIn, receivedIn}
-use Rattle.arp.specs.History.{Event, Start, Received, run}
+use Rattle.arp.specs.History.{Event, Start, Received, Gone, run}
 use Rattle.hearing.specs.Told.{noCommand}
 use Rattle.commands.specs.declared.command.Command.the-variants.{Prepare, GetUdid, Assign}
 use Rattle.commands.specs.declared.command.End.the-variants.{Nothing, Ended, NoneFree, Abandoned, NotOutstanding}
 use Rattle.commands.specs.declared.command.Handed.{Handed}
 use Rattle.commands.specs.declared.command.Handed.the-variants.{Send, Wait}
 use Rattle.slots.specs.declared.Binding.{Binding}
-use Rattle.slots.specs.declared.Binding.the-variants.{Open, Bound, Claimed}
+use Rattle.slots.specs.declared.Binding.the-variants.{Open, Bound, Claimed, Left}
 use Rattle.arp.specs.declared.state.Controller.{Controller}
 
 -- ---- what happens, and the table that it changes
@@ -42,6 +42,8 @@ pub data Happened : Type 0 where
   Replied : Udid → Happened
   -- an Assign of the address to the identifier was complete
   Assigned : Udid → ℕ → Happened
+  -- the module at the address was reported gone
+  Pulled : ℕ → Happened
   Other : Happened
 
 -- what each address is known for, and which addresses the pool has
@@ -57,8 +59,16 @@ abbrev pub holds : Udid → Binding → Bool
 holds u Open = false
 holds u (Bound v) = sameUdid v u
 holds u Claimed = false
+holds u Left = false
 
--- nothing bound, nothing claimed, and the starting pool
+-- a target is bound there
+abbrev pub isBound : Binding → Bool
+isBound Open = false
+isBound (Bound u) = true
+isBound Claimed = false
+isBound Left = false
+
+-- nothing bound, claimed or left, and the starting pool
 abbrev pub emptied : (ℕ → Bool) → Table
 emptied starting = record { held = λ a. Open; used = starting }
 
@@ -71,7 +81,7 @@ released u t =
     }
 
 abbrev pub after : (ℕ → Bool) → Happened → Table → Table
--- a start empties all bindings and claims and sets the pool back to the starting pool
+-- a start empties all bindings, claims and what is left, and sets the pool back to the starting pool
 after starting Started t = emptied starting
 -- a reply with an identifier that is bound makes its address open and takes it out of the pool
 after starting (Replied u) t = released u t
@@ -80,6 +90,12 @@ after starting (Assigned u b) t =
     record {
       held = λ a. pick (eqb a b) (pick (t .used b) Claimed (Bound u)) (t .held a);
       used = λ a. pick (eqb a b) true (t .used a);
+    }
+-- a report of an address to which a target is bound: it is left, and out of the pool unless the starting pool has it
+after starting (Pulled b) t =
+    record {
+      held = λ a. pick (and (eqb a b) (isBound (t .held a))) Left (t .held a);
+      used = λ a. pick (and (eqb a b) (isBound (t .held a))) (and (starting a) (t .used a)) (t .used a);
     }
 -- nothing else changes any of them
 after starting Other t = t
@@ -115,10 +131,12 @@ unfoldable pub handedOut : Pool → ℕ → List Event → Handed
 handedOut occupied last [] = Wait Nothing
 handedOut occupied last (Start ∷ es) = started (run occupied last es) .command
 handedOut occupied last (Received tr ∷ es) = stepped (run occupied last es) tr .command
+handedOut occupied last (Gone a ∷ es) = handedOut occupied last es
 
 abbrev pub happened : Pool → ℕ → List Event → Event → Happened
 happened occupied last es Start = Started
 happened occupied last es (Received tr) = readAs (handedOut occupied last es) tr
+happened occupied last es (Gone a) = Pulled a
 
 -- the table after events, the latest first
 unfoldable pub table : Pool → ℕ → List Event → Table
@@ -130,6 +148,7 @@ abbrev pub numberOf : Binding → ℕ × List Udid
 numberOf (Bound u) = (0, u ∷ [])
 numberOf Open = (15, [])
 numberOf Claimed = (16, [])
+numberOf Left = (20, [])
 
 -- after a 21 the state keeps what was handed out before it: in both no command of a pass
 abbrev pub SameOutstanding : Handed → Handed → Type 0

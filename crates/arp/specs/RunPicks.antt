@@ -12,7 +12,7 @@ use Rattle.commands.specs.declared.command.Command.the-variants.{Prepare, GetUd
 use Rattle.commands.specs.declared.command.Handed.{Handed}
 use Rattle.commands.specs.declared.command.Handed.the-variants.{Send, Wait}
 use Rattle.arp.specs.Controller.{stepped}
-use Rattle.arp.specs.History.{Event, Start, Received, run}
+use Rattle.arp.specs.History.{Event, Start, Received, Gone, run}
 
 -- an address was picked, and is not the target's own: the reply's address byte is FFh, which is no address, or has another one
 abbrev pub isPicked : ℕ → ℕ → Bool
@@ -31,6 +31,7 @@ picksOf occupied last [] = []
 picksOf occupied last (Start ∷ es) = picksOf occupied last es
 picksOf occupied last (Received tr ∷ es) =
     picksOf occupied last es ++ pickIn tr (stepped (run occupied last es) tr .state .pool) (stepped (run occupied last es) tr .command)
+picksOf occupied last (Gone a ∷ es) = picksOf occupied last es
 
 -- the last pick after a step that was handed this trace, and hands this out
 abbrev pub pickedThen : ℕ → List ℕ → Handed → ℕ

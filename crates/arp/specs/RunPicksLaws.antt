@@ -24,7 +24,8 @@ use Rattle.hearing.specs.declared.told.Told.the-variants.{Again, Over, GivenUp,
 use Rattle.arp.specs.Bindings.{freed, bound}
 use Rattle.arp.specs.ChosenLaws.{chosen-picked, picked-by-wire}
 use Rattle.arp.specs.Controller.{lastPick, handed, counted, asked, hasToPick, chosen, issued, replied, changed, stepped}
-use Rattle.arp.specs.History.{Event, Start, Received, run}
+use Rattle.arp.specs.History.{Event, Start, Received, Gone, run}
+use Rattle.arp.specs.GoneLaws.{report-rest}
 use Rattle.arp.specs.PickedLaws.{freed-keeps-picked, told-byte, step-picked}
 use Rattle.arp.specs.RunPicks.{isPicked, pickIn, picksOf, pickedThen}
 use Rattle.arp.specs.declared.state.Controller.{Controller}
@@ -88,6 +89,7 @@ pub last-is-latest : (occupied : Pool) (last : ℕ) (es : List Event) → run oc
 unfolding run picksOf latestOf
 last-is-latest occupied last [] = refl
 last-is-latest occupied last (Start ∷ es) = last-is-latest occupied last es
+last-is-latest occupied last (Gone a ∷ es) = report-rest (run occupied last es) a .picked ∙ last-is-latest occupied last es
 last-is-latest occupied last (Received tr ∷ es) =
     let s = run occupied last es in
     step-picked s tr
@@ -100,6 +102,7 @@ pub run-picks : (occupied : Pool) (last : ℕ) (es : List Event) → Picks (last
 unfolding picksOf Picks
 run-picks occupied last [] = tt
 run-picks occupied last (Start ∷ es) = run-picks occupied last es
+run-picks occupied last (Gone a ∷ es) = run-picks occupied last es
 run-picks occupied last (Received tr ∷ es) =
     let s = run occupied last es in
     picks-on (lastPick last) (picksOf occupied last es) (pickIn tr (stepped s tr .state .pool) (stepped s tr .command)) (run-picks occupied last es)

@@ -15,7 +15,7 @@ use Rattle.slots.specs.Slots.{Sized128, heldAt}
 use Rattle.commands.specs.declared.command.Command.the-variants.{Prepare, GetUdid, Assign}
 use Rattle.commands.specs.declared.command.Handed.{Handed}
 use Rattle.commands.specs.declared.command.Handed.the-variants.{Send, Wait}
-use Rattle.slots.specs.declared.Binding.the-variants.{Bound}
+use Rattle.slots.specs.declared.Binding.the-variants.{Bound, Left}
 use Rattle.arp.specs.declared.state.Controller.{Controller}
 use Rattle.slots.specs.declared.Slots.{Slots}
 
@@ -24,6 +24,10 @@ pub record Sound (starting pool : Pool) (slots : Slots) : Type 0 where
   pub size : Sized128 slots
   pub once : (i j : ℕ) (u : Udid) → heldAt slots i ≡ Bound u → heldAt slots j ≡ Bound u → i ≡ j
   pub new : (a : ℕ) (u : Udid) → heldAt slots a ≡ Bound u → member starting a ≡ false
+  -- what was bound and reported gone was not in the starting pool either
+  pub left : (a : ℕ) → heldAt slots a ≡ Left → member starting a ≡ false
+  -- an identifier that is bound has two halves of 64 bits
+  pub fits : (a : ℕ) (u : Udid) → heldAt slots a ≡ Bound u → Fits u
   pub exact : (a : ℕ) → member pool a ≡ or (member starting a) (isHeld (heldAt slots a))
 
 abbrev pub SoundIn : Controller → Type 0

@@ -1,6 +1,6 @@
 -- Unbinding and binding keep the slots and the pool sound (specs/Sound.antt); where an identifier is found.
 use Prim.Native.Nat.{ℕ, zero, suc, _+_, _≤_, _<_}
-use mathlib.Core.Path.{_≡_, refl, sym, ap, ap₂, _∙_}
+use mathlib.Core.Path.{_≡_, refl, sym, ap, ap₂, _∙_, subst}
 use mathlib.Core.Bool.{Bool, true, false}
 use mathlib.Core.List.{List, [], _∷_}
 use mathlib.Core.Logic.{_⊎_, inl, inr}
@@ -13,6 +13,7 @@ use Rattle.lists.specs.Choice.{pick, or}
 use Rattle.pool.specs.MemberLaws.{has-with-same, has-with-other, has-without-same, has-without-other}
 use Rattle.pool.specs.Pools.{member, withAddress, withoutAddress}
 use Rattle.pool.specs.declared.Pool.{Pool}
+use Rattle.udid.specs.Udids.{Fits}
 use Rattle.udid.specs.UdidLaws.{same-equal, same-refl}
 use Rattle.udid.specs.declared.Udid.{Udid}
 use Rattle.arp.specs.Sound.{Sound, SoundIn, Unbound, Nowhere}
@@ -23,7 +24,7 @@ use Rattle.arp.specs.History.{isHeld}
 use Rattle.slots.specs.Slots.{heldAt, withBinding, noBindings}
 use Rattle.slots.specs.SlotsLaws.{held-above-is-open, held-same, held-other, held-cases, open-all, sized-none, sized-with}
 use Rattle.slots.specs.declared.Binding.{Binding}
-use Rattle.slots.specs.declared.Binding.the-variants.{Open, Bound}
+use Rattle.slots.specs.declared.Binding.the-variants.{Open, Bound, Left}
 use Rattle.arp.specs.declared.state.Controller.{Controller}
 use Rattle.slots.specs.declared.Slots.{Slots}
 
@@ -50,6 +51,8 @@ sound-open p = record {
   size = sized-none;
   once = λ i j u e f. absurd (open-is-not-bound _ u (open-all i) e);
   new = λ a u e. absurd (open-is-not-bound _ u (open-all a) e);
+  left = λ a e. zero-is-one (cc (open-all a, e));
+  fits = λ a u e. absurd (open-is-not-bound _ u (open-all a) e);
   exact = λ a. or-false (member p a) ∙ ap (λ (h : Binding). or (member p a) (isHeld h)) (sym (open-all a));
 }
 
@@ -102,11 +105,20 @@ module _ (starting pool : Pool) (slots : Slots) (v : Sound starting pool slots) 
           ∙ sym (ap₂ (λ (s : Bool) (x : Binding). or s (isHeld x)) (ap (member starting) q ∙ v .new f u here) (ap (heldAt (withBinding slots f Open)) q ∙ held-same slots f Open (v .size) h))
       go (no q) = has-without-other pool f a q ∙ v .exact a ∙ ap (λ (x : Binding). or (member starting a) (isHeld x)) (sym (held-other slots f a Open q))
 
+  still-left : (i : ℕ) → heldAt (withBinding slots f Open) i ≡ Left → member starting i ≡ false
+  still-left i k = go (held-cases slots f i Open Left (v .size) h k)
+    where
+      go : ((i ≡ f) × (Open ≡ Left)) ⊎ ((i ≡ f → ⊥) × (heldAt slots i ≡ Left)) → member starting i ≡ false
+      go (inl q) = zero-is-one (cc (q .1))
+      go (inr q) = v .left i (q .1)
+
   sound-freed-at : Sound starting (withoutAddress pool f) (withBinding slots f Open)
   sound-freed-at = record {
     size = sized-with slots f Open (v .size);
     once = λ i j w p q. v .once i j w (away i w p .1) (away j w q .1);
     new = λ a w p. v .new a w (away a w p .1);
+    left = λ a p. still-left a p;
+    fits = λ a w p. v .fits a w (away a w p .1);
     exact = exactly;
   }
 
@@ -130,7 +142,7 @@ sound-freed s u v = go (findFrom u (s .slots) 128 0) (find-cases u (s .slots) 12
 
 -- ---- an Assign that completed
 
-module _ (starting pool : Pool) (slots : Slots) (v : Sound starting pool slots) (u : Udid) (n : Unbound u slots) (a : ℕ) (h : a < 128) where
+module _ (starting pool : Pool) (slots : Slots) (v : Sound starting pool slots) (u : Udid) (n : Unbound u slots) (f : Fits u) (a : ℕ) (h : a < 128) where
   held-there : isHeld (bindingFor (member pool a) u) ≡ true
   held-there = go (member pool a)
     where
@@ -183,14 +195,32 @@ module _ (starting pool : Pool) (slots : Slots) (v : Sound starting pool slots) 
   fresh i w (inl p) = ap (member starting) (p .0) ∙ outside (p .2)
   fresh i w (inr p) = v .new i w (p .1)
 
+  fit : (i : ℕ) (w : Udid) → ((i ≡ a) × (u ≡ w) × (member pool a ≡ false)) ⊎ ((i ≡ a → ⊥) × (heldAt slots i ≡ Bound w)) → Fits w
+  fit i w (inl p) = subst Fits (p .1) f
+  fit i w (inr p) = v .fits i w (p .1)
+
+  -- no Assign leaves an address left
+  not-left : (t : Bool) → bindingFor t u ≡ Left → ⊥
+  not-left true e = zero-is-one (cc e)
+  not-left false e = zero-is-one (cc e)
+
+  left-before : (i : ℕ) → heldAt (withBinding slots a (bindingFor (member pool a) u)) i ≡ Left → member starting i ≡ false
+  left-before i k = go (held-cases slots a i (bindingFor (member pool a) u) Left (v .size) h k)
+    where
+      go : ((i ≡ a) × (bindingFor (member pool a) u ≡ Left)) ⊎ ((i ≡ a → ⊥) × (heldAt slots i ≡ Left)) → member starting i ≡ false
+      go (inl q) = absurd (not-left (member pool a) (q .1))
+      go (inr q) = v .left i (q .1)
+
   sound-bound-at : Sound starting (withAddress pool a) (withBinding slots a (bindingFor (member pool a) u))
   sound-bound-at = record {
     size = sized-with slots a _ (v .size);
     once = λ i j w p q. one i j w (bound-cases i w p) (bound-cases j w q);
     new = λ i w p. fresh i w (bound-cases i w p);
+    left = λ i p. left-before i p;
+    fits = λ i w p. fit i w (bound-cases i w p);
     exact = exactly-bound;
   }
 
-pub sound-bound : (s : Controller) (u : Udid) (a : ℕ) → SoundIn s → Unbound u (s .slots) → a < 128 → SoundIn (bound s u a)
+pub sound-bound : (s : Controller) (u : Udid) (a : ℕ) → SoundIn s → Unbound u (s .slots) → Fits u → a < 128 → SoundIn (bound s u a)
 unfolding bound
-sound-bound s u a v n h = rw (le-ltb 127 a (omega arith)) (sound-bound-at (s .starting) (s .pool) (s .slots) v u n a h)
+sound-bound s u a v n f h = rw (le-ltb 127 a (omega arith)) (sound-bound-at (s .starting) (s .pool) (s .slots) v u n f a h)

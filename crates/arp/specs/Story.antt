@@ -13,11 +13,11 @@ use Rattle.udid.specs.Udids.{Fits}
 use Rattle.udid.specs.declared.Udid.{Udid}
 use Rattle.slots.specs.Slots.{heldAt}
 use Rattle.arp.specs.Controller.{lastPick, stepped}
-use Rattle.arp.specs.History.{Event, Start, Received, run, oneGet}
+use Rattle.arp.specs.History.{Event, Start, Received, Gone, run, oneGet}
 use Rattle.arp.specs.Lookup.{lookedUp}
 use Rattle.arp.specs.Numbers.{commandNumber, lookupNumber}
 use Rattle.commands.specs.CommandTraces.{replyTrace}
-use Rattle.arp.specs.Replay.{Replied, Assigned, Table, released, readAs, numberOf, NoneToPick, nextCommand, emptied, after, handedOut}
+use Rattle.arp.specs.Replay.{Replied, Assigned, Pulled, Table, released, readAs, numberOf, NoneToPick, nextCommand, emptied, after, handedOut}
 use Rattle.arp.specs.RunPicks.{pickedThen}
 use Rattle.hearing.specs.Told.{noCommand}
 use Rattle.commands.specs.declared.command.Command.the-variants.{Prepare, GetUdid}
@@ -42,6 +42,7 @@ onward starting (Received tr) w =
       command = nextCommand (w .known) (w .picked) (w .gets) (w .command) tr;
       picked = pickedThen (w .picked) tr (nextCommand (w .known) (w .picked) (w .gets) (w .command) tr);
     }
+onward starting (Gone a) w = record { known = after starting (Pulled a) (w .known); gets = w .gets; command = w .command; picked = w .picked }
 
 -- after events, the latest first, of a controller that was made with these addresses occupied and this last pick
 unfoldable pub story : Pool → ℕ → List Event → Story
@@ -63,13 +64,13 @@ Full occupied last es tr u =
     (story occupied last es .command ≡ Send GetUdid)
     × ((b : ℕ) × (b < 256) × (tr ≡ replyTrace (udidBytes u ++ b ∷ [])) × NoneToPick (released u (story occupied last es .known) .used) u b)
 
--- ---- THE CONTROLLER BY ITS HISTORY: from any new controller, over any starts and traces, the latest first
+-- ---- THE CONTROLLER BY ITS HISTORY: from any new controller, over any starts, traces and reports, the latest first
 
 pub record ByHistory (occupied : Pool) (last : ℕ) (es : List Event) : Type 0 where
   -- what each address is known for, what the pool has, how many Get UDIDs were handed out in this pass, what was handed out last and the last
   -- pick are what the events alone give, in the scope's sentences
   pub told : Told occupied last es
-  -- lookup answers 0 with the identifier, 15 or 16 as the events give it, and 1 for a number above 127
+  -- lookup answers 0 with the identifier, 15, 16 or 20 as the events give it, and 1 for a number above 127
   pub lookup : (a : ℕ) → a < 128 → lookupNumber (lookedUp (run occupied last es) a) ≡ numberOf (story occupied last es .known .held a)
   pub no-address : (a : ℕ) → 127 < a → lookupNumber (lookedUp (run occupied last es) a) ≡ (1, [])
   -- each command that the next step hands out is the one that the events give
@@ -79,6 +80,6 @@ pub record ByHistory (occupied : Pool) (last : ℕ) (es : List Event) : Type 0 w
   -- and 13 with an identifier exactly at its reply to Get UDID, if the pool is full with what it was bound to freed, and the byte is FFh or the
   -- target is movable with its own address in the pool
   pub full : (tr : List ℕ) (u : Udid) → Fits u → (commandNumber (stepped (run occupied last es) tr .command) ≡ (13, u ∷ []) ∷ []) ↔ Full occupied last es tr u
-  -- a binding stays, but for a reply with its identifier, a complete Assign of its address, or a start
+  -- a trace leaves a binding as it is, but for a reply with its identifier, or a complete Assign of its address
   pub stays : (tr : List ℕ) (a : ℕ) (u : Udid) → lookupNumber (lookedUp (run occupied last es) a) ≡ (0, u ∷ []) → (readAs (story occupied last es .command) tr ≡ Replied u → ⊥)
       → ((w : Udid) → readAs (story occupied last es .command) tr ≡ Assigned w a → ⊥) → lookupNumber (lookedUp (run occupied last (Received tr ∷ es)) a) ≡ (0, u ∷ [])

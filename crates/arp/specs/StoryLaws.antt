@@ -1,5 +1,5 @@
 -- The controller by its history: the story of the events alone gives what each address is known for, what the pool has, what each step hands
--- out, its 21 and its 13; a binding stays; and what a start does.
+-- out, its 21 and its 13; which traces leave a binding; and what a start does.
 use Prim.Native.Nat.{ℕ, _≤_, _<_}
 use mathlib.Core.Path.{_≡_, refl, sym, ap, _∙_, subst}
 use mathlib.Core.Bool.{Bool, true}
@@ -20,7 +20,8 @@ use Rattle.arp.specs.HistoryLaws.{reached-good}
 use Rattle.arp.specs.LookupLaws.{lookup-0, lookup-1, lookup-15}
 use Rattle.arp.specs.NoneFreeLaws.{step-13-by-story, number-13-is-none-free}
 use Rattle.arp.specs.OutstandingLaws.{step-21-by-events}
-use Rattle.arp.specs.ReadingLaws.{trace-is-no-start}
+use Rattle.arp.specs.Reading.{OfTrace}
+use Rattle.arp.specs.ReadingLaws.{read-of-trace}
 use Rattle.slots.specs.SlotsLaws.{open-all}
 use Rattle.arp.specs.TableLaws.{addresses-by-table, lookup-by-table}
 use Rattle.arp.specs.Story.{Story, story, Told, ByHistory}
@@ -29,7 +30,7 @@ use Rattle.arp.specs.Controller.{started, stepped}
 use Rattle.arp.specs.History.{Event, Received, run}
 use Rattle.arp.specs.Lookup.{lookedUp}
 use Rattle.arp.specs.Numbers.{commandNumber, lookupNumber}
-use Rattle.arp.specs.Replay.{Happened, Started, Replied, Assigned, Other, holds, after, readAs, handedOut, table, numberOf, again, nextCommand}
+use Rattle.arp.specs.Replay.{Happened, Started, Replied, Assigned, Pulled, Other, holds, after, readAs, handedOut, table, numberOf, again, nextCommand}
 use Rattle.hearing.specs.Told.{noCommand}
 use Rattle.commands.specs.declared.command.Command.the-variants.{Prepare, GetUdid}
 use Rattle.commands.specs.declared.command.End.the-variants.{Abandoned}
@@ -48,24 +49,21 @@ state-by-story occupied last es = record {
   picked = ap (λ (w : Story). w .picked) (table-is-story occupied last es);
 }
 
--- A BINDING STAYS, but for a reply with its identifier, a complete Assign of its address, or a start
+-- A TRACE LEAVES A BINDING as it is, but for a reply with its identifier, or a complete Assign of its address
 pub binding-stays : (occupied : Pool) (last : ℕ) (es : List Event) (tr : List ℕ) (a : ℕ) (u : Udid)
     → heldAt (run occupied last es .slots) a ≡ Bound u
     → (readAs (handedOut occupied last es) tr ≡ Replied u → ⊥)
     → ((w : Udid) → readAs (handedOut occupied last es) tr ≡ Assigned w a → ⊥)
     → heldAt (run occupied last (Received tr ∷ es) .slots) a ≡ Bound u
 unfolding table
-binding-stays occupied last es tr a u e n m = addresses-by-table occupied last (Received tr ∷ es) a .0 ∙ go (readAs (handedOut occupied last es) tr) no-start n m
+binding-stays occupied last es tr a u e n m = addresses-by-table occupied last (Received tr ∷ es) a .0 ∙ go (readAs (handedOut occupied last es) tr) (read-of-trace (handedOut occupied last es) tr) n m
   where
     here : table occupied last es .held a ≡ Bound u
     here = sym (addresses-by-table occupied last es a .0) ∙ e
 
-    no-start : readAs (handedOut occupied last es) tr ≡ Started → ⊥
-    no-start q = trace-is-no-start (handedOut occupied last es) tr q
-
-    go : (x : Happened) → (x ≡ Started → ⊥) → (x ≡ Replied u → ⊥) → ((w : Udid) → x ≡ Assigned w a → ⊥)
+    go : (x : Happened) → OfTrace x → (x ≡ Replied u → ⊥) → ((w : Udid) → x ≡ Assigned w a → ⊥)
         → after (member (startingPool occupied)) x (table occupied last es) .held a ≡ Bound u
-    go Started s p q = absurd (s refl)
+    go Started s p q = absurd s
     go (Replied w) s p q =
         ap (λ (b : Bool). pick b Open (table occupied last es .held a))
         (ap (holds w) here ∙ other-udid u w (λ k. p (ap Replied (sym k))))
@@ -73,6 +71,7 @@ binding-stays occupied last es tr a u e n m = addresses-by-table occupied last (
     go (Assigned w b) s p q =
         ap (λ (c : Bool). pick c (pick (table occupied last es .used b) Claimed (Bound w)) (table occupied last es .held a)) (ne-eqb a b (λ k. q w (ap (Assigned w) (sym k))))
         ∙ here
+    go (Pulled b) s p q = absurd s
     go Other s p q = here
 
 -- by the events alone, in the scope's numbers
@@ -92,14 +91,14 @@ module _ (occupied : Pool) (last : ℕ) (es : List Event) (tr : List ℕ) where
       subst (λ (w : Story). (commandNumber (stepped (run occupied last es) tr .command) ≡ (21, []) ∷ []) ↔ (noCommand (w .command) ≡ true)) (table-is-story occupied last es)
       (step-21-by-events occupied last es tr)
 
-  -- A BINDING STAYS, but for a reply with its identifier, a complete Assign of its address, or a start
+  -- A TRACE LEAVES A BINDING as it is, but for a reply with its identifier, or a complete Assign of its address
   pub binding-stays-by-story : (a : ℕ) (u : Udid) → heldAt (run occupied last es .slots) a ≡ Bound u → (readAs (story occupied last es .command) tr ≡ Replied u → ⊥)
       → ((w : Udid) → readAs (story occupied last es .command) tr ≡ Assigned w a → ⊥) → heldAt (run occupied last (Received tr ∷ es) .slots) a ≡ Bound u
   binding-stays-by-story a u e n m =
       let q : handedOut occupied last es ≡ story occupied last es .command = state-by-story occupied last es .command in
       binding-stays occupied last es tr a u e (λ k. n (ap (λ (x : Handed). readAs x tr) (sym q) ∙ k)) (λ w k. m w (ap (λ (x : Handed). readAs x tr) (sym q) ∙ k))
 
--- ---- ALL OF IT: from any new controller, over any starts and traces
+-- ---- ALL OF IT: from any new controller, over any starts, traces and reports
 
 pub by-history : (occupied : Pool) (last : ℕ) (es : List Event) → ByHistory occupied last es
 by-history occupied last es = record {

@@ -23,7 +23,10 @@ use Rattle.pool.specs.declared.free.Free.{Free}
 use Rattle.pool.specs.declared.free.Free.the-variants.{At, AllUsed}
 use Rattle.udid.specs.Bytes.{udidAt}
 use Rattle.udid.specs.declared.Udid.{Udid}
+use Rattle.arp.specs.Gone.{leftAt, reported}
+use Rattle.arp.specs.GoneLaws.{which-bound, bound-small, nothing-reported, removed}
 use Rattle.arp.specs.HistoryLaws.{reached-good}
+use Rattle.arp.specs.declared.gone.Reported.{Reported}
 use Rattle.arp.specs.LookupLaws.{lookup-number}
 use Rattle.arp.specs.OutstandingLaws.{same-reading, last-is-handed-out}
 use Rattle.arp.specs.ReadingLaws.{is-assign-below-128}
@@ -36,16 +39,16 @@ use Rattle.slots.specs.Slots.{Sized128, heldAt, withBinding}
 use Rattle.arp.specs.Controller.{newController, started, handed, counted, asked, hasToPick, chosen, issued, replied, stepped, changed}
 use Rattle.hearing.specs.Heard.{answer, sentIn, receivedIn, isPrepare, isGet, isAssign}
 use Rattle.commands.specs.Codes.{sendByte, blockRead, blockWrite}
-use Rattle.arp.specs.History.{Event, Start, Received, run}
+use Rattle.arp.specs.History.{Event, Start, Received, Gone, run}
 use Rattle.arp.specs.Lookup.{lookedUp}
 use Rattle.arp.specs.Numbers.{lookupNumber}
-use Rattle.arp.specs.Replay.{Happened, Replied, Assigned, Other, Table, holds, emptied, after, replyIn, assignIn, readAs, handedOut, table, numberOf, view}
+use Rattle.arp.specs.Replay.{Happened, Replied, Assigned, Pulled, Other, Table, holds, isBound, emptied, after, replyIn, assignIn, readAs, handedOut, happened, table, numberOf, view}
 use Rattle.commands.specs.declared.command.Command.the-variants.{Prepare, GetUdid, Assign}
 use Rattle.commands.specs.declared.command.End.the-variants.{Abandoned}
 use Rattle.commands.specs.declared.command.Handed.{Handed}
 use Rattle.commands.specs.declared.command.Handed.the-variants.{Send, Wait}
 use Rattle.slots.specs.declared.Binding.{Binding}
-use Rattle.slots.specs.declared.Binding.the-variants.{Open, Bound, Claimed}
+use Rattle.slots.specs.declared.Binding.the-variants.{Open, Bound, Claimed, Left}
 use Rattle.arp.specs.declared.state.Controller.{Controller}
 use Rattle.hearing.specs.Told.{toldPrepare, toldReply, toldGet, toldAssign, tells}
 use Rattle.hearing.specs.declared.told.Told.the-variants.{Again, Over, GivenUp, Reply, Took}
@@ -57,6 +60,7 @@ holds-is : (u : Udid) (h : Binding) → holds u h ≡ boundTo u h
 holds-is u Open = refl
 holds-is u (Bound v) = refl
 holds-is u Claimed = refl
+holds-is u Left = refl
 
 -- ---- what leaves the table as it is
 
@@ -209,24 +213,91 @@ module _ (starting : ℕ → Bool) (s : Controller) (v : SoundIn s) where
       go (Send (Assign u a)) q = assign-view u (a .0) (q .small) (answer blockWrite tr) (sentIn blockWrite tr)
       go (Wait e) q = refl
 
+-- ---- a report
+
+module _ (s : Controller) (b : ℕ) where
+  -- the address that is reported, and a target is bound to it
+  abbrev leaves : ℕ → Bool
+  leaves a = and (eqb a b) (isBound (heldAt (s .slots) a))
+
+  -- no target is bound there: nothing changes
+  unbound-view : isBound (heldAt (s .slots) b) ≡ false → view s ≡ after (member (s .starting)) (Pulled b) (view s)
+  unbound-view e = tables (view s) (after (member (s .starting)) (Pulled b) (view s))
+      (λ a. ap (λ (t : Bool). pick t Left (heldAt (s .slots) a)) (sym (not-there a (ℕ-discrete a b))))
+      (λ a. ap (λ (t : Bool). pick t (and (member (s .starting) a) (member (s .pool) a)) (member (s .pool) a)) (sym (not-there a (ℕ-discrete a b))))
+    where
+      not-there : (a : ℕ) → Dec (a ≡ b) → leaves a ≡ false
+      not-there a (yes q) = ap (and (eqb a b)) (ap (λ (x : ℕ). isBound (heldAt (s .slots) x)) q ∙ e) ∙ and-false (eqb a b)
+        where
+          and-false : (t : Bool) → and t false ≡ false
+          and-false true = refl
+          and-false false = refl
+      not-there a (no q) = ap (λ (t : Bool). and t (isBound (heldAt (s .slots) a))) (ne-eqb a b q)
+
+  module _ (u : Udid) (e : heldAt (s .slots) b ≡ Bound u) (l : Sized128 (s .slots)) where
+    leaves-there : (a : ℕ) → a ≡ b → leaves a ≡ true
+    leaves-there a q = ap₂ and (eq-eqb a b q) (ap (λ (x : ℕ). isBound (heldAt (s .slots) x)) q ∙ ap isBound e)
+
+    leaves-elsewhere : (a : ℕ) → (a ≡ b → ⊥) → leaves a ≡ false
+    leaves-elsewhere a q = ap (λ (t : Bool). and t (isBound (heldAt (s .slots) a))) (ne-eqb a b q)
+
+    held-left-then : (a : ℕ) → Dec (a ≡ b) → heldAt (withBinding (s .slots) b Left) a ≡ pick (leaves a) Left (heldAt (s .slots) a)
+    held-left-then a (yes q) =
+        ap (heldAt (withBinding (s .slots) b Left)) q ∙ held-same (s .slots) b Left l (bound-small (s .slots) b u e)
+        ∙ sym (ap (λ (t : Bool). pick t Left (heldAt (s .slots) a)) (leaves-there a q))
+    held-left-then a (no q) = held-other (s .slots) b a Left q ∙ sym (ap (λ (t : Bool). pick t Left (heldAt (s .slots) a)) (leaves-elsewhere a q))
+
+    used-then-by : (a : ℕ) → Dec (a ≡ b) → (t : Bool) → member (s .starting) b ≡ t
+        → member (pick t (s .pool) (withoutAddress (s .pool) b)) a ≡ pick (leaves a) (and (member (s .starting) a) (member (s .pool) a)) (member (s .pool) a)
+    used-then-by a (yes q) true k =
+        sym (ap (λ (t : Bool). pick t (and (member (s .starting) a) (member (s .pool) a)) (member (s .pool) a)) (leaves-there a q)
+        ∙ ap (λ (t : Bool). and t (member (s .pool) a)) (ap (member (s .starting)) q ∙ k))
+    used-then-by a (yes q) false k =
+        ap (member (withoutAddress (s .pool) b)) q ∙ has-without-same (s .pool) b
+        ∙ sym (ap (λ (t : Bool). pick t (and (member (s .starting) a) (member (s .pool) a)) (member (s .pool) a)) (leaves-there a q)
+        ∙ ap (λ (t : Bool). and t (member (s .pool) a)) (ap (member (s .starting)) q ∙ k))
+    used-then-by a (no q) true k = sym (ap (λ (t : Bool). pick t (and (member (s .starting) a) (member (s .pool) a)) (member (s .pool) a)) (leaves-elsewhere a q))
+    used-then-by a (no q) false k = has-without-other (s .pool) b a q ∙ sym (ap (λ (t : Bool). pick t (and (member (s .starting) a) (member (s .pool) a)) (member (s .pool) a)) (leaves-elsewhere a q))
+
+    left-view : view (leftAt s b) ≡ after (member (s .starting)) (Pulled b) (view s)
+    left-view = tables (view (leftAt s b)) (after (member (s .starting)) (Pulled b) (view s)) (λ a. held-left-then a (ℕ-discrete a b)) (λ a. used-then-by a (ℕ-discrete a b) (member (s .starting) b) refl)
+
+  report-view : Sized128 (s .slots) → view (reported s b .state) ≡ after (member (s .starting)) (Pulled b) (view s)
+  report-view l = go (isBound (heldAt (s .slots) b)) refl
+    where
+      at : (u : Udid) × (heldAt (s .slots) b ≡ Bound u) → view (reported s b .state) ≡ after (member (s .starting)) (Pulled b) (view s)
+      at (u, e) = ap (λ (r : Reported). view (r .state)) (removed s b u e) ∙ left-view u e l
+
+      go : (t : Bool) → isBound (heldAt (s .slots) b) ≡ t → view (reported s b .state) ≡ after (member (s .starting)) (Pulled b) (view s)
+      go true e = at (which-bound (heldAt (s .slots) b) e)
+      go false e = ap view (nothing-reported s b e) ∙ unbound-view e
+
 -- ---- EVERY STATE
+
+-- each event changes what an address is known for, and the pool, as it says
+pub event-view : (occupied : Pool) (last : ℕ) (es : List Event) (e : Event)
+    → view (run occupied last (e ∷ es)) ≡ after (member (startingPool occupied)) (happened occupied last es e) (view (run occupied last es))
+unfolding run
+event-view occupied last es Start =
+    tables (view (started (run occupied last es) .state)) (emptied (member (startingPool occupied))) open-all
+    (λ a. ap (λ (p : Pool). member p a) (reached-good occupied last es .0 .starting))
+event-view occupied last es (Received tr) =
+    step-view (member (startingPool occupied)) (run occupied last es) (reached-good occupied last es .0 .sound) (reached-good occupied last es .1) tr
+    ∙ ap (λ (x : Happened). after (member (startingPool occupied)) x (view (run occupied last es))) (same-reading (run occupied last es .last) (handedOut occupied last es) tr (last-is-handed-out occupied last es))
+event-view occupied last es (Gone a) =
+    report-view (run occupied last es) a (reached-good occupied last es .0 .sound .size)
+    ∙ ap (λ (p : Pool). after (member p) (Pulled a) (view (run occupied last es))) (reached-good occupied last es .0 .starting)
 
 pub view-is-table : (occupied : Pool) (last : ℕ) (es : List Event) → view (run occupied last es) ≡ table occupied last es
 unfolding run table
 view-is-table occupied last [] = tables (view (newController occupied last)) (emptied (member (startingPool occupied))) open-all (λ a. refl)
-view-is-table occupied last (Start ∷ es) =
-    tables (view (started (run occupied last es) .state)) (emptied (member (startingPool occupied))) open-all
-    (λ a. ap (λ (p : Pool). member p a) (reached-good occupied last es .0 .starting))
-view-is-table occupied last (Received tr ∷ es) =
-    step-view (member (startingPool occupied)) (run occupied last es) (reached-good occupied last es .0 .sound) (reached-good occupied last es .1) tr
-    ∙ ap (λ (x : Happened). after (member (startingPool occupied)) x (view (run occupied last es))) (same-reading (run occupied last es .last) (handedOut occupied last es) tr (last-is-handed-out occupied last es))
-    ∙ ap (after (member (startingPool occupied)) (readAs (handedOut occupied last es) tr)) (view-is-table occupied last es)
+view-is-table occupied last (e ∷ es) = event-view occupied last es e ∙ ap (after (member (startingPool occupied)) (happened occupied last es e)) (view-is-table occupied last es)
 
 -- THE CONTROLLER BY ITS HISTORY: what each address is known for, and whether the pool has it, is what the events give
 pub addresses-by-table : (occupied : Pool) (last : ℕ) (es : List Event) (a : ℕ)
     → (heldAt (run occupied last es .slots) a ≡ table occupied last es .held a) × (member (run occupied last es .pool) a ≡ table occupied last es .used a)
 addresses-by-table occupied last es a = (ap (λ (t : Table). t .held a) (view-is-table occupied last es), ap (λ (t : Table). t .used a) (view-is-table occupied last es))
 
--- in the scope's numbers: lookup answers 0 with the identifier, 15 or 16 as the events give it
+-- in the scope's numbers: lookup answers 0 with the identifier, 15, 16 or 20 as the events give it
 pub lookup-by-table : (occupied : Pool) (last : ℕ) (es : List Event) (a : ℕ) → a < 128 → lookupNumber (lookedUp (run occupied last es) a) ≡ numberOf (table occupied last es .held a)
 lookup-by-table occupied last es a h = lookup-number (run occupied last es) a h ∙ ap numberOf (addresses-by-table occupied last es a .0)

@@ -1,6 +1,7 @@
 // The ARP controller: which command comes next for each trace received, and which addresses are bound. Rests on hearing, slots and pool.
 pub mod bound;
 pub mod choose;
+pub mod gone;
 pub mod issue;
 pub mod lookup;
 pub mod next;

@@ -13,6 +13,8 @@ pub enum Found {
     Nobody,
     // Two targets claim it.
     Two,
+    // Its target was reported gone.
+    Left,
     // The number is above 127.
     NoAddress,
 }
@@ -29,6 +31,7 @@ impl Controller {
             Binding::Open => Found::Nobody,
             Binding::Bound(u) => Found::Bound(u),
             Binding::Claimed => Found::Two,
+            Binding::Left => Found::Left,
         }
     }
 }

@@ -36,7 +36,8 @@ impl Controller {
         }
     }
 
-    // A pass begins, at any time: nothing is bound or claimed, the pool is the starting pool, and Prepare To ARP goes out. The last pick stays.
+    // A pass begins, at any time: nothing is bound, claimed or left, the pool is the starting pool, and Prepare To ARP goes out. The last
+    // pick stays.
     pub fn start(mut self) -> Stepped
         ensures { λ r. ⌜ r ≡ started self ⌝ }
     {

@@ -15,11 +15,11 @@ use Rattle.report.specs.Report.{entryOf, entryAt}
 
 -- nobody where the address is not in the set
 pub entry-by-bound : (s : Slots) (a : ℕ) → entryAt s a ≡ pick (member (s .bound) a) (Bound (keptUdid s a)) Nobody
-entry-by-bound s a = by-bound entryOf Nobody refl refl s a
+entry-by-bound s a = by-bound entryOf Nobody refl refl refl s a
 
 -- the set that the slots keep is that of the bindings
 pub bound-is-set : (s : Slots) → Fits (s .bound) → s .bound ≡ boundSet (entryAt s)
-bound-is-set s f = bound-set-exactly (entryAt s) (s .bound) f .1 (λ a h. sym (by-bound (λ (x : Binding). isBound (entryOf x)) false refl refl s a ∙ told (member (s .bound) a)))
+bound-is-set s f = bound-set-exactly (entryAt s) (s .bound) f .1 (λ a h. sym (by-bound (λ (x : Binding). isBound (entryOf x)) false refl refl refl s a ∙ told (member (s .bound) a)))
   where
     told : (b : Bool) → pick b true false ≡ b
     told true = refl

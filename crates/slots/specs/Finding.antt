@@ -8,13 +8,14 @@ use Rattle.udid.specs.declared.Udid.{Udid}
 use Rattle.slots.specs.Slots.{heldAt}
 use Rattle.slots.specs.declared.Slots.{Slots}
 use Rattle.slots.specs.declared.Binding.{Binding}
-use Rattle.slots.specs.declared.Binding.the-variants.{Open, Bound, Claimed}
+use Rattle.slots.specs.declared.Binding.the-variants.{Open, Bound, Claimed, Left}
 
 -- the target that is bound, where one is
 abbrev pub boundIn : Binding → List Udid
 boundIn Open = []
 boundIn (Bound u) = u ∷ []
 boundIn Claimed = []
+boundIn Left = []
 
 -- the list is of this one
 abbrev pub isOnly : Udid → List Udid → Bool

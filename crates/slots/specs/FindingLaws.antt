@@ -15,7 +15,7 @@ use Rattle.slots.specs.declared.Binding.the-variants.{Bound}
 
 -- bound to u: the address is in the set of bound ones, and both halves kept for it are those of u
 pub bound-by-halves : (s : Slots) (a : ℕ) (u : Udid) → boundTo u (heldAt s a) ≡ and (member (s .bound) a) (and (eqb (getD (s .high) a 0) (u .high)) (eqb (getD (s .low) a 0) (u .low)))
-bound-by-halves s a u = by-bound (boundTo u) false refl refl s a ∙ both (member (s .bound) a)
+bound-by-halves s a u = by-bound (boundTo u) false refl refl refl s a ∙ both (member (s .bound) a)
   where
     both : (b : Bool) → pick b (boundTo u (Bound (keptUdid s a))) false ≡ and b (and (eqb (getD (s .high) a 0) (u .high)) (eqb (getD (s .low) a 0) (u .low)))
     both true = refl

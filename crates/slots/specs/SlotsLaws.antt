@@ -15,9 +15,9 @@ use Rattle.udid.specs.declared.Udid.{Udid}
 use Rattle.slots.specs.Slots.{Sized128, keptUdid, heldAt, withBinding, noBindings}
 use Rattle.slots.specs.declared.Slots.{Slots}
 use Rattle.slots.specs.declared.Binding.{Binding}
-use Rattle.slots.specs.declared.Binding.the-variants.{Open, Bound, Claimed}
+use Rattle.slots.specs.declared.Binding.the-variants.{Open, Bound, Claimed, Left}
 
--- ---- what is held by the sets of bound and of claimed addresses
+-- ---- what is held by the sets of bound, of claimed and of left addresses
 
 pub held-bound : (s : Slots) (a : ℕ) → member (s .bound) a ≡ true → heldAt s a ≡ Bound (keptUdid s a)
 unfolding heldAt
@@ -27,25 +27,30 @@ pub held-claimed : (s : Slots) (a : ℕ) → member (s .bound) a ≡ false → m
 unfolding heldAt
 held-claimed s a e f = rw (e, f)
 
-pub held-open : (s : Slots) (a : ℕ) → member (s .bound) a ≡ false → member (s .claimed) a ≡ false → heldAt s a ≡ Open
+pub held-left : (s : Slots) (a : ℕ) → member (s .bound) a ≡ false → member (s .claimed) a ≡ false → member (s .left) a ≡ true → heldAt s a ≡ Left
 unfolding heldAt
-held-open s a e f = rw (e, f)
+held-left s a e f g = rw (e, f, g)
 
--- what treats an open and a claimed address alike asks the set of bound addresses, and the identifier that is kept, alone
-pub by-bound : {A : Type 0} (f : Binding → A) (none : A) → f Claimed ≡ none → f Open ≡ none → (s : Slots) (a : ℕ)
+pub held-open : (s : Slots) (a : ℕ) → member (s .bound) a ≡ false → member (s .claimed) a ≡ false → member (s .left) a ≡ false → heldAt s a ≡ Open
+unfolding heldAt
+held-open s a e f g = rw (e, f, g)
+
+-- what treats an open, a claimed and a left address alike asks the set of bound addresses, and the identifier that is kept, alone
+pub by-bound : {A : Type 0} (f : Binding → A) (none : A) → f Claimed ≡ none → f Left ≡ none → f Open ≡ none → (s : Slots) (a : ℕ)
     → f (heldAt s a) ≡ pick (member (s .bound) a) (f (Bound (keptUdid s a))) none
 unfolding heldAt
-by-bound f none k o s a = go (member (s .bound) a) (member (s .claimed) a)
+by-bound f none k l o s a = go (member (s .bound) a) (member (s .claimed) a) (member (s .left) a)
   where
-    go : (x y : Bool) → f (pick x (Bound (keptUdid s a)) (pick y Claimed Open)) ≡ pick x (f (Bound (keptUdid s a))) none
-    go true y = refl
-    go false true = k
-    go false false = o
+    go : (x y z : Bool) → f (pick x (Bound (keptUdid s a)) (pick y Claimed (pick z Left Open))) ≡ pick x (f (Bound (keptUdid s a))) none
+    go true y z = refl
+    go false true z = k
+    go false false true = l
+    go false false false = o
 
 -- past the last address nothing is held
 pub held-above-is-open : (s : Slots) (a : ℕ) → 128 ≤ a → heldAt s a ≡ Open
 unfolding heldAt
-held-above-is-open s a h = rw (member-above (s .bound) a h, member-above (s .claimed) a h)
+held-above-is-open s a h = rw (member-above (s .bound) a h, member-above (s .claimed) a h, member-above (s .left) a h)
 
 -- where a pass begins nothing is held
 pub open-all : (a : ℕ) → heldAt noBindings a ≡ Open
@@ -56,7 +61,7 @@ open-all a = rw (member-empty a)
 
 pub held-same : (s : Slots) (a : ℕ) (x : Binding) → Sized128 s → a < 128 → heldAt (withBinding s a x) a ≡ x
 unfolding heldAt withBinding
-held-same s a Open z h = rw (has-without-same (s .bound) a, has-without-same (s .claimed) a)
+held-same s a Open z h = rw (has-without-same (s .bound) a, has-without-same (s .claimed) a, has-without-same (s .left) a)
 held-same s a (Bound u) z h =
     rw (
       has-with-same (s .bound) a h,
@@ -64,10 +69,11 @@ held-same s a (Bound u) z h =
       getD-set-same (s .low) a (u .low) 0 (omega (arith, z .low)),
     )
 held-same s a Claimed z h = rw (has-without-same (s .bound) a, has-with-same (s .claimed) a h)
+held-same s a Left z h = rw (has-without-same (s .bound) a, has-without-same (s .claimed) a, has-with-same (s .left) a h)
 
 pub held-other : (s : Slots) (a i : ℕ) (x : Binding) → (i ≡ a → ⊥) → heldAt (withBinding s a x) i ≡ heldAt s i
 unfolding heldAt withBinding
-held-other s a i Open n = rw (has-without-other (s .bound) a i n, has-without-other (s .claimed) a i n)
+held-other s a i Open n = rw (has-without-other (s .bound) a i n, has-without-other (s .claimed) a i n, has-without-other (s .left) a i n)
 held-other s a i (Bound u) n =
     rw (
       has-with-other (s .bound) a i n,
@@ -75,6 +81,7 @@ held-other s a i (Bound u) n =
       getD-set-other (s .low) a i (u .low) 0 n,
     )
 held-other s a i Claimed n = rw (has-without-other (s .bound) a i n, has-with-other (s .claimed) a i n)
+held-other s a i Left n = rw (has-without-other (s .bound) a i n, has-without-other (s .claimed) a i n, has-with-other (s .left) a i n)
 
 -- a number above 127 is no address: nothing changes
 pub held-out-of-range : (s : Slots) (a i : ℕ) (x : Binding) → 128 ≤ a → heldAt (withBinding s a x) i ≡ heldAt s i
@@ -87,14 +94,16 @@ held-out-of-range s a i x h = go (ℕ-discrete i a)
 -- nor does anything that is kept
 pub put-above : (s : Slots) (a : ℕ) (x : Binding) → Sized128 s → 128 ≤ a → withBinding s a x ≡ s
 unfolding withBinding
-put-above s a Open z h = λ j. record { bound = without-above (s .bound) a h j; claimed = without-above (s .claimed) a h j; high = s .high; low = s .low }
+put-above s a Open z h = λ j. record { bound = without-above (s .bound) a h j; claimed = without-above (s .claimed) a h j; left = without-above (s .left) a h j; high = s .high; low = s .low }
 put-above s a (Bound u) z h = λ j. record {
   bound = with-above (s .bound) a h j;
   claimed = s .claimed;
+  left = s .left;
   high = set-out (s .high) a (u .high) (subst (λ (n : ℕ). n ≤ a) (sym (z .high)) h) j;
   low = set-out (s .low) a (u .low) (subst (λ (n : ℕ). n ≤ a) (sym (z .low)) h) j;
 }
-put-above s a Claimed z h = λ j. record { bound = without-above (s .bound) a h j; claimed = with-above (s .claimed) a h j; high = s .high; low = s .low }
+put-above s a Claimed z h = λ j. record { bound = without-above (s .bound) a h j; claimed = with-above (s .claimed) a h j; left = s .left; high = s .high; low = s .low }
+put-above s a Left z h = λ j. record { bound = without-above (s .bound) a h j; claimed = without-above (s .claimed) a h j; left = with-above (s .left) a h j; high = s .high; low = s .low }
 
 -- what was put, or what was there elsewhere
 pub held-cases : (s : Slots) (a i : ℕ) (x h : Binding) → Sized128 s → a < 128 → heldAt (withBinding s a x) i ≡ h
@@ -116,3 +125,4 @@ unfolding withBinding
 sized-with s a Open z = record { high = z .high; low = z .low }
 sized-with s a (Bound u) z = record { high = length-set (s .high) a (u .high) ∙ z .high; low = length-set (s .low) a (u .low) ∙ z .low }
 sized-with s a Claimed z = record { high = z .high; low = z .low }
+sized-with s a Left z = record { high = z .high; low = z .low }

@@ -9,9 +9,12 @@ without-requires c κs = search needs
 without-requires-2 : tie.Need-without-requires-2
 without-requires-2 c κs = search needs
 
+without-requires-3 : tie.Need-without-requires-3
+without-requires-3 c κs = search needs
+
 returns : tie.Need-returns
 unfolding withBinding
-returns c = simp (c .before .without .ensures, c .without2 .ensures)
+returns c = simp (c .before .before .without .ensures, c .before .without2 .ensures, c .without3 .ensures)
 
 pub put-open-spec : {M : Type 1} → statement M
-put-open-spec = tie.close (tie.spec without-requires without-requires-2 returns)
+put-open-spec = tie.close (tie.spec without-requires without-requires-2 without-requires-3 returns)

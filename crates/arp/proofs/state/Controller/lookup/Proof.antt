@@ -20,6 +20,9 @@ enum-known-u c = search needs
 enum-told-2 : tie.Need-enum-told-2
 enum-told-2 c = search needs
 
+enum-told-3 : tie.Need-enum-told-3
+enum-told-3 c = search needs
+
 returns-2 : tie.Need-returns-2
 returns-2 c = simp (le-ltb _ _ (c .before .before .before .before .if1 .left)) (sym (ap seen (sym (c .before .before .held-at .ensures) ∙ c .enum-told .given .1)))
 
@@ -28,6 +31,9 @@ returns-3 c = simp (le-ltb _ _ (c .before .before .before .before .before .if1 .
 
 returns-4 : tie.Need-returns-4
 returns-4 c = simp (le-ltb _ _ (c .before .before .before .before .if1 .left)) (sym (ap seen (sym (c .before .before .held-at .ensures) ∙ c .enum-told2 .given .1)))
+
+returns-5 : tie.Need-returns-5
+returns-5 c = simp (le-ltb _ _ (c .before .before .before .before .if1 .left)) (sym (ap seen (sym (c .before .before .held-at .ensures) ∙ c .enum-told3 .given .1)))
 
 pub lookup-spec : {M : Type 1} → statement M
 lookup-spec =
@@ -38,6 +44,8 @@ lookup-spec =
     enum-told
     enum-known-u
     enum-told-2
+    enum-told-3
     returns-2
     returns-3
-    returns-4)
+    returns-4
+    returns-5)
