@@ -1,23 +1,25 @@
 -- THE PAGE OF PROMISES: statements only. DemandsLaws has one inhabitant of each record, and so its proof.
 -- ≡ is 'equal', ↔ 'if and only if', × 'and', ⊎ 'or', P → ⊥ 'not P', (x : A) × P 'there is an x with P'; getD l i 0 is number i of the list l.
 -- A parameter such as (contract : Wrote ..) is what a function's `ensures` says, word for word. It need not be believed: the code meets it.
--- CONTRACTS: Leaves, Outcome, Wrote, lookedUp, messageOf, modelEnd, newController, nextFree, protocolFor, started, stepped, traceOf.
--- BELIEVED: 666 lines, without imports, comments and blanks. Crate/file, then the lines of each definition; src is a type of the code. tests/programs/believed.rs counts them.
+-- CONTRACTS: Leaves, Outcome, Wrote, lookedUp, messageOf, modelEnd, newController, nextFree, protocolFor, reported, started, stepped, traceOf.
+-- BELIEVED: 756 lines, without imports, comments and blanks. Crate/file, then the lines of each definition; src is a type of the code. tests/programs/believed.rs counts them.
 -- lists/Choice: and 3, not 3, or 3, pick 3; lists/Each: Bytes 3, Each 3; wire/Addresses: isReserved 2; wire/Symbols: ACK 2, NACK 2, START 2, STOP 2; wire/src: Address 1; pec/Pec: bitStep 2, pecFrom 3, pecOf 2, pecStep 2;
 -- trace/Rows: message 2; trace/Table: InTable 2, Line 6, Row 22, TraceOf 2, lastProtocol 2, line 2, symbols 2; trace/Trace: Message 6, ackOf 3, acked 3, inPlace 2, nacked 3; trace/src: Transaction 8;
 -- encode/Encode: encodeNumber 4; encode/src: Encoded 5; misfit/Cases: IsMisaddressed 2, IsMiscounted 2, IsOther 2, IsSwapped 2; scan/Answers: summary 3; scan/Because: AfterStart 2; scan/BytesIn: bytesIn 3;
 -- scan/Fitting: BitSwapped 4, Breaks 4, CountTooHigh 4, CutAt 9, Fits 2, FitsNext 2, Member 2, OtherPec 3, ToHost 2, Whole 2, Wrong 2; scan/Numbers: decodeNumber 3, refusalNumber 12; scan/src: Decoded 4, Refusal 13;
 -- decode/Outcome: Entered 2; pool/Counts: count 3, one 2; pool/Digits: digit 2, plus 2; pool/Free: used 2; pool/NextFree: Next 4; pool/Picks: FreeAtEach 3, Pick 3, Picked 3, Picks 3, latestOf 3; pool/Pools: member 2, unionOf 2,
 -- withAddress 4; pool/Start: emptyPool 2, reservedPool 2, startingPool 2; pool/src: Free 4, Pool 4; udid/Bytes: bytesFrom 3, bytesOf 3, number 2, numberFrom 3, udidAt 2, udidBytes 2; udid/Udids: Fits 3, isFixed 2, sameUdid 2,
--- value 2; udid/src: Udid 4; slots/Slots: heldAt 2; slots/src: Binding 5, Slots 6; commands/CommandTraces: assignTrace 2, prepareTrace 2, replyTrace 3; commands/src: Command 5, End 7, Handed 4; arp/History: Acknowledged 5,
--- Event 3, run 4; arp/Numbers: commandNumber 3, endNumber 6, lookupNumber 5; arp/OneStep: Asks 3, Binds 6, BoundAt 3, Chooses 5, Continues 2, EndsWith 2, Hands 5, Keeps 4, Replies 4, Same 2, Unbinds 3; arp/RunPicks: isPicked 2,
--- pickIn 5, picksOf 5; arp/src: Controller 8, Found 6, Stepped 4; arbitration/Bits: bits 3, byteBits 3, bytesRead 3, numberOf 3; arbitration/Wire: heard 3, later 3, level 3, next 3, staying 3; targets/ByteCases: EvenOrFlag 2,
--- FixedAt 2, FixedOnTaken 2, SameAsEarlier 2, addressAt 2; targets/Cases: FirstOf 4, LengthIsBad 2, None 2; targets/Records: addressByte 2, flagOf 2, recordCount 2, targetAt 2, targetsFrom 3, targetsOf 2, udidOf 2;
--- targets/Reply: OnWire 3, coveredBytes 2, onWire 3, replyBytes 2, replyData 2, replyPec 2, sends 2, waiting 3; targets/Target: Target 4, isResolved 2, mapTargets 3; bindings/src: ModelAnswer 9; report/Report: modelNumber 2;
--- rule/Acknowledge: acknowledges 4, afterwards 2, answered 4, asking 2, assigningBytes 2, begins 4, gettingBytes 2, onBus 2, preparingBytes 2, received 3, sentPart 5, somebody 3, standing 3; rule/AllBound: leftFree 2, movable 3,
--- withFixed 3; rule/AnyBus: Bus 3, WorldOver 3, beginningOver 2, passOf 2, runOver 3, tookOver 3, turnOver 2; rule/Bus: modelBus 2, pass 2; rule/Effect: addressIn 2, effect 5, isForMe 2, same 5; rule/PlainRule: Distinct 3,
--- Ending 3, Given 3, Ruled 4, ascending 3, held 2, insert 3, isPickedFor 2, next 5, pickAfter 2, plainChoice 2, rule 3, ruled 2; rule/Reading: Any 3, OnePerUdid 3, RecordOf 2; rule/Sent: getsAmong 3, getsOnBus 2, getsOver 2,
--- heardAfter 4, historyOnBus 2, oneIn 2, tracesOver 3; bus/Run: ModelEnd 4; promises/MarkedWords: Shows 2, holding 2, identifier 2, windows 3.
+-- value 2; udid/src: Udid 4; slots/Slots: heldAt 2; slots/src: Binding 6, Slots 7; commands/CommandTraces: ReplyOf 2, assignTrace 2, prepareTrace 2, replyTrace 3; commands/SameTrace: same 5; commands/src: Command 5, End 7,
+-- Handed 4; arp/Account: bindIn 5, binds 5, knownIn 2, removals 5, removeIn 2, repliesFrom 5, unbindIn 5, unbindings 5; arp/History: Event 4, NoStart 5, run 5; arp/Numbers: commandNumber 3, endNumber 6, lookupNumber 6;
+-- arp/OneStep: Asks 3, Binds 6, BoundAt 3, Chooses 5, Continues 2, EndsWith 2, Hands 5, Keeps 4, Removes 5, Replies 4, Rest 5, Same 2, Unbinds 3; arp/Replay: Table 3, handedOut 5, isBound 5, view 2; arp/RunPicks: isPicked 2,
+-- pickIn 5, picksOf 6; arp/SinceStart: BoundSince 7, Completes 2, LeftSince 5, Removed 2, RepliedBy 2; arp/src: Controller 8, Found 7, Reported 4, Stepped 4; arbitration/Bits: bits 3, byteBits 3, bytesRead 3, numberOf 3;
+-- arbitration/Wire: heard 3, later 3, level 3, next 3, staying 3; targets/ByteCases: EvenOrFlag 2, FixedAt 2, FixedOnTaken 2, SameAsEarlier 2, addressAt 2; targets/Cases: FirstOf 4, LengthIsBad 2, None 2;
+-- targets/Records: addressByte 2, flagOf 2, recordCount 2, targetAt 2, targetsFrom 3, targetsOf 2, udidOf 2; targets/Reply: OnWire 3, coveredBytes 2, onWire 3, replyBytes 2, replyData 2, replyPec 2, sends 2, waiting 3;
+-- targets/Target: Target 4, isResolved 2, mapTargets 3; bindings/src: ModelAnswer 9; report/Report: modelNumber 2; rule/Acknowledge: acknowledges 4, afterwards 2, answered 4, asking 2, assigningBytes 2, begins 4, gettingBytes 2,
+-- onBus 2, preparingBytes 2, received 3, sentPart 5, somebody 3, standing 3; rule/AllBound: leftFree 2, movable 3, withFixed 3; rule/AnyBus: Bus 3, WorldOver 3, beginningOver 2, passOf 2, runOver 3, tookOver 3, turnOver 2;
+-- rule/Bus: modelBus 2, pass 2; rule/Effect: addressIn 2, effect 5, isForMe 2; rule/PlainRule: Distinct 3, Ending 3, Given 3, Ruled 4, ascending 3, held 2, insert 3, isPickedFor 2, next 5, pickAfter 2, plainChoice 2, rule 3,
+-- ruled 2; rule/Reading: Any 3, OnePerUdid 3, RecordOf 2; rule/Sent: getsAmong 3, getsOnBus 2, getsOver 2, heardAfter 4, historyOnBus 2, oneIn 2, tracesOver 3; bus/Run: ModelEnd 4; promises/MarkedWords: Shows 2, holding 2,
+-- identifier 2, windows 3.
 use mathlib.Core.Path.{_≡_}
 use mathlib.Core.Bool.{Bool, true, false}
 use mathlib.Core.List.{List, [], _∷_, _++_}
@@ -26,7 +28,8 @@ use Prim.Native.Nat.{ℕ, suc, _+_, _*_, _/_, _%_, _^_, _≤_, _<_}
 use lib.ListN.{length, take, drop, getD, replicate}
 use Rattle.promises.specs.Words.{Each, Bytes, isReserved, pecOf, Address, lastProtocol, TraceOf, Message, message, encodeNumber, Wrote, Encoded}
 use Rattle.promises.specs.Words.{summary, Member, Fits, Breaks, Wrong, AfterStart, FitsNext, ToHost, IsSwapped, IsMisaddressed, IsMiscounted, IsOther, BitSwapped, CountTooHigh, CutAt, OtherPec, decodeNumber, Decoded, Done, Entered, Outcome}
-use Rattle.promises.specs.Words.{member, emptyPool, startingPool, Pool, udidBytes, In128, Udid, heldAt, prepareTrace, replyTrace, assignTrace, newController, started, stepped, Event, Received, run, Acknowledged, lookedUp, commandNumber, lookupNumber}
+use Rattle.promises.specs.Words.{member, emptyPool, startingPool, Pool, udidBytes, In128, Udid, heldAt, prepareTrace, replyTrace, assignTrace, newController, started, stepped, reported, Event, NoStart, run, lookedUp, commandNumber, lookupNumber}
+use Rattle.promises.specs.Words.{used, BoundSince, LeftSince, binds, unbindings, removals, knownIn, handedOut, Removes, Rest, Reported, Left}
 use Rattle.promises.specs.Words.{Asks, Binds, Continues, EndsWith, Replies, protocolFor, messageOf, traceOf, Handed, Send, Wait, Nothing, Prepare, GetUdid, Assign, Ended, Abandoned, NotOutstanding, Open, Bound, Claimed, Controller, Stepped}
 use Rattle.promises.specs.Words.{EvenOrFlag, SameAsEarlier, FixedOnTaken, LengthIsBad, None, FirstOf, targetsOf, movable, leftFree, pass, Given, Ending, served, noneFree, Distinct, ruled, Any, RecordOf, OnePerUdid, getsOnBus, historyOnBus, modelNumber, Leaves, modelEnd, ModelAnswer, nextFree, Next, At, AllUsed, Pick, Picks, latestOf, picksOf, FreeAtEach, Picked, identifier, holding, Shows}
 
@@ -93,6 +96,7 @@ pub record LooksUp (s : Controller) (a : ℕ) : Type 0 where
   pub lookup-1 : (lookupNumber (lookedUp s a) ≡ (1, [])) ↔ (127 < a)
   pub lookup-15 : (lookupNumber (lookedUp s a) ≡ (15, [])) ↔ ((a < 128) × (heldAt (s .slots) a ≡ Open))
   pub lookup-16 : (lookupNumber (lookedUp s a) ≡ (16, [])) ↔ ((a < 128) × (heldAt (s .slots) a ≡ Claimed))
+  pub lookup-20 : (lookupNumber (lookedUp s a) ≡ (20, [])) ↔ ((a < 128) × (heldAt (s .slots) a ≡ Left))
 
 -- run_model with the last pick `last`, 127 if none ever was, over the records s and the binding buffer b, which hold s′ and b′ after. i is a record
 abbrev pub Refused : ModelAnswer → Type 0
@@ -200,19 +204,20 @@ pub record StepNumbers (s : Controller) (tr : List ℕ) (r : Stepped) : Type 0 w
 abbrev pub Sound : Controller → Type 0
 Sound s = ((length (s .slots .high) ≡ 128) × (length (s .slots .low) ≡ 128)) × ((u : Udid) (a : Address) → s .last ≡ Send (Assign u a) → In128 u) × (s .picked < 128)
 
--- what holds in every state that starts and traces reach
+-- what holds in every state that starts, traces and reports reach
 pub record Reached (occupied : Pool) (s : Controller) : Type 0 where
   pub sound : Sound s
-  -- the pool is the starting pool and the addresses that are bound or claimed; none that is bound was in the starting pool
+  -- the pool is the starting pool and the addresses that are bound or claimed; none that is bound was in the starting pool; one that is left is free
   pub starting : s .starting ≡ startingPool occupied
-  pub pool : (a : ℕ) → (member (s .pool) a ≡ true) ↔ ((member (s .starting) a ≡ true) ⊎ (heldAt (s .slots) a ≡ Open → ⊥))
+  pub pool : (a : ℕ) → (member (s .pool) a ≡ true) ↔ ((member (s .starting) a ≡ true) ⊎ ((heldAt (s .slots) a ≡ Open → ⊥) × (heldAt (s .slots) a ≡ Left → ⊥)))
   pub new : (a : ℕ) (u : Udid) → heldAt (s .slots) a ≡ Bound u → member (s .starting) a ≡ false
-  -- no identifier is bound twice; an address holds one, or is claimed, or open: that is the form of a slot
+  pub left-free : (a : ℕ) → heldAt (s .slots) a ≡ Left → member (s .pool) a ≡ false
+  -- no identifier is bound twice; an address holds one, or is claimed, or left, or open: that is the form of a slot
   pub once : (a b : ℕ) (u : Udid) → heldAt (s .slots) a ≡ Bound u → heldAt (s .slots) b ≡ Bound u → a ≡ b
   pub gets : s .gets ≤ 128
 
 pub record Control : Type 0 where
-  -- the starting pool: the reserved and the occupied addresses. A new controller has nothing bound, claimed or outstanding; a start, at any time, makes it so again,
+  -- the starting pool: the reserved and the occupied addresses. A new controller has nothing bound, claimed, left or outstanding; a start, at any time, makes it so again,
   -- but the last pick stays. A last pick above 127 counts as 127, never picked
   pub starting-pool : (occupied : Pool) (a : ℕ) → (member (startingPool occupied) a ≡ true) ↔ ((isReserved a ≡ true) ⊎ (member occupied a ≡ true))
   pub new : (occupied : Pool) (last : ℕ) → let c = newController occupied last in (c .starting ≡ startingPool occupied) × (c .pool ≡ startingPool occupied)
@@ -224,11 +229,32 @@ pub record Control : Type 0 where
   pub one-step : (s : Controller) (tr : List ℕ) (r q : Stepped) → Sound s → Steps s tr r → Steps s tr q
       → (r .command ≡ q .command) × (r .state .last ≡ q .state .last) × (r .state .gets ≡ q .state .gets) × (r .state .starting ≡ q .state .starting) × (r .state .picked ≡ q .state .picked)
       × ((a : ℕ) → (heldAt (r .state .slots) a ≡ heldAt (q .state .slots) a) × (member (r .state .pool) a ≡ member (q .state .pool) a))
-  -- over any starts and traces, the latest first
+  -- over any starts, traces and reports, the latest first
   pub reached : (occupied : Pool) (last : ℕ) (es : List Event) → Reached occupied (run occupied last es)
-  -- what lookup answers was assigned in this pass, and acknowledged byte for byte; a claim stays for the rest of the pass
-  pub acknowledged : (occupied : Pool) (last : ℕ) (es : List Event) (a : ℕ) (u : Udid) → lookupNumber (lookedUp (run occupied last es) a) ≡ (0, u ∷ []) → Acknowledged occupied last es u a
-  pub claim-stays : (occupied : Pool) (last : ℕ) (es : List Event) (tr : List ℕ) (a : ℕ) → heldAt (run occupied last es .slots) a ≡ Claimed → heldAt (run occupied last (Received tr ∷ es) .slots) a ≡ Claimed
+  -- lookup's 0 with u: an Assign of a to u completed while a was not in the pool, and since then no start, no report of a that was answered 0, no reply of u, and no
+  -- other Assign of a that completed. Its 20: a report of a was answered 0, and since then no start, and no Assign of a that completed
+  pub bound-since : (occupied : Pool) (last : ℕ) (es : List Event) (u : Udid) (a : ℕ) → (lookupNumber (lookedUp (run occupied last es) a) ≡ (0, u ∷ [])) ↔ BoundSince occupied last es u a
+  pub left-since : (occupied : Pool) (last : ℕ) (es : List Event) (a : ℕ) → (lookupNumber (lookedUp (run occupied last es) a) ≡ (20, [])) ↔ LeftSince occupied last es a
+  -- a claim stays for the rest of the pass, whatever is received and reported later
+  pub claim-stays : (occupied : Pool) (last : ℕ) (es later : List Event) → NoStart later → (a : ℕ) → heldAt (run occupied last es .slots) a ≡ Claimed → heldAt (run occupied last (later ++ es) .slots) a ≡ Claimed
+
+-- THE MODULE AT THE ADDRESS a IS REPORTED GONE in the state s; r is what comes of it. Its answer has lookup's number
+pub record Reports (s : Controller) (a : ℕ) (r : Reported) : Type 0 where
+  pub gone-0 : (u : Udid) → (lookupNumber (r .found) ≡ (0, u ∷ [])) ↔ ((a < 128) × (heldAt (s .slots) a ≡ Bound u))
+  pub gone-1 : (lookupNumber (r .found) ≡ (1, [])) ↔ (127 < a)
+  pub gone-15 : (lookupNumber (r .found) ≡ (15, [])) ↔ ((a < 128) × (heldAt (s .slots) a ≡ Open))
+  pub gone-16 : (lookupNumber (r .found) ≡ (16, [])) ↔ ((a < 128) × (heldAt (s .slots) a ≡ Claimed))
+  pub gone-20 : (lookupNumber (r .found) ≡ (20, [])) ↔ ((a < 128) × (heldAt (s .slots) a ≡ Left))
+  -- with 0 the address is left and out of the pool, unless the starting pool has it, and nothing else changes; with any other number nothing does
+  pub removes : lookupNumber (r .found) .0 ≡ 0 → Removes a s (r .state) × Rest s (r .state)
+  pub untouched : (lookupNumber (r .found) .0 ≡ 0 → ⊥) → r .state ≡ s
+
+pub record TakingBack : Type 0 where
+  pub report : (s : Controller) (a : ℕ) → Sound s → Reports s a (reported s a)
+  -- THE ACCOUNT, since the latest start: the addresses in use number the starting pool plus the binds to addresses then free, minus the removals and the unbindings of
+  -- repeated identifiers, each of an address outside the starting pool. Whether an address was free, and who was bound there, is read off the state just before an event
+  pub account : (occupied : Pool) (last : ℕ) (es : List Event) → let starting = member (startingPool occupied) in let known = knownIn occupied last in let handed = handedOut occupied last in
+      used (run occupied last es .pool) + (removals starting known es + unbindings starting known handed es) ≡ used (startingPool occupied) + binds known handed es
 
 -- PICKS
 pub record Picking : Type 0 where
@@ -238,7 +264,7 @@ pub record Picking : Type 0 where
   pub none : (p : Pool) (l : ℕ) → (nextFree p l ≡ AllUsed) ↔ ((a : ℕ) → a < 128 → member p a ≡ true)
   pub first : (p : Pool) (a : ℕ) → (nextFree p 127 ≡ At (record { 0 = a })) ↔ ((a < 128) × (member p a ≡ false) × ((b : ℕ) → b < a → member p b ≡ true))
   pub again : (p : Pool) (l : ℕ) → nextFree p l ≡ At (record { 0 = l }) → (b : ℕ) → b < 128 → (b ≡ l → ⊥) → member p b ≡ true
-  -- picksOf has the picks of a controller over any starts and traces, told by the traces and the commands handed out, each with its pool. Each is the pick after the one
+  -- picksOf has the picks of a controller over any starts, traces and reports, told by the traces and the commands handed out, each with its pool. Each is the pick after the one
   -- before it, and the first is the pick after what the controller was made with. The state's last pick is the latest of them; with none, what the controller was made with
   pub each : (occupied : Pool) (last : ℕ) (es : List Event) → Picks (newController occupied last .picked) (picksOf occupied last es)
   pub latest : (occupied : Pool) (last : ℕ) (es : List Event) → run occupied last es .picked ≡ latestOf (newController occupied last .picked) (picksOf occupied last es)

@@ -41,16 +41,22 @@ use Rattle.pool.specs.StartLaws.{member-starting}
 use Rattle.pool.specs.declared.Pool.{Pool}
 use Rattle.udid.specs.Bytes.{udidBytes}
 use Rattle.udid.specs.declared.Udid.{Udid}
-use Rattle.arp.specs.BindingLaws.{unheld-is-open}
+use Rattle.arp.specs.BindingLaws.{unheld-is-open-or-left}
 use Rattle.slots.specs.Slots.{heldAt}
-use Rattle.arp.specs.Numbers.{commandNumber}
-use Rattle.arp.specs.AssignedLaws.{found-acknowledged, claim-stays}
+use Rattle.arp.specs.Numbers.{commandNumber, lookupNumber}
+use Rattle.arp.specs.AccountLaws.{account}
+use Rattle.arp.specs.AssignedLaws.{claim-stays}
+use Rattle.arp.specs.Gone.{reported}
+use Rattle.arp.specs.GoneLaws.{which-bound, nothing-reported, report-rest, report-removes, answered-0}
+use Rattle.arp.specs.Replay.{isBound}
+use Rattle.arp.specs.OneStep.{Removes}
+use Rattle.arp.specs.SinceStartLaws.{lookup-0-since, lookup-20-since}
 use Rattle.commands.specs.CommandTraces.{prepareTrace, replyTrace, assignTrace}
 use Rattle.pool.specs.FreeLaws.{lowest-is}
 use Rattle.pool.specs.NextFreeLaws.{next-is, next-none, next-above, again-only-if}
 use Rattle.arp.specs.RunPicksLaws.{last-is-latest, run-picks}
 use Rattle.pool.specs.PickLaws.{picks-on, rotation}
-use Rattle.arp.specs.HistoryLaws.{reached-good, new-controller-is-new}
+use Rattle.arp.specs.HistoryLaws.{reached-good, reached-invariant, new-controller-is-new}
 use Rattle.arp.specs.LookupLaws as arp
 use Rattle.commands.specs.RequestLaws.{valid-prepare, valid-get, valid-assign, prepare-symbols, reply-symbols, assign-symbols-small}
 use Rattle.commands.specs.Requests.{assignData, protocolFor, messageOf}
@@ -64,7 +70,7 @@ use Rattle.commands.specs.declared.command.Command.the-variants.{Prepare, GetUd
 use Rattle.commands.specs.declared.command.Handed.{Handed}
 use Rattle.commands.specs.declared.command.Handed.the-variants.{Send, Wait}
 use Rattle.slots.specs.declared.Binding.{Binding}
-use Rattle.slots.specs.declared.Binding.the-variants.{Open}
+use Rattle.slots.specs.declared.Binding.the-variants.{Open, Bound, Left}
 use Rattle.arp.specs.declared.state.Controller.{Controller}
 use Rattle.targets.specs.ByteCases.{EvenOrFlag, SameAsEarlier, FixedOnTaken}
 use Rattle.targets.specs.ByteCasesLaws.{given-by-bytes}
@@ -84,7 +90,7 @@ use Rattle.bus.specs.RecordsEndLaws.{records-length, record-of-bound, record-of
 use Rattle.bus.specs.RefusalLaws as bus
 use Rattle.bus.specs.Run.{Leaves, modelEnd}
 use Rattle.bindings.specs.declared.answer.ModelAnswer.{ModelAnswer}
-use Rattle.promises.specs.Demands.{OfBytes, Encodes, Decodes, Puts, Commands, LooksUp, Checks, Demand2, Demand3, Reached, Control, Picking}
+use Rattle.promises.specs.Demands.{OfBytes, Encodes, Decodes, Puts, Commands, LooksUp, Checks, Demand2, Demand3, Sound, Reached, Control, Reports, TakingBack, Picking}
 use Rattle.promises.specs.StepsLaws.{sentences, one-step, each-number-exactly}
 
 -- ---- demand 1
@@ -198,7 +204,7 @@ commands reply before r after = record {
     assigned u a b (no l) = absurd (b (omega arith))
 
 pub looks-up : (s : Controller) (a : ℕ) → LooksUp s a
-looks-up s a = record { lookup-0 = arp.lookup-0 s a; lookup-1 = arp.lookup-1 s a; lookup-15 = arp.lookup-15 s a; lookup-16 = arp.lookup-16 s a }
+looks-up s a = record { lookup-0 = arp.lookup-0 s a; lookup-1 = arp.lookup-1 s a; lookup-15 = arp.lookup-15 s a; lookup-16 = arp.lookup-16 s a; lookup-20 = arp.lookup-20 s a }
 
 pub checks : (occupied : Pool) (last : ℕ) (s b : List ℕ) (bytes : Bytes s) (r : ModelAnswer) (s′ b′ : List ℕ) (contract : Leaves (modelEnd occupied last s b) r s′ b′)
     → Checks occupied last s b bytes r s′ b′ contract
@@ -320,17 +326,21 @@ demand-3 occupied last s b bytes r s′ b′ l = record {
 -- ---- the controller
 
 -- the pool of a reached state
-pool-exactly : (x y : Bool) (h : Binding) → y ≡ or x (isHeld h) → (y ≡ true) ↔ ((x ≡ true) ⊎ (h ≡ Open → ⊥))
+pool-exactly : (x y : Bool) (h : Binding) → y ≡ or x (isHeld h) → (y ≡ true) ↔ ((x ≡ true) ⊎ ((h ≡ Open → ⊥) × (h ≡ Left → ⊥)))
 pool-exactly true y h e = (λ q. inl refl, λ q. e)
 pool-exactly false y h e = go (isHeld h) refl
   where
-    go : (b : Bool) → isHeld h ≡ b → (y ≡ true) ↔ ((false ≡ true) ⊎ (h ≡ Open → ⊥))
-    go true k = (λ q. inr (λ z. false-not-true (sym (ap isHeld z) ∙ k)), λ q. e ∙ k)
+    go : (b : Bool) → isHeld h ≡ b → (y ≡ true) ↔ ((false ≡ true) ⊎ ((h ≡ Open → ⊥) × (h ≡ Left → ⊥)))
+    go true k = (λ q. inr (λ z. false-not-true (sym (ap isHeld z) ∙ k), λ z. false-not-true (sym (ap isHeld z) ∙ k)), λ q. e ∙ k)
     go false k = (λ q. false-not-true (sym (e ∙ k) ∙ q), back)
       where
-        back : (false ≡ true) ⊎ (h ≡ Open → ⊥) → y ≡ true
+        neither : (h ≡ Open → ⊥) × (h ≡ Left → ⊥) → (h ≡ Open) ⊎ (h ≡ Left) → y ≡ true
+        neither n (inl z) = absurd (n .0 z)
+        neither n (inr z) = absurd (n .1 z)
+
+        back : (false ≡ true) ⊎ ((h ≡ Open → ⊥) × (h ≡ Left → ⊥)) → y ≡ true
         back (inl z) = false-not-true z
-        back (inr n) = absurd (n (unheld-is-open h k))
+        back (inr n) = neither n (unheld-is-open-or-left h k)
 
 pub reached : (occupied : Pool) (last : ℕ) (es : List Event) → Reached occupied (run occupied last es)
 reached occupied last es =
@@ -340,6 +350,7 @@ reached occupied last es =
       starting = g .0 .starting;
       pool = λ a. pool-exactly (member (run occupied last es .starting) a) (member (run occupied last es .pool) a) (heldAt (run occupied last es .slots) a) (g .0 .sound .exact a);
       new = g .0 .sound .new;
+      left-free = reached-invariant occupied last es .left-free;
       once = g .0 .sound .once;
       gets = g .0 .gets;
     }
@@ -360,9 +371,34 @@ control = record {
   step = λ s tr f. let n : Sized128 (s .slots) = record { high = f .0 .0; low = f .0 .1 } in (sentences s tr n (f .2), each-number-exactly s tr (f .1) (f .2) (stepped s tr) (sentences s tr n (f .2)));
   one-step = λ s tr r q f h g. (let a = one-step s tr r q (f .1) (f .2) h g in (a .command, a .last, a .gets, a .starting, a .picked, a .same));
   reached = reached;
-  acknowledged = found-acknowledged;
-  claim-stays = λ occupied last es tr a e. claim-stays occupied last es (tr ∷ []) a e;
+  bound-since = lookup-0-since;
+  left-since = lookup-20-since;
+  claim-stays = claim-stays;
 }
+
+-- ---- taking back
+
+reports : (s : Controller) (a : ℕ) → Sound s → Reports s a (reported s a)
+unfolding reported
+reports s a f = record {
+  gone-0 = arp.lookup-0 s a;
+  gone-1 = arp.lookup-1 s a;
+  gone-15 = arp.lookup-15 s a;
+  gone-16 = arp.lookup-16 s a;
+  gone-20 = arp.lookup-20 s a;
+  removes = λ e. (left (which-bound (heldAt (s .slots) a) (answered-0 s a .0 e)), report-rest s a);
+  untouched = λ n. nothing-reported s a (unbound (isBound (heldAt (s .slots) a)) refl n);
+}
+  where
+    left : (u : Udid) × (heldAt (s .slots) a ≡ Bound u) → Removes a s (reported s a .state)
+    left (u, e) = report-removes s a u (record { high = f .0 .0; low = f .0 .1 }) e
+
+    unbound : (b : Bool) → isBound (heldAt (s .slots) a) ≡ b → (lookupNumber (reported s a .found) .0 ≡ 0 → ⊥) → isBound (heldAt (s .slots) a) ≡ false
+    unbound true e n = absurd (n (answered-0 s a .1 e))
+    unbound false e n = e
+
+pub taking-back : TakingBack
+taking-back = record { report = reports; account = account }
 
 -- ---- picks
 

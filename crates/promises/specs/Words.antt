@@ -20,6 +20,7 @@ pub use Rattle.decode.specs.Outcome.{Entered, Outcome}
 -- the controller
 pub use Rattle.pool.specs.NextFree.{nextFree, Next}
 pub use Rattle.pool.specs.Picks.{Pick, Picks, latestOf, FreeAtEach, Picked}
+pub use Rattle.pool.specs.Free.{used}
 pub use Rattle.pool.specs.Pools.{member}
 pub use Rattle.pool.specs.Start.{emptyPool, startingPool}
 pub use Rattle.pool.specs.declared.Pool.{Pool}
@@ -30,17 +31,22 @@ pub use Rattle.udid.specs.declared.Udid.{Udid}
 pub use Rattle.slots.specs.Slots.{heldAt}
 pub use Rattle.commands.specs.CommandTraces.{prepareTrace, replyTrace, assignTrace}
 pub use Rattle.arp.specs.Controller.{newController, started, stepped}
-pub use Rattle.arp.specs.History.{Event, Received, run, Acknowledged}
+pub use Rattle.arp.specs.Gone.{reported}
+pub use Rattle.arp.specs.History.{Event, NoStart, run}
 pub use Rattle.arp.specs.Lookup.{lookedUp}
+pub use Rattle.arp.specs.Replay.{handedOut}
 pub use Rattle.arp.specs.RunPicks.{picksOf}
+pub use Rattle.arp.specs.SinceStart.{BoundSince, LeftSince}
+pub use Rattle.arp.specs.Account.{binds, unbindings, removals, knownIn}
 pub use Rattle.arp.specs.Numbers.{commandNumber, lookupNumber}
-pub use Rattle.arp.specs.OneStep.{Asks, Binds, Continues, EndsWith, Replies}
+pub use Rattle.arp.specs.OneStep.{Asks, Binds, Continues, EndsWith, Replies, Removes, Rest}
 pub use Rattle.commands.specs.Requests.{protocolFor, messageOf, traceOf}
 pub use Rattle.commands.specs.declared.command.Command.the-variants.{Prepare, GetUdid, Assign}
 pub use Rattle.commands.specs.declared.command.End.the-variants.{Nothing, Ended, Abandoned, NotOutstanding}
 pub use Rattle.commands.specs.declared.command.Handed.{Handed}
 pub use Rattle.commands.specs.declared.command.Handed.the-variants.{Send, Wait}
-pub use Rattle.slots.specs.declared.Binding.the-variants.{Open, Bound, Claimed}
+pub use Rattle.slots.specs.declared.Binding.the-variants.{Open, Bound, Claimed, Left}
+pub use Rattle.arp.specs.declared.gone.Reported.{Reported}
 pub use Rattle.arp.specs.declared.state.Controller.{Controller}
 pub use Rattle.arp.specs.declared.state.Stepped.{Stepped}
 -- the model
