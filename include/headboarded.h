@@ -2,7 +2,7 @@
  * identifiers, the ARP controller's commands and passes, target lists and the model run.
  *
  * Every function answers for every input. A buffer is a pointer and a length; NULL goes with the length 0. A function writes only what
- * is said of it, and nothing at all where it answers 1 to 12, 15 to 19 or 21. No function keeps anything: two calls with the same
+ * is said of it, and nothing at all where it answers 1 to 12 or 15 to 21. No function keeps anything: two calls with the same
  * inputs give the same.
  *
  * A truth value is 0 or 1; as an input, any number but 0 is true. A symbol of a trace is a number: 0 to 255 a byte, HB_START, HB_STOP,
@@ -23,6 +23,7 @@ enum { HB_START = 256, HB_STOP = 257, HB_ACK = 258, HB_NACK = 259 };
 enum { HB_DEFAULT_ADDRESS = 0x61, HB_HOST_ADDRESS = 0x08, HB_ALERT_RESPONSE_ADDRESS = 0x0c };
 enum { HB_LONGEST_TRACE = 525, HB_DECODE_ROOM = 255, HB_BINDINGS_ROOM = 2048, HB_RECORD = 18, HB_MOST_TARGETS = 120 };
 enum { HB_NEVER_PICKED = 127 }; /* the last pick of a controller that has picked no address yet */
+enum { HB_GONE = 65535 };       /* in the list of a pass, where a number of symbols is due: a report that a module is gone */
 
 /* The numbers answered. */
 enum {
@@ -46,6 +47,7 @@ enum {
     HB_WRONG_ACK = 17,       /* of a trace: the controller's ACK for its NACK, or its NACK for its ACK */
     HB_WRONG_ADDRESS = 18,   /* an address byte with another address, or for the other direction */
     HB_WRONG_COUNT = 19,     /* a count that is not allowed */
+    HB_LEFT = 20,            /* of the lookup: whoever was bound there was reported gone */
     HB_NO_COMMAND = 21       /* of a pass: no command outstanding */
 };
 
@@ -207,19 +209,26 @@ typedef struct {
     hb_udid udid;
 } hb_command;
 
-/* A pass from its start with these addresses occupied, a step for each trace of a list. The last pick is the one before this pass, or
- * HB_NEVER_PICKED, and stays the same while the list of a pass grows; one above 127 is answered with 1. A trace of the list is the
- * number of its symbols and the symbols, all as pairs; the list ends where no whole trace is left. Nothing is written. */
-hb_command hb_pass(hb_pool occupied, uint8_t last, const uint8_t *traces, size_t traces_len);
+/* A pass from its start with these addresses occupied, a step for each trace of a list. The last pick is the one before this
+ * pass, or HB_NEVER_PICKED, and stays the same while the list of a pass grows; one above 127 is answered with 1. A trace of the
+ * list is the number of its symbols and the symbols, all as pairs. Before, between and after traces the list may have reports. A
+ * report is HB_GONE and an address, both as pairs. So no trace of a list has 65535 symbols; a longer one can be cut, for its
+ * first 526 symbols decide. The list ends where no whole trace and no whole report is left.
+ *
+ * A report says that the module at the address is gone. Whoever is bound there is bound no longer, the address is left, and it
+ * is free unless the pass started with it. If nobody is bound there, or the address is above 127, nothing changes. What was
+ * handed out last stays, whatever is reported. Nothing is written. */
+hb_command hb_pass(hb_pool occupied, uint8_t last, const uint8_t *entries, size_t entries_len);
 
 typedef struct {
     uint32_t answer;
     hb_udid udid;
 } hb_found;
 
-/* Who is bound at an address after such a pass: 0 with the identifier. Else the identifier is 0, and the answer is 1 (a last pick or an
- * address above 127), 15 or 16. Nothing is written. */
-hb_found hb_pass_lookup(hb_pool occupied, uint8_t last, const uint8_t *traces, size_t traces_len, uint8_t address);
+/* Who is bound at an address after such a pass: 0 with the identifier. Else the identifier is 0, and the answer is 1 (a last pick
+ * or an address above 127), 15, 16 or 20. An address that is left has 20 until it is bound again. The same number tells what a
+ * report would do: with 0 it takes the address back, else nothing. Nothing is written. */
+hb_found hb_pass_lookup(hb_pool occupied, uint8_t last, const uint8_t *entries, size_t entries_len, uint8_t address);
 
 /* Targets. A record has HB_RECORD bytes: the identifier, the address byte, and the resolved flag. */
 

@@ -1,5 +1,5 @@
-// Traces of the ARP controller's commands, and a pass over a list of traces. The controller's state does not cross to C: a pass starts anew
-// at each call, with the last pick that is given, and takes one step for each trace.
+// Traces of the ARP controller's commands, and a pass over a list of traces and of reports that a module is gone. The controller's state does
+// not cross to C: a pass starts anew at each call, with the last pick that is given, and takes the entries of the list one after the other.
 ghost use mathlib.Core.Path.{_≡_};
 ghost use mathlib.Core.Bool.{true};
 ghost use Rattle.commands.specs.Requests.{protocolFor, messageOf};
@@ -30,18 +30,18 @@ pub extern "C" fn hb_put_command(
     put_command_pairs(kind, udid, address, reply, out)
 }
 
-// What the last step handed out, and the last pick then; with no trace, Prepare To ARP.
+// What the start or the latest step handed out, and the last pick then; with no trace, Prepare To ARP.
 #[no_mangle]
-pub extern "C" fn hb_pass(occupied: HbPool, last: u8, traces: &[u8]) -> HbCommand
-    ensures { λ r. ⌜ r ≡ passCommand (poolIn occupied) last (now (traces .entry)) ⌝ }
+pub extern "C" fn hb_pass(occupied: HbPool, last: u8, entries: &[u8]) -> HbCommand
+    ensures { λ r. ⌜ r ≡ passCommand (poolIn occupied) last (now (entries .entry)) ⌝ }
 {
-    pass_command(occupied, last, traces)
+    pass_command(occupied, last, entries)
 }
 
-// Who is bound at an address after such a pass.
+// Who is bound at an address after such a pass, or that its module was reported gone.
 #[no_mangle]
-pub extern "C" fn hb_pass_lookup(occupied: HbPool, last: u8, traces: &[u8], address: u8) -> HbFound
-    ensures { λ r. ⌜ r ≡ passFound (poolIn occupied) last (now (traces .entry)) address ⌝ }
+pub extern "C" fn hb_pass_lookup(occupied: HbPool, last: u8, entries: &[u8], address: u8) -> HbFound
+    ensures { λ r. ⌜ r ≡ passFound (poolIn occupied) last (now (entries .entry)) address ⌝ }
 {
-    pass_lookup(occupied, last, traces, address)
+    pass_lookup(occupied, last, entries, address)
 }

@@ -14,4 +14,5 @@ abbrev pub FoundIs : Found → HbFound → Type 0
 FoundIs (found.Bound u) r = FoundParts r 0 (u .high) (u .low)
 FoundIs found.Nobody r = FoundParts r 15 0 0
 FoundIs found.Two r = FoundParts r 16 0 0
+FoundIs found.Left r = FoundParts r 20 0 0
 FoundIs found.NoAddress r = FoundParts r 1 0 0

@@ -14,5 +14,6 @@ pub mod Histories
 pub mod PassLaws
 pub mod FoundParts
 pub mod LookupCallLaws
+pub mod ReportCallLaws
 pub mod Model
 pub mod ModelParts

@@ -10,7 +10,7 @@ use Rattle.slots.specs.Slots.{heldAt}
 use Rattle.arp.specs.Lookup.{lookedUp}
 use Rattle.arp.specs.Numbers.{lookupNumber}
 use Rattle.arp.specs.declared.lookup.Found.{Found}
-use Rattle.slots.specs.declared.Binding.the-variants.{Open, Bound, Claimed}
+use Rattle.slots.specs.declared.Binding.the-variants.{Open, Bound, Claimed, Left}
 use Rattle.arp.specs.declared.state.Controller.{Controller}
 use Rattle.report.specs.Report.{firstOf}
 use Rattle.c_arp.specs.declared.pass.HbFound.{HbFound}
@@ -18,7 +18,7 @@ use Rattle.c_arp.specs.declared.parts.HbPool.{HbPool}
 use Rattle.c_arp.specs.Parts.{poolIn}
 use Rattle.c_arp.specs.PassCallLaws.{found-forbidden, found-told}
 use Rattle.c_arp.specs.Pass.{passOver, foundOf, toldFound, passFound}
-use Rattle.arp.specs.LookupLaws.{lookup-0, lookup-15, lookup-16, lookup-1}
+use Rattle.arp.specs.LookupLaws.{lookup-0, lookup-15, lookup-16, lookup-20, lookup-1}
 use Rattle.c_arp.specs.FoundParts.{FoundParts, FoundIs}
 use Rattle.arp.specs.declared.lookup.Found.the-variants as found
 
@@ -29,6 +29,7 @@ found-parts f r e = subst (FoundIs f) (sym e) (go f)
     go (found.Bound u) = record { answer-is = refl; high-is = refl; low-is = refl }
     go found.Nobody = record { answer-is = refl; high-is = refl; low-is = refl }
     go found.Two = record { answer-is = refl; high-is = refl; low-is = refl }
+    go found.Left = record { answer-is = refl; high-is = refl; low-is = refl }
     go found.NoAddress = record { answer-is = refl; high-is = refl; low-is = refl }
 
 -- in any state of the controller
@@ -37,18 +38,27 @@ module _ (s : Controller) (a : ℕ) (r : HbFound) (e : r ≡ toldFound (lookedUp
   one-found (found.Bound u) p (found.Bound v) q = ap found.Bound (λ i. record { high = (sym (p .high-is) ∙ q .high-is) i; low = (sym (p .low-is) ∙ q .low-is) i })
   one-found (found.Bound u) p found.Nobody q = absurd (omega (arith, p .answer-is, q .answer-is))
   one-found (found.Bound u) p found.Two q = absurd (omega (arith, p .answer-is, q .answer-is))
+  one-found (found.Bound u) p found.Left q = absurd (omega (arith, p .answer-is, q .answer-is))
   one-found (found.Bound u) p found.NoAddress q = absurd (omega (arith, p .answer-is, q .answer-is))
   one-found found.Nobody p (found.Bound v) q = absurd (omega (arith, p .answer-is, q .answer-is))
   one-found found.Nobody p found.Nobody q = refl
   one-found found.Nobody p found.Two q = absurd (omega (arith, p .answer-is, q .answer-is))
+  one-found found.Nobody p found.Left q = absurd (omega (arith, p .answer-is, q .answer-is))
   one-found found.Nobody p found.NoAddress q = absurd (omega (arith, p .answer-is, q .answer-is))
   one-found found.Two p (found.Bound v) q = absurd (omega (arith, p .answer-is, q .answer-is))
   one-found found.Two p found.Nobody q = absurd (omega (arith, p .answer-is, q .answer-is))
   one-found found.Two p found.Two q = refl
+  one-found found.Two p found.Left q = absurd (omega (arith, p .answer-is, q .answer-is))
   one-found found.Two p found.NoAddress q = absurd (omega (arith, p .answer-is, q .answer-is))
+  one-found found.Left p (found.Bound v) q = absurd (omega (arith, p .answer-is, q .answer-is))
+  one-found found.Left p found.Nobody q = absurd (omega (arith, p .answer-is, q .answer-is))
+  one-found found.Left p found.Two q = absurd (omega (arith, p .answer-is, q .answer-is))
+  one-found found.Left p found.Left q = refl
+  one-found found.Left p found.NoAddress q = absurd (omega (arith, p .answer-is, q .answer-is))
   one-found found.NoAddress p (found.Bound v) q = absurd (omega (arith, p .answer-is, q .answer-is))
   one-found found.NoAddress p found.Nobody q = absurd (omega (arith, p .answer-is, q .answer-is))
   one-found found.NoAddress p found.Two q = absurd (omega (arith, p .answer-is, q .answer-is))
+  one-found found.NoAddress p found.Left q = absurd (omega (arith, p .answer-is, q .answer-is))
   one-found found.NoAddress p found.NoAddress q = refl
 
   found-is : (f : Found) → FoundIs f r ↔ (lookupNumber (lookedUp s a) ≡ lookupNumber f)
@@ -77,7 +87,7 @@ module _ (given : HbPool) (last : ℕ) (l : List ℕ) (a : ℕ) (r : HbFound) (e
       go p (yes h) = absurd (z (sym (p .answer-is) ∙ forbidden h .answer-is))
       go p (no h) = let k : last < 128 = omega arith in (k, f k .0 p)
 
-  -- 0 with the identifier that is bound there; 15 where nobody is; 16 where two claim it; 1 for a last pick or an address above 127; no identifier with these
+  -- 0 with the identifier that is bound there; 15 where nobody is; 16 where two claim it; 20 where its target was reported gone; 1 for a last pick or an address above 127; no identifier with these
   pub hb-lookup-0 : (u : Udid) → FoundParts r 0 (u .high) (u .low) ↔ ((last < 128) × ((a < 128) × (heldAt (passOver (poolIn given) last l .state .slots) a ≡ Bound u)))
   unfolding after
   hb-lookup-0 u = let-in 0 (u .high) (u .low) _ (λ z. omega (arith, z)) (λ h. Iff·trans (found-is after a r (told h) (found.Bound u)) (lookup-0 after a u))
@@ -89,6 +99,10 @@ module _ (given : HbPool) (last : ℕ) (l : List ℕ) (a : ℕ) (r : HbFound) (e
   pub hb-lookup-16 : FoundParts r 16 0 0 ↔ ((last < 128) × ((a < 128) × (heldAt (passOver (poolIn given) last l .state .slots) a ≡ Claimed)))
   unfolding after
   hb-lookup-16 = let-in 16 0 0 _ (λ z. omega (arith, z)) (λ h. Iff·trans (found-is after a r (told h) found.Two) (lookup-16 after a))
+
+  pub hb-lookup-20 : FoundParts r 20 0 0 ↔ ((last < 128) × ((a < 128) × (heldAt (passOver (poolIn given) last l .state .slots) a ≡ Left)))
+  unfolding after
+  hb-lookup-20 = let-in 20 0 0 _ (λ z. omega (arith, z)) (λ h. Iff·trans (found-is after a r (told h) found.Left) (lookup-20 after a))
 
   pub hb-lookup-1 : FoundParts r 1 0 0 ↔ ((127 < last) ⊎ (127 < a))
   hb-lookup-1 = (λ p. go p (decLt 127 last), λ q. back (decLt 127 last) q)

@@ -1,18 +1,19 @@
--- A pass over a list of traces is the history of a start and these traces, so that what is promised of histories holds of it; and its
--- answer, in numbers.
+-- A pass over a list of traces and reports is the history of a start and these events, so that what is promised of histories holds of it; and
+-- its answer, in numbers.
 use mathlib.Core.Path.{_≡_, refl, sym, ap, _∙_, subst}
 use mathlib.Core.Bool.{true}
 use mathlib.Core.List.{List, [], _∷_, _++_}
 use mathlib.Core.Logic.{_↔_, Iff·trans}
-use Prim.Native.Nat.{ℕ, _+_, _*_, _<_}
+use Prim.Native.Nat.{ℕ, _<_}
 use native.Mathlib.Decide.{decLt}
 use native.Mathlib.Omega.{arith}
-use lib.ListN.{length, getD}
+use lib.ListN.{length}
 use Rattle.pool.specs.declared.Pool.{Pool}
 use Rattle.arp.specs.LastPickLaws.{last-pick-is}
 use Rattle.arp.specs.OutstandingLaws.{step-21-by-events}
 use Rattle.arp.specs.Controller.{newController, started, stepped}
-use Rattle.arp.specs.History.{Event, Start, Received, run}
+use Rattle.arp.specs.Gone.{reported}
+use Rattle.arp.specs.History.{Event, Start, Received, Gone, run}
 use Rattle.arp.specs.Numbers.{commandNumber}
 use Rattle.arp.specs.Replay.{handedOut}
 use Rattle.hearing.specs.Told.{noCommand}
@@ -25,37 +26,47 @@ use Rattle.c_arp.specs.declared.kinds.HbCommand.{HbCommand}
 use Rattle.c_arp.specs.declared.parts.HbPool.{HbPool}
 use Rattle.c_arp.specs.Commands.{toldCommand}
 use Rattle.c_arp.specs.Parts.{poolIn}
-use Rattle.c_arp.specs.Pass.{tracesIn, stepsOver, passOver, toldPass, refusedPass, passCommand}
+use Rattle.c_arp.specs.Pass.{entriesIn, afterEvent, stepsOver, passOver, toldPass, refusedPass, passCommand}
 use Rattle.c_arp.specs.CommandPartLaws.{never-1, command-parts, command-21}
 use Rattle.c_arp.specs.PassCallLaws.{command-forbidden, command-told}
-use Rattle.c_arp.specs.TraceListLaws.{pass-steps}
-use Rattle.c_arp.specs.TraceLists.{listBytes}
+use Rattle.c_arp.specs.TraceListLaws.{listed-both, entries-back}
+use Rattle.c_arp.specs.TraceLists.{Listed, listBytes, Cut}
 use Rattle.c_arp.specs.CommandParts.{CommandParts, CommandIs}
 use Rattle.c_arp.specs.Histories.{since, eventsOf, IsHistory}
 
-since-steps : (occupied : Pool) (last : ℕ) (es : List Event) (st : Stepped) (trs : List (List ℕ)) → IsHistory occupied last es st → IsHistory occupied last (since es trs) (stepsOver st trs)
-unfolding since stepsOver run handedOut
-since-steps occupied last es st [] h = h
-since-steps occupied last es st (tr ∷ trs) h =
-    since-steps occupied last (Received tr ∷ es) (stepped (st .state) tr) trs
-    (record { state = ap (λ (c : Controller). stepped c tr .state) (h .state); command = ap (λ (c : Controller). stepped c tr .command) (h .state) })
+module _ (occupied : Pool) (last : ℕ) where
+  one-event : (es : List Event) (st : Stepped) → IsHistory occupied last es st → (x : Event) → IsHistory occupied last (x ∷ es) (afterEvent st x)
+  unfolding run handedOut
+  one-event es st h Start = record { state = ap (λ (c : Controller). started c .state) (h .state); command = ap (λ (c : Controller). started c .command) (h .state) }
+  one-event es st h (Received tr) = record { state = ap (λ (c : Controller). stepped c tr .state) (h .state); command = ap (λ (c : Controller). stepped c tr .command) (h .state) }
+  one-event es st h (Gone a) = record { state = ap (λ (c : Controller). reported c a .state) (h .state); command = h .command }
 
-start-history : (occupied : Pool) (last : ℕ) → IsHistory occupied last (Start ∷ []) (started (newController occupied last))
-unfolding run handedOut
-start-history occupied last = record { state = refl; command = refl }
+  since-steps : (es : List Event) (st : Stepped) (xs : List Event) → IsHistory occupied last es st → IsHistory occupied last (since es xs) (stepsOver st xs)
+  unfolding since stepsOver
+  since-steps es st [] h = h
+  since-steps es st (x ∷ xs) h = since-steps (x ∷ es) (afterEvent st x) xs (one-event es st h x)
 
--- A PASS over the bytes of a list of traces, and whatever is left of a trace that is cut, leaves the state and hands out the command of
--- that history
-pub hb-pass-history : (given : HbPool) (last : ℕ) (trs : List (List ℕ)) (rest : List ℕ) → length rest < 2 + 2 * (getD rest 0 0 + 256 * getD rest 1 0)
-    → IsHistory (record { low = given .low; high = given .high }) last (eventsOf trs) (passOver (poolIn given) last (listBytes trs ++ rest))
-hb-pass-history given last trs rest c =
-    subst (IsHistory (poolIn given) last (eventsOf trs)) (sym (pass-steps (poolIn given) last trs rest c))
-    (since-steps (poolIn given) last (Start ∷ []) (started (newController (poolIn given) last)) trs (start-history (poolIn given) last))
+  start-history : IsHistory occupied last (Start ∷ []) (started (newController occupied last))
+  unfolding run handedOut
+  start-history = record { state = refl; command = refl }
 
-since-last : (es : List Event) (trs : List (List ℕ)) (tr : List ℕ) → since es (trs ++ tr ∷ []) ≡ Received tr ∷ since es trs
+-- A PASS over any bytes leaves the state and hands out the command of the history of a start and the entries that they hold
+pub hb-pass-events : (given : HbPool) (last : ℕ) (l : List ℕ)
+    → IsHistory (record { low = given .low; high = given .high }) last (eventsOf (entriesIn (length l) l)) (passOver (poolIn given) last l)
+hb-pass-events given last l =
+    since-steps (poolIn given) last (Start ∷ []) (started (newController (poolIn given) last)) (entriesIn (length l) l) (start-history (poolIn given) last)
+
+-- so over the bytes of a list of traces and reports, and whatever is left of an entry that is cut, those of a start and these events
+pub hb-pass-history : (given : HbPool) (last : ℕ) (es : List Event) (rest : List ℕ) → Listed es → Cut rest
+    → IsHistory (record { low = given .low; high = given .high }) last (eventsOf es) (passOver (poolIn given) last (listBytes es ++ rest))
+hb-pass-history given last es rest v c =
+    subst (λ (xs : List Event). IsHistory (poolIn given) last (eventsOf xs) (passOver (poolIn given) last (listBytes es ++ rest))) (entries-back es rest v c)
+    (hb-pass-events given last (listBytes es ++ rest))
+
+since-last : (es xs : List Event) (x : Event) → since es (xs ++ x ∷ []) ≡ x ∷ since es xs
 unfolding since
-since-last es [] tr = refl
-since-last es (x ∷ trs) tr = since-last (Received x ∷ es) trs tr
+since-last es [] x = refl
+since-last es (y ∷ xs) x = since-last (y ∷ es) xs x
 
 -- ---- what hb_pass answers, with the last pick that is given
 
@@ -85,19 +96,22 @@ module _ (given : HbPool) (last : ℕ) (l : List ℕ) (r : HbCommand) (e : r ≡
       subst (λ (x : HbCommand). CommandParts x 6 1 0 0 0 0 0) (sym (forbidden (hb-pass-1 .0 q)))
       (record { kind-is = refl; answer-is = refl; address-is = refl; gets-is = refl; picked-is = refl; high-is = refl; low-is = refl })
 
--- hb_pass answers 21 exactly if the start and the traces before the last one handed out no command; with no trace it hands out Prepare
-pub hb-pass-21 : (given : HbPool) (last : ℕ) (trs : List (List ℕ)) (tr rest : List ℕ) → last < 128 → length rest < 2 + 2 * (getD rest 0 0 + 256 * getD rest 1 0) → (r : HbCommand)
-    → r ≡ passCommand (poolIn given) last (listBytes (trs ++ tr ∷ []) ++ rest)
-    → (r .answer ≡ 21) ↔ (noCommand (handedOut (record { low = given .low; high = given .high }) last (eventsOf trs)) ≡ true)
+-- with a trace as the last entry, hb_pass answers 21 exactly if the start and the entries before it handed out no command last
+pub hb-pass-21 : (given : HbPool) (last : ℕ) (es : List Event) (tr rest : List ℕ) → last < 128 → Listed es → length tr < 65535 → Cut rest → (r : HbCommand)
+    → r ≡ passCommand (poolIn given) last (listBytes (es ++ Received tr ∷ []) ++ rest)
+    → (r .answer ≡ 21) ↔ (noCommand (handedOut (record { low = given .low; high = given .high }) last (eventsOf es)) ≡ true)
 unfolding handedOut
-hb-pass-21 given last trs tr rest small cut r e =
+hb-pass-21 given last es tr rest small v short cut r e =
     let p : Pool = record { low = given .low; high = given .high } in
-    let st : Stepped = passOver (poolIn given) last (listBytes (trs ++ tr ∷ []) ++ rest) in
-    let c : st .command ≡ stepped (run p last (eventsOf trs)) tr .command = hb-pass-history given last (trs ++ tr ∷ []) rest cut .command ∙ ap (handedOut p last) (since-last (Start ∷ []) trs tr) in
-    Iff·trans (command-21 (st .command) (st .state .gets) (st .state .picked) r (told given last (listBytes (trs ++ tr ∷ []) ++ rest) r e small))
-    (subst (λ (k : Handed). (commandNumber k ≡ (21, []) ∷ []) ↔ (noCommand (handedOut p last (eventsOf trs)) ≡ true)) (sym c) (step-21-by-events p last (eventsOf trs) tr))
+    let l : List ℕ = listBytes (es ++ Received tr ∷ []) ++ rest in
+    let st : Stepped = passOver (poolIn given) last l in
+    let c : st .command ≡ stepped (run p last (eventsOf es)) tr .command =
+    hb-pass-history given last (es ++ Received tr ∷ []) rest (listed-both es (Received tr ∷ []) v (short, tt)) cut .command ∙ ap (handedOut p last) (since-last (Start ∷ []) es (Received tr)) in
+    Iff·trans (command-21 (st .command) (st .state .gets) (st .state .picked) r (told given last l r e small))
+    (subst (λ (k : Handed). (commandNumber k ≡ (21, []) ∷ []) ↔ (noCommand (handedOut p last (eventsOf es)) ≡ true)) (sym c) (step-21-by-events p last (eventsOf es) tr))
 
+-- with no entry it hands out Prepare
 pub hb-pass-start : (given : HbPool) (last : ℕ) (r : HbCommand) → last < 128 → r ≡ passCommand (poolIn given) last [] → CommandParts r 0 0 0 0 last 0 0
-unfolding tracesIn stepsOver
+unfolding entriesIn stepsOver
 hb-pass-start given last r small e =
     command-parts (Send Prepare) 0 last r (told given last [] r e small ∙ ap (toldCommand (Send Prepare) 0) (last-pick-is last small))

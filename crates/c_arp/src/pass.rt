@@ -1,14 +1,17 @@
-// A pass of the ARP controller over a list of traces. The controller's state does not cross to C: a pass starts anew and takes one step for
-// each trace. A trace is the number of its symbols and the symbols, all as byte pairs, low byte first. The list ends where no whole
-// trace is left.
+// A pass of the ARP controller over a list. The controller's state does not cross to C: a pass starts anew and takes the entries of the list
+// one after the other. An entry is a trace, or a report that a module is gone. Both are pairs of bytes, low byte first.
+// A trace is the number of its symbols and then the symbols. It is one step.
+// A report is FFFFh and then an address. It changes the state, and what was handed out last stays.
+// The list ends where no whole entry is left.
 ghost use mathlib.Core.Path.{_≡_};
-ghost use Prim.Native.Nat.{_/_, _≤_};
-ghost use lib.ListN.{length};
+ghost use Prim.Native.Nat.{_+_, _/_, _≤_};
+ghost use lib.ListN.{length, drop};
 ghost use Rattle.arp.specs.Controller.{stepped};
+ghost use Rattle.arp.specs.History.{Gone};
 ghost use Rattle.arp.specs.Lookup.{lookedUp};
 ghost use Rattle.pairs.specs.Pairs.{symbolsIn};
 ghost use Rattle.c_arp.specs.Parts.{poolIn};
-ghost use Rattle.c_arp.specs.Pass.{Counted, passOver, toldPass, passCommand, foundOf, toldFound, passFound};
+ghost use Rattle.c_arp.specs.Pass.{said, sizeFor, sizeOf, wholeSize, entryOf, afterEvent, passOver, toldPass, passCommand, foundOf, toldFound, passFound};
 use crate::kinds::HbCommand;
 use crate::kinds::said;
 use crate::kinds::told_command;
@@ -24,22 +27,40 @@ use pool::Pool;
 use udid::Udid;
 use wire::address::Address;
 
-// How many symbols the trace at a place has; 65,536 where no whole trace is left.
-fn symbols_at(bytes: &[u8], at: usize) -> usize
+// The number that the pair at a place says.
+fn pair_at(bytes: &[u8], at: usize) -> u16
+    requires { ⌜ at + 2 ≤ length (now bytes) ⌝ }
+    ensures { λ r. ⌜ r ≡ said (drop at (now (bytes .entry))) ⌝ }
+{
+    let low = bytes[at] as u16;
+    let high = bytes[at + 1] as u16;
+    low + 256 * high
+}
+
+// How many bytes an entry takes that begins with this pair: a report four, a trace two for each symbol and two for their number.
+fn entry_size(first: u16) -> usize
+    ensures { λ r. ⌜ r ≡ sizeFor first ⌝ }
+{
+    if first == 65535 {
+        return 4;
+    }
+    2 + 2 * (first as usize)
+}
+
+// How many bytes the entry at a place takes; 0 where no whole entry is left.
+fn size_at(bytes: &[u8], at: usize) -> usize
     requires { ⌜ at ≤ length (now bytes) ⌝ }
-    ensures { λ r. ⌜ Counted (now (bytes .entry)) at r ⌝ }
+    ensures { λ r. ⌜ r ≡ wholeSize (drop at (now (bytes .entry))) ⌝ }
 {
     let left = bytes.len() - at;
     if left < 2 {
-        return 65536;
+        return 0;
     }
-    let low = bytes[at] as usize;
-    let high = bytes[at + 1] as usize;
-    let n = low + 256 * high;
-    if (left - 2) / 2 < n {
-        return 65536;
+    let size = entry_size(pair_at(bytes, at));
+    if left < size {
+        return 0;
     }
-    n
+    size
 }
 
 // The step for the trace whose pairs these bytes are. No trace that fits has more than 525 symbols, so the first 526 decide.
@@ -51,6 +72,35 @@ fn step_on(state: Controller, bytes: &[u8]) -> Stepped
     state.step(&buf[..n])
 }
 
+// The report that the module at an address is gone. The pair can say more than 127: no target is bound there, and nothing changes.
+fn report_on(st: Stepped, address: u16) -> Stepped
+    ensures { λ r. ⌜ r ≡ afterEvent st (Gone address) ⌝ }
+{
+    if address > 127 {
+        return st;
+    }
+    let state = st.state;
+    let command = st.command;
+    let reported = state.report_gone(Address(address as u8));
+    let then = reported.state;
+    Stepped {
+        state: then,
+        command: command,
+    }
+}
+
+// The entry that these bytes are, whole.
+fn take_entry(st: Stepped, bytes: &[u8]) -> Stepped
+    requires { ⌜ length (now bytes) ≡ sizeOf (now bytes) ⌝ }
+    ensures { λ r. ⌜ r ≡ afterEvent st (entryOf (now (bytes .entry))) ⌝ }
+{
+    if pair_at(bytes, 0) == 65535 {
+        return report_on(st, pair_at(bytes, 2));
+    }
+    let state = st.state;
+    step_on(state, &bytes[2..])
+}
+
 // The whole pass.
 fn run_pass(occupied: Pool, last: u8, bytes: &[u8]) -> Stepped
     ensures { λ r. ⌜ r ≡ passOver occupied last (now (bytes .entry)) ⌝ }
@@ -59,38 +109,36 @@ fn run_pass(occupied: Pool, last: u8, bytes: &[u8]) -> Stepped
     let mut st = c.start();
     let mut at: usize = 0;
     while at < bytes.len() {
-        let n = symbols_at(bytes, at);
-        if n > 65535 {
+        let size = size_at(bytes, at);
+        if size == 0 {
             return st;
         }
-        let state = st.state;
-        let from = at + 2;
-        let to = from + 2 * n;
-        st = step_on(state, &bytes[from..to]);
+        let to = at + size;
+        st = take_entry(st, &bytes[at..to]);
         at = to;
     }
     st
 }
 
-// What the last step handed out; with no trace, Prepare To ARP.
-fn command_after(occupied: HbPool, last: u8, traces: &[u8]) -> HbCommand
-    ensures { λ r. ⌜ r ≡ toldPass (passOver (poolIn occupied) last (now (traces .entry))) ⌝ }
+// What the start or the latest step handed out: with no trace, Prepare To ARP.
+fn command_after(occupied: HbPool, last: u8, entries: &[u8]) -> HbCommand
+    ensures { λ r. ⌜ r ≡ toldPass (passOver (poolIn occupied) last (now (entries .entry))) ⌝ }
 {
-    let st = run_pass(pool_in(occupied), last, traces);
+    let st = run_pass(pool_in(occupied), last, entries);
     let state = st.state;
     let k = st.command;
     told_command(k, state.gets, state.picked)
 }
 
 // The same, and 1 where the last pick that is given is above 127.
-pub fn pass_command(occupied: HbPool, last: u8, traces: &[u8]) -> HbCommand
-    ensures { λ r. ⌜ r ≡ passCommand (poolIn occupied) last (now (traces .entry)) ⌝ }
+pub fn pass_command(occupied: HbPool, last: u8, entries: &[u8]) -> HbCommand
+    ensures { λ r. ⌜ r ≡ passCommand (poolIn occupied) last (now (entries .entry)) ⌝ }
 {
     if last > 127 {
         let none = Udid { high: 0, low: 0 };
         return said(6, 1, none, Address(0), 0, 0);
     }
-    command_after(occupied, last, traces)
+    command_after(occupied, last, entries)
 }
 
 // The scope's number, and with 0 the identifier that is bound at the address.
@@ -117,25 +165,26 @@ fn told_found(f: Found) -> HbFound
         Found::Bound(u) => found(0, u),
         Found::Nobody => found(15, none),
         Found::Two => found(16, none),
+        Found::Left => found(20, none),
         Found::NoAddress => found(1, none),
     }
 }
 
 // Who is bound at an address after such a pass.
-fn found_after(occupied: HbPool, last: u8, traces: &[u8], address: u8) -> HbFound
-    ensures { λ r. ⌜ r ≡ toldFound (lookedUp (passOver (poolIn occupied) last (now (traces .entry)) .state) address) ⌝ }
+fn found_after(occupied: HbPool, last: u8, entries: &[u8], address: u8) -> HbFound
+    ensures { λ r. ⌜ r ≡ toldFound (lookedUp (passOver (poolIn occupied) last (now (entries .entry)) .state) address) ⌝ }
 {
-    let st = run_pass(pool_in(occupied), last, traces);
+    let st = run_pass(pool_in(occupied), last, entries);
     let state = st.state;
     told_found(state.lookup(Address(address)))
 }
 
 // The same, and 1 where the last pick that is given is above 127.
-pub fn pass_lookup(occupied: HbPool, last: u8, traces: &[u8], address: u8) -> HbFound
-    ensures { λ r. ⌜ r ≡ passFound (poolIn occupied) last (now (traces .entry)) address ⌝ }
+pub fn pass_lookup(occupied: HbPool, last: u8, entries: &[u8], address: u8) -> HbFound
+    ensures { λ r. ⌜ r ≡ passFound (poolIn occupied) last (now (entries .entry)) address ⌝ }
 {
     if last > 127 {
         return found(1, Udid { high: 0, low: 0 });
     }
-    found_after(occupied, last, traces, address)
+    found_after(occupied, last, entries, address)
 }

@@ -16,7 +16,7 @@ told-command-requires : tie.Need-told-command-requires
 told-command-requires c κs = search needs
 
 returns : tie.Need-returns
-returns c = c .told-command .ensures ∙ ap (λ (x : Stepped). toldPass x) (c .before .before .run-pass .ensures ∙ ap (λ (p : Pool). passOver p (c .before .before .before .before .before .args .last) (c .before .before .before .before .before .args .traces .now)) (c .before .before .before .pool-in .ensures))
+returns c = c .told-command .ensures ∙ ap (λ (x : Stepped). toldPass x) (c .before .before .run-pass .ensures ∙ ap (λ (p : Pool). passOver p (c .before .before .before .before .before .args .last) (c .before .before .before .before .before .args .entries .now)) (c .before .before .before .pool-in .ensures))
 
 pub command-after-spec : {M : Type 1} → statement M
 command-after-spec =

@@ -23,7 +23,7 @@ returns : tie.Need-returns
 returns c =
     let a = c .before .before .before .before .before .before .args in
     c .told-found .ensures
-    ∙ ap toldFound (c .before .lookup .ensures ∙ ap (λ (x : Stepped). lookedUp (x .state) (a .address)) (c .before .before .before .run-pass .ensures ∙ ap (λ (p : Pool). passOver p (a .last) (a .traces .now)) (c .before .before .before .before .pool-in .ensures)))
+    ∙ ap toldFound (c .before .lookup .ensures ∙ ap (λ (x : Stepped). lookedUp (x .state) (a .address)) (c .before .before .before .run-pass .ensures ∙ ap (λ (p : Pool). passOver p (a .last) (a .entries .now)) (c .before .before .before .before .pool-in .ensures)))
 
 pub found-after-spec : {M : Type 1} → statement M
 found-after-spec =

@@ -10,25 +10,21 @@ use Rattle.c_arp.proofs.pass.pass_command.Lts as lts
 use Rattle.c_arp.proofs.kinds.said.Reads as said-reads
 use Rattle.c_arp.proofs.pass.command_after.Reads as command-after-reads
 
--- src/pass.rt:91:9
 said-requires : tie.Need-said-requires
 said-requires c κs = search needs
 
--- src/pass.rt:91:9
 returns : tie.Need-returns
 returns c =
     let a = c .before .before .before .args in
-    c .said .ensures ∙ sym (command-forbidden (poolIn (a .occupied)) (a .last) (a .traces .now) (c .before .if1 .taken))
+    c .said .ensures ∙ sym (command-forbidden (poolIn (a .occupied)) (a .last) (a .entries .now) (c .before .if1 .taken))
 
--- src/pass.rt:93:5
 command-after-requires : tie.Need-command-after-requires
 command-after-requires c κs = search needs
 
--- src/pass.rt:86:1
 returns-2 : tie.Need-returns-2
 returns-2 c =
     let a = c .before .before .before .args in
-    c .command-after .ensures ∙ sym (command-told (poolIn (a .occupied)) (a .last) (a .traces .now) (omega (arith, c .before .if1 .left)))
+    c .command-after .ensures ∙ sym (command-told (poolIn (a .occupied)) (a .last) (a .entries .now) (omega (arith, c .before .if1 .left)))
 
 pub pass-command-spec : {M : Type 1} → statement M
 pass-command-spec = tie.close (tie.spec said-requires returns command-after-requires returns-2)

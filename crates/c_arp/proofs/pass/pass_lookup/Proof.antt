@@ -10,25 +10,21 @@ use Rattle.c_arp.proofs.pass.pass_lookup.Lts as lts
 use Rattle.c_arp.proofs.pass.found.Reads as found-reads
 use Rattle.c_arp.proofs.pass.found_after.Reads as found-after-reads
 
--- src/pass.rt:138:9
 found-requires : tie.Need-found-requires
 found-requires c κs = search needs
 
--- src/pass.rt:138:9
 returns : tie.Need-returns
 returns c =
     let a = c .before .before .before .args in
-    c .found .ensures ∙ sym (found-forbidden (poolIn (a .occupied)) (a .last) (a .traces .now) (a .address) (c .before .if1 .taken))
+    c .found .ensures ∙ sym (found-forbidden (poolIn (a .occupied)) (a .last) (a .entries .now) (a .address) (c .before .if1 .taken))
 
--- src/pass.rt:140:5
 found-after-requires : tie.Need-found-after-requires
 found-after-requires c κs = search needs
 
--- src/pass.rt:134:1
 returns-2 : tie.Need-returns-2
 returns-2 c =
     let a = c .before .before .before .args in
-    c .found-after .ensures ∙ sym (found-told (poolIn (a .occupied)) (a .last) (a .traces .now) (a .address) (omega (arith, c .before .if1 .left)))
+    c .found-after .ensures ∙ sym (found-told (poolIn (a .occupied)) (a .last) (a .entries .now) (a .address) (omega (arith, c .before .if1 .left)))
 
 pub pass-lookup-spec : {M : Type 1} → statement M
 pass-lookup-spec = tie.close (tie.spec found-requires returns found-after-requires returns-2)

@@ -26,6 +26,12 @@ enum-told-3 c = search needs
 found-requires-4 : tie.Need-found-requires-4
 found-requires-4 c κs = search needs
 
+enum-told-4 : tie.Need-enum-told-4
+enum-told-4 c = search needs
+
+found-requires-5 : tie.Need-found-requires-5
+found-requires-5 c κs = search needs
+
 returns : tie.Need-returns
 returns c = rw (c .found .ensures, c .before .before .f .given .1)
 
@@ -37,6 +43,9 @@ returns-3 c = rw (c .found3 .ensures, c .before .enum-told2 .given .1)
 
 returns-4 : tie.Need-returns-4
 returns-4 c = rw (c .found4 .ensures, c .before .enum-told3 .given .1)
+
+returns-5 : tie.Need-returns-5
+returns-5 c = rw (c .found5 .ensures, c .before .enum-told4 .given .1)
 
 pub told-found-spec : {M : Type 1} → statement M
 told-found-spec =
@@ -50,7 +59,10 @@ told-found-spec =
     found-requires-3
     enum-told-3
     found-requires-4
+    enum-told-4
+    found-requires-5
     returns
     returns-2
     returns-3
-    returns-4)
+    returns-4
+    returns-5)
