@@ -2,6 +2,7 @@
 use crate::codec::decode;
 use crate::codec::encode;
 use crate::codec::pec;
+use crate::pass::gone;
 use crate::pass::lookup;
 use crate::pass::start;
 use crate::pass::step;
@@ -40,6 +41,7 @@ pub(crate) fn answer(s: Shelf, text: &[u8], records: &mut [u8], out: &mut [u8], 
         Request::Start => told(s, start(s), out, at),
         Request::Step(from) => told(s, step(s, from, text), out, at),
         Request::Lookup(a) => said(s, lookup(s, a, out, at)),
+        Request::Gone(a) => gone(s, a, out, at),
         Request::Grid => said(s, table(s, out, at)),
     }
 }

@@ -1,10 +1,11 @@
-// The requests to the controller: start, step, lookup and grid.
+// The requests to the controller: start, step, lookup, gone and grid.
 use crate::shelf::Shelf;
 use crate::shelf::Turn;
 use answers::command::put_command;
 use arp::state::Controller;
 use arp::state::Stepped;
 use lookups::found::put_found;
+use lookups::found::put_gone;
 use lookups::grid::put_grid;
 use requests::list::read_symbols;
 use wire::address::Address;
@@ -25,16 +26,20 @@ pub(crate) fn step(s: Shelf, from: usize, text: &[u8]) -> Stepped {
     c.step(&trace[..n])
 }
 
-// The shelf with what a step left, and what it handed out.
-pub(crate) fn told(s: Shelf, next: Stepped, out: &mut [u8], at: usize) -> Turn {
+// The shelf with another state of its controller.
+fn with_state(s: Shelf, controller: Controller) -> Shelf {
     let occupied = s.occupied;
-    let controller = next.state;
-    let command = next.command;
-    let shelf = Shelf {
+    Shelf {
         occupied,
         count: s.count,
         controller,
-    };
+    }
+}
+
+// The shelf with what a step left, and what it handed out.
+pub(crate) fn told(s: Shelf, next: Stepped, out: &mut [u8], at: usize) -> Turn {
+    let command = next.command;
+    let shelf = with_state(s, next.state);
     let after = put_command(out, at, command);
     Turn { shelf, at: after }
 }
@@ -43,6 +48,16 @@ pub(crate) fn told(s: Shelf, next: Stepped, out: &mut [u8], at: usize) -> Turn {
 pub(crate) fn lookup(s: Shelf, a: u8, out: &mut [u8], at: usize) -> usize {
     let c = s.controller;
     put_found(out, at, c.lookup(Address(a)))
+}
+
+// The module at an address is gone: the shelf with what the report left, and its answer.
+pub(crate) fn gone(s: Shelf, a: u8, out: &mut [u8], at: usize) -> Turn {
+    let c = s.controller;
+    let r = c.report_gone(Address(a));
+    let found = r.found;
+    let shelf = with_state(s, r.state);
+    let after = put_gone(out, at, found);
+    Turn { shelf, at: after }
 }
 
 // The controller's table.

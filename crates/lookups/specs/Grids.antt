@@ -12,7 +12,7 @@ use Rattle.arp.specs.declared.lookup.Found.the-variants as found
 use Rattle.arp.specs.declared.state.Controller.{Controller}
 use Rattle.pieces.specs.Pieces.{newline, below}
 use Rattle.lookups.specs.declared.grid.Cell.{Cell}
-use Rattle.lookups.specs.declared.grid.Cell.the-variants.{Free, InUse, Claimed, Bound}
+use Rattle.lookups.specs.declared.grid.Cell.the-variants.{Free, InUse, Claimed, Left, Bound}
 
 -- what stands at an address
 abbrev pub freeOf : Pool → ℕ → Cell
@@ -22,6 +22,7 @@ abbrev pub cellIs : Pool → ℕ → Found → Cell
 cellIs starting a (found.Bound u) = Bound
 cellIs starting a found.Nobody = freeOf starting a
 cellIs starting a found.Two = Claimed
+cellIs starting a found.Left = Left
 cellIs starting a found.NoAddress = freeOf starting a
 
 unfoldable pub cellOf : Controller → ℕ → Cell
@@ -31,6 +32,7 @@ abbrev pub cellText : Cell → ℕ → List ℕ
 cellText Free a = chars " --"
 cellText InUse a = chars " UU"
 cellText Claimed a = chars " XX"
+cellText Left a = chars " LL"
 cellText Bound a = chars " " ++ pairOf a
 
 -- the 16 addresses from one on

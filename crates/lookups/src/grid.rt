@@ -1,5 +1,5 @@
 // The controller's table, in the layout of i2cdetect: 8 rows of 16 addresses. -- is free, UU was in use when the pass began, XX is claimed
-// by two, and an address stands where a target is bound.
+// by two, LL is left by a module that is gone, and an address stands where a target is bound.
 ghost use mathlib.Core.Path.{_≡_};
 ghost use mathlib.Core.List.{_++_};
 ghost use Rattle.writing.specs.Written.{Appended};
@@ -19,6 +19,8 @@ pub(crate) enum Cell {
     InUse,
     // Two claim it.
     Claimed,
+    // The module that was bound there is gone.
+    Left,
     // A target is bound there.
     Bound,
 }
@@ -42,6 +44,7 @@ fn cell_of(c: Controller, a: Address) -> Cell
         Found::Bound(_) => Cell::Bound,
         Found::Nobody => free_cell(starting, a),
         Found::Two => Cell::Claimed,
+        Found::Left => Cell::Left,
         Found::NoAddress => free_cell(starting, a),
     }
 }
@@ -54,6 +57,7 @@ fn put_cell(out: &mut [u8], at: usize, cell: Cell, a: u8) -> usize
         Cell::Free => put(out, at, b" --"),
         Cell::InUse => put(out, at, b" UU"),
         Cell::Claimed => put(out, at, b" XX"),
+        Cell::Left => put(out, at, b" LL"),
         Cell::Bound => put_hex(out, at, b" ", a),
     }
 }

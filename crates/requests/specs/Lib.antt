@@ -3,3 +3,4 @@ pub mod Requests
 pub mod RequestLaws
 pub mod ListLaws
 pub mod RunLaws
+pub mod GoneLaws

@@ -28,10 +28,12 @@ use Rattle.requests.specs.declared.head.HeadWords.{HeadWords}
 use Rattle.requests.specs.declared.head.HeadWords.the-variants.{HeadIs, NoHead}
 use Rattle.requests.specs.declared.head.FieldWords.{FieldWords}
 use Rattle.requests.specs.declared.head.FieldWords.the-variants.{FieldsAre, NoFields}
+use Rattle.requests.specs.declared.other.OneByte.{OneByte}
+use Rattle.requests.specs.declared.other.OneByte.the-variants as one
 use Rattle.requests.specs.declared.request.Head.{Head}
 use Rattle.requests.specs.declared.request.Fields.{Fields}
 use Rattle.requests.specs.declared.request.Request.{Request}
-use Rattle.requests.specs.declared.request.Request.the-variants.{Nothing, Unclear, Pec, Encode, Decode, Occupied, Target, Clear, Run, Start, Step, Lookup, Grid}
+use Rattle.requests.specs.declared.request.Request.the-variants.{Nothing, Unclear, Pec, Encode, Decode, Occupied, Target, Clear, Run, Start, Step, Lookup, Gone, Grid}
 
 -- a request whose list of bytes, or of symbols, reaches to the end of the line
 abbrev pub bytesTo : List ℕ → ℕ → Request → Request
@@ -47,6 +49,17 @@ endedBy q (left.Word place) = Unclear expected.End place
 
 unfoldable pub ended : Request → List ℕ → ℕ → Request
 ended q line at = endedBy q (restAt line at)
+
+-- a request of a byte, after whose word no word is left
+abbrev pub byteOn : (ℕ → Request) → List ℕ → ByteWord → Request
+byteOn q line (Byte b next) = ended (q b) line next
+byteOn q line (NoByte place) = Unclear expected.Byte place
+
+-- the requests of one byte
+abbrev pub ofByte : OneByte → ℕ → Request
+ofByte one.Run = Run
+ofByte one.Lookup = Lookup
+ofByte one.Gone = Gone
 
 -- ---- pec B...
 
@@ -141,14 +154,10 @@ lastIs line at (left.Word place) = byteAt line at
 unfoldable pub lastAt : List ℕ → ℕ → ByteWord
 lastAt line at = lastIs line at (restAt line at)
 
-abbrev pub runOn : List ℕ → ByteWord → Request
-runOn line (Byte last next) = ended (Run last) line next
-runOn line (NoByte place) = Unclear expected.Byte place
-
 unfoldable pub runRequest : List ℕ → ℕ → Request
-runRequest line at = runOn line (lastAt line at)
+runRequest line at = byteOn Run line (lastAt line at)
 
--- ---- occupied A..., step SYMBOL..., lookup A
+-- ---- occupied A..., step SYMBOL..., lookup A, gone A
 
 unfoldable pub occupiedRequest : List ℕ → ℕ → Request
 occupiedRequest line at = bytesTo line at (Occupied at)
@@ -156,21 +165,16 @@ occupiedRequest line at = bytesTo line at (Occupied at)
 unfoldable pub stepRequest : List ℕ → ℕ → Request
 stepRequest line at = symbolsTo line at (Step at)
 
-abbrev pub lookupOn : List ℕ → ByteWord → Request
-lookupOn line (Byte a next) = ended (Lookup a) line next
-lookupOn line (NoByte place) = Unclear expected.Byte place
-
 unfoldable pub lookupRequest : List ℕ → ℕ → Request
-lookupRequest line at = lookupOn line (byteAt line at)
+lookupRequest line at = byteOn Lookup line (byteAt line at)
+
+unfoldable pub goneRequest : List ℕ → ℕ → Request
+goneRequest line at = byteOn Gone line (byteAt line at)
 
 -- ---- target UDID BYTE FLAG
 
-abbrev pub flagIs : Udid → ℕ → ℕ → List ℕ → ByteWord → Request
-flagIs u place b line (Byte f next) = ended (Target (record { udid = u; byte = b; flag = f }) place) line next
-flagIs u place b line (NoByte at) = Unclear expected.Byte at
-
 unfoldable pub targetFlag : Udid → ℕ → ℕ → List ℕ → ℕ → Request
-targetFlag u place b line at = flagIs u place b line (byteAt line at)
+targetFlag u place b line at = byteOn (λ (f : ℕ). Target (record { udid = u; byte = b; flag = f }) place) line (byteAt line at)
 
 abbrev pub byteIs : Udid → ℕ → List ℕ → ByteWord → Request
 byteIs u place line (Byte b next) = targetFlag u place b line next
@@ -199,6 +203,7 @@ requestIn verb.Run line place at = runRequest line at
 requestIn verb.Start line place at = ended Start line at
 requestIn verb.Step line place at = stepRequest line at
 requestIn verb.Lookup line place at = lookupRequest line at
+requestIn verb.Gone line place at = goneRequest line at
 requestIn verb.Grid line place at = ended Grid line at
 requestIn verb.Other line place at = Unclear expected.Verb place
 

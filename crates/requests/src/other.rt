@@ -1,6 +1,6 @@
 // The requests of the shelf and of the controller.
 ghost use mathlib.Core.Path.{_≡_};
-ghost use Rattle.requests.specs.Requests.{occupiedRequest, lastAt, runRequest, stepRequest, lookupRequest, targetRequest, targetByte, targetFlag, ended};
+ghost use Rattle.requests.specs.Requests.{occupiedRequest, lastAt, ofByte, byteOn, runRequest, stepRequest, lookupRequest, goneRequest, targetRequest, targetByte, targetFlag, ended};
 use crate::expected::Expected;
 use crate::list::bytes_end;
 use crate::list::symbols_end;
@@ -16,6 +16,13 @@ use words::word::udid_word;
 
 // The last pick of a controller that has never picked.
 const NEVER_PICKED: u8 = 127;
+
+// The requests of one byte.
+pub(crate) enum OneByte {
+    Run,
+    Lookup,
+    Gone,
+}
 
 // A request, where no word is left for it.
 pub(crate) fn ending(q: Request, line: &[u8], from: usize) -> Request
@@ -50,15 +57,32 @@ fn last_pick(line: &[u8], from: usize) -> ByteWord
     }
 }
 
+// The request with its byte.
+fn of_byte(v: OneByte, b: u8) -> Request
+    ensures { λ r. ⌜ r ≡ ofByte v b ⌝ }
+{
+    match v {
+        OneByte::Run => Request::Run(b),
+        OneByte::Lookup => Request::Lookup(b),
+        OneByte::Gone => Request::Gone(b),
+    }
+}
+
+// A request whose byte was read, where no word is left for it.
+fn one_byte(v: OneByte, w: ByteWord, line: &[u8]) -> Request
+    ensures { λ r. ⌜ r ≡ byteOn (ofByte v) (now (line .entry)) w ⌝ }
+{
+    match w {
+        ByteWord::Byte(b, next) => ending(of_byte(v, b), line, next),
+        ByteWord::NoByte(place) => Request::Unclear(Expected::Byte, place),
+    }
+}
+
 // run, or run LAST
 pub(crate) fn run(line: &[u8], from: usize) -> Request
     ensures { λ r. ⌜ r ≡ runRequest (now (line .entry)) from ⌝ }
 {
-    let l = last_pick(line, from);
-    match l {
-        ByteWord::Byte(last, next) => ending(Request::Run(last), line, next),
-        ByteWord::NoByte(place) => Request::Unclear(Expected::Byte, place),
-    }
+    one_byte(OneByte::Run, last_pick(line, from), line)
 }
 
 // step SYMBOL...
@@ -76,11 +100,14 @@ pub(crate) fn step(line: &[u8], from: usize) -> Request
 pub(crate) fn lookup(line: &[u8], from: usize) -> Request
     ensures { λ r. ⌜ r ≡ lookupRequest (now (line .entry)) from ⌝ }
 {
-    let a = byte_word(line, from);
-    match a {
-        ByteWord::Byte(address, next) => ending(Request::Lookup(address), line, next),
-        ByteWord::NoByte(place) => Request::Unclear(Expected::Byte, place),
-    }
+    one_byte(OneByte::Lookup, byte_word(line, from), line)
+}
+
+// gone A
+pub(crate) fn gone(line: &[u8], from: usize) -> Request
+    ensures { λ r. ⌜ r ≡ goneRequest (now (line .entry)) from ⌝ }
+{
+    one_byte(OneByte::Gone, byte_word(line, from), line)
 }
 
 // FLAG

@@ -7,6 +7,7 @@ use crate::encoding::encode;
 use crate::encoding::pec;
 use crate::expected::Expected;
 use crate::other::ending;
+use crate::other::gone;
 use crate::other::lookup;
 use crate::other::occupied;
 use crate::other::run;
@@ -62,6 +63,8 @@ pub enum Request {
     Step(usize),
     // The target of an address.
     Lookup(u8),
+    // The module at an address is gone.
+    Gone(u8),
     Grid,
 }
 
@@ -80,6 +83,7 @@ fn request_in(v: Verb, line: &[u8], verb: usize, from: usize) -> Request
         Verb::Start => ending(Request::Start, line, from),
         Verb::Step => step(line, from),
         Verb::Lookup => lookup(line, from),
+        Verb::Gone => gone(line, from),
         Verb::Grid => ending(Request::Grid, line, from),
         Verb::Other => Request::Unclear(Expected::Verb, verb),
     }

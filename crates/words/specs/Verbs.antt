@@ -5,7 +5,7 @@ use Rattle.lists.specs.Choice.{pick}
 use Rattle.text.specs.Chars.{chars}
 use Rattle.text.specs.Words.{sameText}
 use Rattle.words.specs.declared.verb.Verb.{Verb}
-use Rattle.words.specs.declared.verb.Verb.the-variants.{Pec, Encode, Decode, Occupied, Target, Clear, Run, Start, Step, Lookup, Grid, Other}
+use Rattle.words.specs.declared.verb.Verb.the-variants.{Pec, Encode, Decode, Occupied, Target, Clear, Run, Start, Step, Lookup, Gone, Grid, Other}
 
 -- the verbs of a pass
 unfoldable pub passVerb : List ℕ → Verb
@@ -13,8 +13,9 @@ passVerb s =
     pick (sameText s (chars "start")) Start
     (pick (sameText s (chars "step")) Step
     (pick (sameText s (chars "lookup")) Lookup
+    (pick (sameText s (chars "gone")) Gone
     (pick (sameText s (chars "grid")) Grid
-    Other)))
+    Other))))
 
 -- the verb that a word is
 unfoldable pub verbOf : List ℕ → Verb

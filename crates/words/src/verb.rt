@@ -14,6 +14,7 @@ pub enum Verb {
     Start,
     Step,
     Lookup,
+    Gone,
     Grid,
     // Any other word.
     Other,
@@ -31,6 +32,9 @@ fn pass_verb(s: &[u8]) -> Verb
     }
     if same(s, b"lookup") {
         return Verb::Lookup;
+    }
+    if same(s, b"gone") {
+        return Verb::Gone;
     }
     if same(s, b"grid") {
         return Verb::Grid;

@@ -41,6 +41,15 @@ slice-aggregate-put-line-3 c = search needs
 put-line-requires-3 : tie.Need-put-line-requires-3
 put-line-requires-3 c κs = search needs
 
+enum-told-4 : tie.Need-enum-told-4
+enum-told-4 c = search needs
+
+slice-aggregate-put-line-4 : tie.Need-slice-aggregate-put-line-4
+slice-aggregate-put-line-4 c = search needs
+
+put-line-requires-4 : tie.Need-put-line-requires-4
+put-line-requires-4 c κs = search needs
+
 same-length : tie.Need-same-length
 same-length c = search needs
 
@@ -65,6 +74,12 @@ same-length-4 c = search needs
 returns-4 : tie.Need-returns-4
 returns-4 c = appended-as (sym (ap foundText (c .before .before .before .before .before .enum-told3 .given .1))) (c .before .before .put-line3 .ensures)
 
+same-length-5 : tie.Need-same-length-5
+same-length-5 c = search needs
+
+returns-5 : tie.Need-returns-5
+returns-5 c = appended-as (sym (ap foundText (c .before .before .before .before .before .enum-told4 .given .1))) (c .before .before .put-line4 .ensures)
+
 pub put-found-spec : {M : Type 1} → statement M
 put-found-spec =
     tie.close
@@ -81,6 +96,9 @@ put-found-spec =
     enum-told-3
     slice-aggregate-put-line-3
     put-line-requires-3
+    enum-told-4
+    slice-aggregate-put-line-4
+    put-line-requires-4
     same-length
     returns
     same-length-2
@@ -88,4 +106,6 @@ put-found-spec =
     same-length-3
     returns-3
     same-length-4
-    returns-4)
+    returns-4
+    same-length-5
+    returns-5)

@@ -22,6 +22,9 @@ enum-told-3 c = search needs
 enum-told-4 : tie.Need-enum-told-4
 enum-told-4 c = search needs
 
+enum-told-5 : tie.Need-enum-told-5
+enum-told-5 c = search needs
+
 free-cell-requires-2 : tie.Need-free-cell-requires-2
 free-cell-requires-2 c κs = search needs
 
@@ -39,7 +42,11 @@ returns-3 c = rw (sym (c .before .before .lookup .ensures) ∙ c .enum-told3 .gi
 
 returns-4 : tie.Need-returns-4
 unfolding cellOf
-returns-4 c = rw (sym (c .before .before .before .lookup .ensures) ∙ c .before .enum-told4 .given .1, c .free-cell2 .ensures)
+returns-4 c = rw (sym (c .before .before .lookup .ensures) ∙ c .enum-told4 .given .1)
+
+returns-5 : tie.Need-returns-5
+unfolding cellOf
+returns-5 c = rw (sym (c .before .before .before .lookup .ensures) ∙ c .before .enum-told5 .given .1, c .free-cell2 .ensures)
 
 pub cell-of-spec : {M : Type 1} → statement M
 cell-of-spec =
@@ -51,8 +58,10 @@ cell-of-spec =
     free-cell-requires
     enum-told-3
     enum-told-4
+    enum-told-5
     free-cell-requires-2
     returns
     returns-2
     returns-3
-    returns-4)
+    returns-4
+    returns-5)

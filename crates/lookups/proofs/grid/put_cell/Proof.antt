@@ -36,6 +36,15 @@ put-requires-3 c κs = search needs
 enum-told-4 : tie.Need-enum-told-4
 enum-told-4 c = search needs
 
+slice-aggregate-put-4 : tie.Need-slice-aggregate-put-4
+slice-aggregate-put-4 c = search needs
+
+put-requires-4 : tie.Need-put-requires-4
+put-requires-4 c κs = search needs
+
+enum-told-5 : tie.Need-enum-told-5
+enum-told-5 c = search needs
+
 slice-aggregate-put-hex : tie.Need-slice-aggregate-put-hex
 slice-aggregate-put-hex c = search needs
 
@@ -64,7 +73,13 @@ same-length-4 : tie.Need-same-length-4
 same-length-4 c = search needs
 
 returns-4 : tie.Need-returns-4
-returns-4 c = appended-as (sym (ap (λ (x : Cell). cellText x (c .before .before .before .before .before .before .before .before .args .a)) (c .before .before .before .before .before .enum-told4 .given .1))) (c .before .before .put-hex .ensures)
+returns-4 c = appended-as (sym (ap (λ (x : Cell). cellText x (c .before .before .before .before .before .before .before .before .args .a)) (c .before .before .before .before .before .enum-told4 .given .1))) (c .before .before .put4 .ensures)
+
+same-length-5 : tie.Need-same-length-5
+same-length-5 c = search needs
+
+returns-5 : tie.Need-returns-5
+returns-5 c = appended-as (sym (ap (λ (x : Cell). cellText x (c .before .before .before .before .before .before .before .before .args .a)) (c .before .before .before .before .before .enum-told5 .given .1))) (c .before .before .put-hex .ensures)
 
 pub put-cell-spec : {M : Type 1} → statement M
 put-cell-spec =
@@ -80,6 +95,9 @@ put-cell-spec =
     slice-aggregate-put-3
     put-requires-3
     enum-told-4
+    slice-aggregate-put-4
+    put-requires-4
+    enum-told-5
     slice-aggregate-put-hex
     put-hex-requires
     same-length
@@ -89,4 +107,6 @@ put-cell-spec =
     same-length-3
     returns-3
     same-length-4
-    returns-4)
+    returns-4
+    same-length-5
+    returns-5)

@@ -68,11 +68,17 @@ lookup-requires c κs = search needs
 enum-told-11 : tie.Need-enum-told-11
 enum-told-11 c = search needs
 
-ending-requires-3 : tie.Need-ending-requires-3
-ending-requires-3 c κs = search needs
+gone-requires : tie.Need-gone-requires
+gone-requires c κs = search needs
 
 enum-told-12 : tie.Need-enum-told-12
 enum-told-12 c = search needs
+
+ending-requires-3 : tie.Need-ending-requires-3
+ending-requires-3 c κs = search needs
+
+enum-told-13 : tie.Need-enum-told-13
+enum-told-13 c = search needs
 
 returns : tie.Need-returns
 returns c = c .pec .ensures ∙ sym (ap (λ (v : Verb). requestIn v (c .before .before .before .before .args .line .now) (c .before .before .before .before .args .verb) (c .before .before .before .before .args .from)) (c .before .enum-told .given .1))
@@ -105,10 +111,13 @@ returns-10 : tie.Need-returns-10
 returns-10 c = c .lookup .ensures ∙ sym (ap (λ (v : Verb). requestIn v (c .before .before .before .before .args .line .now) (c .before .before .before .before .args .verb) (c .before .before .before .before .args .from)) (c .before .enum-told10 .given .1))
 
 returns-11 : tie.Need-returns-11
-returns-11 c = c .ending3 .ensures ∙ sym (ap (λ (v : Verb). requestIn v (c .before .before .before .before .args .line .now) (c .before .before .before .before .args .verb) (c .before .before .before .before .args .from)) (c .before .enum-told11 .given .1))
+returns-11 c = c .gone .ensures ∙ sym (ap (λ (v : Verb). requestIn v (c .before .before .before .before .args .line .now) (c .before .before .before .before .args .verb) (c .before .before .before .before .args .from)) (c .before .enum-told11 .given .1))
 
 returns-12 : tie.Need-returns-12
-returns-12 c = sym (ap (λ (v : Verb). requestIn v (c .before .before .before .args .line .now) (c .before .before .before .args .verb) (c .before .before .before .args .from)) (c .enum-told12 .given .1))
+returns-12 c = c .ending3 .ensures ∙ sym (ap (λ (v : Verb). requestIn v (c .before .before .before .before .args .line .now) (c .before .before .before .before .args .verb) (c .before .before .before .before .args .from)) (c .before .enum-told12 .given .1))
+
+returns-13 : tie.Need-returns-13
+returns-13 c = sym (ap (λ (v : Verb). requestIn v (c .before .before .before .args .line .now) (c .before .before .before .args .verb) (c .before .before .before .args .from)) (c .enum-told13 .given .1))
 
 pub request-in-spec : {M : Type 1} → statement M
 request-in-spec =
@@ -135,8 +144,10 @@ request-in-spec =
     enum-told-10
     lookup-requires
     enum-told-11
-    ending-requires-3
+    gone-requires
     enum-told-12
+    ending-requires-3
+    enum-told-13
     returns
     returns-2
     returns-3
@@ -148,4 +159,5 @@ request-in-spec =
     returns-9
     returns-10
     returns-11
-    returns-12)
+    returns-12
+    returns-13)
