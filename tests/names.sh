@@ -35,6 +35,7 @@ self
 let
 memcpy
 i2cdetect
+LL
 UU
 XX
 help

@@ -1,10 +1,10 @@
-/* Commands and passes: a target that is bound, one that finds no address, an Assign that is not acknowledged, last picks. */
+/* Commands and passes: a target that is bound, one that finds no address, an Assign that fails, last picks, reports. */
 #include "check.h"
 
 static const hb_udid module = { 0x8001020304050607, 0x08090a0b0c0d0e0f };
 static const hb_udid nobody = { 0, 0 };
 
-/* A list of traces in a block of exactly its length. */
+/* A list of traces and reports in a block of exactly its length. */
 struct list {
     uint8_t *bytes;
     size_t length;
@@ -173,27 +173,6 @@ static void check_wrong_symbols(void)
     free(l.bytes);
 }
 
-/* Two fixed targets at one address: it is claimed by two. */
-static void check_claimed(void)
-{
-    struct list l = { NULL, 0 };
-    uint8_t out[2 * HB_LONGEST_TRACE], reply[17];
-    send(&l, HB_PREPARE, 0, NULL, 0);
-    for (uint64_t high = 1; high <= 2; high++) {
-        hb_udid fixed = { high, 0 };
-        hb_written w;
-        hb_udid_put_bytes(fixed, reply, sizeof reply, 0);
-        reply[16] = 2 * 0x30 + 1;
-        w = hb_put_command(HB_GET_UDID, nobody, 0, reply, sizeof reply, out, sizeof out);
-        append(&l, out, w.symbols);
-        w = hb_put_command(HB_ASSIGN, fixed, 0x30, NULL, 0, out, sizeof out);
-        append(&l, out, w.symbols);
-        CHECK(hb_pass_lookup(nothing, NEVER, l.bytes, l.length, 0x30).answer == (high == 1 ? HB_DONE : HB_TWO));
-    }
-    CHECK(hb_pass(nothing, NEVER, l.bytes, l.length).gets == 3);
-    free(l.bytes);
-}
-
 /* The address that is picked after a last pick where nothing is occupied: the next that is not reserved, from 7Fh round to 00h. */
 static uint32_t after(unsigned last)
 {
@@ -258,6 +237,189 @@ static void check_vacated(void)
     free(l.bytes);
 }
 
+/* Appends a report: HB_GONE and the address, as pairs. */
+static void report(struct list *l, unsigned address)
+{
+    const uint8_t pair[] = { (uint8_t)address, (uint8_t)(address >> 8) };
+    append(l, pair, 1);
+    l->bytes[l->length - 4] = HB_GONE & 255;
+    l->bytes[l->length - 3] = HB_GONE >> 8;
+}
+
+static uint32_t found(const struct list *l, uint8_t address)
+{
+    return hb_pass_lookup(nothing, NEVER, l->bytes, l->length, address).answer;
+}
+
+/* A fixed target that holds 30h: its reply, and the Assign of 30h to it. */
+static void fixed_replies(struct list *l, uint64_t high)
+{
+    uint8_t out[2 * HB_LONGEST_TRACE], reply[17];
+    hb_udid fixed = { high, 0 };
+    hb_written w;
+    hb_udid_put_bytes(fixed, reply, sizeof reply, 0);
+    reply[16] = 2 * 0x30 + 1;
+    w = hb_put_command(HB_GET_UDID, nobody, 0, reply, sizeof reply, out, sizeof out);
+    CHECK(w.answer == HB_DONE);
+    append(l, out, w.symbols);
+}
+
+static void fixed_takes(struct list *l, uint64_t high)
+{
+    uint8_t out[2 * HB_LONGEST_TRACE];
+    hb_udid fixed = { high, 0 };
+    hb_written w = hb_put_command(HB_ASSIGN, fixed, 0x30, NULL, 0, out, sizeof out);
+    CHECK(w.answer == HB_DONE);
+    append(l, out, w.symbols);
+}
+
+/* Two fixed targets at one address: it is claimed by two, whatever is reported. */
+static void check_claimed(void)
+{
+    struct list l = { NULL, 0 };
+    send(&l, HB_PREPARE, 0, NULL, 0);
+    for (uint64_t high = 1; high <= 2; high++) {
+        fixed_replies(&l, high);
+        fixed_takes(&l, high);
+        CHECK(found(&l, 0x30) == (high == 1 ? HB_DONE : HB_TWO));
+    }
+    CHECK(hb_pass(nothing, NEVER, l.bytes, l.length).gets == 3);
+    report(&l, 0x30);
+    CHECK(found(&l, 0x30) == HB_TWO);
+    free(l.bytes);
+}
+
+/* The first of two is reported gone while the Assign to the second is outstanding: the second is bound. */
+static void check_taken_back(void)
+{
+    struct list l = { NULL, 0 };
+    hb_command before, after;
+    send(&l, HB_PREPARE, 0, NULL, 0);
+    fixed_replies(&l, 1);
+    fixed_takes(&l, 1);
+    fixed_replies(&l, 2);
+    before = hb_pass(nothing, NEVER, l.bytes, l.length);
+    report(&l, 0x30);
+    after = hb_pass(nothing, NEVER, l.bytes, l.length);
+    CHECK(before.kind == HB_ASSIGN && before.address == 0x30 && before.udid.high == 2 && before.gets == 2);
+    CHECK(after.kind == HB_ASSIGN && after.address == 0x30 && after.udid.high == 2 && after.gets == 2);
+    CHECK(found(&l, 0x30) == HB_LEFT);
+    fixed_takes(&l, 2);
+    CHECK(found(&l, 0x30) == HB_DONE && hb_pass_lookup(nothing, NEVER, l.bytes, l.length, 0x30).udid.high == 2);
+    free(l.bytes);
+}
+
+/* Appends the reply of the module with its own address, and the Assign of it. */
+static void join(struct list *l, uint8_t address)
+{
+    uint8_t reply[17];
+    reply_with(reply, (uint8_t)(2 * address + 1));
+    send(l, HB_GET_UDID, 0, reply, sizeof reply);
+    send(l, HB_ASSIGN, address, NULL, 0);
+}
+
+/* A module that is reported gone: its address is left, until it is bound again. The command stays. */
+static void check_gone(void)
+{
+    struct list l = { NULL, 0 };
+    report(&l, 0x20);
+    expect(&l, HB_PREPARE, 0, 0, NEVER);
+    CHECK(found(&l, 0x20) == HB_NOBODY);
+    send(&l, HB_PREPARE, 0, NULL, 0);
+    report(&l, 0x20);
+    expect(&l, HB_GET_UDID, 0, 1, NEVER);
+    join(&l, 0x20);
+    CHECK(found(&l, 0x20) == HB_DONE);
+    report(&l, 0x21);
+    report(&l, 128);
+    report(&l, 0xa0);
+    report(&l, 0x120);
+    report(&l, 0xffff);
+    CHECK(found(&l, 0x20) == HB_DONE && found(&l, 0x21) == HB_NOBODY && found(&l, 128) == HB_FORBIDDEN);
+    report(&l, 0x20);
+    expect(&l, HB_GET_UDID, 0, 2, NEVER);
+    CHECK(found(&l, 0x20) == HB_LEFT && hb_pass_lookup(nothing, NEVER, l.bytes, l.length, 0x20).udid.high == 0);
+    report(&l, 0x20);
+    CHECK(found(&l, 0x20) == HB_LEFT);
+    join(&l, 0x20);
+    expect(&l, HB_GET_UDID, 0, 3, NEVER);
+    CHECK(found(&l, 0x20) == HB_DONE);
+    free(l.bytes);
+}
+
+/* The old address of a module that replies again is not left. A report after the end of a pass, and after 21, counts too. */
+static void check_gone_at_the_end(void)
+{
+    struct list l = { NULL, 0 };
+    send(&l, HB_PREPARE, 0, NULL, 0);
+    join(&l, 0x20);
+    join(&l, 0x21);
+    CHECK(found(&l, 0x20) == HB_NOBODY && found(&l, 0x21) == HB_DONE);
+    report(&l, 0x20);
+    CHECK(found(&l, 0x20) == HB_NOBODY && found(&l, 0x21) == HB_DONE);
+    append(&l, silence, 9);
+    expect(&l, HB_ENDED, 0, 3, NEVER);
+    append(&l, silence, 9);
+    expect_none_outstanding(NEVER, &l);
+    report(&l, 0x21);
+    expect_none_outstanding(NEVER, &l);
+    CHECK(found(&l, 0x20) == HB_NOBODY && found(&l, 0x21) == HB_LEFT);
+    l.length -= 4 + 2 + 2 * 9;
+    report(&l, 0x21);
+    expect(&l, HB_ENDED, 0, 3, NEVER);
+    CHECK(found(&l, 0x21) == HB_LEFT);
+    free(l.bytes);
+}
+
+/* A report that is cut, in a block of exactly the bytes that are left: the list ends before it. */
+static void check_cut_reports(void)
+{
+    struct list l = { NULL, 0 };
+    uint32_t with[5];
+    send(&l, HB_PREPARE, 0, NULL, 0);
+    join(&l, 0x20);
+    report(&l, 0x20);
+    for (size_t more = 0; more <= 4; more++) {
+        size_t length = l.length - 4 + more;
+        uint8_t *cut = block(length, 0);
+        memcpy(cut, l.bytes, length);
+        with[more] = hb_pass_lookup(nothing, NEVER, cut, length, 0x20).answer;
+        CHECK(hb_pass(nothing, NEVER, cut, length).kind == HB_GET_UDID && hb_pass(nothing, NEVER, cut, length).gets == 2);
+        free(cut);
+    }
+    CHECK(with[0] == HB_DONE && with[1] == HB_DONE && with[2] == HB_DONE && with[3] == HB_DONE && with[4] == HB_LEFT);
+    for (size_t length = 1; length <= 4; length++) {
+        uint8_t *alone = block(length, 0xff);
+        CHECK(hb_pass(nothing, NEVER, alone, length).kind == HB_PREPARE);
+        CHECK(hb_pass_lookup(nothing, NEVER, alone, length, 0x7f).answer == HB_NOBODY);
+        CHECK(hb_pass(nothing, 128, alone, length).answer == HB_FORBIDDEN);
+        free(alone);
+    }
+    CHECK(hb_pass(nothing, NEVER, NULL, 0).kind == HB_PREPARE);
+    CHECK(hb_pass_lookup(nothing, NEVER, NULL, 0, 0x20).answer == HB_NOBODY);
+    free(l.bytes);
+}
+
+/* A picked address that is taken back is picked again, after the others that are free: at once where it alone is. */
+static void check_picked_again(void)
+{
+    struct list l = { NULL, 0 };
+    uint8_t reply[17];
+    hb_command c;
+    reply_with(reply, 0xff);
+    send(&l, HB_PREPARE, 0, NULL, 0);
+    send(&l, HB_GET_UDID, 0, reply, sizeof reply);
+    send(&l, HB_ASSIGN, 0x09, NULL, 0);
+    report(&l, 0x09);
+    expect(&l, HB_GET_UDID, 0, 2, 0x09);
+    send(&l, HB_GET_UDID, 0, reply, sizeof reply);
+    expect(&l, HB_ASSIGN, 0x0a, 2, 0x0a);
+    CHECK(found(&l, 0x09) == HB_LEFT);
+    c = hb_pass(hb_pool_without(everything, 0x09), NEVER, l.bytes, l.length);
+    CHECK(c.kind == HB_ASSIGN && c.address == 0x09 && c.picked == 0x09 && c.gets == 2);
+    free(l.bytes);
+}
+
 void check_passes(void)
 {
     check_commands();
@@ -265,7 +427,12 @@ void check_passes(void)
     check_bound();
     check_ends();
     check_wrong_symbols();
-    check_claimed();
     check_last_picks();
     check_vacated();
+    check_claimed();
+    check_taken_back();
+    check_gone();
+    check_gone_at_the_end();
+    check_cut_reports();
+    check_picked_again();
 }

@@ -1,11 +1,13 @@
-//! The compiled console against the reference: request files, wrong symbols and last picks by hand, random and hostile
-//! sessions.
+//! The compiled console against the reference: request files, sessions worked out by hand, random and hostile ones.
 //!   console PROGRAM FILES..     each FILE holds requests; what is due stands beside it, in stdout for stdin, else in NAME.expected
 //!   console write FILES..       writes what is due anew, from the reference
+
+mod sessions;
 
 use reference::console::{lines, Console};
 use reference::random::Random;
 use reference::requests::any_line;
+use std::collections::BTreeMap;
 use std::io::{BufRead, BufReader, Read, Write};
 use std::path::{Path, PathBuf};
 use std::process::{exit, Child, Command, Stdio};
@@ -15,134 +17,6 @@ use std::time::Duration;
 
 const SESSIONS: u64 = 150;
 const LINES: usize = 1000;
-
-/// Wrong symbols worked out by hand: requests of one session, and the answer due to each.
-const WRONG_SYMBOLS: [(&str, &str); 19] = [
-    ("decode read_byte - 256 64 258 16 258 256 65 258 7 258", "17 place 9"),
-    ("decode read_byte - 256 64 258 16 258 256 67", "18 place 6"),
-    ("decode read_byte - 256 65", "18 place 1"),
-    ("decode read_byte - 256 64 258 16 258 256 65 258 7 257", "5 place 9"),
-    ("decode receive_byte p 256 65 258 7 259", "17 place 4"),
-    ("decode receive_byte - 256 64", "18 place 1"),
-    ("decode receive_byte - 256 65 258 258", "5 place 3"),
-    ("decode receive_byte - 256 65 259 258", "5 place 3"),
-    ("decode send_byte - 256 258", "5 place 1"),
-    ("decode send_byte - 256 300", "3 place 1"),
-    ("decode 10 - 256 64 258 16 258 1 258 9 258 256 65 258 255", "19 place 12"),
-    ("decode 10 - 256 64 258 16 258 1 258 9 258 256 65 258 254", "4 place 13"),
-    ("decode block_process_call p 256 64 258 16 258 1 258 9 258 256 65 258 258", "5 place 12"),
-    ("start", "0 next prepare"),
-    ("step 256 195", "14 end"),
-    ("start", "0 next prepare"),
-    ("step 256 194 258 1 258 192 258 257", "0 next get"),
-    ("step 256 194 258 3 258 256 195 258 17 259", "0 next get"),
-    ("step 256 194 258 3 258 256 197", "0 next get"),
-];
-
-/// Answers to the three commands: the reply of the UDID 80.. with no address, and with 20h as its own; the Assign of 09h
-/// to it; the reply of 00.., which is fixed, with no address; and nobody who answers Get UDID.
-const PREPARED: &str = "step 256 194 258 1 258 192 258 257";
-const REPLY_80: &str = "step 256 194 258 3 258 256 195 258 17 258 128 258 0 258 0 258 0 258 0 258 0 258 0 258 0 258 0 \
-258 0 258 0 258 0 258 0 258 0 258 0 258 0 258 255 258 71 259 257";
-const REPLY_80_AT_20: &str = "step 256 194 258 3 258 256 195 258 17 258 128 258 0 258 0 258 0 258 0 258 0 258 0 258 0 \
-258 0 258 0 258 0 258 0 258 0 258 0 258 0 258 0 258 65 258 116 259 257";
-const ASSIGN_09: &str = "step 256 194 258 4 258 17 258 128 258 0 258 0 258 0 258 0 258 0 258 0 258 0 258 0 258 0 \
-258 0 258 0 258 0 258 0 258 0 258 0 258 18 258 181 258 257";
-const REPLY_00: &str = "step 256 194 258 3 258 256 195 258 17 258 0 258 0 258 0 258 0 258 0 258 0 258 0 258 0 258 0 \
-258 0 258 0 258 0 258 0 258 0 258 0 258 0 258 255 258 82 259 257";
-const SILENCE: &str = "step 256 194 258 3 258 256 195 259 257";
-
-/// Last picks worked out by hand: requests of one session, and the answer due to each.
-const LAST_PICKS: [(&str, &str); 67] = [
-    ("target 80000000000000000000000000000000 0xff 0", "0 target 0"),
-    ("run 0x77", "0 bound 1 get 2 last 0x09\n 0x09 80000000000000000000000000000000\n target 0 0x13 1"),
-    ("run", "0 bound 1 get 2 last 0x7f\n 0x09 80000000000000000000000000000000\n target 0 0x13 1"),
-    ("run 128", "1"),
-    ("run 255", "1"),
-    ("run 256", "? 5 expected a byte, 0 to 255"),
-    ("run now", "? 5 expected a byte, 0 to 255"),
-    ("run 9 9", "? 7 expected the end of the line"),
-    ("run 128 9", "? 9 expected the end of the line"),
-    ("clear", "0 clear"),
-    ("target 80000000000000000000000000000000 0xff 0", "0 target 0"),
-    ("target 00000000000000000000000000000000 0x13 0", "0 target 1"),
-    ("target 40000000000000000000000000000000 0x41 0", "0 target 2"),
-    (
-        "run 10",
-        "0 bound 3 get 4 last 0x0b\n \
-0x09 00000000000000000000000000000000\n \
-0x0b 80000000000000000000000000000000\n \
-0x20 40000000000000000000000000000000\n \
-target 0 0x17 1\n \
-target 1 0x13 1\n \
-target 2 0x41 1",
-    ),
-    ("clear", "0 clear"),
-    ("target 81000000000000000000000000000000 0xff 1", "0 target 0"),
-    ("run 0x0b", "0 bound 1 get 2 last 0x0d\n 0x0d 81000000000000000000000000000000\n target 0 0x1b 1"),
-    ("target 81000000000000000000000000000000 0xff 0", "0 target 1"),
-    ("run 126", "11 record 1"),
-    ("run 128", "1"),
-    ("clear", "0 clear"),
-    ("run", "0 bound 0 get 0 last 0x7f"),
-    ("run 5", "0 bound 0 get 0 last 0x05"),
-    ("start", "0 next prepare"),
-    (PREPARED, "0 next get"),
-    (REPLY_80, "0 next assign 80000000000000000000000000000000 0x09"),
-    (ASSIGN_09, "0 next get"),
-    (REPLY_80, "0 next assign 80000000000000000000000000000000 0x0a"),
-    ("step", "0 next get"),
-    (REPLY_80, "0 next assign 80000000000000000000000000000000 0x0b"),
-    ("start", "0 next prepare"),
-    (PREPARED, "0 next get"),
-    (REPLY_80_AT_20, "0 next assign 80000000000000000000000000000000 0x20"),
-    ("step", "0 next get"),
-    (REPLY_80, "0 next assign 80000000000000000000000000000000 0x0d"),
-    ("step", "0 next get"),
-    (SILENCE, "0 end"),
-    ("run", "0 bound 0 get 0 last 0x7f"),
-    ("start", "0 next prepare"),
-    (PREPARED, "0 next get"),
-    (REPLY_80, "0 next assign 80000000000000000000000000000000 0x0e"),
-    ("clear", "0 clear"),
-    ("start", "0 next prepare"),
-    (PREPARED, "0 next get"),
-    (REPLY_80, "0 next assign 80000000000000000000000000000000 0x09"),
-    ("occupied 0 1 2 3 4 5 6 7 8 9 10 11 12 13 14 15 16 17 18 19 20 21 22 23 24 25 26 27 28 29 30 31", "0 occupied 32"),
-    (
-        "occupied 32 33 34 35 36 37 38 39 40 41 42 43 44 45 46 47 48 49 50 51 52 53 54 55 56 57 58 59 60 61 \
-62 63",
-        "0 occupied 64",
-    ),
-    (
-        "occupied 64 65 66 67 68 69 70 71 72 73 74 75 76 77 78 79 80 81 82 83 84 85 86 87 88 89 90 91 92 93 \
-94 95",
-        "0 occupied 96",
-    ),
-    (
-        "occupied 96 97 98 99 100 101 102 103 104 105 106 107 108 109 110 111 112 113 114 115 116 117 118 \
-119 120 121 122 123 124 125 126 127",
-        "0 occupied 128",
-    ),
-    ("target 80000000000000000000000000000000 0xff 1", "0 target 0"),
-    ("run 0x33", "13 udid 80000000000000000000000000000000 bound 0 get 1 last 0x33\n target 0 0xff 0"),
-    ("run", "13 udid 80000000000000000000000000000000 bound 0 get 1 last 0x7f\n target 0 0xff 0"),
-    ("run 200", "1"),
-    ("clear", "0 clear"),
-    ("target 80000000000000000000000000000000 0xff 0", "0 target 0"),
-    ("run 128", "1"),
-    ("run 256", "? 5 expected a byte, 0 to 255"),
-    ("run 9 9", "? 7 expected the end of the line"),
-    ("run", "0 bound 1 get 2 last 0x09\n 0x09 80000000000000000000000000000000\n target 0 0x13 1"),
-    ("start", "0 next prepare"),
-    (PREPARED, "0 next get"),
-    (REPLY_00, "0 next assign 00000000000000000000000000000000 0x09"),
-    ("step", "0 next get"),
-    ("occupied 10", "0 occupied 1"),
-    ("start", "0 next prepare"),
-    (PREPARED, "0 next get"),
-    (REPLY_80, "0 next assign 80000000000000000000000000000000 0x0b"),
-];
 
 fn fail(text: &str) -> ! {
     eprintln!("FAILED {text}");
@@ -236,6 +110,53 @@ fn by_hand(program: &str, name: &str, session: &[(&str, &str)]) -> usize {
     due.len()
 }
 
+/// What the random lines were answered with.
+#[derive(Default)]
+struct Seen {
+    /// By number; 22 is for '?', 23 for no answer.
+    numbers: [usize; 24],
+    /// The last picks that model runs were given, and the number of each answer.
+    last_picks: Vec<(u8, u32)>,
+    /// The first words of the lines that were read, with the number of the answer.
+    verbs: BTreeMap<(String, usize), usize>,
+    /// The grids that show an address left.
+    left: usize,
+}
+
+impl Seen {
+    fn add(&mut self, line: &[u8], answer: &str) {
+        let first = answer.split_whitespace().next().unwrap_or("");
+        let number = if first == "?" { 22 } else { first.parse().unwrap_or(23) };
+        self.numbers[number] += 1;
+        self.last_picks.extend(given_last_pick(line, answer));
+        let text = String::from_utf8_lossy(line);
+        if let Some(verb) = text.split_whitespace().next().filter(|_| number < 22) {
+            *self.verbs.entry((verb.to_string(), number)).or_default() += 1;
+        }
+        self.left += usize::from(answer.starts_with("0 grid") && answer.contains(" LL"));
+    }
+
+    /// Every number comes, and each of those that a lookup and a report can be answered with.
+    fn check(&self) {
+        check_last_picks(&self.last_picks);
+        for number in (0..=22).filter(|number| ![2, 9].contains(number)) {
+            assert!(self.numbers[number] > 20, "too few lines are answered with {number}");
+        }
+        for verb in ["lookup", "gone"] {
+            for number in [0, 1, 15, 16, 20] {
+                let times = self.verbs.get(&(verb.to_string(), number)).copied().unwrap_or(0);
+                assert!(times > 20, "too few lines {verb} are answered with {number}");
+            }
+        }
+        assert!(self.left > 20, "too few grids show what is left");
+    }
+
+    /// How many reports were answered.
+    fn reports(&self) -> usize {
+        self.verbs.iter().filter(|((verb, _), _)| verb == "gone").map(|(_, times)| times).sum()
+    }
+}
+
 /// The last pick that a model run was given, if the line is one that gives it, and the number of the answer.
 fn given_last_pick(line: &[u8], answer: &str) -> Option<(u8, u32)> {
     let text = std::str::from_utf8(line).ok()?;
@@ -265,16 +186,14 @@ fn check_last_picks(given: &[(u8, u32)]) {
 }
 
 /// A session of random lines. Every second one ends without a line feed.
-fn session(program: &str, seed: u64, tally: &mut [usize; 24], last_picks: &mut Vec<(u8, u32)>) -> usize {
+fn session(program: &str, seed: u64, seen: &mut Seen) -> usize {
     let mut random = Random::new(seed);
     let mut console = Console::new();
     let mut answers = vec![];
     for _ in 0..LINES {
         let line = any_line(&mut random, &console);
         let due = console.answer(&line);
-        let first = due.split_whitespace().next().unwrap_or("");
-        tally[if first == "?" { 22 } else { first.parse().unwrap_or(23) }] += 1;
-        last_picks.extend(given_last_pick(&line, &due));
+        seen.add(&line, &due);
         answers.push((line, due));
     }
     let mut input: Vec<u8> = answers.iter().flat_map(|(line, _)| [&line[..], b"\n"].concat()).collect();
@@ -308,7 +227,9 @@ fn typed(program: &str) {
 /// What the arguments print.
 fn arguments(program: &str) {
     let help = String::from_utf8(run(program, &["help"], vec![])).expect("text");
-    for verb in ["pec", "encode", "decode", "occupied", "target", "clear", "run", "start", "step", "lookup", "grid"] {
+    let verbs =
+        ["pec", "encode", "decode", "occupied", "target", "clear", "run", "start", "step", "lookup", "gone", "grid"];
+    for verb in verbs {
         assert!(help.lines().any(|line| line.split(' ').next() == Some(verb)), "help has {verb}");
     }
     assert!(help.lines().any(|line| line.starts_with("run ") && line.contains("LAST")), "help has run LAST");
@@ -326,18 +247,17 @@ fn main() {
         return files.iter().for_each(|path| write(path));
     }
     let requests: usize = files.iter().map(|path| file(program, path)).sum();
-    let by_hand = by_hand(program, "wrong symbols", &WRONG_SYMBOLS) + by_hand(program, "last picks", &LAST_PICKS);
-    let mut tally = [0; 24];
-    let mut last_picks = vec![];
-    let random: usize = (0..SESSIONS).map(|seed| session(program, seed, &mut tally, &mut last_picks)).sum();
-    check_last_picks(&last_picks);
-    for number in [0, 1, 3, 4, 5, 6, 7, 8, 10, 11, 12, 13, 14, 15, 16, 17, 18, 19, 21, 22] {
-        assert!(tally[number] > 20, "too few lines are answered with {number}");
-    }
+    let by_hand = by_hand(program, "wrong symbols", &sessions::WRONG_SYMBOLS)
+        + by_hand(program, "last picks", &sessions::LAST_PICKS)
+        + by_hand(program, "reports", &sessions::GONE);
+    let mut seen = Seen::default();
+    let random: usize = (0..SESSIONS).map(|seed| session(program, seed, &mut seen)).sum();
+    seen.check();
     typed(program);
     arguments(program);
     println!("{:<28}{requests:>9} requests in files", "console");
     println!("{:<28}{by_hand:>9} requests worked out by hand", "console");
-    println!("{:<28}{random:>9} random lines, answers by number {tally:?}", "console");
-    println!("{:<28}{:>9} random model runs with a last pick", "console", last_picks.len());
+    println!("{:<28}{random:>9} random lines, answers by number {:?}", "console", seen.numbers);
+    println!("{:<28}{:>9} random model runs with a last pick", "console", seen.last_picks.len());
+    println!("{:<28}{:>9} random reports, {} grids with what is left", "console", seen.reports(), seen.left);
 }

@@ -2,6 +2,7 @@
 //! commands, passes and the check of a target list.
 
 mod exported_abi;
+mod exported_lists;
 mod exported_passes;
 mod family;
 
@@ -162,6 +163,6 @@ fn checks() -> usize {
 
 fn main() {
     let parts = pools() + next_free_ones() + identifiers() + last_phases() + checks();
-    let passes = exported_passes::all();
+    let passes = exported_passes::all() + exported_lists::all();
     println!("{:<28}{:>9} cases", "exported, all", parts + passes);
 }

@@ -12,7 +12,10 @@ use reference::recorder::{apply, Due, Op};
 use reference::shelves;
 use reference::table::{build, Refused, LONGEST_TRACE};
 
-fn pairs(trace: &[u16]) -> Vec<u8> {
+/// In a list of traces a report stands where a number of symbols is due: this one.
+pub const GONE: u16 = 65_535;
+
+pub fn pairs(trace: &[u16]) -> Vec<u8> {
     trace.iter().flat_map(|symbol| symbol.to_le_bytes()).collect()
 }
 
@@ -71,7 +74,7 @@ fn assigned_numbers() -> usize {
     family.done()
 }
 
-fn told(command: &commands::Command, gets: u32, picked: u32) -> Command {
+pub fn told(command: &commands::Command, gets: u32, picked: u32) -> Command {
     let plain = |kind, answer| Command { kind, answer, gets, picked, ..Command::default() };
     match command {
         commands::Command::Prepare => plain(0, 0),
@@ -84,34 +87,38 @@ fn told(command: &commands::Command, gets: u32, picked: u32) -> Command {
     }
 }
 
-fn found(found: &controller::Found) -> Found {
+pub fn found(found: &controller::Found) -> Found {
     match found {
         controller::Found::Bound(udid) => Found { answer: 0, udid: halves(udid) },
         controller::Found::Refused(number) => Found { answer: *number, udid: Udid::default() },
     }
 }
 
-/// A pass of a script so far: the last pick before it, the list of its traces, and the Get UDIDs.
+/// A pass of a script so far: the last pick before it, the list of its traces and reports, the Get UDIDs, and what was
+/// handed out last.
 struct Pass {
     occupied: Pool,
     last_pick: u8,
     started: bool,
     list: Vec<u8>,
     gets: u32,
+    latest: Command,
 }
 
 /// What every pass with a last pick above 127 is refused with.
-const NO_PASS: Command = Command { kind: 6, answer: 1, address: 0, gets: 0, picked: 0, udid: Udid { high: 0, low: 0 } };
-const NO_LOOKUP: Found = Found { answer: 1, udid: Udid { high: 0, low: 0 } };
+pub const NO_PASS: Command =
+    Command { kind: 6, answer: 1, address: 0, gets: 0, picked: 0, udid: Udid { high: 0, low: 0 } };
+pub const NO_LOOKUP: Found = Found { answer: 1, udid: Udid { high: 0, low: 0 } };
 
 impl Pass {
     fn new(occupied: &Addresses, last_pick: u8) -> Pass {
-        Pass { occupied: pool_of(occupied), last_pick, started: false, list: vec![], gets: 0 }
+        let occupied = pool_of(occupied);
+        Pass { occupied, last_pick, started: false, list: vec![], gets: 0, latest: NO_PASS }
     }
 
     /// The pass starts anew after the last pick of those before.
     fn start(&mut self, last_pick: u8) {
-        *self = Pass { occupied: self.occupied, last_pick, started: true, list: vec![], gets: 0 };
+        *self = Pass { occupied: self.occupied, last_pick, started: true, list: vec![], gets: 0, latest: NO_PASS };
     }
 
     fn trace(&mut self, trace: &[u16]) {
@@ -126,10 +133,26 @@ impl Pass {
     /// The command that is due, and the last pick then.
     fn command(&mut self, family: &mut Family, due: &commands::Command, picked: u8, look: bool) {
         self.gets += u32::from(*due == commands::Command::GetUdid);
+        let all = told(due, self.gets, u32::from(picked));
+        self.latest = if self.last_pick > NEVER { NO_PASS } else { all };
         if look {
-            let all = told(due, self.gets, u32::from(picked));
-            let due = if self.last_pick > NEVER { NO_PASS } else { all };
-            family.same(|| self.text(), &due, &pass(self.occupied, self.last_pick, &self.list));
+            family.same(|| self.text(), &self.latest, &pass(self.occupied, self.last_pick, &self.list));
+        }
+    }
+
+    /// A report: lookup says before it what it finds, and after it that the address is left. The command stays.
+    fn report(&mut self, family: &mut Family, number: u8, due: &controller::Found, look: bool) {
+        let refused = self.last_pick > NEVER;
+        if look {
+            let due = if refused { NO_LOOKUP } else { found(due) };
+            family.same(|| format!("address {number:02x} {}", self.text()), &due, &self.lookup(number));
+        }
+        self.list.extend(pairs(&[GONE, u16::from(number)]));
+        if look {
+            let left = controller::Found::Refused(if due.number() == 0 { 20 } else { due.number() });
+            let due = if refused { NO_LOOKUP } else { found(&left) };
+            family.same(|| format!("address {number:02x} {}", self.text()), &due, &self.lookup(number));
+            family.same(|| self.text(), &self.latest, &pass(self.occupied, self.last_pick, &self.list));
         }
     }
 
@@ -170,6 +193,9 @@ fn scripts() -> usize {
                 }
                 (Op::Lookups, Due::Found(all, _)) if now.started && random.below(8) == 0 => {
                     now.lookups(&mut family, &all, &mut random);
+                }
+                (Op::Gone(number), Due::Gone(found)) if now.started => {
+                    now.report(&mut family, number, &found, random.below(12) == 0);
                 }
                 _ => {}
             }
@@ -222,13 +248,13 @@ fn good_traces(udid: &commands::Udid) -> Vec<Vec<u16>> {
     traces
 }
 
-/// A last trace of more symbols than any that fits: how it begins decides, whatever follows.
+/// A last trace of more symbols than any that fits: how it begins decides, whatever follows. A list can have 65534.
 fn long_traces() -> usize {
     let mut family = Family::new("passes with long traces");
     let good = good_traces(&shelves::any_udid(&mut Random::new(77)));
     for (place, last) in good.iter().enumerate() {
         for (kept, symbol) in [(last.len(), 0), (last.len(), 65_535), (last.len() - 1, 257), (0, 256), (0, 258)] {
-            for length in [524, 525, 526, 527, 528, 1_000, 65_535] {
+            for length in [524, 525, 526, 527, 528, 1_000, 65_534] {
                 let long = [&last[..kept], &vec![symbol; length - kept]].concat();
                 let mut controller = Controller::new(&Addresses::new(), NEVER);
                 let mut now = Pass::new(&Addresses::new(), NEVER);

@@ -40,6 +40,7 @@ fn op_text(op: &Op) -> String {
         Op::Start => "start".to_string(),
         Op::Step(trace) => format!("step {}", trace_text(trace)),
         Op::Lookups => "lookups and the last pick".to_string(),
+        Op::Gone(number) => format!("gone {number:02x}"),
     }
 }
 
@@ -51,6 +52,7 @@ fn history(entries: &[(Op, Due)], at: usize) -> String {
     let shown = [new].into_iter().chain(start..=at);
     let line = |k: usize| match &entries[k] {
         (op, Due::Command(command)) => format!("  {} -> {command:02x?}\n", op_text(op)),
+        (op, Due::Gone(found)) => format!("  {} -> {}\n", op_text(op), found.number()),
         (op, _) => format!("  {}\n", op_text(op)),
     };
     shown.map(line).collect()
@@ -94,13 +96,18 @@ fn family(program: &str, name: &str, recorder: &Recorder) -> usize {
     }
     let passes = recorder.passes();
     assert!(passes > 0 && answers > 0, "{name}: no cases");
-    println!("{name:<28}{answers:>9} cases{passes:>9} passes");
+    println!("{name:<28}{answers:>9} cases{passes:>9} passes{:>9} reports", recorder.reports());
     passes
 }
 
 fn main() {
     let program = std::env::args().nth(1).expect("passes PROGRAM");
-    let passes: usize = FAMILIES.iter().map(|(name, make)| family(&program, name, &make())).sum();
-    println!("{:<28}{passes:>24} passes", "controller, all");
-    assert!(passes >= 3000, "too few passes");
+    let (mut passes, mut reports) = (0, 0);
+    for (name, make) in FAMILIES {
+        let recorder = make();
+        passes += family(&program, name, &recorder);
+        reports += recorder.reports();
+    }
+    println!("{:<28}{passes:>24} passes{reports:>9} reports", "controller, all");
+    assert!(passes >= 3000 && reports >= 3000, "too few passes, or reports");
 }

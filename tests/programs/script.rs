@@ -4,6 +4,7 @@
 //!   1                                                  starts a pass; a command
 //!   2, count of 16 bits, so many symbols of 16 bits    a step; a command
 //!   3                                                  all lookups; 128 finds, and the last pick, one byte
+//!   4, an address, one byte                            the module there is reported gone; a find
 //! A command is a tag, a UDID, an address; a find is a tag and a UDID. Numbers are low byte first, UDIDs highest first.
 
 use reference::addresses::Addresses;
@@ -28,6 +29,7 @@ pub fn input(op: &Op) -> Vec<u8> {
             [vec![2], words.flat_map(u16::to_le_bytes).collect()].concat()
         }
         Op::Lookups => vec![3],
+        Op::Gone(number) => vec![4, *number],
     }
 }
 
@@ -56,5 +58,6 @@ pub fn output(due: &Due) -> Vec<u8> {
         Due::Nothing => vec![],
         Due::Command(command) => command_bytes(command),
         Due::Found(all, last_pick) => [all.iter().flat_map(found_bytes).collect(), vec![*last_pick]].concat(),
+        Due::Gone(found) => found_bytes(found),
     }
 }

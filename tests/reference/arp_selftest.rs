@@ -1,12 +1,17 @@
-//! The reference controller, bus and model run: picks, the marked cases, the plain rule, bad lists, and what holds in
-//! every pass.
+//! The reference controller, bus and model run: picks, reports, the marked cases, the plain rule, bad lists, and what
+//! holds in every pass.
 
 mod bad_lists;
+mod history;
 mod invariants;
 mod picks;
+mod reached;
+mod reported;
 mod rotation;
 mod shelf_runs;
+mod turn;
 mod worked_passes;
+mod worked_reports;
 
 fn report(name: &str, cases: usize) {
     assert!(cases > 0, "{name}: no cases");
@@ -19,6 +24,7 @@ fn main() {
     report("picks that go round", picks::rotation());
     report("picks that do not", picks::lowest_is_noticed());
     report("passes worked by hand", worked_passes::all());
+    report("reports worked by hand", worked_reports::all());
     report("marked cases of ARP", shelf_runs::marked_cases());
     report("last picks worked by hand", shelf_runs::last_picks_by_hand());
     report("model against plain rule", shelf_runs::random_shelves());

@@ -94,14 +94,19 @@ impl<'a> Line<'a> {
         self.take(BYTE, |word| number_of(word)?.try_into().ok())
     }
 
+    /// A byte, alone on the rest of the line.
+    fn only_byte(&mut self) -> Outcome<u8> {
+        let byte = self.byte()?;
+        self.finish(END)?;
+        Ok(byte)
+    }
+
     /// The last pick of a model run, alone on the rest of the line. Where it is missing nothing was ever picked.
     fn last_pick(&mut self) -> Outcome<u8> {
         if self.words.is_empty() {
             return Ok(NEVER);
         }
-        let last_pick = self.byte()?;
-        self.finish(END)?;
-        Ok(last_pick)
+        self.only_byte()
     }
 
     fn protocol(&mut self) -> Outcome<u8> {
@@ -221,6 +226,11 @@ impl Console {
         self.controller.last
     }
 
+    /// What a lookup would find.
+    pub fn found(&self, address: u8) -> Found {
+        self.controller.lookup(address)
+    }
+
     /// The answer to a line, without its line feed.
     pub fn answer(&mut self, text: &[u8]) -> String {
         if text.len() > LONGEST_LINE {
@@ -240,7 +250,8 @@ impl Console {
             b"run" => line.last_pick().map(|last_pick| self.run(last_pick)),
             b"start" => line.finish(END).map(|()| self.start()),
             b"step" => line.all_symbols().map(|symbols| command_text(&self.controller.step(&symbols))),
-            b"lookup" => self.lookup(line),
+            b"lookup" => line.only_byte().map(|address| self.lookup(address)),
+            b"gone" => line.only_byte().map(|address| self.gone(address)),
             b"grid" => line.finish(END).map(|()| self.grid()),
             _ => Err((column, "a verb")),
         };
@@ -302,19 +313,25 @@ impl Console {
         command_text(&self.controller.start())
     }
 
-    fn lookup(&self, mut line: Line) -> Outcome<String> {
-        let address = line.byte()?;
-        line.finish(END)?;
-        Ok(match self.controller.lookup(address) {
+    fn lookup(&self, address: u8) -> String {
+        match self.controller.lookup(address) {
             Found::Bound(udid) => format!("0 udid {}\n", udid_text(&udid)),
             Found::Refused(number) => format!("{number}\n"),
-        })
+        }
+    }
+
+    fn gone(&mut self, address: u8) -> String {
+        match self.controller.gone(address) {
+            Found::Bound(_) => "0 gone\n".to_string(),
+            Found::Refused(number) => format!("{number}\n"),
+        }
     }
 
     fn cell(&self, address: u8) -> String {
         match self.controller.bindings.get(&address) {
             Some(Binding::Bound(_)) => format!("{address:02x}"),
             Some(Binding::Claimed) => "XX".to_string(),
+            Some(Binding::Left) => "LL".to_string(),
             None if self.controller.starting.contains(&address) => "UU".to_string(),
             None => "--".to_string(),
         }

@@ -14,13 +14,24 @@ pub enum Binding {
     Bound(Udid),
     /// Two claim the address, and nobody has it.
     Claimed,
+    /// Whoever was bound there was reported gone.
+    Left,
 }
 
 #[derive(Clone, Copy, Debug, PartialEq, Eq)]
 pub enum Found {
     Bound(Udid),
-    /// 1 no address, 15 nobody bound, 16 two claim it.
+    /// 1 no address, 15 nobody bound, 16 two claim it, 20 left.
     Refused(u32),
+}
+
+impl Found {
+    pub fn number(&self) -> u32 {
+        match self {
+            Found::Bound(_) => 0,
+            Found::Refused(number) => *number,
+        }
+    }
 }
 
 #[derive(Clone, Debug, PartialEq, Eq)]
@@ -88,8 +99,22 @@ impl Controller {
         match self.bindings.get(&address) {
             None => Found::Refused(15),
             Some(Binding::Claimed) => Found::Refused(16),
+            Some(Binding::Left) => Found::Refused(20),
             Some(Binding::Bound(udid)) => Found::Bound(*udid),
         }
+    }
+
+    /// The module at the address is reported gone; allowed at any time. The answer is what lookup says before it. Where
+    /// somebody is bound the address is left from now on, and free unless a pass starts with it. Else nothing changes.
+    pub fn gone(&mut self, address: u8) -> Found {
+        let found = self.lookup(address);
+        if let Found::Bound(_) = found {
+            self.bindings.insert(address, Binding::Left);
+            if !self.starting.contains(&address) {
+                self.pool.remove(&address);
+            }
+        }
+        found
     }
 
     fn prepared(&mut self, trace: &[u16]) -> Command {

@@ -1,9 +1,9 @@
 //! The scripts for a controller, by name.
 
 use crate::recorder::Recorder;
-use crate::{every, hostile, shelf_passes};
+use crate::{every, hostile, reports, shelf_passes};
 
-pub const FAMILIES: [(&str, fn() -> Recorder); 17] = [
+pub const FAMILIES: [(&str, fn() -> Recorder); 25] = [
     ("every address byte", every::address_bytes),
     ("every nack", every::nacks),
     ("every count", every::counts),
@@ -21,4 +21,12 @@ pub const FAMILIES: [(&str, fn() -> Recorder); 17] = [
     ("starts at any time", hostile::restarts),
     ("shelves", shelf_passes::real_shelves),
     ("shelves, disturbed", shelf_passes::disturbed_shelves),
+    ("every number gone", reports::every_number),
+    ("gone in every order", reports::every_order),
+    ("gone at any time", hostile::gone),
+    ("gone, fixed at one address", hostile::gone_and_claimed),
+    ("gone, few free addresses", hostile::gone_and_none_free),
+    ("gone, mistakes, starts", hostile::gone_and_mistaken),
+    ("gone, 128 get udids", hostile::gone_for_ever),
+    ("shelves, modules pulled", shelf_passes::pulled_modules),
 ];

@@ -1,4 +1,4 @@
-//! Scripts with random answers to a controller: good ones, wrong ones, and starts at any time.
+//! Scripts with random answers to a controller: good ones, wrong ones, and starts and reports at any time.
 
 use crate::addresses::*;
 use crate::commands::*;
@@ -8,8 +8,8 @@ use crate::random::Random;
 use crate::recorder::Recorder;
 use crate::shelves::*;
 
-/// How many answers in a hundred are wrong, how many Get UDIDs end the pass, and how often a pass starts in the middle.
-/// Where none is to end the pass, no wrong answer does.
+/// How many answers in a hundred are wrong, how many Get UDIDs end the pass, how often a pass starts in the middle, and
+/// how often a module is reported gone. Where none is to end the pass, no wrong answer does.
 #[derive(Clone, Copy)]
 struct Temper {
     prepare: usize,
@@ -17,9 +17,10 @@ struct Temper {
     assign: usize,
     over: usize,
     restart: usize,
+    gone: usize,
 }
 
-const CALM: Temper = Temper { prepare: 0, get_udid: 0, assign: 0, over: 12, restart: 0 };
+const CALM: Temper = Temper { prepare: 0, get_udid: 0, assign: 0, over: 12, restart: 0, gone: 0 };
 
 /// Who may reply, and with which address bytes.
 struct Faces {
@@ -39,6 +40,33 @@ fn faces(random: &mut Random, udid_count: usize, address_count: usize) -> Faces 
 
 fn chance(random: &mut Random, percent: usize) -> bool {
     random.below(100) < percent
+}
+
+/// A number to report: an address that is bound, claimed, left or to be assigned, where there is one, or any.
+fn reported(recorder: &Recorder, random: &mut Random) -> u8 {
+    let some = match (random.below(8), recorder.outstanding()) {
+        (0..=2, _) => recorder.answered_with(0),
+        (3, _) => recorder.answered_with(16),
+        (4, _) => recorder.answered_with(20),
+        (5, Command::Assign(_, address)) => vec![address],
+        (6, _) => RESERVED.to_vec(),
+        _ => vec![],
+    };
+    if some.is_empty() {
+        return random.byte();
+    }
+    random.pick(&some)
+}
+
+/// Now and then reports, where a script has any; now and then the same one twice.
+fn reports(recorder: &mut Recorder, random: &mut Random, percent: usize) {
+    while percent > 0 && chance(random, percent) {
+        let number = reported(recorder, random);
+        recorder.gone(number);
+        if chance(random, 10) {
+            recorder.gone(number);
+        }
+    }
 }
 
 /// An end of the pass: NACK to one of the first three bytes, or a reply with another count.
@@ -86,12 +114,14 @@ fn idle(recorder: &mut Recorder, random: &mut Random) {
 /// A pass to its end, or to the next start.
 fn pass(recorder: &mut Recorder, random: &mut Random, temper: Temper, faces: &Faces) {
     recorder.start();
+    reports(recorder, random, temper.gone);
     while recorder.outstanding().is_sent() {
         let trace = answer(random, temper, faces, &recorder.outstanding());
         if temper.over == 0 && recorder.trial(&trace) == Command::Ended {
             continue;
         }
         recorder.step(trace);
+        reports(recorder, random, temper.gone);
         if chance(random, 2) {
             recorder.lookups();
         }
@@ -102,6 +132,7 @@ fn pass(recorder: &mut Recorder, random: &mut Random, temper: Temper, faces: &Fa
     recorder.lookups();
     if chance(random, 20) {
         idle(recorder, random);
+        reports(recorder, random, temper.gone);
         recorder.lookups();
     }
 }
@@ -114,6 +145,7 @@ fn controllers(seed: u64, count: usize, temper: Temper, setting: fn(&mut Random)
         let (occupied, faces) = setting(&mut random);
         recorder.renew(&occupied, any_last_pick(&mut random));
         idle(&mut recorder, &mut random);
+        reports(&mut recorder, &mut random, temper.gone);
         for _ in 0..1 + random.below(4) {
             pass(&mut recorder, &mut random, temper, &faces);
         }
@@ -173,5 +205,26 @@ pub fn again() -> Recorder {
 }
 
 pub fn restarts() -> Recorder {
-    controllers(76, 500, Temper { prepare: 5, get_udid: 10, assign: 10, over: 3, restart: 15 }, few)
+    controllers(76, 500, Temper { prepare: 5, get_udid: 10, assign: 10, over: 3, restart: 15, gone: 0 }, few)
+}
+
+pub fn gone() -> Recorder {
+    controllers(85, 300, Temper { assign: 10, over: 4, gone: 25, ..CALM }, few)
+}
+
+pub fn gone_and_claimed() -> Recorder {
+    controllers(86, 250, Temper { assign: 5, over: 4, gone: 25, ..CALM }, claims)
+}
+
+/// What is taken back is all that can be picked.
+pub fn gone_and_none_free() -> Recorder {
+    controllers(87, 250, Temper { assign: 10, over: 1, gone: 40, ..CALM }, exhausted)
+}
+
+pub fn gone_and_mistaken() -> Recorder {
+    controllers(88, 500, Temper { prepare: 5, get_udid: 20, assign: 20, over: 3, restart: 5, gone: 30 }, few)
+}
+
+pub fn gone_for_ever() -> Recorder {
+    controllers(89, 25, Temper { assign: 10, over: 0, gone: 40, ..CALM }, many)
 }

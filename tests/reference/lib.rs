@@ -20,6 +20,7 @@ pub mod pec;
 pub mod plain_rule;
 pub mod random;
 pub mod recorder;
+pub mod reports;
 pub mod requests;
 pub mod samples;
 pub mod shelf_passes;

@@ -12,6 +12,8 @@ pub enum Op {
     Step(Vec<u16>),
     /// All 128 addresses, and the last pick.
     Lookups,
+    /// The module at this address is reported gone.
+    Gone(u8),
 }
 
 #[derive(Clone, Debug, PartialEq, Eq)]
@@ -19,6 +21,7 @@ pub enum Due {
     Nothing,
     Command(Command),
     Found(Vec<Found>, u8),
+    Gone(Found),
 }
 
 pub struct Recorder {
@@ -39,6 +42,7 @@ pub fn apply(controller: &mut Controller, op: &Op) -> Due {
             let all = (0..ADDRESSES).map(|address| controller.lookup(address)).collect();
             Due::Found(all, controller.last_pick)
         }
+        Op::Gone(address) => Due::Gone(controller.gone(*address)),
     }
 }
 
@@ -78,11 +82,30 @@ impl Recorder {
         self.record(Op::Lookups);
     }
 
+    /// The module at an address is reported gone.
+    pub fn gone(&mut self, address: u8) {
+        self.record(Op::Gone(address));
+    }
+
+    /// What a lookup would answer.
+    pub fn found(&self, address: u8) -> Found {
+        self.controller.lookup(address)
+    }
+
+    /// The addresses whose lookup would be answered with that number.
+    pub fn answered_with(&self, number: u32) -> Vec<u8> {
+        (0..ADDRESSES).filter(|&address| self.found(address).number() == number).collect()
+    }
+
     pub fn outstanding(&self) -> Command {
         self.controller.last
     }
 
     pub fn passes(&self) -> usize {
         self.entries.iter().filter(|(op, _)| matches!(op, Op::Start)).count()
+    }
+
+    pub fn reports(&self) -> usize {
+        self.entries.iter().filter(|(op, _)| matches!(op, Op::Gone(_))).count()
     }
 }

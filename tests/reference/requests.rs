@@ -2,6 +2,7 @@
 
 use crate::commands::*;
 use crate::console::{Console, LONGEST_LINE};
+use crate::controller::Found;
 use crate::good::{all_resolved, reply_trace};
 use crate::mistakes::*;
 use crate::random::Random;
@@ -25,9 +26,9 @@ const NAMES: [&str; 13] = [
     "Quick",
 ];
 
-const VERBS: [&str; 14] = [
-    "pec", "encode", "decode", "occupied", "target", "clear", "run", "start", "step", "lookup", "grid", "pe", "Pec",
-    "help",
+const VERBS: [&str; 17] = [
+    "pec", "encode", "decode", "occupied", "target", "clear", "run", "start", "step", "lookup", "grid", "gone", "pe",
+    "Pec", "help", "Gone", "gon",
 ];
 
 /// A number in one of the ways to write it.
@@ -178,10 +179,20 @@ fn run(random: &mut Random) -> String {
     format!("run{}", numbers(random, &[last_pick]))
 }
 
+/// An address, or a number above: often one that is bound, left or claimed, or 128 more than such a one.
+fn address(random: &mut Random, console: &Console) -> u8 {
+    let known: Vec<u8> = (0..=127).filter(|&address| console.found(address) != Found::Refused(15)).collect();
+    if random.below(2) == 0 && !known.is_empty() {
+        let above = if random.below(8) == 0 { 128 } else { 0 };
+        return random.pick(&known) + above;
+    }
+    random.pick(&[9, 10, 11, 12, 13, 0x20, 0x7f, 0x80, 0xff])
+}
+
 /// A request that can be read.
 pub fn good(random: &mut Random, console: &Console) -> String {
     let count = random.pick(&[0, 1, 9, 300]);
-    match random.below(20) {
+    match random.below(22) {
         0 => {
             let bytes = random.bytes(count);
             format!("pec{}", numbers(random, &bytes))
@@ -195,10 +206,14 @@ pub fn good(random: &mut Random, console: &Console) -> String {
         13 if random.below(5) == 0 => "start".to_string(),
         13 if !console.last().is_sent() => "start".to_string(),
         14 => {
-            let address = random.pick(&[9, 10, 11, 12, 13, 0x20, 0x7f, 0x80, 0xff]);
-            format!("lookup{}", numbers(random, &[address as u8]))
+            let address = address(random, console);
+            format!("lookup{}", numbers(random, &[address]))
         }
         15 => "grid".to_string(),
+        16 | 17 => {
+            let address = address(random, console);
+            format!("gone{}", numbers(random, &[address]))
+        }
         _ => step(random, console.last()),
     }
 }

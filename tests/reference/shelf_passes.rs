@@ -1,8 +1,9 @@
-//! Scripts with the answers of a shelf, as they are and disturbed on the way.
+//! Scripts with the answers of a shelf: as they are, disturbed on the way, and with modules pulled while a pass runs.
 
 use crate::addresses::*;
-use crate::bus::Bus;
+use crate::bus::{Bus, Target};
 use crate::commands::*;
+use crate::controller::Found;
 use crate::mistakes::damaged;
 use crate::random::Random;
 use crate::recorder::Recorder;
@@ -53,4 +54,86 @@ pub fn real_shelves() -> Recorder {
 
 pub fn disturbed_shelves() -> Recorder {
     shelves(78, 300, 10)
+}
+
+/// A shelf whose modules are pulled and put back.
+struct Slots {
+    bus: Bus,
+    pulled: Vec<Target>,
+    /// Where they were bound, as long as that is not reported.
+    vacant: Vec<u8>,
+}
+
+impl Slots {
+    fn pull(&mut self, recorder: &Recorder, random: &mut Random) {
+        if self.bus.targets.is_empty() {
+            return;
+        }
+        let place = random.below(self.bus.targets.len());
+        let target = self.bus.targets.remove(place);
+        let own = target.address_byte / 2;
+        if recorder.found(own) == Found::Bound(target.udid) {
+            self.vacant.push(own);
+        }
+        self.pulled.push(target);
+    }
+
+    /// One of the pulled is put back. It has its address still, or none if it is movable and lost it.
+    fn put_back(&mut self, random: &mut Random) {
+        let Some(mut target) = self.pulled.pop() else {
+            return;
+        };
+        target.resolved = false;
+        if !is_fixed(&target.udid) && random.below(2) == 0 {
+            target.address_byte = NO_ADDRESS;
+        }
+        self.bus.targets.push(target);
+    }
+
+    fn report(&mut self, recorder: &mut Recorder) {
+        if let Some(address) = self.vacant.pop() {
+            recorder.gone(address);
+        }
+    }
+
+    /// Something happens to the shelf, or nothing.
+    fn change(&mut self, recorder: &mut Recorder, random: &mut Random) {
+        match random.below(12) {
+            0..=2 => self.pull(recorder, random),
+            3 | 4 => self.put_back(random),
+            5..=8 => self.report(recorder),
+            _ => {}
+        }
+    }
+}
+
+/// Passes over a shelf that changes while they run. What is not reported in time is reported at the end.
+fn changing_shelf(recorder: &mut Recorder, random: &mut Random) {
+    let occupied = occupied(random);
+    recorder.renew(&occupied, any_last_pick(random));
+    let count = 1 + random.below(24);
+    let bus = Bus { targets: targets(random, count, &occupied) };
+    let mut slots = Slots { bus, pulled: vec![], vacant: vec![] };
+    for _ in 0..1 + random.below(4) {
+        recorder.start();
+        while recorder.outstanding().is_sent() {
+            let shown = slots.bus.answer(&recorder.outstanding());
+            recorder.step(shown);
+            slots.change(recorder, random);
+        }
+        recorder.lookups();
+        for _ in 0..slots.vacant.len() {
+            slots.report(recorder);
+        }
+        recorder.lookups();
+    }
+}
+
+pub fn pulled_modules() -> Recorder {
+    let mut random = Random::new(90);
+    let mut recorder = Recorder::new(&Addresses::new(), NEVER);
+    for _ in 0..300 {
+        changing_shelf(&mut recorder, &mut random);
+    }
+    recorder
 }

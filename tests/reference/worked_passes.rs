@@ -10,52 +10,52 @@ use reference::mistakes::{nacked_at, trace_of};
 use reference::table::{BLOCK_READ, BLOCK_WRITE, SEND_BYTE};
 
 /// Fixed, fixed, and two that are movable.
-const F: Udid = [0x01; 16];
-const G: Udid = [0x02; 16];
-const M: Udid = [0x41; 16];
-const N: Udid = [0x82; 16];
+pub const F: Udid = [0x01; 16];
+pub const G: Udid = [0x02; 16];
+pub const M: Udid = [0x41; 16];
+pub const N: Udid = [0x82; 16];
 
-struct Pass(Controller);
+pub struct Pass(pub Controller);
 
 impl Pass {
     /// Of a controller that has never picked.
-    fn begin(occupied: &[u8]) -> Pass {
+    pub fn begin(occupied: &[u8]) -> Pass {
         Pass::begin_after(occupied, NEVER)
     }
 
-    fn begin_after(occupied: &[u8], last_pick: u8) -> Pass {
+    pub fn begin_after(occupied: &[u8], last_pick: u8) -> Pass {
         let mut pass = Pass(Controller::new(&occupied.iter().copied().collect(), last_pick));
         pass.again();
         pass
     }
 
-    fn again(&mut self) {
+    pub fn again(&mut self) {
         assert_eq!(self.0.start(), Prepare);
         assert_eq!(self.0.step(&trace_of(&prepare())), GetUdid);
     }
 
     /// A reply, and the address due for it.
-    fn offered(&mut self, udid: Udid, address_byte: u8, address: u8) {
+    pub fn offered(&mut self, udid: Udid, address_byte: u8, address: u8) {
         assert_eq!(self.0.step(&reply_trace(&udid, address_byte)), Assign(udid, address));
     }
 
     /// The same, and the target takes it.
-    fn taken(&mut self, udid: Udid, address_byte: u8, address: u8) {
+    pub fn taken(&mut self, udid: Udid, address_byte: u8, address: u8) {
         self.offered(udid, address_byte, address);
         assert_eq!(self.0.step(&trace_of(&assign(&udid, address))), GetUdid);
     }
 
     /// The same, and the target does not acknowledge the last byte of the Assign.
-    fn refused(&mut self, udid: Udid, address_byte: u8, address: u8) {
+    pub fn refused(&mut self, udid: Udid, address_byte: u8, address: u8) {
         self.offered(udid, address_byte, address);
         assert_eq!(self.0.step(&nacked_at(&trace_of(&assign(&udid, address)), 20)), GetUdid);
     }
 
-    fn last_pick(&self, due: u8) {
+    pub fn last_pick(&self, due: u8) {
         assert_eq!(self.0.last_pick, due);
     }
 
-    fn bound(&self, due: &[(u8, Udid)]) {
+    pub fn bound(&self, due: &[(u8, Udid)]) {
         let all = (0..ADDRESSES).filter_map(|address| match self.0.lookup(address) {
             Found::Bound(udid) => Some((address, udid)),
             Found::Refused(_) => None,
@@ -63,9 +63,16 @@ impl Pass {
         assert_eq!(all.collect::<Vec<_>>(), due);
     }
 
-    fn claimed(&self, due: &[u8]) {
-        let all = (0..ADDRESSES).filter(|&address| self.0.lookup(address) == Found::Refused(16));
-        assert_eq!(all.collect::<Vec<_>>(), due);
+    pub fn claimed(&self, due: &[u8]) {
+        assert_eq!(self.answered_with(16), due);
+    }
+
+    pub fn left(&self, due: &[u8]) {
+        assert_eq!(self.answered_with(20), due);
+    }
+
+    fn answered_with(&self, number: u32) -> Vec<u8> {
+        (0..ADDRESSES).filter(|&address| self.0.lookup(address).number() == number).collect()
     }
 }
 

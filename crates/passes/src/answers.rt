@@ -63,6 +63,9 @@ fn put_find(out: &mut [u8], at: usize, f: Found)
         Found::Two => {
             out[at] = 16;
         }
+        Found::Left => {
+            out[at] = 20;
+        }
         Found::NoAddress => {
             out[at] = 1;
         }
@@ -79,6 +82,13 @@ fn put_finds(out: &mut [u8], c: Controller)
         a += 1;
         at += 17;
     }
+}
+
+// What a report was answered.
+pub(crate) fn write_find(f: Found) {
+    let mut out = [0u8; 17];
+    put_find(&mut out, 0, f);
+    io::write_all(OUTPUT, &out);
 }
 
 // All addresses looked up, and the last pick.

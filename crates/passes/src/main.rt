@@ -5,12 +5,14 @@
 //   1                          a pass starts; the command is written
 //   2, a count, and symbols    a step; the command is written. Count and symbols are byte pairs, low byte first; at most 1,000
 //   3                          all addresses are looked up; 128 finds are written, and a byte with the last pick
+//   4, and an address          the module at the address is reported gone; a find is written, and with 0 it has who was unbound
 //
 // The first byte that is none of these, or the end of the input, ends the run. Standard input is read and standard output is written.
 mod answers;
 mod script;
 
 use answers::write_command;
+use answers::write_find;
 use answers::write_finds;
 use arp::start::NEVER_PICKED;
 use arp::state::Controller;
@@ -21,6 +23,7 @@ use pool::Pool;
 use script::read_byte;
 use script::read_pool;
 use script::read_trace;
+use wire::address::Address;
 
 // A new controller, which has handed out nothing.
 fn new_controller(occupied: Pool, last: u8) -> Stepped {
@@ -55,6 +58,21 @@ fn go_on(c: Controller, operation: u8) -> Stepped {
     next
 }
 
+// A report; its answer is written. What was handed out last stays so.
+fn report(st: Stepped) -> Stepped {
+    let a = Address(read_byte());
+    let state = st.state;
+    let told = state.report_gone(a);
+    let found = told.found;
+    write_find(found);
+    let next = told.state;
+    let command = st.command;
+    Stepped {
+        state: next,
+        command: command,
+    }
+}
+
 // A proved loop has to end, and nothing says that an input does: the turns are counted down from a number that no run uses up.
 fn main() {
     let mut st = new_controller(Pool { low: 0, high: 0 }, NEVER_PICKED);
@@ -69,6 +87,9 @@ fn main() {
                 st = go_on(st.state, operation);
             }
             3 => write_finds(st.state),
+            4 => {
+                st = report(st);
+            }
             _ => return,
         }
         turns -= 1;

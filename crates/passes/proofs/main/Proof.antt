@@ -23,6 +23,9 @@ read-controller-requires c κs = search needs
 write-finds-requires : tie.Need-write-finds-requires Inv-loop μ-loop
 write-finds-requires c κs = search needs
 
+report-requires : tie.Need-report-requires Inv-loop μ-loop
+report-requires c κs = search needs
+
 go-on-requires : tie.Need-go-on-requires Inv-loop μ-loop
 go-on-requires c κs = search needs
 
@@ -52,6 +55,7 @@ main-spec =
     read-byte-requires
     read-controller-requires
     write-finds-requires
+    report-requires
     go-on-requires
     returns
     sub-turns
