@@ -48,3 +48,11 @@ or-last false = refl
 pub or-none : (b : Bool) → or b false ≡ b
 or-none true = refl
 or-none false = refl
+
+pub and-last : (b : Bool) → and b true ≡ b
+and-last true = refl
+and-last false = refl
+
+pub and-none : (b : Bool) → and b false ≡ false
+and-none true = refl
+and-none false = refl

@@ -209,3 +209,30 @@ module _ (p : Pool) (f : Fits p) (r : Pool) (g : Fits r) where
 
   pub union-only : (q : Pool) → Fits q → (r ≡ unionOf p q) ↔ ((b : ℕ) → b < 128 → member r b ≡ or (member p b) (member q b))
   union-only q h = settled-by-members r (unionOf p q) (λ b. or (member p b) (member q b)) g (fits-union p q f h) (λ b l. member-union p q b)
+
+-- ---- one set within another
+
+-- what a larger set does not have, a smaller does not have
+pub outside : (p q : Pool) (a : ℕ) → (member p a ≡ true → member q a ≡ true) → member q a ≡ false → member p a ≡ false
+outside p q a w e = go (member p a) refl
+  where
+    go : (b : Bool) → member p a ≡ b → member p a ≡ false
+    go false k = k
+    go true k = not-both e (w k)
+
+-- a set with one address more has those that it had
+pub with-keeps : (p : Pool) (a b : ℕ) → member p b ≡ true → member (withAddress p a) b ≡ true
+with-keeps p a b e = go (ℕ-discrete b a) (decLt b 128)
+  where
+    go : Dec (b ≡ a) → Dec (b < 128) → member (withAddress p a) b ≡ true
+    go (no q) d = has-with-other p a b q ∙ e
+    go (yes q) (yes l) = ap (member (withAddress p a)) q ∙ has-with-same p a (omega arith)
+    go (yes q) (no l) = not-both (member-above p b (omega arith)) e
+
+-- where a set has what another has, so it is with one address more in both
+pub within-with : (p q : Pool) (a b : ℕ) → a < 128 → (member p b ≡ true → member q b ≡ true) → member (withAddress p a) b ≡ true → member (withAddress q a) b ≡ true
+within-with p q a b l w e = go (ℕ-discrete b a)
+  where
+    go : Dec (b ≡ a) → member (withAddress q a) b ≡ true
+    go (yes d) = ap (member (withAddress q a)) d ∙ has-with-same q a l
+    go (no d) = has-with-other q a b d ∙ w (sym (has-with-other p a b d) ∙ e)

@@ -1,22 +1,21 @@
--- The starting pool has the reserved addresses and the occupied ones, and no others.
-use Prim.Native.Nat.{ℕ, zero, suc, _+_, _<_, _≤_}
+-- The starting pool has the listed addresses and the occupied ones, the barred ones are the reserved and the occupied ones, and neither has others.
+use Prim.Native.Nat.{ℕ, suc, _<_, _≤_}
 use mathlib.Core.Path.{_≡_, refl, sym, ap, _∙_}
 use mathlib.Core.Bool.{Bool, true, false}
-use mathlib.Core.Logic.{_↔_}
-use native.Mathlib.Decide.{decLt, ℕ-discrete}
+use native.Mathlib.Decide.{decLt}
 use native.Mathlib.Omega.{arith}
 use lib.Dec.{leb}
-use Rattle.lists.specs.Choice.{pick, or, and, same}
-use Rattle.lists.specs.ChoiceLaws.{both-true, same-true}
-use Rattle.wire.specs.Addresses.{isReserved}
-use Rattle.wire.specs.AddressLaws.{reserved-above}
+use Rattle.lists.specs.All.{allBelow}
+use Rattle.lists.specs.AllLaws.{at-below}
+use Rattle.lists.specs.Choice.{pick, or, same}
+use Rattle.lists.specs.ChoiceLaws.{same-true, or-last}
+use Rattle.wire.specs.Addresses.{isReserved, isPreassigned, isListed}
+use Rattle.wire.specs.AddressLaws.{reserved-above, listed-above, reserved-is-listed}
 use Rattle.pool.specs.Digits.{digit}
 use Rattle.pool.specs.DigitLaws.{digit-of-zero}
-use Rattle.pool.specs.Counts.{count}
-use Rattle.pool.specs.Free.{used}
-use Rattle.pool.specs.MemberLaws.{member-above, member-union, fits-union, same-members}
-use Rattle.pool.specs.Pools.{Fits, member}
-use Rattle.pool.specs.Start.{emptyPool, reservedPool, startingPool}
+use Rattle.pool.specs.MemberLaws.{member-above, member-union}
+use Rattle.pool.specs.Pools.{member}
+use Rattle.pool.specs.Start.{emptyPool, reservedPool, listedPool, startingPool, barredPool}
 use Rattle.pool.specs.declared.Pool.{Pool}
 
 -- ---- none
@@ -30,55 +29,44 @@ member-empty a = simp digit-of-zero (go (leb (suc a) 64) (leb (suc a) 128))
     go false true = refl
     go false false = refl
 
--- ---- the 21
+-- ---- the 21, and the 35
 
--- the n numbers from a on pass a test
-unfoldable each : (ℕ → Bool) → ℕ → ℕ → Bool
-each test a zero = true
-each test a (suc n) = and (test a) (each test (suc a) n)
-
-each-at : (test : ℕ → Bool) (a n b : ℕ) → each test a n ≡ true → a ≤ b → b < a + n → test b ≡ true
-unfolding each
-each-at test a zero b e l h = absurd (omega arith)
-each-at test a (suc n) b e l h = let f = both-true (test a) (each test (suc a) n) e in go (f .0) (ℕ-discrete a b) (λ m. each-at test (suc a) n b (f .1) m (omega arith))
+-- a pool has just the addresses that pass a test, where no number above 127 passes it
+members-pass : (p : Pool) (test : ℕ → Bool) → allBelow (λ a. same (member p a) (test a)) 128 ≡ true → ((a : ℕ) → 128 ≤ a → test a ≡ false) → (a : ℕ) → member p a ≡ test a
+members-pass p test all above a = go (decLt a 128)
   where
-    go : test a ≡ true → Dec (a ≡ b) → (suc a ≤ b → test b ≡ true) → test b ≡ true
-    go p (yes d) ih = ap test (sym d) ∙ p
-    go p (no d) ih = ih (omega arith)
+    go : Dec (a < 128) → member p a ≡ test a
+    go (yes h) = same-true _ _ (at-below (λ a. same (member p a) (test a)) 128 all a h)
+    go (no h) = member-above p a (omega arith) ∙ sym (above a (omega arith))
 
-all-reserved : each (λ a. same (member reservedPool a) (isReserved a)) 0 128 ≡ true
-unfolding each member digit reservedPool isReserved
+all-reserved : allBelow (λ a. same (member reservedPool a) (isReserved a)) 128 ≡ true
+unfolding member digit reservedPool isReserved
 all-reserved = refl
 
 pub member-reserved : (a : ℕ) → member reservedPool a ≡ isReserved a
-member-reserved a = go (decLt a 128)
+member-reserved = members-pass reservedPool isReserved all-reserved reserved-above
+
+all-listed : allBelow (λ a. same (member listedPool a) (isListed a)) 128 ≡ true
+unfolding member digit listedPool isReserved isPreassigned isListed
+all-listed = refl
+
+pub member-listed : (a : ℕ) → member listedPool a ≡ isListed a
+member-listed = members-pass listedPool isListed all-listed listed-above
+
+-- ---- each with the occupied ones
+
+pub member-starting : (occupied : Pool) (a : ℕ) → member (startingPool occupied) a ≡ or (isListed a) (member occupied a)
+unfolding startingPool
+member-starting occupied a = member-union listedPool occupied a ∙ ap (λ (x : Bool). or x (member occupied a)) (member-listed a)
+
+pub member-barred : (occupied : Pool) (a : ℕ) → member (barredPool occupied) a ≡ or (isReserved a) (member occupied a)
+unfolding barredPool
+member-barred occupied a = member-union reservedPool occupied a ∙ ap (λ (x : Bool). or x (member occupied a)) (member-reserved a)
+
+-- a barred address is in the starting pool
+pub barred-starting : (occupied : Pool) (a : ℕ) → member (barredPool occupied) a ≡ true → member (startingPool occupied) a ≡ true
+barred-starting occupied a e = member-starting occupied a ∙ go (isReserved a) refl (sym (member-barred occupied a) ∙ e)
   where
-    go : Dec (a < 128) → member reservedPool a ≡ isReserved a
-    go (yes h) = same-true _ _ (each-at (λ a. same (member reservedPool a) (isReserved a)) 0 128 a all-reserved (omega arith) h)
-    go (no h) = member-above reservedPool a (omega arith) ∙ sym (reserved-above a (omega arith))
-
-pub reserved-used : used reservedPool ≡ 21
-unfolding used count member digit reservedPool
-reserved-used = refl
-
-pub fits-reserved : Fits reservedPool
-unfolding reservedPool
-fits-reserved = record { low = omega arith; high = omega arith }
-
--- ---- the reserved and the occupied ones together
-
-pub member-starting : (occupied : Pool) (a : ℕ) → member (startingPool occupied) a ≡ or (isReserved a) (member occupied a)
-unfolding startingPool
-member-starting occupied a = member-union reservedPool occupied a ∙ ap (λ (x : Bool). or x (member occupied a)) (member-reserved a)
-
-pub fits-starting : (occupied : Pool) → Fits occupied → Fits (startingPool occupied)
-unfolding startingPool
-fits-starting occupied f = fits-union reservedPool occupied fits-reserved f
-
--- a pool is the starting pool if and only if it has just these members
-pub starting-only : (occupied r : Pool) → Fits occupied → Fits r
-    → (r ≡ startingPool occupied) ↔ ((a : ℕ) → a < 128 → member r a ≡ or (isReserved a) (member occupied a))
-starting-only occupied r f g = (
-  λ e a l. ap (λ (x : Pool). member x a) e ∙ member-starting occupied a,
-  λ k. same-members r (startingPool occupied) g (fits-starting occupied f) (λ a l. k a l ∙ sym (member-starting occupied a)),
-)
+    go : (b : Bool) → isReserved a ≡ b → or b (member occupied a) ≡ true → or (isListed a) (member occupied a) ≡ true
+    go true k h = rw (reserved-is-listed a k)
+    go false k h = rw h (or-last (isListed a))

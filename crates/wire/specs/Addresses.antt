@@ -1,4 +1,5 @@
--- Addresses: the named ones, the 21 that are never given out, and those that can be.
+-- Addresses: the named ones, those on which no target may stand, those that are listed, and those that can be picked. AddressTableLaws holds
+-- the list against Table 17.
 use mathlib.Core.Bool.{Bool}
 use mathlib.Core.List.{List}
 use Prim.Native.Nat.{ℕ}
@@ -15,13 +16,31 @@ hostAddress = 0x08
 abbrev pub alertAddress : ℕ
 alertAddress = 0x0C
 
--- 00h to 08h, 0Ch, 28h, 37h, 61h, 78h to 7Fh
+-- one of the numbers from low to high
+abbrev pub isFromTo : ℕ → ℕ → ℕ → Bool
+isFromTo a low high = and (leb low a) (leb a high)
+
+-- reserved, where no target may stand: 00h to 08h, 0Ch, 28h, 37h, 61h, 78h to 7Fh
 unfoldable pub isReserved : ℕ → Bool
 isReserved a = or (leb a 0x08) (or (eqb a 0x0C) (or (eqb a 0x28) (or (eqb a 0x37) (or (eqb a 0x61) (and (leb 0x78 a) (leb a 0x7F))))))
 
--- the lists of the reserved ones, and of the others
+-- pre-assigned, where a fixed target may stand: 09h to 0Bh, 2Ch, 2Dh, 40h to 44h, 48h to 4Bh
+unfoldable pub isPreassigned : ℕ → Bool
+isPreassigned a = or (isFromTo a 0x09 0x0B) (or (isFromTo a 0x2C 0x2D) (or (isFromTo a 0x40 0x44) (isFromTo a 0x48 0x4B)))
+
+-- listed: never picked, and never kept by a movable target
+unfoldable pub isListed : ℕ → Bool
+isListed a = or (isReserved a) (isPreassigned a)
+
+-- the lists of these, and of the others
 abbrev pub reserved : List ℕ
 reserved = passing isReserved 0 128
 
+abbrev pub preassigned : List ℕ
+preassigned = passing isPreassigned 0 128
+
+abbrev pub listed : List ℕ
+listed = passing isListed 0 128
+
 abbrev pub assignable : List ℕ
-assignable = passing (λ (a : ℕ). not (isReserved a)) 0 128
+assignable = passing (λ (a : ℕ). not (isListed a)) 0 128

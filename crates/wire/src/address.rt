@@ -2,13 +2,23 @@
 ghost use mathlib.Core.Path.{_≡_};
 ghost use Prim.Native.Nat.{_+_, _*_, _/_, _%_};
 ghost use lib.Dec.{ltb, eqb};
-ghost use Rattle.wire.specs.Addresses.{isReserved};
+ghost use Rattle.wire.specs.Addresses.{isFromTo, isReserved, isPreassigned, isListed};
 
 // An address. A number above 127 is no address: whoever is to send to one, or to look one up, refuses it.
 pub struct Address(pub u8);
 
 // The byte on the wire: twice the address, plus 1 for a read.
 pub struct WireByte(pub u8);
+
+// The number is one of those from low to high.
+fn is_from_to(a: u8, low: u8, high: u8) -> bool
+    ensures { λ r. ⌜ r ≡ isFromTo a low high ⌝ }
+{
+    if a < low {
+        return false;
+    }
+    a <= high
+}
 
 impl Address {
     pub const DEFAULT: Address = Address(0x61);
@@ -85,7 +95,7 @@ impl Address {
         self.0 == named.0
     }
 
-    // One of the 21 that are never given out: 00h to 08h, 0Ch, 28h, 37h, 61h, 78h to 7Fh.
+    // One of the 21 on which no target may stand, not even a fixed one: 00h to 08h, 0Ch, 28h, 37h, 61h, 78h to 7Fh.
     pub fn is_reserved(self) -> bool
         ensures { λ r. ⌜ r ≡ isReserved (self .0) ⌝ }
     {
@@ -109,6 +119,33 @@ impl Address {
             return false;
         }
         a <= 0x7F
+    }
+
+    // One of the other 14 of Table 17: 09h to 0Bh, 2Ch, 2Dh, 40h to 44h, 48h to 4Bh. A fixed target may stand there.
+    pub fn is_preassigned(self) -> bool
+        ensures { λ r. ⌜ r ≡ isPreassigned (self .0) ⌝ }
+    {
+        let a = self.0;
+        if is_from_to(a, 0x09, 0x0B) {
+            return true;
+        }
+        if is_from_to(a, 0x2C, 0x2D) {
+            return true;
+        }
+        if is_from_to(a, 0x40, 0x44) {
+            return true;
+        }
+        is_from_to(a, 0x48, 0x4B)
+    }
+
+    // On a row of Table 17, one of 35: never picked, and never kept by a movable target.
+    pub fn is_listed(self) -> bool
+        ensures { λ r. ⌜ r ≡ isListed (self .0) ⌝ }
+    {
+        if self.is_reserved() {
+            return true;
+        }
+        self.is_preassigned()
     }
 }
 
