@@ -12,7 +12,7 @@ use lib.Seq.{getD-at}
 use borrow.Author.Tests.{eq-eqb, ne-eqb, lt-ltb, ltb-true}
 use Rattle.lists.specs.AbsurdLaws.{zero-is-one}
 use Rattle.lists.specs.Choice.{pick, and, not, or}
-use Rattle.lists.specs.ChoiceLaws.{both-true}
+use Rattle.lists.specs.ChoiceLaws.{both-true, or-last, or-none, and-last, and-none}
 use Rattle.wire.specs.declared.address.Address.{Address}
 use Rattle.pool.specs.CountLaws.{count-cong, count-more, count-split}
 use Rattle.pool.specs.Counts.{one, count}
@@ -30,20 +30,20 @@ use Rattle.slots.specs.declared.Binding.{Binding}
 use Rattle.slots.specs.declared.Binding.the-variants.{Open, Bound, Claimed, Left}
 use Rattle.commands.specs.CommandTraces.{replyTrace, assignTrace, ReplyOf}
 use Rattle.commands.specs.SameTrace.{same}
-use Rattle.commands.specs.SameTraceLaws.{same-self, same-true, same-false}
+use Rattle.commands.specs.SameTraceLaws.{same-self, same-true}
 use Rattle.commands.specs.declared.command.Command.the-variants.{Prepare, GetUdid, Assign}
 use Rattle.commands.specs.declared.command.Handed.{Handed}
 use Rattle.commands.specs.declared.command.Handed.the-variants.{Send, Wait}
 use Rattle.hearing.specs.Heard.{answer, sentIn, receivedIn}
 use Rattle.arp.specs.Account.{knownIn, bindIn, repliesFrom, unbindIn, removeIn, binds, unbindings, removals}
-use Rattle.arp.specs.Gone.{leftAt, reported}
+use Rattle.arp.specs.Gone.{reported}
 use Rattle.arp.specs.GoneLaws.{which-bound, bound-small, nothing-reported, removed}
 use Rattle.arp.specs.HandedOutLaws.{table-is-story}
-use Rattle.arp.specs.History.{Event, Start, Received, Gone, run, isHeld}
+use Rattle.arp.specs.History.{Event, Start, Received, Gone, run}
 use Rattle.arp.specs.HistoryLaws.{reached-good, reached-invariant}
 use Rattle.arp.specs.OutstandingLaws.{handed-out-is-last}
 use Rattle.arp.specs.PickedLaws.{byte-at-42}
-use Rattle.arp.specs.ReadingLaws.{replied-exactly, assigned-exactly, read-assign-is-outstanding, reply-cases, assign-cases}
+use Rattle.arp.specs.ReadingLaws.{replied-exactly, reply-cases, assign-cases}
 use Rattle.arp.specs.Replay.{Happened, Replied, Assigned, Other, Table, holds, isBound, after, readAs, handedOut, happened, view}
 use Rattle.arp.specs.SinceStartLaws.{completes-is-read}
 use Rattle.arp.specs.Sound.{PendingIn}
@@ -75,15 +75,16 @@ module _ (occupied : Pool) (last : ℕ) (es : List Event) where
   before = run occupied last es
 
   -- an address is in use after an event
-  used-after : (e : Event) (a : ℕ) → member (run occupied last (e ∷ es) .pool) a ≡ after (member (startingPool occupied)) (happened occupied last es e) (view before) .used a
+  used-after : (e : Event) (a : ℕ) → member (run occupied last (e ∷ es) .pool) a ≡ after occupied (happened occupied last es e) (view before) .used a
   used-after e a = ap (λ (t : Table). t .used a) (event-view occupied last es e)
 
-  -- what is bound is in use, and outside the starting pool
+  -- what is bound is in use
   bound-used : (a : ℕ) (u : Udid) → heldAt (before .slots) a ≡ Bound u → member (before .pool) a ≡ true
   bound-used a u e = reached-invariant occupied last es .bound-used a u e
 
-  bound-outside : (a : ℕ) (u : Udid) → heldAt (before .slots) a ≡ Bound u → member (startingPool occupied) a ≡ false
-  bound-outside a u e = ap (λ (p : Pool). member p a) (sym (reached-good occupied last es .0 .starting)) ∙ reached-good occupied last es .0 .sound .new a u e
+  -- an address of the starting pool
+  abbrev starts : ℕ → Bool
+  starts = member (startingPool occupied)
 
   module _ (tr : List ℕ) where
     abbrev later : Pool
@@ -92,7 +93,7 @@ module _ (occupied : Pool) (last : ℕ) (es : List Event) where
     -- what a trace that is read as nothing leaves
     same-used : readAs (handedOut occupied last es) tr ≡ Other → used later ≡ used (before .pool)
     unfolding used
-    same-used e = count-cong (member later) (member (before .pool)) 128 (λ a h. used-after (Received tr) a ∙ ap (λ (x : Happened). after (member (startingPool occupied)) x (view before) .used a) e)
+    same-used e = count-cong (member later) (member (before .pool)) 128 (λ a h. used-after (Received tr) a ∙ ap (λ (x : Happened). after occupied x (view before) .used a) e)
 
     -- ---- Get UDID is outstanding
 
@@ -102,8 +103,8 @@ module _ (occupied : Pool) (last : ℕ) (es : List Event) where
 
       -- whose binding is released
       released-then : (x : Happened) → (x ≡ Other) ⊎ ((w : Udid) × (x ≡ Replied w)) → readAs (Send GetUdid) tr ≡ x → (a : ℕ) (h : Binding) → heldAt (before .slots) a ≡ h
-          → after (member (startingPool occupied)) x (view before) .used a ≡ pick (repliesFrom tr h) false (member (before .pool) a)
-      released-then x (inl q) r a h e = ap (λ (y : Happened). after (member (startingPool occupied)) y (view before) .used a) q ∙ ap (λ (t : Bool). pick t false (member (before .pool) a)) (sym (none h e))
+          → after occupied x (view before) .used a ≡ pick (repliesFrom tr h) (and (starts a) (member (before .pool) a)) (member (before .pool) a)
+      released-then x (inl q) r a h e = ap (λ (y : Happened). after occupied y (view before) .used a) q ∙ ap (λ (t : Bool). pick t (and (starts a) (member (before .pool) a)) (member (before .pool) a)) (sym (none h e))
         where
           other : (u : Udid) → heldAt (before .slots) a ≡ Bound u → (t : Bool) → repliesFrom tr (Bound u) ≡ t → repliesFrom tr (Bound u) ≡ false
           other u e true z = let m : Other ≡ Replied u = sym q ∙ sym r ∙ replies-is-read tr u (reached-good occupied last es .0 .sound .fits a u e) .0 z in zero-is-one (cc m)
@@ -115,8 +116,8 @@ module _ (occupied : Pool) (last : ℕ) (es : List Event) where
           none Claimed e = refl
           none Left e = refl
       released-then x (inr (w, q)) r a h e =
-          ap (λ (y : Happened). after (member (startingPool occupied)) y (view before) .used a) q
-          ∙ ap (λ (t : Bool). pick t false (member (before .pool) a)) (ap (holds w) e ∙ alike h e)
+          ap (λ (y : Happened). after occupied y (view before) .used a) q
+          ∙ ap (λ (t : Bool). pick t (and (starts a) (member (before .pool) a)) (member (before .pool) a)) (ap (holds w) e ∙ alike h e)
         where
           test : (u : Udid) → heldAt (before .slots) a ≡ Bound u → (s t : Bool) → sameUdid u w ≡ s → repliesFrom tr (Bound u) ≡ t → s ≡ t
           test u e true true y z = refl
@@ -136,51 +137,44 @@ module _ (occupied : Pool) (last : ℕ) (es : List Event) where
           alike Claimed e = refl
           alike Left e = refl
 
-      used-then : (a : ℕ) → member later a ≡ pick (rep a) false (member (before .pool) a)
+      used-then : (a : ℕ) → member later a ≡ pick (rep a) (and (starts a) (member (before .pool) a)) (member (before .pool) a)
       used-then a =
           used-after (Received tr) a
-          ∙ ap (λ (y : Handed). after (member (startingPool occupied)) (readAs y tr) (view before) .used a) k
+          ∙ ap (λ (y : Handed). after occupied (readAs y tr) (view before) .used a) k
           ∙ released-then (readAs (Send GetUdid) tr) (cases (reply-cases (answer 9 tr) (receivedIn 9 tr))) refl a (heldAt (before .slots) a) refl
         where
           cases : (readAs (Send GetUdid) tr ≡ Other) ⊎ (readAs (Send GetUdid) tr ≡ Replied (udidAt (receivedIn 9 tr) 0)) → (readAs (Send GetUdid) tr ≡ Other) ⊎ ((w : Udid) × (readAs (Send GetUdid) tr ≡ Replied w))
           cases (inl q) = inl q
           cases (inr q) = inr (udidAt (receivedIn 9 tr) 0, q)
 
-      -- whoever replies is bound: in use, and outside the starting pool
-      replier : (a : ℕ) → rep a ≡ true → (member (before .pool) a ≡ true) × (member (startingPool occupied) a ≡ false)
+      -- whoever replies is bound, and so in use
+      replier : (a : ℕ) → rep a ≡ true → member (before .pool) a ≡ true
       replier a e = go (heldAt (before .slots) a) refl e
         where
-          go : (h : Binding) → heldAt (before .slots) a ≡ h → repliesFrom tr h ≡ true → (member (before .pool) a ≡ true) × (member (startingPool occupied) a ≡ false)
+          go : (h : Binding) → heldAt (before .slots) a ≡ h → repliesFrom tr h ≡ true → member (before .pool) a ≡ true
           go Open q z = zero-is-one (cc z)
-          go (Bound u) q z = (bound-used a u q, bound-outside a u q)
+          go (Bound u) q z = bound-used a u q
           go Claimed q z = zero-is-one (cc z)
           go Left q z = zero-is-one (cc z)
 
-      reply-counted : used later + count (λ a. and (not (member (startingPool occupied) a)) (rep a)) 128 ≡ used (before .pool)
+      -- its address is in use then exactly if the starting pool has it
+      stays-if-starting : (a : ℕ) → rep a ≡ true → member later a ≡ starts a
+      stays-if-starting a e =
+          used-then a ∙ ap (λ (t : Bool). pick t (and (starts a) (member (before .pool) a)) (member (before .pool) a)) e ∙ ap (and (starts a)) (replier a e) ∙ and-last (starts a)
+
+      reply-counted : used later + count (λ a. and (not (starts a)) (rep a)) 128 ≡ used (before .pool)
       unfolding used
       reply-counted =
-          ap (λ (n : ℕ). count (member later) 128 + n) (count-cong (λ a. and (not (member (startingPool occupied) a)) (rep a)) (λ a. and (not (member later a)) (rep a)) 128 (λ a h. each a (rep a) refl))
+          ap (λ (n : ℕ). count (member later) 128 + n) (count-cong (λ a. and (not (starts a)) (rep a)) (λ a. and (not (member later a)) (rep a)) 128 (λ a h. each a (rep a) refl))
           ∙ sym (count-split (member later) rep (member (before .pool)) 128 (λ a h. whole a (rep a) refl))
         where
-          each : (a : ℕ) (t : Bool) → rep a ≡ t → and (not (member (startingPool occupied) a)) t ≡ and (not (member later a)) t
-          each a true e = ap (λ (b : Bool). and (not b) true) (replier a e .1 ∙ sym (used-then a ∙ ap (λ (t : Bool). pick t false (member (before .pool) a)) e))
-          each a false e = none (not (member (startingPool occupied) a)) ∙ sym (none (not (member later a)))
-            where
-              none : (b : Bool) → and b false ≡ false
-              none true = refl
-              none false = refl
+          each : (a : ℕ) (t : Bool) → rep a ≡ t → and (not (starts a)) t ≡ and (not (member later a)) t
+          each a true e = ap (λ (b : Bool). and (not b) true) (sym (stays-if-starting a e))
+          each a false e = and-none (not (starts a)) ∙ sym (and-none (not (member later a)))
 
           whole : (a : ℕ) (t : Bool) → rep a ≡ t → member (before .pool) a ≡ or (member later a) t
-          whole a true e = replier a e .0 ∙ sym (last-true (member later a))
-            where
-              last-true : (b : Bool) → or b true ≡ true
-              last-true true = refl
-              last-true false = refl
-          whole a false e = sym (last-false (member later a) ∙ used-then a ∙ ap (λ (t : Bool). pick t false (member (before .pool) a)) e)
-            where
-              last-false : (b : Bool) → or b false ≡ b
-              last-false true = refl
-              last-false false = refl
+          whole a true e = replier a e ∙ sym (or-last (member later a))
+          whole a false e = sym (or-none (member later a) ∙ used-then a ∙ ap (λ (t : Bool). pick t (and (starts a) (member (before .pool) a)) (member (before .pool) a)) e)
 
     -- ---- an Assign is outstanding
 
@@ -202,7 +196,7 @@ module _ (occupied : Pool) (last : ℕ) (es : List Event) where
       small = subst (PendingIn before) (handed-out-is-last occupied last es (Assign u c) k) (reached-good occupied last es .1) .small
 
       used-whole : tr ≡ whole-assign → (a : ℕ) → member later a ≡ pick (eqb a (c .0)) true (member (before .pool) a)
-      used-whole q a = used-after (Received tr) a ∙ ap (λ (x : Happened). after (member (startingPool occupied)) x (view before) .used a) (read-whole q)
+      used-whole q a = used-after (Received tr) a ∙ ap (λ (x : Happened). after occupied x (view before) .used a) (read-whole q)
 
       -- one more, where it was not in the pool
       assign-counted : used later ≡ used (before .pool) + one (and (same tr whole-assign) (not (member (before .pool) (c .0))))
@@ -247,24 +241,26 @@ module _ (occupied : Pool) (last : ℕ) (es : List Event) where
   unfolding run
   report-counted b = go (isBound (heldAt (before .slots) b)) refl
     where
-      none : (x : Bool) → one (and x false) ≡ 0
-      none true = refl
-      none false = refl
-
-      taken : (u : Udid) → heldAt (before .slots) b ≡ Bound u → reported before b .state .pool ≡ withoutAddress (before .pool) b
-      taken u e =
+      taken : (u : Udid) → heldAt (before .slots) b ≡ Bound u → (t : Bool) → starts b ≡ t → reported before b .state .pool ≡ pick t (before .pool) (withoutAddress (before .pool) b)
+      taken u e t k =
           ap (λ (r : Reported). r .state .pool) (removed before b u e)
-          ∙ ap (λ (t : Bool). pick t (before .pool) (withoutAddress (before .pool) b)) (reached-good occupied last es .0 .sound .new b u e)
+          ∙ ap (λ (x : Bool). pick x (before .pool) (withoutAddress (before .pool) b)) (ap (λ (o : Pool). member (startingPool o) b) (reached-good occupied last es .0 .occupies) ∙ k)
 
-      at : (u : Udid) × (heldAt (before .slots) b ≡ Bound u) → used (reported before b .state .pool) + one (and (not (member (startingPool occupied) b)) true) ≡ used (before .pool)
-      at (u, e) =
+      -- an address of the starting pool stays in use, any other leaves
+      by-starting : (u : Udid) → heldAt (before .slots) b ≡ Bound u → (t : Bool) → starts b ≡ t → used (reported before b .state .pool) + one (and (not t) true) ≡ used (before .pool)
+      by-starting u e true k = let m : used (reported before b .state .pool) ≡ used (before .pool) = ap used (taken u e true k) in omega (arith, m)
+      by-starting u e false k =
           let m = used-without (before .pool) b (bound-small (before .slots) b u e) (bound-used b u e) in
-          ap₂ (λ (p : Pool) (t : Bool). used p + one (and (not t) true)) (taken u e) (bound-outside b u e) ∙ omega (arith, m)
+          let n : used (reported before b .state .pool) ≡ used (withoutAddress (before .pool) b) = ap used (taken u e false k) in
+          omega (arith, m, n)
 
-      go : (t : Bool) → isBound (heldAt (before .slots) b) ≡ t → used (reported before b .state .pool) + one (and (not (member (startingPool occupied) b)) (isBound (heldAt (before .slots) b))) ≡ used (before .pool)
-      go true e = ap (λ (t : Bool). used (reported before b .state .pool) + one (and (not (member (startingPool occupied) b)) t)) e ∙ at (which-bound (heldAt (before .slots) b) e)
+      at : (u : Udid) × (heldAt (before .slots) b ≡ Bound u) → used (reported before b .state .pool) + one (and (not (starts b)) true) ≡ used (before .pool)
+      at (u, e) = by-starting u e (starts b) refl
+
+      go : (t : Bool) → isBound (heldAt (before .slots) b) ≡ t → used (reported before b .state .pool) + one (and (not (starts b)) (isBound (heldAt (before .slots) b))) ≡ used (before .pool)
+      go true e = ap (λ (t : Bool). used (reported before b .state .pool) + one (and (not (starts b)) t)) e ∙ at (which-bound (heldAt (before .slots) b) e)
       go false e =
-          let n : one (and (not (member (startingPool occupied) b)) (isBound (heldAt (before .slots) b))) ≡ 0 = ap (λ (t : Bool). one (and (not (member (startingPool occupied) b)) t)) e ∙ none (not (member (startingPool occupied) b)) in
+          let n : one (and (not (starts b)) (isBound (heldAt (before .slots) b))) ≡ 0 = ap (λ (t : Bool). one (and (not (starts b)) t)) e ∙ ap one (and-none (not (starts b))) in
           let m : used (reported before b .state .pool) ≡ used (before .pool) = ap (λ (s : Controller). used (s .pool)) (nothing-reported before b e) in
           omega (arith, n, m)
 
@@ -280,7 +276,7 @@ pub account : (occupied : Pool) (last : ℕ) (es : List Event) → let starting 
     used (run occupied last es .pool) + (removals starting known es + unbindings starting known handed es) ≡ used (startingPool occupied) + binds known handed es
 unfolding run removals unbindings binds
 account occupied last [] = omega arith
-account occupied last (Start ∷ es) = ap (λ (p : Pool). used p + 0) (reached-good occupied last es .0 .starting)
+account occupied last (Start ∷ es) = ap (λ (o : Pool). used (startingPool o) + 0) (reached-good occupied last es .0 .occupies)
 account occupied last (Received tr ∷ es) = let m = account occupied last es in let n = trace-counted occupied last es tr in omega arith
 account occupied last (Gone b ∷ es) = let m = account occupied last es in let n = report-counted occupied last es b in omega arith
 

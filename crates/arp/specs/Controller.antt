@@ -32,7 +32,7 @@ lastPick last = pick (ltb 127 last) 127 last
 
 -- made with these addresses occupied, and this last pick
 abbrev pub newController : Pool → ℕ → Controller
-newController occupied last = stateOf (lastPick last) (startingPool occupied) (startingPool occupied) noBindings 0 (Wait Nothing)
+newController occupied last = stateOf (lastPick last) occupied (startingPool occupied) noBindings 0 (Wait Nothing)
 
 -- the state with k handed out
 abbrev pub handed : Controller → Handed → Stepped
@@ -40,7 +40,7 @@ handed s k = record { state = withLast s k; command = k }
 
 -- starting a pass empties all bindings, claims and what is left, and sets the pool back to the starting pool; the last pick stays
 abbrev pub started : Controller → Stepped
-started s = handed (withGets (withSlots (withPool s (s .starting)) noBindings) 0) (Send Prepare)
+started s = handed (withGets (withSlots (withPool s (startingPool (s .occupied))) noBindings) 0) (Send Prepare)
 
 -- one Get UDID more is counted
 abbrev pub counted : Controller → Controller

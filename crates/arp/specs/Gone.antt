@@ -2,19 +2,16 @@
 use Prim.Native.Nat.{ℕ}
 use mathlib.Core.Bool.{Bool, true, false}
 use Rattle.lists.specs.Choice.{pick}
-use Rattle.pool.specs.Pools.{member, withoutAddress}
-use Rattle.slots.specs.Slots.{withBinding}
 use Rattle.slots.specs.declared.Binding.the-variants as binding
+use Rattle.arp.specs.Bindings.{vacated}
 use Rattle.arp.specs.Lookup.{lookedUp}
-use Rattle.arp.specs.State.{withPool, withSlots}
 use Rattle.arp.specs.declared.gone.Reported.{Reported}
 use Rattle.arp.specs.declared.lookup.Found.{Found}
 use Rattle.arp.specs.declared.lookup.Found.the-variants.{Bound, Nobody, Two, Left, NoAddress}
 use Rattle.arp.specs.declared.state.Controller.{Controller}
 
--- the address a is left, and out of the pool unless the starting pool has it
 abbrev pub leftAt : Controller → ℕ → Controller
-leftAt s a = withPool (withSlots s (withBinding (s .slots) a binding.Left)) (pick (member (s .starting) a) (s .pool) (withoutAddress (s .pool) a))
+leftAt s a = vacated s a binding.Left
 
 -- a lookup found a target that is bound
 abbrev pub isBoundTarget : Found → Bool

@@ -1,31 +1,31 @@
 -- The report of a module gone: it changes nothing but the address to which a target is bound, and keeps a sound state sound (specs/Gone.antt).
 use Prim.Native.Nat.{ℕ, _<_}
-use mathlib.Core.Path.{_≡_, refl, sym, ap, ap₂, _∙_, subst}
+use mathlib.Core.Path.{_≡_, refl, sym, ap, _∙_, subst}
 use mathlib.Core.Bool.{Bool, true, false}
-use mathlib.Core.Logic.{_⊎_, inl, inr, _↔_}
+use mathlib.Core.Logic.{_↔_}
 use native.Mathlib.Decide.{ℕ-discrete, decLt}
 use native.Mathlib.Omega.{arith}
 use lib.Dec.{ltb}
 use borrow.Author.Tests.{le-ltb}
 use Rattle.lists.specs.AbsurdLaws.{zero-is-one}
-use Rattle.lists.specs.Choice.{pick, or}
+use Rattle.lists.specs.Choice.{pick}
 use Rattle.pool.specs.MemberLaws.{has-without-same, has-without-other}
 use Rattle.pool.specs.Pools.{member, withoutAddress}
-use Rattle.pool.specs.declared.Pool.{Pool}
+use Rattle.pool.specs.Start.{startingPool}
 use Rattle.udid.specs.declared.Udid.{Udid}
 use Rattle.slots.specs.Finding.{boundTo}
 use Rattle.slots.specs.Slots.{Sized128, heldAt, withBinding}
-use Rattle.slots.specs.SlotsLaws.{held-above-is-open, held-same, held-other, held-cases, sized-with}
+use Rattle.slots.specs.SlotsLaws.{held-above-is-open, held-same, held-other}
 use Rattle.slots.specs.declared.Binding.{Binding}
 use Rattle.slots.specs.declared.Binding.the-variants.{Open, Bound, Claimed, Left}
 use Rattle.slots.specs.declared.Slots.{Slots}
 use Rattle.arp.specs.Gone.{leftAt, isBoundTarget, reported}
-use Rattle.arp.specs.History.{isHeld}
 use Rattle.arp.specs.Lookup.{seen, lookedUp}
 use Rattle.arp.specs.Numbers.{lookupNumber}
 use Rattle.arp.specs.OneStep.{Rest, Removes}
 use Rattle.arp.specs.Replay.{isBound}
-use Rattle.arp.specs.Sound.{Sound, SoundIn, Unbound, Pending}
+use Rattle.arp.specs.Sound.{SoundIn, Unbound, Pending}
+use Rattle.arp.specs.SoundLaws.{sound-vacated}
 use Rattle.arp.specs.declared.gone.Reported.{Reported}
 use Rattle.arp.specs.declared.lookup.Found.{Found}
 use Rattle.arp.specs.declared.lookup.Found.the-variants as found
@@ -86,8 +86,8 @@ module _ (s : Controller) (a : ℕ) where
   report-rest = go (isBoundTarget (lookedUp s a))
     where
       go : (t : Bool) → Rest s (pick t (leftAt s a) s)
-      go true = record { starting = refl; gets = refl; last = refl; picked = refl }
-      go false = record { starting = refl; gets = refl; last = refl; picked = refl }
+      go true = record { occupied = refl; gets = refl; last = refl; picked = refl }
+      go false = record { occupied = refl; gets = refl; last = refl; picked = refl }
 
   -- 0 exactly where a target is bound
   pub answered-0 : (lookupNumber (reported s a .found) .0 ≡ 0) ↔ (isBound (heldAt (s .slots) a) ≡ true)
@@ -110,7 +110,7 @@ module _ (s : Controller) (a : ℕ) where
     left = held-same (s .slots) a Left l (bound-small (s .slots) a u e);
     out = λ q. ap (λ (t : Bool). member (pick t (s .pool) (withoutAddress (s .pool) a)) a) q ∙ has-without-same (s .pool) a;
     stays = λ q. ap (λ (t : Bool). member (pick t (s .pool) (withoutAddress (s .pool) a)) a) q;
-    elsewhere = λ b n. (held-other (s .slots) a b Left n, pool-elsewhere b n (member (s .starting) a));
+    elsewhere = λ b n. (held-other (s .slots) a b Left n, pool-elsewhere b n (member (startingPool (s .occupied)) a));
   })
     where
       pool-elsewhere : (b : ℕ) → (b ≡ a → ⊥) → (t : Bool) → member (pick t (s .pool) (withoutAddress (s .pool) a)) b ≡ member (s .pool) b
@@ -119,49 +119,8 @@ module _ (s : Controller) (a : ℕ) where
 
 -- ---- it keeps a sound state sound
 
-module _ (starting pool : Pool) (slots : Slots) (v : Sound starting pool slots) (u : Udid) (b : ℕ) (e : heldAt slots b ≡ Bound u) (h : b < 128) where
-  abbrev poolThen : Pool
-  poolThen = pick (member starting b) pool (withoutAddress pool b)
-
-  -- the pool is without it: it was not in the starting pool
-  pool-then : poolThen ≡ withoutAddress pool b
-  pool-then = ap (λ (t : Bool). pick t pool (withoutAddress pool b)) (v .new b u e)
-
-  bound-still : (i : ℕ) (w : Udid) → heldAt (withBinding slots b Left) i ≡ Bound w → heldAt slots i ≡ Bound w
-  bound-still i w k = go (held-cases slots b i Left (Bound w) (v .size) h k)
-    where
-      go : ((i ≡ b) × (Left ≡ Bound w)) ⊎ ((i ≡ b → ⊥) × (heldAt slots i ≡ Bound w)) → heldAt slots i ≡ Bound w
-      go (inl q) = zero-is-one (cc (q .1))
-      go (inr q) = q .1
-
-  outside-left : (i : ℕ) → heldAt (withBinding slots b Left) i ≡ Left → member starting i ≡ false
-  outside-left i k = go (held-cases slots b i Left Left (v .size) h k)
-    where
-      go : ((i ≡ b) × (Left ≡ Left)) ⊎ ((i ≡ b → ⊥) × (heldAt slots i ≡ Left)) → member starting i ≡ false
-      go (inl q) = ap (member starting) (q .0) ∙ v .new b u e
-      go (inr q) = v .left i (q .1)
-
-  exactly-left : (a : ℕ) → member (withoutAddress pool b) a ≡ or (member starting a) (isHeld (heldAt (withBinding slots b Left) a))
-  exactly-left a = go (ℕ-discrete a b)
-    where
-      go : Dec (a ≡ b) → member (withoutAddress pool b) a ≡ or (member starting a) (isHeld (heldAt (withBinding slots b Left) a))
-      go (yes q) =
-          ap (member (withoutAddress pool b)) q ∙ has-without-same pool b
-          ∙ sym (ap₂ (λ (s : Bool) (x : Binding). or s (isHeld x)) (ap (member starting) q ∙ v .new b u e) (ap (heldAt (withBinding slots b Left)) q ∙ held-same slots b Left (v .size) h))
-      go (no q) = has-without-other pool b a q ∙ v .exact a ∙ ap (λ (x : Binding). or (member starting a) (isHeld x)) (sym (held-other slots b a Left q))
-
-  sound-left-at : Sound starting poolThen (withBinding slots b Left)
-  sound-left-at = record {
-    size = sized-with slots b Left (v .size);
-    once = λ i j w p q. v .once i j w (bound-still i w p) (bound-still j w q);
-    new = λ a w p. v .new a w (bound-still a w p);
-    left = outside-left;
-    fits = λ a w p. v .fits a w (bound-still a w p);
-    exact = λ a. ap (λ (p : Pool). member p a) pool-then ∙ exactly-left a;
-  }
-
-pub sound-left : (s : Controller) (u : Udid) (a : ℕ) → SoundIn s → heldAt (s .slots) a ≡ Bound u → a < 128 → SoundIn (leftAt s a)
-sound-left s u a v e h = sound-left-at (s .starting) (s .pool) (s .slots) v u a e h
+pub sound-left : (s : Controller) (a : ℕ) → SoundIn s → a < 128 → SoundIn (leftAt s a)
+sound-left s a v h = sound-vacated (s .occupied) (s .pool) (s .slots) v a h Left refl
 
 -- ---- and an Assign that is outstanding stays so
 
@@ -174,7 +133,7 @@ left-is-unbound s u w a v e n i = go (ℕ-discrete i a)
 
 -- what is free stays free
 left-frees : (s : Controller) (a n : ℕ) → member (s .pool) n ≡ false → member (leftAt s a .pool) n ≡ false
-left-frees s a n e = go (member (s .starting) a) (ℕ-discrete n a)
+left-frees s a n e = go (member (startingPool (s .occupied)) a) (ℕ-discrete n a)
   where
     go : (t : Bool) → Dec (n ≡ a) → member (pick t (s .pool) (withoutAddress (s .pool) a)) n ≡ false
     go true d = e

@@ -13,8 +13,6 @@ use Rattle.trace.specs.declared.transaction.Transaction.{Transaction}
 use Rattle.scan.specs.Numbers.{isNack}
 use Rattle.scan.specs.declared.answer.Decoded.{Decoded}
 use Rattle.scan.specs.declared.answer.Decoded.the-variants.{Done, Refused}
-use Rattle.pool.specs.Pools.{member}
-use Rattle.pool.specs.Start.{startingPool}
 use Rattle.pool.specs.declared.Pool.{Pool}
 use Rattle.pool.specs.declared.free.Free.{Free}
 use Rattle.pool.specs.declared.free.Free.the-variants.{At, AllUsed}
@@ -78,24 +76,24 @@ module _ (s : Controller) where
   assign-command u n (Refused w k) xs = asked-command s
 
 module _ (s : Controller) (v : SoundIn s) (small : s .picked < 128) where
-  replied-command : (u : Udid) (b : ℕ) → replied s u b .command ≡ assigning u (givenTo (released u (view s) .used) (s .picked) u b)
+  replied-command : (u : Udid) (b : ℕ) → replied s u b .command ≡ assigning u (givenTo (released (s .occupied) u (view s) .used) (s .picked) u b)
   unfolding replied
   replied-command u b =
       issued-command (freed s u) u (hasToPick (freed s u .pool) u b) (chosen (freed s u .pool) (freed s u .picked) u b)
       ∙ ap (λ (l : ℕ). assigning u (chosen (freed s u .pool) l u b)) (freed-keeps-picked s u)
       ∙ ap (assigning u) (chosen-is-given (freed s u .pool) (s .picked) u b small)
-      ∙ ap (λ (t : Table). assigning u (givenTo (t .used) (s .picked) u b)) (freed-as-replied (member (s .pool)) s v u)
+      ∙ ap (λ (t : Table). assigning u (givenTo (t .used) (s .picked) u b)) (freed-as-replied s v u)
 
-  reply-command : (t : Transaction) (xs : List ℕ) → changed s (toldReply t xs) .command ≡ nextReply (view s) (s .picked) (s .gets) (Done t) xs
+  reply-command : (t : Transaction) (xs : List ℕ) → changed s (toldReply t xs) .command ≡ nextReply (s .occupied) (view s) (s .picked) (s .gets) (Done t) xs
   reply-command t xs = go (isGet t) (eqb (t .received) 17)
     where
       go : (p q : Bool) → changed s (pick p (pick q (Reply (udidAt xs 0) (getD xs 16 0)) Over) Again) .command
-          ≡ pick p (pick q (assigning (udidAt xs 0) (givenTo (released (udidAt xs 0) (view s) .used) (s .picked) (udidAt xs 0) (getD xs 16 0))) (Wait Ended)) (again (s .gets))
+          ≡ pick p (pick q (assigning (udidAt xs 0) (givenTo (released (s .occupied) (udidAt xs 0) (view s) .used) (s .picked) (udidAt xs 0) (getD xs 16 0))) (Wait Ended)) (again (s .gets))
       go true true = replied-command (udidAt xs 0) (getD xs 16 0)
       go true false = refl
       go false q = asked-command s
 
-  get-command : (d : Decoded) (xs : List ℕ) → changed s (toldGet d xs) .command ≡ nextReply (view s) (s .picked) (s .gets) d xs
+  get-command : (d : Decoded) (xs : List ℕ) → changed s (toldGet d xs) .command ≡ nextReply (s .occupied) (view s) (s .picked) (s .gets) d xs
   get-command (Done t) xs = reply-command t xs
   get-command (Refused w k) xs = go (and (isNack w) (ltb k 3))
     where
@@ -103,31 +101,32 @@ module _ (s : Controller) (v : SoundIn s) (small : s .picked < 128) where
       go true = refl
       go false = asked-command s
 
-  step-command : (tr : List ℕ) → stepped s tr .command ≡ nextCommand (view s) (s .picked) (s .gets) (s .last) tr
+  step-command : (tr : List ℕ) → stepped s tr .command ≡ nextCommand (s .occupied) (view s) (s .picked) (s .gets) (s .last) tr
   unfolding stepped
   step-command tr = go (s .last)
     where
-      go : (k : Handed) → changed s (tells k tr) .command ≡ nextCommand (view s) (s .picked) (s .gets) k tr
+      go : (k : Handed) → changed s (tells k tr) .command ≡ nextCommand (s .occupied) (view s) (s .picked) (s .gets) k tr
       go (Send Prepare) = prepare-command s (answer sendByte tr) (sentIn sendByte tr)
       go (Send GetUdid) = get-command (answer blockRead tr) (receivedIn blockRead tr)
       go (Send (Assign u a)) = assign-command s u (a .0) (answer blockWrite tr) (sentIn blockWrite tr)
       go (Wait e) = refl
 
-idle-next : (t : Table) (last n : ℕ) (k : Handed) (tr : List ℕ) → noCommand k ≡ true → nextCommand t last n k tr ≡ Wait NotOutstanding
-idle-next t last n (Send k) tr i = zero-is-one (cc i)
-idle-next t last n (Wait e) tr i = refl
+idle-next : (occupied : Pool) (t : Table) (last n : ℕ) (k : Handed) (tr : List ℕ) → noCommand k ≡ true → nextCommand occupied t last n k tr ≡ Wait NotOutstanding
+idle-next occupied t last n (Send k) tr i = zero-is-one (cc i)
+idle-next occupied t last n (Wait e) tr i = refl
 
-same-next : (t : Table) (last n : ℕ) (k m : Handed) (tr : List ℕ) → SameOutstanding k m → nextCommand t last n k tr ≡ nextCommand t last n m tr
-same-next t last n k m tr (inl e) = ap (λ (x : Handed). nextCommand t last n x tr) e
-same-next t last n k m tr (inr h) = idle-next t last n k tr (h .0) ∙ sym (idle-next t last n m tr (h .1))
+same-next : (occupied : Pool) (t : Table) (last n : ℕ) (k m : Handed) (tr : List ℕ) → SameOutstanding k m → nextCommand occupied t last n k tr ≡ nextCommand occupied t last n m tr
+same-next occupied t last n k m tr (inl e) = ap (λ (x : Handed). nextCommand occupied t last n x tr) e
+same-next occupied t last n k m tr (inr h) = idle-next occupied t last n k tr (h .0) ∙ sym (idle-next occupied t last n m tr (h .1))
 
 -- EACH COMMAND THAT A STEP HANDS OUT is the one that the table, the count of Get UDIDs and the command outstanding give
 pub handed-out-by-table : (occupied : Pool) (last : ℕ) (es : List Event) (tr : List ℕ)
-    → stepped (run occupied last es) tr .command ≡ nextCommand (table occupied last es) (run occupied last es .picked) (getsSent occupied last es) (handedOut occupied last es) tr
+    → stepped (run occupied last es) tr .command ≡ nextCommand occupied (table occupied last es) (run occupied last es .picked) (getsSent occupied last es) (handedOut occupied last es) tr
 handed-out-by-table occupied last es tr =
     step-command (run occupied last es) (reached-good occupied last es .0 .sound) (reached-good occupied last es .0 .picked) tr
-    ∙ same-next (view (run occupied last es)) (run occupied last es .picked) (run occupied last es .gets) (run occupied last es .last) (handedOut occupied last es) tr (last-is-handed-out occupied last es)
-    ∙ ap₂ (λ (t : Table) (n : ℕ). nextCommand t (run occupied last es .picked) n (handedOut occupied last es) tr) (view-is-table occupied last es) (gets-are-sent occupied last es)
+    ∙ ap (λ (o : Pool). nextCommand o (view (run occupied last es)) (run occupied last es .picked) (run occupied last es .gets) (run occupied last es .last) tr) (reached-good occupied last es .0 .occupies)
+    ∙ same-next occupied (view (run occupied last es)) (run occupied last es .picked) (run occupied last es .gets) (run occupied last es .last) (handedOut occupied last es) tr (last-is-handed-out occupied last es)
+    ∙ ap₂ (λ (t : Table) (n : ℕ). nextCommand occupied t (run occupied last es .picked) n (handedOut occupied last es) tr) (view-is-table occupied last es) (gets-are-sent occupied last es)
 
 -- ---- by the events alone
 
@@ -142,15 +141,15 @@ pub table-is-story : (occupied : Pool) (last : ℕ) (es : List Event) → told o
 unfolding story table getsSent handedOut run
 table-is-story occupied last [] = refl
 table-is-story occupied last (Start ∷ es) =
-    ap (λ (w : Story). record { known = emptied (member (startingPool occupied)); gets = 0; command = Send Prepare; picked = w .picked }) (table-is-story occupied last es)
+    ap (λ (w : Story). record { known = emptied occupied; gets = 0; command = Send Prepare; picked = w .picked }) (table-is-story occupied last es)
 table-is-story occupied last (Received tr ∷ es) =
     let e = handed-out-by-table occupied last es tr in
-    stories (told occupied last (Received tr ∷ es)) (onward (member (startingPool occupied)) (Received tr) (told occupied last es))
+    stories (told occupied last (Received tr ∷ es)) (onward occupied (Received tr) (told occupied last es))
     refl
     (ap (λ (k : Handed). getsSent occupied last es + oneGet k) e)
     e
     (step-picked (run occupied last es) tr ∙ ap (pickedThen (run occupied last es .picked) tr) e)
-    ∙ ap (onward (member (startingPool occupied)) (Received tr)) (table-is-story occupied last es)
+    ∙ ap (onward occupied (Received tr)) (table-is-story occupied last es)
 table-is-story occupied last (Gone a ∷ es) =
-    stories (told occupied last (Gone a ∷ es)) (onward (member (startingPool occupied)) (Gone a) (told occupied last es)) refl refl refl (report-rest (run occupied last es) a .picked)
-    ∙ ap (onward (member (startingPool occupied)) (Gone a)) (table-is-story occupied last es)
+    stories (told occupied last (Gone a ∷ es)) (onward occupied (Gone a) (told occupied last es)) refl refl refl (report-rest (run occupied last es) a .picked)
+    ∙ ap (onward occupied (Gone a)) (table-is-story occupied last es)

@@ -109,7 +109,7 @@ gets-are-sent occupied last (Received tr ∷ es) = go (step-21-or-handed (run oc
     go (inl h) e = ap (λ (x : Controller). x .gets) (h .1) ∙ e ∙ sym (ap (λ (k : Handed). getsSent occupied last es + oneGet k) (h .0) ∙ add-zero (getsSent occupied last es))
     go (inr h) e = h .gets ∙ ap (λ (n : ℕ). n + oneGet (stepped (run occupied last es) tr .command)) e
 
--- an Assign that names an address in use is for a fixed target: only these are ever claimed by two
+-- an Assign that names an address in use is for a fixed target. A barred, a bound and a claimed address is in use, so only fixed targets make claims
 pub claims-are-fixed : (occupied : Pool) (last : ℕ) (es : List Event) (u : Udid) (a : Address) → run occupied last es .last ≡ Send (Assign u a) → member (run occupied last es .pool) (a .0) ≡ true → isFixed u ≡ true
 claims-are-fixed occupied last es u a e h = go (isFixed u) refl
   where

@@ -24,6 +24,7 @@ use Rattle.scan.specs.declared.answer.Decoded.{Decoded}
 use Rattle.scan.specs.declared.answer.Decoded.the-variants.{Done, Refused}
 use Rattle.decode.specs.OutcomeLaws.{answer-by-trace}
 use Rattle.decode.specs.Outcome.{short, answeredBy, answered, Outcome}
+use Rattle.pool.specs.declared.Pool.{Pool}
 use Rattle.udid.specs.Bytes.{number, bytesFrom, udidAt}
 use Rattle.udid.specs.Udids.{sameUdid}
 use Rattle.udid.specs.declared.Udid.{Udid}
@@ -132,13 +133,13 @@ module _ (tr l : List ℕ) where
         go false e = rw e
     assign-front (Refused w k) = refl
 
-  next-reply-front : (t : Table) (last n : ℕ) (d : Decoded) → nextReply t last n d (onto (receivedData true tr d) l) ≡ nextReply t last n d (receivedData true tr d)
-  next-reply-front t last n (Done x) = go (eqb (x .received) 17) refl
+  next-reply-front : (occupied : Pool) (t : Table) (last n : ℕ) (d : Decoded) → nextReply occupied t last n d (onto (receivedData true tr d) l) ≡ nextReply occupied t last n d (receivedData true tr d)
+  next-reply-front occupied t last n (Done x) = go (eqb (x .received) 17) refl
     where
       result : Udid → ℕ → Handed
       result u b =
           pick (and (eqb (x .address .0) 0x61) (eqb (x .command) 0x03))
-          (pick (eqb (x .received) 17) (assigning u (givenTo (released u t .used) last u b)) (Wait Ended))
+          (pick (eqb (x .received) 17) (assigning u (givenTo (released occupied u t .used) last u b)) (Wait Ended))
           (again n)
 
       go : (q : Bool) → eqb (x .received) 17 ≡ q
@@ -148,7 +149,7 @@ module _ (tr l : List ℕ) where
           let k : length (receivedData true tr (Done x)) ≡ 17 = length-lows (x .received) _ ∙ eqb-true (x .received) 17 e in
           ap₂ result (front-udid (receivedData true tr (Done x)) l k) (front-at (receivedData true tr (Done x)) l 16 (omega arith))
       go false e = rw e
-  next-reply-front t last n (Refused w k) = refl
+  next-reply-front occupied t last n (Refused w k) = refl
 
   -- a complete Send Byte has one byte
   next-prepare-front : (n : ℕ) (d : Decoded) → answer 1 tr ≡ d → nextPrepare n d (onto (sentData (shapeOf 1) tr d) l) ≡ nextPrepare n d (sentData (shapeOf 1) tr d)
@@ -175,15 +176,15 @@ module _ (tr sent₀ received₀ : List ℕ) (d : Decoded) (sent received : List
       ∙ ap (assignIn u (a .0) d) (sym (o .data-sent))
 
   -- what is handed out next: by its answer for Send Byte after Prepare, and for Block Read after Get UDID
-  pub next-prepare-is-decode : Outcome 1 true tr sent₀ received₀ d sent received → (t : Table) (last n : ℕ) → nextCommand t last n (Send Prepare) tr ≡ nextPrepare n d sent
-  next-prepare-is-decode o t last n =
+  pub next-prepare-is-decode : Outcome 1 true tr sent₀ received₀ d sent received → (occupied : Pool) (t : Table) (last n : ℕ) → nextCommand occupied t last n (Send Prepare) tr ≡ nextPrepare n d sent
+  next-prepare-is-decode o occupied t last n =
       let e : d ≡ answer 1 tr = answer-is-heard 1 tr sent₀ received₀ d sent received refl l m o in
       ap (λ (x : Decoded). nextPrepare n x (sentData (shapeOf 1) tr x)) (sym e)
       ∙ sym (next-prepare-front tr sent₀ n d (sym e))
       ∙ ap (nextPrepare n d) (sym (o .data-sent))
 
-  pub next-reply-is-decode : Outcome 9 true tr sent₀ received₀ d sent received → (t : Table) (last n : ℕ) → nextCommand t last n (Send GetUdid) tr ≡ nextReply t last n d received
-  next-reply-is-decode o t last n =
-      ap (λ (x : Decoded). nextReply t last n x (receivedData true tr x)) (sym (answer-is-heard 9 tr sent₀ received₀ d sent received refl l m o))
-      ∙ sym (next-reply-front tr received₀ t last n d)
-      ∙ ap (nextReply t last n d) (sym (o .data-received))
+  pub next-reply-is-decode : Outcome 9 true tr sent₀ received₀ d sent received → (occupied : Pool) (t : Table) (last n : ℕ) → nextCommand occupied t last n (Send GetUdid) tr ≡ nextReply occupied t last n d received
+  next-reply-is-decode o occupied t last n =
+      ap (λ (x : Decoded). nextReply occupied t last n x (receivedData true tr x)) (sym (answer-is-heard 9 tr sent₀ received₀ d sent received refl l m o))
+      ∙ sym (next-reply-front tr received₀ occupied t last n d)
+      ∙ ap (nextReply occupied t last n d) (sym (o .data-received))

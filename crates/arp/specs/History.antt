@@ -7,17 +7,18 @@ use Rattle.lists.specs.Choice.{and, not}
 use Rattle.pool.specs.Counts.{count}
 use Rattle.pool.specs.Free.{used}
 use Rattle.pool.specs.Pools.{member}
-use Rattle.pool.specs.Start.{startingPool}
+use Rattle.pool.specs.Start.{startingPool, barredPool}
 use Rattle.pool.specs.declared.Pool.{Pool}
+use Rattle.udid.specs.Udids.{isFixed}
 use Rattle.udid.specs.declared.Udid.{Udid}
 use Rattle.slots.specs.Slots.{Sized128, heldAt}
+use Rattle.arp.specs.Bindings.{isHeld}
 use Rattle.arp.specs.Controller.{newController, started, stepped}
 use Rattle.arp.specs.Gone.{reported}
 use Rattle.commands.specs.declared.command.Command.the-variants.{Prepare, GetUdid, Assign}
 use Rattle.commands.specs.declared.command.End.the-variants.{Nothing}
 use Rattle.commands.specs.declared.command.Handed.{Handed}
 use Rattle.commands.specs.declared.command.Handed.the-variants.{Send, Wait}
-use Rattle.slots.specs.declared.Binding.{Binding}
 use Rattle.slots.specs.declared.Binding.the-variants.{Open, Bound, Claimed, Left}
 use Rattle.arp.specs.declared.state.Controller.{Controller}
 
@@ -42,10 +43,10 @@ run occupied last (Start ∷ es) = started (run occupied last es) .state
 run occupied last (Received tr ∷ es) = stepped (run occupied last es) tr .state
 run occupied last (Gone a ∷ es) = reported (run occupied last es) a .state
 
--- a new controller: the starting pool in both places, nothing bound, claimed or left, no Get UDID counted, nothing handed out, and the last pick as given;
+-- a new controller: these addresses occupied, the starting pool in use, nothing bound, claimed or left, no Get UDID counted, nothing handed out, and the last pick as given;
 -- one above 127 counts as 127, never picked
 pub record New (occupied : Pool) (l : ℕ) (s : Controller) : Type 0 where
-  pub starting : s .starting ≡ startingPool occupied
+  pub occupies : s .occupied ≡ occupied
   pub pool : s .pool ≡ startingPool occupied
   pub held : (a : ℕ) → heldAt (s .slots) a ≡ Open
   pub gets : s .gets ≡ 0
@@ -53,34 +54,29 @@ pub record New (occupied : Pool) (l : ℕ) (s : Controller) : Type 0 where
   pub picked : l < 128 → s .picked ≡ l
   pub never : 127 < l → s .picked ≡ 127
 
-abbrev pub isHeld : Binding → Bool
-isHeld Open = false
-isHeld (Bound u) = true
-isHeld Claimed = true
-isHeld Left = false
-
 -- bound or claimed, and not in the starting pool
-abbrev pub isNew : Controller → ℕ → Bool
-isNew s a = and (not (member (s .starting) a)) (isHeld (heldAt (s .slots) a))
+abbrev pub isNew : Pool → Controller → ℕ → Bool
+isNew occupied s a = and (not (member (startingPool occupied) a)) (isHeld (heldAt (s .slots) a))
 
 -- what holds in every state
 pub record Invariant (occupied : Pool) (s : Controller) : Type 0 where
-  -- the starting pool is the reserved and the occupied addresses, and the pool contains it
-  pub starting : s .starting ≡ startingPool occupied
-  pub contains : (a : ℕ) → member (s .starting) a ≡ true → member (s .pool) a ≡ true
-  -- a bound address is in the pool, was not in the starting pool, holds one identifier and is no claim
+  -- the occupied addresses stay, and the pool contains the starting pool
+  pub occupies : s .occupied ≡ occupied
+  pub contains : (a : ℕ) → member (startingPool occupied) a ≡ true → member (s .pool) a ≡ true
+  -- a bound address is in the pool, is not barred, holds one identifier and is no claim; in the starting pool it is a fixed target's
   pub bound-used : (a : ℕ) (u : Udid) → heldAt (s .slots) a ≡ Bound u → member (s .pool) a ≡ true
-  pub bound-new : (a : ℕ) (u : Udid) → heldAt (s .slots) a ≡ Bound u → member (s .starting) a ≡ false
+  pub bound-unbarred : (a : ℕ) (u : Udid) → heldAt (s .slots) a ≡ Bound u → member (barredPool occupied) a ≡ false
+  pub starting-fixed : (a : ℕ) (u : Udid) → heldAt (s .slots) a ≡ Bound u → member (startingPool occupied) a ≡ true → isFixed u ≡ true
   pub bound-one : (a : ℕ) (u v : Udid) → heldAt (s .slots) a ≡ Bound u → heldAt (s .slots) a ≡ Bound v → u ≡ v
   pub bound-unclaimed : (a : ℕ) (u : Udid) → heldAt (s .slots) a ≡ Bound u → heldAt (s .slots) a ≡ Claimed → ⊥
   -- no identifier is bound twice
   pub bound-once : (a b : ℕ) (u : Udid) → heldAt (s .slots) a ≡ Bound u → heldAt (s .slots) b ≡ Bound u → a ≡ b
   -- a claimed address is in the pool
   pub claimed-used : (a : ℕ) → heldAt (s .slots) a ≡ Claimed → member (s .pool) a ≡ true
-  -- an address that is left is free
-  pub left-free : (a : ℕ) → heldAt (s .slots) a ≡ Left → member (s .pool) a ≡ false
+  -- an address that is left is free, unless the starting pool has it
+  pub left-free : (a : ℕ) → heldAt (s .slots) a ≡ Left → member (s .pool) a ≡ member (startingPool occupied) a
   -- the used addresses are those of the starting pool and the bound and claimed ones: together they number the used ones
-  pub number : used (s .pool) ≡ used (s .starting) + count (isNew s) 128
+  pub number : used (s .pool) ≡ used (startingPool occupied) + count (isNew occupied s) 128
   -- there is a slot for each address, and at most 128 Get UDIDs were sent
   pub size : Sized128 (s .slots)
   pub gets : s .gets ≤ 128

@@ -1,26 +1,25 @@
 -- Every state that starts, received traces and reports reach is sound, so the invariant of specs/History.antt holds in it; and what a new controller is.
 use Prim.Native.Nat.{ℕ, _<_}
-use mathlib.Core.Path.{_≡_, refl, sym, ap, ap₂, _∙_, subst}
+use mathlib.Core.Path.{_≡_, refl, sym, ap, _∙_, subst}
 use mathlib.Core.Bool.{Bool, true, false}
 use mathlib.Core.List.{List, [], _∷_}
 use native.Mathlib.Omega.{arith}
 use lib.Dec.{ltb, leb}
 use borrow.Author.Tests.{leb-false}
-use Rattle.lists.specs.ChoiceLaws.{or-last}
+use Rattle.lists.specs.ChoiceLaws.{or-last, or-none}
 use Rattle.arp.specs.Gone.{leftAt, reported}
 use Rattle.arp.specs.GoneLaws.{which-bound, bound-small, nothing-reported, removed, sound-left, pending-left}
 use Rattle.arp.specs.Replay.{isBound}
-use Rattle.wire.specs.declared.address.Address.{Address}
 use Rattle.lists.specs.AbsurdLaws.{zero-is-one}
 use Rattle.lists.specs.Choice.{pick, or}
 use Rattle.pool.specs.CountLaws.{count-split}
 use Rattle.pool.specs.Free.{used}
 use Rattle.pool.specs.Pools.{member}
-use Rattle.pool.specs.Start.{startingPool}
+use Rattle.pool.specs.Start.{startingPool, barredPool}
 use Rattle.pool.specs.declared.Pool.{Pool}
 use Rattle.pool.specs.declared.free.Free.{Free}
 use Rattle.pool.specs.declared.free.Free.the-variants.{At, AllUsed}
-use Rattle.udid.specs.Udids.{Fits}
+use Rattle.udid.specs.Udids.{Fits, isFixed}
 use Rattle.udid.specs.declared.Udid.{Udid}
 use Rattle.arp.specs.ChosenLaws.{chosen-small-and-free}
 use Rattle.arp.specs.LastPickLaws.{last-pick-is, last-pick-above, last-pick-small}
@@ -29,17 +28,17 @@ use Rattle.slots.specs.SlotsLaws.{open-all}
 use Rattle.arp.specs.ChangedLaws.{by-told}
 use Rattle.hearing.specs.ToldLaws.{Known}
 use Rattle.arp.specs.Sound.{SoundIn, Good, Pending, PendingIn, GoodState}
-use Rattle.arp.specs.Bindings.{freedAt, freed, boundAt, bound}
+use Rattle.arp.specs.Bindings.{isHeld, freedAt, freed, boundAt, bound}
 use Rattle.slots.specs.Finding.{findFrom}
 use Rattle.slots.specs.Slots.{heldAt}
 use Rattle.arp.specs.Controller.{newController, handed, counted, asked, hasToPick, chosen, issued, replied, changed, stepped}
-use Rattle.arp.specs.History.{Event, Start, Received, Gone, run, isHeld, Invariant, New}
+use Rattle.arp.specs.History.{Event, Start, Received, Gone, run, Invariant, New}
 use Rattle.commands.specs.declared.command.Command.the-variants.{Prepare, GetUdid, Assign}
 use Rattle.commands.specs.declared.command.End.the-variants.{Ended, Abandoned}
 use Rattle.commands.specs.declared.command.Handed.{Handed}
 use Rattle.commands.specs.declared.command.Handed.the-variants.{Send, Wait}
 use Rattle.slots.specs.declared.Binding.{Binding}
-use Rattle.slots.specs.declared.Binding.the-variants.{Bound, Claimed, Left}
+use Rattle.slots.specs.declared.Binding.the-variants.{Bound, Claimed}
 use Rattle.arp.specs.declared.gone.Reported.{Reported}
 use Rattle.arp.specs.declared.state.Controller.{Controller}
 use Rattle.hearing.specs.declared.told.Told.{Told}
@@ -53,14 +52,14 @@ module _ (occupied : Pool) where
   good-asked s g = go (leb 128 (s .gets)) refl
     where
       go : (t : Bool) → leb 128 (s .gets) ≡ t → GoodState occupied (pick t (handed s (Wait Abandoned)) (handed (counted s) (Send GetUdid)) .state)
-      go true e = (record { sound = g .sound; gets = g .gets; starting = g .starting; picked = g .picked }, tt)
-      go false e = (record { sound = g .sound; gets = (let l = leb-false 128 (s .gets) e in omega arith); starting = g .starting; picked = g .picked }, tt)
+      go true e = (record { sound = g .sound; gets = g .gets; occupies = g .occupies; picked = g .picked }, tt)
+      go false e = (record { sound = g .sound; gets = (let l = leb-false 128 (s .gets) e in omega arith); occupies = g .occupies; picked = g .picked }, tt)
 
   good-ended : (s : Controller) → Good occupied s → GoodState occupied (handed s (Wait Ended) .state)
-  good-ended s g = (record { sound = g .sound; gets = g .gets; starting = g .starting; picked = g .picked }, tt)
+  good-ended s g = (record { sound = g .sound; gets = g .gets; occupies = g .occupies; picked = g .picked }, tt)
 
   good-abandoned : (s : Controller) → Good occupied s → GoodState occupied (handed s (Wait Abandoned) .state)
-  good-abandoned s g = (record { sound = g .sound; gets = g .gets; starting = g .starting; picked = g .picked }, tt)
+  good-abandoned s g = (record { sound = g .sound; gets = g .gets; occupies = g .occupies; picked = g .picked }, tt)
 
   -- unbinding and binding change the pool and the slots alone
   good-freed : (s : Controller) (u : Udid) → Good occupied s → Good occupied (freed s u)
@@ -69,15 +68,15 @@ module _ (occupied : Pool) where
     where
       go : (t : Bool) → SoundIn (pick t s (freedAt s (findFrom u (s .slots) 128 0))) → Good occupied (pick t s (freedAt s (findFrom u (s .slots) 128 0)))
       go true v = g
-      go false v = record { sound = v; gets = g .gets; starting = g .starting; picked = g .picked }
+      go false v = record { sound = v; gets = g .gets; occupies = g .occupies; picked = g .picked }
 
   good-bound : (s : Controller) (u : Udid) (a : ℕ) → Good occupied s → Pending s u a → Good occupied (bound s u a)
   unfolding bound
-  good-bound s u a g p = go (ltb 127 a) (sound-bound s u a (g .sound) (p .unbound) (p .fits) (p .small))
+  good-bound s u a g p = go (ltb 127 a) (sound-bound s u a (g .sound) (p .unbound) (p .fits) (p .small) (p .free))
     where
       go : (t : Bool) → SoundIn (pick t s (boundAt s u a)) → Good occupied (pick t s (boundAt s u a))
       go true v = g
-      go false v = record { sound = v; gets = g .gets; starting = g .starting; picked = g .picked }
+      go false v = record { sound = v; gets = g .gets; occupies = g .occupies; picked = g .picked }
 
   good-replied : (s : Controller) (u : Udid) (b : ℕ) → Good occupied s → Fits u → b < 256 → GoodState occupied (replied s u b .state)
   unfolding replied
@@ -96,8 +95,8 @@ module _ (occupied : Pool) where
       go : (k : Free) → chosen (freed s u .pool) (freed s u .picked) u b ≡ k → GoodState occupied (issued (freed s u) u picks k .state)
       go (At a) e =
           let c = chosen-small-and-free (freed s u .pool) (freed s u .picked) u b a h e in
-          (record { sound = v .sound; gets = v .gets; starting = v .starting; picked = either picks (a .0) (c .0) }, record { small = c .0; unbound = sound-freed s u (g .sound) .1; fits = f; free = c .1 })
-      go AllUsed e = (record { sound = v .sound; gets = v .gets; starting = v .starting; picked = v .picked }, tt)
+          (record { sound = v .sound; gets = v .gets; occupies = v .occupies; picked = either picks (a .0) (c .0) }, record { small = c .0; unbound = sound-freed s u (g .sound) .1; fits = f; free = c .1 })
+      go AllUsed e = (record { sound = v .sound; gets = v .gets; occupies = v .occupies; picked = v .picked }, tt)
 
   pub step-keeps-good : (s : Controller) (tr : List ℕ) → GoodState occupied s → GoodState occupied (stepped s tr .state)
   unfolding stepped
@@ -124,7 +123,7 @@ module _ (occupied : Pool) where
       at : (w : Udid) × (heldAt (s .slots) a ≡ Bound w) → GoodState occupied (reported s a .state)
       at (w, e) =
           subst (λ (x : Controller). GoodState occupied x) (sym (ap (λ (r : Reported). r .state) (removed s a w e)))
-          (record { sound = sound-left s w a (g .0 .sound) e (bound-small (s .slots) a w e); gets = g .0 .gets; starting = g .0 .starting; picked = g .0 .picked }, pending-then s w a (g .0 .sound) e (s .last) (g .1))
+          (record { sound = sound-left s a (g .0 .sound) (bound-small (s .slots) a w e); gets = g .0 .gets; occupies = g .0 .occupies; picked = g .0 .picked }, pending-then s w a (g .0 .sound) e (s .last) (g .1))
 
       go : (t : Bool) → isBound (heldAt (s .slots) a) ≡ t → GoodState occupied (reported s a .state)
       go true e = at (which-bound (heldAt (s .slots) a) e)
@@ -133,29 +132,36 @@ module _ (occupied : Pool) where
   -- EVERY STATE
   pub reached-good : (last : ℕ) (es : List Event) → GoodState occupied (run occupied last es)
   unfolding run
-  reached-good last [] = (record { sound = sound-open (startingPool occupied); gets = omega arith; starting = refl; picked = last-pick-small last }, tt)
+  reached-good last [] = (record { sound = sound-open occupied; gets = omega arith; occupies = refl; picked = last-pick-small last }, tt)
   reached-good last (Start ∷ es) =
       let g = reached-good last es .0 in
-      (record { sound = sound-open (run occupied last es .starting); gets = omega arith; starting = g .starting; picked = g .picked }, tt)
+      (record { sound = sound-open (run occupied last es .occupied); gets = omega arith; occupies = g .occupies; picked = g .picked }, tt)
   reached-good last (Received tr ∷ es) = step-keeps-good (run occupied last es) tr (reached-good last es)
   reached-good last (Gone a ∷ es) = report-keeps-good (run occupied last es) a (reached-good last es)
 
 -- ---- the invariant, as specs/History.antt has it
 
+-- the pool is the starting pool and what is bound or claimed
+pub reached-pool : (occupied : Pool) (last : ℕ) (es : List Event) (a : ℕ) → member (run occupied last es .pool) a ≡ or (member (startingPool occupied) a) (isHeld (heldAt (run occupied last es .slots) a))
+reached-pool occupied last es a =
+    subst (λ (o : Pool). member (run occupied last es .pool) a ≡ or (member (startingPool o) a) (isHeld (heldAt (run occupied last es .slots) a)))
+    (reached-good occupied last es .0 .occupies) (reached-good occupied last es .0 .sound .exact a)
+
 -- EVERY STATE that starts, received traces and reports reach
 pub reached-invariant : (occupied : Pool) (last : ℕ) (es : List Event) → Invariant occupied (run occupied last es)
 unfolding used
 reached-invariant occupied last es = record {
-  starting = reached-good occupied last es .0 .starting;
-  contains = λ a e. v .exact a ∙ ap (λ (b : Bool). or b (isHeld (heldAt (s .slots) a))) e;
+  occupies = reached-good occupied last es .0 .occupies;
+  contains = λ a e. exact a ∙ ap (λ (b : Bool). or b (isHeld (heldAt (s .slots) a))) e;
   bound-used = λ a u e. held-used a (Bound u) e refl;
-  bound-new = λ a u e. v .new a u e;
+  bound-unbarred = λ a u e. subst (λ (o : Pool). member (barredPool o) a ≡ false) (reached-good occupied last es .0 .occupies) (v .unbarred a u e);
+  starting-fixed = λ a u e. subst (λ (o : Pool). member (startingPool o) a ≡ true → isFixed u ≡ true) (reached-good occupied last es .0 .occupies) (v .starting-fixed a u e);
   bound-one = λ a u w e f. same (sym e ∙ f);
   bound-unclaimed = λ a u e f. zero-is-one (cc (e, f));
   bound-once = λ a b u e f. v .once a b u e f;
   claimed-used = λ a e. held-used a Claimed e refl;
-  left-free = λ a e. v .exact a ∙ ap₂ (λ (b : Bool) (x : Binding). or b (isHeld x)) (v .left a e) e;
-  number = count-split (member (s .starting)) (λ a. isHeld (heldAt (s .slots) a)) (member (s .pool)) 128 (λ a h. v .exact a);
+  left-free = λ a e. exact a ∙ ap (λ (x : Binding). or (member (startingPool occupied) a) (isHeld x)) e ∙ or-none (member (startingPool occupied) a);
+  number = count-split (member (startingPool occupied)) (λ a. isHeld (heldAt (s .slots) a)) (member (s .pool)) 128 (λ a h. exact a);
   size = v .size;
   gets = reached-good occupied last es .0 .gets;
   picked = reached-good occupied last es .0 .picked;
@@ -167,8 +173,11 @@ reached-invariant occupied last es = record {
     v : SoundIn (run occupied last es)
     v = reached-good occupied last es .0 .sound
 
+    exact : (a : ℕ) → member (run occupied last es .pool) a ≡ or (member (startingPool occupied) a) (isHeld (heldAt (run occupied last es .slots) a))
+    exact = reached-pool occupied last es
+
     held-used : (a : ℕ) (x : Binding) → heldAt (run occupied last es .slots) a ≡ x → isHeld x ≡ true → member (run occupied last es .pool) a ≡ true
-    held-used a x e f = v .exact a ∙ ap (λ (b : Binding). or (member (run occupied last es .starting) a) (isHeld b)) e ∙ ap (or (member (run occupied last es .starting) a)) f ∙ or-last (member (run occupied last es .starting) a)
+    held-used a x e f = exact a ∙ ap (λ (b : Binding). or (member (startingPool occupied) a) (isHeld b)) e ∙ ap (or (member (startingPool occupied) a)) f ∙ or-last (member (startingPool occupied) a)
 
     same : {u w : Udid} → Bound u ≡ Bound w → u ≡ w
     same e = cc e
@@ -177,7 +186,7 @@ reached-invariant occupied last es = record {
 
 pub new-controller-is-new : (occupied : Pool) (last : ℕ) → New occupied last (newController occupied last)
 new-controller-is-new occupied last = record {
-  starting = refl;
+  occupies = refl;
   pool = refl;
   held = open-all;
   gets = refl;

@@ -26,7 +26,6 @@ pub mod ChosenLaws
 pub mod LastPickLaws
 pub mod HistoryLaws
 pub mod HandingLaws
-pub mod AssignedLaws
 pub mod OutstandingLaws
 pub mod OneStepLaws
 pub mod OneResultLaws

@@ -20,6 +20,7 @@ use Rattle.scan.specs.declared.answer.Decoded.the-variants.{Done, Refused}
 use Rattle.pool.specs.NextFree.{nextFree, Next}
 use Rattle.pool.specs.NextFreeLaws.{next-is, next-none}
 use Rattle.pool.specs.Pools.{member}
+use Rattle.pool.specs.Start.{startingPool, barredPool}
 use Rattle.pool.specs.declared.Pool.{Pool}
 use Rattle.pool.specs.declared.free.Free.{Free}
 use Rattle.pool.specs.declared.free.Free.the-variants.{At, AllUsed}
@@ -41,7 +42,8 @@ use Rattle.commands.specs.declared.command.Command.the-variants.{GetUdid, Assig
 use Rattle.commands.specs.declared.command.End.the-variants.{NoneFree}
 use Rattle.commands.specs.declared.command.Handed.{Handed}
 use Rattle.commands.specs.declared.command.Handed.the-variants.{Send, Wait}
-use Rattle.slots.specs.declared.Binding.the-variants.{Bound}
+use Rattle.slots.specs.declared.Binding.{Binding}
+use Rattle.slots.specs.declared.Binding.the-variants.{Open, Bound, Claimed, Left}
 use Rattle.arp.specs.declared.state.Controller.{Controller}
 use Rattle.slots.specs.declared.Slots.{Slots}
 use Rattle.arp.specs.declared.state.Stepped.{Stepped}
@@ -111,7 +113,7 @@ hands-both s r q k n h g l e = record {
   command = h .command ∙ sym (g .command);
   last = h .last ∙ sym (g .last);
   gets = h .gets ∙ sym (g .gets);
-  starting = h .starting ∙ sym (g .starting);
+  occupied = h .occupied ∙ sym (g .occupied);
   picked = l;
   same = e;
 }
@@ -139,12 +141,18 @@ same-both : (s t v : Controller) (a : ℕ) → Same s t a → Same s v a → Sam
 same-both s t v a h g = (h .0 ∙ sym (g .0), h .1 ∙ sym (g .1))
 
 pub binds-alike : (u : Udid) (n : ℕ) (s : Controller) (r q : Stepped) → Asks s r × Binds u n s (r .state) → Asks s q × Binds u n s (q .state) → Alike r q
-binds-alike u n s r q h g = asks-both s r q (h .0) (g .0) (h .1 .picked ∙ sym (g .1 .picked)) (λ a. at a (ℕ-discrete a n) (member (s .pool) n) refl)
+binds-alike u n s r q h g = asks-both s r q (h .0) (g .0) (h .1 .picked ∙ sym (g .1 .picked)) (λ a. at a (ℕ-discrete a n))
   where
-    at : (a : ℕ) → Dec (a ≡ n) → (b : Bool) → member (s .pool) n ≡ b → Same (q .state) (r .state) a
-    at a (no m) b e = same-both s (r .state) (q .state) a (h .1 .elsewhere a m) (g .1 .elsewhere a m)
-    at a (yes m) false e = subst (Same (q .state) (r .state)) (sym m) (h .1 .free e ∙ sym (g .1 .free e), h .1 .used ∙ sym (g .1 .used))
-    at a (yes m) true e = subst (Same (q .state) (r .state)) (sym m) (h .1 .taken e ∙ sym (g .1 .taken e), h .1 .used ∙ sym (g .1 .used))
+    held : (b : Bool) → member (barredPool (s .occupied)) n ≡ b → (x : Binding) → heldAt (s .slots) n ≡ x → heldAt (r .state .slots) n ≡ heldAt (q .state .slots) n
+    held true e x k = h .1 .barred e ∙ sym (g .1 .barred e)
+    held false e Open k = h .1 .free e (inl k) ∙ sym (g .1 .free e (inl k))
+    held false e (Bound w) k = h .1 .another w k ∙ sym (g .1 .another w k)
+    held false e Claimed k = h .1 .marked k ∙ sym (g .1 .marked k)
+    held false e Left k = h .1 .free e (inr k) ∙ sym (g .1 .free e (inr k))
+
+    at : (a : ℕ) → Dec (a ≡ n) → Same (q .state) (r .state) a
+    at a (no m) = same-both s (r .state) (q .state) a (h .1 .elsewhere a m) (g .1 .elsewhere a m)
+    at a (yes m) = subst (Same (q .state) (r .state)) (sym m) (held (member (barredPool (s .occupied)) n) refl (heldAt (s .slots) n) refl, h .1 .used ∙ sym (g .1 .used))
 
 -- an identifier is bound to an address first, or not
 module _ (slots : Slots) (u : Udid) where
@@ -179,8 +187,12 @@ module _ (slots : Slots) (u : Udid) where
 unbinds-both : (u : Udid) (s t v : Controller) → Unbinds u s t → Unbinds u s v → (a : ℕ) → Same v t a
 unbinds-both u s t v h g a = go (bound-at (s .slots) u a)
   where
+    used : BoundAt (s .slots) u a → (b : Bool) → member (startingPool (s .occupied)) a ≡ b → member (t .pool) a ≡ member (v .pool) a
+    used w true e = h .stays a w e ∙ sym (g .stays a w e)
+    used w false e = h .out a w e ∙ sym (g .out a w e)
+
     go : Dec (BoundAt (s .slots) u a) → Same v t a
-    go (yes w) = (h .there a w .0 ∙ sym (g .there a w .0), h .there a w .1 ∙ sym (g .there a w .1))
+    go (yes w) = (h .there a w ∙ sym (g .there a w), used w (member (startingPool (s .occupied)) a) refl)
     go (no n) = same-both s t v a (h .elsewhere a n) (g .elsewhere a n)
 
 -- one choice and one last pick, where the pools have the same addresses

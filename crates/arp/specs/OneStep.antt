@@ -11,6 +11,7 @@ use Rattle.scan.specs.declared.answer.Decoded.{Decoded}
 use Rattle.decode.specs.Outcome.{Outcome}
 use Rattle.pool.specs.NextFree.{Next}
 use Rattle.pool.specs.Pools.{member}
+use Rattle.pool.specs.Start.{startingPool, barredPool}
 use Rattle.pool.specs.declared.Pool.{Pool}
 use Rattle.udid.specs.Bytes.{udidBytes}
 use Rattle.udid.specs.declared.Udid.{Udid}
@@ -40,12 +41,12 @@ pub record Gives (protocol : ℕ) (tr : List ℕ) (n v : ℕ) : Type 0 where
 
 -- ---- what is handed out
 
--- k is handed out and kept as the last, and n Get UDIDs are counted; the starting pool stays
+-- k is handed out and kept as the last, and n Get UDIDs are counted; the occupied addresses stay
 pub record Hands (s : Controller) (r : Stepped) (k : Handed) (n : ℕ) : Type 0 where
   pub command : r .command ≡ k
   pub last : r .state .last ≡ k
   pub gets : r .state .gets ≡ n
-  pub starting : r .state .starting ≡ s .starting
+  pub occupied : r .state .occupied ≡ s .occupied
 
 -- Get UDID, with the count one up; when it would be the 129th of the pass: 14
 pub record Asks (s : Controller) (r : Stepped) : Type 0 where
@@ -80,23 +81,27 @@ pub record BoundAt (slots : Slots) (u : Udid) (a : ℕ) : Type 0 where
   pub here : heldAt slots a ≡ Bound u
   pub lowest : (b : ℕ) → b < a → heldAt slots b ≡ Bound u → ⊥
 
--- an identifier that was bound is unbound, and its address freed; every other address is as it was
+-- an identifier that was bound is unbound: its address is open, and out of the pool unless the starting pool has it; every other address is as it was
 pub record Unbinds (u : Udid) (s t : Controller) : Type 0 where
-  pub there : (a : ℕ) → BoundAt (s .slots) u a → (heldAt (t .slots) a ≡ Open) × (member (t .pool) a ≡ false)
+  pub there : (a : ℕ) → BoundAt (s .slots) u a → heldAt (t .slots) a ≡ Open
+  pub out : (a : ℕ) → BoundAt (s .slots) u a → member (startingPool (s .occupied)) a ≡ false → member (t .pool) a ≡ false
+  pub stays : (a : ℕ) → BoundAt (s .slots) u a → member (startingPool (s .occupied)) a ≡ true → member (t .pool) a ≡ member (s .pool) a
   pub elsewhere : (a : ℕ) → (BoundAt (s .slots) u a → ⊥) → Same s t a
 
--- the address is bound to the identifier, or, if it was in the pool just before, claimed by two; it is in the pool then, and every other
--- address is as it was, and the last pick
+-- the address is claimed by two if it is barred, or a target was bound there just before, or it was claimed; else it is bound to the identifier.
+-- It is in the pool then, and every other address is as it was, and the last pick
 pub record Binds (u : Udid) (a : ℕ) (s t : Controller) : Type 0 where
-  pub free : member (s .pool) a ≡ false → heldAt (t .slots) a ≡ Bound u
-  pub taken : member (s .pool) a ≡ true → heldAt (t .slots) a ≡ Claimed
+  pub free : member (barredPool (s .occupied)) a ≡ false → (heldAt (s .slots) a ≡ Open) ⊎ (heldAt (s .slots) a ≡ Left) → heldAt (t .slots) a ≡ Bound u
+  pub barred : member (barredPool (s .occupied)) a ≡ true → heldAt (t .slots) a ≡ Claimed
+  pub another : (w : Udid) → heldAt (s .slots) a ≡ Bound w → heldAt (t .slots) a ≡ Claimed
+  pub marked : heldAt (s .slots) a ≡ Claimed → heldAt (t .slots) a ≡ Claimed
   pub used : member (t .pool) a ≡ true
   pub elsewhere : (b : ℕ) → (b ≡ a → ⊥) → Same s t b
   pub picked : t .picked ≡ s .picked
 
 -- nothing changes but the addresses
 pub record Rest (s t : Controller) : Type 0 where
-  pub starting : t .starting ≡ s .starting
+  pub occupied : t .occupied ≡ s .occupied
   pub gets : t .gets ≡ s .gets
   pub last : t .last ≡ s .last
   pub picked : t .picked ≡ s .picked
@@ -104,8 +109,8 @@ pub record Rest (s t : Controller) : Type 0 where
 -- the address is left, and out of the pool unless the starting pool has it; every other address is as it was
 pub record Removes (a : ℕ) (s t : Controller) : Type 0 where
   pub left : heldAt (t .slots) a ≡ Left
-  pub out : member (s .starting) a ≡ false → member (t .pool) a ≡ false
-  pub stays : member (s .starting) a ≡ true → member (t .pool) a ≡ member (s .pool) a
+  pub out : member (startingPool (s .occupied)) a ≡ false → member (t .pool) a ≡ false
+  pub stays : member (startingPool (s .occupied)) a ≡ true → member (t .pool) a ≡ member (s .pool) a
   pub elsewhere : (b : ℕ) → (b ≡ a → ⊥) → Same s t b
 
 -- ---- both together
@@ -130,6 +135,6 @@ pub record Alike (r q : Stepped) : Type 0 where
   pub command : r .command ≡ q .command
   pub last : r .state .last ≡ q .state .last
   pub gets : r .state .gets ≡ q .state .gets
-  pub starting : r .state .starting ≡ q .state .starting
+  pub occupied : r .state .occupied ≡ q .state .occupied
   pub picked : r .state .picked ≡ q .state .picked
   pub same : (a : ℕ) → Same (q .state) (r .state) a

@@ -11,7 +11,8 @@ use lib.ListN.{length, getD, length-append}
 use lib.Seq.{getD-at}
 use borrow.Author.Tests.{lt-ltb, le-ltb, lt-leb, le-leb}
 use Rattle.lists.specs.AbsurdLaws.{zero-is-one}
-use Rattle.lists.specs.Choice.{pick}
+use Rattle.lists.specs.Choice.{pick, or}
+use Rattle.lists.specs.ChoiceLaws.{or-last}
 use Rattle.lists.specs.Each.{Bytes}
 use Rattle.lists.specs.EachLaws.{append-bytes}
 use Rattle.wire.specs.declared.address.Address.{Address}
@@ -20,7 +21,8 @@ use Rattle.scan.specs.declared.answer.Decoded.the-variants.{Done, Refused}
 use Rattle.pool.specs.NextFree.{nextFree}
 use Rattle.pool.specs.NextFreeLaws.{next-is, next-none}
 use Rattle.pool.specs.MemberLaws.{has-with-same, has-with-other, has-without-same, has-without-other}
-use Rattle.pool.specs.Pools.{member}
+use Rattle.pool.specs.Pools.{member, withoutAddress}
+use Rattle.pool.specs.Start.{startingPool, barredPool}
 use Rattle.pool.specs.declared.Pool.{Pool}
 use Rattle.pool.specs.declared.free.Free.{Free}
 use Rattle.pool.specs.declared.free.Free.the-variants.{At, AllUsed}
@@ -39,13 +41,13 @@ use Rattle.slots.specs.SlotsLaws.{held-above-is-open, held-same, held-other}
 use Rattle.arp.specs.ChangedLaws.{told-is-changed}
 use Rattle.hearing.specs.TraceLaws as traces
 use Rattle.arp.specs.Sound.{Nowhere}
-use Rattle.arp.specs.Bindings.{freedAt, freed, bindingFor, boundAt, bound}
+use Rattle.arp.specs.Bindings.{isHeld, makesClaim, freedAt, freed, bindingFor, boundAt, bound}
 use Rattle.slots.specs.Finding.{boundTo, findFrom}
 use Rattle.arp.specs.Controller.{handed, counted, asked, hasToPick, chosen, issued, replied, changed, stepped}
 use Rattle.hearing.specs.Heard.{answer, sentIn, isAssign}
 use Rattle.commands.specs.Codes.{blockWrite}
 use Rattle.commands.specs.CommandTraces.{prepareTrace, replyTrace, assignTrace}
-use Rattle.arp.specs.OneStep.{Gives, Hands, Asks, Chooses, Keeps, Same, BoundAt, Unbinds, Binds, Continues, EndsWith, Replies}
+use Rattle.arp.specs.OneStep.{Gives, Hands, Asks, Chooses, Keeps, BoundAt, Unbinds, Binds, Continues, EndsWith, Replies}
 use Rattle.arp.specs.Replay.{assigning}
 use Rattle.slots.specs.Slots.{Sized128, heldAt, withBinding}
 use Rattle.commands.specs.declared.command.Command.the-variants.{Prepare, GetUdid, Assign}
@@ -53,7 +55,7 @@ use Rattle.commands.specs.declared.command.End.the-variants.{Ended, NoneFree, A
 use Rattle.commands.specs.declared.command.Handed.{Handed}
 use Rattle.commands.specs.declared.command.Handed.the-variants.{Send, Wait}
 use Rattle.slots.specs.declared.Binding.{Binding}
-use Rattle.slots.specs.declared.Binding.the-variants.{Open, Bound}
+use Rattle.slots.specs.declared.Binding.the-variants.{Open, Bound, Claimed, Left}
 use Rattle.arp.specs.declared.state.Controller.{Controller}
 use Rattle.slots.specs.declared.Slots.{Slots}
 use Rattle.arp.specs.declared.state.Stepped.{Stepped}
@@ -63,13 +65,13 @@ use Rattle.hearing.specs.declared.told.Told.the-variants.{Again, Over, GivenUp,
 -- ---- what is handed out
 
 -- from a state with the same counts
-hands : (s t : Controller) (k : Handed) (n : ℕ) → t .gets ≡ n → t .starting ≡ s .starting → Hands s (handed t k) k n
-hands s t k n g e = record { command = refl; last = refl; gets = g; starting = e }
+hands : (s t : Controller) (k : Handed) (n : ℕ) → t .gets ≡ n → t .occupied ≡ s .occupied → Hands s (handed t k) k n
+hands s t k n g e = record { command = refl; last = refl; gets = g; occupied = e }
 
 ends : (s : Controller) (k : Handed) → Hands s (handed s k) k (s .gets)
 ends s k = hands s s k (s .gets) refl refl
 
-asks : (s t : Controller) → t .gets ≡ s .gets → t .starting ≡ s .starting → Asks s (asked t)
+asks : (s t : Controller) → t .gets ≡ s .gets → t .occupied ≡ s .occupied → Asks s (asked t)
 unfolding asked
 asks s t g e = record { again = more; limit = full }
   where
@@ -113,7 +115,7 @@ module _ (s : Controller) (u : Udid) (size : Sized128 (s .slots)) where
   never h e q = zero-is-one (cc (sym e ∙ ap (boundTo u) q ∙ same-refl u))
 
   unbinds-none : Nowhere u (s .slots) 0 → Unbinds u s s
-  unbinds-none n = record { there = λ a w. absurd (gone a w (decLt a 128)); elsewhere = λ a w. (refl, refl) }
+  unbinds-none n = record { there = λ a w. absurd (gone a w (decLt a 128)); out = λ a w q. absurd (gone a w (decLt a 128)); stays = λ a w q. refl; elsewhere = λ a w. (refl, refl) }
     where
       gone : (a : ℕ) → BoundAt (s .slots) u a → Dec (a < 128) → ⊥
       gone a w (yes h) = never (heldAt (s .slots) a) (n a (omega arith) h) (w .here)
@@ -133,15 +135,18 @@ module _ (s : Controller) (u : Udid) (size : Sized128 (s .slots)) where
 
     unbinds-at : Unbinds u s (freedAt s f)
     unbinds-at = record {
-      there = λ a w. (
-        ap (heldAt (withBinding (s .slots) f Open)) (it a w) ∙ held-same (s .slots) f Open size h,
-        ap (member (freedAt s f .pool)) (it a w) ∙ has-without-same (s .pool) f,
-      );
-      elsewhere = λ a n. other a (λ q. n (subst (BoundAt (s .slots) u) (sym q) found));
+      there = λ a w. ap (heldAt (withBinding (s .slots) f Open)) (it a w) ∙ held-same (s .slots) f Open size h;
+      out = λ a w q. ap (member (freedAt s f .pool)) (it a w) ∙ ap (then f) (ap (member (startingPool (s .occupied))) (sym (it a w)) ∙ q) ∙ has-without-same (s .pool) f;
+      stays = λ a w q. ap (then a) (ap (member (startingPool (s .occupied))) (sym (it a w)) ∙ q);
+      elsewhere = λ a n. other a (λ q. n (subst (BoundAt (s .slots) u) (sym q) found)) (member (startingPool (s .occupied)) f);
     }
       where
-        other : (a : ℕ) → (a ≡ f → ⊥) → Same s (freedAt s f) a
-        other a n = (held-other (s .slots) f a Open n, has-without-other (s .pool) f a n)
+        then : ℕ → Bool → Bool
+        then a t = member (pick t (s .pool) (withoutAddress (s .pool) f)) a
+
+        other : (a : ℕ) → (a ≡ f → ⊥) → (t : Bool) → (heldAt (withBinding (s .slots) f Open) a ≡ heldAt (s .slots) a) × (then a t ≡ member (s .pool) a)
+        other a n true = (held-other (s .slots) f a Open n, refl)
+        other a n false = (held-other (s .slots) f a Open n, has-without-other (s .pool) f a n)
 
   unbinds : Unbinds u s (freed s u)
   unfolding freed
@@ -155,19 +160,30 @@ module _ (s : Controller) (u : Udid) (size : Sized128 (s .slots)) where
 -- ---- binding
 
 module _ (s : Controller) (u : Udid) (a : ℕ) (size : Sized128 (s .slots)) (h : a < 128) where
-  slot-is : (b : Bool) → member (s .pool) a ≡ b → heldAt (boundAt s u a .slots) a ≡ bindingFor b u
-  slot-is b e =
-      held-same (s .slots) a (bindingFor (member (s .pool) a) u) size h
-      ∙ ap (λ (x : Bool). bindingFor x u) e
+  slot-is : (b : Bool) → makesClaim (s .occupied) (heldAt (s .slots) a) a ≡ b → heldAt (boundAt s u a .slots) a ≡ bindingFor b u
+  slot-is b e = held-same (s .slots) a (bindingFor (makesClaim (s .occupied) (heldAt (s .slots) a) a) u) size h ∙ ap (λ (x : Bool). bindingFor x u) e
+
+  -- by whether it is barred, and what it was known for
+  taken-by : (b : Bool) (x : Binding) → member (barredPool (s .occupied)) a ≡ b → heldAt (s .slots) a ≡ x → makesClaim (s .occupied) (heldAt (s .slots) a) a ≡ or b (isHeld x)
+  taken-by b x e k = ap₂ (λ (t : Bool) (y : Binding). or t (isHeld y)) e k
+
+  was-held : (x : Binding) → heldAt (s .slots) a ≡ x → isHeld x ≡ true → heldAt (boundAt s u a .slots) a ≡ Claimed
+  was-held x k t = slot-is true (taken-by (member (barredPool (s .occupied)) a) x refl k ∙ ap (or (member (barredPool (s .occupied)) a)) t ∙ or-last (member (barredPool (s .occupied)) a))
 
   binds-at : Binds u a s (boundAt s u a)
   binds-at = record {
-    free = λ e. slot-is false e;
-    taken = λ e. slot-is true e;
+    free = λ e w. slot-is false (empty e w);
+    barred = λ e. slot-is true (taken-by true (heldAt (s .slots) a) e refl);
+    another = λ w k. was-held (Bound w) k refl;
+    marked = λ k. was-held Claimed k refl;
     used = has-with-same (s .pool) a h;
-    elsewhere = λ b n. (held-other (s .slots) a b (bindingFor (member (s .pool) a) u) n, has-with-other (s .pool) a b n);
+    elsewhere = λ b n. (held-other (s .slots) a b (bindingFor (makesClaim (s .occupied) (heldAt (s .slots) a) a) u) n, has-with-other (s .pool) a b n);
     picked = refl;
   }
+    where
+      empty : member (barredPool (s .occupied)) a ≡ false → (heldAt (s .slots) a ≡ Open) ⊎ (heldAt (s .slots) a ≡ Left) → makesClaim (s .occupied) (heldAt (s .slots) a) a ≡ false
+      empty e (inl k) = taken-by false Open e k
+      empty e (inr k) = taken-by false Left e k
 
   binds : Binds u a s (bound s u a)
   unfolding bound
@@ -176,8 +192,10 @@ module _ (s : Controller) (u : Udid) (a : ℕ) (size : Sized128 (s .slots)) (h :
 -- what was done to the addresses stands when Get UDID is due
 binds-kept : (u : Udid) (a : ℕ) (s t r : Controller) → Binds u a s t → Keeps t r → Binds u a s r
 binds-kept u a s t r b k = record {
-  free = λ e. ap (λ (x : Slots). heldAt x a) (k .slots) ∙ b .free e;
-  taken = λ e. ap (λ (x : Slots). heldAt x a) (k .slots) ∙ b .taken e;
+  free = λ e w. ap (λ (x : Slots). heldAt x a) (k .slots) ∙ b .free e w;
+  barred = λ e. ap (λ (x : Slots). heldAt x a) (k .slots) ∙ b .barred e;
+  another = λ w e. ap (λ (x : Slots). heldAt x a) (k .slots) ∙ b .another w e;
+  marked = λ e. ap (λ (x : Slots). heldAt x a) (k .slots) ∙ b .marked e;
   used = ap (λ (p : Pool). member p a) (k .pool) ∙ b .used;
   elsewhere = λ c n. (
     ap (λ (x : Slots). heldAt x c) (k .slots) ∙ b .elsewhere c n .0,
@@ -186,19 +204,19 @@ binds-kept u a s t r b k = record {
   picked = k .picked ∙ b .picked;
 }
 
-starting-bound : (s : Controller) (u : Udid) (a : ℕ) → bound s u a .starting ≡ s .starting
+occupied-bound : (s : Controller) (u : Udid) (a : ℕ) → bound s u a .occupied ≡ s .occupied
 unfolding bound
-starting-bound s u a = go (ltb 127 a)
+occupied-bound s u a = go (ltb 127 a)
   where
-    go : (b : Bool) → pick b s (boundAt s u a) .starting ≡ s .starting
+    go : (b : Bool) → pick b s (boundAt s u a) .occupied ≡ s .occupied
     go true = refl
     go false = refl
 
-starting-freed : (s : Controller) (u : Udid) → freed s u .starting ≡ s .starting
+occupied-freed : (s : Controller) (u : Udid) → freed s u .occupied ≡ s .occupied
 unfolding freed
-starting-freed s u = go (ltb 127 (findFrom u (s .slots) 128 0))
+occupied-freed s u = go (ltb 127 (findFrom u (s .slots) 128 0))
   where
-    go : (b : Bool) → pick b s (freedAt s (findFrom u (s .slots) 128 0)) .starting ≡ s .starting
+    go : (b : Bool) → pick b s (freedAt s (findFrom u (s .slots) 128 0)) .occupied ≡ s .occupied
     go true = refl
     go false = refl
 
@@ -249,14 +267,14 @@ module _ (s : Controller) (u : Udid) (b : ℕ) (small : s .picked < 128) (f : Fi
 
   replies-with : (k : Free) → chosen (freed s u .pool) (freed s u .picked) u b ≡ k → Replies s u b (issued (freed s u) u (hasToPick (freed s u .pool) u b) k)
   replies-with (At a) e = record {
-    unbinds = record { there = unbinds s u size .there; elsewhere = unbinds s u size .elsewhere };
+    unbinds = record { there = unbinds s u size .there; out = unbinds s u size .out; stays = unbinds s u size .stays; elsewhere = unbinds s u size .elsewhere };
     chooses = chooses-freed (At a) e;
-    hands = record { command = refl; last = refl; gets = freed-keeps-gets s u; starting = starting-freed s u };
+    hands = record { command = refl; last = refl; gets = freed-keeps-gets s u; occupied = occupied-freed s u };
   }
   replies-with AllUsed e = record {
-    unbinds = record { there = unbinds s u size .there; elsewhere = unbinds s u size .elsewhere };
+    unbinds = record { there = unbinds s u size .there; out = unbinds s u size .out; stays = unbinds s u size .stays; elsewhere = unbinds s u size .elsewhere };
     chooses = chooses-freed AllUsed e;
-    hands = hands s (freed s u) (Wait (NoneFree u)) (s .gets) (freed-keeps-gets s u) (starting-freed s u);
+    hands = hands s (freed s u) (Wait (NoneFree u)) (s .gets) (freed-keeps-gets s u) (occupied-freed s u);
   }
 
   replies : Replies s u b (replied s u b)
@@ -334,7 +352,7 @@ module _ (s : Controller) (tr : List ℕ) where
   assign-whole size u a e f h q =
       subst (λ (r : Stepped). Asks s r × Binds u (a .0) s (r .state))
       (sym (told-is-changed s tr (Send (Assign u a)) (Took u a) e (traces.assign-whole u a tr f (q ∙ sym (assign-symbols-small u a h))))) (
-        asks s (bound s u (a .0)) (bound-keeps-gets s u (a .0)) (starting-bound s u (a .0)),
+        asks s (bound s u (a .0)) (bound-keeps-gets s u (a .0)) (occupied-bound s u (a .0)),
         binds-kept u (a .0) s (bound s u (a .0)) (asked (bound s u (a .0)) .state) (binds s u (a .0) size h) (keeps-asked (bound s u (a .0))),
       )
 

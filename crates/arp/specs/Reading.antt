@@ -8,6 +8,7 @@ use lib.ListN.{length}
 use Rattle.wire.specs.declared.address.Address.{Address}
 use Rattle.scan.specs.declared.answer.Decoded.{Decoded}
 use Rattle.decode.specs.Outcome.{Outcome}
+use Rattle.pool.specs.declared.Pool.{Pool}
 use Rattle.udid.specs.Bytes.{udidBytes}
 use Rattle.udid.specs.Udids.{Fits}
 use Rattle.udid.specs.declared.Udid.{Udid}
@@ -30,11 +31,11 @@ pub record Reading (tr : List ℕ) : Type 0 where
   -- a reply is due; for Block Write, with the data sent, where an Assign is outstanding; for Send Byte after Prepare
   pub reply : (sent₀ received₀ : List ℕ) (d : Decoded) (sent received : List ℕ) → 255 ≤ length sent₀ → 255 ≤ length received₀
       → Outcome 9 true tr sent₀ received₀ d sent received
-      → (readAs (Send GetUdid) tr ≡ replyIn d received) × ((t : Table) (l n : ℕ) → nextCommand t l n (Send GetUdid) tr ≡ nextReply t l n d received)
+      → (readAs (Send GetUdid) tr ≡ replyIn d received) × ((o : Pool) (t : Table) (l n : ℕ) → nextCommand o t l n (Send GetUdid) tr ≡ nextReply o t l n d received)
   pub assign : (sent₀ received₀ : List ℕ) (d : Decoded) (sent received : List ℕ) → 255 ≤ length sent₀ → 255 ≤ length received₀
       → Outcome 8 true tr sent₀ received₀ d sent received → (u : Udid) (a : Address) → readAs (Send (Assign u a)) tr ≡ assignIn u (a .0) d sent
   pub prepare : (sent₀ received₀ : List ℕ) (d : Decoded) (sent received : List ℕ) → 255 ≤ length sent₀ → 255 ≤ length received₀
-      → Outcome 1 true tr sent₀ received₀ d sent received → (t : Table) (l n : ℕ) → nextCommand t l n (Send Prepare) tr ≡ nextPrepare n d sent
+      → Outcome 1 true tr sent₀ received₀ d sent received → (o : Pool) (t : Table) (l n : ℕ) → nextCommand o t l n (Send Prepare) tr ≡ nextPrepare n d sent
   -- as symbols: a reply, exactly if Get UDID is outstanding and the trace is Get UDID with 17 bytes, the identifier's first
   pub replied : (k : Handed) (u : Udid) → Fits u → (readAs k tr ≡ Replied u) ↔ ((k ≡ Send GetUdid) × ReplyOf u tr)
   -- a complete Assign, exactly if it is outstanding and the trace is that Assign, acknowledged whole

@@ -1,4 +1,4 @@
--- What is bound, claimed and left, and what the pool has, told by the events alone, in the scope's sentences. Nothing here cites the
+-- What is bound, claimed and left, and what the pool has, told by the events alone, in the scope's sentences. The table does not cite the
 -- controller's own definitions of freeing, binding or stepping: an event is read from the command that was handed out last and from what
 -- decode answers for the trace (specs/Reading.antt).
 use Prim.Native.Nat.{ℕ, zero, suc, _*_, _/_, _%_, _<_}
@@ -8,12 +8,12 @@ use mathlib.Core.List.{List, [], _∷_}
 use mathlib.Core.Logic.{_⊎_}
 use lib.Dec.{ltb, leb, eqb}
 use lib.ListN.{getD}
-use Rattle.lists.specs.Choice.{pick, and}
+use Rattle.lists.specs.Choice.{pick, or, and}
 use Rattle.scan.specs.Numbers.{isNack}
 use Rattle.scan.specs.declared.answer.Decoded.{Decoded}
 use Rattle.scan.specs.declared.answer.Decoded.the-variants.{Done, Refused}
 use Rattle.pool.specs.Pools.{member}
-use Rattle.pool.specs.Start.{startingPool}
+use Rattle.pool.specs.Start.{startingPool, barredPool}
 use Rattle.pool.specs.declared.Pool.{Pool}
 use Rattle.pool.specs.declared.free.Free.{Free}
 use Rattle.pool.specs.declared.free.Free.the-variants.{At, AllUsed}
@@ -68,37 +68,45 @@ isBound (Bound u) = true
 isBound Claimed = false
 isBound Left = false
 
--- nothing bound, claimed or left, and the starting pool
-abbrev pub emptied : (ℕ → Bool) → Table
-emptied starting = record { held = λ a. Open; used = starting }
+-- a target is bound there, or two claim it
+abbrev pub isBoundOrClaimed : Binding → Bool
+isBoundOrClaimed Open = false
+isBoundOrClaimed (Bound u) = true
+isBoundOrClaimed Claimed = true
+isBoundOrClaimed Left = false
 
--- u is bound nowhere; the address that it was bound to is open, and out of the pool
-abbrev pub released : Udid → Table → Table
-released u t =
+-- nothing bound, claimed or left, and the starting pool
+abbrev pub emptied : Pool → Table
+emptied occupied = record { held = λ a. Open; used = member (startingPool occupied) }
+
+-- u is bound nowhere; the address that it was bound to is open, and out of the pool unless the starting pool has it
+abbrev pub released : Pool → Udid → Table → Table
+released occupied u t =
     record {
       held = λ a. pick (holds u (t .held a)) Open (t .held a);
-      used = λ a. pick (holds u (t .held a)) false (t .used a);
+      used = λ a. pick (holds u (t .held a)) (and (member (startingPool occupied) a) (t .used a)) (t .used a);
     }
 
-abbrev pub after : (ℕ → Bool) → Happened → Table → Table
+-- by the occupied addresses
+abbrev pub after : Pool → Happened → Table → Table
 -- a start empties all bindings, claims and what is left, and sets the pool back to the starting pool
-after starting Started t = emptied starting
--- a reply with an identifier that is bound makes its address open and takes it out of the pool
-after starting (Replied u) t = released u t
--- a complete Assign binds its address and adds it to the pool; if the address was in the pool just before, it is claimed
-after starting (Assigned u b) t =
+after occupied Started t = emptied occupied
+-- a reply with an identifier that is bound makes its address open and takes it out of the pool, unless the starting pool has it
+after occupied (Replied u) t = released occupied u t
+-- a complete Assign binds its address and adds it to the pool; if the address is barred, or a target was bound there, or it was claimed, it is claimed
+after occupied (Assigned u b) t =
     record {
-      held = λ a. pick (eqb a b) (pick (t .used b) Claimed (Bound u)) (t .held a);
+      held = λ a. pick (eqb a b) (pick (or (member (barredPool occupied) b) (isBoundOrClaimed (t .held b))) Claimed (Bound u)) (t .held a);
       used = λ a. pick (eqb a b) true (t .used a);
     }
 -- a report of an address to which a target is bound: it is left, and out of the pool unless the starting pool has it
-after starting (Pulled b) t =
+after occupied (Pulled b) t =
     record {
       held = λ a. pick (and (eqb a b) (isBound (t .held a))) Left (t .held a);
-      used = λ a. pick (and (eqb a b) (isBound (t .held a))) (and (starting a) (t .used a)) (t .used a);
+      used = λ a. pick (and (eqb a b) (isBound (t .held a))) (and (member (startingPool occupied) a) (t .used a)) (t .used a);
     }
 -- nothing else changes any of them
-after starting Other t = t
+after occupied Other t = t
 
 -- ---- how a trace is read
 
@@ -140,8 +148,8 @@ happened occupied last es (Gone a) = Pulled a
 
 -- the table after events, the latest first
 unfoldable pub table : Pool → ℕ → List Event → Table
-table occupied last [] = emptied (member (startingPool occupied))
-table occupied last (e ∷ es) = after (member (startingPool occupied)) (happened occupied last es e) (table occupied last es)
+table occupied last [] = emptied occupied
+table occupied last (e ∷ es) = after occupied (happened occupied last es e) (table occupied last es)
 
 -- the scope's number of a lookup for what an address is known for
 abbrev pub numberOf : Binding → ℕ × List Udid
@@ -192,16 +200,16 @@ nextPrepare n (Refused w k) sent = pick (isNack w) (Wait Ended) (Wait Abandoned)
 
 -- a reply of 17 bytes: an address is assigned, from the pool with what the identifier was bound to freed. A complete reply of another
 -- count, or answer 6 at byte 0, 1 or 2: the pass ends. Another address or command, or any other refusal: Get UDID again
-abbrev pub nextReply : Table → ℕ → ℕ → Decoded → List ℕ → Handed
-nextReply t last n (Done x) received =
+abbrev pub nextReply : Pool → Table → ℕ → ℕ → Decoded → List ℕ → Handed
+nextReply occupied t last n (Done x) received =
     pick (and (eqb (x .address .0) 0x61) (eqb (x .command) 0x03))
-    (pick (eqb (x .received) 17) (assigning (udidAt received 0) (givenTo (released (udidAt received 0) t .used) last (udidAt received 0) (getD received 16 0))) (Wait Ended))
+    (pick (eqb (x .received) 17) (assigning (udidAt received 0) (givenTo (released occupied (udidAt received 0) t .used) last (udidAt received 0) (getD received 16 0))) (Wait Ended))
     (again n)
-nextReply t last n (Refused w k) received = pick (and (isNack w) (ltb k 3)) (Wait Ended) (again n)
+nextReply occupied t last n (Refused w k) received = pick (and (isNack w) (ltb k 3)) (Wait Ended) (again n)
 
 -- after an Assign, complete or not: Get UDID. With no command of a pass outstanding: 21
-abbrev pub nextCommand : Table → ℕ → ℕ → Handed → List ℕ → Handed
-nextCommand t last n (Send Prepare) tr = nextPrepare n (answer 1 tr) (sentIn 1 tr)
-nextCommand t last n (Send GetUdid) tr = nextReply t last n (answer 9 tr) (receivedIn 9 tr)
-nextCommand t last n (Send (Assign u a)) tr = again n
-nextCommand t last n (Wait e) tr = Wait NotOutstanding
+abbrev pub nextCommand : Pool → Table → ℕ → ℕ → Handed → List ℕ → Handed
+nextCommand occupied t last n (Send Prepare) tr = nextPrepare n (answer 1 tr) (sentIn 1 tr)
+nextCommand occupied t last n (Send GetUdid) tr = nextReply occupied t last n (answer 9 tr) (receivedIn 9 tr)
+nextCommand occupied t last n (Send (Assign u a)) tr = again n
+nextCommand occupied t last n (Wait e) tr = Wait NotOutstanding

@@ -1,14 +1,17 @@
 -- What an address is known for by what happened since the start of the pass: what went over the wire, which reports were answered 0, and, for a
--- bind, whether the pool had the address just before. Nothing here cites how the controller binds or unbinds.
+-- bind, what the address was known for just before. Nothing here cites how the controller binds or unbinds.
 use Prim.Native.Nat.{ℕ, _*_}
 use mathlib.Core.Path.{_≡_}
 use mathlib.Core.Bool.{false}
 use mathlib.Core.List.{List, [], _∷_}
 use mathlib.Core.Logic.{_⊎_}
 use Rattle.pool.specs.Pools.{member}
+use Rattle.pool.specs.Start.{barredPool}
 use Rattle.pool.specs.declared.Pool.{Pool}
 use Rattle.udid.specs.Bytes.{udidBytes}
 use Rattle.udid.specs.declared.Udid.{Udid}
+use Rattle.slots.specs.Slots.{heldAt}
+use Rattle.slots.specs.declared.Binding.the-variants.{Open, Left}
 use Rattle.commands.specs.CommandTraces.{assignTrace, ReplyOf}
 use Rattle.commands.specs.declared.command.Command.the-variants.{GetUdid, Assign}
 use Rattle.commands.specs.declared.command.Handed.the-variants.{Send}
@@ -29,13 +32,18 @@ RepliedBy occupied last es tr u = (handedOut occupied last es ≡ Send GetUdid) 
 abbrev pub Removed : Pool → ℕ → List Event → ℕ → Type 0
 Removed occupied last es a = lookupNumber (reported (run occupied last es) a .found) .0 ≡ 0
 
--- an Assign of a to u completed while a was not in the pool, and since then there was no start, no report of a that was answered 0, no reply of
+-- the address is not barred, nobody is bound there, and two do not claim it
+abbrev pub Untaken : Pool → ℕ → List Event → ℕ → Type 0
+Untaken occupied last es a =
+    (member (barredPool occupied) a ≡ false) × ((heldAt (run occupied last es .slots) a ≡ Open) ⊎ (heldAt (run occupied last es .slots) a ≡ Left))
+
+-- an Assign of a to u completed while a was untaken, and since then there was no start, no report of a that was answered 0, no reply of
 -- u, and no other Assign of a that completed
 unfoldable pub BoundSince : Pool → ℕ → List Event → Udid → ℕ → Type 0
 BoundSince occupied last [] u a = ⊥
 BoundSince occupied last (Start ∷ es) u a = ⊥
 BoundSince occupied last (Received tr ∷ es) u a =
-    (Completes occupied last es tr u a × (member (run occupied last es .pool) a ≡ false))
+    (Completes occupied last es tr u a × Untaken occupied last es a)
     ⊎ (BoundSince occupied last es u a × (RepliedBy occupied last es tr u → ⊥) × ((w : Udid) → Completes occupied last es tr w a → ⊥))
 BoundSince occupied last (Gone b ∷ es) u a = BoundSince occupied last es u a × ((b ≡ a) × Removed occupied last es b → ⊥)
 

@@ -1,32 +1,32 @@
 -- What lookup answers, told by what happened since the start of the pass: 0 with u, and 20, each exactly then (specs/SinceStart.antt).
-use Prim.Native.Nat.{ℕ, _<_}
+use Prim.Native.Nat.{ℕ}
 use mathlib.Core.Path.{_≡_, refl, sym, ap, ap₂, _∙_, subst}
 use mathlib.Core.Bool.{Bool, true, false}
-use mathlib.Core.List.{List, [], _∷_}
-use mathlib.Core.Logic.{_⊎_, inl, inr, _↔_, Iff·trans}
+use mathlib.Core.List.{List, [], _∷_, _++_}
+use mathlib.Core.Logic.{_⊎_, inl, inr, _↔_}
 use native.Mathlib.Decide.{ℕ-discrete}
-use native.Mathlib.Omega.{arith}
 use lib.Dec.{eqb}
 use borrow.Author.Tests.{eq-eqb, ne-eqb}
 use Rattle.lists.specs.AbsurdLaws.{zero-is-one}
-use Rattle.lists.specs.Choice.{pick, and}
-use Rattle.wire.specs.declared.address.Address.{Address}
+use Rattle.lists.specs.Choice.{pick, or, and}
+use Rattle.lists.specs.ChoiceLaws.{neither, or-last}
 use Rattle.pool.specs.Pools.{member}
-use Rattle.pool.specs.Start.{startingPool}
+use Rattle.pool.specs.Start.{startingPool, barredPool}
 use Rattle.pool.specs.declared.Pool.{Pool}
 use Rattle.udid.specs.UdidLaws.{same-equal, same-refl}
 use Rattle.udid.specs.Udids.{sameUdid, Fits}
 use Rattle.udid.specs.declared.Udid.{Udid}
+use Rattle.slots.specs.Finding.{boundTo}
 use Rattle.slots.specs.Slots.{heldAt}
-use Rattle.slots.specs.SlotsLaws.{held-above-is-open, open-all}
+use Rattle.slots.specs.SlotsLaws.{open-all}
 use Rattle.slots.specs.declared.Binding.{Binding}
 use Rattle.slots.specs.declared.Binding.the-variants.{Open, Bound, Claimed, Left}
 use Rattle.commands.specs.declared.command.Command.the-variants.{Assign}
-use Rattle.commands.specs.declared.command.Handed.{Handed}
 use Rattle.commands.specs.declared.command.Handed.the-variants.{Send}
-use Rattle.arp.specs.Gone.{reported}
-use Rattle.arp.specs.GoneLaws.{bound-small, left-small, answered-0}
-use Rattle.arp.specs.History.{Event, Start, Received, Gone, run}
+use Rattle.arp.specs.BindingLaws.{unheld-is-open-or-left}
+use Rattle.arp.specs.Bindings.{isHeld, makesClaim}
+use Rattle.arp.specs.GoneLaws.{which-bound, bound-small, left-small, answered-0}
+use Rattle.arp.specs.History.{Event, Start, Received, Gone, NoStart, run}
 use Rattle.arp.specs.HistoryLaws.{reached-good, reached-invariant}
 use Rattle.arp.specs.Lookup.{lookedUp}
 use Rattle.arp.specs.LookupLaws.{lookup-0, lookup-20}
@@ -35,8 +35,8 @@ use Rattle.arp.specs.OutstandingLaws.{handed-out-is-last}
 use Rattle.arp.specs.Reading.{OfTrace}
 use Rattle.arp.specs.ReadingLaws.{read-of-trace, replied-exactly, assigned-exactly, read-assign-is-outstanding}
 use Rattle.arp.specs.Replay.{Happened, Started, Replied, Assigned, Pulled, Other, Table, holds, isBound, after, readAs, handedOut, happened, view}
-use Rattle.arp.specs.SinceStart.{Completes, RepliedBy, Removed, BoundSince, LeftSince}
-use Rattle.arp.specs.Sound.{Pending, PendingIn}
+use Rattle.arp.specs.SinceStart.{Completes, RepliedBy, Removed, Untaken, BoundSince, LeftSince}
+use Rattle.arp.specs.Sound.{Unbound, Pending, PendingIn}
 use Rattle.arp.specs.TableLaws.{event-view}
 use Rattle.arp.specs.declared.state.Controller.{Controller}
 
@@ -57,8 +57,19 @@ module _ (occupied : Pool) (last : ℕ) (es : List Event) where
   abbrev before : Controller
   before = run occupied last es
 
+  -- an Assign of the address would make a claim of it
+  abbrev taken : ℕ → Bool
+  taken a = makesClaim occupied (heldAt (before .slots) a) a
+
+  untaken-is : (a : ℕ) → (taken a ≡ false) ↔ Untaken occupied last es a
+  untaken-is a = (λ e. (let n = neither (member (barredPool occupied) a) (isHeld (heldAt (before .slots) a)) e in (n .0, unheld-is-open-or-left (heldAt (before .slots) a) (n .1))), λ w. empty (w .0) (w .1))
+    where
+      empty : member (barredPool occupied) a ≡ false → (heldAt (before .slots) a ≡ Open) ⊎ (heldAt (before .slots) a ≡ Left) → taken a ≡ false
+      empty e (inl k) = ap₂ (λ (t : Bool) (x : Binding). or t (isHeld x)) e k
+      empty e (inr k) = ap₂ (λ (t : Bool) (x : Binding). or t (isHeld x)) e k
+
   -- what an address is known for after it
-  held-after : (e : Event) (a : ℕ) → heldAt (run occupied last (e ∷ es) .slots) a ≡ after (member (startingPool occupied)) (happened occupied last es e) (view before) .held a
+  held-after : (e : Event) (a : ℕ) → heldAt (run occupied last (e ∷ es) .slots) a ≡ after occupied (happened occupied last es e) (view before) .held a
   held-after e a = ap (λ (t : Table). t .held a) (event-view occupied last es e)
 
   module _ (tr : List ℕ) where
@@ -84,7 +95,7 @@ module _ (occupied : Pool) (last : ℕ) (es : List Event) where
     -- an Assign of it completes; or none does, and the target that is bound there replies, and is unbound; or neither, and it is as it was
     abbrev Fate : ℕ → Type 0
     Fate a =
-        ((w : Udid) × Completes occupied last es tr w a × (later a ≡ pick (member (before .pool) a) Claimed (Bound w)))
+        ((w : Udid) × Completes occupied last es tr w a × (later a ≡ pick (taken a) Claimed (Bound w)))
         ⊎ (((w : Udid) → Completes occupied last es tr w a → ⊥)
         × (((u : Udid) × (heldAt (before .slots) a ≡ Bound u) × RepliedBy occupied last es tr u × (later a ≡ Open))
         ⊎ (((u : Udid) → heldAt (before .slots) a ≡ Bound u → RepliedBy occupied last es tr u → ⊥) × (later a ≡ heldAt (before .slots) a))))
@@ -96,8 +107,8 @@ module _ (occupied : Pool) (last : ℕ) (es : List Event) where
         fits u k = reached-good occupied last es .0 .sound .fits a u k
 
         -- what is known of it then, where the trace is read as x
-        read : (x : Happened) → readAs (handedOut occupied last es) tr ≡ x → later a ≡ after (member (startingPool occupied)) x (view before) .held a
-        read x q = held-after (Received tr) a ∙ ap (λ (y : Happened). after (member (startingPool occupied)) y (view before) .held a) q
+        read : (x : Happened) → readAs (handedOut occupied last es) tr ≡ x → later a ≡ after occupied x (view before) .held a
+        read x q = held-after (Received tr) a ∙ ap (λ (y : Happened). after occupied y (view before) .held a) q
 
         no-assign : (x : Happened) → readAs (handedOut occupied last es) tr ≡ x → ((w : Udid) → x ≡ Assigned w a → ⊥) → (w : Udid) → Completes occupied last es tr w a → ⊥
         no-assign x q n w c = n w (sym q ∙ completes-is-read w a .0 c)
@@ -121,13 +132,13 @@ module _ (occupied : Pool) (last : ℕ) (es : List Event) where
         assign : (w : Udid) (b : ℕ) → readAs (handedOut occupied last es) tr ≡ Assigned w b → Dec (a ≡ b) → Fate a
         assign w b q (yes d) =
             let e : readAs (handedOut occupied last es) tr ≡ Assigned w a = q ∙ ap (Assigned w) (sym d) in
-            inl (w, completes-is-read w a .1 e, read (Assigned w a) e ∙ ap (λ (t : Bool). pick t (pick (member (before .pool) a) Claimed (Bound w)) (heldAt (before .slots) a)) (eq-eqb a a refl))
+            inl (w, completes-is-read w a .1 e, read (Assigned w a) e ∙ ap (λ (t : Bool). pick t (pick (taken a) Claimed (Bound w)) (heldAt (before .slots) a)) (eq-eqb a a refl))
         assign w b q (no d) =
             inr (
               no-assign (Assigned w b) q (λ v m. d (sym (second m))),
               inr (
                 λ u k. no-reply (Assigned w b) q u k (λ m. zero-is-one (cc m)),
-                read (Assigned w b) q ∙ ap (λ (t : Bool). pick t (pick (member (before .pool) b) Claimed (Bound w)) (heldAt (before .slots) a)) (ne-eqb a b d),
+                read (Assigned w b) q ∙ ap (λ (t : Bool). pick t (pick (taken b) Claimed (Bound w)) (heldAt (before .slots) a)) (ne-eqb a b d),
               ),
             )
           where
@@ -143,21 +154,21 @@ module _ (occupied : Pool) (last : ℕ) (es : List Event) where
 
     -- ---- an address that is bound after it
 
-    -- an Assign of it completed, and it was not in the pool; or it was bound before, and neither its identifier replied nor an Assign of it completed
+    -- an Assign of it completed, and it was untaken; or it was bound before, and neither its identifier replied nor an Assign of it completed
     abbrev Either : Udid → ℕ → Type 0
     Either u a =
-        (Completes occupied last es tr u a × (member (before .pool) a ≡ false))
+        (Completes occupied last es tr u a × Untaken occupied last es a)
         ⊎ ((heldAt (before .slots) a ≡ Bound u) × (RepliedBy occupied last es tr u → ⊥) × ((w : Udid) → Completes occupied last es tr w a → ⊥))
 
     bound-then : (a : ℕ) (u : Udid) → later a ≡ Bound u → Either u a
     bound-then a u e = go (fate a)
       where
-        assigned : (w : Udid) → Completes occupied last es tr w a → (t : Bool) → member (before .pool) a ≡ t → pick t Claimed (Bound w) ≡ Bound u → Either u a
+        assigned : (w : Udid) → Completes occupied last es tr w a → (t : Bool) → taken a ≡ t → pick t Claimed (Bound w) ≡ Bound u → Either u a
         assigned w c true m z = zero-is-one (cc z)
-        assigned w c false m z = let v : w ≡ u = cc z in inl (subst (λ (x : Udid). Completes occupied last es tr x a) v c, m)
+        assigned w c false m z = let v : w ≡ u = cc z in inl (subst (λ (x : Udid). Completes occupied last es tr x a) v c, untaken-is a .0 m)
 
         go : Fate a → Either u a
-        go (inl (w, c, q)) = assigned w c (member (before .pool) a) refl (sym q ∙ e)
+        go (inl (w, c, q)) = assigned w c (taken a) refl (sym q ∙ e)
         go (inr (n, inl (w, k, r, q))) = zero-is-one (cc (q, e))
         go (inr (n, inr (m, q))) = let k : heldAt (before .slots) a ≡ Bound u = sym q ∙ e in inr (k, m u k, n)
 
@@ -167,7 +178,7 @@ module _ (occupied : Pool) (last : ℕ) (es : List Event) where
         go : Fate a → later a ≡ Bound u
         go (inl (w, d, q)) =
             let v : w ≡ u = same-assign (sym (d .0) ∙ c .0) in
-            q ∙ ap (λ (t : Bool). pick t Claimed (Bound w)) f ∙ ap Bound v
+            q ∙ ap (λ (t : Bool). pick t Claimed (Bound w)) (untaken-is a .1 f) ∙ ap Bound v
         go (inr (n, x)) = absurd (n u c)
     bound-either a u (inr (k, r, n)) = go (fate a)
       where
@@ -175,6 +186,55 @@ module _ (occupied : Pool) (last : ℕ) (es : List Event) where
         go (inl (w, c, q)) = absurd (n w c)
         go (inr (m, inl (w, l, p, q))) = let v : w ≡ u = same-bound (sym l ∙ k) in absurd (r (subst (λ (x : Udid). RepliedBy occupied last es tr x) v p))
         go (inr (m, inr (l, q))) = q ∙ k
+
+    -- ---- an address of which an Assign completes
+
+    -- barred, or another target was bound there, or two claimed it already
+    abbrev Contested : Udid → ℕ → Type 0
+    Contested u a = (member (barredPool occupied) a ≡ true) ⊎ (((w : Udid) × (w ≡ u → ⊥) × (heldAt (before .slots) a ≡ Bound w)) ⊎ (heldAt (before .slots) a ≡ Claimed))
+
+    contested-makes-claim : (u : Udid) (a : ℕ) → Contested u a → taken a ≡ true
+    contested-makes-claim u a (inl e) = ap (λ (t : Bool). or t (isHeld (heldAt (before .slots) a))) e
+    contested-makes-claim u a (inr (inl (w, n, k))) = ap (λ (x : Binding). or (member (barredPool occupied) a) (isHeld x)) k ∙ or-last (member (barredPool occupied) a)
+    contested-makes-claim u a (inr (inr k)) = ap (λ (x : Binding). or (member (barredPool occupied) a) (isHeld x)) k ∙ or-last (member (barredPool occupied) a)
+
+    taken-is-contested : (u : Udid) (a : ℕ) → Unbound u (before .slots) → taken a ≡ true → Contested u a
+    taken-is-contested u a n e = go (member (barredPool occupied) a) refl (heldAt (before .slots) a) refl e
+      where
+        other : (w : Udid) → heldAt (before .slots) a ≡ Bound w → w ≡ u → ⊥
+        other w k q = zero-is-one (cc (n a, ap (boundTo u) (k ∙ ap Bound q), same-refl u))
+
+        go : (t : Bool) → member (barredPool occupied) a ≡ t → (x : Binding) → heldAt (before .slots) a ≡ x → or t (isHeld x) ≡ true → Contested u a
+        go true m x k z = inl m
+        go false m Open k z = zero-is-one (cc z)
+        go false m (Bound w) k z = inr (inl (w, other w k, k))
+        go false m Claimed k z = inr (inr k)
+        go false m Left k z = zero-is-one (cc z)
+
+    -- IT LEAVES A CLAIM exactly if the address is barred, or another was bound there, or two claimed it already
+    pub claims-exactly : (u : Udid) (a : ℕ) → Completes occupied last es tr u a → (later a ≡ Claimed) ↔ Contested u a
+    claims-exactly u a c = (λ e. taken-is-contested u a (pending u a (c .0) .unbound) (there (fate a) e), λ w. back (fate a) (contested-makes-claim u a w))
+      where
+        was : (w : Udid) (t : Bool) → taken a ≡ t → pick t Claimed (Bound w) ≡ Claimed → taken a ≡ true
+        was w true m z = m
+        was w false m z = zero-is-one (cc z)
+
+        there : Fate a → later a ≡ Claimed → taken a ≡ true
+        there (inl (w, d, q)) e = was w (taken a) refl (sym q ∙ e)
+        there (inr (n, x)) e = absurd (n u c)
+
+        back : Fate a → taken a ≡ true → later a ≡ Claimed
+        back (inl (w, d, q)) t = q ∙ ap (λ (b : Bool). pick b Claimed (Bound w)) t
+        back (inr (n, x)) t = absurd (n u c)
+
+    -- two claim it still
+    claimed-then : (a : ℕ) → heldAt (before .slots) a ≡ Claimed → later a ≡ Claimed
+    claimed-then a e = go (fate a)
+      where
+        go : Fate a → later a ≡ Claimed
+        go (inl (w, c, q)) = q ∙ ap (λ (t : Bool). pick t Claimed (Bound w)) (ap (λ (x : Binding). or (member (barredPool occupied) a) (isHeld x)) e ∙ or-last (member (barredPool occupied) a))
+        go (inr (n, inl (u, k, r, q))) = zero-is-one (cc (k, e))
+        go (inr (n, inr (m, q))) = q ∙ e
 
     -- ---- an address that is left
 
@@ -186,7 +246,7 @@ module _ (occupied : Pool) (last : ℕ) (es : List Event) where
         assigned w false z = zero-is-one (cc z)
 
         go : Fate a → (heldAt (before .slots) a ≡ Left) × ((w : Udid) → Completes occupied last es tr w a → ⊥)
-        go (inl (w, c, q)) = assigned w (member (before .pool) a) (sym q ∙ e)
+        go (inl (w, c, q)) = assigned w (taken a) (sym q ∙ e)
         go (inr (n, inl (w, k, r, q))) = zero-is-one (cc (q, e))
         go (inr (n, inr (m, q))) = (sym q ∙ e, n)
 
@@ -239,6 +299,18 @@ none-held-at-start : (occupied : Pool) (last : ℕ) (es : List Event) (a : ℕ) 
 unfolding run
 none-held-at-start occupied last es a = open-all a
 
+-- A CLAIM STAYS for the rest of the pass, whatever is received and reported
+pub claim-stays : (occupied : Pool) (last : ℕ) (es later : List Event) → NoStart later → (a : ℕ) → heldAt (run occupied last es .slots) a ≡ Claimed
+    → heldAt (run occupied last (later ++ es) .slots) a ≡ Claimed
+claim-stays occupied last es [] n a e = e
+claim-stays occupied last es (Start ∷ later) n a e = absurd n
+claim-stays occupied last es (Received tr ∷ later) n a e = claimed-then occupied last (later ++ es) tr a (claim-stays occupied last es later n a e)
+claim-stays occupied last es (Gone b ∷ later) n a e = go (taken-or-not occupied last (later ++ es) b a) (claim-stays occupied last es later n a e)
+  where
+    go : TakenOrNot occupied last (later ++ es) b a → heldAt (run occupied last (later ++ es) .slots) a ≡ Claimed → heldAt (run occupied last (Gone b ∷ (later ++ es)) .slots) a ≡ Claimed
+    go (inl (t, l)) k = zero-is-one (cc (answered-0 (run occupied last (later ++ es)) b .0 (t .1), ap (λ (x : ℕ). isBound (heldAt (run occupied last (later ++ es) .slots) x)) (t .0), ap isBound k))
+    go (inr (n, l)) k = l ∙ k
+
 -- a target is bound there exactly if an Assign completed, and nothing that unbinds it came since
 pub bound-since : (occupied : Pool) (last : ℕ) (es : List Event) (u : Udid) (a : ℕ) → (heldAt (run occupied last es .slots) a ≡ Bound u) ↔ BoundSince occupied last es u a
 unfolding BoundSince
@@ -250,7 +322,7 @@ bound-since occupied last (Received tr ∷ es) u a = (
 )
   where
     Now : Type 0
-    Now = Completes occupied last es tr u a × (member (run occupied last es .pool) a ≡ false)
+    Now = Completes occupied last es tr u a × Untaken occupied last es a
 
     there : (heldAt (run occupied last es .slots) a ≡ Bound u → BoundSince occupied last es u a) → Either occupied last es tr u a
         → Now ⊎ (BoundSince occupied last es u a × (RepliedBy occupied last es tr u → ⊥) × ((w : Udid) → Completes occupied last es tr w a → ⊥))
@@ -309,11 +381,14 @@ module _ (occupied : Pool) (last : ℕ) (es : List Event) (a : ℕ) (r : Removed
   unfolding LeftSince
   left-now = left-since occupied last (Gone a ∷ es) a .1 (inl (refl, r))
 
-  -- IT IS FREE, so it can be picked again
-  pub free-after-report : member (run occupied last (Gone a ∷ es) .pool) a ≡ false
+  -- IT IS FREE, so it can be picked again, unless the starting pool has it
+  pub free-after-report : member (run occupied last (Gone a ∷ es) .pool) a ≡ member (startingPool occupied) a
   free-after-report = reached-invariant occupied last (Gone a ∷ es) .left-free a left-now
 
   -- AN ASSIGN OF IT THAT WAS OUTSTANDING GOES ON: when it completes its target is bound there, and nobody claims it
   pub bound-after-report : (tr : List ℕ) (u : Udid) → Completes occupied last (Gone a ∷ es) tr u a → lookupNumber (lookedUp (run occupied last (Received tr ∷ Gone a ∷ es)) a) ≡ (0, u ∷ [])
   unfolding BoundSince
-  bound-after-report tr u c = lookup-0-since occupied last (Received tr ∷ Gone a ∷ es) u a .1 (inl (c, free-after-report))
+  bound-after-report tr u c = lookup-0-since occupied last (Received tr ∷ Gone a ∷ es) u a .1 (inl (c, (unbarred (which-bound (heldAt (run occupied last es .slots) a) (answered-0 (run occupied last es) a .0 r)), inr left-now)))
+    where
+      unbarred : (w : Udid) × (heldAt (run occupied last es .slots) a ≡ Bound w) → member (barredPool occupied) a ≡ false
+      unbarred (w, k) = reached-invariant occupied last es .bound-unbarred a w k

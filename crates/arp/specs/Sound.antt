@@ -2,36 +2,36 @@
 -- outstanding can be bound.
 use Prim.Native.Nat.{ℕ, _≤_, _<_}
 use mathlib.Core.Path.{_≡_}
-use mathlib.Core.Bool.{false}
+use mathlib.Core.Bool.{true, false}
 use Rattle.lists.specs.Choice.{or}
 use Rattle.pool.specs.Pools.{member}
-use Rattle.pool.specs.Start.{startingPool}
+use Rattle.pool.specs.Start.{startingPool, barredPool}
 use Rattle.pool.specs.declared.Pool.{Pool}
 use Rattle.udid.specs.Udids.{Fits, isFixed}
 use Rattle.udid.specs.declared.Udid.{Udid}
 use Rattle.slots.specs.Finding.{boundTo}
-use Rattle.arp.specs.History.{isHeld}
 use Rattle.slots.specs.Slots.{Sized128, heldAt}
 use Rattle.commands.specs.declared.command.Command.the-variants.{Prepare, GetUdid, Assign}
 use Rattle.commands.specs.declared.command.Handed.{Handed}
 use Rattle.commands.specs.declared.command.Handed.the-variants.{Send, Wait}
-use Rattle.slots.specs.declared.Binding.the-variants.{Bound, Left}
+use Rattle.slots.specs.declared.Binding.the-variants.{Bound}
+use Rattle.arp.specs.Bindings.{isHeld}
 use Rattle.arp.specs.declared.state.Controller.{Controller}
 use Rattle.slots.specs.declared.Slots.{Slots}
 
--- of the starting pool, the pool and the slots: the pool has the starting addresses and those that are bound or claimed, and no others
-pub record Sound (starting pool : Pool) (slots : Slots) : Type 0 where
+-- of the occupied addresses, the pool and the slots: the pool has the starting pool and the addresses that are bound or claimed, and no others
+pub record Sound (occupied pool : Pool) (slots : Slots) : Type 0 where
   pub size : Sized128 slots
   pub once : (i j : ℕ) (u : Udid) → heldAt slots i ≡ Bound u → heldAt slots j ≡ Bound u → i ≡ j
-  pub new : (a : ℕ) (u : Udid) → heldAt slots a ≡ Bound u → member starting a ≡ false
-  -- what was bound and reported gone was not in the starting pool either
-  pub left : (a : ℕ) → heldAt slots a ≡ Left → member starting a ≡ false
+  -- nobody is bound to a barred address; who is bound to one of the starting pool is a fixed target
+  pub unbarred : (a : ℕ) (u : Udid) → heldAt slots a ≡ Bound u → member (barredPool occupied) a ≡ false
+  pub starting-fixed : (a : ℕ) (u : Udid) → heldAt slots a ≡ Bound u → member (startingPool occupied) a ≡ true → isFixed u ≡ true
   -- an identifier that is bound has two halves of 64 bits
   pub fits : (a : ℕ) (u : Udid) → heldAt slots a ≡ Bound u → Fits u
-  pub exact : (a : ℕ) → member pool a ≡ or (member starting a) (isHeld (heldAt slots a))
+  pub exact : (a : ℕ) → member pool a ≡ or (member (startingPool occupied) a) (isHeld (heldAt slots a))
 
 abbrev pub SoundIn : Controller → Type 0
-SoundIn s = Sound (s .starting) (s .pool) (s .slots)
+SoundIn s = Sound (s .occupied) (s .pool) (s .slots)
 
 -- u is bound nowhere
 abbrev pub Unbound : Udid → Slots → Type 0
@@ -45,7 +45,7 @@ Nowhere u slots a = (j : ℕ) → a ≤ j → j < 128 → boundTo u (heldAt slot
 pub record Good (occupied : Pool) (s : Controller) : Type 0 where
   pub sound : SoundIn s
   pub gets : s .gets ≤ 128
-  pub starting : s .starting ≡ startingPool occupied
+  pub occupies : s .occupied ≡ occupied
   pub picked : s .picked < 128
 
 -- an Assign that is outstanding names a seven-bit address, an identifier of two halves that is bound nowhere, and, if that is movable, a free address

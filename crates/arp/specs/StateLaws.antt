@@ -7,9 +7,9 @@ use Rattle.commands.specs.declared.command.Handed.{Handed}
 use Rattle.slots.specs.declared.Slots.{Slots}
 use Rattle.arp.specs.declared.state.Controller.{Controller}
 
--- t has the starting addresses of s, and beside them these
+-- t has the occupied addresses of s, and beside them these
 pub record Has (s t : Controller) (p : Pool) (x : Slots) (n : ℕ) (k : Handed) (l : ℕ) : Type 0 where
-  pub starting : t .starting ≡ s .starting
+  pub occupied : t .occupied ≡ s .occupied
   pub pool : t .pool ≡ p
   pub slots : t .slots ≡ x
   pub gets : t .gets ≡ n
@@ -17,16 +17,16 @@ pub record Has (s t : Controller) (p : Pool) (x : Slots) (n : ℕ) (k : Handed) 
   pub picked : t .picked ≡ l
 
 pub with-pool : (s : Controller) (x : Pool) → Has s (withPool s x) x (s .slots) (s .gets) (s .last) (s .picked)
-with-pool s x = record { starting = refl; pool = refl; slots = refl; gets = refl; last = refl; picked = refl }
+with-pool s x = record { occupied = refl; pool = refl; slots = refl; gets = refl; last = refl; picked = refl }
 
 pub with-slots : (s : Controller) (x : Slots) → Has s (withSlots s x) (s .pool) x (s .gets) (s .last) (s .picked)
-with-slots s x = record { starting = refl; pool = refl; slots = refl; gets = refl; last = refl; picked = refl }
+with-slots s x = record { occupied = refl; pool = refl; slots = refl; gets = refl; last = refl; picked = refl }
 
 pub with-gets : (s : Controller) (x : ℕ) → Has s (withGets s x) (s .pool) (s .slots) x (s .last) (s .picked)
-with-gets s x = record { starting = refl; pool = refl; slots = refl; gets = refl; last = refl; picked = refl }
+with-gets s x = record { occupied = refl; pool = refl; slots = refl; gets = refl; last = refl; picked = refl }
 
 pub with-last : (s : Controller) (x : Handed) → Has s (withLast s x) (s .pool) (s .slots) (s .gets) x (s .picked)
-with-last s x = record { starting = refl; pool = refl; slots = refl; gets = refl; last = refl; picked = refl }
+with-last s x = record { occupied = refl; pool = refl; slots = refl; gets = refl; last = refl; picked = refl }
 
 pub with-picked : (s : Controller) (x : ℕ) → Has s (withPicked s x) (s .pool) (s .slots) (s .gets) (s .last) x
-with-picked s x = record { starting = refl; pool = refl; slots = refl; gets = refl; last = refl; picked = refl }
+with-picked s x = record { occupied = refl; pool = refl; slots = refl; gets = refl; last = refl; picked = refl }

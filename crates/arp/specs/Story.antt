@@ -2,11 +2,10 @@
 -- and of the next step.
 use Prim.Native.Nat.{ℕ, _+_, _<_}
 use mathlib.Core.Path.{_≡_}
-use mathlib.Core.Bool.{Bool, true}
+use mathlib.Core.Bool.{true}
 use mathlib.Core.List.{List, [], _∷_, _++_}
 use mathlib.Core.Logic.{_↔_}
 use Rattle.pool.specs.Pools.{member}
-use Rattle.pool.specs.Start.{startingPool}
 use Rattle.pool.specs.declared.Pool.{Pool}
 use Rattle.udid.specs.Bytes.{udidBytes}
 use Rattle.udid.specs.Udids.{Fits}
@@ -33,21 +32,21 @@ pub record Story : Type 0 where
   pub picked : ℕ
 
 -- after one event more
-abbrev pub onward : (ℕ → Bool) → Event → Story → Story
-onward starting Start w = record { known = emptied starting; gets = 0; command = Send Prepare; picked = w .picked }
-onward starting (Received tr) w =
+abbrev pub onward : Pool → Event → Story → Story
+onward occupied Start w = record { known = emptied occupied; gets = 0; command = Send Prepare; picked = w .picked }
+onward occupied (Received tr) w =
     record {
-      known = after starting (readAs (w .command) tr) (w .known);
-      gets = w .gets + oneGet (nextCommand (w .known) (w .picked) (w .gets) (w .command) tr);
-      command = nextCommand (w .known) (w .picked) (w .gets) (w .command) tr;
-      picked = pickedThen (w .picked) tr (nextCommand (w .known) (w .picked) (w .gets) (w .command) tr);
+      known = after occupied (readAs (w .command) tr) (w .known);
+      gets = w .gets + oneGet (nextCommand occupied (w .known) (w .picked) (w .gets) (w .command) tr);
+      command = nextCommand occupied (w .known) (w .picked) (w .gets) (w .command) tr;
+      picked = pickedThen (w .picked) tr (nextCommand occupied (w .known) (w .picked) (w .gets) (w .command) tr);
     }
-onward starting (Gone a) w = record { known = after starting (Pulled a) (w .known); gets = w .gets; command = w .command; picked = w .picked }
+onward occupied (Gone a) w = record { known = after occupied (Pulled a) (w .known); gets = w .gets; command = w .command; picked = w .picked }
 
 -- after events, the latest first, of a controller that was made with these addresses occupied and this last pick
 unfoldable pub story : Pool → ℕ → List Event → Story
-story occupied last [] = record { known = emptied (member (startingPool occupied)); gets = 0; command = Wait Nothing; picked = lastPick last }
-story occupied last (e ∷ es) = onward (member (startingPool occupied)) e (story occupied last es)
+story occupied last [] = record { known = emptied occupied; gets = 0; command = Wait Nothing; picked = lastPick last }
+story occupied last (e ∷ es) = onward occupied e (story occupied last es)
 
 -- what each address is known for, what the pool has, how many Get UDIDs were handed out, what was handed out last, and the last pick: the
 -- events alone give them
@@ -62,7 +61,7 @@ pub record Told (occupied : Pool) (last : ℕ) (es : List Event) : Type 0 where
 abbrev pub Full : Pool → ℕ → List Event → List ℕ → Udid → Type 0
 Full occupied last es tr u =
     (story occupied last es .command ≡ Send GetUdid)
-    × ((b : ℕ) × (b < 256) × (tr ≡ replyTrace (udidBytes u ++ b ∷ [])) × NoneToPick (released u (story occupied last es .known) .used) u b)
+    × ((b : ℕ) × (b < 256) × (tr ≡ replyTrace (udidBytes u ++ b ∷ [])) × NoneToPick (released occupied u (story occupied last es .known) .used) u b)
 
 -- ---- THE CONTROLLER BY ITS HISTORY: from any new controller, over any starts, traces and reports, the latest first
 
@@ -74,7 +73,7 @@ pub record ByHistory (occupied : Pool) (last : ℕ) (es : List Event) : Type 0 w
   pub lookup : (a : ℕ) → a < 128 → lookupNumber (lookedUp (run occupied last es) a) ≡ numberOf (story occupied last es .known .held a)
   pub no-address : (a : ℕ) → 127 < a → lookupNumber (lookedUp (run occupied last es) a) ≡ (1, [])
   -- each command that the next step hands out is the one that the events give
-  pub next : (tr : List ℕ) → stepped (run occupied last es) tr .command ≡ nextCommand (story occupied last es .known) (story occupied last es .picked) (story occupied last es .gets) (story occupied last es .command) tr
+  pub next : (tr : List ℕ) → stepped (run occupied last es) tr .command ≡ nextCommand occupied (story occupied last es .known) (story occupied last es .picked) (story occupied last es .gets) (story occupied last es .command) tr
   -- the next step gives 21 exactly if the latest start or step handed out no command
   pub refused : (tr : List ℕ) → (commandNumber (stepped (run occupied last es) tr .command) ≡ (21, []) ∷ []) ↔ (noCommand (story occupied last es .command) ≡ true)
   -- and 13 with an identifier exactly at its reply to Get UDID, if the pool is full with what it was bound to freed, and the byte is FFh or the

@@ -7,9 +7,9 @@ use mathlib.Core.List.{List, [], _∷_}
 use mathlib.Core.Logic.{_↔_}
 use borrow.Author.Tests.{ne-eqb, le-leb, lt-leb}
 use Rattle.lists.specs.Choice.{pick, or}
-use Rattle.wire.specs.Addresses.{isReserved}
+use Rattle.wire.specs.Addresses.{isListed}
 use Rattle.pool.specs.Pools.{member}
-use Rattle.pool.specs.Start.{startingPool}
+use Rattle.pool.specs.Start.{startingPool, barredPool}
 use Rattle.pool.specs.StartLaws.{member-starting}
 use Rattle.pool.specs.declared.Pool.{Pool}
 use Rattle.udid.specs.UdidLaws.{other-udid}
@@ -30,7 +30,7 @@ use Rattle.arp.specs.Controller.{started, stepped}
 use Rattle.arp.specs.History.{Event, Received, run}
 use Rattle.arp.specs.Lookup.{lookedUp}
 use Rattle.arp.specs.Numbers.{commandNumber, lookupNumber}
-use Rattle.arp.specs.Replay.{Happened, Started, Replied, Assigned, Pulled, Other, holds, after, readAs, handedOut, table, numberOf, again, nextCommand}
+use Rattle.arp.specs.Replay.{isBoundOrClaimed, Happened, Started, Replied, Assigned, Pulled, Other, holds, after, readAs, handedOut, table, numberOf, again, nextCommand}
 use Rattle.hearing.specs.Told.{noCommand}
 use Rattle.commands.specs.declared.command.Command.the-variants.{Prepare, GetUdid}
 use Rattle.commands.specs.declared.command.End.the-variants.{Abandoned}
@@ -62,14 +62,14 @@ binding-stays occupied last es tr a u e n m = addresses-by-table occupied last (
     here = sym (addresses-by-table occupied last es a .0) ∙ e
 
     go : (x : Happened) → OfTrace x → (x ≡ Replied u → ⊥) → ((w : Udid) → x ≡ Assigned w a → ⊥)
-        → after (member (startingPool occupied)) x (table occupied last es) .held a ≡ Bound u
+        → after occupied x (table occupied last es) .held a ≡ Bound u
     go Started s p q = absurd s
     go (Replied w) s p q =
         ap (λ (b : Bool). pick b Open (table occupied last es .held a))
         (ap (holds w) here ∙ other-udid u w (λ k. p (ap Replied (sym k))))
         ∙ here
     go (Assigned w b) s p q =
-        ap (λ (c : Bool). pick c (pick (table occupied last es .used b) Claimed (Bound w)) (table occupied last es .held a)) (ne-eqb a b (λ k. q w (ap (Assigned w) (sym k))))
+        ap (λ (c : Bool). pick c (pick (or (member (barredPool occupied) b) (isBoundOrClaimed (table occupied last es .held b))) Claimed (Bound w)) (table occupied last es .held a)) (ne-eqb a b (λ k. q w (ap (Assigned w) (sym k))))
         ∙ here
     go (Pulled b) s p q = absurd s
     go Other s p q = here
@@ -82,8 +82,8 @@ lookup-by-story occupied last es a h = lookup-by-table occupied last es a h ∙ 
 
 module _ (occupied : Pool) (last : ℕ) (es : List Event) (tr : List ℕ) where
   -- EACH COMMAND THAT A STEP HANDS OUT is given by the events
-  pub handed-out-by-story : stepped (run occupied last es) tr .command ≡ nextCommand (story occupied last es .known) (story occupied last es .picked) (story occupied last es .gets) (story occupied last es .command) tr
-  handed-out-by-story = handed-out-by-table occupied last es tr ∙ ap (λ (w : Story). nextCommand (w .known) (w .picked) (w .gets) (w .command) tr) (table-is-story occupied last es)
+  pub handed-out-by-story : stepped (run occupied last es) tr .command ≡ nextCommand occupied (story occupied last es .known) (story occupied last es .picked) (story occupied last es .gets) (story occupied last es .command) tr
+  handed-out-by-story = handed-out-by-table occupied last es tr ∙ ap (λ (w : Story). nextCommand occupied (w .known) (w .picked) (w .gets) (w .command) tr) (table-is-story occupied last es)
 
   -- 21, exactly if the latest start or step handed out no command
   pub step-21-by-story : (commandNumber (stepped (run occupied last es) tr .command) ≡ (21, []) ∷ []) ↔ (noCommand (story occupied last es .command) ≡ true)
@@ -123,10 +123,10 @@ get-udid-limit n = (λ h. rw (lt-leb 128 n h), λ h. rw (le-leb 128 n h))
 -- FROM EVERY STATE a start hands out Prepare; lookup of every address is 15 then, the pool is the starting one, no Get UDID is counted, and
 -- the last pick stays
 pub start-by-history : (s : Controller) → (started s .command ≡ Send Prepare) × (started s .state .last ≡ Send Prepare)
-    × ((a : ℕ) → a < 128 → lookupNumber (lookedUp (started s .state) a) ≡ (15, [])) × (started s .state .pool ≡ s .starting) × (started s .state .starting ≡ s .starting)
+    × ((a : ℕ) → a < 128 → lookupNumber (lookedUp (started s .state) a) ≡ (15, [])) × (started s .state .pool ≡ startingPool (s .occupied)) × (started s .state .occupied ≡ s .occupied)
     × (started s .state .gets ≡ 0) × (started s .state .picked ≡ s .picked)
 start-by-history s = (refl, refl, λ a h. lookup-15 (started s .state) a .1 (h, open-all a), refl, refl, refl, refl)
 
--- and that has the 21 reserved addresses and the occupied ones, and no other
-pub pool-at-start : (occupied : Pool) (last : ℕ) (es : List Event) (a : ℕ) → member (started (run occupied last es) .state .pool) a ≡ or (isReserved a) (member occupied a)
-pool-at-start occupied last es a = ap (λ (p : Pool). member p a) (reached-good occupied last es .0 .starting) ∙ member-starting occupied a
+-- and that has the 35 listed addresses and the occupied ones, and no other
+pub pool-at-start : (occupied : Pool) (last : ℕ) (es : List Event) (a : ℕ) → member (started (run occupied last es) .state .pool) a ≡ or (isListed a) (member occupied a)
+pool-at-start occupied last es a = ap (λ (o : Pool). member (startingPool o) a) (reached-good occupied last es .0 .occupies) ∙ member-starting occupied a

@@ -1,6 +1,6 @@
-// The report that the module at an address is gone. Rests on the state and the lookup.
+// The report that the module at an address is gone. Rests on bound and lookup.
 ghost use mathlib.Core.Path.{_≡_};
-ghost use Rattle.arp.specs.Gone.{leftAt, isBoundTarget, reported};
+ghost use Rattle.arp.specs.Gone.{isBoundTarget, reported};
 use super::lookup::Found;
 use super::state::Controller;
 use slots::Binding;
@@ -26,21 +26,6 @@ fn is_bound_target(found: Found) -> bool
 }
 
 impl Controller {
-    // The state with the address left. It is out of the pool then, unless the starting pool has it.
-    fn leave(mut self, a: Address) -> Controller
-        ensures { λ r. ⌜ r ≡ leftAt self (a .0) ⌝ }
-    {
-        let starting = self.starting;
-        let pool = self.pool;
-        let slots = self.slots;
-        self.slots = slots.put(a, Binding::Left);
-        if starting.has(a) {
-            return self;
-        }
-        self.pool = pool.without(a);
-        self
-    }
-
     // The module at the address is gone: its target is unbound, and the address is left until it is bound again or a pass starts. Where
     // no target is bound nothing changes. It may be reported at any time; a command that is outstanding stays so.
     pub fn report_gone(self, a: Address) -> Reported
@@ -48,7 +33,7 @@ impl Controller {
     {
         let found = self.lookup(a);
         let state = if is_bound_target(found) {
-            self.leave(a)
+            self.vacate(a, Binding::Left)
         } else {
             self
         };

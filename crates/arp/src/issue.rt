@@ -12,11 +12,11 @@ impl Controller {
     pub(crate) fn hand(self, k: Handed) -> Stepped
         ensures { λ r. ⌜ r ≡ handed self k ⌝ }
     {
-        let starting = self.starting;
+        let occupied = self.occupied;
         let pool = self.pool;
         let slots = self.slots;
         let state = Controller {
-            starting: starting,
+            occupied: occupied,
             pool: pool,
             slots: slots,
             gets: self.gets,

@@ -15,7 +15,7 @@ use pool::free::Free;
 use udid::Udid;
 
 impl Controller {
-    // A target has replied: whatever it was bound to is free again, and it is sent the address chosen for it. An address that was picked is
+    // A target has replied: it is unbound from whatever it was bound to, and it is sent the address chosen for it. An address that was picked is
     // the last pick from then on, whatever becomes of the command.
     fn on_reply(self, u: Udid, b: u8) -> Stepped
         ensures { λ r. ⌜ r ≡ replied self u b ⌝ }

@@ -20,14 +20,14 @@ fn last_pick(last: u8) -> u8
 }
 
 impl Controller {
-    // A controller before its first pass, with the addresses that are occupied and the last pick. The starting pool is the reserved
+    // A controller before its first pass, with the addresses that are occupied and the last pick. The starting pool is the listed
     // addresses and the occupied ones.
     pub fn new(occupied: Pool, last: u8) -> Controller
         ensures { λ r. ⌜ r ≡ newController occupied last ⌝ }
     {
         let starting = Pool::starting(occupied);
         Controller {
-            starting: starting,
+            occupied: occupied,
             pool: starting,
             slots: Slots::none(),
             gets: 0,
@@ -41,7 +41,7 @@ impl Controller {
     pub fn start(mut self) -> Stepped
         ensures { λ r. ⌜ r ≡ started self ⌝ }
     {
-        let starting = self.starting;
+        let starting = Pool::starting(self.occupied);
         let none = Slots::none();
         self.pool = starting;
         self.slots = none;

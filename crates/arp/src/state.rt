@@ -4,8 +4,9 @@ use pool::Pool;
 use slots::Slots;
 
 pub struct Controller {
-    // The addresses in use when a pass begins.
-    pub starting: Pool,
+    // The addresses that the caller gave as occupied. With the listed ones they are in use when a pass begins; with the reserved ones they
+    // are barred.
+    pub occupied: Pool,
     // The addresses in use now.
     pub pool: Pool,
     // What each address is known for.

@@ -4,6 +4,7 @@ use mathlib.Core.List.{List, _++_}
 use Rattle.lists.specs.Choice.{pick}
 use Rattle.pool.specs.declared.Pool.{Pool}
 use Rattle.pool.specs.Pools.{member}
+use Rattle.pool.specs.Start.{startingPool}
 use Rattle.text.specs.Chars.{chars}
 use Rattle.writing.specs.Written.{pairOf}
 use Rattle.arp.specs.Lookup.{lookedUp}
@@ -16,17 +17,17 @@ use Rattle.lookups.specs.declared.grid.Cell.the-variants.{Free, InUse, C
 
 -- what stands at an address
 abbrev pub freeOf : Pool → ℕ → Cell
-freeOf starting a = pick (member starting a) InUse Free
+freeOf occupied a = pick (member (startingPool occupied) a) InUse Free
 
 abbrev pub cellIs : Pool → ℕ → Found → Cell
-cellIs starting a (found.Bound u) = Bound
-cellIs starting a found.Nobody = freeOf starting a
-cellIs starting a found.Two = Claimed
-cellIs starting a found.Left = Left
-cellIs starting a found.NoAddress = freeOf starting a
+cellIs occupied a (found.Bound u) = Bound
+cellIs occupied a found.Nobody = freeOf occupied a
+cellIs occupied a found.Two = Claimed
+cellIs occupied a found.Left = Left
+cellIs occupied a found.NoAddress = freeOf occupied a
 
 unfoldable pub cellOf : Controller → ℕ → Cell
-cellOf c a = cellIs (c .starting) a (lookedUp c a)
+cellOf c a = cellIs (c .occupied) a (lookedUp c a)
 
 abbrev pub cellText : Cell → ℕ → List ℕ
 cellText Free a = chars " --"

@@ -1,5 +1,5 @@
-// The controller's table, in the layout of i2cdetect: 8 rows of 16 addresses. -- is free, UU was in use when the pass began, XX is claimed
-// by two, LL is left by a module that is gone, and an address stands where a target is bound.
+// The controller's table, in the layout of i2cdetect: 8 rows of 16 addresses. -- is free, UU was in use when the pass began (listed or
+// occupied), XX is claimed by two, LL is left by a module that is gone, and an address stands where a target is bound.
 ghost use mathlib.Core.Path.{_≡_};
 ghost use mathlib.Core.List.{_++_};
 ghost use Rattle.writing.specs.Written.{Appended};
@@ -26,9 +26,10 @@ pub(crate) enum Cell {
 }
 
 // An address at which nobody is bound.
-fn free_cell(starting: Pool, a: Address) -> Cell
-    ensures { λ r. ⌜ r ≡ freeOf starting (a .0) ⌝ }
+fn free_cell(occupied: Pool, a: Address) -> Cell
+    ensures { λ r. ⌜ r ≡ freeOf occupied (a .0) ⌝ }
 {
+    let starting = Pool::starting(occupied);
     if starting.has(a) {
         return Cell::InUse;
     }
@@ -38,14 +39,14 @@ fn free_cell(starting: Pool, a: Address) -> Cell
 fn cell_of(c: Controller, a: Address) -> Cell
     ensures { λ r. ⌜ r ≡ cellOf c (a .0) ⌝ }
 {
-    let starting = c.starting;
+    let occupied = c.occupied;
     let f = c.lookup(a);
     match f {
         Found::Bound(_) => Cell::Bound,
-        Found::Nobody => free_cell(starting, a),
+        Found::Nobody => free_cell(occupied, a),
         Found::Two => Cell::Claimed,
         Found::Left => Cell::Left,
-        Found::NoAddress => free_cell(starting, a),
+        Found::NoAddress => free_cell(occupied, a),
     }
 }
 

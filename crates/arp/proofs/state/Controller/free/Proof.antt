@@ -11,15 +11,12 @@ returns : tie.Need-returns
 unfolding freed
 returns c = simp (← c .before .find .ensures, lt-ltb _ _ (c .if1 .taken))
 
-put-requires : tie.Need-put-requires
-put-requires c κs = search needs
-
-without-requires : tie.Need-without-requires
-without-requires c κs = search needs
+vacate-requires : tie.Need-vacate-requires
+vacate-requires c κs = search needs
 
 returns-2 : tie.Need-returns-2
 unfolding freed
-returns-2 c = simp (← c .before .before .before .before .find .ensures, le-ltb _ _ (c .before .before .before .if1 .left), c .before .put .ensures, c .without .ensures)
+returns-2 c = simp (← c .before .before .find .ensures, le-ltb _ _ (c .before .if1 .left), c .vacate .ensures)
 
 pub free-spec : {M : Type 1} → statement M
-free-spec = tie.close (tie.spec find-requires returns put-requires without-requires returns-2)
+free-spec = tie.close (tie.spec find-requires returns vacate-requires returns-2)
