@@ -4,19 +4,21 @@ use mathlib.Core.Path.{_≡_, refl, sym, ap, _∙_}
 use mathlib.Core.Bool.{true, false}
 use mathlib.Core.Logic.{_↔_}
 use mathlib.Core.List.{List, [], _∷_}
-use lib.ListN.{length, take, drop, replicate}
+use lib.ListN.{length, getD, take, drop, replicate}
 use Rattle.lists.specs.AbsurdLaws.{zero-is-one}
 use Rattle.lists.specs.ChoiceLaws.{neither}
-use Rattle.lists.specs.Each.{Each, Bytes}
-use Rattle.lists.specs.EachLaws.{each-map, each-both}
-use Rattle.wire.specs.Addresses.{isReserved}
+use Rattle.lists.specs.Each.{Each, Any, Bytes}
+use Rattle.lists.specs.EachLaws.{each-both}
+use Rattle.wire.specs.Addresses.{isReserved, isListed}
 use Rattle.pool.specs.Pools.{member}
-use Rattle.pool.specs.Start.{startingPool}
-use Rattle.pool.specs.StartLaws.{member-starting}
+use Rattle.pool.specs.Start.{startingPool, barredPool}
+use Rattle.pool.specs.StartLaws.{member-starting, member-barred}
 use Rattle.pool.specs.declared.Pool.{Pool}
 use Rattle.udid.specs.Bytes.{udidBytes}
+use Rattle.udid.specs.UdidLaws.{movable-first}
 use Rattle.udid.specs.declared.Udid.{Udid}
 use Rattle.arp.specs.BindingLaws.{bound-in-is}
+use Rattle.arbitration.specs.Among.{Among}
 use Rattle.slots.specs.Finding.{boundIn}
 use Rattle.slots.specs.Slots.{heldAt}
 use Rattle.slots.specs.declared.Binding.{Binding}
@@ -32,11 +34,11 @@ use Rattle.bindings.specs.BufferLaws.{bytes-there, rest-there, nobody-bytes}
 use Rattle.bindings.specs.Entries as entries
 use Rattle.bindings.specs.declared.entry.Entry.the-variants.{Nobody}
 use Rattle.rule.specs.AnyLaws.{any-map, any-each, any-constant}
-use Rattle.rule.specs.PassEndLaws.{given-free-distinct}
+use Rattle.rule.specs.PassEndLaws.{given-free-distinct, given-movable-free, given-among-targets}
 use Rattle.rule.specs.PassEnd.{passEnd}
-use Rattle.rule.specs.PlainRule.{Given, ruled, FreeIn, Distinct}
+use Rattle.rule.specs.PlainRule.{Given, ruled, FreeIn, MovableFreeIn, Distinct}
 use Rattle.rule.specs.ReadingLaws.{bound-given, given-bound, served-once}
-use Rattle.rule.specs.Reading.{Any, RecordOf, someOf, isBound, boundAt, OnePerUdid}
+use Rattle.rule.specs.Reading.{RecordOf, someOf, isBound, boundAt, OnePerUdid}
 use Rattle.rule.specs.RecordsLaws as records
 use Rattle.bus.specs.EndLaws.{entry-bound, leaves-rule}
 use Rattle.bus.specs.Run.{Leaves, modelEnd}
@@ -52,39 +54,44 @@ bound-some h e = go (boundIn h) refl e
 
 -- ---- whom the plain rule gives which address
 
-module _ (occupied : Pool) (last : ℕ) (s : List ℕ) (bytes : Bytes s) (e : checkedList (startingPool occupied) s ≡ Admitted) where
-  admitted : AdmittedTargets (startingPool occupied) (targetsOf s)
-  admitted = admitted-targets (startingPool occupied) s bytes e
+module _ (occupied : Pool) (last : ℕ) (s : List ℕ) (bytes : Bytes s) (e : checkedList (barredPool occupied) s ≡ Admitted) where
+  admitted : AdmittedTargets (barredPool occupied) (targetsOf s)
+  admitted = admitted-targets (barredPool occupied) s bytes e
 
   -- each is a record of the list
   pub given-in-records : Each (λ (g : Given). (i : ℕ) × (i < length s / 18) × RecordOf s i g) (ruled (startingPool occupied) last (targetsOf s) .given)
   given-in-records = records.given-records occupied last s bytes admitted
 
-  -- each address is below 128, not reserved and not occupied
-  pub given-assignable : Each (λ (g : Given). (g .address < 128) × (isReserved (g .address) ≡ false) × (member occupied (g .address) ≡ false)) (ruled (startingPool occupied) last (targetsOf s) .given)
-  given-assignable = each-map (ruled (startingPool occupied) last (targetsOf s) .given) at (given-free-distinct occupied last (targetsOf s) admitted .0)
+  -- an address below 128, none of the 21 reserved ones and not occupied; that of a movable target, whose first byte is 64 or more, is not listed
+  abbrev Assignable : Given → Type 0
+  Assignable g = (g .address < 128) × (isReserved (g .address) ≡ false) × (member occupied (g .address) ≡ false) × (64 ≤ getD (udidBytes (g .who .udid)) 0 0 → isListed (g .address) ≡ false)
+
+  pub given-assignable : Each Assignable (ruled (startingPool occupied) last (targetsOf s) .given)
+  given-assignable =
+      each-both (ruled (startingPool occupied) last (targetsOf s) .given) at (given-free-distinct occupied last (targetsOf s) admitted .0)
+      (each-both (ruled (startingPool occupied) last (targetsOf s) .given) (λ g m n. (m, n)) (given-movable-free occupied last (targetsOf s) admitted) (given-among-targets occupied last (targetsOf s) admitted))
     where
-      at : (g : Given) → FreeIn (startingPool occupied) g → (g .address < 128) × (isReserved (g .address) ≡ false) × (member occupied (g .address) ≡ false)
-      at g f =
-          let n = neither (isReserved (g .address)) (member occupied (g .address)) (sym (member-starting occupied (g .address)) ∙ f .1) in
-          (f .0, n .0, n .1)
+      at : (g : Given) → FreeIn (barredPool occupied) g → MovableFreeIn (startingPool occupied) g × Among (g .who) (targetsOf s) → Assignable g
+      at g f m =
+          let n = neither (isReserved (g .address)) (member occupied (g .address)) (sym (member-barred occupied (g .address)) ∙ f .1) in
+          (f .0, n .0, n .1, λ h. neither (isListed (g .address)) (member occupied (g .address)) (sym (member-starting occupied (g .address)) ∙ m .0 (movable-first (g .who .udid) (admitted .sized (g .who) (m .1) .udid) .1 h)) .0)
 
   -- no two addresses are alike, and each identifier is given one once
   pub given-distinct : Distinct (ruled (startingPool occupied) last (targetsOf s) .given)
   given-distinct = given-free-distinct occupied last (targetsOf s) admitted .1
 
   pub given-once : OnePerUdid (ruled (startingPool occupied) last (targetsOf s) .given)
-  given-once = served-once (startingPool occupied) last (targetsOf s) admitted
+  given-once = served-once occupied last (targetsOf s) admitted
 
 -- ---- what the run answers and leaves of it: a list that is not refused, a buffer that is long enough, and what run_model's contract says
 
-module _ (occupied : Pool) (last : ℕ) (small : last < 128) (s b : List ℕ) (bytes : Bytes s) (long : 2048 ≤ length b) (e : checkedList (startingPool occupied) s ≡ Admitted) (r : ModelAnswer) (s′ b′ : List ℕ)
+module _ (occupied : Pool) (last : ℕ) (small : last < 128) (s b : List ℕ) (bytes : Bytes s) (long : 2048 ≤ length b) (e : checkedList (barredPool occupied) s ≡ Admitted) (r : ModelAnswer) (s′ b′ : List ℕ)
     (l : Leaves (modelEnd occupied last s b) r s′ b′) where
   abbrev given : List Given
   given = ruled (startingPool occupied) last (targetsOf s) .given
 
   abbrev slots : Slots
-  slots = passEnd (startingPool occupied) last (targetsOf s) .now .state .slots
+  slots = passEnd occupied last (targetsOf s) .now .state .slots
 
   has-bound : (a : ℕ) → a < 128 → member (r .bound) a ≡ boundAt slots a
   has-bound a h =

@@ -8,7 +8,7 @@ use native.Mathlib.Omega.{arith}
 use lib.ListN.{length}
 use Rattle.lists.specs.Each.{Bytes}
 use Rattle.pool.specs.CountLaws.{count-cong}
-use Rattle.pool.specs.Start.{startingPool}
+use Rattle.pool.specs.Start.{startingPool, barredPool}
 use Rattle.pool.specs.declared.Pool.{Pool}
 use Rattle.udid.specs.declared.Udid.{Udid}
 use Rattle.slots.specs.Finding.{boundIn}
@@ -53,21 +53,21 @@ last-asker : (e : Ending) → udidIn (commandNumber (lastCommand e)) ≡ askerOf
 last-asker served = refl
 last-asker (noneFree u) = refl
 
-end-number : (p : Pool) (last : ℕ) (ts : List Target) → numberIn (commandNumber (passEnd p last ts .now .command)) ≡ numberOf (ruled p last ts .ending)
-end-number p last [] = refl
-end-number p last (t ∷ ts) = last-number (ruled p last (t ∷ ts) .ending)
+end-number : (occupied : Pool) (last : ℕ) (ts : List Target) → numberIn (commandNumber (passEnd occupied last ts .now .command)) ≡ numberOf (ruled (startingPool occupied) last ts .ending)
+end-number occupied last [] = refl
+end-number occupied last (t ∷ ts) = last-number (ruled (startingPool occupied) last (t ∷ ts) .ending)
 
-end-asker : (p : Pool) (last : ℕ) (ts : List Target) → udidIn (commandNumber (passEnd p last ts .now .command)) ≡ askerOf (ruled p last ts .ending)
-end-asker p last [] = refl
-end-asker p last (t ∷ ts) = last-asker (ruled p last (t ∷ ts) .ending)
+end-asker : (occupied : Pool) (last : ℕ) (ts : List Target) → udidIn (commandNumber (passEnd occupied last ts .now .command)) ≡ askerOf (ruled (startingPool occupied) last ts .ending)
+end-asker occupied last [] = refl
+end-asker occupied last (t ∷ ts) = last-asker (ruled (startingPool occupied) last (t ∷ ts) .ending)
 
-end-gets : (p : Pool) (last : ℕ) (ts : List Target) → passEnd p last ts .now .state .gets ≡ getsFor (length ts) (length (ruled p last ts .given))
-end-gets p last [] = refl
-end-gets p last (t ∷ ts) = omega arith
+end-gets : (occupied : Pool) (last : ℕ) (ts : List Target) → passEnd occupied last ts .now .state .gets ≡ getsFor (length ts) (length (ruled (startingPool occupied) last ts .given))
+end-gets occupied last [] = refl
+end-gets occupied last (t ∷ ts) = omega arith
 
-end-picked : (p : Pool) (last : ℕ) (ts : List Target) → passEnd p last ts .now .state .picked ≡ ruled p last ts .picked
-end-picked p last [] = refl
-end-picked p last (t ∷ ts) = refl
+end-picked : (occupied : Pool) (last : ℕ) (ts : List Target) → passEnd occupied last ts .now .state .picked ≡ ruled (startingPool occupied) last ts .picked
+end-picked occupied last [] = refl
+end-picked occupied last (t ∷ ts) = refl
 
 -- a list of whole records is empty if and only if it has none
 gets-by-length : (n l k : ℕ) → n ≡ l / 18 → l ≡ l / 18 * 18 → getsFor n k ≡ getsFor l k
@@ -84,49 +84,49 @@ entry-bound h = go (boundIn h)
     go [] = refl
     go (u ∷ us) = refl
 
-last-command : (p : Pool) (last : ℕ) (ts : List Target) → commandNumber (passEnd p last ts .now .command) ≡ commandNumber (lastCommand (ruled p last ts .ending))
-last-command p last [] = refl
-last-command p last (t ∷ ts) = refl
+last-command : (occupied : Pool) (last : ℕ) (ts : List Target) → commandNumber (passEnd occupied last ts .now .command) ≡ commandNumber (lastCommand (ruled (startingPool occupied) last ts .ending))
+last-command occupied last [] = refl
+last-command occupied last (t ∷ ts) = refl
 
 -- a list that is not refused, a buffer that is long enough, and what run_model's contract says of an answer and of the lists left
-module _ (occupied : Pool) (last : ℕ) (small : last < 128) (s b : List ℕ) (bytes : Bytes s) (long : 2048 ≤ length b) (e : checkedList (startingPool occupied) s ≡ Admitted) (r : ModelAnswer) (s′ b′ : List ℕ)
+module _ (occupied : Pool) (last : ℕ) (small : last < 128) (s b : List ℕ) (bytes : Bytes s) (long : 2048 ≤ length b) (e : checkedList (barredPool occupied) s ≡ Admitted) (r : ModelAnswer) (s′ b′ : List ℕ)
     (l : Leaves (modelEnd occupied last s b) r s′ b′) where
-  admitted : AdmittedTargets (startingPool occupied) (targetsOf s)
-  admitted = admitted-targets (startingPool occupied) s bytes e
+  admitted : AdmittedTargets (barredPool occupied) (targetsOf s)
+  admitted = admitted-targets (barredPool occupied) s bytes e
 
-  as-rule : pass occupied last (targetsOf s) ≡ passEnd (startingPool occupied) last (targetsOf s)
-  as-rule = demand-3 occupied last (targetsOf s) admitted ∙ ap (λ (n : ℕ). passEnd (startingPool occupied) n (targetsOf s)) (last-pick-is last small)
+  as-rule : pass occupied last (targetsOf s) ≡ passEnd occupied last (targetsOf s)
+  as-rule = demand-3 occupied last (targetsOf s) admitted ∙ ap (λ (n : ℕ). passEnd occupied n (targetsOf s)) (last-pick-is last small)
 
   -- THE RUN ENDS as the plain rule does
-  pub leaves-rule : Leaves (endedEnd (passEnd (startingPool occupied) last (targetsOf s)) s b) r s′ b′
+  pub leaves-rule : Leaves (endedEnd (passEnd occupied last (targetsOf s)) s b) r s′ b′
   leaves-rule = subst (λ (w : World). Leaves (endedEnd w s b) r s′ b′) (as-rule) (leaves-pass occupied last small s b long e r s′ b′ l)
 
   -- the answer: 0 or 13, the identifier that asked, no record
   pub answer-of-rule : r .answer ≡ numberOf (ruled (startingPool occupied) last (targetsOf s) .ending)
-  answer-of-rule = ap (λ (x : ModelAnswer). x .answer) (leaves-rule .answered) ∙ end-number (startingPool occupied) last (targetsOf s)
+  answer-of-rule = ap (λ (x : ModelAnswer). x .answer) (leaves-rule .answered) ∙ end-number occupied last (targetsOf s)
 
   pub asker-of-rule : r .udid ≡ askerOf (ruled (startingPool occupied) last (targetsOf s) .ending)
-  asker-of-rule = ap (λ (x : ModelAnswer). x .udid) (leaves-rule .answered) ∙ end-asker (startingPool occupied) last (targetsOf s)
+  asker-of-rule = ap (λ (x : ModelAnswer). x .udid) (leaves-rule .answered) ∙ end-asker occupied last (targetsOf s)
 
   -- the last command of the pass over the bus has that number too
   pub command-of-rule : commandNumber (pass occupied last (targetsOf s) .now .command) ≡ commandNumber (lastCommand (ruled (startingPool occupied) last (targetsOf s) .ending))
-  command-of-rule = ap (λ (w : World). commandNumber (w .now .command)) (as-rule) ∙ last-command (startingPool occupied) last (targetsOf s)
+  command-of-rule = ap (λ (w : World). commandNumber (w .now .command)) (as-rule) ∙ last-command occupied last (targetsOf s)
 
   -- and the targets of the records that are left are those of the pass
   pub targets-of-pass : targetsOf s′ ≡ pass occupied last (targetsOf s) .targets
   targets-of-pass =
-      ap targetsOf (leaves-rule .records-hold) ∙ end-targets-stored (startingPool occupied) last s
+      ap targetsOf (leaves-rule .records-hold) ∙ end-targets-stored occupied last s
       ∙ sym (ap (λ (w : World). w .targets) (as-rule))
 
   -- the last pick is the rule's, which is the controller's at the end of the pass
   pub picked-of-rule : r .picked ≡ ruled (startingPool occupied) last (targetsOf s) .picked
-  picked-of-rule = ap (λ (x : ModelAnswer). x .picked) (leaves-rule .answered) ∙ end-picked (startingPool occupied) last (targetsOf s)
+  picked-of-rule = ap (λ (x : ModelAnswer). x .picked) (leaves-rule .answered) ∙ end-picked occupied last (targetsOf s)
 
   pub place-zero : r .place ≡ 0
   place-zero = ap (λ (x : ModelAnswer). x .place) (leaves-rule .answered)
 
   abbrev slots : Slots
-  slots = passEnd (startingPool occupied) last (targetsOf s) .now .state .slots
+  slots = passEnd occupied last (targetsOf s) .now .state .slots
 
   -- how many are bound
   pub count-of-rule : r .count ≡ length (ruled (startingPool occupied) last (targetsOf s) .given)
@@ -143,9 +143,9 @@ module _ (occupied : Pool) (last : ℕ) (small : last < 128) (s b : List ℕ) (b
   pub gets-of-rule : r .gets ≡ getsFor (length s) (length (ruled (startingPool occupied) last (targetsOf s) .given))
   gets-of-rule =
       ap (λ (x : ModelAnswer). x .gets) (leaves-rule .answered)
-      ∙ end-gets (startingPool occupied) last (targetsOf s)
+      ∙ end-gets occupied last (targetsOf s)
       ∙ gets-by-length (length (targetsOf s)) (length s) (length (ruled (startingPool occupied) last (targetsOf s) .given))
-      (length-targets s (recordCount s) 0) (admitted-length (startingPool occupied) s bytes e .1)
+      (length-targets s (recordCount s) 0) (admitted-length (barredPool occupied) s bytes e .1)
 
   -- all are bound if and only if the movable ones do not outnumber the addresses that the fixed ones leave free
   pub all-bound : (r .answer ≡ 0) ↔ (movable (targetsOf s) ≤ leftFree (startingPool occupied) (targetsOf s))

@@ -11,7 +11,7 @@ use Rattle.lists.specs.ChoiceLaws.{false-not-true}
 use Rattle.lists.specs.Each.{Bytes}
 use Rattle.wire.specs.declared.address.Address.{Address}
 use Rattle.arbitration.specs.Among.{Among}
-use Rattle.pool.specs.Start.{startingPool}
+use Rattle.pool.specs.Start.{barredPool}
 use Rattle.pool.specs.declared.Pool.{Pool}
 use Rattle.pool.specs.declared.free.Free.{Free}
 use Rattle.pool.specs.declared.free.Free.the-variants.{At, AllUsed}
@@ -167,11 +167,11 @@ fit-put ts s after f e = subst Fit (sym e) (record {
   apart = λ i h r. f .apart i (omega (arith, h, ap (λ (n : ℕ). n / 18) (length-put-from ts 0 s))) (r .0, r .1, sym (put-from-keeps-udid ts 0 s (r .0)) ∙ r .2 ∙ put-from-keeps-udid ts 0 s i);
 })
 
-pub running-first : (occupied : Pool) (last : ℕ) (st : Stepped) (s : List ℕ) → st ≡ started (newController occupied last) → Bytes s → checkedList (startingPool occupied) s ≡ Admitted
+pub running-first : (occupied : Pool) (last : ℕ) (st : Stepped) (s : List ℕ) → st ≡ started (newController occupied last) → Bytes s → checkedList (barredPool occupied) s ≡ Admitted
     → Running (worldOf st s) s 300 st s
 running-first occupied last st s q b e = record {
   bytes = b;
-  fit = record { whole = admitted-length (startingPool occupied) s b e .1; apart = given-exactly (startingPool occupied) s Admitted .0 (sym e) .2 };
+  fit = record { whole = admitted-length (barredPool occupied) s b e .1; apart = given-exactly (barredPool occupied) s Admitted .0 (sym e) .2 };
   going = subst (λ (x : Stepped). Going x s) (sym q) (record { handed = refl; reaches = tt });
   leads = refl;
   same-size = refl;

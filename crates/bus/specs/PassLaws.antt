@@ -4,7 +4,7 @@ use Prim.Native.Nat.{ℕ, _*_, _≤_, _<_}
 use mathlib.Core.Path.{_≡_, ap, _∙_, subst}
 use mathlib.Core.List.{List}
 use lib.ListN.{length, take, drop}
-use Rattle.pool.specs.Start.{startingPool}
+use Rattle.pool.specs.Start.{barredPool}
 use Rattle.pool.specs.declared.Pool.{Pool}
 use Rattle.udid.specs.Bytes.{udidBytes}
 use Rattle.udid.specs.declared.Udid.{Udid}
@@ -24,7 +24,7 @@ use Rattle.bus.specs.RunLaws.{end-checked, end-going}
 use Rattle.bindings.specs.declared.answer.ModelAnswer.{ModelAnswer}
 
 -- a list that is not refused, a buffer that is long enough, and what run_model's contract says of an answer and of the lists left
-module _ (occupied : Pool) (last : ℕ) (small : last < 128) (s b : List ℕ) (long : 2048 ≤ length b) (e : checkedList (startingPool occupied) s ≡ Admitted) (r : ModelAnswer) (s′ b′ : List ℕ)
+module _ (occupied : Pool) (last : ℕ) (small : last < 128) (s b : List ℕ) (long : 2048 ≤ length b) (e : checkedList (barredPool occupied) s ≡ Admitted) (r : ModelAnswer) (s′ b′ : List ℕ)
     (l : Leaves (modelEnd occupied last s b) r s′ b′) where
   pub leaves-pass : Leaves (endedEnd (pass occupied last (targetsOf s)) s b) r s′ b′
   leaves-pass = subst (λ (x : ModelEnd). Leaves x r s′ b′) (end-going occupied last s b small ∙ end-checked occupied last s b Admitted long e) l

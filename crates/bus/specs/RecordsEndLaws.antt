@@ -6,9 +6,9 @@ use native.Mathlib.Decide.{ℕ-discrete, decLt}
 use native.Mathlib.Omega.{arith}
 use lib.ListN.{length, getD, take, drop}
 use lib.Seq.{ext-getD}
-use Rattle.lists.specs.Each.{Each, Bytes}
+use Rattle.lists.specs.Each.{Each, Any, Bytes}
 use Rattle.lists.specs.EachLaws.{each-both}
-use Rattle.pool.specs.Start.{startingPool}
+use Rattle.pool.specs.Start.{startingPool, barredPool}
 use Rattle.pool.specs.declared.Pool.{Pool}
 use Rattle.udid.specs.Bytes.{udidBytes}
 use Rattle.targets.specs.Admission.{AdmittedTargets}
@@ -18,17 +18,17 @@ use Rattle.targets.specs.Refusals.{checkedList}
 use Rattle.targets.specs.declared.admit.Checked.the-variants.{Admitted}
 use Rattle.rule.specs.AnyLaws.{any-each, any-constant, any-decided}
 use Rattle.rule.specs.PlainRule.{Given, ruled}
-use Rattle.rule.specs.Reading.{Any, RecordOf}
+use Rattle.rule.specs.Reading.{RecordOf}
 use Rattle.rule.specs.RecordsLaws as records
 use Rattle.bus.specs.EndLaws.{leaves-rule}
 use Rattle.bus.specs.Run.{Leaves, modelEnd}
 use Rattle.bindings.specs.declared.answer.ModelAnswer.{ModelAnswer}
 
 -- a list that is not refused, a buffer that is long enough, and what run_model's contract says of an answer and of the lists left
-module _ (occupied : Pool) (last : ℕ) (small : last < 128) (s b : List ℕ) (bytes : Bytes s) (long : 2048 ≤ length b) (e : checkedList (startingPool occupied) s ≡ Admitted) (r : ModelAnswer) (s′ b′ : List ℕ)
+module _ (occupied : Pool) (last : ℕ) (small : last < 128) (s b : List ℕ) (bytes : Bytes s) (long : 2048 ≤ length b) (e : checkedList (barredPool occupied) s ≡ Admitted) (r : ModelAnswer) (s′ b′ : List ℕ)
     (l : Leaves (modelEnd occupied last s b) r s′ b′) where
-  admitted : AdmittedTargets (startingPool occupied) (targetsOf s)
-  admitted = admitted-targets (startingPool occupied) s bytes e
+  admitted : AdmittedTargets (barredPool occupied) (targetsOf s)
+  admitted = admitted-targets (barredPool occupied) s bytes e
 
   -- the list as long as it was
   pub records-length : length s′ ≡ length s

@@ -7,7 +7,7 @@ use mathlib.Core.List.{List}
 use native.Mathlib.Decide.{decLt}
 use native.Mathlib.Omega.{arith}
 use lib.ListN.{length}
-use Rattle.pool.specs.Start.{startingPool}
+use Rattle.pool.specs.Start.{barredPool}
 use Rattle.pool.specs.declared.Pool.{Pool}
 use Rattle.lists.specs.AbsurdLaws.{zero-is-one}
 use Rattle.lists.specs.Each.{Bytes}
@@ -87,37 +87,37 @@ module _ (occupied : Pool) (last : ℕ) (s b : List ℕ) (r : ModelAnswer) (s′
   short-end : length b < 2048 → Leaves (refusedEnd 2 0 s b) r s′ b′
   short-end h = subst (λ (x : ModelEnd). Leaves x r s′ b′) (end-short occupied last s b h) l
 
-  checked-end : 2048 ≤ length b → Leaves (endChecked (checkedList (startingPool occupied) s) occupied last s b) r s′ b′
-  checked-end h = subst (λ (x : ModelEnd). Leaves x r s′ b′) (end-checked occupied last s b (checkedList (startingPool occupied) s) h refl) l
+  checked-end : 2048 ≤ length b → Leaves (endChecked (checkedList (barredPool occupied) s) occupied last s b) r s′ b′
+  checked-end h = subst (λ (x : ModelEnd). Leaves x r s′ b′) (end-checked occupied last s b (checkedList (barredPool occupied) s) h refl) l
 
-  refused-end : 2048 ≤ length b → (checkedList (startingPool occupied) s ≡ Admitted → ⊥)
-      → Leaves (refusedEnd (answerOf (checkedList (startingPool occupied) s) .number) (answerOf (checkedList (startingPool occupied) s) .value) s b) r s′ b′
-  refused-end h n = subst (λ (x : ModelEnd). Leaves x r s′ b′) (refused-end-of-check (checkedList (startingPool occupied) s) n occupied last s b) (checked-end h)
+  refused-end : 2048 ≤ length b → (checkedList (barredPool occupied) s ≡ Admitted → ⊥)
+      → Leaves (refusedEnd (answerOf (checkedList (barredPool occupied) s) .number) (answerOf (checkedList (barredPool occupied) s) .value) s b) r s′ b′
+  refused-end h n = subst (λ (x : ModelEnd). Leaves x r s′ b′) (refused-end-of-check (checkedList (barredPool occupied) s) n occupied last s b) (checked-end h)
 
-  pass-number : 2048 ≤ length b → checkedList (startingPool occupied) s ≡ Admitted → (1 ≤ r .answer) × (r .answer ≤ 12) → ⊥
+  pass-number : 2048 ≤ length b → checkedList (barredPool occupied) s ≡ Admitted → (1 ≤ r .answer) × (r .answer ≤ 12) → ⊥
   pass-number h e =
       let q = subst (λ (k : Checked). Leaves (endChecked k occupied last s b) r s′ b′) e (checked-end h) in
       not-in-pass (pass occupied last (targetsOf s) .now .command) (r .answer) (sym (ap (λ (x : ModelAnswer). x .answer) (q .answered)))
 
   -- what the number is: 2 with a short buffer, 9 to 12 with a refused list, and none from 1 to 12 with a pass
   run-cases : (1 ≤ r .answer) × (r .answer ≤ 12)
-      → ((length b < 2048) × (r .answer ≡ 2)) ⊎ ((2048 ≤ length b) × (checkedList (startingPool occupied) s ≡ Admitted → ⊥) × ((9 ≤ r .answer) × (r .answer ≤ 12)))
-  run-cases h = go (decLt (length b) 2048) (admitted-or-not (checkedList (startingPool occupied) s))
+      → ((length b < 2048) × (r .answer ≡ 2)) ⊎ ((2048 ≤ length b) × (checkedList (barredPool occupied) s ≡ Admitted → ⊥) × ((9 ≤ r .answer) × (r .answer ≤ 12)))
+  run-cases h = go (decLt (length b) 2048) (admitted-or-not (checkedList (barredPool occupied) s))
     where
-      go : Dec (length b < 2048) → (checkedList (startingPool occupied) s ≡ Admitted) ⊎ (checkedList (startingPool occupied) s ≡ Admitted → ⊥)
-          → ((length b < 2048) × (r .answer ≡ 2)) ⊎ ((2048 ≤ length b) × (checkedList (startingPool occupied) s ≡ Admitted → ⊥) × ((9 ≤ r .answer) × (r .answer ≤ 12)))
+      go : Dec (length b < 2048) → (checkedList (barredPool occupied) s ≡ Admitted) ⊎ (checkedList (barredPool occupied) s ≡ Admitted → ⊥)
+          → ((length b < 2048) × (r .answer ≡ 2)) ⊎ ((2048 ≤ length b) × (checkedList (barredPool occupied) s ≡ Admitted → ⊥) × ((9 ≤ r .answer) × (r .answer ≤ 12)))
       go (yes k) c = inl (k, ap (λ (x : ModelAnswer). x .answer) (short-end k .answered))
       go (no k) (inl a) = absurd (pass-number (omega arith) a h)
       go (no k) (inr n) =
-          let q = refusal-9-to-12 (checkedList (startingPool occupied) s) n in
-          let e : r .answer ≡ answerOf (checkedList (startingPool occupied) s) .number = ap (λ (x : ModelAnswer). x .answer) (refused-end (omega arith) n .answered) in
+          let q = refusal-9-to-12 (checkedList (barredPool occupied) s) n in
+          let e : r .answer ≡ answerOf (checkedList (barredPool occupied) s) .number = ap (λ (x : ModelAnswer). x .answer) (refused-end (omega arith) n .answered) in
           inr (omega arith, n, (omega (arith, q .0), omega (arith, q .1)))
 
   -- never 1
   run-not-1 : r .answer ≡ 1 → ⊥
   run-not-1 e = go (run-cases (omega arith, omega arith))
     where
-      go : ((length b < 2048) × (r .answer ≡ 2)) ⊎ ((2048 ≤ length b) × (checkedList (startingPool occupied) s ≡ Admitted → ⊥) × ((9 ≤ r .answer) × (r .answer ≤ 12))) → ⊥
+      go : ((length b < 2048) × (r .answer ≡ 2)) ⊎ ((2048 ≤ length b) × (checkedList (barredPool occupied) s ≡ Admitted → ⊥) × ((9 ≤ r .answer) × (r .answer ≤ 12))) → ⊥
       go (inl w) = omega (arith, w .1)
       go (inr w) = omega (arith, w .2 .0)
 
@@ -128,30 +128,30 @@ module _ (occupied : Pool) (last : ℕ) (s b : List ℕ) (r : ModelAnswer) (s′
       there : r .answer ≡ 2 → length b < 2048
       there e = go (run-cases (omega arith, omega arith))
         where
-          go : ((length b < 2048) × (r .answer ≡ 2)) ⊎ ((2048 ≤ length b) × (checkedList (startingPool occupied) s ≡ Admitted → ⊥) × ((9 ≤ r .answer) × (r .answer ≤ 12))) → length b < 2048
+          go : ((length b < 2048) × (r .answer ≡ 2)) ⊎ ((2048 ≤ length b) × (checkedList (barredPool occupied) s ≡ Admitted → ⊥) × ((9 ≤ r .answer) × (r .answer ≤ 12))) → length b < 2048
           go (inl w) = w .0
           go (inr w) = absurd (omega (arith, w .2 .0))
 
   -- 9, 10, 11 and 12: the buffer is long enough, and the list is what the scope lists for that number and record
-  run-refused : (k : Checked) → (k ≡ Admitted → ⊥) → (modelNumber r ≡ (answerOf k .number, answerOf k .value)) ↔ ((2048 ≤ length b) × Given (startingPool occupied) s k)
+  run-refused : (k : Checked) → (k ≡ Admitted → ⊥) → (modelNumber r ≡ (answerOf k .number, answerOf k .value)) ↔ ((2048 ≤ length b) × Given (barredPool occupied) s k)
   run-refused k n = (there, back)
     where
-      there : modelNumber r ≡ (answerOf k .number, answerOf k .value) → (2048 ≤ length b) × Given (startingPool occupied) s k
+      there : modelNumber r ≡ (answerOf k .number, answerOf k .value) → (2048 ≤ length b) × Given (barredPool occupied) s k
       there e = go (run-cases (omega (arith, q, refusal-9-to-12 k n .0), omega (arith, q, refusal-9-to-12 k n .1)))
         where
           q : r .answer ≡ answerOf k .number
           q = ap (λ (p : ℕ × ℕ). p .0) e
 
-          go : ((length b < 2048) × (r .answer ≡ 2)) ⊎ ((2048 ≤ length b) × (checkedList (startingPool occupied) s ≡ Admitted → ⊥) × ((9 ≤ r .answer) × (r .answer ≤ 12)))
-              → (2048 ≤ length b) × Given (startingPool occupied) s k
+          go : ((length b < 2048) × (r .answer ≡ 2)) ⊎ ((2048 ≤ length b) × (checkedList (barredPool occupied) s ≡ Admitted → ⊥) × ((9 ≤ r .answer) × (r .answer ≤ 12)))
+              → (2048 ≤ length b) × Given (barredPool occupied) s k
           go (inl w) = absurd (omega (arith, w .1, q, refusal-9-to-12 k n .0))
           go (inr w) =
-              let m = pairs-tell-apart k (checkedList (startingPool occupied) s) (sym e ∙ ap modelNumber (refused-end (w .0) (w .1) .answered)) in
-              (w .0, given-exactly (startingPool occupied) s k .0 m)
+              let m = pairs-tell-apart k (checkedList (barredPool occupied) s) (sym e ∙ ap modelNumber (refused-end (w .0) (w .1) .answered)) in
+              (w .0, given-exactly (barredPool occupied) s k .0 m)
 
-      back : (2048 ≤ length b) × Given (startingPool occupied) s k → modelNumber r ≡ (answerOf k .number, answerOf k .value)
+      back : (2048 ≤ length b) × Given (barredPool occupied) s k → modelNumber r ≡ (answerOf k .number, answerOf k .value)
       back (h, g) =
-          let q : k ≡ checkedList (startingPool occupied) s = given-exactly (startingPool occupied) s k .1 g in
+          let q : k ≡ checkedList (barredPool occupied) s = given-exactly (barredPool occupied) s k .1 g in
           let m = refused-end h (λ a. n (q ∙ a)) in
           ap modelNumber (m .answered) ∙ ap (λ (x : Checked). (answerOf x .number, answerOf x .value)) (sym q)
 
@@ -200,7 +200,7 @@ module _ (occupied : Pool) (last : ℕ) (s b : List ℕ) (r : ModelAnswer) (s′
       run : Leaves (runEnd occupied last s b) r s′ b′ → Untouched s b r s′ b′
       run v = at (run-cases occupied last s b r s′ b′ v h)
         where
-          at : ((length b < 2048) × (r .answer ≡ 2)) ⊎ ((2048 ≤ length b) × (checkedList (startingPool occupied) s ≡ Admitted → ⊥) × ((9 ≤ r .answer) × (r .answer ≤ 12))) → Untouched s b r s′ b′
+          at : ((length b < 2048) × (r .answer ≡ 2)) ⊎ ((2048 ≤ length b) × (checkedList (barredPool occupied) s ≡ Admitted → ⊥) × ((9 ≤ r .answer) × (r .answer ≤ 12))) → Untouched s b r s′ b′
           at (inl w) = untouched s b r s′ b′ 2 0 (short-end occupied last s b r s′ b′ v (w .0))
           at (inr w) = untouched s b r s′ b′ _ _ (refused-end occupied last s b r s′ b′ v (w .0) (w .1))
 
@@ -210,11 +210,11 @@ module _ (occupied : Pool) (last : ℕ) (s b : List ℕ) (r : ModelAnswer) (s′
 
   -- the numbers, each if and only if its case, by the bytes of the records: record i is the 18 bytes from 18 i on
   module _ (bytes : Bytes s) where
-    refused-by-bytes : (k : Checked) → (k ≡ Admitted → ⊥) → (modelNumber r ≡ (answerOf k .number, answerOf k .value)) ↔ ((last < 128) × ((2048 ≤ length b) × GivenByBytes (startingPool occupied) s k))
+    refused-by-bytes : (k : Checked) → (k ≡ Admitted → ⊥) → (modelNumber r ≡ (answerOf k .number, answerOf k .value)) ↔ ((last < 128) × ((2048 ≤ length b) × GivenByBytes (barredPool occupied) s k))
     refused-by-bytes k n =
-        other-number (answerOf k .number) (answerOf k .value) ((2048 ≤ length b) × GivenByBytes (startingPool occupied) s k) (λ e. omega (arith, refusal-9-to-12 k n .0)) (λ v.
+        other-number (answerOf k .number) (answerOf k .value) ((2048 ≤ length b) × GivenByBytes (barredPool occupied) s k) (λ e. omega (arith, refusal-9-to-12 k n .0)) (λ v.
         let m = run-refused occupied last s b r s′ b′ v k n in
-        let g = given-by-bytes (startingPool occupied) s bytes k in
+        let g = given-by-bytes (barredPool occupied) s bytes k in
         (λ e. (m .0 e .0, g .0 (m .0 e .1)), λ h. m .1 (h .0, g .1 (h .1))))
 
     -- 9: over 2,160 bytes, or no multiple of 18
@@ -229,7 +229,7 @@ module _ (occupied : Pool) (last : ℕ) (s b : List ℕ) (r : ModelAnswer) (s′
     pub model-11 : (i : ℕ) → (modelNumber r ≡ (11, i)) ↔ ((last < 128) × ((2048 ≤ length b) × ((LengthIsBad s → ⊥) × None (EvenOrFlag s) (length s / 18) × FirstOf (SameAsEarlier s) (length s / 18) i)))
     model-11 i = refused-by-bytes (Repeated i) (λ e. zero-is-one (cc e))
 
-    -- 12: the first fixed target whose address is in the starting pool or is that of an earlier fixed one
+    -- 12: the first fixed target whose address is barred (reserved or occupied), or is that of an earlier fixed one
     pub model-12 : (i : ℕ) → (modelNumber r ≡ (12, i))
-        ↔ ((last < 128) × ((2048 ≤ length b) × ((LengthIsBad s → ⊥) × None (EvenOrFlag s) (length s / 18) × None (SameAsEarlier s) (length s / 18) × FirstOf (FixedOnTaken (startingPool occupied) s) (length s / 18) i)))
+        ↔ ((last < 128) × ((2048 ≤ length b) × ((LengthIsBad s → ⊥) × None (EvenOrFlag s) (length s / 18) × None (SameAsEarlier s) (length s / 18) × FirstOf (FixedOnTaken (barredPool occupied) s) (length s / 18) i)))
     model-12 i = refused-by-bytes (Taken i) (λ e. zero-is-one (cc e))

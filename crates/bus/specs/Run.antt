@@ -5,7 +5,7 @@ use mathlib.Core.List.{List, _++_}
 use lib.ListN.{length, drop}
 use lib.Dec.{ltb}
 use Rattle.lists.specs.Choice.{pick}
-use Rattle.pool.specs.Start.{startingPool}
+use Rattle.pool.specs.Start.{barredPool}
 use Rattle.pool.specs.declared.Pool.{Pool}
 use Rattle.targets.specs.Numbers.{answerOf}
 use Rattle.targets.specs.Records.{targetsOf, recordsWith}
@@ -62,7 +62,7 @@ endChecked (Taken i) occupied last s b = refusedEnd (answerOf (Taken i) .number)
 
 -- 2 comes before them
 unfoldable pub runEnd : Pool → ℕ → List ℕ → List ℕ → ModelEnd
-runEnd occupied last s b = pick (ltb (length b) 2048) (refusedEnd 2 0 s b) (endChecked (checkedList (startingPool occupied) s) occupied last s b)
+runEnd occupied last s b = pick (ltb (length b) 2048) (refusedEnd 2 0 s b) (endChecked (checkedList (barredPool occupied) s) occupied last s b)
 
 -- and 1 before all: the last pick is above 127
 unfoldable pub modelEnd : Pool → ℕ → List ℕ → List ℕ → ModelEnd

@@ -6,7 +6,7 @@ use native.Mathlib.Omega.{arith}
 use lib.ListN.{length}
 use borrow.Author.Tests.{lt-ltb, le-ltb}
 use Rattle.lists.specs.UniqueLaws.{one-answer}
-use Rattle.pool.specs.Start.{startingPool}
+use Rattle.pool.specs.Start.{barredPool}
 use Rattle.pool.specs.declared.Pool.{Pool}
 use Rattle.targets.specs.Records.{targetsOf}
 use Rattle.targets.specs.Refusals.{checkedList}
@@ -24,7 +24,7 @@ module _ (occupied : Pool) (last : ℕ) (s b : List ℕ) where
   end-short h = rw (lt-ltb (length b) 2048 h)
 
   -- 9 to 12, or a pass
-  pub end-checked : (r : Checked) → 2048 ≤ length b → checkedList (startingPool occupied) s ≡ r → runEnd occupied last s b ≡ endChecked r occupied last s b
+  pub end-checked : (r : Checked) → 2048 ≤ length b → checkedList (barredPool occupied) s ≡ r → runEnd occupied last s b ≡ endChecked r occupied last s b
   unfolding runEnd
   end-checked r h e = rw (le-ltb (length b) 2048 h, e)
 
@@ -36,14 +36,14 @@ module _ (occupied : Pool) (last : ℕ) (s b : List ℕ) where
   pub leaves-short : (r : ModelAnswer) → length b < 2048 → r ≡ refusedAnswer 2 0 → Leaves (runEnd occupied last s b) r s b
   leaves-short r h q = refused-leaves 2 0 r (end-short h) q
 
-  pub leaves-refused : (k : Checked) (r : ModelAnswer) → 2048 ≤ length b → checkedList (startingPool occupied) s ≡ k → Refused k r → Leaves (runEnd occupied last s b) r s b
+  pub leaves-refused : (k : Checked) (r : ModelAnswer) → 2048 ≤ length b → checkedList (barredPool occupied) s ≡ k → Refused k r → Leaves (runEnd occupied last s b) r s b
   leaves-refused Admitted r h e q = absurd q
   leaves-refused BadLength r h e q = refused-leaves 9 0 r (end-checked BadLength h e) q
   leaves-refused (Malformed i) r h e q = refused-leaves 10 i r (end-checked (Malformed i) h e) q
   leaves-refused (Repeated i) r h e q = refused-leaves 11 i r (end-checked (Repeated i) h e) q
   leaves-refused (Taken i) r h e q = refused-leaves 12 i r (end-checked (Taken i) h e) q
 
-  pub leaves-run : (r : ModelAnswer) (s′ b′ : List ℕ) → 2048 ≤ length b → checkedList (startingPool occupied) s ≡ Admitted → Leaves (endedEnd (pass occupied last (targetsOf s)) s b) r s′ b′
+  pub leaves-run : (r : ModelAnswer) (s′ b′ : List ℕ) → 2048 ≤ length b → checkedList (barredPool occupied) s ≡ Admitted → Leaves (endedEnd (pass occupied last (targetsOf s)) s b) r s′ b′
       → Leaves (runEnd occupied last s b) r s′ b′
   leaves-run r s′ b′ h e v = subst (λ (x : ModelEnd). Leaves x r s′ b′) (sym (end-checked Admitted h e)) v
 

@@ -1,7 +1,7 @@
 // A whole pass over the records: the controller's step takes the trace of each command. Rests on arp and turn; that it is the pass bit by
 // bit is in specs/GoingLaws.
 ghost use mathlib.Core.Path.{_≡_};
-ghost use Rattle.pool.specs.Start.{startingPool};
+ghost use Rattle.pool.specs.Start.{barredPool};
 ghost use Rattle.targets.specs.Records.{targetsOf};
 ghost use Rattle.targets.specs.Refusals.{checkedList};
 ghost use Rattle.targets.specs.declared.admit.Checked.the-variants.{Admitted};
@@ -28,7 +28,7 @@ fn is_sent(k: Handed) -> bool
 }
 
 pub(crate) fn run_pass(occupied: Pool, last: u8, records: &mut [u8]) -> Stepped
-    requires { ⌜ checkedList (startingPool occupied) (now records) ≡ Admitted ⌝ }
+    requires { ⌜ checkedList (barredPool occupied) (now records) ≡ Admitted ⌝ }
     ensures { λ r. ⌜ Matches (pass occupied last (targetsOf (now (records .entry)))) r (now (records .entry)) (now (records .exit)) ⌝ }
 {
     let c = Controller::new(occupied, last);

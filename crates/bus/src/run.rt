@@ -2,7 +2,7 @@
 ghost use mathlib.Core.Path.{_≡_};
 ghost use Prim.Native.Nat.{_≤_};
 ghost use lib.ListN.{length};
-ghost use Rattle.pool.specs.Start.{startingPool};
+ghost use Rattle.pool.specs.Start.{barredPool};
 ghost use Rattle.targets.specs.Records.{targetsOf};
 ghost use Rattle.targets.specs.Refusals.{checkedList};
 ghost use Rattle.targets.specs.declared.admit.Checked.the-variants.{Admitted};
@@ -21,7 +21,7 @@ use targets::admit::Checked;
 
 // A list that is not refused.
 fn run_admitted(occupied: Pool, last: u8, records: &mut [u8], bindings: &mut [u8]) -> ModelAnswer
-    requires { ⌜ (checkedList (startingPool occupied) (now records) ≡ Admitted) × (bufferSize ≤ length (now bindings)) ⌝ }
+    requires { ⌜ (checkedList (barredPool occupied) (now records) ≡ Admitted) × (bufferSize ≤ length (now bindings)) ⌝ }
     ensures { λ r. ⌜ Leaves (endedEnd (pass occupied last (targetsOf (now (records .entry)))) (now (records .entry)) (now (bindings .entry))) r (now (records .exit)) (now (bindings .exit)) ⌝ }
 {
     let end = run_pass(occupied, last, &mut records[..]);

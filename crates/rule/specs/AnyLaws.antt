@@ -1,8 +1,7 @@
 -- Laws of `Any`: what holds of one of a list, together with what holds of each.
 use mathlib.Core.Logic.{_⊎_, inl, inr}
 use mathlib.Core.List.{List, [], _∷_}
-use Rattle.lists.specs.Each.{Each}
-use Rattle.rule.specs.Reading.{Any}
+use Rattle.lists.specs.Each.{Each, Any}
 
 pub any-map : {A : Type 0} {P Q : A → Type 0} (l : List A) → ((x : A) → P x → Q x) → Any P l → Any Q l
 any-map (x ∷ l) f (inl p) = inl (f x p)

@@ -3,6 +3,7 @@ use Prim.Native.Nat.{ℕ, suc, _+_}
 use mathlib.Core.List.{List, [], _∷_}
 use lib.ListN.{length}
 use Rattle.pool.specs.Pools.{withAddress}
+use Rattle.pool.specs.Start.{startingPool}
 use Rattle.pool.specs.declared.Pool.{Pool}
 use Rattle.slots.specs.Slots.{withBinding, noBindings}
 use Rattle.arp.specs.State.{stateOf}
@@ -21,7 +22,7 @@ abbrev pub lastCommand : Ending → Handed
 lastCommand served = Wait Ended
 lastCommand (noneFree u) = Wait (NoneFree u)
 
--- the controller's state with a command out; l is the last pick
+-- the controller's state with a command out: l is the last pick, and b are the occupied addresses
 abbrev pub out : ℕ → Pool → Pool → Slots → ℕ → Handed → Stepped
 out l b p s n k = record { state = stateOf l b p s n k; command = k }
 
@@ -62,9 +63,9 @@ outcome r p s k ts = record {
 
 -- with no target: nobody acknowledges Prepare, and no Get UDID is sent
 abbrev pub nobodyThere : Pool → ℕ → World
-nobodyThere b last = record { now = out last b b noBindings 0 (Wait Ended); targets = [] }
+nobodyThere occupied last = record { now = out last occupied (startingPool occupied) noBindings 0 (Wait Ended); targets = [] }
 
--- how a pass over these targets ends
+-- how a pass over these targets ends, where these addresses are occupied
 abbrev pub passEnd : Pool → ℕ → List Target → World
-passEnd b last [] = nobodyThere b last
-passEnd b last (t ∷ ts) = ended b (outcome (ruled b last (t ∷ ts)) b noBindings 0 (cleared (t ∷ ts)))
+passEnd occupied last [] = nobodyThere occupied last
+passEnd occupied last (t ∷ ts) = ended occupied (outcome (ruled (startingPool occupied) last (t ∷ ts)) (startingPool occupied) noBindings 0 (cleared (t ∷ ts)))

@@ -1,23 +1,22 @@
 -- THE THIRD DEMAND: a pass of the controller's steps over the bus bit by bit ends as the plain rule says.
-use Prim.Native.Nat.{ℕ, suc, _+_, _*_, _-_, _/_, _≤_, _<_}
+use Prim.Native.Nat.{ℕ, suc, _+_, _*_, _-_, _<_}
 use mathlib.Core.Path.{_≡_, refl, sym, ap, ap₂, _∙_, subst}
 use mathlib.Core.Bool.{Bool, true, false}
-use mathlib.Core.Logic.{_⊎_, inl, inr, _↔_}
+use mathlib.Core.Logic.{_⊎_, inl, inr}
 use mathlib.Core.List.{List, [], _∷_}
 use native.Mathlib.Nat.{suc-add, add-suc, zero-add}
 use native.Mathlib.Omega.{arith}
 use lib.Dec.{ltb}
 use lib.ListN.{length}
-use Rattle.lists.specs.AbsurdLaws.{zero-is-one}
 use Rattle.lists.specs.Choice.{pick}
+use Rattle.lists.specs.ChoiceLaws.{or-none}
 use Rattle.lists.specs.Each.{Each}
 use Rattle.lists.specs.EachLaws.{each-map}
 use Rattle.wire.specs.Addresses.{isReserved}
 use Rattle.wire.specs.declared.address.Address.{Address}
-use Rattle.pool.specs.Free.{used}
 use Rattle.pool.specs.Pools.{member, withAddress}
-use Rattle.pool.specs.Start.{startingPool}
-use Rattle.pool.specs.StartLaws.{member-starting}
+use Rattle.pool.specs.Start.{startingPool, barredPool}
+use Rattle.pool.specs.StartLaws.{member-barred, barred-starting}
 use Rattle.pool.specs.declared.Pool.{Pool}
 use Rattle.pool.specs.declared.free.Free.{Free}
 use Rattle.pool.specs.declared.free.Free.the-variants.{At, AllUsed}
@@ -30,10 +29,12 @@ use Rattle.targets.specs.RecordLaws.{length-map}
 use Rattle.targets.specs.Admission.{FixedApart, FixedFree, AdmittedTargets}
 use Rattle.slots.specs.SlotsLaws.{open-all, sized-none}
 use Rattle.slots.specs.Finding.{boundTo}
+use Rattle.arp.specs.Bindings.{makesClaim}
 use Rattle.arp.specs.Controller.{lastPick, stepped}
 use Rattle.slots.specs.Slots.{withBinding, noBindings}
 use Rattle.commands.specs.declared.command.Command.the-variants.{Prepare}
 use Rattle.slots.specs.declared.Slots.{Slots}
+use Rattle.slots.specs.declared.Binding.{Binding}
 use Rattle.slots.specs.declared.Binding.the-variants.{Bound}
 use Rattle.commands.specs.declared.command.Handed.the-variants.{Send}
 use Rattle.arp.specs.declared.state.Stepped.{Stepped}
@@ -41,12 +42,12 @@ use Rattle.arp.specs.State.{stateOf}
 use Rattle.rule.specs.AnyBusLaws.{run-add}
 use Rattle.rule.specs.Bus.{modelBus, turn, run, beginning, pass}
 use Rattle.rule.specs.BusLaws.{turn-takes}
-use Rattle.rule.specs.PlainRule.{insert, ascending, isPickedFor, plainChoice, pickAfter, served, noneFree, Given, next, rule, ruled, FreeIn, Distinct}
+use Rattle.rule.specs.PlainRule.{insert, ascending, isPickedFor, plainChoice, pickAfter, served, noneFree, Given, next, rule, ruled, FreeIn, MovableFreeIn, Distinct}
 use Rattle.rule.specs.PassEnd.{ended, outcome, nobodyThere, passEnd}
 use Rattle.rule.specs.EffectLaws.{effect-as-meant}
 use Rattle.rule.specs.TraceLaws as on-bus
 use Rattle.rule.specs.Ready.{Apart, Ready, Lower}
-use Rattle.rule.specs.RuleLaws.{rule-gives-free, room-serves-all, served-has-room, all-given-served, rule-serves-these}
+use Rattle.rule.specs.RuleLaws.{rule-gives-free, rule-gives-movable-free, rule-serves-these}
 use Rattle.rule.specs.SortLaws.{ascending-adds-none, ascending-keeps, length-ascending, ascending-is-lower-first, pairs-any-two, pairs-map}
 use Rattle.rule.specs.Serving.{Unbound, serve, plain, Inv, turns, asking}
 use Rattle.rule.specs.StepLaws.{prepare-asks-first, prepare-silence-ends}
@@ -132,19 +133,20 @@ admitted-cleared b ts v = record {
 open-slots : (u : Udid) → Unbound u noBindings
 open-slots u i = ap (boundTo u) (open-all i)
 
--- 7Fh is reserved
-pub last-address-used : (occupied : Pool) → member (startingPool occupied) 127 ≡ true
+-- 7Fh is reserved, and so it is barred
+last-address-barred : (occupied : Pool) → member (barredPool occupied) 127 ≡ true
 unfolding isReserved
-last-address-used occupied = member-starting occupied 127
+last-address-barred occupied = member-barred occupied 127
 
-module _ (b : Pool) (top : member b 127 ≡ true) (ts : List Target) (v : AdmittedTargets b ts) where
-  ready-first : Ready b (ascending ts)
+-- to begin with, the barred addresses are shut
+module _ (occupied : Pool) (ts : List Target) (v : AdmittedTargets (barredPool occupied) ts) where
+  pub ready-first : Ready (startingPool occupied) (barredPool occupied) (ascending ts)
   ready-first = record {
     apart = pairs-map (ascending ts) apart′ (ascending-is-lower-first ts (v .differ));
     sized = λ t m. v .sized t (ascending-adds-none ts t m);
     fixed-free = λ t m. v .fixed-free t (ascending-adds-none ts t m);
-    fixed-some = λ t m f e. zero-is-one (cc (v .fixed-free t (ascending-adds-none ts t m) f, ap (λ (n : ℕ). member b (n / 2)) e, top));
-    last-used = top;
+    within = barred-starting occupied;
+    last-shut = last-address-barred occupied;
   }
     where
       elsewhere′ : (x y : Target) → (x ≡ y) ⊎ FixedApart x y → Lower x y → FixedApart x y
@@ -157,13 +159,14 @@ module _ (b : Pool) (top : member b 127 ≡ true) (ts : List Target) (v : Admitt
         elsewhere = elsewhere′ x y (pairs-any-two ts (λ p q h f g e. h g f (sym e)) (v .fixed-apart) x y (ascending-adds-none ts x m) (ascending-adds-none ts y k)) l;
       }
 
-  inv-first : 0 < length ts → ((t : Target) → Among t ts → isResolved t ≡ false) → Inv b noBindings 0 ts (ascending ts)
-  inv-first some open-all = record {
+  inv-first : 0 < length ts → ((t : Target) → Among t ts → isResolved t ≡ false) → Inv occupied (startingPool occupied) (barredPool occupied) noBindings 0 ts (ascending ts)
+  inv-first some unresolved = record {
     ready = ready-first;
+    taken-shut = λ a e. sym (or-none (member (barredPool occupied) a)) ∙ ap (λ (h : Binding). makesClaim occupied h a) (sym (open-all a)) ∙ e;
     waits = record {
       known = λ t m e. ascending-keeps ts t m;
       there = λ t m. ascending-adds-none ts t m;
-      unresolved = λ t m. open-all t (ascending-adds-none ts t m);
+      unresolved = λ t m. unresolved t (ascending-adds-none ts t m);
     };
     unbound = λ t m. open-slots (t .udid);
     room = sized-none;
@@ -182,73 +185,58 @@ module _ (occupied : Pool) (last : ℕ) where
   start : Pool
   start = startingPool occupied
 
-  first-turn : (t : Target) (ts : List Target) → AdmittedTargets start (t ∷ ts) → turn (beginning occupied last (t ∷ ts)) ≡ asking (lastPick last) start start noBindings 1 (cleared (t ∷ ts))
+  first-turn : (t : Target) (ts : List Target) → AdmittedTargets (barredPool occupied) (t ∷ ts) → turn (beginning occupied last (t ∷ ts)) ≡ asking (lastPick last) occupied start noBindings 1 (cleared (t ∷ ts))
   unfolding start
   first-turn t ts v =
       turn-takes (beginning occupied last (t ∷ ts) .now) (t ∷ ts) (Send Prepare) refl
       ∙ ap₂ (λ (x : Stepped) (us : List Target). record { now = x; targets = us })
-      (ap (stepped (stateOf (lastPick last) start start noBindings 0 (Send Prepare))) (on-bus.prepare-whole t ts) ∙ prepare-asks-first (lastPick last) start start noBindings)
+      (ap (stepped (stateOf (lastPick last) occupied start noBindings 0 (Send Prepare))) (on-bus.prepare-whole t ts) ∙ prepare-asks-first (lastPick last) occupied start noBindings)
       (effect-as-meant (Send Prepare) (t ∷ ts) tt (λ x m. v .sized x m .udid))
 
-  nobody-turn : turn (beginning occupied last []) ≡ nobodyThere start (lastPick last)
+  nobody-turn : turn (beginning occupied last []) ≡ nobodyThere occupied (lastPick last)
   unfolding start
   nobody-turn =
       turn-takes (beginning occupied last [] .now) [] (Send Prepare) refl
       ∙ ap (λ (x : Stepped). record { now = x; targets = [] })
-      (ap (stepped (stateOf (lastPick last) start start noBindings 0 (Send Prepare))) on-bus.prepare-cut ∙ prepare-silence-ends (lastPick last) start start noBindings)
+      (ap (stepped (stateOf (lastPick last) occupied start noBindings 0 (Send Prepare))) on-bus.prepare-cut ∙ prepare-silence-ends (lastPick last) occupied start noBindings)
 
-  some-targets : (t : Target) (ts : List Target) → AdmittedTargets start (t ∷ ts) → run 300 (beginning occupied last (t ∷ ts)) ≡ passEnd start (lastPick last) (t ∷ ts)
+  some-targets : (t : Target) (ts : List Target) → AdmittedTargets (barredPool occupied) (t ∷ ts) → run 300 (beginning occupied last (t ∷ ts)) ≡ passEnd occupied (lastPick last) (t ∷ ts)
   unfolding start
   some-targets t ts v =
       let us : List Target = cleared (t ∷ ts) in
-      let v′ = admitted-cleared start (t ∷ ts) v in
+      let v′ = admitted-cleared (barredPool occupied) (t ∷ ts) v in
       let n : ℕ = turns (ascending us) in
       let e : 300 ≡ suc (n + (299 - n)) = omega (arith, length-turns (ascending us), length-ascending us, v′ .at-most-120) in
       ap (λ (k : ℕ). run k (beginning occupied last (t ∷ ts))) e
       ∙ ap (run (n + (299 - n))) (first-turn t ts v)
-      ∙ run-add modelBus n (299 - n) (asking (lastPick last) start start noBindings 1 us)
+      ∙ run-add modelBus n (299 - n) (asking (lastPick last) occupied start noBindings 1 us)
       ∙ ap (run (299 - n))
-      (run-serves-rest (lastPick last) start start noBindings 0 us (ascending us) (inv-first start (last-address-used occupied) us v′ (omega arith) (open-cleared (t ∷ ts)))
-      ∙ ap (ended start)
+      (run-serves-rest (lastPick last) occupied start (barredPool occupied) noBindings 0 us (ascending us) (inv-first occupied us v′ (omega arith) (open-cleared (t ∷ ts)))
+      ∙ ap (ended occupied)
       (ap (λ (l : List Target). plain l start (lastPick last) noBindings 0 us) (ascending-cleared (t ∷ ts))
       ∙ plain-cleared (ascending (t ∷ ts)) start (lastPick last) noBindings 0 us
       ∙ plain-outcome (ascending (t ∷ ts)) start (lastPick last) noBindings 0 us))
       ∙ ended-run-stays (299 - n) _ _ _ _ _ (rule (ascending (t ∷ ts)) start (lastPick last) .ending) _
 
 -- THE PASS ENDS AS THE PLAIN RULE SAYS: bindings, pool and last command of the controller, and every target
-pub demand-3 : (occupied : Pool) (last : ℕ) (ts : List Target) → AdmittedTargets (startingPool occupied) ts → pass occupied last ts ≡ passEnd (startingPool occupied) (lastPick last) ts
+pub demand-3 : (occupied : Pool) (last : ℕ) (ts : List Target) → AdmittedTargets (barredPool occupied) ts → pass occupied last ts ≡ passEnd occupied (lastPick last) ts
 unfolding pass start
-demand-3 occupied last [] v = ap (run 299) (nobody-turn occupied last) ∙ ended-run-stays 299 (lastPick last) (startingPool occupied) (startingPool occupied) noBindings 0 served []
+demand-3 occupied last [] v = ap (run 299) (nobody-turn occupied last) ∙ ended-run-stays 299 (lastPick last) occupied (startingPool occupied) noBindings 0 served []
 demand-3 occupied last (t ∷ ts) v = some-targets occupied last t ts v
 
 -- with no target, the pass ends when nobody acknowledges Prepare To ARP
-pub nobody-ends-first-turn : (occupied : Pool) (last : ℕ) → turn (beginning occupied last []) ≡ nobodyThere (startingPool occupied) (lastPick last)
+pub nobody-ends-first-turn : (occupied : Pool) (last : ℕ) → turn (beginning occupied last []) ≡ nobodyThere occupied (lastPick last)
 unfolding start
 nobody-ends-first-turn occupied last = nobody-turn occupied last
 
-module _ (occupied : Pool) (last : ℕ) (ts : List Target) (v : AdmittedTargets (startingPool occupied) ts) where
-  ready : Ready (startingPool occupied) (ascending ts)
-  ready = ready-first (startingPool occupied) (last-address-used occupied) ts v
+module _ (occupied : Pool) (last : ℕ) (ts : List Target) (v : AdmittedTargets (barredPool occupied) ts) where
+  -- the addresses given are below 128 and not barred, and none is given twice
+  pub given-free-distinct : Each (FreeIn (barredPool occupied)) (ruled (startingPool occupied) last ts .given) × Distinct (ruled (startingPool occupied) last ts .given)
+  given-free-distinct = rule-gives-free (ascending ts) (startingPool occupied) (barredPool occupied) last (ready-first occupied ts v)
 
-  ascending-count : length (ascending ts) ≡ length ts
-  ascending-count = length-ascending ts
-
-  -- the addresses given are below 128, neither reserved nor occupied, and none is given twice
-  pub given-free-distinct : Each (FreeIn (startingPool occupied)) (ruled (startingPool occupied) last ts .given) × Distinct (ruled (startingPool occupied) last ts .given)
-  given-free-distinct = rule-gives-free (ascending ts) (startingPool occupied) last ready
-
-  -- all are served if and only if the targets do not outnumber the free addresses, and then each is given one
-  pub served-exactly : (ruled (startingPool occupied) last ts .ending ≡ served) ↔ (used (startingPool occupied) + length ts ≤ 128)
-  served-exactly = (
-    λ e. omega (arith, ascending-count, served-has-room (ascending ts) (startingPool occupied) last ready e),
-    λ h. room-serves-all (ascending ts) (startingPool occupied) last ready (omega (arith, ascending-count)) .0,
-  )
-
-  pub room-gives-each : used (startingPool occupied) + length ts ≤ 128 → length (ruled (startingPool occupied) last ts .given) ≡ length ts
-  room-gives-each h = room-serves-all (ascending ts) (startingPool occupied) last ready (omega (arith, ascending-count)) .1 ∙ ascending-count
-
-  pub each-given-served : length (ruled (startingPool occupied) last ts .given) ≡ length ts → ruled (startingPool occupied) last ts .ending ≡ served
-  each-given-served e = all-given-served (ascending ts) (startingPool occupied) last (e ∙ sym ascending-count)
+  -- and a movable target's is not in the starting pool
+  pub given-movable-free : Each (MovableFreeIn (startingPool occupied)) (ruled (startingPool occupied) last ts .given)
+  given-movable-free = rule-gives-movable-free (ascending ts) (startingPool occupied) last
 
   -- those served are targets of the bus
   pub given-among-targets : Each (λ (g : Given). Among (g .who) ts) (ruled (startingPool occupied) last ts .given)

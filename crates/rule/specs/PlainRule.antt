@@ -29,7 +29,7 @@ ascending (t ∷ ts) = insert t (ascending ts)
 
 -- ---- whom it serves, and where
 
--- the address that a target holds; FFh, none, counts as 7Fh, which is reserved
+-- the address that a target holds; FFh, none, counts as 7Fh, which every starting pool has
 abbrev pub held : Target → Address
 held t = record { 0 = t .addressByte / 2 }
 
@@ -79,9 +79,13 @@ ruled b last ts = rule (ascending ts) b last
 
 -- ---- of what it gives
 
--- an address, free in the pool
+-- an address that a set does not have
 abbrev pub FreeIn : Pool → Given → Type 0
 FreeIn p g = (g .address < 128) × (member p (g .address) ≡ false)
+
+-- an address that it does not have, where the target is movable
+abbrev pub MovableFreeIn : Pool → Given → Type 0
+MovableFreeIn p g = isFixed (g .who .udid) ≡ false → member p (g .address) ≡ false
 
 -- no two at one address
 abbrev pub Distinct : List Given → Type 0

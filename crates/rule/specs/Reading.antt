@@ -2,7 +2,6 @@
 use Prim.Native.Nat.{ℕ, _+_, _*_, _%_}
 use mathlib.Core.Path.{_≡_}
 use mathlib.Core.Bool.{Bool, true, false}
-use mathlib.Core.Logic.{_⊎_}
 use mathlib.Core.List.{List, [], _∷_}
 use lib.ListN.{take, drop}
 use Rattle.lists.specs.Each.{Each}
@@ -15,11 +14,6 @@ use Rattle.slots.specs.declared.Binding.{Binding}
 use Rattle.slots.specs.declared.Slots.{Slots}
 use Rattle.targets.specs.Target.{Target, assignedTo}
 use Rattle.rule.specs.PlainRule.{Given}
-
--- something holds of one of a list
-abbrev pub Any : {A : Type 0} → (A → Type 0) → List A → Type 0
-Any P [] = ⊥
-Any P (x ∷ xs) = P x ⊎ Any P xs
 
 -- the 16 bytes of record i are the identifier of one who was given an address
 abbrev pub RecordOf : List ℕ → ℕ → Given → Type 0

@@ -9,12 +9,12 @@ use native.Mathlib.Decide.{ℕ-discrete}
 use native.Mathlib.Omega.{arith}
 use lib.ListN.{length}
 use Rattle.lists.specs.AbsurdLaws.{zero-is-one}
-use Rattle.lists.specs.Each.{Each}
+use Rattle.lists.specs.Each.{Each, Any}
 use Rattle.wire.specs.declared.address.Address.{Address}
 use Rattle.pool.specs.Counts.{count}
 use Rattle.pool.specs.CountLaws.{count-more, count-cong}
 use Rattle.pool.specs.Pools.{withAddress}
-use Rattle.pool.specs.Start.{startingPool}
+use Rattle.pool.specs.Start.{startingPool, barredPool}
 use Rattle.pool.specs.declared.Pool.{Pool}
 use Rattle.pool.specs.declared.free.Free.{Free}
 use Rattle.pool.specs.declared.free.Free.the-variants.{At, AllUsed}
@@ -36,7 +36,7 @@ use Rattle.rule.specs.Ready.{Lower}
 use Rattle.rule.specs.SortLaws.{ascending-is-lower-first}
 use Rattle.rule.specs.PassEnd.{putAll, resolveAll, passEnd}
 use Rattle.rule.specs.PassEndLaws.{given-free-distinct}
-use Rattle.rule.specs.Reading.{Any, isBound, boundAt, GivenAt, OnePerUdid, servedBy, taken, TakenBy}
+use Rattle.rule.specs.Reading.{isBound, boundAt, GivenAt, OnePerUdid, servedBy, taken, TakenBy}
 
 -- ---- HOW MANY are bound
 
@@ -74,9 +74,9 @@ free-room b [] h = tt
 free-room b (g ∷ gs) h = ((h .0 .0, open-none (g .address)), free-room b gs (h .1))
 
 -- the slots at the end
-end-slots : (b : Pool) (last : ℕ) (ts : List Target) → passEnd b last ts .now .state .slots ≡ putAll (ruled b last ts .given) noBindings
-end-slots b last [] = refl
-end-slots b last (t ∷ ts) = refl
+end-slots : (occupied : Pool) (last : ℕ) (ts : List Target) → passEnd occupied last ts .now .state .slots ≡ putAll (ruled (startingPool occupied) last ts .given) noBindings
+end-slots occupied last [] = refl
+end-slots occupied last (t ∷ ts) = refl
 
 -- ---- WHO is bound where: only what was given
 
@@ -128,41 +128,41 @@ unclaimed (g ∷ gs) s h l f a = unclaimed gs (withBinding s (g .address) (Bound
 open-unclaimed : (a : ℕ) → heldAt noBindings a ≡ Claimed → ⊥
 open-unclaimed a e = let q : Open ≡ Claimed = sym (open-all a) ∙ e in zero-is-one (cc q)
 
-module _ (occupied : Pool) (last : ℕ) (ts : List Target) (v : AdmittedTargets (startingPool occupied) ts) where
+module _ (occupied : Pool) (last : ℕ) (ts : List Target) (v : AdmittedTargets (barredPool occupied) ts) where
   -- as many are bound as the plain rule serves
-  pub bound-as-many-as-given : count (boundAt (passEnd (startingPool occupied) last ts .now .state .slots)) 128 ≡ length (ruled (startingPool occupied) last ts .given)
+  pub bound-as-many-as-given : count (boundAt (passEnd occupied last ts .now .state .slots)) 128 ≡ length (ruled (startingPool occupied) last ts .given)
   bound-as-many-as-given =
       let r = given-free-distinct occupied last ts v in
-      ap (λ (s : Slots). count (boundAt s) 128) (end-slots (startingPool occupied) last ts)
-      ∙ count-given (ruled (startingPool occupied) last ts .given) noBindings sized-none (free-room (startingPool occupied) (ruled (startingPool occupied) last ts .given) (r .0)) (r .1)
+      ap (λ (s : Slots). count (boundAt s) 128) (end-slots occupied last ts)
+      ∙ count-given (ruled (startingPool occupied) last ts .given) noBindings sized-none (free-room (barredPool occupied) (ruled (startingPool occupied) last ts .given) (r .0)) (r .1)
       ∙ omega (arith, open-count)
 
   -- who is bound was given that address
-  pub bound-given : (a : ℕ) (u : Udid) → heldAt (passEnd (startingPool occupied) last ts .now .state .slots) a ≡ Bound u → Any (GivenAt a u) (ruled (startingPool occupied) last ts .given)
+  pub bound-given : (a : ℕ) (u : Udid) → heldAt (passEnd occupied last ts .now .state .slots) a ≡ Bound u → Any (GivenAt a u) (ruled (startingPool occupied) last ts .given)
   bound-given a u e =
       go (held-given (ruled (startingPool occupied) last ts .given) noBindings a u sized-none
-      (given-below-128 (startingPool occupied) (ruled (startingPool occupied) last ts .given) (given-free-distinct occupied last ts v .0))
-      (ap (λ (s : Slots). heldAt s a) (sym (end-slots (startingPool occupied) last ts)) ∙ e))
+      (given-below-128 (barredPool occupied) (ruled (startingPool occupied) last ts .given) (given-free-distinct occupied last ts v .0))
+      (ap (λ (s : Slots). heldAt s a) (sym (end-slots occupied last ts)) ∙ e))
     where
       go : (heldAt noBindings a ≡ Bound u) ⊎ Any (GivenAt a u) (ruled (startingPool occupied) last ts .given) → Any (GivenAt a u) (ruled (startingPool occupied) last ts .given)
       go (inl k) = zero-is-one (cc (open-none a, ap isBound k))
       go (inr k) = k
 
   -- who was given an address is bound there
-  pub given-bound : Each (λ (g : Given). heldAt (passEnd (startingPool occupied) last ts .now .state .slots) (g .address) ≡ Bound (g .who .udid)) (ruled (startingPool occupied) last ts .given)
+  pub given-bound : Each (λ (g : Given). heldAt (passEnd occupied last ts .now .state .slots) (g .address) ≡ Bound (g .who .udid)) (ruled (startingPool occupied) last ts .given)
   given-bound =
       let r = given-free-distinct occupied last ts v in
-      rw (end-slots (startingPool occupied) last ts)
+      rw (end-slots occupied last ts)
       (given-held (ruled (startingPool occupied) last ts .given) noBindings sized-none
-      (given-below-128 (startingPool occupied) (ruled (startingPool occupied) last ts .given) (r .0)) (r .1))
+      (given-below-128 (barredPool occupied) (ruled (startingPool occupied) last ts .given) (r .0)) (r .1))
 
   -- no address is claimed by two
-  pub none-claimed : (a : ℕ) → heldAt (passEnd (startingPool occupied) last ts .now .state .slots) a ≡ Claimed → ⊥
+  pub none-claimed : (a : ℕ) → heldAt (passEnd occupied last ts .now .state .slots) a ≡ Claimed → ⊥
   none-claimed a e =
       let r = given-free-distinct occupied last ts v in
       unclaimed (ruled (startingPool occupied) last ts .given) noBindings open-unclaimed sized-none
-      (given-below-128 (startingPool occupied) (ruled (startingPool occupied) last ts .given) (r .0)) a
-      (ap (λ (s : Slots). heldAt s a) (sym (end-slots (startingPool occupied) last ts)) ∙ e)
+      (given-below-128 (barredPool occupied) (ruled (startingPool occupied) last ts .given) (r .0)) a
+      (ap (λ (s : Slots). heldAt s a) (sym (end-slots occupied last ts)) ∙ e)
 
 -- ---- WHAT EACH TARGET ends with
 
@@ -179,9 +179,11 @@ resolved-as-served [] ts = sym (map-identity ts)
 resolved-as-served (g ∷ gs) ts = resolved-as-served gs (resolve (g .who .udid) (g .address) ts) ∙ map-twice (servedBy gs) (assignedTo (g .who .udid) (g .address)) ts
 
 -- every target, in its place
-pub end-targets : (b : Pool) (last : ℕ) (ts : List Target) → passEnd b last ts .targets ≡ mapTargets (λ (t : Target). servedBy (ruled b last ts .given) (prepared t)) ts
-end-targets b last [] = refl
-end-targets b last (t ∷ ts) = resolved-as-served (ruled b last (t ∷ ts) .given) (cleared (t ∷ ts)) ∙ map-twice (servedBy (ruled b last (t ∷ ts) .given)) prepared (t ∷ ts)
+pub end-targets : (occupied : Pool) (last : ℕ) (ts : List Target) → passEnd occupied last ts .targets ≡ mapTargets (λ (t : Target). servedBy (ruled (startingPool occupied) last ts .given) (prepared t)) ts
+end-targets occupied last [] = refl
+end-targets occupied last (t ∷ ts) =
+    resolved-as-served (ruled (startingPool occupied) last (t ∷ ts) .given) (cleared (t ∷ ts))
+    ∙ map-twice (servedBy (ruled (startingPool occupied) last (t ∷ ts) .given)) prepared (t ∷ ts)
 
 -- one that is not served keeps its address byte
 pub unserved-stays : (gs : List Given) (t : Target) → Each (λ (g : Given). sameUdid (t .udid) (g .who .udid) ≡ false) gs → servedBy gs t ≡ t
@@ -238,11 +240,11 @@ taken-by (g ∷ gs) t o = (first, taken-by-more g gs t gs (taken-by gs t (o .1))
         let q : sameUdid (t .udid) (g .who .udid) ≡ true = ap (λ (x : Udid). sameUdid x (g .who .udid)) e ∙ same-refl (g .who .udid) in
         rw q (unserved-stays gs (taken t (g .address)) (each-equal gs (g .who .udid) (t .udid) (sym e) (o .0)))
 
-module _ (b : Pool) (last : ℕ) (ts : List Target) (v : AdmittedTargets b ts) where
-  -- A SERVED TARGET ends with its address and flag 1
-  pub served-takes-address : (t : Target) → Each (TakenBy (ruled b last ts .given) (prepared t)) (ruled b last ts .given)
-  served-takes-address t = taken-by (ruled b last ts .given) (prepared t) (rule-serves-once (ascending ts) b last (ascending-is-lower-first ts (v .differ)))
+module _ (occupied : Pool) (last : ℕ) (ts : List Target) (v : AdmittedTargets (barredPool occupied) ts) where
+  -- no identifier is served twice
+  pub served-once : OnePerUdid (ruled (startingPool occupied) last ts .given)
+  served-once = rule-serves-once (ascending ts) (startingPool occupied) last (ascending-is-lower-first ts (v .differ))
 
-  -- no identifier is served map-twice
-  pub served-once : OnePerUdid (ruled b last ts .given)
-  served-once = rule-serves-once (ascending ts) b last (ascending-is-lower-first ts (v .differ))
+  -- A SERVED TARGET ends with its address and flag 1
+  pub served-takes-address : (t : Target) → Each (TakenBy (ruled (startingPool occupied) last ts .given) (prepared t)) (ruled (startingPool occupied) last ts .given)
+  served-takes-address t = taken-by (ruled (startingPool occupied) last ts .given) (prepared t) served-once

@@ -7,9 +7,9 @@ use mathlib.Core.List.{List, [], _∷_}
 use native.Mathlib.Nat.{mod-eq-of-lt}
 use native.Mathlib.Omega.{arith}
 use lib.ListN.{length, getD, take, drop}
-use Rattle.lists.specs.Each.{Each, Bytes}
+use Rattle.lists.specs.Each.{Each, Any, Bytes}
 use Rattle.lists.specs.EachLaws.{each-map, each-both}
-use Rattle.pool.specs.Start.{startingPool}
+use Rattle.pool.specs.Start.{startingPool, barredPool}
 use Rattle.pool.specs.declared.Pool.{Pool}
 use Rattle.udid.specs.Bytes.{udidBytes}
 use Rattle.udid.specs.Udids.{sameUdid}
@@ -26,7 +26,7 @@ use Rattle.rule.specs.PassEndLaws.{given-free-distinct, given-among-targ
 use Rattle.rule.specs.PassEnd.{passEnd}
 use Rattle.rule.specs.PlainRule.{Given, ruled, FreeIn}
 use Rattle.rule.specs.ReadingLaws.{end-targets, unserved-stays, served-takes-address}
-use Rattle.rule.specs.Reading.{Any, RecordOf, servedBy, taken, TakenBy}
+use Rattle.rule.specs.Reading.{RecordOf, servedBy, taken, TakenBy}
 
 served-keeps : (gs : List Given) (t : Target) → servedBy gs t .udid ≡ t .udid
 served-keeps [] t = refl
@@ -43,17 +43,17 @@ not-any : {P Q : Given → Type 0} (gs : List Given) → ((g : Given) → (P g �
 not-any [] f n = tt
 not-any (g ∷ gs) f n = (f g (λ p. n (inl p)), not-any gs f (λ p. n (inr p)))
 
-module _ (occupied : Pool) (last : ℕ) (s : List ℕ) (b : Bytes s) (v : AdmittedTargets (startingPool occupied) (targetsOf s)) where
+module _ (occupied : Pool) (last : ℕ) (s : List ℕ) (b : Bytes s) (v : AdmittedTargets (barredPool occupied) (targetsOf s)) where
   abbrev given : List Given
   given = ruled (startingPool occupied) last (targetsOf s) .given
 
   -- the records as the pass leaves them
   abbrev after : List ℕ
-  after = recordsWith (passEnd (startingPool occupied) last (targetsOf s) .targets) s
+  after = recordsWith (passEnd occupied last (targetsOf s) .targets) s
 
   changed : Changed (λ (t : Target). servedBy given (prepared t)) s after
   changed = changed-exactly (λ (t : Target). servedBy given (prepared t)) (λ t. served-keeps given (prepared t)) s after .0
-      (ap (λ (ts : List Target). recordsWith ts s) (end-targets (startingPool occupied) last (targetsOf s)))
+      (ap (λ (ts : List Target). recordsWith ts s) (end-targets occupied last (targetsOf s)))
 
   pub same-length : length after ≡ length s
   same-length = changed .same-length
@@ -82,9 +82,9 @@ module _ (occupied : Pool) (last : ℕ) (s : List ℕ) (b : Bytes s) (v : Admitt
   pub bound-record : (i : ℕ) → i < length s / 18
       → Each (λ (g : Given). RecordOf s i g → (getD after (18 * i + 16) 0 ≡ 2 * g .address + 1) × (getD after (18 * i + 17) 0 ≡ 1)) given
   bound-record i h =
-      each-both given (λ g f. f) (each-both given at (given-free-distinct occupied last (targetsOf s) v .0) (given-among-targets occupied last (targetsOf s) v)) (served-takes-address (startingPool occupied) last (targetsOf s) v (targetAt s i))
+      each-both given (λ g f. f) (each-both given at (given-free-distinct occupied last (targetsOf s) v .0) (given-among-targets occupied last (targetsOf s) v)) (served-takes-address occupied last (targetsOf s) v (targetAt s i))
     where
-      at : (g : Given) → FreeIn (startingPool occupied) g → Among (g .who) (targetsOf s) → TakenBy given (prepared (targetAt s i)) g → RecordOf s i g
+      at : (g : Given) → FreeIn (barredPool occupied) g → Among (g .who) (targetsOf s) → TakenBy given (prepared (targetAt s i)) g → RecordOf s i g
           → (getD after (18 * i + 16) 0 ≡ 2 * g .address + 1) × (getD after (18 * i + 17) 0 ≡ 1)
       at g f m t r =
           let u : targetAt s i .udid ≡ g .who .udid = same-bytes (targetAt s i .udid) (g .who .udid) (sized-at s b i .udid) (v .sized (g .who) m .udid) .0 (sym (record-bytes s i b h) ∙ r) in
@@ -108,12 +108,12 @@ module _ (occupied : Pool) (last : ℕ) (s : List ℕ) (b : Bytes s) (v : Admitt
   other-bytes j h = changed .others j (λ i l. (λ e. omega (arith, e), λ e. omega (arith, e)))
 
 -- the records that the pass leaves are those of its targets
-pub end-targets-stored : (b : Pool) (last : ℕ) (s : List ℕ) → targetsOf (recordsWith (passEnd b last (targetsOf s) .targets) s) ≡ passEnd b last (targetsOf s) .targets
-end-targets-stored b last s =
-    let f : Target → Target = λ t. servedBy (ruled b last (targetsOf s) .given) (prepared t) in
-    let e : passEnd b last (targetsOf s) .targets ≡ mapTargets f (targetsOf s) = end-targets b last (targetsOf s) in
+pub end-targets-stored : (occupied : Pool) (last : ℕ) (s : List ℕ) → targetsOf (recordsWith (passEnd occupied last (targetsOf s) .targets) s) ≡ passEnd occupied last (targetsOf s) .targets
+end-targets-stored occupied last s =
+    let f : Target → Target = λ t. servedBy (ruled (startingPool occupied) last (targetsOf s) .given) (prepared t) in
+    let e : passEnd occupied last (targetsOf s) .targets ≡ mapTargets f (targetsOf s) = end-targets occupied last (targetsOf s) in
     let n : recordCount (recordsWith (mapTargets f (targetsOf s)) s) ≡ recordCount s = ap (λ (k : ℕ). k / 18) (length-put-from (mapTargets f (targetsOf s)) 0 s) in
     ap (λ (ts : List Target). targetsOf (recordsWith ts s)) e
     ∙ ap (λ (k : ℕ). targetsFrom (recordsWith (mapTargets f (targetsOf s)) s) k 0) n
-    ∙ changed-targets f (λ t. served-keeps (ruled b last (targetsOf s) .given) (prepared t)) (recordCount s) 0 s (omega arith)
+    ∙ changed-targets f (λ t. served-keeps (ruled (startingPool occupied) last (targetsOf s) .given) (prepared t)) (recordCount s) 0 s (omega arith)
     ∙ sym e

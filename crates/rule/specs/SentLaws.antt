@@ -4,7 +4,7 @@ use mathlib.Core.Path.{_≡_, refl, sym, ap, ap₂, _∙_, subst}
 use mathlib.Core.List.{List, [], _∷_}
 use native.Mathlib.Omega.{arith}
 use lib.ListN.{length, drop, replicate}
-use Rattle.pool.specs.Start.{startingPool}
+use Rattle.pool.specs.Start.{startingPool, barredPool}
 use Rattle.pool.specs.declared.Pool.{Pool}
 use Rattle.targets.specs.Admission.{AdmittedTargets}
 use Rattle.targets.specs.Target.{Target}
@@ -117,27 +117,27 @@ end-counts : (e : Ending) → oneGet (lastCommand e) ≡ 0
 end-counts served = refl
 end-counts (noneFree u) = refl
 
-nobody-there-silent : (n : ℕ) (b : Pool) (last : ℕ) → traces n (nobodyThere b last) ≡ replicate n []
-nobody-there-silent zero b last = refl
-nobody-there-silent (suc n) b last =
+nobody-there-silent : (n : ℕ) (occupied : Pool) (last : ℕ) → traces n (nobodyThere occupied last) ≡ replicate n []
+nobody-there-silent zero occupied last = refl
+nobody-there-silent (suc n) occupied last =
     ap₂ (λ (x : List ℕ) (l : List (List ℕ)). x ∷ l) (end-silent served [])
-    (ap (traces n) (turn-still (nobodyThere b last .now) [] (Wait Ended) refl) ∙ nobody-there-silent n b last)
+    (ap (traces n) (turn-still (nobodyThere occupied last .now) [] (Wait Ended) refl) ∙ nobody-there-silent n occupied last)
 
 module _ (occupied : Pool) (last : ℕ) where
   -- WITH NO TARGET: Prepare To ARP, whose first byte gets NACK, and nothing after it
   pub nobody-there-traces : (n : ℕ) → traces (suc n) (beginning occupied last []) ≡ (256 ∷ 194 ∷ 259 ∷ 257 ∷ []) ∷ replicate n []
-  nobody-there-traces n = ap₂ (λ (x : List ℕ) (l : List (List ℕ)). x ∷ l) on-bus.prepare-cut (ap (traces n) (nobody-ends-first-turn occupied last) ∙ nobody-there-silent n (startingPool occupied) (lastPick last))
+  nobody-there-traces n = ap₂ (λ (x : List ℕ) (l : List (List ℕ)). x ∷ l) on-bus.prepare-cut (ap (traces n) (nobody-ends-first-turn occupied last) ∙ nobody-there-silent n occupied (lastPick last))
 
   -- AFTER THE PASS THE BUS IS SILENT: no Get UDID follows those that are counted
-  pub silent-after : (ts : List Target) → AdmittedTargets (startingPool occupied) ts → stands (pass occupied last ts) ≡ []
+  pub silent-after : (ts : List Target) → AdmittedTargets (barredPool occupied) ts → stands (pass occupied last ts) ≡ []
   silent-after ts v = ap stands (demand-3 occupied last ts v) ∙ go ts
     where
-      go : (ts : List Target) → stands (passEnd (startingPool occupied) (lastPick last) ts) ≡ []
+      go : (ts : List Target) → stands (passEnd occupied (lastPick last) ts) ≡ []
       go [] = end-silent served []
-      go (t ∷ ts) = end-silent (ruled (startingPool occupied) (lastPick last) (t ∷ ts) .ending) (passEnd (startingPool occupied) (lastPick last) (t ∷ ts) .targets)
+      go (t ∷ ts) = end-silent (ruled (startingPool occupied) (lastPick last) (t ∷ ts) .ending) (passEnd occupied (lastPick last) (t ∷ ts) .targets)
 
   -- THE CONTROLLER'S COUNT IS THAT OF THE GET UDIDS ON THE BUS
-  pub counted-on-bus : (ts : List Target) → AdmittedTargets (startingPool occupied) ts → pass occupied last ts .now .state .gets ≡ getsOnBus occupied last ts
+  pub counted-on-bus : (ts : List Target) → AdmittedTargets (barredPool occupied) ts → pass occupied last ts .now .state .gets ≡ getsOnBus occupied last ts
   unfolding getsOnBus pass
   counted-on-bus [] v = ap (λ (w : World). w .now .state .gets) (demand-3 occupied last [] v) ∙ sym (gets-none 300 (beginning occupied last []) refl)
   counted-on-bus (t ∷ ts) v =
@@ -145,7 +145,7 @@ module _ (occupied : Pool) (last : ℕ) where
       (ap (λ (w : World). oneGet (w .now .command)) (demand-3 occupied last (t ∷ ts) v) ∙ end-counts (ruled (startingPool occupied) (lastPick last) (t ∷ ts) .ending))
 
   -- ONE MORE THAN TARGETS ARE BOUND, where there is a target; with none, no Get UDID
-  pub gets-one-more-than-bound : (t : Target) (ts : List Target) → AdmittedTargets (startingPool occupied) (t ∷ ts) → getsOnBus occupied last (t ∷ ts) ≡ suc (length (ruled (startingPool occupied) (lastPick last) (t ∷ ts) .given))
+  pub gets-one-more-than-bound : (t : Target) (ts : List Target) → AdmittedTargets (barredPool occupied) (t ∷ ts) → getsOnBus occupied last (t ∷ ts) ≡ suc (length (ruled (startingPool occupied) (lastPick last) (t ∷ ts) .given))
   gets-one-more-than-bound t ts v = sym (counted-on-bus (t ∷ ts) v) ∙ ap (λ (w : World). w .now .state .gets) (demand-3 occupied last (t ∷ ts) v) ∙ omega arith
 
   pub no-gets-without-target : getsOnBus occupied last [] ≡ 0

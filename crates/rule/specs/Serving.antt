@@ -1,10 +1,10 @@
 -- A pass from a Get UDID on: the plain rule with all that it changes carried along, and what holds whenever Get UDID is out.
 use Prim.Native.Nat.{ℕ, suc, _+_, _<_}
 use mathlib.Core.Path.{_≡_}
-use mathlib.Core.Bool.{false}
+use mathlib.Core.Bool.{true, false}
 use mathlib.Core.List.{List, [], _∷_}
 use lib.ListN.{length}
-use Rattle.pool.specs.Pools.{withAddress}
+use Rattle.pool.specs.Pools.{member, withAddress}
 use Rattle.pool.specs.declared.Pool.{Pool}
 use Rattle.pool.specs.declared.free.Free.{Free}
 use Rattle.pool.specs.declared.free.Free.the-variants.{At, AllUsed}
@@ -13,6 +13,7 @@ use Rattle.udid.specs.declared.Udid.{Udid}
 use Rattle.arbitration.specs.Among.{Among}
 use Rattle.targets.specs.Members.{Waits}
 use Rattle.targets.specs.Target.{Target, resolve}
+use Rattle.arp.specs.Bindings.{makesClaim}
 use Rattle.slots.specs.Finding.{boundTo}
 use Rattle.slots.specs.Slots.{Sized128, heldAt, withBinding}
 use Rattle.commands.specs.declared.command.Command.the-variants.{GetUdid}
@@ -42,8 +43,10 @@ plain (t ∷ rest) p last s k ts = serve (λ p′ l′ s′ k′ ts′. plain re
 abbrev pub Unbound : Udid → Slots → Type 0
 Unbound u s = (i : ℕ) → boundTo u (heldAt s i) ≡ false
 
-pub record Inv (p : Pool) (s : Slots) (k : ℕ) (ts rest : List Target) : Type 0 where
-  pub ready : Ready p rest
+pub record Inv (occupied p shut : Pool) (s : Slots) (k : ℕ) (ts rest : List Target) : Type 0 where
+  pub ready : Ready p shut rest
+  -- where an Assign would make a claim is shut
+  pub taken-shut : (a : ℕ) → makesClaim occupied (heldAt s a) a ≡ true → member shut a ≡ true
   pub waits : Waits ts rest
   pub unbound : (t : Target) → Among t rest → Unbound (t .udid) s
   pub room : Sized128 s

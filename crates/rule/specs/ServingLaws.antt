@@ -9,11 +9,13 @@ use native.Mathlib.Decide.{ℕ-discrete}
 use native.Mathlib.Omega.{arith}
 use lib.ListN.{length}
 use Rattle.wire.specs.declared.address.Address.{Address}
-use Rattle.pool.specs.Pools.{withAddress}
+use Rattle.lists.specs.ChoiceLaws.{not-both}
+use Rattle.pool.specs.Pools.{member, withAddress}
+use Rattle.pool.specs.MemberLaws.{has-with-same, has-with-other}
 use Rattle.pool.specs.declared.Pool.{Pool}
 use Rattle.pool.specs.declared.free.Free.{Free}
 use Rattle.pool.specs.declared.free.Free.the-variants.{At, AllUsed}
-use Rattle.udid.specs.Udids.{Fits, sameUdid, value}
+use Rattle.udid.specs.Udids.{Fits, sameUdid, isFixed, value}
 use Rattle.udid.specs.UdidLaws.{other-udid}
 use Rattle.udid.specs.declared.Udid.{Udid}
 use Rattle.arbitration.specs.Among.{Among}
@@ -22,10 +24,12 @@ use Rattle.targets.specs.MembersLaws.{waits-next}
 use Rattle.targets.specs.Members.{Least}
 use Rattle.targets.specs.RecordLaws.{length-map, assigned-keeps-udid}
 use Rattle.slots.specs.Finding.{boundTo}
+use Rattle.arp.specs.Bindings.{makesClaim}
 use Rattle.arp.specs.Controller.{issued, stepped}
 use Rattle.slots.specs.Slots.{Sized128, heldAt, withBinding}
 use Rattle.slots.specs.SlotsLaws.{held-same, held-other, sized-with}
 use Rattle.commands.specs.declared.command.Command.the-variants.{GetUdid, Assign}
+use Rattle.slots.specs.declared.Binding.{Binding}
 use Rattle.slots.specs.declared.Binding.the-variants.{Bound}
 use Rattle.slots.specs.declared.Slots.{Slots}
 use Rattle.commands.specs.declared.command.Handed.the-variants.{Send}
@@ -40,7 +44,7 @@ use Rattle.rule.specs.PlainRule.{Ending, served, noneFree, isPickedFor, 
 use Rattle.rule.specs.PassEnd.{lastCommand, out, ended}
 use Rattle.rule.specs.EffectLaws.{effect-as-meant}
 use Rattle.rule.specs.TraceLaws as on-bus
-use Rattle.rule.specs.RuleLaws.{controller-picks-as-rule, controller-chooses-as-rule, ready-choice-free, ready-next}
+use Rattle.rule.specs.RuleLaws.{controller-picks-as-rule, controller-chooses-as-rule, ready-choice-free, ready-last-used, ready-fixed-some, ready-next}
 use Rattle.rule.specs.Serving.{Unbound, serve, plain, Inv, turns, asking}
 use Rattle.rule.specs.StepLaws.{get-silence-ends, get-issued, assign-bound}
 
@@ -58,11 +62,20 @@ fits-next : (u : Udid) (a : ℕ) (ts : List Target) → ((t : Target) → Among 
 fits-next u a (x ∷ ts) h t (inl e) = subst Fits (sym (assigned-keeps-udid u a x) ∙ ap (λ (y : Target). y .udid) e) (h x (inl refl))
 fits-next u a (x ∷ ts) h t (inr m) = fits-next u a ts (λ y k. h y (inr k)) t m
 
-inv-next : (p : Pool) (last : ℕ) (s : Slots) (k : ℕ) (ts rest : List Target) (r : Target) (a : Address) → Inv p s k ts (r ∷ rest) → plainChoice p last r ≡ At a
-    → Inv (withAddress p (a .0)) (withBinding s (a .0) (Bound (r .udid))) (suc k) (resolve (r .udid) (a .0) ts) rest
-inv-next p last s k ts rest r a v e =
-    let free = ready-choice-free p last r rest a (v .ready) e in record {
-      ready = ready-next p last r rest a (v .ready) e;
+-- an address that is not shut is not taken: an Assign of it binds
+taken-not : (occupied p shut : Pool) (s : Slots) (k : ℕ) (ts rest : List Target) → Inv occupied p shut s k ts rest → (a : ℕ) → member shut a ≡ false → makesClaim occupied (heldAt s a) a ≡ false
+taken-not occupied p shut s k ts rest v a n = go (makesClaim occupied (heldAt s a) a) refl
+  where
+    go : (b : Bool) → makesClaim occupied (heldAt s a) a ≡ b → makesClaim occupied (heldAt s a) a ≡ false
+    go false e = e
+    go true e = not-both n (v .taken-shut a e)
+
+inv-next : (occupied p shut : Pool) (last : ℕ) (s : Slots) (k : ℕ) (ts rest : List Target) (r : Target) (a : Address) → Inv occupied p shut s k ts (r ∷ rest) → plainChoice p last r ≡ At a
+    → Inv occupied (withAddress p (a .0)) (withAddress shut (a .0)) (withBinding s (a .0) (Bound (r .udid))) (suc k) (resolve (r .udid) (a .0) ts) rest
+inv-next occupied p shut last s k ts rest r a v e =
+    let free = ready-choice-free p shut last r rest a (v .ready) e in record {
+      ready = ready-next p shut last r rest a (v .ready) e;
+      taken-shut = λ i t. shut-next (free .0) i t (ℕ-discrete i (a .0));
       waits = waits-next ts rest r (a .0) (v .waits) (λ x m. v .ready .apart .0 x m .lower);
       unbound = λ t m. unbound-set (t .udid) r s (a .0) (v .room) (free .0) (other-udid (r .udid) (t .udid) (λ q. above t (v .ready .apart .0 t m .lower) (ap value q))) (v .unbound t (inr m));
       room = sized-with s (a .0) (Bound (r .udid)) (v .room);
@@ -73,6 +86,12 @@ inv-next p last s k ts rest r a v e =
   where
     above : (t : Target) → value (r .udid) < value (t .udid) → value (r .udid) ≡ value (t .udid) → ⊥
     above t l q = omega arith
+
+    shut-next : a .0 < 128 → (i : ℕ) → makesClaim occupied (heldAt (withBinding s (a .0) (Bound (r .udid))) i) i ≡ true → Dec (i ≡ a .0) → member (withAddress shut (a .0)) i ≡ true
+    shut-next l i t (yes q) = ap (member (withAddress shut (a .0))) q ∙ has-with-same shut (a .0) l
+    shut-next l i t (no q) =
+        has-with-other shut (a .0) i q
+        ∙ v .taken-shut i (ap (λ (h : Binding). makesClaim occupied h i) (sym (held-other s (a .0) i (Bound (r .udid)) q)) ∙ t)
 
 -- ---- the run
 
@@ -96,14 +115,14 @@ all-resolved-ends last b p s n (t ∷ ts) l h = ap (stepped (stateOf last b p s 
     all x m true e = e
     all x m false e = absurd (h x m e)
 
-pub run-serves-rest : (last : ℕ) (b p : Pool) (s : Slots) (k : ℕ) (ts rest : List Target) → Inv p s k ts rest
+pub run-serves-rest : (last : ℕ) (b p shut : Pool) (s : Slots) (k : ℕ) (ts rest : List Target) → Inv b p shut s k ts rest
     → run (turns rest) (asking last b p s (suc k) ts) ≡ ended b (plain rest p last s k ts)
-run-serves-rest last b p s k ts [] v = turn-takes (out last b p s (suc k) (Send GetUdid)) ts (Send GetUdid) refl ∙ ap₂ world (all-resolved-ends last b p s (suc k) ts (v .present) (λ t m e. v .waits .known t m e)) (effect-as-meant (Send GetUdid) ts tt (v .fits))
-run-serves-rest last b p s k ts (r ∷ rest) v =
+run-serves-rest last b p shut s k ts [] v = turn-takes (out last b p s (suc k) (Send GetUdid)) ts (Send GetUdid) refl ∙ ap₂ world (all-resolved-ends last b p s (suc k) ts (v .present) (λ t m e. v .waits .known t m e)) (effect-as-meant (Send GetUdid) ts tt (v .fits))
+run-serves-rest last b p shut s k ts (r ∷ rest) v =
     ap (run (suc (turns rest))) (turn-takes (out last b p s (suc k) (Send GetUdid)) ts (Send GetUdid) refl)
     ∙ ap₂ (λ (x : Stepped) (us : List Target). run (suc (turns rest)) (world x us)) reply-issues-choice (effect-as-meant (Send GetUdid) ts tt (v .fits))
     ∙ go (plainChoice p last r) refl
-    (λ a e. run-serves-rest (pickAfter p last r (a .0)) b (withAddress p (a .0)) (withBinding s (a .0) (Bound (r .udid))) (suc k) (resolve (r .udid) (a .0) ts) rest (inv-next p last s k ts rest r a v e))
+    (λ a e. run-serves-rest (pickAfter p last r (a .0)) b (withAddress p (a .0)) (withAddress shut (a .0)) (withBinding s (a .0) (Bound (r .udid))) (suc k) (resolve (r .udid) (a .0) ts) rest (inv-next b p shut last s k ts rest r a v e))
   where
     least : Least ts r
     least = record {
@@ -121,8 +140,13 @@ run-serves-rest last b p s k ts (r ∷ rest) v =
     reply-issues-choice =
         ap (stepped (stateOf last b p s (suc k) (Send GetUdid))) (on-bus.get-whole ts r least)
         ∙ get-issued last b p s (suc k) r (v .ready .sized r (inl refl)) (v .unbound r (inl refl))
-        ∙ ap₂ (issued (stateOf last b p s (suc k) (Send GetUdid)) (r .udid)) (controller-picks-as-rule p r (v .ready .last-used) (v .ready .fixed-some r (inl refl)))
-        (controller-chooses-as-rule p last r (v .ready .last-used) (v .ready .fixed-some r (inl refl)))
+        ∙ ap₂ (issued (stateOf last b p s (suc k) (Send GetUdid)) (r .udid)) (controller-picks-as-rule p r top some) (controller-chooses-as-rule p last r top some)
+      where
+        top : member p 127 ≡ true
+        top = ready-last-used p shut (r ∷ rest) (v .ready)
+
+        some : isFixed (r .udid) ≡ true → r .addressByte ≡ 255 → ⊥
+        some = ready-fixed-some p shut (r ∷ rest) (v .ready) r (inl refl)
 
     go : (c : Free) → plainChoice p last r ≡ c
         → ((a : Address) → plainChoice p last r ≡ At a
@@ -132,12 +156,12 @@ run-serves-rest last b p s k ts (r ∷ rest) v =
         ≡ ended b (serve (λ p′ l′ s′ k′ ts′. plain rest p′ l′ s′ k′ ts′) r p last s k ts (plainChoice p last r))
     go AllUsed e ih = rw e (ended-run-stays (suc (turns rest)) last b p s (suc k) (noneFree (r .udid)) ts)
     go (At a) e ih =
-        let f = ready-choice-free p last r rest a (v .ready) e in
+        let f = ready-choice-free p shut last r rest a (v .ready) e in
         rw e
         (ap (run (turns rest)) (turn-takes (out (pickAfter p last r (a .0)) b p s (suc k) (Send (Assign (r .udid) a))) ts (Send (Assign (r .udid) a)) refl)
         ∙ ap₂ (λ (x : Stepped) (us : List Target). run (turns rest) (world x us))
         (ap (stepped (stateOf (pickAfter p last r (a .0)) b p s (suc k) (Send (Assign (r .udid) a)))) (on-bus.assign-whole ts (r .udid) a r (v .waits .there r (inl refl)) refl)
         ∙ assign-bound (pickAfter p last r (a .0)) b p s (suc k) (r .udid) a (omega (arith, v .below-128)) (v .ready .sized r (inl refl) .udid) (f .0)
-        ∙ simp (f .1, add-one (suc k)))
+        ∙ simp (taken-not b p shut s k ts (r ∷ rest) v (a .0) (f .1), add-one (suc k)))
         (effect-as-meant (Send (Assign (r .udid) a)) ts (v .ready .sized r (inl refl) .udid) (v .fits))
         ∙ ih a e)

@@ -11,7 +11,7 @@ use Rattle.wire.specs.Symbols.{START, STOP, ACK, NACK}
 use Rattle.wire.specs.declared.address.Address.{Address}
 use Rattle.trace.specs.Shapes.{shapeOf}
 use Rattle.scan.specs.Answers.{CutAt}
-use Rattle.pool.specs.Pools.{member, withAddress}
+use Rattle.pool.specs.Pools.{withAddress}
 use Rattle.pool.specs.declared.Pool.{Pool}
 use Rattle.udid.specs.Bytes.{udidBytes, udidAt}
 use Rattle.udid.specs.UdidLaws.{length-udid, udid-back}
@@ -20,7 +20,7 @@ use Rattle.udid.specs.declared.Udid.{Udid}
 use Rattle.targets.specs.Target.{Target, Sized}
 use Rattle.targets.specs.Reply.{replyData}
 use Rattle.targets.specs.ReplyLaws.{length-reply-data, bytes-reply-data}
-use Rattle.arp.specs.Bindings.{freed, bindingFor, bound}
+use Rattle.arp.specs.Bindings.{freed, makesClaim, bindingFor, bound}
 use Rattle.slots.specs.Finding.{findFrom}
 use Rattle.arp.specs.Controller.{handed, asked, hasToPick, chosen, issued, replied, stepped}
 use Rattle.commands.specs.Codes.{sendByte, blockRead}
@@ -28,7 +28,7 @@ use Rattle.commands.specs.RequestLaws.{valid-prepare, valid-get}
 use Rattle.commands.specs.Requests.{messageOf, traceOf}
 use Rattle.arp.specs.ChangedLaws.{told-is-changed}
 use Rattle.hearing.specs.TraceLaws.{prepare-accepted, prepare-nobody, get-reply, get-nobody, assign-whole}
-use Rattle.slots.specs.Slots.{withBinding}
+use Rattle.slots.specs.Slots.{heldAt, withBinding}
 use Rattle.commands.specs.declared.command.Command.the-variants.{Prepare, GetUdid, Assign}
 use Rattle.commands.specs.declared.command.End.the-variants.{Ended}
 use Rattle.commands.specs.declared.command.Handed.{Handed}
@@ -122,9 +122,9 @@ get-issued l b p s n t z h =
 
 -- ---- Assign Address
 
--- complete: bound, and the next Get UDID
+-- complete: bound, or claimed where the address was taken, and the next Get UDID
 pub assign-bound : (l : ℕ) (b p : Pool) (s : Slots) (n : ℕ) (u : Udid) (a : Address) → n < 128 → Fits u → a .0 < 128
-    → stepped (stateOf l b p s n (Send (Assign u a))) (traceOf (Send (Assign u a)) []) ≡ out l b (withAddress p (a .0)) (withBinding s (a .0) (bindingFor (member p (a .0)) u)) (n + 1) (Send GetUdid)
+    → stepped (stateOf l b p s n (Send (Assign u a))) (traceOf (Send (Assign u a)) []) ≡ out l b (withAddress p (a .0)) (withBinding s (a .0) (bindingFor (makesClaim b (heldAt s (a .0)) (a .0)) u)) (n + 1) (Send GetUdid)
 unfolding asked bound
 assign-bound l b p s n u a h f m =
     told-is-changed (stateOf l b p s n (Send (Assign u a))) (traceOf (Send (Assign u a)) []) (Send (Assign u a)) (Took u a) refl (assign-whole u a (traceOf (Send (Assign u a)) []) f refl)

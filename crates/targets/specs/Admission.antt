@@ -19,13 +19,13 @@ Differ r t = value (r .udid) ≡ value (t .udid) → ⊥
 abbrev pub FixedApart : Target → Target → Type 0
 FixedApart r t = isFixed (r .udid) ≡ true → isFixed (t .udid) ≡ true → r .addressByte / 2 ≡ t .addressByte / 2 → ⊥
 
--- a fixed target is at an address that is not in the starting pool
+-- a fixed target is at an address that is not barred
 abbrev pub FixedFree : Pool → Target → Type 0
-FixedFree starting t = isFixed (t .udid) ≡ true → member starting (t .addressByte / 2) ≡ false
+FixedFree barred t = isFixed (t .udid) ≡ true → member barred (t .addressByte / 2) ≡ false
 
-pub record AdmittedTargets (starting : Pool) (ts : List Target) : Type 0 where
+pub record AdmittedTargets (barred : Pool) (ts : List Target) : Type 0 where
   pub sized : (t : Target) → Among t ts → Sized t
   pub differ : Pairs Differ ts
   pub fixed-apart : Pairs FixedApart ts
-  pub fixed-free : (t : Target) → Among t ts → FixedFree starting t
+  pub fixed-free : (t : Target) → Among t ts → FixedFree barred t
   pub at-most-120 : length ts ≤ 120

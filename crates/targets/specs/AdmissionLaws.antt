@@ -30,9 +30,9 @@ good-length-whole s n = go (decLt 2160 (length s)) (ℕ-discrete (length s % 18)
     go (no h) (no e) = absurd (n (inr e))
     go (no h) (yes e) = omega arith
 
-module _ (starting : Pool) (s : List ℕ) (b : Bytes s) (e : checkedList starting s ≡ Admitted) where
-  given : Given starting s Admitted
-  given = given-exactly starting s Admitted .0 (sym e)
+module _ (barred : Pool) (s : List ℕ) (b : Bytes s) (e : checkedList barred s ≡ Admitted) where
+  given : Given barred s Admitted
+  given = given-exactly barred s Admitted .0 (sym e)
 
   -- every record is whole, with its flag 0 or 1 and an odd address byte
   pub admitted-length : (length s ≤ 2160) × (length s ≡ recordCount s * 18)
@@ -49,11 +49,11 @@ module _ (starting : Pool) (s : List ℕ) (b : Bytes s) (e : checkedList startin
   pub admitted-differ : (j k : ℕ) → j < k → k < recordCount s → value (udidOf s j) ≡ value (udidOf s k) → ⊥
   admitted-differ j k l h q = given .2 k h (j, l, value-same (udidOf s j) (udidOf s k) (fits-at s (j * 18) b .low) (fits-at s (k * 18) b .low) q)
 
-  fixed-free : (i : ℕ) → i < recordCount s → FixedFree starting (targetAt s i)
+  fixed-free : (i : ℕ) → i < recordCount s → FixedFree barred (targetAt s i)
   unfolding targetAt
-  fixed-free i h f = go (member starting (addressByte s i / 2)) refl
+  fixed-free i h f = go (member barred (addressByte s i / 2)) refl
     where
-      go : (t : Bool) → member starting (addressByte s i / 2) ≡ t → member starting (addressByte s i / 2) ≡ false
+      go : (t : Bool) → member barred (addressByte s i / 2) ≡ t → member barred (addressByte s i / 2) ≡ false
       go true m = absurd (given .3 i h (f, inl m))
       go false m = m
 
@@ -65,11 +65,11 @@ module _ (starting : Pool) (s : List ℕ) (b : Bytes s) (e : checkedList startin
   unfolding targetAt
   apart j k l h = admitted-differ j k l h
 
-  pub admitted-targets : AdmittedTargets starting (targetsOf s)
+  pub admitted-targets : AdmittedTargets barred (targetsOf s)
   admitted-targets = record {
     sized = λ t m. let r = target-has-record s (recordCount s) 0 t m in subst Sized (r .3) (sized-at s b (r .0));
     differ = pairs-from Differ s (recordCount s) 0 (λ j k a h l. apart j k h (omega arith));
     fixed-apart = pairs-from FixedApart s (recordCount s) 0 (λ j k a h l. fixed-apart j k h (omega arith));
-    fixed-free = λ t m. let r = target-has-record s (recordCount s) 0 t m in subst (FixedFree starting) (r .3) (fixed-free (r .0) (omega (arith, r .2)));
+    fixed-free = λ t m. let r = target-has-record s (recordCount s) 0 t m in subst (FixedFree barred) (r .3) (fixed-free (r .0) (omega (arith, r .2)));
     at-most-120 = omega (arith, length-targets s (recordCount s) 0, admitted-length .0);
   }

@@ -28,16 +28,16 @@ FixedAt s i = getD s (18 * i) 0 < 64
 abbrev pub addressAt : List ℕ → ℕ → ℕ
 addressAt s i = getD s (18 * i + 16) 0 / 2
 
--- 12: a fixed target whose address is in the starting pool or is that of an earlier fixed one
+-- 12: a fixed target whose address is barred or is that of an earlier fixed one
 abbrev pub FixedOnTaken : Pool → List ℕ → ℕ → Type 0
-FixedOnTaken starting s i = FixedAt s i × ((member starting (addressAt s i) ≡ true) ⊎ ((j : ℕ) × (j < i) × FixedAt s j × (addressAt s j ≡ addressAt s i)))
+FixedOnTaken barred s i = FixedAt s i × ((member barred (addressAt s i) ≡ true) ⊎ ((j : ℕ) × (j < i) × FixedAt s j × (addressAt s j ≡ addressAt s i)))
 
 -- what each answer says of the list: each case is looked for over the whole list, and in their order
 abbrev pub GivenByBytes : Pool → List ℕ → Checked → Type 0
-GivenByBytes starting s BadLength = LengthIsBad s
-GivenByBytes starting s (Malformed i) = (LengthIsBad s → ⊥) × FirstOf (EvenOrFlag s) (length s / 18) i
-GivenByBytes starting s (Repeated i) = (LengthIsBad s → ⊥) × None (EvenOrFlag s) (length s / 18) × FirstOf (SameAsEarlier s) (length s / 18) i
-GivenByBytes starting s (Taken i) =
-    (LengthIsBad s → ⊥) × None (EvenOrFlag s) (length s / 18) × None (SameAsEarlier s) (length s / 18) × FirstOf (FixedOnTaken starting s) (length s / 18) i
-GivenByBytes starting s Admitted =
-    (LengthIsBad s → ⊥) × None (EvenOrFlag s) (length s / 18) × None (SameAsEarlier s) (length s / 18) × None (FixedOnTaken starting s) (length s / 18)
+GivenByBytes barred s BadLength = LengthIsBad s
+GivenByBytes barred s (Malformed i) = (LengthIsBad s → ⊥) × FirstOf (EvenOrFlag s) (length s / 18) i
+GivenByBytes barred s (Repeated i) = (LengthIsBad s → ⊥) × None (EvenOrFlag s) (length s / 18) × FirstOf (SameAsEarlier s) (length s / 18) i
+GivenByBytes barred s (Taken i) =
+    (LengthIsBad s → ⊥) × None (EvenOrFlag s) (length s / 18) × None (SameAsEarlier s) (length s / 18) × FirstOf (FixedOnTaken barred s) (length s / 18) i
+GivenByBytes barred s Admitted =
+    (LengthIsBad s → ⊥) × None (EvenOrFlag s) (length s / 18) × None (SameAsEarlier s) (length s / 18) × None (FixedOnTaken barred s) (length s / 18)

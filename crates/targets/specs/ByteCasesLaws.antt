@@ -70,20 +70,20 @@ module _ (s : List ℕ) (b : Bytes s) where
   address-by-bytes : (i : ℕ) → addressByte s i / 2 ≡ addressAt s i
   address-by-bytes i = ap (λ (x : ℕ). x / 2) (address-byte-16 s i)
 
-  pub taken-by-bytes : (starting : Pool) (i : ℕ) → i < length s / 18 → TakenAt starting s i ↔ FixedOnTaken starting s i
-  taken-by-bytes starting i h = (λ t. (fixed-by-bytes i h .0 (t .0), there (t .1)), λ t. (fixed-by-bytes i h .1 (t .0), back (t .1)))
+  pub taken-by-bytes : (barred : Pool) (i : ℕ) → i < length s / 18 → TakenAt barred s i ↔ FixedOnTaken barred s i
+  taken-by-bytes barred i h = (λ t. (fixed-by-bytes i h .0 (t .0), there (t .1)), λ t. (fixed-by-bytes i h .1 (t .0), back (t .1)))
     where
       before : (j : ℕ) → j < i → j < length s / 18
       before j l = omega arith
 
-      there : (member starting (addressByte s i / 2) ≡ true) ⊎ ((j : ℕ) × (j < i) × (isFixed (udidOf s j) ≡ true) × (addressByte s j / 2 ≡ addressByte s i / 2))
-          → (member starting (addressAt s i) ≡ true) ⊎ ((j : ℕ) × (j < i) × FixedAt s j × (addressAt s j ≡ addressAt s i))
-      there (inl m) = inl (ap (member starting) (sym (address-by-bytes i)) ∙ m)
+      there : (member barred (addressByte s i / 2) ≡ true) ⊎ ((j : ℕ) × (j < i) × (isFixed (udidOf s j) ≡ true) × (addressByte s j / 2 ≡ addressByte s i / 2))
+          → (member barred (addressAt s i) ≡ true) ⊎ ((j : ℕ) × (j < i) × FixedAt s j × (addressAt s j ≡ addressAt s i))
+      there (inl m) = inl (ap (member barred) (sym (address-by-bytes i)) ∙ m)
       there (inr r) = inr (r .0, r .1, fixed-by-bytes (r .0) (before (r .0) (r .1)) .0 (r .2), sym (address-by-bytes (r .0)) ∙ r .3 ∙ address-by-bytes i)
 
-      back : (member starting (addressAt s i) ≡ true) ⊎ ((j : ℕ) × (j < i) × FixedAt s j × (addressAt s j ≡ addressAt s i))
-          → (member starting (addressByte s i / 2) ≡ true) ⊎ ((j : ℕ) × (j < i) × (isFixed (udidOf s j) ≡ true) × (addressByte s j / 2 ≡ addressByte s i / 2))
-      back (inl m) = inl (ap (member starting) (address-by-bytes i) ∙ m)
+      back : (member barred (addressAt s i) ≡ true) ⊎ ((j : ℕ) × (j < i) × FixedAt s j × (addressAt s j ≡ addressAt s i))
+          → (member barred (addressByte s i / 2) ≡ true) ⊎ ((j : ℕ) × (j < i) × (isFixed (udidOf s j) ≡ true) × (addressByte s j / 2 ≡ addressByte s i / 2))
+      back (inl m) = inl (ap (member barred) (address-by-bytes i) ∙ m)
       back (inr r) = inr (r .0, r .1, fixed-by-bytes (r .0) (before (r .0) (r .1)) .1 (r .2), address-by-bytes (r .0) ∙ r .3 ∙ sym (address-by-bytes i))
 
 -- ---- over the whole list
@@ -102,8 +102,8 @@ first-same : {P Q : ℕ → Type 0} (n i : ℕ) → Same P Q n → FirstOf P n i
 first-same n i e f = let l = f .below in record { below = l; holds = e i l .0 (f .holds); none-before = none-same n i (omega arith) e (f .none-before) }
 
 -- each answer says the same of the list by bytes
-pub given-by-bytes : (starting : Pool) (s : List ℕ) → Bytes s → (k : Checked) → Given starting s k ↔ GivenByBytes starting s k
-given-by-bytes starting s b k = go k
+pub given-by-bytes : (barred : Pool) (s : List ℕ) → Bytes s → (k : Checked) → Given barred s k ↔ GivenByBytes barred s k
+given-by-bytes barred s b k = go k
   where
     malformed : Same (MalformedAt s) (EvenOrFlag s) (length s / 18)
     malformed = λ i h. malformed-by-bytes s i
@@ -111,13 +111,13 @@ given-by-bytes starting s b k = go k
     repeated : Same (RepeatedAt s) (SameAsEarlier s) (length s / 18)
     repeated = repeated-by-bytes s b
 
-    taken : Same (TakenAt starting s) (FixedOnTaken starting s) (length s / 18)
-    taken = taken-by-bytes s b starting
+    taken : Same (TakenAt barred s) (FixedOnTaken barred s) (length s / 18)
+    taken = taken-by-bytes s b barred
 
     all : {P Q : ℕ → Type 0} → Same P Q (length s / 18) → None P (length s / 18) → None Q (length s / 18)
     all e h = none-same (length s / 18) (length s / 18) (omega arith) e h
 
-    go : (k : Checked) → Given starting s k ↔ GivenByBytes starting s k
+    go : (k : Checked) → Given barred s k ↔ GivenByBytes barred s k
     go BadLength = (λ h. h, λ h. h)
     go (Malformed i) = (
       λ h. (h .0, first-same (length s / 18) i malformed (h .1)),

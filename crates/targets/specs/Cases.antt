@@ -24,11 +24,11 @@ MalformedAt s i = (addressByte s i % 2 ≡ 0) ⊎ (1 < flagOf s i)
 abbrev pub RepeatedAt : List ℕ → ℕ → Type 0
 RepeatedAt s i = (j : ℕ) × (j < i) × (udidOf s j ≡ udidOf s i)
 
--- 12: the target is fixed, and its address is in the starting pool or is that of an earlier fixed one
+-- 12: the target is fixed, and its address is barred or is that of an earlier fixed one
 abbrev pub TakenAt : Pool → List ℕ → ℕ → Type 0
-TakenAt starting s i =
+TakenAt barred s i =
     (isFixed (udidOf s i) ≡ true)
-    × ((member starting (addressByte s i / 2) ≡ true)
+    × ((member barred (addressByte s i / 2) ≡ true)
     ⊎ ((j : ℕ) × (j < i) × (isFixed (udidOf s j) ≡ true) × (addressByte s j / 2 ≡ addressByte s i / 2)))
 
 -- ---- over the whole list
@@ -45,10 +45,10 @@ pub record FirstOf (P : ℕ → Type 0) (n i : ℕ) : Type 0 where
 
 -- what each answer says of the list: each refusal is looked for over the whole list, and in their order
 abbrev pub Given : Pool → List ℕ → Checked → Type 0
-Given starting s BadLength = LengthIsBad s
-Given starting s (Malformed i) = (LengthIsBad s → ⊥) × FirstOf (MalformedAt s) (recordCount s) i
-Given starting s (Repeated i) = (LengthIsBad s → ⊥) × None (MalformedAt s) (recordCount s) × FirstOf (RepeatedAt s) (recordCount s) i
-Given starting s (Taken i) =
-    (LengthIsBad s → ⊥) × None (MalformedAt s) (recordCount s) × None (RepeatedAt s) (recordCount s) × FirstOf (TakenAt starting s) (recordCount s) i
-Given starting s Admitted =
-    (LengthIsBad s → ⊥) × None (MalformedAt s) (recordCount s) × None (RepeatedAt s) (recordCount s) × None (TakenAt starting s) (recordCount s)
+Given barred s BadLength = LengthIsBad s
+Given barred s (Malformed i) = (LengthIsBad s → ⊥) × FirstOf (MalformedAt s) (recordCount s) i
+Given barred s (Repeated i) = (LengthIsBad s → ⊥) × None (MalformedAt s) (recordCount s) × FirstOf (RepeatedAt s) (recordCount s) i
+Given barred s (Taken i) =
+    (LengthIsBad s → ⊥) × None (MalformedAt s) (recordCount s) × None (RepeatedAt s) (recordCount s) × FirstOf (TakenAt barred s) (recordCount s) i
+Given barred s Admitted =
+    (LengthIsBad s → ⊥) × None (MalformedAt s) (recordCount s) × None (RepeatedAt s) (recordCount s) × None (TakenAt barred s) (recordCount s)

@@ -13,8 +13,8 @@ use lib.Seq.{getD-take, getD-drop}
 use Rattle.lists.specs.Each.{Bytes}
 use Rattle.wire.specs.Addresses.{isReserved}
 use Rattle.pool.specs.Pools.{member}
-use Rattle.pool.specs.Start.{startingPool}
-use Rattle.pool.specs.StartLaws.{member-starting}
+use Rattle.pool.specs.Start.{barredPool}
+use Rattle.pool.specs.StartLaws.{member-barred}
 use Rattle.pool.specs.declared.Pool.{Pool}
 use Rattle.udid.specs.Bytes.{number, numberFrom, bytesFrom, udidAt}
 use Rattle.udid.specs.Udids.{isFixed}
@@ -62,8 +62,8 @@ module _ (s : List ℕ) (b : Bytes s) where
       ∙ ap (λ (x : ℕ). x / 64) (getD-take 16 (drop (i * 18) s) 0 0 (omega arith) ∙ getD-drop (i * 18) s 0 0 ∙ ap (λ (k : ℕ). getD s k 0) (add-zero (i * 18))))
 
 -- a fixed target with no address, FFh, counts as one at 7Fh, which is reserved: it is refused
-pub fixed-without-address-taken : (occupied : Pool) (s : List ℕ) (i : ℕ) → isFixed (udidOf s i) ≡ true → addressByte s i ≡ 0xFF → TakenAt (startingPool occupied) s i
+pub fixed-without-address-taken : (occupied : Pool) (s : List ℕ) (i : ℕ) → isFixed (udidOf s i) ≡ true → addressByte s i ≡ 0xFF → TakenAt (barredPool occupied) s i
 unfolding isReserved
 fixed-without-address-taken occupied s i f e =
     let k : addressByte s i / 2 ≡ 127 = omega arith in
-    (f, inl (ap (member (startingPool occupied)) k ∙ member-starting occupied 127))
+    (f, inl (ap (member (barredPool occupied)) k ∙ member-barred occupied 127))

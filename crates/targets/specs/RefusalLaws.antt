@@ -87,12 +87,12 @@ repeated-exactly s i = (
 fixed-as-exactly : (s : List ℕ) (i j : ℕ) → (isFixedAs s i j ≡ true) ↔ ((isFixed (udidOf s j) ≡ true) × (addressByte s j / 2 ≡ addressByte s i / 2))
 fixed-as-exactly s i j = and-is (isFixed (udidOf s j)) (eqb (addressByte s j / 2) (addressByte s i / 2)) (λ e. e, λ e. e) (eqb-is (addressByte s j / 2) (addressByte s i / 2))
 
-taken-exactly : (starting : Pool) (s : List ℕ) (i : ℕ) → (isTaken starting s i ≡ true) ↔ TakenAt starting s i
-taken-exactly starting s i =
+taken-exactly : (barred : Pool) (s : List ℕ) (i : ℕ) → (isTaken barred s i ≡ true) ↔ TakenAt barred s i
+taken-exactly barred s i =
     and-is (isFixed (udidOf s i)) (or m (some (isFixedAs s i) i)) (λ e. e, λ e. e) (or-is m (some (isFixedAs s i) i) (λ e. e, λ e. e) earlier)
   where
     m : Bool
-    m = member starting (addressByte s i / 2)
+    m = member barred (addressByte s i / 2)
 
     earlier : (some (isFixedAs s i) i ≡ true) ↔ ((j : ℕ) × (j < i) × (isFixed (udidOf s j) ≡ true) × (addressByte s j / 2 ≡ addressByte s i / 2))
     earlier = (
@@ -102,7 +102,7 @@ taken-exactly starting s i =
 
 -- ---- the answer
 
-module _ (starting : Pool) (s : List ℕ) where
+module _ (barred : Pool) (s : List ℕ) where
   good-length-not-bad : isBadLength (length s) ≡ false → LengthIsBad s → ⊥
   good-length-not-bad e h = false-is (isBadLength (length s)) (bad-length-exactly s) .0 e h
 
@@ -110,17 +110,17 @@ module _ (starting : Pool) (s : List ℕ) where
   not-bad-length n = false-is (isBadLength (length s)) (bad-length-exactly s) .1 n
 
   -- what the check answers is so
-  pub checked-then-given : Given starting s (checkedList starting s)
+  pub checked-then-given : Given barred s (checkedList barred s)
   unfolding checkedList amongRecords
-  checked-then-given = go (isBadLength (length s)) refl (some (isMalformed s) n) refl (some (isRepeated s) n) refl (some (isTaken starting s) n) refl
+  checked-then-given = go (isBadLength (length s)) refl (some (isMalformed s) n) refl (some (isRepeated s) n) refl (some (isTaken barred s) n) refl
     where
       n : ℕ
       n = recordCount s
 
-      go : (a : Bool) → isBadLength (length s) ≡ a → (b : Bool) → some (isMalformed s) n ≡ b → (c : Bool) → some (isRepeated s) n ≡ c → (d : Bool) → some (isTaken starting s) n ≡ d
-          → Given starting s
+      go : (a : Bool) → isBadLength (length s) ≡ a → (b : Bool) → some (isMalformed s) n ≡ b → (c : Bool) → some (isRepeated s) n ≡ c → (d : Bool) → some (isTaken barred s) n ≡ d
+          → Given barred s
           (pick a BadLength
-          (pick b (Malformed (first (isMalformed s) n)) (pick c (Repeated (first (isRepeated s) n)) (pick d (Taken (first (isTaken starting s) n)) Admitted))))
+          (pick b (Malformed (first (isMalformed s) n)) (pick c (Repeated (first (isRepeated s) n)) (pick d (Taken (first (isTaken barred s) n)) Admitted))))
       go true e b f c g d h = bad-length-exactly s .0 e
       go false e true f c g d h = (good-length-not-bad e, some-first (isMalformed s) (MalformedAt s) (malformed-exactly s) n f)
       go false e false f true g d h = (
@@ -132,17 +132,17 @@ module _ (starting : Pool) (s : List ℕ) where
         good-length-not-bad e,
         some-none (isMalformed s) (MalformedAt s) (malformed-exactly s) n f,
         some-none (isRepeated s) (RepeatedAt s) (repeated-exactly s) n g,
-        some-first (isTaken starting s) (TakenAt starting s) (taken-exactly starting s) n h,
+        some-first (isTaken barred s) (TakenAt barred s) (taken-exactly barred s) n h,
       )
       go false e false f false g false h = (
         good-length-not-bad e,
         some-none (isMalformed s) (MalformedAt s) (malformed-exactly s) n f,
         some-none (isRepeated s) (RepeatedAt s) (repeated-exactly s) n g,
-        some-none (isTaken starting s) (TakenAt starting s) (taken-exactly starting s) n h,
+        some-none (isTaken barred s) (TakenAt barred s) (taken-exactly barred s) n h,
       )
 
   -- and what is so is what it answers
-  pub given-then-checked : (r : Checked) → Given starting s r → r ≡ checkedList starting s
+  pub given-then-checked : (r : Checked) → Given barred s r → r ≡ checkedList barred s
   unfolding checkedList amongRecords
   given-then-checked BadLength h = rw (bad-length-exactly s .1 h)
   given-then-checked (Malformed i) h =
@@ -150,13 +150,13 @@ module _ (starting : Pool) (s : List ℕ) where
   given-then-checked (Repeated i) h =
       rw (not-bad-length (h .0), none-some (isMalformed s) (MalformedAt s) (malformed-exactly s) (recordCount s) (h .1), first-some (isRepeated s) (RepeatedAt s) (repeated-exactly s) (recordCount s) i (h .2), first-unique (isRepeated s) (RepeatedAt s) (repeated-exactly s) (recordCount s) i (h .2))
   given-then-checked (Taken i) h =
-      rw (not-bad-length (h .0), none-some (isMalformed s) (MalformedAt s) (malformed-exactly s) (recordCount s) (h .1), none-some (isRepeated s) (RepeatedAt s) (repeated-exactly s) (recordCount s) (h .2), first-some (isTaken starting s) (TakenAt starting s) (taken-exactly starting s) (recordCount s) i (h .3), first-unique (isTaken starting s) (TakenAt starting s) (taken-exactly starting s) (recordCount s) i (h .3))
+      rw (not-bad-length (h .0), none-some (isMalformed s) (MalformedAt s) (malformed-exactly s) (recordCount s) (h .1), none-some (isRepeated s) (RepeatedAt s) (repeated-exactly s) (recordCount s) (h .2), first-some (isTaken barred s) (TakenAt barred s) (taken-exactly barred s) (recordCount s) i (h .3), first-unique (isTaken barred s) (TakenAt barred s) (taken-exactly barred s) (recordCount s) i (h .3))
   given-then-checked Admitted h =
-      rw (not-bad-length (h .0), none-some (isMalformed s) (MalformedAt s) (malformed-exactly s) (recordCount s) (h .1), none-some (isRepeated s) (RepeatedAt s) (repeated-exactly s) (recordCount s) (h .2), none-some (isTaken starting s) (TakenAt starting s) (taken-exactly starting s) (recordCount s) (h .3))
+      rw (not-bad-length (h .0), none-some (isMalformed s) (MalformedAt s) (malformed-exactly s) (recordCount s) (h .1), none-some (isRepeated s) (RepeatedAt s) (repeated-exactly s) (recordCount s) (h .2), none-some (isTaken barred s) (TakenAt barred s) (taken-exactly barred s) (recordCount s) (h .3))
 
   -- EACH OF 9, 10, 11 AND 12 IS GIVEN EXACTLY IN ITS LISTED CASE, with the first record, and in that order
-  pub given-exactly : (r : Checked) → (r ≡ checkedList starting s) ↔ Given starting s r
-  given-exactly r = (λ e. subst (Given starting s) (sym e) checked-then-given, given-then-checked r)
+  pub given-exactly : (r : Checked) → (r ≡ checkedList barred s) ↔ Given barred s r
+  given-exactly r = (λ e. subst (Given barred s) (sym e) checked-then-given, given-then-checked r)
 
 -- number and value tell the cases apart
 caseOf : Answer → Checked

@@ -1,5 +1,6 @@
 -- The check of a target list: the tests of the refusals 9 to 12, and the first record that fails one. Cases says in words of the scope
--- when each is given, and RefusalLaws that it is given then and only then.
+-- when each is given, and RefusalLaws that it is given then and only then. `barred` are the addresses on which not even a fixed target may
+-- stand: the reserved and the occupied ones.
 use Prim.Native.Nat.{ℕ, _*_, _/_, _%_}
 use mathlib.Core.Bool.{Bool}
 use mathlib.Core.List.{List}
@@ -29,20 +30,20 @@ isSameAs s i j = sameUdid (udidOf s j) (udidOf s i)
 abbrev pub isRepeated : List ℕ → ℕ → Bool
 isRepeated s i = some (isSameAs s i) i
 
--- 12: record i is fixed, and its address is in the starting pool or that of an earlier fixed record j
+-- 12: record i is fixed, and its address is barred or that of an earlier fixed record j
 abbrev pub isFixedAs : List ℕ → ℕ → ℕ → Bool
 isFixedAs s i j = and (isFixed (udidOf s j)) (eqb (addressByte s j / 2) (addressByte s i / 2))
 
 abbrev pub isTaken : Pool → List ℕ → ℕ → Bool
-isTaken starting s i = and (isFixed (udidOf s i)) (or (member starting (addressByte s i / 2)) (some (isFixedAs s i) i))
+isTaken barred s i = and (isFixed (udidOf s i)) (or (member barred (addressByte s i / 2)) (some (isFixedAs s i) i))
 
 -- 10, 11, 12, each over the first n records
 unfoldable pub amongRecords : Pool → List ℕ → ℕ → Checked
-amongRecords starting s n =
+amongRecords barred s n =
     pick (some (isMalformed s) n) (Malformed (first (isMalformed s) n))
     (pick (some (isRepeated s) n) (Repeated (first (isRepeated s) n))
-    (pick (some (isTaken starting s) n) (Taken (first (isTaken starting s) n)) Admitted))
+    (pick (some (isTaken barred s) n) (Taken (first (isTaken barred s) n)) Admitted))
 
 -- 9 comes before them
 unfoldable pub checkedList : Pool → List ℕ → Checked
-checkedList starting s = pick (isBadLength (length s)) BadLength (amongRecords starting s (recordCount s))
+checkedList barred s = pick (isBadLength (length s)) BadLength (amongRecords barred s (recordCount s))

@@ -3,7 +3,7 @@
 ghost use mathlib.Core.Path.{_≡_};
 ghost use Prim.Native.Nat.{_/_};
 ghost use lib.ListN.{length};
-ghost use Rattle.pool.specs.Start.{startingPool};
+ghost use Rattle.pool.specs.Start.{barredPool};
 ghost use Rattle.targets.specs.Records.{recordSize};
 ghost use Rattle.targets.specs.Refusals.{isBadLength, amongRecords, checkedList};
 use super::fields;
@@ -23,7 +23,7 @@ pub enum Checked {
     Malformed(usize),
     // the identifier of an earlier record
     Repeated(usize),
-    // fixed, at an address of the starting pool or that of an earlier fixed record
+    // fixed, at a barred address or that of an earlier fixed record
     Taken(usize),
 }
 
@@ -36,8 +36,8 @@ fn is_bad_length(n: usize) -> bool
     n % RECORD != 0
 }
 
-fn among_records(records: &[u8], starting: Pool) -> Checked
-    ensures { λ r. ⌜ r ≡ amongRecords starting (now (records .entry)) (length (now (records .entry)) / recordSize) ⌝ }
+fn among_records(records: &[u8], barred: Pool) -> Checked
+    ensures { λ r. ⌜ r ≡ amongRecords barred (now (records .entry)) (length (now (records .entry)) / recordSize) ⌝ }
 {
     let n = fields::count(records);
     let bad = malformed::first_malformed(records, n);
@@ -48,19 +48,20 @@ fn among_records(records: &[u8], starting: Pool) -> Checked
     if again < n {
         return Checked::Repeated(again);
     }
-    let clash = taken::first_taken(records, n, starting);
+    let clash = taken::first_taken(records, n, barred);
     if clash < n {
         return Checked::Taken(clash);
     }
     Checked::Admitted
 }
 
-// The check of a target list, where these addresses are occupied besides the reserved ones.
+// The check of a target list, where these addresses are occupied. They and the reserved ones are barred.
 pub fn check(records: &[u8], occupied: Pool) -> Checked
-    ensures { λ r. ⌜ r ≡ checkedList (startingPool occupied) (now (records .entry)) ⌝ }
+    ensures { λ r. ⌜ r ≡ checkedList (barredPool occupied) (now (records .entry)) ⌝ }
 {
     if is_bad_length(records.len()) {
         return Checked::BadLength;
     }
-    among_records(records, Pool::starting(occupied))
+    let barred = Pool::barred(occupied);
+    among_records(records, barred)
 }

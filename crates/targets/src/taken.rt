@@ -1,4 +1,4 @@
-// Refusal 12: a fixed target whose address is in the starting pool or is that of an earlier fixed one. Rests on fields and pool.
+// Refusal 12: a fixed target whose address is barred or is that of an earlier fixed one. Rests on fields and pool.
 ghost use mathlib.Core.Path.{_≡_};
 ghost use Rattle.targets.specs.First.{first};
 ghost use Rattle.targets.specs.Refusals.{isFixedAs, isTaken};
@@ -32,26 +32,26 @@ fn first_fixed_as(records: &[u8], i: usize) -> usize
     i
 }
 
-fn is_taken(records: &[u8], i: usize, starting: Pool) -> bool
-    ensures { λ r. ⌜ r ≡ isTaken starting (now (records .entry)) i ⌝ }
+fn is_taken(records: &[u8], i: usize, barred: Pool) -> bool
+    ensures { λ r. ⌜ r ≡ isTaken barred (now (records .entry)) i ⌝ }
 {
     let u = fields::udid_of(records, i);
     if !u.is_fixed() {
         return false;
     }
-    if starting.has(fields::address_of(records, i)) {
+    if barred.has(fields::address_of(records, i)) {
         return true;
     }
     first_fixed_as(records, i) < i
 }
 
 // The first such record below n, or n.
-pub(crate) fn first_taken(records: &[u8], n: usize, starting: Pool) -> usize
-    ensures { λ r. ⌜ r ≡ first (isTaken starting (now (records .entry))) n ⌝ }
+pub(crate) fn first_taken(records: &[u8], n: usize, barred: Pool) -> usize
+    ensures { λ r. ⌜ r ≡ first (isTaken barred (now (records .entry))) n ⌝ }
 {
     let mut i: usize = 0;
     while i < n {
-        if is_taken(records, i, starting) {
+        if is_taken(records, i, barred) {
             return i;
         }
         i += 1;

@@ -11,17 +11,17 @@ returns : tie.Need-returns
 unfolding checkedList
 returns c = simp (← c .before .is-bad-length .ensures, c .if1 .taken)
 
-starting-requires : tie.Need-starting-requires
-starting-requires c κs = search needs
+barred-requires : tie.Need-barred-requires
+barred-requires c κs = search needs
 
 among-records-requires : tie.Need-among-records-requires
 among-records-requires c κs = search needs
 
 returns-2 : tie.Need-returns-2
 unfolding checkedList
-returns-2 c = simp (← c .before .before .before .is-bad-length .ensures, c .before .before .if1 .left, c .among-records .ensures, c .before .starting .ensures)
+returns-2 c = simp (← c .before .before .before .is-bad-length .ensures, c .before .before .if1 .left, c .among-records .ensures, c .before .barred .ensures)
 
 pub check-spec : {M : Type 1} → statement M
 check-spec =
     tie.close
-    (tie.spec is-bad-length-requires returns starting-requires among-records-requires returns-2)
+    (tie.spec is-bad-length-requires returns barred-requires among-records-requires returns-2)

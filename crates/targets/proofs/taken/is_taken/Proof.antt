@@ -25,13 +25,13 @@ has-requires : tie.Need-has-requires
 has-requires c κs = search needs
 
 returns-2 : tie.Need-returns-2
-returns-2 c = let e : isFixed (udidOf (c .before .before .before .before .before .before .before .args .records .now) (c .before .before .before .before .before .before .before .args .i)) ≡ true = ap isFixed (sym (c .before .before .before .before .before .udid-of .ensures)) ∙ sym (c .before .before .before .before .is-fixed .ensures) ∙ not-false _ (c .before .before .before .if1 .left) in let h : member (c .before .before .before .before .before .before .before .args .starting) (addressByte (c .before .before .before .before .before .before .before .args .records .now) (c .before .before .before .before .before .before .before .args .i) / 2) ≡ true = ap (member (c .before .before .before .before .before .before .before .args .starting)) (sym (c .before .before .address-of .ensures)) ∙ sym (c .before .has .ensures) ∙ c .if2 .taken in simp (e, h)
+returns-2 c = let e : isFixed (udidOf (c .before .before .before .before .before .before .before .args .records .now) (c .before .before .before .before .before .before .before .args .i)) ≡ true = ap isFixed (sym (c .before .before .before .before .before .udid-of .ensures)) ∙ sym (c .before .before .before .before .is-fixed .ensures) ∙ not-false _ (c .before .before .before .if1 .left) in let h : member (c .before .before .before .before .before .before .before .args .barred) (addressByte (c .before .before .before .before .before .before .before .args .records .now) (c .before .before .before .before .before .before .before .args .i) / 2) ≡ true = ap (member (c .before .before .before .before .before .before .before .args .barred)) (sym (c .before .before .address-of .ensures)) ∙ sym (c .before .has .ensures) ∙ c .if2 .taken in simp (e, h)
 
 first-fixed-as-requires : tie.Need-first-fixed-as-requires
 first-fixed-as-requires c κs = search needs
 
 returns-3 : tie.Need-returns-3
-returns-3 c = let e : isFixed (udidOf (c .before .before .before .before .before .before .before .before .args .records .now) (c .before .before .before .before .before .before .before .before .args .i)) ≡ true = ap isFixed (sym (c .before .before .before .before .before .before .udid-of .ensures)) ∙ sym (c .before .before .before .before .before .is-fixed .ensures) ∙ not-false _ (c .before .before .before .before .if1 .left) in let h : member (c .before .before .before .before .before .before .before .before .args .starting) (addressByte (c .before .before .before .before .before .before .before .before .args .records .now) (c .before .before .before .before .before .before .before .before .args .i) / 2) ≡ false = ap (member (c .before .before .before .before .before .before .before .before .args .starting)) (sym (c .before .before .before .address-of .ensures)) ∙ sym (c .before .before .has .ensures) ∙ c .before .if2 .left in simp (e, h, c .first-fixed-as .ensures)
+returns-3 c = let e : isFixed (udidOf (c .before .before .before .before .before .before .before .before .args .records .now) (c .before .before .before .before .before .before .before .before .args .i)) ≡ true = ap isFixed (sym (c .before .before .before .before .before .before .udid-of .ensures)) ∙ sym (c .before .before .before .before .before .is-fixed .ensures) ∙ not-false _ (c .before .before .before .before .if1 .left) in let h : member (c .before .before .before .before .before .before .before .before .args .barred) (addressByte (c .before .before .before .before .before .before .before .before .args .records .now) (c .before .before .before .before .before .before .before .before .args .i) / 2) ≡ false = ap (member (c .before .before .before .before .before .before .before .before .args .barred)) (sym (c .before .before .before .address-of .ensures)) ∙ sym (c .before .before .has .ensures) ∙ c .before .if2 .left in simp (e, h, c .first-fixed-as .ensures)
 
 pub is-taken-spec : {M : Type 1} → statement M
 is-taken-spec =
