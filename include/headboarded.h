@@ -39,7 +39,7 @@ enum {
     HB_BAD_LENGTH = 9,       /* of a target list: its length */
     HB_MALFORMED = 10,       /* a malformed record */
     HB_REPEATED = 11,        /* a repeated identifier */
-    HB_TAKEN = 12,           /* a fixed target on a taken address */
+    HB_TAKEN = 12,           /* a fixed target on a barred address, or on that of an earlier fixed one */
     HB_NO_FREE_ADDRESS = 13, /* of a pass: no free address */
     HB_PASS_ABANDONED = 14,  /* abandoned */
     HB_NOBODY = 15,          /* of the lookup: nobody is bound there */
@@ -106,13 +106,17 @@ uint8_t hb_wire_for_read(uint8_t address);
 /* The address that a byte on the wire carries, and whether the byte asks for a read. */
 uint8_t hb_address_from_wire(uint8_t byte);
 uint8_t hb_wire_is_read(uint8_t byte);
-/* Whether the number is below 128; is the default, the host's or the alert response address; is one of the 21 that are never given
- * out. */
+/* Whether the number is below 128; is the default, the host's or the alert response address. */
 uint8_t hb_is_seven_bit(uint8_t address);
 uint8_t hb_is_default(uint8_t address);
 uint8_t hb_is_host(uint8_t address);
 uint8_t hb_is_alert_response(uint8_t address);
+/* Whether the address is reserved: one of the 21 on which no target may stand, not even a fixed one. It does not say what may be
+ * given out: for that see hb_is_listed and hb_pool_starting. */
 uint8_t hb_is_reserved(uint8_t address);
+/* Whether the address is listed: on a row of Table 17 of SMBus 3.3.1. The 21 reserved ones are, and 14 more. A listed address is
+ * never picked, and no movable target keeps one. What must not be given out is what hb_pool_starting has, and what is bound. */
+uint8_t hb_is_listed(uint8_t address);
 
 /* The codec. */
 
@@ -166,8 +170,10 @@ hb_pool hb_pool_with(hb_pool pool, uint8_t address);
 hb_pool hb_pool_without(hb_pool pool, uint8_t address);
 /* The addresses of either set. */
 hb_pool hb_pool_union(hb_pool one, hb_pool other);
-/* The reserved addresses and these: the pool that a pass starts with. */
+/* The pool that a pass starts with: the listed addresses and these. Nothing is picked from it. */
 hb_pool hb_pool_starting(hb_pool occupied);
+/* The barred addresses: the reserved ones and these. Not even a fixed target may stand there. */
+hb_pool hb_pool_barred(hb_pool occupied);
 /* How many addresses the set has, and the lowest that it does not have: 128 where it has all. */
 uint32_t hb_pool_used(hb_pool pool);
 uint8_t hb_pool_lowest_free(hb_pool pool);
@@ -216,8 +222,11 @@ typedef struct {
  * first 526 symbols decide. The list ends where no whole trace and no whole report is left.
  *
  * A report says that the module at the address is gone. Whoever is bound there is bound no longer, the address is left, and it
- * is free unless the pass started with it. If nobody is bound there, or the address is above 127, nothing changes. What was
- * handed out last stays, whatever is reported. Nothing is written. */
+ * is free unless hb_pool_starting has it. If nobody is bound there, or the address is above 127, nothing changes. What was
+ * handed out last stays, whatever is reported.
+ *
+ * An Assign that completes binds its target. It leaves a claim by two instead if hb_pool_barred has the address, if another target
+ * is bound there, or if two claim it already. So one fixed target alone on a barred address is a claim too. Nothing is written. */
 hb_command hb_pass(hb_pool occupied, uint8_t last, const uint8_t *entries, size_t entries_len);
 
 typedef struct {
@@ -237,8 +246,8 @@ typedef struct {
     size_t place;
 } hb_checked;
 
-/* Whether a target list is refused where these addresses are occupied: 0; 9; 10, 11 or 12 with the first such record. Nothing is
- * written. */
+/* Whether a target list is refused where these addresses are occupied: 0; 9; 10, 11 or 12 with the first such record. 12 is for a
+ * fixed target whose address hb_pool_barred has, or is that of an earlier fixed one. Nothing is written. */
 hb_checked hb_check_targets(hb_pool occupied, const uint8_t *records, size_t records_len);
 
 /* How a model run ended: 0, or 13 with the identifier that asked; how many addresses are bound and which; the Get UDIDs sent; and the

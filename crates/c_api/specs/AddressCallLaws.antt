@@ -3,11 +3,12 @@ use mathlib.Core.Path.{_≡_}
 use mathlib.Core.Bool.{true}
 use mathlib.Core.Logic.{_↔_}
 use Prim.Native.Nat.{ℕ, _%_, _<_}
-use lib.Dec.{leb, ltb, eqb}
-use Rattle.lists.specs.TestLaws.{eqb-is, ltb-is, leb-is, or-is, and-is}
-use Rattle.wire.specs.Addresses.{isReserved}
+use lib.Dec.{ltb, eqb}
+use Rattle.lists.specs.TestLaws.{eqb-is, ltb-is, or-is}
+use Rattle.wire.specs.Addresses.{isReserved, isPreassigned, isListed}
+use Rattle.wire.specs.AddressLaws.{reserved-is, preassigned-is}
 use Rattle.c_codec.specs.Numbers.{bit, Says}
-use Rattle.c_api.specs.PoolParts.{Reserved}
+use Rattle.c_api.specs.PoolParts.{Reserved, Listed}
 use Rattle.c_codec.specs.NumberLaws.{bit-says}
 
 pub hb-wire-is-read : (byte r : ℕ) → r ≡ bit (eqb (byte % 2) 1) → Says r (byte % 2 ≡ 1)
@@ -25,14 +26,12 @@ hb-is-host address r e = bit-says (eqb address 0x08) (eqb-is address 0x08) r e
 pub hb-is-alert-response : (address r : ℕ) → r ≡ bit (eqb address 0x0C) → Says r (address ≡ 0x0C)
 hb-is-alert-response address r e = bit-says (eqb address 0x0C) (eqb-is address 0x0C) r e
 
-pub reserved-is : (a : ℕ) → (isReserved a ≡ true) ↔ Reserved a
-unfolding isReserved
-reserved-is a =
-    or-is (leb a 0x08) _ (leb-is a 0x08)
-    (or-is (eqb a 0x0C) _ (eqb-is a 0x0C)
-    (or-is (eqb a 0x28) _ (eqb-is a 0x28)
-    (or-is (eqb a 0x37) _ (eqb-is a 0x37)
-    (or-is (eqb a 0x61) _ (eqb-is a 0x61) (and-is (leb 0x78 a) (leb a 0x7F) (leb-is 0x78 a) (leb-is a 0x7F))))))
-
 pub hb-is-reserved : (address r : ℕ) → r ≡ bit (isReserved address) → Says r (Reserved address)
 hb-is-reserved address r e = bit-says (isReserved address) (reserved-is address) r e
+
+pub listed-in-numbers : (a : ℕ) → (isListed a ≡ true) ↔ Listed a
+unfolding isListed
+listed-in-numbers a = or-is (isReserved a) (isPreassigned a) (reserved-is a) (preassigned-is a)
+
+pub hb-is-listed : (address r : ℕ) → r ≡ bit (isListed address) → Says r (Listed address)
+hb-is-listed address r e = bit-says (isListed address) (listed-in-numbers address) r e

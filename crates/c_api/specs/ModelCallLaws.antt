@@ -6,7 +6,7 @@ use Prim.Native.Nat.{ℕ, _+_, _/_, _^_, _≤_, _<_}
 use lib.ListN.{length}
 use Rattle.lists.specs.Each.{Bytes}
 use Rattle.pool.specs.declared.Pool.{Pool}
-use Rattle.pool.specs.Start.{startingPool}
+use Rattle.pool.specs.Start.{startingPool, barredPool}
 use Rattle.targets.specs.ByteCases.{EvenOrFlag, SameAsEarlier, FixedOnTaken}
 use Rattle.targets.specs.Cases.{LengthIsBad, None, FirstOf}
 use Rattle.targets.specs.Records.{targetsOf}
@@ -58,7 +58,7 @@ module _ (given : HbPool) (last : ℕ) (s b : List ℕ) (h : HbModel) (s′ b′
     pub hb-model-12 : (i : ℕ)
         → ((h .answer ≡ 12) × (h .place ≡ i))
         ↔ ((last < 128) × ((2048 ≤ length b)
-        × ((LengthIsBad s → ⊥) × None (EvenOrFlag s) (length s / 18) × None (SameAsEarlier s) (length s / 18) × FirstOf (FixedOnTaken (startingPool occupied) s) (length s / 18) i)))
+        × ((LengthIsBad s → ⊥) × None (EvenOrFlag s) (length s / 18) × None (SameAsEarlier s) (length s / 18) × FirstOf (FixedOnTaken (barredPool occupied) s) (length s / 18) i)))
     hb-model-12 i = in-parts 12 i _ (model-12 occupied last s b (answerIn h) s′ b′ hb-model-leaves bytes i)
 
   -- a refusal: nothing lent has changed, and every other part is zero
@@ -80,18 +80,18 @@ module _ (given : HbPool) (last : ℕ) (s b : List ℕ) (h : HbModel) (s′ b′
 
   -- DEMAND 3: any other run ends as the plain rule does
   pub hb-model-meets : Bytes s → last < 128 → 2048 ≤ length b → (LengthIsBad s → ⊥) → None (EvenOrFlag s) (length s / 18) → None (SameAsEarlier s) (length s / 18)
-      → None (FixedOnTaken (startingPool occupied) s) (length s / 18)
+      → None (FixedOnTaken (barredPool occupied) s) (length s / 18)
       → let q = ruled (startingPool occupied) last (targetsOf s) in Meets occupied last s b (q .given) (q .ending) (q .picked) (answerIn h) s′ b′
   hb-model-meets bytes = demand-3 occupied last s b bytes (answerIn h) s′ b′ hb-model-leaves .meets
 
--- M8, never picked before: 09h, 0Ah and 20h are bound, four Get UDIDs are sent, and 0Ah was picked
+-- M8, never picked before: 09h, 0Dh and 20h are bound, four Get UDIDs are sent, and 0Dh was picked
 pub hb-model-m8 : (b : List ℕ) → 2048 ≤ length b → (h : HbModel) (s′ b′ : List ℕ)
     → RanModel (poolIn (record { low = 0; high = 0 })) 127
     ((0x80 ∷ 0 ∷ 0 ∷ 0 ∷ 0 ∷ 0 ∷ 0 ∷ 0 ∷ 0 ∷ 0 ∷ 0 ∷ 0 ∷ 0 ∷ 0 ∷ 0 ∷ 1 ∷ 0xFF ∷ 0 ∷ [])
     ++ (0x00 ∷ 0 ∷ 0 ∷ 0 ∷ 0 ∷ 0 ∷ 0 ∷ 0 ∷ 0 ∷ 0 ∷ 0 ∷ 0 ∷ 0 ∷ 0 ∷ 0 ∷ 1 ∷ 0x13 ∷ 0 ∷ [])
     ++ (0x40 ∷ 0 ∷ 0 ∷ 0 ∷ 0 ∷ 0 ∷ 0 ∷ 0 ∷ 0 ∷ 0 ∷ 0 ∷ 0 ∷ 0 ∷ 0 ∷ 0 ∷ 1 ∷ 0x41 ∷ 0 ∷ []))
     b h s′ b′
-    → h ≡ record { answer = 0; count = 3; gets = 4; picked = 0x0A; place = 0; udid = record { high = 0; low = 0 }; bound = record { low = 2 ^ 0x09 + 2 ^ 0x0A + 2 ^ 0x20; high = 0 } }
+    → h ≡ record { answer = 0; count = 3; gets = 4; picked = 0x0D; place = 0; udid = record { high = 0; low = 0 }; bound = record { low = 2 ^ 0x09 + 2 ^ 0x0D + 2 ^ 0x20; high = 0 } }
 hb-model-m8 b l h s′ b′ v = v .answered ∙ ap toldModel (marked b l .m8 .0)
 
 -- M10: all 128 are occupied, so one movable target ends the pass with 13 and its identifier; none is bound, one Get UDID is sent

@@ -10,7 +10,7 @@ use lib.Count.{ones}
 use Rattle.lists.specs.AbsurdLaws.{zero-is-one}
 use Rattle.lists.specs.Choice.{not}
 use Rattle.lists.specs.TestLaws.{eqb-is, or-is, and-is, false-is, not-is}
-use Rattle.wire.specs.Addresses.{isReserved}
+use Rattle.wire.specs.Addresses.{isReserved, isListed}
 use Rattle.pool.specs.Digits.{digit}
 use Rattle.pool.specs.Free.{used, lowestFree, Lowest}
 use Rattle.pool.specs.NextFree.{nextFree, Next}
@@ -18,17 +18,18 @@ use Rattle.pool.specs.NextFreeLaws.{next-is, next-none, next-above}
 use Rattle.pool.specs.FreeLaws.{used-ones, lowest-is, none-free}
 use Rattle.pool.specs.MemberLaws.{member-low, member-high, member-above, member-with, member-without, member-union}
 use Rattle.pool.specs.Pools.{member, withAddress, withoutAddress, unionOf}
-use Rattle.pool.specs.Start.{startingPool}
-use Rattle.pool.specs.StartLaws.{member-starting}
+use Rattle.pool.specs.Start.{startingPool, barredPool}
+use Rattle.pool.specs.StartLaws.{member-starting, member-barred}
 use Rattle.pool.specs.declared.Pool.{Pool}
 use Rattle.pool.specs.declared.free.Free.{Free}
 use Rattle.pool.specs.declared.free.Free.the-variants.{At, AllUsed}
 use Rattle.c_arp.specs.declared.parts.HbPool.{HbPool}
 use Rattle.c_codec.specs.Numbers.{bit, Says}
 use Rattle.c_arp.specs.Parts.{poolIn, toldPool, freeNumber}
-use Rattle.c_api.specs.PoolParts.{Reserved, InPool}
+use Rattle.c_api.specs.PoolParts.{Reserved, Listed, InPool}
 use Rattle.c_codec.specs.NumberLaws.{bit-says}
-use Rattle.c_api.specs.AddressCallLaws.{reserved-is}
+use Rattle.wire.specs.AddressLaws.{reserved-is}
+use Rattle.c_api.specs.AddressCallLaws.{listed-in-numbers}
 
 module _ (low high a : ℕ) where
   abbrev p : Pool
@@ -97,11 +98,18 @@ hb-pool-union one other r e a =
     Iff·trans (Iff·symm (of-struct (unionOf (poolIn one) (poolIn other)) r e a))
     (same-test (member-union (poolIn one) (poolIn other) a) (or-is (member (poolIn one) a) (member (poolIn other) a) (pool-is (one .low) (one .high) a) (pool-is (other .low) (other .high) a)))
 
+-- the two sets to begin with: the listed addresses and the occupied ones, the reserved addresses and the occupied ones
 pub hb-pool-starting : (occupied : HbPool) (r : HbPool) → r ≡ toldPool (startingPool (poolIn occupied))
-    → (a : ℕ) → InPool (r .low) (r .high) a ↔ (Reserved a ⊎ InPool (occupied .low) (occupied .high) a)
+    → (a : ℕ) → InPool (r .low) (r .high) a ↔ (Listed a ⊎ InPool (occupied .low) (occupied .high) a)
 hb-pool-starting occupied r e a =
     Iff·trans (Iff·symm (of-struct (startingPool (poolIn occupied)) r e a))
-    (same-test (member-starting (poolIn occupied) a) (or-is (isReserved a) (member (poolIn occupied) a) (reserved-is a) (pool-is (occupied .low) (occupied .high) a)))
+    (same-test (member-starting (poolIn occupied) a) (or-is (isListed a) (member (poolIn occupied) a) (listed-in-numbers a) (pool-is (occupied .low) (occupied .high) a)))
+
+pub hb-pool-barred : (occupied : HbPool) (r : HbPool) → r ≡ toldPool (barredPool (poolIn occupied))
+    → (a : ℕ) → InPool (r .low) (r .high) a ↔ (Reserved a ⊎ InPool (occupied .low) (occupied .high) a)
+hb-pool-barred occupied r e a =
+    Iff·trans (Iff·symm (of-struct (barredPool (poolIn occupied)) r e a))
+    (same-test (member-barred (poolIn occupied) a) (or-is (isReserved a) (member (poolIn occupied) a) (reserved-is a) (pool-is (occupied .low) (occupied .high) a)))
 
 -- how many of the 128 addresses are in the pool, as bits that are one
 pub hb-pool-used : (pool : HbPool) (r : ℕ) → pool .low < 2 ^ 64 → pool .high < 2 ^ 64 → r ≡ used (poolIn pool) → r ≡ ones (pool .low) + ones (pool .high)

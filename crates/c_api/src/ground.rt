@@ -2,7 +2,7 @@
 ghost use mathlib.Core.Path.{_≡_};
 ghost use Prim.Native.Nat.{_+_, _*_, _/_, _%_};
 ghost use lib.Dec.{ltb, eqb};
-ghost use Rattle.wire.specs.Addresses.{isReserved};
+ghost use Rattle.wire.specs.Addresses.{isReserved, isListed};
 ghost use Rattle.pec.specs.Pec.{pecStep, pecFrom, pecOf};
 ghost use Rattle.trace.specs.Lengths.{roomFor};
 ghost use Rattle.c_codec.specs.Numbers.{truth, bit};
@@ -101,12 +101,20 @@ pub extern "C" fn hb_is_alert_response(address: u8) -> u8
     as_number(Address(address).is_alert_response())
 }
 
-// 1 for an address that is never given out.
+// 1 for an address on which no target may stand, not even a fixed one.
 #[no_mangle]
 pub extern "C" fn hb_is_reserved(address: u8) -> u8
     ensures { λ r. ⌜ r ≡ bit (isReserved address) ⌝ }
 {
     as_number(Address(address).is_reserved())
+}
+
+// 1 for an address on a row of Table 17: it is never picked, and never kept by a movable target.
+#[no_mangle]
+pub extern "C" fn hb_is_listed(address: u8) -> u8
+    ensures { λ r. ⌜ r ≡ bit (isListed address) ⌝ }
+{
+    as_number(Address(address).is_listed())
 }
 
 // The room in symbols that the encoder needs for so many bytes sent and received; 0 where it refuses the protocol, the PEC or a length.

@@ -1,6 +1,6 @@
 // Target lists: the check, and the model run.
 ghost use mathlib.Core.Path.{_≡_};
-ghost use Rattle.pool.specs.Start.{startingPool};
+ghost use Rattle.pool.specs.Start.{barredPool};
 ghost use Rattle.targets.specs.Refusals.{checkedList};
 ghost use Rattle.c_arp.specs.Check.{toldChecked};
 ghost use Rattle.c_arp.specs.Model.{RanModel};
@@ -14,7 +14,7 @@ use c_arp::parts::HbPool;
 // Whether a target list is refused where these addresses are occupied.
 #[no_mangle]
 pub extern "C" fn hb_check_targets(occupied: HbPool, records: &[u8]) -> HbChecked
-    ensures { λ r. ⌜ r ≡ toldChecked (checkedList (startingPool (poolIn occupied)) (now (records .entry))) ⌝ }
+    ensures { λ r. ⌜ r ≡ toldChecked (checkedList (barredPool (poolIn occupied)) (now (records .entry))) ⌝ }
 {
     check_targets(occupied, records)
 }

@@ -3,7 +3,7 @@ ghost use mathlib.Core.Path.{_≡_};
 ghost use Rattle.pool.specs.Pools.{member, withAddress, withoutAddress, unionOf};
 ghost use Rattle.pool.specs.Free.{used, lowestFree};
 ghost use Rattle.pool.specs.NextFree.{nextFree};
-ghost use Rattle.pool.specs.Start.{startingPool};
+ghost use Rattle.pool.specs.Start.{startingPool, barredPool};
 ghost use Rattle.c_codec.specs.Numbers.{bit};
 ghost use Rattle.c_arp.specs.Parts.{poolIn, toldPool, freeNumber};
 use c_arp::parts::HbPool;
@@ -50,12 +50,20 @@ pub extern "C" fn hb_pool_union(one: HbPool, other: HbPool) -> HbPool
     addresses(p.union(pool_in(other)))
 }
 
-// The starting pool: the reserved addresses and these.
+// The starting pool: the listed addresses and these.
 #[no_mangle]
 pub extern "C" fn hb_pool_starting(occupied: HbPool) -> HbPool
     ensures { λ r. ⌜ r ≡ toldPool (startingPool (poolIn occupied)) ⌝ }
 {
     addresses(Pool::starting(pool_in(occupied)))
+}
+
+// The barred addresses: the reserved ones and these.
+#[no_mangle]
+pub extern "C" fn hb_pool_barred(occupied: HbPool) -> HbPool
+    ensures { λ r. ⌜ r ≡ toldPool (barredPool (poolIn occupied)) ⌝ }
+{
+    addresses(Pool::barred(pool_in(occupied)))
 }
 
 // How many addresses the set has.

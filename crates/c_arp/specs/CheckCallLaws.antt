@@ -3,7 +3,7 @@ use mathlib.Core.Path.{_≡_, refl, sym, ap, _∙_}
 use mathlib.Core.List.{List}
 use mathlib.Core.Logic.{_↔_, Iff·trans}
 use Prim.Native.Nat.{ℕ}
-use Rattle.pool.specs.Start.{startingPool}
+use Rattle.pool.specs.Start.{barredPool}
 use Rattle.pool.specs.declared.Pool.{Pool}
 use Rattle.targets.specs.Cases.{LengthIsBad, MalformedAt, RepeatedAt, TakenAt, None, FirstOf, Given}
 use Rattle.targets.specs.Numbers.{answerOf}
@@ -17,20 +17,20 @@ use Rattle.c_arp.specs.declared.parts.HbPool.{HbPool}
 use Rattle.c_arp.specs.Check.{toldChecked}
 use Rattle.c_arp.specs.Parts.{poolIn}
 
-module _ (occupied : HbPool) (s : List ℕ) (r : HbChecked) (e : r ≡ toldChecked (checkedList (startingPool (poolIn occupied)) s)) where
-  abbrev start : Pool
-  start = startingPool (record { low = occupied .low; high = occupied .high })
+module _ (occupied : HbPool) (s : List ℕ) (r : HbChecked) (e : r ≡ toldChecked (checkedList (barredPool (poolIn occupied)) s)) where
+  abbrev barred : Pool
+  barred = barredPool (record { low = occupied .low; high = occupied .high })
 
-  check-number : (n i : ℕ) (k : Checked) → answerOf k .number ≡ n → answerOf k .value ≡ i → ((r .answer ≡ n) × (r .place ≡ i)) ↔ Given start s k
-  check-number n i k en ei = Iff·trans (there, back) (given-exactly start s k)
+  check-number : (n i : ℕ) (k : Checked) → answerOf k .number ≡ n → answerOf k .value ≡ i → ((r .answer ≡ n) × (r .place ≡ i)) ↔ Given barred s k
+  check-number n i k en ei = Iff·trans (there, back) (given-exactly barred s k)
     where
-      there : (r .answer ≡ n) × (r .place ≡ i) → k ≡ checkedList start s
+      there : (r .answer ≡ n) × (r .place ≡ i) → k ≡ checkedList barred s
       there (a, p) =
-          let x : answerOf k .number ≡ answerOf (checkedList start s) .number = en ∙ sym a ∙ ap (λ (q : HbChecked). q .answer) e in
-          let y : answerOf k .value ≡ answerOf (checkedList start s) .value = ei ∙ sym p ∙ ap (λ (q : HbChecked). q .place) e in
-          answers-tell-apart k (checkedList start s) (λ j. record { number = x j; value = y j })
+          let x : answerOf k .number ≡ answerOf (checkedList barred s) .number = en ∙ sym a ∙ ap (λ (q : HbChecked). q .answer) e in
+          let y : answerOf k .value ≡ answerOf (checkedList barred s) .value = ei ∙ sym p ∙ ap (λ (q : HbChecked). q .place) e in
+          answers-tell-apart k (checkedList barred s) (λ j. record { number = x j; value = y j })
 
-      back : k ≡ checkedList start s → (r .answer ≡ n) × (r .place ≡ i)
+      back : k ≡ checkedList barred s → (r .answer ≡ n) × (r .place ≡ i)
       back q = (
         ap (λ (x : HbChecked). x .answer) e ∙ ap (λ (x : Checked). answerOf x .number) (sym q) ∙ en,
         ap (λ (x : HbChecked). x .place) e ∙ ap (λ (x : Checked). answerOf x .value) (sym q) ∙ ei,
@@ -48,9 +48,9 @@ module _ (occupied : HbPool) (s : List ℕ) (r : HbChecked) (e : r ≡ toldCheck
 
   pub hb-check-12 : (i : ℕ)
       → ((r .answer ≡ 12) × (r .place ≡ i))
-      ↔ ((LengthIsBad s → ⊥) × None (MalformedAt s) (recordCount s) × None (RepeatedAt s) (recordCount s) × FirstOf (TakenAt start s) (recordCount s) i)
+      ↔ ((LengthIsBad s → ⊥) × None (MalformedAt s) (recordCount s) × None (RepeatedAt s) (recordCount s) × FirstOf (TakenAt barred s) (recordCount s) i)
   hb-check-12 i = check-number 12 i (Taken i) refl refl
 
   pub hb-check-0 : ((r .answer ≡ 0) × (r .place ≡ 0))
-      ↔ ((LengthIsBad s → ⊥) × None (MalformedAt s) (recordCount s) × None (RepeatedAt s) (recordCount s) × None (TakenAt start s) (recordCount s))
+      ↔ ((LengthIsBad s → ⊥) × None (MalformedAt s) (recordCount s) × None (RepeatedAt s) (recordCount s) × None (TakenAt barred s) (recordCount s))
   hb-check-0 = check-number 0 0 Admitted refl refl

@@ -1,6 +1,6 @@
 // The check of a target list.
 ghost use mathlib.Core.Path.{_≡_};
-ghost use Rattle.pool.specs.Start.{startingPool};
+ghost use Rattle.pool.specs.Start.{barredPool};
 ghost use Rattle.targets.specs.Refusals.{checkedList};
 ghost use Rattle.c_arp.specs.Parts.{poolIn};
 ghost use Rattle.c_arp.specs.Check.{checkedOf, toldChecked};
@@ -36,7 +36,7 @@ fn told_checked(c: Checked) -> HbChecked
 
 // Whether a target list is refused where these addresses are occupied.
 pub fn check_targets(occupied: HbPool, records: &[u8]) -> HbChecked
-    ensures { λ r. ⌜ r ≡ toldChecked (checkedList (startingPool (poolIn occupied)) (now (records .entry))) ⌝ }
+    ensures { λ r. ⌜ r ≡ toldChecked (checkedList (barredPool (poolIn occupied)) (now (records .entry))) ⌝ }
 {
     told_checked(admit::check(records, pool_in(occupied)))
 }

@@ -2,36 +2,49 @@
 -- ≡ is 'equal', ↔ 'if and only if', × 'and', ⊎ 'or', P → ⊥ 'not P', (x : A) × P 'there is an x with P'; getD l i 0 is number i of the list l.
 -- A parameter such as (contract : Wrote ..) is what a function's `ensures` says, word for word. It need not be believed: the code meets it.
 -- CONTRACTS: Leaves, Outcome, Wrote, lookedUp, messageOf, modelEnd, newController, nextFree, protocolFor, reported, started, stepped, traceOf.
--- BELIEVED: 756 lines, without imports, comments and blanks. Crate/file, then the lines of each definition; src is a type of the code. tests/programs/believed.rs counts them.
--- lists/Choice: and 3, not 3, or 3, pick 3; lists/Each: Bytes 3, Each 3; wire/Addresses: isReserved 2; wire/Symbols: ACK 2, NACK 2, START 2, STOP 2; wire/src: Address 1; pec/Pec: bitStep 2, pecFrom 3, pecOf 2, pecStep 2;
--- trace/Rows: message 2; trace/Table: InTable 2, Line 6, Row 22, TraceOf 2, lastProtocol 2, line 2, symbols 2; trace/Trace: Message 6, ackOf 3, acked 3, inPlace 2, nacked 3; trace/src: Transaction 8;
--- encode/Encode: encodeNumber 4; encode/src: Encoded 5; misfit/Cases: IsMisaddressed 2, IsMiscounted 2, IsOther 2, IsSwapped 2; scan/Answers: summary 3; scan/Because: AfterStart 2; scan/BytesIn: bytesIn 3;
--- scan/Fitting: BitSwapped 4, Breaks 4, CountTooHigh 4, CutAt 9, Fits 2, FitsNext 2, Member 2, OtherPec 3, ToHost 2, Whole 2, Wrong 2; scan/Numbers: decodeNumber 3, refusalNumber 12; scan/src: Decoded 4, Refusal 13;
--- decode/Outcome: Entered 2; pool/Counts: count 3, one 2; pool/Digits: digit 2, plus 2; pool/Free: used 2; pool/NextFree: Next 4; pool/Picks: FreeAtEach 3, Pick 3, Picked 3, Picks 3, latestOf 3; pool/Pools: member 2, unionOf 2,
--- withAddress 4; pool/Start: emptyPool 2, reservedPool 2, startingPool 2; pool/src: Free 4, Pool 4; udid/Bytes: bytesFrom 3, bytesOf 3, number 2, numberFrom 3, udidAt 2, udidBytes 2; udid/Udids: Fits 3, isFixed 2, sameUdid 2,
--- value 2; udid/src: Udid 4; slots/Slots: heldAt 2; slots/src: Binding 6, Slots 7; commands/CommandTraces: ReplyOf 2, assignTrace 2, prepareTrace 2, replyTrace 3; commands/SameTrace: same 5; commands/src: Command 5, End 7,
--- Handed 4; arp/Account: bindIn 5, binds 5, knownIn 2, removals 5, removeIn 2, repliesFrom 5, unbindIn 5, unbindings 5; arp/History: Event 4, NoStart 5, run 5; arp/Numbers: commandNumber 3, endNumber 6, lookupNumber 6;
--- arp/OneStep: Asks 3, Binds 6, BoundAt 3, Chooses 5, Continues 2, EndsWith 2, Hands 5, Keeps 4, Removes 5, Replies 4, Rest 5, Same 2, Unbinds 3; arp/Replay: Table 3, handedOut 5, isBound 5, view 2; arp/RunPicks: isPicked 2,
--- pickIn 5, picksOf 6; arp/SinceStart: BoundSince 7, Completes 2, LeftSince 5, Removed 2, RepliedBy 2; arp/src: Controller 8, Found 7, Reported 4, Stepped 4; arbitration/Bits: bits 3, byteBits 3, bytesRead 3, numberOf 3;
--- arbitration/Wire: heard 3, later 3, level 3, next 3, staying 3; targets/ByteCases: EvenOrFlag 2, FixedAt 2, FixedOnTaken 2, SameAsEarlier 2, addressAt 2; targets/Cases: FirstOf 4, LengthIsBad 2, None 2;
--- targets/Records: addressByte 2, flagOf 2, recordCount 2, targetAt 2, targetsFrom 3, targetsOf 2, udidOf 2; targets/Reply: OnWire 3, coveredBytes 2, onWire 3, replyBytes 2, replyData 2, replyPec 2, sends 2, waiting 3;
--- targets/Target: Target 4, isResolved 2, mapTargets 3; bindings/src: ModelAnswer 9; report/Report: modelNumber 2; rule/Acknowledge: acknowledges 4, afterwards 2, answered 4, asking 2, assigningBytes 2, begins 4, gettingBytes 2,
--- onBus 2, preparingBytes 2, received 3, sentPart 5, somebody 3, standing 3; rule/AllBound: leftFree 2, movable 3, withFixed 3; rule/AnyBus: Bus 3, WorldOver 3, beginningOver 2, passOf 2, runOver 3, tookOver 3, turnOver 2;
--- rule/Bus: modelBus 2, pass 2; rule/Effect: addressIn 2, effect 5, isForMe 2; rule/PlainRule: Distinct 3, Ending 3, Given 3, Ruled 4, ascending 3, held 2, insert 3, isPickedFor 2, next 5, pickAfter 2, plainChoice 2, rule 3,
--- ruled 2; rule/Reading: Any 3, OnePerUdid 3, RecordOf 2; rule/Sent: getsAmong 3, getsOnBus 2, getsOver 2, heardAfter 4, historyOnBus 2, oneIn 2, tracesOver 3; bus/Run: ModelEnd 4; promises/MarkedWords: Shows 2, holding 2,
--- identifier 2, windows 3.
+-- BELIEVED: 811 lines, without imports, comments and blanks. Crate/file, then the lines of each definition; src is a type of the code. tests/programs/believed.rs counts them.
+-- lists/Choice: and 3, not 3, or 3, pick 3; lists/Each: Any 3, Bytes 3, Each 3; wire/AddressTable: Bit 4, Covers 2, covers 3, lets 4, table17 25; wire/Addresses: isFromTo 2, isListed 2, isPreassigned 2, isReserved 2;
+-- wire/Symbols: ACK 2, NACK 2, START 2, STOP 2; wire/src: Address 1; pec/Pec: bitStep 2, pecFrom 3, pecOf 2, pecStep 2; trace/Rows: message 2; trace/Table: InTable 2, Line 6, Row 22, TraceOf 2, lastProtocol 2, line 2, symbols 2;
+-- trace/Trace: Message 6, ackOf 3, acked 3, inPlace 2, nacked 3; trace/src: Transaction 8; encode/Encode: encodeNumber 4; encode/src: Encoded 5; misfit/Cases: IsMisaddressed 2, IsMiscounted 2, IsOther 2, IsSwapped 2;
+-- scan/Answers: summary 3; scan/Because: AfterStart 2; scan/BytesIn: bytesIn 3; scan/Fitting: BitSwapped 4, Breaks 4, CountTooHigh 4, CutAt 9, Fits 2, FitsNext 2, Member 2, OtherPec 3, ToHost 2, Whole 2, Wrong 2;
+-- scan/Numbers: decodeNumber 3, refusalNumber 12; scan/src: Decoded 4, Refusal 13; decode/Outcome: Entered 2; pool/Counts: count 3, one 2; pool/Digits: digit 2, plus 2; pool/Free: used 2; pool/NextFree: Next 4;
+-- pool/Picks: FreeAtEach 3, Pick 3, Picked 3, Picks 3, latestOf 3; pool/Pools: member 2, unionOf 2, withAddress 4; pool/Start: barredPool 2, emptyPool 2, listedPool 2, reservedPool 2, startingPool 2; pool/src: Free 4, Pool 4;
+-- udid/Bytes: bytesFrom 3, bytesOf 3, number 2, numberFrom 3, udidAt 2, udidBytes 2; udid/Udids: Fits 3, isFixed 2, sameUdid 2, value 2; udid/src: Udid 4; slots/Slots: heldAt 2; slots/src: Binding 6, Slots 7;
+-- commands/CommandTraces: ReplyOf 2, assignTrace 2, prepareTrace 2, replyTrace 3; commands/SameTrace: same 5; commands/src: Command 5, End 7, Handed 4; arp/Account: bindIn 5, binds 5, knownIn 2, removals 5, removeIn 2,
+-- repliesFrom 5, unbindIn 5, unbindings 5; arp/History: Event 4, NoStart 5, run 5; arp/Numbers: commandNumber 3, endNumber 6, lookupNumber 6; arp/OneStep: Asks 3, Binds 8, BoundAt 3, Chooses 5, Continues 2, EndsWith 2, Hands 5,
+-- Keeps 4, Removes 5, Replies 4, Rest 5, Same 2, Unbinds 5; arp/Replay: Table 3, handedOut 5, isBound 5, view 2; arp/RunPicks: isPicked 2, pickIn 5, picksOf 6; arp/SinceStart: BoundSince 7, Completes 2, LeftSince 5, Removed 2,
+-- RepliedBy 2, Untaken 3; arp/src: Controller 8, Found 7, Reported 4, Stepped 4; arbitration/Bits: bits 3, byteBits 3, bytesRead 3, numberOf 3; arbitration/Wire: heard 3, later 3, level 3, next 3, staying 3;
+-- targets/ByteCases: EvenOrFlag 2, FixedAt 2, FixedOnTaken 2, SameAsEarlier 2, addressAt 2; targets/Cases: FirstOf 4, LengthIsBad 2, None 2; targets/Records: addressByte 2, flagOf 2, recordCount 2, targetAt 2, targetsFrom 3,
+-- targetsOf 2, udidOf 2; targets/Reply: OnWire 3, coveredBytes 2, onWire 3, replyBytes 2, replyData 2, replyPec 2, sends 2, waiting 3; targets/Target: Target 4, isResolved 2, mapTargets 3; bindings/src: ModelAnswer 9;
+-- report/Report: modelNumber 2; rule/Acknowledge: acknowledges 4, afterwards 2, answered 4, asking 2, assigningBytes 2, begins 4, gettingBytes 2, onBus 2, preparingBytes 2, received 3, sentPart 5, somebody 3, standing 3;
+-- rule/AllBound: leftFree 2, movable 3, withFixed 3; rule/AnyBus: Bus 3, WorldOver 3, beginningOver 2, passOf 2, runOver 3, tookOver 3, turnOver 2; rule/Bus: modelBus 2, pass 2; rule/Effect: addressIn 2, effect 5, isForMe 2;
+-- rule/PlainRule: Distinct 3, Ending 3, Given 3, Ruled 4, ascending 3, held 2, insert 3, isPickedFor 2, next 5, pickAfter 2, plainChoice 2, rule 3, ruled 2; rule/Reading: OnePerUdid 3, RecordOf 2; rule/Sent: getsAmong 3,
+-- getsOnBus 2, getsOver 2, heardAfter 4, historyOnBus 2, oneIn 2, tracesOver 3; bus/Run: ModelEnd 4; promises/MarkedWords: Shows 2, holding 2, identifier 2, windows 3.
 use mathlib.Core.Path.{_≡_}
 use mathlib.Core.Bool.{Bool, true, false}
 use mathlib.Core.List.{List, [], _∷_, _++_}
 use mathlib.Core.Logic.{_⊎_, _↔_}
 use Prim.Native.Nat.{ℕ, suc, _+_, _*_, _/_, _%_, _^_, _≤_, _<_}
 use lib.ListN.{length, take, drop, getD, replicate}
-use Rattle.promises.specs.Words.{Each, Bytes, isReserved, pecOf, Address, lastProtocol, TraceOf, Message, message, encodeNumber, Wrote, Encoded}
+use Rattle.promises.specs.Words.{Each, Any, Bytes, isReserved, isPreassigned, isListed, table17, Covers, pecOf, Address, lastProtocol, TraceOf, Message, message, encodeNumber, Wrote, Encoded}
 use Rattle.promises.specs.Words.{summary, Member, Fits, Breaks, Wrong, AfterStart, FitsNext, ToHost, IsSwapped, IsMisaddressed, IsMiscounted, IsOther, BitSwapped, CountTooHigh, CutAt, OtherPec, decodeNumber, Decoded, Done, Entered, Outcome}
-use Rattle.promises.specs.Words.{member, emptyPool, startingPool, Pool, udidBytes, In128, Udid, heldAt, prepareTrace, replyTrace, assignTrace, newController, started, stepped, reported, Event, NoStart, run, lookedUp, commandNumber, lookupNumber}
-use Rattle.promises.specs.Words.{used, BoundSince, LeftSince, binds, unbindings, removals, knownIn, handedOut, Removes, Rest, Reported, Left}
+use Rattle.promises.specs.Words.{member, emptyPool, startingPool, barredPool, Pool, udidBytes, In128, Udid, heldAt, prepareTrace, replyTrace, assignTrace, newController, started, stepped, reported, Event, Received, NoStart, run, lookedUp, commandNumber, lookupNumber}
+use Rattle.promises.specs.Words.{used, count, not, Completes, BoundSince, LeftSince, binds, unbindings, removals, knownIn, handedOut, Removes, Rest, Reported, Left}
 use Rattle.promises.specs.Words.{Asks, Binds, Continues, EndsWith, Replies, protocolFor, messageOf, traceOf, Handed, Send, Wait, Nothing, Prepare, GetUdid, Assign, Ended, Abandoned, NotOutstanding, Open, Bound, Claimed, Controller, Stepped}
-use Rattle.promises.specs.Words.{EvenOrFlag, SameAsEarlier, FixedOnTaken, LengthIsBad, None, FirstOf, targetsOf, movable, leftFree, pass, Given, Ending, served, noneFree, Distinct, ruled, Any, RecordOf, OnePerUdid, getsOnBus, historyOnBus, modelNumber, Leaves, modelEnd, ModelAnswer, nextFree, Next, At, AllUsed, Pick, Picks, latestOf, picksOf, FreeAtEach, Picked, identifier, holding, Shows}
+use Rattle.promises.specs.Words.{EvenOrFlag, SameAsEarlier, FixedOnTaken, LengthIsBad, None, FirstOf, targetsOf, movable, leftFree, pass, Given, Ending, served, noneFree, Distinct, ruled, RecordOf, OnePerUdid, getsOnBus, historyOnBus, modelNumber, Leaves, modelEnd, ModelAnswer, nextFree, Next, At, AllUsed, Pick, Picks, latestOf, picksOf, FreeAtEach, Picked, identifier, holding, Shows}
+
+-- ---- THE ADDRESSES: TABLE 17 OF SMBus 3.3.1, Appendix C
+pub record Addresses : Type 0 where
+  -- an address is listed if and only if a row of the table covers its byte on the wire, for a write or for a read. 35 are, and 93 are left to pick from
+  pub listed : (a : ℕ) → (isListed a ≡ true) ↔ ((a < 128) × Any (Covers a) table17)
+  pub counts : (count isListed 128 ≡ 35) × (count (λ a. not (isListed a)) 128 ≡ 93)
+  -- the 21 that are reserved: not even a fixed target may stand there
+  pub reserved : (a : ℕ) → (isReserved a ≡ true) ↔ ((a ≤ 0x08) ⊎ ((a ≡ 0x0C) ⊎ ((a ≡ 0x28) ⊎ ((a ≡ 0x37) ⊎ ((a ≡ 0x61) ⊎ ((0x78 ≤ a) × (a ≤ 0x7F)))))))
+  -- the other 14, which are pre-assigned: a fixed target may stand there
+  pub preassigned : (a : ℕ) → (isPreassigned a ≡ true) ↔ ((isListed a ≡ true) × (isReserved a ≡ false))
+  -- THE STARTING POOL, from which nothing is picked: the listed and the occupied ones. THE BARRED ADDRESSES, where not even a fixed target may stand: the reserved and the occupied ones
+  pub starting-pool : (occupied : Pool) (a : ℕ) → (member (startingPool occupied) a ≡ true) ↔ ((isListed a ≡ true) ⊎ (member occupied a ≡ true))
+  pub barred : (occupied : Pool) (a : ℕ) → (member (barredPool occupied) a ≡ true) ↔ ((isReserved a ≡ true) ⊎ (member occupied a ≡ true))
 
 -- ---- DEMAND 1: EACH NUMBER, IF AND ONLY IF ITS CASE; A REFUSAL CHANGES NOTHING THAT WAS LENT
 -- a message as the encoder's types have it: its command and its data are bytes
@@ -108,7 +121,7 @@ pub record Checks (occupied : Pool) (last : ℕ) (s b : List ℕ) (bytes : Bytes
   pub model-9 : (modelNumber r ≡ (9, 0)) ↔ ((last < 128) × ((2048 ≤ length b) × LengthIsBad s))
   pub model-10 : (i : ℕ) → (modelNumber r ≡ (10, i)) ↔ ((last < 128) × ((2048 ≤ length b) × ((LengthIsBad s → ⊥) × FirstOf (EvenOrFlag s) (length s / 18) i)))
   pub model-11 : (i : ℕ) → (modelNumber r ≡ (11, i)) ↔ ((last < 128) × ((2048 ≤ length b) × ((LengthIsBad s → ⊥) × None (EvenOrFlag s) (length s / 18) × FirstOf (SameAsEarlier s) (length s / 18) i)))
-  pub model-12 : (i : ℕ) → (modelNumber r ≡ (12, i)) ↔ ((last < 128) × ((2048 ≤ length b) × ((LengthIsBad s → ⊥) × None (EvenOrFlag s) (length s / 18) × None (SameAsEarlier s) (length s / 18) × FirstOf (FixedOnTaken (startingPool occupied) s) (length s / 18) i)))
+  pub model-12 : (i : ℕ) → (modelNumber r ≡ (12, i)) ↔ ((last < 128) × ((2048 ≤ length b) × ((LengthIsBad s → ⊥) × None (EvenOrFlag s) (length s / 18) × None (SameAsEarlier s) (length s / 18) × FirstOf (FixedOnTaken (barredPool occupied) s) (length s / 18) i)))
   pub untouched : Refused r → (s′ ≡ s) × (b′ ≡ b) × (r .udid ≡ record { high = 0; low = 0 }) × (r .bound ≡ emptyPool) × (r .count ≡ 0) × (r .gets ≡ 0) × (r .picked ≡ 0)
 
 -- ---- DEMAND 2: THE DECODER READS WHAT THE ENCODER WRITES, AND NOTHING ELSE
@@ -133,9 +146,11 @@ pub record Meets (occupied : Pool) (last : ℕ) (s b : List ℕ) (given : List G
   -- no record; how many are bound; the Get UDIDs that stood on the bus: one more than are bound, none on an empty bus
   pub counted : (r .place ≡ 0) × (r .count ≡ length given)
   pub gets : (r .gets ≡ getsOnBus occupied last (targetsOf s)) × (0 < length s → r .gets ≡ suc (r .count)) × (length s ≡ 0 → r .gets ≡ 0)
-  -- who is bound: targets of the records, to addresses that are neither reserved nor occupied, no two to one, each identifier once
+  -- who is bound: targets of the records, no two to one address, each identifier once. None is on a reserved or an occupied address, and no movable one (its first byte is
+  -- 64 or more) on a listed one
   pub who : Each (λ (g : Given). (i : ℕ) × (i < length s / 18) × RecordOf s i g) given
-  pub assignable : Each (λ (g : Given). (g .address < 128) × (isReserved (g .address) ≡ false) × (member occupied (g .address) ≡ false)) given
+  pub assignable : Each (λ (g : Given). (g .address < 128) × (isReserved (g .address) ≡ false) × (member occupied (g .address) ≡ false)
+      × (64 ≤ getD (udidBytes (g .who .udid)) 0 0 → isListed (g .address) ≡ false)) given
   pub distinct : Distinct given × OnePerUdid given
   pub bound : (a : ℕ) → a < 128 → (member (r .bound) a ≡ true) ↔ Any (λ (g : Given). g .address ≡ a) given
   -- the binding buffer: who is bound stands at 16 times the address, zeros where nobody is, and all after 2,048 bytes as it was
@@ -156,7 +171,7 @@ pub record Meets (occupied : Pool) (last : ℕ) (s b : List ℕ) (given : List G
   pub of-pass : (targetsOf s′ ≡ pass occupied last (targetsOf s) .targets) × ((a : ℕ) (u : Udid) → a < 128 → heldAt (pass occupied last (targetsOf s) .now .state .slots) a ≡ Bound u → take 16 (drop (16 * a) b′) ≡ udidBytes u)
 
 pub record Demand3 (occupied : Pool) (last : ℕ) (s b : List ℕ) (bytes : Bytes s) (r : ModelAnswer) (s′ b′ : List ℕ) (contract : Leaves (modelEnd occupied last s b) r s′ b′) : Type 0 where
-  pub meets : last < 128 → 2048 ≤ length b → (LengthIsBad s → ⊥) → None (EvenOrFlag s) (length s / 18) → None (SameAsEarlier s) (length s / 18) → None (FixedOnTaken (startingPool occupied) s) (length s / 18)
+  pub meets : last < 128 → 2048 ≤ length b → (LengthIsBad s → ⊥) → None (EvenOrFlag s) (length s / 18) → None (SameAsEarlier s) (length s / 18) → None (FixedOnTaken (barredPool occupied) s) (length s / 18)
       → let q = ruled (startingPool occupied) last (targetsOf s) in Meets occupied last s b (q .given) (q .ending) (q .picked) r s′ b′
 
 -- ---- THE CONTROLLER
@@ -207,34 +222,38 @@ Sound s = ((length (s .slots .high) ≡ 128) × (length (s .slots .low) ≡ 128)
 -- what holds in every state that starts, traces and reports reach
 pub record Reached (occupied : Pool) (s : Controller) : Type 0 where
   pub sound : Sound s
-  -- the pool is the starting pool and the addresses that are bound or claimed; none that is bound was in the starting pool; one that is left is free
-  pub starting : s .starting ≡ startingPool occupied
-  pub pool : (a : ℕ) → (member (s .pool) a ≡ true) ↔ ((member (s .starting) a ≡ true) ⊎ ((heldAt (s .slots) a ≡ Open → ⊥) × (heldAt (s .slots) a ≡ Left → ⊥)))
-  pub new : (a : ℕ) (u : Udid) → heldAt (s .slots) a ≡ Bound u → member (s .starting) a ≡ false
-  pub left-free : (a : ℕ) → heldAt (s .slots) a ≡ Left → member (s .pool) a ≡ false
+  -- the pool is the starting pool and the addresses that are bound or claimed. So an address of the starting pool is always in the pool, and one that is left is in the pool
+  -- exactly if the starting pool has it
+  pub occupies : s .occupied ≡ occupied
+  pub pool : (a : ℕ) → (member (s .pool) a ≡ true) ↔ ((member (startingPool occupied) a ≡ true) ⊎ ((heldAt (s .slots) a ≡ Open → ⊥) × (heldAt (s .slots) a ≡ Left → ⊥)))
+  -- nobody is bound to a barred address; whoever is bound to a listed one is a fixed target
+  pub unbarred : (a : ℕ) (u : Udid) → heldAt (s .slots) a ≡ Bound u → member (barredPool occupied) a ≡ false
+  pub fixed : (a : ℕ) (u : Udid) → heldAt (s .slots) a ≡ Bound u → isListed a ≡ true → getD (udidBytes u) 0 0 < 64
   -- no identifier is bound twice; an address holds one, or is claimed, or left, or open: that is the form of a slot
   pub once : (a b : ℕ) (u : Udid) → heldAt (s .slots) a ≡ Bound u → heldAt (s .slots) b ≡ Bound u → a ≡ b
   pub gets : s .gets ≤ 128
 
 pub record Control : Type 0 where
-  -- the starting pool: the reserved and the occupied addresses. A new controller has nothing bound, claimed, left or outstanding; a start, at any time, makes it so again,
-  -- but the last pick stays. A last pick above 127 counts as 127, never picked
-  pub starting-pool : (occupied : Pool) (a : ℕ) → (member (startingPool occupied) a ≡ true) ↔ ((isReserved a ≡ true) ⊎ (member occupied a ≡ true))
-  pub new : (occupied : Pool) (last : ℕ) → let c = newController occupied last in (c .starting ≡ startingPool occupied) × (c .pool ≡ startingPool occupied)
+  -- a new controller has the starting pool, and nothing bound, claimed, left or outstanding; a start, at any time, makes it so again, but the last pick stays. A last pick
+  -- above 127 counts as 127, never picked
+  pub new : (occupied : Pool) (last : ℕ) → let c = newController occupied last in (c .occupied ≡ occupied) × (c .pool ≡ startingPool occupied)
       × (c .last ≡ Wait Nothing) × (c .gets ≡ 0) × ((a : ℕ) → heldAt (c .slots) a ≡ Open) × (last < 128 → c .picked ≡ last) × (127 < last → c .picked ≡ 127)
   pub start : (s : Controller) → (started s .command ≡ Send Prepare) × (started s .state .last ≡ Send Prepare) × (started s .state .gets ≡ 0)
-      × (started s .state .pool ≡ s .starting) × (started s .state .starting ≡ s .starting) × ((a : ℕ) → heldAt (started s .state .slots) a ≡ Open) × (started s .state .picked ≡ s .picked)
+      × (started s .state .pool ≡ startingPool (s .occupied)) × (started s .state .occupied ≡ s .occupied) × ((a : ℕ) → heldAt (started s .state .slots) a ≡ Open) × (started s .state .picked ≡ s .picked)
   -- every step is as the sentences say, and its number is given in its case alone; the sentences leave one result
   pub step : (s : Controller) (tr : List ℕ) → Sound s → Steps s tr (stepped s tr) × StepNumbers s tr (stepped s tr)
   pub one-step : (s : Controller) (tr : List ℕ) (r q : Stepped) → Sound s → Steps s tr r → Steps s tr q
-      → (r .command ≡ q .command) × (r .state .last ≡ q .state .last) × (r .state .gets ≡ q .state .gets) × (r .state .starting ≡ q .state .starting) × (r .state .picked ≡ q .state .picked)
+      → (r .command ≡ q .command) × (r .state .last ≡ q .state .last) × (r .state .gets ≡ q .state .gets) × (r .state .occupied ≡ q .state .occupied) × (r .state .picked ≡ q .state .picked)
       × ((a : ℕ) → (heldAt (r .state .slots) a ≡ heldAt (q .state .slots) a) × (member (r .state .pool) a ≡ member (q .state .pool) a))
   -- over any starts, traces and reports, the latest first
   pub reached : (occupied : Pool) (last : ℕ) (es : List Event) → Reached occupied (run occupied last es)
-  -- lookup's 0 with u: an Assign of a to u completed while a was not in the pool, and since then no start, no report of a that was answered 0, no reply of u, and no
+  -- lookup's 0 with u: an Assign of a to u completed while a was not barred, bound or claimed, and since then no start, no report of a that was answered 0, no reply of u, and no
   -- other Assign of a that completed. Its 20: a report of a was answered 0, and since then no start, and no Assign of a that completed
   pub bound-since : (occupied : Pool) (last : ℕ) (es : List Event) (u : Udid) (a : ℕ) → (lookupNumber (lookedUp (run occupied last es) a) ≡ (0, u ∷ [])) ↔ BoundSince occupied last es u a
   pub left-since : (occupied : Pool) (last : ℕ) (es : List Event) (a : ℕ) → (lookupNumber (lookedUp (run occupied last es) a) ≡ (20, [])) ↔ LeftSince occupied last es a
+  -- an Assign of a to u that completes leaves a claim exactly if a is barred, or another was bound there just before, or two claimed it already
+  pub claims : (occupied : Pool) (last : ℕ) (es : List Event) (tr : List ℕ) (u : Udid) (a : ℕ) → Completes occupied last es tr u a → (heldAt (run occupied last (Received tr ∷ es) .slots) a ≡ Claimed)
+      ↔ ((member (barredPool occupied) a ≡ true) ⊎ (((w : Udid) × (w ≡ u → ⊥) × (heldAt (run occupied last es .slots) a ≡ Bound w)) ⊎ (heldAt (run occupied last es .slots) a ≡ Claimed)))
   -- a claim stays for the rest of the pass, whatever is received and reported later
   pub claim-stays : (occupied : Pool) (last : ℕ) (es later : List Event) → NoStart later → (a : ℕ) → heldAt (run occupied last es .slots) a ≡ Claimed → heldAt (run occupied last (later ++ es) .slots) a ≡ Claimed
 
@@ -285,19 +304,19 @@ pub record Marked (b : List ℕ) (room : 2048 ≤ length b) : Type 0 where
       × (Wrote 10 true (message 0x10 0 7 (replicate 200 0) (replicate 55 0)) before r after → encodeNumber r ≡ (0, 525))
       × ((pec : Bool) → Wrote 10 pec (message 0x10 0 7 (replicate 200 0) (replicate 56 0)) before r after → encodeNumber r ≡ (1, 0))
   pub m7 : (protocol : ℕ) (pec : Bool) (sent₀ received₀ : List ℕ) (a : Decoded) (sent received : List ℕ) → Entered protocol pec sent₀ received₀ → Outcome protocol pec [] sent₀ received₀ a sent received → decodeNumber a ≡ (4, 0)
-  -- 80h.. with FFh, 00h.. fixed at 09h, 40h.. holding 20h, nothing occupied, never picked: 09h fixed, 20h kept, 0Ah picked for 80h..; four Get UDIDs
+  -- 80h.. with FFh, 00h.. fixed at 09h, 40h.. holding 20h, nothing occupied, never picked: 09h fixed, 20h kept, 0Dh picked for 80h..; four Get UDIDs
   pub m8 : Shows (modelEnd emptyPool 127 (holding 0x80 0xFF 0 ++ holding 0x00 0x13 0 ++ holding 0x40 0x41 0) b)
-      (record { answer = 0; place = 0; udid = record { high = 0; low = 0 }; bound = record { low = 2 ^ 0x09 + 2 ^ 0x0A + 2 ^ 0x20; high = 0 }; count = 3; gets = 4; picked = 0x0A })
-      (holding 0x80 0x15 1 ++ holding 0x00 0x13 1 ++ holding 0x40 0x41 1) (0x09 ∷ 0x0A ∷ 0x0B ∷ 0x20 ∷ []) (identifier 0x00 ++ identifier 0x80 ++ replicate 16 0 ++ identifier 0x40)
-  -- two movable targets, the smaller with none, the larger holding 09h: 09h and 0Ah
+      (record { answer = 0; place = 0; udid = record { high = 0; low = 0 }; bound = record { low = 2 ^ 0x09 + 2 ^ 0x0D + 2 ^ 0x20; high = 0 }; count = 3; gets = 4; picked = 0x0D })
+      (holding 0x80 0x1B 1 ++ holding 0x00 0x13 1 ++ holding 0x40 0x41 1) (0x09 ∷ 0x0A ∷ 0x0D ∷ 0x20 ∷ []) (identifier 0x00 ++ replicate 16 0 ++ identifier 0x80 ++ identifier 0x40)
+  -- two movable targets, the smaller with none, the larger holding 09h: 0Dh and 0Eh
   pub m9 : Shows (modelEnd emptyPool 127 (holding 0x40 0xFF 0 ++ holding 0x80 0x13 0) b)
-      (record { answer = 0; place = 0; udid = record { high = 0; low = 0 }; bound = record { low = 2 ^ 0x09 + 2 ^ 0x0A; high = 0 }; count = 2; gets = 3; picked = 0x0A })
-      (holding 0x40 0x13 1 ++ holding 0x80 0x15 1) (0x09 ∷ 0x0A ∷ 0x0B ∷ []) (identifier 0x40 ++ identifier 0x80 ++ replicate 16 0)
+      (record { answer = 0; place = 0; udid = record { high = 0; low = 0 }; bound = record { low = 2 ^ 0x0D + 2 ^ 0x0E; high = 0 }; count = 2; gets = 3; picked = 0x0E })
+      (holding 0x40 0x1B 1 ++ holding 0x80 0x1D 1) (0x09 ∷ 0x0D ∷ 0x0E ∷ []) (replicate 16 0 ++ identifier 0x40 ++ identifier 0x80)
   -- all 128 occupied, one movable target: 13, none bound, one Get UDID
   pub m10 : Shows (modelEnd (record { low = 18446744073709551615; high = 18446744073709551615 }) 127 (holding 0x80 0x41 1) b)
       (record { answer = 13; place = 0; udid = record { high = 0x80 * 2 ^ 56; low = 1 }; bound = emptyPool; count = 0; gets = 1; picked = 127 }) (holding 0x80 0x41 0) (0x09 ∷ 0x20 ∷ []) (replicate 32 0)
-  -- two that are no cases of the scope. 09h was picked last, and is free again: the newcomer gets 0Ah. After 77h the way goes round, to 09h
-  pub vacated : Shows (modelEnd emptyPool 0x09 (holding 0x80 0xFF 0) b)
-      (record { answer = 0; place = 0; udid = record { high = 0; low = 0 }; bound = record { low = 2 ^ 0x0A; high = 0 }; count = 1; gets = 2; picked = 0x0A }) (holding 0x80 0x15 1) (0x09 ∷ 0x0A ∷ []) (replicate 16 0 ++ identifier 0x80)
+  -- two that are no cases of the scope. 0Dh was picked last, and is free again: the newcomer gets 0Eh. After 77h the way goes round, to 0Dh
+  pub vacated : Shows (modelEnd emptyPool 0x0D (holding 0x80 0xFF 0) b)
+      (record { answer = 0; place = 0; udid = record { high = 0; low = 0 }; bound = record { low = 2 ^ 0x0E; high = 0 }; count = 1; gets = 2; picked = 0x0E }) (holding 0x80 0x1D 1) (0x0D ∷ 0x0E ∷ []) (replicate 16 0 ++ identifier 0x80)
   pub round : Shows (modelEnd emptyPool 0x77 (holding 0x80 0xFF 0) b)
-      (record { answer = 0; place = 0; udid = record { high = 0; low = 0 }; bound = record { low = 2 ^ 0x09; high = 0 }; count = 1; gets = 2; picked = 0x09 }) (holding 0x80 0x13 1) (0x09 ∷ 0x0A ∷ []) (identifier 0x80 ++ replicate 16 0)
+      (record { answer = 0; place = 0; udid = record { high = 0; low = 0 }; bound = record { low = 2 ^ 0x0D; high = 0 }; count = 1; gets = 2; picked = 0x0D }) (holding 0x80 0x1B 1) (0x0D ∷ 0x0E ∷ []) (identifier 0x80 ++ replicate 16 0)

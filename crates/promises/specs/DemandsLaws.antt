@@ -10,10 +10,12 @@ use native.Mathlib.Omega.{arith}
 use lib.ListN.{length, take, drop}
 use lib.Seq.{take-at}
 use Rattle.lists.specs.AbsurdLaws.{zero-is-one}
-use Rattle.lists.specs.Choice.{pick, or}
+use Rattle.lists.specs.Choice.{pick, or, not}
 use Rattle.lists.specs.ChoiceLaws.{false-not-true}
 use Rattle.lists.specs.Each.{Bytes}
-use Rattle.wire.specs.Addresses.{isReserved}
+use Rattle.wire.specs.Addresses.{isReserved, isPreassigned, isListed}
+use Rattle.wire.specs.AddressLaws.{reserved-is, preassigned-exactly}
+use Rattle.wire.specs.AddressTableLaws.{listed-is}
 use Rattle.wire.specs.declared.address.Address.{Address}
 use Rattle.trace.specs.ShapeLaws.{sane, known-to-last}
 use Rattle.trace.specs.Shapes.{shapeOf}
@@ -36,27 +38,28 @@ use Rattle.scan.specs.declared.answer.Refusal.the-variants.{NoSymbol, EndsEarly
 use Rattle.decode.specs.NumberLaws as decode
 use Rattle.decode.specs.Outcome.{Outcome}
 use Rattle.pool.specs.Pools.{member}
-use Rattle.pool.specs.Start.{startingPool}
-use Rattle.pool.specs.StartLaws.{member-starting}
+use Rattle.pool.specs.Start.{startingPool, barredPool}
+use Rattle.pool.specs.StartLaws.{member-starting, member-barred}
+use Rattle.pool.specs.Counts.{count}
 use Rattle.pool.specs.declared.Pool.{Pool}
+use Rattle.udid.specs.UdidLaws.{fixed-first}
 use Rattle.udid.specs.Bytes.{udidBytes}
 use Rattle.udid.specs.declared.Udid.{Udid}
 use Rattle.arp.specs.BindingLaws.{unheld-is-open-or-left}
 use Rattle.slots.specs.Slots.{heldAt}
 use Rattle.arp.specs.Numbers.{commandNumber, lookupNumber}
 use Rattle.arp.specs.AccountLaws.{account}
-use Rattle.arp.specs.AssignedLaws.{claim-stays}
 use Rattle.arp.specs.Gone.{reported}
 use Rattle.arp.specs.GoneLaws.{which-bound, nothing-reported, report-rest, report-removes, answered-0}
 use Rattle.arp.specs.Replay.{isBound}
 use Rattle.arp.specs.OneStep.{Removes}
-use Rattle.arp.specs.SinceStartLaws.{lookup-0-since, lookup-20-since}
+use Rattle.arp.specs.SinceStartLaws.{lookup-0-since, lookup-20-since, claims-exactly, claim-stays}
 use Rattle.commands.specs.CommandTraces.{prepareTrace, replyTrace, assignTrace}
 use Rattle.pool.specs.FreeLaws.{lowest-is}
 use Rattle.pool.specs.NextFreeLaws.{next-is, next-none, next-above, again-only-if}
 use Rattle.arp.specs.RunPicksLaws.{last-is-latest, run-picks}
 use Rattle.pool.specs.PickLaws.{picks-on, rotation}
-use Rattle.arp.specs.HistoryLaws.{reached-good, reached-invariant, new-controller-is-new}
+use Rattle.arp.specs.HistoryLaws.{reached-good, reached-pool, reached-invariant, new-controller-is-new}
 use Rattle.arp.specs.LookupLaws as arp
 use Rattle.commands.specs.RequestLaws.{valid-prepare, valid-get, valid-assign, prepare-symbols, reply-symbols, assign-symbols-small}
 use Rattle.commands.specs.Requests.{assignData, protocolFor, messageOf}
@@ -65,7 +68,8 @@ use Rattle.slots.specs.Slots.{Sized128}
 use Rattle.arp.specs.Sound.{PendingIn}
 use Rattle.slots.specs.SlotsLaws.{open-all}
 use Rattle.arp.specs.Controller.{stepped}
-use Rattle.arp.specs.History.{Event, run, isHeld}
+use Rattle.arp.specs.Bindings.{isHeld}
+use Rattle.arp.specs.History.{Event, run}
 use Rattle.commands.specs.declared.command.Command.the-variants.{Prepare, GetUdid, Assign}
 use Rattle.commands.specs.declared.command.Handed.{Handed}
 use Rattle.commands.specs.declared.command.Handed.the-variants.{Send, Wait}
@@ -90,7 +94,7 @@ use Rattle.bus.specs.RecordsEndLaws.{records-length, record-of-bound, record-of
 use Rattle.bus.specs.RefusalLaws as bus
 use Rattle.bus.specs.Run.{Leaves, modelEnd}
 use Rattle.bindings.specs.declared.answer.ModelAnswer.{ModelAnswer}
-use Rattle.promises.specs.Demands.{OfBytes, Encodes, Decodes, Puts, Commands, LooksUp, Checks, Demand2, Demand3, Sound, Reached, Control, Reports, TakingBack, Picking}
+use Rattle.promises.specs.Demands.{Addresses, OfBytes, Encodes, Decodes, Puts, Commands, LooksUp, Checks, Demand2, Demand3, Sound, Reached, Control, Reports, TakingBack, Picking}
 use Rattle.promises.specs.StepsLaws.{sentences, one-step, each-number-exactly}
 
 -- ---- demand 1
@@ -281,9 +285,9 @@ demand-2 protocol pec = record { there = there; back = back; one = one }
 
 -- a list in none of the cases of 9 to 12 is admitted
 pub admitted : (occupied : Pool) (s : List ℕ) → Bytes s → (LengthIsBad s → ⊥) → None (EvenOrFlag s) (length s / 18) → None (SameAsEarlier s) (length s / 18)
-    → None (FixedOnTaken (startingPool occupied) s) (length s / 18) → checkedList (startingPool occupied) s ≡ Admitted
+    → None (FixedOnTaken (barredPool occupied) s) (length s / 18) → checkedList (barredPool occupied) s ≡ Admitted
 admitted occupied s bytes n m k f =
-    sym (given-exactly (startingPool occupied) s Admitted .1 (given-by-bytes (startingPool occupied) s bytes Admitted .1 (n, m, k, f)))
+    sym (given-exactly (barredPool occupied) s Admitted .1 (given-by-bytes (barredPool occupied) s bytes Admitted .1 (n, m, k, f)))
 
 pub demand-3 : (occupied : Pool) (last : ℕ) (s b : List ℕ) (bytes : Bytes s) (r : ModelAnswer) (s′ b′ : List ℕ) (contract : Leaves (modelEnd occupied last s b) r s′ b′)
     → Demand3 occupied last s b bytes r s′ b′ contract
@@ -342,19 +346,6 @@ pool-exactly false y h e = go (isHeld h) refl
         back (inl z) = false-not-true z
         back (inr n) = neither n (unheld-is-open-or-left h k)
 
-pub reached : (occupied : Pool) (last : ℕ) (es : List Event) → Reached occupied (run occupied last es)
-reached occupied last es =
-    let g = reached-good occupied last es in
-    record {
-      sound = ((g .0 .sound .size .high, g .0 .sound .size .low), λ u a e. subst (PendingIn (run occupied last es)) e (g .1) .fits, g .0 .picked);
-      starting = g .0 .starting;
-      pool = λ a. pool-exactly (member (run occupied last es .starting) a) (member (run occupied last es .pool) a) (heldAt (run occupied last es .slots) a) (g .0 .sound .exact a);
-      new = g .0 .sound .new;
-      left-free = reached-invariant occupied last es .left-free;
-      once = g .0 .sound .once;
-      gets = g .0 .gets;
-    }
-
 either-true : (x y z : Bool) → x ≡ or y z → (x ≡ true) ↔ ((y ≡ true) ⊎ (z ≡ true))
 either-true x true z e = (λ h. inl refl, λ h. e)
 either-true x false z e = (λ h. inr (sym e ∙ h), back)
@@ -363,17 +354,46 @@ either-true x false z e = (λ h. inr (sym e ∙ h), back)
     back (inl q) = false-not-true q
     back (inr q) = e ∙ q
 
+pub reached : (occupied : Pool) (last : ℕ) (es : List Event) → Reached occupied (run occupied last es)
+reached occupied last es =
+    let g = reached-good occupied last es in
+    record {
+      sound = ((g .0 .sound .size .high, g .0 .sound .size .low), λ u a e. subst (PendingIn (run occupied last es)) e (g .1) .fits, g .0 .picked);
+      occupies = g .0 .occupies;
+      pool = λ a. pool-exactly (member (startingPool occupied) a) (member (run occupied last es .pool) a) (heldAt (run occupied last es .slots) a) (reached-pool occupied last es a);
+      unbarred = reached-invariant occupied last es .bound-unbarred;
+      fixed = λ a u e m. fixed-first u (g .0 .sound .fits a u e) .0 (reached-invariant occupied last es .starting-fixed a u e (either-true (member (startingPool occupied) a) (isListed a) (member occupied a) (member-starting occupied a) .1 (inl m)));
+      once = g .0 .sound .once;
+      gets = g .0 .gets;
+    }
+
 pub control : Control
 control = record {
-  starting-pool = λ occupied a. either-true (member (startingPool occupied) a) (isReserved a) (member occupied a) (member-starting occupied a);
-  new = λ occupied last. (let n = new-controller-is-new occupied last in (n .starting, n .pool, n .last, n .gets, n .held, n .picked, n .never));
+  new = λ occupied last. (let n = new-controller-is-new occupied last in (n .occupies, n .pool, n .last, n .gets, n .held, n .picked, n .never));
   start = λ s. (refl, refl, refl, refl, refl, open-all, refl);
   step = λ s tr f. let n : Sized128 (s .slots) = record { high = f .0 .0; low = f .0 .1 } in (sentences s tr n (f .2), each-number-exactly s tr (f .1) (f .2) (stepped s tr) (sentences s tr n (f .2)));
-  one-step = λ s tr r q f h g. (let a = one-step s tr r q (f .1) (f .2) h g in (a .command, a .last, a .gets, a .starting, a .picked, a .same));
+  one-step = λ s tr r q f h g. (let a = one-step s tr r q (f .1) (f .2) h g in (a .command, a .last, a .gets, a .occupied, a .picked, a .same));
   reached = reached;
   bound-since = lookup-0-since;
   left-since = lookup-20-since;
+  claims = claims-exactly;
   claim-stays = claim-stays;
+}
+
+-- ---- the addresses
+
+listed-and-left : (count isListed 128 ≡ 35) × (count (λ a. not (isListed a)) 128 ≡ 93)
+unfolding count isReserved isPreassigned isListed
+listed-and-left = (refl, refl)
+
+pub addresses : Addresses
+addresses = record {
+  listed = listed-is;
+  counts = listed-and-left;
+  reserved = reserved-is;
+  preassigned = preassigned-exactly;
+  starting-pool = λ occupied a. either-true (member (startingPool occupied) a) (isListed a) (member occupied a) (member-starting occupied a);
+  barred = λ occupied a. either-true (member (barredPool occupied) a) (isReserved a) (member occupied a) (member-barred occupied a);
 }
 
 -- ---- taking back

@@ -28,7 +28,7 @@ use Rattle.pool.specs.Digits.{digit, plus}
 use Rattle.pool.specs.Free.{used, freeFrom}
 use Rattle.pool.specs.NextFree.{nextFree}
 use Rattle.pool.specs.Pools.{member, withAddress, unionOf}
-use Rattle.pool.specs.Start.{emptyPool, reservedPool, startingPool}
+use Rattle.pool.specs.Start.{emptyPool, reservedPool, listedPool, startingPool, barredPool}
 use Rattle.pool.specs.declared.Pool.{Pool}
 use Rattle.udid.specs.Bytes.{numberFrom, bytesOf, bytesFrom, udidBytes, udidAt}
 use Rattle.slots.specs.Slots.{heldAt, withBinding, noBindings}
@@ -65,28 +65,28 @@ record Run : Type 0 where
   places : List ℕ
   buffer : List ℕ
 
--- 80h.. with FFh, 00h.. fixed at 09h, 40h.. holding 20h, nothing occupied: 09h fixed, 20h kept, 0Ah given to 80h..; four Get UDIDs
+-- 80h.. with FFh, 00h.. fixed at 09h, 40h.. holding 20h, nothing occupied: 09h fixed, 20h kept, 0Dh picked for 80h..; four Get UDIDs
 abbrev run8 : Run
 run8 = record {
   occupied = emptyPool;
   last = 127;
   records = holding 0x80 0xFF 0 ++ holding 0x00 0x13 0 ++ holding 0x40 0x41 0;
-  answer = record { answer = 0; place = 0; udid = noUdid; bound = record { low = 2 ^ 0x09 + 2 ^ 0x0A + 2 ^ 0x20; high = 0 }; count = 3; gets = 4; picked = 0x0A };
-  after = holding 0x80 0x15 1 ++ holding 0x00 0x13 1 ++ holding 0x40 0x41 1;
-  places = 0x09 ∷ 0x0A ∷ 0x0B ∷ 0x20 ∷ [];
-  buffer = identifier 0x00 ++ identifier 0x80 ++ replicate 16 0 ++ identifier 0x40;
+  answer = record { answer = 0; place = 0; udid = noUdid; bound = record { low = 2 ^ 0x09 + 2 ^ 0x0D + 2 ^ 0x20; high = 0 }; count = 3; gets = 4; picked = 0x0D };
+  after = holding 0x80 0x1B 1 ++ holding 0x00 0x13 1 ++ holding 0x40 0x41 1;
+  places = 0x09 ∷ 0x0A ∷ 0x0D ∷ 0x20 ∷ [];
+  buffer = identifier 0x00 ++ replicate 16 0 ++ identifier 0x80 ++ identifier 0x40;
 }
 
--- two movable targets, the smaller with none, the larger holding 09h: 09h and 0Ah
+-- two movable targets, the smaller with none, the larger holding 09h: 0Dh and 0Eh
 abbrev run9 : Run
 run9 = record {
   occupied = emptyPool;
   last = 127;
   records = holding 0x40 0xFF 0 ++ holding 0x80 0x13 0;
-  answer = record { answer = 0; place = 0; udid = noUdid; bound = record { low = 2 ^ 0x09 + 2 ^ 0x0A; high = 0 }; count = 2; gets = 3; picked = 0x0A };
-  after = holding 0x40 0x13 1 ++ holding 0x80 0x15 1;
-  places = 0x09 ∷ 0x0A ∷ 0x0B ∷ [];
-  buffer = identifier 0x40 ++ identifier 0x80 ++ replicate 16 0;
+  answer = record { answer = 0; place = 0; udid = noUdid; bound = record { low = 2 ^ 0x0D + 2 ^ 0x0E; high = 0 }; count = 2; gets = 3; picked = 0x0E };
+  after = holding 0x40 0x1B 1 ++ holding 0x80 0x1D 1;
+  places = 0x09 ∷ 0x0D ∷ 0x0E ∷ [];
+  buffer = replicate 16 0 ++ identifier 0x40 ++ identifier 0x80;
 }
 
 -- all 128 occupied, one movable target: 13, none bound, one Get UDID
@@ -101,27 +101,27 @@ run10 = record {
   buffer = replicate 32 0;
 }
 
--- 09h was picked last, and is free: the newcomer gets 0Ah
+-- 0Dh was picked last, and is free: the newcomer gets 0Eh
 abbrev run-vacated : Run
 run-vacated = record {
   occupied = emptyPool;
-  last = 0x09;
+  last = 0x0D;
   records = holding 0x80 0xFF 0;
-  answer = record { answer = 0; place = 0; udid = noUdid; bound = record { low = 2 ^ 0x0A; high = 0 }; count = 1; gets = 2; picked = 0x0A };
-  after = holding 0x80 0x15 1;
-  places = 0x09 ∷ 0x0A ∷ [];
+  answer = record { answer = 0; place = 0; udid = noUdid; bound = record { low = 2 ^ 0x0E; high = 0 }; count = 1; gets = 2; picked = 0x0E };
+  after = holding 0x80 0x1D 1;
+  places = 0x0D ∷ 0x0E ∷ [];
   buffer = replicate 16 0 ++ identifier 0x80;
 }
 
--- after 77h the way goes round, to 09h
+-- after 77h the way goes round, to 0Dh
 abbrev run-round : Run
 run-round = record {
   occupied = emptyPool;
   last = 0x77;
   records = holding 0x80 0xFF 0;
-  answer = record { answer = 0; place = 0; udid = noUdid; bound = record { low = 2 ^ 0x09; high = 0 }; count = 1; gets = 2; picked = 0x09 };
-  after = holding 0x80 0x13 1;
-  places = 0x09 ∷ 0x0A ∷ [];
+  answer = record { answer = 0; place = 0; udid = noUdid; bound = record { low = 2 ^ 0x0D; high = 0 }; count = 1; gets = 2; picked = 0x0D };
+  after = holding 0x80 0x1B 1;
+  places = 0x0D ∷ 0x0E ∷ [];
   buffer = identifier 0x80 ++ replicate 16 0;
 }
 
@@ -141,7 +141,7 @@ computed (x ∷ xs) h = go (ltb x 256) refl h (λ k. computed xs k)
 -- ---- by demand 3 the run's end is the plain rule's, and that is computed
 
 abbrev endOf : Run → World
-endOf m = passEnd (startingPool (m .occupied)) (m .last) (targetsOf (m .records))
+endOf m = passEnd (m .occupied) (m .last) (targetsOf (m .records))
 
 -- the lists of some numbers, one after another
 abbrev joined : (ℕ → List ℕ) → List ℕ → List ℕ
@@ -151,7 +151,7 @@ joined f (x ∷ xs) = f x ++ joined f xs
 record Comes (m : Run) : Type 0 where
   let-in : m .last < 128
   bytes : Bytes (m .records)
-  admitted : checkedList (startingPool (m .occupied)) (m .records) ≡ Admitted
+  admitted : checkedList (barredPool (m .occupied)) (m .records) ≡ Admitted
   number : numberIn (commandNumber (endOf m .now .command)) ≡ m .answer .answer
   nowhere : 0 ≡ m .answer .place
   asker : udidIn (commandNumber (endOf m .now .command)) ≡ m .answer .udid
@@ -172,8 +172,8 @@ shows m v b h =
     let e : modelEnd (m .occupied) (m .last) (m .records) b ≡ endedEnd (endOf m) (m .records) b =
     end-going (m .occupied) (m .last) (m .records) b (v .let-in)
     ∙ end-checked (m .occupied) (m .last) (m .records) b Admitted h (v .admitted)
-    ∙ ap (λ (w : World). endedEnd w (m .records) b) (demand-3 (m .occupied) (m .last) (targetsOf (m .records)) (admitted-targets (startingPool (m .occupied)) (m .records) (v .bytes) (v .admitted))
-    ∙ ap (λ (l : ℕ). passEnd (startingPool (m .occupied)) l (targetsOf (m .records))) (last-pick-is (m .last) (v .let-in))) in (
+    ∙ ap (λ (w : World). endedEnd w (m .records) b) (demand-3 (m .occupied) (m .last) (targetsOf (m .records)) (admitted-targets (barredPool (m .occupied)) (m .records) (v .bytes) (v .admitted))
+    ∙ ap (λ (l : ℕ). passEnd (m .occupied) l (targetsOf (m .records))) (last-pick-is (m .last) (v .let-in))) in (
       ap (λ (x : ModelEnd). x .answer) e
           ∙ (λ i. record { answer = v .number i; place = v .nowhere i; udid = v .asker i; bound = v .bound i; count = (ap used (v .bound) ∙ v .counted) i; gets = v .gets i; picked = v .picked i }),
       ap (λ (x : ModelEnd). x .records) e ∙ v .stored,
@@ -182,7 +182,7 @@ shows m v b h =
     )
 
 comes-8 : Comes run8
-unfolding amongRecords checkedList firstFrom startingPool unionOf reservedPool member digit withAddress plus freeFrom nextFree isPickedFor numberFrom bytesFrom bytesOf udidAt udidBytes targetAt plainChoice putTarget boundFrom used count heldAt withBinding noBindings
+unfolding amongRecords checkedList firstFrom startingPool barredPool unionOf listedPool reservedPool member digit withAddress plus freeFrom nextFree isPickedFor numberFrom bytesFrom bytesOf udidAt udidBytes targetAt plainChoice putTarget boundFrom used count heldAt withBinding noBindings
 comes-8 = record {
   let-in = omega arith;
   bytes = computed (run8 .records) refl;
@@ -200,7 +200,7 @@ comes-8 = record {
 }
 
 comes-9 : Comes run9
-unfolding amongRecords checkedList firstFrom startingPool unionOf reservedPool member digit withAddress plus freeFrom nextFree isPickedFor numberFrom bytesFrom bytesOf udidAt udidBytes targetAt plainChoice putTarget boundFrom used count heldAt withBinding noBindings
+unfolding amongRecords checkedList firstFrom startingPool barredPool unionOf listedPool reservedPool member digit withAddress plus freeFrom nextFree isPickedFor numberFrom bytesFrom bytesOf udidAt udidBytes targetAt plainChoice putTarget boundFrom used count heldAt withBinding noBindings
 comes-9 = record {
   let-in = omega arith;
   bytes = computed (run9 .records) refl;
@@ -218,7 +218,7 @@ comes-9 = record {
 }
 
 comes-10 : Comes run10
-unfolding amongRecords checkedList firstFrom startingPool unionOf reservedPool member digit withAddress plus freeFrom nextFree isPickedFor numberFrom bytesFrom bytesOf udidAt udidBytes targetAt plainChoice putTarget boundFrom used count heldAt withBinding noBindings
+unfolding amongRecords checkedList firstFrom startingPool barredPool unionOf listedPool reservedPool member digit withAddress plus freeFrom nextFree isPickedFor numberFrom bytesFrom bytesOf udidAt udidBytes targetAt plainChoice putTarget boundFrom used count heldAt withBinding noBindings
 comes-10 = record {
   let-in = omega arith;
   bytes = computed (run10 .records) refl;
@@ -236,7 +236,7 @@ comes-10 = record {
 }
 
 comes-vacated : Comes run-vacated
-unfolding amongRecords checkedList firstFrom startingPool unionOf reservedPool member digit withAddress plus freeFrom nextFree isPickedFor numberFrom bytesFrom bytesOf udidAt udidBytes targetAt plainChoice putTarget boundFrom used count heldAt withBinding noBindings
+unfolding amongRecords checkedList firstFrom startingPool barredPool unionOf listedPool reservedPool member digit withAddress plus freeFrom nextFree isPickedFor numberFrom bytesFrom bytesOf udidAt udidBytes targetAt plainChoice putTarget boundFrom used count heldAt withBinding noBindings
 comes-vacated = record {
   let-in = omega arith;
   bytes = computed (run-vacated .records) refl;
@@ -254,7 +254,7 @@ comes-vacated = record {
 }
 
 comes-round : Comes run-round
-unfolding amongRecords checkedList firstFrom startingPool unionOf reservedPool member digit withAddress plus freeFrom nextFree isPickedFor numberFrom bytesFrom bytesOf udidAt udidBytes targetAt plainChoice putTarget boundFrom used count heldAt withBinding noBindings
+unfolding amongRecords checkedList firstFrom startingPool barredPool unionOf listedPool reservedPool member digit withAddress plus freeFrom nextFree isPickedFor numberFrom bytesFrom bytesOf udidAt udidBytes targetAt plainChoice putTarget boundFrom used count heldAt withBinding noBindings
 comes-round = record {
   let-in = omega arith;
   bytes = computed (run-round .records) refl;

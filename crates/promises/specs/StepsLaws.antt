@@ -150,7 +150,7 @@ idle-both s tr r q h g =
       command = h .1 ∙ sym (g .1);
       last = ap (λ (x : Controller). x .last) m;
       gets = ap (λ (x : Controller). x .gets) m;
-      starting = ap (λ (x : Controller). x .starting) m;
+      occupied = ap (λ (x : Controller). x .occupied) m;
       picked = ap (λ (x : Controller). x .picked) m;
       same = λ a. (ap (λ (x : Controller). heldAt (x .slots) a) m, ap (λ (x : Controller). member (x .pool) a) m);
     }

@@ -1,7 +1,9 @@
 -- The words of the page (Demands), each from the file that defines it.
-pub use Rattle.lists.specs.Each.{Each, Bytes}
+pub use Rattle.lists.specs.Choice.{not}
+pub use Rattle.lists.specs.Each.{Each, Any, Bytes}
 -- the codec
-pub use Rattle.wire.specs.Addresses.{isReserved}
+pub use Rattle.wire.specs.Addresses.{isReserved, isPreassigned, isListed}
+pub use Rattle.wire.specs.AddressTable.{table17, Covers}
 pub use Rattle.pec.specs.Pec.{pecOf}
 pub use Rattle.wire.specs.declared.address.Address.{Address}
 pub use Rattle.trace.specs.Rows.{message}
@@ -20,9 +22,10 @@ pub use Rattle.decode.specs.Outcome.{Entered, Outcome}
 -- the controller
 pub use Rattle.pool.specs.NextFree.{nextFree, Next}
 pub use Rattle.pool.specs.Picks.{Pick, Picks, latestOf, FreeAtEach, Picked}
+pub use Rattle.pool.specs.Counts.{count}
 pub use Rattle.pool.specs.Free.{used}
 pub use Rattle.pool.specs.Pools.{member}
-pub use Rattle.pool.specs.Start.{emptyPool, startingPool}
+pub use Rattle.pool.specs.Start.{emptyPool, startingPool, barredPool}
 pub use Rattle.pool.specs.declared.Pool.{Pool}
 pub use Rattle.pool.specs.declared.free.Free.the-variants.{At, AllUsed}
 pub use Rattle.udid.specs.Bytes.{udidBytes}
@@ -32,11 +35,11 @@ pub use Rattle.slots.specs.Slots.{heldAt}
 pub use Rattle.commands.specs.CommandTraces.{prepareTrace, replyTrace, assignTrace}
 pub use Rattle.arp.specs.Controller.{newController, started, stepped}
 pub use Rattle.arp.specs.Gone.{reported}
-pub use Rattle.arp.specs.History.{Event, NoStart, run}
+pub use Rattle.arp.specs.History.{Event, Received, NoStart, run}
 pub use Rattle.arp.specs.Lookup.{lookedUp}
 pub use Rattle.arp.specs.Replay.{handedOut}
 pub use Rattle.arp.specs.RunPicks.{picksOf}
-pub use Rattle.arp.specs.SinceStart.{BoundSince, LeftSince}
+pub use Rattle.arp.specs.SinceStart.{Completes, BoundSince, LeftSince}
 pub use Rattle.arp.specs.Account.{binds, unbindings, removals, knownIn}
 pub use Rattle.arp.specs.Numbers.{commandNumber, lookupNumber}
 pub use Rattle.arp.specs.OneStep.{Asks, Binds, Continues, EndsWith, Replies, Removes, Rest}
@@ -56,7 +59,7 @@ pub use Rattle.targets.specs.Records.{targetsOf}
 pub use Rattle.rule.specs.AllBound.{movable, leftFree}
 pub use Rattle.rule.specs.Bus.{pass}
 pub use Rattle.rule.specs.PlainRule.{Given, Ending, served, noneFree, Distinct, ruled}
-pub use Rattle.rule.specs.Reading.{Any, RecordOf, OnePerUdid}
+pub use Rattle.rule.specs.Reading.{RecordOf, OnePerUdid}
 pub use Rattle.rule.specs.Sent.{getsOnBus, historyOnBus}
 pub use Rattle.report.specs.Report.{modelNumber}
 pub use Rattle.bus.specs.Run.{Leaves, modelEnd}

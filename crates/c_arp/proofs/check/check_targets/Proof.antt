@@ -1,6 +1,6 @@
 use borrow.Author.Needs.{needs}
 use mathlib.Core.Path.{ap, _∙_}
-use Rattle.pool.specs.Start.{startingPool}
+use Rattle.pool.specs.Start.{barredPool}
 use Rattle.pool.specs.declared.Pool.{Pool}
 use Rattle.targets.specs.Refusals.{checkedList}
 use Rattle.c_arp.specs.Check.{toldChecked}
@@ -17,7 +17,7 @@ told-checked-requires : tie.Need-told-checked-requires
 told-checked-requires c κs = search needs
 
 returns : tie.Need-returns
-returns c = c .told-checked .ensures ∙ ap toldChecked (c .before .check .ensures ∙ ap (λ (p : Pool). checkedList (startingPool p) (c .before .before .before .before .args .records .now)) (c .before .before .pool-in .ensures))
+returns c = c .told-checked .ensures ∙ ap toldChecked (c .before .check .ensures ∙ ap (λ (p : Pool). checkedList (barredPool p) (c .before .before .before .before .args .records .now)) (c .before .before .pool-in .ensures))
 
 pub check-targets-spec : {M : Type 1} → statement M
 check-targets-spec =
