@@ -36,7 +36,8 @@ static uint8_t any(void)
     return (uint8_t)(seed >> 24);
 }
 
-/* Targets of all kinds in no order: the fixed ones on addresses from 40h up; of the others some hold none, some any. */
+/* Targets of all kinds in no order: the fixed ones on addresses from 40h up, the first of them on rows of Table 17; of the
+   others some hold none, some any. */
 static void fill(uint8_t *records, size_t n)
 {
     uint8_t fixed_at = 0x40;
@@ -122,6 +123,21 @@ static void compare_refusals(void)
         stop("a last pick was not refused first");
 }
 
+/* A fixed target on 2Ch, a row of Table 17, and a movable one that held it: the first stays, unless 2Ch is occupied. */
+static void compare_rows(void)
+{
+    static uint8_t records[LIST_ROOM];
+    hb_model m;
+    memset(records, 0, sizeof records);
+    records[16] = records[RECORD + 16] = 2 * 0x2c + 1;
+    records[RECORD] = 0x80;
+    m = compare(0, 0x2b, records, 2 * RECORD, ROOM);
+    if (m.answer != 0 || m.bound.low != ((uint64_t)1 << 0x2c | (uint64_t)1 << 0x2e) || m.picked != 0x2e)
+        stop("a row of the table was not passed over");
+    if (compare((uint64_t)1 << 0x2c, NEVER, records, 2 * RECORD, ROOM).answer != 12)
+        stop("an occupied row was not refused");
+}
+
 static void measure(size_t targets)
 {
     static uint8_t records[LIST_ROOM];
@@ -161,6 +177,7 @@ static void compare_last_picks(void)
 int main(void)
 {
     compare_refusals();
+    compare_rows();
     measure(1);
     measure(10);
     measure(60);

@@ -11,8 +11,8 @@ enum { ADDRESSES = 128, NONE = 128 };
 #define ALL UINT64_MAX
 #define EVEN 0x5555555555555555u
 #define BIT(n) ((uint64_t)1 << (n))
-/* 00h to 08h, 0Ch, 28h and 37h; 61h and 78h to 7Fh. */
-#define RESERVED { 0x00800100000011ff, 0xff00000200000000 }
+/* The rows of Table 17: 00h to 0Ch, 28h, 2Ch, 2Dh and 37h; 40h to 44h, 48h to 4Bh, 61h and 78h to 7Fh. */
+#define LISTED { 0x0080310000001fff, 0xff00000200000f1f }
 
 /* In the sets with one free address that one is the last pick: the walk to it goes all the way round. */
 static const struct {
@@ -36,9 +36,9 @@ static const struct {
     { "every-other", { EVEN, EVEN }, 127, 1 },
     { "every-other", { EVEN, EVEN }, 63, 65 },
     { "every-other", { EVEN, EVEN }, 126, 127 },
-    { "reserved", RESERVED, 127, 0x09 },
-    { "reserved", RESERVED, 0x60, 0x62 },
-    { "reserved", RESERVED, 0x77, 0x09 },
+    { "listed", LISTED, 127, 0x0d },
+    { "listed", LISTED, 0x3f, 0x45 },
+    { "listed", LISTED, 0x77, 0x0d },
 };
 
 typedef uint8_t picker(hb_pool used, uint8_t last);

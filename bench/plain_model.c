@@ -15,16 +15,32 @@ struct used {
     uint8_t has[ADDRESSES];
 };
 
+/* One of the first 21: not even a fixed target may stand there. */
 static int is_reserved(unsigned a)
 {
     return a <= 0x08 || a == 0x0c || a == 0x28 || a == 0x37 || a == 0x61 || a >= 0x78;
 }
 
-static struct used starting(uint64_t low, uint64_t high)
+/* On one of the other rows of Table 17: no movable target is there. */
+static int is_added(unsigned a)
+{
+    return (a >= 0x09 && a <= 0x0b) || a == 0x2c || a == 0x2d || (a >= 0x40 && a <= 0x44) || (a >= 0x48 && a <= 0x4b);
+}
+
+/* Where not even a fixed target may stand: the first 21, and the occupied. */
+static struct used barred(uint64_t low, uint64_t high)
 {
     struct used used;
     for (unsigned a = 0; a < ADDRESSES; a++)
         used.has[a] = is_reserved(a) || ((a < 64 ? low >> a : high >> (a - 64)) & 1);
+    return used;
+}
+
+/* These and the added rows: what is used before anyone is bound. */
+static struct used starting(struct used used)
+{
+    for (unsigned a = 0; a < ADDRESSES; a++)
+        used.has[a] |= is_added(a);
     return used;
 }
 
@@ -212,7 +228,7 @@ hb_model NAMED(run_model)(hb_pool occupied, uint8_t last, uint8_t *records, size
                           size_t bindings_len)
 {
     size_t n = records_len / RECORD, place;
-    struct used used = starting(occupied.low, occupied.high);
+    struct used no_place = barred(occupied.low, occupied.high);
     if (last >= ADDRESSES)
         return refused(1, 0);
     if (bindings_len < ROOM)
@@ -223,7 +239,7 @@ hb_model NAMED(run_model)(hb_pool occupied, uint8_t last, uint8_t *records, size
         return refused(10, place);
     if ((place = repeated(records, n)) < n)
         return refused(11, place);
-    if ((place = misplaced(records, n, used)) < n)
+    if ((place = misplaced(records, n, no_place)) < n)
         return refused(12, place);
-    return pass(used, last, records, n, bindings);
+    return pass(starting(no_place), last, records, n, bindings);
 }

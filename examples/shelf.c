@@ -5,7 +5,8 @@
 
 #include "headboarded.h"
 
-/* A record each: identifier, address byte, resolved flag. The first module is fixed at 09h, the second has no address. */
+/* A record each: identifier, address byte, resolved flag. The first module is fixed at 09h, a row of Table 17 on which it may
+ * stand; the second has no address. */
 static uint8_t shelf[2 * HB_RECORD] = {
     0x00, 0x01, 0x0a, 0xd2, 0x00, 0x01, 0x00, 0x24, 0, 0, 0, 0, 0, 0, 0, 0x01, 0x13, 0,
     0x81, 0x01, 0x0a, 0xd2, 0x00, 0x03, 0x00, 0x24, 0, 0, 0, 0, 0, 0, 0, 0x04, 0xff, 0,
@@ -27,7 +28,7 @@ int main(void)
 {
     /* README.md shows the lines from here .. */
     const uint8_t word[2] = {0x90, 0x01}; /* low byte first */
-    hb_written w = hb_encode(HB_READ_WORD, 1, 0x0a, 0, 0x05, NULL, 0, word, sizeof word, trace, sizeof trace);
+    hb_written w = hb_encode(HB_READ_WORD, 1, 0x0d, 0, 0x05, NULL, 0, word, sizeof word, trace, sizeof trace);
     printf("encode: %u, %u symbols\n", w.answer, w.symbols);
 
     hb_decoded d = hb_decode(HB_READ_WORD, 1, trace, 2 * w.symbols, sent, sizeof sent, received, sizeof received);
@@ -39,7 +40,7 @@ int main(void)
     printf("model: %u, %u bound, %u Get UDIDs, last pick 0x%02x\n", m.answer, m.count, m.gets, m.picked);
     show(m.bound);
 
-    /* The second module is pulled, and another comes. Its address is picked after the last one: it does not get 0Ah. */
+    /* The second module is pulled, and another comes. Its address is picked after the last one: it does not get 0Dh. */
     shelf[HB_RECORD + 15] = 0x05;
     shelf[HB_RECORD + 16] = 0xff;
     if (m.answer == HB_DONE || m.answer == HB_NO_FREE_ADDRESS)

@@ -16,9 +16,26 @@ static void check_pec(void)
     free(text);
 }
 
+/* The rows of Table 17, as its bits and those that count: 35 addresses. */
+static const struct {
+    uint8_t bits, mask;
+} rows[] = {
+    { 0x00, 0x7f }, { 0x01, 0x7f }, { 0x02, 0x7f }, { 0x03, 0x7f }, { 0x04, 0x7c }, { 0x08, 0x7f }, { 0x09, 0x7f },
+    { 0x0a, 0x7f }, { 0x0b, 0x7f }, { 0x0c, 0x7f }, { 0x28, 0x7f }, { 0x2c, 0x7f }, { 0x2d, 0x7f }, { 0x37, 0x7f },
+    { 0x40, 0x7c }, { 0x44, 0x7f }, { 0x48, 0x7c }, { 0x61, 0x7f }, { 0x78, 0x7c }, { 0x7c, 0x7c },
+};
+
+static int on_a_row(unsigned n)
+{
+    for (size_t k = 0; k < sizeof rows / sizeof rows[0]; k++)
+        if (n < 128 && (n & rows[k].mask) == rows[k].bits)
+            return 1;
+    return 0;
+}
+
 static void check_addresses(void)
 {
-    unsigned reserved = 0;
+    unsigned reserved = 0, listed = 0;
     for (unsigned n = 0; n < 256; n++) {
         uint8_t a = (uint8_t)n;
         CHECK(hb_wire_for_write(a) == 2 * (n % 128));
@@ -29,10 +46,14 @@ static void check_addresses(void)
         CHECK(hb_is_default(a) == (n == HB_DEFAULT_ADDRESS));
         CHECK(hb_is_host(a) == (n == HB_HOST_ADDRESS));
         CHECK(hb_is_alert_response(a) == (n == HB_ALERT_RESPONSE_ADDRESS));
+        CHECK(hb_is_listed(a) == on_a_row(n));
+        CHECK(hb_is_reserved(a) <= hb_is_listed(a));
         reserved += hb_is_reserved(a);
+        listed += hb_is_listed(a);
     }
-    CHECK(reserved == 21);
+    CHECK(reserved == 21 && listed == 35);
     CHECK(hb_is_reserved(0x28) == 1 && hb_is_reserved(0x29) == 0 && hb_is_reserved(128) == 0);
+    CHECK(hb_is_reserved(0x48) == 0 && hb_is_listed(0x48) == 1 && hb_is_listed(0x47) == 0 && hb_is_listed(0xc8) == 0);
 }
 
 void check_ground(void)
@@ -99,12 +120,24 @@ static void check_picks(void)
 
 static void check_starting(void)
 {
-    hb_pool occupied = { 1 << 9, 1 }, start = hb_pool_starting(nothing), either = hb_pool_union(start, occupied);
-    CHECK(hb_pool_used(start) == 21);
+    hb_pool occupied = { 1 << 0x0d, 1 }, start = hb_pool_starting(nothing), either = hb_pool_union(start, occupied);
+    CHECK(hb_pool_used(start) == 35);
     for (unsigned n = 0; n < 128; n++)
-        CHECK(hb_pool_has(start, (uint8_t)n) == hb_is_reserved((uint8_t)n));
+        CHECK(hb_pool_has(start, (uint8_t)n) == hb_is_listed((uint8_t)n));
     CHECK(either.low == hb_pool_starting(occupied).low && either.high == hb_pool_starting(occupied).high);
-    CHECK(hb_pool_lowest_free(either) == 0x0a);
+    CHECK(hb_pool_used(either) == 36 && hb_pool_lowest_free(start) == 0x0d && hb_pool_lowest_free(either) == 0x0e);
+}
+
+/* 40h, which is on a row, and 0Dh are occupied. */
+static void check_barred(void)
+{
+    hb_pool occupied = { 1 << 0x0d, 1 }, barred = hb_pool_barred(nothing), either = hb_pool_union(barred, occupied);
+    CHECK(hb_pool_used(barred) == 21);
+    for (unsigned n = 0; n < 128; n++)
+        CHECK(hb_pool_has(barred, (uint8_t)n) == hb_is_reserved((uint8_t)n));
+    CHECK(either.low == hb_pool_barred(occupied).low && either.high == hb_pool_barred(occupied).high);
+    CHECK(hb_pool_used(either) == 23 && hb_pool_lowest_free(either) == 0x09);
+    CHECK(hb_pool_used(hb_pool_barred(everything)) == 128 && hb_pool_used(hb_pool_starting(everything)) == 128);
 }
 
 static hb_udid halves(uint64_t high, uint64_t low)
@@ -150,5 +183,6 @@ void check_pools(void)
     check_sets();
     check_picks();
     check_starting();
+    check_barred();
     check_identifiers();
 }

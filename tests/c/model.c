@@ -40,16 +40,55 @@ static void check_three(size_t room, uint8_t last, uint8_t picked)
 }
 
 /* After every last pick the target of M8 that has no address gets the first one on the way round that is not
- * reserved, and is not 09h or 20h. */
+ * on a row of Table 17, and is not 20h. */
 static void check_every_last_pick(void)
 {
     for (unsigned last = 0; last < 128; last++) {
         unsigned picked = last;
         do
             picked = (picked + 1) % 128;
-        while (hb_is_reserved((uint8_t)picked) || picked == 0x09 || picked == 0x20);
+        while (hb_is_listed((uint8_t)picked) || picked == 0x20);
         check_three(HB_BINDINGS_ROOM, (uint8_t)last, (uint8_t)picked);
     }
+}
+
+/* On every address a fixed target alone, and a movable one that held it. The fixed one is bound there unless it is one of the 21; the
+ * movable one keeps it if it is on no row, and else gets 0Dh. Where the address is occupied the fixed one is refused. */
+static void check_rows(void)
+{
+    uint8_t *record = block(HB_RECORD, 0), *bindings = block(HB_BINDINGS_ROOM, 0xee);
+    for (unsigned a = 0; a < 127; a++) {
+        hb_pool occupied = hb_pool_with(nothing, (uint8_t)a);
+        uint32_t due = hb_is_reserved((uint8_t)a) ? HB_TAKEN : HB_DONE;
+        hb_model m;
+        put_record(record, 0x01, (uint8_t)(2 * a + 1), 0);
+        CHECK(hb_check_targets(nothing, record, HB_RECORD).answer == due);
+        CHECK(hb_check_targets(occupied, record, HB_RECORD).answer == HB_TAKEN);
+        CHECK(hb_run_model(occupied, NEVER, record, HB_RECORD, bindings, HB_BINDINGS_ROOM).answer == HB_TAKEN);
+        m = hb_run_model(nothing, NEVER, record, HB_RECORD, bindings, HB_BINDINGS_ROOM);
+        CHECK(m.answer == due && hb_pool_has(m.bound, (uint8_t)a) == (due == HB_DONE) && record[16] == 2 * a + 1);
+        CHECK(due == HB_TAKEN || all(bindings, 16 * a, 16 * a + 16, 0x01));
+        put_record(record, 0x80, (uint8_t)(2 * a + 1), 0);
+        CHECK(hb_check_targets(occupied, record, HB_RECORD).answer == HB_DONE);
+        m = hb_run_model(nothing, NEVER, record, HB_RECORD, bindings, HB_BINDINGS_ROOM);
+        CHECK(m.answer == HB_DONE && m.count == 1 && record[16] == 2 * (hb_is_listed((uint8_t)a) ? 0x0d : a) + 1);
+    }
+    free(record);
+    free(bindings);
+}
+
+/* M9: the smaller has no address, the larger holds 09h. */
+static void check_two_movable(void)
+{
+    uint8_t *records = block(2 * HB_RECORD, 0), *bindings = block(HB_BINDINGS_ROOM, 0xee);
+    hb_model m;
+    put_record(records, 0x40, 0xff, 0);
+    put_record(records + HB_RECORD, 0x80, 2 * 0x09 + 1, 0);
+    m = hb_run_model(nothing, NEVER, records, 2 * HB_RECORD, bindings, HB_BINDINGS_ROOM);
+    CHECK(m.answer == HB_DONE && m.count == 2 && m.gets == 3 && m.picked == 0x0e);
+    CHECK(records[16] == 2 * 0x0d + 1 && records[HB_RECORD + 16] == 2 * 0x0e + 1);
+    free(records);
+    free(bindings);
 }
 
 /* A refusal leaves both buffers as they were. After a last pick above 127 it is 1, whatever else is refused. */
@@ -145,9 +184,9 @@ static void check_in_turn(void)
         last = (uint8_t)m.picked;
         given = hb_pool_with(given, last);
     }
-    CHECK(last == 0x77 && hb_pool_used(given) == free_ones);
+    CHECK(last == 0x77 && free_ones == 93 && hb_pool_used(given) == free_ones);
     put_record(record, 0x40, 0xff, 0);
-    CHECK(hb_run_model(nothing, last, record, HB_RECORD, bindings, HB_BINDINGS_ROOM).picked == 0x09);
+    CHECK(hb_run_model(nothing, last, record, HB_RECORD, bindings, HB_BINDINGS_ROOM).picked == 0x0d);
     CHECK(hb_run_model(nothing, last, record, HB_RECORD, bindings, HB_BINDINGS_ROOM).picked == last);
     free(bindings);
     free(record);
@@ -155,11 +194,13 @@ static void check_in_turn(void)
 
 void check_model(void)
 {
-    check_three(HB_BINDINGS_ROOM, NEVER, 0x0a);
-    check_three(HB_BINDINGS_ROOM + 1, NEVER, 0x0a);
-    check_three(HB_BINDINGS_ROOM, 0x0b, 0x0d);
-    check_three(HB_BINDINGS_ROOM, 0x77, 0x0a);
+    check_three(HB_BINDINGS_ROOM, NEVER, 0x0d);
+    check_three(HB_BINDINGS_ROOM + 1, NEVER, 0x0d);
+    check_three(HB_BINDINGS_ROOM, 0x3f, 0x45);
+    check_three(HB_BINDINGS_ROOM, 0x77, 0x0d);
     check_every_last_pick();
+    check_rows();
+    check_two_movable();
     check_refusals();
     check_no_last_pick();
     check_nobody();

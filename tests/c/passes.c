@@ -136,14 +136,14 @@ static void check_ends(void)
     c = hb_pass(everything, NEVER, l.bytes, l.length);
     CHECK(c.kind == HB_NONE_FREE && c.answer == HB_NO_FREE_ADDRESS && hb_udid_is_same(c.udid, module) && c.gets == 1);
     CHECK(c.address == 0 && c.picked == NEVER && hb_pass(everything, 0x33, l.bytes, l.length).picked == 0x33);
-    expect(&l, HB_ASSIGN, 0x09, 1, 0x09);
+    expect(&l, HB_ASSIGN, 0x0d, 1, 0x0d);
     append(&l, reply, 0);
-    expect(&l, HB_GET_UDID, 0, 2, 0x09);
-    CHECK(hb_pass_lookup(nothing, NEVER, l.bytes, l.length, 0x09).answer == HB_NOBODY);
+    expect(&l, HB_GET_UDID, 0, 2, 0x0d);
+    CHECK(hb_pass_lookup(nothing, NEVER, l.bytes, l.length, 0x0d).answer == HB_NOBODY);
     l.bytes[l.length - 2] = 1;
-    expect(&l, HB_ASSIGN, 0x09, 1, 0x09);
+    expect(&l, HB_ASSIGN, 0x0d, 1, 0x0d);
     free(l.bytes);
-    CHECK(hb_pass(nothing, NEVER, NULL, 0).kind == HB_PREPARE && hb_pass_lookup(nothing, NEVER, NULL, 0, 0x09).answer == HB_NOBODY);
+    CHECK(hb_pass(nothing, NEVER, NULL, 0).kind == HB_PREPARE && hb_pass_lookup(nothing, NEVER, NULL, 0, 0x0d).answer == HB_NOBODY);
     l.bytes = block(1, 0);
     CHECK(hb_pass(nothing, NEVER, l.bytes, 1).kind == HB_PREPARE);
     free(l.bytes);
@@ -173,12 +173,13 @@ static void check_wrong_symbols(void)
     free(l.bytes);
 }
 
-/* The address that is picked after a last pick where nothing is occupied: the next that is not reserved, from 7Fh round to 00h. */
+/* The address that is picked after a last pick where nothing is occupied: the next that is on no row of Table 17, from 7Fh round
+ * to 00h. */
 static uint32_t after(unsigned last)
 {
     do
         last = (last + 1) % 128;
-    while (hb_is_reserved((uint8_t)last));
+    while (hb_is_listed((uint8_t)last));
     return last;
 }
 
@@ -201,7 +202,8 @@ static void check_last_picks(void)
         expect_after((uint8_t)last, &failed, HB_ASSIGN, after(after(last)), 2, after(after(last)));
         CHECK(hb_pass_lookup(nothing, (uint8_t)last, replied.bytes, replied.length, 0x20).answer == HB_NOBODY);
     }
-    CHECK(after(0x76) == 0x77 && after(0x77) == 0x09 && after(126) == 0x09 && after(127) == 0x09 && after(0) == 0x09);
+    CHECK(after(0x76) == 0x77 && after(0x77) == 0x0d && after(126) == 0x0d && after(127) == 0x0d && after(0) == 0x0d);
+    CHECK(after(0x2b) == 0x2e && after(0x3f) == 0x45 && after(0x47) == 0x4c && after(0x49) == 0x4c);
     for (unsigned last = 128; last < 256; last++) {
         hb_command c = hb_pass(nothing, (uint8_t)last, replied.bytes, last % 2 == 0 ? replied.length : 0);
         hb_found f = hb_pass_lookup(nothing, (uint8_t)last, replied.bytes, replied.length, (uint8_t)(last - 100));
@@ -209,7 +211,7 @@ static void check_last_picks(void)
         CHECK(c.udid.high == 0 && c.udid.low == 0);
         CHECK(f.answer == HB_FORBIDDEN && f.udid.high == 0 && f.udid.low == 0);
     }
-    CHECK(hb_pass(nothing, 128, NULL, 0).answer == HB_FORBIDDEN && hb_pass_lookup(nothing, 255, NULL, 0, 0x09).answer == HB_FORBIDDEN);
+    CHECK(hb_pass(nothing, 128, NULL, 0).answer == HB_FORBIDDEN && hb_pass_lookup(nothing, 255, NULL, 0, 0x0d).answer == HB_FORBIDDEN);
     free(replied.bytes);
     free(failed.bytes);
 }
@@ -223,17 +225,17 @@ static void check_vacated(void)
     reply_with(reply, 0xff);
     send(&l, HB_PREPARE, 0, NULL, 0);
     send(&l, HB_GET_UDID, 0, reply, sizeof reply);
-    send(&l, HB_ASSIGN, 0x0a, NULL, 0);
-    expect_after(0x09, &l, HB_GET_UDID, 0, 2, 0x0a);
-    CHECK(hb_pass_lookup(nothing, 0x09, l.bytes, l.length, 0x0a).answer == HB_DONE);
-    CHECK(hb_udid_is_same(hb_pass_lookup(nothing, 0x09, l.bytes, l.length, 0x0a).udid, module));
-    CHECK(hb_pass_lookup(nothing, 0x0a, l.bytes, l.length, 0x0a).answer == HB_NOBODY);
-    expect_after(0x0a, &l, HB_GET_UDID, 0, 2, 0x0b);
+    send(&l, HB_ASSIGN, 0x0e, NULL, 0);
+    expect_after(0x0d, &l, HB_GET_UDID, 0, 2, 0x0e);
+    CHECK(hb_pass_lookup(nothing, 0x0d, l.bytes, l.length, 0x0e).answer == HB_DONE);
+    CHECK(hb_udid_is_same(hb_pass_lookup(nothing, 0x0d, l.bytes, l.length, 0x0e).udid, module));
+    CHECK(hb_pass_lookup(nothing, 0x0e, l.bytes, l.length, 0x0e).answer == HB_NOBODY);
+    expect_after(0x0e, &l, HB_GET_UDID, 0, 2, 0x0f);
     append(&l, silence, 9);
-    expect_after(0x09, &l, HB_ENDED, 0, 2, 0x0a);
+    expect_after(0x0d, &l, HB_ENDED, 0, 2, 0x0e);
     append(&l, silence, 9);
-    expect_none_outstanding(0x09, &l);
-    CHECK(hb_pass_lookup(nothing, 0x09, l.bytes, l.length, 0x0a).answer == HB_DONE);
+    expect_none_outstanding(0x0d, &l);
+    CHECK(hb_pass_lookup(nothing, 0x0d, l.bytes, l.length, 0x0e).answer == HB_DONE);
     free(l.bytes);
 }
 
@@ -251,26 +253,32 @@ static uint32_t found(const struct list *l, uint8_t address)
     return hb_pass_lookup(nothing, NEVER, l->bytes, l->length, address).answer;
 }
 
-/* A fixed target that holds 30h: its reply, and the Assign of 30h to it. */
-static void fixed_replies(struct list *l, uint64_t high)
+/* A fixed target at an address: its reply, and the Assign to it. */
+static void fixed_replies(struct list *l, uint64_t high, uint8_t address)
 {
     uint8_t out[2 * HB_LONGEST_TRACE], reply[17];
     hb_udid fixed = { high, 0 };
     hb_written w;
     hb_udid_put_bytes(fixed, reply, sizeof reply, 0);
-    reply[16] = 2 * 0x30 + 1;
+    reply[16] = (uint8_t)(2 * address + 1);
     w = hb_put_command(HB_GET_UDID, nobody, 0, reply, sizeof reply, out, sizeof out);
     CHECK(w.answer == HB_DONE);
     append(l, out, w.symbols);
 }
 
-static void fixed_takes(struct list *l, uint64_t high)
+static void fixed_takes(struct list *l, uint64_t high, uint8_t address)
 {
     uint8_t out[2 * HB_LONGEST_TRACE];
     hb_udid fixed = { high, 0 };
-    hb_written w = hb_put_command(HB_ASSIGN, fixed, 0x30, NULL, 0, out, sizeof out);
+    hb_written w = hb_put_command(HB_ASSIGN, fixed, address, NULL, 0, out, sizeof out);
     CHECK(w.answer == HB_DONE);
     append(l, out, w.symbols);
+}
+
+static void fixed_joins(struct list *l, uint64_t high, uint8_t address)
+{
+    fixed_replies(l, high, address);
+    fixed_takes(l, high, address);
 }
 
 /* Two fixed targets at one address: it is claimed by two, whatever is reported. */
@@ -279,8 +287,7 @@ static void check_claimed(void)
     struct list l = { NULL, 0 };
     send(&l, HB_PREPARE, 0, NULL, 0);
     for (uint64_t high = 1; high <= 2; high++) {
-        fixed_replies(&l, high);
-        fixed_takes(&l, high);
+        fixed_joins(&l, high, 0x30);
         CHECK(found(&l, 0x30) == (high == 1 ? HB_DONE : HB_TWO));
     }
     CHECK(hb_pass(nothing, NEVER, l.bytes, l.length).gets == 3);
@@ -295,16 +302,15 @@ static void check_taken_back(void)
     struct list l = { NULL, 0 };
     hb_command before, after;
     send(&l, HB_PREPARE, 0, NULL, 0);
-    fixed_replies(&l, 1);
-    fixed_takes(&l, 1);
-    fixed_replies(&l, 2);
+    fixed_joins(&l, 1, 0x30);
+    fixed_replies(&l, 2, 0x30);
     before = hb_pass(nothing, NEVER, l.bytes, l.length);
     report(&l, 0x30);
     after = hb_pass(nothing, NEVER, l.bytes, l.length);
     CHECK(before.kind == HB_ASSIGN && before.address == 0x30 && before.udid.high == 2 && before.gets == 2);
     CHECK(after.kind == HB_ASSIGN && after.address == 0x30 && after.udid.high == 2 && after.gets == 2);
     CHECK(found(&l, 0x30) == HB_LEFT);
-    fixed_takes(&l, 2);
+    fixed_takes(&l, 2, 0x30);
     CHECK(found(&l, 0x30) == HB_DONE && hb_pass_lookup(nothing, NEVER, l.bytes, l.length, 0x30).udid.high == 2);
     free(l.bytes);
 }
@@ -316,6 +322,58 @@ static void join(struct list *l, uint8_t address)
     reply_with(reply, (uint8_t)(2 * address + 1));
     send(l, HB_GET_UDID, 0, reply, sizeof reply);
     send(l, HB_ASSIGN, address, NULL, 0);
+}
+
+/* On 48h, a prototype address, a fixed target is bound, unbound by another reply, and bound again. Unbound once more, it is sent an
+ * Assign that fails; then it is bound and reported gone. Each time the movable module that held 48h gets a pick instead. Another fixed
+ * target is bound there, and with a third one it is claimed by two. */
+static void check_row(void)
+{
+    struct list l = { NULL, 0 };
+    uint8_t reply[17];
+    reply_with(reply, 2 * 0x48 + 1);
+    send(&l, HB_PREPARE, 0, NULL, 0);
+    fixed_joins(&l, 1, 0x48);
+    CHECK(found(&l, 0x48) == HB_DONE);
+    fixed_replies(&l, 1, 0x48);
+    CHECK(found(&l, 0x48) == HB_NOBODY);
+    fixed_takes(&l, 1, 0x48);
+    CHECK(found(&l, 0x48) == HB_DONE);
+    fixed_replies(&l, 1, 0x48);
+    append(&l, reply, 0);
+    CHECK(found(&l, 0x48) == HB_NOBODY);
+    send(&l, HB_GET_UDID, 0, reply, sizeof reply);
+    expect(&l, HB_ASSIGN, 0x0d, 4, 0x0d);
+    expect_after(0x47, &l, HB_ASSIGN, 0x4c, 4, 0x4c);
+    append(&l, reply, 0);
+    fixed_joins(&l, 1, 0x48);
+    CHECK(found(&l, 0x48) == HB_DONE);
+    report(&l, 0x48);
+    CHECK(found(&l, 0x48) == HB_LEFT);
+    send(&l, HB_GET_UDID, 0, reply, sizeof reply);
+    expect(&l, HB_ASSIGN, 0x0e, 6, 0x0e);
+    expect_after(0x47, &l, HB_ASSIGN, 0x4d, 6, 0x4d);
+    send(&l, HB_ASSIGN, 0x0e, NULL, 0);
+    CHECK(found(&l, 0x48) == HB_LEFT && found(&l, 0x0e) == HB_DONE);
+    fixed_joins(&l, 2, 0x48);
+    CHECK(found(&l, 0x48) == HB_DONE && hb_pass_lookup(nothing, NEVER, l.bytes, l.length, 0x48).udid.high == 2);
+    fixed_joins(&l, 3, 0x48);
+    CHECK(found(&l, 0x48) == HB_TWO);
+    free(l.bytes);
+}
+
+/* One fixed target at an address: two claim it where it is one of the 21 or is occupied, be it on a row or not; else it is bound. */
+static void check_barred(void)
+{
+    for (unsigned a = 0; a < 127; a++) {
+        struct list l = { NULL, 0 };
+        hb_pool occupied = hb_pool_with(nothing, (uint8_t)a);
+        send(&l, HB_PREPARE, 0, NULL, 0);
+        fixed_joins(&l, 1, (uint8_t)a);
+        CHECK(found(&l, (uint8_t)a) == (hb_is_reserved((uint8_t)a) ? HB_TWO : HB_DONE));
+        CHECK(hb_pass_lookup(occupied, NEVER, l.bytes, l.length, (uint8_t)a).answer == HB_TWO);
+        free(l.bytes);
+    }
 }
 
 /* A module that is reported gone: its address is left, until it is bound again. The command stays. */
@@ -409,14 +467,14 @@ static void check_picked_again(void)
     reply_with(reply, 0xff);
     send(&l, HB_PREPARE, 0, NULL, 0);
     send(&l, HB_GET_UDID, 0, reply, sizeof reply);
-    send(&l, HB_ASSIGN, 0x09, NULL, 0);
-    report(&l, 0x09);
-    expect(&l, HB_GET_UDID, 0, 2, 0x09);
+    send(&l, HB_ASSIGN, 0x0d, NULL, 0);
+    report(&l, 0x0d);
+    expect(&l, HB_GET_UDID, 0, 2, 0x0d);
     send(&l, HB_GET_UDID, 0, reply, sizeof reply);
-    expect(&l, HB_ASSIGN, 0x0a, 2, 0x0a);
-    CHECK(found(&l, 0x09) == HB_LEFT);
-    c = hb_pass(hb_pool_without(everything, 0x09), NEVER, l.bytes, l.length);
-    CHECK(c.kind == HB_ASSIGN && c.address == 0x09 && c.picked == 0x09 && c.gets == 2);
+    expect(&l, HB_ASSIGN, 0x0e, 2, 0x0e);
+    CHECK(found(&l, 0x0d) == HB_LEFT);
+    c = hb_pass(hb_pool_without(everything, 0x0d), NEVER, l.bytes, l.length);
+    CHECK(c.kind == HB_ASSIGN && c.address == 0x0d && c.picked == 0x0d && c.gets == 2);
     free(l.bytes);
 }
 
@@ -431,6 +489,8 @@ void check_passes(void)
     check_vacated();
     check_claimed();
     check_taken_back();
+    check_row();
+    check_barred();
     check_gone();
     check_gone_at_the_end();
     check_cut_reports();

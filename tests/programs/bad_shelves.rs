@@ -1,12 +1,13 @@
 //! Target lists, binding buffers and last picks that are refused, and those just beside them.
 
 use crate::family::Family;
-use crate::good_shelves::case;
+use crate::good_shelves::{case, counted};
 use reference::addresses::{Addresses, NEVER};
 use reference::model::{record_of, BINDINGS, MOST_TARGETS, RECORD};
 use reference::random::Random;
 use reference::shelves;
 use reference::spoiled::{spoil, Input, NUMBERS};
+use reference::standing::{Standing, REFUSED};
 
 /// Every length of the list up to 2,200 bytes.
 fn lengths() -> usize {
@@ -51,6 +52,19 @@ fn orders(numbers: &[u32]) -> Vec<Vec<u32>> {
         all.extend(orders(&rest).into_iter().map(|order| [vec![numbers[k]], order].concat()));
     }
     all
+}
+
+/// Good lists with one fixed target misplaced in every way.
+fn misplaced() -> usize {
+    let mut family = Family::new("model misplaced");
+    let (mut random, mut standing) = (Random::new(102), Standing::default());
+    for count in (2..40).cycle().take(600) {
+        let mut input = Input::good(&mut random, count);
+        spoil(&mut input, &mut random, 12);
+        counted(&mut family, &mut standing, &input);
+    }
+    standing.check(&REFUSED);
+    family.done()
 }
 
 /// Good lists spoiled with some of the refusals, in every order; each fault strikes one record or more.
@@ -123,5 +137,5 @@ fn last_picks() -> usize {
 }
 
 pub fn all() -> usize {
-    lengths() + rooms() + faults() + places() + last_picks()
+    lengths() + rooms() + misplaced() + faults() + places() + last_picks()
 }

@@ -4,6 +4,7 @@
 
 mod sessions;
 
+use reference::addresses::added;
 use reference::console::{lines, Console};
 use reference::random::Random;
 use reference::requests::any_line;
@@ -121,6 +122,8 @@ struct Seen {
     verbs: BTreeMap<(String, usize), usize>,
     /// The grids that show an address left.
     left: usize,
+    /// What grids and model runs show on the added rows of the table.
+    rows: BTreeMap<&'static str, usize>,
 }
 
 impl Seen {
@@ -134,6 +137,9 @@ impl Seen {
             *self.verbs.entry((verb.to_string(), number)).or_default() += 1;
         }
         self.left += usize::from(answer.starts_with("0 grid") && answer.contains(" LL"));
+        for row in added() {
+            *self.rows.entry(shown_on(row, answer)).or_default() += 1;
+        }
     }
 
     /// Every number comes, and each of those that a lookup and a report can be answered with.
@@ -149,11 +155,31 @@ impl Seen {
             }
         }
         assert!(self.left > 20, "too few grids show what is left");
+        for what in ["UU", "LL", "XX", "bound", "bound by a run"] {
+            let times = self.rows.get(what).copied().unwrap_or(0);
+            assert!(times > 20, "too few answers show {what} on an added row: {times}");
+        }
     }
 
     /// How many reports were answered.
     fn reports(&self) -> usize {
         self.verbs.iter().filter(|((verb, _), _)| verb == "gone").map(|(_, times)| times).sum()
+    }
+}
+
+/// What the answer shows of an address: the cell of a grid, or that a model run bound somebody there.
+fn shown_on(address: u8, answer: &str) -> &'static str {
+    let bound = format!("\n 0x{address:02x} ");
+    if !answer.starts_with("0 grid") {
+        return if answer.contains(&bound) { "bound by a run" } else { "" };
+    }
+    let line = answer.lines().nth(2 + usize::from(address / 16)).expect("a row of the grid");
+    match line.split(' ').nth(1 + usize::from(address % 16)) {
+        Some("UU") => "UU",
+        Some("LL") => "LL",
+        Some("XX") => "XX",
+        Some("--") => fail(&format!("a grid shows {address:02x} as free\n{answer}")),
+        _ => "bound",
     }
 }
 
@@ -249,7 +275,8 @@ fn main() {
     let requests: usize = files.iter().map(|path| file(program, path)).sum();
     let by_hand = by_hand(program, "wrong symbols", &sessions::WRONG_SYMBOLS)
         + by_hand(program, "last picks", &sessions::LAST_PICKS)
-        + by_hand(program, "reports", &sessions::GONE);
+        + by_hand(program, "reports", &sessions::GONE)
+        + by_hand(program, "rows of the table", &sessions::ROWS);
     let mut seen = Seen::default();
     let random: usize = (0..SESSIONS).map(|seed| session(program, seed, &mut seen)).sum();
     seen.check();
@@ -260,4 +287,6 @@ fn main() {
     println!("{:<28}{random:>9} random lines, answers by number {:?}", "console", seen.numbers);
     println!("{:<28}{:>9} random model runs with a last pick", "console", seen.last_picks.len());
     println!("{:<28}{:>9} random reports, {} grids with what is left", "console", seen.reports(), seen.left);
+    seen.rows.remove("");
+    println!("{:<28}on added rows {:?}", "console", seen.rows);
 }

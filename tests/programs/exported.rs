@@ -14,6 +14,7 @@ use reference::model::{refusal, BINDINGS};
 use reference::random::Random;
 use reference::shelves;
 use reference::spoiled::{spoil, Input, NUMBERS};
+use reference::standing::{Standing, REFUSED};
 use reference::table::{lengths_allowed, BLOCK_LIMIT};
 
 pub fn pool_of(addresses: &Addresses) -> Pool {
@@ -37,6 +38,7 @@ fn pools() -> usize {
         family.same(input, &a.len(), &pool.used());
         family.same(input, &lowest_free(&a).unwrap_or(ADDRESSES), &pool.lowest_free());
         family.same(input, &pool_of(&starting_pool(&a)), &pool.starting());
+        family.same(input, &pool_of(&barred(&a)), &pool.barred());
         family.same(input, &pool_of(&a.union(&b).copied().collect()), &pool.union(pool_of(&b)));
         for number in 0..=255 {
             let address = number < ADDRESSES;
@@ -52,6 +54,30 @@ fn pools() -> usize {
         }
     }
     family.done()
+}
+
+/// The two sets that a pass begins with, where nothing is occupied, one address, and all but one.
+fn starting_sets() -> usize {
+    let mut family = Family::new("exported starting sets");
+    for one in 0..=ADDRESSES {
+        let alone: Addresses = [one].into_iter().filter(|&address| address < ADDRESSES).collect();
+        let others: Addresses = (0..ADDRESSES).filter(|&address| address != one).collect();
+        for occupied in [alone, others] {
+            let input = || format!("occupied {occupied:02x?}");
+            let pool = pool_of(&occupied);
+            family.same(input, &pool_of(&starting_pool(&occupied)), &pool.starting());
+            family.same(input, &pool_of(&barred(&occupied)), &pool.barred());
+        }
+    }
+    family.same(|| "counts".to_string(), &(35, 21), &both_counts(&Addresses::new()));
+    family.same(|| "counts, 48h occupied".to_string(), &(35, 22), &both_counts(&[0x48].into()));
+    family.same(|| "counts, 20h occupied".to_string(), &(36, 22), &both_counts(&[0x20].into()));
+    family.done()
+}
+
+fn both_counts(occupied: &Addresses) -> (usize, usize) {
+    let pool = pool_of(occupied);
+    (pool.starting().used(), pool.barred().used())
 }
 
 /// The next free address after every last pick, where few are free: none, each one alone, and two.
@@ -147,7 +173,8 @@ fn random_room(bytes: usize) -> usize {
 fn checks() -> usize {
     let mut family = Family::new("exported list checks");
     let mut random = Random::new(73);
-    for round in 0..1500 {
+    let mut standing = Standing::default();
+    for round in 0..2400 {
         let count = 2 + random.below(119);
         let mut input = Input::good(&mut random, count);
         if round % 4 > 0 {
@@ -157,12 +184,14 @@ fn checks() -> usize {
         let (answer, length) = refusal(&input.list, BINDINGS, &input.occupied, NEVER).unwrap_or((0, 0));
         let given = check_targets(pool_of(&input.occupied), &input.list);
         family.same(|| format!("{:02x?}", input.list), &Part { answer, length }, &given);
+        standing.add(&input, answer);
     }
+    standing.check(&[&REFUSED[..], &["fixed on an added row"]].concat());
     family.done()
 }
 
 fn main() {
-    let parts = pools() + next_free_ones() + identifiers() + last_phases() + checks();
+    let parts = pools() + starting_sets() + next_free_ones() + identifiers() + last_phases() + checks();
     let passes = exported_passes::all() + exported_lists::all();
     println!("{:<28}{:>9} cases", "exported, all", parts + passes);
 }

@@ -55,6 +55,7 @@ mod raw {
         pub fn hb_pool_without(pool: Pool, address: u8) -> Pool;
         pub fn hb_pool_union(one: Pool, other: Pool) -> Pool;
         pub fn hb_pool_starting(occupied: Pool) -> Pool;
+        pub fn hb_pool_barred(occupied: Pool) -> Pool;
         pub fn hb_pool_used(pool: Pool) -> u32;
         pub fn hb_pool_lowest_free(pool: Pool) -> u8;
         pub fn hb_pool_next_free(pool: Pool, last: u8) -> u8;
@@ -108,6 +109,10 @@ impl Pool {
 
     pub fn starting(self) -> Pool {
         unsafe { raw::hb_pool_starting(self) }
+    }
+
+    pub fn barred(self) -> Pool {
+        unsafe { raw::hb_pool_barred(self) }
     }
 
     pub fn used(self) -> usize {

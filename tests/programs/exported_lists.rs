@@ -99,7 +99,32 @@ fn joined(udid: &Udid, address: u8) -> Vec<u8> {
     [replied(udid, address), taken(udid, address)].concat()
 }
 
-/// Lists worked out by hand: what is in them, and what a lookup of 20h answers at the end.
+/// Lists worked out by hand: what is in them, and what a lookup of 48h, an added row, answers at the end.
+fn worked_on_a_row() -> Vec<(Vec<Vec<u8>>, u32)> {
+    let two = || [joined(&F, 0x48), joined(&G, 0x48)].concat();
+    let moved = || [replied(&M, 0x48), taken(&M, 0x0d)].concat();
+    vec![
+        (vec![begun(), replied(&F, 0x48)], 15),
+        (vec![begun(), joined(&F, 0x48)], 0),
+        (vec![begun(), two()], 16),
+        (vec![begun(), two(), joined(&F, 0x48)], 16),
+        (vec![begun(), two(), report(0x48)], 16),
+        (vec![begun(), moved()], 15),
+        (vec![begun(), moved(), joined(&F, 0x48)], 0),
+        (vec![begun(), joined(&F, 0x48), moved()], 0),
+        (vec![begun(), joined(&F, 0x48), replied(&F, 0x48)], 15),
+        (vec![begun(), joined(&F, 0x48), joined(&F, 0x48)], 0),
+        (vec![begun(), joined(&F, 0x48), joined(&F, 0x20)], 15),
+        (vec![begun(), joined(&F, 0x48), joined(&F, 0x20), joined(&G, 0x48)], 0),
+        (vec![begun(), joined(&F, 0x48), report(0x48)], 20),
+        (vec![begun(), joined(&F, 0x48), report(0x48), moved()], 20),
+        (vec![begun(), joined(&F, 0x48), report(0x48), joined(&G, 0x48)], 0),
+        (vec![begun(), joined(&F, 0x48), replied(&G, 0x48), report(0x48), taken(&G, 0x48)], 0),
+        (vec![begun(), joined(&F, 0x48), report(0x48), two()], 16),
+    ]
+}
+
+/// The same of 20h.
 fn worked() -> Vec<(Vec<Vec<u8>>, u32)> {
     let two = || [joined(&F, 0x20), joined(&G, 0x20)].concat();
     vec![
@@ -131,12 +156,15 @@ fn worked() -> Vec<(Vec<Vec<u8>>, u32)> {
 /// The lists worked out by hand, and each of them cut at every place.
 fn by_hand() -> usize {
     let mut family = Family::new("lists with reports");
-    for (parts, due) in worked() {
-        let list = parts.concat();
-        let given = pass_lookup(pool_of(&Addresses::new()), NEVER, &list, 0x20);
-        family.same(|| format!("{list:02x?}"), &due, &given.answer);
-        for end in 0..=list.len() {
-            compare(&mut family, &Addresses::new(), NEVER, &list[..end], &[0x20, 0x21]);
+    for (all, address) in [(worked(), 0x20), (worked_on_a_row(), 0x48)] {
+        for (parts, due) in all {
+            let list = parts.concat();
+            let given = pass_lookup(pool_of(&Addresses::new()), NEVER, &list, address);
+            family.same(|| format!("{list:02x?}"), &due, &given.answer);
+            for end in 0..=list.len() {
+                compare(&mut family, &Addresses::new(), NEVER, &list[..end], &[address, address + 1]);
+            }
+            compare(&mut family, &[0x48].into(), NEVER, &list, &[0x48]);
         }
     }
     family.done()
@@ -178,14 +206,14 @@ fn any_entry(random: &mut Random, command: &commands::Command, udids: &[Udid]) -
         commands::Command::Prepare => trace_of(&prepare()),
         commands::Command::Assign(udid, address) => trace_of(&assign(udid, *address)),
         _ => {
-            let address_byte = random.pick(&[0xff, 0x41, 0x43, 0x45]);
+            let address_byte = random.pick(&[0xff, 0x41, 0x43, 0x45, 0x91, 0x91]);
             trace_of(&commands::get_udid(&reply_bytes(&random.pick(udids), address_byte)))
         }
     };
     match random.below(16) {
         0 => trace_entry(&damaged(random, &right)),
         1 => trace_entry(&rubbish(random)),
-        2..=5 => report(random.pick(&[0x20, 0x21, 0x22, 9, 10, 11, 13])),
+        2..=5 => report(random.pick(&[0x20, 0x21, 0x22, 0x48, 0x48, 13, 14, 15, 16])),
         6 => report(random.draw() as u16),
         _ => trace_entry(&right),
     }
@@ -222,7 +250,7 @@ fn any_list(random: &mut Random, occupied: &Addresses, last_pick: u8) -> Vec<u8>
 fn at_random() -> usize {
     let mut family = Family::new("random lists with reports");
     let mut random = Random::new(91);
-    let mut numbers = vec![];
+    let (mut numbers, mut on_a_row) = (vec![], vec![]);
     for round in 0..6000 {
         let (occupied, last_pick) = (shelves::occupied(&mut random), shelves::any_last_pick(&mut random));
         let list = if round % 8 == 0 {
@@ -232,12 +260,15 @@ fn at_random() -> usize {
         } else {
             any_list(&mut random, &occupied, last_pick)
         };
-        let addresses = [0x20, 0x21, 0x22, 9, 10, random.byte() % ADDRESSES, random.byte()];
-        numbers.extend(compare(&mut family, &occupied, last_pick, &list, &addresses));
+        let addresses = [0x48, 0x20, 0x21, 0x22, 13, 14, random.byte() % ADDRESSES, random.byte()];
+        let all = compare(&mut family, &occupied, last_pick, &list, &addresses);
+        on_a_row.push(all[0]);
+        numbers.extend(all);
     }
     for wanted in [0, 1, 15, 16, 20] {
-        let times = numbers.iter().filter(|&&number| number == wanted).count();
-        assert!(times > 100, "{times} lookups of random lists are answered with {wanted}");
+        let times = |all: &[u32]| all.iter().filter(|&&number| number == wanted).count();
+        let both = (times(&numbers), times(&on_a_row));
+        assert!(both.0 > 100 && both.1 > 20, "{both:?} lookups of random lists are answered with {wanted}");
     }
     family.done()
 }

@@ -265,7 +265,7 @@ fn long_traces() -> usize {
                     now.command(&mut family, &command, controller.last_pick, true);
                 }
                 let input = || format!("place {place} kept {kept} symbol {symbol} length {length}");
-                family.same(input, &found(&controller.lookup(0x09)), &now.lookup(0x09));
+                family.same(input, &found(&controller.lookup(0x0d)), &now.lookup(0x0d));
             }
         }
     }

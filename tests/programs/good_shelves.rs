@@ -11,9 +11,11 @@ use reference::plain_rule::plain_rule;
 use reference::random::Random;
 use reference::shelves::{self, KINDS};
 use reference::spoiled::Input;
+use reference::standing::{Standing, RUN};
 use std::collections::BTreeMap;
 
-const ASSIGNABLE: usize = ADDRESSES as usize - RESERVED.len();
+/// How many addresses there are to pick from, with nothing occupied.
+const ASSIGNABLE: usize = 93;
 
 /// An input with any last pick.
 fn input(random: &mut Random, targets: &[Target], occupied: &Addresses, room: usize) -> Input {
@@ -29,6 +31,13 @@ pub fn case(family: &mut Family, input: &Input) -> Ran {
     due.ran
 }
 
+/// The same, and where its targets stand.
+pub fn counted(family: &mut Family, standing: &mut Standing, input: &Input) -> Ran {
+    let ran = case(family, input);
+    standing.add(input, ran.answer());
+    ran
+}
+
 fn target(first: u8, address_byte: u8) -> Target {
     Target { udid: [first; 16], address_byte, resolved: false }
 }
@@ -40,8 +49,8 @@ fn marked() -> usize {
     let none = Addresses::new();
     let all: Addresses = (0..ADDRESSES).collect();
     let cases: [(&[Target], &Addresses, u32, u32, u32); 5] = [
-        (&[target(0x80, 0xff), target(0x00, 0x13), target(0x40, 0x41)], &none, 0, 3, 0x0a),
-        (&[target(0x40, 0xff), target(0x80, 0x13)], &none, 0, 2, 0x0a),
+        (&[target(0x80, 0xff), target(0x00, 0x13), target(0x40, 0x41)], &none, 0, 3, 0x0d),
+        (&[target(0x40, 0xff), target(0x80, 0x13)], &none, 0, 2, 0x0e),
         (&[target(0x80, 0xff)], &all, 13, 0, 127),
         (&[], &none, 0, 0, 127),
         (&[target(0x00, 0x13)], &none, 0, 1, 127),
@@ -115,15 +124,16 @@ fn fresh(random: &mut Random, kind: u8, all: &[Target]) -> Udid {
     }
 }
 
-/// Targets of one kind: a fixed one on a free address while there is one; the others hold none, FEh's address or any.
+/// Targets of one kind: a fixed one where it may stand while there is a place; the others hold none, FEh's address or
+/// any.
 fn of_kind(random: &mut Random, kind: u8, count: usize, occupied: &Addresses) -> Vec<Target> {
-    let starting = starting_pool(occupied);
-    let mut free: Vec<u8> = (0..ADDRESSES).filter(|address| !starting.contains(address)).collect();
+    let barred = barred(occupied);
+    let mut places: Vec<u8> = (0..ADDRESSES).filter(|address| !barred.contains(address)).collect();
     let mut all: Vec<Target> = vec![];
     while all.len() < count {
         let udid = fresh(random, kind, &all);
         let address_byte = match random.below(4) {
-            _ if is_fixed(&udid) && !free.is_empty() => 2 * free.swap_remove(random.below(free.len())) + 1,
+            _ if is_fixed(&udid) && !places.is_empty() => 2 * places.swap_remove(random.below(places.len())) + 1,
             0 => NO_ADDRESS,
             _ => random.byte() | 1,
         };
@@ -137,7 +147,7 @@ fn kinds() -> usize {
     let mut random = Random::new(91);
     for round in 0..8 {
         for kind in KINDS {
-            for count in [0, 1, 2, 3, 50, 107, 119, 120] {
+            for count in [0, 1, 2, 3, 50, 93, 94, 107, 108, 120] {
                 for occupied in occupied_sets(&mut random) {
                     let targets = of_kind(&mut random, kind, count, &occupied);
                     case(&mut family, &input(&mut random, &targets, &occupied, BINDINGS + round));
@@ -151,33 +161,35 @@ fn kinds() -> usize {
 /// Every number of targets, of all kinds together.
 fn sizes() -> usize {
     let mut family = Family::new("model sizes");
-    let mut random = Random::new(92);
+    let (mut random, mut standing) = (Random::new(92), Standing::default());
     for count in 0..=MOST_TARGETS {
         let rounds = if [0, 1, 2, 119, 120].contains(&count) { 60 } else { 6 };
         for round in 0..rounds {
             let occupied = if round % 3 == 0 { Addresses::new() } else { shelves::occupied(&mut random) };
             let targets = shelves::targets(&mut random, count, &occupied);
             let room = BINDINGS + random.below(3) * 50;
-            case(&mut family, &input(&mut random, &targets, &occupied, room));
+            counted(&mut family, &mut standing, &input(&mut random, &targets, &occupied, room));
         }
     }
+    standing.check(&RUN);
     family.done()
 }
 
 /// Ending 13 at every place: so many targets are served, and one more asks.
 fn exhausted() -> usize {
     let mut family = Family::new("model exhausted");
-    let mut random = Random::new(93);
+    let (mut random, mut standing) = (Random::new(93), Standing::default());
     for served in 0..=ASSIGNABLE {
         for more in [1, 2, 13] {
             let occupied = shelves::leaving(&mut random, served);
             let targets = of_kind(&mut random, KINDS[1 + more % 3], served + more, &occupied);
-            let ran = case(&mut family, &input(&mut random, &targets, &occupied, BINDINGS));
+            let ran = counted(&mut family, &mut standing, &input(&mut random, &targets, &occupied, BINDINGS));
             assert_eq!((ran.answer(), ran.bound() as usize), (13, served), "exhausted after {served}");
             let mixed = shelves::targets(&mut random, served + more, &occupied);
-            case(&mut family, &input(&mut random, &mixed, &occupied, BINDINGS));
+            counted(&mut family, &mut standing, &input(&mut random, &mixed, &occupied, BINDINGS));
         }
     }
+    standing.check(&RUN);
     family.done()
 }
 

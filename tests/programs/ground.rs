@@ -6,7 +6,7 @@ mod ground_abi;
 
 use family::Family;
 use ground_abi as library;
-use reference::addresses::RESERVED;
+use reference::addresses::{listed, RESERVED};
 use reference::random::Random;
 use reference::text::{hex, transaction_text};
 use reference::{pec, stored, table};
@@ -75,6 +75,18 @@ fn reserved_addresses() {
     family.done();
 }
 
+fn listed_addresses() {
+    let mut family = Family::new("listed addresses");
+    let mut count = 0;
+    for address in 0..=255 {
+        let due = u8::from(listed().contains(&address));
+        family.same(|| format!("{address:02x}"), &due, &library::is_listed(address));
+        count += u32::from(library::is_listed(address));
+    }
+    family.same(|| "how many".to_string(), &35, &count);
+    family.done();
+}
+
 fn length_case(family: &mut Family, protocol: u8, with_pec: bool, sent: usize, received: usize) {
     let due = table::trace_length(protocol, with_pec, sent, received).unwrap_or(0);
     let given = library::trace_length(protocol, with_pec, sent, received);
@@ -138,6 +150,7 @@ fn main() {
     stored_pecs(&folder);
     wire_bytes();
     reserved_addresses();
+    listed_addresses();
     trace_lengths();
     block_lengths();
     stored_traces(&folder);

@@ -8,6 +8,7 @@ mod raw {
         pub fn hb_wire_for_read(address: u8) -> u8;
         pub fn hb_address_from_wire(wire: u8) -> u8;
         pub fn hb_is_reserved(address: u8) -> u8;
+        pub fn hb_is_listed(address: u8) -> u8;
         pub fn hb_pec_bytes(crc: u8, s: *const u8, n: usize) -> u8;
         pub fn hb_wire_is_read(wire: u8) -> u8;
         pub fn hb_is_seven_bit(address: u8) -> u8;
@@ -48,6 +49,10 @@ pub fn address_from_wire(wire: u8) -> u8 {
 
 pub fn is_reserved(address: u8) -> u8 {
     unsafe { raw::hb_is_reserved(address) }
+}
+
+pub fn is_listed(address: u8) -> u8 {
+    unsafe { raw::hb_is_listed(address) }
 }
 
 pub fn wire_is_read(wire: u8) -> u8 {

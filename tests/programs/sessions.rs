@@ -24,14 +24,14 @@ pub const WRONG_SYMBOLS: [(&str, &str); 19] = [
 ];
 
 /// Answers to the three commands: the reply of the UDID 80.. with no address, and with 20h as its own; the Assign of
-/// 09h to it; the reply of 00.., which is fixed, with no address; and nobody who answers Get UDID.
+/// 0Dh to it; the reply of 00.., which is fixed, with no address; and nobody who answers Get UDID.
 const PREPARED: &str = "step 256 194 258 1 258 192 258 257";
 const REPLY_80: &str = "step 256 194 258 3 258 256 195 258 17 258 128 258 0 258 0 258 0 258 0 258 0 258 0 258 0 258 0 \
 258 0 258 0 258 0 258 0 258 0 258 0 258 0 258 255 258 71 259 257";
 const REPLY_80_AT_20: &str = "step 256 194 258 3 258 256 195 258 17 258 128 258 0 258 0 258 0 258 0 258 0 258 0 258 0 \
 258 0 258 0 258 0 258 0 258 0 258 0 258 0 258 0 258 65 258 116 259 257";
-const ASSIGN_09: &str = "step 256 194 258 4 258 17 258 128 258 0 258 0 258 0 258 0 258 0 258 0 258 0 258 0 258 0 \
-258 0 258 0 258 0 258 0 258 0 258 0 258 18 258 181 258 257";
+const ASSIGN_0D: &str = "step 256 194 258 4 258 17 258 128 258 0 258 0 258 0 258 0 258 0 258 0 258 0 258 0 258 0 258 \
+0 258 0 258 0 258 0 258 0 258 0 258 26 258 141 258 257";
 const REPLY_00: &str = "step 256 194 258 3 258 256 195 258 17 258 0 258 0 258 0 258 0 258 0 258 0 258 0 258 0 258 0 \
 258 0 258 0 258 0 258 0 258 0 258 0 258 0 258 255 258 82 259 257";
 const SILENCE: &str = "step 256 194 258 3 258 256 195 259 257";
@@ -39,8 +39,8 @@ const SILENCE: &str = "step 256 194 258 3 258 256 195 259 257";
 /// Last picks worked out by hand: requests of one session, and the answer due to each.
 pub const LAST_PICKS: [(&str, &str); 67] = [
     ("target 80000000000000000000000000000000 0xff 0", "0 target 0"),
-    ("run 0x77", "0 bound 1 get 2 last 0x09\n 0x09 80000000000000000000000000000000\n target 0 0x13 1"),
-    ("run", "0 bound 1 get 2 last 0x7f\n 0x09 80000000000000000000000000000000\n target 0 0x13 1"),
+    ("run 0x77", "0 bound 1 get 2 last 0x0d\n 0x0d 80000000000000000000000000000000\n target 0 0x1b 1"),
+    ("run", "0 bound 1 get 2 last 0x7f\n 0x0d 80000000000000000000000000000000\n target 0 0x1b 1"),
     ("run 128", "1"),
     ("run 255", "1"),
     ("run 256", "? 5 expected a byte, 0 to 255"),
@@ -52,18 +52,18 @@ pub const LAST_PICKS: [(&str, &str); 67] = [
     ("target 00000000000000000000000000000000 0x13 0", "0 target 1"),
     ("target 40000000000000000000000000000000 0x41 0", "0 target 2"),
     (
-        "run 10",
-        "0 bound 3 get 4 last 0x0b\n \
+        "run 13",
+        "0 bound 3 get 4 last 0x0e\n \
 0x09 00000000000000000000000000000000\n \
-0x0b 80000000000000000000000000000000\n \
+0x0e 80000000000000000000000000000000\n \
 0x20 40000000000000000000000000000000\n \
-target 0 0x17 1\n \
+target 0 0x1d 1\n \
 target 1 0x13 1\n \
 target 2 0x41 1",
     ),
     ("clear", "0 clear"),
     ("target 81000000000000000000000000000000 0xff 1", "0 target 0"),
-    ("run 0x0b", "0 bound 1 get 2 last 0x0d\n 0x0d 81000000000000000000000000000000\n target 0 0x1b 1"),
+    ("run 0x3f", "0 bound 1 get 2 last 0x45\n 0x45 81000000000000000000000000000000\n target 0 0x8b 1"),
     ("target 81000000000000000000000000000000 0xff 0", "0 target 1"),
     ("run 126", "11 record 1"),
     ("run 128", "1"),
@@ -72,26 +72,26 @@ target 2 0x41 1",
     ("run 5", "0 bound 0 get 0 last 0x05"),
     ("start", "0 next prepare"),
     (PREPARED, "0 next get"),
-    (REPLY_80, "0 next assign 80000000000000000000000000000000 0x09"),
-    (ASSIGN_09, "0 next get"),
-    (REPLY_80, "0 next assign 80000000000000000000000000000000 0x0a"),
+    (REPLY_80, "0 next assign 80000000000000000000000000000000 0x0d"),
+    (ASSIGN_0D, "0 next get"),
+    (REPLY_80, "0 next assign 80000000000000000000000000000000 0x0e"),
     ("step", "0 next get"),
-    (REPLY_80, "0 next assign 80000000000000000000000000000000 0x0b"),
+    (REPLY_80, "0 next assign 80000000000000000000000000000000 0x0f"),
     ("start", "0 next prepare"),
     (PREPARED, "0 next get"),
     (REPLY_80_AT_20, "0 next assign 80000000000000000000000000000000 0x20"),
     ("step", "0 next get"),
-    (REPLY_80, "0 next assign 80000000000000000000000000000000 0x0d"),
+    (REPLY_80, "0 next assign 80000000000000000000000000000000 0x10"),
     ("step", "0 next get"),
     (SILENCE, "0 end"),
     ("run", "0 bound 0 get 0 last 0x7f"),
     ("start", "0 next prepare"),
     (PREPARED, "0 next get"),
-    (REPLY_80, "0 next assign 80000000000000000000000000000000 0x0e"),
+    (REPLY_80, "0 next assign 80000000000000000000000000000000 0x11"),
     ("clear", "0 clear"),
     ("start", "0 next prepare"),
     (PREPARED, "0 next get"),
-    (REPLY_80, "0 next assign 80000000000000000000000000000000 0x09"),
+    (REPLY_80, "0 next assign 80000000000000000000000000000000 0x0d"),
     ("occupied 0 1 2 3 4 5 6 7 8 9 10 11 12 13 14 15 16 17 18 19 20 21 22 23 24 25 26 27 28 29 30 31", "0 occupied 32"),
     (
         "occupied 32 33 34 35 36 37 38 39 40 41 42 43 44 45 46 47 48 49 50 51 52 53 54 55 56 57 58 59 60 61 \
@@ -117,15 +117,15 @@ target 2 0x41 1",
     ("run 128", "1"),
     ("run 256", "? 5 expected a byte, 0 to 255"),
     ("run 9 9", "? 7 expected the end of the line"),
-    ("run", "0 bound 1 get 2 last 0x09\n 0x09 80000000000000000000000000000000\n target 0 0x13 1"),
+    ("run", "0 bound 1 get 2 last 0x0d\n 0x0d 80000000000000000000000000000000\n target 0 0x1b 1"),
     ("start", "0 next prepare"),
     (PREPARED, "0 next get"),
-    (REPLY_00, "0 next assign 00000000000000000000000000000000 0x09"),
+    (REPLY_00, "0 next assign 00000000000000000000000000000000 0x0d"),
     ("step", "0 next get"),
-    ("occupied 10", "0 occupied 1"),
+    ("occupied 14", "0 occupied 1"),
     ("start", "0 next prepare"),
     (PREPARED, "0 next get"),
-    (REPLY_80, "0 next assign 80000000000000000000000000000000 0x0b"),
+    (REPLY_80, "0 next assign 80000000000000000000000000000000 0x0f"),
 ];
 
 /// The Assign of 20h to 80..; two fixed targets at 20h, 00.. and 01.., and the Assigns to them.
@@ -168,25 +168,25 @@ pub const GONE: [(&str, &str); 86] = [
     (
         "grid",
         "0 grid\n     0  1  2  3  4  5  6  7  8  9  a  b  c  d  e  f\n\
-00: UU UU UU UU UU UU UU UU UU -- -- -- UU -- -- --\n\
+00: UU UU UU UU UU UU UU UU UU UU UU UU UU -- -- --\n\
 10: -- -- -- -- -- -- -- -- -- -- -- -- -- -- -- --\n\
-20: LL -- -- -- -- -- -- -- UU -- -- -- -- -- -- --\n\
+20: LL -- -- -- -- -- -- -- UU -- -- -- UU UU -- --\n\
 30: -- -- -- -- -- -- -- UU -- -- -- -- -- -- -- --\n\
-40: -- -- -- -- -- -- -- -- -- -- -- -- -- -- -- --\n\
+40: UU UU UU UU UU -- -- -- UU UU UU UU -- -- -- --\n\
 50: -- -- -- -- -- -- -- -- -- -- -- -- -- -- -- --\n\
 60: -- UU -- -- -- -- -- -- -- -- -- -- -- -- -- --\n\
 70: -- -- -- -- -- -- -- -- UU UU UU UU UU UU UU UU",
     ),
-    (REPLY_80, "0 next assign 80000000000000000000000000000000 0x09"),
+    (REPLY_80, "0 next assign 80000000000000000000000000000000 0x0d"),
     ("gone 0x20", "20"),
-    ("gone 0x09", "15"),
-    (ASSIGN_09, "0 next get"),
+    ("gone 0x0d", "15"),
+    (ASSIGN_0D, "0 next get"),
     ("lookup 0x20", "20"),
-    ("gone 0x09", "0 gone"),
-    (REPLY_80, "0 next assign 80000000000000000000000000000000 0x0a"),
+    ("gone 0x0d", "0 gone"),
+    (REPLY_80, "0 next assign 80000000000000000000000000000000 0x0e"),
     ("step", "0 next get"),
-    ("lookup 0x09", "20"),
-    ("lookup 0x0a", "15"),
+    ("lookup 0x0d", "20"),
+    ("lookup 0x0e", "15"),
     (REPLY_00_AT_20, "0 next assign 00000000000000000000000000000000 0x20"),
     ("lookup 0x20", "20"),
     (ASSIGN_20_TO_00, "0 next get"),
@@ -202,35 +202,35 @@ pub const GONE: [(&str, &str); 86] = [
     (
         "grid",
         "0 grid\n     0  1  2  3  4  5  6  7  8  9  a  b  c  d  e  f\n\
-00: UU UU UU UU UU UU UU UU UU LL -- -- UU -- -- --\n\
+00: UU UU UU UU UU UU UU UU UU UU UU UU UU LL -- --\n\
 10: -- -- -- -- -- -- -- -- -- -- -- -- -- -- -- --\n\
-20: XX -- -- -- -- -- -- -- UU -- -- -- -- -- -- --\n\
+20: XX -- -- -- -- -- -- -- UU -- -- -- UU UU -- --\n\
 30: -- -- -- -- -- -- -- UU -- -- -- -- -- -- -- --\n\
-40: -- -- -- -- -- -- -- -- -- -- -- -- -- -- -- --\n\
+40: UU UU UU UU UU -- -- -- UU UU UU UU -- -- -- --\n\
 50: -- -- -- -- -- -- -- -- -- -- -- -- -- -- -- --\n\
 60: -- UU -- -- -- -- -- -- -- -- -- -- -- -- -- --\n\
 70: -- -- -- -- -- -- -- -- UU UU UU UU UU UU UU UU",
     ),
     (SILENCE, "0 end"),
     ("gone 0x20", "16"),
-    ("gone 0x09", "20"),
-    ("gone 0x0a", "15"),
+    ("gone 0x0d", "20"),
+    ("gone 0x0e", "15"),
     (SILENCE, "21"),
-    ("lookup 0x09", "20"),
+    ("lookup 0x0d", "20"),
     ("start", "0 next prepare"),
-    ("lookup 0x09", "15"),
+    ("lookup 0x0d", "15"),
     ("gone 0x20", "15"),
     ("lookup 0x20", "15"),
     (PREPARED, "0 next get"),
     (REPLY_80_AT_20, "0 next assign 80000000000000000000000000000000 0x20"),
     (ASSIGN_20, "0 next get"),
-    (REPLY_80, "0 next assign 80000000000000000000000000000000 0x0b"),
+    (REPLY_80, "0 next assign 80000000000000000000000000000000 0x0f"),
     ("lookup 0x20", "15"),
     ("gone 0x20", "15"),
     ("step", "0 next get"),
     ("target 80000000000000000000000000000000 0xff 0", "0 target 0"),
-    ("run", "0 bound 1 get 2 last 0x09\n 0x09 80000000000000000000000000000000\n target 0 0x13 1"),
-    ("gone 0x09", "15"),
+    ("run", "0 bound 1 get 2 last 0x0d\n 0x0d 80000000000000000000000000000000\n target 0 0x1b 1"),
+    ("gone 0x0d", "15"),
     (REPLY_80_AT_20, "0 next assign 80000000000000000000000000000000 0x20"),
     (ASSIGN_20, "0 next get"),
     (SILENCE, "0 end"),
@@ -245,18 +245,211 @@ pub const GONE: [(&str, &str); 86] = [
     (REPLY_00_AT_20, "0 next assign 00000000000000000000000000000000 0x20"),
     (ASSIGN_20_TO_00, "0 next get"),
     ("gone 0x20", "16"),
-    (REPLY_80_AT_20, "0 next assign 80000000000000000000000000000000 0x09"),
-    (ASSIGN_09, "0 next get"),
-    ("gone 0x09", "0 gone"),
-    ("occupied 0x09", "0 occupied 2"),
+    (REPLY_80_AT_20, "0 next assign 80000000000000000000000000000000 0x0d"),
+    (ASSIGN_0D, "0 next get"),
+    ("gone 0x0d", "0 gone"),
+    ("occupied 0x0d", "0 occupied 2"),
     (
         "grid",
         "0 grid\n     0  1  2  3  4  5  6  7  8  9  a  b  c  d  e  f\n\
-00: UU UU UU UU UU UU UU UU UU LL -- -- UU -- -- --\n\
+00: UU UU UU UU UU UU UU UU UU UU UU UU UU LL -- --\n\
 10: -- -- -- -- -- -- -- -- -- -- -- -- -- -- -- --\n\
-20: XX -- -- -- -- -- -- -- UU -- -- -- -- -- -- --\n\
+20: XX -- -- -- -- -- -- -- UU -- -- -- UU UU -- --\n\
 30: -- -- -- -- -- -- -- UU -- -- -- -- -- -- -- --\n\
-40: -- -- -- -- -- -- -- -- -- -- -- -- -- -- -- --\n\
+40: UU UU UU UU UU -- -- -- UU UU UU UU -- -- -- --\n\
+50: -- -- -- -- -- -- -- -- -- -- -- -- -- -- -- --\n\
+60: -- UU -- -- -- -- -- -- -- -- -- -- -- -- -- --\n\
+70: -- -- -- -- -- -- -- -- UU UU UU UU UU UU UU UU",
+    ),
+];
+
+/// Fixed targets at 48h, a prototype address: 00.. and 01.., and the Assigns to them. 80.., which is movable, with 48h as
+/// its own. 00.. at 2Ch and at 0Ch, and the Assigns.
+const REPLY_00_AT_48: &str = "step 256 194 258 3 258 256 195 258 17 258 0 258 0 258 0 258 0 258 0 258 0 258 0 258 0 \
+258 0 258 0 258 0 258 0 258 0 258 0 258 0 258 0 258 145 258 95 259 257";
+const ASSIGN_48_TO_00: &str = "step 256 194 258 4 258 17 258 0 258 0 258 0 258 0 258 0 258 0 258 0 258 0 258 0 258 0 \
+258 0 258 0 258 0 258 0 258 0 258 0 258 144 258 39 258 257";
+const REPLY_01_AT_48: &str = "step 256 194 258 3 258 256 195 258 17 258 1 258 0 258 0 258 0 258 0 258 0 258 0 258 0 \
+258 0 258 0 258 0 258 0 258 0 258 0 258 0 258 0 258 145 258 81 259 257";
+const ASSIGN_48_TO_01: &str = "step 256 194 258 4 258 17 258 1 258 0 258 0 258 0 258 0 258 0 258 0 258 0 258 0 258 0 \
+258 0 258 0 258 0 258 0 258 0 258 0 258 144 258 41 258 257";
+const REPLY_80_AT_48: &str = "step 256 194 258 3 258 256 195 258 17 258 128 258 0 258 0 258 0 258 0 258 0 258 0 258 0 \
+258 0 258 0 258 0 258 0 258 0 258 0 258 0 258 0 258 145 258 74 259 257";
+const REPLY_00_AT_2C: &str = "step 256 194 258 3 258 256 195 258 17 258 0 258 0 258 0 258 0 258 0 258 0 258 0 258 0 \
+258 0 258 0 258 0 258 0 258 0 258 0 258 0 258 0 258 89 258 41 259 257";
+const ASSIGN_2C_TO_00: &str = "step 256 194 258 4 258 17 258 0 258 0 258 0 258 0 258 0 258 0 258 0 258 0 258 0 258 0 \
+258 0 258 0 258 0 258 0 258 0 258 0 258 88 258 81 258 257";
+const REPLY_00_AT_0C: &str = "step 256 194 258 3 258 256 195 258 17 258 0 258 0 258 0 258 0 258 0 258 0 258 0 258 0 \
+258 0 258 0 258 0 258 0 258 0 258 0 258 0 258 0 258 25 258 238 259 257";
+const ASSIGN_0C_TO_00: &str = "step 256 194 258 4 258 17 258 0 258 0 258 0 258 0 258 0 258 0 258 0 258 0 258 0 258 0 \
+258 0 258 0 258 0 258 0 258 0 258 0 258 24 258 150 258 257";
+
+/// The rows of Table 17 worked out by hand: requests of one session, and the answer due to each. M8 and M9 come first.
+pub const ROWS: [(&str, &str); 79] = [
+    (
+        "grid",
+        "0 grid\n     0  1  2  3  4  5  6  7  8  9  a  b  c  d  e  f\n\
+00: UU UU UU UU UU UU UU UU UU UU UU UU UU -- -- --\n\
+10: -- -- -- -- -- -- -- -- -- -- -- -- -- -- -- --\n\
+20: -- -- -- -- -- -- -- -- UU -- -- -- UU UU -- --\n\
+30: -- -- -- -- -- -- -- UU -- -- -- -- -- -- -- --\n\
+40: UU UU UU UU UU -- -- -- UU UU UU UU -- -- -- --\n\
+50: -- -- -- -- -- -- -- -- -- -- -- -- -- -- -- --\n\
+60: -- UU -- -- -- -- -- -- -- -- -- -- -- -- -- --\n\
+70: -- -- -- -- -- -- -- -- UU UU UU UU UU UU UU UU",
+    ),
+    ("target 80000000000000000000000000000000 0xff 0", "0 target 0"),
+    ("target 00000000000000000000000000000000 0x13 0", "0 target 1"),
+    ("target 40000000000000000000000000000000 0x41 0", "0 target 2"),
+    (
+        "run",
+        "0 bound 3 get 4 last 0x0d\n \
+0x09 00000000000000000000000000000000\n \
+0x0d 80000000000000000000000000000000\n \
+0x20 40000000000000000000000000000000\n \
+target 0 0x1b 1\n \
+target 1 0x13 1\n \
+target 2 0x41 1",
+    ),
+    ("clear", "0 clear"),
+    ("target 40000000000000000000000000000000 0xff 0", "0 target 0"),
+    ("target 80000000000000000000000000000000 0x13 0", "0 target 1"),
+    (
+        "run",
+        "0 bound 2 get 3 last 0x0e\n \
+0x0d 40000000000000000000000000000000\n \
+0x0e 80000000000000000000000000000000\n \
+target 0 0x1b 1\n \
+target 1 0x1d 1",
+    ),
+    ("clear", "0 clear"),
+    ("target 00000000000000000000000000000000 0x91 0", "0 target 0"),
+    ("run", "0 bound 1 get 2 last 0x7f\n 0x48 00000000000000000000000000000000\n target 0 0x91 1"),
+    ("target 80000000000000000000000000000000 0x91 0", "0 target 1"),
+    (
+        "run 0x47",
+        "0 bound 2 get 3 last 0x4c\n \
+0x48 00000000000000000000000000000000\n \
+0x4c 80000000000000000000000000000000\n \
+target 0 0x91 1\n \
+target 1 0x99 1",
+    ),
+    ("target 01000000000000000000000000000000 0x91 0", "0 target 2"),
+    ("run", "12 record 2"),
+    ("occupied 0x48", "0 occupied 1"),
+    ("run", "12 record 0"),
+    ("clear", "0 clear"),
+    ("target 00000000000000000000000000000000 0x19 0", "0 target 0"),
+    ("run", "12 record 0"),
+    ("clear", "0 clear"),
+    ("start", "0 next prepare"),
+    (PREPARED, "0 next get"),
+    (REPLY_00_AT_48, "0 next assign 00000000000000000000000000000000 0x48"),
+    ("lookup 0x48", "15"),
+    ("gone 0x48", "15"),
+    (ASSIGN_48_TO_00, "0 next get"),
+    ("lookup 0x48", "0 udid 00000000000000000000000000000000"),
+    (
+        "grid",
+        "0 grid\n     0  1  2  3  4  5  6  7  8  9  a  b  c  d  e  f\n\
+00: UU UU UU UU UU UU UU UU UU UU UU UU UU -- -- --\n\
+10: -- -- -- -- -- -- -- -- -- -- -- -- -- -- -- --\n\
+20: -- -- -- -- -- -- -- -- UU -- -- -- UU UU -- --\n\
+30: -- -- -- -- -- -- -- UU -- -- -- -- -- -- -- --\n\
+40: UU UU UU UU UU -- -- -- 48 UU UU UU -- -- -- --\n\
+50: -- -- -- -- -- -- -- -- -- -- -- -- -- -- -- --\n\
+60: -- UU -- -- -- -- -- -- -- -- -- -- -- -- -- --\n\
+70: -- -- -- -- -- -- -- -- UU UU UU UU UU UU UU UU",
+    ),
+    (REPLY_80_AT_48, "0 next assign 80000000000000000000000000000000 0x0d"),
+    (ASSIGN_0D, "0 next get"),
+    ("gone 0x48", "0 gone"),
+    ("lookup 0x48", "20"),
+    ("gone 0x48", "20"),
+    (
+        "grid",
+        "0 grid\n     0  1  2  3  4  5  6  7  8  9  a  b  c  d  e  f\n\
+00: UU UU UU UU UU UU UU UU UU UU UU UU UU 0d -- --\n\
+10: -- -- -- -- -- -- -- -- -- -- -- -- -- -- -- --\n\
+20: -- -- -- -- -- -- -- -- UU -- -- -- UU UU -- --\n\
+30: -- -- -- -- -- -- -- UU -- -- -- -- -- -- -- --\n\
+40: UU UU UU UU UU -- -- -- LL UU UU UU -- -- -- --\n\
+50: -- -- -- -- -- -- -- -- -- -- -- -- -- -- -- --\n\
+60: -- UU -- -- -- -- -- -- -- -- -- -- -- -- -- --\n\
+70: -- -- -- -- -- -- -- -- UU UU UU UU UU UU UU UU",
+    ),
+    (REPLY_80_AT_48, "0 next assign 80000000000000000000000000000000 0x0e"),
+    ("step", "0 next get"),
+    (REPLY_01_AT_48, "0 next assign 01000000000000000000000000000000 0x48"),
+    ("lookup 0x48", "20"),
+    (ASSIGN_48_TO_01, "0 next get"),
+    ("lookup 0x48", "0 udid 01000000000000000000000000000000"),
+    (REPLY_01_AT_48, "0 next assign 01000000000000000000000000000000 0x48"),
+    ("lookup 0x48", "15"),
+    (
+        "grid",
+        "0 grid\n     0  1  2  3  4  5  6  7  8  9  a  b  c  d  e  f\n\
+00: UU UU UU UU UU UU UU UU UU UU UU UU UU -- -- --\n\
+10: -- -- -- -- -- -- -- -- -- -- -- -- -- -- -- --\n\
+20: -- -- -- -- -- -- -- -- UU -- -- -- UU UU -- --\n\
+30: -- -- -- -- -- -- -- UU -- -- -- -- -- -- -- --\n\
+40: UU UU UU UU UU -- -- -- UU UU UU UU -- -- -- --\n\
+50: -- -- -- -- -- -- -- -- -- -- -- -- -- -- -- --\n\
+60: -- UU -- -- -- -- -- -- -- -- -- -- -- -- -- --\n\
+70: -- -- -- -- -- -- -- -- UU UU UU UU UU UU UU UU",
+    ),
+    (ASSIGN_48_TO_01, "0 next get"),
+    ("lookup 0x48", "0 udid 01000000000000000000000000000000"),
+    (REPLY_01_AT_48, "0 next assign 01000000000000000000000000000000 0x48"),
+    ("step", "0 next get"),
+    ("lookup 0x48", "15"),
+    (REPLY_80_AT_48, "0 next assign 80000000000000000000000000000000 0x0f"),
+    ("step", "0 next get"),
+    (REPLY_01_AT_48, "0 next assign 01000000000000000000000000000000 0x48"),
+    (ASSIGN_48_TO_01, "0 next get"),
+    ("lookup 0x48", "0 udid 01000000000000000000000000000000"),
+    (REPLY_00_AT_48, "0 next assign 00000000000000000000000000000000 0x48"),
+    ("gone 0x48", "0 gone"),
+    (ASSIGN_48_TO_00, "0 next get"),
+    ("lookup 0x48", "0 udid 00000000000000000000000000000000"),
+    (REPLY_01_AT_48, "0 next assign 01000000000000000000000000000000 0x48"),
+    (ASSIGN_48_TO_01, "0 next get"),
+    ("lookup 0x48", "16"),
+    ("gone 0x48", "16"),
+    (REPLY_00_AT_48, "0 next assign 00000000000000000000000000000000 0x48"),
+    (ASSIGN_48_TO_00, "0 next get"),
+    ("lookup 0x48", "16"),
+    (
+        "grid",
+        "0 grid\n     0  1  2  3  4  5  6  7  8  9  a  b  c  d  e  f\n\
+00: UU UU UU UU UU UU UU UU UU UU UU UU UU -- -- --\n\
+10: -- -- -- -- -- -- -- -- -- -- -- -- -- -- -- --\n\
+20: -- -- -- -- -- -- -- -- UU -- -- -- UU UU -- --\n\
+30: -- -- -- -- -- -- -- UU -- -- -- -- -- -- -- --\n\
+40: UU UU UU UU UU -- -- -- XX UU UU UU -- -- -- --\n\
+50: -- -- -- -- -- -- -- -- -- -- -- -- -- -- -- --\n\
+60: -- UU -- -- -- -- -- -- -- -- -- -- -- -- -- --\n\
+70: -- -- -- -- -- -- -- -- UU UU UU UU UU UU UU UU",
+    ),
+    (SILENCE, "0 end"),
+    ("occupied 0x2c", "0 occupied 1"),
+    ("start", "0 next prepare"),
+    (PREPARED, "0 next get"),
+    ("lookup 0x48", "15"),
+    (REPLY_00_AT_2C, "0 next assign 00000000000000000000000000000000 0x2c"),
+    (ASSIGN_2C_TO_00, "0 next get"),
+    ("lookup 0x2c", "16"),
+    (REPLY_00_AT_0C, "0 next assign 00000000000000000000000000000000 0x0c"),
+    (ASSIGN_0C_TO_00, "0 next get"),
+    ("gone 0x0c", "16"),
+    (
+        "grid",
+        "0 grid\n     0  1  2  3  4  5  6  7  8  9  a  b  c  d  e  f\n\
+00: UU UU UU UU UU UU UU UU UU UU UU UU XX -- -- --\n\
+10: -- -- -- -- -- -- -- -- -- -- -- -- -- -- -- --\n\
+20: -- -- -- -- -- -- -- -- UU -- -- -- XX UU -- --\n\
+30: -- -- -- -- -- -- -- UU -- -- -- -- -- -- -- --\n\
+40: UU UU UU UU UU -- -- -- UU UU UU UU -- -- -- --\n\
 50: -- -- -- -- -- -- -- -- -- -- -- -- -- -- -- --\n\
 60: -- UU -- -- -- -- -- -- -- -- -- -- -- -- -- --\n\
 70: -- -- -- -- -- -- -- -- UU UU UU UU UU UU UU UU",

@@ -3,6 +3,7 @@
 use reference::model::*;
 use reference::random::Random;
 use reference::spoiled::*;
+use reference::standing::{Standing, REFUSED};
 
 /// The run refuses so, and changes nothing.
 fn check(input: &Input, answer: u32, record: usize) {
@@ -14,8 +15,8 @@ fn check(input: &Input, answer: u32, record: usize) {
 
 pub fn single_faults() -> usize {
     let mut random = Random::new(81);
-    let mut cases = 0;
-    for count in (2..=MOST_TARGETS).cycle().take(1200) {
+    let (mut cases, mut standing) = (0, Standing::default());
+    for count in (2..=MOST_TARGETS).cycle().take(3000) {
         let mut input = Input::good(&mut random, count);
         let number = random.pick(&NUMBERS);
         let record = spoil(&mut input, &mut random, number);
@@ -23,8 +24,10 @@ pub fn single_faults() -> usize {
             continue;
         }
         check(&input, number, record);
+        standing.add(&input, number);
         cases += 1;
     }
+    standing.check(&REFUSED);
     cases
 }
 

@@ -36,7 +36,10 @@ impl Found {
 
 #[derive(Clone, Debug, PartialEq, Eq)]
 pub struct Controller {
+    /// In the pool from the start of a pass to its end.
     pub starting: Addresses,
+    /// Where not even a fixed target may stand.
+    pub barred: Addresses,
     pub pool: Addresses,
     pub bindings: BTreeMap<u8, Binding>,
     pub get_udids: usize,
@@ -66,11 +69,11 @@ fn reply_in(trace: &[u16]) -> Reply {
 
 impl Controller {
     pub fn new(occupied: &Addresses, last_pick: u8) -> Controller {
-        let starting = starting_pool(occupied);
+        let (starting, barred) = (starting_pool(occupied), barred(occupied));
         let pool = starting.clone();
         let bindings = BTreeMap::new();
         let last_pick = last_pick.min(NEVER);
-        Controller { starting, pool, bindings, get_udids: 0, last_pick, last: Command::NotOutstanding }
+        Controller { starting, barred, pool, bindings, get_udids: 0, last_pick, last: Command::NotOutstanding }
     }
 
     /// Forgets everything of the passes before but the last pick.
@@ -110,11 +113,16 @@ impl Controller {
         let found = self.lookup(address);
         if let Found::Bound(_) = found {
             self.bindings.insert(address, Binding::Left);
-            if !self.starting.contains(&address) {
-                self.pool.remove(&address);
-            }
+            self.free(address);
         }
         found
+    }
+
+    /// The address leaves the pool, unless a pass starts with it.
+    fn free(&mut self, address: u8) {
+        if !self.starting.contains(&address) {
+            self.pool.remove(&address);
+        }
     }
 
     fn prepared(&mut self, trace: &[u16]) -> Command {
@@ -153,7 +161,7 @@ impl Controller {
         let held = self.bindings.iter().find(|(_, &binding)| binding == Binding::Bound(*udid));
         if let Some(address) = held.map(|(&address, _)| address) {
             self.bindings.remove(&address);
-            self.pool.remove(&address);
+            self.free(address);
         }
     }
 
@@ -177,10 +185,17 @@ impl Controller {
 
     fn assigned(&mut self, udid: &Udid, address: u8, trace: &[u16]) -> Command {
         if build(&assign(udid, address)).as_deref() == Ok(trace) {
-            let new = self.pool.insert(address);
-            let claimed = is_fixed(udid) && !new;
-            self.bindings.insert(address, if claimed { Binding::Claimed } else { Binding::Bound(*udid) });
+            let binding = if self.is_claim(address) { Binding::Claimed } else { Binding::Bound(*udid) };
+            self.bindings.insert(address, binding);
+            self.pool.insert(address);
         }
         self.get_udid()
+    }
+
+    /// Do two claim the address if another one takes it now? It is barred, or somebody is bound there, or it is marked
+    /// already.
+    fn is_claim(&self, address: u8) -> bool {
+        let held = matches!(self.bindings.get(&address), Some(Binding::Bound(_) | Binding::Claimed));
+        held || self.barred.contains(&address)
     }
 }

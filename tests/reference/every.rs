@@ -79,16 +79,19 @@ fn for_each_command(traces: fn(To, &Transaction) -> Vec<Vec<u16>>) -> Recorder {
     recorder
 }
 
-/// Every address byte of a reply, from every kind of target, alone and beside others.
+/// Every address byte of a reply, from every kind of target, alone and beside others, one of them on an added row. Of
+/// the rows none is occupied, or 48h, or those below 22h.
 pub fn address_bytes() -> Recorder {
     let mut recorder = Recorder::new(&Addresses::new(), NEVER);
-    for (occupied, last_pick) in [(Addresses::new(), NEVER), ((0..0x22).collect(), 0x76), (Addresses::new(), 0xff)] {
-        recorder.renew(&occupied, last_pick);
+    let none = Addresses::new();
+    for (occupied, last_pick) in [(&none, NEVER), (&(0..0x22).collect(), 0x76), (&[0x48].into(), 0x3f), (&none, 0xff)] {
+        recorder.renew(occupied, last_pick);
         for kind in KINDS {
             for address_byte in 0..=255 {
                 begin(&mut recorder);
                 join(&mut recorder, &MOVABLE, 0x41);
                 join(&mut recorder, &[0x01; 16], 0x43);
+                join(&mut recorder, &[0x02; 16], 0x91);
                 join(&mut recorder, &with_kind(MOVABLE.map(|byte| byte ^ 0x11), kind), address_byte);
                 finish(&mut recorder);
             }
@@ -202,13 +205,13 @@ fn picked_from(recorder: &mut Recorder, free: &[u8], last_pick: u8) {
     finish(recorder);
 }
 
-/// Every number as the last pick of a new controller, with all assignable addresses free, with three, with one and with
-/// none.
+/// Every number as the last pick of a new controller, with all assignable addresses free, with three, with one, with
+/// three rows that are not occupied and so are not free, and with none.
 pub fn last_picks() -> Recorder {
-    let assignable: Vec<u8> = (0..ADDRESSES).filter(|address| !RESERVED.contains(address)).collect();
+    let assignable = assignable();
     let mut recorder = Recorder::new(&Addresses::new(), NEVER);
     for last_pick in 0..=255 {
-        for free in [&assignable[..], &[0x09, 0x40, 0x77], &[0x40], &[]] {
+        for free in [&assignable[..], &[0x0d, 0x45, 0x77], &[0x45], &[0x09, 0x40, 0x4b], &[]] {
             picked_from(&mut recorder, free, last_pick);
         }
     }

@@ -3,7 +3,7 @@
 use crate::recorder::Recorder;
 use crate::{every, hostile, reports, shelf_passes};
 
-pub const FAMILIES: [(&str, fn() -> Recorder); 25] = [
+pub const FAMILIES: [(&str, fn() -> Recorder); 29] = [
     ("every address byte", every::address_bytes),
     ("every nack", every::nacks),
     ("every count", every::counts),
@@ -23,6 +23,10 @@ pub const FAMILIES: [(&str, fn() -> Recorder); 25] = [
     ("shelves, disturbed", shelf_passes::disturbed_shelves),
     ("every number gone", reports::every_number),
     ("gone in every order", reports::every_order),
+    ("in every order on a row", reports::every_order_on_a_row),
+    ("the same, row occupied", reports::every_order_on_an_occupied_row),
+    ("on rows of the table", hostile::on_rows),
+    ("gone, on rows of the table", hostile::gone_on_rows),
     ("gone at any time", hostile::gone),
     ("gone, fixed at one address", hostile::gone_and_claimed),
     ("gone, few free addresses", hostile::gone_and_none_free),

@@ -1,7 +1,8 @@
 //! A pass told by its events alone: the Assigns that completed, the identifiers that replied, and the modules that were
 //! reported gone. What an address is goes by which of them came last; how many are in use, by how many of each came.
 
-use reference::addresses::*;
+use crate::rows::ADDED;
+use reference::addresses::{Addresses, ADDRESSES, DEFAULT, RESERVED};
 use reference::commands::*;
 use reference::controller::Found;
 use reference::decode::{decode, Answer};
@@ -22,7 +23,9 @@ struct Account {
 
 /// When what happened last, in this pass. Times are numbers from 1 on.
 pub struct History {
-    starting: Addresses,
+    occupied: Addresses,
+    /// One for each address: a pass starts with it.
+    starting: Vec<bool>,
     now: usize,
     /// What is outstanding, or how the pass ended.
     last: Command,
@@ -31,7 +34,7 @@ pub struct History {
     /// The report of an address that was answered with 0.
     reported: BTreeMap<u8, usize>,
     replied: BTreeMap<Udid, usize>,
-    /// A fixed target was assigned the address while it was in use.
+    /// The address was assigned while nobody may stand there, or while it was bound or claimed.
     claimed: Addresses,
     account: Account,
     /// The Get UDIDs handed out.
@@ -39,17 +42,23 @@ pub struct History {
 }
 
 /// Is it the whole trace of that Assign Address?
-fn is_assign(trace: &[u16], udid: &Udid, address: u8) -> bool {
+pub fn is_assign(trace: &[u16], udid: &Udid, address: u8) -> bool {
     match decode(BLOCK_WRITE, true, trace, 255, 255) {
         Answer::Done(t) => (t.address, t.command, t.sent) == (DEFAULT, ASSIGN, reply_bytes(udid, 2 * address)),
         Answer::Refused { .. } => false,
     }
 }
 
+/// Nobody may stand there.
+fn is_barred(occupied: &Addresses, address: u8) -> bool {
+    RESERVED.contains(&address) || occupied.contains(&address)
+}
+
 impl History {
     pub fn new(occupied: &Addresses) -> History {
         History {
-            starting: (0..ADDRESSES).filter(|a| RESERVED.contains(a) || occupied.contains(a)).collect(),
+            starting: (0..ADDRESSES).map(|address| is_barred(occupied, address) || ADDED.contains(&address)).collect(),
+            occupied: occupied.clone(),
             now: 0,
             last: Command::NotOutstanding,
             assigned: BTreeMap::new(),
@@ -81,8 +90,17 @@ impl History {
         Found::Bound(udid)
     }
 
+    fn is_starting(&self, address: u8) -> bool {
+        self.starting[usize::from(address)]
+    }
+
+    /// Somebody is bound there, or two claim it.
+    fn is_taken(&self, address: u8) -> bool {
+        matches!(self.find(address), Found::Bound(_) | Found::Refused(16))
+    }
+
     pub fn is_used(&self, address: u8) -> bool {
-        self.starting.contains(&address) || matches!(self.find(address), Found::Bound(_) | Found::Refused(16))
+        self.is_starting(address) || self.is_taken(address)
     }
 
     pub fn used(&self) -> Addresses {
@@ -92,7 +110,8 @@ impl History {
     /// How many addresses the account has in use.
     pub fn balance(&self) -> usize {
         let Account { binds, removals, unbindings } = &self.account;
-        (self.starting.len() + binds).checked_sub(removals + unbindings).expect("no more is taken back than was given")
+        let starting = self.starting.iter().filter(|&&starting| starting).count();
+        (starting + binds).checked_sub(removals + unbindings).expect("no more is taken back than was given")
     }
 
     /// An operation of a script and its answer, which for reports and lookups has to be what the events before say.
@@ -101,7 +120,7 @@ impl History {
         match (op, due) {
             (Op::New(occupied, _), Due::Nothing) => *self = History::new(occupied),
             (Op::Start, Due::Command(command)) => {
-                *self = History { starting: self.starting.clone(), ..History::new(&Addresses::new()) };
+                *self = History::new(&self.occupied);
                 self.last = *command;
             }
             (Op::Step(trace), Due::Command(command)) => self.step(trace, command),
@@ -125,9 +144,8 @@ impl History {
     }
 
     fn assign(&mut self, udid: Udid, address: u8) {
-        if !self.is_used(address) {
-            self.account.binds += 1;
-        } else if is_fixed(&udid) {
+        self.account.binds += usize::from(!self.is_used(address));
+        if is_barred(&self.occupied, address) || self.is_taken(address) {
             self.claimed.insert(address);
         }
         self.assigned.insert(address, (self.now, udid));
@@ -135,7 +153,7 @@ impl History {
 
     fn reply(&mut self, udid: Udid) {
         let held = (0..ADDRESSES).find(|&address| self.find(address) == Found::Bound(udid));
-        if held.is_some_and(|address| !self.starting.contains(&address)) {
+        if held.is_some_and(|address| !self.is_starting(address)) {
             self.account.unbindings += 1;
         }
         self.replied.insert(udid, self.now);
@@ -145,7 +163,7 @@ impl History {
         let due = self.find(number);
         if let Found::Bound(_) = found {
             self.reported.insert(number, self.now);
-            self.account.removals += usize::from(!self.starting.contains(&number));
+            self.account.removals += usize::from(!self.is_starting(number));
         }
         due == *found
     }

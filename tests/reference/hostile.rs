@@ -28,9 +28,11 @@ struct Faces {
     address_bytes: Vec<u8>,
 }
 
-/// So many UDIDs, and address bytes of so many addresses, with bit 0 either way, FFh, FEh, reserved and any.
+/// So many UDIDs, and address bytes of so many addresses, with bit 0 either way, FFh, FEh, reserved, on added rows and
+/// any.
 fn faces(random: &mut Random, udid_count: usize, address_count: usize) -> Faces {
-    let mut address_bytes = vec![NO_ADDRESS, 0xfe, 2 * random.pick(&RESERVED) + 1, random.byte()];
+    let row = random.pick(&added());
+    let mut address_bytes = vec![NO_ADDRESS, 0xfe, 2 * random.pick(&RESERVED) + 1, 2 * row, 2 * row + 1, random.byte()];
     for _ in 0..address_count {
         let even = random.byte() & 0xfe;
         address_bytes.extend([even, even + 1, even + 1]);
@@ -49,7 +51,7 @@ fn reported(recorder: &Recorder, random: &mut Random) -> u8 {
         (3, _) => recorder.answered_with(16),
         (4, _) => recorder.answered_with(20),
         (5, Command::Assign(_, address)) => vec![address],
-        (6, _) => RESERVED.to_vec(),
+        (6, _) => listed().iter().copied().collect(),
         _ => vec![],
     };
     if some.is_empty() {
@@ -159,12 +161,32 @@ fn few(random: &mut Random) -> (Addresses, Faces) {
     (occupied(random), faces(random, udid_count, address_count))
 }
 
-/// Fixed targets alone, on two addresses, each of them reserved, occupied or neither.
+/// Fixed targets alone, on two addresses, each of them reserved, occupied, on an added row, both of these, or neither.
 fn claims(random: &mut Random) -> (Addresses, Faces) {
     let fixed = udids(random, 5).into_iter().map(|udid| with_kind(udid, 0)).collect();
-    let occupied = Addresses::from([0x20, 0x21]);
-    let addresses = [random.pick(&[0x20, 0x0c, 0x61, 0x7f, 0x30]), 0x40 + random.below(4) as u8];
+    let occupied = Addresses::from([0x20, 0x21, 0x2c]);
+    let row = random.pick(&added());
+    let addresses = [random.pick(&[0x20, 0x0c, 0x61, 0x7f, 0x30, 0x2c, row]), 0x50 + random.below(4) as u8];
     (occupied, Faces { udids: fixed, address_bytes: vec![2 * addresses[0], 2 * addresses[1] + 1] })
+}
+
+/// Targets of every kind on three added rows, on one of the first 21 and on one that is neither, or with no address. Few
+/// addresses are free or many, and the first of the rows is occupied or not.
+fn rows(random: &mut Random) -> (Addresses, Faces) {
+    let all = added();
+    let rows = [random.pick(&all), random.pick(&all), random.pick(&all)];
+    let mut occupied = match random.below(2) {
+        0 => Addresses::new(),
+        _ => assignable().into_iter().filter(|&address| address > 0x50).collect(),
+    };
+    if random.below(3) == 0 {
+        occupied.insert(rows[0]);
+    }
+    let mut udids = udids(random, 4);
+    udids.extend([[0x11; 16], [0x12; 16], [0x81; 16]]);
+    let mut address_bytes: Vec<u8> = rows.iter().flat_map(|row| [2 * row, 2 * row + 1]).collect();
+    address_bytes.extend([2 * random.pick(&RESERVED), 0x41, NO_ADDRESS]);
+    (occupied, Faces { udids, address_bytes })
 }
 
 /// At most five free addresses.
@@ -184,6 +206,14 @@ pub fn repeats() -> Recorder {
 
 pub fn claimed() -> Recorder {
     controllers(71, 500, Temper { assign: 5, over: 6, ..CALM }, claims)
+}
+
+pub fn on_rows() -> Recorder {
+    controllers(91, 400, Temper { assign: 10, get_udid: 5, over: 4, ..CALM }, rows)
+}
+
+pub fn gone_on_rows() -> Recorder {
+    controllers(92, 300, Temper { assign: 10, over: 4, gone: 25, ..CALM }, rows)
 }
 
 pub fn none_free() -> Recorder {

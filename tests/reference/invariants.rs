@@ -1,6 +1,6 @@
 //! What holds after every operation of every script.
 
-use crate::history::History;
+use crate::history::{is_assign, History};
 use crate::reached::Reached;
 use crate::reported;
 use crate::rotation::Rotation;
@@ -13,7 +13,8 @@ use reference::plain_rule::nearest_after;
 use reference::recorder::{apply, Due, Op};
 use std::collections::BTreeSet;
 
-/// Used are the starting addresses and those bound or claimed; nobody is bound twice or on a starting address.
+/// Used are the starting addresses and those bound or claimed. Nobody is bound twice or on a barred address, and only
+/// fixed targets are on a starting one.
 fn consistent(controller: &Controller) -> bool {
     let named = controller.bindings.iter().filter(|(_, &binding)| binding != Binding::Left);
     let named: Addresses = named.map(|(&address, _)| address).collect();
@@ -21,8 +22,13 @@ fn consistent(controller: &Controller) -> bool {
     let udids: BTreeSet<Udid> = bound.iter().map(|(_, udid)| *udid).collect();
     controller.pool == &controller.starting | &named
         && udids.len() == bound.len()
-        && bound.iter().all(|(address, _)| !controller.starting.contains(address))
+        && bound.iter().all(|(address, udid)| may_stand(controller, *address, udid))
         && controller.get_udids <= MOST_GET_UDIDS
+}
+
+fn may_stand(controller: &Controller, address: u8, udid: &Udid) -> bool {
+    let no_place = if is_fixed(udid) { &controller.barred } else { &controller.starting };
+    !no_place.contains(&address)
 }
 
 fn bound_at(address: u8, binding: &Binding) -> Option<(u8, Udid)> {
@@ -86,6 +92,22 @@ fn free(turn: &Turn, history: &History, rotation: &mut Rotation) -> bool {
     }
 }
 
+/// After an Assign that completed the address is in the pool, and claimed by two exactly if it is barred, or somebody
+/// was bound there, or it was claimed before; else it is bound. After any other answer nothing is another.
+fn settled(turn: &Turn) -> bool {
+    let (before, after) = (turn.before, turn.after);
+    let (Op::Step(trace), Command::Assign(udid, address)) = (turn.op, before.last) else {
+        return true;
+    };
+    if !is_assign(trace, &udid, address) {
+        return before.bindings == after.bindings && before.pool == after.pool;
+    }
+    let taken = matches!(before.lookup(address), Found::Bound(_) | Found::Refused(16));
+    let claimed = taken || before.barred.contains(&address);
+    let due = if claimed { Found::Refused(16) } else { Found::Bound(udid) };
+    after.lookup(address) == due && after.pool.contains(&address)
+}
+
 /// After a refusal other than 6 nobody is bound or unbound. 14 comes after Prepare, else Get UDID again if there may be
 /// another.
 fn refused(turn: &Turn) -> bool {
@@ -109,6 +131,7 @@ fn broken(turn: &Turn, history: &mut History, rotation: &mut Rotation) -> Option
         ("what is used", consistent(turn.after)),
         ("what follows what", follows(turn)),
         ("a refusal", refused(turn)),
+        ("what an Assign leaves", settled(turn)),
         ("the answer by the events", history.note(turn.op, turn.due)),
         ("the state by the events", told_by(history, turn.after)),
         ("the last pick", moves(turn)),

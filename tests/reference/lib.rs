@@ -26,6 +26,8 @@ pub mod samples;
 pub mod shelf_passes;
 pub mod shelves;
 pub mod spoiled;
+pub mod standing;
 pub mod stored;
 pub mod table;
+pub mod table_17;
 pub mod text;

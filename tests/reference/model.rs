@@ -36,13 +36,13 @@ pub fn record_of(target: &Target) -> Vec<u8> {
     [&target.udid[..], &[target.address_byte, u8::from(target.resolved)]].concat()
 }
 
-/// 12: the address of a fixed target in the starting pool, or that of an earlier one. FFh counts as 7Fh.
-fn misplaced(records: &[&[u8]], k: usize, starting: &Addresses) -> bool {
+/// 12: the address of a fixed target is barred, or is that of an earlier one. FFh counts as 7Fh.
+fn misplaced(records: &[&[u8]], k: usize, barred: &Addresses) -> bool {
     let fixed = |record: &[u8]| is_fixed(&udid_in(record));
     let address = |record: &[u8]| record[16] / 2;
     let own = address(records[k]);
     let taken = records[..k].iter().any(|earlier| fixed(earlier) && address(earlier) == own);
-    fixed(records[k]) && (starting.contains(&own) || taken)
+    fixed(records[k]) && (barred.contains(&own) || taken)
 }
 
 /// The first refusal, with its record; a binding buffer of so many bytes.
@@ -57,11 +57,11 @@ pub fn refusal(list: &[u8], room: usize, occupied: &Addresses, last_pick: u8) ->
         return Some((9, 0));
     }
     let records: Vec<&[u8]> = list.chunks(RECORD).collect();
-    let starting = starting_pool(occupied);
+    let barred = barred(occupied);
     let malformed = |&k: &usize| records[k][16] % 2 == 0 || records[k][17] > 1;
     let repeated = |&k: &usize| records[..k].iter().any(|earlier| earlier[..16] == records[k][..16]);
     let first = |number, bad: &dyn Fn(&usize) -> bool| (0..records.len()).find(bad).map(|k| (number, k));
-    first(10, &malformed).or(first(11, &repeated)).or(first(12, &|&k| misplaced(&records, k, &starting)))
+    first(10, &malformed).or(first(11, &repeated)).or(first(12, &|&k| misplaced(&records, k, &barred)))
 }
 
 /// A pass to its end: what ends it, and how many Get UDIDs were sent.

@@ -1,6 +1,7 @@
 //! What the scripts have to reach, and how often.
 
 use crate::reported::Reports;
+use crate::rows_reached::{on_rows, ON_ROWS};
 use crate::turn::{Choice, Turn};
 use reference::addresses::*;
 use reference::commands::*;
@@ -117,6 +118,7 @@ pub struct Reached {
     events: BTreeMap<&'static str, usize>,
     choices: BTreeMap<&'static str, usize>,
     made: BTreeMap<&'static str, usize>,
+    rows: BTreeMap<&'static str, usize>,
     reports: Reports,
     answers: Tally,
 }
@@ -139,6 +141,9 @@ impl Reached {
         if let Some(kind) = made_with(turn.op) {
             *self.made.entry(kind).or_default() += 1;
         }
+        for what in on_rows(turn) {
+            *self.rows.entry(what).or_default() += 1;
+        }
         if let Some((protocol, answer)) = &turn.decoded {
             self.answers.add(*protocol, true, answer);
         }
@@ -149,12 +154,14 @@ impl Reached {
         check(&EVENTS, &self.events);
         check(&CHOICES, &self.choices);
         check(&MADE, &self.made);
+        check(&ON_ROWS, &self.rows);
         self.reports.check();
         let protocols = [SEND_BYTE, BLOCK_READ, BLOCK_WRITE].map(|protocol| (protocol, true));
         self.answers.check("answers to commands", &protocols, 20);
         println!("{:<28}{:?}", "answers to commands", self.answers.totals());
         println!("{:<28}{:?}", "addresses in commands", self.choices);
         println!("{:<28}{:?}", "controllers", self.made);
+        println!("{:<28}{:?}", "on the rows", self.rows);
         println!("{:<28}{:?}", "reports", self.reports.totals());
     }
 

@@ -12,7 +12,7 @@ use std::collections::BTreeMap;
 pub fn is_right(before: &Controller, number: u8, after: &Controller, found: &Found) -> bool {
     let same = |a: &u8| before.lookup(*a) == after.lookup(*a) && before.pool.contains(a) == after.pool.contains(a);
     let others = (0..ADDRESSES).filter(|&address| address != number).all(|address| same(&address));
-    let rest = |c: &Controller| (c.starting.clone(), c.get_udids, c.last_pick, c.last);
+    let rest = |c: &Controller| (c.starting.clone(), c.barred.clone(), c.get_udids, c.last_pick, c.last);
     let changed = match found {
         Found::Refused(_) => before == after,
         Found::Bound(_) => {

@@ -17,18 +17,28 @@ fn all_join(recorder: &mut Recorder, targets: &[(u8, u8)]) {
     }
 }
 
+/// Two addresses, and one of an added row.
+fn occupied() -> Addresses {
+    Addresses::from([0x10, 0x11, 0x2c])
+}
+
 /// A pass of a new controller in which an address is whatever it can be, with Get UDID outstanding. 20h, 21h, 33h and a
-/// picked one are bound. 30h is claimed by two, and so is 10h, which is occupied. 31h is left, 32h given up for 33h.
+/// picked one are bound. 30h is claimed by two, and so is 10h, which is occupied. 31h is left, 32h given up for 33h. So
+/// it is on added rows: 48h is bound, 4Ah claimed by two, and so is 2Ch, which is occupied; 49h is left, 4Bh given up
+/// for 44h.
 fn scene(recorder: &mut Recorder) {
-    recorder.renew(&Addresses::from([0x10, 0x11]), 0x3f);
+    recorder.renew(&occupied(), 0x3f);
     begin(recorder);
     all_join(recorder, &[(0x01, 0x41), (0x81, 0x43), (0x82, NO_ADDRESS), (0x02, 0x61), (0x03, 0x61), (0x04, 0x21)]);
     all_join(recorder, &[(0x83, 0x63), (0x84, 0x65), (0x84, 0x67)]);
+    all_join(recorder, &[(0x11, 0x91), (0x12, 0x95), (0x13, 0x95), (0x14, 0x59)]);
+    all_join(recorder, &[(0x15, 0x93), (0x16, 0x97), (0x16, 0x89)]);
     recorder.gone(0x31);
+    recorder.gone(0x49);
 }
 
 fn unstarted(recorder: &mut Recorder) {
-    recorder.renew(&Addresses::from([0x10, 0x11]), 0x3f);
+    recorder.renew(&occupied(), 0x3f);
 }
 
 fn preparing(recorder: &mut Recorder) {
@@ -56,6 +66,33 @@ fn beside_fixed(recorder: &mut Recorder) {
 fn beside_movable(recorder: &mut Recorder) {
     scene(recorder);
     reply(recorder, &udid(0x05), 0x43);
+}
+
+/// A fixed target is assigned the added row of another, of two, of nobody, or one that is left.
+fn beside_row(recorder: &mut Recorder) {
+    scene(recorder);
+    reply(recorder, &udid(0x05), 0x91);
+}
+
+fn beside_two_on_row(recorder: &mut Recorder) {
+    scene(recorder);
+    reply(recorder, &udid(0x05), 0x95);
+}
+
+fn on_row(recorder: &mut Recorder) {
+    scene(recorder);
+    reply(recorder, &udid(0x05), 0x97);
+}
+
+fn replacing_on_row(recorder: &mut Recorder) {
+    scene(recorder);
+    reply(recorder, &udid(0x05), 0x93);
+}
+
+/// One that is bound on an added row replies again.
+fn repeating_on_row(recorder: &mut Recorder) {
+    scene(recorder);
+    reply(recorder, &udid(0x11), 0x91);
 }
 
 fn beside_two(recorder: &mut Recorder) {
@@ -99,7 +136,7 @@ fn exhausted(recorder: &mut Recorder) {
     reply(recorder, &udid(0x83), NO_ADDRESS);
 }
 
-const POINTS: [fn(&mut Recorder); 14] = [
+const POINTS: [fn(&mut Recorder); 19] = [
     unstarted,
     preparing,
     scene,
@@ -108,6 +145,11 @@ const POINTS: [fn(&mut Recorder); 14] = [
     beside_fixed,
     beside_movable,
     beside_two,
+    beside_row,
+    beside_two_on_row,
+    on_row,
+    replacing_on_row,
+    repeating_on_row,
     returning,
     replacing,
     repeating,
@@ -164,39 +206,54 @@ fn abandoned(recorder: &mut Recorder) {
     }
 }
 
-/// Short events where 20h and 21h alone are free.
-const EVENTS: [fn(&mut Recorder); 9] = [
-    |r| all_join(r, &[(0x01, 0x41)]),
-    |r| all_join(r, &[(0x02, 0x41)]),
-    |r| all_join(r, &[(0x81, 0x41)]),
-    |r| all_join(r, &[(0x82, NO_ADDRESS)]),
-    |r| r.gone(0x20),
-    |r| r.gone(0x21),
-    |r| gone_between(r, 0x01, accept),
-    |r| gone_between(r, 0x02, refuse),
-    |r| {
+/// Short events at an address, and at 21h.
+const EVENTS: [fn(&mut Recorder, u8); 9] = [
+    |r, at| all_join(r, &[(0x01, 2 * at + 1)]),
+    |r, at| all_join(r, &[(0x02, 2 * at + 1)]),
+    |r, at| all_join(r, &[(0x81, 2 * at + 1)]),
+    |r, _| all_join(r, &[(0x82, NO_ADDRESS)]),
+    |r, at| r.gone(at),
+    |r, _| r.gone(0x21),
+    |r, at| gone_between(r, 0x01, at, accept),
+    |r, at| gone_between(r, 0x02, at, refuse),
+    |r, _| {
         begin(r);
     },
 ];
 
-/// A fixed target at 20h replies, the module at 20h is reported gone, and then the Assign completes or not.
-fn gone_between(recorder: &mut Recorder, first: u8, then: fn(&mut Recorder) -> Command) {
-    reply(recorder, &udid(first), 0x41);
-    recorder.gone(0x20);
+/// A fixed target at an address replies, the module there is reported gone, and then the Assign completes or not.
+fn gone_between(recorder: &mut Recorder, first: u8, at: u8, then: fn(&mut Recorder) -> Command) {
+    reply(recorder, &udid(first), 2 * at + 1);
+    recorder.gone(at);
     then(recorder);
 }
 
-/// Four events in every order, with repetitions, each time in a new pass.
-pub fn every_order() -> Recorder {
-    let occupied = (0..ADDRESSES).filter(|address| ![0x20, 0x21].contains(address)).collect();
+/// So many events at an address in every order, with repetitions, each time in a new pass. These alone are not occupied.
+fn orders(events: u32, at: u8, free: &[u8]) -> Recorder {
+    let occupied = (0..ADDRESSES).filter(|address| !free.contains(address)).collect();
     let mut recorder = Recorder::new(&occupied, NEVER);
     let count = EVENTS.len();
-    for order in 0..count.pow(4) {
+    for order in 0..count.pow(events) {
         begin(&mut recorder);
-        for place in 0..4 {
-            EVENTS[order / count.pow(place) % count](&mut recorder);
+        for place in 0..events {
+            EVENTS[order / count.pow(place) % count](&mut recorder, at);
         }
         recorder.lookups();
     }
     recorder
+}
+
+/// At 20h, where that and 21h are free.
+pub fn every_order() -> Recorder {
+    orders(4, 0x20, &[0x20, 0x21])
+}
+
+/// At 48h, an added row, where 21h and 47h are free.
+pub fn every_order_on_a_row() -> Recorder {
+    orders(4, 0x48, &[0x21, 0x47, 0x48])
+}
+
+/// At 48h, an added row that is occupied.
+pub fn every_order_on_an_occupied_row() -> Recorder {
+    orders(3, 0x48, &[0x21, 0x47])
 }

@@ -1,5 +1,6 @@
 //! Lines for the console at random: good requests of every verb, and lines that are none.
 
+use crate::addresses::added;
 use crate::commands::*;
 use crate::console::{Console, LONGEST_LINE};
 use crate::controller::Found;
@@ -138,18 +139,20 @@ fn target(random: &mut Random) -> String {
     let byte = match random.below(200) {
         0 => random.byte() & 0xfe,
         1..=60 => 0xff,
+        61..=100 => 2 * random.pick(&added()) + 1,
         _ => random.byte() | 1,
     };
     let flag = if random.below(200) == 0 { random.byte() } else { random.byte() % 2 };
     format!("target {}{}", udid_word(random, &udid), numbers(random, &[byte, flag]))
 }
 
+/// A few addresses, some of the added rows, or nearly all.
 fn occupied(random: &mut Random) -> String {
     let limit = if random.below(8) == 0 { 256 } else { 128 };
-    let count = random.pick(&[0, 1, 2, 5, 128]);
-    let addresses: Vec<u16> = match count {
+    let addresses: Vec<u16> = match random.pick(&[0, 1, 2, 5, 14, 128]) {
         128 => (0..128).filter(|_| random.below(30) > 0).collect(),
-        _ => (0..count).map(|_| random.below(limit) as u16).collect(),
+        14 => added().into_iter().map(u16::from).filter(|_| random.below(4) == 0).collect(),
+        few => (0..few).map(|_| random.below(limit) as u16).collect(),
     };
     format!("occupied{}", numbers(random, &addresses))
 }
@@ -161,7 +164,8 @@ fn step(random: &mut Random, last: Command) -> String {
         Command::GetUdid if random.below(12) == 0 => all_resolved(),
         Command::GetUdid => {
             let kind = random.pick(&KINDS);
-            reply_trace(&with_kind(any_udid(random), kind), random.pick(&[0xff, 0x13, 0x15, 0x41, 0x19, 0xfe]))
+            let byte = random.pick(&[0xff, 0x13, 0x15, 0x91, 0x59, 0x41, 0x19, 0xfe]);
+            reply_trace(&with_kind(any_udid(random), kind), byte)
         }
         Command::Assign(udid, address) => trace_of(&assign(&udid, address)),
         _ => rubbish(random),
@@ -186,7 +190,7 @@ fn address(random: &mut Random, console: &Console) -> u8 {
         let above = if random.below(8) == 0 { 128 } else { 0 };
         return random.pick(&known) + above;
     }
-    random.pick(&[9, 10, 11, 12, 13, 0x20, 0x7f, 0x80, 0xff])
+    random.pick(&[9, 10, 11, 12, 13, 14, 0x20, 0x2c, 0x48, 0x7f, 0x80, 0xff])
 }
 
 /// A request that can be read.

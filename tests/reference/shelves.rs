@@ -77,13 +77,13 @@ pub fn occupied(random: &mut Random) -> Addresses {
     }
 }
 
-/// A last pick that a model run takes: never picked, one at either end or beside a reserved one, or any.
+/// A last pick that a model run takes: never picked, one at either end or beside a row of the table, or any.
 pub fn last_pick(random: &mut Random) -> u8 {
     match random.below(8) {
         0 | 1 => NEVER,
         2 => 0,
         3 => 126,
-        4 => random.pick(&[0x08, 0x09, 0x0b, 0x0c, 0x60, 0x61, 0x76, 0x77]),
+        4 => random.pick(&[0x08, 0x09, 0x0b, 0x0c, 0x0d, 0x2b, 0x2d, 0x3f, 0x44, 0x47, 0x4b, 0x60, 0x61, 0x76, 0x77]),
         _ => random.byte() % ADDRESSES,
     }
 }
@@ -105,39 +105,55 @@ pub fn any_last_pick(random: &mut Random) -> u8 {
     last_pick(random)
 }
 
-/// All addresses but so many assignable ones.
+/// All assignable addresses but so many. Of the added rows all are occupied too, or some, or none.
 pub fn leaving(random: &mut Random, count: usize) -> Addresses {
-    let mut assignable: Vec<u8> = (0..ADDRESSES).filter(|address| !RESERVED.contains(address)).collect();
+    let mut assignable = assignable();
     for _ in 0..count {
         assignable.swap_remove(random.below(assignable.len()));
     }
-    assignable.into_iter().collect()
+    let percent = random.pick(&[0, 0, 50, 100]);
+    let rows = added().into_iter().filter(|_| random.below(100) < percent);
+    assignable.into_iter().chain(rows).collect()
 }
 
-/// A fixed target stands on one of the free addresses; a movable one holds none or any.
-fn address_byte(random: &mut Random, udid: &Udid, free: &mut Vec<u8>) -> u8 {
+/// An address that a movable target held: any, and often one of an added row.
+fn held(random: &mut Random) -> u8 {
+    if random.below(8) == 0 {
+        return random.pick(&added());
+    }
+    random.byte() % ADDRESSES
+}
+
+/// A fixed target stands on one of those left to it; a movable one holds none or any.
+fn address_byte(random: &mut Random, udid: &Udid, left: &mut Vec<u8>) -> u8 {
     if is_fixed(udid) {
-        return 2 * free.swap_remove(random.below(free.len())) + 1;
+        return 2 * left.swap_remove(random.below(left.len())) + 1;
     }
     if random.below(3) == 0 {
         return NO_ADDRESS;
     }
-    2 * (random.byte() % ADDRESSES) + 1
+    2 * held(random) + 1
 }
 
-/// Targets that a model run takes: different UDIDs, and the fixed ones on different addresses outside the starting pool.
+/// Where fixed targets may stand. Now and then only the added rows.
+fn for_fixed(random: &mut Random, occupied: &Addresses) -> Vec<u8> {
+    let barred = barred(occupied);
+    let rows_alone = random.below(4) == 0;
+    (0..ADDRESSES).filter(|&address| !barred.contains(&address) && (is_added(address) || !rows_alone)).collect()
+}
+
+/// Targets that a model run takes: different UDIDs, and the fixed ones on different addresses that are not barred.
 pub fn targets(random: &mut Random, count: usize, occupied: &Addresses) -> Vec<Target> {
-    let starting = starting_pool(occupied);
-    let mut free: Vec<u8> = (0..ADDRESSES).filter(|address| !starting.contains(address)).collect();
+    let mut left = for_fixed(random, occupied);
     let movable_only = random.below(3) == 0;
     let mut all: Vec<Target> = vec![];
     while all.len() < count {
         let others: Vec<Udid> = all.iter().map(|target| target.udid).collect();
         let udid = another_udid(random, &others);
-        if others.contains(&udid) || is_fixed(&udid) && (movable_only || free.is_empty()) {
+        if others.contains(&udid) || is_fixed(&udid) && (movable_only || left.is_empty()) {
             continue;
         }
-        let address_byte = address_byte(random, &udid, &mut free);
+        let address_byte = address_byte(random, &udid, &mut left);
         all.push(Target { udid, address_byte, resolved: random.below(2) == 0 });
     }
     all

@@ -54,16 +54,31 @@ fn wrong_length(input: &mut Input, random: &mut Random) {
     input.list.resize(length, 1);
 }
 
-/// A fixed target on a reserved or occupied address, or on that of an earlier fixed one.
-fn misplace(input: &mut Input, random: &mut Random, k: usize) {
-    let mut bytes: Vec<u8> = starting_pool(&input.occupied).iter().map(|address| 2 * address + 1).collect();
-    let earlier = input.fixed_before(k);
-    if !earlier.is_empty() && random.below(2) == 0 {
-        bytes = earlier;
+/// Addresses on which a fixed target is misplaced: those of earlier ones, on an added row or on any; the occupied of the
+/// added rows, or any occupied; the first 21. Where there are none of a kind, all that are barred.
+fn misplacing(input: &Input, random: &mut Random, k: usize) -> Vec<u8> {
+    let earlier: Vec<u8> = input.fixed_before(k).iter().map(|byte| byte / 2).collect();
+    let occupied: Vec<u8> = input.occupied.iter().copied().collect();
+    let on_rows = |all: Vec<u8>| all.into_iter().filter(|&address| is_added(address)).collect();
+    let some = match random.below(5) {
+        0 => earlier,
+        1 => on_rows(earlier),
+        2 => occupied,
+        3 => on_rows(occupied),
+        _ => RESERVED.to_vec(),
+    };
+    if some.is_empty() {
+        return barred(&input.occupied).into_iter().collect();
     }
+    some
+}
+
+/// A fixed target where none may stand, or where an earlier one does.
+fn misplace(input: &mut Input, random: &mut Random, k: usize) {
+    let addresses = misplacing(input, random, k);
     let record = input.record(k);
     record[0] &= 0x3f;
-    record[16] = random.pick(&bytes);
+    record[16] = 2 * random.pick(&addresses) + 1;
 }
 
 /// The numbers of refusals, in the order in which they are looked for.

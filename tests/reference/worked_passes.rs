@@ -85,8 +85,8 @@ fn two_fixed() {
     pass.bound(&[]);
     pass.claimed(&[0x20]);
     pass.taken(F, 0x40, 0x20);
-    pass.taken(M, 0x41, 0x09);
-    pass.bound(&[(0x09, M)]);
+    pass.taken(M, 0x41, 0x0d);
+    pass.bound(&[(0x0d, M)]);
     pass.claimed(&[0x20]);
     assert_eq!(pass.0.step(&all_resolved()), Ended);
     pass.claimed(&[0x20]);
@@ -101,8 +101,8 @@ fn fixed_after_movable() {
     pass.taken(M, 0x41, 0x20);
     pass.taken(F, 0x41, 0x20);
     pass.bound(&[]);
-    pass.taken(M, 0x41, 0x09);
-    pass.bound(&[(0x09, M)]);
+    pass.taken(M, 0x41, 0x0d);
+    pass.bound(&[(0x0d, M)]);
     pass.claimed(&[0x20]);
 }
 
@@ -124,9 +124,9 @@ fn replies_again() {
     pass.taken(M, 0x43, 0x21);
     pass.taken(N, 0x41, 0x20);
     pass.bound(&[(0x20, N), (0x21, M)]);
-    pass.offered(N, 0xff, 0x09);
+    pass.offered(N, 0xff, 0x0d);
     pass.bound(&[(0x21, M)]);
-    assert_eq!(pass.0.step(&nacked_at(&trace_of(&assign(&N, 0x09)), 20)), GetUdid);
+    assert_eq!(pass.0.step(&nacked_at(&trace_of(&assign(&N, 0x0d)), 20)), GetUdid);
     pass.bound(&[(0x21, M)]);
     pass.taken(F, 0x41, 0x20);
     pass.taken(F, 0x41, 0x20);
@@ -136,11 +136,11 @@ fn replies_again() {
 
 /// FFh is none, for a fixed target too; FEh is 7Fh, which a movable one cannot keep.
 fn no_address() {
-    let mut pass = Pass::begin(&[0x09]);
-    pass.taken(F, 0xff, 0x0a);
-    pass.taken(M, 0xfe, 0x0b);
-    pass.taken(N, 0xff, 0x0d);
-    pass.bound(&[(0x0a, F), (0x0b, M), (0x0d, N)]);
+    let mut pass = Pass::begin(&[0x0d]);
+    pass.taken(F, 0xff, 0x0e);
+    pass.taken(M, 0xfe, 0x0f);
+    pass.taken(N, 0xff, 0x10);
+    pass.bound(&[(0x0e, F), (0x0f, M), (0x10, N)]);
 }
 
 /// With one address left: a second target gets none, and what was bound stands.
@@ -210,60 +210,62 @@ fn wrong_symbols() {
     pass.taken(M, 0x41, 0x20);
 }
 
-/// A module at 09h is pulled: in the next pass another one gets 0Ah, and only what lies between is passed over.
+/// A module at 2Ah is pulled: in the next pass another one gets 2Bh, and only the rows that lie between are passed over.
 fn vacated() {
-    let mut pass = Pass::begin(&[]);
-    pass.last_pick(127);
-    pass.taken(M, 0xff, 0x09);
-    pass.last_pick(0x09);
+    Pass::begin(&[]).last_pick(127);
+    let mut pass = Pass::begin_after(&[], 0x29);
+    pass.taken(M, 0xff, 0x2a);
+    pass.last_pick(0x2a);
     assert_eq!(pass.0.step(&all_resolved()), Ended);
     pass.again();
-    pass.last_pick(0x09);
-    pass.taken(N, 0xff, 0x0a);
+    pass.last_pick(0x2a);
+    pass.taken(N, 0xff, 0x2b);
     pass.again();
-    pass.taken(M, 0xff, 0x0b);
-    pass.taken(N, 0xff, 0x0d);
-    pass.bound(&[(0x0b, M), (0x0d, N)]);
-    pass.last_pick(0x0d);
+    pass.taken(M, 0xff, 0x2e);
+    pass.taken(N, 0xff, 0x2f);
+    pass.bound(&[(0x2e, M), (0x2f, N)]);
+    pass.last_pick(0x2f);
 }
 
-/// From 7Fh round to 00h: 77h is the last that is not reserved, 09h the first.
+/// From 7Fh round to 00h: 77h is the last that is on no row, 0Dh the first. All rows on the way are passed over.
 fn round() {
-    for (last_pick, address) in [(0x76, 0x77), (0x77, 0x09), (126, 0x09), (127, 0x09), (0, 0x09), (0x60, 0x62)] {
+    let round = [(0x76, 0x77), (0x77, 0x0d), (126, 0x0d), (127, 0x0d), (0, 0x0d), (0x08, 0x0d), (0x0b, 0x0d)];
+    let over = [(0x27, 0x29), (0x2b, 0x2e), (0x36, 0x38), (0x3f, 0x45), (0x42, 0x45), (0x47, 0x4c), (0x60, 0x62)];
+    for (last_pick, address) in round.into_iter().chain(over) {
         let mut pass = Pass::begin_after(&[], last_pick);
         pass.taken(M, 0xff, address);
         pass.last_pick(address);
     }
-    let mut pass = Pass::begin_after(&[0x77, 0x09], 0x76);
-    pass.taken(M, 0xff, 0x0a);
+    let mut pass = Pass::begin_after(&[0x77, 0x0d], 0x76);
+    pass.taken(M, 0xff, 0x0e);
 }
 
 /// The last pick moves when the Assign goes out, whatever becomes of it.
 fn refused_assigns() {
     let mut pass = Pass::begin(&[]);
-    pass.offered(M, 0xff, 0x09);
-    pass.last_pick(0x09);
-    assert_eq!(pass.0.step(&[]), GetUdid);
-    pass.last_pick(0x09);
-    pass.refused(M, 0xff, 0x0a);
-    pass.refused(M, 0x19, 0x0b);
-    pass.bound(&[]);
     pass.offered(M, 0xff, 0x0d);
-    pass.again();
     pass.last_pick(0x0d);
-    pass.taken(M, 0xff, 0x0e);
+    assert_eq!(pass.0.step(&[]), GetUdid);
+    pass.last_pick(0x0d);
+    pass.refused(M, 0xff, 0x0e);
+    pass.refused(M, 0x19, 0x0f);
+    pass.bound(&[]);
+    pass.offered(M, 0xff, 0x10);
+    pass.again();
+    pass.last_pick(0x10);
+    pass.taken(M, 0xff, 0x11);
 }
 
 /// An address that is kept, or fixed, or claimed by two, moves nothing; nor does a reply that is refused.
 fn moved_by_picks_alone() {
     let mut pass = Pass::begin_after(&[], 0x30);
     pass.taken(M, 0x41, 0x20);
-    pass.taken(F, 0x81, 0x40);
-    pass.taken(G, 0x81, 0x40);
-    pass.refused(N, 0x83, 0x41);
+    pass.taken(F, 0xa1, 0x50);
+    pass.taken(G, 0xa1, 0x50);
+    pass.refused(N, 0xa3, 0x51);
     assert_eq!(pass.0.step(&[256]), GetUdid);
     pass.last_pick(0x30);
-    pass.taken(N, 0x81, 0x31);
+    pass.taken(N, 0xa1, 0x31);
     pass.last_pick(0x31);
     pass.taken(G, 0xff, 0x32);
     pass.last_pick(0x32);
@@ -274,14 +276,14 @@ fn moved_by_picks_alone() {
 
 /// One address is free, and it is the last pick: it is picked again. With none free 13 moves nothing.
 fn the_last_pick_again() {
-    let all_but_one: Vec<u8> = (0..ADDRESSES).filter(|&address| address != 0x40).collect();
-    let mut pass = Pass::begin_after(&all_but_one, 0x41);
-    pass.taken(M, 0xff, 0x40);
-    pass.taken(M, 0xff, 0x40);
+    let all_but_one: Vec<u8> = (0..ADDRESSES).filter(|&address| address != 0x50).collect();
+    let mut pass = Pass::begin_after(&all_but_one, 0x51);
+    pass.taken(M, 0xff, 0x50);
+    pass.taken(M, 0xff, 0x50);
     pass.again();
-    pass.taken(N, 0xff, 0x40);
+    pass.taken(N, 0xff, 0x50);
     assert_eq!(pass.0.step(&reply_trace(&M, 0xff)), NoneFree(M));
-    pass.last_pick(0x40);
+    pass.last_pick(0x50);
     let mut pass = Pass::begin_after(&(0..ADDRESSES).collect::<Vec<u8>>(), 0x33);
     assert_eq!(pass.0.step(&reply_trace(&M, 0x41)), NoneFree(M));
     pass.last_pick(0x33);
@@ -294,8 +296,8 @@ fn no_last_pick() {
     pass.last_pick(127);
     pass.again();
     pass.last_pick(127);
-    pass.taken(M, 0xff, 0x09);
-    pass.last_pick(0x09);
+    pass.taken(M, 0xff, 0x0d);
+    pass.last_pick(0x0d);
     assert_eq!(Controller::new(&Addresses::new(), 255).last_pick, 127);
 }
 

@@ -10,26 +10,26 @@ use reference::mistakes::{nacked_at, trace_of};
 
 impl Pass {
     /// A report that finds this identifier; the address is left then.
-    fn gone(&mut self, address: u8, udid: Udid) {
+    pub fn gone(&mut self, address: u8, udid: Udid) {
         assert_eq!(self.0.gone(address), Found::Bound(udid));
         assert_eq!(self.0.lookup(address), Found::Refused(20));
     }
 
     /// A report that is answered with this number and changes nothing.
-    fn in_vain(&mut self, address: u8, number: u32) {
+    pub fn in_vain(&mut self, address: u8, number: u32) {
         let before = self.0.clone();
         assert_eq!(self.0.gone(address), Found::Refused(number));
         assert_eq!(self.0, before);
     }
 
     /// The Assign that is outstanding completes.
-    fn completed(&mut self, udid: Udid, address: u8) {
+    pub fn completed(&mut self, udid: Udid, address: u8) {
         assert_eq!(self.0.last, Assign(udid, address));
         assert_eq!(self.0.step(&trace_of(&assign(&udid, address))), GetUdid);
     }
 
     /// So many addresses are in use beside those that a pass starts with.
-    fn in_use(&self, more: usize) {
+    pub fn in_use(&self, more: usize) {
         assert_eq!(self.0.pool.len(), self.0.starting.len() + more);
     }
 }
@@ -71,12 +71,12 @@ fn before_anything() {
 /// The pass goes on as it was: the command outstanding, the Get UDIDs and the last pick stay.
 fn goes_on() {
     let mut pass = Pass::begin(&[]);
-    pass.taken(M, 0xff, 0x09);
-    pass.gone(0x09, M);
-    pass.last_pick(0x09);
+    pass.taken(M, 0xff, 0x0d);
+    pass.gone(0x0d, M);
+    pass.last_pick(0x0d);
     assert_eq!((pass.0.last, pass.0.get_udids), (GetUdid, 2));
     pass.offered(N, 0x41, 0x20);
-    pass.in_vain(0x09, 20);
+    pass.in_vain(0x0d, 20);
     pass.in_vain(0x20, 15);
     pass.completed(N, 0x20);
     pass.offered(G, 0x61, 0x30);
@@ -84,7 +84,7 @@ fn goes_on() {
     assert_eq!((pass.0.last, pass.0.get_udids), (Assign(G, 0x30), 3));
     pass.completed(G, 0x30);
     pass.bound(&[(0x30, G)]);
-    pass.left(&[0x09, 0x20]);
+    pass.left(&[0x0d, 0x20]);
     pass.in_use(1);
 }
 
@@ -155,8 +155,8 @@ fn claims_stay() {
     pass.in_vain(0x30, 16);
     pass.taken(F, 0x63, 0x31);
     pass.in_vain(0x31, 16);
-    pass.taken(M, 0x61, 0x09);
-    pass.gone(0x09, M);
+    pass.taken(M, 0x61, 0x0d);
+    pass.gone(0x0d, M);
     pass.claimed(&[0x30, 0x31]);
     pass.in_use(1);
     assert_eq!(pass.0.step(&all_resolved()), Ended);
@@ -199,45 +199,45 @@ fn replies_again() {
 fn started() {
     let mut pass = Pass::begin(&[]);
     pass.taken(M, 0x41, 0x20);
-    pass.taken(N, 0xff, 0x09);
+    pass.taken(N, 0xff, 0x0d);
     pass.gone(0x20, M);
-    pass.gone(0x09, N);
+    pass.gone(0x0d, N);
     assert_eq!(pass.0.step(&all_resolved()), Ended);
-    pass.left(&[0x09, 0x20]);
+    pass.left(&[0x0d, 0x20]);
     assert_eq!(pass.0.start(), Prepare);
     pass.left(&[]);
     pass.in_vain(0x20, 15);
-    pass.in_vain(0x09, 15);
-    pass.last_pick(0x09);
+    pass.in_vain(0x0d, 15);
+    pass.last_pick(0x0d);
 }
 
 /// A freed address is picked again, but only after the others: the last pick stays where it was. A report after 13 does
 /// not make the pass go on.
 fn picked_again() {
-    let all_but_two: Vec<u8> = (0..ADDRESSES).filter(|&address| ![0x20, 0x40].contains(&address)).collect();
+    let all_but_two: Vec<u8> = (0..ADDRESSES).filter(|&address| ![0x20, 0x50].contains(&address)).collect();
     let mut pass = Pass::begin(&all_but_two);
     pass.taken(M, 0xff, 0x20);
     pass.gone(0x20, M);
-    pass.taken(N, 0xff, 0x40);
+    pass.taken(N, 0xff, 0x50);
     pass.left(&[0x20]);
     pass.taken(M, 0xff, 0x20);
     pass.left(&[]);
     assert_eq!(pass.0.step(&reply_trace(&F, 0xff)), NoneFree(F));
-    pass.gone(0x40, N);
+    pass.gone(0x50, N);
     assert_eq!(pass.0.step(&reply_trace(&F, 0xff)), NotOutstanding);
     pass.bound(&[(0x20, M)]);
-    pass.left(&[0x40]);
+    pass.left(&[0x50]);
     pass.last_pick(0x20);
 }
 
 /// The address alone is free, and it is the last pick: it is picked again at once.
 fn the_last_pick_again() {
-    let all_but_one: Vec<u8> = (0..ADDRESSES).filter(|&address| address != 0x40).collect();
+    let all_but_one: Vec<u8> = (0..ADDRESSES).filter(|&address| address != 0x50).collect();
     let mut pass = Pass::begin(&all_but_one);
-    pass.taken(M, 0xff, 0x40);
-    pass.gone(0x40, M);
-    pass.taken(N, 0xff, 0x40);
-    pass.bound(&[(0x40, N)]);
+    pass.taken(M, 0xff, 0x50);
+    pass.gone(0x50, M);
+    pass.taken(N, 0xff, 0x50);
+    pass.bound(&[(0x50, N)]);
     pass.left(&[]);
     pass.in_use(1);
 }

@@ -99,12 +99,12 @@ fn exchange(turn: Stepped, reply: &[u8]) -> Stepped {
 }
 
 fn main() {
-    let controller = Controller::new(Pool::empty(), NEVER_PICKED); // no address is occupied besides the reserved ones
+    let controller = Controller::new(Pool::empty(), NEVER_PICKED); // no address is given as occupied
     let reply = reply_data(); // what the one target here answers to Get UDID
     let first = controller.start();
     let second = exchange(first, &reply[..0]);
     let third = exchange(second, &reply);
     let fourth = exchange(third, &reply[..0]);
-    say_found(fourth.state.lookup(Address(0x09)));
+    say_found(fourth.state.lookup(Address(0x0D)));
 }
 // .. to here.
