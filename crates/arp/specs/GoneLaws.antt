@@ -39,19 +39,19 @@ which-bound (Bound u) e = (u, refl)
 which-bound Claimed e = zero-is-one (cc e)
 which-bound Left e = zero-is-one (cc e)
 
-pub bound-small : (s : Slots) (a : ℕ) (u : Udid) → heldAt s a ≡ Bound u → a < 128
-bound-small s a u e = go (decLt a 128)
+-- what is known for something is an address
+known-small : (s : Slots) (a : ℕ) → (heldAt s a ≡ Open → ⊥) → a < 128
+known-small s a n = go (decLt a 128)
   where
     go : Dec (a < 128) → a < 128
     go (yes h) = h
-    go (no h) = zero-is-one (cc (held-above-is-open s a (omega arith), e))
+    go (no h) = absurd (n (held-above-is-open s a (omega arith)))
+
+pub bound-small : (s : Slots) (a : ℕ) (u : Udid) → heldAt s a ≡ Bound u → a < 128
+bound-small s a u e = known-small s a (λ q. zero-is-one (cc (q, e)))
 
 pub left-small : (s : Slots) (a : ℕ) → heldAt s a ≡ Left → a < 128
-left-small s a e = go (decLt a 128)
-  where
-    go : Dec (a < 128) → a < 128
-    go (yes h) = h
-    go (no h) = zero-is-one (cc (held-above-is-open s a (omega arith), e))
+left-small s a e = known-small s a (λ q. zero-is-one (cc (q, e)))
 
 module _ (s : Controller) (a : ℕ) where
   -- WHERE NO TARGET IS BOUND nothing changes

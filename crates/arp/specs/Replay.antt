@@ -68,7 +68,7 @@ isBound (Bound u) = true
 isBound Claimed = false
 isBound Left = false
 
--- a target is bound there, or two claim it
+-- a target is bound there, or two claim it: a word of its own, so that this telling does not rest on the code's `isHeld`
 abbrev pub isBoundOrClaimed : Binding → Bool
 isBoundOrClaimed Open = false
 isBoundOrClaimed (Bound u) = true

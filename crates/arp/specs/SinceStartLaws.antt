@@ -13,7 +13,7 @@ use Rattle.lists.specs.ChoiceLaws.{neither, or-last}
 use Rattle.pool.specs.Pools.{member}
 use Rattle.pool.specs.Start.{startingPool, barredPool}
 use Rattle.pool.specs.declared.Pool.{Pool}
-use Rattle.udid.specs.UdidLaws.{same-equal, same-refl}
+use Rattle.udid.specs.UdidLaws.{same-refl}
 use Rattle.udid.specs.Udids.{sameUdid, Fits}
 use Rattle.udid.specs.declared.Udid.{Udid}
 use Rattle.slots.specs.Finding.{boundTo}
@@ -37,14 +37,12 @@ use Rattle.arp.specs.ReadingLaws.{read-of-trace, replied-exactly, assign
 use Rattle.arp.specs.Replay.{Happened, Started, Replied, Assigned, Pulled, Other, Table, holds, isBound, after, readAs, handedOut, happened, view}
 use Rattle.arp.specs.SinceStart.{Completes, RepliedBy, Removed, Untaken, BoundSince, LeftSince}
 use Rattle.arp.specs.Sound.{Unbound, Pending, PendingIn}
-use Rattle.arp.specs.TableLaws.{event-view}
+use Rattle.arp.specs.SoundLaws.{bound-to-is-bound}
+use Rattle.arp.specs.TableLaws.{holds-is, event-view}
 use Rattle.arp.specs.declared.state.Controller.{Controller}
 
 holder : (u : Udid) (h : Binding) → holds u h ≡ true → h ≡ Bound u
-holder u Open e = zero-is-one (cc e)
-holder u (Bound v) e = ap Bound (same-equal v u e)
-holder u Claimed e = zero-is-one (cc e)
-holder u Left e = zero-is-one (cc e)
+holder u h e = bound-to-is-bound u h (sym (holds-is u h) ∙ e)
 
 same-bound : {u v : Udid} → Bound u ≡ Bound v → u ≡ v
 same-bound e = cc e
@@ -84,7 +82,7 @@ module _ (occupied : Pool) (last : ℕ) (es : List Event) where
     )
 
     -- a reply of an identifier of 128 bits likewise
-    replied-is-read : (u : Udid) → Fits u → RepliedBy occupied last es tr u ↔ (readAs (handedOut occupied last es) tr ≡ Replied u)
+    pub replied-is-read : (u : Udid) → Fits u → RepliedBy occupied last es tr u ↔ (readAs (handedOut occupied last es) tr ≡ Replied u)
     replied-is-read u f = let r = replied-exactly (handedOut occupied last es) tr u f in (r .1, r .0)
 
     -- ---- what becomes of an address at a trace
@@ -172,7 +170,7 @@ module _ (occupied : Pool) (last : ℕ) (es : List Event) where
         go (inr (n, inl (w, k, r, q))) = zero-is-one (cc (q, e))
         go (inr (n, inr (m, q))) = let k : heldAt (before .slots) a ≡ Bound u = sym q ∙ e in inr (k, m u k, n)
 
-    bound-either : (a : ℕ) (u : Udid) → Either u a → later a ≡ Bound u
+    pub bound-either : (a : ℕ) (u : Udid) → Either u a → later a ≡ Bound u
     bound-either a u (inl (c, f)) = go (fate a)
       where
         go : Fate a → later a ≡ Bound u

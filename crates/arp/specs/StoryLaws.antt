@@ -2,17 +2,16 @@
 -- out, its 21 and its 13; which traces leave a binding; and what a start does.
 use Prim.Native.Nat.{ℕ, _≤_, _<_}
 use mathlib.Core.Path.{_≡_, refl, sym, ap, _∙_, subst}
-use mathlib.Core.Bool.{Bool, true}
+use mathlib.Core.Bool.{true}
 use mathlib.Core.List.{List, [], _∷_}
-use mathlib.Core.Logic.{_↔_}
-use borrow.Author.Tests.{ne-eqb, le-leb, lt-leb}
-use Rattle.lists.specs.Choice.{pick, or}
+use mathlib.Core.Logic.{inr, _↔_}
+use borrow.Author.Tests.{le-leb, lt-leb}
+use Rattle.lists.specs.Choice.{or}
 use Rattle.wire.specs.Addresses.{isListed}
 use Rattle.pool.specs.Pools.{member}
-use Rattle.pool.specs.Start.{startingPool, barredPool}
+use Rattle.pool.specs.Start.{startingPool}
 use Rattle.pool.specs.StartLaws.{member-starting}
 use Rattle.pool.specs.declared.Pool.{Pool}
-use Rattle.udid.specs.UdidLaws.{other-udid}
 use Rattle.udid.specs.declared.Udid.{Udid}
 use Rattle.arp.specs.HandedOutLaws.{handed-out-by-table, table-is-story}
 use Rattle.arp.specs.HandingLaws.{gets-are-sent}
@@ -20,9 +19,8 @@ use Rattle.arp.specs.HistoryLaws.{reached-good}
 use Rattle.arp.specs.LookupLaws.{lookup-0, lookup-1, lookup-15}
 use Rattle.arp.specs.NoneFreeLaws.{step-13-by-story, number-13-is-none-free}
 use Rattle.arp.specs.OutstandingLaws.{step-21-by-events}
-use Rattle.arp.specs.Reading.{OfTrace}
-use Rattle.arp.specs.ReadingLaws.{read-of-trace}
 use Rattle.slots.specs.SlotsLaws.{open-all}
+use Rattle.arp.specs.SinceStartLaws.{completes-is-read, replied-is-read, bound-either}
 use Rattle.arp.specs.TableLaws.{addresses-by-table, lookup-by-table}
 use Rattle.arp.specs.Story.{Story, story, Told, ByHistory}
 use Rattle.slots.specs.Slots.{heldAt}
@@ -30,13 +28,13 @@ use Rattle.arp.specs.Controller.{started, stepped}
 use Rattle.arp.specs.History.{Event, Received, run}
 use Rattle.arp.specs.Lookup.{lookedUp}
 use Rattle.arp.specs.Numbers.{commandNumber, lookupNumber}
-use Rattle.arp.specs.Replay.{isBoundOrClaimed, Happened, Started, Replied, Assigned, Pulled, Other, holds, after, readAs, handedOut, table, numberOf, again, nextCommand}
+use Rattle.arp.specs.Replay.{Replied, Assigned, readAs, handedOut, numberOf, again, nextCommand}
 use Rattle.hearing.specs.Told.{noCommand}
 use Rattle.commands.specs.declared.command.Command.the-variants.{Prepare, GetUdid}
 use Rattle.commands.specs.declared.command.End.the-variants.{Abandoned}
 use Rattle.commands.specs.declared.command.Handed.{Handed}
 use Rattle.commands.specs.declared.command.Handed.the-variants.{Send, Wait}
-use Rattle.slots.specs.declared.Binding.the-variants.{Open, Bound, Claimed}
+use Rattle.slots.specs.declared.Binding.the-variants.{Bound}
 use Rattle.arp.specs.declared.state.Controller.{Controller}
 
 -- THE EVENTS ALONE give what each address is known for, what the pool has, how many Get UDIDs were handed out and what was handed out last
@@ -55,24 +53,9 @@ pub binding-stays : (occupied : Pool) (last : ℕ) (es : List Event) (tr : List 
     → (readAs (handedOut occupied last es) tr ≡ Replied u → ⊥)
     → ((w : Udid) → readAs (handedOut occupied last es) tr ≡ Assigned w a → ⊥)
     → heldAt (run occupied last (Received tr ∷ es) .slots) a ≡ Bound u
-unfolding table
-binding-stays occupied last es tr a u e n m = addresses-by-table occupied last (Received tr ∷ es) a .0 ∙ go (readAs (handedOut occupied last es) tr) (read-of-trace (handedOut occupied last es) tr) n m
-  where
-    here : table occupied last es .held a ≡ Bound u
-    here = sym (addresses-by-table occupied last es a .0) ∙ e
-
-    go : (x : Happened) → OfTrace x → (x ≡ Replied u → ⊥) → ((w : Udid) → x ≡ Assigned w a → ⊥)
-        → after occupied x (table occupied last es) .held a ≡ Bound u
-    go Started s p q = absurd s
-    go (Replied w) s p q =
-        ap (λ (b : Bool). pick b Open (table occupied last es .held a))
-        (ap (holds w) here ∙ other-udid u w (λ k. p (ap Replied (sym k))))
-        ∙ here
-    go (Assigned w b) s p q =
-        ap (λ (c : Bool). pick c (pick (or (member (barredPool occupied) b) (isBoundOrClaimed (table occupied last es .held b))) Claimed (Bound w)) (table occupied last es .held a)) (ne-eqb a b (λ k. q w (ap (Assigned w) (sym k))))
-        ∙ here
-    go (Pulled b) s p q = absurd s
-    go Other s p q = here
+binding-stays occupied last es tr a u e n m =
+    bound-either occupied last es tr a u
+    (inr (e, λ r. n (replied-is-read occupied last es tr u (reached-good occupied last es .0 .sound .fits a u e) .0 r), λ w c. m w (completes-is-read occupied last es tr w a .0 c)))
 
 -- by the events alone, in the scope's numbers
 pub lookup-by-story : (occupied : Pool) (last : ℕ) (es : List Event) (a : ℕ) → a < 128 → lookupNumber (lookedUp (run occupied last es) a) ≡ numberOf (story occupied last es .known .held a)

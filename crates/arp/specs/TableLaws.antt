@@ -57,7 +57,7 @@ use Rattle.hearing.specs.declared.told.Told.the-variants.{Again, Over, GivenUp,
 tables : (t r : Table) → ((a : ℕ) → t .held a ≡ r .held a) → ((a : ℕ) → t .used a ≡ r .used a) → t ≡ r
 tables t r h u = ap₂ (λ (x : ℕ → Binding) (y : ℕ → Bool). record { held = x; used = y }) (fun-ext h) (fun-ext u)
 
-holds-is : (u : Udid) (h : Binding) → holds u h ≡ boundTo u h
+pub holds-is : (u : Udid) (h : Binding) → holds u h ≡ boundTo u h
 holds-is u Open = refl
 holds-is u (Bound v) = refl
 holds-is u Claimed = refl
