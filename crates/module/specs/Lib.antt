@@ -10,3 +10,8 @@ pub mod SupplyLaws
 pub mod Acknowledges
 pub mod AckLaws
 pub mod NackLaws
+pub mod Packets
+pub mod PacketsLaws
+pub mod ResetLaws
+pub mod ResumeLaws
+pub mod PecDueLaws
