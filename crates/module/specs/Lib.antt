@@ -15,3 +15,4 @@ pub mod PacketsLaws
 pub mod ResetLaws
 pub mod ResumeLaws
 pub mod PecDueLaws
+pub mod StartLaws
