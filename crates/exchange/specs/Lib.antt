@@ -1,0 +1,4 @@
+pub mod Exchange
+pub mod WalkLaws
+pub mod PrepareLaws
+pub mod AssignLaws
