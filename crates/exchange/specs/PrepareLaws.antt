@@ -20,8 +20,9 @@ use Rattle.module.specs.Reset as own
 use Rattle.module.specs.State.{at, silentIn, taken}
 use Rattle.module.specs.Supply.{addressByte}
 use Rattle.module.specs.SupplyLaws.{start-write}
+use Rattle.exchange.specs.EachLaws.{each-any}
 use Rattle.exchange.specs.Exchange.{recordOf, recordsOf, exchange}
-use Rattle.exchange.specs.WalkLaws.{Follows, each-any, abreast, Same, sent-same, follows-ack}
+use Rattle.exchange.specs.WalkLaws.{Follows, abreast, Same, sent-same, follows-ack}
 
 -- PEC after the default address
 abbrev first : ℕ

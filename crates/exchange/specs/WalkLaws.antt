@@ -54,11 +54,6 @@ silent-follows sent t t' (b ∷ bs) o h e =
 
 -- ---- modules beside their records
 
--- what holds of any holds of each
-pub each-any : {A : Type 0} {P : A → Type 0} → ((x : A) → P x) → (l : List A) → Each P l
-each-any f [] = tt
-each-any f (x ∷ l) = (f x, each-any f l)
-
 abbrev pub Abreast : List ℕ → List ℕ → List Module → List Target → List Target → Type 0
 Abreast sent bs [] [] [] = Unit
 Abreast sent bs [] [] (t' ∷ ts') = ⊥
