@@ -6,3 +6,7 @@ pub mod AssignLaws
 pub mod ReadLaws
 pub mod AlikeLaws
 pub mod GetLaws
+pub mod ExchangeLaws
+pub mod NamesLaws
+pub mod Pass
+pub mod PassLaws
