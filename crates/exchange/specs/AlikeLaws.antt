@@ -71,4 +71,3 @@ seen-alike (b ∷ l) ss h e =
     let w = line-all b l ss h e in
     let q = each-alike b l ss h in
     ap₂ _∷_ w (ap (λ (x : Bool). seen (length l) (map (sees x) ss)) w ∙ seen-alike l (map (sees b) ss) (q .0) (q .1 ∙ e))
-

@@ -215,10 +215,10 @@ module _ (u : Udid) (a : Address) (o : Lasting) (f : Fits u) (g : Fits (o .udid)
           let n : us ≡ vs → ⊥ = λ k. eqb-false b y e (sym (getD-at zs b xs 0 j (omega arith)) ∙ ap (λ (z : List ℕ). getD z j 0) (sym p ∙ k) ∙ here) in
           let none : (more : List ℕ) → acknowledges (front (zs ++ b ∷ []) ++ more) t ≡ false =
           λ more.
-              ap (λ (z : List ℕ). acknowledges (front z) t) (append-assoc zs (b ∷ []) more)
-              ∙ later-ack (zs ++ b ∷ more) t
-              ∙ ap (begins (zs ++ b ∷ more)) (whole (getD (zs ++ b ∷ more) 16 0))
-              ∙ begins-other zs b y more (ys ++ tail (o .udid) (getD (zs ++ b ∷ more) 16 0)) e in
+          ap (λ (z : List ℕ). acknowledges (front z) t) (append-assoc zs (b ∷ []) more)
+          ∙ later-ack (zs ++ b ∷ more) t
+          ∙ ap (begins (zs ++ b ∷ more)) (whole (getD (zs ++ b ∷ more) 16 0))
+          ∙ begins-other zs b y more (ys ++ tail (o .udid) (getD (zs ++ b ∷ more) 16 0)) e in
           follows-nack (front zs) t t' b (xs ++ x ∷ pec ∷ []) (due o j c) o (heard false e)
           (ap (λ (z : List ℕ). acknowledges z t) (sym (append-nil (front (zs ++ b ∷ [])))) ∙ none []) (record-left n)
           (silent-follows (front (zs ++ b ∷ [])) t t' (xs ++ x ∷ pec ∷ []) o none (record-left n))

@@ -2,6 +2,7 @@
 use Prim.Native.Nat.{ℕ, zero, suc}
 use mathlib.Core.Path.{_≡_, refl, sym, ap, ap₂, subst, _∙_}
 use mathlib.Core.Bool.{Bool, true, false}
+use mathlib.Core.Logic.{inl, inr}
 use mathlib.Core.List.{List, [], _∷_, _++_, map, append-assoc}
 use native.Mathlib.Omega.{arith}
 use lib.Dec.{eqb}
@@ -12,6 +13,7 @@ use Rattle.pec.specs.Pec.{pecStep, pecFrom}
 use Rattle.wire.specs.Symbols.{START, STOP, ACK}
 use Rattle.trace.specs.Trace.{acked, nacked}
 use Rattle.udid.specs.Bytes.{udidBytes}
+use Rattle.arbitration.specs.Among.{Among}
 use Rattle.arbitration.specs.Bits.{bits, byteBits, numberOf, bytesRead}
 use Rattle.arbitration.specs.BitLaws.{length-bits, number-bits}
 use Rattle.arbitration.specs.Wire.{next, later, heard}
@@ -23,7 +25,7 @@ use Rattle.commands.specs.declared.command.Handed.the-variants.{Send}
 use Rattle.rule.specs.Acknowledge as model
 use Rattle.rule.specs.Acknowledge.{begins, acknowledges, somebody, answered, standing, sentPart, onBus}
 use Rattle.rule.specs.Acted.{acted}
-use Rattle.rule.specs.TraceLaws.{get-read}
+use Rattle.rule.specs.TraceLaws.{one-acknowledges, get-read}
 use Rattle.module.specs.declared.state.Heard.{Heard}
 use Rattle.module.specs.declared.state.Lasting.{Lasting}
 use Rattle.module.specs.declared.state.Module.{Module}
@@ -35,9 +37,10 @@ use Rattle.module.specs.Supply.{addressByte, replyByte, supplied}
 use Rattle.module.specs.SupplyLaws.{says, reply, reply-says, askedPec, start-write, asked-general, supplied-own}
 use Rattle.exchange.specs.AlikeLaws.{Says, some, seen-alike}
 use Rattle.exchange.specs.EachLaws.{each-any}
-use Rattle.exchange.specs.Exchange.{recordOf, recordsOf, silenced, hearing, anyAck, walk, Sender, asked, line, sees, seen, after, byteOn, afterByte, bytesOn, afterBytes, reading, exchange}
+use Rattle.exchange.specs.Exchange.{recordOf, recordsOf, silenced, hearing, anyAck, Left, walk, Sender, asked, line, sees, seen, after, byteOn, afterByte, bytesOn, afterBytes, reading, exchange}
 use Rattle.exchange.specs.ReadLaws.{Talks, quiet, speaks, wires, bytes-same}
-use Rattle.exchange.specs.WalkLaws.{Follows, Abreast, abreast, Same, same-put, any-same, records-silenced, walk-start, walk-end, answered-start, answered-end, walked, walked-one, follows-ack, follows-nack}
+use Rattle.exchange.specs.Sending.{startedAgain, askedAll}
+use Rattle.exchange.specs.WalkLaws.{Follows, Abreast, abreast, Same, same-put, any-same, next-same, records-silenced, walk-start, walk-end, answered-start, answered-end, walked, walked-one, follows-ack, follows-nack}
 
 -- ---- reading changes no record
 
@@ -252,14 +255,11 @@ read-follows m = subst (λ (x : Module). Follows (256 ∷ 194 ∷ 3 ∷ 256 ∷ 
     go true e = follows-nack (256 ∷ 194 ∷ 3 ∷ 256 ∷ []) t t 195 [] (at o AskedAgain 0 two 0) o (step true e) (get-ack m ∙ ap not e) refl refl
     go false e = follows-ack (256 ∷ 194 ∷ 3 ∷ 256 ∷ []) t t 195 [] (at o AskedAgain 0 two 0) (at o Reply 0 (pecStep two 195) 0) (step false e) (get-ack m ∙ ap not e) refl
 
-abbrev agains : List Module → List Module
-agains ms = map started (map (hearing 0x03) (map (hearing forWrite) (map started ms)))
-
 front-abreast : (ms : List Module) → Abreast (256 ∷ []) (194 ∷ 3 ∷ []) (map started ms) (recordsOf ms) (recordsOf ms)
 front-abreast [] = tt
 front-abreast (m ∷ ms) = (front-follows m, front-abreast ms)
 
-read-abreast : (ms : List Module) → Abreast (256 ∷ 194 ∷ 3 ∷ 256 ∷ []) (195 ∷ []) (agains ms) (recordsOf ms) (recordsOf ms)
+read-abreast : (ms : List Module) → Abreast (256 ∷ 194 ∷ 3 ∷ 256 ∷ []) (195 ∷ []) (startedAgain ms) (recordsOf ms) (recordsOf ms)
 read-abreast [] = tt
 read-abreast (m ∷ ms) = (read-follows m, read-abreast ms)
 
@@ -267,7 +267,7 @@ answering-is : (m : Module) → hearing forRead (again m) ≡ answering m
 unfolding heardAll
 answering-is m = asked-general m
 
-pub answering-all : (ms : List Module) → map (hearing forRead) (agains ms) ≡ map answering ms
+pub answering-all : (ms : List Module) → askedAll ms ≡ map answering ms
 answering-all [] = refl
 answering-all (m ∷ ms) = ap₂ _∷_ (answering-is m) (answering-all ms)
 
@@ -280,16 +280,16 @@ module _ (ms : List Module) where
   abbrev acks : List ℕ → Bool
   acks sent = somebody (acknowledges sent) ts
 
-  ending : anyAck 195 (agains ms) ≡ true → (a : Bool) → Same (walk reading a (map (hearing 195) (agains ms)) []) (answered acks asking [] (shows ms)) ts
+  ending : anyAck 195 (startedAgain ms) ≡ true → (a : Bool) → Same (walk reading a (askedAll ms) []) (answered acks asking [] (shows ms)) ts
   ending e a =
-      rw (walk-end reading a (map (hearing 195) (agains ms)), answered-end acks asking (shows ms), answering-all ms)
-      (read-same ms (sym (any-same (256 ∷ 194 ∷ 3 ∷ 256 ∷ []) 195 [] (agains ms) ts ts (read-abreast ms)) ∙ e))
+      rw (walk-end reading a (askedAll ms), answered-end acks asking (shows ms), answering-all ms)
+      (read-same ms (sym (any-same (256 ∷ 194 ∷ 3 ∷ 256 ∷ []) 195 [] (startedAgain ms) ts ts (read-abreast ms)) ∙ e))
 
   second : (a : Bool)
       → Same (walk reading a (map (hearing 0x03) (map (hearing forWrite) (map started ms))) (START ∷ 195 ∷ ACK ∷ [])) (answered acks (256 ∷ 194 ∷ 3 ∷ []) (START ∷ 195 ∷ ACK ∷ []) (shows ms)) ts
   second a =
       rw (walk-start reading a (map (hearing 0x03) (map (hearing forWrite) (map started ms))) (195 ∷ ACK ∷ []), answered-start acks (256 ∷ 194 ∷ 3 ∷ []) (195 ∷ ACK ∷ []) (shows ms))
-      (same-put START _ _ ts (walked-one reading (shows ms) [] ts ts (256 ∷ 194 ∷ 3 ∷ 256 ∷ []) 195 (agains ms) (omega arith) (read-abreast ms) ending a))
+      (same-put START _ _ ts (walked-one reading (shows ms) [] ts ts (256 ∷ 194 ∷ 3 ∷ 256 ∷ []) 195 (startedAgain ms) (omega arith) (read-abreast ms) ending a))
 
   -- GET UDID: any modules, in any states
   pub get-same : Same (exchange (Send GetUdid) ms) (onBus (Send GetUdid) ts) (acted (Send GetUdid) ts)
@@ -297,3 +297,26 @@ module _ (ms : List Module) where
   get-same =
       rw (walk-start reading false ms (acked (194 ∷ 3 ∷ []) ++ (START ∷ 195 ∷ ACK ∷ [])), answered-start acks [] (acked (194 ∷ 3 ∷ []) ++ (START ∷ 195 ∷ ACK ∷ [])) (shows ms))
       (same-put START _ _ ts (walked reading (shows ms) (START ∷ 195 ∷ ACK ∷ []) ts ts (256 ∷ []) (194 ∷ 3 ∷ []) (map started ms) (omega arith, (omega arith, tt)) (front-abreast ms) second false))
+
+  -- where one of them is not resolved the reply follows
+  pub get-reads : (m : Module) → Among m ms → m .own .resolved ≡ false
+      → exchange (Send GetUdid) ms
+      ≡ record { trace = 256 ∷ 194 ∷ 258 ∷ 3 ∷ 258 ∷ 256 ∷ 195 ∷ 258 ∷ reading (askedAll ms) .trace; modules = reading (askedAll ms) .modules }
+  unfolding exchange walk
+  get-reads m i e =
+      let r : Among (recordOf m) ts = among-records ms i in
+      let ms1 : List Module = map started ms in
+      let ms2 : List Module = map (hearing 0xC2) ms1 in
+      let a : anyAck 0xC2 ms1 ≡ true =
+      any-same (256 ∷ []) 194 (3 ∷ []) ms1 ts ts (front-abreast ms) ∙ one-acknowledges (acknowledges (256 ∷ 194 ∷ [])) ts (recordOf m) r (first-ack (recordOf m)) in
+      let b : anyAck 0x03 ms2 ≡ true =
+      any-same (256 ∷ 194 ∷ []) 3 [] ms2 ts ts (next-same (256 ∷ []) 194 (3 ∷ []) ms1 ts ts (front-abreast ms))
+      ∙ one-acknowledges (acknowledges (256 ∷ 194 ∷ 3 ∷ [])) ts (recordOf m) r (second-ack (recordOf m)) in
+      let c : anyAck 0xC3 (startedAgain ms) ≡ true =
+      any-same (256 ∷ 194 ∷ 3 ∷ 256 ∷ []) 195 [] (startedAgain ms) ts ts (read-abreast ms)
+      ∙ one-acknowledges (acknowledges asking) ts (recordOf m) r (get-ack m ∙ ap not e) in
+      rw (a, b, c)
+    where
+      among-records : (l : List Module) → Among m l → Among (recordOf m) (recordsOf l)
+      among-records (x ∷ l) (inl q) = inl (ap recordOf q)
+      among-records (x ∷ l) (inr q) = inr (among-records l q)

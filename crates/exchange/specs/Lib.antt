@@ -5,7 +5,9 @@ pub mod PrepareLaws
 pub mod AssignLaws
 pub mod ReadLaws
 pub mod AlikeLaws
+pub mod Sending
 pub mod GetLaws
+pub mod WinLaws
 pub mod ExchangeLaws
 pub mod NamesLaws
 pub mod Pass

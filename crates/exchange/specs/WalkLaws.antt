@@ -81,7 +81,7 @@ module _ (sent : List ℕ) (b : ℕ) (bs : List ℕ) where
       let f = neither (received m b .ack) (anyAck b ms) e in
       ap₂ (λ (x : Target) (l : List Target). x ∷ l) (h .0 .1 .0 (f .0)) (none-same ms ts ts' (h .1) (f .1))
 
-  next-same : (ms : List Module) (ts ts' : List Target) → Abreast sent (b ∷ bs) ms ts ts' → Abreast (sent ++ b ∷ []) bs (map (hearing b) ms) ts ts'
+  pub next-same : (ms : List Module) (ts ts' : List Target) → Abreast sent (b ∷ bs) ms ts ts' → Abreast (sent ++ b ∷ []) bs (map (hearing b) ms) ts ts'
   next-same [] [] [] h = tt
   next-same (m ∷ ms) (t ∷ ts) (t' ∷ ts') h = (h .0 .1 .1, next-same ms ts ts' (h .1))
 
