@@ -30,20 +30,17 @@ use Rattle.module.specs.declared.state.Heard.{Heard}
 use Rattle.module.specs.declared.state.Lasting.{Lasting}
 use Rattle.module.specs.declared.state.Module.{Module}
 use Rattle.module.specs.declared.state.Phase.the-variants.{Silent, Command, Count, Identifier, Given, AssignPec}
-use Rattle.module.specs.Receive.{forWrite, started, received}
+use Rattle.module.specs.Receive.{started, received}
 use Rattle.module.specs.Reset as own
 use Rattle.module.specs.State.{at, silentIn, taken, refused}
 use Rattle.module.specs.Supply.{addressByte}
-use Rattle.module.specs.SupplyLaws.{start-write}
 use Rattle.exchange.specs.Exchange.{recordOf, recordsOf, stopAll, walk, exchange}
+use Rattle.exchange.specs.FrontLaws.{first, front-follows}
 use Rattle.exchange.specs.WalkLaws.{Follows, abreast, Same, sent-same, follows-ack, follows-nack, silent-follows}
 
 -- ---- a module, byte by byte
 
--- PEC after the default address, and after the command and the count
-abbrev first : ℕ
-first = pecStep 0 forWrite
-
+-- PEC after C2h, 04h and the count
 abbrev third : ℕ
 third = pecStep (pecStep first 0x04) 17
 
@@ -97,10 +94,6 @@ unfolding pecFrom
 pec-cons c x l = refl
 
 -- ---- its record, byte by byte
-
-first-ack : (t : Target) → acknowledges (256 ∷ 194 ∷ []) t ≡ true
-unfolding acknowledges begins
-first-ack t = refl
 
 second-ack : (t : Target) → acknowledges (256 ∷ 194 ∷ 4 ∷ []) t ≡ true
 unfolding acknowledges begins
@@ -227,14 +220,18 @@ module _ (u : Udid) (a : Address) (o : Lasting) (f : Fits u) (g : Fits (o .udid)
   unfolding pecFrom
   pec-all = refl
 
-  assign-follows : (m : Module) → m .own ≡ o → Follows (256 ∷ []) t t' (assigned u x) (started m)
-  assign-follows m e =
-      let z : List ℕ = us ++ x ∷ pec ∷ [] in
-      follows-ack (256 ∷ []) t t' 194 (4 ∷ 17 ∷ z) (started m) (at o Command 0 first 0) (start-write m ∙ ap (λ (w : Lasting). taken w Command 0 first 0) e) (first-ack t)
-      (follows-ack (256 ∷ 194 ∷ []) t t' 4 (17 ∷ z) (at o Command 0 first 0) (at o Count 0 (pecStep first 0x04) 0) (command-step o) (second-ack t)
-      (follows-ack (256 ∷ 194 ∷ 4 ∷ []) t t' 17 z (at o Count 0 (pecStep first 0x04) 0) (at o Identifier 0 third 0) (count-step o (pecStep first 0x04)) (third-ack t)
-      (subst (λ (w : Module). Follows (front []) t t' z w) (due-identifier o 0 third (omega arith))
-      (many [] us vs 0 third refl refl (length-udid u ∙ sym (length-udid (o .udid))) refl (omega (arith, length-udid u)) pec-all))))
+assign-follows : (u : Udid) (a : Address) (m : Module) → Fits u → Fits (m .own .udid)
+    → Follows (256 ∷ []) (recordOf m) (assignedTo u (a .0) (recordOf m)) (assigned u (2 * (a .0 % 128))) (started m)
+assign-follows u a m f g =
+    let o = m .own in
+    let t = recordOf m in
+    let t' = assignedTo u (a .0) t in
+    let z : List ℕ = udidBytes u ++ tail u (2 * (a .0 % 128)) in
+    front-follows m t' (4 ∷ 17 ∷ z)
+    (follows-ack (256 ∷ 194 ∷ []) t t' 4 (17 ∷ z) (at o Command 0 first 0) (at o Count 0 (pecStep first 0x04) 0) (command-step o) (second-ack t)
+    (follows-ack (256 ∷ 194 ∷ 4 ∷ []) t t' 17 z (at o Count 0 (pecStep first 0x04) 0) (at o Identifier 0 third 0) (count-step o (pecStep first 0x04)) (third-ack t)
+    (subst (λ (w : Module). Follows (front []) t t' z w) (due-identifier o 0 third (omega arith))
+    (many u a o f g [] (udidBytes u) (udidBytes (o .udid)) 0 third refl refl (length-udid u ∙ sym (length-udid (o .udid))) refl (omega (arith, length-udid u)) (pec-all u a o f g)))))
 
 -- the identifier of a module is a number of 128 bits
 abbrev pub Fitting : Module → Type 0
@@ -249,4 +246,4 @@ assign-same u a f ms h =
     let ts : List Target = recordsOf ms in
     subst (λ (l : List ℕ). Same (walk stopAll false ms l) (standing l ts) (acted (Send (Assign u a)) ts)) (sym (assign-sends-bytes u a))
     (sent-same (assigned u x) ms ts (acted (Send (Assign u a)) ts) (bytes-assigned u x (omega arith))
-    (abreast (256 ∷ []) (assigned u x) started (assignedTo u (a .0)) ms (each-map ms (λ m g. assign-follows u a (m .own) f g m refl) h)))
+    (abreast (256 ∷ []) (assigned u x) started (assignedTo u (a .0)) ms (each-map ms (λ m g. assign-follows u a m f g) h)))

@@ -1,210 +1,43 @@
 -- Get UDID on the bus of modules.
-use Prim.Native.Nat.{ℕ, zero, suc}
+use Prim.Native.Nat.{ℕ}
 use mathlib.Core.Path.{_≡_, refl, sym, ap, ap₂, subst, _∙_}
 use mathlib.Core.Bool.{Bool, true, false}
 use mathlib.Core.Logic.{inl, inr}
-use mathlib.Core.List.{List, [], _∷_, _++_, map, append-assoc}
+use mathlib.Core.List.{List, [], _∷_, _++_, map}
 use native.Mathlib.Omega.{arith}
-use lib.Dec.{eqb}
-use Rattle.lists.specs.Choice.{pick, or, and, not}
-use Rattle.lists.specs.ChoiceLaws.{false-not-true, not-both}
-use Rattle.lists.specs.Each.{Each}
-use Rattle.pec.specs.Pec.{pecStep, pecFrom}
-use Rattle.wire.specs.Symbols.{START, STOP, ACK}
-use Rattle.trace.specs.Trace.{acked, nacked}
-use Rattle.udid.specs.Bytes.{udidBytes}
+use Rattle.lists.specs.Choice.{pick, not}
+use Rattle.pec.specs.Pec.{pecStep}
+use Rattle.wire.specs.Symbols.{START, ACK}
+use Rattle.trace.specs.Trace.{acked}
 use Rattle.arbitration.specs.Among.{Among}
-use Rattle.arbitration.specs.Bits.{bits, byteBits, numberOf, bytesRead}
-use Rattle.arbitration.specs.BitLaws.{length-bits, number-bits}
-use Rattle.arbitration.specs.Wire.{next, later, heard}
-use Rattle.targets.specs.Target.{Target, isResolved}
-use Rattle.targets.specs.Reply.{replyData, coveredBytes, replyPec, replyBytes, sends, waiting, OnWire, shown, onWire}
+use Rattle.targets.specs.Target.{Target}
 use Rattle.commands.specs.SameTrace.{same}
 use Rattle.commands.specs.declared.command.Command.the-variants.{GetUdid}
 use Rattle.commands.specs.declared.command.Handed.the-variants.{Send}
-use Rattle.rule.specs.Acknowledge as model
-use Rattle.rule.specs.Acknowledge.{begins, acknowledges, somebody, answered, standing, sentPart, onBus}
+use Rattle.rule.specs.Acknowledge.{begins, acknowledges, somebody, answered, standing, onBus}
 use Rattle.rule.specs.Acted.{acted}
-use Rattle.rule.specs.TraceLaws.{one-acknowledges, get-read}
+use Rattle.rule.specs.TraceLaws.{one-acknowledges}
 use Rattle.module.specs.declared.state.Heard.{Heard}
 use Rattle.module.specs.declared.state.Lasting.{Lasting}
 use Rattle.module.specs.declared.state.Module.{Module}
 use Rattle.module.specs.declared.state.Phase.the-variants.{Command, Asked, AskedAgain, Reply}
 use Rattle.module.specs.Obeys.{heardAll}
 use Rattle.module.specs.Receive.{forWrite, forRead, started, received}
-use Rattle.module.specs.State.{at, silentIn, taken, refused}
-use Rattle.module.specs.Supply.{addressByte, replyByte, supplied}
-use Rattle.module.specs.SupplyLaws.{says, reply, reply-says, askedPec, start-write, asked-general, supplied-own}
-use Rattle.exchange.specs.AlikeLaws.{Says, some, seen-alike}
-use Rattle.exchange.specs.EachLaws.{each-any}
-use Rattle.exchange.specs.Exchange.{recordOf, recordsOf, silenced, hearing, anyAck, Left, walk, Sender, asked, line, sees, seen, after, byteOn, afterByte, bytesOn, afterBytes, reading, exchange}
-use Rattle.exchange.specs.ReadLaws.{Talks, quiet, speaks, wires, bytes-same}
+use Rattle.module.specs.State.{at, taken, refused}
+use Rattle.module.specs.SupplyLaws.{start-write, asked-general}
+use Rattle.exchange.specs.AnsweringLaws.{answering, asking, get-ack, shows, read-same}
+use Rattle.exchange.specs.Exchange.{recordOf, recordsOf, hearing, anyAck, walk, reading, exchange}
+use Rattle.exchange.specs.FrontLaws.{first, first-ack, front-follows}
 use Rattle.exchange.specs.Sending.{startedAgain, askedAll}
-use Rattle.exchange.specs.WalkLaws.{Follows, Abreast, abreast, Same, same-put, any-same, next-same, records-silenced, walk-start, walk-end, answered-start, answered-end, walked, walked-one, follows-ack, follows-nack}
+use Rattle.exchange.specs.WalkLaws.{Follows, follows-ack, follows-nack}
+use Rattle.exchange.specs.WalkLaws.{Abreast, any-same, next-same}
+use Rattle.exchange.specs.WalkLaws.{Same, same-put, walk-start, walk-end, answered-start, answered-end, walked, walked-one}
 
--- ---- reading changes no record
+-- ---- the bytes before the reply
 
-sees-record : (w : Bool) (s : Sender) → recordOf (sees w s .who) ≡ recordOf (s .who)
-sees-record w s = go (and (s .sends) (and (next (s .left)) (not w)))
-  where
-    go : (z : Bool)
-        → recordOf (pick {A = Sender} z (record { who = silenced (s .who); sends = false; left = [] }) (record { who = s .who; sends = s .sends; left = later (s .left) }) .who)
-        ≡ recordOf (s .who)
-    go true = refl
-    go false = refl
-
-abbrev records : List Sender → List Target
-records ss = recordsOf (map (λ (s : Sender). s .who) ss)
-
-sees-records : (w : Bool) (ss : List Sender) → records (map (sees w) ss) ≡ records ss
-sees-records w [] = refl
-sees-records w (s ∷ ss) = ap₂ _∷_ (sees-record w s) (sees-records w ss)
-
-after-records : (j : ℕ) (ss : List Sender) → records (after j ss) ≡ records ss
-unfolding after
-after-records zero ss = refl
-after-records (suc j) ss = after-records j (map (sees (line ss)) ss) ∙ sees-records (line ss) ss
-
-asked-records : (ms : List Module) → records (map asked ms) ≡ recordsOf ms
-asked-records [] = refl
-asked-records (m ∷ ms) =
-    ap₂ _∷_ (ap (λ (o : Lasting). record { udid = o .udid; addressByte = addressByte o; flag = pick (o .resolved) 1 0 }) (supplied-own m)) (asked-records ms)
-
-bytes-records : (n : ℕ) (ms : List Module) → recordsOf (afterBytes n ms) ≡ recordsOf ms
-unfolding afterBytes
-bytes-records zero ms = refl
-bytes-records (suc n) ms = bytes-records n (afterByte ms) ∙ after-records 8 (map asked ms) ∙ asked-records ms
-
--- ---- a module when the read address has come
-
-abbrev pub answering : Module → Module
-answering m = pick (m .own .resolved) (silentIn (m .own)) (at (m .own) Reply 0 (askedPec 0x03) 0)
-
-pub answering-talks : (ms : List Module) → Each (Talks 19) (map answering ms)
-answering-talks [] = tt
-answering-talks (m ∷ ms) = (go (m .own .resolved), answering-talks ms)
-  where
-    go : (b : Bool) → Talks 19 (pick b (silentIn (m .own)) (at (m .own) Reply 0 (askedPec 0x03) 0))
-    go true = quiet (m .own)
-    go false = speaks {n = 19} (m .own) (askedPec 0x03) 0 refl
-
-silent-asked : (o : Lasting) → supplied (silentIn o) .drives ≡ false
-unfolding supplied
-silent-asked o = refl
-
-reply-asked : (o : Lasting) (c : ℕ) → (supplied (at o Reply 0 c 0) .drives ≡ true) × (supplied (at o Reply 0 c 0) .byte ≡ 17)
-unfolding supplied replyByte
-reply-asked o c = (refl, refl)
-
-answering-drives : (m : Module) → supplied (answering m) .drives ≡ not (m .own .resolved)
-answering-drives m = go (m .own .resolved)
-  where
-    go : (b : Bool) → supplied (pick b (silentIn (m .own)) (at (m .own) Reply 0 (askedPec 0x03) 0)) .drives ≡ not b
-    go true = silent-asked (m .own)
-    go false = reply-asked (m .own) (askedPec 0x03) .0
-
--- S C2 03 S C3: all that is sent before the reply. A record acknowledges the last of it where it is not resolved
-abbrev asking : List ℕ
-asking = 256 ∷ 194 ∷ 3 ∷ 256 ∷ 195 ∷ []
-
-get-ack : (m : Module) → acknowledges asking (recordOf m) ≡ not (m .own .resolved)
-get-ack m = get-read (recordOf m) ∙ go (m .own .resolved)
-  where
-    go : (b : Bool) → pick (eqb (pick b 1 0) 1) false true ≡ not b
-    go true = refl
-    go false = refl
-
-some-same : (ms : List Module) → some (map asked (map answering ms)) ≡ somebody (acknowledges asking) (recordsOf ms)
-unfolding some somebody
-some-same [] = refl
-some-same (m ∷ ms) = ap₂ or (answering-drives m ∙ sym (get-ack m)) (some-same ms)
-
-answering-says : (ms : List Module) → Each (Says (bits 8 17)) (map asked (map answering ms))
-answering-says [] = tt
-answering-says (m ∷ ms) = (go (m .own .resolved), answering-says ms)
-  where
-    go : (b : Bool) → supplied (pick b (silentIn (m .own)) (at (m .own) Reply 0 (askedPec 0x03) 0)) .drives ≡ true
-        → bits 8 (supplied (pick b (silentIn (m .own)) (at (m .own) Reply 0 (askedPec 0x03) 0)) .byte) ≡ bits 8 17
-    go true e = not-both (silent-asked (m .own)) e
-    go false e = ap (bits 8) (reply-asked (m .own) (askedPec 0x03) .1)
-
--- the count is 17
-count-is : (ms : List Module) → somebody (acknowledges asking) (recordsOf ms) ≡ true → byteOn (map answering ms) ≡ 17
-count-is ms e =
-    let l = length-bits 8 17 in
-    ap (λ (n : ℕ). numberOf (seen n (map asked (map answering ms)))) (sym l)
-    ∙ ap numberOf (seen-alike (bits 8 17) (map asked (map answering ms)) (answering-says ms) (some-same ms ∙ e))
-    ∙ number-bits 8 17
-
--- what they put on the wire is what the model's targets put there
-reply-same : (m : Module) → reply (m .own) (askedPec 0x03) ≡ replyBytes (recordOf m)
-unfolding replyBytes replyData replyPec coveredBytes pecFrom
-reply-same m =
-    ap (_∷_ 17) (sym (append-assoc (udidBytes (m .own .udid)) (addressByte (m .own) ∷ []) (pecFrom (askedPec 0x03) (17 ∷ (udidBytes (m .own .udid) ++ (addressByte (m .own) ∷ []))) ∷ [])))
-
-bits-same : (m : Module) → byteBits (says 19 (at (m .own) Reply 0 (askedPec 0x03) 0)) ≡ sends (recordOf m)
-unfolding sends
-bits-same m = ap byteBits (reply-says (m .own) (askedPec 0x03) ∙ reply-same m)
-
-wires-same : (ms : List Module) → wires 19 (map answering ms) ≡ waiting (recordsOf ms)
-unfolding wires
-wires-same [] = refl
-wires-same (m ∷ ms) = go (m .own .resolved) (wires-same ms)
-  where
-    go : (b : Bool) → wires 19 (map answering ms) ≡ waiting (recordsOf ms)
-        → pick (supplied (pick b (silentIn (m .own)) (at (m .own) Reply 0 (askedPec 0x03) 0)) .drives)
-        (byteBits (says 19 (pick b (silentIn (m .own)) (at (m .own) Reply 0 (askedPec 0x03) 0))) ∷ wires 19 (map answering ms)) (wires 19 (map answering ms))
-        ≡ pick (eqb (pick b 1 0) 1) (waiting (recordsOf ms)) (sends (recordOf m) ∷ waiting (recordsOf ms))
-    go true r = rw (silent-asked (m .own)) r
-    go false r = rw (reply-asked (m .own) (askedPec 0x03) .0) (ap₂ _∷_ (bits-same m) r)
-
--- somebody answers: the wire shows 19 bytes
-waiting-some : (ts : List Target) → somebody (acknowledges asking) ts ≡ true → onWire (waiting ts) ≡ shown (bytesRead 19 (heard 152 (waiting ts)))
-unfolding somebody
-waiting-some [] e = false-not-true e
-waiting-some (t ∷ ts) e = go (isResolved t) (ap (λ (b : Bool). or b (somebody (acknowledges asking) ts)) (sym (get-read t)) ∙ e) (λ f. waiting-some ts f)
-  where
-    go : (b : Bool) → or (pick b false true) (somebody (acknowledges asking) ts) ≡ true
-        → (somebody (acknowledges asking) ts ≡ true → onWire (waiting ts) ≡ shown (bytesRead 19 (heard 152 (waiting ts))))
-        → onWire (pick b (waiting ts) (sends t ∷ waiting ts)) ≡ shown (bytesRead 19 (heard 152 (pick b (waiting ts) (sends t ∷ waiting ts))))
-    go true f r = r f
-    go false f r = refl
-
-answering-records : (ms : List Module) → recordsOf (map answering ms) ≡ recordsOf ms
-answering-records [] = refl
-answering-records (m ∷ ms) = ap₂ _∷_ (go (m .own .resolved)) (answering-records ms)
-  where
-    go : (b : Bool) → recordOf (pick b (silentIn (m .own)) (at (m .own) Reply 0 (askedPec 0x03) 0)) ≡ recordOf m
-    go true = refl
-    go false = refl
-
--- THE READ: what stands on the wire, and no record changes
-abbrev shows : List Module → List ℕ
-shows ms = model.received (onWire (waiting (recordsOf ms))) ++ STOP ∷ []
-
-read-same : (ms : List Module) → somebody (acknowledges asking) (recordsOf ms) ≡ true → Same (reading (map answering ms)) (shows ms) (recordsOf ms)
-read-same ms e =
-    let ns : List Module = map answering ms in
-    let n : suc (suc (byteOn ns)) ≡ 19 = ap (λ (x : ℕ). suc (suc x)) (count-is ms e) in
-    let b : bytesOn (suc (suc (byteOn ns))) ns ≡ bytesRead 19 (heard 152 (waiting (recordsOf ms))) =
-    ap (λ (x : ℕ). bytesOn x ns) n ∙ bytes-same 19 ns (answering-talks ms) ∙ ap (λ (x : List (List Bool)). bytesRead 19 (heard 152 x)) (wires-same ms) in
-    record {
-      trace = ap (λ (x : List ℕ). nacked x ++ STOP ∷ []) b ∙ ap (λ (w : OnWire). model.received w ++ STOP ∷ []) (sym (waiting-some (recordsOf ms) e));
-      records = records-silenced (afterBytes (suc (suc (byteOn ns))) ns) ∙ bytes-records (suc (suc (byteOn ns))) ns ∙ answering-records ms;
-    }
-
--- ---- the bytes before it
-
--- PEC after the default address, and after the command
-abbrev first : ℕ
-first = pecStep 0 forWrite
-
+-- PEC after C2h and 03h
 abbrev two : ℕ
 two = pecStep first 0x03
-
-first-ack : (t : Target) → acknowledges (256 ∷ 194 ∷ []) t ≡ true
-unfolding acknowledges begins
-first-ack t = refl
 
 second-ack : (t : Target) → acknowledges (256 ∷ 194 ∷ 3 ∷ []) t ≡ true
 unfolding acknowledges begins
@@ -222,12 +55,10 @@ read-step : (o : Lasting) (c : ℕ) → received (at o AskedAgain 0 c 0) forRead
 unfolding received
 read-step o c = refl
 
-front-follows : (m : Module) → Follows (256 ∷ []) (recordOf m) (recordOf m) (194 ∷ 3 ∷ []) (started m)
-front-follows m =
-    let o = m .own in
-    let t = recordOf m in
-    follows-ack (256 ∷ []) t t 194 (3 ∷ []) (started m) (at o Command 0 first 0) (start-write m) (first-ack t)
-    (follows-ack (256 ∷ 194 ∷ []) t t 3 [] (at o Command 0 first 0) (at o Asked 0 two 0) (command-step o first) (second-ack t) refl)
+get-follows : (m : Module) → Follows (256 ∷ []) (recordOf m) (recordOf m) (194 ∷ 3 ∷ []) (started m)
+get-follows m =
+    front-follows m (recordOf m) (3 ∷ [])
+    (follows-ack (256 ∷ 194 ∷ []) (recordOf m) (recordOf m) 3 [] (at (m .own) Command 0 first 0) (at (m .own) Asked 0 two 0) (command-step (m .own) first) (second-ack (recordOf m)) refl)
 
 -- a module after them and the repeated START
 abbrev again : Module → Module
@@ -257,7 +88,7 @@ read-follows m = subst (λ (x : Module). Follows (256 ∷ 194 ∷ 3 ∷ 256 ∷ 
 
 front-abreast : (ms : List Module) → Abreast (256 ∷ []) (194 ∷ 3 ∷ []) (map started ms) (recordsOf ms) (recordsOf ms)
 front-abreast [] = tt
-front-abreast (m ∷ ms) = (front-follows m, front-abreast ms)
+front-abreast (m ∷ ms) = (get-follows m, front-abreast ms)
 
 read-abreast : (ms : List Module) → Abreast (256 ∷ 194 ∷ 3 ∷ 256 ∷ []) (195 ∷ []) (startedAgain ms) (recordsOf ms) (recordsOf ms)
 read-abreast [] = tt

@@ -15,29 +15,21 @@ use Rattle.rule.specs.Acted.{acted}
 use Rattle.module.specs.declared.state.Lasting.{Lasting}
 use Rattle.module.specs.declared.state.Module.{Module}
 use Rattle.module.specs.declared.state.Phase.the-variants.{Silent, Command, PreparePec}
-use Rattle.module.specs.Receive.{forWrite, started, received}
+use Rattle.module.specs.Receive.{started, received}
 use Rattle.module.specs.Reset as own
 use Rattle.module.specs.State.{at, silentIn, taken}
 use Rattle.module.specs.Supply.{addressByte}
-use Rattle.module.specs.SupplyLaws.{start-write}
 use Rattle.exchange.specs.EachLaws.{each-any}
 use Rattle.exchange.specs.Exchange.{recordOf, recordsOf, exchange}
+use Rattle.exchange.specs.FrontLaws.{first, front-follows}
 use Rattle.exchange.specs.WalkLaws.{Follows, abreast, Same, sent-same, follows-ack}
-
--- PEC after the default address
-abbrev first : ℕ
-first = pecStep 0 forWrite
 
 -- 192 is PEC of C2h and 01h
 pec-is : pecStep first 0x01 ≡ 192
 unfolding pecStep bitStep
 pec-is = refl
 
--- every record acknowledges each of the bytes
-first-ack : (t : Target) → acknowledges (256 ∷ 194 ∷ []) t ≡ true
-unfolding acknowledges begins
-first-ack t = refl
-
+-- every record acknowledges the two bytes after C2h
 second-ack : (t : Target) → acknowledges (256 ∷ 194 ∷ 1 ∷ []) t ≡ true
 unfolding acknowledges begins
 second-ack t = refl
@@ -63,7 +55,7 @@ follows : (m : Module) → Follows (256 ∷ []) (recordOf m) (prepared (recordOf
 follows m =
     let o = m .own in
     let t = recordOf m in
-    follows-ack (256 ∷ []) t (prepared t) 194 (1 ∷ 192 ∷ []) (started m) (at o Command 0 first 0) (start-write m) (first-ack t)
+    front-follows m (prepared t) (1 ∷ 192 ∷ [])
     (follows-ack (256 ∷ 194 ∷ []) t (prepared t) 1 (192 ∷ []) (at o Command 0 first 0) (at o PreparePec 0 192 0)
     (command-step o first ∙ ap (λ (c : ℕ). taken o PreparePec 0 c 0) pec-is) (second-ack t)
     (follows-ack (256 ∷ 194 ∷ 1 ∷ []) t (prepared t) 192 [] (at o PreparePec 0 192 0) (silentIn (own.prepared o)) (pec-step o 192) (third-ack t) (prepared-record o)))

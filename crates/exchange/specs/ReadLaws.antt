@@ -12,6 +12,7 @@ use borrow.Author.Tests.{eq-eqb, ne-eqb, lt-ltb, le-ltb, ltb-true, ltb-false}
 use Rattle.lists.specs.Choice.{pick, or, and, not}
 use Rattle.lists.specs.ChoiceLaws.{false-not-true}
 use Rattle.lists.specs.Each.{Each}
+use Rattle.lists.specs.LengthLaws.{empty-of-length}
 use Rattle.arbitration.specs.Bits.{bits, byteBits, numberOf, bytesRead}
 use Rattle.arbitration.specs.BitLaws.{length-bits}
 use Rattle.arbitration.specs.Wire.{next, later, level, staying, heard, sending}
@@ -109,7 +110,7 @@ pub record Ready (n : ℕ) (s : Sender) : Type 0 where
   pub talks : Talks n (s .who)
   pub same : s .sends ≡ supplied (s .who) .drives
 
-silent-drives : (o : Lasting) → supplied (silentIn o) .drives ≡ false
+pub silent-drives : (o : Lasting) → supplied (silentIn o) .drives ≡ false
 unfolding supplied
 silent-drives o = refl
 
@@ -117,7 +118,7 @@ silent-after : (o : Lasting) → supplied (silentIn o) .after ≡ silentIn o
 unfolding supplied
 silent-after o = refl
 
-reply-drives : (o : Lasting) (k c : ℕ) → supplied (at o Reply k c 0) .drives ≡ true
+pub reply-drives : (o : Lasting) (k c : ℕ) → supplied (at o Reply k c 0) .drives ≡ true
 unfolding supplied
 reply-drives o k c = refl
 
@@ -177,19 +178,18 @@ asked-fulls n (m ∷ ms) = go (supplied m .drives) refl (asked-fulls n ms)
     go true e r = ap₂ _∷_ (ap byteBits (sym (says-next n m e))) r
     go false e r = r
 
-pub nil-of : (l : List Bool) → length l ≡ 0 → l ≡ []
-nil-of [] e = refl
-nil-of (x ∷ l) e = absurd (omega arith)
-
 ready-wires : (n : ℕ) (ss : List Sender) → Each (Ready n) ss → Each (Has 0) ss → fulls n ss ≡ wires n (map (λ (s : Sender). s .who) ss)
 unfolding fulls wires
 ready-wires n [] h g = refl
-ready-wires n (s ∷ ss) h g = go (s .sends) refl (ready-wires n ss (h .1) (g .1)) ∙ ap (λ (b : Bool). pick b (byteBits (says n (s .who)) ∷ wires n (map (λ (x : Sender). x .who) ss)) (wires n (map (λ (x : Sender). x .who) ss))) (h .0 .same)
+ready-wires n (s ∷ ss) h g =
+    go (s .sends) refl (ready-wires n ss (h .1) (g .1)) ∙ ap (λ (b : Bool). pick b (byteBits (says n (s .who)) ∷ wires n whos) (wires n whos)) (h .0 .same)
   where
-    go : (b : Bool) → s .sends ≡ b → fulls n ss ≡ wires n (map (λ (x : Sender). x .who) ss)
-        → pick b ((s .left ++ byteBits (says n (s .who))) ∷ fulls n ss) (fulls n ss)
-        ≡ pick b (byteBits (says n (s .who)) ∷ wires n (map (λ (x : Sender). x .who) ss)) (wires n (map (λ (x : Sender). x .who) ss))
-    go true e r = ap₂ _∷_ (ap (λ (l : List Bool). l ++ byteBits (says n (s .who))) (nil-of (s .left) (g .0 e))) r
+    whos : List Module
+    whos = map (λ (x : Sender). x .who) ss
+
+    go : (b : Bool) → s .sends ≡ b → fulls n ss ≡ wires n whos
+        → pick b ((s .left ++ byteBits (says n (s .who))) ∷ fulls n ss) (fulls n ss) ≡ pick b (byteBits (says n (s .who)) ∷ wires n whos) (wires n whos)
+    go true e r = ap₂ _∷_ (ap (λ (l : List Bool). l ++ byteBits (says n (s .who))) (empty-of-length (s .left) (g .0 e))) r
     go false e r = r
 
 pub asked-has : (ms : List Module) → Each (Has 8) (map asked ms)

@@ -11,6 +11,7 @@ use lib.ListN.{length}
 use Rattle.lists.specs.Choice.{pick, or, and}
 use Rattle.lists.specs.ChoiceLaws.{both-true, false-not-true, not-both}
 use Rattle.lists.specs.Each.{Each, Bytes}
+use Rattle.lists.specs.LengthLaws.{empty-of-length}
 use Rattle.udid.specs.Bytes.{bytesOf, udidBytes}
 use Rattle.udid.specs.UdidLaws.{udid-bytes, same-bytes}
 use Rattle.udid.specs.Udids.{Fits}
@@ -30,11 +31,12 @@ use Rattle.module.specs.Receive.{forWrite, started, received}
 use Rattle.module.specs.State.{at, silentIn}
 use Rattle.module.specs.Supply.{replyByte, suppliedIn, supplied}
 use Rattle.module.specs.SupplyLaws.{says, askedPec, supplied-own}
+use Rattle.exchange.specs.AnsweringLaws.{replying, answering, answering-talks}
 use Rattle.exchange.specs.AssignLaws.{Fitting}
 use Rattle.exchange.specs.EachLaws.{each-made}
 use Rattle.exchange.specs.Exchange.{Left, put, walk, hearing, anyAck, Sender, asked, line, sees, seen, after, byteOn, afterByte, bytesOn, afterBytes, reading, exchange}
-use Rattle.exchange.specs.GetLaws.{answering, answering-talks, answering-all}
-use Rattle.exchange.specs.ReadLaws.{Has, nil-of, sees-has, Talks, Ready, asked-has, asked-all, after-ready, ready-talks, says-next}
+use Rattle.exchange.specs.GetLaws.{answering-all}
+use Rattle.exchange.specs.ReadLaws.{Has, sees-has, Talks, Ready, silent-drives, asked-has, asked-all, after-ready, ready-talks, says-next}
 use Rattle.exchange.specs.Sending.{askedAll, StillSends}
 
 -- two lists of the same length, element beside element
@@ -84,7 +86,7 @@ sent-back j w l (s ∷ ss) (t ∷ ts) h g b = (
 
 sent-none : (ss : List Sender) → Each (Has 0) ss → Both (Sent []) ss ss
 sent-none [] h = tt
-sent-none (s ∷ ss) h = (λ e. (e, (nil-of (s .left) (h .0 e), refl)), sent-none ss (h .1))
+sent-none (s ∷ ss) h = (λ e. (e, (empty-of-length (s .left) (h .0 e), refl)), sent-none ss (h .1))
 
 sent-bits : (j : ℕ) (ss : List Sender) → Each (Has j) ss → Both (Sent (seen j ss)) ss (after j ss)
 unfolding seen after
@@ -157,23 +159,19 @@ low-same : (bs : List ℕ) → Bytes bs → low bs ≡ bs
 low-same [] h = refl
 low-same (b ∷ bs) h = ap₂ _∷_ (mod-eq-of-lt (h .0)) (low-same bs (h .1))
 
-silent-drives : (o : Lasting) → supplied (silentIn o) .drives ≡ false
-unfolding supplied
-silent-drives o = refl
-
 -- one that answered, and drives the wire, said its identifier
 answering-said : (m : Module) → supplied (answering m) .drives ≡ true → low (says 17 (answering m)) ≡ 17 ∷ udidBytes (m .own .udid)
 answering-said m = go (m .own .resolved)
   where
-    go : (t : Bool) → supplied (pick t (silentIn (m .own)) (at (m .own) Reply 0 (askedPec 0x03) 0)) .drives ≡ true
-        → low (says 17 (pick t (silentIn (m .own)) (at (m .own) Reply 0 (askedPec 0x03) 0))) ≡ 17 ∷ udidBytes (m .own .udid)
+    go : (t : Bool) → supplied (replying t (m .own)) .drives ≡ true
+        → low (says 17 (replying t (m .own))) ≡ 17 ∷ udidBytes (m .own .udid)
     go true e = not-both (silent-drives (m .own)) e
     go false e = ap low (says-identifier (m .own) (askedPec 0x03)) ∙ ap (_∷_ 17) (low-same (udidBytes (m .own .udid)) (udid-bytes (m .own .udid)))
 
 answering-own : (m : Module) → answering m .own ≡ m .own
 answering-own m = go (m .own .resolved)
   where
-    go : (t : Bool) → pick t (silentIn (m .own)) (at (m .own) Reply 0 (askedPec 0x03) 0) .own ≡ m .own
+    go : (t : Bool) → replying t (m .own) .own ≡ m .own
     go true = refl
     go false = refl
 
