@@ -51,7 +51,7 @@ reply-first : (o : Lasting) (c : ℕ) → supplied (at o Reply 0 c 0) .byte ≡ 
 unfolding supplied replyByte
 reply-first o c = refl
 
-answering-drives : (m : Module) → supplied (answering m) .drives ≡ not (m .own .resolved)
+pub answering-drives : (m : Module) → supplied (answering m) .drives ≡ not (m .own .resolved)
 answering-drives m = go (m .own .resolved)
   where
     go : (b : Bool) → supplied (replying b (m .own)) .drives ≡ not b

@@ -1,5 +1,5 @@
 -- Assign Address on the bus of modules.
-use Prim.Native.Nat.{ℕ, suc, _+_, _*_, _/_, _%_, _<_, _≤_}
+use Prim.Native.Nat.{ℕ, _+_, _*_, _/_, _%_, _<_, _≤_}
 use mathlib.Core.Path.{_≡_, refl, sym, ap, subst, _∙_}
 use mathlib.Core.Bool.{Bool, true, false}
 use mathlib.Core.List.{List, [], _∷_, _++_, append-nil, append-assoc}
@@ -14,7 +14,6 @@ use Rattle.lists.specs.Each.{Each}
 use Rattle.lists.specs.EachLaws.{each-map}
 use Rattle.pec.specs.Pec.{pecStep, pecFrom, pecOf}
 use Rattle.wire.specs.declared.address.Address.{Address}
-use Rattle.trace.specs.Trace.{acked}
 use Rattle.udid.specs.Bytes.{udidBytes}
 use Rattle.udid.specs.Udids.{Fits, sameUdid}
 use Rattle.udid.specs.UdidLaws.{length-udid, same-bytes, same-refl, other-udid}
@@ -23,7 +22,7 @@ use Rattle.targets.specs.Target.{Target, assignedTo}
 use Rattle.commands.specs.SameTrace.{same}
 use Rattle.commands.specs.declared.command.Command.the-variants.{Assign}
 use Rattle.commands.specs.declared.command.Handed.the-variants.{Send}
-use Rattle.rule.specs.Acknowledge.{begins, acknowledges, standing, sentPart, onBus}
+use Rattle.rule.specs.Acknowledge.{begins, acknowledges, standing, onBus}
 use Rattle.rule.specs.Acted.{acted}
 use Rattle.rule.specs.TraceLaws.{assigned, assign-sends-bytes, bytes-assigned, begins-own, own-acknowledges}
 use Rattle.module.specs.declared.state.Heard.{Heard}

@@ -2,7 +2,7 @@
 -- this trace leaves there.
 use mathlib.Core.Path.{_≡_, refl, sym, ap, _∙_, subst}
 use mathlib.Core.Logic.{inl, inr}
-use mathlib.Core.List.{List, [], _∷_}
+use mathlib.Core.List.{List, _∷_}
 use Prim.Native.Nat.{ℕ}
 use Rattle.lists.specs.Each.{Each}
 use Rattle.udid.specs.Udids.{Fits}
@@ -17,7 +17,7 @@ use Rattle.rule.specs.Effect.{effect}
 use Rattle.rule.specs.EffectLaws.{effect-as-meant}
 use Rattle.module.specs.declared.state.Module.{Module}
 use Rattle.exchange.specs.AssignLaws.{Fitting, assign-same}
-use Rattle.exchange.specs.Exchange.{recordOf, recordsOf, walk, exchange}
+use Rattle.exchange.specs.Exchange.{recordsOf, walk, exchange}
 use Rattle.exchange.specs.GetLaws.{get-same}
 use Rattle.exchange.specs.PrepareLaws.{prepare-same}
 use Rattle.exchange.specs.WalkLaws.{Same}

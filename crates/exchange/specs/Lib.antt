@@ -15,3 +15,4 @@ pub mod NamesLaws
 pub mod Pass
 pub mod PassLaws
 pub mod WinLaws
+pub mod SomebodyWinsLaws

@@ -4,7 +4,6 @@ use Prim.Native.Nat.{ℕ, zero, suc}
 use mathlib.Core.List.{List, [], _∷_}
 use Rattle.pool.specs.declared.Pool.{Pool}
 use Rattle.arp.specs.Controller.{stepped}
-use Rattle.arp.specs.declared.state.Stepped.{Stepped}
 use Rattle.rule.specs.AnyBus.{WorldOver, beginningOver}
 use Rattle.rule.specs.Bus.{World}
 use Rattle.rule.specs.Sent.{getsAmong}

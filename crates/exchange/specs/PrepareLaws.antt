@@ -10,7 +10,7 @@ use Rattle.targets.specs.Target.{Target, prepared}
 use Rattle.commands.specs.SameTrace.{same}
 use Rattle.commands.specs.declared.command.Command.the-variants.{Prepare}
 use Rattle.commands.specs.declared.command.Handed.the-variants.{Send}
-use Rattle.rule.specs.Acknowledge.{begins, acknowledges, standing, sentPart, onBus}
+use Rattle.rule.specs.Acknowledge.{begins, acknowledges, standing, onBus}
 use Rattle.rule.specs.Acted.{acted}
 use Rattle.module.specs.declared.state.Lasting.{Lasting}
 use Rattle.module.specs.declared.state.Module.{Module}

@@ -1,31 +1,30 @@
 -- Bytes read byte by byte, eight bits each, are the bytes of the wire on which all that each module has to say stands at once.
-use Prim.Native.Nat.{ℕ, zero, suc, _+_, _*_, _-_, _/_, _%_, _<_, _≤_}
+use Prim.Native.Nat.{ℕ, zero, suc, _+_, _*_}
 use mathlib.Core.Path.{_≡_, refl, sym, ap, ap₂, subst, _∙_}
 use mathlib.Core.Bool.{Bool, true, false}
 use mathlib.Core.List.{List, [], _∷_, _++_, map}
 use native.Mathlib.Omega.{arith}
-use native.Mathlib.Nat.{add-zero, zero-add, suc-add, suc-mul, add-comm}
-use lib.ListN.{length, take, drop}
+use native.Mathlib.Nat.{zero-add, suc-add}
+use lib.ListN.{length}
 use lib.Seq.{take-at, drop-at}
-use lib.Dec.{ltb, eqb}
-use borrow.Author.Tests.{eq-eqb, ne-eqb, lt-ltb, le-ltb, ltb-true, ltb-false}
-use Rattle.lists.specs.Choice.{pick, or, and, not}
+use lib.Dec.{ltb}
+use borrow.Author.Tests.{lt-ltb}
+use Rattle.lists.specs.Choice.{pick, and, not}
 use Rattle.lists.specs.ChoiceLaws.{false-not-true}
 use Rattle.lists.specs.Each.{Each}
 use Rattle.lists.specs.LengthLaws.{empty-of-length}
 use Rattle.arbitration.specs.Bits.{bits, byteBits, numberOf, bytesRead}
 use Rattle.arbitration.specs.BitLaws.{length-bits}
 use Rattle.arbitration.specs.Wire.{next, later, level, staying, heard, sending}
-use Rattle.module.specs.declared.state.Phase.the-variants.{Silent, Reply}
+use Rattle.module.specs.declared.state.Phase.the-variants.{Reply}
 use Rattle.module.specs.declared.state.Lasting.{Lasting}
 use Rattle.module.specs.declared.state.Module.{Module}
-use Rattle.module.specs.declared.state.Supplied.{Supplied}
 use Rattle.module.specs.State.{at, silentIn}
 use Rattle.pec.specs.Pec.{pecStep}
 use Rattle.module.specs.Supply.{replyByte, supplied}
 use Rattle.module.specs.SupplyLaws.{says}
 use Rattle.exchange.specs.EachLaws.{each-made}
-use Rattle.exchange.specs.Exchange.{silenced, Sender, asked, line, sees, seen, after, byteOn, afterByte, bytesOn, afterBytes}
+use Rattle.exchange.specs.Exchange.{silenced, Sender, asked, line, sees, seen, after, afterByte, bytesOn}
 
 -- ---- the senders of a byte, as senders of all that they have left, with n bytes after this one
 

@@ -4,37 +4,32 @@ use Prim.Native.Nat.{ℕ, zero, suc, _+_, _%_}
 use mathlib.Core.Path.{_≡_, refl, sym, ap, ap₂, subst, _∙_}
 use mathlib.Core.Bool.{Bool, true, false}
 use mathlib.Core.Logic.{inl, inr}
-use mathlib.Core.List.{List, [], _∷_, _++_, map}
+use mathlib.Core.List.{List, [], _∷_, map}
 use native.Mathlib.Nat.{mod-eq-of-lt}
 use native.Mathlib.Omega.{arith}
 use lib.ListN.{length}
-use Rattle.lists.specs.Choice.{pick, or, and}
+use Rattle.lists.specs.Choice.{pick}
 use Rattle.lists.specs.ChoiceLaws.{both-true, false-not-true, not-both}
 use Rattle.lists.specs.Each.{Each, Bytes}
 use Rattle.lists.specs.LengthLaws.{empty-of-length}
 use Rattle.udid.specs.Bytes.{bytesOf, udidBytes}
 use Rattle.udid.specs.UdidLaws.{udid-bytes, same-bytes}
 use Rattle.udid.specs.Udids.{Fits}
-use Rattle.udid.specs.declared.Udid.{Udid}
 use Rattle.arbitration.specs.Among.{Among}
 use Rattle.arbitration.specs.Bits.{numberOf}
 use Rattle.arbitration.specs.BitLaws.{number-bits}
 use Rattle.arbitration.specs.Wire.{next}
-use Rattle.commands.specs.declared.command.Command.the-variants.{GetUdid}
-use Rattle.commands.specs.declared.command.Handed.the-variants.{Send}
 use Rattle.module.specs.declared.state.Lasting.{Lasting}
 use Rattle.module.specs.declared.state.Module.{Module}
-use Rattle.module.specs.declared.state.Heard.{Heard}
 use Rattle.module.specs.declared.state.Phase.{Phase}
 use Rattle.module.specs.declared.state.Phase.the-variants.{Reply}
-use Rattle.module.specs.Receive.{forWrite, started, received}
-use Rattle.module.specs.State.{at, silentIn}
+use Rattle.module.specs.State.{at}
 use Rattle.module.specs.Supply.{replyByte, suppliedIn, supplied}
 use Rattle.module.specs.SupplyLaws.{says, askedPec, supplied-own}
 use Rattle.exchange.specs.AnsweringLaws.{replying, answering, answering-talks}
 use Rattle.exchange.specs.AssignLaws.{Fitting}
 use Rattle.exchange.specs.EachLaws.{each-made}
-use Rattle.exchange.specs.Exchange.{Left, put, walk, hearing, anyAck, Sender, asked, line, sees, seen, after, byteOn, afterByte, bytesOn, afterBytes, reading, exchange}
+use Rattle.exchange.specs.Exchange.{Sender, asked, line, sees, seen, after, byteOn, afterByte, bytesOn, afterBytes}
 use Rattle.exchange.specs.GetLaws.{answering-all}
 use Rattle.exchange.specs.ReadLaws.{Has, sees-has, Talks, Ready, silent-drives, asked-has, asked-all, after-ready, ready-talks, says-next}
 use Rattle.exchange.specs.Sending.{askedAll, StillSends}
