@@ -95,7 +95,9 @@ count-is ms e =
 reply-same : (m : Module) → reply (m .own) (askedPec 0x03) ≡ replyBytes (recordOf m)
 unfolding replyBytes replyData replyPec coveredBytes pecFrom
 reply-same m =
-    ap (_∷_ 17) (sym (append-assoc (udidBytes (m .own .udid)) (addressByte (m .own) ∷ []) (pecFrom (askedPec 0x03) (17 ∷ (udidBytes (m .own .udid) ++ (addressByte (m .own) ∷ []))) ∷ [])))
+    let us : List ℕ = udidBytes (m .own .udid) in
+    let a : List ℕ = addressByte (m .own) ∷ [] in
+    ap (_∷_ 17) (sym (append-assoc us a (pecFrom (askedPec 0x03) (17 ∷ (us ++ a)) ∷ [])))
 
 bits-same : (m : Module) → byteBits (says 19 (at (m .own) Reply 0 (askedPec 0x03) 0)) ≡ sends (recordOf m)
 unfolding sends

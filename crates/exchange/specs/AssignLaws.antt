@@ -68,10 +68,13 @@ identifier-step : (o : Lasting) (j c b : ℕ) → j < 16
 unfolding received due
 identifier-step o j c b h =
     ap (λ (m : Module). received m b) (due-identifier o j c h)
-    ∙ ap (λ (n : ℕ). pick (eqb b (getD (udidBytes (o .udid)) n 0)) (pick (ltb j 15) (taken o Identifier (j + 1) (pecStep c b) 0) (taken o Given 0 (pecStep c b) 0)) (refused o)) (mod-eq-of-lt h)
+    ∙ ap (λ (n : ℕ). pick (eqb b (getD (udidBytes (o .udid)) n 0)) (next (ltb j 15)) (refused o)) (mod-eq-of-lt h)
     ∙ ap (λ (z : Heard). pick (eqb b (getD (udidBytes (o .udid)) j 0)) z (refused o)) (go (ltb j 15) refl)
   where
-    go : (s : Bool) → ltb j 15 ≡ s → pick s (taken o Identifier (j + 1) (pecStep c b) 0) (taken o Given 0 (pecStep c b) 0)
+    next : Bool → Heard
+    next s = pick s (taken o Identifier (j + 1) (pecStep c b) 0) (taken o Given 0 (pecStep c b) 0)
+
+    go : (s : Bool) → ltb j 15 ≡ s → next s
         ≡ record { after = pick (ltb (j + 1) 16) (at o Identifier (j + 1) (pecStep c b) 0) (at o Given 0 (pecStep c b) 0); ack = true }
     go true e = let l = ltb-true j 15 e in rw (lt-ltb (j + 1) 16 (omega arith))
     go false e = let l = ltb-false j 15 e in rw (le-ltb (j + 1) 16 (omega arith))
@@ -161,7 +164,8 @@ module _ (u : Udid) (a : Address) (o : Lasting) (f : Fits u) (g : Fits (o .udid)
   given-follows c p e =
       let s : o .udid ≡ u = sym (same-bytes u (o .udid) f g .0 e) in
       let q : front (us ++ x ∷ []) ++ pec ∷ [] ≡ 256 ∷ assigned u x = ap front (append-assoc us (x ∷ []) (pec ∷ [])) in
-      follows-ack (front us) t t' x (pec ∷ []) (at o Given 0 c 0) (at o AssignPec 0 (pecStep c x) (x / 2)) (given-step o c x) (own-acknowledges u x t s (front (us ++ x ∷ [])) (pec ∷ []) q)
+      follows-ack (front us) t t' x (pec ∷ []) (at o Given 0 c 0) (at o AssignPec 0 (pecStep c x) (x / 2)) (given-step o c x)
+      (own-acknowledges u x t s (front (us ++ x ∷ [])) (pec ∷ []) q)
       (follows-ack (front (us ++ x ∷ [])) t t' pec [] (at o AssignPec 0 (pecStep c x) (x / 2)) (silentIn (own.assigned o (x / 2)))
       (ap (received (at o AssignPec 0 (pecStep c x) (x / 2))) (sym p ∙ pec-one c x) ∙ pec-step o (pecStep c x) (x / 2))
       (own-acknowledges u x t s (front (us ++ x ∷ []) ++ pec ∷ []) [] (append-nil (front (us ++ x ∷ []) ++ pec ∷ []) ∙ q))
@@ -230,7 +234,8 @@ assign-follows u a m f g =
     (follows-ack (256 ∷ 194 ∷ []) t t' 4 (17 ∷ z) (at o Command 0 first 0) (at o Count 0 (pecStep first 0x04) 0) (command-step o) (second-ack t)
     (follows-ack (256 ∷ 194 ∷ 4 ∷ []) t t' 17 z (at o Count 0 (pecStep first 0x04) 0) (at o Identifier 0 third 0) (count-step o (pecStep first 0x04)) (third-ack t)
     (subst (λ (w : Module). Follows (front []) t t' z w) (due-identifier o 0 third (omega arith))
-    (many u a o f g [] (udidBytes u) (udidBytes (o .udid)) 0 third refl refl (length-udid u ∙ sym (length-udid (o .udid))) refl (omega (arith, length-udid u)) (pec-all u a o f g)))))
+    (many u a o f g [] (udidBytes u) (udidBytes (o .udid)) 0 third refl refl
+    (length-udid u ∙ sym (length-udid (o .udid))) refl (omega (arith, length-udid u)) (pec-all u a o f g)))))
 
 -- the identifier of a module is a number of 128 bits
 abbrev pub Fitting : Module → Type 0

@@ -57,8 +57,10 @@ read-step o c = refl
 
 get-follows : (m : Module) → Follows (256 ∷ []) (recordOf m) (recordOf m) (194 ∷ 3 ∷ []) (started m)
 get-follows m =
-    front-follows m (recordOf m) (3 ∷ [])
-    (follows-ack (256 ∷ 194 ∷ []) (recordOf m) (recordOf m) 3 [] (at (m .own) Command 0 first 0) (at (m .own) Asked 0 two 0) (command-step (m .own) first) (second-ack (recordOf m)) refl)
+    let o = m .own in
+    let t = recordOf m in
+    front-follows m t (3 ∷ [])
+    (follows-ack (256 ∷ 194 ∷ []) t t 3 [] (at o Command 0 first 0) (at o Asked 0 two 0) (command-step o first) (second-ack t) refl)
 
 -- a module after them and the repeated START
 abbrev again : Module → Module
@@ -116,18 +118,24 @@ module _ (ms : List Module) where
       rw (walk-end reading a (askedAll ms), answered-end acks asking (shows ms), answering-all ms)
       (read-same ms (sym (any-same (256 ∷ 194 ∷ 3 ∷ 256 ∷ []) 195 [] (startedAgain ms) ts ts (read-abreast ms)) ∙ e))
 
-  second : (a : Bool)
-      → Same (walk reading a (map (hearing 0x03) (map (hearing forWrite) (map started ms))) (START ∷ 195 ∷ ACK ∷ [])) (answered acks (256 ∷ 194 ∷ 3 ∷ []) (START ∷ 195 ∷ ACK ∷ []) (shows ms)) ts
+  -- the modules after C2h and 03h, and what is sent after them
+  abbrev ns : List Module
+  ns = map (hearing 0x03) (map (hearing forWrite) (map started ms))
+
+  abbrev later : List ℕ
+  later = START ∷ 195 ∷ ACK ∷ []
+
+  second : (a : Bool) → Same (walk reading a ns later) (answered acks (256 ∷ 194 ∷ 3 ∷ []) later (shows ms)) ts
   second a =
-      rw (walk-start reading a (map (hearing 0x03) (map (hearing forWrite) (map started ms))) (195 ∷ ACK ∷ []), answered-start acks (256 ∷ 194 ∷ 3 ∷ []) (195 ∷ ACK ∷ []) (shows ms))
+      rw (walk-start reading a ns (195 ∷ ACK ∷ []), answered-start acks (256 ∷ 194 ∷ 3 ∷ []) (195 ∷ ACK ∷ []) (shows ms))
       (same-put START _ _ ts (walked-one reading (shows ms) [] ts ts (256 ∷ 194 ∷ 3 ∷ 256 ∷ []) 195 (startedAgain ms) (omega arith) (read-abreast ms) ending a))
 
   -- GET UDID: any modules, in any states
   pub get-same : Same (exchange (Send GetUdid) ms) (onBus (Send GetUdid) ts) (acted (Send GetUdid) ts)
   unfolding exchange onBus standing same
   get-same =
-      rw (walk-start reading false ms (acked (194 ∷ 3 ∷ []) ++ (START ∷ 195 ∷ ACK ∷ [])), answered-start acks [] (acked (194 ∷ 3 ∷ []) ++ (START ∷ 195 ∷ ACK ∷ [])) (shows ms))
-      (same-put START _ _ ts (walked reading (shows ms) (START ∷ 195 ∷ ACK ∷ []) ts ts (256 ∷ []) (194 ∷ 3 ∷ []) (map started ms) (omega arith, (omega arith, tt)) (front-abreast ms) second false))
+      rw (walk-start reading false ms (acked (194 ∷ 3 ∷ []) ++ later), answered-start acks [] (acked (194 ∷ 3 ∷ []) ++ later) (shows ms))
+      (same-put START _ _ ts (walked reading (shows ms) later ts ts (256 ∷ []) (194 ∷ 3 ∷ []) (map started ms) (omega arith, (omega arith, tt)) (front-abreast ms) second false))
 
   -- where one of them is not resolved the reply follows
   pub get-reads : (m : Module) → Among m ms → m .own .resolved ≡ false

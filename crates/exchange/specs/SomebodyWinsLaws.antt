@@ -65,7 +65,8 @@ unfolding some
 ready-some n [] h = refl
 ready-some n (s ∷ ss) h = ap₂ or (h .0 .same) (ready-some n ss (h .1))
 
-bytes-some : (n k : ℕ) (ms : List Module) → Each (Talks (n + suc k)) ms → some (map asked ms) ≡ true → Each (Talks (suc k)) (afterBytes n ms) × (some (map asked (afterBytes n ms)) ≡ true)
+bytes-some : (n k : ℕ) (ms : List Module) → Each (Talks (n + suc k)) ms → some (map asked ms) ≡ true
+    → Each (Talks (suc k)) (afterBytes n ms) × (some (map asked (afterBytes n ms)) ≡ true)
 unfolding afterBytes
 bytes-some zero k ms h e = (subst (λ (x : ℕ). Each (Talks x) ms) (let z : 0 + suc k ≡ suc k = omega arith in z) h, e)
 bytes-some (suc n) k ms h e =

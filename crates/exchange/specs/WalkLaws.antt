@@ -32,7 +32,8 @@ module _ (sent : List ℕ) (t t' : Target) (b : ℕ) (bs : List ℕ) (m : Module
   follows-heard : (h : Heard) → received m b ≡ h → h .ack ≡ acknowledges (sent ++ b ∷ []) t → (h .ack ≡ false → recordOf (h .after) ≡ t')
       → Follows (sent ++ b ∷ []) t t' bs (h .after) → Follows sent t t' (b ∷ bs) m
   follows-heard h e p q r =
-      subst (λ (x : Heard). (x .ack ≡ acknowledges (sent ++ b ∷ []) t) × ((x .ack ≡ false → recordOf (x .after) ≡ t') × Follows (sent ++ b ∷ []) t t' bs (x .after))) (sym e) (p, (q, r))
+      subst (λ (x : Heard). (x .ack ≡ acknowledges (sent ++ b ∷ []) t) × ((x .ack ≡ false → recordOf (x .after) ≡ t') × Follows (sent ++ b ∷ []) t t' bs (x .after)))
+      (sym e) (p, (q, r))
 
   -- the byte gets ACK from both
   pub follows-ack : (m' : Module) → received m b ≡ record { after = m'; ack = true } → acknowledges (sent ++ b ∷ []) t ≡ true

@@ -96,7 +96,8 @@ sent-bits (suc j) ss h =
 abbrev SaidOne : ℕ → Module → Module → Type 0
 SaidOne b m m' = supplied m' .drives ≡ true → (supplied m .drives ≡ true) × ((supplied m .byte % 256 ≡ b) × (m' ≡ supplied m .after))
 
-said-bits : (n : ℕ) (l : List Bool) (ms : List Module) (ts : List Sender) → Both (Sent l) (map asked ms) ts → Each (Ready n) ts → Both (SaidOne (numberOf l)) ms (map (λ (s : Sender). s .who) ts)
+said-bits : (n : ℕ) (l : List Bool) (ms : List Module) (ts : List Sender) → Both (Sent l) (map asked ms) ts → Each (Ready n) ts
+    → Both (SaidOne (numberOf l)) ms (map (λ (s : Sender). s .who) ts)
 said-bits n l [] [] b r = tt
 said-bits n l (m ∷ ms) (t ∷ ts) b r = (
   λ e. let q = b .0 (r .0 .same ∙ e) in (q .0, (sym (number-bits 8 (supplied m .byte)) ∙ ap numberOf (q .1 .0), q .1 .1)),
@@ -104,7 +105,9 @@ said-bits n l (m ∷ ms) (t ∷ ts) b r = (
 )
 
 said-one : (n : ℕ) (ms : List Module) → Each (Talks (suc (suc n))) ms → Both (SaidOne (byteOn ms)) ms (afterByte ms)
-said-one n ms h = said-bits (suc n) (seen 8 (map asked ms)) ms (after 8 (map asked ms)) (sent-bits 8 (map asked ms) (asked-has ms)) (after-ready 8 (suc n) (map asked ms) (asked-all n ms h))
+said-one n ms h =
+    let ss : List Sender = map asked ms in
+    said-bits (suc n) (seen 8 ss) ms (after 8 ss) (sent-bits 8 ss (asked-has ms)) (after-ready 8 (suc n) ss (asked-all n ms h))
 
 abbrev low : List ℕ → List ℕ
 low bs = map (λ (b : ℕ). b % 256) bs
