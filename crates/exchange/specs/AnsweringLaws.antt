@@ -127,7 +127,7 @@ waiting-some (t ∷ ts) e = go (isResolved t) (ap (λ (b : Bool). or b (somebody
     go true f r = r f
     go false f r = refl
 
-answering-records : (ms : List Module) → recordsOf (map answering ms) ≡ recordsOf ms
+pub answering-records : (ms : List Module) → recordsOf (map answering ms) ≡ recordsOf ms
 answering-records [] = refl
 answering-records (m ∷ ms) = ap₂ _∷_ (go (m .own .resolved)) (answering-records ms)
   where

@@ -33,7 +33,7 @@ use Rattle.module.specs.Receive.{started, received}
 use Rattle.module.specs.Reset as own
 use Rattle.module.specs.State.{at, silentIn, taken, refused}
 use Rattle.module.specs.Supply.{addressByte}
-use Rattle.exchange.specs.Exchange.{recordOf, recordsOf, stopAll, walk, exchange}
+use Rattle.exchange.specs.Exchange.{Fitting, recordOf, recordsOf, stopAll, walk, exchange}
 use Rattle.exchange.specs.FrontLaws.{first, front-follows}
 use Rattle.exchange.specs.WalkLaws.{Follows, abreast, Same, sent-same, follows-ack, follows-nack, silent-follows}
 
@@ -236,10 +236,6 @@ assign-follows u a m f g =
     (subst (λ (w : Module). Follows (front []) t t' z w) (due-identifier o 0 third (omega arith))
     (many u a o f g [] (udidBytes u) (udidBytes (o .udid)) 0 third refl refl
     (length-udid u ∙ sym (length-udid (o .udid))) refl (omega (arith, length-udid u)) (pec-all u a o f g)))))
-
--- the identifier of a module is a number of 128 bits
-abbrev pub Fitting : Module → Type 0
-Fitting m = Fits (m .own .udid)
 
 -- ASSIGN ADDRESS: any modules, in any states
 pub assign-same : (u : Udid) (a : Address) → Fits u → (ms : List Module) → Each Fitting ms

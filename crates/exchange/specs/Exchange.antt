@@ -8,6 +8,7 @@ use lib.Dec.{eqb}
 use Rattle.lists.specs.Choice.{pick, or, and, not}
 use Rattle.wire.specs.Symbols.{START, STOP, ACK, NACK}
 use Rattle.trace.specs.Trace.{nacked}
+use Rattle.udid.specs.Udids.{Fits}
 use Rattle.arbitration.specs.Bits.{bits, numberOf}
 use Rattle.arbitration.specs.Wire.{next, later}
 use Rattle.targets.specs.Target.{Target}
@@ -19,6 +20,10 @@ use Rattle.module.specs.declared.state.Module.{Module}
 use Rattle.module.specs.State.{silentIn}
 use Rattle.module.specs.Receive.{started, received}
 use Rattle.module.specs.Supply.{addressByte, supplied}
+
+-- the identifier of a module is a number of 128 bits
+abbrev pub Fitting : Module → Type 0
+Fitting m = Fits (m .own .udid)
 
 -- the model's target of a module: FFh where AV is clear
 abbrev pub recordOf : Module → Target

@@ -16,8 +16,8 @@ use Rattle.rule.specs.Acted.{acted, Names}
 use Rattle.rule.specs.Effect.{effect}
 use Rattle.rule.specs.EffectLaws.{effect-as-meant}
 use Rattle.module.specs.declared.state.Module.{Module}
-use Rattle.exchange.specs.AssignLaws.{Fitting, assign-same}
-use Rattle.exchange.specs.Exchange.{recordsOf, walk, exchange}
+use Rattle.exchange.specs.AssignLaws.{assign-same}
+use Rattle.exchange.specs.Exchange.{Fitting, recordsOf, walk, exchange}
 use Rattle.exchange.specs.GetLaws.{get-same}
 use Rattle.exchange.specs.PrepareLaws.{prepare-same}
 use Rattle.exchange.specs.WalkLaws.{Same}

@@ -22,9 +22,8 @@ use Rattle.rule.specs.PassEnd.{passEnd}
 use Rattle.rule.specs.PassEndLaws.{demand-3}
 use Rattle.rule.specs.Sent.{getsAmong, tracesOver, getsOnBus}
 use Rattle.module.specs.declared.state.Module.{Module}
-use Rattle.exchange.specs.AssignLaws.{Fitting}
 use Rattle.exchange.specs.EachLaws.{each-made, each-from}
-use Rattle.exchange.specs.Exchange.{recordOf, recordsOf, exchange}
+use Rattle.exchange.specs.Exchange.{Fitting, recordOf, recordsOf, exchange}
 use Rattle.exchange.specs.ExchangeLaws.{exchange-same}
 use Rattle.exchange.specs.NamesLaws.{step-names}
 use Rattle.exchange.specs.Pass.{Bench, worldOf, tookOn, standsOn, turnOn, runOn, tracesOn, passOn, getsOn}

@@ -26,16 +26,16 @@ use Rattle.module.specs.declared.state.Phase.the-variants.{Reply}
 use Rattle.module.specs.State.{at}
 use Rattle.module.specs.Supply.{replyByte, suppliedIn, supplied}
 use Rattle.module.specs.SupplyLaws.{says, askedPec, supplied-own}
-use Rattle.exchange.specs.AnsweringLaws.{replying, answering, answering-talks}
-use Rattle.exchange.specs.AssignLaws.{Fitting}
+use Rattle.exchange.specs.AnsweringLaws.{replying, answering, answering-talks, answering-records}
 use Rattle.exchange.specs.EachLaws.{each-made}
-use Rattle.exchange.specs.Exchange.{Sender, asked, line, sees, seen, after, byteOn, afterByte, bytesOn, afterBytes}
+use Rattle.exchange.specs.Exchange.{Fitting, recordsOf, Sender, asked, line, sees, seen, after, byteOn, afterByte, bytesOn, afterBytes}
 use Rattle.exchange.specs.GetLaws.{answering-all}
+use Rattle.exchange.specs.KeptLaws.{bytes-records}
 use Rattle.exchange.specs.ReadLaws.{Has, sees-has, Talks, Ready, silent-drives, asked-has, asked-all, after-ready, ready-talks, says-next}
 use Rattle.exchange.specs.Sending.{askedAll, StillSends}
 
 -- two lists of the same length, element beside element
-abbrev pub Both : {A B : Type 0} → (A → B → Type 0) → List A → List B → Type 0
+abbrev Both : {A B : Type 0} → (A → B → Type 0) → List A → List B → Type 0
 Both R [] [] = Unit
 Both R [] (y ∷ ys) = ⊥
 Both R (x ∷ xs) [] = ⊥
@@ -191,6 +191,10 @@ winner bs (m ∷ ms) (n ∷ ns) b x (inl e) s =
 winner bs (m ∷ ms) (n ∷ ns) b x (inr i) s = let r = winner bs ms ns (b .1) x i s in (r .0, inr (r .1), r .2, r .3)
 
 module _ (ms : List Module) where
+  -- each is the module that it was, in its place
+  pub still-there : (n : ℕ) → recordsOf (afterBytes n (askedAll ms)) ≡ recordsOf ms
+  still-there n = bytes-records n (askedAll ms) ∙ ap recordsOf (answering-all ms) ∙ answering-records ms
+
   wins : (n : Module) → Among n (afterBytes 17 (askedAll ms)) → StillSends n → Winner (bytesOn 17 (askedAll ms)) ms n
   wins = subst (λ (l : List Module). (n : Module) → Among n (afterBytes 17 l) → StillSends n → Winner (bytesOn 17 l) ms n) (sym (answering-all ms))
       (winner (bytesOn 17 (map answering ms)) ms (afterBytes 17 (map answering ms)) (said-bytes 17 1 (map answering ms) (answering-talks ms)))
