@@ -25,7 +25,8 @@ use Rattle.module.specs.declared.state.Module.{Module}
 use Rattle.module.specs.declared.state.Phase.the-variants.{Reply}
 use Rattle.module.specs.State.{at, silentIn}
 use Rattle.module.specs.Supply.{addressByte, replyByte, supplies}
-use Rattle.module.specs.SupplyLaws.{says, reply, reply-says, askedPec}
+use Rattle.module.specs.Says.{says, reply, askedPec}
+use Rattle.module.specs.SupplyLaws.{reply-says}
 use Rattle.exchange.specs.AlikeLaws.{Says, some, seen-alike}
 use Rattle.exchange.specs.Exchange.{recordOf, recordsOf, asked, seen, byteOn, bytesOn, afterBytes, reading}
 use Rattle.exchange.specs.KeptLaws.{bytes-records}

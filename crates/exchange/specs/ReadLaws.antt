@@ -22,7 +22,7 @@ use Rattle.module.specs.declared.state.Module.{Module}
 use Rattle.module.specs.State.{at, silentIn}
 use Rattle.pec.specs.Pec.{pecStep}
 use Rattle.module.specs.Supply.{replyByte, supplies}
-use Rattle.module.specs.SupplyLaws.{says}
+use Rattle.module.specs.Says.{says}
 use Rattle.exchange.specs.EachLaws.{each-made}
 use Rattle.exchange.specs.Exchange.{silenced, Sender, asked, line, sees, seen, after, afterByte, bytesOn}
 

@@ -25,7 +25,8 @@ use Rattle.module.specs.declared.state.Phase.{Phase}
 use Rattle.module.specs.declared.state.Phase.the-variants.{Reply}
 use Rattle.module.specs.State.{at}
 use Rattle.module.specs.Supply.{replyByte, suppliedIn, supplies}
-use Rattle.module.specs.SupplyLaws.{says, askedPec, supplied-own}
+use Rattle.module.specs.Says.{says, askedPec}
+use Rattle.module.specs.SupplyLaws.{supplied-own}
 use Rattle.exchange.specs.AnsweringLaws.{replying, answering, answering-talks, answering-records}
 use Rattle.exchange.specs.EachLaws.{each-made}
 use Rattle.exchange.specs.Exchange.{Fitting, recordsOf, Sender, asked, line, sees, seen, after, byteOn, afterByte, bytesOn, afterBytes}

@@ -5,6 +5,7 @@ pub mod Resume
 pub mod Receive
 pub mod Supply
 pub mod Obeys
+pub mod Says
 pub mod ObeysLaws
 pub mod SupplyLaws
 pub mod Acknowledges

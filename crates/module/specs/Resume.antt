@@ -1,6 +1,8 @@
 -- A module from a record of the model, in the middle of its life: the identifier, the address byte, the resolved flag.
 use Prim.Native.Nat.{ℕ, _/_, _%_}
-use mathlib.Core.Bool.{Bool}
+use mathlib.Core.Path.{_≡_}
+use mathlib.Core.Bool.{Bool, true}
+use mathlib.Core.Logic.{_↔_}
 use lib.Dec.{ltb, eqb}
 use Rattle.lists.specs.Choice.{pick, or, and, not}
 use Rattle.udid.specs.declared.Udid.{Udid}
@@ -8,7 +10,9 @@ use Rattle.udid.specs.Udids.{isFixed}
 use Rattle.module.specs.declared.state.Lasting.{Lasting}
 use Rattle.module.specs.declared.resume.Resumed.{Resumed}
 use Rattle.module.specs.declared.resume.Resumed.the-variants.{Ready, Malformed, NoHome}
+use Rattle.module.specs.declared.state.Module.{Module}
 use Rattle.module.specs.State.{silentIn}
+use Rattle.module.specs.Supply.{addressByte}
 
 -- refusal 10: the address byte is even, or the flag is above 1
 abbrev pub isMalformed : ℕ → ℕ → Bool
@@ -37,3 +41,13 @@ abbrev pub resumedNumber : Resumed → ℕ
 resumedNumber (Ready m) = 0
 resumedNumber Malformed = 10
 resumedNumber NoHome = 12
+
+-- WHAT THE MODULE OF A RECORD IS: as after STOP, with the record's identifier, address byte and flag; FFh is for AV clear; a fixed one is fixed there
+pub record AsRecorded (u : Udid) (b g f : ℕ) (m : Module) : Type 0 where
+  pub silent : m ≡ silentIn (m .own)
+  pub udid : m .own .udid ≡ u
+  pub byte : addressByte (m .own) ≡ b
+  pub flag : pick (m .own .resolved) 1 0 ≡ g
+  pub valid : (m .own .valid ≡ true) ↔ (b ≡ 0xFF → ⊥)
+  pub home : (b ≡ 0xFF → ⊥) → m .own .home ≡ m .own .address
+  pub fresh : m .own .fresh ≡ f

@@ -20,7 +20,7 @@ use Rattle.module.specs.declared.state.Lasting.{Lasting}
 use Rattle.module.specs.declared.state.Module.{Module}
 use Rattle.module.specs.State.{silentIn}
 use Rattle.module.specs.Supply.{addressByte}
-use Rattle.module.specs.Resume.{isMalformed, lacksHome, recorded, resumed, resumedNumber}
+use Rattle.module.specs.Resume.{isMalformed, lacksHome, recorded, resumed, resumedNumber, AsRecorded}
 
 -- ---- the numbers of a choice
 
@@ -75,16 +75,6 @@ module _ (u : Udid) (b g f : ℕ) (w : Fits u) where
   resume-0 = Iff·trans (none (isMalformed b g) (lacksHome u b) (silentIn (recorded u b g f))) (both-iff (false-is (isMalformed b g) bad-is) (false-is (lacksHome u b) homeless-is))
 
 -- ---- THE MODULE IS AS THE RECORD SAYS
-
--- what the module of a record is: as after STOP, with the record's identifier, address byte and flag; FFh is for AV clear; a fixed one is fixed there
-pub record AsRecorded (u : Udid) (b g f : ℕ) (m : Module) : Type 0 where
-  pub silent : m ≡ silentIn (m .own)
-  pub udid : m .own .udid ≡ u
-  pub byte : addressByte (m .own) ≡ b
-  pub flag : pick (m .own .resolved) 1 0 ≡ g
-  pub valid : (m .own .valid ≡ true) ↔ (b ≡ 0xFF → ⊥)
-  pub home : (b ≡ 0xFF → ⊥) → m .own .home ≡ m .own .address
-  pub fresh : m .own .fresh ≡ f
 
 ready-tests : (x y : Bool) (n m : Module) → chosen x y n ≡ Ready m → (x ≡ false) × ((y ≡ false) × (m ≡ n))
 ready-tests true y n m e = absurd (let z : _≡_ {A = ℕ} 10 0 = ap resumedNumber e in omega arith)

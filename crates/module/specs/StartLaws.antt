@@ -27,7 +27,8 @@ use Rattle.module.specs.ObeysLaws.{heard-cons, silent-stays, own-true}
 use Rattle.module.specs.Acknowledges.{acked, getOrder}
 use Rattle.module.specs.AckLaws.{acked-cons}
 use Rattle.module.specs.NackLaws.{nack-refuses}
-use Rattle.module.specs.SupplyLaws.{says, silent-says, reply, askedPec, sent, asked, write-one, asked-general, asked-directed, general-says, directed-says}
+use Rattle.module.specs.Says.{says, reply, replyTo, askedPec, asked}
+use Rattle.module.specs.SupplyLaws.{silent-says, general-says, directed-says}
 use Rattle.module.specs.Packets.{Reachable}
 use Rattle.module.specs.PacketsLaws.{reachable-is}
 
@@ -408,5 +409,12 @@ mute-else o bs (b ∷ cs) n h = go (eqb b forRead) refl cs h
         ∙ silent-says (heardAll (starts (silentIn o)) bs .own) n
 
 -- AND ITS REPLY: the count, its identifier, its address byte and the PEC over the whole packet, and nothing after them
-pub says-directed : (m : Module) (n : ℕ) → Reachable (m .own) → says (19 + n) (asked m (2 * m .own .address + 1)) ≡ reply (m .own) (askedPec (2 * m .own .address + 1))
-says-directed m n h = directed-says m (2 * m .own .address + 1) n (odd-own (m .own) h) (omega arith)
+reply-whole : (o : Lasting) (k : ℕ) → reply o (askedPec k) ≡ replyTo o k
+unfolding pecFrom
+reply-whole o k = refl
+
+pub says-general : (m : Module) (n : ℕ) → m .own .resolved ≡ false → says (19 + n) (asked m 0x03) ≡ replyTo (m .own) 0x03
+says-general m n e = general-says m n e ∙ reply-whole (m .own) 0x03
+
+pub says-directed : (m : Module) (n : ℕ) → Reachable (m .own) → says (19 + n) (asked m (2 * m .own .address + 1)) ≡ replyTo (m .own) (2 * m .own .address + 1)
+says-directed m n h = directed-says m (2 * m .own .address + 1) n (odd-own (m .own) h) (omega arith) ∙ reply-whole (m .own) (2 * m .own .address + 1)

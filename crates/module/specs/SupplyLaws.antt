@@ -20,17 +20,8 @@ use Rattle.module.specs.State.{at, silentIn, taken, refused}
 use Rattle.module.specs.Receive.{forWrite, forRead, startedIn, starts, isOwn, receives}
 use Rattle.module.specs.Supply.{addressByte, replyByte, unsaid, suppliedIn, supplies}
 use Rattle.module.specs.Obeys.{heardAll, acks, isReachable}
+use Rattle.module.specs.Says.{says, afterAsking, reply, sent, asked, askedPec}
 use Rattle.module.specs.ObeysLaws.{own-small}
-
--- ---- asked for n bytes: those that it supplies, and the module after them
-
-unfoldable pub says : ℕ → Module → List ℕ
-says zero m = []
-says (suc n) m = pick (supplies m .drives) (supplies m .byte ∷ says n (supplies m .after)) (says n (supplies m .after))
-
-unfoldable pub afterAsking : ℕ → Module → Module
-afterAsking zero m = m
-afterAsking (suc n) m = afterAsking n (supplies m .after)
 
 -- ---- silent: lost, stopped, or after a NACK
 
@@ -49,10 +40,6 @@ silent-asked o zero = refl
 silent-asked o (suc n) = silent-asked o n
 
 -- ---- the reply
-
--- the 19 bytes where PEC so far is c: the count, the identifier, the address byte, PEC over all
-abbrev pub reply : Lasting → ℕ → List ℕ
-reply o c = 17 ∷ (udidBytes (o .udid) ++ (addressByte o ∷ pecFrom c (17 ∷ (udidBytes (o .udid) ++ (addressByte o ∷ []))) ∷ []))
 
 pub reply-says : (o : Lasting) (c : ℕ) → says 19 (at o Reply 0 c 0) ≡ reply o c
 unfolding says supplies replyByte udidBytes bytesOf pecFrom
@@ -102,18 +89,6 @@ start-write m = go (m .phase) (m .own) (m .pec)
     go ResetPec o c = refl
     go AssignPec o c = refl
     go Reply o c = refl
-
--- START, bytes
-abbrev pub sent : Module → List ℕ → Module
-sent m bs = heardAll (starts m) bs
-
--- Get UDID: START, 61h for writing, the command, START, 61h for reading
-abbrev pub asked : Module → ℕ → Module
-asked m k = sent (sent m (forWrite ∷ k ∷ [])) (forRead ∷ [])
-
--- PEC over those three bytes
-abbrev pub askedPec : ℕ → ℕ
-askedPec k = pecOf (forWrite ∷ k ∷ forRead ∷ [])
 
 pub write-one : (m : Module) (k : ℕ) → sent m (forWrite ∷ k ∷ []) ≡ receives (at (m .own) Command 0 (pecStep 0 forWrite) 0) k .after
 unfolding heardAll

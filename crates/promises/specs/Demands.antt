@@ -1,7 +1,7 @@
 -- THE PAGE OF PROMISES: statements only. DemandsLaws has one inhabitant of each record, and so its proof.
 -- ≡ is 'equal', ↔ 'if and only if', × 'and', ⊎ 'or', P → ⊥ 'not P', (x : A) × P 'there is an x with P'; getD l i 0 is number i of the list l.
 -- A parameter such as (contract : Wrote ..) is what a function's `ensures` says, word for word. It need not be believed: the code meets it.
--- CONTRACTS: Leaves, Outcome, Wrote, lookedUp, messageOf, modelEnd, newController, nextFree, protocolFor, reported, started, stepped, traceOf.
+-- CONTRACTS: Leaves, Outcome, Wrote, lookedUp, messageOf, modelEnd, newController, nextFree, powered, protocolFor, receives, refreshed, reported, resumed, silentIn, started, starts, stepped, supplies, traceOf.
 -- BELIEVED: 811 lines, without imports, comments and blanks. Crate/file, then the lines of each definition; src is a type of the code. tests/programs/believed.rs counts them.
 -- lists/Choice: and 3, not 3, or 3, pick 3; lists/Each: Any 3, Bytes 3, Each 3; wire/AddressTable: Bit 4, Covers 2, covers 3, lets 4, table17 25; wire/Addresses: isFromTo 2, isListed 2, isPreassigned 2, isReserved 2;
 -- wire/Symbols: ACK 2, NACK 2, START 2, STOP 2; wire/src: Address 1; pec/Pec: bitStep 2, pecFrom 3, pecOf 2, pecStep 2; trace/Rows: message 2; trace/Table: InTable 2, Line 6, Row 22, TraceOf 2, lastProtocol 2, line 2, symbols 2;
@@ -32,6 +32,8 @@ use Rattle.promises.specs.Words.{member, emptyPool, startingPool, barred
 use Rattle.promises.specs.Words.{used, count, not, Completes, BoundSince, LeftSince, binds, unbindings, removals, knownIn, handedOut, Removes, Rest, Reported, Left}
 use Rattle.promises.specs.Words.{Asks, Binds, Continues, EndsWith, Replies, protocolFor, messageOf, traceOf, Handed, Send, Wait, Nothing, Prepare, GetUdid, Assign, Ended, Abandoned, NotOutstanding, Open, Bound, Claimed, Controller, Stepped}
 use Rattle.promises.specs.Words.{EvenOrFlag, SameAsEarlier, FixedOnTaken, LengthIsBad, None, FirstOf, targetsOf, movable, leftFree, pass, Given, Ending, served, noneFree, Distinct, ruled, RecordOf, OnePerUdid, getsOnBus, historyOnBus, modelNumber, Leaves, modelEnd, ModelAnswer, nextFree, Next, At, AllUsed, Pick, Picks, latestOf, picksOf, FreeAtEach, Picked, identifier, holding, Shows}
+use Rattle.promises.specs.Words.{Module, Lasting, silentIn, starts, receives, supplies, powered, refreshed, resumed, resumedNumber, Ready, AsRecorded, having, heardAll, acked, prepareOrder, resetOrder, directedReset, assignOrder, getOrder, Begins, Reachable, Known, Resets, PowersOn, PecDue, says, asked, replyTo}
+use Rattle.promises.specs.Words.{onBus, effect, mapTargets, Among, beginningOver, runOver, modelBus, exchange, recordsOf, Fitting, afterBytes, askedAll, runOn, passOn, getsOn}
 
 -- ---- THE ADDRESSES: TABLE 17 OF SMBus 3.3.1, Appendix C
 pub record Addresses : Type 0 where
@@ -292,6 +294,68 @@ pub record Picking : Type 0 where
   -- in any run of picks: an address that was picked, x, is not picked again, y, before every other one that was free at each pick since then has been picked
   pub not-again : (l : ℕ) (before : List Pick) (x : Pick) (between : List Pick) (y : Pick) (rest : List Pick) → Picks l (before ++ (x ∷ (between ++ (y ∷ rest)))) → y .at ≡ x .at
       → (b : ℕ) → b < 128 → (b ≡ x .at → ⊥) → FreeAtEach b (between ++ (y ∷ [])) → Picked b between
+
+-- ---- THE MODULE'S END OF THE BUS, SMBus 3.3.1, 6.6.3. The own part of a module outlasts a packet: identifier, Address Valid (AV), address, Address Resolved (AR), the address
+-- that it is fixed at, and the fresh bytes of its next reset. silentIn o is the module with the own part o after STOP, after it has lost, and after a NACK. heardAll (starts m) bs is
+-- the module m after START and the bytes bs; acked says that each of them gets ACK, and says n has the bytes that it supplies when it is asked for n
+pub record Listens (m : Module) (fits : In128 (m .own .udid)) (four : m .own .fresh < 2 ^ 32) : Type 0 where
+  -- A WHOLE COMMAND WITH ITS RIGHT PEC takes effect with the PEC, whatever the module stood in before the START and whatever follows
+  pub prepare : (rest : List ℕ) → heardAll (starts m) (prepareOrder ++ rest) .own ≡ having (m .own) (m .own .udid) (m .own .valid) (m .own .address) false
+  pub reset : (rest : List ℕ) → Resets (m .own) (heardAll (starts m) (resetOrder ++ rest) .own)
+  pub directed-reset : (rest : List ℕ) → Reachable (m .own) → Resets (m .own) (heardAll (starts m) (directedReset (m .own .address) ++ rest) .own)
+  pub assign : (x : ℕ) (rest : List ℕ) → heardAll (starts m) (assignOrder (m .own .udid) x ++ rest) .own ≡ having (m .own) (m .own .udid) true (x / 2) true
+  -- and nothing else changes the own part: no other bytes, and no byte that it supplies
+  pub no-other : (bs : List ℕ) → (Begins prepareOrder bs → ⊥) → (Begins resetOrder bs → ⊥) → (Reachable (m .own) → Begins (directedReset (m .own .address)) bs → ⊥)
+      → ((x : ℕ) → Begins (assignOrder (m .own .udid) x) bs → ⊥) → heardAll (starts m) bs .own ≡ m .own
+  pub supplying : supplies m .after .own ≡ m .own
+  -- ACK for all bytes after a START, exactly if they are the beginning of a command that it knows. A NACK changes nothing, and silence follows
+  pub acks : (bs : List ℕ) → (acked (starts (silentIn (m .own))) bs ≡ true) ↔ Known (m .own) bs
+  pub nack : (b : ℕ) → receives m b .ack ≡ false → receives m b .after ≡ silentIn (m .own)
+  -- a PEC b that differs from that of the bytes xs before it gets NACK, and nothing changes, whatever follows
+  pub wrong-pec : (xs : List ℕ) (b : ℕ) → PecDue (m .own) xs → (b ≡ pecOf xs → ⊥) → (acked (starts m) xs ≡ true) × (receives (heardAll (starts m) xs) b .ack ≡ false)
+      × ((rest : List ℕ) → heardAll (starts m) (xs ++ b ∷ rest) ≡ silentIn (m .own))
+  -- A START begins a new packet, unless C3h follows. That gets ACK exactly after a Get UDID: the general one while AR is clear, the one directed to it in any case
+  pub anew : (b : ℕ) (bs : List ℕ) → (b ≡ 0xC3 → ⊥) → (heardAll (starts m) (b ∷ bs) ≡ heardAll (starts (silentIn (m .own))) (b ∷ bs)) × (acked (starts m) (b ∷ bs) ≡ acked (starts (silentIn (m .own))) (b ∷ bs))
+  pub read : (bs : List ℕ) → (receives (starts (heardAll (starts (silentIn (m .own))) bs)) 0xC3 .ack ≡ true)
+      ↔ (((bs ≡ getOrder 0x03) × (m .own .resolved ≡ false)) ⊎ (Reachable (m .own) × (bs ≡ getOrder (2 * m .own .address + 1))))
+  -- WHAT IT SUPPLIES: the count, its identifier, its address byte, the PEC over the whole packet, and nothing after them; and nothing in any other place
+  pub general : m .own .resolved ≡ false → (n : ℕ) → says (19 + n) (asked m 0x03) ≡ replyTo (m .own) 0x03
+  pub directed : Reachable (m .own) → (n : ℕ) → says (19 + n) (asked m (2 * m .own .address + 1)) ≡ replyTo (m .own) (2 * m .own .address + 1)
+  pub nothing-else : (bs cs : List ℕ) (n : ℕ) → (cs ≡ 0xC3 ∷ [] → receives (starts (heardAll (starts (silentIn (m .own))) bs)) 0xC3 .ack ≡ false)
+      → says n (heardAll (starts (heardAll (starts (silentIn (m .own))) bs)) cs) ≡ []
+  -- LOST, STOPPED OR AFTER A NACK, up to the next START: no byte gets ACK, and no bit is driven
+  pub silent : (b : ℕ) → (receives (silentIn (m .own)) b .ack ≡ false) × (receives (silentIn (m .own)) b .after ≡ silentIn (m .own)) × (supplies (silentIn (m .own)) .drives ≡ false)
+      × (supplies (silentIn (m .own)) .after ≡ silentIn (m .own))
+
+pub record Modules : Type 0 where
+  pub listens : (m : Module) (fits : In128 (m .own .udid)) (four : m .own .fresh < 2 ^ 32) → Listens m fits four
+  -- power on, by the kind; other fresh bytes, and nothing else
+  pub power-on : (u : Udid) (a f : ℕ) → In128 u → f < 2 ^ 32 → (powered u a f ≡ silentIn (powered u a f .own)) × PowersOn u a f (powered u a f .own)
+  pub refresh : (m : Module) (f : ℕ) → (refreshed m f .own .fresh ≡ f) × (refreshed (refreshed m f) (m .own .fresh) ≡ m)
+  -- from a record of the model, with the identifier u, the address byte b and the flag g: 10 for an even byte or a flag above 1, 12 for a fixed one (its first byte below 64) with FFh
+  pub resume-0 : (u : Udid) (b g f : ℕ) → In128 u → (resumedNumber (resumed u b g f) ≡ 0) ↔ ((((b % 2 ≡ 0) ⊎ (1 < g)) → ⊥) × (((getD (udidBytes u) 0 0 < 64) × (b ≡ 0xFF)) → ⊥))
+  pub resume-10 : (u : Udid) (b g f : ℕ) → In128 u → (resumedNumber (resumed u b g f) ≡ 10) ↔ ((b % 2 ≡ 0) ⊎ (1 < g))
+  pub resume-12 : (u : Udid) (b g f : ℕ) → In128 u → (resumedNumber (resumed u b g f) ≡ 12) ↔ ((((b % 2 ≡ 0) ⊎ (1 < g)) → ⊥) × ((getD (udidBytes u) 0 0 < 64) × (b ≡ 0xFF)))
+  pub recorded : (u : Udid) (b g f : ℕ) → In128 u → b < 256 → (m : Module) → resumed u b g f ≡ Ready m → AsRecorded u b g f m
+
+-- A BUS OF MODULES, bit by bit: START, each byte and STOP are given to every module, an ACK stands where one gives it, a zero beats a one, and who gives a one and sees a zero is told
+-- there and then. recordsOf ms are their records: the identifier, twice the address plus 1 or FFh where AV is clear, AR
+pub record ModuleBus : Type 0 where
+  -- one command, any modules in any states: the trace is that on the model's bus over their records, and what it does to the records is its effect there
+  pub trace : (k : Handed) (ms : List Module) → ((u : Udid) (a : Address) → k ≡ Send (Assign u a) → In128 u) → Each Fitting ms → exchange k ms .trace ≡ onBus k (recordsOf ms)
+  pub effects : (k : Handed) (ms : List Module) → ((u : Udid) (a : Address) → k ≡ Send (Assign u a) → In128 u) → Each Fitting ms
+      → recordsOf (exchange k ms .modules) ≡ mapTargets (effect (exchange k ms .trace)) (recordsOf ms)
+  -- any number of commands of a pass: the controller is the same, and the records are the model's targets
+  pub states : (occupied : Pool) (last : ℕ) (ms : List Module) → Each Fitting ms → (n : ℕ) → (runOn n (beginningOver occupied last ms) .now ≡ runOver modelBus n (beginningOver occupied last (recordsOf ms)) .now)
+      × (recordsOf (runOn n (beginningOver occupied last ms) .targets) ≡ runOver modelBus n (beginningOver occupied last (recordsOf ms)) .targets)
+  pub gets : (occupied : Pool) (last : ℕ) (ms : List Module) → Each Fitting ms → getsOn occupied last ms ≡ getsOnBus occupied last (recordsOf ms)
+  -- of a list that is not refused, the pass ends as a run of the model over the same records, and so as Demand3 says: its controller, and the records
+  pub rule : (occupied : Pool) (last : ℕ) (s b : List ℕ) (bytes : Bytes s) (r : ModelAnswer) (s′ b′ : List ℕ) → Leaves (modelEnd occupied last s b) r s′ b′ → last < 128 → 2048 ≤ length b
+      → (LengthIsBad s → ⊥) → None (EvenOrFlag s) (length s / 18) → None (SameAsEarlier s) (length s / 18) → None (FixedOnTaken (barredPool occupied) s) (length s / 18)
+      → (ms : List Module) → Each Fitting ms → recordsOf ms ≡ targetsOf s → (passOn occupied last ms .now ≡ pass occupied last (targetsOf s) .now) × (recordsOf (passOn occupied last ms .targets) ≡ targetsOf s′)
+  -- of modules that answer a Get UDID together, any two that still have a byte to send after the identifier have the same one
+  pub never-two : (ms : List Module) → Each Fitting ms → (m n : Module) → Among m (afterBytes 17 (askedAll ms)) → Among n (afterBytes 17 (askedAll ms)) → supplies m .drives ≡ true → supplies n .drives ≡ true
+      → m .own .udid ≡ n .own .udid
 
 -- ---- THE MARKED CASES, whatever binding buffer of at least 2,048 bytes is lent
 pub record Marked (b : List ℕ) (room : 2048 ≤ length b) : Type 0 where

@@ -3,4 +3,5 @@ pub mod MarkedWords
 pub mod Demands
 pub mod StepsLaws
 pub mod DemandsLaws
+pub mod ModulesLaws
 pub mod MarkedLaws

@@ -57,12 +57,33 @@ pub use Rattle.targets.specs.ByteCases.{EvenOrFlag, SameAsEarlier, FixedOnTaken
 pub use Rattle.targets.specs.Cases.{LengthIsBad, None, FirstOf}
 pub use Rattle.targets.specs.Records.{targetsOf}
 pub use Rattle.rule.specs.AllBound.{movable, leftFree}
-pub use Rattle.rule.specs.Bus.{pass}
+pub use Rattle.arbitration.specs.Among.{Among}
+pub use Rattle.targets.specs.Target.{mapTargets}
+pub use Rattle.rule.specs.Acknowledge.{onBus}
+pub use Rattle.rule.specs.AnyBus.{beginningOver, runOver}
+pub use Rattle.rule.specs.Bus.{pass, modelBus}
+pub use Rattle.rule.specs.Effect.{effect}
 pub use Rattle.rule.specs.PlainRule.{Given, Ending, served, noneFree, Distinct, ruled}
 pub use Rattle.rule.specs.Reading.{RecordOf, OnePerUdid}
 pub use Rattle.rule.specs.Sent.{getsOnBus, historyOnBus}
 pub use Rattle.report.specs.Report.{modelNumber}
 pub use Rattle.bus.specs.Run.{Leaves, modelEnd}
 pub use Rattle.bindings.specs.declared.answer.ModelAnswer.{ModelAnswer}
+-- the module's end
+pub use Rattle.module.specs.declared.resume.Resumed.the-variants.{Ready}
+pub use Rattle.module.specs.declared.state.Lasting.{Lasting}
+pub use Rattle.module.specs.declared.state.Module.{Module}
+pub use Rattle.module.specs.State.{silentIn}
+pub use Rattle.module.specs.Reset.{having, powered, refreshed}
+pub use Rattle.module.specs.Resume.{resumed, resumedNumber, AsRecorded}
+pub use Rattle.module.specs.Receive.{starts, receives}
+pub use Rattle.module.specs.Supply.{supplies}
+pub use Rattle.module.specs.Obeys.{heardAll, prepareOrder, resetOrder, directedReset, assignOrder}
+pub use Rattle.module.specs.Acknowledges.{acked, getOrder}
+pub use Rattle.module.specs.Says.{says, asked, replyTo}
+pub use Rattle.module.specs.Packets.{Begins, Reachable, Known, Resets, PowersOn, PecDue}
+pub use Rattle.exchange.specs.Exchange.{exchange, recordsOf, Fitting, afterBytes}
+pub use Rattle.exchange.specs.Pass.{runOn, passOn, getsOn}
+pub use Rattle.exchange.specs.Sending.{askedAll}
 -- the marked cases
 pub use Rattle.promises.specs.MarkedWords.{identifier, holding, Shows}
