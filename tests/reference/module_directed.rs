@@ -3,12 +3,10 @@
 use reference::addresses::{Addresses, NEVER};
 use reference::commands::*;
 use reference::controller::Controller;
-use reference::model::record_of;
 use reference::module::Module;
 use reference::module_bus::ModuleBus;
-use reference::text::{hex, trace_text, unhex};
-
-const FRESH: [u8; 4] = [0xde, 0xad, 0xbe, 0xef];
+use reference::module_cases::{parts_of, words_of, FRESH};
+use reference::text::trace_text;
 
 /// Fixed at 20h; persistent, at 30h; volatile; random.
 const SHELF: [&str; 4] = [
@@ -20,17 +18,14 @@ const SHELF: [&str; 4] = [
 
 fn shelf() -> ModuleBus<Module> {
     let module = |words: &&str| {
-        let words: Vec<&str> = words.split(' ').collect();
-        let udid = udid_of(&unhex(words[0]).expect("hexadecimal digits"));
-        let byte = u8::from_str_radix(words[1], 16).expect("a byte");
-        Module::of_record(udid, byte, words[2].parse().expect("a flag"), FRESH).expect("a record")
+        let (udid, byte, flag) = parts_of(words);
+        Module::of_record(udid, byte, flag, FRESH).expect("a record")
     };
     ModuleBus::new(SHELF.iter().map(module).collect())
 }
 
 fn shown(bus: &ModuleBus<Module>) -> Vec<String> {
-    let text = |record: Vec<u8>| format!("{} {} {}", hex(&record[..16]), hex(&record[16..17]), record[17]);
-    bus.records().iter().map(|target| text(record_of(target))).collect()
+    bus.records().iter().map(words_of).collect()
 }
 
 fn pass(bus: &mut ModuleBus<Module>, last_pick: u8) -> u8 {
