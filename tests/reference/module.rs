@@ -79,19 +79,51 @@ pub struct Module {
     sent: usize,
 }
 
+/// A packet that a module obeys, as far as it acknowledges it.
+struct Packet {
+    /// START and bytes, up to the PEC that a controller sends.
+    symbols: Vec<u16>,
+    /// Does a PEC end it?
+    has_pec: bool,
+    deed: Deed,
+}
+
 /// START and bytes.
-fn packet(bytes: &[u8]) -> Vec<u16> {
+fn symbols(bytes: &[u8]) -> Vec<u16> {
     [vec![START], bytes.iter().map(|&byte| u16::from(byte)).collect()].concat()
 }
 
-/// The same with the PEC after them.
-fn with_pec(bytes: &[u8]) -> Vec<u16> {
-    packet(&[bytes, &[pec(bytes)]].concat())
+/// The bytes among symbols.
+fn bytes_in(symbols: &[u16]) -> Vec<u8> {
+    symbols.iter().filter_map(|&symbol| u8::try_from(symbol).ok()).collect()
 }
 
-/// The packet of a Get UDID up to where the module sends.
-fn read_with(command: u8) -> Vec<u16> {
-    [packet(&[WRITE, command]), packet(&[READ])].concat()
+impl Packet {
+    fn with_pec(bytes: &[u8], deed: Deed) -> Packet {
+        Packet { symbols: symbols(bytes), has_pec: true, deed }
+    }
+
+    /// A Get UDID, up to where the module sends.
+    fn read(command: u8) -> Packet {
+        let symbols = [symbols(&[WRITE, command]), symbols(&[READ])].concat();
+        Packet { symbols, has_pec: false, deed: Deed::Reply }
+    }
+
+    /// Every symbol of it.
+    fn whole(&self) -> Vec<u16> {
+        let code = pec(&bytes_in(&self.symbols));
+        let last = self.has_pec.then_some(u16::from(code));
+        self.symbols.iter().copied().chain(last).collect()
+    }
+
+    /// Is the list a beginning of it, or all of it?
+    fn begins_with(&self, list: &[u16]) -> bool {
+        self.symbols.starts_with(list) || list.starts_with(&self.symbols) && self.whole() == list
+    }
+
+    fn is(&self, list: &[u16]) -> bool {
+        list.starts_with(&self.symbols) && self.whole() == list
+    }
 }
 
 /// A number that is an address.
@@ -139,33 +171,32 @@ impl Module {
     /// The bytes acknowledged since its packet began. None where it is silent.
     pub fn bytes_heard(&self) -> Option<Vec<u8>> {
         let heard = self.heard.as_ref()?;
-        Some(heard.iter().filter_map(|&symbol| u8::try_from(symbol).ok()).collect())
+        Some(bytes_in(heard))
     }
 
-    /// Every packet that it obeys, as far as it acknowledges it. The address byte of an Assign may be any: here it is the
-    /// one that the list has.
-    fn packets(&self, list: &[u16]) -> Vec<(Vec<u16>, Deed)> {
+    /// Every packet that it obeys. The address byte of an Assign may be any: here it is the one that the list has.
+    fn packets(&self, list: &[u16]) -> Vec<Packet> {
         let given = list.get(20).map_or(0, |&symbol| symbol as u8);
         let assign = [&[WRITE, ASSIGN, COUNT], &self.udid[..], &[given]].concat();
         let mut packets = vec![
-            (with_pec(&[WRITE, PREPARE]), Deed::Prepare),
-            (with_pec(&[WRITE, RESET]), Deed::Reset),
-            (with_pec(&assign), Deed::Assign(given)),
+            Packet::with_pec(&[WRITE, PREPARE], Deed::Prepare),
+            Packet::with_pec(&[WRITE, RESET], Deed::Reset),
+            Packet::with_pec(&assign, Deed::Assign(given)),
         ];
         match self.resolved {
-            true => packets.push((packet(&[WRITE, GET_UDID]), Deed::Pass)),
-            false => packets.push((read_with(GET_UDID), Deed::Reply)),
+            true => packets.push(Packet { symbols: symbols(&[WRITE, GET_UDID]), has_pec: false, deed: Deed::Pass }),
+            false => packets.push(Packet::read(GET_UDID)),
         }
         if let Some(own) = self.address.filter(|address| DIRECTED.contains(address)) {
-            packets.push((with_pec(&[WRITE, 2 * own]), Deed::Reset));
-            packets.push((read_with(2 * own + 1), Deed::Reply));
+            packets.push(Packet::with_pec(&[WRITE, 2 * own], Deed::Reset));
+            packets.push(Packet::read(2 * own + 1));
         }
         packets
     }
 
     /// The packet that begins with all of the list.
-    fn begun(&self, list: &[u16]) -> Option<(Vec<u16>, Deed)> {
-        self.packets(list).into_iter().find(|(packet, _)| packet.starts_with(list))
+    fn begun(&self, list: &[u16]) -> Option<Packet> {
+        self.packets(list).into_iter().find(|packet| packet.begins_with(list))
     }
 
     /// START: a packet that has one in this place goes on, any other begins.
@@ -182,11 +213,11 @@ impl Module {
         };
         let anew = before.last() == Some(&START);
         let longer = [before, vec![u16::from(byte)]].concat();
-        let lists = [Some(longer), Some(packet(&[byte])).filter(|_| anew)];
+        let lists = [Some(longer), Some(symbols(&[byte])).filter(|_| anew)];
         for list in lists.into_iter().flatten() {
-            if let Some((packet, deed)) = self.begun(&list) {
-                if packet == list {
-                    self.obey(deed);
+            if let Some(packet) = self.begun(&list) {
+                if packet.is(&list) {
+                    self.obey(packet.deed);
                 }
                 self.heard = Some(list);
                 return true;
@@ -228,8 +259,8 @@ impl Module {
     /// What it sends in this packet, if that is a whole Get UDID. The PEC is over everything before it.
     fn reply(&self) -> Option<Vec<u8>> {
         let heard = self.heard.as_ref()?;
-        self.begun(heard).filter(|(packet, deed)| packet == heard && *deed == Deed::Reply)?;
-        let asked = self.bytes_heard()?;
+        self.begun(heard).filter(|packet| packet.deed == Deed::Reply && packet.is(heard))?;
+        let asked = bytes_in(heard);
         let data = [vec![COUNT], reply_bytes(&self.udid, self.record().address_byte)].concat();
         let code = pec(&[asked, data.clone()].concat());
         Some([data, vec![code]].concat())
