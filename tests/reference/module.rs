@@ -168,6 +168,11 @@ impl Module {
         self.reply().is_some_and(|reply| self.sent < reply.len())
     }
 
+    /// How many bytes of the reply it has sent in this packet.
+    pub fn bytes_sent(&self) -> usize {
+        self.sent
+    }
+
     /// The bytes acknowledged since its packet began. None where it is silent.
     pub fn bytes_heard(&self) -> Option<Vec<u8>> {
         let heard = self.heard.as_ref()?;
