@@ -47,11 +47,11 @@ inside {
     field = $2
     sub(/:$/, "", field)
     fields = fields " " type " " field
-}' crates/c_codec/src/*.rt crates/c_arp/src/*.rt | sort >"$out/due"
+}' crates/c_*/src/*.rt | sort >"$out/due"
 awk '
 /^typedef struct \{/ { inside = 1; fields = ""; next }
 inside && /^}/ { name = $2; sub(/;$/, "", name); print name fields; inside = 0; next }
-inside { sub(/;$/, ""); fields = fields " " $1 " " $2 }' include/headboarded.h | sort >"$out/given"
+inside { sub(/;.*/, ""); fields = fields " " $1 " " $2 }' include/headboarded.h | sort >"$out/given"
 same 'the structs of the crates are not those of include/headboarded.h'
 printf '%-36s %8d cases\n' 'structs of the header' "$(wc -l <"$out/due")"
 
