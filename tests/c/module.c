@@ -181,6 +181,17 @@ static void check_prepare(void)
     }
 }
 
+/* The same of Reset, general and directed. */
+static void check_wrong_resets(void)
+{
+    for (unsigned pec = 0; pec < 256; pec++) {
+        const uint8_t s[3] = { 0xc2, 0x02, (uint8_t)pec }, d[3] = { 0xc2, 0x40, (uint8_t)pec };
+        hb_module m = of(volatil, 0x41, 1), n = of(volatil, 0x41, 1);
+        CHECK(hear(&m, s, 3) == (pec == 0xc9 ? 3 : 2) && is(m, volatil, pec != 0xc9, pec == 0xc9 ? 0 : 0x20, pec != 0xc9));
+        CHECK(hear(&n, d, 3) == (pec == 0x00 ? 3 : 2) && is(n, volatil, pec != 0x00, pec == 0x00 ? 0 : 0x20, pec != 0x00));
+    }
+}
+
 static void check_assign(void)
 {
     for (unsigned byte = 0; byte < 256; byte++) {
@@ -234,6 +245,9 @@ static void check_replies(void)
     CHECK(obeys(&m, 0x01));
     check_reply(m, 0x03, volatil, 0x41);
     check_reply(m, 0x41, volatil, 0x41);
+    CHECK(hear(&m, (const uint8_t[]){ 0xc2, 0x03 }, 2) == 2);
+    CHECK(hb_module_receive(hb_module_start(m), 0xc3).ack == 1 && hb_module_receive(m, 0xc3).ack == 0);
+    CHECK(hb_module_receive(hb_module_start(hb_module_stop(m)), 0xc3).ack == 0);
     m = hb_module_start(hb_module_start(m));
     CHECK(hb_module_receive(m, 0xc3).ack == 0);
     released(m);
@@ -269,6 +283,19 @@ static void check_arbitration(void)
     }
 }
 
+/* Every number but 0 is a flag that is set. Where Address Valid is clear no directed command is acknowledged, whatever the address is. */
+static void check_flags(void)
+{
+    const uint8_t s[2] = { 0xc2, 0x40 };
+    for (unsigned flag = 0; flag < 256; flag++) {
+        hb_module m = of(volatil, 0x41, 0), n = m;
+        m.valid = (uint8_t)flag;
+        CHECK(hear(&m, s, 2) == (flag ? 2 : 1) && hb_module_address_byte(m) == (flag ? 0x41 : 0xff));
+        n.resolved = (uint8_t)flag;
+        CHECK(ask(&n, 0x03) == (flag ? 2 : 3));
+    }
+}
+
 /* Any numbers in the state: every call returns. Above the last phase it is silent; after START it obeys. */
 static void check_any_numbers(void)
 {
@@ -292,9 +319,11 @@ void check_module(void)
     check_records();
     check_commands();
     check_prepare();
+    check_wrong_resets();
     check_assign();
     check_resets();
     check_replies();
     check_arbitration();
+    check_flags();
     check_any_numbers();
 }

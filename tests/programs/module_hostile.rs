@@ -86,7 +86,8 @@ fn any_numbers() -> usize {
 }
 
 /// Whatever the numbers are: every call returns, and the same again; above the last phase it is silent; STOP, lost and NACK
-/// leave it silent, and nothing else changes; any START is followed by a packet that is obeyed.
+/// leave it silent, and nothing else changes; where Address Valid is clear no directed command reaches it, whatever the address
+/// is; any START is followed by a packet that is obeyed.
 fn one(family: &mut Family, module: HbModule, byte: u8, fresh: [u8; 4]) {
     let input = || format!("{module:02x?} {byte:02x}");
     let (heard, supplied) = (module.received(byte), module.supplied());
@@ -117,6 +118,13 @@ fn one(family: &mut Family, module: HbModule, byte: u8, fresh: [u8; 4]) {
         family.same(input, &0xff, &module.address_byte());
     } else if module.address < 128 {
         family.same(input, &(2 * module.address + 1), &module.address_byte());
+    }
+    for command in [module.address.wrapping_mul(2), module.address.wrapping_mul(2) + 1] {
+        if module.valid == 0 && (0x20..0xfe).contains(&command) {
+            let mut directed = module;
+            directed.start();
+            family.same(input, &(true, false), &(directed.hear(WRITE), directed.hear(command)));
+        }
     }
     let mut obeys = module;
     obeys.start();
