@@ -1,5 +1,5 @@
-//! The library's modules against the reference's: every byte at every place, random and hostile events, any numbers, and passes
-//! over a bus of them.
+//! The library's modules against the reference's: every byte at every place, random and hostile events, any numbers,
+//! and passes over a bus of them.
 
 mod exported_modules_abi;
 mod family;

@@ -85,9 +85,9 @@ fn any_numbers() -> usize {
     family.done()
 }
 
-/// Whatever the numbers are: every call returns, and the same again; above the last phase it is silent; STOP, lost and NACK
-/// leave it silent, and nothing else changes; where Address Valid is clear no directed command reaches it, whatever the address
-/// is; any START is followed by a packet that is obeyed.
+/// Whatever the numbers are: every call returns, and the same again; above the last phase it is silent; STOP, lost and
+/// NACK leave it silent, and nothing else changes; where Address Valid is clear no directed command reaches it,
+/// whatever the address is; any START is followed by a packet that is obeyed.
 fn one(family: &mut Family, module: HbModule, byte: u8, fresh: [u8; 4]) {
     let input = || format!("{module:02x?} {byte:02x}");
     let (heard, supplied) = (module.received(byte), module.supplied());

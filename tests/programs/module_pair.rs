@@ -29,8 +29,8 @@ impl Pair {
         Pair { due, given, events: vec![] }
     }
 
-    /// The event happens to both: one answer, and one state after it. Where the module is silent then, whatever happened,
-    /// its numbers say so after NACK, STOP and lost.
+    /// The event happens to both: one answer, and one state after it. After NACK, STOP and lost the numbers of the
+    /// library's are those of a silent module.
     pub fn happen(&mut self, family: &mut Family, reached: &mut Reached, event: Event) -> Reaction {
         let before = self.due.clone();
         self.events.push(event);

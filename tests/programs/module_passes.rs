@@ -1,4 +1,5 @@
-//! The library's modules on a bus, bit by bit: passes against its model run, and any commands against the reference's bus.
+//! The library's modules on a bus, bit by bit: passes against its model run, and any commands against the reference's
+//! bus.
 
 use crate::exported_modules_abi::{run_model, HbModule, Resumed};
 use crate::family::Family;
@@ -77,8 +78,9 @@ fn passes() -> usize {
     family.done()
 }
 
-/// Two buses with the same modules, one of the library and one of the reference. The same commands give the same traces,
-/// records and winners: Prepare, Get UDID and Reset, general and directed, and Assign to one of them or to nobody.
+/// Two buses with the same modules, one of the library and one of the reference. The same commands give the same
+/// traces, records and winners: Prepare, Get UDID and Reset, general and directed, and Assign to one of them or to
+/// nobody.
 fn two_buses() -> usize {
     let mut family = Family::new("modules, two buses");
     let mut random = Random::new(151);

@@ -1,4 +1,5 @@
-//! Every byte at every place of every packet, on every kind of module, whatever its flags; and lost at every byte of a reply.
+//! Every byte at every place of every packet, on every kind of module, whatever its flags; and lost at every byte of a
+//! reply.
 
 use crate::family::Family;
 use crate::module_pair::Pair;

@@ -1,5 +1,5 @@
-//! What the cases of modules have to reach: each packet heard whole by each kind of module, NACK at each of its places, and
-//! lost at each byte of a reply.
+//! What the cases of modules have to reach: each packet heard whole by each kind of module, NACK at each of its places,
+//! and lost at each byte of a reply.
 
 use reference::module::{kind_of, Kind, Module, READ, REPLY};
 use reference::module_events::{Event, Reaction};

@@ -1,5 +1,5 @@
-//! Sessions of the console about modules, worked out by hand. The cases of the reference's `module_cases.rs` are made into
-//! sessions too.
+//! Sessions of the console about modules, worked out by hand. The cases of the reference's `module_cases.rs` are made
+//! into sessions too.
 
 use reference::module_cases::{self, event_of, parts_of, Case};
 use reference::module_events::Event;

@@ -143,8 +143,8 @@ impl Module {
         module
     }
 
-    /// A module in the middle of its life, as a record of the model has it. Refused is what is no record, with 10, and a
-    /// fixed module without an address, with 12.
+    /// A module in the middle of its life, as a record of the model has it. Refused is what is no record, with 10, and
+    /// a fixed module without an address, with 12.
     pub fn of_record(udid: Udid, address_byte: u8, flag: u8, fresh: [u8; 4]) -> Result<Module, u32> {
         if address_byte % 2 == 0 || flag > 1 {
             return Err(10);

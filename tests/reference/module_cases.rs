@@ -1,5 +1,5 @@
-//! Modules worked out by hand: what stands on the wire, and what the module does. The PECs here are those of a table of 256
-//! remainders, another way than the reference's.
+//! Modules worked out by hand: what stands on the wire, and what the module does. The PECs here are those of a table of
+//! 256 remainders, another way than the reference's.
 //!
 //! A case has the module's record, what happens, and the record after it. In what happens:
 //!
@@ -28,13 +28,15 @@ const fn case(name: &'static str, before: &'static str, events: &'static str, af
     Case { name, before, events, after }
 }
 
-/// Records: volatile with no address, and at 20h.
+/// Records: volatile with no address, at 20h and at 21h.
 const NONE: &str = "8102030405060708090a0b0c0d0e0f10 ff 0";
 const NONE_RESOLVED: &str = "8102030405060708090a0b0c0d0e0f10 ff 1";
 const AT_20: &str = "8102030405060708090a0b0c0d0e0f10 41 0";
 const RESOLVED: &str = "8102030405060708090a0b0c0d0e0f10 41 1";
 const AT_21: &str = "8102030405060708090a0b0c0d0e0f10 43 0";
 const RESOLVED_21: &str = "8102030405060708090a0b0c0d0e0f10 43 1";
+/// At 0Fh, below what a directed command can name.
+const AT_0F: &str = "8102030405060708090a0b0c0d0e0f10 1f 1";
 /// Fixed at 20h, and with 21h assigned.
 const FIXED: &str = "0102030405060708090a0b0c0d0e0f10 41 0";
 const FIXED_21: &str = "0102030405060708090a0b0c0d0e0f10 43 1";
@@ -200,7 +202,8 @@ const ASSIGNED: [Case; 22] = [
     case(
         "and has its own again after a reset",
         FIXED,
-        "S c2+ 04+ 11+ 01+ 02+ 03+ 04+ 05+ 06+ 07+ 08+ 09+ 0a+ 0b+ 0c+ 0d+ 0e+ 0f+ 10+ 42+ 0e+ P S c2+ 42+ 0e+ P S c2+ 42-",
+        "S c2+ 04+ 11+ 01+ 02+ 03+ 04+ 05+ 06+ 07+ 08+ 09+ 0a+ 0b+ 0c+ 0d+ 0e+ 0f+ 10+ 42+ 0e+ P \
+S c2+ 42+ 0e+ P S c2+ 42-",
         FIXED,
     ),
     case(
@@ -241,28 +244,30 @@ const SENT: [Case; 14] = [
     case(
         "directed, at the highest that it reaches",
         "8102030405060708090a0b0c0d0e0f10 fd 1",
-        "S c2+ fd+ S c3+ >11 >81 >02 >03 >04 >05 >06 >07 >08 >09 >0a >0b >0c >0d >0e >0f >10 >fd >d9 >.. P S c2+ fc+ 3d+",
+        "S c2+ fd+ S c3+ >11 >81 >02 >03 >04 >05 >06 >07 >08 >09 >0a >0b >0c >0d >0e >0f >10 >fd >d9 >.. P \
+S c2+ fc+ 3d+",
         NONE,
     ),
-    case("below the lowest", "8102030405060708090a0b0c0d0e0f10 1f 1", "S c2+ 1f- S c2+ 1e- 9d-", "8102030405060708090a0b0c0d0e0f10 1f 1"),
-    case("after START the reply is given anew", NONE, "S c2+ 03+ S c3+ >11 >81 >02 S c2+ 03+ S c3+ >11 >81 >02 >03", NONE),
+    case("below the lowest", AT_0F, "S c2+ 1f- S c2+ 1e- 9d-", AT_0F),
+    case("the reply begins anew", NONE, "S c2+ 03+ S c3+ >11 >81 >02 S c2+ 03+ S c3+ >11 >81 >02 >03", NONE),
     case("lost at once", NONE, "S c2+ 03+ S c3+ >11 L >.. c2- >.. P >..", NONE),
-    case("lost in the middle, until a repeated START", AT_20, "S c2+ 03+ S c3+ >11 >81 L >.. 41- S c2+ 41+ S c3+ >11", AT_20),
+    case("lost, until a repeated START", AT_20, "S c2+ 03+ S c3+ >11 >81 L >.. 41- S c2+ 41+ S c3+ >11", AT_20),
     case("lost outside of a read", RESOLVED, "S c2+ 01+ L c0- S c2+ L 01- >.. P", RESOLVED),
     case("a byte in the middle of a read", NONE, "S c2+ 03+ S c3+ >11 81- >.. S c3-", NONE),
     case("the first byte of the reply sent to it", NONE, "S c2+ 03+ S c3+ 11- >..", NONE),
     case(
         "a fixed one with what was assigned",
         FIXED,
-        "S c2+ 04+ 11+ 01+ 02+ 03+ 04+ 05+ 06+ 07+ 08+ 09+ 0a+ 0b+ 0c+ 0d+ 0e+ 0f+ 10+ 42+ 0e+ P S c2+ 03+ S c3- P S c2+ 43+ \
-S c3+ >11 >01 >02 >03 >04 >05 >06 >07 >08 >09 >0a >0b >0c >0d >0e >0f >10 >43 >47 >.. P S c2+ 01+ c0+ P S c2+ 03+ \
-S c3+ >11 >01 >02 >03 >04 >05 >06 >07 >08 >09 >0a >0b >0c >0d >0e >0f >10 >43 >76 >.. P",
+        "S c2+ 04+ 11+ 01+ 02+ 03+ 04+ 05+ 06+ 07+ 08+ 09+ 0a+ 0b+ 0c+ 0d+ 0e+ 0f+ 10+ 42+ 0e+ P \
+S c2+ 03+ S c3- P S c2+ 43+ S c3+ >11 >01 >02 >03 >04 >05 >06 >07 >08 >09 >0a >0b >0c >0d >0e >0f >10 >43 >47 >.. P \
+S c2+ 01+ c0+ P S c2+ 03+ S c3+ >11 >01 >02 >03 >04 >05 >06 >07 >08 >09 >0a >0b >0c >0d >0e >0f >10 >43 >76 >.. P",
         "0102030405060708090a0b0c0d0e0f10 43 0",
     ),
     case(
         "a random one with its new bytes",
         RANDOM_21,
-        "S c2+ 42+ 0e+ P S c2+ 03+ S c3+ >11 >c1 >02 >03 >04 >05 >06 >07 >08 >09 >0a >0b >0c >de >ad >be >ef >ff >8f >.. P",
+        "S c2+ 42+ 0e+ P \
+S c2+ 03+ S c3+ >11 >c1 >02 >03 >04 >05 >06 >07 >08 >09 >0a >0b >0c >de >ad >be >ef >ff >8f >.. P",
         RENEWED,
     ),
 ];

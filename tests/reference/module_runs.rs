@@ -32,8 +32,8 @@ fn one_winner(bus: &ModuleBus<Module>, input: &dyn Fn() -> String) {
     assert!(won.len() == 1, "{} have won\n{}", won.len(), input());
 }
 
-/// A pass over modules and over the model's targets: equal commands, traces and records all the way. The controller, and
-/// how many commands were sent.
+/// A pass over modules and over the model's targets: equal commands, traces and records all the way. The controller and
+/// the modules after it, and how many commands were sent.
 fn pass(modules: Vec<Module>, occupied: &Addresses, last_pick: u8) -> (Controller, Vec<Module>, usize) {
     let mut real = ModuleBus::new(modules);
     let mut model = Bus { targets: real.records() };
@@ -141,8 +141,8 @@ fn any_module(random: &mut Random, others: &[Module]) -> Module {
     Module::of_record(udid, byte, flag, fresh).unwrap_or(powered)
 }
 
-/// Whatever the modules are, and wherever in a packet they stand, they end as the model's targets; where the list is one
-/// that a model run takes, as the plain rule.
+/// Whatever the modules are, and wherever in a packet they stand, they end as the model's targets; where the list is
+/// one that a model run takes, as the plain rule.
 pub fn any_modules() -> usize {
     let mut random = Random::new(121);
     let (mut cases, mut ruled, mut inside) = (0, 0, 0);
@@ -177,7 +177,8 @@ pub fn any_modules() -> usize {
     cases
 }
 
-/// Two modules whose UDIDs differ in one bit, for every bit: the one with the zero there has won, and the other knows it.
+/// Two modules whose UDIDs differ in one bit, for every bit: the one with the zero there has won, and the other knows
+/// it.
 pub fn every_bit() -> usize {
     let mut random = Random::new(122);
     for place in 0..128 {

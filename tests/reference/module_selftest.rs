@@ -1,5 +1,5 @@
-//! The reference's module and its bus: modules worked out by hand, passes held to the model's bus and the plain rule, and
-//! directed commands.
+//! The reference's module and its bus: modules worked out by hand, passes held to the model's bus and the plain rule,
+//! and directed commands.
 
 mod module_directed;
 mod module_runs;
