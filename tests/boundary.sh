@@ -49,6 +49,17 @@ inside {
     fields = fields " " type " " field
 }' crates/c_*/src/*.rt | sort >"$out/due"
 awk '
+/^typedef struct \{.*}/ { # on one line
+    name = $0
+    sub(/.*} */, "", name)
+    sub(/;.*/, "", name)
+    fields = $0
+    sub(/^typedef struct \{ */, "", fields)
+    sub(/; *}.*/, "", fields)
+    gsub(/;/, "", fields)
+    print name " " fields
+    next
+}
 /^typedef struct \{/ { inside = 1; fields = ""; next }
 inside && /^}/ { name = $2; sub(/;$/, "", name); print name fields; inside = 0; next }
 inside { sub(/;.*/, ""); fields = fields " " $1 " " $2 }' include/headboarded.h | sort >"$out/given"
