@@ -28,7 +28,7 @@ static hb_module of(hb_udid udid, uint8_t byte, uint8_t flag)
     hb_resumed r = hb_module_of_record(udid, byte, flag, 0xdeadbeef);
     if (r.answer != HB_DONE)
         stop("a record is refused");
-    return r.module;
+    return r.after;
 }
 
 /* START and bytes, all acknowledged. */

@@ -29,8 +29,8 @@ static int same_lasting(hb_module m, hb_module n)
 static hb_module of(hb_udid udid, uint8_t byte, uint8_t flag)
 {
     hb_resumed r = hb_module_of_record(udid, byte, flag, 0xdeadbeef);
-    CHECK(r.answer == HB_DONE && silent(r.module));
-    return r.module;
+    CHECK(r.answer == HB_DONE && silent(r.after));
+    return r.after;
 }
 
 /* START and bytes: how many are acknowledged, one after the other, before the first that is not. That one leaves it silent. */
@@ -140,14 +140,14 @@ static void check_records(void)
             hb_resumed f = hb_module_of_record(fixed, (uint8_t)byte, (uint8_t)flag, FRESH);
             if (byte % 2 == 0 || flag > 1) {
                 CHECK(r.answer == HB_MALFORMED && f.answer == HB_MALFORMED);
-                CHECK(is(r.module, (hb_udid){ 0, 0 }, 0, 0, 0) && r.module.fresh == 0 && r.module.home == 0 && silent(r.module));
+                CHECK(is(r.after, (hb_udid){ 0, 0 }, 0, 0, 0) && r.after.fresh == 0 && r.after.home == 0 && silent(r.after));
             } else if (byte == 0xff) {
-                CHECK(r.answer == HB_DONE && is(r.module, volatil, 0, 0, (int)flag) && r.module.home == 255);
-                CHECK(f.answer == HB_TAKEN && f.module.home == 0 && f.module.fresh == 0 && f.module.valid == 0);
+                CHECK(r.answer == HB_DONE && is(r.after, volatil, 0, 0, (int)flag) && r.after.home == 255);
+                CHECK(f.answer == HB_TAKEN && f.after.home == 0 && f.after.fresh == 0 && f.after.valid == 0);
             } else {
-                CHECK(r.answer == HB_DONE && is(r.module, volatil, 1, (uint8_t)(byte / 2), (int)flag));
-                CHECK(f.answer == HB_DONE && is(f.module, fixed, 1, (uint8_t)(byte / 2), (int)flag));
-                CHECK(f.module.home == byte / 2 && f.module.fresh == FRESH && silent(f.module));
+                CHECK(r.answer == HB_DONE && is(r.after, volatil, 1, (uint8_t)(byte / 2), (int)flag));
+                CHECK(f.answer == HB_DONE && is(f.after, fixed, 1, (uint8_t)(byte / 2), (int)flag));
+                CHECK(f.after.home == byte / 2 && f.after.fresh == FRESH && silent(f.after));
             }
         }
 }
