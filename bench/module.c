@@ -1,5 +1,5 @@
 /* Lets a module of the library receive each kind of byte and supply each byte of a reply, checks what it answers, and dumps callgrind's
-   count after each. A dump's label is  received|supplied BYTE */
+   count after each. A dump's label is  received|supplied BYTE  or, for a count with no call, which tells what the counting takes,  nothing */
 #include "headboarded.h"
 
 #include <stdio.h>
@@ -76,6 +76,13 @@ static hb_module supplied(const char *name, hb_module m, uint32_t drives, uint32
     return s.after;
 }
 
+/* No call: what is counted here belongs to the counting. */
+static void nothing(void)
+{
+    CALLGRIND_ZERO_STATS;
+    CALLGRIND_DUMP_STATS_AT("nothing");
+}
+
 static void commands(hb_module m)
 {
     hb_module begun = after_command(m, 0x01);
@@ -146,6 +153,7 @@ int main(void)
     /* Once before the count, so that what the linker does at a first call falls out. */
     receive(of(volatil, NONE, 0), 0);
     supply(of(volatil, NONE, 0));
+    nothing();
     commands(of(volatil, AT_20, 1));
     assigning(of(volatil, NONE, 0));
     resets();

@@ -141,7 +141,7 @@ function pick_table(k) {
 function module_table(k) {
     print "\n## A byte of a module\n"
     print "A call of `hb_module_receive` for a byte of each kind, and of `hb_module_supply` for each byte of a reply. Where a kind has"
-    print "several places, as the identifier has 16, the cheapest and the dearest stand here.\n"
+    print "several places, as the identifier has 16, the cheapest and the dearest stand here. What the counting itself takes is taken out.\n"
     print "|work|byte|least|most|limit|\n|-|-|-:|-:|-:|"
     for (k = 1; k <= kinds; k++)
         print heard[k]

@@ -21,8 +21,8 @@ static int is(hb_module m, hb_udid udid, int valid, uint8_t address, int resolve
 
 static int same_lasting(hb_module m, hb_module n)
 {
-    return hb_udid_is_same(m.udid, n.udid) && m.fresh == n.fresh && m.home == n.home && m.valid == n.valid &&
-           m.address == n.address && m.resolved == n.resolved;
+    return hb_udid_is_same(m.udid, n.udid) && m.fresh == n.fresh && m.home == n.home && !m.valid == !n.valid &&
+           m.address == n.address && !m.resolved == !n.resolved;
 }
 
 /* A module that a record describes. */
