@@ -1,4 +1,5 @@
-# bench/RESULTS.md from what the benchmarks left: pec.txt, codec.callgrind, step.txt, model.txt and pick.txt, in this order.
+# bench/RESULTS.md from what the benchmarks left: pec.txt, codec.callgrind, step.txt, model.txt, pick.txt and module.txt, in this
+# order.
 
 FNR == 1 {
     file++
@@ -48,6 +49,10 @@ file == 4 && /^a target among/ {
 
 file == 5 && $4 ~ /^[0-9]+$/ {
     picks[++searches] = "|" $1 "|" $2 "|" $3 "|" $4 "|" $5 "|" $6 "|"
+}
+
+file == 6 && $3 ~ /^[0-9]+$/ {
+    heard[++kinds] = "|" $1 "|" $2 "|" $3 "|" $4 "|" $5 "|"
 }
 
 function ratio(a, b) {
@@ -133,8 +138,17 @@ function pick_table(k) {
         print picks[k]
 }
 
+function module_table(k) {
+    print "\n## A byte of a module\n"
+    print "A call of `hb_module_receive` for a byte of each kind, and of `hb_module_supply` for each byte of a reply. Where a kind has"
+    print "several places, as the identifier has 16, the cheapest and the dearest stand here. What the counting itself takes is taken out.\n"
+    print "|work|byte|least|most|limit|\n|-|-|-:|-:|-:|"
+    for (k = 1; k <= kinds; k++)
+        print heard[k]
+}
+
 END {
-    if (file != 5 || count == 0 || runs == 0 || searches == 0 || step == "" || grows == "" || \
+    if (file != 6 || count == 0 || runs == 0 || searches == 0 || kinds == 0 || step == "" || grows == "" || \
         !pec["table", 65536] || !run["table", 120] || !cost["decode", "table", rows[count]]) {
         print "bench: nothing counted" >"/dev/stderr"
         exit 1
@@ -149,6 +163,7 @@ END {
     print step "."
     run_table()
     pick_table()
+    module_table()
     print "\n## How it grows\n"
     print "Plain C is here with the PEC bit by bit, unless a table is named.\n"
     print "- With the trace: linear. From a Block Write of 32 bytes to one of 255, without PEC, a symbol more costs"

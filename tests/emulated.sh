@@ -44,6 +44,9 @@ compile selftest tests/reference
 compile arp_selftest tests/reference
 "$out/arp_selftest"
 
+compile module_selftest tests/reference
+"$out/module_selftest"
+
 compile vectors tests/reference
 "$out/vectors" check tests/vectors
 

@@ -37,5 +37,6 @@ void check_pools(void);
 void check_codec(void);
 void check_passes(void);
 void check_model(void);
+void check_module(void);
 
 #endif

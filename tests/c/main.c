@@ -29,6 +29,7 @@ int main(void)
     check_codec();
     check_passes();
     check_model();
+    check_module();
     printf("%-28s%9lu checks\n", "from C", checks);
     return 0;
 }

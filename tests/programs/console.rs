@@ -2,10 +2,14 @@
 //!   console PROGRAM FILES..     each FILE holds requests; what is due stands beside it, in stdout for stdin, else in NAME.expected
 //!   console write FILES..       writes what is due anew, from the reference
 
+mod module_seen;
+mod module_sessions;
 mod sessions;
 
+use module_seen::ModulesSeen;
 use reference::addresses::added;
 use reference::console::{lines, Console};
+use reference::module_lines::module_line;
 use reference::random::Random;
 use reference::requests::any_line;
 use std::collections::BTreeMap;
@@ -16,7 +20,9 @@ use std::sync::mpsc;
 use std::thread;
 use std::time::Duration;
 
-const SESSIONS: u64 = 150;
+const SESSIONS: u64 = 180;
+/// Of these, sessions that are mostly about modules.
+const ABOUT_MODULES: u64 = 30;
 const LINES: usize = 1000;
 
 fn fail(text: &str) -> ! {
@@ -101,10 +107,10 @@ fn file(program: &str, path: &str) -> usize {
 }
 
 /// The answers worked out by hand: the reference and the program give them.
-fn by_hand(program: &str, name: &str, session: &[(&str, &str)]) -> usize {
-    let input: String = session.iter().map(|(line, _)| format!("{line}\n")).collect();
-    let due: Vec<(Vec<u8>, String)> =
-        session.iter().map(|(line, due)| (line.as_bytes().to_vec(), format!("{due}\n"))).collect();
+fn by_hand<S: AsRef<str>>(program: &str, name: &str, session: &[(S, S)]) -> usize {
+    let input: String = session.iter().map(|(line, _)| format!("{}\n", line.as_ref())).collect();
+    let answered = |(line, due): &(S, S)| (line.as_ref().as_bytes().to_vec(), format!("{}\n", due.as_ref()));
+    let due: Vec<(Vec<u8>, String)> = session.iter().map(answered).collect();
     let reference: String = answers_to(input.as_bytes()).into_iter().map(|(_, answer)| answer).collect();
     compare(&format!("{name}, the reference"), &due, reference.as_bytes());
     compare(name, &due, &run(program, &[], input.into_bytes()));
@@ -124,6 +130,8 @@ struct Seen {
     left: usize,
     /// What grids and model runs show on the added rows of the table.
     rows: BTreeMap<&'static str, usize>,
+    /// What lines about a module reach.
+    modules: ModulesSeen,
 }
 
 impl Seen {
@@ -144,6 +152,7 @@ impl Seen {
 
     /// Every number comes, and each of those that a lookup and a report can be answered with.
     fn check(&self) {
+        self.modules.check();
         check_last_picks(&self.last_picks);
         for number in (0..=22).filter(|number| ![2, 9].contains(number)) {
             assert!(self.numbers[number] > 20, "too few lines are answered with {number}");
@@ -217,9 +226,14 @@ fn session(program: &str, seed: u64, seen: &mut Seen) -> usize {
     let mut console = Console::new();
     let mut answers = vec![];
     for _ in 0..LINES {
-        let line = any_line(&mut random, &console);
+        let line = match seed < ABOUT_MODULES {
+            true => module_line(&mut random, &console),
+            false => any_line(&mut random, &console),
+        };
+        let before = console.module().cloned();
         let due = console.answer(&line);
         seen.add(&line, &due);
+        seen.modules.add(&line, &due, before.as_ref(), console.module());
         answers.push((line, due));
     }
     let mut input: Vec<u8> = answers.iter().flat_map(|(line, _)| [&line[..], b"\n"].concat()).collect();
@@ -253,8 +267,10 @@ fn typed(program: &str) {
 /// What the arguments print.
 fn arguments(program: &str) {
     let help = String::from_utf8(run(program, &["help"], vec![])).expect("text");
-    let verbs =
-        ["pec", "encode", "decode", "occupied", "target", "clear", "run", "start", "step", "lookup", "gone", "grid"];
+    let verbs = [
+        "pec", "encode", "decode", "occupied", "target", "clear", "run", "start", "step", "lookup", "gone", "grid",
+        "module", "m",
+    ];
     for verb in verbs {
         assert!(help.lines().any(|line| line.split(' ').next() == Some(verb)), "help has {verb}");
     }
@@ -273,20 +289,27 @@ fn main() {
         return files.iter().for_each(|path| write(path));
     }
     let requests: usize = files.iter().map(|path| file(program, path)).sum();
-    let by_hand = by_hand(program, "wrong symbols", &sessions::WRONG_SYMBOLS)
+    let worked = by_hand(program, "wrong symbols", &sessions::WRONG_SYMBOLS)
         + by_hand(program, "last picks", &sessions::LAST_PICKS)
         + by_hand(program, "reports", &sessions::GONE)
         + by_hand(program, "rows of the table", &sessions::ROWS);
+    let about_modules = by_hand(program, "the module of the order", &module_sessions::EXAMPLE)
+        + by_hand(program, "modules refused", &module_sessions::REFUSED)
+        + by_hand(program, "fresh bytes", &module_sessions::FRESH_BYTES)
+        + by_hand(program, "a module beside", &module_sessions::BESIDE)
+        + by_hand(program, "modules worked by hand", &module_sessions::cases());
     let mut seen = Seen::default();
     let random: usize = (0..SESSIONS).map(|seed| session(program, seed, &mut seen)).sum();
     seen.check();
     typed(program);
     arguments(program);
     println!("{:<28}{requests:>9} requests in files", "console");
-    println!("{:<28}{by_hand:>9} requests worked out by hand", "console");
+    println!("{:<28}{worked:>9} requests worked out by hand", "console");
+    println!("{:<28}{about_modules:>9} requests about modules worked out by hand", "console");
     println!("{:<28}{random:>9} random lines, answers by number {:?}", "console", seen.numbers);
     println!("{:<28}{:>9} random model runs with a last pick", "console", seen.last_picks.len());
     println!("{:<28}{:>9} random reports, {} grids with what is left", "console", seen.reports(), seen.left);
+    println!("{:<28}{:>9} random lines about a module", "console", seen.modules.lines());
     seen.rows.remove("");
     println!("{:<28}on added rows {:?}", "console", seen.rows);
 }

@@ -2,9 +2,11 @@
 
 use crate::addresses::*;
 use crate::commands::{Command, Udid};
+use crate::console_module as modules;
 use crate::controller::{Binding, Controller, Found};
 use crate::decode::{decode, Answer};
 use crate::model::{run_model, BINDINGS, MOST_TARGETS, RECORD};
+use crate::module::Module;
 use crate::pec::pec;
 use crate::table::{build, Transaction};
 use std::collections::VecDeque;
@@ -28,16 +30,17 @@ const NAMES: [&str; 11] = [
 
 const BYTE: &str = "a byte, 0 to 255";
 const SYMBOL: &str = "a symbol, 0 to 65535";
-const END: &str = "the end of the line";
+pub(crate) const UDID: &str = "a UDID of 32 hexadecimal digits";
+pub(crate) const END: &str = "the end of the line";
 
 /// A column, from 1, and what was expected there.
-type Refusal = (usize, &'static str);
+pub(crate) type Refusal = (usize, &'static str);
 
-type Outcome<T> = Result<T, Refusal>;
+pub(crate) type Outcome<T> = Result<T, Refusal>;
 
 /// The words of a line that are not taken yet, each with its column; the column after the last character.
-struct Line<'a> {
-    words: VecDeque<(usize, &'a [u8])>,
+pub(crate) struct Line<'a> {
+    pub(crate) words: VecDeque<(usize, &'a [u8])>,
     end: usize,
 }
 
@@ -73,7 +76,7 @@ fn number_of(word: &[u8]) -> Option<u64> {
     })
 }
 
-fn udid_of_word(word: &[u8]) -> Option<Udid> {
+pub(crate) fn udid_of_word(word: &[u8]) -> Option<Udid> {
     let text = std::str::from_utf8(word).ok()?;
     if text.len() != 32 || !text.bytes().all(|character| character.is_ascii_hexdigit()) {
         return None;
@@ -83,14 +86,19 @@ fn udid_of_word(word: &[u8]) -> Option<Udid> {
 
 impl<'a> Line<'a> {
     /// The next word, if it means something as what is expected.
-    fn take<T>(&mut self, expected: &'static str, read: impl Fn(&[u8]) -> Option<T>) -> Outcome<T> {
+    pub(crate) fn take<T>(&mut self, expected: &'static str, read: impl Fn(&[u8]) -> Option<T>) -> Outcome<T> {
         let &(column, word) = self.words.front().ok_or((self.end, expected))?;
         let value = read(word).ok_or((column, expected))?;
         self.words.pop_front();
         Ok(value)
     }
 
-    fn byte(&mut self) -> Outcome<u8> {
+    /// The column of the next word, or the one after the last character.
+    pub(crate) fn column(&self) -> usize {
+        self.words.front().map_or(self.end, |&(column, _)| column)
+    }
+
+    pub(crate) fn byte(&mut self) -> Outcome<u8> {
         self.take(BYTE, |word| number_of(word)?.try_into().ok())
     }
 
@@ -128,7 +136,7 @@ impl<'a> Line<'a> {
         std::iter::from_fn(|| self.byte().ok()).collect()
     }
 
-    fn all_bytes(&mut self) -> Outcome<Vec<u8>> {
+    pub(crate) fn all_bytes(&mut self) -> Outcome<Vec<u8>> {
         let bytes = self.some_bytes();
         self.finish(BYTE)?;
         Ok(bytes)
@@ -141,7 +149,7 @@ impl<'a> Line<'a> {
     }
 
     /// No word is left.
-    fn finish(&self, expected: &'static str) -> Outcome<()> {
+    pub(crate) fn finish(&self, expected: &'static str) -> Outcome<()> {
         match self.words.front() {
             None => Ok(()),
             Some(&(column, _)) => Err((column, expected)),
@@ -171,7 +179,7 @@ fn bytes_text(bytes: &[u8]) -> String {
     bytes.iter().map(|byte| format!(" 0x{byte:02x}")).collect()
 }
 
-fn udid_text(udid: &Udid) -> String {
+pub(crate) fn udid_text(udid: &Udid) -> String {
     udid.iter().map(|byte| format!("{byte:02x}")).collect()
 }
 
@@ -207,6 +215,7 @@ pub struct Console {
     occupied: Addresses,
     records: Vec<u8>,
     controller: Controller,
+    module: Option<Module>,
 }
 
 impl Default for Console {
@@ -218,12 +227,17 @@ impl Default for Console {
 impl Console {
     pub fn new() -> Console {
         let none = Addresses::new();
-        Console { controller: Controller::new(&none, NEVER), occupied: none, records: vec![] }
+        Console { controller: Controller::new(&none, NEVER), occupied: none, records: vec![], module: None }
     }
 
     /// The command outstanding, or how the pass ended.
     pub fn last(&self) -> Command {
         self.controller.last
+    }
+
+    /// The module, if there is one.
+    pub fn module(&self) -> Option<&Module> {
+        self.module.as_ref()
     }
 
     /// What a lookup would find.
@@ -253,6 +267,8 @@ impl Console {
             b"lookup" => line.only_byte().map(|address| self.lookup(address)),
             b"gone" => line.only_byte().map(|address| self.gone(address)),
             b"grid" => line.finish(END).map(|()| self.grid()),
+            b"module" => modules::module(line).map(|module| self.make(module)),
+            b"m" => modules::request(line).and_then(|request| self.happen(column, request)),
             _ => Err((column, "a verb")),
         };
         answer.unwrap_or_else(|(column, expected)| format!("? {column} expected {expected}\n"))
@@ -268,8 +284,8 @@ impl Console {
     }
 
     fn target(&mut self, mut line: Line) -> Outcome<String> {
-        let column = line.words.front().map_or(line.end, |&(column, _)| column);
-        let udid = line.take("a UDID of 32 hexadecimal digits", udid_of_word)?;
+        let column = line.column();
+        let udid = line.take(UDID, udid_of_word)?;
         let (byte, flag) = (line.byte()?, line.byte()?);
         line.finish(END)?;
         let index = self.records.len() / RECORD;
@@ -325,6 +341,18 @@ impl Console {
             Found::Bound(_) => "0 gone\n".to_string(),
             Found::Refused(number) => format!("{number}\n"),
         }
+    }
+
+    /// A module in place of any other.
+    fn make(&mut self, module: Module) -> String {
+        self.module = Some(module);
+        "0 module\n".to_string()
+    }
+
+    /// What happens to the module; where there is none the verb is refused.
+    fn happen(&mut self, column: usize, request: modules::Request) -> Outcome<String> {
+        let module = self.module.as_mut().ok_or((column, modules::NO_MODULE))?;
+        Ok(modules::answer(module, request))
     }
 
     fn cell(&self, address: u8) -> String {

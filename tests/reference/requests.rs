@@ -6,6 +6,7 @@ use crate::console::{Console, LONGEST_LINE};
 use crate::controller::Found;
 use crate::good::{all_resolved, reply_trace};
 use crate::mistakes::*;
+use crate::module_lines;
 use crate::random::Random;
 use crate::samples::{combinations, random_sizes, transaction};
 use crate::shelves::{any_last_pick, any_udid, with_kind, KINDS};
@@ -27,9 +28,9 @@ const NAMES: [&str; 13] = [
     "Quick",
 ];
 
-const VERBS: [&str; 17] = [
-    "pec", "encode", "decode", "occupied", "target", "clear", "run", "start", "step", "lookup", "grid", "gone", "pe",
-    "Pec", "help", "Gone", "gon",
+const VERBS: [&str; 22] = [
+    "pec", "encode", "decode", "occupied", "target", "clear", "run", "start", "step", "lookup", "grid", "gone",
+    "module", "m", "pe", "Pec", "help", "Gone", "gon", "M", "modul", "ms",
 ];
 
 /// A number in one of the ways to write it.
@@ -43,7 +44,7 @@ fn number(random: &mut Random, value: usize) -> String {
     }
 }
 
-fn numbers<T: Copy + Into<u32>>(random: &mut Random, values: &[T]) -> String {
+pub(crate) fn numbers<T: Copy + Into<u32>>(random: &mut Random, values: &[T]) -> String {
     values.iter().map(|&value| " ".to_string() + &number(random, value.into() as usize)).collect()
 }
 
@@ -124,7 +125,7 @@ fn decode(random: &mut Random) -> String {
     format!("decode {} {}{}", protocol(random, told), pec_use(with_pec), numbers(random, &trace))
 }
 
-fn udid_word(random: &mut Random, udid: &Udid) -> String {
+pub(crate) fn udid_word(random: &mut Random, udid: &Udid) -> String {
     let text: String = udid.iter().map(|byte| format!("{byte:02x}")).collect();
     if random.below(4) == 0 {
         text.to_uppercase()
@@ -196,7 +197,7 @@ fn address(random: &mut Random, console: &Console) -> u8 {
 /// A request that can be read.
 pub fn good(random: &mut Random, console: &Console) -> String {
     let count = random.pick(&[0, 1, 9, 300]);
-    match random.below(22) {
+    match random.below(26) {
         0 => {
             let bytes = random.bytes(count);
             format!("pec{}", numbers(random, &bytes))
@@ -218,6 +219,8 @@ pub fn good(random: &mut Random, console: &Console) -> String {
             let address = address(random, console);
             format!("gone{}", numbers(random, &[address]))
         }
+        18 if random.below(4) == 0 => module_lines::module(random),
+        18..=20 => module_lines::event(random, console),
         _ => step(random, console.last()),
     }
 }
@@ -235,7 +238,7 @@ fn odd_word(random: &mut Random) -> String {
         7 => "-1".to_string(),
         8 => "+1".to_string(),
         9 => "1g".to_string(),
-        10 => random.pick(&["w", "r", "p", "-", "#", "0x1x", "1_0", "٣"]).to_string(),
+        10 => random.pick(&["w", "r", "p", "-", "#", "0x1x", "1_0", "٣", "state", "byte", "deadbeef"]).to_string(),
         _ => random.pick(&VERBS).to_string(),
     }
 }
