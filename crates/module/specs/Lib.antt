@@ -1,0 +1,12 @@
+pub mod State
+pub mod ByteAt
+pub mod Reset
+pub mod Resume
+pub mod Receive
+pub mod Supply
+pub mod Obeys
+pub mod ObeysLaws
+pub mod SupplyLaws
+pub mod Acknowledges
+pub mod AckLaws
+pub mod NackLaws

@@ -1,0 +1,55 @@
+// START, STOP, and arbitration lost.
+ghost use mathlib.Core.Path.{_≡_};
+ghost use Rattle.module.specs.Receive.{started};
+ghost use Rattle.module.specs.State.{at, silentIn};
+use crate::state::Lasting;
+use crate::state::Module;
+use crate::state::Phase;
+use crate::state::module_at;
+use crate::state::silent_in;
+
+fn at_first(own: Lasting) -> Module
+    ensures { λ r. ⌜ r ≡ at own Phase.First 0 0 0 ⌝ }
+{
+    module_at(own, Phase::First, 0, 0, 0)
+}
+
+impl Module {
+    // A START, or a repeated one.
+    pub fn start(self) -> Module
+        ensures { λ r. ⌜ r ≡ started self ⌝ }
+    {
+        let own = self.own;
+        let phase = self.phase;
+        match phase {
+            Phase::Asked => module_at(own, Phase::AskedAgain, 0, self.pec, 0),
+            Phase::Called => module_at(own, Phase::CalledAgain, 0, self.pec, 0),
+            Phase::Silent => at_first(own),
+            Phase::First => at_first(own),
+            Phase::Command => at_first(own),
+            Phase::AskedAgain => at_first(own),
+            Phase::CalledAgain => at_first(own),
+            Phase::Count => at_first(own),
+            Phase::Identifier => at_first(own),
+            Phase::Given => at_first(own),
+            Phase::PreparePec => at_first(own),
+            Phase::ResetPec => at_first(own),
+            Phase::AssignPec => at_first(own),
+            Phase::Reply => at_first(own),
+        }
+    }
+
+    // Another has sent a zero where this module sent a one: it is silent until the next START.
+    pub fn lost(self) -> Module
+        ensures { λ r. ⌜ r ≡ silentIn (self .own) ⌝ }
+    {
+        let own = self.own;
+        silent_in(own)
+    }
+
+    pub fn stop(self) -> Module
+        ensures { λ r. ⌜ r ≡ silentIn (self .own) ⌝ }
+    {
+        self.lost()
+    }
+}
