@@ -1,0 +1,3 @@
+pub mod ModuleLines
+pub mod Hearings
+pub mod HearingLaws
