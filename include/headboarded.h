@@ -1,5 +1,5 @@
 /* The functions of the base for C: packet error code, addresses, the codec of the eleven protocols, pools of addresses, device
- * identifiers, the ARP controller's commands and passes, target lists and the model run.
+ * identifiers, the ARP controller's commands and passes, target lists, the model run, and a module's own end of the bus.
  *
  * Every function answers for every input. A buffer is a pointer and a length; NULL goes with the length 0. A function writes only what
  * is said of it, and nothing at all where it answers 1 to 12 or 15 to 21. No function keeps anything: two calls with the same
@@ -268,6 +268,83 @@ typedef struct {
  * a at 16 * a, zeros where nobody is bound; the rest of both is as it was. With 1, 2 and 9 to 12 both are as they were. */
 hb_model hb_run_model(hb_pool occupied, uint8_t last, uint8_t *records, size_t records_len,
                       uint8_t *bindings, size_t bindings_len);
+
+/* A module's own end of the bus: what its firmware acknowledges, obeys and supplies at the default address, after SMBus 3.3.1, 6.6.3.
+ * Firmware keeps an hb_module. It tells of each event on the bus and keeps what is handed back:
+ *
+ *   START, repeated too     hb_module_start
+ *   a byte received         hb_module_receive, which says ACK or NACK for it
+ *   a byte asked for        hb_module_supply, which has a byte to send or none; one who sends and sees another's zero where
+ *                           it sends a one calls hb_module_lost at that bit
+ *   STOP                    hb_module_stop
+ *
+ * A bus that was idle is silent. From STOP to the next START, after hb_module_lost, and after a byte that got NACK, every byte gets NACK
+ * and none is sent. What the module does at its own address is not asked here: the first byte of a packet is 0xc2 or gets NACK. */
+
+/* A module between two events. Any numbers in it are answered for, and what a call handed back goes on where it was. Up to
+ * resolved the parts outlast a packet:
+ *
+ *   udid        its identifier; the top two bits are the kind: 0 fixed, 1 persistent, 2 volatile, 3 random
+ *   fresh       the vendor-specific part, the last four bytes of the identifier, that a random module takes at its next reset
+ *   home        the address that a fixed module has after a reset; a number above 127 is none
+ *   valid       Address Valid
+ *   address     its address; 0 where Address Valid is clear. After an Assign a persistent module has to be told to its memory
+ *   resolved    Address Resolved
+ *
+ * The others say where in a packet it stands; a phase above 13 is silent, as 0 is. */
+typedef struct {
+    hb_udid udid;
+    uint32_t fresh;
+    uint8_t home;
+    uint8_t valid;
+    uint8_t address;
+    uint8_t resolved;
+    uint8_t phase;
+    uint8_t place;
+    uint8_t pec;
+    uint8_t given;
+} hb_module;
+
+/* The module after a byte received, and 1 for ACK, 0 for NACK. */
+typedef struct {
+    hb_module after;
+    uint32_t ack;
+} hb_heard;
+
+/* The module after it was asked for a byte; 1 where it has one to send, and the byte. Where it has none, drives is 0 and the byte 0xff,
+ * which holds nothing down. */
+typedef struct {
+    hb_module after;
+    uint32_t drives;
+    uint32_t byte;
+} hb_supplied;
+
+/* A module and 0, or a refusal: then every part of the module is 0. */
+typedef struct {
+    hb_module after;
+    uint32_t answer;
+} hb_resumed;
+
+/* Power on, Table 9 of SMBus 3.3.1. The address is the one that non-volatile memory holds, or the one it is fixed at; a number above 127
+ * is none. A volatile and a random module have none after it, and a random one takes the fresh bytes into its identifier. */
+hb_module hb_module_power_on(hb_udid udid, uint8_t address, uint32_t fresh);
+/* A module in the middle of its life, as a record of the model describes it, silent as after STOP. The byte is the device address byte,
+ * 0xff for Address Valid clear; the flag is Address Resolved. A fixed one is fixed at that address. 10 is for an even byte or a flag
+ * above 1, 12 for a fixed one with 0xff. */
+hb_resumed hb_module_of_record(hb_udid udid, uint8_t byte, uint8_t flag, uint32_t fresh);
+/* Other fresh bytes for the next reset: after each reset a random module needs some. */
+hb_module hb_module_refresh(hb_module m, uint32_t fresh);
+/* START or repeated START; STOP; arbitration was lost. */
+hb_module hb_module_start(hb_module m);
+hb_module hb_module_stop(hb_module m);
+hb_module hb_module_lost(hb_module m);
+/* A byte was received. Prepare To ARP, Reset Device and Assign Address take effect with the byte that is their PEC, if it is right and
+ * so gets ACK. */
+hb_heard hb_module_receive(hb_module m, uint8_t byte);
+/* A byte of a read is asked for: those of Get UDID are the count 17, the identifier, the device address byte and the PEC. */
+hb_supplied hb_module_supply(hb_module m);
+/* The device address byte: twice the address plus 1, or 0xff where Address Valid is clear. */
+uint8_t hb_module_address_byte(hb_module m);
 
 #ifdef __cplusplus
 }

@@ -47,7 +47,7 @@ inside {
     field = $2
     sub(/:$/, "", field)
     fields = fields " " type " " field
-}' crates/c_codec/src/*.rt crates/c_arp/src/*.rt | sort >"$out/due"
+}' crates/c_codec/src/*.rt crates/c_arp/src/*.rt crates/c_module/src/*.rt | sort >"$out/due"
 awk '
 /^typedef struct \{/ { inside = 1; fields = ""; next }
 inside && /^}/ { name = $2; sub(/;$/, "", name); print name fields; inside = 0; next }

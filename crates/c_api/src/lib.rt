@@ -7,5 +7,6 @@ pub mod codec;
 pub mod controller;
 pub mod ground;
 pub mod model;
+pub mod modules;
 pub mod pools;
 pub mod udids;

@@ -11,6 +11,7 @@ use lib.ListN.{length, getD, drop, drop-of-length-le}
 use lib.Seq.{drop-cons}
 use borrow.Author.Tests.{ltb-true, ltb-false, leb-true, le-leb, eqb-true, eqb-false, eq-eqb, ne-eqb}
 use Rattle.lists.specs.Choice.{pick, and, or, not}
+use Rattle.lists.specs.ChoiceLaws.{both-true, or-none}
 use Rattle.pec.specs.Pec.{pecStep, pecFrom, pecOf}
 use Rattle.udid.specs.Bytes.{udidBytes}
 use Rattle.udid.specs.UdidLaws.{length-udid}
@@ -22,11 +23,11 @@ use Rattle.module.specs.State.{at, silentIn, taken, refused}
 use Rattle.module.specs.Reset.{prepared, assigned, reset}
 use Rattle.module.specs.Receive.{forWrite, forRead, atFirst, isOwn, atDirected, atCommand, atIdentifier, atPec, received}
 use Rattle.module.specs.Obeys.{begins, isReachable}
-use Rattle.module.specs.ObeysLaws.{both, own-small, own-true, even}
+use Rattle.module.specs.ObeysLaws.{own-small, own-true, even}
 use Rattle.module.specs.Acknowledges.{acked, getOrder, known}
 
 -- a NACK, and it is silent
-acked-cons : (m : Module) (b : ℕ) (bs : List ℕ) (h : Heard) → received m b ≡ h → acked m (b ∷ bs) ≡ and (h .ack) (acked (h .after) bs)
+pub acked-cons : (m : Module) (b : ℕ) (bs : List ℕ) (h : Heard) → received m b ≡ h → acked m (b ∷ bs) ≡ and (h .ack) (acked (h .after) bs)
 unfolding acked
 acked-cons m b bs h e = ap (λ (x : Heard). and (x .ack) (acked (x .after) bs)) e
 
@@ -39,10 +40,6 @@ acked-pick : (t : Bool) (m : Module) (o : Lasting) (bs : List ℕ)
     → and (pick {A = Heard} t (record { after = m; ack = true }) (refused o) .ack) (acked (pick {A = Heard} t (record { after = m; ack = true }) (refused o) .after) bs) ≡ and t (acked m bs)
 acked-pick true m o bs = refl
 acked-pick false m o bs = refl
-
-or-none : (x : Bool) → or x false ≡ x
-or-none true = refl
-or-none false = refl
 
 begins-cons : (x : ℕ) (xs : List ℕ) (b : ℕ) (bs : List ℕ) → begins (b ∷ bs) (x ∷ xs) ≡ and (eqb x b) (begins bs xs)
 unfolding begins
@@ -115,7 +112,7 @@ fit-cons : (c b : ℕ) (bs : List ℕ) (x : ℕ) (xs : List ℕ) → fitBy c (b 
 unfolding fitBy
 fit-cons c b bs x xs = refl
 
-given-step : (o : Lasting) (c b : ℕ) → received (at o Given 0 c 0) b ≡ taken o AssignPec 0 (pecStep c b) (b / 2)
+pub given-step : (o : Lasting) (c b : ℕ) → received (at o Given 0 c 0) b ≡ taken o AssignPec 0 (pecStep c b) (b / 2)
 unfolding received
 given-step o c b = refl
 
@@ -126,10 +123,10 @@ given-acked o c (b ∷ bs) =
     acked-cons (at o Given 0 c 0) b bs (taken o AssignPec 0 (pecStep c b) (b / 2)) (given-step o c b) ∙ assign-acked o (pecStep c b) (b / 2) bs
 
 -- a module past place k
-past : Lasting → ℕ → ℕ → Module
+unfoldable pub past : Lasting → ℕ → ℕ → Module
 past o k c = pick (ltb k 15) (at o Identifier (k + 1) c 0) (at o Given 0 c 0)
 
-identifier-step : (o : Lasting) (k c b : ℕ) → k < 16
+pub identifier-step : (o : Lasting) (k c b : ℕ) → k < 16
     → received (at o Identifier k c 0) b ≡ pick {A = Heard} (eqb b (getD (udidBytes (o .udid)) k 0)) (record { after = past o k (pecStep c b); ack = true }) (refused o)
 unfolding received past
 identifier-step o k c b h =
@@ -196,8 +193,8 @@ fit-begins c (b ∷ bs) (x ∷ xs) = go (eqb b x) refl (fit-begins (pecStep c b)
 half-own : (o : Lasting) (b : ℕ) → isReachable o ≡ true → b / 2 ≡ o .address → isOwn o b ≡ true
 unfolding isOwn
 half-own o b e s =
-    let p = both (o .valid) _ e in
-    let q = both (leb 0x10 (o .address)) _ (p .1) in
+    let p = both-true (o .valid) _ e in
+    let q = both-true (leb 0x10 (o .address)) _ (p .1) in
     let l = leb-true 0x10 (o .address) (q .0) in
     let m = leb-true (o .address) 0x7E (q .1) in
     rw (p .0, le-leb 0x20 b (omega arith), le-leb b 0xFD (omega arith), eq-eqb (b / 2) (o .address) s)

@@ -10,3 +10,9 @@ pub mod SupplyLaws
 pub mod Acknowledges
 pub mod AckLaws
 pub mod NackLaws
+pub mod Packets
+pub mod PacketsLaws
+pub mod ResetLaws
+pub mod ResumeLaws
+pub mod PecDueLaws
+pub mod StartLaws

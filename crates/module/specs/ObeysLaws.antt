@@ -11,6 +11,7 @@ use lib.ListN.{length, getD, drop, drop-of-length-le}
 use lib.Seq.{drop-cons}
 use borrow.Author.Tests.{ltb-true, ltb-false, leb-true, leb-false, eqb-true, eqb-false, lt-ltb, le-ltb, le-leb, lt-leb, eq-eqb, ne-eqb}
 use Rattle.lists.specs.Choice.{pick, and, or}
+use Rattle.lists.specs.ChoiceLaws.{both-true, and-none}
 use Rattle.pec.specs.Pec.{pecStep, pecFrom, pecOf}
 use Rattle.udid.specs.Bytes.{udidBytes}
 use Rattle.udid.specs.UdidLaws.{length-udid}
@@ -29,7 +30,7 @@ use Rattle.module.specs.Obeys.{heardAll, acks, begins, packet, prepareOr
 
 -- ---- steps
 
-heard-cons : (m : Module) (b : ℕ) (bs : List ℕ) → heardAll m (b ∷ bs) ≡ heardAll (received m b .after) bs
+pub heard-cons : (m : Module) (b : ℕ) (bs : List ℕ) → heardAll m (b ∷ bs) ≡ heardAll (received m b .after) bs
 unfolding heardAll
 heard-cons m b bs = refl
 
@@ -205,27 +206,22 @@ assign-begins o c (b ∷ bs) (x ∷ xs) = go (eqb b x) refl (assign-begins o (pe
 
 -- ---- a directed command
 
-pub both : (x y : Bool) → and x y ≡ true → (x ≡ true) × (y ≡ true)
-both true true e = (refl, refl)
-both true false e = absurd (let z : _≡_ {A = ℕ} 0 1 = cc e in omega arith)
-both false y e = absurd (let z : _≡_ {A = ℕ} 0 1 = cc e in omega arith)
-
 pub own-true : (o : Lasting) (b : ℕ) → isOwn o b ≡ true → (isReachable o ≡ true) × (b / 2 ≡ o .address)
 unfolding isOwn
 own-true o b e =
-    let p = both (o .valid) _ e in
-    let q = both (leb 0x20 b) _ (p .1) in
-    let r = both (leb b 0xFD) _ (q .1) in
+    let p = both-true (o .valid) _ e in
+    let q = both-true (leb 0x20 b) _ (p .1) in
+    let r = both-true (leb b 0xFD) _ (q .1) in
     let l = leb-true 0x20 b (q .0) in
     let m = leb-true b 0xFD (r .0) in
     let s = eqb-true (b / 2) (o .address) (r .1) in
     (rw (p .0, le-leb 0x10 (o .address) (omega arith), le-leb (o .address) 0x7E (omega arith)), s)
 
-true-own : (o : Lasting) (b : ℕ) → isReachable o ≡ true → b ≡ 2 * (o .address) → isOwn o b ≡ true
+pub true-own : (o : Lasting) (b : ℕ) → isReachable o ≡ true → b ≡ 2 * (o .address) → isOwn o b ≡ true
 unfolding isOwn
 true-own o b e s =
-    let p = both (o .valid) _ e in
-    let q = both (leb 0x10 (o .address)) _ (p .1) in
+    let p = both-true (o .valid) _ e in
+    let q = both-true (leb 0x10 (o .address)) _ (p .1) in
     let l = leb-true 0x10 (o .address) (q .0) in
     let m = leb-true (o .address) 0x7E (q .1) in
     rw (p .0, le-leb 0x20 b (omega arith), le-leb b 0xFD (omega arith), eq-eqb (b / 2) (o .address) (omega arith))
@@ -365,10 +361,6 @@ command-own o b bs = go (eqb b 0x01) (eqb b 0x02) (eqb b 0x03) (eqb b 0x04) refl
     go false false false false e f g h = other-own o b bs e f g h
 
 -- ---- the first byte
-
-and-none : (x : Bool) → and x false ≡ false
-and-none true = refl
-and-none false = refl
 
 obeys-nothing : (o : Lasting) → obeys o [] ≡ o
 unfolding obeys begins

@@ -115,7 +115,7 @@ asked m k = sent (sent m (forWrite ∷ k ∷ [])) (forRead ∷ [])
 abbrev pub askedPec : ℕ → ℕ
 askedPec k = pecOf (forWrite ∷ k ∷ forRead ∷ [])
 
-write-one : (m : Module) (k : ℕ) → sent m (forWrite ∷ k ∷ []) ≡ received (at (m .own) Command 0 (pecStep 0 forWrite) 0) k .after
+pub write-one : (m : Module) (k : ℕ) → sent m (forWrite ∷ k ∷ []) ≡ received (at (m .own) Command 0 (pecStep 0 forWrite) 0) k .after
 unfolding heardAll
 write-one m k = ap (λ (h : Heard). received (h .after) k .after) (start-write m)
 

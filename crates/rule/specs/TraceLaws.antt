@@ -79,7 +79,7 @@ module _ (ts : List Target) (t : Target) (m : Among t ts) where
   get-second = one-acknowledges (acknowledges (256 ∷ 194 ∷ 3 ∷ [])) ts t m refl
 
 -- the read address whoever is not resolved
-get-read : (t : Target) → acknowledges (256 ∷ 194 ∷ 3 ∷ 256 ∷ 195 ∷ []) t ≡ pick (isResolved t) false true
+pub get-read : (t : Target) → acknowledges (256 ∷ 194 ∷ 3 ∷ 256 ∷ 195 ∷ []) t ≡ pick (isResolved t) false true
 unfolding acknowledges begins
 get-read t = go (isResolved t)
   where
@@ -112,10 +112,10 @@ acked-two : (xs : List ℕ) (b p : ℕ) → acked (xs ++ b ∷ []) ++ p ∷ 258 
 acked-two [] b p = refl
 acked-two (x ∷ xs) b p = ap (λ (l : List ℕ). x ∷ 258 ∷ l) (acked-two xs b p)
 
-abbrev assigned : Udid → ℕ → List ℕ
+abbrev pub assigned : Udid → ℕ → List ℕ
 assigned u b = 194 ∷ 4 ∷ 17 ∷ (udidBytes u ++ b ∷ pecOf (194 ∷ 4 ∷ 17 ∷ (udidBytes u ++ b ∷ [])) ∷ [])
 
-assign-sends-bytes : (u : Udid) (a : Address) → sentPart (Send (Assign u a)) ≡ 256 ∷ acked (assigned u (2 * (a .0 % 128)))
+pub assign-sends-bytes : (u : Udid) (a : Address) → sentPart (Send (Assign u a)) ≡ 256 ∷ acked (assigned u (2 * (a .0 % 128)))
 assign-sends-bytes u a =
     let d : List ℕ = udidBytes u ++ 2 * (a .0 % 128) ∷ [] in
     let e : length (udidBytes u ++ 2 * (a .0 % 128) ∷ []) ≡ 17 = length-append (udidBytes u) (2 * (a .0 % 128) ∷ []) ∙ omega (arith, length-udid u) in
@@ -123,7 +123,7 @@ assign-sends-bytes u a =
     ∙ ap₂ (λ (n : ℕ) (l : List ℕ). 256 ∷ 194 ∷ 258 ∷ 4 ∷ 258 ∷ n ∷ 258 ∷ (acked d ++ pecOf (194 ∷ 4 ∷ n ∷ l) ∷ 258 ∷ [])) e (append-nil d)
     ∙ ap (λ (l : List ℕ). 256 ∷ 194 ∷ 258 ∷ 4 ∷ 258 ∷ 17 ∷ 258 ∷ l) (acked-two (udidBytes u) (2 * (a .0 % 128)) (pecOf (194 ∷ 4 ∷ 17 ∷ d)))
 
-bytes-assigned : (u : Udid) (b : ℕ) → b < 256 → Bytes (assigned u b)
+pub bytes-assigned : (u : Udid) (b : ℕ) → b < 256 → Bytes (assigned u b)
 bytes-assigned u b h =
     let p = pec-byte 0 (194 ∷ 4 ∷ 17 ∷ (udidBytes u ++ b ∷ [])) (omega arith) (omega arith, (omega arith, (omega arith, append-bytes (udidBytes u) (b ∷ []) (udid-bytes u) (h, tt)))) in
     (omega arith, (omega arith, (omega arith, append-bytes (udidBytes u) (b ∷ _ ∷ []) (udid-bytes u) (h, (p, tt)))))
@@ -149,7 +149,7 @@ answered-acked ack sent (b ∷ bs) rest h g =
     byte b l e = omega arith
 
 -- a beginning of a list, and one that ends before some of it
-begins-own : (p q : List ℕ) → begins p (p ++ q) ≡ true
+pub begins-own : (p q : List ℕ) → begins p (p ++ q) ≡ true
 unfolding begins
 begins-own [] q = refl
 begins-own (x ∷ p) q = rw (eq-eqb x x refl) (begins-own p q)
@@ -184,7 +184,7 @@ own-begins u b p q e = go (decLt 20 (length p))
         let f : getD p 20 0 ≡ b = sym (getD-front p q 20 h) ∙ ap (λ (l : List ℕ). getD l 20 0) e ∙ getD-at front b (pec b ∷ []) 0 20 (omega (arith, length-udid u)) in
         ap (λ (c : ℕ). begins p (assigningBytes (udidBytes u) c)) f ∙ ap (begins p) (sym e) ∙ begins-own p q
 
-own-acknowledges : (u : Udid) (b : ℕ) (t : Target) → t .udid ≡ u → (p q : List ℕ) → p ++ q ≡ 256 ∷ assigned u b → acknowledges p t ≡ true
+pub own-acknowledges : (u : Udid) (b : ℕ) (t : Target) → t .udid ≡ u → (p q : List ℕ) → p ++ q ≡ 256 ∷ assigned u b → acknowledges p t ≡ true
 unfolding acknowledges
 own-acknowledges u b t e p q f =
     let h : begins p (assigningBytes (udidBytes (t .udid)) (getD p 20 0)) ≡ true = ap (λ (v : Udid). begins p (assigningBytes (udidBytes v) (getD p 20 0))) e ∙ own-begins u b p q f in

@@ -1,0 +1,4 @@
+pub mod Phases
+pub mod PhaseLaws
+pub mod Modules
+pub mod ModuleLaws

@@ -1,0 +1,412 @@
+-- WHAT A START BEGINS: a new packet, whatever came before it, unless C3h follows. And C3h is answered right after a Get UDID alone.
+use Prim.Native.Nat.{ℕ, zero, suc, _+_, _*_, _/_, _%_, _<_, _≤_}
+use mathlib.Core.Path.{_≡_, refl, sym, ap, ap₂, subst, _∙_}
+use mathlib.Core.Bool.{Bool, true, false}
+use mathlib.Core.Logic.{_⊎_, inl, inr, _↔_}
+use mathlib.Core.List.{List, [], _∷_, _++_}
+use native.Mathlib.Omega.{arith}
+use lib.Dec.{ltb, eqb}
+use lib.ListN.{getD}
+use borrow.Author.Tests.{eqb-true, eqb-false, eq-eqb, ne-eqb, le-leb}
+use Rattle.lists.specs.Choice.{pick, and, not}
+use Rattle.lists.specs.ChoiceLaws.{false-not-true, not-both}
+use Rattle.pec.specs.Pec.{pecStep, pecFrom, pecOf}
+use Rattle.udid.specs.Bytes.{udidBytes}
+use Rattle.module.specs.declared.state.Phase.{Phase}
+use Rattle.module.specs.declared.state.Phase.the-variants.{Silent, First, Command, Asked, Called, AskedAgain, CalledAgain, Count, Identifier, Given, PreparePec, ResetPec, AssignPec, Reply}
+use Rattle.module.specs.declared.state.Lasting.{Lasting}
+use Rattle.module.specs.declared.state.Module.{Module}
+use Rattle.module.specs.declared.state.Heard.{Heard}
+use Rattle.module.specs.declared.state.Supplied.{Supplied}
+use Rattle.module.specs.State.{at, silentIn, taken, refused}
+use Rattle.module.specs.Reset.{prepared, assigned, reset}
+use Rattle.module.specs.Receive.{forWrite, forRead, startedIn, started, isOwn, atFirst, atDirected, atCommand, atAgain, atPec, receivedIn, received}
+use Rattle.module.specs.Supply.{suppliedIn, supplied}
+use Rattle.module.specs.Obeys.{heardAll}
+use Rattle.module.specs.ObeysLaws.{heard-cons, silent-stays, own-true}
+use Rattle.module.specs.Acknowledges.{acked, getOrder}
+use Rattle.module.specs.AckLaws.{acked-cons}
+use Rattle.module.specs.NackLaws.{nack-refuses}
+use Rattle.module.specs.SupplyLaws.{says, silent-says, reply, askedPec, sent, asked, write-one, asked-general, asked-directed, general-says, directed-says}
+use Rattle.module.specs.Packets.{Reachable}
+use Rattle.module.specs.PacketsLaws.{reachable-is}
+
+-- ---- a byte other than C3h
+
+first-byte : (m : Module) (b : ℕ) → (b ≡ forRead → ⊥) → received (started m) b ≡ atFirst (m .own) b
+unfolding started received
+first-byte m b n = go (m .phase) (m .own) (m .pec)
+  where
+    other : eqb b forRead ≡ false
+    other = ne-eqb b forRead n
+
+    go : (ph : Phase) (o : Lasting) (c : ℕ) → received (startedIn ph o c) b ≡ atFirst o b
+    go Asked o c = rw other
+    go Called o c = rw other
+    go Silent o c = refl
+    go First o c = refl
+    go Command o c = refl
+    go AskedAgain o c = refl
+    go CalledAgain o c = refl
+    go Count o c = refl
+    go Identifier o c = refl
+    go Given o c = refl
+    go PreparePec o c = refl
+    go ResetPec o c = refl
+    go AssignPec o c = refl
+    go Reply o c = refl
+
+-- A START AND BYTES THAT DO NOT BEGIN WITH C3h are taken as after STOP, whatever the module stood in
+pub new-packet : (m : Module) (b : ℕ) (bs : List ℕ) → (b ≡ 0xC3 → ⊥)
+    → (heardAll (started m) (b ∷ bs) ≡ heardAll (started (silentIn (m .own))) (b ∷ bs)) × (acked (started m) (b ∷ bs) ≡ acked (started (silentIn (m .own))) (b ∷ bs))
+new-packet m b bs n =
+    let o : Lasting = m .own in
+    let e : received (started m) b ≡ received (started (silentIn o)) b = first-byte m b n ∙ sym (first-byte (silentIn o) b n) in (
+      heard-cons (started m) b bs ∙ ap (λ (h : Heard). heardAll (h .after) bs) e ∙ sym (heard-cons (started (silentIn o)) b bs),
+      acked-cons (started m) b bs (received (started (silentIn o)) b) e ∙ sym (acked-cons (started (silentIn o)) b bs (received (started (silentIn o)) b) refl),
+    )
+
+-- ---- phases that no byte leads out of, but to each other
+
+abbrev Settled : Phase → Type 0
+Settled Silent = Unit
+Settled Count = Unit
+Settled Identifier = Unit
+Settled Given = Unit
+Settled PreparePec = Unit
+Settled ResetPec = Unit
+Settled AssignPec = Unit
+Settled First = ⊥
+Settled Command = ⊥
+Settled Asked = ⊥
+Settled Called = ⊥
+Settled AskedAgain = ⊥
+Settled CalledAgain = ⊥
+Settled Reply = ⊥
+
+settled-pick : (t : Bool) (x y : Heard) → Settled (x .after .phase) → Settled (y .after .phase) → Settled (pick t x y .after .phase)
+settled-pick true x y h g = h
+settled-pick false x y h g = g
+
+settled-step : (m : Module) (b : ℕ) → Settled (m .phase) → Settled (received m b .after .phase)
+unfolding received
+settled-step m b = go (m .phase) m
+  where
+    go : (ph : Phase) (m : Module) → Settled ph → Settled (receivedIn ph m b .after .phase)
+    go Silent m h = tt
+    go Count m h = settled-pick (eqb b 17) (taken (m .own) Identifier 0 (pecStep (m .pec) b) 0) (refused (m .own)) tt tt
+    go Identifier m h =
+        settled-pick (eqb b (getD (udidBytes (m .own .udid)) (m .place % 16) 0)) _ (refused (m .own))
+        (settled-pick (ltb (m .place) 15) (taken (m .own) Identifier (m .place + 1) (pecStep (m .pec) b) 0) (taken (m .own) Given 0 (pecStep (m .pec) b) 0) tt tt) tt
+    go Given m h = tt
+    go PreparePec m h = settled-pick (eqb b (m .pec)) (taken (prepared (m .own)) Silent 0 0 0) (refused (m .own)) tt tt
+    go ResetPec m h = settled-pick (eqb b (m .pec)) (taken (reset (m .own)) Silent 0 0 0) (refused (m .own)) tt tt
+    go AssignPec m h = settled-pick (eqb b (m .pec)) (taken (assigned (m .own) (m .given)) Silent 0 0 0) (refused (m .own)) tt tt
+    go First m h = absurd h
+    go Command m h = absurd h
+    go Asked m h = absurd h
+    go Called m h = absurd h
+    go AskedAgain m h = absurd h
+    go CalledAgain m h = absurd h
+    go Reply m h = absurd h
+
+settled-all : (m : Module) (bs : List ℕ) → Settled (m .phase) → Settled (heardAll m bs .phase)
+unfolding heardAll
+settled-all m [] h = h
+settled-all m (b ∷ bs) h = settled-all (received m b .after) bs (settled-step m b h)
+
+-- ---- after START and bytes, no other START between
+
+-- it goes on with nothing at the next START, and has nothing to say; or it is a Get UDID
+pub record Plain (m : Module) : Type 0 where
+  pub anew : started m ≡ started (silentIn (m .own))
+  pub mute : (n : ℕ) → says n m ≡ []
+
+mute-in : (ph : Phase) (m : Module) → m .phase ≡ ph → (ph ≡ Reply → ⊥) → supplied m ≡ record { after = m; drives = false; byte = 0xFF }
+unfolding supplied
+mute-in ph m e n = ap (λ (p : Phase). suppliedIn p m) e ∙ go ph n
+  where
+    go : (p : Phase) → (p ≡ Reply → ⊥) → suppliedIn p m ≡ record { after = m; drives = false; byte = 0xFF }
+    go Reply n = absurd (n refl)
+    go Silent n = refl
+    go First n = refl
+    go Command n = refl
+    go Asked n = refl
+    go Called n = refl
+    go AskedAgain n = refl
+    go CalledAgain n = refl
+    go Count n = refl
+    go Identifier n = refl
+    go Given n = refl
+    go PreparePec n = refl
+    go ResetPec n = refl
+    go AssignPec n = refl
+
+mute-says : (m : Module) → supplied m ≡ record { after = m; drives = false; byte = 0xFF } → (n : ℕ) → says n m ≡ []
+unfolding says
+mute-says m e zero = refl
+mute-says m e (suc n) = ap (λ (s : Supplied). pick (s .drives) (s .byte ∷ says n (s .after)) (says n (s .after))) e ∙ mute-says m e n
+
+begin-new : (m : Module) (ph : Phase) → m .phase ≡ ph → startedIn ph (m .own) (m .pec) ≡ at (m .own) First 0 0 0 → started m ≡ started (silentIn (m .own))
+unfolding started
+begin-new m ph e f = ap (λ (p : Phase). startedIn p (m .own) (m .pec)) e ∙ f
+
+settled-plain : (m : Module) → Settled (m .phase) → Plain m
+settled-plain m h = go (m .phase) refl h
+  where
+    new : (ph : Phase) (o : Lasting) (c : ℕ) → Settled ph → startedIn ph o c ≡ at o First 0 0 0
+    new Silent o c h = refl
+    new Count o c h = refl
+    new Identifier o c h = refl
+    new Given o c h = refl
+    new PreparePec o c h = refl
+    new ResetPec o c h = refl
+    new AssignPec o c h = refl
+    new First o c h = absurd h
+    new Command o c h = absurd h
+    new Asked o c h = absurd h
+    new Called o c h = absurd h
+    new AskedAgain o c h = absurd h
+    new CalledAgain o c h = absurd h
+    new Reply o c h = absurd h
+
+    go : (ph : Phase) → m .phase ≡ ph → Settled ph → Plain m
+    go ph e h = record {
+      anew = begin-new m ph e (new ph (m .own) (m .pec) h);
+      mute = mute-says m (mute-in ph m e (λ r. subst Settled r h));
+    }
+
+-- ---- the command byte: Get UDID, general or directed to it, or nothing that a START goes on with
+
+abbrev first : ℕ
+first = pecStep 0 forWrite
+
+-- a directed Get UDID, by the address
+own-odd : (o : Lasting) (k : ℕ) → isOwn o k ≡ true → k % 2 ≡ 1 → Reachable o × (k ≡ 2 * o .address + 1)
+own-odd o k e d =
+    let p = own-true o k e in
+    let h : k / 2 ≡ o .address = p .1 in
+    (reachable-is o .0 (p .0), omega arith)
+
+odd-own : (o : Lasting) → Reachable o → isOwn o (2 * o .address + 1) ≡ true
+unfolding isOwn
+odd-own o h =
+    let l : 0x10 ≤ o .address = h .1 .0 in
+    let m : o .address ≤ 0x7E = h .1 .1 in
+    rw (h .0, le-leb 0x20 (2 * o .address + 1) (omega arith), le-leb (2 * o .address + 1) 0xFD (omega arith), eq-eqb ((2 * o .address + 1) / 2) (o .address) (omega arith))
+
+-- what the module is after C2h and a command byte k
+abbrev After : Lasting → ℕ → Module → Type 0
+After o k m = Settled (m .phase) ⊎ (((k ≡ 0x03) × (m ≡ at o Asked 0 (pecStep first k) 0)) ⊎ ((Reachable o × (k ≡ 2 * o .address + 1)) × (m ≡ at o Called 0 (pecStep first k) 0)))
+
+directed-after : (o : Lasting) (k : ℕ) → After o k (atDirected o (pecStep first k) k .after)
+directed-after o k = go (isOwn o k) (eqb (k % 2) 1) refl refl
+  where
+    go : (s t : Bool) → isOwn o k ≡ s → eqb (k % 2) 1 ≡ t → After o k (pick s (pick t (taken o Called 0 (pecStep first k) 0) (taken o ResetPec 0 (pecStep first k) 0)) (refused o) .after)
+    go true true e d = inr (inr (own-odd o k e (eqb-true (k % 2) 1 d), refl))
+    go true false e d = inl tt
+    go false t e d = inl tt
+
+command-after : (o : Lasting) (k : ℕ) → After o k (received (at o Command 0 first 0) k .after)
+unfolding received
+command-after o k = go (eqb k 0x01) (eqb k 0x02) (eqb k 0x03) (eqb k 0x04) refl
+  where
+    go : (p q r s : Bool) → eqb k 0x03 ≡ r
+        → After o k
+        (pick p (taken o PreparePec 0 (pecStep first k) 0) (pick q (taken o ResetPec 0 (pecStep first k) 0) (pick r (taken o Asked 0 (pecStep first k) 0) (pick s (taken o Count 0 (pecStep first k) 0) (atDirected o (pecStep first k) k)))) .after)
+    go true q r s e = inl tt
+    go false true r s e = inl tt
+    go false false true s e = inr (inl (eqb-true k 0x03 e, refl))
+    go false false false true e = inl tt
+    go false false false false e = directed-after o k
+
+-- a byte more, and it is settled
+after-settled : (o : Lasting) (k b : ℕ) (m : Module) → After o k m → Settled (received m b .after .phase)
+unfolding received
+after-settled o k b m (inl h) = settled-step m b h
+after-settled o k b m (inr (inl h)) = subst (λ (x : Module). Settled (received x b .after .phase)) (sym (h .1)) tt
+after-settled o k b m (inr (inr h)) = subst (λ (x : Module). Settled (received x b .after .phase)) (sym (h .1)) tt
+
+-- ---- A START AFTER STOP AND BYTES: nothing that a further START goes on with, or a Get UDID that it knows
+
+abbrev Gets : Lasting → List ℕ → Type 0
+Gets o bs = (bs ≡ getOrder 0x03) ⊎ (Reachable o × (bs ≡ getOrder (2 * o .address + 1)))
+
+silent-plain : (o : Lasting) → Plain (silentIn o)
+silent-plain o = settled-plain (silentIn o) tt
+
+first-plain : (o : Lasting) → Plain (at o First 0 0 0)
+unfolding started supplied
+first-plain o = record { anew = refl; mute = mute-says (at o First 0 0 0) refl }
+
+command-plain : (o : Lasting) → Plain (at o Command 0 first 0)
+unfolding started supplied
+command-plain o = record { anew = refl; mute = mute-says (at o Command 0 first 0) refl }
+
+write-first : (o : Lasting) (bs : List ℕ) → heardAll (started (silentIn o)) (forWrite ∷ bs) ≡ heardAll (at o Command 0 first 0) bs
+unfolding started heardAll received
+write-first o bs = refl
+
+other-first : (o : Lasting) (b : ℕ) (bs : List ℕ) → (b ≡ forWrite → ⊥) → heardAll (started (silentIn o)) (b ∷ bs) ≡ silentIn o
+unfolding started heardAll received
+other-first o b bs n = ap (λ (t : Bool). heardAll (pick t (taken o Command 0 first 0) (refused o) .after) bs) (ne-eqb b forWrite n) ∙ silent-stays o bs
+
+packet-of : (o : Lasting) (bs : List ℕ) → Plain (heardAll (at o Command 0 first 0) bs) ⊎ Gets o (forWrite ∷ bs)
+unfolding heardAll
+packet-of o [] = inl (command-plain o)
+packet-of o (k ∷ []) = go (received (at o Command 0 first 0) k .after) (command-after o k)
+  where
+    go : (m : Module) → After o k m → Plain m ⊎ Gets o (forWrite ∷ k ∷ [])
+    go m (inl h) = inl (settled-plain m h)
+    go m (inr (inl h)) = inr (inl (ap getOrder (h .0)))
+    go m (inr (inr h)) = inr (inr (h .0 .0, ap getOrder (h .0 .1)))
+packet-of o (k ∷ b ∷ bs) =
+    let m : Module = received (at o Command 0 first 0) k .after in
+    inl (settled-plain (heardAll (received m b .after) bs) (settled-all (received m b .after) bs (after-settled o k b m (command-after o k))))
+
+pub one-packet : (o : Lasting) (bs : List ℕ) → Plain (heardAll (started (silentIn o)) bs) ⊎ Gets o bs
+unfolding started heardAll received
+one-packet o [] = inl (first-plain o)
+one-packet o (b ∷ bs) = go (eqb b forWrite) refl
+  where
+    go : (t : Bool) → eqb b forWrite ≡ t → Plain (heardAll (started (silentIn o)) (b ∷ bs)) ⊎ Gets o (b ∷ bs)
+    go true e = subst (λ (n : ℕ). Plain (heardAll (started (silentIn o)) (n ∷ bs)) ⊎ Gets o (n ∷ bs)) (sym (eqb-true b forWrite e)) (packet-of o bs)
+    go false e = inl (subst Plain (sym (other-first o b bs (eqb-false b forWrite e))) (silent-plain o))
+
+-- ---- C3h right after a START
+
+get-general : (o : Lasting) → received (started (heardAll (started (silentIn o)) (getOrder 0x03))) forRead ≡ pick (o .resolved) (refused o) (taken o Reply 0 (askedPec 0x03) 0)
+unfolding started heardAll received pecFrom
+get-general o = refl
+
+called : (o : Lasting) → Reachable o → received (at o Command 0 first 0) (2 * o .address + 1) ≡ taken o Called 0 (pecStep first (2 * o .address + 1)) 0
+unfolding received
+called o h =
+    let k : ℕ = 2 * o .address + 1 in
+    let l : 0x10 ≤ o .address = h .1 .0 in
+    rw (ne-eqb k 0x01 (λ f. omega arith), ne-eqb k 0x02 (λ f. omega arith), ne-eqb k 0x03 (λ f. omega arith), ne-eqb k 0x04 (λ f. omega arith), odd-own o h, eq-eqb (k % 2) 1 (omega arith))
+
+called-heard : (o : Lasting) → Reachable o → heardAll (started (silentIn o)) (getOrder (2 * o .address + 1)) ≡ at o Called 0 (pecStep first (2 * o .address + 1)) 0
+unfolding heardAll
+called-heard o h = write-first o ((2 * o .address + 1) ∷ []) ∙ ap (λ (x : Heard). x .after) (called o h)
+
+called-read : (o : Lasting) (k : ℕ) → received (started (at o Called 0 (pecStep first k) 0)) forRead ≡ taken o Reply 0 (askedPec k) 0
+unfolding started received pecFrom
+called-read o k = refl
+
+get-directed : (o : Lasting) → Reachable o → received (started (heardAll (started (silentIn o)) (getOrder (2 * o .address + 1)))) forRead ≡ taken o Reply 0 (askedPec (2 * o .address + 1)) 0
+get-directed o h = ap (λ (m : Module). received (started m) forRead) (called-heard o h) ∙ called-read o (2 * o .address + 1)
+
+plain-read : (m : Module) → Plain m → received (started m) forRead ≡ refused (m .own)
+unfolding started received
+plain-read m p = ap (λ (x : Module). received x forRead) (p .anew)
+
+-- C3h GETS ACK right after a START exactly if the bytes since the START before it were C2h and a Get UDID: the general one with AR clear, or the one directed to it
+pub read-exactly : (o : Lasting) (bs : List ℕ)
+    → (received (started (heardAll (started (silentIn o)) bs)) 0xC3 .ack ≡ true) ↔ (((bs ≡ getOrder 0x03) × (o .resolved ≡ false)) ⊎ (Reachable o × (bs ≡ getOrder (2 * o .address + 1))))
+read-exactly o bs = (there (one-packet o bs), back)
+  where
+    clear : (t : Bool) → pick t (refused o) (taken o Reply 0 (askedPec 0x03) 0) .ack ≡ true → t ≡ false
+    clear true e = false-not-true e
+    clear false e = refl
+
+    there : Plain (heardAll (started (silentIn o)) bs) ⊎ Gets o bs → received (started (heardAll (started (silentIn o)) bs)) 0xC3 .ack ≡ true
+        → ((bs ≡ getOrder 0x03) × (o .resolved ≡ false)) ⊎ (Reachable o × (bs ≡ getOrder (2 * o .address + 1)))
+    there (inl p) e = not-both (ap (λ (h : Heard). h .ack) (plain-read (heardAll (started (silentIn o)) bs) p)) e
+    there (inr (inl g)) e =
+        inl (g, clear (o .resolved) (sym (ap (λ (h : Heard). h .ack) (ap (λ (l : List ℕ). received (started (heardAll (started (silentIn o)) l)) forRead) g ∙ get-general o)) ∙ e))
+    there (inr (inr g)) e = inr g
+
+    back : ((bs ≡ getOrder 0x03) × (o .resolved ≡ false)) ⊎ (Reachable o × (bs ≡ getOrder (2 * o .address + 1))) → received (started (heardAll (started (silentIn o)) bs)) 0xC3 .ack ≡ true
+    back (inl g) =
+        ap (λ (h : Heard). h .ack) (ap (λ (l : List ℕ). received (started (heardAll (started (silentIn o)) l)) forRead) (g .0) ∙ get-general o)
+        ∙ ap (λ (t : Bool). pick t (refused o) (taken o Reply 0 (askedPec 0x03) 0) .ack) (g .1)
+    back (inr g) = ap (λ (h : Heard). h .ack) (ap (λ (l : List ℕ). received (started (heardAll (started (silentIn o)) l)) forRead) (g .1) ∙ get-directed o (g .0))
+
+-- ---- WHAT IT HAS TO SAY, and when
+
+general-heard : (o : Lasting) → heardAll (started (silentIn o)) (getOrder 0x03) ≡ at o Asked 0 (pecStep first 0x03) 0
+unfolding started heardAll received
+general-heard o = refl
+
+asked-mute : (o : Lasting) (c n : ℕ) → says n (at o Asked 0 c 0) ≡ []
+unfolding supplied
+asked-mute o c n = mute-says (at o Asked 0 c 0) refl n
+
+called-mute : (o : Lasting) (c n : ℕ) → says n (at o Called 0 c 0) ≡ []
+unfolding supplied
+called-mute o c n = mute-says (at o Called 0 c 0) refl n
+
+started-mute : (m : Module) (n : ℕ) → says n (started m) ≡ []
+unfolding started supplied
+started-mute m n = go (m .phase) (m .own) (m .pec)
+  where
+    go : (ph : Phase) (o : Lasting) (c : ℕ) → says n (startedIn ph o c) ≡ []
+    go Asked o c = mute-says (at o AskedAgain 0 c 0) refl n
+    go Called o c = mute-says (at o CalledAgain 0 c 0) refl n
+    go Silent o c = mute-says (at o First 0 0 0) refl n
+    go First o c = mute-says (at o First 0 0 0) refl n
+    go Command o c = mute-says (at o First 0 0 0) refl n
+    go AskedAgain o c = mute-says (at o First 0 0 0) refl n
+    go CalledAgain o c = mute-says (at o First 0 0 0) refl n
+    go Count o c = mute-says (at o First 0 0 0) refl n
+    go Identifier o c = mute-says (at o First 0 0 0) refl n
+    go Given o c = mute-says (at o First 0 0 0) refl n
+    go PreparePec o c = mute-says (at o First 0 0 0) refl n
+    go ResetPec o c = mute-says (at o First 0 0 0) refl n
+    go AssignPec o c = mute-says (at o First 0 0 0) refl n
+    go Reply o c = mute-says (at o First 0 0 0) refl n
+
+-- nothing, after one START
+packet-mute : (o : Lasting) (bs : List ℕ) (n : ℕ) → says n (heardAll (started (silentIn o)) bs) ≡ []
+packet-mute o bs n = go (one-packet o bs)
+  where
+    go : Plain (heardAll (started (silentIn o)) bs) ⊎ Gets o bs → says n (heardAll (started (silentIn o)) bs) ≡ []
+    go (inl p) = p .mute n
+    go (inr (inl g)) = ap (λ (l : List ℕ). says n (heardAll (started (silentIn o)) l)) g ∙ ap (says n) (general-heard o) ∙ asked-mute o (pecStep first 0x03) n
+    go (inr (inr g)) = ap (λ (l : List ℕ). says n (heardAll (started (silentIn o)) l)) (g .1) ∙ ap (says n) (called-heard o (g .0)) ∙ called-mute o (pecStep first (2 * o .address + 1)) n
+
+-- a byte after C3h: refused, whether or not the reply was due
+reply-broken : (o : Lasting) (bs : List ℕ) (b : ℕ) → received (received (started (heardAll (started (silentIn o)) bs)) forRead .after) b .after ≡ silentIn (heardAll (started (silentIn o)) bs .own)
+unfolding received
+reply-broken o bs b = go (one-packet o bs)
+  where
+    quiet : (t : Bool) → received (pick t (refused o) (taken o Reply 0 (askedPec 0x03) 0) .after) b .after ≡ silentIn o
+    quiet true = refl
+    quiet false = refl
+
+    go : Plain (heardAll (started (silentIn o)) bs) ⊎ Gets o bs → received (received (started (heardAll (started (silentIn o)) bs)) forRead .after) b .after ≡ silentIn (heardAll (started (silentIn o)) bs .own)
+    go (inl p) = ap (λ (h : Heard). received (h .after) b .after) (plain-read (heardAll (started (silentIn o)) bs) p)
+    go (inr (inl g)) =
+        subst (λ (l : List ℕ). received (received (started (heardAll (started (silentIn o)) l)) forRead .after) b .after ≡ silentIn (heardAll (started (silentIn o)) l .own)) (sym g)
+        (ap (λ (h : Heard). received (h .after) b .after) (get-general o) ∙ quiet (o .resolved) ∙ ap (λ (m : Module). silentIn (m .own)) (sym (general-heard o)))
+    go (inr (inr g)) =
+        subst (λ (l : List ℕ). received (received (started (heardAll (started (silentIn o)) l)) forRead .after) b .after ≡ silentIn (heardAll (started (silentIn o)) l .own)) (sym (g .1))
+        (ap (λ (h : Heard). received (h .after) b .after) (get-directed o (g .0)) ∙ ap (λ (m : Module). silentIn (m .own)) (sym (called-heard o (g .0))))
+
+-- IT SAYS NOTHING, after two STARTs with bytes after each, unless the second ones are C3h alone and that got ACK
+pub mute-else : (o : Lasting) (bs cs : List ℕ) (n : ℕ) → (cs ≡ 0xC3 ∷ [] → received (started (heardAll (started (silentIn o)) bs)) 0xC3 .ack ≡ false)
+    → says n (heardAll (started (heardAll (started (silentIn o)) bs)) cs) ≡ []
+unfolding heardAll
+mute-else o bs [] n h = started-mute (heardAll (started (silentIn o)) bs) n
+mute-else o bs (b ∷ cs) n h = go (eqb b forRead) refl cs h
+  where
+    go : (t : Bool) → eqb b forRead ≡ t → (cs : List ℕ) → (b ∷ cs ≡ 0xC3 ∷ [] → received (started (heardAll (started (silentIn o)) bs)) 0xC3 .ack ≡ false)
+        → says n (heardAll (started (heardAll (started (silentIn o)) bs)) (b ∷ cs)) ≡ []
+    go false e cs h =
+        ap (says n) (new-packet (heardAll (started (silentIn o)) bs) b cs (eqb-false b forRead e) .0) ∙ packet-mute (heardAll (started (silentIn o)) bs .own) (b ∷ cs) n
+    go true e [] h =
+        let q : b ≡ forRead = eqb-true b forRead e in
+        ap (λ (k : ℕ). says n (received (started (heardAll (started (silentIn o)) bs)) k .after)) q
+        ∙ ap (λ (x : Heard). says n (x .after)) (nack-refuses (started (heardAll (started (silentIn o)) bs)) forRead (h (ap (λ (k : ℕ). k ∷ []) q)))
+        ∙ silent-says (started (heardAll (started (silentIn o)) bs) .own) n
+    go true e (c ∷ cs) h =
+        let q : b ≡ forRead = eqb-true b forRead e in
+        ap (λ (k : ℕ). says n (heardAll (received (received (started (heardAll (started (silentIn o)) bs)) k .after) c .after) cs)) q
+        ∙ ap (λ (x : Module). says n (heardAll x cs)) (reply-broken o bs c)
+        ∙ ap (says n) (silent-stays (heardAll (started (silentIn o)) bs .own) cs)
+        ∙ silent-says (heardAll (started (silentIn o)) bs .own) n
+
+-- AND ITS REPLY: the count, its identifier, its address byte and the PEC over the whole packet, and nothing after them
+pub says-directed : (m : Module) (n : ℕ) → Reachable (m .own) → says (19 + n) (asked m (2 * m .own .address + 1)) ≡ reply (m .own) (askedPec (2 * m .own .address + 1))
+says-directed m n h = directed-says m (2 * m .own .address + 1) n (odd-own (m .own) h) (omega arith)
