@@ -1,10 +1,10 @@
 // A module's own end of the bus. C keeps the module as a struct of numbers: each call takes it and hands it back.
 ghost use mathlib.Core.Path.{_≡_};
-ghost use Rattle.module.specs.Receive.{started, received};
+ghost use Rattle.module.specs.Receive.{starts, receives};
 ghost use Rattle.module.specs.Reset.{powered, refreshed};
 ghost use Rattle.module.specs.Resume.{resumed};
 ghost use Rattle.module.specs.State.{silentIn};
-ghost use Rattle.module.specs.Supply.{addressByte, supplied};
+ghost use Rattle.module.specs.Supply.{addressByte, supplies};
 ghost use Rattle.c_arp.specs.Parts.{udidIn};
 ghost use Rattle.c_module.specs.Modules.{lastingIn, moduleIn, toldModule, toldHeard, toldSupplied, toldResumed};
 use c_arp::parts::HbUdid;
@@ -49,7 +49,7 @@ pub extern "C" fn hb_module_refresh(m: HbModule, fresh: u32) -> HbModule
 // START, or a repeated one.
 #[no_mangle]
 pub extern "C" fn hb_module_start(m: HbModule) -> HbModule
-    ensures { λ r. ⌜ r ≡ toldModule (started (moduleIn m)) ⌝ }
+    ensures { λ r. ⌜ r ≡ toldModule (starts (moduleIn m)) ⌝ }
 {
     start(m)
 }
@@ -57,7 +57,7 @@ pub extern "C" fn hb_module_start(m: HbModule) -> HbModule
 // A byte received.
 #[no_mangle]
 pub extern "C" fn hb_module_receive(m: HbModule, byte: u8) -> HbHeard
-    ensures { λ r. ⌜ r ≡ toldHeard (received (moduleIn m) byte) ⌝ }
+    ensures { λ r. ⌜ r ≡ toldHeard (receives (moduleIn m) byte) ⌝ }
 {
     receive(m, byte)
 }
@@ -65,7 +65,7 @@ pub extern "C" fn hb_module_receive(m: HbModule, byte: u8) -> HbHeard
 // A byte asked for.
 #[no_mangle]
 pub extern "C" fn hb_module_supply(m: HbModule) -> HbSupplied
-    ensures { λ r. ⌜ r ≡ toldSupplied (supplied (moduleIn m)) ⌝ }
+    ensures { λ r. ⌜ r ≡ toldSupplied (supplies (moduleIn m)) ⌝ }
 {
     supply(m)
 }

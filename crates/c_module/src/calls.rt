@@ -1,10 +1,10 @@
 // The calls of a module's firmware: each takes the module that C keeps, and hands it back.
 ghost use mathlib.Core.Path.{_≡_};
-ghost use Rattle.module.specs.Receive.{started, received};
+ghost use Rattle.module.specs.Receive.{starts, receives};
 ghost use Rattle.module.specs.Reset.{powered, refreshed};
 ghost use Rattle.module.specs.Resume.{resumed};
 ghost use Rattle.module.specs.State.{silentIn};
-ghost use Rattle.module.specs.Supply.{addressByte, supplied};
+ghost use Rattle.module.specs.Supply.{addressByte, supplies};
 ghost use Rattle.c_arp.specs.Parts.{udidIn};
 ghost use Rattle.c_module.specs.Modules.{lastingIn, moduleIn, toldModule, toldHeard, toldSupplied, toldResumed};
 use crate::parts::HbHeard;
@@ -47,7 +47,7 @@ pub fn refresh(h: HbModule, fresh: u32) -> HbModule
 
 // START, or a repeated one.
 pub fn start(h: HbModule) -> HbModule
-    ensures { λ r. ⌜ r ≡ toldModule (started (moduleIn h)) ⌝ }
+    ensures { λ r. ⌜ r ≡ toldModule (starts (moduleIn h)) ⌝ }
 {
     let m = module_in(h);
     told_module(m.start())
@@ -55,7 +55,7 @@ pub fn start(h: HbModule) -> HbModule
 
 // A byte received.
 pub fn receive(h: HbModule, byte: u8) -> HbHeard
-    ensures { λ r. ⌜ r ≡ toldHeard (received (moduleIn h) byte) ⌝ }
+    ensures { λ r. ⌜ r ≡ toldHeard (receives (moduleIn h) byte) ⌝ }
 {
     let m = module_in(h);
     told_heard(m.receive(byte))
@@ -63,7 +63,7 @@ pub fn receive(h: HbModule, byte: u8) -> HbHeard
 
 // A byte asked for.
 pub fn supply(h: HbModule) -> HbSupplied
-    ensures { λ r. ⌜ r ≡ toldSupplied (supplied (moduleIn h)) ⌝ }
+    ensures { λ r. ⌜ r ≡ toldSupplied (supplies (moduleIn h)) ⌝ }
 {
     let m = module_in(h);
     told_supplied(m.supply())

@@ -24,7 +24,7 @@ use Rattle.module.specs.declared.state.Lasting.{Lasting}
 use Rattle.module.specs.declared.state.Module.{Module}
 use Rattle.module.specs.declared.state.Phase.the-variants.{Reply}
 use Rattle.module.specs.State.{at, silentIn}
-use Rattle.module.specs.Supply.{addressByte, replyByte, supplied}
+use Rattle.module.specs.Supply.{addressByte, replyByte, supplies}
 use Rattle.module.specs.SupplyLaws.{says, reply, reply-says, askedPec}
 use Rattle.exchange.specs.AlikeLaws.{Says, some, seen-alike}
 use Rattle.exchange.specs.Exchange.{recordOf, recordsOf, asked, seen, byteOn, bytesOn, afterBytes, reading}
@@ -47,14 +47,14 @@ answering-talks (m ∷ ms) = (go (m .own .resolved), answering-talks ms)
     go true = quiet (m .own)
     go false = speaks {n = 19} (m .own) (askedPec 0x03) 0 refl
 
-reply-first : (o : Lasting) (c : ℕ) → supplied (at o Reply 0 c 0) .byte ≡ 17
-unfolding supplied replyByte
+reply-first : (o : Lasting) (c : ℕ) → supplies (at o Reply 0 c 0) .byte ≡ 17
+unfolding supplies replyByte
 reply-first o c = refl
 
-pub answering-drives : (m : Module) → supplied (answering m) .drives ≡ not (m .own .resolved)
+pub answering-drives : (m : Module) → supplies (answering m) .drives ≡ not (m .own .resolved)
 answering-drives m = go (m .own .resolved)
   where
-    go : (b : Bool) → supplied (replying b (m .own)) .drives ≡ not b
+    go : (b : Bool) → supplies (replying b (m .own)) .drives ≡ not b
     go true = silent-drives (m .own)
     go false = reply-drives (m .own) 0 (askedPec 0x03)
 
@@ -78,8 +78,8 @@ answering-says : (ms : List Module) → Each (Says (bits 8 17)) (map asked (map 
 answering-says [] = tt
 answering-says (m ∷ ms) = (go (m .own .resolved), answering-says ms)
   where
-    go : (b : Bool) → supplied (replying b (m .own)) .drives ≡ true
-        → bits 8 (supplied (replying b (m .own)) .byte) ≡ bits 8 17
+    go : (b : Bool) → supplies (replying b (m .own)) .drives ≡ true
+        → bits 8 (supplies (replying b (m .own)) .byte) ≡ bits 8 17
     go true e = not-both (silent-drives (m .own)) e
     go false e = ap (bits 8) (reply-first (m .own) (askedPec 0x03))
 
@@ -109,7 +109,7 @@ wires-same [] = refl
 wires-same (m ∷ ms) = go (m .own .resolved) (wires-same ms)
   where
     go : (b : Bool) → wires 19 (map answering ms) ≡ waiting (recordsOf ms)
-        → pick (supplied (replying b (m .own)) .drives)
+        → pick (supplies (replying b (m .own)) .drives)
         (byteBits (says 19 (replying b (m .own))) ∷ wires 19 (map answering ms)) (wires 19 (map answering ms))
         ≡ pick (eqb (pick b 1 0) 1) (waiting (recordsOf ms)) (sends (recordOf m) ∷ waiting (recordsOf ms))
     go true r = rw (silent-drives (m .own)) r

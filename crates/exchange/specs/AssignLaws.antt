@@ -29,7 +29,7 @@ use Rattle.module.specs.declared.state.Heard.{Heard}
 use Rattle.module.specs.declared.state.Lasting.{Lasting}
 use Rattle.module.specs.declared.state.Module.{Module}
 use Rattle.module.specs.declared.state.Phase.the-variants.{Silent, Command, Count, Identifier, Given, AssignPec}
-use Rattle.module.specs.Receive.{started, received}
+use Rattle.module.specs.Receive.{starts, receives}
 use Rattle.module.specs.Reset as own
 use Rattle.module.specs.State.{at, silentIn, taken, refused}
 use Rattle.module.specs.Supply.{addressByte}
@@ -43,12 +43,12 @@ use Rattle.exchange.specs.WalkLaws.{Follows, abreast, Same, sent-same, f
 abbrev third : ℕ
 third = pecStep (pecStep first 0x04) 17
 
-command-step : (o : Lasting) → received (at o Command 0 first 0) 0x04 ≡ taken o Count 0 (pecStep first 0x04) 0
-unfolding received
+command-step : (o : Lasting) → receives (at o Command 0 first 0) 0x04 ≡ taken o Count 0 (pecStep first 0x04) 0
+unfolding receives
 command-step o = refl
 
-count-step : (o : Lasting) (c : ℕ) → received (at o Count 0 c 0) 17 ≡ taken o Identifier 0 (pecStep c 17) 0
-unfolding received
+count-step : (o : Lasting) (c : ℕ) → receives (at o Count 0 c 0) 17 ≡ taken o Identifier 0 (pecStep c 17) 0
+unfolding receives
 count-step o c = refl
 
 -- at place j of the identifier, or past it
@@ -64,10 +64,10 @@ unfolding due
 due-given o j c h = rw (le-ltb j 16 h)
 
 identifier-step : (o : Lasting) (j c b : ℕ) → j < 16
-    → received (due o j c) b ≡ pick (eqb b (getD (udidBytes (o .udid)) j 0)) (record { after = due o (j + 1) (pecStep c b); ack = true }) (refused o)
-unfolding received due
+    → receives (due o j c) b ≡ pick (eqb b (getD (udidBytes (o .udid)) j 0)) (record { after = due o (j + 1) (pecStep c b); ack = true }) (refused o)
+unfolding receives due
 identifier-step o j c b h =
-    ap (λ (m : Module). received m b) (due-identifier o j c h)
+    ap (λ (m : Module). receives m b) (due-identifier o j c h)
     ∙ ap (λ (n : ℕ). pick (eqb b (getD (udidBytes (o .udid)) n 0)) (next (ltb j 15)) (refused o)) (mod-eq-of-lt h)
     ∙ ap (λ (z : Heard). pick (eqb b (getD (udidBytes (o .udid)) j 0)) z (refused o)) (go (ltb j 15) refl)
   where
@@ -79,12 +79,12 @@ identifier-step o j c b h =
     go true e = let l = ltb-true j 15 e in rw (lt-ltb (j + 1) 16 (omega arith))
     go false e = let l = ltb-false j 15 e in rw (le-ltb (j + 1) 16 (omega arith))
 
-given-step : (o : Lasting) (c b : ℕ) → received (at o Given 0 c 0) b ≡ taken o AssignPec 0 (pecStep c b) (b / 2)
-unfolding received
+given-step : (o : Lasting) (c b : ℕ) → receives (at o Given 0 c 0) b ≡ taken o AssignPec 0 (pecStep c b) (b / 2)
+unfolding receives
 given-step o c b = refl
 
-pec-step : (o : Lasting) (c g : ℕ) → received (at o AssignPec 0 c g) c ≡ taken (own.assigned o g) Silent 0 0 0
-unfolding received
+pec-step : (o : Lasting) (c g : ℕ) → receives (at o AssignPec 0 c g) c ≡ taken (own.assigned o g) Silent 0 0 0
+unfolding receives
 pec-step o c g = rw (eq-eqb c c refl)
 
 pec-one : (c x : ℕ) → pecFrom c (x ∷ []) ≡ pecStep c x
@@ -167,7 +167,7 @@ module _ (u : Udid) (a : Address) (o : Lasting) (f : Fits u) (g : Fits (o .udid)
       follows-ack (front us) t t' x (pec ∷ []) (at o Given 0 c 0) (at o AssignPec 0 (pecStep c x) (x / 2)) (given-step o c x)
       (own-acknowledges u x t s (front (us ++ x ∷ [])) (pec ∷ []) q)
       (follows-ack (front (us ++ x ∷ [])) t t' pec [] (at o AssignPec 0 (pecStep c x) (x / 2)) (silentIn (own.assigned o (x / 2)))
-      (ap (received (at o AssignPec 0 (pecStep c x) (x / 2))) (sym p ∙ pec-one c x) ∙ pec-step o (pecStep c x) (x / 2))
+      (ap (receives (at o AssignPec 0 (pecStep c x) (x / 2))) (sym p ∙ pec-one c x) ∙ pec-step o (pecStep c x) (x / 2))
       (own-acknowledges u x t s (front (us ++ x ∷ []) ++ pec ∷ []) [] (append-nil (front (us ++ x ∷ []) ++ pec ∷ []) ∙ q))
       (record-taken e))
 
@@ -188,7 +188,7 @@ module _ (u : Udid) (a : Address) (o : Lasting) (f : Fits u) (g : Fits (o .udid)
       here : getD vs j 0 ≡ y
       here = ap (λ (k : List ℕ). getD k j 0) q ∙ getD-at zs y ys 0 j (omega arith)
 
-      heard : (r : Bool) → eqb b y ≡ r → received (due o j c) b ≡ pick r (record { after = due o (j + 1) (pecStep c b); ack = true }) (refused o)
+      heard : (r : Bool) → eqb b y ≡ r → receives (due o j c) b ≡ pick r (record { after = due o (j + 1) (pecStep c b); ack = true }) (refused o)
       heard r e =
           identifier-step o j c b (omega arith)
           ∙ ap (λ (z : Bool). pick z (record { after = due o (j + 1) (pecStep c b); ack = true }) (refused o)) (ap (eqb b) here ∙ e)
@@ -224,7 +224,7 @@ module _ (u : Udid) (a : Address) (o : Lasting) (f : Fits u) (g : Fits (o .udid)
   pec-all = refl
 
 assign-follows : (u : Udid) (a : Address) (m : Module) → Fits u → Fits (m .own .udid)
-    → Follows (256 ∷ []) (recordOf m) (assignedTo u (a .0) (recordOf m)) (assigned u (2 * (a .0 % 128))) (started m)
+    → Follows (256 ∷ []) (recordOf m) (assignedTo u (a .0) (recordOf m)) (assigned u (2 * (a .0 % 128))) (starts m)
 assign-follows u a m f g =
     let o = m .own in
     let t = recordOf m in
@@ -246,4 +246,4 @@ assign-same u a f ms h =
     let ts : List Target = recordsOf ms in
     subst (λ (l : List ℕ). Same (walk stopAll false ms l) (standing l ts) (acted (Send (Assign u a)) ts)) (sym (assign-sends-bytes u a))
     (sent-same (assigned u x) ms ts (acted (Send (Assign u a)) ts) (bytes-assigned u x (omega arith))
-    (abreast (256 ∷ []) (assigned u x) started (assignedTo u (a .0)) ms (each-map ms (λ m g. assign-follows u a m f g) h)))
+    (abreast (256 ∷ []) (assigned u x) starts (assignedTo u (a .0)) ms (each-map ms (λ m g. assign-follows u a m f g) h)))

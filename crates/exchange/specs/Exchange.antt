@@ -18,8 +18,8 @@ use Rattle.commands.specs.declared.command.Handed.the-variants.{Send, Wait}
 use Rattle.rule.specs.Acknowledge.{sentPart}
 use Rattle.module.specs.declared.state.Module.{Module}
 use Rattle.module.specs.State.{silentIn}
-use Rattle.module.specs.Receive.{started, received}
-use Rattle.module.specs.Supply.{addressByte, supplied}
+use Rattle.module.specs.Receive.{starts, receives}
+use Rattle.module.specs.Supply.{addressByte, supplies}
 
 -- the identifier of a module is a number of 128 bits
 abbrev pub Fitting : Module → Type 0
@@ -38,11 +38,11 @@ silenced m = silentIn (m .own)
 
 -- a byte for every module, and whether one of them acknowledges it
 abbrev pub hearing : ℕ → Module → Module
-hearing b m = received m b .after
+hearing b m = receives m b .after
 
 unfoldable pub anyAck : ℕ → List Module → Bool
 anyAck b [] = false
-anyAck b (m ∷ ms) = or (received m b .ack) (anyAck b ms)
+anyAck b (m ∷ ms) = or (receives m b .ack) (anyAck b ms)
 
 -- the trace that stands on the bus, and the modules after it
 pub record Left : Type 0 where
@@ -60,7 +60,7 @@ stopAll ms = record { trace = STOP ∷ []; modules = map silenced ms }
 unfoldable pub walk : (List Module → Left) → Bool → List Module → List ℕ → Left
 walk rest a ms [] = rest ms
 walk rest a ms (x ∷ xs) =
-    pick (eqb x START) (put START (walk rest a (map started ms) xs))
+    pick (eqb x START) (put START (walk rest a (map starts ms) xs))
     (pick (eqb x ACK) (pick a (put ACK (walk rest a ms xs)) (put NACK (stopAll ms)))
     (put x (walk rest (anyAck x ms) (map (hearing x) ms) xs)))
 
@@ -73,7 +73,7 @@ pub record Sender : Type 0 where
   pub left : List Bool
 
 abbrev pub asked : Module → Sender
-asked m = record { who = supplied m .after; sends = supplied m .drives; left = bits 8 (supplied m .byte) }
+asked m = record { who = supplies m .after; sends = supplies m .drives; left = bits 8 (supplies m .byte) }
 
 -- the wire is one where nobody gives a zero
 unfoldable pub line : List Sender → Bool

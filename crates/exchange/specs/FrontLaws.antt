@@ -8,7 +8,7 @@ use Rattle.targets.specs.Target.{Target}
 use Rattle.rule.specs.Acknowledge.{begins, acknowledges}
 use Rattle.module.specs.declared.state.Module.{Module}
 use Rattle.module.specs.declared.state.Phase.the-variants.{Command}
-use Rattle.module.specs.Receive.{forWrite, started}
+use Rattle.module.specs.Receive.{forWrite, starts}
 use Rattle.module.specs.State.{at}
 use Rattle.module.specs.SupplyLaws.{start-write}
 use Rattle.exchange.specs.Exchange.{recordOf}
@@ -23,5 +23,5 @@ unfolding acknowledges begins
 first-ack t = refl
 
 pub front-follows : (m : Module) (t' : Target) (bs : List ℕ) → Follows (256 ∷ 194 ∷ []) (recordOf m) t' bs (at (m .own) Command 0 first 0)
-    → Follows (256 ∷ []) (recordOf m) t' (194 ∷ bs) (started m)
-front-follows m t' bs h = follows-ack (256 ∷ []) (recordOf m) t' 194 bs (started m) (at (m .own) Command 0 first 0) (start-write m) (first-ack (recordOf m)) h
+    → Follows (256 ∷ []) (recordOf m) t' (194 ∷ bs) (starts m)
+front-follows m t' bs h = follows-ack (256 ∷ []) (recordOf m) t' 194 bs (starts m) (at (m .own) Command 0 first 0) (start-write m) (first-ack (recordOf m)) h

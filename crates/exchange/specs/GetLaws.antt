@@ -22,7 +22,7 @@ use Rattle.module.specs.declared.state.Lasting.{Lasting}
 use Rattle.module.specs.declared.state.Module.{Module}
 use Rattle.module.specs.declared.state.Phase.the-variants.{Command, Asked, AskedAgain, Reply}
 use Rattle.module.specs.Obeys.{heardAll}
-use Rattle.module.specs.Receive.{forWrite, forRead, started, received}
+use Rattle.module.specs.Receive.{forWrite, forRead, starts, receives}
 use Rattle.module.specs.State.{at, taken, refused}
 use Rattle.module.specs.SupplyLaws.{start-write, asked-general}
 use Rattle.exchange.specs.AnsweringLaws.{answering, asking, get-ack, shows, read-same}
@@ -43,19 +43,19 @@ second-ack : (t : Target) → acknowledges (256 ∷ 194 ∷ 3 ∷ []) t ≡ true
 unfolding acknowledges begins
 second-ack t = refl
 
-command-step : (o : Lasting) (c : ℕ) → received (at o Command 0 c 0) 0x03 ≡ taken o Asked 0 (pecStep c 0x03) 0
-unfolding received
+command-step : (o : Lasting) (c : ℕ) → receives (at o Command 0 c 0) 0x03 ≡ taken o Asked 0 (pecStep c 0x03) 0
+unfolding receives
 command-step o c = refl
 
-again-step : (o : Lasting) (c : ℕ) → started (at o Asked 0 c 0) ≡ at o AskedAgain 0 c 0
-unfolding started
+again-step : (o : Lasting) (c : ℕ) → starts (at o Asked 0 c 0) ≡ at o AskedAgain 0 c 0
+unfolding starts
 again-step o c = refl
 
-read-step : (o : Lasting) (c : ℕ) → received (at o AskedAgain 0 c 0) forRead ≡ pick (o .resolved) (refused o) (taken o Reply 0 (pecStep c forRead) 0)
-unfolding received
+read-step : (o : Lasting) (c : ℕ) → receives (at o AskedAgain 0 c 0) forRead ≡ pick (o .resolved) (refused o) (taken o Reply 0 (pecStep c forRead) 0)
+unfolding receives
 read-step o c = refl
 
-get-follows : (m : Module) → Follows (256 ∷ []) (recordOf m) (recordOf m) (194 ∷ 3 ∷ []) (started m)
+get-follows : (m : Module) → Follows (256 ∷ []) (recordOf m) (recordOf m) (194 ∷ 3 ∷ []) (starts m)
 get-follows m =
     let o = m .own in
     let t = recordOf m in
@@ -64,12 +64,12 @@ get-follows m =
 
 -- a module after them and the repeated START
 abbrev again : Module → Module
-again m = started (hearing 0x03 (hearing forWrite (started m)))
+again m = starts (hearing 0x03 (hearing forWrite (starts m)))
 
 again-is : (m : Module) → again m ≡ at (m .own) AskedAgain 0 two 0
 again-is m =
-    ap (λ (h : Heard). started (hearing 0x03 (h .after))) (start-write m)
-    ∙ ap (λ (h : Heard). started (h .after)) (command-step (m .own) first)
+    ap (λ (h : Heard). starts (hearing 0x03 (h .after))) (start-write m)
+    ∙ ap (λ (h : Heard). starts (h .after)) (command-step (m .own) first)
     ∙ again-step (m .own) two
 
 read-follows : (m : Module) → Follows (256 ∷ 194 ∷ 3 ∷ 256 ∷ []) (recordOf m) (recordOf m) (195 ∷ []) (again m)
@@ -81,14 +81,14 @@ read-follows m = subst (λ (x : Module). Follows (256 ∷ 194 ∷ 3 ∷ 256 ∷ 
     t : Target
     t = recordOf m
 
-    step : (b : Bool) → o .resolved ≡ b → received (at o AskedAgain 0 two 0) 195 ≡ pick b (refused o) (taken o Reply 0 (pecStep two 195) 0)
+    step : (b : Bool) → o .resolved ≡ b → receives (at o AskedAgain 0 two 0) 195 ≡ pick b (refused o) (taken o Reply 0 (pecStep two 195) 0)
     step b e = read-step o two ∙ ap (λ (z : Bool). pick z (refused o) (taken o Reply 0 (pecStep two 195) 0)) e
 
     go : (b : Bool) → o .resolved ≡ b → Follows (256 ∷ 194 ∷ 3 ∷ 256 ∷ []) t t (195 ∷ []) (at o AskedAgain 0 two 0)
     go true e = follows-nack (256 ∷ 194 ∷ 3 ∷ 256 ∷ []) t t 195 [] (at o AskedAgain 0 two 0) o (step true e) (get-ack m ∙ ap not e) refl refl
     go false e = follows-ack (256 ∷ 194 ∷ 3 ∷ 256 ∷ []) t t 195 [] (at o AskedAgain 0 two 0) (at o Reply 0 (pecStep two 195) 0) (step false e) (get-ack m ∙ ap not e) refl
 
-front-abreast : (ms : List Module) → Abreast (256 ∷ []) (194 ∷ 3 ∷ []) (map started ms) (recordsOf ms) (recordsOf ms)
+front-abreast : (ms : List Module) → Abreast (256 ∷ []) (194 ∷ 3 ∷ []) (map starts ms) (recordsOf ms) (recordsOf ms)
 front-abreast [] = tt
 front-abreast (m ∷ ms) = (get-follows m, front-abreast ms)
 
@@ -120,7 +120,7 @@ module _ (ms : List Module) where
 
   -- the modules after C2h and 03h, and what is sent after them
   abbrev ns : List Module
-  ns = map (hearing 0x03) (map (hearing forWrite) (map started ms))
+  ns = map (hearing 0x03) (map (hearing forWrite) (map starts ms))
 
   abbrev later : List ℕ
   later = START ∷ 195 ∷ ACK ∷ []
@@ -135,7 +135,7 @@ module _ (ms : List Module) where
   unfolding exchange onBus standing same
   get-same =
       rw (walk-start reading false ms (acked (194 ∷ 3 ∷ []) ++ later), answered-start acks [] (acked (194 ∷ 3 ∷ []) ++ later) (shows ms))
-      (same-put START _ _ ts (walked reading (shows ms) later ts ts (256 ∷ []) (194 ∷ 3 ∷ []) (map started ms) (omega arith, (omega arith, tt)) (front-abreast ms) second false))
+      (same-put START _ _ ts (walked reading (shows ms) later ts ts (256 ∷ []) (194 ∷ 3 ∷ []) (map starts ms) (omega arith, (omega arith, tt)) (front-abreast ms) second false))
 
   -- where one of them is not resolved the reply follows
   pub get-reads : (m : Module) → Among m ms → m .own .resolved ≡ false
@@ -144,7 +144,7 @@ module _ (ms : List Module) where
   unfolding exchange walk
   get-reads m i e =
       let r : Among (recordOf m) ts = among-records ms i in
-      let ms1 : List Module = map started ms in
+      let ms1 : List Module = map starts ms in
       let ms2 : List Module = map (hearing 0xC2) ms1 in
       let a : anyAck 0xC2 ms1 ≡ true =
       any-same (256 ∷ []) 194 (3 ∷ []) ms1 ts ts (front-abreast ms) ∙ one-acknowledges (acknowledges (256 ∷ 194 ∷ [])) ts (recordOf m) r (first-ack (recordOf m)) in

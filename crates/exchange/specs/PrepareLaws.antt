@@ -15,7 +15,7 @@ use Rattle.rule.specs.Acted.{acted}
 use Rattle.module.specs.declared.state.Lasting.{Lasting}
 use Rattle.module.specs.declared.state.Module.{Module}
 use Rattle.module.specs.declared.state.Phase.the-variants.{Silent, Command, PreparePec}
-use Rattle.module.specs.Receive.{started, received}
+use Rattle.module.specs.Receive.{starts, receives}
 use Rattle.module.specs.Reset as own
 use Rattle.module.specs.State.{at, silentIn, taken}
 use Rattle.module.specs.Supply.{addressByte}
@@ -39,19 +39,19 @@ unfolding acknowledges begins
 third-ack t = refl
 
 -- and so does every module
-command-step : (o : Lasting) (c : ℕ) → received (at o Command 0 c 0) 0x01 ≡ taken o PreparePec 0 (pecStep c 0x01) 0
-unfolding received
+command-step : (o : Lasting) (c : ℕ) → receives (at o Command 0 c 0) 0x01 ≡ taken o PreparePec 0 (pecStep c 0x01) 0
+unfolding receives
 command-step o c = refl
 
-pec-step : (o : Lasting) (c : ℕ) → received (at o PreparePec 0 c 0) c ≡ taken (own.prepared o) Silent 0 0 0
-unfolding received
+pec-step : (o : Lasting) (c : ℕ) → receives (at o PreparePec 0 c 0) c ≡ taken (own.prepared o) Silent 0 0 0
+unfolding receives
 pec-step o c = rw (eq-eqb c c refl)
 
 prepared-record : (o : Lasting) → recordOf (silentIn (own.prepared o)) ≡ prepared (recordOf (silentIn o))
 unfolding addressByte
 prepared-record o = refl
 
-follows : (m : Module) → Follows (256 ∷ []) (recordOf m) (prepared (recordOf m)) (194 ∷ 1 ∷ 192 ∷ []) (started m)
+follows : (m : Module) → Follows (256 ∷ []) (recordOf m) (prepared (recordOf m)) (194 ∷ 1 ∷ 192 ∷ []) (starts m)
 follows m =
     let o = m .own in
     let t = recordOf m in
@@ -65,4 +65,4 @@ pub prepare-same : (ms : List Module) → Same (exchange (Send Prepare) ms) (onB
 unfolding exchange onBus standing same pecFrom pecStep bitStep
 prepare-same ms =
     sent-same (194 ∷ 1 ∷ 192 ∷ []) ms (recordsOf ms) (acted (Send Prepare) (recordsOf ms)) (omega arith, (omega arith, (omega arith, tt)))
-    (abreast (256 ∷ []) (194 ∷ 1 ∷ 192 ∷ []) started prepared ms (each-any follows ms))
+    (abreast (256 ∷ []) (194 ∷ 1 ∷ 192 ∷ []) starts prepared ms (each-any follows ms))

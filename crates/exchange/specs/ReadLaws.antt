@@ -21,7 +21,7 @@ use Rattle.module.specs.declared.state.Lasting.{Lasting}
 use Rattle.module.specs.declared.state.Module.{Module}
 use Rattle.module.specs.State.{at, silentIn}
 use Rattle.pec.specs.Pec.{pecStep}
-use Rattle.module.specs.Supply.{replyByte, supplied}
+use Rattle.module.specs.Supply.{replyByte, supplies}
 use Rattle.module.specs.SupplyLaws.{says}
 use Rattle.exchange.specs.EachLaws.{each-made}
 use Rattle.exchange.specs.Exchange.{silenced, Sender, asked, line, sees, seen, after, afterByte, bytesOn}
@@ -107,25 +107,25 @@ pub data Talks : ℕ → Module → Type 0 where
 -- a sender whose module goes on to say n bytes, or none
 pub record Ready (n : ℕ) (s : Sender) : Type 0 where
   pub talks : Talks n (s .who)
-  pub same : s .sends ≡ supplied (s .who) .drives
+  pub same : s .sends ≡ supplies (s .who) .drives
 
-pub silent-drives : (o : Lasting) → supplied (silentIn o) .drives ≡ false
-unfolding supplied
+pub silent-drives : (o : Lasting) → supplies (silentIn o) .drives ≡ false
+unfolding supplies
 silent-drives o = refl
 
-silent-after : (o : Lasting) → supplied (silentIn o) .after ≡ silentIn o
-unfolding supplied
+silent-after : (o : Lasting) → supplies (silentIn o) .after ≡ silentIn o
+unfolding supplies
 silent-after o = refl
 
-pub reply-drives : (o : Lasting) (k c : ℕ) → supplied (at o Reply k c 0) .drives ≡ true
-unfolding supplied
+pub reply-drives : (o : Lasting) (k c : ℕ) → supplies (at o Reply k c 0) .drives ≡ true
+unfolding supplies
 reply-drives o k c = refl
 
-reply-after : (o : Lasting) (k c : ℕ) → supplied (at o Reply k c 0) .after ≡ pick (ltb k 18) (at o Reply (k + 1) (pecStep c (replyByte o c k)) 0) (silentIn o)
-unfolding supplied
+reply-after : (o : Lasting) (k c : ℕ) → supplies (at o Reply k c 0) .after ≡ pick (ltb k 18) (at o Reply (k + 1) (pecStep c (replyByte o c k)) 0) (silentIn o)
+unfolding supplies
 reply-after o k c = refl
 
-talks-on : (n : ℕ) (m : Module) → Talks (suc n) m → Talks n (supplied m .after)
+talks-on : (n : ℕ) (m : Module) → Talks (suc n) m → Talks n (supplies m .after)
 talks-on n m (quiet o) = subst (Talks n) (sym (silent-after o)) (quiet o)
 talks-on n m (speaks o c k e) = subst (Talks n) (sym (reply-after o k c)) (go (ltb k 18) refl)
   where
@@ -136,12 +136,12 @@ talks-on n m (speaks o c k e) = subst (Talks n) (sym (reply-after o k c)) (go (l
 asked-ready : (n : ℕ) (m : Module) → Talks (suc (suc n)) m → Ready (suc n) (asked m)
 asked-ready n m h = record { talks = talks-on (suc n) m h; same = go m h }
   where
-    go : (m : Module) → Talks (suc (suc n)) m → supplied m .drives ≡ supplied (supplied m .after) .drives
-    go m (quiet o) = ap (λ (x : Module). supplied x .drives) (sym (silent-after o))
+    go : (m : Module) → Talks (suc (suc n)) m → supplies m .drives ≡ supplies (supplies m .after) .drives
+    go m (quiet o) = ap (λ (x : Module). supplies x .drives) (sym (silent-after o))
     go m (speaks o c k e) =
         reply-drives o k c
         ∙ sym (reply-drives o (k + 1) (pecStep c (replyByte o c k)))
-        ∙ ap (λ (x : Module). supplied x .drives)
+        ∙ ap (λ (x : Module). supplies x .drives)
         (sym (reply-after o k c ∙ ap (λ (b : Bool). pick b (at o Reply (k + 1) (pecStep c (replyByte o c k)) 0) (silentIn o)) (lt-ltb k 18 (omega arith))))
 
 sees-ready : (n : ℕ) (w : Bool) (s : Sender) → Ready n s → Ready n (sees w s)
@@ -160,19 +160,19 @@ after-ready (suc j) n ss h = after-ready j n (map (sees (line ss)) ss) (each-mad
 
 unfoldable pub wires : ℕ → List Module → List (List Bool)
 wires n [] = []
-wires n (m ∷ ms) = pick (supplied m .drives) (byteBits (says n m) ∷ wires n ms) (wires n ms)
+wires n (m ∷ ms) = pick (supplies m .drives) (byteBits (says n m) ∷ wires n ms) (wires n ms)
 
-pub says-next : (n : ℕ) (m : Module) → supplied m .drives ≡ true → says (suc n) m ≡ supplied m .byte ∷ says n (supplied m .after)
+pub says-next : (n : ℕ) (m : Module) → supplies m .drives ≡ true → says (suc n) m ≡ supplies m .byte ∷ says n (supplies m .after)
 unfolding says
 says-next n m e = rw e
 
 asked-fulls : (n : ℕ) (ms : List Module) → fulls n (map asked ms) ≡ wires (suc n) ms
 unfolding fulls wires
 asked-fulls n [] = refl
-asked-fulls n (m ∷ ms) = go (supplied m .drives) refl (asked-fulls n ms)
+asked-fulls n (m ∷ ms) = go (supplies m .drives) refl (asked-fulls n ms)
   where
-    go : (b : Bool) → supplied m .drives ≡ b → fulls n (map asked ms) ≡ wires (suc n) ms
-        → pick b ((bits 8 (supplied m .byte) ++ byteBits (says n (supplied m .after))) ∷ fulls n (map asked ms)) (fulls n (map asked ms))
+    go : (b : Bool) → supplies m .drives ≡ b → fulls n (map asked ms) ≡ wires (suc n) ms
+        → pick b ((bits 8 (supplies m .byte) ++ byteBits (says n (supplies m .after))) ∷ fulls n (map asked ms)) (fulls n (map asked ms))
         ≡ pick b (byteBits (says (suc n) m) ∷ wires (suc n) ms) (wires (suc n) ms)
     go true e r = ap₂ _∷_ (ap byteBits (sym (says-next n m e))) r
     go false e r = r
@@ -193,7 +193,7 @@ ready-wires n (s ∷ ss) h g =
 
 pub asked-has : (ms : List Module) → Each (Has 8) (map asked ms)
 asked-has [] = tt
-asked-has (m ∷ ms) = (λ e. length-bits 8 (supplied m .byte), asked-has ms)
+asked-has (m ∷ ms) = (λ e. length-bits 8 (supplies m .byte), asked-has ms)
 
 pub asked-all : (n : ℕ) (ms : List Module) → Each (Talks (suc (suc n))) ms → Each (Ready (suc n)) (map asked ms)
 asked-all n ms h = each-made (Ready (suc n)) asked (asked-ready n) ms h

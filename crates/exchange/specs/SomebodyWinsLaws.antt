@@ -11,7 +11,7 @@ use Rattle.lists.specs.Each.{Each}
 use Rattle.arbitration.specs.Among.{Among}
 use Rattle.arbitration.specs.Wire.{next}
 use Rattle.module.specs.declared.state.Module.{Module}
-use Rattle.module.specs.Supply.{supplied}
+use Rattle.module.specs.Supply.{supplies}
 use Rattle.exchange.specs.AlikeLaws.{some}
 use Rattle.exchange.specs.AnsweringLaws.{answering, answering-talks, answering-drives}
 use Rattle.exchange.specs.Exchange.{Sender, asked, line, sees, after, afterByte, afterBytes}
@@ -81,18 +81,18 @@ bytes-some (suc n) k ms h e =
 answers : (ms : List Module) (m : Module) → Among m ms → m .own .resolved ≡ false → some (map asked (map answering ms)) ≡ true
 unfolding some
 answers (x ∷ ms) m (inl e) r = rw (answering-drives x ∙ ap not (ap (λ (z : Module). z .own .resolved) e ∙ r))
-answers (x ∷ ms) m (inr i) r = rw (answers ms m i r) (or-last (supplied (answering x) .drives))
+answers (x ∷ ms) m (inr i) r = rw (answers ms m i r) (or-last (supplies (answering x) .drives))
 
-sends-still : (k : ℕ) (m : Module) → Talks k m → supplied m .drives ≡ true → StillSends m
+sends-still : (k : ℕ) (m : Module) → Talks k m → supplies m .drives ≡ true → StillSends m
 sends-still k m (quiet o) e = not-both (silent-drives o) e
 sends-still k m (speaks o c j p) e = refl
 
 found : (k : ℕ) (ms : List Module) → Each (Talks k) ms → some (map asked ms) ≡ true → (n : Module) × Among n ms × StillSends n
 unfolding some
 found k [] h e = false-not-true e
-found k (m ∷ ms) h e = go (supplied m .drives) refl e (λ r. found k ms (h .1) r)
+found k (m ∷ ms) h e = go (supplies m .drives) refl e (λ r. found k ms (h .1) r)
   where
-    go : (b : Bool) → supplied m .drives ≡ b → or b (some (map asked ms)) ≡ true → (some (map asked ms) ≡ true → (n : Module) × Among n ms × StillSends n)
+    go : (b : Bool) → supplies m .drives ≡ b → or b (some (map asked ms)) ≡ true → (some (map asked ms) ≡ true → (n : Module) × Among n ms × StillSends n)
         → (n : Module) × Among n (m ∷ ms) × StillSends n
     go true q r f = (m, inl refl, sends-still k m (h .0) q)
     go false q r f = let n = f r in (n .0, inr (n .1), n .2)

@@ -15,7 +15,7 @@ use Rattle.rule.specs.Acknowledge.{acknowledges, somebody, answered}
 use Rattle.module.specs.declared.state.Heard.{Heard}
 use Rattle.module.specs.declared.state.Lasting.{Lasting}
 use Rattle.module.specs.declared.state.Module.{Module}
-use Rattle.module.specs.Receive.{started, received}
+use Rattle.module.specs.Receive.{starts, receives}
 use Rattle.module.specs.State.{silentIn, refused}
 use Rattle.module.specs.SupplyLaws.{silent-nack}
 use Rattle.exchange.specs.Exchange.{recordOf, recordsOf, silenced, hearing, anyAck, Left, put, stopAll, walk}
@@ -26,22 +26,22 @@ use Rattle.exchange.specs.Exchange.{recordOf, recordsOf, silenced, heari
 abbrev pub Follows : List ℕ → Target → Target → List ℕ → Module → Type 0
 Follows sent t t' [] m = recordOf m ≡ t'
 Follows sent t t' (b ∷ bs) m =
-    (received m b .ack ≡ acknowledges (sent ++ b ∷ []) t) × ((received m b .ack ≡ false → recordOf (hearing b m) ≡ t') × Follows (sent ++ b ∷ []) t t' bs (hearing b m))
+    (receives m b .ack ≡ acknowledges (sent ++ b ∷ []) t) × ((receives m b .ack ≡ false → recordOf (hearing b m) ≡ t') × Follows (sent ++ b ∷ []) t t' bs (hearing b m))
 
 module _ (sent : List ℕ) (t t' : Target) (b : ℕ) (bs : List ℕ) (m : Module) where
-  follows-heard : (h : Heard) → received m b ≡ h → h .ack ≡ acknowledges (sent ++ b ∷ []) t → (h .ack ≡ false → recordOf (h .after) ≡ t')
+  follows-heard : (h : Heard) → receives m b ≡ h → h .ack ≡ acknowledges (sent ++ b ∷ []) t → (h .ack ≡ false → recordOf (h .after) ≡ t')
       → Follows (sent ++ b ∷ []) t t' bs (h .after) → Follows sent t t' (b ∷ bs) m
   follows-heard h e p q r =
       subst (λ (x : Heard). (x .ack ≡ acknowledges (sent ++ b ∷ []) t) × ((x .ack ≡ false → recordOf (x .after) ≡ t') × Follows (sent ++ b ∷ []) t t' bs (x .after)))
       (sym e) (p, (q, r))
 
   -- the byte gets ACK from both
-  pub follows-ack : (m' : Module) → received m b ≡ record { after = m'; ack = true } → acknowledges (sent ++ b ∷ []) t ≡ true
+  pub follows-ack : (m' : Module) → receives m b ≡ record { after = m'; ack = true } → acknowledges (sent ++ b ∷ []) t ≡ true
       → Follows (sent ++ b ∷ []) t t' bs m' → Follows sent t t' (b ∷ bs) m
   follows-ack m' e p r = follows-heard (record { after = m'; ack = true }) e (sym p) (λ f. not-both f refl) r
 
   -- it gets NACK from both
-  pub follows-nack : (o : Lasting) → received m b ≡ refused o → acknowledges (sent ++ b ∷ []) t ≡ false → recordOf (silentIn o) ≡ t'
+  pub follows-nack : (o : Lasting) → receives m b ≡ refused o → acknowledges (sent ++ b ∷ []) t ≡ false → recordOf (silentIn o) ≡ t'
       → Follows (sent ++ b ∷ []) t t' bs (silentIn o) → Follows sent t t' (b ∷ bs) m
   follows-nack o e p q r = follows-heard (refused o) e (sym p) (λ f. q) r
 
@@ -79,7 +79,7 @@ module _ (sent : List ℕ) (b : ℕ) (bs : List ℕ) where
   unfolding anyAck
   none-same [] [] [] h e = refl
   none-same (m ∷ ms) (t ∷ ts) (t' ∷ ts') h e =
-      let f = neither (received m b .ack) (anyAck b ms) e in
+      let f = neither (receives m b .ack) (anyAck b ms) e in
       ap₂ (λ (x : Target) (l : List Target). x ∷ l) (h .0 .1 .0 (f .0)) (none-same ms ts ts' (h .1) (f .1))
 
   pub next-same : (ms : List Module) (ts ts' : List Target) → Abreast sent (b ∷ bs) ms ts ts' → Abreast (sent ++ b ∷ []) bs (map (hearing b) ms) ts ts'
@@ -110,7 +110,7 @@ pub record Same (l : Left) (tr : List ℕ) (ts : List Target) : Type 0 where
 pub same-put : (x : ℕ) (l : Left) (tr : List ℕ) (ts : List Target) → Same l tr ts → Same (put x l) (x ∷ tr) ts
 same-put x l tr ts s = record { trace = ap (λ (r : List ℕ). x ∷ r) (s .trace); records = s .records }
 
-pub walk-start : (rest : List Module → Left) (a : Bool) (ms : List Module) (xs : List ℕ) → walk rest a ms (START ∷ xs) ≡ put START (walk rest a (map started ms) xs)
+pub walk-start : (rest : List Module → Left) (a : Bool) (ms : List Module) (xs : List ℕ) → walk rest a ms (START ∷ xs) ≡ put START (walk rest a (map starts ms) xs)
 unfolding walk
 walk-start rest a ms xs = refl
 
@@ -170,16 +170,16 @@ module _ (rest : List Module → Left) (rest' tail : List ℕ) (ts ts' : List Ta
       (λ e. walked (sent ++ b ∷ []) bs (map (hearing b) ms) (v .1) (next-same sent b bs ms ts ts' h) (rw (append-assoc sent (b ∷ []) bs) g))
 
 -- START, bytes, STOP
-pub sent-same : (bs : List ℕ) (ms : List Module) (ts ts' : List Target) → Bytes bs → Abreast (START ∷ []) bs (map started ms) ts ts'
+pub sent-same : (bs : List ℕ) (ms : List Module) (ts ts' : List Target) → Bytes bs → Abreast (START ∷ []) bs (map starts ms) ts ts'
     → Same (walk stopAll false ms (START ∷ acked bs)) (answered (λ (sent : List ℕ). somebody (acknowledges sent) ts) [] (START ∷ acked bs) (STOP ∷ [])) ts'
 sent-same bs ms ts ts' v h =
     rw (walk-start stopAll false ms (acked bs), answered-start acks' [] (acked bs) (STOP ∷ []))
-    (same-put START _ _ ts' (rw (append-nil (acked bs)) at (walked stopAll (STOP ∷ []) [] ts ts' (START ∷ []) bs (map started ms) v h ending false)))
+    (same-put START _ _ ts' (rw (append-nil (acked bs)) at (walked stopAll (STOP ∷ []) [] ts ts' (START ∷ []) bs (map starts ms) v h ending false)))
   where
     acks' : List ℕ → Bool
     acks' sent = somebody (acknowledges sent) ts
 
-    ending : (a : Bool) → Same (walk stopAll a (allHeard bs (map started ms)) []) (answered acks' (START ∷ bs) [] (STOP ∷ [])) ts'
+    ending : (a : Bool) → Same (walk stopAll a (allHeard bs (map starts ms)) []) (answered acks' (START ∷ bs) [] (STOP ∷ [])) ts'
     ending a =
-        rw (walk-end stopAll a (allHeard bs (map started ms)), answered-end acks' (START ∷ bs) (STOP ∷ []))
-        (record { trace = refl; records = records-silenced (allHeard bs (map started ms)) ∙ abreast-end (START ∷ []) bs (map started ms) ts ts' h })
+        rw (walk-end stopAll a (allHeard bs (map starts ms)), answered-end acks' (START ∷ bs) (STOP ∷ []))
+        (record { trace = refl; records = records-silenced (allHeard bs (map starts ms)) ∙ abreast-end (START ∷ []) bs (map starts ms) ts ts' h })

@@ -24,7 +24,7 @@ use Rattle.module.specs.declared.state.Module.{Module}
 use Rattle.module.specs.declared.state.Phase.{Phase}
 use Rattle.module.specs.declared.state.Phase.the-variants.{Reply}
 use Rattle.module.specs.State.{at}
-use Rattle.module.specs.Supply.{replyByte, suppliedIn, supplied}
+use Rattle.module.specs.Supply.{replyByte, suppliedIn, supplies}
 use Rattle.module.specs.SupplyLaws.{says, askedPec, supplied-own}
 use Rattle.exchange.specs.AnsweringLaws.{replying, answering, answering-talks, answering-records}
 use Rattle.exchange.specs.EachLaws.{each-made}
@@ -94,13 +94,13 @@ sent-bits (suc j) ss h =
 
 -- m said the byte that stood on the wire, and goes on as m'
 abbrev SaidOne : ℕ → Module → Module → Type 0
-SaidOne b m m' = supplied m' .drives ≡ true → (supplied m .drives ≡ true) × ((supplied m .byte % 256 ≡ b) × (m' ≡ supplied m .after))
+SaidOne b m m' = supplies m' .drives ≡ true → (supplies m .drives ≡ true) × ((supplies m .byte % 256 ≡ b) × (m' ≡ supplies m .after))
 
 said-bits : (n : ℕ) (l : List Bool) (ms : List Module) (ts : List Sender) → Both (Sent l) (map asked ms) ts → Each (Ready n) ts
     → Both (SaidOne (numberOf l)) ms (map (λ (s : Sender). s .who) ts)
 said-bits n l [] [] b r = tt
 said-bits n l (m ∷ ms) (t ∷ ts) b r = (
-  λ e. let q = b .0 (r .0 .same ∙ e) in (q .0, (sym (number-bits 8 (supplied m .byte)) ∙ ap numberOf (q .1 .0), q .1 .1)),
+  λ e. let q = b .0 (r .0 .same ∙ e) in (q .0, (sym (number-bits 8 (supplies m .byte)) ∙ ap numberOf (q .1 .0), q .1 .1)),
   said-bits n l ms ts (b .1) (r .1),
 )
 
@@ -114,7 +114,7 @@ low bs = map (λ (b : ℕ). b % 256) bs
 
 -- m said the bytes that stood on the wire, and goes on as m', which is the same module
 abbrev Said : ℕ → List ℕ → Module → Module → Type 0
-Said n bs m m' = supplied m' .drives ≡ true → (supplied m .drives ≡ true) × ((low (says n m) ≡ bs) × (m' .own ≡ m .own))
+Said n bs m m' = supplies m' .drives ≡ true → (supplies m .drives ≡ true) × ((low (says n m) ≡ bs) × (m' .own ≡ m .own))
 
 said-more : (n b : ℕ) (bs : List ℕ) (ms ns os : List Module) → Both (SaidOne b) ms ns → Both (Said n bs) ns os → Both (Said (suc n) (b ∷ bs)) ms os
 said-more n b bs [] [] [] p q = tt
@@ -150,7 +150,7 @@ said-bytes (suc n) k ms h =
 -- ---- the identifier
 
 says-identifier : (o : Lasting) (c : ℕ) → says 17 (at o Reply 0 c 0) ≡ 17 ∷ udidBytes (o .udid)
-unfolding says supplied replyByte udidBytes bytesOf
+unfolding says supplies replyByte udidBytes bytesOf
 says-identifier o c = refl
 
 low-same : (bs : List ℕ) → Bytes bs → low bs ≡ bs
@@ -158,10 +158,10 @@ low-same [] h = refl
 low-same (b ∷ bs) h = ap₂ _∷_ (mod-eq-of-lt (h .0)) (low-same bs (h .1))
 
 -- one that answered, and drives the wire, said its identifier
-answering-said : (m : Module) → supplied (answering m) .drives ≡ true → low (says 17 (answering m)) ≡ 17 ∷ udidBytes (m .own .udid)
+answering-said : (m : Module) → supplies (answering m) .drives ≡ true → low (says 17 (answering m)) ≡ 17 ∷ udidBytes (m .own .udid)
 answering-said m = go (m .own .resolved)
   where
-    go : (t : Bool) → supplied (replying t (m .own)) .drives ≡ true
+    go : (t : Bool) → supplies (replying t (m .own)) .drives ≡ true
         → low (says 17 (replying t (m .own))) ≡ 17 ∷ udidBytes (m .own .udid)
     go true e = not-both (silent-drives (m .own)) e
     go false e = ap low (says-identifier (m .own) (askedPec 0x03)) ∙ ap (_∷_ 17) (low-same (udidBytes (m .own .udid)) (udid-bytes (m .own .udid)))
@@ -173,8 +173,8 @@ answering-own m = go (m .own .resolved)
     go true = refl
     go false = refl
 
-drives-still : (m : Module) → StillSends m → supplied m .drives ≡ true
-unfolding supplied
+drives-still : (m : Module) → StillSends m → supplies m .drives ≡ true
+unfolding supplies
 drives-still m e = ap (λ (p : Phase). suppliedIn p m .drives) e
 
 -- it is one of those that were there, and its identifier stood on the wire

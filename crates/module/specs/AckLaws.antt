@@ -21,13 +21,13 @@ use Rattle.module.specs.declared.state.Module.{Module}
 use Rattle.module.specs.declared.state.Heard.{Heard}
 use Rattle.module.specs.State.{at, silentIn, taken, refused}
 use Rattle.module.specs.Reset.{prepared, assigned, reset}
-use Rattle.module.specs.Receive.{forWrite, forRead, atFirst, isOwn, atDirected, atCommand, atIdentifier, atPec, received}
+use Rattle.module.specs.Receive.{forWrite, forRead, atFirst, isOwn, atDirected, atCommand, atIdentifier, atPec, receives}
 use Rattle.module.specs.Obeys.{begins, isReachable}
 use Rattle.module.specs.ObeysLaws.{own-small, own-true, even}
 use Rattle.module.specs.Acknowledges.{acked, getOrder, known}
 
 -- a NACK, and it is silent
-pub acked-cons : (m : Module) (b : ℕ) (bs : List ℕ) (h : Heard) → received m b ≡ h → acked m (b ∷ bs) ≡ and (h .ack) (acked (h .after) bs)
+pub acked-cons : (m : Module) (b : ℕ) (bs : List ℕ) (h : Heard) → receives m b ≡ h → acked m (b ∷ bs) ≡ and (h .ack) (acked (h .after) bs)
 unfolding acked
 acked-cons m b bs h e = ap (λ (x : Heard). and (x .ack) (acked (x .after) bs)) e
 
@@ -57,27 +57,27 @@ eqb-sym x y = go (eqb x y) refl
     go false e = sym (ne-eqb y x (λ f. eqb-false x y e (sym f)))
 
 silent-acked : (o : Lasting) (bs : List ℕ) → acked (silentIn o) bs ≡ begins bs []
-unfolding acked received begins
+unfolding acked receives begins
 silent-acked o [] = refl
 silent-acked o (b ∷ bs) = refl
 
 asked-acked : (o : Lasting) (c : ℕ) (bs : List ℕ) → acked (at o Asked 0 c 0) bs ≡ begins bs []
-unfolding acked received begins
+unfolding acked receives begins
 asked-acked o c [] = refl
 asked-acked o c (b ∷ bs) = refl
 
 called-acked : (o : Lasting) (c : ℕ) (bs : List ℕ) → acked (at o Called 0 c 0) bs ≡ begins bs []
-unfolding acked received begins
+unfolding acked receives begins
 called-acked o c [] = refl
 called-acked o c (b ∷ bs) = refl
 
 reply-acked : (o : Lasting) (c : ℕ) (bs : List ℕ) → acked (at o Reply 0 c 0) bs ≡ begins bs []
-unfolding acked received begins
+unfolding acked receives begins
 reply-acked o c [] = refl
 reply-acked o c (b ∷ bs) = refl
 
 -- PEC is due
-pec-acked : (m : Module) (a o : Lasting) (c : ℕ) → ((b : ℕ) → received m b ≡ atPec a o c b) → (bs : List ℕ) → acked m bs ≡ begins bs (c ∷ [])
+pec-acked : (m : Module) (a o : Lasting) (c : ℕ) → ((b : ℕ) → receives m b ≡ atPec a o c b) → (bs : List ℕ) → acked m bs ≡ begins bs (c ∷ [])
 pec-acked m a o c s [] = acked-nil m ∙ sym (begins-nil (c ∷ []))
 pec-acked m a o c s (b ∷ bs) =
     acked-cons m b bs (atPec a o c b) (s b)
@@ -86,15 +86,15 @@ pec-acked m a o c s (b ∷ bs) =
     ∙ sym (begins-cons c [] b bs)
 
 prepare-acked : (o : Lasting) (c : ℕ) (bs : List ℕ) → acked (at o PreparePec 0 c 0) bs ≡ begins bs (c ∷ [])
-unfolding received
+unfolding receives
 prepare-acked o c bs = pec-acked (at o PreparePec 0 c 0) (prepared o) o c (λ b. refl) bs
 
 reset-acked : (o : Lasting) (c : ℕ) (bs : List ℕ) → acked (at o ResetPec 0 c 0) bs ≡ begins bs (c ∷ [])
-unfolding received
+unfolding receives
 reset-acked o c bs = pec-acked (at o ResetPec 0 c 0) (reset o) o c (λ b. refl) bs
 
 assign-acked : (o : Lasting) (c g : ℕ) (bs : List ℕ) → acked (at o AssignPec 0 c g) bs ≡ begins bs (c ∷ [])
-unfolding received
+unfolding receives
 assign-acked o c g bs = pec-acked (at o AssignPec 0 c g) (assigned o g) o c (λ b. refl) bs
 
 -- ---- Assign Address: the bytes xs are due, then any address, then PEC
@@ -112,8 +112,8 @@ fit-cons : (c b : ℕ) (bs : List ℕ) (x : ℕ) (xs : List ℕ) → fitBy c (b 
 unfolding fitBy
 fit-cons c b bs x xs = refl
 
-pub given-step : (o : Lasting) (c b : ℕ) → received (at o Given 0 c 0) b ≡ taken o AssignPec 0 (pecStep c b) (b / 2)
-unfolding received
+pub given-step : (o : Lasting) (c b : ℕ) → receives (at o Given 0 c 0) b ≡ taken o AssignPec 0 (pecStep c b) (b / 2)
+unfolding receives
 given-step o c b = refl
 
 given-acked : (o : Lasting) (c : ℕ) (bs : List ℕ) → acked (at o Given 0 c 0) bs ≡ fitBy c bs []
@@ -127,8 +127,8 @@ unfoldable pub past : Lasting → ℕ → ℕ → Module
 past o k c = pick (ltb k 15) (at o Identifier (k + 1) c 0) (at o Given 0 c 0)
 
 pub identifier-step : (o : Lasting) (k c b : ℕ) → k < 16
-    → received (at o Identifier k c 0) b ≡ pick {A = Heard} (eqb b (getD (udidBytes (o .udid)) k 0)) (record { after = past o k (pecStep c b); ack = true }) (refused o)
-unfolding received past
+    → receives (at o Identifier k c 0) b ≡ pick {A = Heard} (eqb b (getD (udidBytes (o .udid)) k 0)) (record { after = past o k (pecStep c b); ack = true }) (refused o)
+unfolding receives past
 identifier-step o k c b h =
     ap (λ (n : ℕ). pick (eqb b (getD (udidBytes (o .udid)) n 0)) (pick (ltb k 15) (taken o Identifier (k + 1) (pecStep c b) 0) (taken o Given 0 (pecStep c b) 0)) (refused o)) (mod-eq-of-lt h)
     ∙ ap (λ (z : Heard). pick (eqb b (getD (udidBytes (o .udid)) k 0)) z (refused o)) (go (ltb k 15))
@@ -161,8 +161,8 @@ identifier-acked o k c (b ∷ bs) h =
     ∙ sym (fit-cons c b bs (getD u k 0) (drop (k + 1) u))
     ∙ ap (fitBy c (b ∷ bs)) (sym d)
 
-count-step : (o : Lasting) (c b : ℕ) → received (at o Count 0 c 0) b ≡ pick (eqb b 17) (taken o Identifier 0 (pecStep c b) 0) (refused o)
-unfolding received
+count-step : (o : Lasting) (c b : ℕ) → receives (at o Count 0 c 0) b ≡ pick (eqb b 17) (taken o Identifier 0 (pecStep c b) 0) (refused o)
+unfolding receives
 count-step o c b = refl
 
 count-acked : (o : Lasting) (c : ℕ) (bs : List ℕ) → acked (at o Count 0 c 0) bs ≡ fitBy c bs (17 ∷ udidBytes (o .udid))
@@ -251,8 +251,8 @@ known-after o b bs = refl
 small : (o : Lasting) (b : ℕ) (bs : List ℕ) → b < 0x20 → directed o b (begins bs (pecStep first (2 * o .address) ∷ [])) (begins bs []) ≡ false
 small o b bs h = directed-none o b (begins bs (pecStep first (2 * o .address) ∷ [])) (begins bs []) (own-small o b h)
 
-command-step : (o : Lasting) (c b : ℕ) → received (at o Command 0 c 0) b ≡ atCommand o (pecStep c b) b
-unfolding received
+command-step : (o : Lasting) (c b : ℕ) → receives (at o Command 0 c 0) b ≡ atCommand o (pecStep c b) b
+unfolding receives
 command-step o c b = refl
 
 prepare-known : (o : Lasting) (bs : List ℕ) → acked (at o Command 0 first 0) (0x01 ∷ bs) ≡ knownAfter o 0x01 bs
@@ -346,8 +346,8 @@ after-first : (o : Lasting) (bs : List ℕ) → acked (at o Command 0 first 0) b
 after-first o [] = acked-nil (at o Command 0 first 0) ∙ sym (known-one o)
 after-first o (b ∷ bs) = command-known o b bs ∙ sym (known-after o b bs)
 
-first-step : (o : Lasting) (b : ℕ) → received (at o First 0 0 0) b ≡ atFirst o b
-unfolding received
+first-step : (o : Lasting) (b : ℕ) → receives (at o First 0 0 0) b ≡ atFirst o b
+unfolding receives
 first-step o b = refl
 
 first-known : (o : Lasting) (b : ℕ) (bs : List ℕ) → and (atFirst o b .ack) (acked (atFirst o b .after) bs) ≡ known o (b ∷ bs)
@@ -363,8 +363,8 @@ acknowledged o [] = acked-nil (at o First 0 0 0) ∙ sym (known-nil o)
 acknowledged o (b ∷ bs) = acked-cons (at o First 0 0 0) b bs (atFirst o b) (first-step o b) ∙ first-known o b bs
 
 -- after the repeated START of a Get UDID too, but for the read address
-again-step : (o : Lasting) (c b : ℕ) → eqb b forRead ≡ false → (received (at o AskedAgain 0 c 0) b ≡ atFirst o b) × (received (at o CalledAgain 0 c 0) b ≡ atFirst o b)
-unfolding received
+again-step : (o : Lasting) (c b : ℕ) → eqb b forRead ≡ false → (receives (at o AskedAgain 0 c 0) b ≡ atFirst o b) × (receives (at o CalledAgain 0 c 0) b ≡ atFirst o b)
+unfolding receives
 again-step o c b e = (rw e, rw e)
 
 pub again-acknowledged : (o : Lasting) (c b : ℕ) (bs : List ℕ) → eqb b forRead ≡ false
@@ -377,7 +377,7 @@ again-acknowledged o c b bs e = (
 -- the read address gets ACK if AR is clear or the Get UDID was directed, and nothing after it does
 pub read-acknowledged : (o : Lasting) (c : ℕ) (bs : List ℕ)
     → (acked (at o AskedAgain 0 c 0) (forRead ∷ bs) ≡ and (not (o .resolved)) (begins bs [])) × (acked (at o CalledAgain 0 c 0) (forRead ∷ bs) ≡ begins bs [])
-unfolding acked received
+unfolding acked receives
 read-acknowledged o c bs = (go (o .resolved), reply-acked o (pecStep c forRead) bs)
   where
     go : (t : Bool) → and (pick t (refused o) (taken o Reply 0 (pecStep c forRead) 0) .ack) (acked (pick t (refused o) (taken o Reply 0 (pecStep c forRead) 0) .after) bs)

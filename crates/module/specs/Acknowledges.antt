@@ -8,13 +8,13 @@ use Rattle.lists.specs.Choice.{and, or}
 use Rattle.module.specs.declared.state.Lasting.{Lasting}
 use Rattle.module.specs.declared.state.Module.{Module}
 use Rattle.module.specs.declared.state.Heard.{Heard}
-use Rattle.module.specs.Receive.{forWrite, received}
+use Rattle.module.specs.Receive.{forWrite, receives}
 use Rattle.module.specs.Obeys.{begins, prepareOrder, resetOrder, directedReset, assignOrder, isReachable}
 
 -- every one of the bytes gets ACK
 unfoldable pub acked : Module → List ℕ → Bool
 acked m [] = true
-acked m (b ∷ bs) = and (received m b .ack) (acked (received m b .after) bs)
+acked m (b ∷ bs) = and (receives m b .ack) (acked (receives m b .after) bs)
 
 -- Get UDID up to its repeated START
 abbrev pub getOrder : ℕ → List ℕ

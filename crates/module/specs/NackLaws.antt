@@ -16,7 +16,7 @@ use Rattle.module.specs.declared.state.Module.{Module}
 use Rattle.module.specs.declared.state.Heard.{Heard}
 use Rattle.module.specs.State.{at, silentIn, taken, refused}
 use Rattle.module.specs.Reset.{prepared, assigned, reset}
-use Rattle.module.specs.Receive.{forWrite, forRead, isOwn, atFirst, atDirected, atCommand, atAgain, atPec, receivedIn, received}
+use Rattle.module.specs.Receive.{forWrite, forRead, isOwn, atFirst, atDirected, atCommand, atAgain, atPec, receivedIn, receives}
 
 -- if the answer is a NACK, it is a refusal
 abbrev Plain : Lasting → Heard → Type 0
@@ -54,8 +54,8 @@ plain-pec : (a o : Lasting) (p b : ℕ) → Plain o (atPec a o p b)
 plain-pec a o p b = plain-pick o (eqb b p) _ (refused o) (plain-taken o (silentIn a)) (plain-refused o)
 
 -- A NACK CHANGES NOTHING
-pub nack-refuses : (m : Module) (b : ℕ) → received m b .ack ≡ false → received m b ≡ refused (m .own)
-unfolding received
+pub nack-refuses : (m : Module) (b : ℕ) → receives m b .ack ≡ false → receives m b ≡ refused (m .own)
+unfolding receives
 nack-refuses m b = go (m .phase) m
   where
     go : (ph : Phase) (m : Module) → Plain (m .own) (receivedIn ph m b)
@@ -79,6 +79,6 @@ nack-refuses m b = go (m .phase) m
 
 -- A WRONG PEC: NACK, and nothing changes. In the three phases c is PEC of the bytes before (Obeys, Acknowledges)
 pub wrong-pec : (o : Lasting) (k c g b : ℕ) → (b ≡ c → ⊥)
-    → (received (at o PreparePec k c g) b ≡ refused o) × ((received (at o ResetPec k c g) b ≡ refused o) × (received (at o AssignPec k c g) b ≡ refused o))
-unfolding received
+    → (receives (at o PreparePec k c g) b ≡ refused o) × ((receives (at o ResetPec k c g) b ≡ refused o) × (receives (at o AssignPec k c g) b ≡ refused o))
+unfolding receives
 wrong-pec o k c g b n = let e = ne-eqb b c n in (rw e, (rw e, rw e))

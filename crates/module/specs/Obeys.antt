@@ -15,18 +15,18 @@ use Rattle.module.specs.declared.state.Heard.{Heard}
 use Rattle.module.specs.declared.state.Supplied.{Supplied}
 use Rattle.module.specs.State.{silentIn}
 use Rattle.module.specs.Reset.{prepared, assigned, reset}
-use Rattle.module.specs.Receive.{forWrite, received}
-use Rattle.module.specs.Supply.{supplied}
+use Rattle.module.specs.Receive.{forWrite, receives}
+use Rattle.module.specs.Supply.{supplies}
 
 -- the module after bytes received
 unfoldable pub heardAll : Module → List ℕ → Module
 heardAll m [] = m
-heardAll m (b ∷ bs) = heardAll (received m b .after) bs
+heardAll m (b ∷ bs) = heardAll (receives m b .after) bs
 
 -- its ACKs to them
 unfoldable pub acks : Module → List ℕ → List Bool
 acks m [] = []
-acks m (b ∷ bs) = received m b .ack ∷ acks (received m b .after) bs
+acks m (b ∷ bs) = receives m b .ack ∷ acks (receives m b .after) bs
 
 -- a list begins with another
 unfoldable pub begins : List ℕ → List ℕ → Bool

@@ -24,13 +24,13 @@ use Rattle.module.specs.declared.state.Heard.{Heard}
 use Rattle.module.specs.declared.state.Supplied.{Supplied}
 use Rattle.module.specs.State.{at, silentIn, taken, refused}
 use Rattle.module.specs.Reset.{prepared, assigned, reset}
-use Rattle.module.specs.Receive.{forWrite, forRead, startedIn, started, atFirst, isOwn, atDirected, atCommand, atAgain, atCount, atIdentifier, atPec, received}
-use Rattle.module.specs.Supply.{unsaid, supplied}
+use Rattle.module.specs.Receive.{forWrite, forRead, startedIn, starts, atFirst, isOwn, atDirected, atCommand, atAgain, atCount, atIdentifier, atPec, receives}
+use Rattle.module.specs.Supply.{unsaid, supplies}
 use Rattle.module.specs.Obeys.{heardAll, acks, begins, packet, prepareOrder, resetOrder, directedReset, assignOrder, isReachable, obeys}
 
 -- ---- steps
 
-pub heard-cons : (m : Module) (b : ℕ) (bs : List ℕ) → heardAll m (b ∷ bs) ≡ heardAll (received m b .after) bs
+pub heard-cons : (m : Module) (b : ℕ) (bs : List ℕ) → heardAll m (b ∷ bs) ≡ heardAll (receives m b .after) bs
 unfolding heardAll
 heard-cons m b bs = refl
 
@@ -40,7 +40,7 @@ heard-nil m = refl
 
 -- SILENT: it stays as it is, whatever comes, and has nothing to say
 pub silent-stays : (o : Lasting) (bs : List ℕ) → heardAll (silentIn o) bs ≡ silentIn o
-unfolding heardAll received
+unfolding heardAll receives
 silent-stays o [] = refl
 silent-stays o (b ∷ bs) = silent-stays o bs
 
@@ -57,47 +57,47 @@ silent-own o bs = ap (λ (m : Module). m .own) (silent-stays o bs)
 
 -- a byte at its phase, as the definition has it
 module _ (o : Lasting) (k c g b : ℕ) where
-  step-first : received (at o First k c g) b ≡ atFirst o b
-  unfolding received
+  step-first : receives (at o First k c g) b ≡ atFirst o b
+  unfolding receives
   step-first = refl
 
-  step-command : received (at o Command k c g) b ≡ atCommand o (pecStep c b) b
-  unfolding received
+  step-command : receives (at o Command k c g) b ≡ atCommand o (pecStep c b) b
+  unfolding receives
   step-command = refl
 
-  step-asked : received (at o Asked k c g) b ≡ refused o
-  unfolding received
+  step-asked : receives (at o Asked k c g) b ≡ refused o
+  unfolding receives
   step-asked = refl
 
-  step-called : received (at o Called k c g) b ≡ refused o
-  unfolding received
+  step-called : receives (at o Called k c g) b ≡ refused o
+  unfolding receives
   step-called = refl
 
-  step-count : received (at o Count k c g) b ≡ atCount o (pecStep c b) b
-  unfolding received
+  step-count : receives (at o Count k c g) b ≡ atCount o (pecStep c b) b
+  unfolding receives
   step-count = refl
 
-  step-identifier : received (at o Identifier k c g) b ≡ atIdentifier o k (pecStep c b) b
-  unfolding received
+  step-identifier : receives (at o Identifier k c g) b ≡ atIdentifier o k (pecStep c b) b
+  unfolding receives
   step-identifier = refl
 
-  step-given : received (at o Given k c g) b ≡ taken o AssignPec 0 (pecStep c b) (b / 2)
-  unfolding received
+  step-given : receives (at o Given k c g) b ≡ taken o AssignPec 0 (pecStep c b) (b / 2)
+  unfolding receives
   step-given = refl
 
-  step-prepare : received (at o PreparePec k c g) b ≡ atPec (prepared o) o c b
-  unfolding received
+  step-prepare : receives (at o PreparePec k c g) b ≡ atPec (prepared o) o c b
+  unfolding receives
   step-prepare = refl
 
-  step-reset : received (at o ResetPec k c g) b ≡ atPec (reset o) o c b
-  unfolding received
+  step-reset : receives (at o ResetPec k c g) b ≡ atPec (reset o) o c b
+  unfolding receives
   step-reset = refl
 
-  step-assign : received (at o AssignPec k c g) b ≡ atPec (assigned o g) o c b
-  unfolding received
+  step-assign : receives (at o AssignPec k c g) b ≡ atPec (assigned o g) o c b
+  unfolding receives
   step-assign = refl
 
-own-step : (m : Module) (h : Heard) (b : ℕ) (bs : List ℕ) → received m b ≡ h → ownAfter m (b ∷ bs) ≡ ownAfter (h .after) bs
+own-step : (m : Module) (h : Heard) (b : ℕ) (bs : List ℕ) → receives m b ≡ h → ownAfter m (b ∷ bs) ≡ ownAfter (h .after) bs
 own-step m h b bs e = ap (λ (x : Module). x .own) (heard-cons m b bs) ∙ ap (λ (x : Heard). ownAfter (x .after) bs) e
 
 own-nil : (m : Module) → ownAfter m [] ≡ m .own
@@ -122,7 +122,7 @@ unfolding begins
 begins-cons x xs b bs = refl
 
 -- a phase m in which PEC c is due, and the command changes o to a
-pec-own : (m : Module) (a o : Lasting) (c : ℕ) → m .own ≡ o → ((b : ℕ) → received m b ≡ atPec a o c b) → (bs : List ℕ) → ownAfter m bs ≡ pick (begins (c ∷ []) bs) a o
+pec-own : (m : Module) (a o : Lasting) (c : ℕ) → m .own ≡ o → ((b : ℕ) → receives m b ≡ atPec a o c b) → (bs : List ℕ) → ownAfter m bs ≡ pick (begins (c ∷ []) bs) a o
 pec-own m a o c e s [] = own-nil m ∙ e ∙ ap (λ (t : Bool). pick t a o) (sym (begins-none c []))
 pec-own m a o c e s (b ∷ bs) =
     own-step m (atPec a o c b) b bs (s b)
@@ -390,12 +390,12 @@ first-own o [] = own-nil (at o First 0 0 0) ∙ sym (obeys-nothing o)
 first-own o (b ∷ bs) = own-step (at o First 0 0 0) (atFirst o b) b bs (step-first o 0 0 0 b) ∙ at-first o b bs
 
 reply-own : (o : Lasting) (c : ℕ) (bs : List ℕ) → ownAfter (at o Reply 0 c 0) bs ≡ o
-unfolding heardAll received
+unfolding heardAll receives
 reply-own o c [] = refl
 reply-own o c (b ∷ bs) = silent-own o bs
 
 -- a repeated START after Get UDID: the read address changes nothing, and any other byte is a first one
-again-own : (m : Module) (q : Bool) (o : Lasting) (c : ℕ) → m .own ≡ o → ((b : ℕ) → received m b ≡ atAgain q o (pecStep c b) b) → (bs : List ℕ) → ownAfter m bs ≡ obeys o bs
+again-own : (m : Module) (q : Bool) (o : Lasting) (c : ℕ) → m .own ≡ o → ((b : ℕ) → receives m b ≡ atAgain q o (pecStep c b) b) → (bs : List ℕ) → ownAfter m bs ≡ obeys o bs
 again-own m q o c e s [] = own-nil m ∙ e ∙ sym (obeys-nothing o)
 again-own m q o c e s (b ∷ bs) = own-step m (atAgain q o (pecStep c b) b) b bs (s b) ∙ go (eqb b forRead) refl
   where
@@ -410,16 +410,16 @@ again-own m q o c e s (b ∷ bs) = own-step m (atAgain q o (pecStep c b) b) b bs
     go false f = at-first o b bs
 
 asked-again-own : (o : Lasting) (c : ℕ) (bs : List ℕ) → ownAfter (at o AskedAgain 0 c 0) bs ≡ obeys o bs
-unfolding received
+unfolding receives
 asked-again-own o c bs = again-own (at o AskedAgain 0 c 0) (o .resolved) o c refl (λ b. refl) bs
 
 called-again-own : (o : Lasting) (c : ℕ) (bs : List ℕ) → ownAfter (at o CalledAgain 0 c 0) bs ≡ obeys o bs
-unfolding received
+unfolding receives
 called-again-own o c bs = again-own (at o CalledAgain 0 c 0) false o c refl (λ b. refl) bs
 
 -- OBEYED: after a START and any bytes the module is what `obeys` says, whatever it stood in before the START
-pub obeyed : (m : Module) (bs : List ℕ) → ownAfter (started m) bs ≡ obeys (m .own) bs
-unfolding started
+pub obeyed : (m : Module) (bs : List ℕ) → ownAfter (starts m) bs ≡ obeys (m .own) bs
+unfolding starts
 obeyed m bs = go (m .phase) (m .own) (m .pec)
   where
     go : (ph : Phase) (o : Lasting) (c : ℕ) → ownAfter (startedIn ph o c) bs ≡ obeys o bs

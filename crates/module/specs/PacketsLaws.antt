@@ -20,7 +20,7 @@ use Rattle.module.specs.declared.state.Lasting.{Lasting}
 use Rattle.module.specs.declared.state.Module.{Module}
 use Rattle.module.specs.State.{at, silentIn}
 use Rattle.module.specs.Reset.{having, prepared, assigned, reset}
-use Rattle.module.specs.Receive.{forWrite, started, received}
+use Rattle.module.specs.Receive.{forWrite, starts, receives}
 use Rattle.module.specs.Obeys.{heardAll, begins, packet, prepareOrder, resetOrder, directedReset, assignOrder, isReachable, obeys}
 use Rattle.module.specs.ObeysLaws.{ownAfter, obeyed}
 use Rattle.module.specs.Acknowledges.{acked, known, getOrder}
@@ -109,8 +109,8 @@ known-is o bs =
     (or-is (begins bs (assignOrder (o .udid) (getD bs 19 0))) _ (assign-known (o .udid) bs)
     (and-is (isReachable o) _ (reachable-is o) (or-is (begins bs (directedReset (o .address))) _ (begins-is bs (directedReset (o .address))) (begins-is bs (getOrder (2 * o .address + 1))))))))
 
-pub acked-exactly : (o : Lasting) (bs : List ℕ) → (acked (started (silentIn o)) bs ≡ true) ↔ Known o bs
-unfolding started
+pub acked-exactly : (o : Lasting) (bs : List ℕ) → (acked (starts (silentIn o)) bs ≡ true) ↔ Known o bs
+unfolding starts
 acked-exactly o bs = ((λ e. known-is o bs .0 (sym (acknowledged o bs) ∙ e)), λ h. acknowledged o bs ∙ known-is o bs .1 h)
 
 -- ---- what `obeys` picks
@@ -135,7 +135,7 @@ not-begun xs bs n l h = false-is (begins xs bs) (begins-is xs bs) .1 (λ r. h (s
 
 -- ---- OBEYED: a whole packet with its right PEC takes effect, whatever follows it and whatever the module stood in before the START
 
-pub obeys-prepare : (m : Module) (rest : List ℕ) → heardAll (started m) (prepareOrder ++ rest) .own ≡ having (m .own) (m .own .udid) (m .own .valid) (m .own .address) false
+pub obeys-prepare : (m : Module) (rest : List ℕ) → heardAll (starts m) (prepareOrder ++ rest) .own ≡ having (m .own) (m .own .udid) (m .own .valid) (m .own .address) false
 unfolding obeys
 obeys-prepare m rest = obeyed m (prepareOrder ++ rest) ∙ rw (begins-self prepareOrder rest)
 
@@ -143,7 +143,7 @@ obeys-general : (o : Lasting) (rest : List ℕ) → obeys o (resetOrder ++ rest)
 unfolding obeys begins pecFrom pecStep bitStep
 obeys-general o rest = refl
 
-pub obeys-reset : (m : Module) (rest : List ℕ) → heardAll (started m) (resetOrder ++ rest) .own ≡ reset (m .own)
+pub obeys-reset : (m : Module) (rest : List ℕ) → heardAll (starts m) (resetOrder ++ rest) .own ≡ reset (m .own)
 obeys-reset m rest = obeyed m (resetOrder ++ rest) ∙ obeys-general (m .own) rest
 
 -- a directed command's byte is none of the general ones
@@ -154,7 +154,7 @@ obeys-directed-to o rest h =
     let q : begins resetOrder (directedReset (o .address) ++ rest) ≡ false = not-begun resetOrder (directedReset (o .address) ++ rest) 1 (omega arith) (λ e. omega arith) in
     obeys-third o (directedReset (o .address) ++ rest) p q (rw (reachable-is o .1 h) (begins-self (directedReset (o .address)) rest))
 
-pub obeys-directed : (m : Module) (rest : List ℕ) → Reachable (m .own) → heardAll (started m) (directedReset (m .own .address) ++ rest) .own ≡ reset (m .own)
+pub obeys-directed : (m : Module) (rest : List ℕ) → Reachable (m .own) → heardAll (starts m) (directedReset (m .own .address) ++ rest) .own ≡ reset (m .own)
 obeys-directed m rest h = obeyed m (directedReset (m .own .address) ++ rest) ∙ obeys-directed-to (m .own) rest h
 
 obeys-assign-to : (o : Lasting) (x : ℕ) (rest : List ℕ) → obeys o (assignOrder (o .udid) x ++ rest) ≡ assigned o (x / 2)
@@ -172,12 +172,12 @@ obeys-assign-to o x rest =
         let l : 0x10 ≤ o .address = reachable-is o .0 f .1 .0 in
         not-begun (directedReset (o .address)) (assignOrder (o .udid) x ++ rest) 1 (omega arith) (λ e. omega arith)
 
-pub obeys-assign : (m : Module) (x : ℕ) (rest : List ℕ) → heardAll (started m) (assignOrder (m .own .udid) x ++ rest) .own ≡ having (m .own) (m .own .udid) true (x / 2) true
+pub obeys-assign : (m : Module) (x : ℕ) (rest : List ℕ) → heardAll (starts m) (assignOrder (m .own .udid) x ++ rest) .own ≡ having (m .own) (m .own .udid) true (x / 2) true
 obeys-assign m x rest = obeyed m (assignOrder (m .own .udid) x ++ rest) ∙ obeys-assign-to (m .own) x rest
 
 -- AND NOTHING ELSE: bytes that begin with none of them change nothing
 pub obeys-no-other : (m : Module) (bs : List ℕ) → (Begins prepareOrder bs → ⊥) → (Begins resetOrder bs → ⊥) → (Reachable (m .own) → Begins (directedReset (m .own .address)) bs → ⊥)
-    → ((x : ℕ) → Begins (assignOrder (m .own .udid) x) bs → ⊥) → heardAll (started m) bs .own ≡ m .own
+    → ((x : ℕ) → Begins (assignOrder (m .own .udid) x) bs → ⊥) → heardAll (starts m) bs .own ≡ m .own
 obeys-no-other m bs p q r s =
     let o : Lasting = m .own in
     let directed = and-is (isReachable o) (begins (directedReset (o .address)) bs) (reachable-is o) (begins-is (directedReset (o .address)) bs) in

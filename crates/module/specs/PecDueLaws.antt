@@ -19,7 +19,7 @@ use Rattle.module.specs.declared.state.Lasting.{Lasting}
 use Rattle.module.specs.declared.state.Module.{Module}
 use Rattle.module.specs.declared.state.Heard.{Heard}
 use Rattle.module.specs.State.{at, silentIn, taken, refused}
-use Rattle.module.specs.Receive.{forWrite, isOwn, started, received}
+use Rattle.module.specs.Receive.{forWrite, isOwn, starts, receives}
 use Rattle.module.specs.Obeys.{heardAll, prepareOrder, resetOrder, directedReset, assignOrder}
 use Rattle.module.specs.ObeysLaws.{heard-cons, silent-stays, true-own}
 use Rattle.module.specs.Acknowledges.{acked}
@@ -35,34 +35,34 @@ first = pecStep 0 forWrite
 
 -- ---- from any state, a START and C2h are as after STOP
 
-pub write-acked : (m : Module) (bs : List ℕ) → acked (started m) (forWrite ∷ bs) ≡ acked (started (silentIn (m .own))) (forWrite ∷ bs)
+pub write-acked : (m : Module) (bs : List ℕ) → acked (starts m) (forWrite ∷ bs) ≡ acked (starts (silentIn (m .own))) (forWrite ∷ bs)
 write-acked m bs =
     let h : Heard = taken (m .own) Command 0 first 0 in
-    acked-cons (started m) forWrite bs h (start-write m) ∙ sym (acked-cons (started (silentIn (m .own))) forWrite bs h (start-write (silentIn (m .own))))
+    acked-cons (starts m) forWrite bs h (start-write m) ∙ sym (acked-cons (starts (silentIn (m .own))) forWrite bs h (start-write (silentIn (m .own))))
 
-pub write-heard : (m : Module) (bs : List ℕ) → heardAll (started m) (forWrite ∷ bs) ≡ heardAll (at (m .own) Command 0 first 0) bs
-write-heard m bs = heard-cons (started m) forWrite bs ∙ ap (λ (h : Heard). heardAll (h .after) bs) (start-write m)
+pub write-heard : (m : Module) (bs : List ℕ) → heardAll (starts m) (forWrite ∷ bs) ≡ heardAll (at (m .own) Command 0 first 0) bs
+write-heard m bs = heard-cons (starts m) forWrite bs ∙ ap (λ (h : Heard). heardAll (h .after) bs) (start-write m)
 
 -- ---- where the PEC is due
 
 abbrev AtPec : Lasting → ℕ → Module → Type 0
 AtPec o c m = (m ≡ at o PreparePec 0 c 0) ⊎ ((m ≡ at o ResetPec 0 c 0) ⊎ ((g : ℕ) × (m ≡ at o AssignPec 0 c g)))
 
-at-pec-refuses : (o : Lasting) (c b : ℕ) (m : Module) → AtPec o c m → (b ≡ c → ⊥) → received m b ≡ refused o
-at-pec-refuses o c b m (inl e) n = ap (λ (x : Module). received x b) e ∙ wrong-pec o 0 c 0 b n .0
-at-pec-refuses o c b m (inr (inl e)) n = ap (λ (x : Module). received x b) e ∙ wrong-pec o 0 c 0 b n .1 .0
-at-pec-refuses o c b m (inr (inr h)) n = ap (λ (x : Module). received x b) (h .1) ∙ wrong-pec o 0 c (h .0) b n .1 .1
+at-pec-refuses : (o : Lasting) (c b : ℕ) (m : Module) → AtPec o c m → (b ≡ c → ⊥) → receives m b ≡ refused o
+at-pec-refuses o c b m (inl e) n = ap (λ (x : Module). receives x b) e ∙ wrong-pec o 0 c 0 b n .0
+at-pec-refuses o c b m (inr (inl e)) n = ap (λ (x : Module). receives x b) e ∙ wrong-pec o 0 c 0 b n .1 .0
+at-pec-refuses o c b m (inr (inr h)) n = ap (λ (x : Module). receives x b) (h .1) ∙ wrong-pec o 0 c (h .0) b n .1 .1
 
-prepare-due : (m : Module) → heardAll (started m) (0xC2 ∷ 0x01 ∷ []) ≡ at (m .own) PreparePec 0 (pecOf (0xC2 ∷ 0x01 ∷ [])) 0
-unfolding received pecFrom
+prepare-due : (m : Module) → heardAll (starts m) (0xC2 ∷ 0x01 ∷ []) ≡ at (m .own) PreparePec 0 (pecOf (0xC2 ∷ 0x01 ∷ [])) 0
+unfolding receives pecFrom
 prepare-due m = write-one m 0x01
 
-reset-due : (m : Module) → heardAll (started m) (0xC2 ∷ 0x02 ∷ []) ≡ at (m .own) ResetPec 0 (pecOf (0xC2 ∷ 0x02 ∷ [])) 0
-unfolding received pecFrom
+reset-due : (m : Module) → heardAll (starts m) (0xC2 ∷ 0x02 ∷ []) ≡ at (m .own) ResetPec 0 (pecOf (0xC2 ∷ 0x02 ∷ [])) 0
+unfolding receives pecFrom
 reset-due m = write-one m 0x02
 
-directed-due : (m : Module) → Reachable (m .own) → heardAll (started m) (0xC2 ∷ 2 * m .own .address ∷ []) ≡ at (m .own) ResetPec 0 (pecOf (0xC2 ∷ 2 * m .own .address ∷ [])) 0
-unfolding received pecFrom
+directed-due : (m : Module) → Reachable (m .own) → heardAll (starts m) (0xC2 ∷ 2 * m .own .address ∷ []) ≡ at (m .own) ResetPec 0 (pecOf (0xC2 ∷ 2 * m .own .address ∷ [])) 0
+unfolding receives pecFrom
 directed-due m h =
     let a : ℕ = m .own .address in
     let l : 0x10 ≤ a = h .1 .0 in
@@ -91,7 +91,7 @@ module _ (o : Lasting) (x : ℕ) where
   unfolding past
   past-more k c h = rw (lt-ltb k 15 h)
 
-  own-byte : (k c : ℕ) → k < 16 → received (at o Identifier k c 0) (getD us k 0) ≡ record { after = past o k (pecStep c (getD us k 0)); ack = true }
+  own-byte : (k c : ℕ) → k < 16 → receives (at o Identifier k c 0) (getD us k 0) ≡ record { after = past o k (pecStep c (getD us k 0)); ack = true }
   own-byte k c h =
       identifier-step o k c (getD us k 0) h
       ∙ ap (λ (t : Bool). pick {A = Heard} t (record { after = past o k (pecStep c (getD us k 0)); ack = true }) (refused o)) (eq-eqb (getD us k 0) (getD us k 0) refl)
@@ -124,15 +124,15 @@ module _ (o : Lasting) (x : ℕ) where
       ∙ ap (λ (p : ℕ). at o AssignPec 0 p (x / 2)) (sym (pec-cons c b (drop 1 us ++ (x ∷ []))))
       ∙ ap (λ (l : List ℕ). at o AssignPec 0 (pecFrom c (l ++ (x ∷ []))) (x / 2)) (sym d)
 
-assign-due : (m : Module) (x : ℕ) → let xs : List ℕ = 0xC2 ∷ 0x04 ∷ 17 ∷ (udidBytes (m .own .udid) ++ (x ∷ [])) in heardAll (started m) xs ≡ at (m .own) AssignPec 0 (pecOf xs) (x / 2)
-unfolding heardAll received pecFrom
+assign-due : (m : Module) (x : ℕ) → let xs : List ℕ = 0xC2 ∷ 0x04 ∷ 17 ∷ (udidBytes (m .own .udid) ++ (x ∷ [])) in heardAll (starts m) xs ≡ at (m .own) AssignPec 0 (pecOf xs) (x / 2)
+unfolding heardAll receives pecFrom
 assign-due m x = write-heard m (0x04 ∷ 17 ∷ (udidBytes (m .own .udid) ++ (x ∷ []))) ∙ identifier-due (m .own) x (pecStep (pecStep first 0x04) 17)
 
-pec-is-due : (m : Module) (xs : List ℕ) → PecDue (m .own) xs → AtPec (m .own) (pecOf xs) (heardAll (started m) xs)
-pec-is-due m xs (inl e) = subst (λ (l : List ℕ). AtPec (m .own) (pecOf l) (heardAll (started m) l)) (sym e) (inl (prepare-due m))
-pec-is-due m xs (inr (inl e)) = subst (λ (l : List ℕ). AtPec (m .own) (pecOf l) (heardAll (started m) l)) (sym e) (inr (inl (reset-due m)))
-pec-is-due m xs (inr (inr (inl h))) = subst (λ (l : List ℕ). AtPec (m .own) (pecOf l) (heardAll (started m) l)) (sym (h .1)) (inr (inl (directed-due m (h .0))))
-pec-is-due m xs (inr (inr (inr h))) = subst (λ (l : List ℕ). AtPec (m .own) (pecOf l) (heardAll (started m) l)) (sym (h .1)) (inr (inr (h .0 / 2, assign-due m (h .0))))
+pec-is-due : (m : Module) (xs : List ℕ) → PecDue (m .own) xs → AtPec (m .own) (pecOf xs) (heardAll (starts m) xs)
+pec-is-due m xs (inl e) = subst (λ (l : List ℕ). AtPec (m .own) (pecOf l) (heardAll (starts m) l)) (sym e) (inl (prepare-due m))
+pec-is-due m xs (inr (inl e)) = subst (λ (l : List ℕ). AtPec (m .own) (pecOf l) (heardAll (starts m) l)) (sym e) (inr (inl (reset-due m)))
+pec-is-due m xs (inr (inr (inl h))) = subst (λ (l : List ℕ). AtPec (m .own) (pecOf l) (heardAll (starts m) l)) (sym (h .1)) (inr (inl (directed-due m (h .0))))
+pec-is-due m xs (inr (inr (inr h))) = subst (λ (l : List ℕ). AtPec (m .own) (pecOf l) (heardAll (starts m) l)) (sym (h .1)) (inr (inr (h .0 / 2, assign-due m (h .0))))
 
 -- ---- the bytes before it get ACK
 
@@ -149,22 +149,22 @@ due-write o xs (inr (inl e)) = (0x02 ∷ [], e)
 due-write o xs (inr (inr (inl h))) = (2 * o .address ∷ [], h .1)
 due-write o xs (inr (inr (inr h))) = (0x04 ∷ 17 ∷ (udidBytes (o .udid) ++ (h .0 ∷ [])), h .1)
 
-pub due-acked : (m : Module) (xs : List ℕ) → PecDue (m .own) xs → acked (started m) xs ≡ true
+pub due-acked : (m : Module) (xs : List ℕ) → PecDue (m .own) xs → acked (starts m) xs ≡ true
 due-acked m xs d =
     let w = due-write (m .own) xs d in
-    ap (acked (started m)) (w .1) ∙ write-acked m (w .0) ∙ ap (acked (started (silentIn (m .own)))) (sym (w .1)) ∙ acked-exactly (m .own) xs .1 (due-known (m .own) xs d)
+    ap (acked (starts m)) (w .1) ∙ write-acked m (w .0) ∙ ap (acked (starts (silentIn (m .own)))) (sym (w .1)) ∙ acked-exactly (m .own) xs .1 (due-known (m .own) xs d)
 
 -- ---- NACK, and nothing changes
 
 heard-append : (m : Module) (xs ys : List ℕ) → heardAll m (xs ++ ys) ≡ heardAll (heardAll m xs) ys
 unfolding heardAll
 heard-append m [] ys = refl
-heard-append m (x ∷ xs) ys = heard-append (received m x .after) xs ys
+heard-append m (x ∷ xs) ys = heard-append (receives m x .after) xs ys
 
 pub differing-pec : (m : Module) (xs : List ℕ) (b : ℕ) → PecDue (m .own) xs → (b ≡ pecOf xs → ⊥)
-    → (received (heardAll (started m) xs) b .ack ≡ false) × ((rest : List ℕ) → heardAll (started m) (xs ++ (b ∷ rest)) ≡ silentIn (m .own))
+    → (receives (heardAll (starts m) xs) b .ack ≡ false) × ((rest : List ℕ) → heardAll (starts m) (xs ++ (b ∷ rest)) ≡ silentIn (m .own))
 differing-pec m xs b d n =
-    let r : received (heardAll (started m) xs) b ≡ refused (m .own) = at-pec-refuses (m .own) (pecOf xs) b (heardAll (started m) xs) (pec-is-due m xs d) n in (
+    let r : receives (heardAll (starts m) xs) b ≡ refused (m .own) = at-pec-refuses (m .own) (pecOf xs) b (heardAll (starts m) xs) (pec-is-due m xs d) n in (
       ap (λ (h : Heard). h .ack) r,
-      λ rest. heard-append (started m) xs (b ∷ rest) ∙ heard-cons (heardAll (started m) xs) b rest ∙ ap (λ (h : Heard). heardAll (h .after) rest) r ∙ silent-stays (m .own) rest,
+      λ rest. heard-append (starts m) xs (b ∷ rest) ∙ heard-cons (heardAll (starts m) xs) b rest ∙ ap (λ (h : Heard). heardAll (h .after) rest) r ∙ silent-stays (m .own) rest,
     )

@@ -38,8 +38,8 @@ startedIn ResetPec o c = at o First 0 0 0
 startedIn AssignPec o c = at o First 0 0 0
 startedIn Reply o c = at o First 0 0 0
 
-unfoldable pub started : Module → Module
-started m = startedIn (m .phase) (m .own) (m .pec)
+unfoldable pub starts : Module → Module
+starts m = startedIn (m .phase) (m .own) (m .pec)
 
 -- ---- a byte b received; c is PEC of the packet with it
 
@@ -96,5 +96,5 @@ receivedIn ResetPec m b = atPec (reset (m .own)) (m .own) (m .pec) b
 receivedIn AssignPec m b = atPec (assigned (m .own) (m .given)) (m .own) (m .pec) b
 receivedIn Reply m b = refused (m .own)
 
-unfoldable pub received : Module → ℕ → Heard
-received m b = receivedIn (m .phase) m b
+unfoldable pub receives : Module → ℕ → Heard
+receives m b = receivedIn (m .phase) m b

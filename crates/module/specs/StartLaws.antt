@@ -20,8 +20,8 @@ use Rattle.module.specs.declared.state.Heard.{Heard}
 use Rattle.module.specs.declared.state.Supplied.{Supplied}
 use Rattle.module.specs.State.{at, silentIn, taken, refused}
 use Rattle.module.specs.Reset.{prepared, assigned, reset}
-use Rattle.module.specs.Receive.{forWrite, forRead, startedIn, started, isOwn, atFirst, atDirected, atCommand, atAgain, atPec, receivedIn, received}
-use Rattle.module.specs.Supply.{suppliedIn, supplied}
+use Rattle.module.specs.Receive.{forWrite, forRead, startedIn, starts, isOwn, atFirst, atDirected, atCommand, atAgain, atPec, receivedIn, receives}
+use Rattle.module.specs.Supply.{suppliedIn, supplies}
 use Rattle.module.specs.Obeys.{heardAll}
 use Rattle.module.specs.ObeysLaws.{heard-cons, silent-stays, own-true}
 use Rattle.module.specs.Acknowledges.{acked, getOrder}
@@ -33,14 +33,14 @@ use Rattle.module.specs.PacketsLaws.{reachable-is}
 
 -- ---- a byte other than C3h
 
-first-byte : (m : Module) (b : ℕ) → (b ≡ forRead → ⊥) → received (started m) b ≡ atFirst (m .own) b
-unfolding started received
+first-byte : (m : Module) (b : ℕ) → (b ≡ forRead → ⊥) → receives (starts m) b ≡ atFirst (m .own) b
+unfolding starts receives
 first-byte m b n = go (m .phase) (m .own) (m .pec)
   where
     other : eqb b forRead ≡ false
     other = ne-eqb b forRead n
 
-    go : (ph : Phase) (o : Lasting) (c : ℕ) → received (startedIn ph o c) b ≡ atFirst o b
+    go : (ph : Phase) (o : Lasting) (c : ℕ) → receives (startedIn ph o c) b ≡ atFirst o b
     go Asked o c = rw other
     go Called o c = rw other
     go Silent o c = refl
@@ -58,12 +58,12 @@ first-byte m b n = go (m .phase) (m .own) (m .pec)
 
 -- A START AND BYTES THAT DO NOT BEGIN WITH C3h are taken as after STOP, whatever the module stood in
 pub new-packet : (m : Module) (b : ℕ) (bs : List ℕ) → (b ≡ 0xC3 → ⊥)
-    → (heardAll (started m) (b ∷ bs) ≡ heardAll (started (silentIn (m .own))) (b ∷ bs)) × (acked (started m) (b ∷ bs) ≡ acked (started (silentIn (m .own))) (b ∷ bs))
+    → (heardAll (starts m) (b ∷ bs) ≡ heardAll (starts (silentIn (m .own))) (b ∷ bs)) × (acked (starts m) (b ∷ bs) ≡ acked (starts (silentIn (m .own))) (b ∷ bs))
 new-packet m b bs n =
     let o : Lasting = m .own in
-    let e : received (started m) b ≡ received (started (silentIn o)) b = first-byte m b n ∙ sym (first-byte (silentIn o) b n) in (
-      heard-cons (started m) b bs ∙ ap (λ (h : Heard). heardAll (h .after) bs) e ∙ sym (heard-cons (started (silentIn o)) b bs),
-      acked-cons (started m) b bs (received (started (silentIn o)) b) e ∙ sym (acked-cons (started (silentIn o)) b bs (received (started (silentIn o)) b) refl),
+    let e : receives (starts m) b ≡ receives (starts (silentIn o)) b = first-byte m b n ∙ sym (first-byte (silentIn o) b n) in (
+      heard-cons (starts m) b bs ∙ ap (λ (h : Heard). heardAll (h .after) bs) e ∙ sym (heard-cons (starts (silentIn o)) b bs),
+      acked-cons (starts m) b bs (receives (starts (silentIn o)) b) e ∙ sym (acked-cons (starts (silentIn o)) b bs (receives (starts (silentIn o)) b) refl),
     )
 
 -- ---- phases that no byte leads out of, but to each other
@@ -88,8 +88,8 @@ settled-pick : (t : Bool) (x y : Heard) → Settled (x .after .phase) → Settle
 settled-pick true x y h g = h
 settled-pick false x y h g = g
 
-settled-step : (m : Module) (b : ℕ) → Settled (m .phase) → Settled (received m b .after .phase)
-unfolding received
+settled-step : (m : Module) (b : ℕ) → Settled (m .phase) → Settled (receives m b .after .phase)
+unfolding receives
 settled-step m b = go (m .phase) m
   where
     go : (ph : Phase) (m : Module) → Settled ph → Settled (receivedIn ph m b .after .phase)
@@ -113,17 +113,17 @@ settled-step m b = go (m .phase) m
 settled-all : (m : Module) (bs : List ℕ) → Settled (m .phase) → Settled (heardAll m bs .phase)
 unfolding heardAll
 settled-all m [] h = h
-settled-all m (b ∷ bs) h = settled-all (received m b .after) bs (settled-step m b h)
+settled-all m (b ∷ bs) h = settled-all (receives m b .after) bs (settled-step m b h)
 
 -- ---- after START and bytes, no other START between
 
 -- it goes on with nothing at the next START, and has nothing to say; or it is a Get UDID
 pub record Plain (m : Module) : Type 0 where
-  pub anew : started m ≡ started (silentIn (m .own))
+  pub anew : starts m ≡ starts (silentIn (m .own))
   pub mute : (n : ℕ) → says n m ≡ []
 
-mute-in : (ph : Phase) (m : Module) → m .phase ≡ ph → (ph ≡ Reply → ⊥) → supplied m ≡ record { after = m; drives = false; byte = 0xFF }
-unfolding supplied
+mute-in : (ph : Phase) (m : Module) → m .phase ≡ ph → (ph ≡ Reply → ⊥) → supplies m ≡ record { after = m; drives = false; byte = 0xFF }
+unfolding supplies
 mute-in ph m e n = ap (λ (p : Phase). suppliedIn p m) e ∙ go ph n
   where
     go : (p : Phase) → (p ≡ Reply → ⊥) → suppliedIn p m ≡ record { after = m; drives = false; byte = 0xFF }
@@ -142,13 +142,13 @@ mute-in ph m e n = ap (λ (p : Phase). suppliedIn p m) e ∙ go ph n
     go ResetPec n = refl
     go AssignPec n = refl
 
-mute-says : (m : Module) → supplied m ≡ record { after = m; drives = false; byte = 0xFF } → (n : ℕ) → says n m ≡ []
+mute-says : (m : Module) → supplies m ≡ record { after = m; drives = false; byte = 0xFF } → (n : ℕ) → says n m ≡ []
 unfolding says
 mute-says m e zero = refl
 mute-says m e (suc n) = ap (λ (s : Supplied). pick (s .drives) (s .byte ∷ says n (s .after)) (says n (s .after))) e ∙ mute-says m e n
 
-begin-new : (m : Module) (ph : Phase) → m .phase ≡ ph → startedIn ph (m .own) (m .pec) ≡ at (m .own) First 0 0 0 → started m ≡ started (silentIn (m .own))
-unfolding started
+begin-new : (m : Module) (ph : Phase) → m .phase ≡ ph → startedIn ph (m .own) (m .pec) ≡ at (m .own) First 0 0 0 → starts m ≡ starts (silentIn (m .own))
+unfolding starts
 begin-new m ph e f = ap (λ (p : Phase). startedIn p (m .own) (m .pec)) e ∙ f
 
 settled-plain : (m : Module) → Settled (m .phase) → Plain m
@@ -207,8 +207,8 @@ directed-after o k = go (isOwn o k) (eqb (k % 2) 1) refl refl
     go true false e d = inl tt
     go false t e d = inl tt
 
-command-after : (o : Lasting) (k : ℕ) → After o k (received (at o Command 0 first 0) k .after)
-unfolding received
+command-after : (o : Lasting) (k : ℕ) → After o k (receives (at o Command 0 first 0) k .after)
+unfolding receives
 command-after o k = go (eqb k 0x01) (eqb k 0x02) (eqb k 0x03) (eqb k 0x04) refl
   where
     go : (p q r s : Bool) → eqb k 0x03 ≡ r
@@ -221,11 +221,11 @@ command-after o k = go (eqb k 0x01) (eqb k 0x02) (eqb k 0x03) (eqb k 0x04) refl
     go false false false false e = directed-after o k
 
 -- a byte more, and it is settled
-after-settled : (o : Lasting) (k b : ℕ) (m : Module) → After o k m → Settled (received m b .after .phase)
-unfolding received
+after-settled : (o : Lasting) (k b : ℕ) (m : Module) → After o k m → Settled (receives m b .after .phase)
+unfolding receives
 after-settled o k b m (inl h) = settled-step m b h
-after-settled o k b m (inr (inl h)) = subst (λ (x : Module). Settled (received x b .after .phase)) (sym (h .1)) tt
-after-settled o k b m (inr (inr h)) = subst (λ (x : Module). Settled (received x b .after .phase)) (sym (h .1)) tt
+after-settled o k b m (inr (inl h)) = subst (λ (x : Module). Settled (receives x b .after .phase)) (sym (h .1)) tt
+after-settled o k b m (inr (inr h)) = subst (λ (x : Module). Settled (receives x b .after .phase)) (sym (h .1)) tt
 
 -- ---- A START AFTER STOP AND BYTES: nothing that a further START goes on with, or a Get UDID that it knows
 
@@ -236,109 +236,109 @@ silent-plain : (o : Lasting) → Plain (silentIn o)
 silent-plain o = settled-plain (silentIn o) tt
 
 first-plain : (o : Lasting) → Plain (at o First 0 0 0)
-unfolding started supplied
+unfolding starts supplies
 first-plain o = record { anew = refl; mute = mute-says (at o First 0 0 0) refl }
 
 command-plain : (o : Lasting) → Plain (at o Command 0 first 0)
-unfolding started supplied
+unfolding starts supplies
 command-plain o = record { anew = refl; mute = mute-says (at o Command 0 first 0) refl }
 
-write-first : (o : Lasting) (bs : List ℕ) → heardAll (started (silentIn o)) (forWrite ∷ bs) ≡ heardAll (at o Command 0 first 0) bs
-unfolding started heardAll received
+write-first : (o : Lasting) (bs : List ℕ) → heardAll (starts (silentIn o)) (forWrite ∷ bs) ≡ heardAll (at o Command 0 first 0) bs
+unfolding starts heardAll receives
 write-first o bs = refl
 
-other-first : (o : Lasting) (b : ℕ) (bs : List ℕ) → (b ≡ forWrite → ⊥) → heardAll (started (silentIn o)) (b ∷ bs) ≡ silentIn o
-unfolding started heardAll received
+other-first : (o : Lasting) (b : ℕ) (bs : List ℕ) → (b ≡ forWrite → ⊥) → heardAll (starts (silentIn o)) (b ∷ bs) ≡ silentIn o
+unfolding starts heardAll receives
 other-first o b bs n = ap (λ (t : Bool). heardAll (pick t (taken o Command 0 first 0) (refused o) .after) bs) (ne-eqb b forWrite n) ∙ silent-stays o bs
 
 packet-of : (o : Lasting) (bs : List ℕ) → Plain (heardAll (at o Command 0 first 0) bs) ⊎ Gets o (forWrite ∷ bs)
 unfolding heardAll
 packet-of o [] = inl (command-plain o)
-packet-of o (k ∷ []) = go (received (at o Command 0 first 0) k .after) (command-after o k)
+packet-of o (k ∷ []) = go (receives (at o Command 0 first 0) k .after) (command-after o k)
   where
     go : (m : Module) → After o k m → Plain m ⊎ Gets o (forWrite ∷ k ∷ [])
     go m (inl h) = inl (settled-plain m h)
     go m (inr (inl h)) = inr (inl (ap getOrder (h .0)))
     go m (inr (inr h)) = inr (inr (h .0 .0, ap getOrder (h .0 .1)))
 packet-of o (k ∷ b ∷ bs) =
-    let m : Module = received (at o Command 0 first 0) k .after in
-    inl (settled-plain (heardAll (received m b .after) bs) (settled-all (received m b .after) bs (after-settled o k b m (command-after o k))))
+    let m : Module = receives (at o Command 0 first 0) k .after in
+    inl (settled-plain (heardAll (receives m b .after) bs) (settled-all (receives m b .after) bs (after-settled o k b m (command-after o k))))
 
-pub one-packet : (o : Lasting) (bs : List ℕ) → Plain (heardAll (started (silentIn o)) bs) ⊎ Gets o bs
-unfolding started heardAll received
+pub one-packet : (o : Lasting) (bs : List ℕ) → Plain (heardAll (starts (silentIn o)) bs) ⊎ Gets o bs
+unfolding starts heardAll receives
 one-packet o [] = inl (first-plain o)
 one-packet o (b ∷ bs) = go (eqb b forWrite) refl
   where
-    go : (t : Bool) → eqb b forWrite ≡ t → Plain (heardAll (started (silentIn o)) (b ∷ bs)) ⊎ Gets o (b ∷ bs)
-    go true e = subst (λ (n : ℕ). Plain (heardAll (started (silentIn o)) (n ∷ bs)) ⊎ Gets o (n ∷ bs)) (sym (eqb-true b forWrite e)) (packet-of o bs)
+    go : (t : Bool) → eqb b forWrite ≡ t → Plain (heardAll (starts (silentIn o)) (b ∷ bs)) ⊎ Gets o (b ∷ bs)
+    go true e = subst (λ (n : ℕ). Plain (heardAll (starts (silentIn o)) (n ∷ bs)) ⊎ Gets o (n ∷ bs)) (sym (eqb-true b forWrite e)) (packet-of o bs)
     go false e = inl (subst Plain (sym (other-first o b bs (eqb-false b forWrite e))) (silent-plain o))
 
 -- ---- C3h right after a START
 
-get-general : (o : Lasting) → received (started (heardAll (started (silentIn o)) (getOrder 0x03))) forRead ≡ pick (o .resolved) (refused o) (taken o Reply 0 (askedPec 0x03) 0)
-unfolding started heardAll received pecFrom
+get-general : (o : Lasting) → receives (starts (heardAll (starts (silentIn o)) (getOrder 0x03))) forRead ≡ pick (o .resolved) (refused o) (taken o Reply 0 (askedPec 0x03) 0)
+unfolding starts heardAll receives pecFrom
 get-general o = refl
 
-called : (o : Lasting) → Reachable o → received (at o Command 0 first 0) (2 * o .address + 1) ≡ taken o Called 0 (pecStep first (2 * o .address + 1)) 0
-unfolding received
+called : (o : Lasting) → Reachable o → receives (at o Command 0 first 0) (2 * o .address + 1) ≡ taken o Called 0 (pecStep first (2 * o .address + 1)) 0
+unfolding receives
 called o h =
     let k : ℕ = 2 * o .address + 1 in
     let l : 0x10 ≤ o .address = h .1 .0 in
     rw (ne-eqb k 0x01 (λ f. omega arith), ne-eqb k 0x02 (λ f. omega arith), ne-eqb k 0x03 (λ f. omega arith), ne-eqb k 0x04 (λ f. omega arith), odd-own o h, eq-eqb (k % 2) 1 (omega arith))
 
-called-heard : (o : Lasting) → Reachable o → heardAll (started (silentIn o)) (getOrder (2 * o .address + 1)) ≡ at o Called 0 (pecStep first (2 * o .address + 1)) 0
+called-heard : (o : Lasting) → Reachable o → heardAll (starts (silentIn o)) (getOrder (2 * o .address + 1)) ≡ at o Called 0 (pecStep first (2 * o .address + 1)) 0
 unfolding heardAll
 called-heard o h = write-first o ((2 * o .address + 1) ∷ []) ∙ ap (λ (x : Heard). x .after) (called o h)
 
-called-read : (o : Lasting) (k : ℕ) → received (started (at o Called 0 (pecStep first k) 0)) forRead ≡ taken o Reply 0 (askedPec k) 0
-unfolding started received pecFrom
+called-read : (o : Lasting) (k : ℕ) → receives (starts (at o Called 0 (pecStep first k) 0)) forRead ≡ taken o Reply 0 (askedPec k) 0
+unfolding starts receives pecFrom
 called-read o k = refl
 
-get-directed : (o : Lasting) → Reachable o → received (started (heardAll (started (silentIn o)) (getOrder (2 * o .address + 1)))) forRead ≡ taken o Reply 0 (askedPec (2 * o .address + 1)) 0
-get-directed o h = ap (λ (m : Module). received (started m) forRead) (called-heard o h) ∙ called-read o (2 * o .address + 1)
+get-directed : (o : Lasting) → Reachable o → receives (starts (heardAll (starts (silentIn o)) (getOrder (2 * o .address + 1)))) forRead ≡ taken o Reply 0 (askedPec (2 * o .address + 1)) 0
+get-directed o h = ap (λ (m : Module). receives (starts m) forRead) (called-heard o h) ∙ called-read o (2 * o .address + 1)
 
-plain-read : (m : Module) → Plain m → received (started m) forRead ≡ refused (m .own)
-unfolding started received
-plain-read m p = ap (λ (x : Module). received x forRead) (p .anew)
+plain-read : (m : Module) → Plain m → receives (starts m) forRead ≡ refused (m .own)
+unfolding starts receives
+plain-read m p = ap (λ (x : Module). receives x forRead) (p .anew)
 
 -- C3h GETS ACK right after a START exactly if the bytes since the START before it were C2h and a Get UDID: the general one with AR clear, or the one directed to it
 pub read-exactly : (o : Lasting) (bs : List ℕ)
-    → (received (started (heardAll (started (silentIn o)) bs)) 0xC3 .ack ≡ true) ↔ (((bs ≡ getOrder 0x03) × (o .resolved ≡ false)) ⊎ (Reachable o × (bs ≡ getOrder (2 * o .address + 1))))
+    → (receives (starts (heardAll (starts (silentIn o)) bs)) 0xC3 .ack ≡ true) ↔ (((bs ≡ getOrder 0x03) × (o .resolved ≡ false)) ⊎ (Reachable o × (bs ≡ getOrder (2 * o .address + 1))))
 read-exactly o bs = (there (one-packet o bs), back)
   where
     clear : (t : Bool) → pick t (refused o) (taken o Reply 0 (askedPec 0x03) 0) .ack ≡ true → t ≡ false
     clear true e = false-not-true e
     clear false e = refl
 
-    there : Plain (heardAll (started (silentIn o)) bs) ⊎ Gets o bs → received (started (heardAll (started (silentIn o)) bs)) 0xC3 .ack ≡ true
+    there : Plain (heardAll (starts (silentIn o)) bs) ⊎ Gets o bs → receives (starts (heardAll (starts (silentIn o)) bs)) 0xC3 .ack ≡ true
         → ((bs ≡ getOrder 0x03) × (o .resolved ≡ false)) ⊎ (Reachable o × (bs ≡ getOrder (2 * o .address + 1)))
-    there (inl p) e = not-both (ap (λ (h : Heard). h .ack) (plain-read (heardAll (started (silentIn o)) bs) p)) e
+    there (inl p) e = not-both (ap (λ (h : Heard). h .ack) (plain-read (heardAll (starts (silentIn o)) bs) p)) e
     there (inr (inl g)) e =
-        inl (g, clear (o .resolved) (sym (ap (λ (h : Heard). h .ack) (ap (λ (l : List ℕ). received (started (heardAll (started (silentIn o)) l)) forRead) g ∙ get-general o)) ∙ e))
+        inl (g, clear (o .resolved) (sym (ap (λ (h : Heard). h .ack) (ap (λ (l : List ℕ). receives (starts (heardAll (starts (silentIn o)) l)) forRead) g ∙ get-general o)) ∙ e))
     there (inr (inr g)) e = inr g
 
-    back : ((bs ≡ getOrder 0x03) × (o .resolved ≡ false)) ⊎ (Reachable o × (bs ≡ getOrder (2 * o .address + 1))) → received (started (heardAll (started (silentIn o)) bs)) 0xC3 .ack ≡ true
+    back : ((bs ≡ getOrder 0x03) × (o .resolved ≡ false)) ⊎ (Reachable o × (bs ≡ getOrder (2 * o .address + 1))) → receives (starts (heardAll (starts (silentIn o)) bs)) 0xC3 .ack ≡ true
     back (inl g) =
-        ap (λ (h : Heard). h .ack) (ap (λ (l : List ℕ). received (started (heardAll (started (silentIn o)) l)) forRead) (g .0) ∙ get-general o)
+        ap (λ (h : Heard). h .ack) (ap (λ (l : List ℕ). receives (starts (heardAll (starts (silentIn o)) l)) forRead) (g .0) ∙ get-general o)
         ∙ ap (λ (t : Bool). pick t (refused o) (taken o Reply 0 (askedPec 0x03) 0) .ack) (g .1)
-    back (inr g) = ap (λ (h : Heard). h .ack) (ap (λ (l : List ℕ). received (started (heardAll (started (silentIn o)) l)) forRead) (g .1) ∙ get-directed o (g .0))
+    back (inr g) = ap (λ (h : Heard). h .ack) (ap (λ (l : List ℕ). receives (starts (heardAll (starts (silentIn o)) l)) forRead) (g .1) ∙ get-directed o (g .0))
 
 -- ---- WHAT IT HAS TO SAY, and when
 
-general-heard : (o : Lasting) → heardAll (started (silentIn o)) (getOrder 0x03) ≡ at o Asked 0 (pecStep first 0x03) 0
-unfolding started heardAll received
+general-heard : (o : Lasting) → heardAll (starts (silentIn o)) (getOrder 0x03) ≡ at o Asked 0 (pecStep first 0x03) 0
+unfolding starts heardAll receives
 general-heard o = refl
 
 asked-mute : (o : Lasting) (c n : ℕ) → says n (at o Asked 0 c 0) ≡ []
-unfolding supplied
+unfolding supplies
 asked-mute o c n = mute-says (at o Asked 0 c 0) refl n
 
 called-mute : (o : Lasting) (c n : ℕ) → says n (at o Called 0 c 0) ≡ []
-unfolding supplied
+unfolding supplies
 called-mute o c n = mute-says (at o Called 0 c 0) refl n
 
-started-mute : (m : Module) (n : ℕ) → says n (started m) ≡ []
-unfolding started supplied
+started-mute : (m : Module) (n : ℕ) → says n (starts m) ≡ []
+unfolding starts supplies
 started-mute m n = go (m .phase) (m .own) (m .pec)
   where
     go : (ph : Phase) (o : Lasting) (c : ℕ) → says n (startedIn ph o c) ≡ []
@@ -358,54 +358,54 @@ started-mute m n = go (m .phase) (m .own) (m .pec)
     go Reply o c = mute-says (at o First 0 0 0) refl n
 
 -- nothing, after one START
-packet-mute : (o : Lasting) (bs : List ℕ) (n : ℕ) → says n (heardAll (started (silentIn o)) bs) ≡ []
+packet-mute : (o : Lasting) (bs : List ℕ) (n : ℕ) → says n (heardAll (starts (silentIn o)) bs) ≡ []
 packet-mute o bs n = go (one-packet o bs)
   where
-    go : Plain (heardAll (started (silentIn o)) bs) ⊎ Gets o bs → says n (heardAll (started (silentIn o)) bs) ≡ []
+    go : Plain (heardAll (starts (silentIn o)) bs) ⊎ Gets o bs → says n (heardAll (starts (silentIn o)) bs) ≡ []
     go (inl p) = p .mute n
-    go (inr (inl g)) = ap (λ (l : List ℕ). says n (heardAll (started (silentIn o)) l)) g ∙ ap (says n) (general-heard o) ∙ asked-mute o (pecStep first 0x03) n
-    go (inr (inr g)) = ap (λ (l : List ℕ). says n (heardAll (started (silentIn o)) l)) (g .1) ∙ ap (says n) (called-heard o (g .0)) ∙ called-mute o (pecStep first (2 * o .address + 1)) n
+    go (inr (inl g)) = ap (λ (l : List ℕ). says n (heardAll (starts (silentIn o)) l)) g ∙ ap (says n) (general-heard o) ∙ asked-mute o (pecStep first 0x03) n
+    go (inr (inr g)) = ap (λ (l : List ℕ). says n (heardAll (starts (silentIn o)) l)) (g .1) ∙ ap (says n) (called-heard o (g .0)) ∙ called-mute o (pecStep first (2 * o .address + 1)) n
 
 -- a byte after C3h: refused, whether or not the reply was due
-reply-broken : (o : Lasting) (bs : List ℕ) (b : ℕ) → received (received (started (heardAll (started (silentIn o)) bs)) forRead .after) b .after ≡ silentIn (heardAll (started (silentIn o)) bs .own)
-unfolding received
+reply-broken : (o : Lasting) (bs : List ℕ) (b : ℕ) → receives (receives (starts (heardAll (starts (silentIn o)) bs)) forRead .after) b .after ≡ silentIn (heardAll (starts (silentIn o)) bs .own)
+unfolding receives
 reply-broken o bs b = go (one-packet o bs)
   where
-    quiet : (t : Bool) → received (pick t (refused o) (taken o Reply 0 (askedPec 0x03) 0) .after) b .after ≡ silentIn o
+    quiet : (t : Bool) → receives (pick t (refused o) (taken o Reply 0 (askedPec 0x03) 0) .after) b .after ≡ silentIn o
     quiet true = refl
     quiet false = refl
 
-    go : Plain (heardAll (started (silentIn o)) bs) ⊎ Gets o bs → received (received (started (heardAll (started (silentIn o)) bs)) forRead .after) b .after ≡ silentIn (heardAll (started (silentIn o)) bs .own)
-    go (inl p) = ap (λ (h : Heard). received (h .after) b .after) (plain-read (heardAll (started (silentIn o)) bs) p)
+    go : Plain (heardAll (starts (silentIn o)) bs) ⊎ Gets o bs → receives (receives (starts (heardAll (starts (silentIn o)) bs)) forRead .after) b .after ≡ silentIn (heardAll (starts (silentIn o)) bs .own)
+    go (inl p) = ap (λ (h : Heard). receives (h .after) b .after) (plain-read (heardAll (starts (silentIn o)) bs) p)
     go (inr (inl g)) =
-        subst (λ (l : List ℕ). received (received (started (heardAll (started (silentIn o)) l)) forRead .after) b .after ≡ silentIn (heardAll (started (silentIn o)) l .own)) (sym g)
-        (ap (λ (h : Heard). received (h .after) b .after) (get-general o) ∙ quiet (o .resolved) ∙ ap (λ (m : Module). silentIn (m .own)) (sym (general-heard o)))
+        subst (λ (l : List ℕ). receives (receives (starts (heardAll (starts (silentIn o)) l)) forRead .after) b .after ≡ silentIn (heardAll (starts (silentIn o)) l .own)) (sym g)
+        (ap (λ (h : Heard). receives (h .after) b .after) (get-general o) ∙ quiet (o .resolved) ∙ ap (λ (m : Module). silentIn (m .own)) (sym (general-heard o)))
     go (inr (inr g)) =
-        subst (λ (l : List ℕ). received (received (started (heardAll (started (silentIn o)) l)) forRead .after) b .after ≡ silentIn (heardAll (started (silentIn o)) l .own)) (sym (g .1))
-        (ap (λ (h : Heard). received (h .after) b .after) (get-directed o (g .0)) ∙ ap (λ (m : Module). silentIn (m .own)) (sym (called-heard o (g .0))))
+        subst (λ (l : List ℕ). receives (receives (starts (heardAll (starts (silentIn o)) l)) forRead .after) b .after ≡ silentIn (heardAll (starts (silentIn o)) l .own)) (sym (g .1))
+        (ap (λ (h : Heard). receives (h .after) b .after) (get-directed o (g .0)) ∙ ap (λ (m : Module). silentIn (m .own)) (sym (called-heard o (g .0))))
 
 -- IT SAYS NOTHING, after two STARTs with bytes after each, unless the second ones are C3h alone and that got ACK
-pub mute-else : (o : Lasting) (bs cs : List ℕ) (n : ℕ) → (cs ≡ 0xC3 ∷ [] → received (started (heardAll (started (silentIn o)) bs)) 0xC3 .ack ≡ false)
-    → says n (heardAll (started (heardAll (started (silentIn o)) bs)) cs) ≡ []
+pub mute-else : (o : Lasting) (bs cs : List ℕ) (n : ℕ) → (cs ≡ 0xC3 ∷ [] → receives (starts (heardAll (starts (silentIn o)) bs)) 0xC3 .ack ≡ false)
+    → says n (heardAll (starts (heardAll (starts (silentIn o)) bs)) cs) ≡ []
 unfolding heardAll
-mute-else o bs [] n h = started-mute (heardAll (started (silentIn o)) bs) n
+mute-else o bs [] n h = started-mute (heardAll (starts (silentIn o)) bs) n
 mute-else o bs (b ∷ cs) n h = go (eqb b forRead) refl cs h
   where
-    go : (t : Bool) → eqb b forRead ≡ t → (cs : List ℕ) → (b ∷ cs ≡ 0xC3 ∷ [] → received (started (heardAll (started (silentIn o)) bs)) 0xC3 .ack ≡ false)
-        → says n (heardAll (started (heardAll (started (silentIn o)) bs)) (b ∷ cs)) ≡ []
+    go : (t : Bool) → eqb b forRead ≡ t → (cs : List ℕ) → (b ∷ cs ≡ 0xC3 ∷ [] → receives (starts (heardAll (starts (silentIn o)) bs)) 0xC3 .ack ≡ false)
+        → says n (heardAll (starts (heardAll (starts (silentIn o)) bs)) (b ∷ cs)) ≡ []
     go false e cs h =
-        ap (says n) (new-packet (heardAll (started (silentIn o)) bs) b cs (eqb-false b forRead e) .0) ∙ packet-mute (heardAll (started (silentIn o)) bs .own) (b ∷ cs) n
+        ap (says n) (new-packet (heardAll (starts (silentIn o)) bs) b cs (eqb-false b forRead e) .0) ∙ packet-mute (heardAll (starts (silentIn o)) bs .own) (b ∷ cs) n
     go true e [] h =
         let q : b ≡ forRead = eqb-true b forRead e in
-        ap (λ (k : ℕ). says n (received (started (heardAll (started (silentIn o)) bs)) k .after)) q
-        ∙ ap (λ (x : Heard). says n (x .after)) (nack-refuses (started (heardAll (started (silentIn o)) bs)) forRead (h (ap (λ (k : ℕ). k ∷ []) q)))
-        ∙ silent-says (started (heardAll (started (silentIn o)) bs) .own) n
+        ap (λ (k : ℕ). says n (receives (starts (heardAll (starts (silentIn o)) bs)) k .after)) q
+        ∙ ap (λ (x : Heard). says n (x .after)) (nack-refuses (starts (heardAll (starts (silentIn o)) bs)) forRead (h (ap (λ (k : ℕ). k ∷ []) q)))
+        ∙ silent-says (starts (heardAll (starts (silentIn o)) bs) .own) n
     go true e (c ∷ cs) h =
         let q : b ≡ forRead = eqb-true b forRead e in
-        ap (λ (k : ℕ). says n (heardAll (received (received (started (heardAll (started (silentIn o)) bs)) k .after) c .after) cs)) q
+        ap (λ (k : ℕ). says n (heardAll (receives (receives (starts (heardAll (starts (silentIn o)) bs)) k .after) c .after) cs)) q
         ∙ ap (λ (x : Module). says n (heardAll x cs)) (reply-broken o bs c)
-        ∙ ap (says n) (silent-stays (heardAll (started (silentIn o)) bs .own) cs)
-        ∙ silent-says (heardAll (started (silentIn o)) bs .own) n
+        ∙ ap (says n) (silent-stays (heardAll (starts (silentIn o)) bs .own) cs)
+        ∙ silent-says (heardAll (starts (silentIn o)) bs .own) n
 
 -- AND ITS REPLY: the count, its identifier, its address byte and the PEC over the whole packet, and nothing after them
 pub says-directed : (m : Module) (n : ℕ) → Reachable (m .own) → says (19 + n) (asked m (2 * m .own .address + 1)) ≡ reply (m .own) (askedPec (2 * m .own .address + 1))

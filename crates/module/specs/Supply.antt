@@ -52,5 +52,5 @@ suppliedIn PreparePec m = unsaid m
 suppliedIn ResetPec m = unsaid m
 suppliedIn AssignPec m = unsaid m
 
-unfoldable pub supplied : Module → Supplied
-supplied m = suppliedIn (m .phase) m
+unfoldable pub supplies : Module → Supplied
+supplies m = suppliedIn (m .phase) m

@@ -17,8 +17,8 @@ use Rattle.module.specs.declared.state.Module.{Module}
 use Rattle.module.specs.declared.state.Heard.{Heard}
 use Rattle.module.specs.declared.state.Supplied.{Supplied}
 use Rattle.module.specs.State.{at, silentIn, taken, refused}
-use Rattle.module.specs.Receive.{forWrite, forRead, startedIn, started, isOwn, received}
-use Rattle.module.specs.Supply.{addressByte, replyByte, unsaid, suppliedIn, supplied}
+use Rattle.module.specs.Receive.{forWrite, forRead, startedIn, starts, isOwn, receives}
+use Rattle.module.specs.Supply.{addressByte, replyByte, unsaid, suppliedIn, supplies}
 use Rattle.module.specs.Obeys.{heardAll, acks, isReachable}
 use Rattle.module.specs.ObeysLaws.{own-small}
 
@@ -26,25 +26,25 @@ use Rattle.module.specs.ObeysLaws.{own-small}
 
 unfoldable pub says : ℕ → Module → List ℕ
 says zero m = []
-says (suc n) m = pick (supplied m .drives) (supplied m .byte ∷ says n (supplied m .after)) (says n (supplied m .after))
+says (suc n) m = pick (supplies m .drives) (supplies m .byte ∷ says n (supplies m .after)) (says n (supplies m .after))
 
 unfoldable pub afterAsking : ℕ → Module → Module
 afterAsking zero m = m
-afterAsking (suc n) m = afterAsking n (supplied m .after)
+afterAsking (suc n) m = afterAsking n (supplies m .after)
 
 -- ---- silent: lost, stopped, or after a NACK
 
-pub silent-nack : (o : Lasting) (b : ℕ) → received (silentIn o) b ≡ refused o
-unfolding received
+pub silent-nack : (o : Lasting) (b : ℕ) → receives (silentIn o) b ≡ refused o
+unfolding receives
 silent-nack o b = refl
 
 pub silent-says : (o : Lasting) (n : ℕ) → says n (silentIn o) ≡ []
-unfolding says supplied
+unfolding says supplies
 silent-says o zero = refl
 silent-says o (suc n) = silent-says o n
 
 pub silent-asked : (o : Lasting) (n : ℕ) → afterAsking n (silentIn o) ≡ silentIn o
-unfolding afterAsking supplied
+unfolding afterAsking supplies
 silent-asked o zero = refl
 silent-asked o (suc n) = silent-asked o n
 
@@ -55,22 +55,22 @@ abbrev pub reply : Lasting → ℕ → List ℕ
 reply o c = 17 ∷ (udidBytes (o .udid) ++ (addressByte o ∷ pecFrom c (17 ∷ (udidBytes (o .udid) ++ (addressByte o ∷ []))) ∷ []))
 
 pub reply-says : (o : Lasting) (c : ℕ) → says 19 (at o Reply 0 c 0) ≡ reply o c
-unfolding says supplied replyByte udidBytes bytesOf pecFrom
+unfolding says supplies replyByte udidBytes bytesOf pecFrom
 reply-says o c = refl
 
 pub reply-ends : (o : Lasting) (c : ℕ) → afterAsking 19 (at o Reply 0 c 0) ≡ silentIn o
-unfolding afterAsking supplied
+unfolding afterAsking supplies
 reply-ends o c = refl
 
 says-add : (k n : ℕ) (m : Module) → says (k + n) m ≡ says k m ++ says n (afterAsking k m)
 unfolding says afterAsking
 says-add zero n m = rw zero-add
-says-add (suc k) n m = rw suc-add (go (supplied m .drives) (says-add k n (supplied m .after)))
+says-add (suc k) n m = rw suc-add (go (supplies m .drives) (says-add k n (supplies m .after)))
   where
-    go : (t : Bool) → says (k + n) (supplied m .after) ≡ says k (supplied m .after) ++ says n (afterAsking k (supplied m .after))
-        → pick t (supplied m .byte ∷ says (k + n) (supplied m .after)) (says (k + n) (supplied m .after))
-        ≡ pick t (supplied m .byte ∷ says k (supplied m .after)) (says k (supplied m .after)) ++ says n (afterAsking k (supplied m .after))
-    go true e = ap (_∷_ (supplied m .byte)) e
+    go : (t : Bool) → says (k + n) (supplies m .after) ≡ says k (supplies m .after) ++ says n (afterAsking k (supplies m .after))
+        → pick t (supplies m .byte ∷ says (k + n) (supplies m .after)) (says (k + n) (supplies m .after))
+        ≡ pick t (supplies m .byte ∷ says k (supplies m .after)) (says k (supplies m .after)) ++ says n (afterAsking k (supplies m .after))
+    go true e = ap (_∷_ (supplies m .byte)) e
     go false e = e
 
 -- and nothing after it
@@ -83,11 +83,11 @@ reply-more o c n =
 -- ---- Get UDID, from any state
 
 -- START and the default address: the command is due
-pub start-write : (m : Module) → received (started m) forWrite ≡ taken (m .own) Command 0 (pecStep 0 forWrite) 0
-unfolding started received
+pub start-write : (m : Module) → receives (starts m) forWrite ≡ taken (m .own) Command 0 (pecStep 0 forWrite) 0
+unfolding starts receives
 start-write m = go (m .phase) (m .own) (m .pec)
   where
-    go : (ph : Phase) (o : Lasting) (c : ℕ) → received (startedIn ph o c) forWrite ≡ taken o Command 0 (pecStep 0 forWrite) 0
+    go : (ph : Phase) (o : Lasting) (c : ℕ) → receives (startedIn ph o c) forWrite ≡ taken o Command 0 (pecStep 0 forWrite) 0
     go Asked o c = refl
     go Called o c = refl
     go Silent o c = refl
@@ -105,7 +105,7 @@ start-write m = go (m .phase) (m .own) (m .pec)
 
 -- START, bytes
 abbrev pub sent : Module → List ℕ → Module
-sent m bs = heardAll (started m) bs
+sent m bs = heardAll (starts m) bs
 
 -- Get UDID: START, 61h for writing, the command, START, 61h for reading
 abbrev pub asked : Module → ℕ → Module
@@ -115,14 +115,14 @@ asked m k = sent (sent m (forWrite ∷ k ∷ [])) (forRead ∷ [])
 abbrev pub askedPec : ℕ → ℕ
 askedPec k = pecOf (forWrite ∷ k ∷ forRead ∷ [])
 
-pub write-one : (m : Module) (k : ℕ) → sent m (forWrite ∷ k ∷ []) ≡ received (at (m .own) Command 0 (pecStep 0 forWrite) 0) k .after
+pub write-one : (m : Module) (k : ℕ) → sent m (forWrite ∷ k ∷ []) ≡ receives (at (m .own) Command 0 (pecStep 0 forWrite) 0) k .after
 unfolding heardAll
-write-one m k = ap (λ (h : Heard). received (h .after) k .after) (start-write m)
+write-one m k = ap (λ (h : Heard). receives (h .after) k .after) (start-write m)
 
 -- the general one: with AR clear the reply is due, with AR set the read address gets NACK
 pub asked-general : (m : Module) → asked m 0x03 ≡ pick (m .own .resolved) (silentIn (m .own)) (at (m .own) Reply 0 (askedPec 0x03) 0)
-unfolding heardAll started received pecFrom
-asked-general m = ap (λ (x : Module). received (started x) forRead .after) (write-one m 0x03) ∙ go (m .own) (m .own .resolved)
+unfolding heardAll starts receives pecFrom
+asked-general m = ap (λ (x : Module). receives (starts x) forRead .after) (write-one m 0x03) ∙ go (m .own) (m .own .resolved)
   where
     go : (o : Lasting) (t : Bool) → pick t (refused o) (taken o Reply 0 (askedPec 0x03) 0) .after ≡ pick t (silentIn o) (at o Reply 0 (askedPec 0x03) 0)
     go o true = refl
@@ -139,10 +139,10 @@ own-large o k e = go (ltb k 0x20) refl
     go false f = ltb-false k 0x20 f
 
 pub asked-directed : (m : Module) (k : ℕ) → isOwn (m .own) k ≡ true → k % 2 ≡ 1 → asked m k ≡ at (m .own) Reply 0 (askedPec k) 0
-unfolding heardAll started received pecFrom
+unfolding heardAll starts receives pecFrom
 asked-directed m k e d =
     let n : 0x20 ≤ k = own-large (m .own) k e in
-    ap (λ (x : Module). received (started x) forRead .after) (write-one m k)
+    ap (λ (x : Module). receives (starts x) forRead .after) (write-one m k)
     ∙ rw (ne-eqb k 0x01 (λ f. omega arith), ne-eqb k 0x02 (λ f. omega arith), ne-eqb k 0x03 (λ f. omega arith), ne-eqb k 0x04 (λ f. omega arith), e, eq-eqb (k % 2) 1 d)
 
 -- THE BYTES THAT IT SUPPLIES to the general Get UDID: count, identifier, address byte and PEC over the packet, and no more; none with AR set
@@ -160,8 +160,8 @@ pub directed-says : (m : Module) (k n : ℕ) → isOwn (m .own) k ≡ true → k
 directed-says m k n e d = rw (asked-directed m k e d) (reply-more (m .own) (askedPec k) n)
 
 -- to supply a byte changes nothing that lasts
-pub supplied-own : (m : Module) → supplied m .after .own ≡ m .own
-unfolding supplied
+pub supplied-own : (m : Module) → supplies m .after .own ≡ m .own
+unfolding supplies
 supplied-own m = go (m .phase) m
   where
     go : (ph : Phase) (m : Module) → suppliedIn ph m .after .own ≡ m .own

@@ -1,6 +1,6 @@
 // A byte received: ACK or NACK, and the module after it.
 ghost use mathlib.Core.Path.{_≡_};
-ghost use Rattle.module.specs.Receive.{received};
+ghost use Rattle.module.specs.Receive.{receives};
 use crate::command::again;
 use crate::command::command;
 use crate::command::first;
@@ -18,7 +18,7 @@ use pec::add_byte;
 
 impl Module {
     pub fn receive(self, b: u8) -> Heard
-        ensures { λ r. ⌜ r ≡ received self b ⌝ }
+        ensures { λ r. ⌜ r ≡ receives self b ⌝ }
     {
         let own = self.own;
         let phase = self.phase;

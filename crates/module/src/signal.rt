@@ -1,6 +1,6 @@
 // START, STOP, and arbitration lost.
 ghost use mathlib.Core.Path.{_≡_};
-ghost use Rattle.module.specs.Receive.{started};
+ghost use Rattle.module.specs.Receive.{starts};
 ghost use Rattle.module.specs.State.{at, silentIn};
 use crate::state::Lasting;
 use crate::state::Module;
@@ -17,7 +17,7 @@ fn at_first(own: Lasting) -> Module
 impl Module {
     // A START, or a repeated one.
     pub fn start(self) -> Module
-        ensures { λ r. ⌜ r ≡ started self ⌝ }
+        ensures { λ r. ⌜ r ≡ starts self ⌝ }
     {
         let own = self.own;
         let phase = self.phase;

@@ -1,6 +1,6 @@
 // A byte asked for: the reply to Get UDID, byte after byte, steps 22 to 25 and 29.
 ghost use mathlib.Core.Path.{_≡_};
-ghost use Rattle.module.specs.Supply.{addressByte, replyByte, afterByte, suppliedAt, unsaid, supplied};
+ghost use Rattle.module.specs.Supply.{addressByte, replyByte, afterByte, suppliedAt, unsaid, supplies};
 use crate::byte::byte_of;
 use crate::state::Lasting;
 use crate::state::Module;
@@ -72,7 +72,7 @@ fn nothing(m: Module) -> Supplied
 
 impl Module {
     pub fn supply(self) -> Supplied
-        ensures { λ r. ⌜ r ≡ supplied self ⌝ }
+        ensures { λ r. ⌜ r ≡ supplies self ⌝ }
     {
         let own = self.own;
         let phase = self.phase;

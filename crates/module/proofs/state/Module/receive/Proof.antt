@@ -1,4 +1,4 @@
-use Rattle.module.specs.Receive.{received}
+use Rattle.module.specs.Receive.{receives}
 use borrow.Author.Needs.{needs}
 use Rattle.module.proofs.state.Module.receive.Statement.{statement}
 use Rattle.module.proofs.state.Module.receive.Tie as tie
@@ -118,59 +118,59 @@ refuse-requires-4 : tie.Need-refuse-requires-4
 refuse-requires-4 c κs = search needs
 
 returns : tie.Need-returns
-unfolding received
+unfolding receives
 returns c = rw (c .refuse .ensures, c .before .enum-told .given .1)
 
 returns-2 : tie.Need-returns-2
-unfolding received
+unfolding receives
 returns-2 c = rw (c .first .ensures, c .before .enum-told2 .given .1)
 
 returns-3 : tie.Need-returns-3
-unfolding received
+unfolding receives
 returns-3 c = rw (c .command .ensures, c .before .add-byte .ensures, c .before .before .enum-told3 .given .1)
 
 returns-4 : tie.Need-returns-4
-unfolding received
+unfolding receives
 returns-4 c = rw (c .refuse2 .ensures, c .before .enum-told4 .given .1)
 
 returns-5 : tie.Need-returns-5
-unfolding received
+unfolding receives
 returns-5 c = rw (c .refuse3 .ensures, c .before .enum-told5 .given .1)
 
 returns-6 : tie.Need-returns-6
-unfolding received
+unfolding receives
 returns-6 c = rw (c .again .ensures, c .before .add-byte2 .ensures, c .before .before .enum-told6 .given .1)
 
 returns-7 : tie.Need-returns-7
-unfolding received
+unfolding receives
 returns-7 c = rw (c .again2 .ensures, c .before .add-byte3 .ensures, c .before .before .enum-told7 .given .1)
 
 returns-8 : tie.Need-returns-8
-unfolding received
+unfolding receives
 returns-8 c = rw (c .count .ensures, c .before .add-byte4 .ensures, c .before .before .enum-told8 .given .1)
 
 returns-9 : tie.Need-returns-9
-unfolding received
+unfolding receives
 returns-9 c = rw (c .identifier .ensures, c .before .add-byte5 .ensures, c .before .before .enum-told9 .given .1)
 
 returns-10 : tie.Need-returns-10
-unfolding received
+unfolding receives
 returns-10 c = rw (c .take .ensures, c .before .add-byte6 .ensures, c .before .before .enum-told10 .given .1)
 
 returns-11 : tie.Need-returns-11
-unfolding received
+unfolding receives
 returns-11 c = rw (c .prepare-pec .ensures, c .before .enum-told11 .given .1)
 
 returns-12 : tie.Need-returns-12
-unfolding received
+unfolding receives
 returns-12 c = rw (c .reset-pec .ensures, c .before .enum-told12 .given .1)
 
 returns-13 : tie.Need-returns-13
-unfolding received
+unfolding receives
 returns-13 c = rw (c .assign-pec .ensures, c .before .enum-told13 .given .1)
 
 returns-14 : tie.Need-returns-14
-unfolding received
+unfolding receives
 returns-14 c = rw (c .refuse4 .ensures, c .before .enum-told14 .given .1)
 
 pub receive-spec : {M : Type 1} → statement M

@@ -1,4 +1,4 @@
-use Rattle.module.specs.Receive.{started}
+use Rattle.module.specs.Receive.{starts}
 use borrow.Author.Needs.{needs}
 use Rattle.module.proofs.state.Module.start.Statement.{statement}
 use Rattle.module.proofs.state.Module.start.Tie as tie
@@ -92,59 +92,59 @@ at-first-requires-12 : tie.Need-at-first-requires-12
 at-first-requires-12 c κs = search needs
 
 returns : tie.Need-returns
-unfolding started
+unfolding starts
 returns c = rw (c .module-at .ensures, c .before .enum-told .given .1)
 
 returns-2 : tie.Need-returns-2
-unfolding started
+unfolding starts
 returns-2 c = rw (c .module-at2 .ensures, c .before .enum-told2 .given .1)
 
 returns-3 : tie.Need-returns-3
-unfolding started
+unfolding starts
 returns-3 c = rw (c .at-first .ensures, c .before .enum-told3 .given .1)
 
 returns-4 : tie.Need-returns-4
-unfolding started
+unfolding starts
 returns-4 c = rw (c .at-first2 .ensures, c .before .enum-told4 .given .1)
 
 returns-5 : tie.Need-returns-5
-unfolding started
+unfolding starts
 returns-5 c = rw (c .at-first3 .ensures, c .before .enum-told5 .given .1)
 
 returns-6 : tie.Need-returns-6
-unfolding started
+unfolding starts
 returns-6 c = rw (c .at-first4 .ensures, c .before .enum-told6 .given .1)
 
 returns-7 : tie.Need-returns-7
-unfolding started
+unfolding starts
 returns-7 c = rw (c .at-first5 .ensures, c .before .enum-told7 .given .1)
 
 returns-8 : tie.Need-returns-8
-unfolding started
+unfolding starts
 returns-8 c = rw (c .at-first6 .ensures, c .before .enum-told8 .given .1)
 
 returns-9 : tie.Need-returns-9
-unfolding started
+unfolding starts
 returns-9 c = rw (c .at-first7 .ensures, c .before .enum-told9 .given .1)
 
 returns-10 : tie.Need-returns-10
-unfolding started
+unfolding starts
 returns-10 c = rw (c .at-first8 .ensures, c .before .enum-told10 .given .1)
 
 returns-11 : tie.Need-returns-11
-unfolding started
+unfolding starts
 returns-11 c = rw (c .at-first9 .ensures, c .before .enum-told11 .given .1)
 
 returns-12 : tie.Need-returns-12
-unfolding started
+unfolding starts
 returns-12 c = rw (c .at-first10 .ensures, c .before .enum-told12 .given .1)
 
 returns-13 : tie.Need-returns-13
-unfolding started
+unfolding starts
 returns-13 c = rw (c .at-first11 .ensures, c .before .enum-told13 .given .1)
 
 returns-14 : tie.Need-returns-14
-unfolding started
+unfolding starts
 returns-14 c = rw (c .at-first12 .ensures, c .before .enum-told14 .given .1)
 
 pub start-spec : {M : Type 1} → statement M

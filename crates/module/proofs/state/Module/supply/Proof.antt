@@ -1,4 +1,4 @@
-use Rattle.module.specs.Supply.{supplied}
+use Rattle.module.specs.Supply.{supplies}
 use borrow.Author.Needs.{needs}
 use Rattle.module.proofs.state.Module.supply.Statement.{statement}
 use Rattle.module.proofs.state.Module.supply.Tie as tie
@@ -92,59 +92,59 @@ nothing-requires-13 : tie.Need-nothing-requires-13
 nothing-requires-13 c κs = search needs
 
 returns : tie.Need-returns
-unfolding supplied
+unfolding supplies
 returns c = rw (c .supply-at .ensures, c .before .enum-told .given .1)
 
 returns-2 : tie.Need-returns-2
-unfolding supplied
+unfolding supplies
 returns-2 c = rw (c .nothing .ensures, c .before .enum-told2 .given .1)
 
 returns-3 : tie.Need-returns-3
-unfolding supplied
+unfolding supplies
 returns-3 c = rw (c .nothing2 .ensures, c .before .enum-told3 .given .1)
 
 returns-4 : tie.Need-returns-4
-unfolding supplied
+unfolding supplies
 returns-4 c = rw (c .nothing3 .ensures, c .before .enum-told4 .given .1)
 
 returns-5 : tie.Need-returns-5
-unfolding supplied
+unfolding supplies
 returns-5 c = rw (c .nothing4 .ensures, c .before .enum-told5 .given .1)
 
 returns-6 : tie.Need-returns-6
-unfolding supplied
+unfolding supplies
 returns-6 c = rw (c .nothing5 .ensures, c .before .enum-told6 .given .1)
 
 returns-7 : tie.Need-returns-7
-unfolding supplied
+unfolding supplies
 returns-7 c = rw (c .nothing6 .ensures, c .before .enum-told7 .given .1)
 
 returns-8 : tie.Need-returns-8
-unfolding supplied
+unfolding supplies
 returns-8 c = rw (c .nothing7 .ensures, c .before .enum-told8 .given .1)
 
 returns-9 : tie.Need-returns-9
-unfolding supplied
+unfolding supplies
 returns-9 c = rw (c .nothing8 .ensures, c .before .enum-told9 .given .1)
 
 returns-10 : tie.Need-returns-10
-unfolding supplied
+unfolding supplies
 returns-10 c = rw (c .nothing9 .ensures, c .before .enum-told10 .given .1)
 
 returns-11 : tie.Need-returns-11
-unfolding supplied
+unfolding supplies
 returns-11 c = rw (c .nothing10 .ensures, c .before .enum-told11 .given .1)
 
 returns-12 : tie.Need-returns-12
-unfolding supplied
+unfolding supplies
 returns-12 c = rw (c .nothing11 .ensures, c .before .enum-told12 .given .1)
 
 returns-13 : tie.Need-returns-13
-unfolding supplied
+unfolding supplies
 returns-13 c = rw (c .nothing12 .ensures, c .before .enum-told13 .given .1)
 
 returns-14 : tie.Need-returns-14
-unfolding supplied
+unfolding supplies
 returns-14 c = rw (c .nothing13 .ensures, c .before .enum-told14 .given .1)
 
 pub supply-spec : {M : Type 1} → statement M
