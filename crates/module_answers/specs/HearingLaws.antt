@@ -8,7 +8,8 @@ use lib.Seq.{drop-cons}
 use Rattle.module.specs.Receive.{receives}
 use Rattle.module.specs.declared.state.Heard.{Heard}
 use Rattle.module.specs.declared.state.Module.{Module}
-use Rattle.module_answers.specs.Hearings.{heardAll, ackText, acksText}
+use Rattle.module.specs.Obeys.{heardAll}
+use Rattle.module_answers.specs.Hearings.{ackText, acksText}
 
 module _ (m : Module) (s : List ℕ) (i : ℕ) where
   pub heard-on : (h : Heard) → h ≡ receives m (getD s i 0) → i < length s → heardAll m (drop i s) ≡ heardAll (h .after) (drop (i + 1) s)

@@ -1,4 +1,4 @@
--- The bytes that a module receives, one after another: the module after them, and what is printed for each.
+-- What is printed for the bytes that a module receives, one after another.
 use Prim.Native.Nat.{ℕ}
 use mathlib.Core.Bool.{Bool}
 use mathlib.Core.List.{List, [], _∷_, _++_}
@@ -7,11 +7,6 @@ use Rattle.text.specs.Chars.{chars}
 use Rattle.module.specs.Receive.{receives}
 use Rattle.module.specs.declared.state.Module.{Module}
 use Rattle.pieces.specs.Pieces.{newline}
-
--- the module after the bytes
-unfoldable pub heardAll : Module → List ℕ → Module
-heardAll m [] = m
-heardAll m (b ∷ bs) = heardAll (receives m b .after) bs
 
 abbrev pub ackText : Bool → List ℕ
 ackText ack = pick ack (chars " ack") (chars " nack")

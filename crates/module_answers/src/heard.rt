@@ -1,7 +1,8 @@
 // The bytes that a module receives, one after another, and whether it acknowledges each.
 ghost use mathlib.Core.Path.{_≡_};
 ghost use Rattle.writing.specs.Written.{Appended};
-ghost use Rattle.module_answers.specs.Hearings.{ackText, heardAll, acksText, heardText};
+ghost use Rattle.module.specs.Obeys.{heardAll};
+ghost use Rattle.module_answers.specs.Hearings.{ackText, acksText, heardText};
 use module::state::Module;
 use writing::write::put;
 

@@ -1,5 +1,6 @@
 use Prim.Native.Nat.{_-_}
-use Rattle.module_answers.specs.Hearings.{heardAll, acksText}
+use Rattle.module.specs.Obeys.{heardAll}
+use Rattle.module_answers.specs.Hearings.{acksText}
 use Rattle.module_answers.specs.HearingLaws.{heard-on, heard-over, acks-on, acks-over}
 use Rattle.writing.specs.Written.{Came}
 use Rattle.writing.specs.WrittenLaws.{came-start, came-turn, came-done}
