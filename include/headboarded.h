@@ -278,8 +278,9 @@ hb_model hb_run_model(hb_pool occupied, uint8_t last, uint8_t *records, size_t r
  *                           it sends a one calls hb_module_lost at that bit
  *   STOP                    hb_module_stop
  *
- * A bus that was idle is silent. From STOP to the next START, after hb_module_lost, and after a byte that got NACK, every byte gets NACK
- * and none is sent. What the module does at its own address is not asked here: the first byte of a packet is 0xc2 or gets NACK. */
+ * From STOP to the next START, after hb_module_lost, and after a byte that got NACK, every byte gets NACK and none is sent. What the
+ * module does at its own address is not asked here: the first byte of a packet is 0xc2, or 0xc3 in the read of Get UDID, or gets NACK.
+ * Firmware that serves its own address looks at the first byte of a packet before it hands it on. */
 
 /* A module between two events. Any numbers in it are answered for, and what a call handed back goes on where it was. Up to
  * resolved the parts outlast a packet:
@@ -288,7 +289,7 @@ hb_model hb_run_model(hb_pool occupied, uint8_t last, uint8_t *records, size_t r
  *   fresh       the vendor-specific part, the last four bytes of the identifier, that a random module takes at its next reset
  *   home        the address that a fixed module has after a reset; a number above 127 is none
  *   valid       Address Valid
- *   address     its address; 0 where Address Valid is clear. After an Assign a persistent module has to be told to its memory
+ *   address     its address; 0 where Address Valid is clear. Firmware of a persistent module stores it when an Assign has changed it
  *   resolved    Address Resolved
  *
  * The others say where in a packet it stands; a phase above 13 is silent, as 0 is. */
