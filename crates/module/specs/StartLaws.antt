@@ -6,7 +6,7 @@ use mathlib.Core.Logic.{_⊎_, inl, inr, _↔_}
 use mathlib.Core.List.{List, [], _∷_, _++_}
 use native.Mathlib.Omega.{arith}
 use lib.Dec.{ltb, eqb}
-use lib.ListN.{getD}
+use lib.ListN.{length, getD}
 use borrow.Author.Tests.{eqb-true, eqb-false, eq-eqb, ne-eqb, le-leb}
 use Rattle.lists.specs.Choice.{pick, and, not}
 use Rattle.lists.specs.ChoiceLaws.{false-not-true, not-both}
@@ -27,8 +27,8 @@ use Rattle.module.specs.ObeysLaws.{heard-cons, silent-stays, own-true}
 use Rattle.module.specs.Acknowledges.{acked, getOrder}
 use Rattle.module.specs.AckLaws.{acked-cons}
 use Rattle.module.specs.NackLaws.{nack-refuses}
-use Rattle.module.specs.Says.{says, reply, replyTo, askedPec, asked}
-use Rattle.module.specs.SupplyLaws.{silent-says, general-says, directed-says}
+use Rattle.module.specs.Says.{says, afterAsking, reply, replyTo, askedPec, asked}
+use Rattle.module.specs.SupplyLaws.{silent-says, asked-general, asked-directed, general-says, directed-says, reply-over}
 use Rattle.module.specs.Packets.{Reachable}
 use Rattle.module.specs.PacketsLaws.{reachable-is}
 
@@ -367,46 +367,174 @@ packet-mute o bs n = go (one-packet o bs)
     go (inr (inl g)) = ap (λ (l : List ℕ). says n (heardAll (starts (silentIn o)) l)) g ∙ ap (says n) (general-heard o) ∙ asked-mute o (pecStep first 0x03) n
     go (inr (inr g)) = ap (λ (l : List ℕ). says n (heardAll (starts (silentIn o)) l)) (g .1) ∙ ap (says n) (called-heard o (g .0)) ∙ called-mute o (pecStep first (2 * o .address + 1)) n
 
--- a byte after C3h: refused, whether or not the reply was due
-reply-broken : (o : Lasting) (bs : List ℕ) (b : ℕ) → receives (receives (starts (heardAll (starts (silentIn o)) bs)) forRead .after) b .after ≡ silentIn (heardAll (starts (silentIn o)) bs .own)
+-- C3h right after a START, by the phase: the module goes on with a Get UDID, or refuses it
+read-first : (m : Module) → (receives (starts m) forRead ≡ refused (m .own)) ⊎ ((c : ℕ) × (receives (starts m) forRead ≡ taken (m .own) Reply 0 c 0))
+unfolding starts receives
+read-first m = go (m .phase) (m .own) (m .pec)
+  where
+    quiet : (t : Bool) (o : Lasting) (c : ℕ) → (pick t (refused o) (taken o Reply 0 c 0) ≡ refused o) ⊎ ((d : ℕ) × (pick t (refused o) (taken o Reply 0 c 0) ≡ taken o Reply 0 d 0))
+    quiet true o c = inl refl
+    quiet false o c = inr (c, refl)
+
+    go : (ph : Phase) (o : Lasting) (c : ℕ) → (receives (startedIn ph o c) forRead ≡ refused o) ⊎ ((d : ℕ) × (receives (startedIn ph o c) forRead ≡ taken o Reply 0 d 0))
+    go Asked o c = quiet (o .resolved) o (pecStep c forRead)
+    go Called o c = inr (pecStep c forRead, refl)
+    go Silent o c = inl refl
+    go First o c = inl refl
+    go Command o c = inl refl
+    go AskedAgain o c = inl refl
+    go CalledAgain o c = inl refl
+    go Count o c = inl refl
+    go Identifier o c = inl refl
+    go Given o c = inl refl
+    go PreparePec o c = inl refl
+    go ResetPec o c = inl refl
+    go AssignPec o c = inl refl
+    go Reply o c = inl refl
+
+-- a byte after it is refused, whether or not the reply was due
+pub read-over : (m : Module) (b : ℕ) → receives (receives (starts m) 0xC3 .after) b ≡ refused (m .own)
 unfolding receives
-reply-broken o bs b = go (one-packet o bs)
+read-over m b = go (read-first m)
   where
-    quiet : (t : Bool) → receives (pick t (refused o) (taken o Reply 0 (askedPec 0x03) 0) .after) b .after ≡ silentIn o
-    quiet true = refl
-    quiet false = refl
+    go : (receives (starts m) forRead ≡ refused (m .own)) ⊎ ((c : ℕ) × (receives (starts m) forRead ≡ taken (m .own) Reply 0 c 0)) → receives (receives (starts m) forRead .after) b ≡ refused (m .own)
+    go (inl e) = ap (λ (h : Heard). receives (h .after) b) e
+    go (inr h) = ap (λ (x : Heard). receives (x .after) b) (h .1)
 
-    go : Plain (heardAll (starts (silentIn o)) bs) ⊎ Gets o bs → receives (receives (starts (heardAll (starts (silentIn o)) bs)) forRead .after) b .after ≡ silentIn (heardAll (starts (silentIn o)) bs .own)
-    go (inl p) = ap (λ (h : Heard). receives (h .after) b .after) (plain-read (heardAll (starts (silentIn o)) bs) p)
-    go (inr (inl g)) =
-        subst (λ (l : List ℕ). receives (receives (starts (heardAll (starts (silentIn o)) l)) forRead .after) b .after ≡ silentIn (heardAll (starts (silentIn o)) l .own)) (sym g)
-        (ap (λ (h : Heard). receives (h .after) b .after) (get-general o) ∙ quiet (o .resolved) ∙ ap (λ (m : Module). silentIn (m .own)) (sym (general-heard o)))
-    go (inr (inr g)) =
-        subst (λ (l : List ℕ). receives (receives (starts (heardAll (starts (silentIn o)) l)) forRead .after) b .after ≡ silentIn (heardAll (starts (silentIn o)) l .own)) (sym (g .1))
-        (ap (λ (h : Heard). receives (h .after) b .after) (get-directed o (g .0)) ∙ ap (λ (m : Module). silentIn (m .own)) (sym (called-heard o (g .0))))
-
--- IT SAYS NOTHING, after two STARTs with bytes after each, unless the second ones are C3h alone and that got ACK
-pub mute-else : (o : Lasting) (bs cs : List ℕ) (n : ℕ) → (cs ≡ 0xC3 ∷ [] → receives (starts (heardAll (starts (silentIn o)) bs)) 0xC3 .ack ≡ false)
-    → says n (heardAll (starts (heardAll (starts (silentIn o)) bs)) cs) ≡ []
+-- IT SAYS NOTHING after a START and bytes, whatever it stood in, unless they are C3h alone and that got ACK
+pub mute-else : (m : Module) (bs : List ℕ) (n : ℕ) → (bs ≡ 0xC3 ∷ [] → receives (starts m) 0xC3 .ack ≡ false) → says n (heardAll (starts m) bs) ≡ []
 unfolding heardAll
-mute-else o bs [] n h = started-mute (heardAll (starts (silentIn o)) bs) n
-mute-else o bs (b ∷ cs) n h = go (eqb b forRead) refl cs h
+mute-else m [] n h = started-mute m n
+mute-else m (b ∷ bs) n h = go (eqb b forRead) refl bs h
   where
-    go : (t : Bool) → eqb b forRead ≡ t → (cs : List ℕ) → (b ∷ cs ≡ 0xC3 ∷ [] → receives (starts (heardAll (starts (silentIn o)) bs)) 0xC3 .ack ≡ false)
-        → says n (heardAll (starts (heardAll (starts (silentIn o)) bs)) (b ∷ cs)) ≡ []
-    go false e cs h =
-        ap (says n) (new-packet (heardAll (starts (silentIn o)) bs) b cs (eqb-false b forRead e) .0) ∙ packet-mute (heardAll (starts (silentIn o)) bs .own) (b ∷ cs) n
+    go : (t : Bool) → eqb b forRead ≡ t → (bs : List ℕ) → (b ∷ bs ≡ 0xC3 ∷ [] → receives (starts m) 0xC3 .ack ≡ false) → says n (heardAll (starts m) (b ∷ bs)) ≡ []
+    go false e bs h = ap (says n) (new-packet m b bs (eqb-false b forRead e) .0) ∙ packet-mute (m .own) (b ∷ bs) n
     go true e [] h =
         let q : b ≡ forRead = eqb-true b forRead e in
-        ap (λ (k : ℕ). says n (receives (starts (heardAll (starts (silentIn o)) bs)) k .after)) q
-        ∙ ap (λ (x : Heard). says n (x .after)) (nack-refuses (starts (heardAll (starts (silentIn o)) bs)) forRead (h (ap (λ (k : ℕ). k ∷ []) q)))
-        ∙ silent-says (starts (heardAll (starts (silentIn o)) bs) .own) n
-    go true e (c ∷ cs) h =
+        ap (λ (k : ℕ). says n (receives (starts m) k .after)) q
+        ∙ ap (λ (x : Heard). says n (x .after)) (nack-refuses (starts m) forRead (h (ap (λ (k : ℕ). k ∷ []) q)))
+        ∙ silent-says (starts m .own) n
+    go true e (c ∷ bs) h =
         let q : b ≡ forRead = eqb-true b forRead e in
-        ap (λ (k : ℕ). says n (heardAll (receives (receives (starts (heardAll (starts (silentIn o)) bs)) k .after) c .after) cs)) q
-        ∙ ap (λ (x : Module). says n (heardAll x cs)) (reply-broken o bs c)
-        ∙ ap (says n) (silent-stays (heardAll (starts (silentIn o)) bs .own) cs)
-        ∙ silent-says (heardAll (starts (silentIn o)) bs .own) n
+        ap (λ (k : ℕ). says n (heardAll (receives (receives (starts m) k .after) c .after) bs)) q
+        ∙ ap (λ (x : Heard). says n (heardAll (x .after) bs)) (read-over m c)
+        ∙ ap (says n) (silent-stays (m .own) bs)
+        ∙ silent-says (m .own) n
+
+-- ---- C3h, whatever the module stood in before the START that its bytes came after
+
+-- a START after a START, and a START after C3h, go on with nothing
+twice : (m : Module) → starts (starts m) ≡ at (m .own) First 0 0 0
+unfolding starts
+twice m = go (m .phase) (m .own) (m .pec)
+  where
+    go : (ph : Phase) (o : Lasting) (c : ℕ) → starts (startedIn ph o c) ≡ at o First 0 0 0
+    go Asked o c = refl
+    go Called o c = refl
+    go Silent o c = refl
+    go First o c = refl
+    go Command o c = refl
+    go AskedAgain o c = refl
+    go CalledAgain o c = refl
+    go Count o c = refl
+    go Identifier o c = refl
+    go Given o c = refl
+    go PreparePec o c = refl
+    go ResetPec o c = refl
+    go AssignPec o c = refl
+    go Reply o c = refl
+
+after-read : (m : Module) (bs : List ℕ) → starts (heardAll (starts m) (forRead ∷ bs)) ≡ at (m .own) First 0 0 0
+unfolding starts heardAll
+after-read m [] = go (read-first m)
+  where
+    go : (receives (starts m) forRead ≡ refused (m .own)) ⊎ ((c : ℕ) × (receives (starts m) forRead ≡ taken (m .own) Reply 0 c 0)) → starts (receives (starts m) forRead .after) ≡ at (m .own) First 0 0 0
+    go (inl e) = ap (λ (h : Heard). starts (h .after)) e
+    go (inr h) = ap (λ (x : Heard). starts (x .after)) (h .1)
+after-read m (b ∷ bs) = ap (λ (h : Heard). starts (heardAll (h .after) bs)) (read-over m b) ∙ ap starts (silent-stays (m .own) bs)
+
+first-read : (o : Lasting) → receives (at o First 0 0 0) forRead ≡ refused o
+unfolding receives
+first-read o = refl
+
+-- C3h GETS ACK exactly after C2h and a Get UDID that it knows, the general one only with AR clear
+pub read-any : (m : Module) (bs : List ℕ)
+    → (receives (starts (heardAll (starts m) bs)) 0xC3 .ack ≡ true) ↔ (((bs ≡ getOrder 0x03) × (m .own .resolved ≡ false)) ⊎ (Reachable (m .own) × (bs ≡ getOrder (2 * m .own .address + 1))))
+unfolding heardAll
+read-any m [] = (λ e. not-both (ap (λ (x : Module). receives x forRead .ack) (twice m) ∙ ap (λ (h : Heard). h .ack) (first-read (m .own))) e, none)
+  where
+    none : ((_≡_ {A = List ℕ} [] (getOrder 0x03)) × (m .own .resolved ≡ false)) ⊎ (Reachable (m .own) × (_≡_ {A = List ℕ} [] (getOrder (2 * m .own .address + 1)))) → receives (starts (starts m)) 0xC3 .ack ≡ true
+    none (inl g) = absurd (let z : _≡_ {A = ℕ} 0 2 = ap length (g .0) in omega arith)
+    none (inr g) = absurd (let z : _≡_ {A = ℕ} 0 2 = ap length (g .1) in omega arith)
+read-any m (b ∷ bs) = go (eqb b forRead) refl
+  where
+    go : (t : Bool) → eqb b forRead ≡ t
+        → (receives (starts (heardAll (starts m) (b ∷ bs))) 0xC3 .ack ≡ true)
+        ↔ (((b ∷ bs ≡ getOrder 0x03) × (m .own .resolved ≡ false)) ⊎ (Reachable (m .own) × (b ∷ bs ≡ getOrder (2 * m .own .address + 1))))
+    go false e =
+        subst (λ (x : Module). (receives (starts x) 0xC3 .ack ≡ true)
+        ↔ (((b ∷ bs ≡ getOrder 0x03) × (m .own .resolved ≡ false)) ⊎ (Reachable (m .own) × (b ∷ bs ≡ getOrder (2 * m .own .address + 1)))))
+        (sym (new-packet m b bs (eqb-false b forRead e) .0)) (read-exactly (m .own) (b ∷ bs))
+    go true e =
+        let q : b ≡ forRead = eqb-true b forRead e in (
+          λ f. not-both (ap (λ (k : ℕ). receives (starts (heardAll (starts m) (k ∷ bs))) 0xC3 .ack) q ∙ ap (λ (x : Module). receives x forRead .ack) (after-read m bs) ∙ ap (λ (h : Heard). h .ack) (first-read (m .own))) f,
+          λ g. none q g,
+        )
+      where
+        none : b ≡ forRead → ((b ∷ bs ≡ getOrder 0x03) × (m .own .resolved ≡ false)) ⊎ (Reachable (m .own) × (b ∷ bs ≡ getOrder (2 * m .own .address + 1)))
+            → receives (starts (heardAll (starts m) (b ∷ bs))) 0xC3 .ack ≡ true
+        none q (inl g) = absurd (let z : b ≡ forWrite = ap (λ (l : List ℕ). getD l 0 0) (g .0) in omega arith)
+        none q (inr g) = absurd (let z : b ≡ forWrite = ap (λ (l : List ℕ). getD l 0 0) (g .1) in omega arith)
+
+-- ---- one that has a byte to send, and one that has none
+
+pub sending : (m : Module) → supplies m .drives ≡ true → m .phase ≡ Reply
+unfolding supplies
+sending m = go (m .phase)
+  where
+    go : (ph : Phase) → suppliedIn ph m .drives ≡ true → ph ≡ Reply
+    go Reply e = refl
+    go Silent e = false-not-true e
+    go First e = false-not-true e
+    go Command e = false-not-true e
+    go Asked e = false-not-true e
+    go Called e = false-not-true e
+    go AskedAgain e = false-not-true e
+    go CalledAgain e = false-not-true e
+    go Count e = false-not-true e
+    go Identifier e = false-not-true e
+    go Given e = false-not-true e
+    go PreparePec e = false-not-true e
+    go ResetPec e = false-not-true e
+    go AssignPec e = false-not-true e
+
+-- it takes no byte, and a START leaves its reply behind
+pub sending-takes-none : (m : Module) → supplies m .drives ≡ true → ((b : ℕ) → receives m b ≡ refused (m .own)) × (starts m ≡ starts (silentIn (m .own)))
+unfolding receives starts
+sending-takes-none m e =
+    let q : m .phase ≡ Reply = sending m e in
+    (λ b. ap (λ (p : Phase). receivedIn p m b) q, ap (λ (p : Phase). startedIn p (m .own) (m .pec)) q)
+
+-- asked for a byte that it does not have it stays as it is, and drives nothing
+pub released : (m : Module) → supplies m .drives ≡ false → supplies m ≡ record { after = m; drives = false; byte = 0xFF }
+unfolding supplies
+released m = go (m .phase)
+  where
+    go : (ph : Phase) → suppliedIn ph m .drives ≡ false → suppliedIn ph m ≡ record { after = m; drives = false; byte = 0xFF }
+    go Reply e = not-both e refl
+    go Silent e = refl
+    go First e = refl
+    go Command e = refl
+    go Asked e = refl
+    go Called e = refl
+    go AskedAgain e = refl
+    go CalledAgain e = refl
+    go Count e = refl
+    go Identifier e = refl
+    go Given e = refl
+    go PreparePec e = refl
+    go ResetPec e = refl
+    go AssignPec e = refl
 
 -- AND ITS REPLY: the count, its identifier, its address byte and the PEC over the whole packet, and nothing after them
 reply-whole : (o : Lasting) (k : ℕ) → reply o (askedPec k) ≡ replyTo o k
@@ -418,3 +546,12 @@ says-general m n e = general-says m n e ∙ reply-whole (m .own) 0x03
 
 pub says-directed : (m : Module) (n : ℕ) → Reachable (m .own) → says (19 + n) (asked m (2 * m .own .address + 1)) ≡ replyTo (m .own) (2 * m .own .address + 1)
 says-directed m n h = directed-says m (2 * m .own .address + 1) n (odd-own (m .own) h) (omega arith) ∙ reply-whole (m .own) (2 * m .own .address + 1)
+
+-- after it the module is silent
+pub replied-general : (m : Module) (n : ℕ) → m .own .resolved ≡ false → afterAsking (19 + n) (asked m 0x03) ≡ silentIn (m .own)
+replied-general m n e =
+    ap (afterAsking (19 + n)) (asked-general m ∙ ap (λ (t : Bool). pick t (silentIn (m .own)) (at (m .own) Reply 0 (askedPec 0x03) 0)) e) ∙ reply-over (m .own) (askedPec 0x03) n
+
+pub replied-directed : (m : Module) (n : ℕ) → Reachable (m .own) → afterAsking (19 + n) (asked m (2 * m .own .address + 1)) ≡ silentIn (m .own)
+replied-directed m n h =
+    ap (afterAsking (19 + n)) (asked-directed m (2 * m .own .address + 1) (odd-own (m .own) h) (omega arith)) ∙ reply-over (m .own) (askedPec (2 * m .own .address + 1)) n

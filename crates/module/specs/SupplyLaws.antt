@@ -67,6 +67,14 @@ reply-more o c n =
     ∙ ap₂ _++_ (reply-says o c) (ap (says n) (reply-ends o c) ∙ silent-says o n)
     ∙ append-nil (reply o c)
 
+after-add : (k n : ℕ) (m : Module) → afterAsking (k + n) m ≡ afterAsking n (afterAsking k m)
+unfolding afterAsking
+after-add zero n m = rw zero-add
+after-add (suc k) n m = rw suc-add (after-add k n (supplies m .after))
+
+pub reply-over : (o : Lasting) (c n : ℕ) → afterAsking (19 + n) (at o Reply 0 c 0) ≡ silentIn o
+reply-over o c n = after-add 19 n (at o Reply 0 c 0) ∙ ap (afterAsking n) (reply-ends o c) ∙ silent-asked o n
+
 -- ---- Get UDID, from any state
 
 -- START and the default address: the command is due

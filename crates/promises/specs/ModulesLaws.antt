@@ -4,7 +4,6 @@ use mathlib.Core.Bool.{Bool, true, false}
 use mathlib.Core.List.{List, [], _∷_}
 use Prim.Native.Nat.{ℕ, _/_, _^_, _≤_, _<_}
 use lib.ListN.{length}
-use Rattle.lists.specs.ChoiceLaws.{false-not-true}
 use Rattle.lists.specs.Each.{Each, Bytes}
 use Rattle.wire.specs.declared.address.Address.{Address}
 use Rattle.udid.specs.Udids.{Fits}
@@ -25,8 +24,7 @@ use Rattle.bindings.specs.declared.answer.ModelAnswer.{ModelAnswer}
 use Rattle.bus.specs.Run.{Leaves, modelEnd}
 use Rattle.module.specs.declared.state.Heard.{Heard}
 use Rattle.module.specs.declared.state.Module.{Module}
-use Rattle.module.specs.declared.state.Phase.{Phase}
-use Rattle.module.specs.declared.state.Phase.the-variants.{Silent, First, Command, Asked, Called, AskedAgain, CalledAgain, Count, Identifier, Given, PreparePec, ResetPec, AssignPec, Reply}
+use Rattle.module.specs.declared.state.Supplied.{Supplied}
 use Rattle.module.specs.Obeys.{heardAll, resetOrder, directedReset}
 use Rattle.module.specs.Packets.{Resets}
 use Rattle.module.specs.PacketsLaws.{acked-exactly, obeys-prepare, obeys-reset, obeys-directed, obeys-assign, obeys-no-other}
@@ -36,9 +34,9 @@ use Rattle.module.specs.Receive.{starts, receives}
 use Rattle.module.specs.Reset.{reset}
 use Rattle.module.specs.ResetLaws.{resets, powers-on, powered-silent}
 use Rattle.module.specs.ResumeLaws.{resume-0, resume-10, resume-12, as-recorded}
-use Rattle.module.specs.StartLaws.{new-packet, read-exactly, mute-else, says-general, says-directed}
+use Rattle.module.specs.StartLaws.{new-packet, read-any, read-over, mute-else, sending, sending-takes-none, released, says-general, says-directed, replied-general, replied-directed}
 use Rattle.module.specs.State.{silentIn}
-use Rattle.module.specs.Supply.{suppliedIn, supplies}
+use Rattle.module.specs.Supply.{supplies}
 use Rattle.module.specs.SupplyLaws.{silent-nack, supplied-own}
 use Rattle.exchange.specs.Exchange.{recordsOf, Fitting, afterBytes}
 use Rattle.exchange.specs.ExchangeLaws.{exchange-same}
@@ -67,10 +65,13 @@ listens m fits four = record {
   nack = λ b e. ap (λ (h : Heard). h .after) (nack-refuses m b e);
   wrong-pec = λ xs b d n. (due-acked m xs d, differing-pec m xs b d n .0, differing-pec m xs b d n .1);
   anew = new-packet m;
-  read = read-exactly (m .own);
-  general = λ e n. says-general m n e;
-  directed = λ h n. says-directed m n h;
-  nothing-else = mute-else (m .own);
+  read = read-any m;
+  after-read = λ b. ap (λ (h : Heard). h .ack) (read-over m b);
+  general = λ e n. (says-general m n e, replied-general m n e);
+  directed = λ h n. (says-directed m n h, replied-directed m n h);
+  nothing-else = mute-else m;
+  sending = λ e. (λ b. ap (λ (h : Heard). h .ack) (sending-takes-none m e .0 b), sending-takes-none m e .1);
+  released = λ e. (ap (λ (x : Supplied). x .after) (released m e), ap (λ (x : Supplied). x .byte) (released m e));
   silent = λ b. (ap (λ (h : Heard). h .ack) (silent-nack (m .own) b), ap (λ (h : Heard). h .after) (silent-nack (m .own) b), silent-mute m .0, silent-mute m .1);
 }
   where
@@ -95,27 +96,6 @@ names (Send (Assign u a)) h = h u a refl
 names (Send Prepare) h = tt
 names (Send GetUdid) h = tt
 names (Wait e) h = tt
-
--- one that has a byte to send is in its reply
-sending : (m : Module) → supplies m .drives ≡ true → m .phase ≡ Reply
-unfolding supplies
-sending m = go (m .phase)
-  where
-    go : (ph : Phase) → suppliedIn ph m .drives ≡ true → ph ≡ Reply
-    go Reply e = refl
-    go Silent e = false-not-true e
-    go First e = false-not-true e
-    go Command e = false-not-true e
-    go Asked e = false-not-true e
-    go Called e = false-not-true e
-    go AskedAgain e = false-not-true e
-    go CalledAgain e = false-not-true e
-    go Count e = false-not-true e
-    go Identifier e = false-not-true e
-    go Given e = false-not-true e
-    go PreparePec e = false-not-true e
-    go ResetPec e = false-not-true e
-    go AssignPec e = false-not-true e
 
 as-model-run : (occupied : Pool) (last : ℕ) (s b : List ℕ) (bytes : Bytes s) (r : ModelAnswer) (s′ b′ : List ℕ) → Leaves (modelEnd occupied last s b) r s′ b′ → last < 128 → 2048 ≤ length b
     → (LengthIsBad s → ⊥) → None (EvenOrFlag s) (length s / 18) → None (SameAsEarlier s) (length s / 18) → None (FixedOnTaken (barredPool occupied) s) (length s / 18)

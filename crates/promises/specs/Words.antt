@@ -80,7 +80,7 @@ pub use Rattle.module.specs.Receive.{starts, receives}
 pub use Rattle.module.specs.Supply.{supplies}
 pub use Rattle.module.specs.Obeys.{heardAll, prepareOrder, resetOrder, directedReset, assignOrder}
 pub use Rattle.module.specs.Acknowledges.{acked, getOrder}
-pub use Rattle.module.specs.Says.{says, asked, replyTo}
+pub use Rattle.module.specs.Says.{says, afterAsking, asked, replyTo}
 pub use Rattle.module.specs.Packets.{Begins, Reachable, Known, Resets, PowersOn, PecDue}
 pub use Rattle.exchange.specs.Exchange.{exchange, recordsOf, Fitting, afterBytes}
 pub use Rattle.exchange.specs.Pass.{runOn, passOn, getsOn}
