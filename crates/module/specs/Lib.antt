@@ -17,3 +17,4 @@ pub mod ResetLaws
 pub mod ResumeLaws
 pub mod PecDueLaws
 pub mod StartLaws
+pub mod MiddleLaws
