@@ -49,5 +49,5 @@ pub record AsRecorded (u : Udid) (b g f : ℕ) (m : Module) : Type 0 where
   pub byte : addressByte (m .own) ≡ b
   pub flag : pick (m .own .resolved) 1 0 ≡ g
   pub valid : (m .own .valid ≡ true) ↔ (b ≡ 0xFF → ⊥)
-  pub home : (b ≡ 0xFF → ⊥) → m .own .home ≡ m .own .address
+  pub address : (b ≡ 0xFF → ⊥) → (m .own .address ≡ b / 2) × (m .own .home ≡ b / 2)
   pub fresh : m .own .fresh ≡ f

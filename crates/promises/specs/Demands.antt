@@ -1,7 +1,7 @@
 -- THE PAGE OF PROMISES: statements only. DemandsLaws has one inhabitant of each record, and so its proof.
 -- ≡ is 'equal', ↔ 'if and only if', × 'and', ⊎ 'or', P → ⊥ 'not P', (x : A) × P 'there is an x with P'; getD l i 0 is number i of the list l.
 -- A parameter such as (contract : Wrote ..) is what a function's `ensures` says, word for word. It need not be believed: the code meets it.
--- CONTRACTS: Leaves, Outcome, Wrote, lookedUp, messageOf, modelEnd, newController, nextFree, powered, protocolFor, receives, refreshed, reported, resumed, silentIn, started, starts, stepped, supplies, traceOf.
+-- CONTRACTS: Leaves, Outcome, Wrote, lookedUp, loses, messageOf, modelEnd, newController, nextFree, powered, protocolFor, receives, refreshed, reported, resumed, silentIn, started, starts, stepped, stops, supplies, traceOf.
 -- BELIEVED: 811 lines, without imports, comments and blanks. Crate/file, then the lines of each definition; src is a type of the code. tests/programs/believed.rs counts them.
 -- lists/Choice: and 3, not 3, or 3, pick 3; lists/Each: Any 3, Bytes 3, Each 3; wire/AddressTable: Bit 4, Covers 2, covers 3, lets 4, table17 25; wire/Addresses: isFromTo 2, isListed 2, isPreassigned 2, isReserved 2;
 -- wire/Symbols: ACK 2, NACK 2, START 2, STOP 2; wire/src: Address 1; pec/Pec: bitStep 2, pecFrom 3, pecOf 2, pecStep 2; trace/Rows: message 2; trace/Table: InTable 2, Line 6, Row 22, TraceOf 2, lastProtocol 2, line 2, symbols 2;
@@ -32,7 +32,7 @@ use Rattle.promises.specs.Words.{member, emptyPool, startingPool, barred
 use Rattle.promises.specs.Words.{used, count, not, Completes, BoundSince, LeftSince, binds, unbindings, removals, knownIn, handedOut, Removes, Rest, Reported, Left}
 use Rattle.promises.specs.Words.{Asks, Binds, Continues, EndsWith, Replies, protocolFor, messageOf, traceOf, Handed, Send, Wait, Nothing, Prepare, GetUdid, Assign, Ended, Abandoned, NotOutstanding, Open, Bound, Claimed, Controller, Stepped}
 use Rattle.promises.specs.Words.{EvenOrFlag, SameAsEarlier, FixedOnTaken, LengthIsBad, None, FirstOf, targetsOf, movable, leftFree, pass, Given, Ending, served, noneFree, Distinct, ruled, RecordOf, OnePerUdid, getsOnBus, historyOnBus, modelNumber, Leaves, modelEnd, ModelAnswer, nextFree, Next, At, AllUsed, Pick, Picks, latestOf, picksOf, FreeAtEach, Picked, identifier, holding, Shows}
-use Rattle.promises.specs.Words.{Module, Lasting, silentIn, starts, receives, supplies, powered, refreshed, resumed, resumedNumber, Ready, AsRecorded, having, heardAll, acked, prepareOrder, resetOrder, directedReset, assignOrder, getOrder, Begins, Reachable, Known, Resets, PowersOn, PecDue, says, asked, replyTo}
+use Rattle.promises.specs.Words.{Module, Lasting, silentIn, starts, stops, loses, receives, supplies, powered, refreshed, resumed, resumedNumber, Ready, AsRecorded, having, heardAll, acked, prepareOrder, resetOrder, directedReset, assignOrder, getOrder, Begins, Reachable, Known, Resets, PowersOn, PecDue, says, asked, replyTo}
 use Rattle.promises.specs.Words.{onBus, effect, mapTargets, Among, beginningOver, runOver, modelBus, exchange, recordsOf, Fitting, afterBytes, askedAll, runOn, passOn, getsOn}
 
 -- ---- THE ADDRESSES: TABLE 17 OF SMBus 3.3.1, Appendix C
@@ -323,7 +323,13 @@ pub record Listens (m : Module) (fits : In128 (m .own .udid)) (four : m .own .fr
   pub directed : Reachable (m .own) → (n : ℕ) → says (19 + n) (asked m (2 * m .own .address + 1)) ≡ replyTo (m .own) (2 * m .own .address + 1)
   pub nothing-else : (bs cs : List ℕ) (n : ℕ) → (cs ≡ 0xC3 ∷ [] → receives (starts (heardAll (starts (silentIn (m .own))) bs)) 0xC3 .ack ≡ false)
       → says n (heardAll (starts (heardAll (starts (silentIn (m .own))) bs)) cs) ≡ []
+  -- asked for a byte where it has none, it stays as it was. In a reply no byte gets ACK, and after its last byte it is silent. A START then, or right after a START, begins a new packet before C3h too
+  pub unasked : supplies m .drives ≡ false → (supplies m .after ≡ m) × (supplies m .byte ≡ 0xFF)
+  pub replying : supplies m .drives ≡ true → (starts m ≡ starts (silentIn (m .own))) × ((b : ℕ) → receives m b .ack ≡ false)
+      × (supplies (supplies m .after) .drives ≡ false → supplies m .after ≡ silentIn (m .own))
+  pub twice : starts (starts m) ≡ starts (silentIn (m .own))
   -- LOST, STOPPED OR AFTER A NACK, up to the next START: no byte gets ACK, and no bit is driven
+  pub told : (loses m ≡ silentIn (m .own)) × (stops m ≡ silentIn (m .own))
   pub silent : (b : ℕ) → (receives (silentIn (m .own)) b .ack ≡ false) × (receives (silentIn (m .own)) b .after ≡ silentIn (m .own)) × (supplies (silentIn (m .own)) .drives ≡ false)
       × (supplies (silentIn (m .own)) .after ≡ silentIn (m .own))
 
@@ -331,7 +337,8 @@ pub record Modules : Type 0 where
   pub listens : (m : Module) (fits : In128 (m .own .udid)) (four : m .own .fresh < 2 ^ 32) → Listens m fits four
   -- power on, by the kind; other fresh bytes, and nothing else
   pub power-on : (u : Udid) (a f : ℕ) → In128 u → f < 2 ^ 32 → (powered u a f ≡ silentIn (powered u a f .own)) × PowersOn u a f (powered u a f .own)
-  pub refresh : (m : Module) (f : ℕ) → (refreshed m f .own .fresh ≡ f) × (refreshed (refreshed m f) (m .own .fresh) ≡ m)
+  pub refresh : (m : Module) (f : ℕ) → refreshed m f ≡ record { own = record { udid = m .own .udid; valid = m .own .valid; address = m .own .address; resolved = m .own .resolved; home = m .own .home; fresh = f };
+      phase = m .phase; place = m .place; pec = m .pec; given = m .given }
   -- from a record of the model, with the identifier u, the address byte b and the flag g: 10 for an even byte or a flag above 1, 12 for a fixed one (its first byte below 64) with FFh
   pub resume-0 : (u : Udid) (b g f : ℕ) → In128 u → (resumedNumber (resumed u b g f) ≡ 0) ↔ ((((b % 2 ≡ 0) ⊎ (1 < g)) → ⊥) × (((getD (udidBytes u) 0 0 < 64) × (b ≡ 0xFF)) → ⊥))
   pub resume-10 : (u : Udid) (b g f : ℕ) → In128 u → (resumedNumber (resumed u b g f) ≡ 10) ↔ ((b % 2 ≡ 0) ⊎ (1 < g))

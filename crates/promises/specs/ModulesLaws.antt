@@ -31,6 +31,7 @@ use Rattle.module.specs.Obeys.{heardAll, resetOrder, directedReset}
 use Rattle.module.specs.Packets.{Resets}
 use Rattle.module.specs.PacketsLaws.{acked-exactly, obeys-prepare, obeys-reset, obeys-directed, obeys-assign, obeys-no-other}
 use Rattle.module.specs.PecDueLaws.{due-acked, differing-pec}
+use Rattle.module.specs.MiddleLaws.{nothing-moved, replying, start-twice}
 use Rattle.module.specs.NackLaws.{nack-refuses}
 use Rattle.module.specs.Receive.{starts, receives}
 use Rattle.module.specs.Reset.{reset}
@@ -71,6 +72,10 @@ listens m fits four = record {
   general = λ e n. says-general m n e;
   directed = λ h n. says-directed m n h;
   nothing-else = mute-else (m .own);
+  unasked = nothing-moved m;
+  replying = replying m;
+  twice = start-twice m;
+  told = (refl, refl);
   silent = λ b. (ap (λ (h : Heard). h .ack) (silent-nack (m .own) b), ap (λ (h : Heard). h .after) (silent-nack (m .own) b), silent-mute m .0, silent-mute m .1);
 }
   where
@@ -81,7 +86,7 @@ pub modules : Modules
 modules = record {
   listens = listens;
   power-on = λ u a f w g. (powered-silent u a f, powers-on u a f w g);
-  refresh = λ m f. (refl, refl);
+  refresh = λ m f. refl;
   resume-0 = λ u b g f w. resume-0 u b g f w;
   resume-10 = λ u b g f w. resume-10 u b g f w;
   resume-12 = λ u b g f w. resume-12 u b g f w;
