@@ -297,7 +297,8 @@ pub record Picking : Type 0 where
 
 -- ---- THE MODULE'S END OF THE BUS, SMBus 3.3.1, 6.6.3. The own part of a module outlasts a packet: identifier, Address Valid (AV), address, Address Resolved (AR), the address
 -- that it is fixed at, and the fresh bytes of its next reset. silentIn o is the module with the own part o after STOP, after it has lost, and after a NACK. heardAll (starts m) bs is
--- the module m after START and the bytes bs; acked says that each of them gets ACK, and says n has the bytes that it supplies when it is asked for n
+-- the module m after START and the bytes bs; acked says that each of them gets ACK, and says n has the bytes that it supplies when it is asked for n. having o u v a r is o with the identifier u, AV v,
+-- the address a and AR r, all else as it was
 pub record Listens (m : Module) (fits : In128 (m .own .udid)) (four : m .own .fresh < 2 ^ 32) : Type 0 where
   -- A WHOLE COMMAND WITH ITS RIGHT PEC takes effect with the PEC, whatever the module stood in before the START and whatever follows
   pub prepare : (rest : List ℕ) → heardAll (starts m) (prepareOrder ++ rest) .own ≡ having (m .own) (m .own .udid) (m .own .valid) (m .own .address) false
@@ -345,7 +346,7 @@ pub record Modules : Type 0 where
   pub resume-12 : (u : Udid) (b g f : ℕ) → In128 u → (resumedNumber (resumed u b g f) ≡ 12) ↔ ((((b % 2 ≡ 0) ⊎ (1 < g)) → ⊥) × ((getD (udidBytes u) 0 0 < 64) × (b ≡ 0xFF)))
   pub recorded : (u : Udid) (b g f : ℕ) → In128 u → b < 256 → (m : Module) → resumed u b g f ≡ Ready m → AsRecorded u b g f m
 
--- A BUS OF MODULES, bit by bit: START, each byte and STOP are given to every module, an ACK stands where one gives it, a zero beats a one, and who gives a one and sees a zero is told
+-- A BUS OF MODULES, bit by bit: START, each byte and STOP are given to every module, an ACK stands where one or more give it, a zero beats a one, and who gives a one and sees a zero is told
 -- there and then. recordsOf ms are their records: the identifier, twice the address plus 1 or FFh where AV is clear, AR
 pub record ModuleBus : Type 0 where
   -- one command, any modules in any states: the trace is that on the model's bus over their records, and what it does to the records is its effect there
@@ -360,7 +361,7 @@ pub record ModuleBus : Type 0 where
   pub rule : (occupied : Pool) (last : ℕ) (s b : List ℕ) (bytes : Bytes s) (r : ModelAnswer) (s′ b′ : List ℕ) → Leaves (modelEnd occupied last s b) r s′ b′ → last < 128 → 2048 ≤ length b
       → (LengthIsBad s → ⊥) → None (EvenOrFlag s) (length s / 18) → None (SameAsEarlier s) (length s / 18) → None (FixedOnTaken (barredPool occupied) s) (length s / 18)
       → (ms : List Module) → Each Fitting ms → recordsOf ms ≡ targetsOf s → (passOn occupied last ms .now ≡ pass occupied last (targetsOf s) .now) × (recordsOf (passOn occupied last ms .targets) ≡ targetsOf s′)
-  -- of modules that answer a Get UDID together, any two that still have a byte to send after the identifier have the same one
+  -- of modules that answer a Get UDID together, any two that still have a byte to send after the identifier have the same identifier
   pub never-two : (ms : List Module) → Each Fitting ms → (m n : Module) → Among m (afterBytes 17 (askedAll ms)) → Among n (afterBytes 17 (askedAll ms)) → supplies m .drives ≡ true → supplies n .drives ≡ true
       → m .own .udid ≡ n .own .udid
 
