@@ -168,13 +168,15 @@ done <"$out/blocks"
 [ "$cases" -gt 0 ] || wrong "no examples were found"
 
 # The requests that docs/CONSOLE.md lists under 'Requests' are those that its sessions show. A line that is no request may be shown too.
+# A request is tried where there is a module, which m speaks of.
 awk '/^#/ { inside = /Requests$/ } inside' docs/CONSOLE.md | sed -n 's/^[-|] `\([a-z]*\).*/\1/p' | sort -u >"$out/listed"
 [ -s "$out/listed" ] || wrong "docs/CONSOLE.md lists no requests"
 awk '$2 == "docs/CONSOLE.md" && $4 == "console" { print $1 }' "$out/blocks" | while read -r id; do
     sed -n 's/^> //p' "$out/$id"
 done >"$out/requests"
 while IFS= read -r request; do
-    printf '%s\n' "$request" | "$console" | grep -q '^?' || echo "$request" | awk '{ print $1 }'
+    printf 'module 80000000000000000000000000000000 0xff 0\n%s\n' "$request" | "$console" | grep -q '^?' ||
+        echo "$request" | awk '{ print $1 }'
 done <"$out/requests" | sort -u >"$out/given"
 same 'docs/CONSOLE.md, the requests listed against those shown' "$out/listed" "$out/given"
 

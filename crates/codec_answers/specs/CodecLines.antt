@@ -4,7 +4,7 @@ use mathlib.Core.List.{List, _++_}
 use Rattle.text.specs.Chars.{chars}
 use Rattle.writing.specs.Written.{decimalOf, pairOf}
 use Rattle.requests.specs.declared.expected.Expected.{Expected}
-use Rattle.requests.specs.declared.expected.Expected.the-variants.{Verb, Byte, Symbol, Protocol, Pec, Sent, Received, Udid, End, Targets, Line}
+use Rattle.requests.specs.declared.expected.Expected.the-variants.{Verb, Byte, Symbol, Protocol, Pec, Sent, Received, Udid, End, Targets, OddByte, Flag, Fresh, Event, Module, Line}
 use Rattle.encode.specs.declared.Encoded.{Encoded}
 use Rattle.encode.specs.declared.Encoded.the-variants.{Written, Forbidden, OutputTooShort}
 use Rattle.pieces.specs.Pieces.{newline, front, symbolsText}
@@ -22,6 +22,11 @@ expectedText Received = chars " expected a byte, 0 to 255, or r\n"
 expectedText Udid = chars " expected a UDID of 32 hexadecimal digits\n"
 expectedText End = chars " expected the end of the line\n"
 expectedText Targets = chars " expected at most 120 targets\n"
+expectedText OddByte = chars " expected an odd byte, below 255 for a fixed module\n"
+expectedText Flag = chars " expected 0 or 1\n"
+expectedText Fresh = chars " expected 8 hexadecimal digits\n"
+expectedText Event = chars " expected start, byte, supply, lost, stop or state\n"
+expectedText Module = chars " expected a module, which the verb module makes\n"
 expectedText Line = chars " expected a line of at most 16384 characters\n"
 
 -- the column of a place, in 64 bits

@@ -20,6 +20,23 @@ fn put_expected(out: &mut [u8], at: usize, e: Expected) -> usize
         Expected::Udid => put(out, at, b" expected a UDID of 32 hexadecimal digits\n"),
         Expected::End => put(out, at, b" expected the end of the line\n"),
         Expected::Targets => put(out, at, b" expected at most 120 targets\n"),
+        Expected::OddByte => put(
+            out,
+            at,
+            b" expected an odd byte, below 255 for a fixed module\n",
+        ),
+        Expected::Flag => put(out, at, b" expected 0 or 1\n"),
+        Expected::Fresh => put(out, at, b" expected 8 hexadecimal digits\n"),
+        Expected::Event => put(
+            out,
+            at,
+            b" expected start, byte, supply, lost, stop or state\n",
+        ),
+        Expected::Module => put(
+            out,
+            at,
+            b" expected a module, which the verb module makes\n",
+        ),
         Expected::Line => put(out, at, b" expected a line of at most 16384 characters\n"),
     }
 }

@@ -14,9 +14,10 @@ use lib.Seq.{drop-cons}
 use borrow.Author.Tests.{lt-ltb, le-ltb, ltb-true, ltb-false, le-leb, lt-leb, eq-eqb, ne-eqb}
 use Rattle.lists.specs.Choice.{pick, and}
 use Rattle.lists.specs.ChoiceLaws.{false-not-true}
-use Rattle.digits.specs.Numbers.{from-to, digitOf, baseOf, areDigits, valueFrom, valueOf, capped, digitsOf, isHex, numberOf, halvesOf}
+use Rattle.digits.specs.Numbers.{from-to, digitOf, baseOf, areDigits, valueFrom, valueOf, capped, digitsOf, isHex, numberOf, halvesOf, quarterOf}
 use Rattle.digits.specs.declared.number.Number.the-variants.{Is, NoNumber, TooLarge}
 use Rattle.digits.specs.declared.number.Halves.the-variants.{Are, NoHalves}
+use Rattle.digits.specs.declared.number.Quarter.the-variants.{Value, NoQuarter}
 
 -- ---- a digit
 
@@ -199,28 +200,48 @@ pub halves-are : (s : List ℕ) → length s ≡ 32 → areDigits 16 s ≡ true 
 unfolding halvesOf
 halves-are s h e = simp (eq-eqb _ _ h, e)
 
--- a digit more of a half: four bits more, 64 at most
-pub half-bound : (v d k : ℕ) → v < 2 ^ (4 * k) → d < 16 → v * 16 + d < 2 ^ (4 * (k + 1))
-half-bound v d k h g =
+-- a digit more: four bits more, 64 at most
+pub hex-bound : (v d k : ℕ) → v < 2 ^ (4 * k) → d < 16 → v * 16 + d < 2 ^ (4 * (k + 1))
+hex-bound v d k h g =
     let l = digits-lt {q = v} {m = 2 ^ (4 * k)} {r = d} {c = 2 ^ 4} h g in
     let e : 2 ^ (4 * (k + 1)) ≡ 2 ^ (4 * k) * 2 ^ 4 = ap (λ (x : ℕ). 2 ^ x) (omega arith) ∙ pow-add 2 (4 * k) 4 in
     omega arith
 
-pub half-fits : (v d k : ℕ) → k < 16 → v < 2 ^ (4 * k) → d < 16 → v * 16 + d < 2 ^ 64
-half-fits v d k l h g = let m = pow-mono {i = 4 * (k + 1)} {j = 64} (omega arith) in omega (arith, half-bound v d k h g)
+pub hex-fits : (v d k : ℕ) → k < 16 → v < 2 ^ (4 * k) → d < 16 → v * 16 + d < 2 ^ 64
+hex-fits v d k l h g = let m = pow-mono {i = 4 * (k + 1)} {j = 64} (omega arith) in omega (arith, hex-bound v d k h g)
 
 -- a turn, and the end
-pub half-on : (s : List ℕ) (v at k : ℕ) → k < 16 → at + k < length s
-    → valueFrom 16 v (take (16 - k) (drop (at + k) s)) ≡ valueFrom 16 (v * 16 + digitOf (getD s (at + k) 0)) (take (16 - (k + 1)) (drop (at + (k + 1)) s))
+pub hex-on : (s : List ℕ) (n v at k : ℕ) → k < n → at + k < length s
+    → valueFrom 16 v (take (n - k) (drop (at + k) s)) ≡ valueFrom 16 (v * 16 + digitOf (getD s (at + k) 0)) (take (n - (k + 1)) (drop (at + (k + 1)) s))
 unfolding valueFrom
-half-on s v at k h g =
-    let e : 16 - k ≡ suc (16 - (k + 1)) = omega arith in
+hex-on s n v at k h g =
+    let e : n - k ≡ suc (n - (k + 1)) = omega arith in
     let f : suc (at + k) ≡ at + (k + 1) = omega arith in
     rw (e, drop-cons s (at + k) 0 g, f)
 
-pub half-over : (s : List ℕ) (v at k : ℕ) → 16 ≤ k → valueFrom 16 v (take (16 - k) (drop (at + k) s)) ≡ v
+pub hex-over : (s : List ℕ) (n v at k : ℕ) → n ≤ k → valueFrom 16 v (take (n - k) (drop (at + k) s)) ≡ v
 unfolding valueFrom
-half-over s v at k h = let e : 16 - k ≡ 0 = omega arith in rw e
+hex-over s n v at k h = let e : n - k ≡ 0 = omega arith in rw e
 
-pub half-start : (s : List ℕ) (at : ℕ) → valueFrom 16 0 (take 16 (drop at s)) ≡ valueFrom 16 0 (take (16 - 0) (drop (at + 0) s))
-half-start s at = ap (λ (x : ℕ). valueFrom 16 0 (take 16 (drop x s))) (sym (add-zero at))
+pub hex-start : (s : List ℕ) (n at : ℕ) → valueFrom 16 0 (take n (drop at s)) ≡ valueFrom 16 0 (take (n - 0) (drop (at + 0) s))
+hex-start s n at =
+    let e : n ≡ n - 0 = omega arith in
+    ap (λ (m : ℕ). valueFrom 16 0 (take m (drop at s))) e ∙ ap (λ (x : ℕ). valueFrom 16 0 (take (n - 0) (drop x s))) (sym (add-zero at))
+
+-- four bits a digit
+pub hex-below : (v n k : ℕ) → v < 2 ^ (4 * k) → k ≤ n → v < 2 ^ (4 * n)
+hex-below v n k h g = let m = pow-mono {i = 4 * k} {j = 4 * n} (omega arith) in omega arith
+
+-- ---- a quarter
+
+pub quarter-length : (s : List ℕ) → (length s ≡ 8 → ⊥) → quarterOf s ≡ NoQuarter
+unfolding quarterOf
+quarter-length s h = simp (ne-eqb _ _ h)
+
+pub quarter-digits : (s : List ℕ) → length s ≡ 8 → areDigits 16 s ≡ false → quarterOf s ≡ NoQuarter
+unfolding quarterOf
+quarter-digits s h e = simp (eq-eqb _ _ h, e)
+
+pub quarter-is : (s : List ℕ) → length s ≡ 8 → areDigits 16 s ≡ true → quarterOf s ≡ Value (valueOf 16 (take 8 s))
+unfolding quarterOf
+quarter-is s h e = simp (eq-eqb _ _ h, e)

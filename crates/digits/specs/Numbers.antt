@@ -9,6 +9,8 @@ use Rattle.digits.specs.declared.number.Number.{Number}
 use Rattle.digits.specs.declared.number.Number.the-variants.{Is, NoNumber, TooLarge}
 use Rattle.digits.specs.declared.number.Halves.{Halves}
 use Rattle.digits.specs.declared.number.Halves.the-variants.{Are, NoHalves}
+use Rattle.digits.specs.declared.number.Quarter.{Quarter}
+use Rattle.digits.specs.declared.number.Quarter.the-variants.{Value, NoQuarter}
 
 -- a character from one to another
 abbrev pub from-to : ℕ → ℕ → ℕ → Bool
@@ -56,3 +58,7 @@ numberOf s = pick (isHex s) (digitsOf 16 (drop 2 s)) (digitsOf 10 s)
 unfoldable pub halvesOf : List ℕ → Halves
 halvesOf s =
     pick (and (eqb (length s) 32) (areDigits 16 s)) (Are (valueOf 16 (take 16 s)) (valueOf 16 (take 16 (drop 16 s)))) NoHalves
+
+-- the number that 8 hexadecimal digits say
+unfoldable pub quarterOf : List ℕ → Quarter
+quarterOf s = pick (and (eqb (length s) 8) (areDigits 16 s)) (Value (valueOf 16 (take 8 s))) NoQuarter

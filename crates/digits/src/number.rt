@@ -1,11 +1,11 @@
-// Numbers that words say: decimal, or hexadecimal after `0x`, of at most 65,535; and the two halves of 32 hexadecimal digits. A word
-// that is too large, or no number, is told apart, and is never taken for another number. Rests on nothing.
+// Numbers that words say: decimal, or hexadecimal after `0x`, of at most 65,535; the two halves of 32 hexadecimal digits; and the number
+// that 8 of them say. A word that is too large, or no number, is told apart, and is never taken for another number. Rests on nothing.
 ghost use mathlib.Core.Path.{_≡_};
 ghost use mathlib.Core.Bool.{true};
-ghost use Prim.Native.Nat.{_+_, _*_, _≤_, _<_};
+ghost use Prim.Native.Nat.{_+_, _*_, _^_, _≤_, _<_};
 ghost use lib.ListN.{length, take, drop};
 ghost use Rattle.lists.specs.Choice.{pick};
-ghost use Rattle.digits.specs.Numbers.{digitOf, baseOf, areDigits, valueOf, capped, isHex, digitsOf, numberOf, halvesOf};
+ghost use Rattle.digits.specs.Numbers.{digitOf, baseOf, areDigits, valueOf, capped, isHex, digitsOf, numberOf, halvesOf, quarterOf};
 
 // What a word says.
 pub enum Number {
@@ -20,6 +20,12 @@ pub enum Number {
 pub enum Halves {
     Are(u64, u64),
     NoHalves,
+}
+
+// What a word of 8 hexadecimal digits says.
+pub enum Quarter {
+    Value(u32),
+    NoQuarter,
 }
 
 // The value of a hexadecimal digit, or 16 where the character is none.
@@ -143,14 +149,14 @@ pub fn read_number(s: &[u8]) -> Number
     }
 }
 
-// The value of 16 hexadecimal digits from a place on.
-fn half(s: &[u8], at: usize) -> u64
-    requires { ⌜ (at + 16 ≤ length (now s)) × (areDigits 16 (now s) ≡ true) ⌝ }
-    ensures { λ r. ⌜ r ≡ valueOf 16 (take 16 (drop at (now (s .entry)))) ⌝ }
+// The value of n hexadecimal digits from a place on.
+fn hex_value(s: &[u8], at: usize, n: usize) -> u64
+    requires { ⌜ (n ≤ 16) × (at + n ≤ length (now s)) × (areDigits 16 (now s) ≡ true) ⌝ }
+    ensures { λ r. ⌜ (r ≡ valueOf 16 (take n (drop at (now (s .entry))))) × (r < 2 ^ (4 * n)) ⌝ }
 {
     let mut v: u64 = 0;
     let mut k: usize = 0;
-    while k < 16 {
+    while k < n {
         v = v * 16 + wide(digit(s[at + k]));
         k += 1;
     }
@@ -167,7 +173,21 @@ pub fn read_halves(s: &[u8]) -> Halves
     if !are_digits(s, 0, true) {
         return Halves::NoHalves;
     }
-    let high = half(s, 0);
-    let low = half(s, 16);
+    let high = hex_value(s, 0, 16);
+    let low = hex_value(s, 16, 16);
     Halves::Are(high, low)
+}
+
+// The number that a word of 8 hexadecimal digits says.
+pub fn read_quarter(s: &[u8]) -> Quarter
+    ensures { λ r. ⌜ r ≡ quarterOf (now (s .entry)) ⌝ }
+{
+    if s.len() != 8 {
+        return Quarter::NoQuarter;
+    }
+    if !are_digits(s, 0, true) {
+        return Quarter::NoQuarter;
+    }
+    let v = hex_value(s, 0, 8);
+    Quarter::Value(v as u32)
 }

@@ -1,4 +1,4 @@
-// A request is answered: by the libraries, and in the words of codec_answers, answers and lookups.
+// A request is answered: by the libraries, and in the words of codec_answers, answers, lookups and module_answers.
 use crate::codec::decode;
 use crate::codec::encode;
 use crate::codec::pec;
@@ -8,6 +8,8 @@ use crate::pass::start;
 use crate::pass::step;
 use crate::pass::table;
 use crate::pass::told;
+use crate::plugged::event;
+use crate::plugged::resume;
 use crate::run::run;
 use crate::setup::clear;
 use crate::setup::occupied;
@@ -43,5 +45,7 @@ pub(crate) fn answer(s: Shelf, text: &[u8], records: &mut [u8], out: &mut [u8], 
         Request::Lookup(a) => said(s, lookup(s, a, out, at)),
         Request::Gone(a) => gone(s, a, out, at),
         Request::Grid => said(s, table(s, out, at)),
+        Request::Module(t, fresh) => resume(s, t, fresh, out, at),
+        Request::Event(e, place) => event(s, e, place, text, out, at),
     }
 }

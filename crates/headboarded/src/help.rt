@@ -27,7 +27,19 @@ start                     0 next prepare\n\
 step SYMBOL...            0 next get, 0 next assign UDID A, 0 end, 13 end UDID, 14 end\n\
 lookup A                  0 udid UDID; 15 nobody, 16 claimed by two, 20 left, 1 no address\n\
 gone A                    0 gone, a pulled module is unbound; 15, 16, 20, 1 as for lookup\n\
-grid                      8 rows of 16: -- free, UU in use, XX claimed by two, LL left\n\n",
+grid                      8 rows of 16: -- free, UU in use, XX claimed by two, LL left\n",
+    );
+}
+
+// The requests of a module at its own end of the bus.
+fn help_module() {
+    io::write_all(
+        OUTPUT,
+        b"module UDID BYTE FLAG     0 module, at its own end of the bus; a random one may have 8 digits more\n\
+m start, m stop, m lost   0 start, 0 stop, 0 lost: START, STOP, arbitration lost\n\
+m byte B...               0 and ack or nack for each byte\n\
+m supply                  0 byte B, the next byte of a read, or 0 released\n\
+m state                   0 module UDID BYTE FLAG, as it is now\n\n",
     );
 }
 
@@ -67,6 +79,7 @@ pub(crate) fn argument() {
     if same(word, b"help") {
         help_codec();
         help_shelf();
+        help_module();
         help_rest();
         help_refusals();
         return;

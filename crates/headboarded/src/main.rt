@@ -1,11 +1,13 @@
 // headboarded: the console. It reads standard input to its end, one request a line, and writes an answer for each, in order; the requests
 // are listed by the argument help. Whatever it cannot read as a request it says so, with the column, and goes on.
-// Rests on crate requests for what a line means, on the libraries for every answer, and on codec_answers, answers and lookups for what is printed.
+// Rests on crate requests for what a line means, on the libraries for every answer, and on codec_answers, answers, lookups and module_answers
+// for what is printed.
 mod answer;
 mod codec;
 mod help;
 mod line;
 mod pass;
+mod plugged;
 mod print;
 mod run;
 mod setup;
@@ -43,6 +45,6 @@ fn main() {
     }
     let mut line = [0u8; 16384];
     let mut records = [0u8; 2160];
-    let mut out = [0u8; 16384];
+    let mut out = [0u8; 65536];
     talk(&mut line, &mut records, &mut out);
 }

@@ -29,10 +29,12 @@ pub(crate) fn step(s: Shelf, from: usize, text: &[u8]) -> Stepped {
 // The shelf with another state of its controller.
 fn with_state(s: Shelf, controller: Controller) -> Shelf {
     let occupied = s.occupied;
+    let plugged = s.plugged;
     Shelf {
         occupied,
         count: s.count,
         controller,
+        plugged,
     }
 }
 

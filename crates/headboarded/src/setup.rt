@@ -44,11 +44,13 @@ fn occupy(s: Shelf, addresses: &[u8], out: &mut [u8], at: usize) -> Turn {
     }
     let occupied = with_all(s.occupied, addresses);
     let controller = s.controller;
+    let plugged = s.plugged;
     let next = put_occupied(out, at, occupied.used());
     let shelf = Shelf {
         occupied,
         count: s.count,
         controller,
+        plugged,
     };
     Turn { shelf, at: next }
 }
@@ -90,10 +92,12 @@ pub(crate) fn target(
     }
     let occupied = s.occupied;
     let controller = s.controller;
+    let plugged = s.plugged;
     let shelf = Shelf {
         occupied,
         count,
         controller,
+        plugged,
     };
     let next = put_target(out, at, n);
     Turn { shelf, at: next }

@@ -1,7 +1,14 @@
 // What the console keeps between requests, beside the target records, which lie in a lent buffer.
 use arp::start::NEVER_PICKED;
 use arp::state::Controller;
+use module::state::Module;
 use pool::Pool;
+
+// The module that m speaks to, where there is one.
+pub(crate) enum Plugged {
+    Nobody,
+    One(Module),
+}
 
 pub(crate) struct Shelf {
     // The occupied addresses, for the next start and the next run.
@@ -10,6 +17,8 @@ pub(crate) struct Shelf {
     pub count: usize,
     // The controller that start and step drive.
     pub controller: Controller,
+    // The module that the verb module made.
+    pub plugged: Plugged,
 }
 
 // What a request leaves: the shelf, and the place after the answer in the output.
@@ -18,7 +27,7 @@ pub(crate) struct Turn {
     pub at: usize,
 }
 
-// No targets, nothing occupied, the controller as new.
+// No targets, nothing occupied, the controller as new, no module.
 pub(crate) fn new_shelf() -> Shelf {
     let occupied = Pool::empty();
     let controller = Controller::new(occupied, NEVER_PICKED);
@@ -26,5 +35,6 @@ pub(crate) fn new_shelf() -> Shelf {
         occupied,
         count: 0,
         controller,
+        plugged: Plugged::Nobody,
     }
 }

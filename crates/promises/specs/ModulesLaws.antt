@@ -52,9 +52,9 @@ use Rattle.promises.specs.DemandsLaws.{demand-3}
 
 -- ---- one module
 
-silent-mute : (m : Module) → (supplies (silentIn (m .own)) .drives ≡ false) × (supplies (silentIn (m .own)) .after ≡ silentIn (m .own))
+silent-mute : (m : Module) → supplies (silentIn (m .own)) .drives ≡ false
 unfolding supplies
-silent-mute m = (refl, refl)
+silent-mute m = refl
 
 listens : (m : Module) (fits : Fits (m .own .udid)) (four : m .own .fresh < 2 ^ 32) → Listens m fits four
 listens m fits four = record {
@@ -76,7 +76,7 @@ listens m fits four = record {
   replying = replying m;
   twice = start-twice m;
   told = (refl, refl);
-  silent = λ b. (ap (λ (h : Heard). h .ack) (silent-nack (m .own) b), ap (λ (h : Heard). h .after) (silent-nack (m .own) b), silent-mute m .0, silent-mute m .1);
+  silent = λ b. (ap (λ (h : Heard). h .ack) (silent-nack (m .own) b), ap (λ (h : Heard). h .after) (silent-nack (m .own) b), silent-mute m);
 }
   where
     reset-as : (x : Module) → x .own ≡ reset (m .own) → Resets (m .own) (x .own)
@@ -86,7 +86,7 @@ pub modules : Modules
 modules = record {
   listens = listens;
   power-on = λ u a f w g. (powered-silent u a f, powers-on u a f w g);
-  refresh = λ m f. refl;
+  refresh = λ m f. (refl, refl, refl, refl, refl);
   resume-0 = λ u b g f w. resume-0 u b g f w;
   resume-10 = λ u b g f w. resume-10 u b g f w;
   resume-12 = λ u b g f w. resume-12 u b g f w;

@@ -4,3 +4,4 @@ pub mod RequestLaws
 pub mod ListLaws
 pub mod RunLaws
 pub mod GoneLaws
+pub mod ModuleLaws

@@ -1,23 +1,30 @@
 -- What a line means: a request with its values, or what was expected at which place.
-use Prim.Native.Nat.{ℕ}
-use mathlib.Core.Bool.{true, false}
+use Prim.Native.Nat.{ℕ, _%_, _^_}
+use mathlib.Core.Bool.{Bool, true, false}
 use mathlib.Core.List.{List}
-use lib.Dec.{ltb, leb}
+use lib.Dec.{eqb, ltb, leb}
 use lib.ListN.{length}
-use Rattle.lists.specs.Choice.{pick}
+use Rattle.lists.specs.Choice.{pick, and, not}
 use Rattle.udid.specs.declared.Udid.{Udid}
+use Rattle.udid.specs.Udids.{topBits, isFixed}
 use Rattle.text.specs.Chars.{chars}
 use Rattle.text.specs.Words.{wordFrom}
+use Rattle.text.specs.declared.word.LineWord.{LineWord}
 use Rattle.words.specs.Verbs.{verbOf}
-use Rattle.words.specs.Said.{wordIn, byteAt, udidAt, protocolAt, pecAt, markAt, restAt}
+use Rattle.words.specs.Events.{eventOf}
+use Rattle.words.specs.Said.{wordIn, byteAt, udidAt, freshAt, protocolAt, pecAt, markAt, restAt}
 use Rattle.requests.specs.Lists.{bytesEnd, symbolsEnd}
 use Rattle.requests.specs.declared.expected.Expected.the-variants as expected
 use Rattle.words.specs.declared.verb.Verb.{Verb}
 use Rattle.words.specs.declared.verb.Verb.the-variants as verb
+use Rattle.words.specs.declared.event.Event.{Event as EventWord}
+use Rattle.words.specs.declared.event.Event.the-variants as event
 use Rattle.words.specs.declared.word.ByteWord.{ByteWord}
 use Rattle.words.specs.declared.word.ByteWord.the-variants.{Byte, NoByte}
 use Rattle.words.specs.declared.word.UdidWord.{UdidWord}
 use Rattle.words.specs.declared.word.UdidWord.the-variants.{Identifier, NoIdentifier}
+use Rattle.words.specs.declared.word.FreshWord.{FreshWord}
+use Rattle.words.specs.declared.word.FreshWord.the-variants.{Fresh, NoFresh}
 use Rattle.words.specs.declared.word.PecWord.{PecWord}
 use Rattle.words.specs.declared.word.PecWord.the-variants.{With, Without, Neither}
 use Rattle.words.specs.declared.word.MarkWord.{MarkWord}
@@ -32,8 +39,10 @@ use Rattle.requests.specs.declared.other.OneByte.{OneByte}
 use Rattle.requests.specs.declared.other.OneByte.the-variants as one
 use Rattle.requests.specs.declared.request.Head.{Head}
 use Rattle.requests.specs.declared.request.Fields.{Fields}
+use Rattle.requests.specs.declared.request.Record.{Record}
+use Rattle.requests.specs.declared.request.ModuleEvent.the-variants as happens
 use Rattle.requests.specs.declared.request.Request.{Request}
-use Rattle.requests.specs.declared.request.Request.the-variants.{Nothing, Unclear, Pec, Encode, Decode, Occupied, Target, Clear, Run, Start, Step, Lookup, Gone, Grid}
+use Rattle.requests.specs.declared.request.Request.the-variants.{Nothing, Unclear, Pec, Encode, Decode, Occupied, Target, Clear, Run, Start, Step, Lookup, Gone, Grid, Module, Event}
 
 -- a request whose list of bytes, or of symbols, reaches to the end of the line
 abbrev pub bytesTo : List ℕ → ℕ → Request → Request
@@ -190,6 +199,74 @@ udidIs line (NoIdentifier at) = Unclear expected.Udid at
 unfoldable pub targetRequest : List ℕ → ℕ → Request
 targetRequest line at = udidIs line (udidAt line at)
 
+-- ---- module UDID BYTE FLAG, and for a random module the last four bytes that its identifier takes at a reset
+
+-- the top two bits are 11
+abbrev pub isRandom : Udid → Bool
+isRandom u = eqb (topBits u) 3
+
+-- 8 digits, and no word after them
+abbrev pub freshIs : Record → List ℕ → FreshWord → Request
+freshIs t line (Fresh f next) = ended (Module t f) line next
+freshIs t line (NoFresh place) = Unclear expected.Fresh place
+
+unfoldable pub moduleFresh : Record → List ℕ → ℕ → Request
+moduleFresh t line at = freshIs t line (freshAt line at)
+
+-- without a fourth word the last bytes stay; only a random module may have one
+abbrev pub fourthIs : Record → List ℕ → ℕ → Rest → Request
+fourthIs t line at left.Nothing = Module t (t .udid .low % 2 ^ 32)
+fourthIs t line at (left.Word place) = moduleFresh t line at
+
+unfoldable pub freshOn : Record → List ℕ → ℕ → Request
+freshOn t line at = pick (isRandom (t .udid)) (fourthIs t line at (restAt line at)) (ended (Module t (t .udid .low % 2 ^ 32)) line at)
+
+-- FLAG, whose word begins from a place on, is 0 or 1
+unfoldable pub flagOn : Udid → ℕ → ℕ → List ℕ → ℕ → ℕ → Request
+flagOn u b f line at next = pick (ltb 1 f) (Unclear expected.Flag (wordFrom line at .from)) (freshOn (record { udid = u; byte = b; flag = f }) line next)
+
+abbrev pub moduleFlagIs : Udid → ℕ → List ℕ → ℕ → ByteWord → Request
+moduleFlagIs u b line at (Byte f next) = flagOn u b f line at next
+moduleFlagIs u b line at (NoByte place) = Unclear expected.Byte place
+
+unfoldable pub moduleFlag : Udid → ℕ → List ℕ → ℕ → Request
+moduleFlag u b line at = moduleFlagIs u b line at (byteAt line at)
+
+-- BYTE is odd, and 255, with which no address is valid, only for a movable module
+unfoldable pub isModuleByte : Udid → ℕ → Bool
+isModuleByte u b = and (not (eqb (b % 2) 0)) (not (and (isFixed u) (eqb b 0xFF)))
+
+unfoldable pub byteIn : Udid → ℕ → List ℕ → ℕ → ℕ → Request
+byteIn u b line at next = pick (isModuleByte u b) (moduleFlag u b line next) (Unclear expected.OddByte (wordFrom line at .from))
+
+abbrev pub moduleByteIs : Udid → List ℕ → ℕ → ByteWord → Request
+moduleByteIs u line at (Byte b next) = byteIn u b line at next
+moduleByteIs u line at (NoByte place) = Unclear expected.Byte place
+
+unfoldable pub moduleByte : Udid → List ℕ → ℕ → Request
+moduleByte u line at = moduleByteIs u line at (byteAt line at)
+
+abbrev pub moduleIs : List ℕ → UdidWord → Request
+moduleIs line (Identifier u place next) = moduleByte u line next
+moduleIs line (NoIdentifier at) = Unclear expected.Udid at
+
+unfoldable pub moduleRequest : List ℕ → ℕ → Request
+moduleRequest line at = moduleIs line (udidAt line at)
+
+-- ---- m start, byte B..., supply, lost, stop or state; the place is that of m
+
+abbrev pub eventIn : EventWord → List ℕ → ℕ → LineWord → Request
+eventIn event.Start line place w = ended (Event happens.Start place) line (w .to)
+eventIn event.Byte line place w = bytesTo line (w .to) (Event (happens.Bytes (w .to)) place)
+eventIn event.Supply line place w = ended (Event happens.Supply place) line (w .to)
+eventIn event.Lost line place w = ended (Event happens.Lost place) line (w .to)
+eventIn event.Stop line place w = ended (Event happens.Stop place) line (w .to)
+eventIn event.State line place w = ended (Event happens.State place) line (w .to)
+eventIn event.Other line place w = Unclear expected.Event (w .from)
+
+unfoldable pub eventRequest : List ℕ → ℕ → ℕ → Request
+eventRequest line place at = eventIn (eventOf (wordIn line (wordFrom line at))) line place (wordFrom line at)
+
 -- ---- a line: its verb, and the words after it
 
 abbrev pub requestIn : Verb → List ℕ → ℕ → ℕ → Request
@@ -205,6 +282,8 @@ requestIn verb.Step line place at = stepRequest line at
 requestIn verb.Lookup line place at = lookupRequest line at
 requestIn verb.Gone line place at = goneRequest line at
 requestIn verb.Grid line place at = ended Grid line at
+requestIn verb.Module line place at = moduleRequest line at
+requestIn verb.M line place at = eventRequest line place at
 requestIn verb.Other line place at = Unclear expected.Verb place
 
 -- a line of no word asks for nothing

@@ -20,6 +20,16 @@ pub enum Expected {
     End,
     // Room for a target record.
     Targets,
+    // An odd byte; where the module is fixed, not 255.
+    OddByte,
+    // 0 or 1.
+    Flag,
+    // 8 hexadecimal digits.
+    Fresh,
+    // start, byte, supply, lost, stop or state.
+    Event,
+    // A module, which the verb module makes.
+    Module,
     // A line that is no longer than a line may be.
     Line,
 }

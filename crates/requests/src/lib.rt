@@ -4,5 +4,6 @@ mod encoding;
 pub mod expected;
 mod head;
 pub mod list;
+mod modules;
 mod other;
 pub mod request;

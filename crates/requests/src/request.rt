@@ -6,6 +6,8 @@ use crate::encoding::decode;
 use crate::encoding::encode;
 use crate::encoding::pec;
 use crate::expected::Expected;
+use crate::modules::event;
+use crate::modules::resume;
 use crate::other::ending;
 use crate::other::gone;
 use crate::other::lookup;
@@ -39,6 +41,20 @@ pub struct Record {
     pub flag: u8,
 }
 
+// What happens to a module at its own end of the bus, or what is asked of it there.
+pub enum ModuleEvent {
+    Start,
+    // It receives the bytes from a place on.
+    Bytes(usize),
+    // The next byte of a read.
+    Supply,
+    // It has lost arbitration.
+    Lost,
+    Stop,
+    // What it is now.
+    State,
+}
+
 // What a line asks for.
 pub enum Request {
     // A line of no word.
@@ -66,6 +82,10 @@ pub enum Request {
     // The module at an address is gone.
     Gone(u8),
     Grid,
+    // A module in place of any other: its record, and the last four bytes that its identifier takes at a reset.
+    Module(Record, u32),
+    // Something happens to the module; and the place of the verb.
+    Event(ModuleEvent, usize),
 }
 
 // The request of a verb, with the words from a place on.
@@ -85,6 +105,8 @@ fn request_in(v: Verb, line: &[u8], verb: usize, from: usize) -> Request
         Verb::Lookup => lookup(line, from),
         Verb::Gone => gone(line, from),
         Verb::Grid => ending(Request::Grid, line, from),
+        Verb::Module => resume(line, from),
+        Verb::M => event(line, verb, from),
         Verb::Other => Request::Unclear(Expected::Verb, verb),
     }
 }

@@ -9,9 +9,11 @@ use Rattle.digits.specs.declared.number.Number.{Number}
 use Rattle.digits.specs.declared.number.Number.the-variants.{Is, NoNumber, TooLarge}
 use Rattle.digits.specs.declared.number.Halves.{Halves}
 use Rattle.digits.specs.declared.number.Halves.the-variants.{Are, NoHalves}
+use Rattle.digits.specs.declared.number.Quarter.{Quarter}
+use Rattle.digits.specs.declared.number.Quarter.the-variants.{Value, NoQuarter}
 use Rattle.text.specs.Chars.{chars}
 use Rattle.text.specs.Words.{wordFrom, partOf, sameText}
-use Rattle.digits.specs.Numbers.{numberOf, halvesOf}
+use Rattle.digits.specs.Numbers.{numberOf, halvesOf, quarterOf}
 use Rattle.names.specs.Names.{noProtocol, protocolNamed}
 use Rattle.words.specs.declared.word.ByteWord.{ByteWord}
 use Rattle.words.specs.declared.word.ByteWord.the-variants.{Byte, NoByte}
@@ -19,6 +21,8 @@ use Rattle.words.specs.declared.word.SymbolWord.{SymbolWord}
 use Rattle.words.specs.declared.word.SymbolWord.the-variants.{Symbol, NoSymbol}
 use Rattle.words.specs.declared.word.UdidWord.{UdidWord}
 use Rattle.words.specs.declared.word.UdidWord.the-variants.{Identifier, NoIdentifier}
+use Rattle.words.specs.declared.word.FreshWord.{FreshWord}
+use Rattle.words.specs.declared.word.FreshWord.the-variants.{Fresh, NoFresh}
 use Rattle.words.specs.declared.word.PecWord.{PecWord}
 use Rattle.words.specs.declared.word.PecWord.the-variants.{With, Without, Neither}
 use Rattle.words.specs.declared.word.MarkWord.{MarkWord}
@@ -55,6 +59,14 @@ udidSaid w NoHalves = NoIdentifier (w .from)
 
 unfoldable pub udidAt : List ℕ → ℕ → UdidWord
 udidAt line at = udidSaid (wordFrom line at) (halvesOf (wordIn line (wordFrom line at)))
+
+-- the last four bytes of an identifier: 8 hexadecimal digits
+abbrev pub freshSaid : LineWord → Quarter → FreshWord
+freshSaid w (Value v) = Fresh v (w .to)
+freshSaid w NoQuarter = NoFresh (w .from)
+
+unfoldable pub freshAt : List ℕ → ℕ → FreshWord
+freshAt line at = freshSaid (wordFrom line at) (quarterOf (wordIn line (wordFrom line at)))
 
 -- a protocol: its name, or a byte
 unfoldable pub protocolAt : List ℕ → ℕ → ByteWord

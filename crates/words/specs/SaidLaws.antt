@@ -10,15 +10,18 @@ use Rattle.digits.specs.declared.number.Number.{Number}
 use Rattle.digits.specs.declared.number.Number.the-variants.{Is, NoNumber, TooLarge}
 use Rattle.digits.specs.declared.number.Halves.{Halves}
 use Rattle.digits.specs.declared.number.Halves.the-variants.{Are, NoHalves}
+use Rattle.digits.specs.declared.number.Quarter.{Quarter}
+use Rattle.digits.specs.declared.number.Quarter.the-variants.{Value, NoQuarter}
 use Rattle.text.specs.Chars.{chars}
 use Rattle.text.specs.Words.{wordFrom, partOf, sameText}
-use Rattle.digits.specs.Numbers.{numberOf, halvesOf}
+use Rattle.digits.specs.Numbers.{numberOf, halvesOf, quarterOf}
 use Rattle.names.specs.Names.{noProtocol, protocolNamed}
-use Rattle.words.specs.Said.{byteAt, symbolAt, udidAt, protocolAt, pecAt, markAt, restAt}
+use Rattle.words.specs.Said.{byteAt, symbolAt, udidAt, freshAt, protocolAt, pecAt, markAt, restAt}
 use Rattle.words.specs.declared.word.ByteWord.{ByteWord}
 use Rattle.words.specs.declared.word.ByteWord.the-variants.{Byte, NoByte}
 use Rattle.words.specs.declared.word.SymbolWord.the-variants.{Symbol, NoSymbol}
 use Rattle.words.specs.declared.word.UdidWord.the-variants.{Identifier, NoIdentifier}
+use Rattle.words.specs.declared.word.FreshWord.the-variants.{Fresh, NoFresh}
 use Rattle.words.specs.declared.word.PecWord.the-variants.{With, Without, Neither}
 use Rattle.words.specs.declared.word.MarkWord.the-variants.{Mark, Over, Another}
 use Rattle.words.specs.declared.word.Rest.the-variants as left
@@ -69,6 +72,14 @@ module _ (line : List ℕ) (at : ℕ) (w : LineWord) (s : List ℕ) (e : w ≡ w
   pub udid-none : (h : Halves) → h ≡ halvesOf s → h ≡ NoHalves → NoIdentifier (w .from) ≡ udidAt line at
   unfolding udidAt
   udid-none h g k = rw (← e, ← f, ← g, k)
+
+  pub fresh-is : (q : Quarter) (x : ℕ) → q ≡ quarterOf s → q ≡ Value x → Fresh x (w .to) ≡ freshAt line at
+  unfolding freshAt
+  fresh-is q x g k = rw (← e, ← f, ← g, k)
+
+  pub fresh-none : (q : Quarter) → q ≡ quarterOf s → q ≡ NoQuarter → NoFresh (w .from) ≡ freshAt line at
+  unfolding freshAt
+  fresh-none q g k = rw (← e, ← f, ← g, k)
 
   -- ---- a protocol
 

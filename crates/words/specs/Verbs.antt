@@ -5,7 +5,11 @@ use Rattle.lists.specs.Choice.{pick}
 use Rattle.text.specs.Chars.{chars}
 use Rattle.text.specs.Words.{sameText}
 use Rattle.words.specs.declared.verb.Verb.{Verb}
-use Rattle.words.specs.declared.verb.Verb.the-variants.{Pec, Encode, Decode, Occupied, Target, Clear, Run, Start, Step, Lookup, Gone, Grid, Other}
+use Rattle.words.specs.declared.verb.Verb.the-variants.{Pec, Encode, Decode, Occupied, Target, Clear, Run, Start, Step, Lookup, Gone, Grid, Module, M, Other}
+
+-- the verbs of the module's own end
+unfoldable pub moduleVerb : List ℕ → Verb
+moduleVerb s = pick (sameText s (chars "module")) Module (pick (sameText s (chars "m")) M Other)
 
 -- the verbs of a pass
 unfoldable pub passVerb : List ℕ → Verb
@@ -15,7 +19,7 @@ passVerb s =
     (pick (sameText s (chars "lookup")) Lookup
     (pick (sameText s (chars "gone")) Gone
     (pick (sameText s (chars "grid")) Grid
-    Other))))
+    (moduleVerb s)))))
 
 -- the verb that a word is
 unfoldable pub verbOf : List ℕ → Verb

@@ -1,3 +1,4 @@
-// What one word of a request says: a verb, a protocol, a byte, a symbol, an identifier, or a mark. Rests on text, digits, names and udid.
+// What one word of a request says: a verb, an event, a protocol, a byte, a symbol, an identifier or its end, or a mark. Rests on text, digits, names and udid.
+pub mod event;
 pub mod verb;
 pub mod word;

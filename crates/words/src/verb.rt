@@ -1,6 +1,6 @@
 // The verbs: the first word of a request.
 ghost use mathlib.Core.Path.{_≡_};
-ghost use Rattle.words.specs.Verbs.{verbOf, passVerb};
+ghost use Rattle.words.specs.Verbs.{verbOf, passVerb, moduleVerb};
 use text::word::same;
 
 pub enum Verb {
@@ -16,8 +16,24 @@ pub enum Verb {
     Lookup,
     Gone,
     Grid,
+    // A module at its own end of the bus, and what happens to it there.
+    Module,
+    M,
     // Any other word.
     Other,
+}
+
+// The verbs of the module's own end.
+fn module_verb(s: &[u8]) -> Verb
+    ensures { λ r. ⌜ r ≡ moduleVerb (now (s .entry)) ⌝ }
+{
+    if same(s, b"module") {
+        return Verb::Module;
+    }
+    if same(s, b"m") {
+        return Verb::M;
+    }
+    Verb::Other
 }
 
 // The verbs of a pass.
@@ -39,7 +55,7 @@ fn pass_verb(s: &[u8]) -> Verb
     if same(s, b"grid") {
         return Verb::Grid;
     }
-    Verb::Other
+    module_verb(s)
 }
 
 // The verb that a word is.

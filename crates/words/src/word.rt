@@ -1,10 +1,12 @@
 // One word of a line, read as what is due there. Rests on crates text, digits and names.
 ghost use mathlib.Core.Path.{_≡_};
-ghost use Rattle.words.specs.Said.{byteAt, symbolAt, udidAt, protocolAt, pecAt, markAt, restAt};
+ghost use Rattle.words.specs.Said.{byteAt, symbolAt, udidAt, freshAt, protocolAt, pecAt, markAt, restAt};
 use digits::number::Halves;
 use digits::number::Number;
+use digits::number::Quarter;
 use digits::number::read_halves;
 use digits::number::read_number;
+use digits::number::read_quarter;
 use names::NO_PROTOCOL;
 use names::protocol_named;
 use text::word::next_word;
@@ -28,6 +30,12 @@ pub enum SymbolWord {
 pub enum UdidWord {
     Identifier(Udid, usize, usize),
     NoIdentifier(usize),
+}
+
+// The last four bytes of an identifier and the place after their word, or the place of a word that is none.
+pub enum FreshWord {
+    Fresh(u32, usize),
+    NoFresh(usize),
 }
 
 // With PEC or without, and the place after the word; or the place of another word.
@@ -97,6 +105,18 @@ pub fn udid_word(line: &[u8], at: usize) -> UdidWord
     match h {
         Halves::Are(high, low) => UdidWord::Identifier(Udid { high, low }, w.from, w.to),
         Halves::NoHalves => UdidWord::NoIdentifier(w.from),
+    }
+}
+
+// The next word as the last four bytes of an identifier.
+pub fn fresh_word(line: &[u8], at: usize) -> FreshWord
+    ensures { λ r. ⌜ r ≡ freshAt (now (line .entry)) at ⌝ }
+{
+    let w = next_word(line, at);
+    let q = read_quarter(part(line, w.from, w.to));
+    match q {
+        Quarter::Value(v) => FreshWord::Fresh(v, w.to),
+        Quarter::NoQuarter => FreshWord::NoFresh(w.from),
     }
 }
 

@@ -104,6 +104,51 @@ slice-aggregate-put-11 c = search needs
 put-requires-11 : tie.Need-put-requires-11
 put-requires-11 c κs = search needs
 
+enum-told-12 : tie.Need-enum-told-12
+enum-told-12 c = search needs
+
+slice-aggregate-put-12 : tie.Need-slice-aggregate-put-12
+slice-aggregate-put-12 c = search needs
+
+put-requires-12 : tie.Need-put-requires-12
+put-requires-12 c κs = search needs
+
+enum-told-13 : tie.Need-enum-told-13
+enum-told-13 c = search needs
+
+slice-aggregate-put-13 : tie.Need-slice-aggregate-put-13
+slice-aggregate-put-13 c = search needs
+
+put-requires-13 : tie.Need-put-requires-13
+put-requires-13 c κs = search needs
+
+enum-told-14 : tie.Need-enum-told-14
+enum-told-14 c = search needs
+
+slice-aggregate-put-14 : tie.Need-slice-aggregate-put-14
+slice-aggregate-put-14 c = search needs
+
+put-requires-14 : tie.Need-put-requires-14
+put-requires-14 c κs = search needs
+
+enum-told-15 : tie.Need-enum-told-15
+enum-told-15 c = search needs
+
+slice-aggregate-put-15 : tie.Need-slice-aggregate-put-15
+slice-aggregate-put-15 c = search needs
+
+put-requires-15 : tie.Need-put-requires-15
+put-requires-15 c κs = search needs
+
+enum-told-16 : tie.Need-enum-told-16
+enum-told-16 c = search needs
+
+slice-aggregate-put-16 : tie.Need-slice-aggregate-put-16
+slice-aggregate-put-16 c = search needs
+
+put-requires-16 : tie.Need-put-requires-16
+put-requires-16 c κs = search needs
+
 same-length : tie.Need-same-length
 same-length c = search needs
 
@@ -170,6 +215,36 @@ same-length-11 c = search needs
 returns-11 : tie.Need-returns-11
 returns-11 c = appended-as (sym (ap expectedText (c .before .before .before .before .before .enum-told11 .given .1))) (c .before .before .put11 .ensures)
 
+same-length-12 : tie.Need-same-length-12
+same-length-12 c = search needs
+
+returns-12 : tie.Need-returns-12
+returns-12 c = appended-as (sym (ap expectedText (c .before .before .before .before .before .enum-told12 .given .1))) (c .before .before .put12 .ensures)
+
+same-length-13 : tie.Need-same-length-13
+same-length-13 c = search needs
+
+returns-13 : tie.Need-returns-13
+returns-13 c = appended-as (sym (ap expectedText (c .before .before .before .before .before .enum-told13 .given .1))) (c .before .before .put13 .ensures)
+
+same-length-14 : tie.Need-same-length-14
+same-length-14 c = search needs
+
+returns-14 : tie.Need-returns-14
+returns-14 c = appended-as (sym (ap expectedText (c .before .before .before .before .before .enum-told14 .given .1))) (c .before .before .put14 .ensures)
+
+same-length-15 : tie.Need-same-length-15
+same-length-15 c = search needs
+
+returns-15 : tie.Need-returns-15
+returns-15 c = appended-as (sym (ap expectedText (c .before .before .before .before .before .enum-told15 .given .1))) (c .before .before .put15 .ensures)
+
+same-length-16 : tie.Need-same-length-16
+same-length-16 c = search needs
+
+returns-16 : tie.Need-returns-16
+returns-16 c = appended-as (sym (ap expectedText (c .before .before .before .before .before .enum-told16 .given .1))) (c .before .before .put16 .ensures)
+
 pub put-expected-spec : {M : Type 1} → statement M
 put-expected-spec =
     tie.close
@@ -207,6 +282,21 @@ put-expected-spec =
     enum-told-11
     slice-aggregate-put-11
     put-requires-11
+    enum-told-12
+    slice-aggregate-put-12
+    put-requires-12
+    enum-told-13
+    slice-aggregate-put-13
+    put-requires-13
+    enum-told-14
+    slice-aggregate-put-14
+    put-requires-14
+    enum-told-15
+    slice-aggregate-put-15
+    put-requires-15
+    enum-told-16
+    slice-aggregate-put-16
+    put-requires-16
     same-length
     returns
     same-length-2
@@ -228,4 +318,14 @@ put-expected-spec =
     same-length-10
     returns-10
     same-length-11
-    returns-11)
+    returns-11
+    same-length-12
+    returns-12
+    same-length-13
+    returns-13
+    same-length-14
+    returns-14
+    same-length-15
+    returns-15
+    same-length-16
+    returns-16)

@@ -80,6 +80,18 @@ ending-requires-3 c κs = search needs
 enum-told-13 : tie.Need-enum-told-13
 enum-told-13 c = search needs
 
+resume-requires : tie.Need-resume-requires
+resume-requires c κs = search needs
+
+enum-told-14 : tie.Need-enum-told-14
+enum-told-14 c = search needs
+
+event-requires : tie.Need-event-requires
+event-requires c κs = search needs
+
+enum-told-15 : tie.Need-enum-told-15
+enum-told-15 c = search needs
+
 returns : tie.Need-returns
 returns c = c .pec .ensures ∙ sym (ap (λ (v : Verb). requestIn v (c .before .before .before .before .args .line .now) (c .before .before .before .before .args .verb) (c .before .before .before .before .args .from)) (c .before .enum-told .given .1))
 
@@ -117,7 +129,13 @@ returns-12 : tie.Need-returns-12
 returns-12 c = c .ending3 .ensures ∙ sym (ap (λ (v : Verb). requestIn v (c .before .before .before .before .args .line .now) (c .before .before .before .before .args .verb) (c .before .before .before .before .args .from)) (c .before .enum-told12 .given .1))
 
 returns-13 : tie.Need-returns-13
-returns-13 c = sym (ap (λ (v : Verb). requestIn v (c .before .before .before .args .line .now) (c .before .before .before .args .verb) (c .before .before .before .args .from)) (c .enum-told13 .given .1))
+returns-13 c = c .resume .ensures ∙ sym (ap (λ (v : Verb). requestIn v (c .before .before .before .before .args .line .now) (c .before .before .before .before .args .verb) (c .before .before .before .before .args .from)) (c .before .enum-told13 .given .1))
+
+returns-14 : tie.Need-returns-14
+returns-14 c = c .event .ensures ∙ sym (ap (λ (v : Verb). requestIn v (c .before .before .before .before .args .line .now) (c .before .before .before .before .args .verb) (c .before .before .before .before .args .from)) (c .before .enum-told14 .given .1))
+
+returns-15 : tie.Need-returns-15
+returns-15 c = sym (ap (λ (v : Verb). requestIn v (c .before .before .before .args .line .now) (c .before .before .before .args .verb) (c .before .before .before .args .from)) (c .enum-told15 .given .1))
 
 pub request-in-spec : {M : Type 1} → statement M
 request-in-spec =
@@ -148,6 +166,10 @@ request-in-spec =
     enum-told-12
     ending-requires-3
     enum-told-13
+    resume-requires
+    enum-told-14
+    event-requires
+    enum-told-15
     returns
     returns-2
     returns-3
@@ -160,4 +182,6 @@ request-in-spec =
     returns-10
     returns-11
     returns-12
-    returns-13)
+    returns-13
+    returns-14
+    returns-15)

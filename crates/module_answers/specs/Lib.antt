@@ -1,0 +1,4 @@
+pub mod ModuleLines
+pub mod Hearings
+pub mod HearingLaws
+pub mod ReadyLaws
