@@ -333,7 +333,7 @@ hb_module hb_module_power_on(hb_udid udid, uint8_t address, uint32_t fresh);
  * 0xff for Address Valid clear; the flag is Address Resolved. A fixed one is fixed at that address. 10 is for an even byte or a flag
  * above 1, 12 for a fixed one with 0xff. */
 hb_resumed hb_module_of_record(hb_udid udid, uint8_t byte, uint8_t flag, uint32_t fresh);
-/* Other fresh bytes for the next reset: after each reset a random module needs some. */
+/* Other fresh bytes for the next reset. A random module needs some after power on and after each reset, or it takes the same again. */
 hb_module hb_module_refresh(hb_module m, uint32_t fresh);
 /* START or repeated START; STOP; arbitration was lost. */
 hb_module hb_module_start(hb_module m);

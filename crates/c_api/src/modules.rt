@@ -1,9 +1,8 @@
 // A module's own end of the bus. C keeps the module as a struct of numbers: each call takes it and hands it back.
 ghost use mathlib.Core.Path.{_≡_};
-ghost use Rattle.module.specs.Receive.{starts, receives};
+ghost use Rattle.module.specs.Receive.{starts, receives, loses, stops};
 ghost use Rattle.module.specs.Reset.{powered, refreshed};
 ghost use Rattle.module.specs.Resume.{resumed};
-ghost use Rattle.module.specs.State.{silentIn};
 ghost use Rattle.module.specs.Supply.{addressByte, supplies};
 ghost use Rattle.c_arp.specs.Parts.{udidIn};
 ghost use Rattle.c_module.specs.Modules.{lastingIn, moduleIn, toldModule, toldHeard, toldSupplied, toldResumed};
@@ -73,7 +72,7 @@ pub extern "C" fn hb_module_supply(m: HbModule) -> HbSupplied
 // Arbitration was lost.
 #[no_mangle]
 pub extern "C" fn hb_module_lost(m: HbModule) -> HbModule
-    ensures { λ r. ⌜ r ≡ toldModule (silentIn (lastingIn m)) ⌝ }
+    ensures { λ r. ⌜ r ≡ toldModule (loses (moduleIn m)) ⌝ }
 {
     lost(m)
 }
@@ -81,7 +80,7 @@ pub extern "C" fn hb_module_lost(m: HbModule) -> HbModule
 // STOP.
 #[no_mangle]
 pub extern "C" fn hb_module_stop(m: HbModule) -> HbModule
-    ensures { λ r. ⌜ r ≡ toldModule (silentIn (lastingIn m)) ⌝ }
+    ensures { λ r. ⌜ r ≡ toldModule (stops (moduleIn m)) ⌝ }
 {
     stop(m)
 }

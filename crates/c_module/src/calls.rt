@@ -1,9 +1,8 @@
 // The calls of a module's firmware: each takes the module that C keeps, and hands it back.
 ghost use mathlib.Core.Path.{_≡_};
-ghost use Rattle.module.specs.Receive.{starts, receives};
+ghost use Rattle.module.specs.Receive.{starts, receives, loses, stops};
 ghost use Rattle.module.specs.Reset.{powered, refreshed};
 ghost use Rattle.module.specs.Resume.{resumed};
-ghost use Rattle.module.specs.State.{silentIn};
 ghost use Rattle.module.specs.Supply.{addressByte, supplies};
 ghost use Rattle.c_arp.specs.Parts.{udidIn};
 ghost use Rattle.c_module.specs.Modules.{lastingIn, moduleIn, toldModule, toldHeard, toldSupplied, toldResumed};
@@ -71,7 +70,7 @@ pub fn supply(h: HbModule) -> HbSupplied
 
 // Arbitration was lost.
 pub fn lost(h: HbModule) -> HbModule
-    ensures { λ r. ⌜ r ≡ toldModule (silentIn (lastingIn h)) ⌝ }
+    ensures { λ r. ⌜ r ≡ toldModule (loses (moduleIn h)) ⌝ }
 {
     let m = module_in(h);
     told_module(m.lost())
@@ -79,7 +78,7 @@ pub fn lost(h: HbModule) -> HbModule
 
 // STOP.
 pub fn stop(h: HbModule) -> HbModule
-    ensures { λ r. ⌜ r ≡ toldModule (silentIn (lastingIn h)) ⌝ }
+    ensures { λ r. ⌜ r ≡ toldModule (stops (moduleIn h)) ⌝ }
 {
     let m = module_in(h);
     told_module(m.stop())

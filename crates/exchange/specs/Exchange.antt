@@ -17,8 +17,7 @@ use Rattle.commands.specs.declared.command.Handed.{Handed}
 use Rattle.commands.specs.declared.command.Handed.the-variants.{Send, Wait}
 use Rattle.rule.specs.Acknowledge.{sentPart}
 use Rattle.module.specs.declared.state.Module.{Module}
-use Rattle.module.specs.State.{silentIn}
-use Rattle.module.specs.Receive.{starts, receives}
+use Rattle.module.specs.Receive.{starts, receives, loses, stops}
 use Rattle.module.specs.Supply.{addressByte, supplies}
 
 -- the identifier of a module is a number of 128 bits
@@ -31,10 +30,6 @@ recordOf m = record { udid = m .own .udid; addressByte = addressByte (m .own); f
 
 abbrev pub recordsOf : List Module → List Target
 recordsOf ms = map recordOf ms
-
--- STOP, and what one who lost is told
-abbrev pub silenced : Module → Module
-silenced m = silentIn (m .own)
 
 -- a byte for every module, and whether one of them acknowledges it
 abbrev pub hearing : ℕ → Module → Module
@@ -53,7 +48,7 @@ abbrev pub put : ℕ → Left → Left
 put x l = record { trace = x ∷ l .trace; modules = l .modules }
 
 abbrev pub stopAll : List Module → Left
-stopAll ms = record { trace = STOP ∷ []; modules = map silenced ms }
+stopAll ms = record { trace = STOP ∷ []; modules = map stops ms }
 
 -- the symbols that the controller sends, with an ACK behind each byte, walk over the modules; a says whether the last byte was acknowledged. At
 -- the first that is not NACK and STOP stand; where there is none the rest follows
@@ -84,7 +79,7 @@ line (s ∷ ss) = and (pick (s .sends) (next (s .left)) true) (line ss)
 abbrev pub sees : Bool → Sender → Sender
 sees seen s =
     pick (and (s .sends) (and (next (s .left)) (not seen)))
-    (record { who = silenced (s .who); sends = false; left = [] })
+    (record { who = loses (s .who); sends = false; left = [] })
     (record { who = s .who; sends = s .sends; left = later (s .left) })
 
 -- n bits as they stand on the wire, and the senders after them
@@ -118,7 +113,7 @@ blockLength ms = suc (suc (byteOn ms))
 abbrev pub reading : List Module → Left
 reading ms = record {
   trace = nacked (bytesOn (blockLength ms) ms) ++ STOP ∷ [];
-  modules = map silenced (afterBytes (blockLength ms) ms);
+  modules = map stops (afterBytes (blockLength ms) ms);
 }
 
 -- what follows the symbols that the controller sends: after Get UDID the read, else STOP. An end is no command: nothing is sent, nothing follows

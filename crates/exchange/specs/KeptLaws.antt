@@ -8,15 +8,16 @@ use Rattle.arbitration.specs.Wire.{next, later}
 use Rattle.targets.specs.Target.{Target}
 use Rattle.module.specs.declared.state.Lasting.{Lasting}
 use Rattle.module.specs.declared.state.Module.{Module}
+use Rattle.module.specs.Receive.{loses}
 use Rattle.module.specs.Supply.{addressByte}
 use Rattle.module.specs.SupplyLaws.{supplied-own}
-use Rattle.exchange.specs.Exchange.{recordOf, recordsOf, silenced, Sender, asked, line, sees, after, afterByte, afterBytes}
+use Rattle.exchange.specs.Exchange.{recordOf, recordsOf, Sender, asked, line, sees, after, afterByte, afterBytes}
 
 sees-record : (w : Bool) (s : Sender) → recordOf (sees w s .who) ≡ recordOf (s .who)
 sees-record w s = go (and (s .sends) (and (next (s .left)) (not w)))
   where
     go : (z : Bool)
-        → recordOf (pick {A = Sender} z (record { who = silenced (s .who); sends = false; left = [] }) (record { who = s .who; sends = s .sends; left = later (s .left) }) .who)
+        → recordOf (pick {A = Sender} z (record { who = loses (s .who); sends = false; left = [] }) (record { who = s .who; sends = s .sends; left = later (s .left) }) .who)
         ≡ recordOf (s .who)
     go true = refl
     go false = refl

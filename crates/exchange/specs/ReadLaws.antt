@@ -20,11 +20,12 @@ use Rattle.module.specs.declared.state.Phase.the-variants.{Reply}
 use Rattle.module.specs.declared.state.Lasting.{Lasting}
 use Rattle.module.specs.declared.state.Module.{Module}
 use Rattle.module.specs.State.{at, silentIn}
+use Rattle.module.specs.Receive.{loses}
 use Rattle.pec.specs.Pec.{pecStep}
 use Rattle.module.specs.Supply.{replyByte, supplies}
 use Rattle.module.specs.Says.{says}
 use Rattle.exchange.specs.EachLaws.{each-made}
-use Rattle.exchange.specs.Exchange.{silenced, Sender, asked, line, sees, seen, after, afterByte, bytesOn}
+use Rattle.exchange.specs.Exchange.{Sender, asked, line, sees, seen, after, afterByte, bytesOn}
 
 -- ---- the senders of a byte, as senders of all that they have left, with n bytes after this one
 
@@ -59,7 +60,7 @@ sees-staying j n w (s ∷ ss) h = go (s .sends) (s .left) (h .0) (sees-staying j
     go true (x ∷ l) q e = lost (and x (not w)) e
       where
         lost : (z : Bool) → fulls n (map (sees w) ss) ≡ staying w (fulls n ss)
-            → fulls n (pick z (record { who = silenced (s .who); sends = false; left = [] }) (record { who = s .who; sends = true; left = l }) ∷ map (sees w) ss)
+            → fulls n (pick z (record { who = loses (s .who); sends = false; left = [] }) (record { who = s .who; sends = true; left = l }) ∷ map (sees w) ss)
             ≡ pick z (staying w (fulls n ss)) ((l ++ byteBits (says n (s .who))) ∷ staying w (fulls n ss))
         lost true e = e
         lost false e = ap (_∷_ (l ++ byteBits (says n (s .who)))) e
@@ -72,7 +73,7 @@ sees-has j w s h = go (s .sends) (s .left) h
     go true [] q e = absurd (let z = q refl in omega arith)
     go true (x ∷ l) q e = lost (and x (not w)) (q refl) e
       where
-        lost : (z : Bool) → length (x ∷ l) ≡ suc j → Has j (pick z (record { who = silenced (s .who); sends = false; left = [] }) (record { who = s .who; sends = true; left = l }))
+        lost : (z : Bool) → length (x ∷ l) ≡ suc j → Has j (pick z (record { who = loses (s .who); sends = false; left = [] }) (record { who = s .who; sends = true; left = l }))
         lost true r e = false-not-true e
         lost false r e = omega arith
 
@@ -147,7 +148,7 @@ asked-ready n m h = record { talks = talks-on (suc n) m h; same = go m h }
 sees-ready : (n : ℕ) (w : Bool) (s : Sender) → Ready n s → Ready n (sees w s)
 sees-ready n w s h = go (and (s .sends) (and (next (s .left)) (not w)))
   where
-    go : (z : Bool) → Ready n (pick z (record { who = silenced (s .who); sends = false; left = [] }) (record { who = s .who; sends = s .sends; left = later (s .left) }))
+    go : (z : Bool) → Ready n (pick z (record { who = loses (s .who); sends = false; left = [] }) (record { who = s .who; sends = s .sends; left = later (s .left) }))
     go true = record { talks = quiet (s .who .own); same = sym (silent-drives (s .who .own)) }
     go false = record { talks = h .talks; same = h .same }
 

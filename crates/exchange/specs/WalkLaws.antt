@@ -15,10 +15,10 @@ use Rattle.rule.specs.Acknowledge.{acknowledges, somebody, answered}
 use Rattle.module.specs.declared.state.Heard.{Heard}
 use Rattle.module.specs.declared.state.Lasting.{Lasting}
 use Rattle.module.specs.declared.state.Module.{Module}
-use Rattle.module.specs.Receive.{starts, receives}
+use Rattle.module.specs.Receive.{starts, receives, stops}
 use Rattle.module.specs.State.{silentIn, refused}
 use Rattle.module.specs.SupplyLaws.{silent-nack}
-use Rattle.exchange.specs.Exchange.{recordOf, recordsOf, silenced, hearing, anyAck, Left, put, stopAll, walk}
+use Rattle.exchange.specs.Exchange.{recordOf, recordsOf, hearing, anyAck, Left, put, stopAll, walk}
 
 -- ---- a module beside its record
 
@@ -75,7 +75,7 @@ module _ (sent : List ℕ) (b : ℕ) (bs : List ℕ) where
   any-same [] [] [] h = refl
   any-same (m ∷ ms) (t ∷ ts) (t' ∷ ts') h = ap₂ or (h .0 .0) (any-same ms ts ts' (h .1))
 
-  none-same : (ms : List Module) (ts ts' : List Target) → Abreast sent (b ∷ bs) ms ts ts' → anyAck b ms ≡ false → recordsOf (map silenced (map (hearing b) ms)) ≡ ts'
+  none-same : (ms : List Module) (ts ts' : List Target) → Abreast sent (b ∷ bs) ms ts ts' → anyAck b ms ≡ false → recordsOf (map stops (map (hearing b) ms)) ≡ ts'
   unfolding anyAck
   none-same [] [] [] h e = refl
   none-same (m ∷ ms) (t ∷ ts) (t' ∷ ts') h e =
@@ -96,7 +96,7 @@ abreast-end sent [] [] [] [] h = refl
 abreast-end sent [] (m ∷ ms) (t ∷ ts) (t' ∷ ts') h = ap₂ (λ (x : Target) (l : List Target). x ∷ l) (h .0) (abreast-end sent [] ms ts ts' (h .1))
 abreast-end sent (b ∷ bs) ms ts ts' h = abreast-end (sent ++ b ∷ []) bs (map (hearing b) ms) ts ts' (next-same sent b bs ms ts ts' h)
 
-pub records-silenced : (ms : List Module) → recordsOf (map silenced ms) ≡ recordsOf ms
+pub records-silenced : (ms : List Module) → recordsOf (map stops ms) ≡ recordsOf ms
 records-silenced [] = refl
 records-silenced (m ∷ ms) = ap (λ (l : List Target). recordOf m ∷ l) (records-silenced ms)
 

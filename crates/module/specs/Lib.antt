@@ -16,4 +16,5 @@ pub mod PacketsLaws
 pub mod ResetLaws
 pub mod ResumeLaws
 pub mod PecDueLaws
+pub mod MiddleLaws
 pub mod StartLaws

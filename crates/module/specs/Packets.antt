@@ -34,7 +34,7 @@ Known o bs =
 abbrev pub kindOf : Udid → ℕ
 kindOf u = getD (udidBytes u) 0 0 / 64
 
--- WHAT RESET DEVICE MAKES OF IT, kind by kind: AR is clear in all. A fixed one has the address that it is fixed at, if that is one; a persistent one
+-- WHAT RESET DEVICE MAKES OF IT, kind by kind: AR is clear in all. A fixed one has the address that it is fixed at, if that is below 128; a persistent one
 -- keeps address and AV; the others have none, and a random one takes four new bytes
 abbrev pub Resets : Lasting → Lasting → Type 0
 Resets o o′ =

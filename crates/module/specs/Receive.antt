@@ -41,6 +41,13 @@ startedIn Reply o c = at o First 0 0 0
 unfoldable pub starts : Module → Module
 starts m = startedIn (m .phase) (m .own) (m .pec)
 
+-- told that it lost, and STOP: silent
+abbrev pub loses : Module → Module
+loses m = silentIn (m .own)
+
+abbrev pub stops : Module → Module
+stops m = silentIn (m .own)
+
 -- ---- a byte b received; c is PEC of the packet with it
 
 -- step 8: the default address

@@ -42,12 +42,14 @@ resumedNumber (Ready m) = 0
 resumedNumber Malformed = 10
 resumedNumber NoHome = 12
 
--- WHAT THE MODULE OF A RECORD IS: as after STOP, with the record's identifier, address byte and flag; FFh is for AV clear; a fixed one is fixed there
+-- WHAT THE MODULE OF A RECORD IS: as after STOP, with the record's identifier, address byte and flag; FFh is for AV clear, and then the address is 0; any other byte has the
+-- address in its upper seven bits, and a fixed one is fixed there
 pub record AsRecorded (u : Udid) (b g f : ℕ) (m : Module) : Type 0 where
   pub silent : m ≡ silentIn (m .own)
   pub udid : m .own .udid ≡ u
   pub byte : addressByte (m .own) ≡ b
   pub flag : pick (m .own .resolved) 1 0 ≡ g
   pub valid : (m .own .valid ≡ true) ↔ (b ≡ 0xFF → ⊥)
-  pub home : (b ≡ 0xFF → ⊥) → m .own .home ≡ m .own .address
+  pub address : (b ≡ 0xFF → ⊥) → (m .own .address ≡ b / 2) × (m .own .home ≡ b / 2)
+  pub none : b ≡ 0xFF → m .own .address ≡ 0
   pub fresh : m .own .fresh ≡ f

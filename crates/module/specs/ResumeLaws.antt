@@ -6,7 +6,7 @@ use mathlib.Core.Logic.{_⊎_, inl, inr, _↔_, Iff·trans}
 use native.Mathlib.Omega.{arith}
 use lib.Dec.{ltb, eqb}
 use lib.ListN.{getD}
-use borrow.Author.Tests.{eqb-true, eqb-false, ne-eqb, ltb-false}
+use borrow.Author.Tests.{eqb-true, eqb-false, eq-eqb, ne-eqb, ltb-false}
 use Rattle.lists.specs.Choice.{pick, or, and, not}
 use Rattle.lists.specs.ChoiceLaws.{false-not-true, not-both}
 use Rattle.lists.specs.TestLaws.{eqb-is, ltb-is, or-is, and-is, false-is}
@@ -89,8 +89,11 @@ byte-recorded u b g f l h = go (eqb b 0xFF) refl
     go true e = sym (eqb-true b 0xFF e)
     go false e = omega arith
 
-home-recorded : (u : Udid) (b g f : ℕ) → (b ≡ 0xFF → ⊥) → recorded u b g f .home ≡ recorded u b g f .address
-home-recorded u b g f h = rw (ne-eqb b 0xFF h)
+address-recorded : (u : Udid) (b g f : ℕ) → (b ≡ 0xFF → ⊥) → (recorded u b g f .address ≡ b / 2) × (recorded u b g f .home ≡ b / 2)
+address-recorded u b g f h = (rw (ne-eqb b 0xFF h), rw (ne-eqb b 0xFF h))
+
+none-recorded : (u : Udid) (b g f : ℕ) → b ≡ 0xFF → recorded u b g f .address ≡ 0
+none-recorded u b g f h = rw (eq-eqb b 0xFF h)
 
 flag-recorded : (g : ℕ) → g ≤ 1 → pick (eqb g 1) 1 0 ≡ g
 flag-recorded g l = go (eqb g 1) refl
@@ -117,7 +120,8 @@ as-recorded u b g f w l m e =
       byte = ap addressByte o ∙ byte-recorded u b g f l (λ h. bad (inl h));
       flag = ap (λ (x : Lasting). pick (x .resolved) 1 0) o ∙ flag-recorded g small;
       valid = Iff·trans (to-recorded (λ (x : Lasting). x .valid) o) (Iff·trans (not-true-is (eqb b 0xFF)) (false-is (eqb b 0xFF) (eqb-is b 0xFF)));
-      home = λ h. ap (λ (x : Lasting). x .home) o ∙ home-recorded u b g f h ∙ sym (ap (λ (x : Lasting). x .address) o);
+      address = λ h. (ap (λ (x : Lasting). x .address) o ∙ address-recorded u b g f h .0, ap (λ (x : Lasting). x .home) o ∙ address-recorded u b g f h .1);
+      none = λ h. ap (λ (x : Lasting). x .address) o ∙ none-recorded u b g f h;
       fresh = ap (λ (x : Lasting). x .fresh) o;
     }
   where

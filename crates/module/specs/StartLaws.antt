@@ -26,6 +26,7 @@ use Rattle.module.specs.Obeys.{heardAll}
 use Rattle.module.specs.ObeysLaws.{heard-cons, silent-stays, own-true}
 use Rattle.module.specs.Acknowledges.{acked, getOrder}
 use Rattle.module.specs.AckLaws.{acked-cons}
+use Rattle.module.specs.MiddleLaws.{start-twice}
 use Rattle.module.specs.NackLaws.{nack-refuses}
 use Rattle.module.specs.Says.{says, afterAsking, reply, replyTo, askedPec, asked}
 use Rattle.module.specs.SupplyLaws.{silent-says, asked-general, asked-directed, general-says, directed-says, reply-over}
@@ -423,27 +424,7 @@ mute-else m (b ∷ bs) n h = go (eqb b forRead) refl bs h
 
 -- ---- C3h, whatever the module stood in before the START that its bytes came after
 
--- a START after a START, and a START after C3h, go on with nothing
-twice : (m : Module) → starts (starts m) ≡ at (m .own) First 0 0 0
-unfolding starts
-twice m = go (m .phase) (m .own) (m .pec)
-  where
-    go : (ph : Phase) (o : Lasting) (c : ℕ) → starts (startedIn ph o c) ≡ at o First 0 0 0
-    go Asked o c = refl
-    go Called o c = refl
-    go Silent o c = refl
-    go First o c = refl
-    go Command o c = refl
-    go AskedAgain o c = refl
-    go CalledAgain o c = refl
-    go Count o c = refl
-    go Identifier o c = refl
-    go Given o c = refl
-    go PreparePec o c = refl
-    go ResetPec o c = refl
-    go AssignPec o c = refl
-    go Reply o c = refl
-
+-- a START after C3h goes on with nothing
 after-read : (m : Module) (bs : List ℕ) → starts (heardAll (starts m) (forRead ∷ bs)) ≡ at (m .own) First 0 0 0
 unfolding starts heardAll
 after-read m [] = go (read-first m)
@@ -457,11 +438,15 @@ first-read : (o : Lasting) → receives (at o First 0 0 0) forRead ≡ refused o
 unfolding receives
 first-read o = refl
 
+silent-read : (o : Lasting) → receives (starts (silentIn o)) forRead .ack ≡ false
+unfolding starts receives
+silent-read o = refl
+
 -- C3h GETS ACK exactly after C2h and a Get UDID that it knows, the general one only with AR clear
 pub read-any : (m : Module) (bs : List ℕ)
     → (receives (starts (heardAll (starts m) bs)) 0xC3 .ack ≡ true) ↔ (((bs ≡ getOrder 0x03) × (m .own .resolved ≡ false)) ⊎ (Reachable (m .own) × (bs ≡ getOrder (2 * m .own .address + 1))))
 unfolding heardAll
-read-any m [] = (λ e. not-both (ap (λ (x : Module). receives x forRead .ack) (twice m) ∙ ap (λ (h : Heard). h .ack) (first-read (m .own))) e, none)
+read-any m [] = (λ e. not-both (ap (λ (x : Module). receives x forRead .ack) (start-twice m) ∙ silent-read (m .own)) e, none)
   where
     none : ((_≡_ {A = List ℕ} [] (getOrder 0x03)) × (m .own .resolved ≡ false)) ⊎ (Reachable (m .own) × (_≡_ {A = List ℕ} [] (getOrder (2 * m .own .address + 1)))) → receives (starts (starts m)) 0xC3 .ack ≡ true
     none (inl g) = absurd (let z : _≡_ {A = ℕ} 0 2 = ap length (g .0) in omega arith)
@@ -486,7 +471,7 @@ read-any m (b ∷ bs) = go (eqb b forRead) refl
         none q (inl g) = absurd (let z : b ≡ forWrite = ap (λ (l : List ℕ). getD l 0 0) (g .0) in omega arith)
         none q (inr g) = absurd (let z : b ≡ forWrite = ap (λ (l : List ℕ). getD l 0 0) (g .1) in omega arith)
 
--- ---- one that has a byte to send, and one that has none
+-- ---- one that has a byte to send is in its reply
 
 pub sending : (m : Module) → supplies m .drives ≡ true → m .phase ≡ Reply
 unfolding supplies
@@ -507,34 +492,6 @@ sending m = go (m .phase)
     go PreparePec e = false-not-true e
     go ResetPec e = false-not-true e
     go AssignPec e = false-not-true e
-
--- it takes no byte, and a START leaves its reply behind
-pub sending-takes-none : (m : Module) → supplies m .drives ≡ true → ((b : ℕ) → receives m b ≡ refused (m .own)) × (starts m ≡ starts (silentIn (m .own)))
-unfolding receives starts
-sending-takes-none m e =
-    let q : m .phase ≡ Reply = sending m e in
-    (λ b. ap (λ (p : Phase). receivedIn p m b) q, ap (λ (p : Phase). startedIn p (m .own) (m .pec)) q)
-
--- asked for a byte that it does not have it stays as it is, and drives nothing
-pub released : (m : Module) → supplies m .drives ≡ false → supplies m ≡ record { after = m; drives = false; byte = 0xFF }
-unfolding supplies
-released m = go (m .phase)
-  where
-    go : (ph : Phase) → suppliedIn ph m .drives ≡ false → suppliedIn ph m ≡ record { after = m; drives = false; byte = 0xFF }
-    go Reply e = not-both e refl
-    go Silent e = refl
-    go First e = refl
-    go Command e = refl
-    go Asked e = refl
-    go Called e = refl
-    go AskedAgain e = refl
-    go CalledAgain e = refl
-    go Count e = refl
-    go Identifier e = refl
-    go Given e = refl
-    go PreparePec e = refl
-    go ResetPec e = refl
-    go AssignPec e = refl
 
 -- AND ITS REPLY: the count, its identifier, its address byte and the PEC over the whole packet, and nothing after them
 reply-whole : (o : Lasting) (k : ℕ) → reply o (askedPec k) ≡ replyTo o k

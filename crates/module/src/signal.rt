@@ -1,7 +1,7 @@
 // START, STOP, and arbitration lost.
 ghost use mathlib.Core.Path.{_≡_};
-ghost use Rattle.module.specs.Receive.{starts};
-ghost use Rattle.module.specs.State.{at, silentIn};
+ghost use Rattle.module.specs.Receive.{starts, loses, stops};
+ghost use Rattle.module.specs.State.{at};
 use crate::state::Lasting;
 use crate::state::Module;
 use crate::state::Phase;
@@ -41,14 +41,14 @@ impl Module {
 
     // Another has sent a zero where this module sent a one: it is silent until the next START.
     pub fn lost(self) -> Module
-        ensures { λ r. ⌜ r ≡ silentIn (self .own) ⌝ }
+        ensures { λ r. ⌜ r ≡ loses self ⌝ }
     {
         let own = self.own;
         silent_in(own)
     }
 
     pub fn stop(self) -> Module
-        ensures { λ r. ⌜ r ≡ silentIn (self .own) ⌝ }
+        ensures { λ r. ⌜ r ≡ stops self ⌝ }
     {
         self.lost()
     }

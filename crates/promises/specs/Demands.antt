@@ -1,8 +1,8 @@
 -- THE PAGE OF PROMISES: statements only. DemandsLaws has one inhabitant of each record, and so its proof.
 -- ≡ is 'equal', ↔ 'if and only if', × 'and', ⊎ 'or', P → ⊥ 'not P', (x : A) × P 'there is an x with P'; getD l i 0 is number i of the list l.
 -- A parameter such as (contract : Wrote ..) is what a function's `ensures` says, word for word. It need not be believed: the code meets it.
--- CONTRACTS: Leaves, Outcome, Wrote, lookedUp, messageOf, modelEnd, newController, nextFree, powered, protocolFor, receives, refreshed, reported, resumed, silentIn, started, starts, stepped, supplies, traceOf.
--- BELIEVED: 1010 lines, without imports, comments and blanks. Crate/file, then the lines of each definition; src is a type of the code. tests/programs/believed.rs counts them.
+-- CONTRACTS: Leaves, Outcome, Wrote, lookedUp, loses, messageOf, modelEnd, newController, nextFree, powered, protocolFor, receives, refreshed, reported, resumed, silentIn, started, starts, stepped, stops, supplies, traceOf.
+-- BELIEVED: 1009 lines, without imports, comments and blanks. Crate/file, then the lines of each definition; src is a type of the code. tests/programs/believed.rs counts them.
 -- lists/Choice: and 3, not 3, or 3, pick 3; lists/Each: Any 3, Bytes 3, Each 3; wire/AddressTable: Bit 4, Covers 2, covers 3, lets 4, table17 25; wire/Addresses: isFromTo 2, isListed 2, isPreassigned 2, isReserved 2;
 -- wire/Symbols: ACK 2, NACK 2, START 2, STOP 2; wire/src: Address 1; pec/Pec: bitStep 2, pecFrom 3, pecOf 2, pecStep 2; trace/Rows: message 2; trace/Table: InTable 2, Line 6, Row 22, TraceOf 2, lastProtocol 2, line 2, symbols 2;
 -- trace/Trace: Message 6, ackOf 3, acked 3, inPlace 2, nacked 3; trace/src: Transaction 8; encode/Encode: encodeNumber 4; encode/src: Encoded 5; misfit/Cases: IsMisaddressed 2, IsMiscounted 2, IsOther 2, IsSwapped 2;
@@ -11,7 +11,7 @@
 -- pool/Picks: FreeAtEach 3, Pick 3, Picked 3, Picks 3, latestOf 3; pool/Pools: member 2, unionOf 2, withAddress 4; pool/Start: barredPool 2, emptyPool 2, listedPool 2, reservedPool 2, startingPool 2; pool/src: Free 4, Pool 4;
 -- udid/Bytes: bytesFrom 3, bytesOf 3, number 2, numberFrom 3, udidAt 2, udidBytes 2; udid/Udids: Fits 3, isFixed 2, sameUdid 2, value 2; udid/src: Udid 4; slots/Slots: heldAt 2; slots/src: Binding 6, Slots 7;
 -- module/Acknowledges: acked 3, getOrder 2; module/Obeys: assignOrder 2, directedReset 2, heardAll 3, packet 2, prepareOrder 2, resetOrder 2; module/Packets: Begins 2, Known 7, PecDue 6, PowersOn 7, Reachable 2, Resets 7,
--- kindOf 2; module/Receive: forRead 2, forWrite 2; module/Reset: having 2; module/Resume: AsRecorded 8, resumedNumber 4; module/Says: afterAsking 3, asked 2, replyTo 2, says 3, sent 2; module/Supply: addressByte 2;
+-- kindOf 2; module/Receive: forRead 2, forWrite 2; module/Reset: having 2; module/Resume: AsRecorded 9, resumedNumber 4; module/Says: afterAsking 3, asked 2, replyTo 2, says 3, sent 2; module/Supply: addressByte 2;
 -- module/src: Lasting 8, Module 7, Resumed 5; commands/CommandTraces: ReplyOf 2, assignTrace 2, prepareTrace 2, replyTrace 3; commands/SameTrace: same 5; commands/src: Command 5, End 7, Handed 4; arp/Account: bindIn 5, binds 5,
 -- knownIn 2, removals 5, removeIn 2, repliesFrom 5, unbindIn 5, unbindings 5; arp/History: Event 4, NoStart 5, run 5; arp/Numbers: commandNumber 3, endNumber 6, lookupNumber 6; arp/OneStep: Asks 3, Binds 8, BoundAt 3, Chooses 5,
 -- Continues 2, EndsWith 2, Hands 5, Keeps 4, Removes 5, Replies 4, Rest 5, Same 2, Unbinds 5; arp/Replay: Table 3, handedOut 5, isBound 5, view 2; arp/RunPicks: isPicked 2, pickIn 5, picksOf 6; arp/SinceStart: BoundSince 7,
@@ -22,8 +22,8 @@
 -- onBus 2, preparingBytes 2, received 3, sentPart 5, somebody 3, standing 3; rule/AllBound: leftFree 2, movable 3, withFixed 3; rule/AnyBus: Bus 3, WorldOver 3, beginningOver 2, passOf 2, runOver 3, tookOver 3, turnOver 2;
 -- rule/Bus: modelBus 2, pass 2; rule/Effect: addressIn 2, effect 5, isForMe 2; rule/PlainRule: Distinct 3, Ending 3, Given 3, Ruled 4, ascending 3, held 2, insert 3, isPickedFor 2, next 5, pickAfter 2, plainChoice 2, rule 3,
 -- ruled 2; rule/Reading: OnePerUdid 3, RecordOf 2; rule/Sent: getsAmong 3, getsOnBus 2, getsOver 2, heardAfter 4, historyOnBus 2, oneIn 2, tracesOver 3; exchange/Exchange: Fitting 2, Left 3, Sender 4, after 3, afterByte 2,
--- afterBytes 3, anyAck 3, asked 2, blockLength 2, byteOn 2, bytesOn 3, exchange 2, hearing 2, line 3, put 2, reading 5, recordOf 2, recordsOf 2, rest 5, seen 3, sees 5, silenced 2, stopAll 2, walk 6; exchange/Pass: Bench 2,
--- getsOn 2, passOn 2, runOn 3, standsOn 2, tookOn 3, tracesOn 3, turnOn 2; exchange/Sending: askedAll 2, startedAgain 2; bus/Run: ModelEnd 4; promises/MarkedWords: Shows 2, holding 2, identifier 2, windows 3.
+-- afterBytes 3, anyAck 3, asked 2, blockLength 2, byteOn 2, bytesOn 3, exchange 2, hearing 2, line 3, put 2, reading 5, recordOf 2, recordsOf 2, rest 5, seen 3, sees 5, stopAll 2, walk 6; exchange/Pass: Bench 2, getsOn 2,
+-- passOn 2, runOn 3, standsOn 2, tookOn 3, tracesOn 3, turnOn 2; exchange/Sending: askedAll 2, startedAgain 2; bus/Run: ModelEnd 4; promises/MarkedWords: Shows 2, holding 2, identifier 2, windows 3.
 use mathlib.Core.Path.{_≡_}
 use mathlib.Core.Bool.{Bool, true, false}
 use mathlib.Core.List.{List, [], _∷_, _++_}
@@ -36,7 +36,7 @@ use Rattle.promises.specs.Words.{member, emptyPool, startingPool, barred
 use Rattle.promises.specs.Words.{used, count, not, Completes, BoundSince, LeftSince, binds, unbindings, removals, knownIn, handedOut, Removes, Rest, Reported, Left}
 use Rattle.promises.specs.Words.{Asks, Binds, Continues, EndsWith, Replies, protocolFor, messageOf, traceOf, Handed, Send, Wait, Nothing, Prepare, GetUdid, Assign, Ended, Abandoned, NotOutstanding, Open, Bound, Claimed, Controller, Stepped}
 use Rattle.promises.specs.Words.{EvenOrFlag, SameAsEarlier, FixedOnTaken, LengthIsBad, None, FirstOf, targetsOf, movable, leftFree, pass, Given, Ending, served, noneFree, Distinct, ruled, RecordOf, OnePerUdid, getsOnBus, historyOnBus, modelNumber, Leaves, modelEnd, ModelAnswer, nextFree, Next, At, AllUsed, Pick, Picks, latestOf, picksOf, FreeAtEach, Picked, identifier, holding, Shows}
-use Rattle.promises.specs.Words.{Module, Lasting, silentIn, starts, receives, supplies, powered, refreshed, resumed, resumedNumber, Ready, AsRecorded, having, heardAll, acked, prepareOrder, resetOrder, directedReset, assignOrder, getOrder, Begins, Reachable, Known, Resets, PowersOn, PecDue, says, afterAsking, asked, replyTo}
+use Rattle.promises.specs.Words.{Module, Lasting, silentIn, starts, stops, loses, receives, supplies, powered, refreshed, resumed, resumedNumber, Ready, AsRecorded, having, heardAll, acked, prepareOrder, resetOrder, directedReset, assignOrder, getOrder, Begins, Reachable, Known, Resets, PowersOn, PecDue, says, afterAsking, asked, replyTo}
 use Rattle.promises.specs.Words.{onBus, effect, mapTargets, Among, beginningOver, runOver, modelBus, exchange, recordsOf, Fitting, afterBytes, askedAll, runOn, passOn, getsOn}
 
 -- ---- THE ADDRESSES: TABLE 17 OF SMBus 3.3.1, Appendix C
@@ -301,7 +301,8 @@ pub record Picking : Type 0 where
 
 -- ---- THE MODULE'S END OF THE BUS, SMBus 3.3.1, 6.6.3. The own part of a module outlasts a packet: identifier, Address Valid (AV), address, Address Resolved (AR), the address
 -- that it is fixed at, and the fresh bytes of its next reset. silentIn o is the module with the own part o after STOP, after it has lost, and after a NACK. heardAll (starts m) bs is
--- the module m after START and the bytes bs; acked says that each of them gets ACK, and says n has the bytes that it supplies when it is asked for n
+-- the module m after START and the bytes bs; acked says that each of them gets ACK, and says n has the bytes that it supplies when it is asked for n. having o u v a r is
+-- o with the identifier u, AV v, the address a and AR r, all else as it was
 pub record Listens (m : Module) (fits : In128 (m .own .udid)) (four : m .own .fresh < 2 ^ 32) : Type 0 where
   -- A WHOLE COMMAND WITH ITS RIGHT PEC takes effect with the PEC, whatever the module stood in before the START and whatever follows
   pub prepare : (rest : List ℕ) → heardAll (starts m) (prepareOrder ++ rest) .own ≡ having (m .own) (m .own .udid) (m .own .valid) (m .own .address) false
@@ -312,7 +313,7 @@ pub record Listens (m : Module) (fits : In128 (m .own .udid)) (four : m .own .fr
   pub no-other : (bs : List ℕ) → (Begins prepareOrder bs → ⊥) → (Begins resetOrder bs → ⊥) → (Reachable (m .own) → Begins (directedReset (m .own .address)) bs → ⊥)
       → ((x : ℕ) → Begins (assignOrder (m .own .udid) x) bs → ⊥) → heardAll (starts m) bs .own ≡ m .own
   pub supplying : supplies m .after .own ≡ m .own
-  -- ACK for all bytes after a START, exactly if they are the beginning of a command that it knows. A NACK changes nothing, and silence follows
+  -- ACK for all bytes after a START, exactly if they are the beginning of a command that it knows: said of a START out of silence, and by `anew` of any. A NACK changes nothing, and silence follows
   pub acks : (bs : List ℕ) → (acked (starts (silentIn (m .own))) bs ≡ true) ↔ Known (m .own) bs
   pub nack : (b : ℕ) → receives m b .ack ≡ false → receives m b .after ≡ silentIn (m .own)
   -- a PEC b that differs from that of the bytes xs before it gets NACK, and nothing changes, whatever follows
@@ -326,25 +327,28 @@ pub record Listens (m : Module) (fits : In128 (m .own .udid)) (four : m .own .fr
   pub general : m .own .resolved ≡ false → (n : ℕ) → (says (19 + n) (asked m 0x03) ≡ replyTo (m .own) 0x03) × (afterAsking (19 + n) (asked m 0x03) ≡ silentIn (m .own))
   pub directed : Reachable (m .own) → let k = 2 * m .own .address + 1 in (n : ℕ) → (says (19 + n) (asked m k) ≡ replyTo (m .own) k) × (afterAsking (19 + n) (asked m k) ≡ silentIn (m .own))
   pub nothing-else : (bs : List ℕ) (n : ℕ) → (bs ≡ 0xC3 ∷ [] → receives (starts m) 0xC3 .ack ≡ false) → says n (heardAll (starts m) bs) ≡ []
-  -- while it has a byte to send it takes none, and a START leaves the reply behind; asked for a byte that it does not have it stays as it is
-  pub sending : supplies m .drives ≡ true → ((b : ℕ) → receives m b .ack ≡ false) × (starts m ≡ starts (silentIn (m .own)))
+  -- asked for a byte where it has none, it stays as it was. In a reply no byte gets ACK, and after its last byte it is silent. A START then, or right after a START, begins a new packet, before C3h too
   pub released : supplies m .drives ≡ false → (supplies m .after ≡ m) × (supplies m .byte ≡ 0xFF)
+  pub replying : supplies m .drives ≡ true → (starts m ≡ starts (silentIn (m .own))) × ((b : ℕ) → receives m b .ack ≡ false)
+      × (supplies (supplies m .after) .drives ≡ false → supplies m .after ≡ silentIn (m .own))
+  pub twice : starts (starts m) ≡ starts (silentIn (m .own))
   -- LOST, STOPPED OR AFTER A NACK, up to the next START: no byte gets ACK, and no bit is driven
+  pub told : (loses m ≡ silentIn (m .own)) × (stops m ≡ silentIn (m .own))
   pub silent : (b : ℕ) → (receives (silentIn (m .own)) b .ack ≡ false) × (receives (silentIn (m .own)) b .after ≡ silentIn (m .own)) × (supplies (silentIn (m .own)) .drives ≡ false)
-      × (supplies (silentIn (m .own)) .after ≡ silentIn (m .own))
 
 pub record Modules : Type 0 where
   pub listens : (m : Module) (fits : In128 (m .own .udid)) (four : m .own .fresh < 2 ^ 32) → Listens m fits four
   -- power on, by the kind; other fresh bytes, and nothing else
   pub power-on : (u : Udid) (a f : ℕ) → In128 u → f < 2 ^ 32 → (powered u a f ≡ silentIn (powered u a f .own)) × PowersOn u a f (powered u a f .own)
-  pub refresh : (m : Module) (f : ℕ) → (refreshed m f .own .fresh ≡ f) × (refreshed (refreshed m f) (m .own .fresh) ≡ m)
+  pub refresh : (m : Module) (f : ℕ) → (refreshed m f .own ≡ record { udid = m .own .udid; valid = m .own .valid; address = m .own .address; resolved = m .own .resolved; home = m .own .home; fresh = f })
+      × (refreshed m f .phase ≡ m .phase) × (refreshed m f .place ≡ m .place) × (refreshed m f .pec ≡ m .pec) × (refreshed m f .given ≡ m .given)
   -- from a record of the model, with the identifier u, the address byte b and the flag g: 10 for an even byte or a flag above 1, 12 for a fixed one (its first byte below 64) with FFh
   pub resume-0 : (u : Udid) (b g f : ℕ) → In128 u → (resumedNumber (resumed u b g f) ≡ 0) ↔ ((((b % 2 ≡ 0) ⊎ (1 < g)) → ⊥) × (((getD (udidBytes u) 0 0 < 64) × (b ≡ 0xFF)) → ⊥))
   pub resume-10 : (u : Udid) (b g f : ℕ) → In128 u → (resumedNumber (resumed u b g f) ≡ 10) ↔ ((b % 2 ≡ 0) ⊎ (1 < g))
   pub resume-12 : (u : Udid) (b g f : ℕ) → In128 u → (resumedNumber (resumed u b g f) ≡ 12) ↔ ((((b % 2 ≡ 0) ⊎ (1 < g)) → ⊥) × ((getD (udidBytes u) 0 0 < 64) × (b ≡ 0xFF)))
   pub recorded : (u : Udid) (b g f : ℕ) → In128 u → b < 256 → (m : Module) → resumed u b g f ≡ Ready m → AsRecorded u b g f m
 
--- A BUS OF MODULES, bit by bit: START, each byte and STOP are given to every module, an ACK stands where one gives it, a zero beats a one, and who gives a one and sees a zero is told
+-- A BUS OF MODULES, bit by bit: START, each byte and STOP are given to every module, an ACK stands where one or more give it, a zero beats a one, and who gives a one and sees a zero is told
 -- there and then. recordsOf ms are their records: the identifier, twice the address plus 1 or FFh where AV is clear, AR
 pub record ModuleBus : Type 0 where
   -- one command, any modules in any states: the trace is that on the model's bus over their records, and what it does to the records is its effect there
@@ -359,7 +363,7 @@ pub record ModuleBus : Type 0 where
   pub rule : (occupied : Pool) (last : ℕ) (s b : List ℕ) (bytes : Bytes s) (r : ModelAnswer) (s′ b′ : List ℕ) → Leaves (modelEnd occupied last s b) r s′ b′ → last < 128 → 2048 ≤ length b
       → (LengthIsBad s → ⊥) → None (EvenOrFlag s) (length s / 18) → None (SameAsEarlier s) (length s / 18) → None (FixedOnTaken (barredPool occupied) s) (length s / 18)
       → (ms : List Module) → Each Fitting ms → recordsOf ms ≡ targetsOf s → (passOn occupied last ms .now ≡ pass occupied last (targetsOf s) .now) × (recordsOf (passOn occupied last ms .targets) ≡ targetsOf s′)
-  -- of modules that answer a Get UDID together, any two that still have a byte to send after the identifier have the same one
+  -- of modules that answer a Get UDID together, any two that still have a byte to send after the identifier have the same identifier
   pub never-two : (ms : List Module) → Each Fitting ms → (m n : Module) → Among m (afterBytes 17 (askedAll ms)) → Among n (afterBytes 17 (askedAll ms)) → supplies m .drives ≡ true → supplies n .drives ≡ true
       → m .own .udid ≡ n .own .udid
 

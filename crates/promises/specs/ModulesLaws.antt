@@ -24,17 +24,17 @@ use Rattle.bindings.specs.declared.answer.ModelAnswer.{ModelAnswer}
 use Rattle.bus.specs.Run.{Leaves, modelEnd}
 use Rattle.module.specs.declared.state.Heard.{Heard}
 use Rattle.module.specs.declared.state.Module.{Module}
-use Rattle.module.specs.declared.state.Supplied.{Supplied}
 use Rattle.module.specs.Obeys.{heardAll, resetOrder, directedReset}
 use Rattle.module.specs.Packets.{Resets}
 use Rattle.module.specs.PacketsLaws.{acked-exactly, obeys-prepare, obeys-reset, obeys-directed, obeys-assign, obeys-no-other}
 use Rattle.module.specs.PecDueLaws.{due-acked, differing-pec}
+use Rattle.module.specs.MiddleLaws.{nothing-moved, replying, start-twice}
 use Rattle.module.specs.NackLaws.{nack-refuses}
 use Rattle.module.specs.Receive.{starts, receives}
 use Rattle.module.specs.Reset.{reset}
 use Rattle.module.specs.ResetLaws.{resets, powers-on, powered-silent}
 use Rattle.module.specs.ResumeLaws.{resume-0, resume-10, resume-12, as-recorded}
-use Rattle.module.specs.StartLaws.{new-packet, read-any, read-over, mute-else, sending, sending-takes-none, released, says-general, says-directed, replied-general, replied-directed}
+use Rattle.module.specs.StartLaws.{new-packet, read-any, read-over, mute-else, sending, says-general, says-directed, replied-general, replied-directed}
 use Rattle.module.specs.State.{silentIn}
 use Rattle.module.specs.Supply.{supplies}
 use Rattle.module.specs.SupplyLaws.{silent-nack, supplied-own}
@@ -49,9 +49,9 @@ use Rattle.promises.specs.DemandsLaws.{demand-3}
 
 -- ---- one module
 
-silent-mute : (m : Module) → (supplies (silentIn (m .own)) .drives ≡ false) × (supplies (silentIn (m .own)) .after ≡ silentIn (m .own))
+silent-mute : (m : Module) → supplies (silentIn (m .own)) .drives ≡ false
 unfolding supplies
-silent-mute m = (refl, refl)
+silent-mute m = refl
 
 listens : (m : Module) (fits : Fits (m .own .udid)) (four : m .own .fresh < 2 ^ 32) → Listens m fits four
 listens m fits four = record {
@@ -70,9 +70,11 @@ listens m fits four = record {
   general = λ e n. (says-general m n e, replied-general m n e);
   directed = λ h n. (says-directed m n h, replied-directed m n h);
   nothing-else = mute-else m;
-  sending = λ e. (λ b. ap (λ (h : Heard). h .ack) (sending-takes-none m e .0 b), sending-takes-none m e .1);
-  released = λ e. (ap (λ (x : Supplied). x .after) (released m e), ap (λ (x : Supplied). x .byte) (released m e));
-  silent = λ b. (ap (λ (h : Heard). h .ack) (silent-nack (m .own) b), ap (λ (h : Heard). h .after) (silent-nack (m .own) b), silent-mute m .0, silent-mute m .1);
+  released = nothing-moved m;
+  replying = replying m;
+  twice = start-twice m;
+  told = (refl, refl);
+  silent = λ b. (ap (λ (h : Heard). h .ack) (silent-nack (m .own) b), ap (λ (h : Heard). h .after) (silent-nack (m .own) b), silent-mute m);
 }
   where
     reset-as : (x : Module) → x .own ≡ reset (m .own) → Resets (m .own) (x .own)
@@ -82,7 +84,7 @@ pub modules : Modules
 modules = record {
   listens = listens;
   power-on = λ u a f w g. (powered-silent u a f, powers-on u a f w g);
-  refresh = λ m f. (refl, refl);
+  refresh = λ m f. (refl, refl, refl, refl, refl);
   resume-0 = λ u b g f w. resume-0 u b g f w;
   resume-10 = λ u b g f w. resume-10 u b g f w;
   resume-12 = λ u b g f w. resume-12 u b g f w;

@@ -76,7 +76,7 @@ pub use Rattle.module.specs.declared.state.Module.{Module}
 pub use Rattle.module.specs.State.{silentIn}
 pub use Rattle.module.specs.Reset.{having, powered, refreshed}
 pub use Rattle.module.specs.Resume.{resumed, resumedNumber, AsRecorded}
-pub use Rattle.module.specs.Receive.{starts, receives}
+pub use Rattle.module.specs.Receive.{starts, stops, loses, receives}
 pub use Rattle.module.specs.Supply.{supplies}
 pub use Rattle.module.specs.Obeys.{heardAll, prepareOrder, resetOrder, directedReset, assignOrder}
 pub use Rattle.module.specs.Acknowledges.{acked, getOrder}
