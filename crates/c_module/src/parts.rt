@@ -58,6 +58,7 @@ fn is_true(n: u8) -> bool
     n != 0
 }
 
+// What outlasts a packet, of the module that C gave.
 fn lasting_in(h: HbModule) -> Lasting
     ensures { λ r. ⌜ r ≡ lastingIn h ⌝ }
 {
@@ -106,6 +107,7 @@ pub(crate) fn told_module(m: Module) -> HbModule
     }
 }
 
+// The answer to a byte received, for C.
 pub(crate) fn told_heard(h: Heard) -> HbHeard
     ensures { λ r. ⌜ r ≡ toldHeard h ⌝ }
 {
@@ -116,6 +118,7 @@ pub(crate) fn told_heard(h: Heard) -> HbHeard
     }
 }
 
+// The answer to a byte asked for, for C.
 pub(crate) fn told_supplied(s: Supplied) -> HbSupplied
     ensures { λ r. ⌜ r ≡ toldSupplied s ⌝ }
 {
@@ -127,6 +130,7 @@ pub(crate) fn told_supplied(s: Supplied) -> HbSupplied
     }
 }
 
+// A refusal has no module: every part of it is 0.
 fn no_module() -> HbModule
     ensures { λ r. ⌜ r ≡ noModule ⌝ }
 {
@@ -144,6 +148,7 @@ fn no_module() -> HbModule
     }
 }
 
+// A module from a record, or why there is none, for C.
 pub(crate) fn told_resumed(r: Resumed) -> HbResumed
     ensures { λ r2. ⌜ r2 ≡ toldResumed r ⌝ }
 {

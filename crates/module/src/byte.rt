@@ -12,6 +12,7 @@ fn half_byte(n: u64, k: u8) -> u8
     ((n >> (56 - 8 * (k % 8))) % 256) as u8
 }
 
+// Byte k of an identifier on the wire, highest first.
 pub fn byte_of(u: Udid, k: u8) -> u8
     ensures { λ r. ⌜ r ≡ getD (udidBytes u) (k % 16) 0 ⌝ }
 {

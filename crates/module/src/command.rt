@@ -13,6 +13,7 @@ const FOR_WRITE: u8 = 0xC2;
 
 const FOR_READ: u8 = 0xC3;
 
+// The first byte of a packet: the default address for writing, and no other.
 pub(crate) fn first(own: Lasting, b: u8) -> Heard
     ensures { λ r. ⌜ r ≡ atFirst own b ⌝ }
 {
@@ -53,6 +54,7 @@ fn directed(own: Lasting, pec: u8, b: u8) -> Heard
     }
 }
 
+// The command byte: one of the four general commands, or a directed one.
 pub(crate) fn command(own: Lasting, pec: u8, b: u8) -> Heard
     ensures { λ r. ⌜ r ≡ atCommand own pec b ⌝ }
 {

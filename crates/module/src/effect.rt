@@ -11,6 +11,7 @@ use crate::state::Phase;
 use crate::state::refuse;
 use crate::state::take;
 
+// The PEC of Prepare To ARP.
 pub(crate) fn prepare_pec(own: Lasting, pec: u8, b: u8) -> Heard
     ensures { λ r. ⌜ r ≡ atPec (prepared own) own pec b ⌝ }
 {
@@ -21,6 +22,7 @@ pub(crate) fn prepare_pec(own: Lasting, pec: u8, b: u8) -> Heard
     }
 }
 
+// The PEC of Reset Device, general or directed.
 pub(crate) fn reset_pec(own: Lasting, pec: u8, b: u8) -> Heard
     ensures { λ r. ⌜ r ≡ atPec (reset own) own pec b ⌝ }
 {
@@ -31,6 +33,7 @@ pub(crate) fn reset_pec(own: Lasting, pec: u8, b: u8) -> Heard
     }
 }
 
+// The PEC of Assign Address, which gives this address.
 pub(crate) fn assign_pec(own: Lasting, given: u8, pec: u8, b: u8) -> Heard
     ensures { λ r. ⌜ r ≡ atPec (assigned own given) own pec b ⌝ }
 {

@@ -8,6 +8,7 @@ use crate::state::Phase;
 use crate::state::refuse;
 use crate::state::take;
 
+// The count is 17.
 pub(crate) fn count(own: Lasting, pec: u8, b: u8) -> Heard
     ensures { λ r. ⌜ r ≡ atCount own pec b ⌝ }
 {
@@ -18,6 +19,7 @@ pub(crate) fn count(own: Lasting, pec: u8, b: u8) -> Heard
     }
 }
 
+// A byte of the identifier is the one that the module has at that place.
 pub(crate) fn identifier(own: Lasting, place: u8, pec: u8, b: u8) -> Heard
     ensures { λ r. ⌜ r ≡ atIdentifier own place pec b ⌝ }
 {

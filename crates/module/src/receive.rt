@@ -17,6 +17,7 @@ use crate::state::take;
 use pec::add_byte;
 
 impl Module {
+    // A byte was received: ACK where it fits what is due, else NACK, and silence up to the next START.
     pub fn receive(self, b: u8) -> Heard
         ensures { λ r. ⌜ r ≡ receives self b ⌝ }
     {

@@ -16,6 +16,7 @@ pub enum Resumed {
     NoHome,
 }
 
+// The address byte is even, or the flag is above 1.
 fn is_malformed(byte: u8, flag: u8) -> bool
     ensures { λ r. ⌜ r ≡ isMalformed byte flag ⌝ }
 {

@@ -8,6 +8,7 @@ use crate::state::Phase;
 use crate::state::module_at;
 use crate::state::silent_in;
 
+// A new packet: the default address is due.
 fn at_first(own: Lasting) -> Module
     ensures { λ r. ⌜ r ≡ at own Phase.First 0 0 0 ⌝ }
 {
@@ -24,18 +25,7 @@ impl Module {
         match phase {
             Phase::Asked => module_at(own, Phase::AskedAgain, 0, self.pec, 0),
             Phase::Called => module_at(own, Phase::CalledAgain, 0, self.pec, 0),
-            Phase::Silent => at_first(own),
-            Phase::First => at_first(own),
-            Phase::Command => at_first(own),
-            Phase::AskedAgain => at_first(own),
-            Phase::CalledAgain => at_first(own),
-            Phase::Count => at_first(own),
-            Phase::Identifier => at_first(own),
-            Phase::Given => at_first(own),
-            Phase::PreparePec => at_first(own),
-            Phase::ResetPec => at_first(own),
-            Phase::AssignPec => at_first(own),
-            Phase::Reply => at_first(own),
+            _ => at_first(own),
         }
     }
 
@@ -47,6 +37,7 @@ impl Module {
         silent_in(own)
     }
 
+    // A STOP: it is silent until the next START.
     pub fn stop(self) -> Module
         ensures { λ r. ⌜ r ≡ stops self ⌝ }
     {

@@ -44,6 +44,7 @@ pub struct Lasting {
     pub fresh: u32,
 }
 
+// A module between two events on the bus.
 pub struct Module {
     pub own: Lasting,
     pub phase: Phase,
@@ -81,6 +82,7 @@ pub(crate) fn module_at(own: Lasting, phase: Phase, place: u8, pec: u8, given: u
     }
 }
 
+// After STOP, after it has lost, and after a NACK.
 pub(crate) fn silent_in(own: Lasting) -> Module
     ensures { λ r. ⌜ r ≡ silentIn own ⌝ }
 {

@@ -49,6 +49,7 @@ fn after_byte(own: Lasting, pec: u8, k: u8, b: u8) -> Module
     }
 }
 
+// Byte k of the reply, and the module after it.
 fn supply_at(own: Lasting, pec: u8, k: u8) -> Supplied
     ensures { λ r. ⌜ r ≡ suppliedAt own pec k ⌝ }
 {
@@ -60,6 +61,7 @@ fn supply_at(own: Lasting, pec: u8, k: u8) -> Supplied
     }
 }
 
+// It has no byte to send, and stays as it is.
 fn nothing(m: Module) -> Supplied
     ensures { λ r. ⌜ r ≡ unsaid m ⌝ }
 {
@@ -71,6 +73,7 @@ fn nothing(m: Module) -> Supplied
 }
 
 impl Module {
+    // A byte is asked for: the next one of its reply, or none.
     pub fn supply(self) -> Supplied
         ensures { λ r. ⌜ r ≡ supplies self ⌝ }
     {
@@ -78,19 +81,7 @@ impl Module {
         let phase = self.phase;
         match phase {
             Phase::Reply => supply_at(own, self.pec, self.place),
-            Phase::Silent => nothing(self),
-            Phase::First => nothing(self),
-            Phase::Command => nothing(self),
-            Phase::Asked => nothing(self),
-            Phase::Called => nothing(self),
-            Phase::AskedAgain => nothing(self),
-            Phase::CalledAgain => nothing(self),
-            Phase::Count => nothing(self),
-            Phase::Identifier => nothing(self),
-            Phase::Given => nothing(self),
-            Phase::PreparePec => nothing(self),
-            Phase::ResetPec => nothing(self),
-            Phase::AssignPec => nothing(self),
+            _ => nothing(self),
         }
     }
 }

@@ -50,6 +50,7 @@ pub fn put_supplied(out: &mut [u8], at: usize, s: Supplied) -> usize
     put_line(out, at, b"0 released")
 }
 
+// A flag as a number.
 fn flag_of(set: bool) -> u64
     ensures { λ r. ⌜ r ≡ pick set 1 0 ⌝ }
 {
