@@ -11,10 +11,6 @@ use reference::module_events::{asked, assigned, sent_with_pec, Event};
 use reference::random::Random;
 use reference::shelves::{any_udid, with_kind, KINDS};
 
-fn four(random: &mut Random) -> [u8; 4] {
-    [random.byte(), random.byte(), random.byte(), random.byte()]
-}
-
 fn udid(random: &mut Random, kind: u8) -> Udid {
     with_kind(any_udid(random), kind)
 }
@@ -24,7 +20,7 @@ fn records() -> usize {
     let mut family = Family::new("module, records");
     let mut random = Random::new(130);
     for kind in KINDS {
-        let (udid, fresh) = (udid(&mut random, kind), four(&mut random));
+        let (udid, fresh) = (udid(&mut random, kind), random.four());
         for byte in 0..=255 {
             for flag in 0..=255 {
                 let due = match Module::of_record(udid, byte, flag, fresh) {
@@ -45,7 +41,7 @@ fn powered_on(reached: &mut Reached) -> usize {
     let mut random = Random::new(131);
     for kind in KINDS {
         for stored in 0..=255 {
-            let (udid, fresh) = (udid(&mut random, kind), four(&mut random));
+            let (udid, fresh) = (udid(&mut random, kind), random.four());
             let mut pair = Pair::of(Module::power_on(udid, stored, fresh));
             let input = || format!("{udid:02x?} {stored:02x} {fresh:02x?}");
             let given = HbModule::power_on(&udid, stored, fresh);
@@ -58,7 +54,7 @@ fn powered_on(reached: &mut Reached) -> usize {
             let reset = if random.below(2) == 0 { RESET } else { 2 * pair.due.address.unwrap_or(1) };
             pair.all(&mut family, reached, &sent_with_pec(&[WRITE, reset]));
             pair.all(&mut family, reached, &asked(0x03, REPLY));
-            pair.all(&mut family, reached, &[Event::Refresh(four(&mut random)), Event::Stop]);
+            pair.all(&mut family, reached, &[Event::Refresh(random.four()), Event::Stop]);
             pair.all(&mut family, reached, &sent_with_pec(&[WRITE, RESET]));
             pair.all(&mut family, reached, &asked(0x03, REPLY));
         }

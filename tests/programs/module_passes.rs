@@ -14,10 +14,6 @@ use reference::module_events::run;
 use reference::random::Random;
 use reference::shelves;
 
-fn four(random: &mut Random) -> [u8; 4] {
-    [random.byte(), random.byte(), random.byte(), random.byte()]
-}
-
 fn list_of(targets: &[Target]) -> Vec<u8> {
     targets.iter().flat_map(record_of).collect()
 }
@@ -39,17 +35,13 @@ fn passes() -> usize {
     let mut none_free = 0;
     for round in 0..600 {
         let count = if round % 20 == 0 { random.below(100) } else { random.below(9) };
-        let occupied = match round % 3 {
-            0 => Addresses::new(),
-            1 => shelves::leaving(&mut random, count.saturating_sub(1).min(90)),
-            _ => shelves::occupied(&mut random),
-        };
+        let occupied = shelves::occupied_by_turns(&mut random, round, count);
         let last_pick = shelves::last_pick(&mut random);
         let targets = shelves::targets(&mut random, count, &occupied);
         let mut modules = vec![];
         for target in &targets {
             let flag = u8::from(target.resolved);
-            let fresh = four(&mut random);
+            let fresh = random.four();
             let mut module = Resumed::of_record(&target.udid, target.address_byte, flag, fresh).module;
             let begun = [0xc2, random.pick(&[1, 2, 3, 4]), 17];
             module =
@@ -90,7 +82,7 @@ fn two_buses() -> usize {
         let count = random.below(6);
         let targets = shelves::targets(&mut random, count, &occupied);
         let made = |random: &mut Random, target: &Target| {
-            Module::of_record(target.udid, target.address_byte, u8::from(target.resolved), four(random))
+            Module::of_record(target.udid, target.address_byte, u8::from(target.resolved), random.four())
                 .expect("a record")
         };
         let mut due: Vec<Module> = targets.iter().map(|target| made(&mut random, target)).collect();

@@ -13,16 +13,12 @@ use reference::random::Random;
 use reference::shelves;
 use std::collections::BTreeMap;
 
-fn four(random: &mut Random) -> [u8; 4] {
-    [random.byte(), random.byte(), random.byte(), random.byte()]
-}
-
 fn modules_of(random: &mut Random, targets: &[Target]) -> Vec<Module> {
     let module = |target: &Target, fresh| {
         let made = Module::of_record(target.udid, target.address_byte, u8::from(target.resolved), fresh);
         made.expect("a record that a model run takes")
     };
-    targets.iter().map(|target| module(target, four(random))).collect()
+    targets.iter().map(|target| module(target, random.four())).collect()
 }
 
 /// All that think that they have won a Get UDID have one UDID and one address byte.
@@ -103,11 +99,7 @@ pub fn random_shelves() -> usize {
     let (mut cases, mut kinds) = (0, Kinds::default());
     for round in 0..400 {
         let count = if round % 8 == 0 { random.below(60) } else { random.below(9) };
-        let occupied = match round % 3 {
-            0 => Addresses::new(),
-            1 => shelves::leaving(&mut random, count.saturating_sub(1).min(90)),
-            _ => shelves::occupied(&mut random),
-        };
+        let occupied = shelves::occupied_by_turns(&mut random, round, count);
         let last_pick = shelves::last_pick(&mut random);
         let targets = shelves::targets(&mut random, count, &occupied);
         let modules = modules_of(&mut random, &targets);
@@ -133,7 +125,7 @@ fn any_module(random: &mut Random, others: &[Module]) -> Module {
     }
     let any = random.byte() | 1;
     let byte = random.pick(&[0xff, 0x41, 0x43, any]);
-    let (flag, fresh) = (random.byte() % 2, four(random));
+    let (flag, fresh) = (random.byte() % 2, random.four());
     if random.below(4) == 0 {
         return Module::power_on(udid, random.byte(), fresh);
     }
@@ -190,7 +182,7 @@ pub fn every_bit() -> usize {
             let mut modules = vec![];
             for udid in if round % 2 == 0 { [zero, one] } else { [one, zero] } {
                 let address = random.byte() % ADDRESSES;
-                modules.push(Module::of_record(udid, 2 * (address % 127) + 1, 0, four(&mut random)).expect("a record"));
+                modules.push(Module::of_record(udid, 2 * (address % 127) + 1, 0, random.four()).expect("a record"));
             }
             let due = modules.iter().position(|module| module.udid == zero).expect("one of two");
             let mut bus = ModuleBus::new(modules);

@@ -24,6 +24,11 @@ impl Random {
         (self.draw() >> 56) as u8
     }
 
+    /// The fresh bytes of a random module.
+    pub fn four(&mut self) -> [u8; 4] {
+        [self.byte(), self.byte(), self.byte(), self.byte()]
+    }
+
     pub fn bytes(&mut self, count: usize) -> Vec<u8> {
         (0..count).map(|_| self.byte()).collect()
     }

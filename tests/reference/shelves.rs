@@ -105,6 +105,15 @@ pub fn any_last_pick(random: &mut Random) -> u8 {
     last_pick(random)
 }
 
+/// What is occupied on a shelf of so many targets, by turns: nothing, so much that one address is lacking, or any.
+pub fn occupied_by_turns(random: &mut Random, round: usize, count: usize) -> Addresses {
+    match round % 3 {
+        0 => Addresses::new(),
+        1 => leaving(random, count.saturating_sub(1).min(90)),
+        _ => occupied(random),
+    }
+}
+
 /// All assignable addresses but so many. Of the added rows all are occupied too, or some, or none.
 pub fn leaving(random: &mut Random, count: usize) -> Addresses {
     let mut assignable = assignable();
