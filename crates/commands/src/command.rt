@@ -19,6 +19,18 @@ pub enum Command {
     Assign(Udid, Address),
 }
 
+// Why an address was chosen for a target.
+pub enum Reason {
+    // The target is fixed, and the address is its own.
+    Fixed,
+    // The target is movable, and its own address is free.
+    Kept,
+    // It is the first free address after the last pick.
+    Picked,
+    // Another claims it, or nobody may stand there: two claim it once the target has it.
+    Claimed,
+}
+
 // Why nothing is to be sent.
 pub enum End {
     // No pass has begun.
@@ -29,8 +41,10 @@ pub enum End {
     NoneFree(Udid),
     // The pass was given up.
     Abandoned,
-    // A trace came while no command was outstanding.
+    // A trace came while no command was outstanding, or there is no choice to issue or to decline.
     NotOutstanding,
+    // Not yet: this address is chosen for this target, and waits to be issued or declined.
+    Chosen(Udid, Address, Reason),
 }
 
 // What is handed out.
