@@ -1,6 +1,7 @@
 pub mod State
 pub mod Bindings
 pub mod Controller
+pub mod Choosing
 pub mod Lookup
 pub mod Gone
 pub mod Numbers
@@ -14,6 +15,7 @@ pub mod Story
 pub mod SinceStart
 pub mod Account
 pub mod OneStep
+pub mod ChoosingLaws
 pub mod ChangedLaws
 pub mod StateLaws
 pub mod HeardLaws

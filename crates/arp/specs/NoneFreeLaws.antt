@@ -30,7 +30,7 @@ use Rattle.arp.specs.Replay.{Happened, Replied, Assigned, Other, Table, 
 use Rattle.commands.specs.CommandTraces.{replyTrace}
 use Rattle.commands.specs.declared.command.Command.the-variants.{Prepare, GetUdid, Assign}
 use Rattle.commands.specs.declared.command.End.{End}
-use Rattle.commands.specs.declared.command.End.the-variants.{Nothing, Ended, NoneFree, Abandoned, NotOutstanding}
+use Rattle.commands.specs.declared.command.End.the-variants.{Nothing, Ended, NoneFree, Abandoned, NotOutstanding, Chosen}
 use Rattle.commands.specs.declared.command.Handed.{Handed}
 use Rattle.commands.specs.declared.command.Handed.the-variants.{Send, Wait}
 
@@ -167,6 +167,7 @@ number-13-end (NoneFree v) u e = ap NoneFree (same (ap (λ (l : List (ℕ × Lis
     same : v ∷ [] ≡ u ∷ [] → v ≡ u
     same q = cc q
 number-13-end Nothing u e = zero-is-one (cc e)
+number-13-end (Chosen v a r) u e = zero-is-one (cc e)
 number-13-end Ended u e = absurd (let z : _≡_ {A = ℕ} 0 13 = ap (λ (l : List (ℕ × List Udid)). first l .0) e in omega arith)
 number-13-end Abandoned u e = absurd (let z : _≡_ {A = ℕ} 14 13 = ap (λ (l : List (ℕ × List Udid)). first l .0) e in omega arith)
 number-13-end NotOutstanding u e = absurd (let z : _≡_ {A = ℕ} 21 13 = ap (λ (l : List (ℕ × List Udid)). first l .0) e in omega arith)

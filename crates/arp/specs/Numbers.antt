@@ -3,19 +3,20 @@ use Prim.Native.Nat.{ℕ}
 use mathlib.Core.List.{List, [], _∷_}
 use Rattle.udid.specs.declared.Udid.{Udid}
 use Rattle.commands.specs.declared.command.End.{End}
-use Rattle.commands.specs.declared.command.End.the-variants.{Nothing, Ended, NoneFree, Abandoned, NotOutstanding}
+use Rattle.commands.specs.declared.command.End.the-variants.{Nothing, Ended, NoneFree, Abandoned, NotOutstanding, Chosen}
 use Rattle.commands.specs.declared.command.Handed.{Handed}
 use Rattle.commands.specs.declared.command.Handed.the-variants.{Send, Wait}
 use Rattle.arp.specs.declared.lookup.Found.{Found}
 use Rattle.arp.specs.declared.lookup.Found.the-variants.{Bound, Nobody, Two, Left, NoAddress}
 
--- the number of an end; where no pass has begun there is none
+-- the number of an end; where no pass has begun, and where a choice waits, there is none
 abbrev pub endNumber : End → List (ℕ × List Udid)
 endNumber Nothing = []
 endNumber Ended = (0, []) ∷ []
 endNumber (NoneFree u) = (13, u ∷ []) ∷ []
 endNumber Abandoned = (14, []) ∷ []
 endNumber NotOutstanding = (21, []) ∷ []
+endNumber (Chosen u a r) = []
 
 -- a command to send has none
 abbrev pub commandNumber : Handed → List (ℕ × List Udid)

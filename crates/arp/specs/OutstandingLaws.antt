@@ -30,7 +30,7 @@ use Rattle.hearing.specs.Told.{tells, noCommand}
 use Rattle.commands.specs.declared.command.Command.{Command}
 use Rattle.commands.specs.declared.command.Command.the-variants.{Prepare, GetUdid, Assign}
 use Rattle.commands.specs.declared.command.End.{End}
-use Rattle.commands.specs.declared.command.End.the-variants.{Nothing, Ended, NoneFree, Abandoned, NotOutstanding}
+use Rattle.commands.specs.declared.command.End.the-variants.{Nothing, Ended, NoneFree, Abandoned, NotOutstanding, Chosen}
 use Rattle.commands.specs.declared.command.Handed.{Handed}
 use Rattle.commands.specs.declared.command.Handed.the-variants.{Send, Wait}
 use Rattle.arp.specs.declared.state.Controller.{Controller}
@@ -99,6 +99,7 @@ end-21 Ended = false
 end-21 (NoneFree u) = false
 end-21 Abandoned = false
 end-21 NotOutstanding = true
+end-21 (Chosen u a r) = false
 
 abbrev is-21 : Handed → Bool
 is-21 (Send k) = false
@@ -114,6 +115,7 @@ number-21-end Ended e = absurd (let z : 0 ≡ 21 = ap first e in omega arith)
 number-21-end (NoneFree u) e = absurd (let z : 13 ≡ 21 = ap first e in omega arith)
 number-21-end Abandoned e = absurd (let z : 14 ≡ 21 = ap first e in omega arith)
 number-21-end NotOutstanding e = refl
+number-21-end (Chosen u a r) e = zero-is-one (cc e)
 
 number-21 : (k : Handed) → commandNumber k ≡ (21, []) ∷ [] → is-21 k ≡ true
 number-21 (Send k) e = zero-is-one (cc e)

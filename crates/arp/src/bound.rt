@@ -21,7 +21,7 @@ fn is_held(held: Binding) -> bool
 
 // Whether an Assign that completes makes a claim of the address, which is known for this: it is barred, or a target is bound there, or
 // two claim it already.
-fn makes_claim(occupied: Pool, held: Binding, a: Address) -> bool
+pub(crate) fn makes_claim(occupied: Pool, held: Binding, a: Address) -> bool
     ensures { λ r. ⌜ r ≡ makesClaim occupied held (a .0) ⌝ }
 {
     let barred = Pool::barred(occupied);

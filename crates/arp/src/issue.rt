@@ -1,6 +1,6 @@
 // What is handed out: a command or an end, and Get UDID with its limit. Rests on the state alone.
 ghost use mathlib.Core.Path.{_≡_};
-ghost use Rattle.arp.specs.Controller.{handed, asked};
+ghost use Rattle.arp.specs.Controller.{handed, asked, notOutstanding};
 use super::state::Controller;
 use super::state::Stepped;
 use commands::command::Command;
@@ -26,6 +26,16 @@ impl Controller {
         Stepped {
             state: state,
             command: k,
+        }
+    }
+
+    // 21: the state as it is, and nothing handed out.
+    pub(crate) fn refuse(self) -> Stepped
+        ensures { λ r. ⌜ r ≡ notOutstanding self ⌝ }
+    {
+        Stepped {
+            state: self,
+            command: Handed::Wait(End::NotOutstanding),
         }
     }
 

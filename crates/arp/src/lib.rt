@@ -5,5 +5,7 @@ pub mod gone;
 pub mod issue;
 pub mod lookup;
 pub mod next;
+pub mod settle;
 pub mod start;
 pub mod state;
+pub mod step;

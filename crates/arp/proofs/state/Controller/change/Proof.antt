@@ -1,5 +1,6 @@
 use mathlib.Core.Path.{sym, ap, _∙_}
-use Rattle.arp.specs.Controller.{asked, changed}
+use Rattle.arp.specs.Choosing.{decidedOn}
+use Rattle.arp.specs.Controller.{asked}
 use borrow.Author.Needs.{needs}
 use Rattle.arp.proofs.state.Controller.change.Statement.{statement}
 use Rattle.arp.proofs.state.Controller.change.Tie as tie
@@ -40,23 +41,26 @@ ask-requires-2 c κs = search needs
 enum-told-4 : tie.Need-enum-told-4
 enum-told-4 c = search needs
 
+refuse-requires : tie.Need-refuse-requires
+refuse-requires c κs = search needs
+
 returns : tie.Need-returns
-returns c = let s = c .before .before .before .args in c .ask .ensures ∙ sym (ap (changed (s .self)) (c .before .enum-told .given .1))
+returns c = let s = c .before .before .before .args in c .ask .ensures ∙ sym (ap (decidedOn (s .self)) (c .before .enum-told .given .1))
 
 returns-2 : tie.Need-returns-2
-returns-2 c = let s = c .before .before .before .args in c .hand .ensures ∙ sym (ap (changed (s .self)) (c .before .enum-told2 .given .1))
+returns-2 c = let s = c .before .before .before .args in c .hand .ensures ∙ sym (ap (decidedOn (s .self)) (c .before .enum-told2 .given .1))
 
 returns-3 : tie.Need-returns-3
-returns-3 c = let s = c .before .before .before .args in c .hand2 .ensures ∙ sym (ap (changed (s .self)) (c .before .enum-told3 .given .1))
+returns-3 c = let s = c .before .before .before .args in c .hand2 .ensures ∙ sym (ap (decidedOn (s .self)) (c .before .enum-told3 .given .1))
 
 returns-4 : tie.Need-returns-4
-returns-4 c = let s = c .before .before .before .before .args in c .on-reply .ensures ∙ sym (ap (changed (s .self)) (c .before .before .told .given .1))
+returns-4 c = let s = c .before .before .before .before .args in c .on-reply .ensures ∙ sym (ap (decidedOn (s .self)) (c .before .before .told .given .1))
 
 returns-5 : tie.Need-returns-5
-returns-5 c = let s = c .before .before .before .before .before .args in c .ask2 .ensures ∙ ap asked (c .before .bind .ensures) ∙ sym (ap (changed (s .self)) (c .before .before .before .told2 .given .1))
+returns-5 c = let s = c .before .before .before .before .before .args in c .ask2 .ensures ∙ ap asked (c .before .bind .ensures) ∙ sym (ap (decidedOn (s .self)) (c .before .before .before .told2 .given .1))
 
 returns-6 : tie.Need-returns-6
-returns-6 c = let s = c .before .before .args in sym (ap (changed (s .self)) (c .enum-told4 .given .1))
+returns-6 c = let s = c .before .before .before .args in c .refuse .ensures ∙ sym (ap (decidedOn (s .self)) (c .before .enum-told4 .given .1))
 
 pub change-spec : {M : Type 1} → statement M
 change-spec =
@@ -74,6 +78,7 @@ change-spec =
     bind-requires
     ask-requires-2
     enum-told-4
+    refuse-requires
     returns
     returns-2
     returns-3

@@ -6,31 +6,31 @@ use Rattle.arp.proofs.state.Controller.on_reply.Reads as reads
 use Rattle.arp.proofs.state.Controller.on_reply.Lts as lts
 use Rattle.arp.proofs.choose.choose.Reads as choose-reads
 use Rattle.arp.proofs.choose.has_to_pick.Reads as has-to-pick-reads
-use Rattle.arp.proofs.choose.pick_after.Reads as pick-after-reads
 use Rattle.arp.proofs.state.Controller.free.Reads as free-reads
 use Rattle.arp.proofs.state.Controller.hand.Reads as hand-reads
+use Rattle.arp.proofs.state.Controller.wait_with.Reads as wait-with-reads
 
--- src/next.rt:23:13
+-- src/next.rt:36:13
 free-requires : tie.Need-free-requires
 free-requires c κs = search needs
 
--- src/next.rt:26:27
+-- src/next.rt:39:27
 choose-requires : tie.Need-choose-requires
 choose-requires c κs = search needs
 
--- src/next.rt:26:22
+-- src/next.rt:39:22
 enum-known-a : tie.Need-enum-known-a
 enum-known-a c = search needs
 
--- src/next.rt:27:43
+-- src/next.rt:40:43
 enum-told : tie.Need-enum-told
 enum-told c = search needs
 
--- src/next.rt:27:13
+-- src/next.rt:40:13
 hand-requires : tie.Need-hand-requires
 hand-requires c κs = search needs
 
--- src/next.rt:27:13
+-- src/next.rt:40:13
 returns : tie.Need-returns
 returns c =
     let s = c .before .before .before .before .before .before .args in
@@ -38,27 +38,22 @@ returns c =
     let k = c .before .before .before .choose in
     reply-none (s .self) (s .u) (s .b) (n .result) (k .result) _ (n .ensures) (k .ensures) (c .before .enum-told .given .1) (c .hand .ensures)
 
--- src/next.rt:29:34
+-- src/next.rt:42:27
 has-to-pick-requires : tie.Need-has-to-pick-requires
 has-to-pick-requires c κs = search needs
 
--- src/next.rt:29:9
-pick-after-requires : tie.Need-pick-after-requires
-pick-after-requires c κs = search needs
+-- src/next.rt:42:9
+wait-with-requires : tie.Need-wait-with-requires
+wait-with-requires c κs = search needs
 
--- src/next.rt:30:9
-hand-requires-2 : tie.Need-hand-requires-2
-hand-requires-2 c κs = search needs
-
--- src/next.rt:20:5
+-- src/next.rt:33:5
 returns-2 : tie.Need-returns-2
 returns-2 c =
-    let s = c .before .before .before .before .before .before .before .before .before .args in
-    let n = c .before .before .before .before .before .before .before .before .free in
-    let k = c .before .before .before .before .before .before .choose in
-    let t = c .before .before .has-to-pick in
-    let l = c .before .pick-after in
-    reply-at (s .self) (s .u) (s .b) (n .result) (k .result) _ (n .ensures) (k .ensures) _ (t .result) (l .result) (c .before .before .before .before .a .given .1) (t .ensures) (l .ensures) (c .hand2 .ensures)
+    let s = c .before .before .before .before .before .before .before .before .args in
+    let n = c .before .before .before .before .before .before .before .free in
+    let k = c .before .before .before .before .before .choose in
+    let t = c .before .has-to-pick in
+    reply-at (s .self) (s .u) (s .b) (n .result) (k .result) _ (n .ensures) (k .ensures) _ (t .result) (c .before .before .before .a .given .1) (t .ensures) (c .wait-with .ensures)
 
 pub on-reply-spec : {M : Type 1} → statement M
 on-reply-spec =
@@ -71,6 +66,5 @@ on-reply-spec =
     hand-requires
     returns
     has-to-pick-requires
-    pick-after-requires
-    hand-requires-2
+    wait-with-requires
     returns-2)

@@ -1,0 +1,59 @@
+use Rattle.arp.proofs.Steps.{choice-waits}
+use borrow.Author.Needs.{needs}
+use Rattle.arp.proofs.state.Controller.wait_with.Statement.{statement}
+use Rattle.arp.proofs.state.Controller.wait_with.Tie as tie
+use Rattle.arp.proofs.state.Controller.wait_with.Reads as reads
+use Rattle.arp.proofs.state.Controller.wait_with.Lts as lts
+use Rattle.arp.proofs.bound.makes_claim.Reads as makes-claim-reads
+use Rattle.arp.proofs.choose.pick_after.Reads as pick-after-reads
+use Rattle.arp.proofs.choose.reason_for.Reads as reason-for-reads
+use Rattle.arp.proofs.state.Controller.hand.Reads as hand-reads
+use Rattle.slots.proofs.Slots.held_at.Reads as held-at-reads
+use Rattle.udid.proofs.Udid.is_fixed.Reads as is-fixed-reads
+
+-- src/next.rt:26:48
+held-at-requires : tie.Need-held-at-requires
+held-at-requires c κs = search needs
+
+-- src/next.rt:26:13
+makes-claim-requires : tie.Need-makes-claim-requires
+makes-claim-requires c κs = search needs
+
+-- src/next.rt:27:47
+is-fixed-requires : tie.Need-is-fixed-requires
+is-fixed-requires c κs = search needs
+
+-- src/next.rt:27:13
+reason-for-requires : tie.Need-reason-for-requires
+reason-for-requires c κs = search needs
+
+-- src/next.rt:28:9
+pick-after-requires : tie.Need-pick-after-requires
+pick-after-requires c κs = search needs
+
+-- src/next.rt:29:9
+hand-requires : tie.Need-hand-requires
+hand-requires c κs = search needs
+
+-- src/next.rt:22:5
+returns : tie.Need-returns
+returns c =
+    let s = c .before .before .before .before .before .before .before .args in
+    let h = c .before .before .before .before .before .held-at in
+    let m = c .before .before .before .before .makes-claim in
+    let x = c .before .before .before .is-fixed in
+    let r = c .before .before .reason-for in
+    let l = c .before .pick-after in
+    choice-waits (s .self) (s .u) (s .picks) (s .a) (h .result) (m .result) (x .result) (r .result) (l .result) _ (h .ensures) (m .ensures) (x .ensures) (r .ensures) (l .ensures) (c .hand .ensures)
+
+pub wait-with-spec : {M : Type 1} → statement M
+wait-with-spec =
+    tie.close
+    (tie.spec
+    held-at-requires
+    makes-claim-requires
+    is-fixed-requires
+    reason-for-requires
+    pick-after-requires
+    hand-requires
+    returns)
