@@ -72,7 +72,8 @@ impl Recorder {
         recorder
     }
 
-    fn record(&mut self, op: Op) {
+    /// An operation, with its answer.
+    pub fn record(&mut self, op: Op) {
         let due = apply(&mut self.controller, &op);
         self.entries.push((op, due));
     }
