@@ -80,6 +80,7 @@ impl ChoicesSeen {
         &self.reasons
     }
 
+    /// How many choices waited.
     pub fn choices(&self) -> usize {
         self.reasons.values().sum()
     }

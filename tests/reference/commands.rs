@@ -20,6 +20,7 @@ pub enum Reason {
     Fixed,
     /// It is movable, and holds it.
     Kept,
+    /// It has none that it can have.
     Picked,
     /// The Assign, completed now, would leave a claim by two.
     Claimed,

@@ -306,22 +306,27 @@ pub fn gone_for_ever() -> Recorder {
 /// Most answers go to first halves.
 const HALVED: Temper = Temper { assign: 10, over: 3, gone: 15, choose: 80, decline: 6, stray: 12, ..CALM };
 
+/// A few targets again and again, by halves.
 pub fn choices() -> Recorder {
     controllers(93, 500, HALVED, few)
 }
 
+/// Fixed targets alone, by halves.
 pub fn choices_and_claims() -> Recorder {
     controllers(94, 400, HALVED, claims)
 }
 
+/// Targets on added rows, by halves.
 pub fn choices_on_rows() -> Recorder {
     controllers(95, 300, HALVED, rows)
 }
 
+/// At most five free addresses, by halves: some replies find none.
 pub fn choices_and_none_free() -> Recorder {
     controllers(96, 400, Temper { over: 1, decline: 3, ..HALVED }, exhausted)
 }
 
+/// Wrong answers and starts at any time, by halves.
 pub fn choices_and_mistakes() -> Recorder {
     controllers(97, 500, Temper { prepare: 5, get_udid: 20, assign: 20, restart: 5, ..HALVED }, few)
 }

@@ -99,11 +99,13 @@ impl Recorder {
         self.outstanding()
     }
 
+    /// The choice that waits is sent, if one does.
     pub fn issue(&mut self) -> Command {
         self.record(Op::Issue);
         self.outstanding()
     }
 
+    /// The choice that waits is not sent, if one does.
     pub fn decline(&mut self) -> Command {
         self.record(Op::Decline);
         self.outstanding()

@@ -153,10 +153,12 @@ fn changing_shelves(seed: u64, by_halves: bool) -> Recorder {
     recorder
 }
 
+/// Modules are pulled and put back while passes run.
 pub fn pulled_modules() -> Recorder {
     changing_shelves(90, false)
 }
 
+/// The same by halves: now and then while a choice waits, and now and then one is declined.
 pub fn pulled_modules_by_halves() -> Recorder {
     changing_shelves(99, true)
 }

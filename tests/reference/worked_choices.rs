@@ -428,6 +428,7 @@ fn too_many() {
     }
 }
 
+/// All of them; how many.
 pub fn all() -> usize {
     let choices: [fn(); 17] = [
         example,
