@@ -144,6 +144,23 @@ static void check_issued(void)
     free(l.bytes);
 }
 
+/* The Assign fails: nobody is bound, the address is free again, and the same choice is made another time. */
+static void check_failed(void)
+{
+    struct list l = module_chosen(0x41);
+    uint8_t reply[17];
+    reply_with(reply, 0x41);
+    issue(&l);
+    half(&l);
+    append(&l, silence, 9);
+    expect_other(&l, HB_GET_UDID, HB_DONE, nobody, 0, 2, NEVER);
+    CHECK(found(&l, 0x20) == HB_NOBODY);
+    half(&l);
+    send(&l, HB_GET_UDID, 0, reply, sizeof reply);
+    expect_chosen(&l, module, 0x20, 2, NEVER, HB_KEPT);
+    free(l.bytes);
+}
+
 /* A choice is declined: 14, and 21 after it. What was bound stays, but the old binding of who replied is not put back. */
 static void check_declined(void)
 {
@@ -289,6 +306,7 @@ void check_choices(void)
     check_movable();
     check_fixed();
     check_issued();
+    check_failed();
     check_declined();
     check_claims();
     check_none();
