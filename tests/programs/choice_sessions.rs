@@ -1,6 +1,7 @@
 //! Sessions of the console about choices, worked out by hand: requests, and the answer due to each.
 
 use crate::sessions::*;
+use Line::*;
 
 /// The example of the order.
 pub const EXAMPLE: [(&str, &str); 6] = [
@@ -37,133 +38,150 @@ pub const REFUSED: [(&str, &str); 17] = [
     ("issue", "21"),
 ];
 
-/// The line of a step as one of its first half.
-fn half(step: &str) -> String {
-    step.replacen("step", "choose", 1)
-}
-
-fn owned(session: &[(&str, &str)]) -> Vec<(String, String)> {
-    session.iter().map(|(line, due)| (line.to_string(), due.to_string())).collect()
+/// A line of a session.
+enum Line {
+    As(&'static str),
+    /// The line of a step, as one of its first half.
+    Half(&'static str),
+    /// All 128 addresses are occupied.
+    OccupyAll,
 }
 
 /// Every reason, and choices that are issued. A report between the choice and the Assign undoes a claim.
-pub fn choices() -> Vec<(String, String)> {
-    owned(&[
-        ("occupied 0x2c", "0 occupied 1"),
-        ("start", "0 next prepare"),
-        (&half(PREPARED), "0 next get"),
-        (&half(REPLY_80_AT_20), "0 chosen 80000000000000000000000000000000 0x20 kept"),
-        (&half(ASSIGN_20), "21"),
-        (ASSIGN_20, "21"),
-        ("lookup 0x20", "15"),
-        ("issue now", "? 7 expected the end of the line"),
-        ("issue", "0 next assign 80000000000000000000000000000000 0x20"),
-        ("issue", "21"),
-        ("decline", "21"),
-        (&half(ASSIGN_20), "0 next get"),
-        ("lookup 0x20", "0 udid 80000000000000000000000000000000"),
-        (&half(REPLY_00_AT_20), "0 chosen 00000000000000000000000000000000 0x20 claimed"),
-        ("gone 0x20", "0 gone"),
-        ("lookup 0x20", "20"),
-        ("gone 0x20", "20"),
-        ("issue", "0 next assign 00000000000000000000000000000000 0x20"),
-        (ASSIGN_20_TO_00, "0 next get"),
-        ("lookup 0x20", "0 udid 00000000000000000000000000000000"),
-        (&half(REPLY_00_AT_20), "0 chosen 00000000000000000000000000000000 0x20 fixed"),
-        ("lookup 0x20", "15"),
-        ("issue", "0 next assign 00000000000000000000000000000000 0x20"),
-        (ASSIGN_20_TO_00, "0 next get"),
-        (&half(REPLY_01_AT_20), "0 chosen 01000000000000000000000000000000 0x20 claimed"),
-        ("issue", "0 next assign 01000000000000000000000000000000 0x20"),
-        (&half(ASSIGN_20_TO_01), "0 next get"),
-        ("lookup 0x20", "16"),
-        (&half(REPLY_00_AT_20), "0 chosen 00000000000000000000000000000000 0x20 claimed"),
-        ("gone 0x20", "16"),
-        ("issue", "0 next assign 00000000000000000000000000000000 0x20"),
-        ("choose", "0 next get"),
-        (&half(REPLY_80_AT_20), "0 chosen 80000000000000000000000000000000 0x0d picked"),
-        ("issue", "0 next assign 80000000000000000000000000000000 0x0d"),
-        (ASSIGN_0D, "0 next get"),
-        (&half(REPLY_00), "0 chosen 00000000000000000000000000000000 0x0e picked"),
-        ("issue", "0 next assign 00000000000000000000000000000000 0x0e"),
-        ("step", "0 next get"),
-        (&half(REPLY_00_AT_48), "0 chosen 00000000000000000000000000000000 0x48 fixed"),
-        ("issue", "0 next assign 00000000000000000000000000000000 0x48"),
-        ("step", "0 next get"),
-        (&half(REPLY_80_AT_48), "0 chosen 80000000000000000000000000000000 0x0f picked"),
-        ("lookup 0x0d", "15"),
-        ("issue", "0 next assign 80000000000000000000000000000000 0x0f"),
-        ("step", "0 next get"),
-        (&half(REPLY_00_AT_2C), "0 chosen 00000000000000000000000000000000 0x2c claimed"),
-        ("gone 0x2c", "15"),
-        ("issue", "0 next assign 00000000000000000000000000000000 0x2c"),
-        (ASSIGN_2C_TO_00, "0 next get"),
-        ("lookup 0x2c", "16"),
-        (&half(REPLY_00_AT_0C), "0 chosen 00000000000000000000000000000000 0x0c claimed"),
-        ("issue", "0 next assign 00000000000000000000000000000000 0x0c"),
-        ("step", "0 next get"),
-        ("lookup 0x0c", "15"),
-        (&half(SILENCE), "0 end"),
-        ("issue", "21"),
-        ("decline", "21"),
-    ])
-}
+const ISSUED: [(Line, &str); 57] = [
+    (As("occupied 0x2c"), "0 occupied 1"),
+    (As("start"), "0 next prepare"),
+    (Half(PREPARED), "0 next get"),
+    (Half(REPLY_80_AT_20), "0 chosen 80000000000000000000000000000000 0x20 kept"),
+    (Half(ASSIGN_20), "21"),
+    (As(ASSIGN_20), "21"),
+    (As("lookup 0x20"), "15"),
+    (As("issue now"), "? 7 expected the end of the line"),
+    (As("issue"), "0 next assign 80000000000000000000000000000000 0x20"),
+    (As("issue"), "21"),
+    (As("decline"), "21"),
+    (Half(ASSIGN_20), "0 next get"),
+    (As("lookup 0x20"), "0 udid 80000000000000000000000000000000"),
+    (Half(REPLY_00_AT_20), "0 chosen 00000000000000000000000000000000 0x20 claimed"),
+    (As("gone 0x20"), "0 gone"),
+    (As("lookup 0x20"), "20"),
+    (As("gone 0x20"), "20"),
+    (As("issue"), "0 next assign 00000000000000000000000000000000 0x20"),
+    (As(ASSIGN_20_TO_00), "0 next get"),
+    (As("lookup 0x20"), "0 udid 00000000000000000000000000000000"),
+    (Half(REPLY_00_AT_20), "0 chosen 00000000000000000000000000000000 0x20 fixed"),
+    (As("lookup 0x20"), "15"),
+    (As("issue"), "0 next assign 00000000000000000000000000000000 0x20"),
+    (As(ASSIGN_20_TO_00), "0 next get"),
+    (Half(REPLY_01_AT_20), "0 chosen 01000000000000000000000000000000 0x20 claimed"),
+    (As("issue"), "0 next assign 01000000000000000000000000000000 0x20"),
+    (Half(ASSIGN_20_TO_01), "0 next get"),
+    (As("lookup 0x20"), "16"),
+    (Half(REPLY_00_AT_20), "0 chosen 00000000000000000000000000000000 0x20 claimed"),
+    (As("gone 0x20"), "16"),
+    (As("issue"), "0 next assign 00000000000000000000000000000000 0x20"),
+    (As("choose"), "0 next get"),
+    (Half(REPLY_80_AT_20), "0 chosen 80000000000000000000000000000000 0x0d picked"),
+    (As("issue"), "0 next assign 80000000000000000000000000000000 0x0d"),
+    (As(ASSIGN_0D), "0 next get"),
+    (Half(REPLY_00), "0 chosen 00000000000000000000000000000000 0x0e picked"),
+    (As("issue"), "0 next assign 00000000000000000000000000000000 0x0e"),
+    (As("step"), "0 next get"),
+    (Half(REPLY_00_AT_48), "0 chosen 00000000000000000000000000000000 0x48 fixed"),
+    (As("issue"), "0 next assign 00000000000000000000000000000000 0x48"),
+    (As("step"), "0 next get"),
+    (Half(REPLY_80_AT_48), "0 chosen 80000000000000000000000000000000 0x0f picked"),
+    (As("lookup 0x0d"), "15"),
+    (As("issue"), "0 next assign 80000000000000000000000000000000 0x0f"),
+    (As("step"), "0 next get"),
+    (Half(REPLY_00_AT_2C), "0 chosen 00000000000000000000000000000000 0x2c claimed"),
+    (As("gone 0x2c"), "15"),
+    (As("issue"), "0 next assign 00000000000000000000000000000000 0x2c"),
+    (As(ASSIGN_2C_TO_00), "0 next get"),
+    (As("lookup 0x2c"), "16"),
+    (Half(REPLY_00_AT_0C), "0 chosen 00000000000000000000000000000000 0x0c claimed"),
+    (As("issue"), "0 next assign 00000000000000000000000000000000 0x0c"),
+    (As("step"), "0 next get"),
+    (As("lookup 0x0c"), "15"),
+    (Half(SILENCE), "0 end"),
+    (As("issue"), "21"),
+    (As("decline"), "21"),
+];
 
 /// Choices that are declined, or dropped by a start or by `clear`. Other verbs leave a choice alone.
+const DECLINED: [(Line, &str); 52] = [
+    (As("start"), "0 next prepare"),
+    (As(PREPARED), "0 next get"),
+    (As(REPLY_80_AT_20), "0 next assign 80000000000000000000000000000000 0x20"),
+    (As(ASSIGN_20), "0 next get"),
+    (Half(REPLY_80), "0 chosen 80000000000000000000000000000000 0x0d picked"),
+    (As("lookup 0x20"), "15"),
+    (As("decline 0"), "? 9 expected the end of the line"),
+    (As("decline"), "14 end"),
+    (As("decline"), "21"),
+    (As("issue"), "21"),
+    (Half(REPLY_80), "21"),
+    (As(REPLY_80), "21"),
+    (As("lookup 0x20"), "15"),
+    (As("lookup 0x0d"), "15"),
+    (As("start"), "0 next prepare"),
+    (As("issue"), "21"),
+    (Half(PREPARED), "0 next get"),
+    (Half(REPLY_80), "0 chosen 80000000000000000000000000000000 0x0e picked"),
+    (As("target 80000000000000000000000000000000 0xff 0"), "0 target 0"),
+    (As("run"), "0 bound 1 get 2 last 0x0d\n 0x0d 80000000000000000000000000000000\n target 0 0x1b 1"),
+    (As("occupied 0x0e"), "0 occupied 1"),
+    (As("pec"), "0 pec 0x00"),
+    (As("gone 0x0e"), "15"),
+    (As("step 65536"), "? 6 expected a symbol, 0 to 65535"),
+    (As("start"), "0 next prepare"),
+    (As("issue"), "21"),
+    (As("decline"), "21"),
+    (Half(PREPARED), "0 next get"),
+    (Half(REPLY_80), "0 chosen 80000000000000000000000000000000 0x0f picked"),
+    (As("issue"), "0 next assign 80000000000000000000000000000000 0x0f"),
+    (Half(SILENCE), "0 next get"),
+    (Half(REPLY_00_AT_20), "0 chosen 00000000000000000000000000000000 0x20 fixed"),
+    (As("clear"), "0 clear"),
+    (As("issue"), "21"),
+    (As("start"), "0 next prepare"),
+    (Half(PREPARED), "0 next get"),
+    (As(REPLY_00_AT_20), "0 next assign 00000000000000000000000000000000 0x20"),
+    (Half(ASSIGN_20_TO_00), "0 next get"),
+    (Half(REPLY_01_AT_20), "0 chosen 01000000000000000000000000000000 0x20 claimed"),
+    (As("decline"), "14 end"),
+    (As("lookup 0x20"), "0 udid 00000000000000000000000000000000"),
+    (OccupyAll, "0 occupied 128"),
+    (As("start"), "0 next prepare"),
+    (Half(PREPARED), "0 next get"),
+    (Half(REPLY_80), "13 end 80000000000000000000000000000000"),
+    (As("issue"), "21"),
+    (As("decline"), "21"),
+    (As("start"), "0 next prepare"),
+    (Half(PREPARED), "0 next get"),
+    (Half(REPLY_00_AT_20), "0 chosen 00000000000000000000000000000000 0x20 claimed"),
+    (As("decline"), "14 end"),
+    (As("lookup 0x20"), "15"),
+];
+
+fn text(line: &Line) -> String {
+    match line {
+        As(text) => text.to_string(),
+        Half(step) => step.replacen("step", "choose", 1),
+        OccupyAll => (0..128).fold("occupied".to_string(), |text, address| format!("{text} {address}")),
+    }
+}
+
+fn session(lines: &[(Line, &str)]) -> Vec<(String, String)> {
+    lines.iter().map(|(line, due)| (text(line), due.to_string())).collect()
+}
+
+/// Choices that are issued: requests of one session, and the answer due to each.
+pub fn issued() -> Vec<(String, String)> {
+    session(&ISSUED)
+}
+
+/// Choices that are declined or dropped: the same.
 pub fn declined() -> Vec<(String, String)> {
-    let all = (0..128).map(|address| format!(" {address}")).collect::<String>();
-    owned(&[
-        ("start", "0 next prepare"),
-        (PREPARED, "0 next get"),
-        (REPLY_80_AT_20, "0 next assign 80000000000000000000000000000000 0x20"),
-        (ASSIGN_20, "0 next get"),
-        (&half(REPLY_80), "0 chosen 80000000000000000000000000000000 0x0d picked"),
-        ("lookup 0x20", "15"),
-        ("decline 0", "? 9 expected the end of the line"),
-        ("decline", "14 end"),
-        ("decline", "21"),
-        ("issue", "21"),
-        (&half(REPLY_80), "21"),
-        (REPLY_80, "21"),
-        ("lookup 0x20", "15"),
-        ("lookup 0x0d", "15"),
-        ("start", "0 next prepare"),
-        ("issue", "21"),
-        (&half(PREPARED), "0 next get"),
-        (&half(REPLY_80), "0 chosen 80000000000000000000000000000000 0x0e picked"),
-        ("target 80000000000000000000000000000000 0xff 0", "0 target 0"),
-        ("run", "0 bound 1 get 2 last 0x0d\n 0x0d 80000000000000000000000000000000\n target 0 0x1b 1"),
-        ("occupied 0x0e", "0 occupied 1"),
-        ("pec", "0 pec 0x00"),
-        ("gone 0x0e", "15"),
-        ("step 65536", "? 6 expected a symbol, 0 to 65535"),
-        ("start", "0 next prepare"),
-        ("issue", "21"),
-        ("decline", "21"),
-        (&half(PREPARED), "0 next get"),
-        (&half(REPLY_80), "0 chosen 80000000000000000000000000000000 0x0f picked"),
-        ("issue", "0 next assign 80000000000000000000000000000000 0x0f"),
-        (&half(SILENCE), "0 next get"),
-        (&half(REPLY_00_AT_20), "0 chosen 00000000000000000000000000000000 0x20 fixed"),
-        ("clear", "0 clear"),
-        ("issue", "21"),
-        ("start", "0 next prepare"),
-        (&half(PREPARED), "0 next get"),
-        (REPLY_00_AT_20, "0 next assign 00000000000000000000000000000000 0x20"),
-        (&half(ASSIGN_20_TO_00), "0 next get"),
-        (&half(REPLY_01_AT_20), "0 chosen 01000000000000000000000000000000 0x20 claimed"),
-        ("decline", "14 end"),
-        ("lookup 0x20", "0 udid 00000000000000000000000000000000"),
-        (&format!("occupied{all}"), "0 occupied 128"),
-        ("start", "0 next prepare"),
-        (&half(PREPARED), "0 next get"),
-        (&half(REPLY_80), "13 end 80000000000000000000000000000000"),
-        ("issue", "21"),
-        ("decline", "21"),
-        ("start", "0 next prepare"),
-        (&half(PREPARED), "0 next get"),
-        (&half(REPLY_00_AT_20), "0 chosen 00000000000000000000000000000000 0x20 claimed"),
-        ("decline", "14 end"),
-        ("lookup 0x20", "15"),
-    ])
+    session(&DECLINED)
 }

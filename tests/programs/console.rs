@@ -302,7 +302,7 @@ fn main() {
         + by_hand(program, "rows of the table", &sessions::ROWS)
         + by_hand(program, "the choice of the order", &choice_sessions::EXAMPLE)
         + by_hand(program, "choices refused", &choice_sessions::REFUSED)
-        + by_hand(program, "choices", &choice_sessions::choices())
+        + by_hand(program, "choices issued", &choice_sessions::issued())
         + by_hand(program, "choices declined", &choice_sessions::declined());
     let about_modules = by_hand(program, "the module of the order", &module_sessions::EXAMPLE)
         + by_hand(program, "modules refused", &module_sessions::REFUSED)
