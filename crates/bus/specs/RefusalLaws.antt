@@ -21,7 +21,7 @@ use Rattle.targets.specs.declared.admit.Checked.{Checked}
 use Rattle.targets.specs.declared.admit.Checked.the-variants.{Admitted, BadLength, Malformed, Repeated, Taken}
 use Rattle.arp.specs.Numbers.{endNumber, commandNumber}
 use Rattle.commands.specs.declared.command.End.{End}
-use Rattle.commands.specs.declared.command.End.the-variants.{Nothing, Ended, NoneFree, Abandoned, NotOutstanding}
+use Rattle.commands.specs.declared.command.End.the-variants.{Nothing, Ended, NoneFree, Abandoned, NotOutstanding, Chosen}
 use Rattle.commands.specs.declared.command.Handed.{Handed}
 use Rattle.commands.specs.declared.command.Handed.the-variants.{Send, Wait}
 use Rattle.targets.specs.Records.{targetsOf}
@@ -40,6 +40,7 @@ end-number-is Ended = inl refl
 end-number-is (NoneFree u) = inr (omega arith)
 end-number-is Abandoned = inr (omega arith)
 end-number-is NotOutstanding = inr (omega arith)
+end-number-is (Chosen u a r) = inl refl
 
 number-is : (k : Handed) → (numberIn (commandNumber k) ≡ 0) ⊎ (13 ≤ numberIn (commandNumber k))
 number-is (Send k) = inl refl
