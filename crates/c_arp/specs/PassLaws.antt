@@ -91,10 +91,10 @@ module _ (given : HbPool) (last : ℕ) (l : List ℕ) (r : HbCommand) (e : r ≡
           let st : Stepped = passOver (poolIn given) last l in
           absurd (never-1 (st .command) (st .state .gets) (st .state .picked) (sym (ap (λ (x : HbCommand). x .answer) (told (omega arith))) ∙ q))
 
-  pub hb-pass-1-zero : r .answer ≡ 1 → CommandParts r 6 1 0 0 0 0 0
+  pub hb-pass-1-zero : r .answer ≡ 1 → CommandParts r 6 1 0 0 0 0 0 0
   hb-pass-1-zero q =
-      subst (λ (x : HbCommand). CommandParts x 6 1 0 0 0 0 0) (sym (forbidden (hb-pass-1 .0 q)))
-      (record { kind-is = refl; answer-is = refl; address-is = refl; gets-is = refl; picked-is = refl; high-is = refl; low-is = refl })
+      subst (λ (x : HbCommand). CommandParts x 6 1 0 0 0 0 0 0) (sym (forbidden (hb-pass-1 .0 q)))
+      (record { kind-is = refl; answer-is = refl; address-is = refl; gets-is = refl; picked-is = refl; reason-is = refl; high-is = refl; low-is = refl })
 
 -- with a trace as the last entry, hb_pass answers 21 exactly if the start and the entries before it handed out no command last
 pub hb-pass-21 : (given : HbPool) (last : ℕ) (es : List Event) (tr rest : List ℕ) → last < 128 → Listed es → length tr < 65535 → Cut rest → (r : HbCommand)
@@ -111,7 +111,7 @@ hb-pass-21 given last es tr rest small v short cut r e =
     (subst (λ (k : Handed). (commandNumber k ≡ (21, []) ∷ []) ↔ (noCommand (handedOut p last (eventsOf es)) ≡ true)) (sym c) (step-21-by-events p last (eventsOf es) tr))
 
 -- with no entry it hands out Prepare
-pub hb-pass-start : (given : HbPool) (last : ℕ) (r : HbCommand) → last < 128 → r ≡ passCommand (poolIn given) last [] → CommandParts r 0 0 0 0 last 0 0
+pub hb-pass-start : (given : HbPool) (last : ℕ) (r : HbCommand) → last < 128 → r ≡ passCommand (poolIn given) last [] → CommandParts r 0 0 0 0 last 0 0 0
 unfolding entriesIn stepsOver
 hb-pass-start given last r small e =
     command-parts (Send Prepare) 0 last r (told given last [] r e small ∙ ap (toldCommand (Send Prepare) 0) (last-pick-is last small))
