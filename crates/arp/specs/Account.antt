@@ -17,7 +17,7 @@ use Rattle.commands.specs.SameTrace.{same}
 use Rattle.commands.specs.declared.command.Command.the-variants.{Prepare, GetUdid, Assign}
 use Rattle.commands.specs.declared.command.Handed.{Handed}
 use Rattle.commands.specs.declared.command.Handed.the-variants.{Send, Wait}
-use Rattle.arp.specs.History.{Event, Start, Received, Gone, run}
+use Rattle.arp.specs.History.{Event, Start, Received, Gone, Issue, Decline, run}
 use Rattle.arp.specs.Replay.{Table, view, isBound}
 
 -- a bind: the trace is the Assign that was handed out last, every byte acknowledged, and its address was not in the pool
@@ -53,17 +53,23 @@ knownIn occupied last es = view (run occupied last es)
 unfoldable pub binds : (List Event → Table) → (List Event → Handed) → List Event → ℕ
 binds known handed [] = 0
 binds known handed (Start ∷ es) = 0
-binds known handed (Received tr ∷ es) = binds known handed es + bindIn (known es) (handed es) tr
+binds known handed (Received w tr ∷ es) = binds known handed es + bindIn (known es) (handed es) tr
 binds known handed (Gone a ∷ es) = binds known handed es
+binds known handed (Issue ∷ es) = binds known handed es
+binds known handed (Decline ∷ es) = binds known handed es
 
 unfoldable pub unbindings : (ℕ → Bool) → (List Event → Table) → (List Event → Handed) → List Event → ℕ
 unbindings starting known handed [] = 0
 unbindings starting known handed (Start ∷ es) = 0
-unbindings starting known handed (Received tr ∷ es) = unbindings starting known handed es + unbindIn starting (known es) (handed es) tr
+unbindings starting known handed (Received w tr ∷ es) = unbindings starting known handed es + unbindIn starting (known es) (handed es) tr
 unbindings starting known handed (Gone a ∷ es) = unbindings starting known handed es
+unbindings starting known handed (Issue ∷ es) = unbindings starting known handed es
+unbindings starting known handed (Decline ∷ es) = unbindings starting known handed es
 
 unfoldable pub removals : (ℕ → Bool) → (List Event → Table) → List Event → ℕ
 removals starting known [] = 0
 removals starting known (Start ∷ es) = 0
-removals starting known (Received tr ∷ es) = removals starting known es
+removals starting known (Received w tr ∷ es) = removals starting known es
 removals starting known (Gone a ∷ es) = removals starting known es + removeIn starting (known es) a
+removals starting known (Issue ∷ es) = removals starting known es
+removals starting known (Decline ∷ es) = removals starting known es

@@ -39,7 +39,8 @@ use Rattle.arp.specs.Account.{knownIn, bindIn, repliesFrom, unbindIn, re
 use Rattle.arp.specs.Gone.{reported}
 use Rattle.arp.specs.GoneLaws.{which-bound, bound-small, nothing-reported, removed}
 use Rattle.arp.specs.HandedOutLaws.{table-is-story}
-use Rattle.arp.specs.History.{Event, Start, Received, Gone, run}
+use Rattle.arp.specs.HandingLaws.{issue-rest, decline-rest}
+use Rattle.arp.specs.History.{By, Event, Start, Received, Gone, Issue, Decline, run}
 use Rattle.arp.specs.HistoryLaws.{reached-good, reached-invariant}
 use Rattle.arp.specs.OutstandingLaws.{handed-out-is-last}
 use Rattle.arp.specs.PickedLaws.{byte-at-42}
@@ -86,14 +87,14 @@ module _ (occupied : Pool) (last : ℕ) (es : List Event) where
   abbrev starts : ℕ → Bool
   starts = member (startingPool occupied)
 
-  module _ (tr : List ℕ) where
+  module _ (by : By) (tr : List ℕ) where
     abbrev later : Pool
-    later = run occupied last (Received tr ∷ es) .pool
+    later = run occupied last (Received by tr ∷ es) .pool
 
     -- what a trace that is read as nothing leaves
     same-used : readAs (handedOut occupied last es) tr ≡ Other → used later ≡ used (before .pool)
     unfolding used
-    same-used e = count-cong (member later) (member (before .pool)) 128 (λ a h. used-after (Received tr) a ∙ ap (λ (x : Happened). after occupied x (view before) .used a) e)
+    same-used e = count-cong (member later) (member (before .pool)) 128 (λ a h. used-after (Received by tr) a ∙ ap (λ (x : Happened). after occupied x (view before) .used a) e)
 
     -- ---- Get UDID is outstanding
 
@@ -139,7 +140,7 @@ module _ (occupied : Pool) (last : ℕ) (es : List Event) where
 
       used-then : (a : ℕ) → member later a ≡ pick (rep a) (and (starts a) (member (before .pool) a)) (member (before .pool) a)
       used-then a =
-          used-after (Received tr) a
+          used-after (Received by tr) a
           ∙ ap (λ (y : Handed). after occupied (readAs y tr) (view before) .used a) k
           ∙ released-then (readAs (Send GetUdid) tr) (cases (reply-cases (answer 9 tr) (receivedIn 9 tr))) refl a (heldAt (before .slots) a) refl
         where
@@ -196,7 +197,7 @@ module _ (occupied : Pool) (last : ℕ) (es : List Event) where
       small = subst (PendingIn before) (handed-out-is-last occupied last es (Assign u c) k) (reached-good occupied last es .1) .small
 
       used-whole : tr ≡ whole-assign → (a : ℕ) → member later a ≡ pick (eqb a (c .0)) true (member (before .pool) a)
-      used-whole q a = used-after (Received tr) a ∙ ap (λ (x : Happened). after occupied x (view before) .used a) (read-whole q)
+      used-whole q a = used-after (Received by tr) a ∙ ap (λ (x : Happened). after occupied x (view before) .used a) (read-whole q)
 
       -- one more, where it was not in the pool
       assign-counted : used later ≡ used (before .pool) + one (and (same tr whole-assign) (not (member (before .pool) (c .0))))
@@ -277,7 +278,13 @@ pub account : (occupied : Pool) (last : ℕ) (es : List Event) → let starting 
 unfolding run removals unbindings binds
 account occupied last [] = omega arith
 account occupied last (Start ∷ es) = ap (λ (o : Pool). used (startingPool o) + 0) (reached-good occupied last es .0 .occupies)
-account occupied last (Received tr ∷ es) = let m = account occupied last es in let n = trace-counted occupied last es tr in omega arith
+account occupied last (Received by tr ∷ es) = let m = account occupied last es in let n = trace-counted occupied last es by tr in omega arith
+account occupied last (Issue ∷ es) =
+    ap (λ (p : Pool). used p + (removals (member (startingPool occupied)) (knownIn occupied last) es + unbindings (member (startingPool occupied)) (knownIn occupied last) (handedOut occupied last) es))
+    (issue-rest (run occupied last es) .pool) ∙ account occupied last es
+account occupied last (Decline ∷ es) =
+    ap (λ (p : Pool). used p + (removals (member (startingPool occupied)) (knownIn occupied last) es + unbindings (member (startingPool occupied)) (knownIn occupied last) (handedOut occupied last) es))
+    (decline-rest (run occupied last es) .pool) ∙ account occupied last es
 account occupied last (Gone b ∷ es) = let m = account occupied last es in let n = report-counted occupied last es b in omega arith
 
 -- what the events alone say was known, and handed out, is the same

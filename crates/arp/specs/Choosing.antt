@@ -98,3 +98,11 @@ carriedFor r Absent = r
 -- where the first half has left a choice, it is issued
 abbrev pub carriedOn : Stepped → Stepped
 carriedOn r = carriedFor r (choiceIn (r .command))
+
+abbrev pub sendingFor : Handed → Choice → Handed
+sendingFor k (Of u a) = Send (Assign u a)
+sendingFor k Absent = k
+
+-- what goes out once the choice is issued
+abbrev pub sending : Handed → Handed
+sending k = sendingFor k (choiceIn k)

@@ -4,10 +4,8 @@ use Prim.Native.Nat.{ℕ, _+_, _<_}
 use mathlib.Core.Path.{_≡_, refl, sym, ap, ap₂, _∙_}
 use mathlib.Core.Bool.{Bool, true, false}
 use mathlib.Core.List.{List, [], _∷_}
-use mathlib.Core.Logic.{inl, inr}
 use lib.Dec.{ltb, leb, eqb}
 use lib.ListN.{getD}
-use Rattle.lists.specs.AbsurdLaws.{zero-is-one}
 use Rattle.lists.specs.Choice.{pick, and}
 use Rattle.trace.specs.declared.transaction.Transaction.{Transaction}
 use Rattle.scan.specs.Numbers.{isNack}
@@ -18,28 +16,34 @@ use Rattle.pool.specs.declared.free.Free.{Free}
 use Rattle.pool.specs.declared.free.Free.the-variants.{At, AllUsed}
 use Rattle.udid.specs.Bytes.{udidAt}
 use Rattle.udid.specs.declared.Udid.{Udid}
+use Rattle.arp.specs.Choosing.{choiceIn, issuedFor, issuing, declinedFor, declining}
+use Rattle.arp.specs.ChoosingLaws.{same-but-last}
 use Rattle.arp.specs.ChosenLaws.{chosen-is-given}
-use Rattle.arp.specs.HandingLaws.{bound-keeps-gets, gets-are-sent}
+use Rattle.arp.specs.Numbers.{unless21}
+use Rattle.arp.specs.HandingLaws.{bound-keeps-gets, gets-are-sent, issue-rest, decline-rest}
 use Rattle.arp.specs.GoneLaws.{report-rest}
 use Rattle.arp.specs.HistoryLaws.{reached-good}
 use Rattle.arp.specs.OutstandingLaws.{last-is-handed-out}
 use Rattle.arp.specs.PickedLaws.{freed-keeps-picked, step-picked}
 use Rattle.arp.specs.RunPicks.{pickedThen}
-use Rattle.arp.specs.TableLaws.{freed-as-replied, view-is-table}
-use Rattle.arp.specs.Story.{Story, onward, story}
+use Rattle.arp.specs.TableLaws.{freed-as-replied, trace-view, view-is-table}
+use Rattle.arp.specs.WithheldLaws.{half-withheld}
+use Rattle.arp.specs.Story.{Story, withheld, nextBy, issuedThen, declinedThen, onward, story}
 use Rattle.arp.specs.Sound.{SoundIn}
 use Rattle.arp.specs.Bindings.{freed, bound}
 use Rattle.arp.specs.Controller.{handed, counted, asked, hasToPick, chosen, issued, replied, stepped, changed}
 use Rattle.hearing.specs.Heard.{answer, sentIn, receivedIn, isPrepare, isGet, isAssign}
 use Rattle.commands.specs.Codes.{sendByte, blockRead, blockWrite}
-use Rattle.arp.specs.History.{Event, Start, Received, Gone, run, oneGet, getsSent}
-use Rattle.arp.specs.Replay.{Table, emptied, released, handedOut, table, again, givenTo, assigning, nextPrepare, nextReply, nextCommand, view, SameOutstanding}
+use Rattle.arp.specs.History.{By, Step, Choose, Event, Start, Received, Gone, Issue, Decline, heard, run, oneGet, getsSent}
+use Rattle.arp.specs.Replay.{Table, emptied, released, after, readAs, handedOut, table, again, givenTo, assigning, nextPrepare, nextReply, nextCommand, view}
 use Rattle.commands.specs.declared.command.Command.the-variants.{Prepare, GetUdid, Assign}
-use Rattle.commands.specs.declared.command.End.the-variants.{Ended, Abandoned, NotOutstanding}
+use Rattle.commands.specs.declared.command.End.the-variants.{Ended, Abandoned}
 use Rattle.commands.specs.declared.command.Handed.{Handed}
 use Rattle.commands.specs.declared.command.Handed.the-variants.{Send, Wait}
+use Rattle.arp.specs.declared.settle.Choice.{Choice}
+use Rattle.arp.specs.declared.settle.Choice.the-variants.{Of, Absent}
 use Rattle.arp.specs.declared.state.Controller.{Controller}
-use Rattle.hearing.specs.Told.{toldPrepare, toldReply, toldGet, toldAssign, tells, noCommand}
+use Rattle.hearing.specs.Told.{toldPrepare, toldReply, toldGet, toldAssign, tells}
 use Rattle.hearing.specs.declared.told.Told.the-variants.{Again, Over, GivenUp, Reply, Took}
 
 asked-command : (s : Controller) → asked s .command ≡ again (s .gets)
@@ -111,27 +115,45 @@ module _ (s : Controller) (v : SoundIn s) (small : s .picked < 128) where
       go (Send (Assign u a)) = assign-command s u (a .0) (answer blockWrite tr) (sentIn blockWrite tr)
       go (Wait e) = refl
 
-idle-next : (occupied : Pool) (t : Table) (last n : ℕ) (k : Handed) (tr : List ℕ) → noCommand k ≡ true → nextCommand occupied t last n k tr ≡ Wait NotOutstanding
-idle-next occupied t last n (Send k) tr i = zero-is-one (cc i)
-idle-next occupied t last n (Wait e) tr i = refl
-
-same-next : (occupied : Pool) (t : Table) (last n : ℕ) (k m : Handed) (tr : List ℕ) → SameOutstanding k m → nextCommand occupied t last n k tr ≡ nextCommand occupied t last n m tr
-same-next occupied t last n k m tr (inl e) = ap (λ (x : Handed). nextCommand occupied t last n x tr) e
-same-next occupied t last n k m tr (inr h) = idle-next occupied t last n k tr (h .0) ∙ sym (idle-next occupied t last n m tr (h .1))
-
 -- EACH COMMAND THAT A STEP HANDS OUT is the one that the table, the count of Get UDIDs and the command outstanding give
 pub handed-out-by-table : (occupied : Pool) (last : ℕ) (es : List Event) (tr : List ℕ)
     → stepped (run occupied last es) tr .command ≡ nextCommand occupied (table occupied last es) (run occupied last es .picked) (getsSent occupied last es) (handedOut occupied last es) tr
 handed-out-by-table occupied last es tr =
     step-command (run occupied last es) (reached-good occupied last es .0 .sound) (reached-good occupied last es .0 .picked) tr
     ∙ ap (λ (o : Pool). nextCommand o (view (run occupied last es)) (run occupied last es .picked) (run occupied last es .gets) (run occupied last es .last) tr) (reached-good occupied last es .0 .occupies)
-    ∙ same-next occupied (view (run occupied last es)) (run occupied last es .picked) (run occupied last es .gets) (run occupied last es .last) (handedOut occupied last es) tr (last-is-handed-out occupied last es)
+    ∙ ap (λ (k : Handed). nextCommand occupied (view (run occupied last es)) (run occupied last es .picked) (run occupied last es .gets) k tr) (last-is-handed-out occupied last es)
     ∙ ap₂ (λ (t : Table) (n : ℕ). nextCommand occupied t (run occupied last es .picked) n (handedOut occupied last es) tr) (view-is-table occupied last es) (gets-are-sent occupied last es)
+
+-- EACH COMMAND, CHOICE OR END that a step or its first half hands out
+pub heard-by-table : (occupied : Pool) (last : ℕ) (es : List Event) (w : By) (tr : List ℕ)
+    → heard w (run occupied last es) tr .command ≡ nextBy w occupied (table occupied last es) (run occupied last es .picked) (getsSent occupied last es) (handedOut occupied last es) tr
+heard-by-table occupied last es Step tr = handed-out-by-table occupied last es tr
+heard-by-table occupied last es Choose tr =
+    half-withheld (run occupied last es) tr
+    ∙ ap₂ (λ (o : Pool) (t : Table). withheld o t tr (stepped (run occupied last es) tr .command)) (reached-good occupied last es .0 .occupies) (trace-view occupied last es tr)
+    ∙ ap₂ (λ (t : Table) (k : Handed). withheld occupied (after occupied (readAs (handedOut occupied last es) tr) t) tr k) (view-is-table occupied last es) (handed-out-by-table occupied last es tr)
 
 -- ---- by the events alone
 
 stories : (x y : Story) → x .known ≡ y .known → x .gets ≡ y .gets → x .command ≡ y .command → x .picked ≡ y .picked → x ≡ y
 stories x y p q r l = λ i. record { known = p i; gets = q i; command = r i; picked = l i }
+
+-- an issue and a decline, by what was handed out last
+issued-then : (s : Controller) (k : Handed) → s .last ≡ k → unless21 (issuing s .command) k ≡ issuedThen k (choiceIn k)
+unfolding issuing
+issued-then s k e = ap (λ (x : Handed). unless21 (issuedFor s (choiceIn x) .command) k) e ∙ go (choiceIn k)
+  where
+    go : (c : Choice) → unless21 (issuedFor s c .command) k ≡ issuedThen k c
+    go (Of u a) = refl
+    go Absent = refl
+
+declined-then : (s : Controller) (k : Handed) → s .last ≡ k → unless21 (declining s .command) k ≡ declinedThen k (choiceIn k)
+unfolding declining
+declined-then s k e = ap (λ (x : Handed). unless21 (declinedFor s (choiceIn x) .command) k) e ∙ go (choiceIn k)
+  where
+    go : (c : Choice) → unless21 (declinedFor s c .command) k ≡ declinedThen k c
+    go (Of u a) = refl
+    go Absent = refl
 
 -- the table, the count, the command and the last pick of a run
 abbrev pub told : Pool → ℕ → List Event → Story
@@ -142,14 +164,28 @@ unfolding story table getsSent handedOut run
 table-is-story occupied last [] = refl
 table-is-story occupied last (Start ∷ es) =
     ap (λ (w : Story). record { known = emptied occupied; gets = 0; command = Send Prepare; picked = w .picked }) (table-is-story occupied last es)
-table-is-story occupied last (Received tr ∷ es) =
-    let e = handed-out-by-table occupied last es tr in
-    stories (told occupied last (Received tr ∷ es)) (onward occupied (Received tr) (told occupied last es))
+table-is-story occupied last (Received w tr ∷ es) =
+    let e = heard-by-table occupied last es w tr in
+    stories (told occupied last (Received w tr ∷ es)) (onward occupied (Received w tr) (told occupied last es))
     refl
     (ap (λ (k : Handed). getsSent occupied last es + oneGet k) e)
-    e
-    (step-picked (run occupied last es) tr ∙ ap (pickedThen (run occupied last es .picked) tr) e)
-    ∙ ap (onward occupied (Received tr)) (table-is-story occupied last es)
+    (ap (λ (k : Handed). unless21 k (handedOut occupied last es)) e)
+    (ap (λ (c : Controller). c .picked) (same-but-last w (run occupied last es) tr) ∙ step-picked (run occupied last es) tr ∙ ap (pickedThen (run occupied last es .picked) tr) (handed-out-by-table occupied last es tr))
+    ∙ ap (onward occupied (Received w tr)) (table-is-story occupied last es)
+table-is-story occupied last (Issue ∷ es) =
+    stories (told occupied last (Issue ∷ es)) (onward occupied Issue (told occupied last es))
+    refl
+    refl
+    (issued-then (run occupied last es) (handedOut occupied last es) (last-is-handed-out occupied last es))
+    (issue-rest (run occupied last es) .picked)
+    ∙ ap (onward occupied Issue) (table-is-story occupied last es)
+table-is-story occupied last (Decline ∷ es) =
+    stories (told occupied last (Decline ∷ es)) (onward occupied Decline (told occupied last es))
+    refl
+    refl
+    (declined-then (run occupied last es) (handedOut occupied last es) (last-is-handed-out occupied last es))
+    (decline-rest (run occupied last es) .picked)
+    ∙ ap (onward occupied Decline) (table-is-story occupied last es)
 table-is-story occupied last (Gone a ∷ es) =
     stories (told occupied last (Gone a ∷ es)) (onward occupied (Gone a) (told occupied last es)) refl refl refl (report-rest (run occupied last es) a .picked)
     ∙ ap (onward occupied (Gone a)) (table-is-story occupied last es)

@@ -25,7 +25,11 @@ use Rattle.arp.specs.Sound.{Pending, PendingIn}
 use Rattle.arp.specs.Bindings.{freedAt, freed, boundAt, bound}
 use Rattle.slots.specs.Finding.{findFrom}
 use Rattle.arp.specs.Controller.{handed, counted, asked, hasToPick, chosen, issued, replied, changed, stepped}
-use Rattle.arp.specs.History.{Event, Start, Received, Gone, run, oneGet, getsSent}
+use Rattle.arp.specs.Choosing.{choiceIn, issuedFor, issuing, declinedFor, declining}
+use Rattle.arp.specs.ChoosingLaws.{same-but-last, counts-the-same}
+use Rattle.arp.specs.History.{Event, Start, Received, Gone, Issue, Decline, run, oneGet, getsSent}
+use Rattle.arp.specs.declared.settle.Choice.{Choice}
+use Rattle.arp.specs.declared.settle.Choice.the-variants.{Of, Absent}
 use Rattle.hearing.specs.Told.{tells, noCommand}
 use Rattle.commands.specs.declared.command.Command.the-variants.{GetUdid, Assign}
 use Rattle.commands.specs.declared.command.End.the-variants.{Ended, NoneFree, Abandoned, NotOutstanding}
@@ -95,13 +99,42 @@ module _ (s : Controller) where
       go (Send k) = inr (busy-handed (Send k) tr refl)
       go (Wait e) = inl (refl, refl)
 
+-- an issue and a decline change what was handed out last, and nothing else
+pub record Settles (s t : Controller) : Type 0 where
+  pub occupied : t .occupied ≡ s .occupied
+  pub pool : t .pool ≡ s .pool
+  pub slots : t .slots ≡ s .slots
+  pub gets : t .gets ≡ s .gets
+  pub picked : t .picked ≡ s .picked
+
+pub issue-rest : (s : Controller) → Settles s (issuing s .state)
+unfolding issuing
+issue-rest s = go (choiceIn (s .last))
+  where
+    go : (c : Choice) → Settles s (issuedFor s c .state)
+    go (Of u a) = record { occupied = refl; pool = refl; slots = refl; gets = refl; picked = refl }
+    go Absent = record { occupied = refl; pool = refl; slots = refl; gets = refl; picked = refl }
+
+pub decline-rest : (s : Controller) → Settles s (declining s .state)
+unfolding declining
+decline-rest s = go (choiceIn (s .last))
+  where
+    go : (c : Choice) → Settles s (declinedFor s c .state)
+    go (Of u a) = record { occupied = refl; pool = refl; slots = refl; gets = refl; picked = refl }
+    go Absent = record { occupied = refl; pool = refl; slots = refl; gets = refl; picked = refl }
+
 -- the count in the state is that of the Get UDIDs handed out in this pass
 pub gets-are-sent : (occupied : Pool) (last : ℕ) (es : List Event) → run occupied last es .gets ≡ getsSent occupied last es
 unfolding run getsSent
 gets-are-sent occupied last [] = refl
 gets-are-sent occupied last (Start ∷ es) = refl
 gets-are-sent occupied last (Gone a ∷ es) = report-rest (run occupied last es) a .gets ∙ gets-are-sent occupied last es
-gets-are-sent occupied last (Received tr ∷ es) = go (step-21-or-handed (run occupied last es) tr) (gets-are-sent occupied last es)
+gets-are-sent occupied last (Issue ∷ es) = issue-rest (run occupied last es) .gets ∙ gets-are-sent occupied last es
+gets-are-sent occupied last (Decline ∷ es) = decline-rest (run occupied last es) .gets ∙ gets-are-sent occupied last es
+gets-are-sent occupied last (Received w tr ∷ es) =
+    ap (λ (s : Controller). s .gets) (same-but-last w (run occupied last es) tr)
+    ∙ go (step-21-or-handed (run occupied last es) tr) (gets-are-sent occupied last es)
+    ∙ ap (λ (n : ℕ). getsSent occupied last es + n) (sym (counts-the-same w (run occupied last es) tr))
   where
     go : ((stepped (run occupied last es) tr .command ≡ Wait NotOutstanding) × (stepped (run occupied last es) tr .state ≡ run occupied last es)) ⊎ Kept (run occupied last es) (stepped (run occupied last es) tr)
         → run occupied last es .gets ≡ getsSent occupied last es

@@ -1,4 +1,4 @@
--- The states that a controller reaches, by starts, received traces and reports in any order, and what holds in all of them.
+-- The states that a controller reaches, by starts, received traces, reports, issues and declines in any order, and what holds in all of them.
 use Prim.Native.Nat.{ℕ, _+_, _≤_, _<_}
 use mathlib.Core.Path.{_≡_}
 use mathlib.Core.Bool.{Bool, true, false}
@@ -13,6 +13,7 @@ use Rattle.udid.specs.Udids.{isFixed}
 use Rattle.udid.specs.declared.Udid.{Udid}
 use Rattle.slots.specs.Slots.{Sized128, heldAt}
 use Rattle.arp.specs.Bindings.{isHeld}
+use Rattle.arp.specs.Choosing.{firstHalf, issuing, declining}
 use Rattle.arp.specs.Controller.{newController, started, stepped}
 use Rattle.arp.specs.Gone.{reported}
 use Rattle.commands.specs.declared.command.Command.the-variants.{Prepare, GetUdid, Assign}
@@ -21,27 +22,44 @@ use Rattle.commands.specs.declared.command.Handed.{Handed}
 use Rattle.commands.specs.declared.command.Handed.the-variants.{Send, Wait}
 use Rattle.slots.specs.declared.Binding.the-variants.{Open, Bound, Claimed, Left}
 use Rattle.arp.specs.declared.state.Controller.{Controller}
+use Rattle.arp.specs.declared.state.Stepped.{Stepped}
+
+-- a received trace is taken by the whole step, or by its first half alone
+pub data By : Type 0 where
+  Step : By
+  Choose : By
+
+abbrev pub heard : By → Controller → List ℕ → Stepped
+heard Step s tr = stepped s tr
+heard Choose s tr = firstHalf s tr
 
 -- what can happen to a controller
 pub data Event : Type 0 where
   Start : Event
-  Received : List ℕ → Event
+  Received : By → List ℕ → Event
   -- the module at the address is reported gone
   Gone : ℕ → Event
+  -- the choice that waits, if one does, is issued or declined
+  Issue : Event
+  Decline : Event
 
--- traces and reports, and no start
+-- anything but a start
 abbrev pub NoStart : List Event → Type 0
 NoStart [] = Unit
 NoStart (Start ∷ es) = ⊥
-NoStart (Received tr ∷ es) = NoStart es
+NoStart (Received w tr ∷ es) = NoStart es
 NoStart (Gone a ∷ es) = NoStart es
+NoStart (Issue ∷ es) = NoStart es
+NoStart (Decline ∷ es) = NoStart es
 
 -- the state after events, the latest first, of a controller that was made with these addresses occupied and this last pick
 unfoldable pub run : Pool → ℕ → List Event → Controller
 run occupied last [] = newController occupied last
 run occupied last (Start ∷ es) = started (run occupied last es) .state
-run occupied last (Received tr ∷ es) = stepped (run occupied last es) tr .state
+run occupied last (Received w tr ∷ es) = heard w (run occupied last es) tr .state
 run occupied last (Gone a ∷ es) = reported (run occupied last es) a .state
+run occupied last (Issue ∷ es) = issuing (run occupied last es) .state
+run occupied last (Decline ∷ es) = declining (run occupied last es) .state
 
 -- a new controller: these addresses occupied, the starting pool in use, nothing bound, claimed or left, no Get UDID counted, nothing handed out, and the last pick as given;
 -- one above 127 counts as 127, never picked
@@ -94,5 +112,7 @@ oneGet (Wait e) = 0
 unfoldable pub getsSent : Pool → ℕ → List Event → ℕ
 getsSent occupied last [] = 0
 getsSent occupied last (Start ∷ es) = 0
-getsSent occupied last (Received tr ∷ es) = getsSent occupied last es + oneGet (stepped (run occupied last es) tr .command)
+getsSent occupied last (Received w tr ∷ es) = getsSent occupied last es + oneGet (heard w (run occupied last es) tr .command)
 getsSent occupied last (Gone a ∷ es) = getsSent occupied last es
+getsSent occupied last (Issue ∷ es) = getsSent occupied last es
+getsSent occupied last (Decline ∷ es) = getsSent occupied last es

@@ -1,5 +1,6 @@
--- Every state that starts, received traces and reports reach is sound, so the invariant of specs/History.antt holds in it; and what a new controller is.
+-- Every state that starts, received traces, reports, issues and declines reach is sound, so the invariant of specs/History.antt holds in it; and what a new controller is.
 use Prim.Native.Nat.{ℕ, _<_}
+use mathlib.Core.Logic.{inl, inr}
 use mathlib.Core.Path.{_≡_, refl, sym, ap, _∙_, subst}
 use mathlib.Core.Bool.{Bool, true, false}
 use mathlib.Core.List.{List, [], _∷_}
@@ -21,6 +22,8 @@ use Rattle.pool.specs.declared.free.Free.{Free}
 use Rattle.pool.specs.declared.free.Free.the-variants.{At, AllUsed}
 use Rattle.udid.specs.Udids.{Fits, isFixed}
 use Rattle.udid.specs.declared.Udid.{Udid}
+use Rattle.arp.specs.Choosing.{choiceIn, issuedFor, issuing, declinedFor, declining}
+use Rattle.arp.specs.ChoosingLaws.{Halved, heard-halved}
 use Rattle.arp.specs.ChosenLaws.{chosen-small-and-free}
 use Rattle.arp.specs.LastPickLaws.{last-pick-is, last-pick-above, last-pick-small}
 use Rattle.arp.specs.SoundLaws.{sound-open, sound-freed, sound-bound}
@@ -32,19 +35,35 @@ use Rattle.arp.specs.Bindings.{isHeld, freedAt, freed, boundAt, bound}
 use Rattle.slots.specs.Finding.{findFrom}
 use Rattle.slots.specs.Slots.{heldAt}
 use Rattle.arp.specs.Controller.{newController, handed, counted, asked, hasToPick, chosen, issued, replied, changed, stepped}
-use Rattle.arp.specs.History.{Event, Start, Received, Gone, run, Invariant, New}
+use Rattle.arp.specs.History.{By, Event, Start, Received, Gone, Issue, Decline, heard, run, Invariant, New}
 use Rattle.commands.specs.declared.command.Command.the-variants.{Prepare, GetUdid, Assign}
-use Rattle.commands.specs.declared.command.End.the-variants.{Ended, Abandoned}
+use Rattle.commands.specs.declared.command.End.the-variants.{Nothing, Ended, NoneFree, Abandoned, NotOutstanding, Chosen}
 use Rattle.commands.specs.declared.command.Handed.{Handed}
 use Rattle.commands.specs.declared.command.Handed.the-variants.{Send, Wait}
 use Rattle.slots.specs.declared.Binding.{Binding}
 use Rattle.slots.specs.declared.Binding.the-variants.{Bound, Claimed}
 use Rattle.arp.specs.declared.gone.Reported.{Reported}
+use Rattle.arp.specs.State.{withLast}
+use Rattle.arp.specs.declared.settle.Choice.{Choice}
+use Rattle.arp.specs.declared.settle.Choice.the-variants.{Of, Absent}
 use Rattle.arp.specs.declared.state.Controller.{Controller}
+use Rattle.arp.specs.declared.state.Stepped.{Stepped}
 use Rattle.hearing.specs.declared.told.Told.{Told}
 use Rattle.hearing.specs.declared.told.Told.the-variants.{Again, Over, GivenUp, Reply, Took, Unasked}
 
 -- ---- each function of the step keeps the state good
+
+-- what is outstanding can be bound whatever is kept as the last
+pending-kept : (s : Controller) (k : Handed) → PendingIn s k → PendingIn (withLast s k) k
+pending-kept s (Send Prepare) p = tt
+pending-kept s (Send GetUdid) p = tt
+pending-kept s (Send (Assign u a)) p = record { small = p .small; unbound = p .unbound; fits = p .fits; free = p .free }
+pending-kept s (Wait Nothing) p = tt
+pending-kept s (Wait Ended) p = tt
+pending-kept s (Wait (NoneFree u)) p = tt
+pending-kept s (Wait Abandoned) p = tt
+pending-kept s (Wait NotOutstanding) p = tt
+pending-kept s (Wait (Chosen u a r)) p = record { small = p .small; unbound = p .unbound; fits = p .fits; free = p .free }
 
 module _ (occupied : Pool) where
   good-asked : (s : Controller) → Good occupied s → GoodState occupied (asked s .state)
@@ -110,12 +129,53 @@ module _ (occupied : Pool) where
       go (Took u a) h = good-asked (bound s u (a .0)) (good-bound s u (a .0) (g .0) (subst (PendingIn s) (h .0) (g .1)))
       go Unasked h = g
 
+  -- the first half alone keeps it good: an Assign that waits can be bound as one that is out
+  half-good : (r q : Stepped) → Halved r q → GoodState occupied (q .state) → GoodState occupied (r .state)
+  half-good r q (inl (e, n)) g = subst (λ (x : Stepped). GoodState occupied (x .state)) (sym e) g
+  half-good r q (inr (u, a, x, e, f)) g =
+      let p : Pending (q .state) u (a .0) = subst (PendingIn (q .state)) (ap (λ (y : Stepped). y .state .last) f) (g .1) in
+      subst (λ (y : Stepped). GoodState occupied (y .state)) (sym e)
+      (record { sound = g .0 .sound; gets = g .0 .gets; occupies = g .0 .occupies; picked = g .0 .picked }, record { small = p .small; unbound = p .unbound; fits = p .fits; free = p .free })
+
+  pub heard-keeps-good : (w : By) (s : Controller) (tr : List ℕ) → GoodState occupied s → GoodState occupied (heard w s tr .state)
+  heard-keeps-good w s tr g = half-good (heard w s tr) (stepped s tr) (heard-halved w s tr) (step-keeps-good s tr g)
+
+  -- a choice that waits is issued, or declined
+  pub issue-keeps-good : (s : Controller) → GoodState occupied s → GoodState occupied (issuing s .state)
+  unfolding issuing
+  issue-keeps-good s g = go (s .last) refl (g .1)
+    where
+      good : (k : Handed) → PendingIn s k → GoodState occupied (handed s k .state)
+      good k p = (record { sound = g .0 .sound; gets = g .0 .gets; occupies = g .0 .occupies; picked = g .0 .picked }, pending-kept s k p)
+
+      go : (k : Handed) → s .last ≡ k → PendingIn s k → GoodState occupied (issuedFor s (choiceIn k) .state)
+      go (Send k) e p = g
+      go (Wait Nothing) e p = g
+      go (Wait Ended) e p = g
+      go (Wait (NoneFree u)) e p = g
+      go (Wait Abandoned) e p = g
+      go (Wait NotOutstanding) e p = g
+      go (Wait (Chosen u a r)) e p = good (Send (Assign u a)) p
+
+  pub decline-keeps-good : (s : Controller) → GoodState occupied s → GoodState occupied (declining s .state)
+  unfolding declining
+  decline-keeps-good s g = go (choiceIn (s .last))
+    where
+      go : (c : Choice) → GoodState occupied (declinedFor s c .state)
+      go (Of u a) = good-abandoned s (g .0)
+      go Absent = g
+
   -- a report changes an address alone, and what is outstanding stays so
   pending-then : (s : Controller) (w : Udid) (a : ℕ) → SoundIn s → heldAt (s .slots) a ≡ Bound w → (k : Handed) → PendingIn s k → PendingIn (leftAt s a) k
   pending-then s w a v e (Send Prepare) p = tt
   pending-then s w a v e (Send GetUdid) p = tt
   pending-then s w a v e (Send (Assign u n)) p = pending-left s u w (n .0) a v e p
-  pending-then s w a v e (Wait k) p = tt
+  pending-then s w a v e (Wait Nothing) p = tt
+  pending-then s w a v e (Wait Ended) p = tt
+  pending-then s w a v e (Wait (NoneFree u)) p = tt
+  pending-then s w a v e (Wait Abandoned) p = tt
+  pending-then s w a v e (Wait NotOutstanding) p = tt
+  pending-then s w a v e (Wait (Chosen u n r)) p = pending-left s u w (n .0) a v e p
 
   pub report-keeps-good : (s : Controller) (a : ℕ) → GoodState occupied s → GoodState occupied (reported s a .state)
   report-keeps-good s a g = go (isBound (heldAt (s .slots) a)) refl
@@ -136,8 +196,10 @@ module _ (occupied : Pool) where
   reached-good last (Start ∷ es) =
       let g = reached-good last es .0 in
       (record { sound = sound-open (run occupied last es .occupied); gets = omega arith; occupies = g .occupies; picked = g .picked }, tt)
-  reached-good last (Received tr ∷ es) = step-keeps-good (run occupied last es) tr (reached-good last es)
+  reached-good last (Received w tr ∷ es) = heard-keeps-good w (run occupied last es) tr (reached-good last es)
   reached-good last (Gone a ∷ es) = report-keeps-good (run occupied last es) a (reached-good last es)
+  reached-good last (Issue ∷ es) = issue-keeps-good (run occupied last es) (reached-good last es)
+  reached-good last (Decline ∷ es) = decline-keeps-good (run occupied last es) (reached-good last es)
 
 -- ---- the invariant, as specs/History.antt has it
 
@@ -147,7 +209,7 @@ reached-pool occupied last es a =
     subst (λ (o : Pool). member (run occupied last es .pool) a ≡ or (member (startingPool o) a) (isHeld (heldAt (run occupied last es .slots) a)))
     (reached-good occupied last es .0 .occupies) (reached-good occupied last es .0 .sound .exact a)
 
--- EVERY STATE that starts, received traces and reports reach
+-- EVERY STATE that is reached
 pub reached-invariant : (occupied : Pool) (last : ℕ) (es : List Event) → Invariant occupied (run occupied last es)
 unfolding used
 reached-invariant occupied last es = record {

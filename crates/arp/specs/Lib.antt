@@ -35,6 +35,7 @@ pub mod ReadingLaws
 pub mod PickedLaws
 pub mod RunPicksLaws
 pub mod TableLaws
+pub mod WithheldLaws
 pub mod HandedOutLaws
 pub mod NoneFreeLaws
 pub mod StoryLaws

@@ -21,10 +21,11 @@ use Rattle.udid.specs.Bytes.{udidAt}
 use Rattle.udid.specs.Udids.{sameUdid, isFixed}
 use Rattle.udid.specs.declared.Udid.{Udid}
 use Rattle.slots.specs.Slots.{heldAt}
-use Rattle.arp.specs.Controller.{started, stepped}
+use Rattle.arp.specs.Choosing.{issuing, declining}
+use Rattle.arp.specs.Controller.{started}
 use Rattle.hearing.specs.Heard.{answer, sentIn, receivedIn}
-use Rattle.arp.specs.History.{Event, Start, Received, Gone, run}
-use Rattle.hearing.specs.Told.{noCommand}
+use Rattle.arp.specs.History.{Event, Start, Received, Gone, Issue, Decline, heard, run}
+use Rattle.arp.specs.Numbers.{unless21}
 use Rattle.commands.specs.declared.command.Command.the-variants.{Prepare, GetUdid, Assign}
 use Rattle.commands.specs.declared.command.End.the-variants.{Nothing, Ended, NoneFree, Abandoned, NotOutstanding}
 use Rattle.commands.specs.declared.command.Handed.{Handed}
@@ -134,17 +135,31 @@ readAs (Wait e) tr = Other
 
 -- ---- the events of a history
 
--- what the latest start or step handed out; nothing before the first
+-- what was handed out last; nothing before the first start. A report, and what is answered with 21, hands out nothing
 unfoldable pub handedOut : Pool → ℕ → List Event → Handed
 handedOut occupied last [] = Wait Nothing
 handedOut occupied last (Start ∷ es) = started (run occupied last es) .command
-handedOut occupied last (Received tr ∷ es) = stepped (run occupied last es) tr .command
+handedOut occupied last (Received w tr ∷ es) = unless21 (heard w (run occupied last es) tr .command) (handedOut occupied last es)
 handedOut occupied last (Gone a ∷ es) = handedOut occupied last es
+handedOut occupied last (Issue ∷ es) = unless21 (issuing (run occupied last es) .command) (handedOut occupied last es)
+handedOut occupied last (Decline ∷ es) = unless21 (declining (run occupied last es) .command) (handedOut occupied last es)
 
+-- what was answered last, 21 included; a report has an answer of its own
+unfoldable pub answered : Pool → ℕ → List Event → Handed
+answered occupied last [] = Wait Nothing
+answered occupied last (Start ∷ es) = started (run occupied last es) .command
+answered occupied last (Received w tr ∷ es) = heard w (run occupied last es) tr .command
+answered occupied last (Gone a ∷ es) = answered occupied last es
+answered occupied last (Issue ∷ es) = issuing (run occupied last es) .command
+answered occupied last (Decline ∷ es) = declining (run occupied last es) .command
+
+-- an issue and a decline change no address
 abbrev pub happened : Pool → ℕ → List Event → Event → Happened
 happened occupied last es Start = Started
-happened occupied last es (Received tr) = readAs (handedOut occupied last es) tr
+happened occupied last es (Received w tr) = readAs (handedOut occupied last es) tr
 happened occupied last es (Gone a) = Pulled a
+happened occupied last es Issue = Other
+happened occupied last es Decline = Other
 
 -- the table after events, the latest first
 unfoldable pub table : Pool → ℕ → List Event → Table
@@ -157,10 +172,6 @@ numberOf (Bound u) = (0, u ∷ [])
 numberOf Open = (15, [])
 numberOf Claimed = (16, [])
 numberOf Left = (20, [])
-
--- after a 21 the state keeps what was handed out before it: in both no command of a pass
-abbrev pub SameOutstanding : Handed → Handed → Type 0
-SameOutstanding k m = (k ≡ m) ⊎ ((noCommand k ≡ true) × (noCommand m ≡ true))
 
 -- ---- what is handed out next, from the table, the last pick, the count of Get UDIDs handed out in this pass, and the command outstanding
 

@@ -11,8 +11,8 @@ use Rattle.pool.specs.declared.Pool.{Pool}
 use Rattle.commands.specs.declared.command.Command.the-variants.{Prepare, GetUdid, Assign}
 use Rattle.commands.specs.declared.command.Handed.{Handed}
 use Rattle.commands.specs.declared.command.Handed.the-variants.{Send, Wait}
-use Rattle.arp.specs.Controller.{stepped}
-use Rattle.arp.specs.History.{Event, Start, Received, Gone, run}
+use Rattle.arp.specs.Choosing.{sending}
+use Rattle.arp.specs.History.{Event, Start, Received, Gone, Issue, Decline, heard, run}
 
 -- an address was picked, and is not the target's own: the reply's address byte is FFh, which is no address, or has another one
 abbrev pub isPicked : ℕ → ℕ → Bool
@@ -25,13 +25,15 @@ pickIn tr p (Send Prepare) = []
 pickIn tr p (Send GetUdid) = []
 pickIn tr p (Wait e) = []
 
--- the picks over events, the latest event first and the earliest pick first
+-- the picks over events, the latest event first and the earliest pick first. An address is picked with the choice, whatever becomes of it
 unfoldable pub picksOf : Pool → ℕ → List Event → List Pick
 picksOf occupied last [] = []
 picksOf occupied last (Start ∷ es) = picksOf occupied last es
-picksOf occupied last (Received tr ∷ es) =
-    picksOf occupied last es ++ pickIn tr (stepped (run occupied last es) tr .state .pool) (stepped (run occupied last es) tr .command)
+picksOf occupied last (Received w tr ∷ es) =
+    picksOf occupied last es ++ pickIn tr (heard w (run occupied last es) tr .state .pool) (sending (heard w (run occupied last es) tr .command))
 picksOf occupied last (Gone a ∷ es) = picksOf occupied last es
+picksOf occupied last (Issue ∷ es) = picksOf occupied last es
+picksOf occupied last (Decline ∷ es) = picksOf occupied last es
 
 -- the last pick after a step that was handed this trace, and hands this out
 abbrev pub pickedThen : ℕ → List ℕ → Handed → ℕ

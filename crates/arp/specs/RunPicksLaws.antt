@@ -1,7 +1,7 @@
 -- The picks of a run are each the first free address after the one before it. So the state's last pick is the address of the latest, and an
 -- address that was picked is not picked again before every other one that stayed free has been picked.
 use Prim.Native.Nat.{ℕ, _<_}
-use mathlib.Core.Path.{_≡_, refl, sym, ap, _∙_, subst}
+use mathlib.Core.Path.{_≡_, refl, sym, ap, ap₂, _∙_, subst}
 use mathlib.Core.Bool.{Bool, true, false}
 use mathlib.Core.List.{List, [], _∷_, _++_}
 use lib.Dec.{leb}
@@ -24,7 +24,10 @@ use Rattle.hearing.specs.declared.told.Told.the-variants.{Again, Over, GivenUp,
 use Rattle.arp.specs.Bindings.{freed, bound}
 use Rattle.arp.specs.ChosenLaws.{chosen-picked, picked-by-wire}
 use Rattle.arp.specs.Controller.{lastPick, handed, counted, asked, hasToPick, chosen, issued, replied, changed, stepped}
-use Rattle.arp.specs.History.{Event, Start, Received, Gone, run}
+use Rattle.arp.specs.Choosing.{sending}
+use Rattle.arp.specs.ChoosingLaws.{same-but-last, sends-the-same}
+use Rattle.arp.specs.HandingLaws.{issue-rest, decline-rest}
+use Rattle.arp.specs.History.{By, Event, Start, Received, Gone, Issue, Decline, heard, run}
 use Rattle.arp.specs.GoneLaws.{report-rest}
 use Rattle.arp.specs.PickedLaws.{freed-keeps-picked, told-byte, step-picked}
 use Rattle.arp.specs.RunPicks.{isPicked, pickIn, picksOf, pickedThen}
@@ -82,6 +85,10 @@ module _ (s : Controller) (tr : List ℕ) where
       go (Took u a) h = asked-picks-none (bound s u (a .0))
       go Unasked h = tt
 
+-- the first half has the pick of the whole step
+heard-picks : (w : By) (s : Controller) (tr : List ℕ) → pickIn tr (heard w s tr .state .pool) (sending (heard w s tr .command)) ≡ pickIn tr (stepped s tr .state .pool) (stepped s tr .command)
+heard-picks w s tr = ap₂ (λ (c : Controller) (k : Handed). pickIn tr (c .pool) k) (same-but-last w s tr) (sends-the-same w s tr)
+
 -- ---- THE PICKS OF A RUN
 
 -- the state's last pick is the address of the latest pick, else the one that the controller was made with
@@ -90,12 +97,16 @@ unfolding run picksOf latestOf
 last-is-latest occupied last [] = refl
 last-is-latest occupied last (Start ∷ es) = last-is-latest occupied last es
 last-is-latest occupied last (Gone a ∷ es) = report-rest (run occupied last es) a .picked ∙ last-is-latest occupied last es
-last-is-latest occupied last (Received tr ∷ es) =
+last-is-latest occupied last (Issue ∷ es) = issue-rest (run occupied last es) .picked ∙ last-is-latest occupied last es
+last-is-latest occupied last (Decline ∷ es) = decline-rest (run occupied last es) .picked ∙ last-is-latest occupied last es
+last-is-latest occupied last (Received w tr ∷ es) =
     let s = run occupied last es in
-    step-picked s tr
+    ap (λ (c : Controller). c .picked) (same-but-last w s tr)
+    ∙ step-picked s tr
     ∙ latest-then (s .picked) tr (stepped s tr .state .pool) (stepped s tr .command)
     ∙ ap (λ (l : ℕ). latestOf l (pickIn tr (stepped s tr .state .pool) (stepped s tr .command))) (last-is-latest occupied last es)
     ∙ sym (latest-on (lastPick last) (picksOf occupied last es) (pickIn tr (stepped s tr .state .pool) (stepped s tr .command)))
+    ∙ ap (λ (xs : List Pick). latestOf (lastPick last) (picksOf occupied last es ++ xs)) (sym (heard-picks w s tr))
 
 -- each is the first free address of its pool after the one before it
 pub run-picks : (occupied : Pool) (last : ℕ) (es : List Event) → Picks (lastPick last) (picksOf occupied last es)
@@ -103,10 +114,13 @@ unfolding picksOf Picks
 run-picks occupied last [] = tt
 run-picks occupied last (Start ∷ es) = run-picks occupied last es
 run-picks occupied last (Gone a ∷ es) = run-picks occupied last es
-run-picks occupied last (Received tr ∷ es) =
+run-picks occupied last (Issue ∷ es) = run-picks occupied last es
+run-picks occupied last (Decline ∷ es) = run-picks occupied last es
+run-picks occupied last (Received w tr ∷ es) =
     let s = run occupied last es in
-    picks-on (lastPick last) (picksOf occupied last es) (pickIn tr (stepped s tr .state .pool) (stepped s tr .command)) (run-picks occupied last es)
-    (subst (λ (l : ℕ). Picks l (pickIn tr (stepped s tr .state .pool) (stepped s tr .command))) (last-is-latest occupied last es) (step-picks s tr))
+    subst (λ (xs : List Pick). Picks (lastPick last) (picksOf occupied last es ++ xs)) (sym (heard-picks w s tr))
+    (picks-on (lastPick last) (picksOf occupied last es) (pickIn tr (stepped s tr .state .pool) (stepped s tr .command)) (run-picks occupied last es)
+    (subst (λ (l : ℕ). Picks l (pickIn tr (stepped s tr .state .pool) (stepped s tr .command))) (last-is-latest occupied last es) (step-picks s tr)))
 
 -- AN ADDRESS THAT WAS PICKED IS NOT PICKED AGAIN before every other one that was free at each pick since then, the later one included, has been
 -- picked

@@ -16,7 +16,7 @@ use Rattle.commands.specs.CommandTraces.{assignTrace, ReplyOf}
 use Rattle.commands.specs.declared.command.Command.the-variants.{GetUdid, Assign}
 use Rattle.commands.specs.declared.command.Handed.the-variants.{Send}
 use Rattle.arp.specs.Gone.{reported}
-use Rattle.arp.specs.History.{Event, Start, Received, Gone, run}
+use Rattle.arp.specs.History.{Event, Start, Received, Gone, Issue, Decline, run}
 use Rattle.arp.specs.Numbers.{lookupNumber}
 use Rattle.arp.specs.Replay.{handedOut}
 
@@ -42,14 +42,18 @@ Untaken occupied last es a =
 unfoldable pub BoundSince : Pool → ℕ → List Event → Udid → ℕ → Type 0
 BoundSince occupied last [] u a = ⊥
 BoundSince occupied last (Start ∷ es) u a = ⊥
-BoundSince occupied last (Received tr ∷ es) u a =
+BoundSince occupied last (Received w tr ∷ es) u a =
     (Completes occupied last es tr u a × Untaken occupied last es a)
-    ⊎ (BoundSince occupied last es u a × (RepliedBy occupied last es tr u → ⊥) × ((w : Udid) → Completes occupied last es tr w a → ⊥))
+    ⊎ (BoundSince occupied last es u a × (RepliedBy occupied last es tr u → ⊥) × ((v : Udid) → Completes occupied last es tr v a → ⊥))
 BoundSince occupied last (Gone b ∷ es) u a = BoundSince occupied last es u a × ((b ≡ a) × Removed occupied last es b → ⊥)
+BoundSince occupied last (Issue ∷ es) u a = BoundSince occupied last es u a
+BoundSince occupied last (Decline ∷ es) u a = BoundSince occupied last es u a
 
 -- a report of a was answered 0, and since then there was no start, and no Assign of a that completed
 unfoldable pub LeftSince : Pool → ℕ → List Event → ℕ → Type 0
 LeftSince occupied last [] a = ⊥
 LeftSince occupied last (Start ∷ es) a = ⊥
-LeftSince occupied last (Received tr ∷ es) a = LeftSince occupied last es a × ((w : Udid) → Completes occupied last es tr w a → ⊥)
+LeftSince occupied last (Received w tr ∷ es) a = LeftSince occupied last es a × ((v : Udid) → Completes occupied last es tr v a → ⊥)
 LeftSince occupied last (Gone b ∷ es) a = ((b ≡ a) × Removed occupied last es b) ⊎ LeftSince occupied last es a
+LeftSince occupied last (Issue ∷ es) a = LeftSince occupied last es a
+LeftSince occupied last (Decline ∷ es) a = LeftSince occupied last es a

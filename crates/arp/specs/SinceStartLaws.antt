@@ -26,7 +26,7 @@ use Rattle.commands.specs.declared.command.Handed.the-variants.{Send}
 use Rattle.arp.specs.BindingLaws.{unheld-is-open-or-left}
 use Rattle.arp.specs.Bindings.{isHeld, makesClaim}
 use Rattle.arp.specs.GoneLaws.{which-bound, bound-small, left-small, answered-0}
-use Rattle.arp.specs.History.{Event, Start, Received, Gone, NoStart, run}
+use Rattle.arp.specs.History.{By, Event, Start, Received, Gone, Issue, Decline, NoStart, run}
 use Rattle.arp.specs.HistoryLaws.{reached-good, reached-invariant}
 use Rattle.arp.specs.Lookup.{lookedUp}
 use Rattle.arp.specs.LookupLaws.{lookup-0, lookup-20}
@@ -85,10 +85,11 @@ module _ (occupied : Pool) (last : ℕ) (es : List Event) where
     pub replied-is-read : (u : Udid) → Fits u → RepliedBy occupied last es tr u ↔ (readAs (handedOut occupied last es) tr ≡ Replied u)
     replied-is-read u f = let r = replied-exactly (handedOut occupied last es) tr u f in (r .1, r .0)
 
+  module _ (by : By) (tr : List ℕ) where
     -- ---- what becomes of an address at a trace
 
     abbrev later : ℕ → Binding
-    later a = heldAt (run occupied last (Received tr ∷ es) .slots) a
+    later a = heldAt (run occupied last (Received by tr ∷ es) .slots) a
 
     -- an Assign of it completes; or none does, and the target that is bound there replies, and is unbound; or neither, and it is as it was
     abbrev Fate : ℕ → Type 0
@@ -106,18 +107,18 @@ module _ (occupied : Pool) (last : ℕ) (es : List Event) where
 
         -- what is known of it then, where the trace is read as x
         read : (x : Happened) → readAs (handedOut occupied last es) tr ≡ x → later a ≡ after occupied x (view before) .held a
-        read x q = held-after (Received tr) a ∙ ap (λ (y : Happened). after occupied y (view before) .held a) q
+        read x q = held-after (Received by tr) a ∙ ap (λ (y : Happened). after occupied y (view before) .held a) q
 
         no-assign : (x : Happened) → readAs (handedOut occupied last es) tr ≡ x → ((w : Udid) → x ≡ Assigned w a → ⊥) → (w : Udid) → Completes occupied last es tr w a → ⊥
-        no-assign x q n w c = n w (sym q ∙ completes-is-read w a .0 c)
+        no-assign x q n w c = n w (sym q ∙ completes-is-read tr w a .0 c)
 
         no-reply : (x : Happened) → readAs (handedOut occupied last es) tr ≡ x → (u : Udid) → heldAt (before .slots) a ≡ Bound u → (x ≡ Replied u → ⊥) → RepliedBy occupied last es tr u → ⊥
-        no-reply x q u k n r = n (sym q ∙ replied-is-read u (fits u k) .0 r)
+        no-reply x q u k n r = n (sym q ∙ replied-is-read tr u (fits u k) .0 r)
 
         reply : (w : Udid) → readAs (handedOut occupied last es) tr ≡ Replied w → (t : Bool) → holds w (heldAt (before .slots) a) ≡ t → Fate a
         reply w q true h =
             let k : heldAt (before .slots) a ≡ Bound w = holder w (heldAt (before .slots) a) h in
-            inr (no-assign (Replied w) q (λ v m. zero-is-one (cc m)), inl (w, k, replied-is-read w (fits w k) .1 q, read (Replied w) q ∙ ap (λ (t : Bool). pick t Open (heldAt (before .slots) a)) h))
+            inr (no-assign (Replied w) q (λ v m. zero-is-one (cc m)), inl (w, k, replied-is-read tr w (fits w k) .1 q, read (Replied w) q ∙ ap (λ (t : Bool). pick t Open (heldAt (before .slots) a)) h))
         reply w q false h =
             inr (
               no-assign (Replied w) q (λ v m. zero-is-one (cc m)),
@@ -130,7 +131,7 @@ module _ (occupied : Pool) (last : ℕ) (es : List Event) where
         assign : (w : Udid) (b : ℕ) → readAs (handedOut occupied last es) tr ≡ Assigned w b → Dec (a ≡ b) → Fate a
         assign w b q (yes d) =
             let e : readAs (handedOut occupied last es) tr ≡ Assigned w a = q ∙ ap (Assigned w) (sym d) in
-            inl (w, completes-is-read w a .1 e, read (Assigned w a) e ∙ ap (λ (t : Bool). pick t (pick (taken a) Claimed (Bound w)) (heldAt (before .slots) a)) (eq-eqb a a refl))
+            inl (w, completes-is-read tr w a .1 e, read (Assigned w a) e ∙ ap (λ (t : Bool). pick t (pick (taken a) Claimed (Bound w)) (heldAt (before .slots) a)) (eq-eqb a a refl))
         assign w b q (no d) =
             inr (
               no-assign (Assigned w b) q (λ v m. d (sym (second m))),
@@ -211,7 +212,7 @@ module _ (occupied : Pool) (last : ℕ) (es : List Event) where
 
     -- IT LEAVES A CLAIM exactly if the address is barred, or another was bound there, or two claimed it already
     pub claims-exactly : (u : Udid) (a : ℕ) → Completes occupied last es tr u a → (later a ≡ Claimed) ↔ Contested u a
-    claims-exactly u a c = (λ e. taken-is-contested u a (pending u a (c .0) .unbound) (there (fate a) e), λ w. back (fate a) (contested-makes-claim u a w))
+    claims-exactly u a c = (λ e. taken-is-contested u a (pending tr u a (c .0) .unbound) (there (fate a) e), λ w. back (fate a) (contested-makes-claim u a w))
       where
         was : (w : Udid) (t : Bool) → taken a ≡ t → pick t Claimed (Bound w) ≡ Claimed → taken a ≡ true
         was w true m z = m
@@ -287,7 +288,7 @@ module _ (occupied : Pool) (last : ℕ) (es : List Event) where
         go (inl (t, q)) = inl (t, held-reported ∙ ap (λ (x : Bool). pick x Left (heldAt (before .slots) a)) q)
         go (inr (n, q)) = inr (n, held-reported ∙ ap (λ (x : Bool). pick x Left (heldAt (before .slots) a)) q)
 
--- ---- EVERY RUN of starts, traces and reports
+-- ---- EVERY RUN of starts, traces, reports, issues and declines
 
 none-held : (occupied : Pool) (last a : ℕ) → heldAt (run occupied last [] .slots) a ≡ Open
 unfolding run
@@ -297,12 +298,22 @@ none-held-at-start : (occupied : Pool) (last : ℕ) (es : List Event) (a : ℕ) 
 unfolding run
 none-held-at-start occupied last es a = open-all a
 
--- A CLAIM STAYS for the rest of the pass, whatever is received and reported
+-- an event that changes no address
+unchanged : (occupied : Pool) (last : ℕ) (es : List Event) (e : Event) (x : Binding) (a : ℕ) → happened occupied last es e ≡ Other → {P : Type 0} → (heldAt (run occupied last es .slots) a ≡ x) ↔ P
+    → (heldAt (run occupied last (e ∷ es) .slots) a ≡ x) ↔ P
+unchanged occupied last es e x a o ih =
+    let q : heldAt (run occupied last (e ∷ es) .slots) a ≡ heldAt (run occupied last es .slots) a =
+    held-after occupied last es e a ∙ ap (λ (y : Happened). after occupied y (view (run occupied last es)) .held a) o in
+    (λ k. ih .0 (sym q ∙ k), λ p. q ∙ ih .1 p)
+
+-- A CLAIM STAYS for the rest of the pass, whatever is received, reported, issued and declined
 pub claim-stays : (occupied : Pool) (last : ℕ) (es later : List Event) → NoStart later → (a : ℕ) → heldAt (run occupied last es .slots) a ≡ Claimed
     → heldAt (run occupied last (later ++ es) .slots) a ≡ Claimed
 claim-stays occupied last es [] n a e = e
 claim-stays occupied last es (Start ∷ later) n a e = absurd n
-claim-stays occupied last es (Received tr ∷ later) n a e = claimed-then occupied last (later ++ es) tr a (claim-stays occupied last es later n a e)
+claim-stays occupied last es (Received by tr ∷ later) n a e = claimed-then occupied last (later ++ es) by tr a (claim-stays occupied last es later n a e)
+claim-stays occupied last es (Issue ∷ later) n a e = held-after occupied last (later ++ es) Issue a ∙ claim-stays occupied last es later n a e
+claim-stays occupied last es (Decline ∷ later) n a e = held-after occupied last (later ++ es) Decline a ∙ claim-stays occupied last es later n a e
 claim-stays occupied last es (Gone b ∷ later) n a e = go (taken-or-not occupied last (later ++ es) b a) (claim-stays occupied last es later n a e)
   where
     go : TakenOrNot occupied last (later ++ es) b a → heldAt (run occupied last (later ++ es) .slots) a ≡ Claimed → heldAt (run occupied last (Gone b ∷ (later ++ es)) .slots) a ≡ Claimed
@@ -314,21 +325,23 @@ pub bound-since : (occupied : Pool) (last : ℕ) (es : List Event) (u : Udid) (a
 unfolding BoundSince
 bound-since occupied last [] u a = (λ e. zero-is-one (cc (none-held occupied last a, e)), λ b. absurd b)
 bound-since occupied last (Start ∷ es) u a = (λ e. zero-is-one (cc (none-held-at-start occupied last es a, e)), λ b. absurd b)
-bound-since occupied last (Received tr ∷ es) u a = (
-  λ e. there (bound-since occupied last es u a .0) (bound-then occupied last es tr a u e),
-  λ b. bound-either occupied last es tr a u (back (bound-since occupied last es u a .1) b),
+bound-since occupied last (Issue ∷ es) u a = unchanged occupied last es Issue (Bound u) a refl (bound-since occupied last es u a)
+bound-since occupied last (Decline ∷ es) u a = unchanged occupied last es Decline (Bound u) a refl (bound-since occupied last es u a)
+bound-since occupied last (Received by tr ∷ es) u a = (
+  λ e. there (bound-since occupied last es u a .0) (bound-then occupied last es by tr a u e),
+  λ b. bound-either occupied last es by tr a u (back (bound-since occupied last es u a .1) b),
 )
   where
     Now : Type 0
     Now = Completes occupied last es tr u a × Untaken occupied last es a
 
-    there : (heldAt (run occupied last es .slots) a ≡ Bound u → BoundSince occupied last es u a) → Either occupied last es tr u a
+    there : (heldAt (run occupied last es .slots) a ≡ Bound u → BoundSince occupied last es u a) → Either occupied last es by tr u a
         → Now ⊎ (BoundSince occupied last es u a × (RepliedBy occupied last es tr u → ⊥) × ((w : Udid) → Completes occupied last es tr w a → ⊥))
     there ih (inl c) = inl c
     there ih (inr (k, r, n)) = inr (ih k, r, n)
 
     back : (BoundSince occupied last es u a → heldAt (run occupied last es .slots) a ≡ Bound u)
-        → Now ⊎ (BoundSince occupied last es u a × (RepliedBy occupied last es tr u → ⊥) × ((w : Udid) → Completes occupied last es tr w a → ⊥)) → Either occupied last es tr u a
+        → Now ⊎ (BoundSince occupied last es u a × (RepliedBy occupied last es tr u → ⊥) × ((w : Udid) → Completes occupied last es tr w a → ⊥)) → Either occupied last es by tr u a
     back ih (inl c) = inl c
     back ih (inr (k, r, n)) = inr (ih k, r, n)
 bound-since occupied last (Gone b ∷ es) u a = go (bound-since occupied last es u a) (taken-or-not occupied last es b a)
@@ -343,9 +356,11 @@ pub left-since : (occupied : Pool) (last : ℕ) (es : List Event) (a : ℕ) → 
 unfolding LeftSince
 left-since occupied last [] a = (λ e. zero-is-one (cc (none-held occupied last a, e)), λ b. absurd b)
 left-since occupied last (Start ∷ es) a = (λ e. zero-is-one (cc (none-held-at-start occupied last es a, e)), λ b. absurd b)
-left-since occupied last (Received tr ∷ es) a = (
-  λ e. (let w = left-then occupied last es tr a e in (left-since occupied last es a .0 (w .0), w .1)),
-  λ s. left-stays occupied last es tr a (left-since occupied last es a .1 (s .0)) (s .1),
+left-since occupied last (Issue ∷ es) a = unchanged occupied last es Issue Left a refl (left-since occupied last es a)
+left-since occupied last (Decline ∷ es) a = unchanged occupied last es Decline Left a refl (left-since occupied last es a)
+left-since occupied last (Received by tr ∷ es) a = (
+  λ e. (let w = left-then occupied last es by tr a e in (left-since occupied last es a .0 (w .0), w .1)),
+  λ s. left-stays occupied last es by tr a (left-since occupied last es a .1 (s .0)) (s .1),
 )
 left-since occupied last (Gone b ∷ es) a = go (left-since occupied last es a) (taken-or-not occupied last es b a)
   where
@@ -384,9 +399,9 @@ module _ (occupied : Pool) (last : ℕ) (es : List Event) (a : ℕ) (r : Removed
   free-after-report = reached-invariant occupied last (Gone a ∷ es) .left-free a left-now
 
   -- AN ASSIGN OF IT THAT WAS OUTSTANDING GOES ON: when it completes its target is bound there, and nobody claims it
-  pub bound-after-report : (tr : List ℕ) (u : Udid) → Completes occupied last (Gone a ∷ es) tr u a → lookupNumber (lookedUp (run occupied last (Received tr ∷ Gone a ∷ es)) a) ≡ (0, u ∷ [])
+  pub bound-after-report : (by : By) (tr : List ℕ) (u : Udid) → Completes occupied last (Gone a ∷ es) tr u a → lookupNumber (lookedUp (run occupied last (Received by tr ∷ Gone a ∷ es)) a) ≡ (0, u ∷ [])
   unfolding BoundSince
-  bound-after-report tr u c = lookup-0-since occupied last (Received tr ∷ Gone a ∷ es) u a .1 (inl (c, (unbarred (which-bound (heldAt (run occupied last es .slots) a) (answered-0 (run occupied last es) a .0 r)), inr left-now)))
+  bound-after-report by tr u c = lookup-0-since occupied last (Received by tr ∷ Gone a ∷ es) u a .1 (inl (c, (unbarred (which-bound (heldAt (run occupied last es .slots) a) (answered-0 (run occupied last es) a .0 r)), inr left-now)))
     where
       unbarred : (w : Udid) × (heldAt (run occupied last es .slots) a ≡ Bound w) → member (barredPool occupied) a ≡ false
       unbarred (w, k) = reached-invariant occupied last es .bound-unbarred a w k

@@ -1,5 +1,5 @@
 -- What holds of a state that is reached, as the proofs carry it from step to step: the slots and the pool fit together, and an Assign that is
--- outstanding can be bound.
+-- outstanding, or waits as a choice, can be bound.
 use Prim.Native.Nat.{ℕ, _≤_, _<_}
 use mathlib.Core.Path.{_≡_}
 use mathlib.Core.Bool.{true, false}
@@ -12,6 +12,8 @@ use Rattle.udid.specs.declared.Udid.{Udid}
 use Rattle.slots.specs.Finding.{boundTo}
 use Rattle.slots.specs.Slots.{Sized128, heldAt}
 use Rattle.commands.specs.declared.command.Command.the-variants.{Prepare, GetUdid, Assign}
+use Rattle.commands.specs.declared.command.End.{End}
+use Rattle.commands.specs.declared.command.End.the-variants.{Nothing, Ended, NoneFree, Abandoned, NotOutstanding, Chosen}
 use Rattle.commands.specs.declared.command.Handed.{Handed}
 use Rattle.commands.specs.declared.command.Handed.the-variants.{Send, Wait}
 use Rattle.slots.specs.declared.Binding.the-variants.{Bound}
@@ -55,11 +57,20 @@ pub record Pending (s : Controller) (u : Udid) (a : ℕ) : Type 0 where
   pub fits : Fits u
   pub free : isFixed u ≡ false → member (s .pool) a ≡ false
 
+-- and so does a choice that waits
+abbrev pub WaitingIn : Controller → End → Type 0
+WaitingIn s Nothing = Unit
+WaitingIn s Ended = Unit
+WaitingIn s (NoneFree u) = Unit
+WaitingIn s Abandoned = Unit
+WaitingIn s NotOutstanding = Unit
+WaitingIn s (Chosen u a r) = Pending s u (a .0)
+
 abbrev pub PendingIn : Controller → Handed → Type 0
 PendingIn s (Send Prepare) = Unit
 PendingIn s (Send GetUdid) = Unit
 PendingIn s (Send (Assign u a)) = Pending s u (a .0)
-PendingIn s (Wait e) = Unit
+PendingIn s (Wait e) = WaitingIn s e
 
 abbrev pub GoodState : Pool → Controller → Type 0
 GoodState occupied s = Good occupied s × PendingIn s (s .last)

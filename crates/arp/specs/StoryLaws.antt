@@ -4,8 +4,9 @@ use Prim.Native.Nat.{ℕ, _≤_, _<_}
 use mathlib.Core.Path.{_≡_, refl, sym, ap, _∙_, subst}
 use mathlib.Core.Bool.{true}
 use mathlib.Core.List.{List, [], _∷_}
-use mathlib.Core.Logic.{inr, _↔_}
+use mathlib.Core.Logic.{inl, inr, _↔_}
 use borrow.Author.Tests.{le-leb, lt-leb}
+use Rattle.lists.specs.AbsurdLaws.{zero-is-one}
 use Rattle.lists.specs.Choice.{or}
 use Rattle.wire.specs.Addresses.{isListed}
 use Rattle.pool.specs.Pools.{member}
@@ -13,7 +14,7 @@ use Rattle.pool.specs.Start.{startingPool}
 use Rattle.pool.specs.StartLaws.{member-starting}
 use Rattle.pool.specs.declared.Pool.{Pool}
 use Rattle.udid.specs.declared.Udid.{Udid}
-use Rattle.arp.specs.HandedOutLaws.{handed-out-by-table, table-is-story}
+use Rattle.arp.specs.HandedOutLaws.{heard-by-table, table-is-story}
 use Rattle.arp.specs.HandingLaws.{gets-are-sent}
 use Rattle.arp.specs.HistoryLaws.{reached-good}
 use Rattle.arp.specs.LookupLaws.{lookup-0, lookup-1, lookup-15}
@@ -22,20 +23,23 @@ use Rattle.arp.specs.OutstandingLaws.{step-21-by-events}
 use Rattle.slots.specs.SlotsLaws.{open-all}
 use Rattle.arp.specs.SinceStartLaws.{completes-is-read, replied-is-read, bound-either}
 use Rattle.arp.specs.TableLaws.{addresses-by-table, lookup-by-table}
-use Rattle.arp.specs.Story.{Story, story, Told, ByHistory}
+use Rattle.arp.specs.Story.{Story, nextBy, story, Told, ByHistory}
 use Rattle.slots.specs.Slots.{heldAt}
+use Rattle.arp.specs.Choosing.{sending}
+use Rattle.arp.specs.ChoosingLaws.{Halved, heard-halved, sends-the-same}
 use Rattle.arp.specs.Controller.{started, stepped}
-use Rattle.arp.specs.History.{Event, Received, run}
+use Rattle.arp.specs.History.{By, Event, Received, heard, run}
 use Rattle.arp.specs.Lookup.{lookedUp}
 use Rattle.arp.specs.Numbers.{commandNumber, lookupNumber}
 use Rattle.arp.specs.Replay.{Replied, Assigned, readAs, handedOut, numberOf, again, nextCommand}
 use Rattle.hearing.specs.Told.{noCommand}
-use Rattle.commands.specs.declared.command.Command.the-variants.{Prepare, GetUdid}
-use Rattle.commands.specs.declared.command.End.the-variants.{Abandoned}
+use Rattle.commands.specs.declared.command.Command.the-variants.{Prepare, GetUdid, Assign}
+use Rattle.commands.specs.declared.command.End.the-variants.{NoneFree, Abandoned}
 use Rattle.commands.specs.declared.command.Handed.{Handed}
 use Rattle.commands.specs.declared.command.Handed.the-variants.{Send, Wait}
 use Rattle.slots.specs.declared.Binding.the-variants.{Bound}
 use Rattle.arp.specs.declared.state.Controller.{Controller}
+use Rattle.arp.specs.declared.state.Stepped.{Stepped}
 
 -- THE EVENTS ALONE give what each address is known for, what the pool has, how many Get UDIDs were handed out and what was handed out last
 pub state-by-story : (occupied : Pool) (last : ℕ) (es : List Event) → Told occupied last es
@@ -48,13 +52,13 @@ state-by-story occupied last es = record {
 }
 
 -- A TRACE LEAVES A BINDING as it is, but for a reply with its identifier, or a complete Assign of its address
-pub binding-stays : (occupied : Pool) (last : ℕ) (es : List Event) (tr : List ℕ) (a : ℕ) (u : Udid)
+pub binding-stays : (occupied : Pool) (last : ℕ) (es : List Event) (by : By) (tr : List ℕ) (a : ℕ) (u : Udid)
     → heldAt (run occupied last es .slots) a ≡ Bound u
     → (readAs (handedOut occupied last es) tr ≡ Replied u → ⊥)
     → ((w : Udid) → readAs (handedOut occupied last es) tr ≡ Assigned w a → ⊥)
-    → heldAt (run occupied last (Received tr ∷ es) .slots) a ≡ Bound u
-binding-stays occupied last es tr a u e n m =
-    bound-either occupied last es tr a u
+    → heldAt (run occupied last (Received by tr ∷ es) .slots) a ≡ Bound u
+binding-stays occupied last es by tr a u e n m =
+    bound-either occupied last es by tr a u
     (inr (e, λ r. n (replied-is-read occupied last es tr u (reached-good occupied last es .0 .sound .fits a u e) .0 r), λ w c. m w (completes-is-read occupied last es tr w a .0 c)))
 
 -- by the events alone, in the scope's numbers
@@ -63,38 +67,49 @@ lookup-by-story occupied last es a h = lookup-by-table occupied last es a h ∙ 
 
 -- ---- by the story
 
-module _ (occupied : Pool) (last : ℕ) (es : List Event) (tr : List ℕ) where
-  -- EACH COMMAND THAT A STEP HANDS OUT is given by the events
-  pub handed-out-by-story : stepped (run occupied last es) tr .command ≡ nextCommand occupied (story occupied last es .known) (story occupied last es .picked) (story occupied last es .gets) (story occupied last es .command) tr
-  handed-out-by-story = handed-out-by-table occupied last es tr ∙ ap (λ (w : Story). nextCommand occupied (w .known) (w .picked) (w .gets) (w .command) tr) (table-is-story occupied last es)
+module _ (occupied : Pool) (last : ℕ) (es : List Event) (by : By) (tr : List ℕ) where
+  -- EACH COMMAND, CHOICE OR END that a step or its first half hands out is given by the events
+  pub handed-out-by-story : heard by (run occupied last es) tr .command ≡ nextBy by occupied (story occupied last es .known) (story occupied last es .picked) (story occupied last es .gets) (story occupied last es .command) tr
+  handed-out-by-story = heard-by-table occupied last es by tr ∙ ap (λ (w : Story). nextBy by occupied (w .known) (w .picked) (w .gets) (w .command) tr) (table-is-story occupied last es)
 
-  -- 21, exactly if the latest start or step handed out no command
-  pub step-21-by-story : (commandNumber (stepped (run occupied last es) tr .command) ≡ (21, []) ∷ []) ↔ (noCommand (story occupied last es .command) ≡ true)
+  -- 21, exactly if no command was handed out last
+  pub step-21-by-story : (commandNumber (heard by (run occupied last es) tr .command) ≡ (21, []) ∷ []) ↔ (noCommand (story occupied last es .command) ≡ true)
   step-21-by-story =
-      subst (λ (w : Story). (commandNumber (stepped (run occupied last es) tr .command) ≡ (21, []) ∷ []) ↔ (noCommand (w .command) ≡ true)) (table-is-story occupied last es)
-      (step-21-by-events occupied last es tr)
+      subst (λ (w : Story). (commandNumber (heard by (run occupied last es) tr .command) ≡ (21, []) ∷ []) ↔ (noCommand (w .command) ≡ true)) (table-is-story occupied last es)
+      (step-21-by-events occupied last es by tr)
+
+  -- 13 with an identifier, exactly if the single step gives it
+  pub heard-13 : (u : Udid) → (commandNumber (heard by (run occupied last es) tr .command) ≡ (13, u ∷ []) ∷ []) ↔ (stepped (run occupied last es) tr .command ≡ Wait (NoneFree u))
+  heard-13 u = (
+    λ e. (let k = number-13-is-none-free (heard by (run occupied last es) tr .command) u e in sym (sends-the-same by (run occupied last es) tr) ∙ ap sending k),
+    λ e. back-to (heard by (run occupied last es) tr) (stepped (run occupied last es) tr) (heard-halved by (run occupied last es) tr) e,
+  )
+    where
+      back-to : (r q : Stepped) → Halved r q → q .command ≡ Wait (NoneFree u) → commandNumber (r .command) ≡ (13, u ∷ []) ∷ []
+      back-to r q (inl (e, n)) k = ap (λ (x : Stepped). commandNumber (x .command)) e ∙ ap commandNumber k
+      back-to r q (inr (v, a, x, e, f)) k = let z : Send (Assign v a) ≡ Wait (NoneFree u) = sym (ap (λ (x : Stepped). x .command) f) ∙ k in zero-is-one (cc z)
 
   -- A TRACE LEAVES A BINDING as it is, but for a reply with its identifier, or a complete Assign of its address
   pub binding-stays-by-story : (a : ℕ) (u : Udid) → heldAt (run occupied last es .slots) a ≡ Bound u → (readAs (story occupied last es .command) tr ≡ Replied u → ⊥)
-      → ((w : Udid) → readAs (story occupied last es .command) tr ≡ Assigned w a → ⊥) → heldAt (run occupied last (Received tr ∷ es) .slots) a ≡ Bound u
+      → ((w : Udid) → readAs (story occupied last es .command) tr ≡ Assigned w a → ⊥) → heldAt (run occupied last (Received by tr ∷ es) .slots) a ≡ Bound u
   binding-stays-by-story a u e n m =
       let q : handedOut occupied last es ≡ story occupied last es .command = state-by-story occupied last es .command in
-      binding-stays occupied last es tr a u e (λ k. n (ap (λ (x : Handed). readAs x tr) (sym q) ∙ k)) (λ w k. m w (ap (λ (x : Handed). readAs x tr) (sym q) ∙ k))
+      binding-stays occupied last es by tr a u e (λ k. n (ap (λ (x : Handed). readAs x tr) (sym q) ∙ k)) (λ w k. m w (ap (λ (x : Handed). readAs x tr) (sym q) ∙ k))
 
--- ---- ALL OF IT: from any new controller, over any starts, traces and reports
+-- ---- ALL OF IT: from any new controller, over any starts, traces, reports, issues and declines
 
 pub by-history : (occupied : Pool) (last : ℕ) (es : List Event) → ByHistory occupied last es
 by-history occupied last es = record {
   told = state-by-story occupied last es;
   lookup = λ a h. lookup-by-story occupied last es a h;
   no-address = λ a h. lookup-1 (run occupied last es) a .1 h;
-  next = λ tr. handed-out-by-story occupied last es tr;
-  refused = λ tr. step-21-by-story occupied last es tr;
-  full = λ tr u f. (
-    λ e. step-13-by-story occupied last es tr u f .0 (number-13-is-none-free (stepped (run occupied last es) tr .command) u e),
-    λ w. ap commandNumber (step-13-by-story occupied last es tr u f .1 w),
+  next = λ by tr. handed-out-by-story occupied last es by tr;
+  refused = λ by tr. step-21-by-story occupied last es by tr;
+  full = λ by tr u f. (
+    λ e. step-13-by-story occupied last es tr u f .0 (heard-13 occupied last es by tr u .0 e),
+    λ w. heard-13 occupied last es by tr u .1 (step-13-by-story occupied last es tr u f .1 w),
   );
-  stays = λ tr a u e n m. (let w = lookup-0 (run occupied last es) a u .0 e in lookup-0 (run occupied last (Received tr ∷ es)) a u .1 (w .0, binding-stays-by-story occupied last es tr a u (w .1) n m));
+  stays = λ by tr a u e n m. (let w = lookup-0 (run occupied last es) a u .0 e in lookup-0 (run occupied last (Received by tr ∷ es)) a u .1 (w .0, binding-stays-by-story occupied last es by tr a u (w .1) n m));
 }
 
 -- ---- Get UDID, and starts

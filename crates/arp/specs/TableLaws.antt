@@ -29,7 +29,7 @@ use Rattle.arp.specs.GoneLaws.{which-bound, bound-small, nothing-reporte
 use Rattle.arp.specs.HistoryLaws.{reached-good}
 use Rattle.arp.specs.declared.gone.Reported.{Reported}
 use Rattle.arp.specs.LookupLaws.{lookup-number}
-use Rattle.arp.specs.OutstandingLaws.{same-reading, last-is-handed-out}
+use Rattle.arp.specs.OutstandingLaws.{last-is-handed-out}
 use Rattle.arp.specs.ReadingLaws.{is-assign-below-128}
 use Rattle.arp.specs.SoundLaws.{bound-to-is-bound, find-cases}
 use Rattle.slots.specs.SlotsLaws.{held-above-is-open, held-same, held-other, open-all}
@@ -40,7 +40,10 @@ use Rattle.slots.specs.Slots.{Sized128, heldAt, withBinding}
 use Rattle.arp.specs.Controller.{newController, started, handed, counted, asked, hasToPick, chosen, issued, replied, stepped, changed}
 use Rattle.hearing.specs.Heard.{answer, sentIn, receivedIn, isPrepare, isGet, isAssign}
 use Rattle.commands.specs.Codes.{sendByte, blockRead, blockWrite}
-use Rattle.arp.specs.History.{Event, Start, Received, Gone, run}
+use Rattle.arp.specs.Choosing.{issuing, declining}
+use Rattle.arp.specs.ChoosingLaws.{same-but-last}
+use Rattle.arp.specs.HandingLaws.{Settles, issue-rest, decline-rest}
+use Rattle.arp.specs.History.{Step, Event, Start, Received, Gone, Issue, Decline, run}
 use Rattle.arp.specs.Lookup.{lookedUp}
 use Rattle.arp.specs.Numbers.{lookupNumber}
 use Rattle.arp.specs.Replay.{Happened, Replied, Assigned, Pulled, Other, Table, holds, isBound, emptied, after, replyIn, assignIn, readAs, handedOut, happened, table, numberOf, view}
@@ -49,6 +52,7 @@ use Rattle.commands.specs.declared.command.End.the-variants.{Abandoned}
 use Rattle.commands.specs.declared.command.Handed.{Handed}
 use Rattle.commands.specs.declared.command.Handed.the-variants.{Send, Wait}
 use Rattle.slots.specs.declared.Binding.{Binding}
+use Rattle.slots.specs.declared.Slots.{Slots}
 use Rattle.slots.specs.declared.Binding.the-variants.{Open, Bound, Claimed, Left}
 use Rattle.arp.specs.declared.state.Controller.{Controller}
 use Rattle.hearing.specs.Told.{toldPrepare, toldReply, toldGet, toldAssign, tells}
@@ -268,6 +272,9 @@ module _ (s : Controller) (b : ℕ) where
 
 -- ---- EVERY STATE
 
+settled-view : (s t : Controller) → Settles s t → view t ≡ view s
+settled-view s t r = ap₂ (λ (x : Slots) (p : Pool). record { held = heldAt x; used = member p }) (r .slots) (r .pool)
+
 -- each event changes what an address is known for, and the pool, as it says
 pub event-view : (occupied : Pool) (last : ℕ) (es : List Event) (e : Event)
     → view (run occupied last (e ∷ es)) ≡ after occupied (happened occupied last es e) (view (run occupied last es))
@@ -275,12 +282,21 @@ unfolding run
 event-view occupied last es Start =
     tables (view (started (run occupied last es) .state)) (emptied occupied) open-all
     (λ a. ap (λ (o : Pool). member (startingPool o) a) (reached-good occupied last es .0 .occupies))
-event-view occupied last es (Received tr) =
-    step-view (run occupied last es) (reached-good occupied last es .0 .sound) (reached-good occupied last es .1) tr
-    ∙ ap₂ (λ (o : Pool) (x : Happened). after o x (view (run occupied last es))) (reached-good occupied last es .0 .occupies) (same-reading (run occupied last es .last) (handedOut occupied last es) tr (last-is-handed-out occupied last es))
+event-view occupied last es (Received w tr) =
+    ap view (same-but-last w (run occupied last es) tr)
+    ∙ step-view (run occupied last es) (reached-good occupied last es .0 .sound) (reached-good occupied last es .1) tr
+    ∙ ap₂ (λ (o : Pool) (k : Handed). after o (readAs k tr) (view (run occupied last es))) (reached-good occupied last es .0 .occupies) (last-is-handed-out occupied last es)
+event-view occupied last es Issue = settled-view (run occupied last es) (issuing (run occupied last es) .state) (issue-rest (run occupied last es))
+event-view occupied last es Decline = settled-view (run occupied last es) (declining (run occupied last es) .state) (decline-rest (run occupied last es))
 event-view occupied last es (Gone a) =
     report-view (run occupied last es) a (reached-good occupied last es .0 .sound .size)
     ∙ ap (λ (o : Pool). after o (Pulled a) (view (run occupied last es))) (reached-good occupied last es .0 .occupies)
+
+-- by the whole step or by its first half, a trace changes what the whole step does
+pub trace-view : (occupied : Pool) (last : ℕ) (es : List Event) (tr : List ℕ)
+    → view (stepped (run occupied last es) tr .state) ≡ after occupied (readAs (handedOut occupied last es) tr) (view (run occupied last es))
+unfolding run
+trace-view occupied last es tr = event-view occupied last es (Received Step tr)
 
 pub view-is-table : (occupied : Pool) (last : ℕ) (es : List Event) → view (run occupied last es) ≡ table occupied last es
 unfolding run table
