@@ -1,4 +1,5 @@
 pub mod Lines
 pub mod Commands
+pub mod CommandsLaws
 pub mod Runs
 pub mod RunsLaws

@@ -1,7 +1,7 @@
 -- The step in two halves: an address is chosen, with the reason; then the choice is issued or declined.
 use Prim.Native.Nat.{ℕ}
 use mathlib.Core.Bool.{Bool}
-use mathlib.Core.List.{List}
+use mathlib.Core.List.{List, [], _∷_}
 use Rattle.lists.specs.Choice.{pick}
 use Rattle.pool.specs.declared.free.Free.{Free}
 use Rattle.pool.specs.declared.free.Free.the-variants.{At, AllUsed}
@@ -19,7 +19,7 @@ use Rattle.commands.specs.declared.command.Handed.the-variants.{Send, Wait}
 use Rattle.commands.specs.declared.command.Reason.{Reason}
 use Rattle.commands.specs.declared.command.Reason.the-variants.{Fixed, Kept, Picked, Claimed}
 use Rattle.arp.specs.Bindings.{freed, bound, makesClaim}
-use Rattle.arp.specs.Controller.{handed, asked, hasToPick, chosen, notOutstanding}
+use Rattle.arp.specs.Controller.{handed, asked, hasToPick, chosen, notOutstanding, stepped}
 use Rattle.arp.specs.State.{withPicked}
 use Rattle.arp.specs.declared.settle.Choice.{Choice}
 use Rattle.arp.specs.declared.settle.Choice.the-variants.{Of, Absent}
@@ -106,3 +106,12 @@ sendingFor k Absent = k
 -- what goes out once the choice is issued
 abbrev pub sending : Handed → Handed
 sending k = sendingFor k (choiceIn k)
+
+-- the results over a list of traces, in order: by the single step, and by choosing and always issuing
+unfoldable pub stepsOver : Controller → List (List ℕ) → List Stepped
+stepsOver s [] = []
+stepsOver s (tr ∷ trs) = stepped s tr ∷ stepsOver (stepped s tr .state) trs
+
+unfoldable pub halvesOver : Controller → List (List ℕ) → List Stepped
+halvesOver s [] = []
+halvesOver s (tr ∷ trs) = carriedOn (firstHalf s tr) ∷ halvesOver (carriedOn (firstHalf s tr) .state) trs

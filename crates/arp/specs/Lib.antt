@@ -15,6 +15,8 @@ pub mod Story
 pub mod SinceStart
 pub mod Account
 pub mod OneStep
+pub mod Reasons
+pub mod Waits
 pub mod ChoosingLaws
 pub mod ChangedLaws
 pub mod StateLaws
@@ -41,3 +43,6 @@ pub mod NoneFreeLaws
 pub mod StoryLaws
 pub mod SinceStartLaws
 pub mod AccountLaws
+pub mod ReasonLaws
+pub mod SettleLaws
+pub mod WaitingLaws

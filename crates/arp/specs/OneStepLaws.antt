@@ -281,6 +281,14 @@ module _ (s : Controller) (u : Udid) (b : ℕ) (small : s .picked < 128) (f : Fi
   unfolding replied
   replies = replies-with (chosen (freed s u .pool) (freed s u .picked) u b) refl
 
+-- what a reply of 17 bytes tells
+pub told-reply : (tr : List ℕ) (u : Udid) (b : ℕ) → Fits u → b < 256 → tr ≡ replyTrace (udidBytes u ++ b ∷ []) → tells (Send GetUdid) tr ≡ Reply u b
+told-reply tr u b f h q =
+    let n : length (udidBytes u ++ b ∷ []) ≡ 17 = omega (arith, length-append (udidBytes u) (b ∷ []), length-udid u) in
+    let v : udidAt (udidBytes u ++ b ∷ []) 0 ≡ u = udid-back [] (b ∷ []) 0 u f refl in
+    let g : getD (udidBytes u ++ b ∷ []) 16 0 ≡ b = getD-at (udidBytes u) b [] 0 16 (length-udid u) in
+    traces.get-reply tr (udidBytes u ++ b ∷ []) (append-bytes (udidBytes u) (b ∷ []) (udid-bytes u) (h, tt)) (omega arith) (q ∙ sym (reply-symbols (udidBytes u ++ b ∷ []))) n ∙ ap₂ Reply v g
+
 -- ---- THE SENTENCES
 
 module _ (s : Controller) (tr : List ℕ) where
@@ -335,16 +343,7 @@ module _ (s : Controller) (tr : List ℕ) where
 
   -- a reply of 17 bytes
   pub get-reply : Sized128 (s .slots) → s .picked < 128 → s .last ≡ Send GetUdid → (u : Udid) (b : ℕ) → Fits u → b < 256 → tr ≡ replyTrace (udidBytes u ++ b ∷ []) → Replies s u b (stepped s tr)
-  get-reply size small e u b f h q =
-      let xs : List ℕ = udidBytes u ++ b ∷ [] in
-      let n : length (udidBytes u ++ b ∷ []) ≡ 17 = omega (arith, length-append (udidBytes u) (b ∷ []), length-udid u) in
-      let v : udidAt (udidBytes u ++ b ∷ []) 0 ≡ u = udid-back [] (b ∷ []) 0 u f refl in
-      let g : getD (udidBytes u ++ b ∷ []) 16 0 ≡ b = getD-at (udidBytes u) b [] 0 16 (length-udid u) in
-      subst (Replies s u b)
-      (sym (told-is-changed s tr (Send GetUdid) (Reply (udidAt (udidBytes u ++ b ∷ []) 0) (getD (udidBytes u ++ b ∷ []) 16 0)) e
-      (traces.get-reply tr (udidBytes u ++ b ∷ []) (append-bytes (udidBytes u) (b ∷ []) (udid-bytes u) (h, tt)) (omega arith) (q ∙ sym (reply-symbols (udidBytes u ++ b ∷ []))) n)
-      ∙ ap₂ (replied s) v g))
-      (replies s u b small f size)
+  get-reply size small e u b f h q = subst (Replies s u b) (sym (told-is-changed s tr (Send GetUdid) (Reply u b) e (told-reply tr u b f h q))) (replies s u b small f size)
 
   -- Assign complete: bind, and add to the pool; then Get UDID
   pub assign-whole : Sized128 (s .slots) → (u : Udid) (a : Address) → s .last ≡ Send (Assign u a) → Fits u → a .0 < 128 → tr ≡ assignTrace (udidBytes u) (2 * a .0)

@@ -2,7 +2,10 @@
 use crate::codec::decode;
 use crate::codec::encode;
 use crate::codec::pec;
+use crate::pass::choose;
+use crate::pass::decline;
 use crate::pass::gone;
+use crate::pass::issue;
 use crate::pass::lookup;
 use crate::pass::start;
 use crate::pass::step;
@@ -47,5 +50,8 @@ pub(crate) fn answer(s: Shelf, text: &[u8], records: &mut [u8], out: &mut [u8], 
         Request::Grid => said(s, table(s, out, at)),
         Request::Module(t, fresh) => resume(s, t, fresh, out, at),
         Request::Event(e, place) => event(s, e, place, text, out, at),
+        Request::Choose(from) => told(s, choose(s, from, text), out, at),
+        Request::Issue => told(s, issue(s), out, at),
+        Request::Decline => told(s, decline(s), out, at),
     }
 }

@@ -25,6 +25,9 @@ clear                     0 clear\n\
 run LAST                  0 bound N get G last A, 13 udid UDID bound N get G last A; who is bound\n\
 start                     0 next prepare\n\
 step SYMBOL...            0 next get, 0 next assign UDID A, 0 end, 13 end UDID, 14 end\n\
+choose SYMBOL...          as step, but an assign waits: 0 chosen UDID A fixed, kept, picked or claimed\n\
+issue                     0 next assign UDID A, the choice that waits; 21 if none does\n\
+decline                   14 end, the choice that waits is dropped; 21 if none does\n\
 lookup A                  0 udid UDID; 15 nobody, 16 claimed by two, 20 left, 1 no address\n\
 gone A                    0 gone, a pulled module is unbound; 15, 16, 20, 1 as for lookup\n\
 grid                      8 rows of 16: -- free, UU in use, XX claimed by two, LL left\n",

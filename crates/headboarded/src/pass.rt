@@ -1,4 +1,4 @@
-// The requests to the controller: start, step, lookup, gone and grid.
+// The requests to the controller: start, step, choose, issue, decline, lookup, gone and grid.
 use crate::shelf::Shelf;
 use crate::shelf::Turn;
 use answers::command::put_command;
@@ -24,6 +24,26 @@ pub(crate) fn step(s: Shelf, from: usize, text: &[u8]) -> Stepped {
     let n = read_symbols(text, from, &mut trace);
     let c = s.controller;
     c.step(&trace[..n])
+}
+
+// The same, but an address that the controller chooses waits.
+pub(crate) fn choose(s: Shelf, from: usize, text: &[u8]) -> Stepped {
+    let mut trace = [0u16; 8192];
+    let n = read_symbols(text, from, &mut trace);
+    let c = s.controller;
+    c.choose(&trace[..n])
+}
+
+// The choice that waits is sent.
+pub(crate) fn issue(s: Shelf) -> Stepped {
+    let c = s.controller;
+    c.issue()
+}
+
+// The choice that waits is dropped, and the pass with it.
+pub(crate) fn decline(s: Shelf) -> Stepped {
+    let c = s.controller;
+    c.decline()
 }
 
 // The shelf with another state of its controller.

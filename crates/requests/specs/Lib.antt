@@ -4,4 +4,5 @@ pub mod RequestLaws
 pub mod ListLaws
 pub mod RunLaws
 pub mod GoneLaws
+pub mod ChoiceLaws
 pub mod ModuleLaws

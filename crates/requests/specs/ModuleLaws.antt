@@ -29,7 +29,7 @@ use Rattle.words.specs.declared.word.MarkWord.the-variants.{Mark, Over, Another
 use Rattle.words.specs.declared.word.Rest.{Rest}
 use Rattle.words.specs.declared.word.Rest.the-variants as left
 use Rattle.requests.specs.Lists.{bytesEnd, symbolsEnd}
-use Rattle.requests.specs.Requests.{bytesTo, symbolsTo, endedBy, ended, byteOn, pecRequest, headAt, fieldsAt, receivedIs, encodeReceived, sentIs, encodeSent, fieldsOn, encodeFields, encodeOn, encodeRequest, decodeTrace, decodeOn, decodeRequest, lastAt, runRequest, occupiedRequest, stepRequest, lookupRequest, goneRequest, byteIs, targetFlag, targetByte, udidIs, targetRequest, isRandom, freshIs, moduleFresh, fourthIs, freshOn, flagOn, moduleFlagIs, moduleFlag, isModuleByte, byteIn, moduleByteIs, moduleByte, moduleIs, moduleRequest, eventIn, eventRequest, requestIn, requestOf}
+use Rattle.requests.specs.Requests.{bytesTo, symbolsTo, endedBy, ended, byteOn, pecRequest, headAt, fieldsAt, receivedIs, encodeReceived, sentIs, encodeSent, fieldsOn, encodeFields, encodeOn, encodeRequest, decodeTrace, decodeOn, decodeRequest, lastAt, runRequest, occupiedRequest, stepRequest, chooseRequest, lookupRequest, goneRequest, byteIs, targetFlag, targetByte, udidIs, targetRequest, isRandom, freshIs, moduleFresh, fourthIs, freshOn, flagOn, moduleFlagIs, moduleFlag, isModuleByte, byteIn, moduleByteIs, moduleByte, moduleIs, moduleRequest, eventIn, eventRequest, requestIn, requestOf}
 use Rattle.requests.specs.declared.expected.Expected.the-variants as expected
 use Rattle.requests.specs.declared.head.HeadWords.{HeadWords}
 use Rattle.requests.specs.declared.head.HeadWords.the-variants.{HeadIs, NoHead}
@@ -40,7 +40,7 @@ use Rattle.requests.specs.declared.request.Fields.{Fields}
 use Rattle.requests.specs.declared.request.Record.{Record}
 use Rattle.requests.specs.declared.request.ModuleEvent.the-variants as happens
 use Rattle.requests.specs.declared.request.Request.{Request}
-use Rattle.requests.specs.declared.request.Request.the-variants.{Nothing, Unclear, Pec, Encode, Decode, Occupied, Target, Clear, Run, Start, Step, Lookup, Gone, Grid, Module, Event}
+use Rattle.requests.specs.declared.request.Request.the-variants.{Nothing, Unclear, Pec, Encode, Decode, Occupied, Target, Clear, Run, Start, Step, Lookup, Gone, Grid, Module, Event, Choose, Issue, Decline}
 
 -- a module's record: a byte that a module of that kind can have, and a flag of 0 or 1
 abbrev pub isModule : Record → Bool
@@ -63,6 +63,9 @@ fits (Lookup b) = true
 fits (Gone b) = true
 fits Grid = true
 fits (Event e p) = true
+fits (Choose p) = true
+fits Issue = true
+fits Decline = true
 
 -- ---- what most requests end with
 
@@ -188,7 +191,7 @@ fits-module line (NoIdentifier p) = refl
 -- ---- a line
 
 fits-in : (v : Verb) (line : List ℕ) (place at : ℕ) → fits (requestIn v line place at) ≡ true
-unfolding pecRequest encodeRequest decodeRequest occupiedRequest targetRequest runRequest stepRequest lookupRequest goneRequest moduleRequest eventRequest
+unfolding pecRequest encodeRequest decodeRequest occupiedRequest targetRequest runRequest stepRequest chooseRequest lookupRequest goneRequest moduleRequest eventRequest
 fits-in verb.Pec line place at = fits-bytes line at (Pec at) refl
 fits-in verb.Encode line place at = fits-encode line (headAt line at)
 fits-in verb.Decode line place at = fits-decode line (headAt line at)
@@ -203,6 +206,9 @@ fits-in verb.Gone line place at = fits-byte Gone line (byteAt line at) (λ b. re
 fits-in verb.Grid line place at = fits-ended Grid line at refl
 fits-in verb.Module line place at = fits-module line (udidAt line at)
 fits-in verb.M line place at = fits-event (eventOf (wordIn line (wordFrom line at))) line place (wordFrom line at)
+fits-in verb.Choose line place at = fits-symbols line at (Choose at) refl
+fits-in verb.Issue line place at = fits-ended Issue line at refl
+fits-in verb.Decline line place at = fits-ended Decline line at refl
 fits-in verb.Other line place at = refl
 
 fits-line : (line : List ℕ) → fits (requestOf line) ≡ true

@@ -10,7 +10,7 @@ use Rattle.text.specs.Words.{wordFrom, partOf}
 use Rattle.words.specs.Verbs.{verbOf}
 use Rattle.words.specs.Said.{markAt}
 use Rattle.requests.specs.Lists.{bytesEnd, symbolsEnd}
-use Rattle.requests.specs.Requests.{pecRequest, occupiedRequest, stepRequest, decodeTrace, encodeReceived, requestIn, requestOf}
+use Rattle.requests.specs.Requests.{symbolsTo, pecRequest, occupiedRequest, decodeTrace, encodeReceived, requestIn, requestOf}
 use Rattle.requests.specs.declared.expected.Expected.the-variants as expected
 use Rattle.words.specs.declared.verb.Verb.{Verb}
 use Rattle.words.specs.declared.word.MarkWord.{MarkWord}
@@ -18,7 +18,7 @@ use Rattle.words.specs.declared.word.MarkWord.the-variants.{Mark, Over, Another
 use Rattle.requests.specs.declared.request.Head.{Head}
 use Rattle.requests.specs.declared.request.Fields.{Fields}
 use Rattle.requests.specs.declared.request.Request.{Request}
-use Rattle.requests.specs.declared.request.Request.the-variants.{Nothing, Unclear, Pec, Encode, Decode, Occupied, Step}
+use Rattle.requests.specs.declared.request.Request.the-variants.{Nothing, Unclear, Pec, Encode, Decode, Occupied}
 
 -- ---- a list to the end of the line
 
@@ -39,14 +39,12 @@ module _ (line : List ℕ) (at end : ℕ) (e : end ≡ bytesEnd (length line) li
   unfolding occupiedRequest
   occupied-is t = rw (← e, le-ltb end (length line) t)
 
-module _ (line : List ℕ) (at end : ℕ) (e : end ≡ symbolsEnd (length line) line at) where
-  pub step-unclear : end < length line → Unclear expected.Symbol end ≡ stepRequest line at
-  unfolding stepRequest
-  step-unclear t = rw (← e, lt-ltb end (length line) t)
+module _ (q : Request) (line : List ℕ) (at end : ℕ) (e : end ≡ symbolsEnd (length line) line at) where
+  pub symbols-unclear : end < length line → Unclear expected.Symbol end ≡ symbolsTo line at q
+  symbols-unclear t = rw (← e, lt-ltb end (length line) t)
 
-  pub step-is : length line ≤ end → Step at ≡ stepRequest line at
-  unfolding stepRequest
-  step-is t = rw (← e, le-ltb end (length line) t)
+  pub symbols-are : length line ≤ end → q ≡ symbolsTo line at q
+  symbols-are t = rw (← e, le-ltb end (length line) t)
 
 module _ (h : Head) (line : List ℕ) (at end : ℕ) (e : end ≡ symbolsEnd (length line) line at) where
   pub decode-unclear : end < length line → Unclear expected.Symbol end ≡ decodeTrace h line at

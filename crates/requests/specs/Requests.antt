@@ -42,7 +42,7 @@ use Rattle.requests.specs.declared.request.Fields.{Fields}
 use Rattle.requests.specs.declared.request.Record.{Record}
 use Rattle.requests.specs.declared.request.ModuleEvent.the-variants as happens
 use Rattle.requests.specs.declared.request.Request.{Request}
-use Rattle.requests.specs.declared.request.Request.the-variants.{Nothing, Unclear, Pec, Encode, Decode, Occupied, Target, Clear, Run, Start, Step, Lookup, Gone, Grid, Module, Event}
+use Rattle.requests.specs.declared.request.Request.the-variants.{Nothing, Unclear, Pec, Encode, Decode, Occupied, Target, Clear, Run, Start, Step, Lookup, Gone, Grid, Module, Event, Choose, Issue, Decline}
 
 -- a request whose list of bytes, or of symbols, reaches to the end of the line
 abbrev pub bytesTo : List ℕ → ℕ → Request → Request
@@ -166,13 +166,16 @@ lastAt line at = lastIs line at (restAt line at)
 unfoldable pub runRequest : List ℕ → ℕ → Request
 runRequest line at = byteOn Run line (lastAt line at)
 
--- ---- occupied A..., step SYMBOL..., lookup A, gone A
+-- ---- occupied A..., step SYMBOL..., choose SYMBOL..., lookup A, gone A
 
 unfoldable pub occupiedRequest : List ℕ → ℕ → Request
 occupiedRequest line at = bytesTo line at (Occupied at)
 
 unfoldable pub stepRequest : List ℕ → ℕ → Request
 stepRequest line at = symbolsTo line at (Step at)
+
+unfoldable pub chooseRequest : List ℕ → ℕ → Request
+chooseRequest line at = symbolsTo line at (Choose at)
 
 unfoldable pub lookupRequest : List ℕ → ℕ → Request
 lookupRequest line at = byteOn Lookup line (byteAt line at)
@@ -284,6 +287,9 @@ requestIn verb.Gone line place at = goneRequest line at
 requestIn verb.Grid line place at = ended Grid line at
 requestIn verb.Module line place at = moduleRequest line at
 requestIn verb.M line place at = eventRequest line place at
+requestIn verb.Choose line place at = chooseRequest line at
+requestIn verb.Issue line place at = ended Issue line at
+requestIn verb.Decline line place at = ended Decline line at
 requestIn verb.Other line place at = Unclear expected.Verb place
 
 -- a line of no word asks for nothing

@@ -1,6 +1,6 @@
 // The requests of the shelf and of the controller.
 ghost use mathlib.Core.Path.{_≡_};
-ghost use Rattle.requests.specs.Requests.{occupiedRequest, lastAt, ofByte, byteOn, runRequest, stepRequest, lookupRequest, goneRequest, targetRequest, targetByte, targetFlag, ended};
+ghost use Rattle.requests.specs.Requests.{symbolsTo, occupiedRequest, lastAt, ofByte, byteOn, runRequest, stepRequest, chooseRequest, lookupRequest, goneRequest, targetRequest, targetByte, targetFlag, ended};
 use crate::expected::Expected;
 use crate::list::bytes_end;
 use crate::list::symbols_end;
@@ -85,15 +85,29 @@ pub(crate) fn run(line: &[u8], from: usize) -> Request
     one_byte(OneByte::Run, last_pick(line, from), line)
 }
 
-// step SYMBOL...
-pub(crate) fn step(line: &[u8], from: usize) -> Request
-    ensures { λ r. ⌜ r ≡ stepRequest (now (line .entry)) from ⌝ }
+// A request whose symbols from a place on reach to the end of the line.
+fn with_symbols(q: Request, line: &[u8], from: usize) -> Request
+    ensures { λ r. ⌜ r ≡ symbolsTo (now (line .entry)) from q ⌝ }
 {
     let end = symbols_end(line, from);
     if end < line.len() {
         return Request::Unclear(Expected::Symbol, end);
     }
-    Request::Step(from)
+    q
+}
+
+// step SYMBOL...
+pub(crate) fn step(line: &[u8], from: usize) -> Request
+    ensures { λ r. ⌜ r ≡ stepRequest (now (line .entry)) from ⌝ }
+{
+    with_symbols(Request::Step(from), line, from)
+}
+
+// choose SYMBOL...
+pub(crate) fn choose(line: &[u8], from: usize) -> Request
+    ensures { λ r. ⌜ r ≡ chooseRequest (now (line .entry)) from ⌝ }
+{
+    with_symbols(Request::Choose(from), line, from)
 }
 
 // lookup A

@@ -8,6 +8,7 @@ use crate::encoding::pec;
 use crate::expected::Expected;
 use crate::modules::event;
 use crate::modules::resume;
+use crate::other::choose;
 use crate::other::ending;
 use crate::other::gone;
 use crate::other::lookup;
@@ -86,6 +87,12 @@ pub enum Request {
     Module(Record, u32),
     // Something happens to the module; and the place of the verb.
     Event(ModuleEvent, usize),
+    // The controller hears the symbols from a place on, and an address that it chooses waits.
+    Choose(usize),
+    // The choice that waits is sent.
+    Issue,
+    // The choice that waits is dropped, and the pass with it.
+    Decline,
 }
 
 // The request of a verb, with the words from a place on.
@@ -107,6 +114,9 @@ fn request_in(v: Verb, line: &[u8], verb: usize, from: usize) -> Request
         Verb::Grid => ending(Request::Grid, line, from),
         Verb::Module => resume(line, from),
         Verb::M => event(line, verb, from),
+        Verb::Choose => choose(line, from),
+        Verb::Issue => ending(Request::Issue, line, from),
+        Verb::Decline => ending(Request::Decline, line, from),
         Verb::Other => Request::Unclear(Expected::Verb, verb),
     }
 }

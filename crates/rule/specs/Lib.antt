@@ -2,12 +2,14 @@ pub mod Effect
 pub mod Acknowledge
 pub mod AnyBus
 pub mod Bus
+pub mod Halves
 pub mod PlainRule
 pub mod EndAnswer
 pub mod PassEnd
 pub mod AcknowledgeLaws
 pub mod AnyBusLaws
 pub mod BusLaws
+pub mod HalvesLaws
 pub mod TraceLaws
 pub mod Acted
 pub mod EffectLaws

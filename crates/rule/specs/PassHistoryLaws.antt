@@ -5,7 +5,7 @@ use mathlib.Core.List.{List, [], _∷_}
 use Rattle.pool.specs.declared.Pool.{Pool}
 use Rattle.targets.specs.Target.{Target}
 use Rattle.arp.specs.Controller.{stepped}
-use Rattle.arp.specs.History.{Event, Start, Received, run}
+use Rattle.arp.specs.History.{Step, Event, Start, Received, run}
 use Rattle.arp.specs.declared.state.Controller.{Controller}
 use Rattle.rule.specs.AnyBus.{Bus, WorldOver, tookOver, turnOver, runOver, beginningOver}
 use Rattle.rule.specs.Bus.{modelBus, pass}
@@ -23,7 +23,7 @@ module _ {A : Type 0} (bus : Bus A) (occupied : Pool) (last : ℕ) where
           → ((fs : List Event) → x .now .state ≡ run occupied last fs → runOver bus n x .now .state ≡ run occupied last (heardAfter fs (tracesOver bus n x)))
           → runOver bus n x .now .state ≡ run occupied last (heardAfter es (tr ∷ tracesOver bus n x))
       go [] x q ih = ih es (ap (λ (y : WorldOver A). y .now .state) q ∙ e)
-      go (t ∷ tr) x q ih = ih (Received (t ∷ tr) ∷ es) (ap (λ (y : WorldOver A). y .now .state) q ∙ ap (λ (c : Controller). stepped c (t ∷ tr) .state) e)
+      go (t ∷ tr) x q ih = ih (Received Step (t ∷ tr) ∷ es) (ap (λ (y : WorldOver A). y .now .state) q ∙ ap (λ (c : Controller). stepped c (t ∷ tr) .state) e)
 
 -- THE CONTROLLER AT THE END OF A PASS is that of its history
 pub pass-is-history : (occupied : Pool) (last : ℕ) (ts : List Target) → pass occupied last ts .now .state ≡ run occupied last (historyOnBus occupied last ts)

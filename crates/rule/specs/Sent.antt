@@ -5,7 +5,7 @@ use mathlib.Core.List.{List, [], _∷_}
 use Rattle.lists.specs.Choice.{pick}
 use Rattle.pool.specs.declared.Pool.{Pool}
 use Rattle.targets.specs.Target.{Target}
-use Rattle.arp.specs.History.{Event, Start, Received}
+use Rattle.arp.specs.History.{Step, Event, Start, Received}
 use Rattle.rule.specs.Acknowledge.{begins}
 use Rattle.rule.specs.AnyBus.{Bus, WorldOver, turnOver, beginningOver}
 use Rattle.rule.specs.Bus.{World, modelBus}
@@ -31,7 +31,7 @@ getsOver bus occupied last ts = getsAmong (tracesOver bus 300 (beginningOver occ
 abbrev pub heardAfter : List Event → List (List ℕ) → List Event
 heardAfter es [] = es
 heardAfter es ([] ∷ trs) = heardAfter es trs
-heardAfter es ((x ∷ tr) ∷ trs) = heardAfter (Received (x ∷ tr) ∷ es) trs
+heardAfter es ((x ∷ tr) ∷ trs) = heardAfter (Received Step (x ∷ tr) ∷ es) trs
 
 -- ---- on the model's bus
 

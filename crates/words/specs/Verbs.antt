@@ -5,11 +5,19 @@ use Rattle.lists.specs.Choice.{pick}
 use Rattle.text.specs.Chars.{chars}
 use Rattle.text.specs.Words.{sameText}
 use Rattle.words.specs.declared.verb.Verb.{Verb}
-use Rattle.words.specs.declared.verb.Verb.the-variants.{Pec, Encode, Decode, Occupied, Target, Clear, Run, Start, Step, Lookup, Gone, Grid, Module, M, Other}
+use Rattle.words.specs.declared.verb.Verb.the-variants.{Pec, Encode, Decode, Occupied, Target, Clear, Run, Start, Step, Lookup, Gone, Grid, Module, M, Choose, Issue, Decline, Other}
+
+-- the verbs of a choice
+unfoldable pub choiceVerb : List ℕ → Verb
+choiceVerb s =
+    pick (sameText s (chars "choose")) Choose
+    (pick (sameText s (chars "issue")) Issue
+    (pick (sameText s (chars "decline")) Decline
+    Other))
 
 -- the verbs of the module's own end
 unfoldable pub moduleVerb : List ℕ → Verb
-moduleVerb s = pick (sameText s (chars "module")) Module (pick (sameText s (chars "m")) M Other)
+moduleVerb s = pick (sameText s (chars "module")) Module (pick (sameText s (chars "m")) M (choiceVerb s))
 
 -- the verbs of a pass
 unfoldable pub passVerb : List ℕ → Verb

@@ -1,6 +1,6 @@
 // The verbs: the first word of a request.
 ghost use mathlib.Core.Path.{_≡_};
-ghost use Rattle.words.specs.Verbs.{verbOf, passVerb, moduleVerb};
+ghost use Rattle.words.specs.Verbs.{verbOf, passVerb, moduleVerb, choiceVerb};
 use text::word::same;
 
 pub enum Verb {
@@ -19,8 +19,28 @@ pub enum Verb {
     // A module at its own end of the bus, and what happens to it there.
     Module,
     M,
+    // An address is chosen apart from sending it; the choice is issued, or declined.
+    Choose,
+    Issue,
+    Decline,
     // Any other word.
     Other,
+}
+
+// The verbs of a choice.
+fn choice_verb(s: &[u8]) -> Verb
+    ensures { λ r. ⌜ r ≡ choiceVerb (now (s .entry)) ⌝ }
+{
+    if same(s, b"choose") {
+        return Verb::Choose;
+    }
+    if same(s, b"issue") {
+        return Verb::Issue;
+    }
+    if same(s, b"decline") {
+        return Verb::Decline;
+    }
+    Verb::Other
 }
 
 // The verbs of the module's own end.
@@ -33,7 +53,7 @@ fn module_verb(s: &[u8]) -> Verb
     if same(s, b"m") {
         return Verb::M;
     }
-    Verb::Other
+    choice_verb(s)
 }
 
 // The verbs of a pass.

@@ -50,6 +50,12 @@ slice-aggregate-put-line-4 c = search needs
 put-line-requires-4 : tie.Need-put-line-requires-4
 put-line-requires-4 c κs = search needs
 
+enum-known-e-2 : tie.Need-enum-known-e-2
+enum-known-e-2 c = search needs
+
+put-chosen-requires : tie.Need-put-chosen-requires
+put-chosen-requires c κs = search needs
+
 same-length : tie.Need-same-length
 same-length c = search needs
 
@@ -80,6 +86,12 @@ same-length-5 c = search needs
 returns-5 : tie.Need-returns-5
 returns-5 c = appended-as (sym (ap endText (c .before .before .before .before .before .enum-told4 .given .1))) (c .before .before .put-line4 .ensures)
 
+same-length-6 : tie.Need-same-length-6
+same-length-6 c = search needs
+
+returns-6 : tie.Need-returns-6
+returns-6 c = appended-as (sym (ap endText (c .before .before .before .before .before .e2 .given .1))) (c .before .before .put-chosen .ensures)
+
 pub put-over-spec : {M : Type 1} → statement M
 put-over-spec =
     tie.close
@@ -99,6 +111,8 @@ put-over-spec =
     enum-told-4
     slice-aggregate-put-line-4
     put-line-requires-4
+    enum-known-e-2
+    put-chosen-requires
     same-length
     returns
     same-length-2
@@ -108,4 +122,6 @@ put-over-spec =
     same-length-4
     returns-4
     same-length-5
-    returns-5)
+    returns-5
+    same-length-6
+    returns-6)

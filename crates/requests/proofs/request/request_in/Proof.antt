@@ -92,6 +92,24 @@ event-requires c κs = search needs
 enum-told-15 : tie.Need-enum-told-15
 enum-told-15 c = search needs
 
+choose-requires : tie.Need-choose-requires
+choose-requires c κs = search needs
+
+enum-told-16 : tie.Need-enum-told-16
+enum-told-16 c = search needs
+
+ending-requires-4 : tie.Need-ending-requires-4
+ending-requires-4 c κs = search needs
+
+enum-told-17 : tie.Need-enum-told-17
+enum-told-17 c = search needs
+
+ending-requires-5 : tie.Need-ending-requires-5
+ending-requires-5 c κs = search needs
+
+enum-told-18 : tie.Need-enum-told-18
+enum-told-18 c = search needs
+
 returns : tie.Need-returns
 returns c = c .pec .ensures ∙ sym (ap (λ (v : Verb). requestIn v (c .before .before .before .before .args .line .now) (c .before .before .before .before .args .verb) (c .before .before .before .before .args .from)) (c .before .enum-told .given .1))
 
@@ -135,7 +153,16 @@ returns-14 : tie.Need-returns-14
 returns-14 c = c .event .ensures ∙ sym (ap (λ (v : Verb). requestIn v (c .before .before .before .before .args .line .now) (c .before .before .before .before .args .verb) (c .before .before .before .before .args .from)) (c .before .enum-told14 .given .1))
 
 returns-15 : tie.Need-returns-15
-returns-15 c = sym (ap (λ (v : Verb). requestIn v (c .before .before .before .args .line .now) (c .before .before .before .args .verb) (c .before .before .before .args .from)) (c .enum-told15 .given .1))
+returns-15 c = c .choose .ensures ∙ sym (ap (λ (v : Verb). requestIn v (c .before .before .before .before .args .line .now) (c .before .before .before .before .args .verb) (c .before .before .before .before .args .from)) (c .before .enum-told15 .given .1))
+
+returns-16 : tie.Need-returns-16
+returns-16 c = c .ending4 .ensures ∙ sym (ap (λ (v : Verb). requestIn v (c .before .before .before .before .args .line .now) (c .before .before .before .before .args .verb) (c .before .before .before .before .args .from)) (c .before .enum-told16 .given .1))
+
+returns-17 : tie.Need-returns-17
+returns-17 c = c .ending5 .ensures ∙ sym (ap (λ (v : Verb). requestIn v (c .before .before .before .before .args .line .now) (c .before .before .before .before .args .verb) (c .before .before .before .before .args .from)) (c .before .enum-told17 .given .1))
+
+returns-18 : tie.Need-returns-18
+returns-18 c = sym (ap (λ (v : Verb). requestIn v (c .before .before .before .args .line .now) (c .before .before .before .args .verb) (c .before .before .before .args .from)) (c .enum-told18 .given .1))
 
 pub request-in-spec : {M : Type 1} → statement M
 request-in-spec =
@@ -170,6 +197,12 @@ request-in-spec =
     enum-told-14
     event-requires
     enum-told-15
+    choose-requires
+    enum-told-16
+    ending-requires-4
+    enum-told-17
+    ending-requires-5
+    enum-told-18
     returns
     returns-2
     returns-3
@@ -184,4 +217,7 @@ request-in-spec =
     returns-12
     returns-13
     returns-14
-    returns-15)
+    returns-15
+    returns-16
+    returns-17
+    returns-18)

@@ -24,9 +24,12 @@ returns-2 : tie.Need-returns-2
 unfolding moduleVerb
 returns-2 c = rw (sym (c .before .before .before .before .same .ensures) ∙ c .before .before .before .if1 .left, sym (c .before .same2 .ensures) ∙ c .if2 .taken)
 
+choice-verb-requires : tie.Need-choice-verb-requires
+choice-verb-requires c κs = search needs
+
 returns-3 : tie.Need-returns-3
 unfolding moduleVerb
-returns-3 c = rw (sym (c .before .before .before .before .same .ensures) ∙ c .before .before .before .if1 .left, sym (c .before .same2 .ensures) ∙ c .if2 .left)
+returns-3 c = rw (sym (c .before .before .before .before .before .same .ensures) ∙ c .before .before .before .before .if1 .left, sym (c .before .before .same2 .ensures) ∙ c .before .if2 .left, c .choice-verb .ensures)
 
 pub module-verb-spec : {M : Type 1} → statement M
 module-verb-spec =
@@ -38,4 +41,5 @@ module-verb-spec =
     slice-aggregate-same-2
     same-requires-2
     returns-2
+    choice-verb-requires
     returns-3)
