@@ -14,9 +14,10 @@ use Rattle.lists.specs.ChoiceLaws.{and-none}
 use Rattle.pool.specs.declared.Pool.{Pool}
 use Rattle.arp.specs.Controller.{newController, started}
 use Rattle.arp.specs.History.{Step, Choose, Event, Start, Received, Gone, Issue, Decline}
+use Rattle.arp.specs.declared.state.Stepped.{Stepped}
 use Rattle.pairs.specs.Pairs.{pairsOf, symbolsIn}
 use Rattle.pairs.specs.PairLaws.{pairs-back, length-pairs}
-use Rattle.c_arp.specs.Pass.{said, headOf, halfSize, sizeBy, sizeFor, sizeOf, isWhole, entryBy, entryOf, entriesIn, stepsOver, passOver}
+use Rattle.c_arp.specs.Pass.{said, headOf, halfSize, sizeBy, sizeFor, sizeOf, isWhole, entryBy, entryOf, entriesIn, afterEvent, stepsOver, passOver}
 use Rattle.c_arp.specs.declared.entry.Head.{Head}
 use Rattle.c_arp.specs.declared.entry.Head.the-variants as head
 use Rattle.c_arp.specs.TraceLists.{Listed, listBytes, Cut}
@@ -249,3 +250,15 @@ entries-back es rest v c = entries-in es rest v c (length (listBytes es ++ rest)
 pub pass-steps : (occupied : Pool) (last : ℕ) (es : List Event) (rest : List ℕ) → Listed es → Cut rest
     → passOver occupied last (listBytes es ++ rest) ≡ stepsOver (started (newController occupied last)) es
 pass-steps occupied last es rest v c = ap (stepsOver (started (newController occupied last))) (entries-back es rest v c)
+
+-- and then further ones
+steps-more : (st : Stepped) (es xs : List Event) → stepsOver st (es ++ xs) ≡ stepsOver (stepsOver st es) xs
+unfolding stepsOver
+steps-more st [] xs = refl
+steps-more st (e ∷ es) xs = steps-more (afterEvent st e) es xs
+
+pub pass-more : (occupied : Pool) (last : ℕ) (es xs : List Event) (rest rest′ : List ℕ) → Listed es → Listed xs → Cut rest → Cut rest′
+    → passOver occupied last (listBytes (es ++ xs) ++ rest′) ≡ stepsOver (passOver occupied last (listBytes es ++ rest)) xs
+pass-more occupied last es xs rest rest′ v w cut cut′ =
+    pass-steps occupied last (es ++ xs) rest′ (listed-both es xs v w) cut′ ∙ steps-more _ es xs
+    ∙ sym (ap (λ (st : Stepped). stepsOver st xs) (pass-steps occupied last es rest v cut))

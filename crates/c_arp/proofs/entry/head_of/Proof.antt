@@ -1,5 +1,4 @@
 use borrow.Author.Tests.{eq-eqb, ne-eqb}
-use borrow.Author.Needs.{needs}
 use Rattle.c_arp.proofs.entry.head_of.Statement.{statement}
 use Rattle.c_arp.proofs.entry.head_of.Tie as tie
 
