@@ -14,13 +14,17 @@ use Rattle.commands.specs.declared.command.Handed.the-variants.{Wait}
 use Rattle.commands.specs.declared.command.Reason.{Reason}
 use Rattle.lists.specs.Choice.{pick}
 use Rattle.udid.specs.Udids.{isFixed}
-use Rattle.arp.specs.Bindings.{freed, makesClaim}
-use Rattle.arp.specs.Choosing.{reasonOf, waitingWith, decided, firstHalf, choiceIn, issuing, carriedFor}
+use Rattle.arp.specs.Bindings.{freed}
+use Rattle.picking.specs.Claims.{makesClaim}
+use Rattle.arp.specs.Choosing.{waitingWith, decided, firstHalf, issuing, carriedFor}
+use Rattle.picking.specs.Picking.{reasonOf}
+use Rattle.commands.specs.Choices.{choiceIn}
 use Rattle.arp.specs.ChoosingLaws.{halves-are-the-step}
-use Rattle.arp.specs.Controller.{handed, hasToPick, chosen, stepped}
+use Rattle.arp.specs.Controller.{handed, stepped}
+use Rattle.picking.specs.Picking.{hasToPick, chosen}
 use Rattle.arp.specs.State.{withPicked}
-use Rattle.arp.specs.declared.settle.Choice.{Choice}
-use Rattle.arp.specs.declared.settle.Choice.the-variants.{Of, Absent}
+use Rattle.commands.specs.declared.choice.Choice.{Choice}
+use Rattle.commands.specs.declared.choice.Choice.the-variants.{Of, Absent}
 use Rattle.arp.specs.declared.state.Controller.{Controller}
 use Rattle.arp.specs.declared.state.Stepped.{Stepped}
 

@@ -6,7 +6,7 @@ use mathlib.Core.Logic.{_⊎_, inl, inr}
 use Rattle.lists.specs.AbsurdLaws.{zero-is-one}
 use Rattle.udid.specs.declared.Udid.{Udid}
 use Rattle.slots.specs.Finding.{boundIn}
-use Rattle.arp.specs.Bindings.{isHeld}
+use Rattle.picking.specs.Claims.{isHeld}
 use Rattle.slots.specs.declared.Binding.{Binding}
 use Rattle.slots.specs.declared.Binding.the-variants.{Open, Bound, Claimed, Left}
 

@@ -1,25 +1,17 @@
 -- The bindings: the state with a target unbound, and with it bound.
 use Prim.Native.Nat.{ℕ}
-use mathlib.Core.Bool.{Bool, true, false}
 use lib.Dec.{ltb}
 use Rattle.lists.specs.Choice.{pick, or}
 use Rattle.pool.specs.Pools.{member, withAddress, withoutAddress}
-use Rattle.pool.specs.Start.{startingPool, barredPool}
-use Rattle.pool.specs.declared.Pool.{Pool}
+use Rattle.pool.specs.Start.{startingPool}
 use Rattle.udid.specs.declared.Udid.{Udid}
+use Rattle.picking.specs.Claims.{makesClaim, bindingFor}
 use Rattle.slots.specs.Slots.{heldAt, withBinding}
 use Rattle.arp.specs.State.{withPool, withSlots}
 use Rattle.slots.specs.Finding.{findFrom}
 use Rattle.slots.specs.declared.Binding.{Binding}
-use Rattle.slots.specs.declared.Binding.the-variants.{Open, Bound, Claimed, Left}
+use Rattle.slots.specs.declared.Binding.the-variants.{Open}
 use Rattle.arp.specs.declared.state.Controller.{Controller}
-
--- a target is bound there, or two claim it
-abbrev pub isHeld : Binding → Bool
-isHeld Open = false
-isHeld (Bound u) = true
-isHeld Claimed = true
-isHeld Left = false
 
 -- nobody is bound to the address a any more, and it is known for h; it is out of the pool then, unless the starting pool has it
 abbrev pub vacated : Controller → ℕ → Binding → Controller
@@ -31,14 +23,6 @@ freedAt s a = vacated s a Open
 -- u is unbound and its address vacated; as it was where u is not bound
 unfoldable pub freed : Controller → Udid → Controller
 freed s u = pick (ltb 127 (findFrom u (s .slots) 128 0)) s (freedAt s (findFrom u (s .slots) 128 0))
-
--- an Assign of the address a, known for h, makes a claim when it completes: a is barred, or a target is bound there, or two claim it already
-abbrev pub makesClaim : Pool → Binding → ℕ → Bool
-makesClaim occupied h a = or (member (barredPool occupied) a) (isHeld h)
-
--- what an address is known for after an Assign that completed: claimed by two where it was taken
-abbrev pub bindingFor : Bool → Udid → Binding
-bindingFor taken u = pick taken Claimed (Bound u)
 
 -- u is bound to a, or a is claimed; a is in the pool then
 abbrev pub boundAt : Controller → Udid → ℕ → Controller

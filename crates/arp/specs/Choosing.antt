@@ -12,25 +12,22 @@ use Rattle.hearing.specs.Told.{tells}
 use Rattle.hearing.specs.declared.told.Told.{Told}
 use Rattle.hearing.specs.declared.told.Told.the-variants.{Again, Over, GivenUp, Reply, Took, Unasked}
 use Rattle.commands.specs.declared.command.Command.the-variants.{Assign}
-use Rattle.commands.specs.declared.command.End.{End}
-use Rattle.commands.specs.declared.command.End.the-variants.{Nothing, Ended, NoneFree, Abandoned, NotOutstanding, Chosen}
+use Rattle.commands.specs.declared.command.End.the-variants.{Ended, NoneFree, Abandoned, Chosen}
 use Rattle.commands.specs.declared.command.Handed.{Handed}
 use Rattle.commands.specs.declared.command.Handed.the-variants.{Send, Wait}
 use Rattle.commands.specs.declared.command.Reason.{Reason}
-use Rattle.commands.specs.declared.command.Reason.the-variants.{Fixed, Kept, Picked, Claimed}
-use Rattle.arp.specs.Bindings.{freed, bound, makesClaim}
-use Rattle.arp.specs.Controller.{handed, asked, hasToPick, chosen, notOutstanding, stepped}
+use Rattle.arp.specs.Bindings.{freed, bound}
+use Rattle.picking.specs.Claims.{makesClaim}
+use Rattle.arp.specs.Controller.{handed, asked, notOutstanding, stepped}
+use Rattle.commands.specs.Choices.{choiceIn}
+use Rattle.picking.specs.Picking.{hasToPick, chosen, reasonOf}
 use Rattle.arp.specs.State.{withPicked}
-use Rattle.arp.specs.declared.settle.Choice.{Choice}
-use Rattle.arp.specs.declared.settle.Choice.the-variants.{Of, Absent}
+use Rattle.commands.specs.declared.choice.Choice.{Choice}
+use Rattle.commands.specs.declared.choice.Choice.the-variants.{Of, Absent}
 use Rattle.arp.specs.declared.state.Controller.{Controller}
 use Rattle.arp.specs.declared.state.Stepped.{Stepped}
 
 -- ---- the first half
-
--- claimed by two if it is taken, whatever else; then picked; then a fixed target's own, or a movable one's
-abbrev pub reasonOf : Bool → Bool → Bool → Reason
-reasonOf taken picks fixed = pick taken Claimed (pick picks Picked (pick fixed Fixed Kept))
 
 -- why the address a is chosen for u, which is bound nowhere: it is taken if the Assign, completed now, would make a claim
 abbrev pub reasonFor : Controller → Udid → Bool → ℕ → Reason
@@ -59,19 +56,6 @@ unfoldable pub firstHalf : Controller → List ℕ → Stepped
 firstHalf s tr = decidedOn s (tells (s .last) tr)
 
 -- ---- the second half
-
-abbrev pub inEnd : End → Choice
-inEnd Nothing = Absent
-inEnd Ended = Absent
-inEnd (NoneFree u) = Absent
-inEnd Abandoned = Absent
-inEnd NotOutstanding = Absent
-inEnd (Chosen u a r) = Of u a
-
--- the choice that waits where this was handed out last
-abbrev pub choiceIn : Handed → Choice
-choiceIn (Send k) = Absent
-choiceIn (Wait e) = inEnd e
 
 -- Assign Address goes out; with no choice: 21
 abbrev pub issuedFor : Controller → Choice → Stepped

@@ -4,14 +4,14 @@ use Prim.Native.Nat.{ℕ}
 use mathlib.Core.Bool.{Bool, true, false}
 use mathlib.Core.List.{List}
 use mathlib.Core.Logic.{_⊎_, inl, inr}
-use mathlib.Core.Path.{_≡_, refl, sym, ap, _∙_, subst}
+use mathlib.Core.Path.{_≡_, refl, sym, ap, _∙_}
 use lib.Dec.{leb}
 use Rattle.lists.specs.Choice.{pick}
 use Rattle.wire.specs.declared.address.Address.{Address}
 use Rattle.pool.specs.declared.free.Free.{Free}
 use Rattle.pool.specs.declared.free.Free.the-variants.{At, AllUsed}
 use Rattle.udid.specs.declared.Udid.{Udid}
-use Rattle.hearing.specs.Told.{tells, noCommand}
+use Rattle.hearing.specs.Told.{tells}
 use Rattle.hearing.specs.declared.told.Told.{Told}
 use Rattle.hearing.specs.declared.told.Told.the-variants.{Again, Over, GivenUp, Reply, Took, Unasked}
 use Rattle.commands.specs.declared.command.Command.the-variants.{GetUdid, Assign}
@@ -20,12 +20,14 @@ use Rattle.commands.specs.declared.command.Handed.{Handed}
 use Rattle.commands.specs.declared.command.Handed.the-variants.{Send, Wait}
 use Rattle.commands.specs.declared.command.Reason.{Reason}
 use Rattle.arp.specs.Bindings.{freed, bound}
-use Rattle.arp.specs.Choosing.{reasonFor, waitingWith, decided, decidedOn, firstHalf, choiceIn, issuing, carriedOn, sending}
-use Rattle.arp.specs.Controller.{handed, counted, asked, hasToPick, chosen, issued, replied, changed, stepped}
+use Rattle.arp.specs.Choosing.{reasonFor, waitingWith, decided, decidedOn, firstHalf, issuing, carriedOn, sending}
+use Rattle.commands.specs.Choices.{choiceIn}
+use Rattle.arp.specs.Controller.{handed, counted, asked, issued, replied, changed, stepped}
+use Rattle.picking.specs.Picking.{hasToPick, chosen}
 use Rattle.arp.specs.History.{By, Step, Choose, heard, oneGet}
 use Rattle.arp.specs.Numbers.{is21}
 use Rattle.arp.specs.State.{withLast}
-use Rattle.arp.specs.declared.settle.Choice.the-variants.{Absent}
+use Rattle.commands.specs.declared.choice.Choice.the-variants.{Absent}
 use Rattle.arp.specs.declared.state.Controller.{Controller}
 use Rattle.arp.specs.declared.state.Stepped.{Stepped}
 

@@ -1,11 +1,10 @@
--- Which address is chosen for a target, case by case; that it has seven bits and is free for a movable one; when there is none; and that it was
--- picked is told by the reply's address byte and the address alone.
+-- That an address was picked is told by the reply's address byte and the address alone; and the choice by the pool's addresses, with when there
+-- is none.
 use Prim.Native.Nat.{ℕ, _/_, _<_}
 use mathlib.Core.Path.{_≡_, refl, sym, ap, ap₂, _∙_, subst}
 use mathlib.Core.Bool.{Bool, true, false}
 use mathlib.Core.Logic.{_⊎_, inl, inr, _↔_}
 use native.Mathlib.Decide.{ℕ-discrete}
-use native.Mathlib.Omega.{arith}
 use lib.Dec.{eqb}
 use borrow.Author.Tests.{eq-eqb, ne-eqb, eqb-true}
 use Rattle.lists.specs.AbsurdLaws.{zero-is-one}
@@ -19,58 +18,11 @@ use Rattle.pool.specs.declared.free.Free.{Free}
 use Rattle.pool.specs.declared.free.Free.the-variants.{At, AllUsed}
 use Rattle.udid.specs.Udids.{isFixed}
 use Rattle.udid.specs.declared.Udid.{Udid}
-use Rattle.arp.specs.Controller.{hasToPick, chosen, ownAddress}
+use Rattle.picking.specs.Picking.{hasToPick, chosen, ownAddress}
+use Rattle.picking.specs.PickingLaws.{ff-picks, chosen-picked, chosen-own, own-is, picks-is-taken}
 use Rattle.arp.specs.FreeAfterLaws.{next-is-walked, none-met}
 use Rattle.arp.specs.Replay.{freeAfter, givenTo, NoneToPick}
 use Rattle.arp.specs.RunPicks.{isPicked}
-
--- ---- the cases
-
--- FFh: one has to be picked, for every identifier
-pub ff-picks : (p : Pool) (u : Udid) → hasToPick p u 255 ≡ true
-unfolding hasToPick
-ff-picks p u = refl
-
--- for a fixed target none has to be, whether its own address is in the pool or not
-pub fixed-picks-none : (p : Pool) (u : Udid) (b : ℕ) → (b ≡ 255 → ⊥) → isFixed u ≡ true → hasToPick p u b ≡ false
-unfolding hasToPick
-fixed-picks-none p u b n f = rw (ne-eqb b 255 n, f)
-
--- for a movable one exactly if its own address is in the pool
-pub movable-picks : (p : Pool) (u : Udid) (b : ℕ) → (b ≡ 255 → ⊥) → isFixed u ≡ false → hasToPick p u b ≡ member p (b / 2)
-unfolding hasToPick
-movable-picks p u b n f = rw (ne-eqb b 255 n, f)
-
--- picked, it is the next free one; else it is the target's own
-pub chosen-picked : (p : Pool) (last : ℕ) (u : Udid) (b : ℕ) → hasToPick p u b ≡ true → chosen p last u b ≡ nextFree p last
-unfolding chosen
-chosen-picked p last u b e = rw e
-
-pub chosen-own : (p : Pool) (last : ℕ) (u : Udid) (b : ℕ) → hasToPick p u b ≡ false → chosen p last u b ≡ At (record { 0 = b / 2 })
-unfolding chosen
-chosen-own p last u b e = rw e
-
-own-is : (b : ℕ) (a : Address) → At (ownAddress b) ≡ At a → b / 2 ≡ a .0
-own-is b a k = let q : ownAddress b ≡ a = cc k in ap (λ (x : Address). x .0) q
-
--- where one has to be picked for a byte that names an address, the target is movable and that address is in the pool
-pub picks-is-taken : (p : Pool) (u : Udid) (b : ℕ) → (b ≡ 255 → ⊥) → hasToPick p u b ≡ true → (isFixed u ≡ false) × (member p (b / 2) ≡ true)
-picks-is-taken p u b n e = go (isFixed u) refl
-  where
-    go : (f : Bool) → isFixed u ≡ f → (isFixed u ≡ false) × (member p (b / 2) ≡ true)
-    go true f = zero-is-one (cc (e, fixed-picks-none p u b n f))
-    go false f = (f, sym (movable-picks p u b n f) ∙ e)
-
--- what is chosen has seven bits, and for a movable target it is free
-pub chosen-small-and-free : (p : Pool) (last : ℕ) (u : Udid) (b : ℕ) (a : Address) → b < 256 → chosen p last u b ≡ At a → (a .0 < 128) × (isFixed u ≡ false → member p (a .0) ≡ false)
-chosen-small-and-free p last u b a h e = go (hasToPick p u b) refl
-  where
-    free : (b / 2 ≡ a .0) → hasToPick p u b ≡ false → isFixed u ≡ false → member p (a .0) ≡ false
-    free k q f = ap (member p) (sym k) ∙ sym (movable-picks p u b (λ m. zero-is-one (cc (q, ap (hasToPick p u) m, ff-picks p u))) f) ∙ q
-
-    go : (t : Bool) → hasToPick p u b ≡ t → (a .0 < 128) × (isFixed u ≡ false → member p (a .0) ≡ false)
-    go true q = let w = next-free p last (a .0) (sym (chosen-picked p last u b q) ∙ e) in (w .0, λ f. w .1)
-    go false q = let k = own-is b a (sym (chosen-own p last u b q) ∙ e) in (omega arith, free k q)
 
 -- ---- that it was picked
 

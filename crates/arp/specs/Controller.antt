@@ -1,18 +1,16 @@
 -- What the controller does, as the scope says it.
-use Prim.Native.Nat.{ℕ, _+_, _/_}
-use mathlib.Core.Bool.{Bool, true, false}
+use Prim.Native.Nat.{ℕ, _+_}
+use mathlib.Core.Bool.{Bool}
 use mathlib.Core.List.{List}
-use lib.Dec.{ltb, leb, eqb}
+use lib.Dec.{ltb, leb}
 use Rattle.lists.specs.Choice.{pick}
 use Rattle.wire.specs.declared.address.Address.{Address}
-use Rattle.pool.specs.NextFree.{nextFree}
-use Rattle.pool.specs.Pools.{member}
 use Rattle.pool.specs.Start.{startingPool}
 use Rattle.pool.specs.declared.Pool.{Pool}
 use Rattle.pool.specs.declared.free.Free.{Free}
 use Rattle.pool.specs.declared.free.Free.the-variants.{At, AllUsed}
-use Rattle.udid.specs.Udids.{isFixed}
 use Rattle.udid.specs.declared.Udid.{Udid}
+use Rattle.picking.specs.Picking.{hasToPick, chosen}
 use Rattle.arp.specs.Bindings.{freed, bound}
 use Rattle.slots.specs.Slots.{noBindings}
 use Rattle.arp.specs.State.{stateOf, withPool, withSlots, withGets, withLast, withPicked}
@@ -49,18 +47,6 @@ counted s = withGets s (s .gets + 1)
 -- Get UDID; when it would be the 129th of the pass: 14
 unfoldable pub asked : Controller → Stepped
 asked s = pick (leb 128 (s .gets)) (handed s (Wait Abandoned)) (handed (counted s) (Send GetUdid))
-
--- the address in a reply's address byte: its upper seven bits
-abbrev pub ownAddress : ℕ → Address
-ownAddress b = record { 0 = b / 2 }
-
--- FFh: a free address is picked. Else fixed: its own. Else movable: its own if not in the pool, otherwise a free one is picked
-unfoldable pub hasToPick : Pool → Udid → ℕ → Bool
-hasToPick p u b = pick (eqb b 0xFF) true (pick (isFixed u) false (member p (b / 2)))
-
--- picked is the first free address after the last one picked
-unfoldable pub chosen : Pool → ℕ → Udid → ℕ → Free
-chosen p last u b = pick (hasToPick p u b) (nextFree p last) (At (ownAddress b))
 
 -- none free: 13 with the UDID that asked. Then Assign Address; if its address was picked it is the last pick from now on
 abbrev pub issued : Controller → Udid → Bool → Free → Stepped

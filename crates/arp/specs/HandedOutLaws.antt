@@ -1,7 +1,7 @@
 -- Each command that a step hands out is the one that the table of the events, the count of Get UDIDs and the command outstanding give. So the
 -- story of the events alone gives all three.
 use Prim.Native.Nat.{ℕ, _+_, _<_}
-use mathlib.Core.Path.{_≡_, refl, sym, ap, ap₂, _∙_}
+use mathlib.Core.Path.{_≡_, refl, ap, ap₂, _∙_}
 use mathlib.Core.Bool.{Bool, true, false}
 use mathlib.Core.List.{List, [], _∷_}
 use lib.Dec.{ltb, leb, eqb}
@@ -16,7 +16,8 @@ use Rattle.pool.specs.declared.free.Free.{Free}
 use Rattle.pool.specs.declared.free.Free.the-variants.{At, AllUsed}
 use Rattle.udid.specs.Bytes.{udidAt}
 use Rattle.udid.specs.declared.Udid.{Udid}
-use Rattle.arp.specs.Choosing.{choiceIn, issuedFor, issuing, declinedFor, declining}
+use Rattle.arp.specs.Choosing.{issuedFor, issuing, declinedFor, declining}
+use Rattle.commands.specs.Choices.{choiceIn}
 use Rattle.arp.specs.ChoosingLaws.{same-but-last}
 use Rattle.arp.specs.ChosenLaws.{chosen-is-given}
 use Rattle.arp.specs.Numbers.{unless21}
@@ -31,7 +32,8 @@ use Rattle.arp.specs.WithheldLaws.{half-withheld}
 use Rattle.arp.specs.Story.{Story, withheld, nextBy, issuedThen, declinedThen, onward, story}
 use Rattle.arp.specs.Sound.{SoundIn}
 use Rattle.arp.specs.Bindings.{freed, bound}
-use Rattle.arp.specs.Controller.{handed, counted, asked, hasToPick, chosen, issued, replied, stepped, changed}
+use Rattle.arp.specs.Controller.{handed, counted, asked, issued, replied, stepped, changed}
+use Rattle.picking.specs.Picking.{hasToPick, chosen}
 use Rattle.hearing.specs.Heard.{answer, sentIn, receivedIn, isPrepare, isGet, isAssign}
 use Rattle.commands.specs.Codes.{sendByte, blockRead, blockWrite}
 use Rattle.arp.specs.History.{By, Step, Choose, Event, Start, Received, Gone, Issue, Decline, heard, run, oneGet, getsSent}
@@ -40,8 +42,8 @@ use Rattle.commands.specs.declared.command.Command.the-variants.{Prepare, GetUd
 use Rattle.commands.specs.declared.command.End.the-variants.{Ended, Abandoned}
 use Rattle.commands.specs.declared.command.Handed.{Handed}
 use Rattle.commands.specs.declared.command.Handed.the-variants.{Send, Wait}
-use Rattle.arp.specs.declared.settle.Choice.{Choice}
-use Rattle.arp.specs.declared.settle.Choice.the-variants.{Of, Absent}
+use Rattle.commands.specs.declared.choice.Choice.{Choice}
+use Rattle.commands.specs.declared.choice.Choice.the-variants.{Of, Absent}
 use Rattle.arp.specs.declared.state.Controller.{Controller}
 use Rattle.hearing.specs.Told.{toldPrepare, toldReply, toldGet, toldAssign, tells}
 use Rattle.hearing.specs.declared.told.Told.the-variants.{Again, Over, GivenUp, Reply, Took}

@@ -24,12 +24,14 @@ use Rattle.arp.specs.Handing.{Kept}
 use Rattle.arp.specs.Sound.{Pending, PendingIn}
 use Rattle.arp.specs.Bindings.{freedAt, freed, boundAt, bound}
 use Rattle.slots.specs.Finding.{findFrom}
-use Rattle.arp.specs.Controller.{handed, counted, asked, hasToPick, chosen, issued, replied, changed, stepped}
-use Rattle.arp.specs.Choosing.{choiceIn, issuedFor, issuing, declinedFor, declining}
+use Rattle.arp.specs.Controller.{handed, counted, asked, issued, replied, changed, stepped}
+use Rattle.picking.specs.Picking.{hasToPick, chosen}
+use Rattle.arp.specs.Choosing.{issuedFor, issuing, declinedFor, declining}
+use Rattle.commands.specs.Choices.{choiceIn}
 use Rattle.arp.specs.ChoosingLaws.{same-but-last, counts-the-same}
 use Rattle.arp.specs.History.{Event, Start, Received, Gone, Issue, Decline, run, oneGet, getsSent}
-use Rattle.arp.specs.declared.settle.Choice.{Choice}
-use Rattle.arp.specs.declared.settle.Choice.the-variants.{Of, Absent}
+use Rattle.commands.specs.declared.choice.Choice.{Choice}
+use Rattle.commands.specs.declared.choice.Choice.the-variants.{Of, Absent}
 use Rattle.hearing.specs.Told.{tells, noCommand}
 use Rattle.commands.specs.declared.command.Command.the-variants.{GetUdid, Assign}
 use Rattle.commands.specs.declared.command.End.the-variants.{Ended, NoneFree, Abandoned, NotOutstanding}

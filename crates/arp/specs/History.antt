@@ -12,7 +12,7 @@ use Rattle.pool.specs.declared.Pool.{Pool}
 use Rattle.udid.specs.Udids.{isFixed}
 use Rattle.udid.specs.declared.Udid.{Udid}
 use Rattle.slots.specs.Slots.{Sized128, heldAt}
-use Rattle.arp.specs.Bindings.{isHeld}
+use Rattle.picking.specs.Claims.{isHeld}
 use Rattle.arp.specs.Choosing.{firstHalf, issuing, declining}
 use Rattle.arp.specs.Controller.{newController, started, stepped}
 use Rattle.arp.specs.Gone.{reported}

@@ -22,19 +22,22 @@ use Rattle.pool.specs.declared.free.Free.{Free}
 use Rattle.pool.specs.declared.free.Free.the-variants.{At, AllUsed}
 use Rattle.udid.specs.Udids.{Fits, isFixed}
 use Rattle.udid.specs.declared.Udid.{Udid}
-use Rattle.arp.specs.Choosing.{choiceIn, issuedFor, issuing, declinedFor, declining}
+use Rattle.arp.specs.Choosing.{issuedFor, issuing, declinedFor, declining}
+use Rattle.commands.specs.Choices.{choiceIn}
 use Rattle.arp.specs.ChoosingLaws.{Halved, heard-halved}
-use Rattle.arp.specs.ChosenLaws.{chosen-small-and-free}
+use Rattle.picking.specs.PickingLaws.{chosen-small-and-free}
 use Rattle.arp.specs.LastPickLaws.{last-pick-is, last-pick-above, last-pick-small}
 use Rattle.arp.specs.SoundLaws.{sound-open, sound-freed, sound-bound}
 use Rattle.slots.specs.SlotsLaws.{open-all}
 use Rattle.arp.specs.ChangedLaws.{by-told}
 use Rattle.hearing.specs.ToldLaws.{Known}
 use Rattle.arp.specs.Sound.{SoundIn, Good, Pending, PendingIn, GoodState}
-use Rattle.arp.specs.Bindings.{isHeld, freedAt, freed, boundAt, bound}
+use Rattle.arp.specs.Bindings.{freedAt, freed, boundAt, bound}
+use Rattle.picking.specs.Claims.{isHeld}
 use Rattle.slots.specs.Finding.{findFrom}
 use Rattle.slots.specs.Slots.{heldAt}
-use Rattle.arp.specs.Controller.{newController, handed, counted, asked, hasToPick, chosen, issued, replied, changed, stepped}
+use Rattle.arp.specs.Controller.{newController, handed, counted, asked, issued, replied, changed, stepped}
+use Rattle.picking.specs.Picking.{hasToPick, chosen}
 use Rattle.arp.specs.History.{By, Event, Start, Received, Gone, Issue, Decline, heard, run, Invariant, New}
 use Rattle.commands.specs.declared.command.Command.the-variants.{Prepare, GetUdid, Assign}
 use Rattle.commands.specs.declared.command.End.the-variants.{Nothing, Ended, NoneFree, Abandoned, NotOutstanding, Chosen}
@@ -44,8 +47,8 @@ use Rattle.slots.specs.declared.Binding.{Binding}
 use Rattle.slots.specs.declared.Binding.the-variants.{Bound, Claimed}
 use Rattle.arp.specs.declared.gone.Reported.{Reported}
 use Rattle.arp.specs.State.{withLast}
-use Rattle.arp.specs.declared.settle.Choice.{Choice}
-use Rattle.arp.specs.declared.settle.Choice.the-variants.{Of, Absent}
+use Rattle.commands.specs.declared.choice.Choice.{Choice}
+use Rattle.commands.specs.declared.choice.Choice.the-variants.{Of, Absent}
 use Rattle.arp.specs.declared.state.Controller.{Controller}
 use Rattle.arp.specs.declared.state.Stepped.{Stepped}
 use Rattle.hearing.specs.declared.told.Told.{Told}

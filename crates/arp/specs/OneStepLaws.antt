@@ -30,7 +30,7 @@ use Rattle.udid.specs.Bytes.{udidBytes, udidAt}
 use Rattle.udid.specs.UdidLaws.{same-refl, length-udid, udid-bytes, udid-back, fixed-first, movable-first}
 use Rattle.udid.specs.Udids.{Fits}
 use Rattle.udid.specs.declared.Udid.{Udid}
-use Rattle.arp.specs.ChosenLaws.{ff-picks, fixed-picks-none, movable-picks, chosen-picked, chosen-own}
+use Rattle.picking.specs.PickingLaws.{ff-picks, fixed-picks-none, movable-picks, chosen-picked, chosen-own}
 use Rattle.arp.specs.HandingLaws.{bound-keeps-gets, freed-keeps-gets}
 use Rattle.arp.specs.HeardLaws.{six-exactly}
 use Rattle.arp.specs.OutstandingLaws.{idle-gives-21}
@@ -41,9 +41,11 @@ use Rattle.slots.specs.SlotsLaws.{held-above-is-open, held-same, held-other}
 use Rattle.arp.specs.ChangedLaws.{told-is-changed}
 use Rattle.hearing.specs.TraceLaws as traces
 use Rattle.arp.specs.Sound.{Nowhere}
-use Rattle.arp.specs.Bindings.{isHeld, makesClaim, freedAt, freed, bindingFor, boundAt, bound}
+use Rattle.arp.specs.Bindings.{freedAt, freed, boundAt, bound}
+use Rattle.picking.specs.Claims.{isHeld, makesClaim, bindingFor}
 use Rattle.slots.specs.Finding.{boundTo, findFrom}
-use Rattle.arp.specs.Controller.{handed, counted, asked, hasToPick, chosen, issued, replied, changed, stepped}
+use Rattle.arp.specs.Controller.{handed, counted, asked, issued, replied, changed, stepped}
+use Rattle.picking.specs.Picking.{hasToPick, chosen}
 use Rattle.hearing.specs.Heard.{answer, sentIn, isAssign}
 use Rattle.commands.specs.Codes.{blockWrite}
 use Rattle.commands.specs.CommandTraces.{prepareTrace, replyTrace, assignTrace}

@@ -4,7 +4,7 @@ use Prim.Native.Nat.{ℕ}
 use mathlib.Core.Path.{_≡_, refl, sym, ap, _∙_, subst}
 use mathlib.Core.Bool.{Bool, true, false}
 use mathlib.Core.List.{List, [], _∷_}
-use mathlib.Core.Logic.{inl, inr, _↔_}
+use mathlib.Core.Logic.{_↔_}
 use native.Mathlib.Omega.{arith}
 use lib.Dec.{leb}
 use Rattle.lists.specs.AbsurdLaws.{zero-is-one}
@@ -21,17 +21,19 @@ use Rattle.slots.specs.SlotsLaws.{open-all}
 use Rattle.hearing.specs.ToldLaws.{Known, told-known}
 use Rattle.arp.specs.Handing.{Kept}
 use Rattle.arp.specs.Bindings.{freed, bound}
-use Rattle.arp.specs.Controller.{newController, handed, counted, asked, hasToPick, chosen, issued, replied, notOutstanding, changed, stepped}
-use Rattle.arp.specs.Choosing.{decidedOn, firstHalf, choiceIn, issuedFor, issuing, declinedFor, declining}
+use Rattle.arp.specs.Controller.{newController, handed, counted, asked, issued, replied, notOutstanding, changed, stepped}
+use Rattle.picking.specs.Picking.{hasToPick, chosen}
+use Rattle.arp.specs.Choosing.{decidedOn, firstHalf, issuedFor, issuing, declinedFor, declining}
+use Rattle.commands.specs.Choices.{choiceIn}
 use Rattle.arp.specs.ChoosingLaws.{refuses-the-same, keeps-the-same}
 use Rattle.arp.specs.History.{By, Step, Choose, Event, Start, Received, Gone, Issue, Decline, NoStart, heard, run}
-use Rattle.arp.specs.declared.settle.Choice.{Choice}
-use Rattle.arp.specs.declared.settle.Choice.the-variants.{Of, Absent}
+use Rattle.commands.specs.declared.choice.Choice.{Choice}
+use Rattle.commands.specs.declared.choice.Choice.the-variants.{Of, Absent}
 use Rattle.arp.specs.Numbers.{endNumber, commandNumber, is21End, is21, unless21}
 use Rattle.arp.specs.Replay.{isBound, handedOut}
 use Rattle.hearing.specs.Told.{tells, noCommand}
 use Rattle.commands.specs.declared.command.Command.{Command}
-use Rattle.commands.specs.declared.command.Command.the-variants.{Prepare, GetUdid, Assign}
+use Rattle.commands.specs.declared.command.Command.the-variants.{GetUdid}
 use Rattle.commands.specs.declared.command.End.{End}
 use Rattle.commands.specs.declared.command.End.the-variants.{Nothing, Ended, NoneFree, Abandoned, NotOutstanding, Chosen}
 use Rattle.commands.specs.declared.command.Handed.{Handed}

@@ -35,7 +35,8 @@ use Rattle.hearing.specs.declared.told.Told.the-variants.{Again, Over, GivenUp,
 use Rattle.slots.specs.Finding.{findFrom}
 use Rattle.arp.specs.Bindings.{freedAt, freed, boundAt, bound}
 use Rattle.arp.specs.ChosenLaws.{picked-by-wire}
-use Rattle.arp.specs.Controller.{handed, counted, asked, hasToPick, chosen, issued, replied, changed, stepped}
+use Rattle.arp.specs.Controller.{handed, counted, asked, issued, replied, changed, stepped}
+use Rattle.picking.specs.Picking.{hasToPick, chosen}
 use Rattle.arp.specs.ReadingLaws.{read-as-reply-is-get-udid}
 use Rattle.arp.specs.Replay.{Replied, Other, replyIn}
 use Rattle.arp.specs.RunPicks.{isPicked, pickedThen}

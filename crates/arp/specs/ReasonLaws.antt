@@ -1,14 +1,12 @@
 -- Each reason is given exactly in its case, and the address is chosen by its rule (specs/Reasons.antt).
-use Prim.Native.Nat.{ℕ, _/_, _≤_, _<_}
-use mathlib.Core.Path.{_≡_, refl, sym, ap, ap₂, _∙_, subst}
+use Prim.Native.Nat.{ℕ, _/_, _<_}
+use mathlib.Core.Path.{_≡_, refl, sym, ap, _∙_, subst}
 use mathlib.Core.Bool.{Bool, true, false}
 use mathlib.Core.List.{List, [], _∷_, _++_}
-use mathlib.Core.Logic.{_⊎_, inl, inr, _↔_}
+use mathlib.Core.Logic.{inl, inr, _↔_}
 use native.Mathlib.Decide.{ℕ-discrete}
-use native.Mathlib.Omega.{arith}
-use lib.ListN.{getD}
 use Rattle.lists.specs.AbsurdLaws.{zero-is-one}
-use Rattle.lists.specs.Choice.{pick, or}
+use Rattle.lists.specs.Choice.{or}
 use Rattle.lists.specs.ChoiceLaws.{or-last}
 use Rattle.wire.specs.declared.address.Address.{Address}
 use Rattle.pool.specs.NextFreeLaws.{next-is}
@@ -33,10 +31,12 @@ use Rattle.commands.specs.declared.command.Reason.the-variants.{Fixed, Kept, Pi
 use Rattle.hearing.specs.Told.{tells}
 use Rattle.pool.specs.declared.free.Free.{Free}
 use Rattle.pool.specs.declared.free.Free.the-variants.{AllUsed}
-use Rattle.arp.specs.Bindings.{isHeld, makesClaim, freed}
-use Rattle.arp.specs.Choosing.{reasonOf, reasonFor, waitingWith, decided, decidedOn, firstHalf}
-use Rattle.arp.specs.ChosenLaws.{ff-picks, fixed-picks-none, movable-picks, picks-is-taken, chosen-picked, chosen-own}
-use Rattle.arp.specs.Controller.{hasToPick, chosen}
+use Rattle.arp.specs.Bindings.{freed}
+use Rattle.picking.specs.Claims.{isHeld, makesClaim}
+use Rattle.arp.specs.Choosing.{reasonFor, waitingWith, decided, decidedOn, firstHalf}
+use Rattle.picking.specs.Picking.{reasonOf}
+use Rattle.picking.specs.PickingLaws.{ff-picks, fixed-picks-none, movable-picks, picks-is-taken, chosen-picked, chosen-own}
+use Rattle.picking.specs.Picking.{hasToPick, chosen}
 use Rattle.arp.specs.OneStepLaws.{told-reply}
 use Rattle.arp.specs.PickedLaws.{freed-keeps-picked}
 use Rattle.arp.specs.Reasons.{MustPick, Contested, Reasons}

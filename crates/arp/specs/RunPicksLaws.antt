@@ -22,8 +22,10 @@ use Rattle.hearing.specs.Told.{tells}
 use Rattle.hearing.specs.declared.told.Told.{Told}
 use Rattle.hearing.specs.declared.told.Told.the-variants.{Again, Over, GivenUp, Reply, Took, Unasked}
 use Rattle.arp.specs.Bindings.{freed, bound}
-use Rattle.arp.specs.ChosenLaws.{chosen-picked, picked-by-wire}
-use Rattle.arp.specs.Controller.{lastPick, handed, counted, asked, hasToPick, chosen, issued, replied, changed, stepped}
+use Rattle.arp.specs.ChosenLaws.{picked-by-wire}
+use Rattle.picking.specs.PickingLaws.{chosen-picked}
+use Rattle.arp.specs.Controller.{lastPick, handed, counted, asked, issued, replied, changed, stepped}
+use Rattle.picking.specs.Picking.{hasToPick, chosen}
 use Rattle.arp.specs.Choosing.{sending}
 use Rattle.arp.specs.ChoosingLaws.{same-but-last, sends-the-same}
 use Rattle.arp.specs.HandingLaws.{issue-rest, decline-rest}

@@ -1,6 +1,6 @@
 -- A choice that waits is issued or declined; 21, and nothing changes, exactly if none waits. And the first half by what the single step does.
 use Prim.Native.Nat.{ℕ}
-use mathlib.Core.Path.{_≡_, refl, sym, ap, _∙_, subst}
+use mathlib.Core.Path.{_≡_, refl, sym, ap, _∙_}
 use mathlib.Core.Bool.{Bool, true, false}
 use mathlib.Core.List.{List, [], _∷_}
 use mathlib.Core.Logic.{inl, inr, _↔_}
@@ -20,16 +20,17 @@ use Rattle.commands.specs.declared.command.Handed.{Handed}
 use Rattle.commands.specs.declared.command.Handed.the-variants.{Send, Wait}
 use Rattle.commands.specs.declared.command.Reason.{Reason}
 use Rattle.arp.specs.Bindings.{freed, bound}
-use Rattle.arp.specs.Choosing.{waitingWith, decided, decidedOn, firstHalf, choiceIn, issuedFor, issuing, declinedFor, declining, carriedFor, stepsOver, halvesOver}
+use Rattle.arp.specs.Choosing.{waitingWith, decided, decidedOn, firstHalf, issuedFor, issuing, declinedFor, declining, carriedFor, stepsOver, halvesOver}
+use Rattle.commands.specs.Choices.{choiceIn}
 use Rattle.arp.specs.ChoosingLaws.{Halved, heard-halved, halves-are-the-step}
-use Rattle.arp.specs.Controller.{handed, counted, asked, hasToPick, chosen, notOutstanding, stepped}
+use Rattle.arp.specs.Controller.{handed, counted, asked, notOutstanding, stepped}
+use Rattle.picking.specs.Picking.{hasToPick, chosen}
 use Rattle.arp.specs.History.{Step, Choose}
 use Rattle.arp.specs.Numbers.{commandNumber, is21}
 use Rattle.arp.specs.OutstandingLaws.{is-21-by-number, idle-half}
 use Rattle.arp.specs.State.{withLast}
 use Rattle.arp.specs.Waits.{Waits}
-use Rattle.arp.specs.declared.settle.Choice.{Choice}
-use Rattle.arp.specs.declared.settle.Choice.the-variants.{Of, Absent}
+use Rattle.commands.specs.declared.choice.Choice.the-variants.{Of, Absent}
 use Rattle.arp.specs.declared.state.Controller.{Controller}
 use Rattle.arp.specs.declared.state.Stepped.{Stepped}
 

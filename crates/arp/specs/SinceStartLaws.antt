@@ -24,7 +24,7 @@ use Rattle.slots.specs.declared.Binding.the-variants.{Open, Bound, Claimed, Lef
 use Rattle.commands.specs.declared.command.Command.the-variants.{Assign}
 use Rattle.commands.specs.declared.command.Handed.the-variants.{Send}
 use Rattle.arp.specs.BindingLaws.{unheld-is-open-or-left}
-use Rattle.arp.specs.Bindings.{isHeld, makesClaim}
+use Rattle.picking.specs.Claims.{isHeld, makesClaim}
 use Rattle.arp.specs.GoneLaws.{which-bound, bound-small, left-small, answered-0}
 use Rattle.arp.specs.History.{By, Event, Start, Received, Gone, Issue, Decline, NoStart, run}
 use Rattle.arp.specs.HistoryLaws.{reached-good, reached-invariant}

@@ -17,7 +17,7 @@ use Rattle.commands.specs.declared.command.End.the-variants.{Nothing, Ended, No
 use Rattle.commands.specs.declared.command.Handed.{Handed}
 use Rattle.commands.specs.declared.command.Handed.the-variants.{Send, Wait}
 use Rattle.slots.specs.declared.Binding.the-variants.{Bound}
-use Rattle.arp.specs.Bindings.{isHeld}
+use Rattle.picking.specs.Claims.{isHeld}
 use Rattle.arp.specs.declared.state.Controller.{Controller}
 use Rattle.slots.specs.declared.Slots.{Slots}
 

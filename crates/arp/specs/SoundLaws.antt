@@ -20,7 +20,8 @@ use Rattle.udid.specs.UdidLaws.{same-equal, same-refl}
 use Rattle.udid.specs.declared.Udid.{Udid}
 use Rattle.arp.specs.Sound.{Sound, SoundIn, Unbound, Nowhere}
 use Rattle.arp.specs.BindingLaws.{bound-in-is}
-use Rattle.arp.specs.Bindings.{isHeld, makesClaim, freedAt, freed, bindingFor, bound}
+use Rattle.arp.specs.Bindings.{freedAt, freed, bound}
+use Rattle.picking.specs.Claims.{isHeld, makesClaim, bindingFor}
 use Rattle.slots.specs.Finding.{boundIn, isOnly, boundTo, findFrom}
 use Rattle.slots.specs.Slots.{heldAt, withBinding, noBindings}
 use Rattle.slots.specs.SlotsLaws.{held-above-is-open, held-same, held-other, held-cases, open-all, sized-none, sized-with}

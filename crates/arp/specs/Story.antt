@@ -14,7 +14,8 @@ use Rattle.udid.specs.Bytes.{udidBytes}
 use Rattle.udid.specs.Udids.{Fits, isFixed}
 use Rattle.udid.specs.declared.Udid.{Udid}
 use Rattle.slots.specs.Slots.{heldAt}
-use Rattle.arp.specs.Choosing.{reasonOf, choiceIn}
+use Rattle.picking.specs.Picking.{reasonOf}
+use Rattle.commands.specs.Choices.{choiceIn}
 use Rattle.arp.specs.Controller.{lastPick}
 use Rattle.arp.specs.History.{By, Step, Choose, Event, Start, Received, Gone, Issue, Decline, heard, run, oneGet}
 use Rattle.arp.specs.Lookup.{lookedUp}
@@ -27,8 +28,8 @@ use Rattle.commands.specs.declared.command.Command.the-variants.{Prepare, GetUd
 use Rattle.commands.specs.declared.command.End.the-variants.{Nothing, Abandoned, Chosen}
 use Rattle.commands.specs.declared.command.Handed.{Handed}
 use Rattle.commands.specs.declared.command.Handed.the-variants.{Send, Wait}
-use Rattle.arp.specs.declared.settle.Choice.{Choice}
-use Rattle.arp.specs.declared.settle.Choice.the-variants.{Of, Absent}
+use Rattle.commands.specs.declared.choice.Choice.{Choice}
+use Rattle.commands.specs.declared.choice.Choice.the-variants.{Of, Absent}
 
 -- the table, how many Get UDIDs were handed out in this pass, what was handed out last (a choice that waits among it), and the last pick
 pub record Story : Type 0 where

@@ -31,7 +31,7 @@ use Rattle.arp.specs.Controller.{started, stepped}
 use Rattle.arp.specs.History.{By, Event, Received, heard, run}
 use Rattle.arp.specs.Lookup.{lookedUp}
 use Rattle.arp.specs.Numbers.{commandNumber, lookupNumber}
-use Rattle.arp.specs.Replay.{Replied, Assigned, readAs, handedOut, numberOf, again, nextCommand}
+use Rattle.arp.specs.Replay.{Replied, Assigned, readAs, handedOut, numberOf, again}
 use Rattle.hearing.specs.Told.{noCommand}
 use Rattle.commands.specs.declared.command.Command.the-variants.{Prepare, GetUdid, Assign}
 use Rattle.commands.specs.declared.command.End.the-variants.{NoneFree, Abandoned}

@@ -34,10 +34,12 @@ use Rattle.arp.specs.ReadingLaws.{is-assign-below-128}
 use Rattle.arp.specs.SoundLaws.{bound-to-is-bound, find-cases}
 use Rattle.slots.specs.SlotsLaws.{held-above-is-open, held-same, held-other, open-all}
 use Rattle.arp.specs.Sound.{SoundIn, Nowhere, PendingIn}
-use Rattle.arp.specs.Bindings.{makesClaim, vacated, freedAt, freed, bindingFor, boundAt, bound}
+use Rattle.arp.specs.Bindings.{vacated, freedAt, freed, boundAt, bound}
+use Rattle.picking.specs.Claims.{makesClaim, bindingFor}
 use Rattle.slots.specs.Finding.{boundTo, findFrom}
 use Rattle.slots.specs.Slots.{Sized128, heldAt, withBinding}
-use Rattle.arp.specs.Controller.{newController, started, handed, counted, asked, hasToPick, chosen, issued, replied, stepped, changed}
+use Rattle.arp.specs.Controller.{newController, started, handed, counted, asked, issued, replied, stepped, changed}
+use Rattle.picking.specs.Picking.{hasToPick, chosen}
 use Rattle.hearing.specs.Heard.{answer, sentIn, receivedIn, isPrepare, isGet, isAssign}
 use Rattle.commands.specs.Codes.{sendByte, blockRead, blockWrite}
 use Rattle.arp.specs.Choosing.{issuing, declining}
@@ -46,7 +48,7 @@ use Rattle.arp.specs.HandingLaws.{Settles, issue-rest, decline-rest}
 use Rattle.arp.specs.History.{Step, Event, Start, Received, Gone, Issue, Decline, run}
 use Rattle.arp.specs.Lookup.{lookedUp}
 use Rattle.arp.specs.Numbers.{lookupNumber}
-use Rattle.arp.specs.Replay.{Happened, Replied, Assigned, Pulled, Other, Table, holds, isBound, emptied, after, replyIn, assignIn, readAs, handedOut, happened, table, numberOf, view}
+use Rattle.arp.specs.Replay.{Replied, Assigned, Pulled, Other, Table, holds, isBound, emptied, after, replyIn, assignIn, readAs, handedOut, happened, table, numberOf, view}
 use Rattle.commands.specs.declared.command.Command.the-variants.{Prepare, GetUdid, Assign}
 use Rattle.commands.specs.declared.command.End.the-variants.{Abandoned}
 use Rattle.commands.specs.declared.command.Handed.{Handed}

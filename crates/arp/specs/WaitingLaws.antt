@@ -9,7 +9,7 @@ use lib.ListN.{getD}
 use Rattle.lists.specs.AbsurdLaws.{zero-is-one}
 use Rattle.wire.specs.declared.address.Address.{Address}
 use Rattle.pool.specs.Pools.{member}
-use Rattle.pool.specs.Start.{startingPool, barredPool}
+use Rattle.pool.specs.Start.{barredPool}
 use Rattle.pool.specs.StartLaws.{barred-starting}
 use Rattle.pool.specs.declared.Pool.{Pool}
 use Rattle.udid.specs.Bytes.{udidBytes}
@@ -23,7 +23,6 @@ use Rattle.slots.specs.declared.Binding.the-variants.{Open, Bound, Claimed, Lef
 use Rattle.commands.specs.CommandTraces.{replyTrace, assignTrace}
 use Rattle.commands.specs.declared.command.Command.the-variants.{GetUdid, Assign}
 use Rattle.commands.specs.declared.command.End.the-variants.{Chosen}
-use Rattle.commands.specs.declared.command.Handed.{Handed}
 use Rattle.commands.specs.declared.command.Handed.the-variants.{Send, Wait}
 use Rattle.commands.specs.declared.command.Reason.{Reason}
 use Rattle.commands.specs.declared.command.Reason.the-variants as reason
@@ -38,10 +37,9 @@ use Rattle.arp.specs.Numbers.{lookupNumber}
 use Rattle.arp.specs.OneStep.{Binds}
 use Rattle.arp.specs.OneStepLaws.{assign-whole}
 use Rattle.arp.specs.ReasonLaws.{reasons-given}
-use Rattle.arp.specs.Reasons.{MustPick, Contested, Reasons}
+use Rattle.arp.specs.Reasons.{Contested, Reasons}
 use Rattle.arp.specs.SettleLaws.{waits-in-its-state}
 use Rattle.arp.specs.Sound.{Pending, PendingIn}
-use Rattle.arp.specs.State.{withLast}
 use Rattle.arp.specs.declared.state.Controller.{Controller}
 
 module _ (occupied : Pool) (last : ℕ) (es : List Event) (u : Udid) (a : Address) (x : Reason) (e : run occupied last es .last ≡ Wait (Chosen u a x)) where

@@ -24,10 +24,13 @@ use Rattle.commands.specs.declared.command.Handed.the-variants.{Send, Wait}
 use Rattle.hearing.specs.Told.{tells}
 use Rattle.hearing.specs.declared.told.Told.{Told}
 use Rattle.hearing.specs.declared.told.Told.the-variants.{Again, Over, GivenUp, Reply, Took, Unasked}
-use Rattle.arp.specs.Bindings.{isHeld, freedAt, freed, bound}
-use Rattle.arp.specs.Choosing.{reasonOf, waitingWith, decided, decidedOn, firstHalf}
+use Rattle.arp.specs.Bindings.{freedAt, freed, bound}
+use Rattle.picking.specs.Claims.{isHeld}
+use Rattle.arp.specs.Choosing.{waitingWith, decided, decidedOn, firstHalf}
+use Rattle.picking.specs.Picking.{reasonOf}
 use Rattle.arp.specs.ChosenLaws.{picked-by-wire}
-use Rattle.arp.specs.Controller.{handed, counted, asked, hasToPick, chosen, issued, replied, changed, stepped}
+use Rattle.arp.specs.Controller.{handed, counted, asked, issued, replied, changed, stepped}
+use Rattle.picking.specs.Picking.{hasToPick, chosen}
 use Rattle.arp.specs.PickedLaws.{told-byte}
 use Rattle.arp.specs.Replay.{Table, view, isBoundOrClaimed}
 use Rattle.arp.specs.RunPicks.{isPicked}

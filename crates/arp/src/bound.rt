@@ -1,46 +1,13 @@
-// The state with a target unbound, and with it bound. Rests on crates slots and pool.
+// The state with a target unbound, and with it bound. Rests on crates picking, slots and pool.
 ghost use mathlib.Core.Path.{_≡_};
-ghost use Rattle.arp.specs.Bindings.{isHeld, makesClaim, vacated, freed, bindingFor, bound};
+ghost use Rattle.arp.specs.Bindings.{vacated, freed, bound};
 use super::state::Controller;
+use picking::claim::binding_for;
+use picking::claim::makes_claim;
 use pool::Pool;
 use slots::Binding;
 use udid::Udid;
 use wire::address::Address;
-
-// A target is bound there, or two claim it.
-fn is_held(held: Binding) -> bool
-    ensures { λ r. ⌜ r ≡ isHeld held ⌝ }
-{
-    match held {
-        Binding::Open => false,
-        Binding::Bound(_) => true,
-        Binding::Claimed => true,
-        Binding::Left => false,
-    }
-}
-
-// Whether an Assign that completes makes a claim of the address, which is known for this: it is barred, or a target is bound there, or
-// two claim it already.
-pub(crate) fn makes_claim(occupied: Pool, held: Binding, a: Address) -> bool
-    ensures { λ r. ⌜ r ≡ makesClaim occupied held (a .0) ⌝ }
-{
-    let barred = Pool::barred(occupied);
-    if barred.has(a) {
-        return true;
-    }
-    is_held(held)
-}
-
-// What an address is known for after an Assign that completed: it is claimed by two where it was taken.
-fn binding_for(taken: bool, u: Udid) -> Binding
-    ensures { λ r. ⌜ r ≡ bindingFor taken u ⌝ }
-{
-    if taken {
-        Binding::Claimed
-    } else {
-        Binding::Bound(u)
-    }
-}
 
 impl Controller {
     // The state where nobody is bound to the address any more, and it is known for this. It is out of the pool then, unless the starting

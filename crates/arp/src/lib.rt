@@ -1,6 +1,5 @@
 // The ARP controller: which command comes next for each trace received, and which addresses are bound. Rests on hearing, slots and pool.
 pub mod bound;
-pub mod choose;
 pub mod gone;
 pub mod issue;
 pub mod lookup;
@@ -8,4 +7,4 @@ pub mod next;
 pub mod settle;
 pub mod start;
 pub mod state;
-pub mod step;
+pub mod whole;

@@ -1,18 +1,18 @@
-// The first half of a step: what a received trace tells, what that changes, and which address is chosen. Rests on told, bound, choose and
-// issue.
+// The first half of a step: what a received trace tells, what that changes, and which address is chosen. Rests on told, bound and
+// issue, and on crate picking.
 ghost use mathlib.Core.Path.{_≡_};
 ghost use Rattle.arp.specs.Choosing.{waitingWith, decided, decidedOn, firstHalf};
-use super::bound::makes_claim;
-use super::choose::choose;
-use super::choose::has_to_pick;
-use super::choose::pick_after;
-use super::choose::reason_for;
 use super::state::Controller;
 use super::state::Stepped;
 use commands::command::End;
 use commands::command::Handed;
 use hearing::told::Told;
 use hearing::told::tell;
+use picking::choose::choose;
+use picking::choose::has_to_pick;
+use picking::choose::pick_after;
+use picking::choose::reason_for;
+use picking::claim::makes_claim;
 use pool::free::Free;
 use udid::Udid;
 use wire::address::Address;

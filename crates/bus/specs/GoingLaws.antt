@@ -30,9 +30,10 @@ use Rattle.targets.specs.Members.{Least}
 use Rattle.targets.specs.declared.admit.Checked.the-variants.{Admitted}
 use Rattle.targets.specs.declared.winner.Winner.{Winner}
 use Rattle.targets.specs.declared.winner.Winner.the-variants as winner
-use Rattle.arp.specs.ChosenLaws.{chosen-small-and-free}
+use Rattle.picking.specs.PickingLaws.{chosen-small-and-free}
 use Rattle.arp.specs.Bindings.{bound, freed}
-use Rattle.arp.specs.Controller.{handed, counted, asked, issued, hasToPick, chosen, replied, stepped, started, newController, changed}
+use Rattle.arp.specs.Controller.{handed, counted, asked, issued, replied, stepped, started, newController, changed}
+use Rattle.picking.specs.Picking.{hasToPick, chosen}
 use Rattle.hearing.specs.Heard.{answer, sentIn, isAssign}
 use Rattle.commands.specs.Codes.{blockWrite}
 use Rattle.commands.specs.Requests.{traceOf}

@@ -1,3 +1,4 @@
+pub mod Choices
 pub mod Codes
 pub mod Requests
 pub mod CommandTraces

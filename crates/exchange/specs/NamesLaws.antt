@@ -16,7 +16,8 @@ use Rattle.hearing.specs.declared.told.Told.{Told}
 use Rattle.hearing.specs.declared.told.Told.the-variants.{Again, Over, GivenUp, Reply, Took, Unasked}
 use Rattle.arp.specs.Bindings.{freed, bound}
 use Rattle.arp.specs.ChangedLaws.{by-told}
-use Rattle.arp.specs.Controller.{handed, asked, counted, hasToPick, chosen, issued, replied, changed, stepped}
+use Rattle.arp.specs.Controller.{handed, asked, counted, issued, replied, changed, stepped}
+use Rattle.picking.specs.Picking.{hasToPick, chosen}
 use Rattle.arp.specs.declared.state.Controller.{Controller}
 use Rattle.rule.specs.Acted.{Names}
 

@@ -68,7 +68,7 @@ use Rattle.slots.specs.Slots.{Sized128}
 use Rattle.arp.specs.Sound.{PendingIn}
 use Rattle.slots.specs.SlotsLaws.{open-all}
 use Rattle.arp.specs.Controller.{stepped}
-use Rattle.arp.specs.Bindings.{isHeld}
+use Rattle.picking.specs.Claims.{isHeld}
 use Rattle.arp.specs.History.{Event, run}
 use Rattle.commands.specs.declared.command.Command.the-variants.{Prepare, GetUdid, Assign}
 use Rattle.commands.specs.declared.command.Handed.{Handed}

@@ -29,7 +29,7 @@ use Rattle.targets.specs.RecordLaws.{length-map}
 use Rattle.targets.specs.Admission.{FixedApart, FixedFree, AdmittedTargets}
 use Rattle.slots.specs.SlotsLaws.{open-all, sized-none}
 use Rattle.slots.specs.Finding.{boundTo}
-use Rattle.arp.specs.Bindings.{makesClaim}
+use Rattle.picking.specs.Claims.{makesClaim}
 use Rattle.arp.specs.Controller.{lastPick, stepped}
 use Rattle.slots.specs.Slots.{withBinding, noBindings}
 use Rattle.commands.specs.declared.command.Command.the-variants.{Prepare}

@@ -26,7 +26,7 @@ use Rattle.udid.specs.UdidLaws.{fixed-is}
 use Rattle.udid.specs.Udids.{topBits, isFixed, value}
 use Rattle.arbitration.specs.Among.{Among}
 use Rattle.targets.specs.Target.{Target, Sized}
-use Rattle.arp.specs.Controller.{hasToPick, chosen}
+use Rattle.picking.specs.Picking.{hasToPick, chosen}
 use Rattle.rule.specs.PlainRule.{held, isPickedFor, plainChoice, pickAfter, served, Given, next, rule, FreeIn, MovableFreeIn, Distinct}
 use Rattle.rule.specs.Ready.{Ready}
 

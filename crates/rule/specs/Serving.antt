@@ -13,7 +13,7 @@ use Rattle.udid.specs.declared.Udid.{Udid}
 use Rattle.arbitration.specs.Among.{Among}
 use Rattle.targets.specs.Members.{Waits}
 use Rattle.targets.specs.Target.{Target, resolve}
-use Rattle.arp.specs.Bindings.{makesClaim}
+use Rattle.picking.specs.Claims.{makesClaim}
 use Rattle.slots.specs.Finding.{boundTo}
 use Rattle.slots.specs.Slots.{Sized128, heldAt, withBinding}
 use Rattle.commands.specs.declared.command.Command.the-variants.{GetUdid}

@@ -24,7 +24,7 @@ use Rattle.targets.specs.MembersLaws.{waits-next}
 use Rattle.targets.specs.Members.{Least}
 use Rattle.targets.specs.RecordLaws.{length-map, assigned-keeps-udid}
 use Rattle.slots.specs.Finding.{boundTo}
-use Rattle.arp.specs.Bindings.{makesClaim}
+use Rattle.picking.specs.Claims.{makesClaim}
 use Rattle.arp.specs.Controller.{issued, stepped}
 use Rattle.slots.specs.Slots.{Sized128, heldAt, withBinding}
 use Rattle.slots.specs.SlotsLaws.{held-same, held-other, sized-with}

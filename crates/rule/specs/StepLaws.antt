@@ -20,9 +20,11 @@ use Rattle.udid.specs.declared.Udid.{Udid}
 use Rattle.targets.specs.Target.{Target, Sized}
 use Rattle.targets.specs.Reply.{replyData}
 use Rattle.targets.specs.ReplyLaws.{length-reply-data, bytes-reply-data}
-use Rattle.arp.specs.Bindings.{freed, makesClaim, bindingFor, bound}
+use Rattle.arp.specs.Bindings.{freed, bound}
+use Rattle.picking.specs.Claims.{makesClaim, bindingFor}
 use Rattle.slots.specs.Finding.{findFrom}
-use Rattle.arp.specs.Controller.{handed, asked, hasToPick, chosen, issued, replied, stepped}
+use Rattle.arp.specs.Controller.{handed, asked, issued, replied, stepped}
+use Rattle.picking.specs.Picking.{hasToPick, chosen}
 use Rattle.commands.specs.Codes.{sendByte, blockRead}
 use Rattle.commands.specs.RequestLaws.{valid-prepare, valid-get}
 use Rattle.commands.specs.Requests.{messageOf, traceOf}

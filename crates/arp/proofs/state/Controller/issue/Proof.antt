@@ -5,7 +5,7 @@ use Rattle.arp.proofs.state.Controller.issue.Statement.{statement}
 use Rattle.arp.proofs.state.Controller.issue.Tie as tie
 use Rattle.arp.proofs.state.Controller.issue.Reads as reads
 use Rattle.arp.proofs.state.Controller.issue.Lts as lts
-use Rattle.arp.proofs.settle.choice_in.Reads as choice-in-reads
+use Rattle.commands.proofs.choice.choice_in.Reads as choice-in-reads
 use Rattle.arp.proofs.state.Controller.hand.Reads as hand-reads
 use Rattle.arp.proofs.state.Controller.refuse.Reads as refuse-reads
 

@@ -4,8 +4,8 @@ use Rattle.arp.proofs.state.Controller.on_reply.Statement.{statement}
 use Rattle.arp.proofs.state.Controller.on_reply.Tie as tie
 use Rattle.arp.proofs.state.Controller.on_reply.Reads as reads
 use Rattle.arp.proofs.state.Controller.on_reply.Lts as lts
-use Rattle.arp.proofs.choose.choose.Reads as choose-reads
-use Rattle.arp.proofs.choose.has_to_pick.Reads as has-to-pick-reads
+use Rattle.picking.proofs.choose.choose.Reads as choose-reads
+use Rattle.picking.proofs.choose.has_to_pick.Reads as has-to-pick-reads
 use Rattle.arp.proofs.state.Controller.free.Reads as free-reads
 use Rattle.arp.proofs.state.Controller.hand.Reads as hand-reads
 use Rattle.arp.proofs.state.Controller.wait_with.Reads as wait-with-reads

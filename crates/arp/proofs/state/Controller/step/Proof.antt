@@ -4,7 +4,7 @@ use Rattle.arp.proofs.state.Controller.step.Statement.{statement}
 use Rattle.arp.proofs.state.Controller.step.Tie as tie
 use Rattle.arp.proofs.state.Controller.step.Reads as reads
 use Rattle.arp.proofs.state.Controller.step.Lts as lts
-use Rattle.arp.proofs.settle.choice_in.Reads as choice-in-reads
+use Rattle.commands.proofs.choice.choice_in.Reads as choice-in-reads
 use Rattle.arp.proofs.state.Controller.choose.Reads as choose-reads
 use Rattle.arp.proofs.state.Controller.issue.Reads as issue-reads
 

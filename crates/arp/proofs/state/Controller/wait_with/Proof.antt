@@ -4,9 +4,9 @@ use Rattle.arp.proofs.state.Controller.wait_with.Statement.{statement}
 use Rattle.arp.proofs.state.Controller.wait_with.Tie as tie
 use Rattle.arp.proofs.state.Controller.wait_with.Reads as reads
 use Rattle.arp.proofs.state.Controller.wait_with.Lts as lts
-use Rattle.arp.proofs.bound.makes_claim.Reads as makes-claim-reads
-use Rattle.arp.proofs.choose.pick_after.Reads as pick-after-reads
-use Rattle.arp.proofs.choose.reason_for.Reads as reason-for-reads
+use Rattle.picking.proofs.claim.makes_claim.Reads as makes-claim-reads
+use Rattle.picking.proofs.choose.pick_after.Reads as pick-after-reads
+use Rattle.picking.proofs.choose.reason_for.Reads as reason-for-reads
 use Rattle.arp.proofs.state.Controller.hand.Reads as hand-reads
 use Rattle.slots.proofs.Slots.held_at.Reads as held-at-reads
 use Rattle.udid.proofs.Udid.is_fixed.Reads as is-fixed-reads

@@ -1,13 +1,13 @@
 use Prim.Native.Nat.{ℕ}
 use mathlib.Core.Path.{sym, ap, _∙_}
 use Rattle.pool.specs.declared.free.Free.the-variants.{At}
-use Rattle.arp.specs.ChosenLaws.{chosen-picked, chosen-own}
+use Rattle.picking.specs.PickingLaws.{chosen-picked, chosen-own}
 use borrow.Author.Needs.{needs}
-use Rattle.arp.proofs.choose.choose.Statement.{statement}
-use Rattle.arp.proofs.choose.choose.Tie as tie
-use Rattle.arp.proofs.choose.choose.Reads as reads
-use Rattle.arp.proofs.choose.choose.Lts as lts
-use Rattle.arp.proofs.choose.has_to_pick.Reads as has-to-pick-reads
+use Rattle.picking.proofs.choose.choose.Statement.{statement}
+use Rattle.picking.proofs.choose.choose.Tie as tie
+use Rattle.picking.proofs.choose.choose.Reads as reads
+use Rattle.picking.proofs.choose.choose.Lts as lts
+use Rattle.picking.proofs.choose.has_to_pick.Reads as has-to-pick-reads
 use Rattle.pool.proofs.Pool.next_free.Reads as next-free-reads
 use Rattle.wire.proofs.address.Address.from_wire.Reads as from-wire-reads
 

@@ -1,8 +1,7 @@
-// Which address a target gets. Rests on crates pool and udid.
+// Which address a target gets, and why. Rests on crates pool and udid.
 ghost use mathlib.Core.Path.{_≡_};
 ghost use Rattle.lists.specs.Choice.{pick};
-ghost use Rattle.arp.specs.Choosing.{reasonOf};
-ghost use Rattle.arp.specs.Controller.{hasToPick, chosen};
+ghost use Rattle.picking.specs.Picking.{reasonOf, hasToPick, chosen};
 use commands::command::Reason;
 use pool::Pool;
 use pool::free::Free;
@@ -35,14 +34,14 @@ pub fn choose(pool: Pool, last: u8, u: Udid, b: u8) -> Free
 }
 
 // The last pick after the address a was chosen: a itself if it was picked, else what it was.
-pub(crate) fn pick_after(picks: bool, a: Address, last: u8) -> u8
+pub fn pick_after(picks: bool, a: Address, last: u8) -> u8
     ensures { λ r. ⌜ r ≡ pick picks (a .0) last ⌝ }
 {
     if picks { a.0 } else { last }
 }
 
 // Why an address is chosen: it is claimed by two if it is taken, whatever else; then picked; then a fixed target's own, or a movable one's.
-pub(crate) fn reason_for(taken: bool, picks: bool, fixed: bool) -> Reason
+pub fn reason_for(taken: bool, picks: bool, fixed: bool) -> Reason
     ensures { λ r. ⌜ r ≡ reasonOf taken picks fixed ⌝ }
 {
     if taken {

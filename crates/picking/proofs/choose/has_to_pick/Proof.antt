@@ -1,12 +1,12 @@
 use mathlib.Core.Path.{sym, ap, _∙_}
 use Rattle.pool.specs.Pools.{member}
-use Rattle.arp.specs.ChosenLaws.{ff-picks, fixed-picks-none, movable-picks}
-use Rattle.arp.specs.Controller.{hasToPick}
+use Rattle.picking.specs.PickingLaws.{ff-picks, fixed-picks-none, movable-picks}
+use Rattle.picking.specs.Picking.{hasToPick}
 use borrow.Author.Needs.{needs}
-use Rattle.arp.proofs.choose.has_to_pick.Statement.{statement}
-use Rattle.arp.proofs.choose.has_to_pick.Tie as tie
-use Rattle.arp.proofs.choose.has_to_pick.Reads as reads
-use Rattle.arp.proofs.choose.has_to_pick.Lts as lts
+use Rattle.picking.proofs.choose.has_to_pick.Statement.{statement}
+use Rattle.picking.proofs.choose.has_to_pick.Tie as tie
+use Rattle.picking.proofs.choose.has_to_pick.Reads as reads
+use Rattle.picking.proofs.choose.has_to_pick.Lts as lts
 use Rattle.pool.proofs.Pool.has.Reads as has-reads
 use Rattle.udid.proofs.Udid.is_fixed.Reads as is-fixed-reads
 use Rattle.wire.proofs.address.Address.from_wire.Reads as from-wire-reads

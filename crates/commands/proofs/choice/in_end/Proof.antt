@@ -1,10 +1,10 @@
 use mathlib.Core.Path.{sym, ap}
-use Rattle.arp.specs.Choosing.{inEnd}
+use Rattle.commands.specs.Choices.{inEnd}
 use borrow.Author.Needs.{needs}
-use Rattle.arp.proofs.settle.in_end.Statement.{statement}
-use Rattle.arp.proofs.settle.in_end.Tie as tie
-use Rattle.arp.proofs.settle.in_end.Reads as reads
-use Rattle.arp.proofs.settle.in_end.Lts as lts
+use Rattle.commands.proofs.choice.in_end.Statement.{statement}
+use Rattle.commands.proofs.choice.in_end.Tie as tie
+use Rattle.commands.proofs.choice.in_end.Reads as reads
+use Rattle.commands.proofs.choice.in_end.Lts as lts
 
 -- src/settle.rt:25:25
 enum-told : tie.Need-enum-told

@@ -1,6 +1,6 @@
 use borrow.Author.Needs.{needs}
-use Rattle.arp.proofs.bound.binding_for.Statement.{statement}
-use Rattle.arp.proofs.bound.binding_for.Tie as tie
+use Rattle.picking.proofs.claim.binding_for.Statement.{statement}
+use Rattle.picking.proofs.claim.binding_for.Tie as tie
 
 returns : tie.Need-returns
 returns c = search needs

@@ -1,7 +1,7 @@
 use mathlib.Core.Path.{sym, _∙_}
 use borrow.Author.Needs.{needs}
-use Rattle.arp.proofs.bound.makes_claim.Statement.{statement}
-use Rattle.arp.proofs.bound.makes_claim.Tie as tie
+use Rattle.picking.proofs.claim.makes_claim.Statement.{statement}
+use Rattle.picking.proofs.claim.makes_claim.Tie as tie
 
 barred-requires : tie.Need-barred-requires
 barred-requires c κs = search needs

@@ -1,10 +1,10 @@
 // The whole step: both halves in one. Rests on next and settle.
 ghost use mathlib.Core.Path.{_≡_};
 ghost use Rattle.arp.specs.Controller.{stepped};
-use super::settle::Choice;
-use super::settle::choice_in;
 use super::state::Controller;
 use super::state::Stepped;
+use commands::choice::Choice;
+use commands::choice::choice_in;
 
 impl Controller {
     // One step: a received trace, whatever it holds. An address is chosen and issued at once.
