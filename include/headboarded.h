@@ -216,10 +216,10 @@ hb_written hb_put_command(uint8_t kind, hb_udid udid, uint8_t address,
                           const uint8_t *reply, size_t reply_len, uint8_t *out, size_t out_len);
 
 /* What was answered last, the number of an end, the Get UDIDs sent in the pass, and the last pick: the address picked last, in
- * this pass or before it, and HB_NEVER_PICKED if none ever was. The address is that of HB_ASSIGN and HB_CHOSEN; the identifier that
- * of these two and of HB_NONE_FREE; the reason that of HB_CHOSEN. Whatever a kind lacks is 0. With 1 and 21 every part is 0 but the
- * answer and the kind, HB_NOT_OUTSTANDING. The part picked is 0 then too, and is no last pick: after 21, that of the pass is told
- * by the list without the entries that were answered so. */
+ * this pass or before it, and HB_NEVER_PICKED if none ever was. The address is that of HB_ASSIGN and HB_CHOSEN; the identifier
+ * that of these two and of HB_NONE_FREE; the reason that of HB_CHOSEN. Whatever a kind lacks is 0. With 1 and 21 every part is 0
+ * but the answer and the kind, HB_NOT_OUTSTANDING. The part picked is 0 then too, and is no last pick: after 21, that of the pass
+ * is told by the list without the entries that were answered so. */
 typedef struct {
     uint32_t kind;
     uint32_t answer;
@@ -245,8 +245,8 @@ typedef struct {
  *
  * The first half is the step without the sending. Where the step is answered with HB_ASSIGN, the first half is answered with
  * HB_CHOSEN: the same target and address, and the reason. The choice waits then, and no command is outstanding. HB_ISSUE is
- * answered with the HB_ASSIGN, and all is as after the step. HB_DECLINE ends the pass with HB_ABANDONED and 14: the target is bound
- * nowhere, and a pick stays the last pick.
+ * answered with the HB_ASSIGN, and all is as after the step. HB_DECLINE ends the pass with HB_ABANDONED and 14: the target is
+ * bound nowhere, and a pick stays the last pick.
  *
  * While a choice waits a trace is answered with 21 and changes nothing, whether for a step or for its first half. If none waits,
  * HB_ISSUE and HB_DECLINE are answered with 21 and change nothing. Reports go on while a choice waits, and leave it waiting.
