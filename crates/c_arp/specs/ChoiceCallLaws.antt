@@ -11,7 +11,7 @@ use Rattle.lists.specs.AbsurdLaws.{zero-is-one}
 use Rattle.lists.specs.Choice.{pick}
 use Rattle.wire.specs.declared.address.Address.{Address}
 use Rattle.udid.specs.declared.Udid.{Udid}
-use Rattle.arp.specs.Choosing.{firstHalf, choiceIn, issuing, declining, carriedFor}
+use Rattle.arp.specs.Choosing.{firstHalf, issuing, declining, carriedFor}
 use Rattle.arp.specs.ChoosingLaws.{halves-are-the-step}
 use Rattle.arp.specs.Controller.{stepped}
 use Rattle.arp.specs.History.{Step, Choose, Event, Start, Received, Gone, Issue, Decline}
@@ -21,8 +21,9 @@ use Rattle.arp.specs.OutstandingLaws.{heard-21, idle-half, last-is-handed-out}
 use Rattle.arp.specs.Replay.{handedOut}
 use Rattle.arp.specs.SettleLaws.{issue-is, decline-is, none-to-issue, none-to-decline, issue-21, decline-21}
 use Rattle.arp.specs.Waits.{Waits}
-use Rattle.arp.specs.declared.settle.Choice.{Choice}
-use Rattle.arp.specs.declared.settle.Choice.the-variants.{Of, Absent}
+use Rattle.commands.specs.Choices.{choiceIn}
+use Rattle.commands.specs.declared.choice.Choice.{Choice}
+use Rattle.commands.specs.declared.choice.Choice.the-variants.{Of, Absent}
 use Rattle.arp.specs.declared.state.Controller.{Controller}
 use Rattle.arp.specs.declared.state.Stepped.{Stepped}
 use Rattle.commands.specs.declared.command.Command.the-variants.{Prepare, GetUdid, Assign}
