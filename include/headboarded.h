@@ -23,7 +23,10 @@ enum { HB_START = 256, HB_STOP = 257, HB_ACK = 258, HB_NACK = 259 };
 enum { HB_DEFAULT_ADDRESS = 0x61, HB_HOST_ADDRESS = 0x08, HB_ALERT_RESPONSE_ADDRESS = 0x0c };
 enum { HB_LONGEST_TRACE = 525, HB_DECODE_ROOM = 255, HB_BINDINGS_ROOM = 2048, HB_RECORD = 18, HB_MOST_TARGETS = 120 };
 enum { HB_NEVER_PICKED = 127 }; /* the last pick of a controller that has picked no address yet */
-enum { HB_GONE = 65535 };       /* in the list of a pass, where a number of symbols is due: a report that a module is gone */
+
+/* In the list of a pass, where a number of symbols is due: a report that a module is gone, a trace for the first half of a step,
+ * and what becomes of the choice that waits then. */
+enum { HB_GONE = 65535, HB_CHOOSE = 65534, HB_ISSUE = 65533, HB_DECLINE = 65532 };
 
 /* The numbers answered. */
 enum {
@@ -48,7 +51,7 @@ enum {
     HB_WRONG_ADDRESS = 18,   /* an address byte with another address, or for the other direction */
     HB_WRONG_COUNT = 19,     /* a count that is not allowed */
     HB_LEFT = 20,            /* of the lookup: whoever was bound there was reported gone */
-    HB_NO_COMMAND = 21       /* of a pass: no command outstanding */
+    HB_NO_COMMAND = 21       /* of a pass: no command outstanding, or no choice to issue or to decline */
 };
 
 /* Protocols. */
@@ -67,7 +70,8 @@ enum {
 };
 
 /* What the controller hands out: the kind of an hb_command. The first three are commands to send. HB_NONE_FREE and HB_ABANDONED
- * come with the answers HB_NO_FREE_ADDRESS and HB_PASS_ABANDONED, HB_NOT_OUTSTANDING with HB_NO_COMMAND or HB_FORBIDDEN. */
+ * come with the answers HB_NO_FREE_ADDRESS and HB_PASS_ABANDONED, HB_NOT_OUTSTANDING with HB_NO_COMMAND or HB_FORBIDDEN.
+ * HB_CHOSEN is no end: an address is chosen for a target, and waits to be issued or declined. */
 enum {
     HB_PREPARE = 0,
     HB_GET_UDID = 1,
@@ -75,7 +79,16 @@ enum {
     HB_ENDED = 3,
     HB_NONE_FREE = 4,
     HB_ABANDONED = 5,
-    HB_NOT_OUTSTANDING = 6
+    HB_NOT_OUTSTANDING = 6,
+    HB_CHOSEN = 8
+};
+
+/* Why an address is chosen: the reason of an hb_command of the kind HB_CHOSEN. HB_CLAIMED comes before the others. */
+enum {
+    HB_FIXED = 1,  /* the target is fixed, and the address its own */
+    HB_KEPT = 2,   /* the target is movable, and its own address is free */
+    HB_PICKED = 3, /* it is the first free address after the last pick */
+    HB_CLAIMED = 4 /* an Assign that completed now would leave a claim by two */
 };
 
 /* A device identifier: the first eight bytes on the wire are the high half, highest byte first. */
@@ -202,31 +215,50 @@ uint8_t hb_udid_is_fixed(hb_udid udid);
 hb_written hb_put_command(uint8_t kind, hb_udid udid, uint8_t address,
                           const uint8_t *reply, size_t reply_len, uint8_t *out, size_t out_len);
 
-/* What was handed out last, the number of an end, the Get UDIDs sent in the pass, and the last pick: the address picked last, in this
- * pass or before it, and HB_NEVER_PICKED if none ever was. The address is that of HB_ASSIGN; the identifier that of HB_ASSIGN and
- * HB_NONE_FREE. Whatever a kind lacks is 0. With 1 and 21 every part is 0 but the answer and the kind, HB_NOT_OUTSTANDING. The part
- * picked is 0 then too, and is no last pick: after 21, that of the pass is told by the list without the traces after its end. */
+/* What was answered last, the number of an end, the Get UDIDs sent in the pass, and the last pick: the address picked last, in
+ * this pass or before it, and HB_NEVER_PICKED if none ever was. The address is that of HB_ASSIGN and HB_CHOSEN; the identifier
+ * that of these two and of HB_NONE_FREE; the reason that of HB_CHOSEN. Whatever a kind lacks is 0. With 1 and 21 every part is 0
+ * but the answer and the kind, HB_NOT_OUTSTANDING. The part picked is 0 then too, and is no last pick: after 21, that of the pass
+ * is told by the list without the entries that were answered so. */
 typedef struct {
     uint32_t kind;
     uint32_t answer;
     uint32_t address;
     uint32_t gets;
     uint32_t picked;
+    uint32_t reason;
     hb_udid udid;
 } hb_command;
 
-/* A pass from its start with these addresses occupied, a step for each trace of a list. The last pick is the one before this
- * pass, or HB_NEVER_PICKED, and stays the same while the list of a pass grows; one above 127 is answered with 1. A trace of the
- * list is the number of its symbols and the symbols, all as pairs. Before, between and after traces the list may have reports. A
- * report is HB_GONE and an address, both as pairs. So no trace of a list has 65535 symbols; a longer one can be cut, for its
- * first 526 symbols decide. The list ends where no whole trace and no whole report is left.
+/* A pass from its start with these addresses occupied, over a list of entries. The last pick is the one before this pass, or
+ * HB_NEVER_PICKED, and stays the same while the list of a pass grows; one above 127 is answered with 1. An entry is one of these,
+ * all as pairs:
+ *
+ *   a number and as many symbols              a trace, for a step
+ *   HB_CHOOSE, a number and as many symbols   a trace, for the first half of a step
+ *   HB_ISSUE                                  the choice that waits is issued
+ *   HB_DECLINE                                the choice that waits is declined
+ *   HB_GONE and an address                    a report that the module at the address is gone
+ *
+ * So a trace of a list has 65531 symbols at most. A longer one can be cut, for its first 526 symbols decide. The list ends where
+ * no whole entry is left; a number above 65531 after HB_CHOOSE begins none.
+ *
+ * The first half is the step without the sending. Where the step is answered with HB_ASSIGN, the first half is answered with
+ * HB_CHOSEN: the same target and address, and the reason. The choice waits then, and no command is outstanding. HB_ISSUE is
+ * answered with the HB_ASSIGN, and all is as after the step. HB_DECLINE ends the pass with HB_ABANDONED and 14: the target is
+ * bound nowhere, and a pick stays the last pick.
+ *
+ * While a choice waits a trace is answered with 21 and changes nothing, whether for a step or for its first half. If none waits,
+ * HB_ISSUE and HB_DECLINE are answered with 21 and change nothing. Reports go on while a choice waits, and leave it waiting.
+ * Another start is another list.
  *
  * A report says that the module at the address is gone. Whoever is bound there is bound no longer, the address is left, and it
  * is free unless hb_pool_starting has it. If nobody is bound there, or the address is above 127, nothing changes. What was
- * handed out last stays, whatever is reported.
+ * answered last stays, whatever is reported.
  *
  * An Assign that completes binds its target. It leaves a claim by two instead if hb_pool_barred has the address, if another target
- * is bound there, or if two claim it already. So one fixed target alone on a barred address is a claim too. Nothing is written. */
+ * is bound there, or if two claim it already. So one fixed target alone on a barred address is a claim too. The reason HB_CLAIMED
+ * tells how that stands at the choice; a report before the Assign completes can change it. Nothing is written. */
 hb_command hb_pass(hb_pool occupied, uint8_t last, const uint8_t *entries, size_t entries_len);
 
 typedef struct {

@@ -1,5 +1,6 @@
-// Traces of the ARP controller's commands, and a pass over a list of traces and of reports that a module is gone. The controller's state does
-// not cross to C: a pass starts anew at each call, with the last pick that is given, and takes the entries of the list one after the other.
+// Traces of the ARP controller's commands, and a pass over a list of traces, of issues and declines of a choice that waits, and of reports that
+// a module is gone. The controller's state does not cross to C: a pass starts anew at each call, with the last pick that is given, and takes
+// the entries of the list one after the other.
 ghost use mathlib.Core.Path.{_≡_};
 ghost use mathlib.Core.Bool.{true};
 ghost use Rattle.commands.specs.Requests.{protocolFor, messageOf};
@@ -30,7 +31,7 @@ pub extern "C" fn hb_put_command(
     put_command_pairs(kind, udid, address, reply, out)
 }
 
-// What the start or the latest step handed out, and the last pick then; with no trace, Prepare To ARP.
+// What was answered last, by the start or by an entry that is no report, and the last pick then; with no entry, Prepare To ARP.
 #[no_mangle]
 pub extern "C" fn hb_pass(occupied: HbPool, last: u8, entries: &[u8]) -> HbCommand
     ensures { λ r. ⌜ r ≡ passCommand (poolIn occupied) last (now (entries .entry)) ⌝ }

@@ -15,5 +15,7 @@ pub mod PassLaws
 pub mod FoundParts
 pub mod LookupCallLaws
 pub mod ReportCallLaws
+pub mod Choices
+pub mod ChoiceCallLaws
 pub mod Model
 pub mod ModelParts

@@ -1,5 +1,5 @@
--- A pass over a list of traces and reports is the history of a start and these events, so that what is promised of histories holds of it; and
--- its answer, in numbers.
+-- A pass over a list of traces, issues, declines and reports is the history of a start and these events, so that what is promised of histories
+-- holds of it; and its answer, in numbers.
 use mathlib.Core.Path.{_≡_, refl, sym, ap, _∙_, subst}
 use mathlib.Core.Bool.{true}
 use mathlib.Core.List.{List, [], _∷_, _++_}
@@ -11,11 +11,12 @@ use lib.ListN.{length}
 use Rattle.pool.specs.declared.Pool.{Pool}
 use Rattle.arp.specs.LastPickLaws.{last-pick-is}
 use Rattle.arp.specs.OutstandingLaws.{step-21-by-events}
-use Rattle.arp.specs.Controller.{newController, started, stepped}
+use Rattle.arp.specs.Choosing.{issuing, declining}
+use Rattle.arp.specs.Controller.{newController, started}
 use Rattle.arp.specs.Gone.{reported}
-use Rattle.arp.specs.History.{Event, Start, Received, Gone, run}
+use Rattle.arp.specs.History.{By, Event, Start, Received, Gone, Issue, Decline, heard, run}
 use Rattle.arp.specs.Numbers.{commandNumber}
-use Rattle.arp.specs.Replay.{handedOut}
+use Rattle.arp.specs.Replay.{handedOut, answered}
 use Rattle.hearing.specs.Told.{noCommand}
 use Rattle.commands.specs.declared.command.Command.the-variants.{Prepare}
 use Rattle.commands.specs.declared.command.Handed.{Handed}
@@ -36,10 +37,12 @@ use Rattle.c_arp.specs.Histories.{since, eventsOf, IsHistory}
 
 module _ (occupied : Pool) (last : ℕ) where
   one-event : (es : List Event) (st : Stepped) → IsHistory occupied last es st → (x : Event) → IsHistory occupied last (x ∷ es) (afterEvent st x)
-  unfolding run handedOut
+  unfolding run answered
   one-event es st h Start = record { state = ap (λ (c : Controller). started c .state) (h .state); command = ap (λ (c : Controller). started c .command) (h .state) }
-  one-event es st h (Received tr) = record { state = ap (λ (c : Controller). stepped c tr .state) (h .state); command = ap (λ (c : Controller). stepped c tr .command) (h .state) }
+  one-event es st h (Received w tr) = record { state = ap (λ (c : Controller). heard w c tr .state) (h .state); command = ap (λ (c : Controller). heard w c tr .command) (h .state) }
   one-event es st h (Gone a) = record { state = ap (λ (c : Controller). reported c a .state) (h .state); command = h .command }
+  one-event es st h Issue = record { state = ap (λ (c : Controller). issuing c .state) (h .state); command = ap (λ (c : Controller). issuing c .command) (h .state) }
+  one-event es st h Decline = record { state = ap (λ (c : Controller). declining c .state) (h .state); command = ap (λ (c : Controller). declining c .command) (h .state) }
 
   since-steps : (es : List Event) (st : Stepped) (xs : List Event) → IsHistory occupied last es st → IsHistory occupied last (since es xs) (stepsOver st xs)
   unfolding since stepsOver
@@ -47,16 +50,16 @@ module _ (occupied : Pool) (last : ℕ) where
   since-steps es st (x ∷ xs) h = since-steps (x ∷ es) (afterEvent st x) xs (one-event es st h x)
 
   start-history : IsHistory occupied last (Start ∷ []) (started (newController occupied last))
-  unfolding run handedOut
+  unfolding run answered
   start-history = record { state = refl; command = refl }
 
--- A PASS over any bytes leaves the state and hands out the command of the history of a start and the entries that they hold
+-- A PASS over any bytes leaves the state and gives the answer of the history of a start and the entries that they hold
 pub hb-pass-events : (given : HbPool) (last : ℕ) (l : List ℕ)
     → IsHistory (record { low = given .low; high = given .high }) last (eventsOf (entriesIn (length l) l)) (passOver (poolIn given) last l)
 hb-pass-events given last l =
     since-steps (poolIn given) last (Start ∷ []) (started (newController (poolIn given) last)) (entriesIn (length l) l) (start-history (poolIn given) last)
 
--- so over the bytes of a list of traces and reports, and whatever is left of an entry that is cut, those of a start and these events
+-- so over the bytes of a list of entries, and whatever is left of an entry that is cut, those of a start and these events
 pub hb-pass-history : (given : HbPool) (last : ℕ) (es : List Event) (rest : List ℕ) → Listed es → Cut rest
     → IsHistory (record { low = given .low; high = given .high }) last (eventsOf es) (passOver (poolIn given) last (listBytes es ++ rest))
 hb-pass-history given last es rest v c =
@@ -77,7 +80,7 @@ module _ (given : HbPool) (last : ℕ) (l : List ℕ) (r : HbCommand) (e : r ≡
   told : last < 128 → r ≡ toldPass (passOver (poolIn given) last l)
   told h = e ∙ command-told (poolIn given) last l h
 
-  -- up to 127 the struct tells what the pass handed out last, its Get UDIDs and its last pick
+  -- up to 127 the struct tells what the pass answered last, its Get UDIDs and its last pick
   pub hb-pass-told : last < 128 → let st = passOver (poolIn given) last l in CommandIs (st .command) (st .state .gets) (st .state .picked) r
   hb-pass-told h = let st = passOver (poolIn given) last l in command-parts (st .command) (st .state .gets) (st .state .picked) r (told h)
 
@@ -91,27 +94,43 @@ module _ (given : HbPool) (last : ℕ) (l : List ℕ) (r : HbCommand) (e : r ≡
           let st : Stepped = passOver (poolIn given) last l in
           absurd (never-1 (st .command) (st .state .gets) (st .state .picked) (sym (ap (λ (x : HbCommand). x .answer) (told (omega arith))) ∙ q))
 
-  pub hb-pass-1-zero : r .answer ≡ 1 → CommandParts r 6 1 0 0 0 0 0
+  pub hb-pass-1-zero : r .answer ≡ 1 → CommandParts r 6 1 0 0 0 0 0 0
   hb-pass-1-zero q =
-      subst (λ (x : HbCommand). CommandParts x 6 1 0 0 0 0 0) (sym (forbidden (hb-pass-1 .0 q)))
-      (record { kind-is = refl; answer-is = refl; address-is = refl; gets-is = refl; picked-is = refl; high-is = refl; low-is = refl })
+      subst (λ (x : HbCommand). CommandParts x 6 1 0 0 0 0 0 0) (sym (forbidden (hb-pass-1 .0 q)))
+      (record { kind-is = refl; answer-is = refl; address-is = refl; gets-is = refl; picked-is = refl; reason-is = refl; high-is = refl; low-is = refl })
 
--- with a trace as the last entry, hb_pass answers 21 exactly if the start and the entries before it handed out no command last
-pub hb-pass-21 : (given : HbPool) (last : ℕ) (es : List Event) (tr rest : List ℕ) → last < 128 → Listed es → length tr < 65535 → Cut rest → (r : HbCommand)
-    → r ≡ passCommand (poolIn given) last (listBytes (es ++ Received tr ∷ []) ++ rest)
+-- ---- with one more entry as the last
+
+module _ (given : HbPool) (last : ℕ) (es : List Event) (x : Event) (rest : List ℕ) (small : last < 128) (v : Listed es) (one : Listed (x ∷ [])) (cut : Cut rest) (r : HbCommand)
+    (e : r ≡ passCommand (poolIn given) last (listBytes (es ++ x ∷ []) ++ rest)) where
+  abbrev occupied : Pool
+  occupied = record { low = given .low; high = given .high }
+
+  abbrev end : Stepped
+  end = passOver (poolIn given) last (listBytes (es ++ x ∷ []) ++ rest)
+
+  end-told : r ≡ toldPass end
+  end-told = told given last (listBytes (es ++ x ∷ []) ++ rest) r e small
+
+  end-answers : end .command ≡ answered occupied last (x ∷ eventsOf es)
+  end-answers =
+      hb-pass-history given last (es ++ x ∷ []) rest (listed-both es (x ∷ []) v one) cut .command ∙ ap (answered occupied last) (since-last (Start ∷ []) es x)
+
+  pub end-21 : (r .answer ≡ 21) ↔ (commandNumber (answered occupied last (x ∷ eventsOf es)) ≡ (21, []) ∷ [])
+  end-21 =
+      subst (λ (k : Handed). (r .answer ≡ 21) ↔ (commandNumber k ≡ (21, []) ∷ [])) end-answers
+      (command-21 (end .command) (end .state .gets) (end .state .picked) r end-told)
+
+-- with a trace as the last entry, for a step or for its first half, hb_pass answers 21 exactly if no command was handed out last before it
+pub hb-pass-21 : (given : HbPool) (last : ℕ) (es : List Event) (w : By) (tr rest : List ℕ) → last < 128 → Listed es → length tr < 65532 → Cut rest → (r : HbCommand)
+    → r ≡ passCommand (poolIn given) last (listBytes (es ++ Received w tr ∷ []) ++ rest)
     → (r .answer ≡ 21) ↔ (noCommand (handedOut (record { low = given .low; high = given .high }) last (eventsOf es)) ≡ true)
-unfolding handedOut
-hb-pass-21 given last es tr rest small v short cut r e =
-    let p : Pool = record { low = given .low; high = given .high } in
-    let l : List ℕ = listBytes (es ++ Received tr ∷ []) ++ rest in
-    let st : Stepped = passOver (poolIn given) last l in
-    let c : st .command ≡ stepped (run p last (eventsOf es)) tr .command =
-    hb-pass-history given last (es ++ Received tr ∷ []) rest (listed-both es (Received tr ∷ []) v (short, tt)) cut .command ∙ ap (handedOut p last) (since-last (Start ∷ []) es (Received tr)) in
-    Iff·trans (command-21 (st .command) (st .state .gets) (st .state .picked) r (told given last l r e small))
-    (subst (λ (k : Handed). (commandNumber k ≡ (21, []) ∷ []) ↔ (noCommand (handedOut p last (eventsOf es)) ≡ true)) (sym c) (step-21-by-events p last (eventsOf es) tr))
+unfolding answered
+hb-pass-21 given last es w tr rest small v short cut r e =
+    Iff·trans (end-21 given last es (Received w tr) rest small v (short, tt) cut r e) (step-21-by-events (poolIn given) last (eventsOf es) w tr)
 
 -- with no entry it hands out Prepare
-pub hb-pass-start : (given : HbPool) (last : ℕ) (r : HbCommand) → last < 128 → r ≡ passCommand (poolIn given) last [] → CommandParts r 0 0 0 0 last 0 0
+pub hb-pass-start : (given : HbPool) (last : ℕ) (r : HbCommand) → last < 128 → r ≡ passCommand (poolIn given) last [] → CommandParts r 0 0 0 0 last 0 0 0
 unfolding entriesIn stepsOver
 hb-pass-start given last r small e =
     command-parts (Send Prepare) 0 last r (told given last [] r e small ∙ ap (toldCommand (Send Prepare) 0) (last-pick-is last small))

@@ -32,13 +32,8 @@ use Rattle.c_arp.specs.Parts.{poolIn}
 use Rattle.c_arp.specs.Pass.{afterEvent, stepsOver, passOver, toldPass, refusedPass, passCommand, foundOf, toldFound, passFound}
 use Rattle.c_arp.specs.PassCallLaws.{found-forbidden}
 use Rattle.c_arp.specs.PassLaws.{hb-pass-history}
-use Rattle.c_arp.specs.TraceListLaws.{listed-both, pass-steps}
+use Rattle.c_arp.specs.TraceListLaws.{pass-more}
 use Rattle.c_arp.specs.TraceLists.{Listed, listBytes, Cut}
-
-steps-last : (st : Stepped) (es : List Event) (x : Event) → stepsOver st (es ++ x ∷ []) ≡ afterEvent (stepsOver st es) x
-unfolding stepsOver
-steps-last st [] x = refl
-steps-last st (e ∷ es) x = steps-last (afterEvent st e) es x
 
 -- the Get UDIDs and the last pick are as they were too
 told-still : (st : Stepped) (a : ℕ) → toldPass (afterEvent st (Gone a)) ≡ toldPass st
@@ -64,9 +59,8 @@ module _ (given : HbPool) (last : ℕ) (es : List Event) (a : ℕ) (rest rest′
   stateBefore = passOver (poolIn given) last before .state
 
   pass-last : passOver (poolIn given) last after ≡ afterEvent (passOver (poolIn given) last before) (Gone a)
-  pass-last =
-      pass-steps (poolIn given) last (es ++ Gone a ∷ []) rest′ (listed-both es (Gone a ∷ []) v tt) cut′ ∙ steps-last _ es (Gone a)
-      ∙ sym (ap (λ (st : Stepped). afterEvent st (Gone a)) (pass-steps (poolIn given) last es rest v cut))
+  unfolding stepsOver
+  pass-last = pass-more (poolIn given) last es (Gone a ∷ []) rest rest′ v tt cut cut′
 
   state-last : passOver (poolIn given) last after .state ≡ reported stateBefore a .state
   state-last = ap (λ (st : Stepped). st .state) pass-last

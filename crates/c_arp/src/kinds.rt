@@ -1,11 +1,11 @@
 // Commands of the ARP controller as numbers, and their traces. The kinds: 0 Prepare To ARP, 1 Get UDID, 2 Assign Address, and the
-// ends of a pass: 3 ended, 4 no free address, 5 abandoned, 6 no command outstanding, 7 no pass has begun.
+// ends of a pass: 3 ended, 4 no free address, 5 abandoned, 6 no command outstanding, 7 no pass has begun. 8 is a choice that waits.
 ghost use mathlib.Core.Path.{_≡_};
 ghost use mathlib.Core.Bool.{true};
 ghost use Rattle.commands.specs.Requests.{protocolFor, messageOf};
 ghost use Rattle.c_arp.specs.Parts.{udidIn};
 ghost use Rattle.c_codec.specs.Codec.{WrotePairs};
-ghost use Rattle.c_arp.specs.Commands.{commandOf, saidOf, toldEnd, toldCommand};
+ghost use Rattle.c_arp.specs.Commands.{commandOf, saidOf, reasonNumber, choiceOf, toldEnd, toldCommand};
 use crate::parts::HbUdid;
 use crate::parts::identifier;
 use crate::parts::udid_in;
@@ -14,6 +14,7 @@ use c_codec::codec::written;
 use commands::command::Command;
 use commands::command::End;
 use commands::command::Handed;
+use commands::command::Reason;
 use commands::request::put_command;
 use encode::Encoded;
 use pairs::put_pairs;
@@ -36,9 +37,9 @@ fn command_of(kind: u8, u: Udid, a: Address) -> Handed
     Handed::Wait(End::Nothing)
 }
 
-// What the controller handed out: the kind, the scope's number of an end, the identifier and the address of an Assign or the
-// identifier that found no address, the Get UDIDs sent so far, and the last pick. Whatever a kind lacks is 0. With 1 and 21 all is 0
-// but the answer and the kind, which says that no command is outstanding.
+// What the controller handed out: the kind, the scope's number of an end, the identifier and the address of an Assign or of a choice, or
+// the identifier that found no address, the Get UDIDs sent so far, the last pick, and why the address of a choice was chosen. Whatever a
+// kind lacks is 0. With 1 and 21 all is 0 but the answer and the kind, which says that no command is outstanding.
 #[repr(C)]
 pub struct HbCommand {
     pub kind: u32,
@@ -46,6 +47,7 @@ pub struct HbCommand {
     pub address: u32,
     pub gets: u32,
     pub picked: u32,
+    pub reason: u32,
     pub udid: HbUdid,
 }
 
@@ -58,6 +60,34 @@ pub(crate) fn said(kind: u32, answer: u32, u: Udid, a: Address, gets: u32, picke
         address: a.0 as u32,
         gets: gets,
         picked: picked as u32,
+        reason: 0,
+        udid: identifier(u),
+    }
+}
+
+// Why an address was chosen, as a number: 1 fixed, 2 kept, 3 picked, 4 claimed by two.
+fn reason_number(why: Reason) -> u32
+    ensures { λ r. ⌜ r ≡ reasonNumber why ⌝ }
+{
+    match why {
+        Reason::Fixed => 1,
+        Reason::Kept => 2,
+        Reason::Picked => 3,
+        Reason::Claimed => 4,
+    }
+}
+
+// A choice that waits: this address for this target, and why.
+fn told_choice(u: Udid, a: Address, why: Reason, gets: u32, picked: u8) -> HbCommand
+    ensures { λ r. ⌜ r ≡ choiceOf u (a .0) why gets picked ⌝ }
+{
+    HbCommand {
+        kind: 8,
+        answer: 0,
+        address: a.0 as u32,
+        gets: gets,
+        picked: picked as u32,
+        reason: reason_number(why),
         udid: identifier(u),
     }
 }
@@ -73,6 +103,7 @@ fn told_end(e: End, gets: u32, picked: u8) -> HbCommand
         End::Abandoned => said(5, 14, none, Address(0), gets, picked),
         End::NotOutstanding => said(6, 21, none, Address(0), 0, 0),
         End::Nothing => said(7, 0, none, Address(0), gets, picked),
+        End::Chosen(u, a, why) => told_choice(u, a, why, gets, picked),
     }
 }
 

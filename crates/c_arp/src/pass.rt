@@ -1,17 +1,22 @@
 // A pass of the ARP controller over a list. The controller's state does not cross to C: a pass starts anew and takes the entries of the list
-// one after the other. An entry is a trace, or a report that a module is gone. Both are pairs of bytes, low byte first.
-// A trace is the number of its symbols and then the symbols. It is one step.
-// A report is FFFFh and then an address. It changes the state, and what was handed out last stays.
+// one after the other. An entry is a trace for a step or for its first half, an issue or a decline of the choice that waits, or a report
+// that a module is gone; `entry` has how they stand in bytes.
+// A report changes the state, and what was answered last stays.
 // The list ends where no whole entry is left.
 ghost use mathlib.Core.Path.{_≡_};
-ghost use Prim.Native.Nat.{_+_, _/_, _≤_};
-ghost use lib.ListN.{length, drop};
+ghost use Prim.Native.Nat.{_/_, _≤_};
+ghost use lib.ListN.{length};
+ghost use Rattle.arp.specs.Choosing.{firstHalf};
 ghost use Rattle.arp.specs.Controller.{stepped};
 ghost use Rattle.arp.specs.History.{Gone};
 ghost use Rattle.arp.specs.Lookup.{lookedUp};
 ghost use Rattle.pairs.specs.Pairs.{symbolsIn};
 ghost use Rattle.c_arp.specs.Parts.{poolIn};
-ghost use Rattle.c_arp.specs.Pass.{said, sizeFor, sizeOf, wholeSize, entryOf, afterEvent, passOver, toldPass, passCommand, foundOf, toldFound, passFound};
+ghost use Rattle.c_arp.specs.Pass.{sizeOf, entryOf, afterEvent, passOver, toldPass, passCommand, foundOf, toldFound, passFound};
+use crate::entry::Head;
+use crate::entry::head_of;
+use crate::entry::pair_at;
+use crate::entry::size_at;
 use crate::kinds::HbCommand;
 use crate::kinds::said;
 use crate::kinds::told_command;
@@ -27,42 +32,6 @@ use pool::Pool;
 use udid::Udid;
 use wire::address::Address;
 
-// The number that the pair at a place says.
-fn pair_at(bytes: &[u8], at: usize) -> u16
-    requires { ⌜ at + 2 ≤ length (now bytes) ⌝ }
-    ensures { λ r. ⌜ r ≡ said (drop at (now (bytes .entry))) ⌝ }
-{
-    let low = bytes[at] as u16;
-    let high = bytes[at + 1] as u16;
-    low + 256 * high
-}
-
-// How many bytes an entry takes that begins with this pair: a report four, a trace two for each symbol and two for their number.
-fn entry_size(first: u16) -> usize
-    ensures { λ r. ⌜ r ≡ sizeFor first ⌝ }
-{
-    if first == 65535 {
-        return 4;
-    }
-    2 + 2 * (first as usize)
-}
-
-// How many bytes the entry at a place takes; 0 where no whole entry is left.
-fn size_at(bytes: &[u8], at: usize) -> usize
-    requires { ⌜ at ≤ length (now bytes) ⌝ }
-    ensures { λ r. ⌜ r ≡ wholeSize (drop at (now (bytes .entry))) ⌝ }
-{
-    let left = bytes.len() - at;
-    if left < 2 {
-        return 0;
-    }
-    let size = entry_size(pair_at(bytes, at));
-    if left < size {
-        return 0;
-    }
-    size
-}
-
 // The step for the trace whose pairs these bytes are. No trace that fits has more than 525 symbols, so the first 526 decide.
 fn step_on(state: Controller, bytes: &[u8]) -> Stepped
     ensures { λ r. ⌜ r ≡ stepped state (symbolsIn (length (now (bytes .entry)) / 2) (now (bytes .entry))) ⌝ }
@@ -70,6 +39,15 @@ fn step_on(state: Controller, bytes: &[u8]) -> Stepped
     let mut buf = [0u16; 526];
     let n = get_pairs(&mut buf, bytes);
     state.step(&buf[..n])
+}
+
+// The same for its first half.
+fn choose_on(state: Controller, bytes: &[u8]) -> Stepped
+    ensures { λ r. ⌜ r ≡ firstHalf state (symbolsIn (length (now (bytes .entry)) / 2) (now (bytes .entry))) ⌝ }
+{
+    let mut buf = [0u16; 526];
+    let n = get_pairs(&mut buf, bytes);
+    state.choose(&buf[..n])
 }
 
 // The report that the module at an address is gone. The pair can say more than 127: no target is bound there, and nothing changes.
@@ -91,14 +69,17 @@ fn report_on(st: Stepped, address: u16) -> Stepped
 
 // The entry that these bytes are, whole.
 fn take_entry(st: Stepped, bytes: &[u8]) -> Stepped
-    requires { ⌜ length (now bytes) ≡ sizeOf (now bytes) ⌝ }
+    requires { ⌜ (2 ≤ length (now bytes)) × (length (now bytes) ≡ sizeOf (now bytes)) ⌝ }
     ensures { λ r. ⌜ r ≡ afterEvent st (entryOf (now (bytes .entry))) ⌝ }
 {
-    if pair_at(bytes, 0) == 65535 {
-        return report_on(st, pair_at(bytes, 2));
-    }
     let state = st.state;
-    step_on(state, &bytes[2..])
+    match head_of(pair_at(bytes, 0)) {
+        Head::Count => step_on(state, &bytes[2..]),
+        Head::Gone => report_on(st, pair_at(bytes, 2)),
+        Head::Choose => choose_on(state, &bytes[4..]),
+        Head::Issue => state.issue(),
+        Head::Decline => state.decline(),
+    }
 }
 
 // The whole pass.
@@ -120,7 +101,7 @@ fn run_pass(occupied: Pool, last: u8, bytes: &[u8]) -> Stepped
     st
 }
 
-// What the start or the latest step handed out: with no trace, Prepare To ARP.
+// What was answered last, by the start or by an entry that is no report: with no such entry, Prepare To ARP.
 fn command_after(occupied: HbPool, last: u8, entries: &[u8]) -> HbCommand
     ensures { λ r. ⌜ r ≡ toldPass (passOver (poolIn occupied) last (now (entries .entry))) ⌝ }
 {

@@ -1,5 +1,7 @@
 // What is written: commands, finds and the last pick. A command is a tag, a UDID highest byte first and an address; a find is a tag and a
-// UDID; the last pick is a byte. What there is not is zeros.
+// UDID; the last pick is a byte. What there is not is zeros. The tags of commands: 0 Prepare To ARP, 1 Get UDID, 2 Assign Address, 3 ended,
+// 4 no free address, 5 abandoned, 6 no command outstanding, 7 no pass has begun; and a choice that waits: 8 fixed, 9 kept, 10 picked,
+// 11 claimed by two.
 ghost use Prim.Native.Nat.{_+_, _≤_};
 ghost use lib.ListN.{length};
 use arp::lookup::Found;
@@ -7,6 +9,7 @@ use arp::state::Controller;
 use commands::command::Command;
 use commands::command::End;
 use commands::command::Handed;
+use commands::command::Reason;
 use udid::Udid;
 use wire::address::Address;
 
@@ -34,6 +37,16 @@ fn write_sent(c: Command) {
     }
 }
 
+// The tag of a choice that waits.
+fn choice_tag(why: Reason) -> u8 {
+    match why {
+        Reason::Fixed => 8,
+        Reason::Kept => 9,
+        Reason::Picked => 10,
+        Reason::Claimed => 11,
+    }
+}
+
 fn write_end(e: End) {
     match e {
         End::Ended => write_tag(3),
@@ -41,6 +54,7 @@ fn write_end(e: End) {
         End::Abandoned => write_tag(5),
         End::NotOutstanding => write_tag(6),
         End::Nothing => write_tag(7),
+        End::Chosen(u, a, why) => write_answer(choice_tag(why), u, a),
     }
 }
 

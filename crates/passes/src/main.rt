@@ -6,6 +6,9 @@
 //   2, a count, and symbols    a step; the command is written. Count and symbols are byte pairs, low byte first; at most 1,000
 //   3                          all addresses are looked up; 128 finds are written, and a byte with the last pick
 //   4, and an address          the module at the address is reported gone; a find is written, and with 0 it has who was unbound
+//   5, a count, and symbols    the first half of a step, as 2 is the whole: a choice waits then; the command is written
+//   6                          the choice that waits is issued; the command is written
+//   7                          the choice that waits is declined; the command is written
 //
 // The first byte that is none of these, or the end of the input, ends the run. Standard input is read and standard output is written.
 mod answers;
@@ -46,13 +49,26 @@ fn step_on(c: Controller) -> Stepped {
     c.step(&trace[..n])
 }
 
-// A start or a step; the command is written.
+fn choose_on(c: Controller) -> Stepped {
+    let mut trace = [0u16; 1000];
+    let n = read_trace(&mut trace);
+    c.choose(&trace[..n])
+}
+
+// What an operation hands out that is none of 0, 3 and 4.
+fn next_of(c: Controller, operation: u8) -> Stepped {
+    match operation {
+        1 => c.start(),
+        2 => step_on(c),
+        5 => choose_on(c),
+        6 => c.issue(),
+        _ => c.decline(),
+    }
+}
+
+// A start, a step, half of one, an issue or a decline; the command is written.
 fn go_on(c: Controller, operation: u8) -> Stepped {
-    let next = if operation == 1 {
-        c.start()
-    } else {
-        step_on(c)
-    };
+    let next = next_of(c, operation);
     let command = next.command;
     write_command(command);
     next
@@ -83,7 +99,7 @@ fn main() {
             0 => {
                 st = read_controller();
             }
-            1 | 2 => {
+            1 | 2 | 5 | 6 | 7 => {
                 st = go_on(st.state, operation);
             }
             3 => write_finds(st.state),

@@ -21,7 +21,8 @@ use Rattle.bindings.specs.declared.answer.ModelAnswer.{ModelAnswer}
 abbrev pub noUdid : Udid
 noUdid = record { high = 0; low = 0 }
 
--- ---- the end of the pass, in the scope's numbers. A command to send is no end and has none: it would read as 0, but no pass stops at one (demand-3)
+-- ---- the end of the pass, in the scope's numbers. A command to send is no end and has none, nor has a choice that waits: they would
+-- read as 0, but no pass stops at one (demand-3)
 
 abbrev pub numberIn : List (ℕ × List Udid) → ℕ
 numberIn [] = 0

@@ -25,7 +25,7 @@ pub fn refused(n: u32, i: usize) -> ModelAnswer
     }
 }
 
-// The number of an end; 0 where no pass has begun.
+// The number of an end; 0 where no pass has begun, and where a choice waits: no pass of the model stops there.
 fn end_number(e: End) -> u32
     ensures { λ r. ⌜ r ≡ numberIn (endNumber e) ⌝ }
 {
@@ -35,6 +35,7 @@ fn end_number(e: End) -> u32
         End::NoneFree(_) => 13,
         End::Abandoned => 14,
         End::NotOutstanding => 21,
+        End::Chosen(_, _, _) => 0,
     }
 }
 
@@ -57,6 +58,7 @@ fn named_by(e: End) -> Udid
         End::NoneFree(u) => u,
         End::Abandoned => Udid { high: 0, low: 0 },
         End::NotOutstanding => Udid { high: 0, low: 0 },
+        End::Chosen(_, _, _) => Udid { high: 0, low: 0 },
     }
 }
 

@@ -32,6 +32,12 @@ enum-told-4 c = search needs
 said-requires-5 : tie.Need-said-requires-5
 said-requires-5 c κs = search needs
 
+enum-known-e-2 : tie.Need-enum-known-e-2
+enum-known-e-2 c = search needs
+
+told-choice-requires : tie.Need-told-choice-requires
+told-choice-requires c κs = search needs
+
 returns : tie.Need-returns
 returns c = rw (c .said .ensures, c .before .enum-told .given .1)
 
@@ -47,6 +53,9 @@ returns-4 c = rw (c .said4 .ensures, c .before .enum-told3 .given .1)
 returns-5 : tie.Need-returns-5
 returns-5 c = rw (c .said5 .ensures, c .before .enum-told4 .given .1)
 
+returns-6 : tie.Need-returns-6
+returns-6 c = rw (c .told-choice .ensures, c .before .before .e2 .given .1)
+
 pub told-end-spec : {M : Type 1} → statement M
 told-end-spec =
     tie.close
@@ -61,8 +70,11 @@ told-end-spec =
     said-requires-4
     enum-told-4
     said-requires-5
+    enum-known-e-2
+    told-choice-requires
     returns
     returns-2
     returns-3
     returns-4
-    returns-5)
+    returns-5
+    returns-6)

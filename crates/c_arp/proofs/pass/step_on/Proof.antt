@@ -2,7 +2,8 @@ use borrow.Author.Needs.{needs}
 use mathlib.Core.Path.{refl, sym, _∙_}
 use native.Mathlib.Omega.{arith}
 use lib.Seq.{length-take-le}
-use Rattle.c_arp.proofs.PassLaws.{step-on-front}
+use Rattle.arp.specs.History.{Step}
+use Rattle.c_arp.proofs.PassLaws.{heard-on-front}
 use Rattle.c_arp.proofs.pass.step_on.Statement.{statement}
 use Rattle.c_arp.proofs.pass.step_on.Tie as tie
 
@@ -22,7 +23,7 @@ step-requires : tie.Need-step-requires
 step-requires c κs = search needs
 
 returns : tie.Need-returns
-returns c = c .step .ensures ∙ step-on-front _ _ _ _ _ refl (c .before .before .before .get-pairs .ensures)
+returns c = c .step .ensures ∙ heard-on-front Step _ _ _ _ _ refl (c .before .before .before .get-pairs .ensures)
 
 pub step-on-spec : {M : Type 1} → statement M
 step-on-spec =

@@ -21,6 +21,9 @@ enum-told-3 c = search needs
 enum-told-4 : tie.Need-enum-told-4
 enum-told-4 c = search needs
 
+enum-told-5 : tie.Need-enum-told-5
+enum-told-5 c = search needs
+
 returns : tie.Need-returns
 returns c = sym (ap (λ (x : End). udidIn (endNumber x)) (c .enum-told .given .1))
 
@@ -36,6 +39,9 @@ returns-4 c = sym (ap (λ (x : End). udidIn (endNumber x)) (c .enum-told3 .given
 returns-5 : tie.Need-returns-5
 returns-5 c = sym (ap (λ (x : End). udidIn (endNumber x)) (c .enum-told4 .given .1))
 
+returns-6 : tie.Need-returns-6
+returns-6 c = sym (ap (λ (x : End). udidIn (endNumber x)) (c .enum-told5 .given .1))
+
 pub named-by-spec : {M : Type 1} → statement M
 named-by-spec =
     tie.close
@@ -45,8 +51,10 @@ named-by-spec =
     enum-known-e
     enum-told-3
     enum-told-4
+    enum-told-5
     returns
     returns-2
     returns-3
     returns-4
-    returns-5)
+    returns-5
+    returns-6)

@@ -2,8 +2,8 @@ use borrow.Author.Needs.{needs}
 use Prim.Native.Nat.{_+_}
 use native.Mathlib.Omega.{arith}
 use Rattle.c_arp.proofs.PassLaws.{said-drop}
-use Rattle.c_arp.proofs.pass.pair_at.Statement.{statement}
-use Rattle.c_arp.proofs.pass.pair_at.Tie as tie
+use Rattle.c_arp.proofs.entry.pair_at.Statement.{statement}
+use Rattle.c_arp.proofs.entry.pair_at.Tie as tie
 
 shared-slice-read-low : tie.Need-shared-slice-read-low
 shared-slice-read-low c = search needs
