@@ -1,7 +1,7 @@
 -- THE PAGE OF PROMISES: statements only. DemandsLaws has one inhabitant of each record, and so its proof.
 -- ≡ is 'equal', ↔ 'if and only if', × 'and', ⊎ 'or', P → ⊥ 'not P', (x : A) × P 'there is an x with P'; getD l i 0 is number i of the list l.
 -- A parameter such as (contract : Wrote ..) is what a function's `ensures` says, word for word. It need not be believed: the code meets it.
--- CONTRACTS: Leaves, Outcome, Wrote, lookedUp, loses, messageOf, modelEnd, newController, nextFree, powered, protocolFor, receives, refreshed, reported, resumed, silentIn, started, starts, stepped, stops, supplies, traceOf.
+-- CONTRACTS: Leaves, Outcome, Wrote, declining, firstHalf, issuing, lookedUp, loses, messageOf, modelEnd, newController, nextFree, powered, protocolFor, receives, refreshed, reported, resumed, silentIn, started, starts, stepped, stops, supplies, traceOf.
 -- BELIEVED: 1009 lines, without imports, comments and blanks. Crate/file, then the lines of each definition; src is a type of the code. tests/programs/believed.rs counts them.
 -- lists/Choice: and 3, not 3, or 3, pick 3; lists/Each: Any 3, Bytes 3, Each 3; wire/AddressTable: Bit 4, Covers 2, covers 3, lets 4, table17 25; wire/Addresses: isFromTo 2, isListed 2, isPreassigned 2, isReserved 2;
 -- wire/Symbols: ACK 2, NACK 2, START 2, STOP 2; wire/src: Address 1; pec/Pec: bitStep 2, pecFrom 3, pecOf 2, pecStep 2; trace/Rows: message 2; trace/Table: InTable 2, Line 6, Row 22, TraceOf 2, lastProtocol 2, line 2, symbols 2;
