@@ -36,6 +36,7 @@ void check_ground(void);
 void check_pools(void);
 void check_codec(void);
 void check_passes(void);
+void check_choices(void);
 void check_model(void);
 void check_module(void);
 

@@ -28,6 +28,7 @@ int main(void)
     check_pools();
     check_codec();
     check_passes();
+    check_choices();
     check_model();
     check_module();
     printf("%-28s%9lu checks\n", "from C", checks);

@@ -1,41 +1,5 @@
 /* Commands and passes: a target that is bound, one that finds no address, an Assign that fails, last picks, reports. */
-#include "check.h"
-
-static const hb_udid module = { 0x8001020304050607, 0x08090a0b0c0d0e0f };
-static const hb_udid nobody = { 0, 0 };
-
-/* A list of traces and reports in a block of exactly its length. */
-struct list {
-    uint8_t *bytes;
-    size_t length;
-};
-
-static void append(struct list *l, const uint8_t *trace, size_t symbols)
-{
-    l->bytes = realloc(l->bytes, l->length + 2 + 2 * symbols);
-    if (l->bytes == NULL)
-        exit(2);
-    l->bytes[l->length] = (uint8_t)symbols;
-    l->bytes[l->length + 1] = (uint8_t)(symbols >> 8);
-    memcpy(l->bytes + l->length + 2, trace, 2 * symbols);
-    l->length += 2 + 2 * symbols;
-}
-
-/* Appends the trace of a command. */
-static void send(struct list *l, uint8_t kind, uint8_t address, const uint8_t *reply, size_t reply_len)
-{
-    uint8_t out[2 * HB_LONGEST_TRACE];
-    hb_written w = hb_put_command(kind, module, address, reply, reply_len, out, sizeof out);
-    CHECK(w.answer == HB_DONE);
-    append(l, out, w.symbols);
-}
-
-/* The data of the module's reply to Get UDID, with this address byte. */
-static void reply_with(uint8_t reply[17], uint8_t byte)
-{
-    hb_udid_put_bytes(module, reply, 17, 0);
-    reply[16] = byte;
-}
+#include "lists.h"
 
 static void check_commands(void)
 {
@@ -75,7 +39,7 @@ static void check_numbers(void)
 static void expect_after(uint8_t last, const struct list *l, uint32_t kind, uint32_t address, uint32_t gets, uint32_t picked)
 {
     hb_command c = hb_pass(nothing, last, l->bytes, l->length);
-    CHECK(c.kind == kind && c.answer == HB_DONE && c.address == address && c.gets == gets && c.picked == picked);
+    CHECK(c.kind == kind && c.answer == HB_DONE && c.address == address && c.gets == gets && c.picked == picked && c.reason == 0);
     CHECK(hb_udid_is_same(c.udid, kind == HB_ASSIGN ? module : nobody));
 }
 
@@ -84,15 +48,12 @@ static void expect(const struct list *l, uint32_t kind, uint32_t address, uint32
     expect_after(NEVER, l, kind, address, gets, picked);
 }
 
-/* Get UDID, whose read address nobody acknowledges: 9 symbols. */
-static const uint8_t silence[] = { 0, 1, 0xc2, 0, 2, 1, 3, 0, 2, 1, 0, 1, 0xc3, 0, 3, 1, 1, 1 };
-
 /* A trace with no command outstanding: every part is 0 but the answer and the kind, and so is the last pick. */
 static void expect_none_outstanding(uint8_t last, const struct list *l)
 {
     hb_command c = hb_pass(nothing, last, l->bytes, l->length);
     CHECK(c.kind == HB_NOT_OUTSTANDING && c.answer == HB_NO_COMMAND);
-    CHECK(c.address == 0 && c.gets == 0 && c.picked == 0 && c.udid.high == 0 && c.udid.low == 0);
+    CHECK(c.address == 0 && c.gets == 0 && c.picked == 0 && c.reason == 0 && c.udid.high == 0 && c.udid.low == 0);
 }
 
 /* One target that holds 20h: it is bound there, nothing is picked, and the pass ends. */
@@ -208,7 +169,7 @@ static void check_last_picks(void)
         hb_command c = hb_pass(nothing, (uint8_t)last, replied.bytes, last % 2 == 0 ? replied.length : 0);
         hb_found f = hb_pass_lookup(nothing, (uint8_t)last, replied.bytes, replied.length, (uint8_t)(last - 100));
         CHECK(c.kind == HB_NOT_OUTSTANDING && c.answer == HB_FORBIDDEN && c.address == 0 && c.gets == 0 && c.picked == 0);
-        CHECK(c.udid.high == 0 && c.udid.low == 0);
+        CHECK(c.reason == 0 && c.udid.high == 0 && c.udid.low == 0);
         CHECK(f.answer == HB_FORBIDDEN && f.udid.high == 0 && f.udid.low == 0);
     }
     CHECK(hb_pass(nothing, 128, NULL, 0).answer == HB_FORBIDDEN && hb_pass_lookup(nothing, 255, NULL, 0, 0x0d).answer == HB_FORBIDDEN);
@@ -237,48 +198,6 @@ static void check_vacated(void)
     expect_none_outstanding(0x0d, &l);
     CHECK(hb_pass_lookup(nothing, 0x0d, l.bytes, l.length, 0x0e).answer == HB_DONE);
     free(l.bytes);
-}
-
-/* Appends a report: HB_GONE and the address, as pairs. */
-static void report(struct list *l, unsigned address)
-{
-    const uint8_t pair[] = { (uint8_t)address, (uint8_t)(address >> 8) };
-    append(l, pair, 1);
-    l->bytes[l->length - 4] = HB_GONE & 255;
-    l->bytes[l->length - 3] = HB_GONE >> 8;
-}
-
-static uint32_t found(const struct list *l, uint8_t address)
-{
-    return hb_pass_lookup(nothing, NEVER, l->bytes, l->length, address).answer;
-}
-
-/* A fixed target at an address: its reply, and the Assign to it. */
-static void fixed_replies(struct list *l, uint64_t high, uint8_t address)
-{
-    uint8_t out[2 * HB_LONGEST_TRACE], reply[17];
-    hb_udid fixed = { high, 0 };
-    hb_written w;
-    hb_udid_put_bytes(fixed, reply, sizeof reply, 0);
-    reply[16] = (uint8_t)(2 * address + 1);
-    w = hb_put_command(HB_GET_UDID, nobody, 0, reply, sizeof reply, out, sizeof out);
-    CHECK(w.answer == HB_DONE);
-    append(l, out, w.symbols);
-}
-
-static void fixed_takes(struct list *l, uint64_t high, uint8_t address)
-{
-    uint8_t out[2 * HB_LONGEST_TRACE];
-    hb_udid fixed = { high, 0 };
-    hb_written w = hb_put_command(HB_ASSIGN, fixed, address, NULL, 0, out, sizeof out);
-    CHECK(w.answer == HB_DONE);
-    append(l, out, w.symbols);
-}
-
-static void fixed_joins(struct list *l, uint64_t high, uint8_t address)
-{
-    fixed_replies(l, high, address);
-    fixed_takes(l, high, address);
 }
 
 /* Two fixed targets at one address: it is claimed by two, whatever is reported. */
@@ -313,15 +232,6 @@ static void check_taken_back(void)
     fixed_takes(&l, 2, 0x30);
     CHECK(found(&l, 0x30) == HB_DONE && hb_pass_lookup(nothing, NEVER, l.bytes, l.length, 0x30).udid.high == 2);
     free(l.bytes);
-}
-
-/* Appends the reply of the module with its own address, and the Assign of it. */
-static void join(struct list *l, uint8_t address)
-{
-    uint8_t reply[17];
-    reply_with(reply, (uint8_t)(2 * address + 1));
-    send(l, HB_GET_UDID, 0, reply, sizeof reply);
-    send(l, HB_ASSIGN, address, NULL, 0);
 }
 
 /* On 48h, a prototype address, a fixed target is bound, unbound by another reply, and bound again. Unbound once more, it is sent an

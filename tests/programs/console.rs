@@ -2,10 +2,13 @@
 //!   console PROGRAM FILES..     each FILE holds requests; what is due stands beside it, in stdout for stdin, else in NAME.expected
 //!   console write FILES..       writes what is due anew, from the reference
 
+mod choice_sessions;
+mod choices_seen;
 mod module_seen;
 mod module_sessions;
 mod sessions;
 
+use choices_seen::ChoicesSeen;
 use module_seen::ModulesSeen;
 use reference::addresses::added;
 use reference::console::{lines, Console};
@@ -132,6 +135,8 @@ struct Seen {
     rows: BTreeMap<&'static str, usize>,
     /// What lines about a module reach.
     modules: ModulesSeen,
+    /// What lines about choices reach.
+    choices: ChoicesSeen,
 }
 
 impl Seen {
@@ -153,6 +158,7 @@ impl Seen {
     /// Every number comes, and each of those that a lookup and a report can be answered with.
     fn check(&self) {
         self.modules.check();
+        self.choices.check();
         check_last_picks(&self.last_picks);
         for number in (0..=22).filter(|number| ![2, 9].contains(number)) {
             assert!(self.numbers[number] > 20, "too few lines are answered with {number}");
@@ -230,9 +236,10 @@ fn session(program: &str, seed: u64, seen: &mut Seen) -> usize {
             true => module_line(&mut random, &console),
             false => any_line(&mut random, &console),
         };
-        let before = console.module().cloned();
+        let (before, waits) = (console.module().cloned(), console.last().is_choice());
         let due = console.answer(&line);
         seen.add(&line, &due);
+        seen.choices.add(&line, &due, waits);
         seen.modules.add(&line, &due, before.as_ref(), console.module());
         answers.push((line, due));
     }
@@ -268,8 +275,8 @@ fn typed(program: &str) {
 fn arguments(program: &str) {
     let help = String::from_utf8(run(program, &["help"], vec![])).expect("text");
     let verbs = [
-        "pec", "encode", "decode", "occupied", "target", "clear", "run", "start", "step", "lookup", "gone", "grid",
-        "module", "m",
+        "pec", "encode", "decode", "occupied", "target", "clear", "run", "start", "step", "choose", "issue", "decline",
+        "lookup", "gone", "grid", "module", "m",
     ];
     for verb in verbs {
         assert!(help.lines().any(|line| line.split(' ').next() == Some(verb)), "help has {verb}");
@@ -292,7 +299,11 @@ fn main() {
     let worked = by_hand(program, "wrong symbols", &sessions::WRONG_SYMBOLS)
         + by_hand(program, "last picks", &sessions::LAST_PICKS)
         + by_hand(program, "reports", &sessions::GONE)
-        + by_hand(program, "rows of the table", &sessions::ROWS);
+        + by_hand(program, "rows of the table", &sessions::ROWS)
+        + by_hand(program, "the choice of the order", &choice_sessions::EXAMPLE)
+        + by_hand(program, "choices refused", &choice_sessions::REFUSED)
+        + by_hand(program, "choices issued", &choice_sessions::issued())
+        + by_hand(program, "choices declined", &choice_sessions::declined());
     let about_modules = by_hand(program, "the module of the order", &module_sessions::EXAMPLE)
         + by_hand(program, "modules refused", &module_sessions::REFUSED)
         + by_hand(program, "fresh bytes", &module_sessions::FRESH_BYTES)
@@ -310,6 +321,7 @@ fn main() {
     println!("{:<28}{:>9} random model runs with a last pick", "console", seen.last_picks.len());
     println!("{:<28}{:>9} random reports, {} grids with what is left", "console", seen.reports(), seen.left);
     println!("{:<28}{:>9} random lines about a module", "console", seen.modules.lines());
+    println!("{:<28}{:>9} random choices {:?}", "console", seen.choices.choices(), seen.choices.reasons());
     seen.rows.remove("");
     println!("{:<28}on added rows {:?}", "console", seen.rows);
 }

@@ -36,6 +36,7 @@ pub struct Command {
     pub address: u32,
     pub gets: u32,
     pub picked: u32,
+    pub reason: u32,
     pub udid: Udid,
 }
 

@@ -1,8 +1,9 @@
-//! Lists of traces and reports for a pass, whatever bytes they are made of. Here they are read entry by entry, and each
-//! entry is given to the reference's controller.
+//! Lists of traces, reports and choices for a pass, whatever bytes they are made of. Here they are read entry by entry, and
+//! each entry is given to the reference's controller.
 
 use crate::exported_abi::{pass, pass_lookup, Command, Found};
-use crate::exported_passes::{found, pairs, told, GONE, NO_LOOKUP, NO_PASS};
+use crate::exported_passes::{found, pairs, told};
+use crate::exported_passes::{CHOOSE, DECLINE, GONE, ISSUE, KINDS, MOST_SYMBOLS, NO_LOOKUP, NO_PASS};
 use crate::family::Family;
 use crate::{halves, pool_of};
 use reference::addresses::{Addresses, ADDRESSES, NEVER};
@@ -21,8 +22,30 @@ const N: Udid = [0x82; 16];
 
 #[derive(Debug, PartialEq, Eq)]
 enum Entry {
-    Trace(Vec<u16>),
+    Step(Vec<u16>),
+    Choose(Vec<u16>),
+    Issue,
+    Decline,
     Report(u16),
+}
+
+/// A trace, if it is there whole: the number of its symbols, and these. What follows it.
+fn first_trace(words: &[u16]) -> Option<(Vec<u16>, &[u16])> {
+    let (&count, after) = words.split_first()?;
+    let (own, later) = after.split_at_checked(usize::from(count)).filter(|_| count <= MOST_SYMBOLS)?;
+    Some((own.to_vec(), later))
+}
+
+/// The entry that words begin with, if it is there whole, and what follows it.
+fn first_entry(words: &[u16]) -> Option<(Entry, &[u16])> {
+    let (&first, after) = words.split_first()?;
+    match first {
+        GONE => after.split_first().map(|(&number, later)| (Entry::Report(number), later)),
+        CHOOSE => first_trace(after).map(|(trace, later)| (Entry::Choose(trace), later)),
+        ISSUE => Some((Entry::Issue, after)),
+        DECLINE => Some((Entry::Decline, after)),
+        _ => first_trace(words).map(|(trace, later)| (Entry::Step(trace), later)),
+    }
 }
 
 /// The whole entries that a list begins with.
@@ -30,16 +53,25 @@ fn entries(list: &[u8]) -> Vec<Entry> {
     let words: Vec<u16> = list.chunks_exact(2).map(|pair| u16::from_le_bytes([pair[0], pair[1]])).collect();
     let mut rest = &words[..];
     let mut all = vec![];
-    while let Some((&first, after)) = rest.split_first() {
-        let length = if first == GONE { 1 } else { usize::from(first) };
-        if after.len() < length {
-            break;
-        }
-        let (own, later) = after.split_at(length);
-        all.push(if first == GONE { Entry::Report(own[0]) } else { Entry::Trace(own.to_vec()) });
+    while let Some((entry, later)) = first_entry(rest) {
+        all.push(entry);
         rest = later;
     }
     all
+}
+
+/// What an entry makes of a controller. The command, where it is answered with one; a report is not.
+fn apply(controller: &mut Controller, entry: &Entry) -> Option<commands::Command> {
+    match entry {
+        Entry::Step(trace) => Some(controller.step(trace)),
+        Entry::Choose(trace) => Some(controller.choose(trace)),
+        Entry::Issue => Some(controller.issue()),
+        Entry::Decline => Some(controller.decline()),
+        Entry::Report(number) => {
+            controller.gone((*number).try_into().unwrap_or(255));
+            None
+        }
+    }
 }
 
 /// A pass over these entries: what was handed out last, and the controller.
@@ -47,18 +79,20 @@ fn run(occupied: &Addresses, last_pick: u8, entries: &[Entry]) -> (Command, Cont
     let mut controller = Controller::new(occupied, last_pick);
     let mut command = controller.start();
     for entry in entries {
-        match entry {
-            Entry::Trace(trace) => command = controller.step(trace),
-            Entry::Report(number) => {
-                controller.gone((*number).try_into().unwrap_or(255));
-            }
-        }
+        command = apply(&mut controller, entry).unwrap_or(command);
     }
     (told(&command, controller.get_udids as u32, u32::from(controller.last_pick)), controller)
 }
 
-/// The command and some lookups of a list are those of its entries. The numbers that the lookups are answered with.
-fn compare(family: &mut Family, occupied: &Addresses, last_pick: u8, list: &[u8], addresses: &[u8]) -> Vec<u32> {
+/// The command and some lookups of a list are those of its entries. The kind and reason of the command, and the numbers that
+/// the lookups are answered with.
+fn compare(
+    family: &mut Family,
+    occupied: &Addresses,
+    last_pick: u8,
+    list: &[u8],
+    addresses: &[u8],
+) -> ((u32, u32), Vec<u32>) {
     let (command, controller) = run(occupied, last_pick, &entries(list));
     let refused = last_pick > NEVER;
     let input = || format!("occupied {occupied:02x?} last pick {last_pick} list {list:02x?}");
@@ -71,11 +105,24 @@ fn compare(family: &mut Family, occupied: &Addresses, last_pick: u8, list: &[u8]
         family.same(|| format!("address {address:02x} {}", input()), &due, &given);
         numbers.push(due.answer);
     }
-    numbers
+    ((command.kind, command.reason), numbers)
 }
 
 fn trace_entry(trace: &[u16]) -> Vec<u8> {
     [pairs(&[trace.len() as u16]), pairs(trace)].concat()
+}
+
+/// The same for the first half of a step.
+fn half(trace: Vec<u8>) -> Vec<u8> {
+    [pairs(&[CHOOSE]), trace].concat()
+}
+
+fn issue() -> Vec<u8> {
+    pairs(&[ISSUE])
+}
+
+fn decline() -> Vec<u8> {
+    pairs(&[DECLINE])
 }
 
 fn report(number: u16) -> Vec<u8> {
@@ -153,6 +200,105 @@ fn worked() -> Vec<(Vec<Vec<u8>>, u32)> {
     ]
 }
 
+/// A list worked out by hand: what is in it; kind, answer, address and reason of the command due; and what a lookup of 20h
+/// answers.
+type Chosen = (Vec<Vec<u8>>, (u32, u32, u32, u32), u32);
+
+/// Lists with choices that are made for a target that is alone, issued, declined, or in vain.
+fn worked_choices() -> Vec<Chosen> {
+    let none = (6, 21, 0, 0);
+    let chosen = || [begun(), half(replied(&M, 0x20))].concat();
+    let moved = || [begun(), joined(&M, 0x20), half(replied(&M, 0x21))].concat();
+    vec![
+        (vec![issue()], none, 15),
+        (vec![decline()], none, 15),
+        (vec![issue(), begun()], (1, 0, 0, 0), 15),
+        (vec![half(begun())], (1, 0, 0, 0), 15),
+        (vec![begun(), issue()], none, 15),
+        (vec![chosen()], (8, 0, 0x20, 2), 15),
+        (vec![half(chosen())], (8, 0, 0x20, 2), 15),
+        (vec![chosen(), report(0x20)], (8, 0, 0x20, 2), 15),
+        (vec![chosen(), taken(&M, 0x20)], none, 15),
+        (vec![chosen(), half(taken(&M, 0x20)), issue()], (2, 0, 0x20, 0), 15),
+        (vec![chosen(), issue()], (2, 0, 0x20, 0), 15),
+        (vec![chosen(), issue(), taken(&M, 0x20)], (1, 0, 0, 0), 0),
+        (vec![chosen(), issue(), half(taken(&M, 0x20))], (1, 0, 0, 0), 0),
+        (vec![chosen(), issue(), issue()], none, 15),
+        (vec![chosen(), issue(), decline(), taken(&M, 0x20)], (1, 0, 0, 0), 0),
+        (vec![chosen(), decline()], (5, 14, 0, 0), 15),
+        (vec![chosen(), decline(), decline()], none, 15),
+        (vec![chosen(), decline(), issue(), taken(&M, 0x20)], none, 15),
+        (vec![moved()], (8, 0, 0x21, 2), 15),
+        (vec![moved(), decline()], (5, 14, 0, 0), 15),
+        (vec![moved(), decline(), report(0x20)], (5, 14, 0, 0), 15),
+        (vec![begun(), half(trace_entry(&reply_trace(&M, 0xff)))], (8, 0, 0x0d, 3), 15),
+        (vec![begun(), half(trace_entry(&reply_trace(&F, 0xff)))], (8, 0, 0x0d, 3), 15),
+        (vec![begun(), half(replied(&M, 0x48))], (8, 0, 0x0d, 3), 15),
+        (vec![begun(), half(replied(&F, 0x20))], (8, 0, 0x20, 1), 15),
+        (vec![begun(), half(replied(&F, 0x48))], (8, 0, 0x48, 1), 15),
+        (vec![begun(), half(replied(&F, 0x0c))], (8, 0, 0x0c, 4), 15),
+        (vec![begun(), half(trace_entry(&reply_trace(&F, 0xfe)))], (8, 0, 0x7f, 4), 15),
+        (vec![begun(), half(trace_entry(&all_resolved())), issue()], none, 15),
+    ]
+}
+
+/// Lists with choices beside another that is bound at 20h.
+fn worked_claims() -> Vec<Chosen> {
+    let two = || [begun(), joined(&F, 0x20), half(replied(&G, 0x20))].concat();
+    let both = || [begun(), joined(&F, 0x20), joined(&G, 0x20)].concat();
+    vec![
+        (vec![two()], (8, 0, 0x20, 4), 0),
+        (vec![two(), decline()], (5, 14, 0, 0), 0),
+        (vec![two(), issue()], (2, 0, 0x20, 0), 0),
+        (vec![two(), issue(), taken(&G, 0x20)], (1, 0, 0, 0), 16),
+        (vec![two(), report(0x20)], (8, 0, 0x20, 4), 20),
+        (vec![two(), report(0x20), issue(), taken(&G, 0x20)], (1, 0, 0, 0), 0),
+        (vec![two(), issue(), report(0x20), taken(&G, 0x20)], (1, 0, 0, 0), 0),
+        (vec![two(), report(0x20), decline()], (5, 14, 0, 0), 20),
+        (vec![both(), half(replied(&F, 0x20))], (8, 0, 0x20, 4), 16),
+        (vec![both(), half(replied(&M, 0x20))], (8, 0, 0x0d, 3), 16),
+        (vec![begun(), joined(&M, 0x20), half(replied(&F, 0x20))], (8, 0, 0x20, 4), 0),
+        (vec![begun(), joined(&M, 0x20), half(replied(&M, 0x20))], (8, 0, 0x20, 2), 15),
+        (vec![begun(), joined(&F, 0x20), half(replied(&F, 0x20))], (8, 0, 0x20, 1), 15),
+        (vec![begun(), joined(&F, 0x20), report(0x20), half(replied(&G, 0x20))], (8, 0, 0x20, 1), 20),
+    ]
+}
+
+/// The lists with choices worked out by hand, and each of them cut at every place.
+fn choices_by_hand() -> usize {
+    let mut family = Family::new("lists with choices");
+    let none = pool_of(&Addresses::new());
+    for (parts, due, number) in worked_choices().into_iter().chain(worked_claims()) {
+        let list = parts.concat();
+        let command = pass(none, NEVER, &list);
+        let given = (command.kind, command.answer, command.address, command.reason);
+        family.same(|| format!("{list:02x?}"), &due, &given);
+        family.same(|| format!("{list:02x?}"), &number, &pass_lookup(none, NEVER, &list, 0x20).answer);
+        for end in 0..=list.len() {
+            compare(&mut family, &Addresses::new(), NEVER, &list[..end], &[0x20, 0x21]);
+        }
+        compare(&mut family, &(0..ADDRESSES).collect(), 0x33, &list, &[0x20]);
+        compare(&mut family, &Addresses::new(), 128, &list, &[0x20]);
+    }
+    family.done()
+}
+
+/// A first half with every number of symbols from 65525 on: up to 65531 it is whole where the symbols are there. One above is
+/// no number of symbols, and the list ends there, whatever follows.
+fn counts_of_halves() -> usize {
+    let mut family = Family::new("first halves, every count");
+    let before = [begun(), half(replied(&M, 0x20))].concat();
+    for count in 65_525..=65_535 {
+        for symbols in [0, 1, usize::from(count) - 1, usize::from(count), 65_540] {
+            for symbol in [ISSUE, DECLINE, CHOOSE, GONE, 0] {
+                let list = [before.clone(), pairs(&[CHOOSE, count]), pairs(&vec![symbol; symbols])].concat();
+                compare(&mut family, &Addresses::new(), NEVER, &list, &[0x20]);
+            }
+        }
+    }
+    family.done()
+}
+
 /// The lists worked out by hand, and each of them cut at every place.
 fn by_hand() -> usize {
     let mut family = Family::new("lists with reports");
@@ -210,11 +356,17 @@ fn any_entry(random: &mut Random, command: &commands::Command, udids: &[Udid]) -
             trace_of(&commands::get_udid(&reply_bytes(&random.pick(udids), address_byte)))
         }
     };
-    match random.below(16) {
+    match random.below(26) {
         0 => trace_entry(&damaged(random, &right)),
         1 => trace_entry(&rubbish(random)),
         2..=5 => report(random.pick(&[0x20, 0x21, 0x22, 0x48, 0x48, 13, 14, 15, 16])),
         6 => report(random.draw() as u16),
+        7 => half(trace_entry(&damaged(random, &right))),
+        8 => issue(),
+        9 => decline(),
+        _ if command.is_choice() => issue(),
+        10 if random.below(3) == 0 => trace_entry(&all_resolved()),
+        10..=17 => half(trace_entry(&right)),
         _ => trace_entry(&right),
     }
 }
@@ -228,10 +380,7 @@ fn any_list(random: &mut Random, occupied: &Addresses, last_pick: u8) -> Vec<u8>
     for _ in 0..random.below(24) {
         let entry = any_entry(random, &controller.last, &udids);
         for part in entries(&entry) {
-            match part {
-                Entry::Trace(trace) => drop(controller.step(&trace)),
-                Entry::Report(number) => drop(controller.gone(number.try_into().unwrap_or(255))),
-            }
+            apply(&mut controller, &part);
         }
         list.extend(entry);
     }
@@ -239,7 +388,7 @@ fn any_list(random: &mut Random, occupied: &Addresses, last_pick: u8) -> Vec<u8>
         0 => list.truncate(random.below(list.len() + 1)),
         1 if !list.is_empty() => {
             let place = random.below(list.len());
-            list[place] = random.pick(&[0, 1, 0x20, 0xff, 0xfe]);
+            list[place] = random.pick(&[0, 1, 0x20, 0xff, 0xfe, 0xfd, 0xfc]);
         }
         _ => {}
     }
@@ -248,20 +397,26 @@ fn any_list(random: &mut Random, occupied: &Addresses, last_pick: u8) -> Vec<u8>
 
 /// Lists at random. Some are of nothing but random words.
 fn at_random() -> usize {
-    let mut family = Family::new("random lists with reports");
+    let mut family = Family::new("random lists");
     let mut random = Random::new(91);
-    let (mut numbers, mut on_a_row) = (vec![], vec![]);
-    for round in 0..6000 {
-        let (occupied, last_pick) = (shelves::occupied(&mut random), shelves::any_last_pick(&mut random));
+    let (mut numbers, mut on_a_row, mut kinds) = (vec![], vec![], vec![]);
+    for round in 0..9000 {
+        let occupied = match round % 10 {
+            9 => shelves::leaving(&mut random, 2),
+            _ => shelves::occupied(&mut random),
+        };
+        let last_pick = shelves::any_last_pick(&mut random);
         let list = if round % 8 == 0 {
             let count = random.below(40);
-            let words: Vec<u16> = (0..count).map(|_| random.pick(&[0, 1, 2, 3, 0x20, 256, 258, GONE])).collect();
+            let some = [0, 1, 2, 3, 0x20, 256, 258, GONE, CHOOSE, CHOOSE, ISSUE, DECLINE];
+            let words: Vec<u16> = (0..count).map(|_| random.pick(&some)).collect();
             [pairs(&words), random.bytes(round / 8 % 2)].concat()
         } else {
             any_list(&mut random, &occupied, last_pick)
         };
         let addresses = [0x48, 0x20, 0x21, 0x22, 13, 14, random.byte() % ADDRESSES, random.byte()];
-        let all = compare(&mut family, &occupied, last_pick, &list, &addresses);
+        let (kind, all) = compare(&mut family, &occupied, last_pick, &list, &addresses);
+        kinds.push(kind);
         on_a_row.push(all[0]);
         numbers.extend(all);
     }
@@ -270,9 +425,13 @@ fn at_random() -> usize {
         let both = (times(&numbers), times(&on_a_row));
         assert!(both.0 > 100 && both.1 > 20, "{both:?} lookups of random lists are answered with {wanted}");
     }
+    for wanted in KINDS {
+        let times = kinds.iter().filter(|&&kind| kind == wanted).count();
+        assert!(times > 20, "{times} random lists end with the kind and reason {wanted:?}");
+    }
     family.done()
 }
 
 pub fn all() -> usize {
-    by_hand() + every_number() + no_longest_trace() + at_random()
+    by_hand() + choices_by_hand() + every_number() + no_longest_trace() + counts_of_halves() + at_random()
 }

@@ -4,16 +4,24 @@ use crate::exported_abi::{pass, pass_lookup, put_command, Command, Found, Pool, 
 use crate::family::Family;
 use crate::{halves, pool_of};
 use reference::addresses::{Addresses, ADDRESSES, NEVER};
-use reference::commands;
+use reference::commands::{self, Reason};
 use reference::controller::{self, Controller};
 use reference::families::FAMILIES;
 use reference::random::Random;
 use reference::recorder::{apply, Due, Op};
 use reference::shelves;
 use reference::table::{build, Refused, LONGEST_TRACE};
+use std::collections::BTreeMap;
 
-/// In a list of traces a report stands where a number of symbols is due: this one.
+/// In a list of traces these stand where a number of symbols is due. An address follows the first, a trace with its number
+/// of symbols the second, and nothing the others.
 pub const GONE: u16 = 65_535;
+pub const CHOOSE: u16 = 65_534;
+pub const ISSUE: u16 = 65_533;
+pub const DECLINE: u16 = 65_532;
+
+/// The most symbols of a trace in a list.
+pub const MOST_SYMBOLS: u16 = 65_531;
 
 pub fn pairs(trace: &[u16]) -> Vec<u8> {
     trace.iter().flat_map(|symbol| symbol.to_le_bytes()).collect()
@@ -74,12 +82,25 @@ fn assigned_numbers() -> usize {
     family.done()
 }
 
+/// The number of a reason; 0 is none.
+fn reason(reason: Reason) -> u32 {
+    match reason {
+        Reason::Fixed => 1,
+        Reason::Kept => 2,
+        Reason::Picked => 3,
+        Reason::Claimed => 4,
+    }
+}
+
 pub fn told(command: &commands::Command, gets: u32, picked: u32) -> Command {
     let plain = |kind, answer| Command { kind, answer, gets, picked, ..Command::default() };
     match command {
         commands::Command::Prepare => plain(0, 0),
         commands::Command::GetUdid => plain(1, 0),
         commands::Command::Assign(u, a) => Command { address: u32::from(*a), udid: halves(u), ..plain(2, 0) },
+        commands::Command::Chosen(u, a, why) => {
+            Command { address: u32::from(*a), udid: halves(u), reason: reason(*why), ..plain(8, 0) }
+        }
         commands::Command::Ended => plain(3, 0),
         commands::Command::NoneFree(u) => Command { udid: halves(u), ..plain(4, 13) },
         commands::Command::Abandoned => plain(5, 14),
@@ -107,7 +128,7 @@ struct Pass {
 
 /// What every pass with a last pick above 127 is refused with.
 pub const NO_PASS: Command =
-    Command { kind: 6, answer: 1, address: 0, gets: 0, picked: 0, udid: Udid { high: 0, low: 0 } };
+    Command { kind: 6, answer: 1, address: 0, gets: 0, picked: 0, reason: 0, udid: Udid { high: 0, low: 0 } };
 pub const NO_LOOKUP: Found = Found { answer: 1, udid: Udid { high: 0, low: 0 } };
 
 impl Pass {
@@ -124,6 +145,20 @@ impl Pass {
     fn trace(&mut self, trace: &[u16]) {
         self.list.extend(pairs(&[trace.len() as u16]));
         self.list.extend(pairs(trace));
+    }
+
+    /// What an operation adds to the list, reports apart.
+    fn entry(&mut self, op: &Op) {
+        match op {
+            Op::Step(trace) => self.trace(trace),
+            Op::Choose(trace) => {
+                self.list.extend(pairs(&[CHOOSE]));
+                self.trace(trace);
+            }
+            Op::Issue => self.list.extend(pairs(&[ISSUE])),
+            Op::Decline => self.list.extend(pairs(&[DECLINE])),
+            _ => {}
+        }
     }
 
     fn text(&self) -> String {
@@ -170,10 +205,14 @@ impl Pass {
     }
 }
 
+/// What traces, issues and declines are answered with, by kind and reason.
+pub const KINDS: [(u32, u32); 10] = [(1, 0), (2, 0), (3, 0), (4, 0), (5, 0), (6, 0), (8, 1), (8, 2), (8, 3), (8, 4)];
+
 /// The scripts for a controller, one step in so many looked at; each begins its pass anew.
 fn scripts() -> usize {
     let mut family = Family::new("exported passes");
     let mut random = Random::new(75);
+    let mut seen = BTreeMap::new();
     for (_, make) in FAMILIES {
         let mut now = Pass::new(&Addresses::new(), NEVER);
         let mut controller = Controller::new(&Addresses::new(), NEVER);
@@ -181,26 +220,30 @@ fn scripts() -> usize {
             let before = controller.last_pick;
             apply(&mut controller, &op);
             let picked = controller.last_pick;
-            match (op, due) {
-                (Op::New(occupied, last_pick), _) => now = Pass::new(&occupied, last_pick),
+            match (&op, due) {
+                (Op::New(occupied, last_pick), _) => now = Pass::new(occupied, *last_pick),
                 (Op::Start, Due::Command(command)) => {
                     now.start(before);
                     now.command(&mut family, &command, picked, random.below(8) == 0);
                 }
-                (Op::Step(trace), Due::Command(command)) if now.started => {
-                    now.trace(&trace);
-                    now.command(&mut family, &command, picked, random.below(16) == 0);
+                (_, Due::Command(command)) if now.started => {
+                    now.entry(&op);
+                    let look = random.below(16) == 0;
+                    now.command(&mut family, &command, picked, look);
+                    *seen.entry((now.latest.kind, now.latest.reason)).or_insert(0) += usize::from(look);
                 }
                 (Op::Lookups, Due::Found(all, _)) if now.started && random.below(8) == 0 => {
                     now.lookups(&mut family, &all, &mut random);
                 }
                 (Op::Gone(number), Due::Gone(found)) if now.started => {
-                    now.report(&mut family, number, &found, random.below(12) == 0);
+                    now.report(&mut family, *number, &found, random.below(12) == 0);
                 }
                 _ => {}
             }
         }
     }
+    let rare = KINDS.iter().find(|kind| seen.get(kind).is_none_or(|&times| times < 20));
+    assert_eq!(rare, None, "commands by kind and reason: {seen:?}");
     family.done()
 }
 
@@ -248,28 +291,38 @@ fn good_traces(udid: &commands::Udid) -> Vec<Vec<u16>> {
     traces
 }
 
-/// A last trace of more symbols than any that fits: how it begins decides, whatever follows. A list can have 65534.
+/// A last trace of more symbols than any that fits: how it begins decides, whatever follows. A list can have 65531. It is
+/// handed to a step, or to the first half of one.
 fn long_traces() -> usize {
     let mut family = Family::new("passes with long traces");
     let good = good_traces(&shelves::any_udid(&mut Random::new(77)));
     for (place, last) in good.iter().enumerate() {
         for (kept, symbol) in [(last.len(), 0), (last.len(), 65_535), (last.len() - 1, 257), (0, 256), (0, 258)] {
-            for length in [524, 525, 526, 527, 528, 1_000, 65_534] {
+            for length in [524, 525, 526, 527, 528, 1_000, usize::from(MOST_SYMBOLS)] {
                 let long = [&last[..kept], &vec![symbol; length - kept]].concat();
-                let mut controller = Controller::new(&Addresses::new(), NEVER);
-                let mut now = Pass::new(&Addresses::new(), NEVER);
-                now.command(&mut family, &controller.start(), NEVER, false);
-                for trace in good[..place].iter().chain([&long]) {
-                    now.trace(trace);
-                    let command = controller.step(trace);
-                    now.command(&mut family, &command, controller.last_pick, true);
+                for last in [Op::Step(long.clone()), Op::Choose(long)] {
+                    let steps = good[..place].iter().map(|trace| Op::Step(trace.clone()));
+                    let input = || format!("place {place} kept {kept} symbol {symbol} length {length}");
+                    one_pass(&mut family, steps.chain([last]), input);
                 }
-                let input = || format!("place {place} kept {kept} symbol {symbol} length {length}");
-                family.same(input, &found(&controller.lookup(0x0d)), &now.lookup(0x0d));
             }
         }
     }
     family.done()
+}
+
+/// A pass of these operations, each looked at; in the end 0Dh is looked up.
+fn one_pass(family: &mut Family, ops: impl Iterator<Item = Op>, input: impl Fn() -> String) {
+    let mut controller = Controller::new(&Addresses::new(), NEVER);
+    let mut now = Pass::new(&Addresses::new(), NEVER);
+    now.command(family, &controller.start(), NEVER, false);
+    for op in ops {
+        now.entry(&op);
+        if let Due::Command(command) = apply(&mut controller, &op) {
+            now.command(family, &command, controller.last_pick, true);
+        }
+    }
+    family.same(input, &found(&controller.lookup(0x0d)), &now.lookup(0x0d));
 }
 
 pub fn all() -> usize {

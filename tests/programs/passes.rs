@@ -39,6 +39,9 @@ fn op_text(op: &Op) -> String {
         }
         Op::Start => "start".to_string(),
         Op::Step(trace) => format!("step {}", trace_text(trace)),
+        Op::Choose(trace) => format!("choose {}", trace_text(trace)),
+        Op::Issue => "issue".to_string(),
+        Op::Decline => "decline".to_string(),
         Op::Lookups => "lookups and the last pick".to_string(),
         Op::Gone(number) => format!("gone {number:02x}"),
     }
@@ -86,7 +89,7 @@ fn compare(name: &str, entries: &[(Op, Due)], given: &[u8]) -> usize {
 
 /// One family through the program; the number of its passes.
 fn family(program: &str, name: &str, recorder: &Recorder) -> usize {
-    let too_long = |op: &Op| matches!(op, Op::Step(trace) if trace.len() > MOST_SYMBOLS);
+    let too_long = |op: &Op| op.trace().is_some_and(|trace| trace.len() > MOST_SYMBOLS);
     assert!(!recorder.entries.iter().any(|(op, _)| too_long(op)), "{name}: a trace is too long");
     let input = recorder.entries.iter().flat_map(|(op, _)| script::input(op)).collect();
     let (output, trouble) = run(program, input);
@@ -96,18 +99,20 @@ fn family(program: &str, name: &str, recorder: &Recorder) -> usize {
     }
     let passes = recorder.passes();
     assert!(passes > 0 && answers > 0, "{name}: no cases");
-    println!("{name:<28}{answers:>9} cases{passes:>9} passes{:>9} reports", recorder.reports());
+    let (reports, choices) = (recorder.reports(), recorder.choices());
+    println!("{name:<28}{answers:>9} cases{passes:>9} passes{reports:>9} reports{choices:>9} choices");
     passes
 }
 
 fn main() {
     let program = std::env::args().nth(1).expect("passes PROGRAM");
-    let (mut passes, mut reports) = (0, 0);
+    let (mut passes, mut reports, mut choices) = (0, 0, 0);
     for (name, make) in FAMILIES {
         let recorder = make();
         passes += family(&program, name, &recorder);
         reports += recorder.reports();
+        choices += recorder.choices();
     }
-    println!("{:<28}{passes:>24} passes{reports:>9} reports", "controller, all");
-    assert!(passes >= 3000 && reports >= 3000, "too few passes, or reports");
+    println!("{:<28}{passes:>24} passes{reports:>9} reports{choices:>9} choices", "controller, all");
+    assert!(passes >= 3000 && reports >= 3000 && choices >= 3000, "too few passes, or reports, or choices");
 }

@@ -5,10 +5,14 @@
 //!   2, count of 16 bits, so many symbols of 16 bits    a step; a command
 //!   3                                                  all lookups; 128 finds, and the last pick, one byte
 //!   4, an address, one byte                            the module there is reported gone; a find
-//! A command is a tag, a UDID, an address; a find is a tag and a UDID. Numbers are low byte first, UDIDs highest first.
+//!   5, count and symbols as of 2                       the first half of a step; a command
+//!   6                                                  the choice that waits is issued; a command
+//!   7                                                  it is declined; a command
+//! A command is a tag, a UDID, an address; a find is a tag and a UDID. Numbers are low byte first, UDIDs highest first. The
+//! tag of a choice that waits says why: 8 fixed, 9 kept, 10 picked, 11 claimed by two.
 
 use reference::addresses::Addresses;
-use reference::commands::{Command, Udid};
+use reference::commands::{Command, Reason, Udid};
 use reference::controller::Found;
 use reference::recorder::{Due, Op};
 
@@ -19,15 +23,20 @@ fn occupied_bits(occupied: &Addresses) -> [u8; 16] {
     occupied.iter().fold(0u128, |bits, &address| bits | 1 << address).to_le_bytes()
 }
 
+/// The number of symbols, and the symbols.
+fn counted(trace: &[u16]) -> Vec<u8> {
+    let count = u16::try_from(trace.len()).expect("a trace of a script is short");
+    [count].into_iter().chain(trace.iter().copied()).flat_map(u16::to_le_bytes).collect()
+}
+
 pub fn input(op: &Op) -> Vec<u8> {
     match op {
         Op::New(occupied, last_pick) => [&[0], &occupied_bits(occupied)[..], &[*last_pick]].concat(),
         Op::Start => vec![1],
-        Op::Step(trace) => {
-            let count = u16::try_from(trace.len()).expect("a trace of a script is short");
-            let words = [count].into_iter().chain(trace.iter().copied());
-            [vec![2], words.flat_map(u16::to_le_bytes).collect()].concat()
-        }
+        Op::Step(trace) => [vec![2], counted(trace)].concat(),
+        Op::Choose(trace) => [vec![5], counted(trace)].concat(),
+        Op::Issue => vec![6],
+        Op::Decline => vec![7],
         Op::Lookups => vec![3],
         Op::Gone(number) => vec![4, *number],
     }
@@ -42,6 +51,10 @@ fn command_bytes(command: &Command) -> Vec<u8> {
         Command::NoneFree(udid) => (4, udid, 0),
         Command::Abandoned => (5, &NO_UDID, 0),
         Command::NotOutstanding => (6, &NO_UDID, 0),
+        Command::Chosen(udid, address, Reason::Fixed) => (8, udid, *address),
+        Command::Chosen(udid, address, Reason::Kept) => (9, udid, *address),
+        Command::Chosen(udid, address, Reason::Picked) => (10, udid, *address),
+        Command::Chosen(udid, address, Reason::Claimed) => (11, udid, *address),
     };
     [&[tag], &udid[..], &[address]].concat()
 }

@@ -1,7 +1,9 @@
-//! The reference controller, bus and model run: the rows of the table, picks, reports, the marked cases, the plain rule,
-//! bad lists, and what holds in every pass.
+//! The reference controller, bus and model run: the rows of the table, picks, reports, choices, the marked cases, the plain
+//! rule, bad lists, and what holds in every pass.
 
 mod bad_lists;
+mod chosen;
+mod halves;
 mod history;
 mod invariants;
 mod picks;
@@ -11,7 +13,9 @@ mod rotation;
 mod rows;
 mod rows_reached;
 mod shelf_runs;
+mod single_step;
 mod turn;
+mod worked_choices;
 mod worked_passes;
 mod worked_reports;
 mod worked_rows;
@@ -30,6 +34,7 @@ fn main() {
     report("picks that do not", picks::lowest_is_noticed());
     report("passes worked by hand", worked_passes::all());
     report("reports worked by hand", worked_reports::all());
+    report("choices worked by hand", worked_choices::all());
     report("rows worked by hand", worked_rows::all());
     report("marked cases of ARP", worked_runs::marked_cases());
     report("last picks worked by hand", worked_runs::last_picks_by_hand());
@@ -40,5 +45,8 @@ fn main() {
     report("runs in turn", shelf_runs::runs_in_turn());
     report("bad target lists", bad_lists::single_faults());
     report("worse target lists", bad_lists::double_faults());
+    let (by_halves, single) = halves::all();
+    report("steps by halves", by_halves);
+    report("steps as they were", single);
     report("passes, step by step", invariants::all());
 }

@@ -13,18 +13,33 @@ pub const ASSIGN: u8 = 0x04;
 /// An address byte that says none.
 pub const NO_ADDRESS: u8 = 0xff;
 
+/// Why a target gets an address.
+#[derive(Clone, Copy, Debug, PartialEq, Eq, PartialOrd, Ord)]
+pub enum Reason {
+    /// It is fixed there.
+    Fixed,
+    /// It is movable, and holds it.
+    Kept,
+    /// It has none that it can have.
+    Picked,
+    /// The Assign, completed now, would leave a claim by two.
+    Claimed,
+}
+
 #[derive(Clone, Copy, Debug, PartialEq, Eq)]
 pub enum Command {
     Prepare,
     GetUdid,
     Assign(Udid, u8),
+    /// What an Assign would give, and why. It waits to be issued or declined, and nothing is outstanding.
+    Chosen(Udid, u8, Reason),
     /// The pass is over: 0.
     Ended,
     /// The pass is over, for this target there is no address: 13.
     NoneFree(Udid),
     /// The pass is over: 14.
     Abandoned,
-    /// A step with nothing to answer: 21.
+    /// A trace with no command to answer, or no choice waits: 21.
     NotOutstanding,
 }
 
@@ -32,6 +47,24 @@ impl Command {
     /// Is it sent on the bus?
     pub fn is_sent(&self) -> bool {
         matches!(self, Command::Prepare | Command::GetUdid | Command::Assign(..))
+    }
+
+    /// Is it a choice, to be issued or declined?
+    pub fn is_choice(&self) -> bool {
+        matches!(self, Command::Chosen(..))
+    }
+
+    /// Whom it gives which address, sent already or not yet.
+    pub fn gives(&self) -> Option<(Udid, u8)> {
+        match self {
+            Command::Assign(udid, address) | Command::Chosen(udid, address, _) => Some((*udid, *address)),
+            _ => None,
+        }
+    }
+
+    /// Does the pass go on after it?
+    pub fn is_running(&self) -> bool {
+        self.is_sent() || self.is_choice()
     }
 }
 

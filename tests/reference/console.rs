@@ -1,7 +1,7 @@
 //! The console, written from its description: words, requests, and the answers of the reference.
 
 use crate::addresses::*;
-use crate::commands::{Command, Udid};
+use crate::commands::{Command, Reason, Udid};
 use crate::console_module as modules;
 use crate::controller::{Binding, Controller, Found};
 use crate::decode::{decode, Answer};
@@ -183,11 +183,23 @@ pub(crate) fn udid_text(udid: &Udid) -> String {
     udid.iter().map(|byte| format!("{byte:02x}")).collect()
 }
 
+fn reason_text(reason: &Reason) -> &'static str {
+    match reason {
+        Reason::Fixed => "fixed",
+        Reason::Kept => "kept",
+        Reason::Picked => "picked",
+        Reason::Claimed => "claimed",
+    }
+}
+
 fn command_text(command: &Command) -> String {
     match command {
         Command::Prepare => "0 next prepare\n".to_string(),
         Command::GetUdid => "0 next get\n".to_string(),
         Command::Assign(udid, address) => format!("0 next assign {} 0x{address:02x}\n", udid_text(udid)),
+        Command::Chosen(udid, address, reason) => {
+            format!("0 chosen {} 0x{address:02x} {}\n", udid_text(udid), reason_text(reason))
+        }
         Command::Ended => "0 end\n".to_string(),
         Command::NoneFree(udid) => format!("13 end {}\n", udid_text(udid)),
         Command::Abandoned => "14 end\n".to_string(),
@@ -230,7 +242,7 @@ impl Console {
         Console { controller: Controller::new(&none, NEVER), occupied: none, records: vec![], module: None }
     }
 
-    /// The command outstanding, or how the pass ended.
+    /// The command outstanding, or the choice that waits, or how the pass ended.
     pub fn last(&self) -> Command {
         self.controller.last
     }
@@ -264,6 +276,9 @@ impl Console {
             b"run" => line.last_pick().map(|last_pick| self.run(last_pick)),
             b"start" => line.finish(END).map(|()| self.start()),
             b"step" => line.all_symbols().map(|symbols| command_text(&self.controller.step(&symbols))),
+            b"choose" => line.all_symbols().map(|symbols| command_text(&self.controller.choose(&symbols))),
+            b"issue" => line.finish(END).map(|()| command_text(&self.controller.issue())),
+            b"decline" => line.finish(END).map(|()| command_text(&self.controller.decline())),
             b"lookup" => line.only_byte().map(|address| self.lookup(address)),
             b"gone" => line.only_byte().map(|address| self.gone(address)),
             b"grid" => line.finish(END).map(|()| self.grid()),

@@ -1,4 +1,4 @@
-//! The ARP controller: one received trace in, the next command out.
+//! The ARP controller: one received trace in, the next command out. An Assign is chosen first, and then issued or declined.
 
 use crate::addresses::*;
 use crate::commands::*;
@@ -46,7 +46,7 @@ pub struct Controller {
     /// The address picked last, in this pass or an earlier one. Until the first pick it is the number given at the
     /// making; one above 127 counts as 127, never picked.
     pub last_pick: u8,
-    /// What was answered last; a step is due if it was sent on the bus.
+    /// What was answered last, 21 apart. A trace is due if it was sent on the bus; a choice waits.
     pub last: Command,
 }
 
@@ -76,7 +76,7 @@ impl Controller {
         Controller { starting, barred, pool, bindings, get_udids: 0, last_pick, last: Command::NotOutstanding }
     }
 
-    /// Forgets everything of the passes before but the last pick.
+    /// Forgets everything of the passes before but the last pick, a choice that waits too.
     pub fn start(&mut self) -> Command {
         self.pool = self.starting.clone();
         self.bindings.clear();
@@ -85,13 +85,40 @@ impl Controller {
         self.last
     }
 
+    /// Both halves: the first, and where it makes a choice the issue of that. A choice of before keeps waiting: 21.
     pub fn step(&mut self, trace: &[u16]) -> Command {
+        match self.choose(trace) {
+            Command::Chosen(..) => self.issue(),
+            other => other,
+        }
+    }
+
+    /// The first half of a step. Where the step would send an Assign the choice waits, and nothing is outstanding.
+    pub fn choose(&mut self, trace: &[u16]) -> Command {
         self.last = match self.last {
             Command::Prepare => self.prepared(trace),
             Command::GetUdid => self.replied(trace),
             Command::Assign(udid, address) => self.assigned(&udid, address, trace),
             _ => return Command::NotOutstanding,
         };
+        self.last
+    }
+
+    /// Sends the Assign of the choice that waits.
+    pub fn issue(&mut self) -> Command {
+        let Command::Chosen(udid, address, _) = self.last else {
+            return Command::NotOutstanding;
+        };
+        self.last = Command::Assign(udid, address);
+        self.last
+    }
+
+    /// Does not send it. The target would reply to every Get UDID again, so the pass ends.
+    pub fn decline(&mut self) -> Command {
+        let Command::Chosen(..) = self.last else {
+            return Command::NotOutstanding;
+        };
+        self.last = Command::Abandoned;
         self.last
     }
 
@@ -149,8 +176,9 @@ impl Controller {
             Reply::Again => self.get_udid(),
             Reply::From(udid, address_byte) => {
                 self.unbind(&udid);
-                match self.choose(&udid, address_byte) {
-                    Some(address) => Command::Assign(udid, address),
+                match self.address_for(&udid, address_byte) {
+                    Some((address, _)) if self.is_claim(address) => Command::Chosen(udid, address, Reason::Claimed),
+                    Some((address, reason)) => Command::Chosen(udid, address, reason),
                     None => Command::NoneFree(udid),
                 }
             }
@@ -165,14 +193,17 @@ impl Controller {
         }
     }
 
-    fn choose(&mut self, udid: &Udid, address_byte: u8) -> Option<u8> {
+    /// The address for a target that replies, and why, claims apart.
+    fn address_for(&mut self, udid: &Udid, address_byte: u8) -> Option<(u8, Reason)> {
         let own = address_byte / 2;
         if address_byte == NO_ADDRESS {
-            self.pick()
-        } else if is_fixed(udid) || !self.pool.contains(&own) {
-            Some(own)
+            self.pick().map(|address| (address, Reason::Picked))
+        } else if is_fixed(udid) {
+            Some((own, Reason::Fixed))
+        } else if !self.pool.contains(&own) {
+            Some((own, Reason::Kept))
         } else {
-            self.pick()
+            self.pick().map(|address| (address, Reason::Picked))
         }
     }
 

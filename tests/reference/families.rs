@@ -1,9 +1,9 @@
 //! The scripts for a controller, by name.
 
 use crate::recorder::Recorder;
-use crate::{every, hostile, reports, shelf_passes};
+use crate::{choices, every, hostile, reports, shelf_passes};
 
-pub const FAMILIES: [(&str, fn() -> Recorder); 29] = [
+pub const FAMILIES: [(&str, fn() -> Recorder); 40] = [
     ("every address byte", every::address_bytes),
     ("every nack", every::nacks),
     ("every count", every::counts),
@@ -33,4 +33,15 @@ pub const FAMILIES: [(&str, fn() -> Recorder); 29] = [
     ("gone, mistakes, starts", hostile::gone_and_mistaken),
     ("gone, 128 get udids", hostile::gone_for_ever),
     ("shelves, modules pulled", shelf_passes::pulled_modules),
+    ("every operation, a choice", choices::every_operation),
+    ("choices in every order", choices::every_order),
+    ("choices on a row", choices::every_order_on_a_row),
+    ("choices, row occupied", choices::every_order_on_an_occupied_row),
+    ("choices", hostile::choices),
+    ("choices, fixed", hostile::choices_and_claims),
+    ("choices, on rows", hostile::choices_on_rows),
+    ("choices, few free addresses", hostile::choices_and_none_free),
+    ("choices, mistakes, starts", hostile::choices_and_mistakes),
+    ("choices, 128 get udids", hostile::choices_for_ever),
+    ("choices, modules pulled", shelf_passes::pulled_modules_by_halves),
 ];

@@ -1,15 +1,17 @@
-//! Scripts with random answers to a controller: good ones, wrong ones, and starts and reports at any time.
+//! Scripts with random answers to a controller: good ones, wrong ones, and starts and reports at any time. Some are given to
+//! the first half of a step, and what is chosen is issued or declined.
 
 use crate::addresses::*;
 use crate::commands::*;
 use crate::good::*;
 use crate::mistakes::*;
 use crate::random::Random;
-use crate::recorder::Recorder;
+use crate::recorder::{Op, Recorder};
 use crate::shelves::*;
 
 /// How many answers in a hundred are wrong, how many Get UDIDs end the pass, how often a pass starts in the middle, and
-/// how often a module is reported gone. Where none is to end the pass, no wrong answer does.
+/// how often a module is reported gone. Where none is to end the pass, no wrong answer does. How many answers go to a first
+/// half, how many choices are declined, and how often there is what is answered with 21.
 #[derive(Clone, Copy)]
 struct Temper {
     prepare: usize,
@@ -18,9 +20,13 @@ struct Temper {
     over: usize,
     restart: usize,
     gone: usize,
+    choose: usize,
+    decline: usize,
+    stray: usize,
 }
 
-const CALM: Temper = Temper { prepare: 0, get_udid: 0, assign: 0, over: 12, restart: 0, gone: 0 };
+const CALM: Temper =
+    Temper { prepare: 0, get_udid: 0, assign: 0, over: 12, restart: 0, gone: 0, choose: 0, decline: 0, stray: 0 };
 
 /// Who may reply, and with which address bytes.
 struct Faces {
@@ -46,11 +52,11 @@ fn chance(random: &mut Random, percent: usize) -> bool {
 
 /// A number to report: an address that is bound, claimed, left or to be assigned, where there is one, or any.
 fn reported(recorder: &Recorder, random: &mut Random) -> u8 {
-    let some = match (random.below(8), recorder.outstanding()) {
+    let some = match (random.below(8), recorder.outstanding().gives()) {
         (0..=2, _) => recorder.answered_with(0),
         (3, _) => recorder.answered_with(16),
         (4, _) => recorder.answered_with(20),
-        (5, Command::Assign(_, address)) => vec![address],
+        (5, Some((_, address))) => vec![address],
         (6, _) => listed().iter().copied().collect(),
         _ => vec![],
     };
@@ -113,17 +119,53 @@ fn idle(recorder: &mut Recorder, random: &mut Random) {
     }
 }
 
+/// What is answered with 21: traces while a choice waits, else issues and declines.
+fn strays(recorder: &mut Recorder, random: &mut Random, temper: Temper, faces: &Faces) {
+    while temper.stray > 0 && chance(random, temper.stray) {
+        let command = random_command(recorder, random);
+        let trace = answer(random, temper, faces, &command);
+        recorder.record(match (recorder.outstanding().is_choice(), random.below(2)) {
+            (true, 0) => Op::Step(trace),
+            (true, _) => Op::Choose(trace),
+            (false, 0) => Op::Issue,
+            (false, _) => Op::Decline,
+        });
+    }
+}
+
+/// One of those that are sent, the Assign of the choice that waits among them.
+fn random_command(recorder: &Recorder, random: &mut Random) -> Command {
+    match (random.below(3), recorder.outstanding().gives()) {
+        (0, _) => Command::Prepare,
+        (1, Some((udid, address))) => Command::Assign(udid, address),
+        _ => Command::GetUdid,
+    }
+}
+
+/// What comes next in a pass. The command that is outstanding is answered, to a step or to a first half; or the choice that
+/// waits is issued or declined. None if the pass would end and must not.
+fn next(recorder: &Recorder, random: &mut Random, temper: Temper, faces: &Faces) -> Option<Op> {
+    if recorder.outstanding().is_choice() {
+        return Some(if chance(random, temper.decline) { Op::Decline } else { Op::Issue });
+    }
+    let trace = answer(random, temper, faces, &recorder.outstanding());
+    if temper.over == 0 && recorder.trial(&trace) == Command::Ended {
+        return None;
+    }
+    Some(if temper.choose > 0 && chance(random, temper.choose) { Op::Choose(trace) } else { Op::Step(trace) })
+}
+
 /// A pass to its end, or to the next start.
 fn pass(recorder: &mut Recorder, random: &mut Random, temper: Temper, faces: &Faces) {
     recorder.start();
     reports(recorder, random, temper.gone);
-    while recorder.outstanding().is_sent() {
-        let trace = answer(random, temper, faces, &recorder.outstanding());
-        if temper.over == 0 && recorder.trial(&trace) == Command::Ended {
+    while recorder.outstanding().is_running() {
+        let Some(op) = next(recorder, random, temper, faces) else {
             continue;
-        }
-        recorder.step(trace);
+        };
+        recorder.record(op);
         reports(recorder, random, temper.gone);
+        strays(recorder, random, temper, faces);
         if chance(random, 2) {
             recorder.lookups();
         }
@@ -134,6 +176,7 @@ fn pass(recorder: &mut Recorder, random: &mut Random, temper: Temper, faces: &Fa
     recorder.lookups();
     if chance(random, 20) {
         idle(recorder, random);
+        strays(recorder, random, temper, faces);
         reports(recorder, random, temper.gone);
         recorder.lookups();
     }
@@ -148,6 +191,7 @@ fn controllers(seed: u64, count: usize, temper: Temper, setting: fn(&mut Random)
         recorder.renew(&occupied, any_last_pick(&mut random));
         idle(&mut recorder, &mut random);
         reports(&mut recorder, &mut random, temper.gone);
+        strays(&mut recorder, &mut random, temper, &faces);
         for _ in 0..1 + random.below(4) {
             pass(&mut recorder, &mut random, temper, &faces);
         }
@@ -235,7 +279,7 @@ pub fn again() -> Recorder {
 }
 
 pub fn restarts() -> Recorder {
-    controllers(76, 500, Temper { prepare: 5, get_udid: 10, assign: 10, over: 3, restart: 15, gone: 0 }, few)
+    controllers(76, 500, Temper { prepare: 5, get_udid: 10, assign: 10, over: 3, restart: 15, ..CALM }, few)
 }
 
 pub fn gone() -> Recorder {
@@ -252,9 +296,42 @@ pub fn gone_and_none_free() -> Recorder {
 }
 
 pub fn gone_and_mistaken() -> Recorder {
-    controllers(88, 500, Temper { prepare: 5, get_udid: 20, assign: 20, over: 3, restart: 5, gone: 30 }, few)
+    controllers(88, 500, Temper { prepare: 5, get_udid: 20, assign: 20, over: 3, restart: 5, gone: 30, ..CALM }, few)
 }
 
 pub fn gone_for_ever() -> Recorder {
     controllers(89, 25, Temper { assign: 10, over: 0, gone: 40, ..CALM }, many)
+}
+
+/// Most answers go to first halves.
+const HALVED: Temper = Temper { assign: 10, over: 3, gone: 15, choose: 80, decline: 6, stray: 12, ..CALM };
+
+/// A few targets again and again, by halves.
+pub fn choices() -> Recorder {
+    controllers(93, 500, HALVED, few)
+}
+
+/// Fixed targets alone, by halves.
+pub fn choices_and_claims() -> Recorder {
+    controllers(94, 400, HALVED, claims)
+}
+
+/// Targets on added rows, by halves.
+pub fn choices_on_rows() -> Recorder {
+    controllers(95, 300, HALVED, rows)
+}
+
+/// At most five free addresses, by halves: some replies find none.
+pub fn choices_and_none_free() -> Recorder {
+    controllers(96, 400, Temper { over: 1, decline: 3, ..HALVED }, exhausted)
+}
+
+/// Wrong answers and starts at any time, by halves.
+pub fn choices_and_mistakes() -> Recorder {
+    controllers(97, 500, Temper { prepare: 5, get_udid: 20, assign: 20, restart: 5, ..HALVED }, few)
+}
+
+/// Passes that go on to the 128th Get UDID, or nearly: few choices are declined.
+pub fn choices_for_ever() -> Recorder {
+    controllers(98, 30, Temper { over: 0, decline: 1, stray: 3, ..HALVED }, many)
 }

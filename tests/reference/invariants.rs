@@ -1,5 +1,6 @@
 //! What holds after every operation of every script.
 
+use crate::chosen::{self, Course};
 use crate::history::{is_assign, History};
 use crate::reached::Reached;
 use crate::reported;
@@ -52,9 +53,13 @@ fn follows(turn: &Turn) -> bool {
     match (turn.op, turn.due) {
         (Op::Start, Due::Command(Command::Prepare)) => after.bindings.is_empty() && after.pool == after.starting,
         (Op::Start, _) => false,
-        (Op::Step(_), Due::Command(Command::NotOutstanding)) => !before.last.is_sent() && before == after,
-        (Op::Step(_), Due::Command(Command::Prepare)) => false,
-        (Op::Step(_), _) => before.last.is_sent(),
+        (Op::Step(_) | Op::Choose(_), Due::Command(Command::NotOutstanding)) => {
+            !before.last.is_sent() && before == after
+        }
+        (Op::Step(_), Due::Command(Command::Prepare | Command::Chosen(..))) => false,
+        (Op::Choose(_), Due::Command(Command::Prepare | Command::Assign(..))) => false,
+        (Op::Step(_) | Op::Choose(_), _) => before.last.is_sent(),
+        (Op::Issue | Op::Decline, _) => chosen::is_settled(turn),
         (Op::Lookups, _) => before == after,
         (Op::Gone(number), Due::Gone(found)) => reported::is_right(before, *number, after, found),
         (Op::Gone(_), _) => false,
@@ -65,10 +70,10 @@ fn follows(turn: &Turn) -> bool {
 /// Only a pick moves the last pick, and to the address picked; of the last pick again no other address was free.
 fn moves(turn: &Turn) -> bool {
     let (before, after) = (turn.before, turn.after);
-    match (turn.op, turn.choice, after.last) {
+    match (turn.op, turn.choice, after.last.gives()) {
         (Op::New(_, last_pick), ..) => after.last_pick == NEVER.min(*last_pick),
         (_, None | Some(Choice::Fixed | Choice::Kept), _) => after.last_pick == before.last_pick,
-        (_, Some(Choice::Picked), Command::Assign(_, address)) => {
+        (_, Some(Choice::Picked), Some((_, address))) => {
             let alone = after.pool.len() == usize::from(ADDRESSES) - 1;
             after.last_pick == address && !after.pool.contains(&address) && (address != before.last_pick || alone)
         }
@@ -80,11 +85,14 @@ fn moves(turn: &Turn) -> bool {
 /// round over all passes of a controller. What is free goes by the events.
 fn free(turn: &Turn, history: &History, rotation: &mut Rotation) -> bool {
     let last_pick = turn.before.last_pick;
-    match (turn.choice, turn.before.last, turn.after.last) {
-        (None, Command::GetUdid, Command::NoneFree(_)) => history.used().len() == usize::from(ADDRESSES),
-        (None | Some(Choice::Fixed), ..) => true,
-        (Some(Choice::Kept), _, Command::Assign(_, address)) => !history.is_used(address),
-        (Some(Choice::Picked), _, Command::Assign(_, address)) => {
+    let exhausted = (turn.before.last, turn.after.last);
+    match (turn.choice, turn.after.last.gives()) {
+        (None, _) if matches!(exhausted, (Command::GetUdid, Command::NoneFree(_))) => {
+            history.used().len() == usize::from(ADDRESSES)
+        }
+        (None | Some(Choice::Fixed), _) => true,
+        (Some(Choice::Kept), Some((_, address))) => !history.is_used(address),
+        (Some(Choice::Picked), Some((_, address))) => {
             let used = history.used();
             nearest_after(&used, last_pick) == Some(address) && rotation.is_kept_by(&used, address)
         }
@@ -96,7 +104,7 @@ fn free(turn: &Turn, history: &History, rotation: &mut Rotation) -> bool {
 /// was bound there, or it was claimed before; else it is bound. After any other answer nothing is another.
 fn settled(turn: &Turn) -> bool {
     let (before, after) = (turn.before, turn.after);
-    let (Op::Step(trace), Command::Assign(udid, address)) = (turn.op, before.last) else {
+    let (Some(trace), Command::Assign(udid, address)) = (turn.op.trace(), before.last) else {
         return true;
     };
     if !is_assign(trace, &udid, address) {
@@ -126,12 +134,14 @@ fn refused(turn: &Turn) -> bool {
 }
 
 /// What does not hold of an operation, if anything.
-fn broken(turn: &Turn, history: &mut History, rotation: &mut Rotation) -> Option<&'static str> {
+fn broken(turn: &Turn, history: &mut History, rotation: &mut Rotation, course: &Course) -> Option<&'static str> {
     let all = [
         ("what is used", consistent(turn.after)),
         ("what follows what", follows(turn)),
         ("a refusal", refused(turn)),
         ("what an Assign leaves", settled(turn)),
+        ("the reason of a choice", chosen::is_reasoned(turn)),
+        ("what becomes of a choice", course.is_kept_by(turn)),
         ("the answer by the events", history.note(turn.op, turn.due)),
         ("the state by the events", told_by(history, turn.after)),
         ("the last pick", moves(turn)),
@@ -144,7 +154,7 @@ fn broken(turn: &Turn, history: &mut History, rotation: &mut Rotation) -> Option
 fn walk(name: &str, entries: &[(Op, Due)], reached: &mut Reached) {
     let none = Addresses::new();
     let (mut controller, mut history) = (Controller::new(&none, NEVER), History::new(&none));
-    let mut rotation = Rotation::default();
+    let (mut rotation, mut course) = (Rotation::default(), Course::default());
     for (k, (op, due)) in entries.iter().enumerate() {
         let before = controller.clone();
         assert_eq!(&apply(&mut controller, op), due, "{name}, entry {k}");
@@ -152,10 +162,11 @@ fn walk(name: &str, entries: &[(Op, Due)], reached: &mut Reached) {
             rotation = Rotation::default();
         }
         let turn = Turn::new(&before, op, due, &controller);
-        if let Some(what) = broken(&turn, &mut history, &mut rotation) {
+        if let Some(what) = broken(&turn, &mut history, &mut rotation, &course) {
             panic!("{name}, entry {k}, {what}: {op:02x?} {due:02x?}\nbefore {before:02x?}\nafter  {controller:02x?}");
         }
-        reached.add(&turn);
+        reached.add(&turn, &course);
+        course.go_on(&turn);
     }
 }
 

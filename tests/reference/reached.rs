@@ -1,5 +1,6 @@
 //! What the scripts have to reach, and how often.
 
+use crate::chosen::{Choices, Course};
 use crate::reported::Reports;
 use crate::rows_reached::{on_rows, ON_ROWS};
 use crate::turn::{Choice, Turn};
@@ -11,11 +12,9 @@ use reference::recorder::Op;
 use reference::table::{BLOCK_READ, BLOCK_WRITE, SEND_BYTE};
 use std::collections::BTreeMap;
 
-/// How a step came to the address of an Assign.
+/// How it came to the address of an Assign, or of a choice.
 fn chosen(turn: &Turn) -> Option<&'static str> {
-    let Command::Assign(_, address) = turn.after.last else {
-        return None;
-    };
+    let (_, address) = turn.after.last.gives()?;
     Some(match (turn.choice?, turn.before.last_pick) {
         (Choice::Fixed, _) => "fixed",
         (Choice::Kept, _) => "kept",
@@ -74,6 +73,8 @@ fn event(turn: &Turn) -> &'static str {
         (Op::Lookups, ..) => "lookups",
         (Op::Gone(_), ..) if before == after => "gone in vain",
         (Op::Gone(_), ..) => "gone",
+        (Op::Issue, Command::Chosen(..), _) => "issued",
+        (Op::Decline, Command::Chosen(..), _) => "declined",
         (_, last, _) if !last.is_sent() => "21",
         (_, Command::Assign(udid, address), _) => after_assign(turn, &udid, address),
         (_, Command::Prepare, Command::Abandoned) => "14 after prepare",
@@ -88,13 +89,15 @@ fn event(turn: &Turn) -> &'static str {
     }
 }
 
-const EVENTS: [&str; 22] = [
+const EVENTS: [&str; 24] = [
     "new",
     "start",
     "start in a pass",
     "lookups",
     "gone in vain",
     "gone",
+    "issued",
+    "declined",
     "21",
     "14 after a binding",
     "14 after prepare",
@@ -120,6 +123,7 @@ pub struct Reached {
     made: BTreeMap<&'static str, usize>,
     rows: BTreeMap<&'static str, usize>,
     reports: Reports,
+    by_halves: Choices,
     answers: Tally,
 }
 
@@ -133,7 +137,7 @@ fn check(wanted: &[&str], reached: &BTreeMap<&str, usize>) {
 }
 
 impl Reached {
-    pub fn add(&mut self, turn: &Turn) {
+    pub fn add(&mut self, turn: &Turn, course: &Course) {
         *self.events.entry(event(turn)).or_default() += 1;
         if let Some(how) = chosen(turn) {
             *self.choices.entry(how).or_default() += 1;
@@ -148,6 +152,7 @@ impl Reached {
             self.answers.add(*protocol, true, answer);
         }
         self.reports.add(turn);
+        self.by_halves.add(turn, course);
     }
 
     pub fn check(&self) {
@@ -156,6 +161,7 @@ impl Reached {
         check(&MADE, &self.made);
         check(&ON_ROWS, &self.rows);
         self.reports.check();
+        self.by_halves.check();
         let protocols = [SEND_BYTE, BLOCK_READ, BLOCK_WRITE].map(|protocol| (protocol, true));
         self.answers.check("answers to commands", &protocols, 20);
         println!("{:<28}{:?}", "answers to commands", self.answers.totals());
@@ -163,6 +169,7 @@ impl Reached {
         println!("{:<28}{:?}", "controllers", self.made);
         println!("{:<28}{:?}", "on the rows", self.rows);
         println!("{:<28}{:?}", "reports", self.reports.totals());
+        println!("{:<28}{:?}", "choices", self.by_halves.totals());
     }
 
     /// The number of operations.

@@ -10,10 +10,26 @@ pub enum Op {
     New(Addresses, u8),
     Start,
     Step(Vec<u16>),
+    /// The first half of a step.
+    Choose(Vec<u16>),
+    /// The second half: the choice that waits is sent.
+    Issue,
+    /// The choice that waits is not sent.
+    Decline,
     /// All 128 addresses, and the last pick.
     Lookups,
     /// The module at this address is reported gone.
     Gone(u8),
+}
+
+impl Op {
+    /// The trace that it hands to the controller, if it does.
+    pub fn trace(&self) -> Option<&[u16]> {
+        match self {
+            Op::Step(trace) | Op::Choose(trace) => Some(trace),
+            _ => None,
+        }
+    }
 }
 
 #[derive(Clone, Debug, PartialEq, Eq)]
@@ -38,6 +54,9 @@ pub fn apply(controller: &mut Controller, op: &Op) -> Due {
         }
         Op::Start => Due::Command(controller.start()),
         Op::Step(trace) => Due::Command(controller.step(trace)),
+        Op::Choose(trace) => Due::Command(controller.choose(trace)),
+        Op::Issue => Due::Command(controller.issue()),
+        Op::Decline => Due::Command(controller.decline()),
         Op::Lookups => {
             let all = (0..ADDRESSES).map(|address| controller.lookup(address)).collect();
             Due::Found(all, controller.last_pick)
@@ -53,7 +72,8 @@ impl Recorder {
         recorder
     }
 
-    fn record(&mut self, op: Op) {
+    /// An operation, with its answer.
+    pub fn record(&mut self, op: Op) {
         let due = apply(&mut self.controller, &op);
         self.entries.push((op, due));
     }
@@ -70,6 +90,24 @@ impl Recorder {
     /// What is outstanding after the step.
     pub fn step(&mut self, trace: Vec<u16>) -> Command {
         self.record(Op::Step(trace));
+        self.outstanding()
+    }
+
+    /// The first half of a step.
+    pub fn choose(&mut self, trace: Vec<u16>) -> Command {
+        self.record(Op::Choose(trace));
+        self.outstanding()
+    }
+
+    /// The choice that waits is sent, if one does.
+    pub fn issue(&mut self) -> Command {
+        self.record(Op::Issue);
+        self.outstanding()
+    }
+
+    /// The choice that waits is not sent, if one does.
+    pub fn decline(&mut self) -> Command {
+        self.record(Op::Decline);
         self.outstanding()
     }
 
@@ -97,6 +135,7 @@ impl Recorder {
         (0..ADDRESSES).filter(|&address| self.found(address).number() == number).collect()
     }
 
+    /// What is outstanding, or the choice that waits, or how the pass ended.
     pub fn outstanding(&self) -> Command {
         self.controller.last
     }
@@ -107,5 +146,10 @@ impl Recorder {
 
     pub fn reports(&self) -> usize {
         self.entries.iter().filter(|(op, _)| matches!(op, Op::Gone(_))).count()
+    }
+
+    /// How many choices waited.
+    pub fn choices(&self) -> usize {
+        self.entries.iter().filter(|(_, due)| matches!(due, Due::Command(Command::Chosen(..)))).count()
     }
 }

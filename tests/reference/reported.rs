@@ -31,6 +31,8 @@ fn point(last: &Command, number: u8) -> &'static str {
         Command::GetUdid => "get udid",
         Command::Assign(_, address) if *address == number => "its assign",
         Command::Assign(..) => "assign",
+        Command::Chosen(_, address, _) if *address == number => "its choice",
+        Command::Chosen(..) => "choice",
         Command::Ended => "after 0",
         Command::NoneFree(_) => "after 13",
         Command::Abandoned => "after 14",
@@ -38,12 +40,14 @@ fn point(last: &Command, number: u8) -> &'static str {
 }
 
 /// The answers that there are at each point. A number above 127 is never assigned.
-const ANSWERS: [(&str, &[u32]); 8] = [
+const ANSWERS: [(&str, &[u32]); 10] = [
     ("before the first pass", &[1, 15]),
     ("prepare", &[1, 15]),
     ("get udid", &[0, 1, 15, 16, 20]),
     ("its assign", &[0, 15, 16, 20]),
     ("assign", &[0, 1, 15, 16, 20]),
+    ("its choice", &[0, 15, 16, 20]),
+    ("choice", &[0, 1, 15, 16, 20]),
     ("after 0", &[0, 1, 15, 16, 20]),
     ("after 13", &[0, 1, 15, 16, 20]),
     ("after 14", &[0, 1, 15, 16, 20]),

@@ -28,9 +28,10 @@ const NAMES: [&str; 13] = [
     "Quick",
 ];
 
-const VERBS: [&str; 22] = [
-    "pec", "encode", "decode", "occupied", "target", "clear", "run", "start", "step", "lookup", "grid", "gone",
-    "module", "m", "pe", "Pec", "help", "Gone", "gon", "M", "modul", "ms",
+const VERBS: [&str; 28] = [
+    "pec", "encode", "decode", "occupied", "target", "clear", "run", "start", "step", "choose", "issue", "decline",
+    "lookup", "grid", "gone", "module", "m", "pe", "Pec", "help", "Gone", "gon", "M", "modul", "ms", "chose", "issued",
+    "Decline",
 ];
 
 /// A number in one of the ways to write it.
@@ -158,8 +159,12 @@ fn occupied(random: &mut Random) -> String {
     format!("occupied{}", numbers(random, &addresses))
 }
 
-/// A step: mostly an answer to the command that is outstanding.
+/// What a pass goes on with. Mostly an answer to the command that is outstanding, to a step or to the first half of one; or
+/// the issue or the decline of the choice that waits.
 fn step(random: &mut Random, last: Command) -> String {
+    if last.is_choice() && random.below(6) > 0 {
+        return random.pick(&["issue", "issue", "issue", "issue", "decline"]).to_string();
+    }
     let right = match last {
         Command::Prepare => trace_of(&prepare()),
         Command::GetUdid if random.below(12) == 0 => all_resolved(),
@@ -168,11 +173,12 @@ fn step(random: &mut Random, last: Command) -> String {
             let byte = random.pick(&[0xff, 0x13, 0x15, 0x91, 0x59, 0x41, 0x19, 0xfe]);
             reply_trace(&with_kind(any_udid(random), kind), byte)
         }
-        Command::Assign(udid, address) => trace_of(&assign(&udid, address)),
+        Command::Assign(udid, address) | Command::Chosen(udid, address, _) => trace_of(&assign(&udid, address)),
         _ => rubbish(random),
     };
     let trace = if random.below(5) == 0 && !right.is_empty() { damaged(random, &right) } else { right };
-    format!("step{}", numbers(random, &trace))
+    let verb = random.pick(&["step", "choose"]);
+    format!("{verb}{}", numbers(random, &trace))
 }
 
 /// A model run: never picked, or with a last pick, now and then above 127.
@@ -194,10 +200,20 @@ fn address(random: &mut Random, console: &Console) -> u8 {
     random.pick(&[9, 10, 11, 12, 13, 14, 0x20, 0x2c, 0x48, 0x7f, 0x80, 0xff])
 }
 
-/// A request that can be read.
+/// A lookup, or a report.
+fn asked(random: &mut Random, console: &Console, verb: &str) -> String {
+    let address = address(random, console);
+    format!("{verb}{}", numbers(random, &[address]))
+}
+
+/// A request that can be read. While a choice waits there are more lookups and reports.
 pub fn good(random: &mut Random, console: &Console) -> String {
     let count = random.pick(&[0, 1, 9, 300]);
-    match random.below(26) {
+    match random.below(28) {
+        _ if console.last().is_choice() && random.below(3) == 0 => {
+            let verb = random.pick(&["lookup", "gone"]);
+            asked(random, console, verb)
+        }
         0 => {
             let bytes = random.bytes(count);
             format!("pec{}", numbers(random, &bytes))
@@ -209,18 +225,13 @@ pub fn good(random: &mut Random, console: &Console) -> String {
         11 if random.below(3) == 0 => "clear".to_string(),
         11 | 12 => run(random),
         13 if random.below(5) == 0 => "start".to_string(),
-        13 if !console.last().is_sent() => "start".to_string(),
-        14 => {
-            let address = address(random, console);
-            format!("lookup{}", numbers(random, &[address]))
-        }
+        13 if !console.last().is_running() => "start".to_string(),
+        14 => asked(random, console, "lookup"),
         15 => "grid".to_string(),
-        16 | 17 => {
-            let address = address(random, console);
-            format!("gone{}", numbers(random, &[address]))
-        }
+        16 | 17 => asked(random, console, "gone"),
         18 if random.below(4) == 0 => module_lines::module(random),
         18..=20 => module_lines::event(random, console),
+        21 if random.below(2) == 0 => random.pick(&["issue", "decline"]).to_string(),
         _ => step(random, console.last()),
     }
 }
@@ -287,7 +298,7 @@ fn long(random: &mut Random) -> Vec<u8> {
     let length = random.pick(&[LONGEST_LINE - 1, LONGEST_LINE, LONGEST_LINE + 1, LONGEST_LINE + 5000, 70_000]);
     let (begin, fill): (&[u8], &[u8]) = match random.below(6) {
         0 => (b"pec", b" 1"),
-        1 => (b"step", b" 7"),
+        1 => (random.pick(&[&b"step"[..], b"choose"]), b" 7"),
         2 => (b"decode 8 -", b" 9"),
         3 => (b"clear", b" "),
         4 => (b"occupied 0", b"0"),

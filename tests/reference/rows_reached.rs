@@ -47,8 +47,8 @@ fn assigned(turn: &Turn, trace: &[u16], udid: &Udid, address: u8) -> Option<&'st
 fn unbound(turn: &Turn) -> Option<&'static str> {
     let bound = |controller: &Controller, address| matches!(controller.bindings.get(&address), Some(Binding::Bound(_)));
     let row = added().into_iter().find(|&row| bound(turn.before, row) && !bound(turn.after, row))?;
-    match turn.after.last {
-        Command::Assign(_, address) if address == row => Some("unbound on a row, given it again"),
+    match turn.after.last.gives() {
+        Some((_, address)) if address == row => Some("unbound on a row, given it again"),
         _ => Some("unbound on a row"),
     }
 }
@@ -75,9 +75,9 @@ fn exhausted(turn: &Turn) -> Option<&'static str> {
 }
 
 fn gone(turn: &Turn, address: u8) -> Option<&'static str> {
-    match turn.before.last {
+    match turn.before.last.gives() {
         _ if !is_added(address) || turn.before == turn.after => None,
-        Command::Assign(_, to) if to == address => Some("gone on a row, to be assigned"),
+        Some((_, to)) if to == address => Some("gone on a row, to be assigned"),
         _ => Some("gone on a row"),
     }
 }
@@ -85,8 +85,10 @@ fn gone(turn: &Turn, address: u8) -> Option<&'static str> {
 /// What an operation did on rows.
 pub fn on_rows(turn: &Turn) -> Vec<&'static str> {
     let all = match (turn.op, turn.before.last) {
-        (Op::Step(trace), Command::Assign(udid, address)) => vec![assigned(turn, trace, &udid, address)],
-        (Op::Step(_), Command::GetUdid) => vec![unbound(turn), moved(turn), exhausted(turn)],
+        (Op::Step(trace) | Op::Choose(trace), Command::Assign(udid, address)) => {
+            vec![assigned(turn, trace, &udid, address)]
+        }
+        (Op::Step(_) | Op::Choose(_), Command::GetUdid) => vec![unbound(turn), moved(turn), exhausted(turn)],
         (Op::Gone(address), _) => vec![gone(turn, *address)],
         _ => vec![],
     };

@@ -1,4 +1,5 @@
-//! Scripts with the answers of a shelf: as they are, disturbed on the way, and with modules pulled while a pass runs.
+//! Scripts with the answers of a shelf: as they are, disturbed on the way, and with modules pulled while a pass runs, also
+//! while a choice waits.
 
 use crate::addresses::*;
 use crate::bus::{Bus, Target};
@@ -6,7 +7,7 @@ use crate::commands::*;
 use crate::controller::Found;
 use crate::mistakes::damaged;
 use crate::random::Random;
-use crate::recorder::Recorder;
+use crate::recorder::{Op, Recorder};
 use crate::shelves::*;
 
 /// What a damaged wire makes of an answer.
@@ -107,8 +108,22 @@ impl Slots {
     }
 }
 
+/// The shelf answers what is outstanding, to a step or to the first half of one; or the choice that waits is issued or, now
+/// and then, declined.
+fn next(recorder: &Recorder, slots: &mut Slots, random: &mut Random, by_halves: bool) -> Op {
+    if recorder.outstanding().is_choice() {
+        return if random.below(25) == 0 { Op::Decline } else { Op::Issue };
+    }
+    let shown = slots.bus.answer(&recorder.outstanding());
+    if by_halves {
+        Op::Choose(shown)
+    } else {
+        Op::Step(shown)
+    }
+}
+
 /// Passes over a shelf that changes while they run. What is not reported in time is reported at the end.
-fn changing_shelf(recorder: &mut Recorder, random: &mut Random) {
+fn changing_shelf(recorder: &mut Recorder, random: &mut Random, by_halves: bool) {
     let occupied = occupied(random);
     recorder.renew(&occupied, any_last_pick(random));
     let count = 1 + random.below(24);
@@ -116,9 +131,9 @@ fn changing_shelf(recorder: &mut Recorder, random: &mut Random) {
     let mut slots = Slots { bus, pulled: vec![], vacant: vec![] };
     for _ in 0..1 + random.below(4) {
         recorder.start();
-        while recorder.outstanding().is_sent() {
-            let shown = slots.bus.answer(&recorder.outstanding());
-            recorder.step(shown);
+        while recorder.outstanding().is_running() {
+            let op = next(recorder, &mut slots, random, by_halves);
+            recorder.record(op);
             slots.change(recorder, random);
         }
         recorder.lookups();
@@ -129,11 +144,21 @@ fn changing_shelf(recorder: &mut Recorder, random: &mut Random) {
     }
 }
 
-pub fn pulled_modules() -> Recorder {
-    let mut random = Random::new(90);
+fn changing_shelves(seed: u64, by_halves: bool) -> Recorder {
+    let mut random = Random::new(seed);
     let mut recorder = Recorder::new(&Addresses::new(), NEVER);
     for _ in 0..300 {
-        changing_shelf(&mut recorder, &mut random);
+        changing_shelf(&mut recorder, &mut random, by_halves);
     }
     recorder
+}
+
+/// Modules are pulled and put back while passes run.
+pub fn pulled_modules() -> Recorder {
+    changing_shelves(90, false)
+}
+
+/// The same by halves: now and then while a choice waits, and now and then one is declined.
+pub fn pulled_modules_by_halves() -> Recorder {
+    changing_shelves(99, true)
 }

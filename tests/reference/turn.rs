@@ -12,9 +12,9 @@ pub struct Turn<'a> {
     pub op: &'a Op,
     pub due: &'a Due,
     pub after: &'a Controller,
-    /// Of a step that answers a command: its protocol, and what the decoder makes of the trace.
+    /// Of a trace that answers a command: its protocol, and what the decoder makes of the trace.
     pub decoded: Option<(u8, Answer)>,
-    /// Of a step that hands out an Assign: how it came to the address.
+    /// Of a trace after which there is an Assign or a choice: how it came to the address.
     pub choice: Option<Choice>,
 }
 
@@ -40,15 +40,12 @@ fn decoded(before: &Controller, op: &Op) -> Option<(u8, Answer)> {
         Command::Assign(..) => BLOCK_WRITE,
         _ => return None,
     };
-    let Op::Step(trace) = op else {
-        return None;
-    };
-    Some((protocol, decode(protocol, true, trace, 255, 255)))
+    Some((protocol, decode(protocol, true, op.trace()?, 255, 255)))
 }
 
 /// A picked address is never the one that the reply has: that is in use, or FFh, for 7Fh, which is reserved.
 fn choice(before: &Controller, after: &Controller, decoded: &Option<(u8, Answer)>) -> Option<Choice> {
-    let (Command::GetUdid, Command::Assign(udid, address)) = (before.last, after.last) else {
+    let (Command::GetUdid, Some((udid, address))) = (before.last, after.last.gives()) else {
         return None;
     };
     let Some((_, Answer::Done(reply))) = decoded else {

@@ -7,7 +7,6 @@ use mathlib.Core.Logic.{inl, inr, _↔_}
 use native.Mathlib.Decide.{ℕ-discrete}
 use Rattle.lists.specs.AbsurdLaws.{zero-is-one}
 use Rattle.lists.specs.Choice.{or}
-use Rattle.lists.specs.ChoiceLaws.{or-last}
 use Rattle.wire.specs.declared.address.Address.{Address}
 use Rattle.pool.specs.NextFreeLaws.{next-is}
 use Rattle.pool.specs.Pools.{member}
@@ -27,47 +26,21 @@ use Rattle.commands.specs.declared.command.End.the-variants.{Chosen}
 use Rattle.commands.specs.declared.command.Handed.{Handed}
 use Rattle.commands.specs.declared.command.Handed.the-variants.{Send, Wait}
 use Rattle.commands.specs.declared.command.Reason.{Reason}
-use Rattle.commands.specs.declared.command.Reason.the-variants.{Fixed, Kept, Picked, Claimed}
+use Rattle.commands.specs.declared.command.Reason.the-variants.{Claimed}
 use Rattle.hearing.specs.Told.{tells}
 use Rattle.pool.specs.declared.free.Free.{Free}
 use Rattle.pool.specs.declared.free.Free.the-variants.{AllUsed}
 use Rattle.arp.specs.Bindings.{freed}
+use Rattle.picking.specs.ClaimLaws.{barred-makes-claim, held-makes-claim}
 use Rattle.picking.specs.Claims.{isHeld, makesClaim}
 use Rattle.arp.specs.Choosing.{reasonFor, waitingWith, decided, decidedOn, firstHalf}
-use Rattle.picking.specs.Picking.{reasonOf}
-use Rattle.picking.specs.PickingLaws.{ff-picks, fixed-picks-none, movable-picks, picks-is-taken, chosen-picked, chosen-own}
+use Rattle.picking.specs.PickingLaws.{ff-picks, fixed-picks-none, movable-picks, picks-is-taken, chosen-picked, chosen-own, is-claimed, is-picked, is-fixed, is-kept}
 use Rattle.picking.specs.Picking.{hasToPick, chosen}
 use Rattle.arp.specs.OneStepLaws.{told-reply}
 use Rattle.arp.specs.PickedLaws.{freed-keeps-picked}
 use Rattle.arp.specs.Reasons.{MustPick, Contested, Reasons}
 use Rattle.arp.specs.declared.state.Controller.{Controller}
 use Rattle.arp.specs.declared.state.Stepped.{Stepped}
-
--- ---- the three tests
-
-is-claimed : (t p f : Bool) → (reasonOf t p f ≡ Claimed) ↔ (t ≡ true)
-is-claimed true p f = (λ e. refl, λ e. refl)
-is-claimed false true f = (λ e. zero-is-one (cc e), λ e. zero-is-one (cc e))
-is-claimed false false true = (λ e. zero-is-one (cc e), λ e. zero-is-one (cc e))
-is-claimed false false false = (λ e. zero-is-one (cc e), λ e. zero-is-one (cc e))
-
-is-picked : (t p f : Bool) → (reasonOf t p f ≡ Picked) ↔ ((t ≡ false) × (p ≡ true))
-is-picked true p f = (λ e. zero-is-one (cc e), λ e. zero-is-one (cc (e .0)))
-is-picked false true f = (λ e. (refl, refl), λ e. refl)
-is-picked false false true = (λ e. zero-is-one (cc e), λ e. zero-is-one (cc (e .1)))
-is-picked false false false = (λ e. zero-is-one (cc e), λ e. zero-is-one (cc (e .1)))
-
-is-fixed : (t p f : Bool) → (reasonOf t p f ≡ Fixed) ↔ ((t ≡ false) × (p ≡ false) × (f ≡ true))
-is-fixed true p f = (λ e. zero-is-one (cc e), λ e. zero-is-one (cc (e .0)))
-is-fixed false true f = (λ e. zero-is-one (cc e), λ e. zero-is-one (cc (e .1)))
-is-fixed false false true = (λ e. (refl, refl, refl), λ e. refl)
-is-fixed false false false = (λ e. zero-is-one (cc e), λ e. zero-is-one (cc (e .2)))
-
-is-kept : (t p f : Bool) → (reasonOf t p f ≡ Kept) ↔ ((t ≡ false) × (p ≡ false) × (f ≡ false))
-is-kept true p f = (λ e. zero-is-one (cc e), λ e. zero-is-one (cc (e .0)))
-is-kept false true f = (λ e. zero-is-one (cc e), λ e. zero-is-one (cc (e .1)))
-is-kept false false true = (λ e. zero-is-one (cc e), λ e. zero-is-one (cc (e .2)))
-is-kept false false false = (λ e. (refl, refl, refl), λ e. refl)
 
 -- ---- in the scope's words
 
@@ -76,9 +49,9 @@ module _ (t : Controller) (a : ℕ) where
   taken = makesClaim (t .occupied) (heldAt (t .slots) a) a
 
   contested-makes-claim : Contested t a → taken ≡ true
-  contested-makes-claim (inl e) = ap (λ (x : Bool). or x (isHeld (heldAt (t .slots) a))) e
-  contested-makes-claim (inr (inl (w, k))) = ap (λ (x : Binding). or (member (barredPool (t .occupied)) a) (isHeld x)) k ∙ or-last (member (barredPool (t .occupied)) a)
-  contested-makes-claim (inr (inr k)) = ap (λ (x : Binding). or (member (barredPool (t .occupied)) a) (isHeld x)) k ∙ or-last (member (barredPool (t .occupied)) a)
+  contested-makes-claim (inl e) = barred-makes-claim (t .occupied) (heldAt (t .slots) a) a e
+  contested-makes-claim (inr (inl (w, k))) = held-makes-claim (t .occupied) (heldAt (t .slots) a) a (ap isHeld k)
+  contested-makes-claim (inr (inr k)) = held-makes-claim (t .occupied) (heldAt (t .slots) a) a (ap isHeld k)
 
   claim-is-contested : taken ≡ true → Contested t a
   claim-is-contested e = go (member (barredPool (t .occupied)) a) refl (heldAt (t .slots) a) refl e

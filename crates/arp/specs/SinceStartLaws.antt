@@ -24,6 +24,7 @@ use Rattle.slots.specs.declared.Binding.the-variants.{Open, Bound, Claimed, Lef
 use Rattle.commands.specs.declared.command.Command.the-variants.{Assign}
 use Rattle.commands.specs.declared.command.Handed.the-variants.{Send}
 use Rattle.arp.specs.BindingLaws.{unheld-is-open-or-left}
+use Rattle.picking.specs.ClaimLaws.{barred-makes-claim, held-makes-claim}
 use Rattle.picking.specs.Claims.{isHeld, makesClaim}
 use Rattle.arp.specs.GoneLaws.{which-bound, bound-small, left-small, answered-0}
 use Rattle.arp.specs.History.{By, Event, Start, Received, Gone, Issue, Decline, NoStart, run}
@@ -193,9 +194,9 @@ module _ (occupied : Pool) (last : ℕ) (es : List Event) where
     Contested u a = (member (barredPool occupied) a ≡ true) ⊎ (((w : Udid) × (w ≡ u → ⊥) × (heldAt (before .slots) a ≡ Bound w)) ⊎ (heldAt (before .slots) a ≡ Claimed))
 
     contested-makes-claim : (u : Udid) (a : ℕ) → Contested u a → taken a ≡ true
-    contested-makes-claim u a (inl e) = ap (λ (t : Bool). or t (isHeld (heldAt (before .slots) a))) e
-    contested-makes-claim u a (inr (inl (w, n, k))) = ap (λ (x : Binding). or (member (barredPool occupied) a) (isHeld x)) k ∙ or-last (member (barredPool occupied) a)
-    contested-makes-claim u a (inr (inr k)) = ap (λ (x : Binding). or (member (barredPool occupied) a) (isHeld x)) k ∙ or-last (member (barredPool occupied) a)
+    contested-makes-claim u a (inl e) = barred-makes-claim occupied (heldAt (before .slots) a) a e
+    contested-makes-claim u a (inr (inl (w, n, k))) = held-makes-claim occupied (heldAt (before .slots) a) a (ap isHeld k)
+    contested-makes-claim u a (inr (inr k)) = held-makes-claim occupied (heldAt (before .slots) a) a (ap isHeld k)
 
     taken-is-contested : (u : Udid) (a : ℕ) → Unbound u (before .slots) → taken a ≡ true → Contested u a
     taken-is-contested u a n e = go (member (barredPool occupied) a) refl (heldAt (before .slots) a) refl e

@@ -15,10 +15,10 @@ impl Controller {
         ensures { λ r. ⌜ r ≡ issuing self ⌝ }
     {
         let last = self.last;
-        match choice_in(last) {
-            Choice::Of(u, a) => self.hand(Handed::Send(Command::Assign(u, a))),
-            Choice::Absent => self.refuse(),
-        }
+        let Choice::Of(u, a) = choice_in(last) else {
+            return self.refuse();
+        };
+        self.hand(Handed::Send(Command::Assign(u, a)))
     }
 
     // The choice that waits is declined: its target is left unbound, and the pass ends with 14, since the same target would win again.

@@ -1,3 +1,4 @@
 pub mod Picking
 pub mod Claims
 pub mod PickingLaws
+pub mod ClaimLaws

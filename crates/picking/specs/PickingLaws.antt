@@ -1,7 +1,8 @@
--- Which address is chosen for a target, case by case; and that it has seven bits and is free for a movable one.
+-- Which address is chosen for a target, case by case; that it has seven bits and is free for a movable one; and why it is chosen.
 use Prim.Native.Nat.{ℕ, _/_, _<_}
 use mathlib.Core.Path.{_≡_, refl, sym, ap, _∙_}
 use mathlib.Core.Bool.{Bool, true, false}
+use mathlib.Core.Logic.{_↔_}
 use native.Mathlib.Omega.{arith}
 use borrow.Author.Tests.{ne-eqb}
 use Rattle.lists.specs.AbsurdLaws.{zero-is-one}
@@ -13,7 +14,8 @@ use Rattle.pool.specs.declared.Pool.{Pool}
 use Rattle.pool.specs.declared.free.Free.the-variants.{At}
 use Rattle.udid.specs.Udids.{isFixed}
 use Rattle.udid.specs.declared.Udid.{Udid}
-use Rattle.picking.specs.Picking.{hasToPick, chosen, ownAddress}
+use Rattle.commands.specs.declared.command.Reason.the-variants.{Fixed, Kept, Picked, Claimed}
+use Rattle.picking.specs.Picking.{hasToPick, chosen, ownAddress, reasonOf}
 
 -- ---- the cases
 
@@ -62,3 +64,29 @@ chosen-small-and-free p last u b a h e = go (hasToPick p u b) refl
     go : (t : Bool) → hasToPick p u b ≡ t → (a .0 < 128) × (isFixed u ≡ false → member p (a .0) ≡ false)
     go true q = let w = next-free p last (a .0) (sym (chosen-picked p last u b q) ∙ e) in (w .0, λ f. w .1)
     go false q = let k = own-is b a (sym (chosen-own p last u b q) ∙ e) in (omega arith, free k q)
+
+-- ---- why: each reason exactly in its case
+
+pub is-claimed : (t p f : Bool) → (reasonOf t p f ≡ Claimed) ↔ (t ≡ true)
+is-claimed true p f = (λ e. refl, λ e. refl)
+is-claimed false true f = (λ e. zero-is-one (cc e), λ e. zero-is-one (cc e))
+is-claimed false false true = (λ e. zero-is-one (cc e), λ e. zero-is-one (cc e))
+is-claimed false false false = (λ e. zero-is-one (cc e), λ e. zero-is-one (cc e))
+
+pub is-picked : (t p f : Bool) → (reasonOf t p f ≡ Picked) ↔ ((t ≡ false) × (p ≡ true))
+is-picked true p f = (λ e. zero-is-one (cc e), λ e. zero-is-one (cc (e .0)))
+is-picked false true f = (λ e. (refl, refl), λ e. refl)
+is-picked false false true = (λ e. zero-is-one (cc e), λ e. zero-is-one (cc (e .1)))
+is-picked false false false = (λ e. zero-is-one (cc e), λ e. zero-is-one (cc (e .1)))
+
+pub is-fixed : (t p f : Bool) → (reasonOf t p f ≡ Fixed) ↔ ((t ≡ false) × (p ≡ false) × (f ≡ true))
+is-fixed true p f = (λ e. zero-is-one (cc e), λ e. zero-is-one (cc (e .0)))
+is-fixed false true f = (λ e. zero-is-one (cc e), λ e. zero-is-one (cc (e .1)))
+is-fixed false false true = (λ e. (refl, refl, refl), λ e. refl)
+is-fixed false false false = (λ e. zero-is-one (cc e), λ e. zero-is-one (cc (e .2)))
+
+pub is-kept : (t p f : Bool) → (reasonOf t p f ≡ Kept) ↔ ((t ≡ false) × (p ≡ false) × (f ≡ false))
+is-kept true p f = (λ e. zero-is-one (cc e), λ e. zero-is-one (cc (e .0)))
+is-kept false true f = (λ e. zero-is-one (cc e), λ e. zero-is-one (cc (e .1)))
+is-kept false false true = (λ e. zero-is-one (cc e), λ e. zero-is-one (cc (e .2)))
+is-kept false false false = (λ e. (refl, refl, refl), λ e. refl)
