@@ -26,10 +26,10 @@ use Rattle.commands.specs.declared.command.End.the-variants.{Chosen}
 use Rattle.commands.specs.declared.command.Handed.the-variants.{Send, Wait}
 use Rattle.commands.specs.declared.command.Reason.{Reason}
 use Rattle.commands.specs.declared.command.Reason.the-variants as reason
-use Rattle.arp.specs.Choosing.{firstHalf, declining}
+use Rattle.arp.specs.Choosing.{firstHalf, issuing, declining}
 use Rattle.arp.specs.Controller.{stepped}
 use Rattle.arp.specs.HandingLaws.{decline-rest}
-use Rattle.arp.specs.History.{Choose, Event, Received, run, Invariant}
+use Rattle.arp.specs.History.{Step, Choose, Event, Received, Issue, run, Invariant}
 use Rattle.arp.specs.HistoryLaws.{reached-good, reached-invariant}
 use Rattle.arp.specs.Lookup.{lookedUp}
 use Rattle.arp.specs.LookupLaws.{lookup-16}
@@ -38,9 +38,11 @@ use Rattle.arp.specs.OneStep.{Binds}
 use Rattle.arp.specs.OneStepLaws.{assign-whole}
 use Rattle.arp.specs.ReasonLaws.{reasons-given}
 use Rattle.arp.specs.Reasons.{Contested, Reasons}
-use Rattle.arp.specs.SettleLaws.{waits-in-its-state}
+use Rattle.arp.specs.SettleLaws.{issue-is, waits-in-its-state}
 use Rattle.arp.specs.Sound.{Pending, PendingIn}
+use Rattle.arp.specs.State.{withLast}
 use Rattle.arp.specs.declared.state.Controller.{Controller}
+use Rattle.arp.specs.declared.state.Stepped.{Stepped}
 
 module _ (occupied : Pool) (last : ℕ) (es : List Event) (u : Udid) (a : Address) (x : Reason) (e : run occupied last es .last ≡ Wait (Chosen u a x)) where
   waiting-pending : Pending (run occupied last es) u (a .0)
@@ -120,3 +122,27 @@ claimed-is-own occupied last es tr l u b f h q a c = (fixed-first u f .0 (fixed 
     fixed : (y : Bool) → isFixed u ≡ y → isFixed u ≡ true
     fixed true e = e
     fixed false e = zero-is-one (cc (in-use, p .free e))
+
+-- IT IS TOLD AS CLAIMED BY TWO exactly if the Assign, issued and completed at once, marks the address
+pub claimed-marks : (occupied : Pool) (last : ℕ) (es : List Event) (tr : List ℕ) → run occupied last es .last ≡ Send GetUdid → (u : Udid) (b : ℕ) → Fits u → b < 256 → tr ≡ replyTrace (udidBytes u ++ b ∷ [])
+    → (a : Address) (x : Reason) → firstHalf (run occupied last es) tr .command ≡ Wait (Chosen u a x)
+    → (x ≡ reason.Claimed) ↔ (lookupNumber (lookedUp (run occupied last (Received Step (assignTrace (udidBytes u) (2 * a .0)) ∷ Issue ∷ Received Choose tr ∷ es)) (a .0)) ≡ (16, []))
+unfolding run
+claimed-marks occupied last es tr l u b f h q a x c = (λ e. there .0 (r .claimed .0 e), λ e. r .claimed .1 (there .1 e))
+  where
+    t : Controller
+    t = firstHalf (run occupied last es) tr .state
+
+    r : Reasons (run occupied last es) t u b (a .0) x
+    r = reasons-given (run occupied last es) tr (reached-good occupied last es .0 .picked) l u b f h q u a x c .1
+
+    last-is : t .last ≡ Wait (Chosen u a x)
+    last-is = ap (λ (y : Controller). y .last) (waits-in-its-state (run occupied last es) tr u a x c)
+
+    p : Pending t u (a .0)
+    p = subst (PendingIn t) last-is (reached-good occupied last (Received Choose tr ∷ es) .1)
+
+    there : Contested t (a .0) ↔ (lookupNumber (lookedUp (stepped (issuing t .state) (assignTrace (udidBytes u) (2 * a .0)) .state) (a .0)) ≡ (16, []))
+    there =
+        subst (λ (y : Stepped). Contested t (a .0) ↔ (lookupNumber (lookedUp (stepped (y .state) (assignTrace (udidBytes u) (2 * a .0)) .state) (a .0)) ≡ (16, []))) (sym (issue-is t u a x last-is))
+        (marked-exactly (withLast t (Send (Assign u a))) u a (reached-good occupied last (Received Choose tr ∷ es) .0 .sound .size) f (p .small) refl)

@@ -32,11 +32,12 @@ use Prim.Native.Nat.{ℕ, suc, _+_, _*_, _/_, _%_, _^_, _≤_, _<_}
 use lib.ListN.{length, take, drop, getD, replicate}
 use Rattle.promises.specs.Words.{Each, Any, Bytes, isReserved, isPreassigned, isListed, table17, Covers, pecOf, Address, lastProtocol, TraceOf, Message, message, encodeNumber, Wrote, Encoded}
 use Rattle.promises.specs.Words.{summary, Member, Fits, Breaks, Wrong, AfterStart, FitsNext, ToHost, IsSwapped, IsMisaddressed, IsMiscounted, IsOther, BitSwapped, CountTooHigh, CutAt, OtherPec, decodeNumber, Decoded, Done, Entered, Outcome}
-use Rattle.promises.specs.Words.{member, emptyPool, startingPool, barredPool, Pool, udidBytes, In128, Udid, heldAt, prepareTrace, replyTrace, assignTrace, newController, started, stepped, reported, Event, Received, NoStart, run, lookedUp, commandNumber, lookupNumber}
+use Rattle.promises.specs.Words.{member, emptyPool, startingPool, barredPool, Pool, udidBytes, In128, Udid, heldAt, prepareTrace, replyTrace, assignTrace, newController, started, stepped, reported, By, Event, Received, NoStart, run, lookedUp, commandNumber, lookupNumber}
 use Rattle.promises.specs.Words.{used, count, not, Completes, BoundSince, LeftSince, binds, unbindings, removals, knownIn, handedOut, Removes, Rest, Reported, Left}
 use Rattle.promises.specs.Words.{Asks, Binds, Continues, EndsWith, Replies, protocolFor, messageOf, traceOf, Handed, Send, Wait, Nothing, Prepare, GetUdid, Assign, Ended, Abandoned, NotOutstanding, Open, Bound, Claimed, Controller, Stepped}
 use Rattle.promises.specs.Words.{EvenOrFlag, SameAsEarlier, FixedOnTaken, LengthIsBad, None, FirstOf, targetsOf, movable, leftFree, pass, Given, Ending, served, noneFree, Distinct, ruled, RecordOf, OnePerUdid, getsOnBus, historyOnBus, modelNumber, Leaves, modelEnd, ModelAnswer, nextFree, Next, At, AllUsed, Pick, Picks, latestOf, picksOf, FreeAtEach, Picked, identifier, holding, Shows}
 use Rattle.promises.specs.Words.{Module, Lasting, silentIn, starts, stops, loses, receives, supplies, powered, refreshed, resumed, resumedNumber, Ready, AsRecorded, having, heardAll, acked, prepareOrder, resetOrder, directedReset, assignOrder, getOrder, Begins, Reachable, Known, Resets, PowersOn, PecDue, says, afterAsking, asked, replyTo}
+use Rattle.promises.specs.Words.{firstHalf, issuing, declining, stepsOver, halvesOver, passByHalves, Step, Choose, Issue, Chosen, Reason, ByTwo, Reasons, Waits, withLast}
 use Rattle.promises.specs.Words.{onBus, effect, mapTargets, Among, beginningOver, runOver, modelBus, exchange, recordsOf, Fitting, afterBytes, askedAll, runOn, passOn, getsOn}
 
 -- ---- THE ADDRESSES: TABLE 17 OF SMBus 3.3.1, Appendix C
@@ -225,7 +226,7 @@ pub record StepNumbers (s : Controller) (tr : List ℕ) (r : Stepped) : Type 0 w
 abbrev pub Sound : Controller → Type 0
 Sound s = ((length (s .slots .high) ≡ 128) × (length (s .slots .low) ≡ 128)) × ((u : Udid) (a : Address) → s .last ≡ Send (Assign u a) → In128 u) × (s .picked < 128)
 
--- what holds in every state that starts, traces and reports reach
+-- what holds in every state that starts, traces, reports, issues and declines reach
 pub record Reached (occupied : Pool) (s : Controller) : Type 0 where
   pub sound : Sound s
   -- the pool is the starting pool and the addresses that are bound or claimed. So an address of the starting pool is always in the pool, and one that is left is in the pool
@@ -251,16 +252,16 @@ pub record Control : Type 0 where
   pub one-step : (s : Controller) (tr : List ℕ) (r q : Stepped) → Sound s → Steps s tr r → Steps s tr q
       → (r .command ≡ q .command) × (r .state .last ≡ q .state .last) × (r .state .gets ≡ q .state .gets) × (r .state .occupied ≡ q .state .occupied) × (r .state .picked ≡ q .state .picked)
       × ((a : ℕ) → (heldAt (r .state .slots) a ≡ heldAt (q .state .slots) a) × (member (r .state .pool) a ≡ member (q .state .pool) a))
-  -- over any starts, traces and reports, the latest first
+  -- over any starts, traces, reports, issues and declines, the latest first; a trace may be taken by the whole step or by its first half
   pub reached : (occupied : Pool) (last : ℕ) (es : List Event) → Reached occupied (run occupied last es)
   -- lookup's 0 with u: an Assign of a to u completed while a was not barred, bound or claimed, and since then no start, no report of a that was answered 0, no reply of u, and no
   -- other Assign of a that completed. Its 20: a report of a was answered 0, and since then no start, and no Assign of a that completed
   pub bound-since : (occupied : Pool) (last : ℕ) (es : List Event) (u : Udid) (a : ℕ) → (lookupNumber (lookedUp (run occupied last es) a) ≡ (0, u ∷ [])) ↔ BoundSince occupied last es u a
   pub left-since : (occupied : Pool) (last : ℕ) (es : List Event) (a : ℕ) → (lookupNumber (lookedUp (run occupied last es) a) ≡ (20, [])) ↔ LeftSince occupied last es a
   -- an Assign of a to u that completes leaves a claim exactly if a is barred, or another was bound there just before, or two claimed it already
-  pub claims : (occupied : Pool) (last : ℕ) (es : List Event) (tr : List ℕ) (u : Udid) (a : ℕ) → Completes occupied last es tr u a → (heldAt (run occupied last (Received tr ∷ es) .slots) a ≡ Claimed)
+  pub claims : (occupied : Pool) (last : ℕ) (es : List Event) (by : By) (tr : List ℕ) (u : Udid) (a : ℕ) → Completes occupied last es tr u a → (heldAt (run occupied last (Received by tr ∷ es) .slots) a ≡ Claimed)
       ↔ ((member (barredPool occupied) a ≡ true) ⊎ (((w : Udid) × (w ≡ u → ⊥) × (heldAt (run occupied last es .slots) a ≡ Bound w)) ⊎ (heldAt (run occupied last es .slots) a ≡ Claimed)))
-  -- a claim stays for the rest of the pass, whatever is received and reported later
+  -- a claim stays for the rest of the pass, whatever is received, reported, issued and declined later
   pub claim-stays : (occupied : Pool) (last : ℕ) (es later : List Event) → NoStart later → (a : ℕ) → heldAt (run occupied last es .slots) a ≡ Claimed → heldAt (run occupied last (later ++ es) .slots) a ≡ Claimed
 
 -- THE MODULE AT THE ADDRESS a IS REPORTED GONE in the state s; r is what comes of it. Its answer has lookup's number
@@ -281,6 +282,44 @@ pub record TakingBack : Type 0 where
   pub account : (occupied : Pool) (last : ℕ) (es : List Event) → let starting = member (startingPool occupied) in let known = knownIn occupied last in let handed = handedOut occupied last in
       used (run occupied last es .pool) + (removals starting known es + unbindings starting known handed es) ≡ used (startingPool occupied) + binds known handed es
 
+-- CHOOSING APART FROM SENDING. The first half of a step does what the single step does, but an Assign of a to u waits as a choice, Wait (Chosen u a x), x being the reason. It is
+-- issued or declined. Waits s: a choice waits in the state s. withLast s k is s with k as what was handed out last, all else as it was
+pub record Halves (s : Controller) (tr : List ℕ) : Type 0 where
+  -- a choice waits exactly if the single step sends the Assign. The state is the single step's then, but for what was handed out last; and issued it gives the single step
+  pub chosen : (u : Udid) (a : Address) → (stepped s tr .command ≡ Send (Assign u a)) ↔ ((x : Reason) × (firstHalf s tr .command ≡ Wait (Chosen u a x)))
+  pub waits : (u : Udid) (a : Address) (x : Reason) → firstHalf s tr .command ≡ Wait (Chosen u a x) → (firstHalf s tr .state ≡ withLast (stepped s tr .state) (Wait (Chosen u a x))) × (issuing (firstHalf s tr .state) ≡ stepped s tr)
+  -- with no choice the first half is the single step; and its numbers are the single step's, 13 among them
+  pub alone : ((u : Udid) (a : Address) (x : Reason) → firstHalf s tr .command ≡ Wait (Chosen u a x) → ⊥) → firstHalf s tr ≡ stepped s tr
+  pub numbers : commandNumber (firstHalf s tr .command) ≡ commandNumber (stepped s tr .command)
+
+pub record Settling (s : Controller) : Type 0 where
+  -- issue: the Assign goes out. Decline: the pass ends with 14. Nothing else changes
+  pub issue : (u : Udid) (a : Address) (x : Reason) → s .last ≡ Wait (Chosen u a x) → (issuing s .command ≡ Send (Assign u a)) × (issuing s .state ≡ withLast s (Send (Assign u a)))
+  pub decline : (u : Udid) (a : Address) (x : Reason) → s .last ≡ Wait (Chosen u a x) → (commandNumber (declining s .command) ≡ (14, []) ∷ []) × (declining s .command ≡ Wait Abandoned) × (declining s .state ≡ withLast s (Wait Abandoned))
+  -- 21 if and only if no choice waits, and then nothing changes
+  pub issue-21 : (commandNumber (issuing s .command) ≡ (21, []) ∷ []) ↔ (Waits s → ⊥)
+  pub decline-21 : (commandNumber (declining s .command) ≡ (21, []) ∷ []) ↔ (Waits s → ⊥)
+  pub untouched : (Waits s → ⊥) → (issuing s .state ≡ s) × (declining s .state ≡ s)
+  -- while a choice waits a trace is 21, and nothing changes
+  pub waiting : Waits s → (tr : List ℕ) → (firstHalf s tr ≡ record { state = s; command = Wait NotOutstanding }) × (stepped s tr ≡ record { state = s; command = Wait NotOutstanding })
+
+pub record Choosing : Type 0 where
+  pub halves : (s : Controller) (tr : List ℕ) → Halves s tr
+  pub settling : (s : Controller) → Settling s
+  -- choosing and always issuing has the single step's states and commands throughout: over any list of traces, and in the pass of demand 3
+  pub throughout : (s : Controller) (trs : List (List ℕ)) → halvesOver s trs ≡ stepsOver s trs
+  pub in-a-pass : (occupied : Pool) (last : ℕ) (s : List ℕ) → passByHalves occupied last (targetsOf s) ≡ pass occupied last (targetsOf s)
+  -- WHY: the four reasons, each exactly in its case, and the address by its rule
+  pub reasons : (s : Controller) (tr : List ℕ) → Sound s → s .last ≡ Send GetUdid → (u : Udid) (b : ℕ) → In128 u → b < 256 → tr ≡ replyTrace (udidBytes u ++ b ∷ []) → (v : Udid) (a : Address) (x : Reason)
+      → firstHalf s tr .command ≡ Wait (Chosen v a x) → (v ≡ u) × Reasons s (firstHalf s tr .state) u b (a .0) x
+  -- in every run: claimed by two exactly if the Assign, issued and completed at once, makes lookup answer 16; and only for a fixed target's own address
+  pub marks : (occupied : Pool) (last : ℕ) (es : List Event) (tr : List ℕ) → run occupied last es .last ≡ Send GetUdid → (u : Udid) (b : ℕ) → In128 u → b < 256 → tr ≡ replyTrace (udidBytes u ++ b ∷ []) → (a : Address) (x : Reason)
+      → firstHalf (run occupied last es) tr .command ≡ Wait (Chosen u a x)
+      → ((x ≡ ByTwo) ↔ (lookupNumber (lookedUp (run occupied last (Received Step (assignTrace (udidBytes u) (2 * a .0)) ∷ Issue ∷ Received Choose tr ∷ es)) (a .0)) ≡ (16, []))) × (x ≡ ByTwo → (getD (udidBytes u) 0 0 < 64) × (b ≡ 0xFF → ⊥))
+  -- the identifier is bound nowhere while its choice waits, nor after a decline
+  pub unbound : (occupied : Pool) (last : ℕ) (es : List Event) (u : Udid) (a : Address) (x : Reason) → run occupied last es .last ≡ Wait (Chosen u a x) → (i : ℕ)
+      → (heldAt (run occupied last es .slots) i ≡ Bound u → ⊥) × (heldAt (declining (run occupied last es) .state .slots) i ≡ Bound u → ⊥)
+
 -- PICKS
 pub record Picking : Type 0 where
   -- the pick from the pool p after l: the free address at the least distance (a + 127 − l) mod 128; none exactly if all 128 are used; after 127 the lowest; l itself
@@ -289,7 +328,7 @@ pub record Picking : Type 0 where
   pub none : (p : Pool) (l : ℕ) → (nextFree p l ≡ AllUsed) ↔ ((a : ℕ) → a < 128 → member p a ≡ true)
   pub first : (p : Pool) (a : ℕ) → (nextFree p 127 ≡ At (record { 0 = a })) ↔ ((a < 128) × (member p a ≡ false) × ((b : ℕ) → b < a → member p b ≡ true))
   pub again : (p : Pool) (l : ℕ) → nextFree p l ≡ At (record { 0 = l }) → (b : ℕ) → b < 128 → (b ≡ l → ⊥) → member p b ≡ true
-  -- picksOf has the picks of a controller over any starts, traces and reports, told by the traces and the commands handed out, each with its pool. Each is the pick after the one
+  -- picksOf has the picks of a controller over any of these events, a pick with its choice, told by the traces and the commands handed out, each with its pool. Each is the pick after the one
   -- before it, and the first is the pick after what the controller was made with. The state's last pick is the latest of them; with none, what the controller was made with
   pub each : (occupied : Pool) (last : ℕ) (es : List Event) → Picks (newController occupied last .picked) (picksOf occupied last es)
   pub latest : (occupied : Pool) (last : ℕ) (es : List Event) → run occupied last es .picked ≡ latestOf (newController occupied last .picked) (picksOf occupied last es)

@@ -35,17 +35,23 @@ pub use Rattle.slots.specs.Slots.{heldAt}
 pub use Rattle.commands.specs.CommandTraces.{prepareTrace, replyTrace, assignTrace}
 pub use Rattle.arp.specs.Controller.{newController, started, stepped}
 pub use Rattle.arp.specs.Gone.{reported}
-pub use Rattle.arp.specs.History.{Event, Received, NoStart, run}
+pub use Rattle.arp.specs.Choosing.{firstHalf, issuing, declining, stepsOver, halvesOver}
+pub use Rattle.arp.specs.History.{By, Step, Choose, Event, Received, Issue, NoStart, run}
 pub use Rattle.arp.specs.Lookup.{lookedUp}
 pub use Rattle.arp.specs.Replay.{handedOut}
 pub use Rattle.arp.specs.RunPicks.{picksOf}
 pub use Rattle.arp.specs.SinceStart.{Completes, BoundSince, LeftSince}
 pub use Rattle.arp.specs.Account.{binds, unbindings, removals, knownIn}
 pub use Rattle.arp.specs.Numbers.{commandNumber, lookupNumber}
+pub use Rattle.arp.specs.Reasons.{Reasons}
+pub use Rattle.arp.specs.State.{withLast}
+pub use Rattle.arp.specs.Waits.{Waits}
 pub use Rattle.arp.specs.OneStep.{Asks, Binds, Continues, EndsWith, Replies, Removes, Rest}
 pub use Rattle.commands.specs.Requests.{protocolFor, messageOf, traceOf}
 pub use Rattle.commands.specs.declared.command.Command.the-variants.{Prepare, GetUdid, Assign}
-pub use Rattle.commands.specs.declared.command.End.the-variants.{Nothing, Ended, Abandoned, NotOutstanding}
+pub use Rattle.commands.specs.declared.command.End.the-variants.{Nothing, Ended, Abandoned, NotOutstanding, Chosen}
+pub use Rattle.commands.specs.declared.command.Reason.{Reason}
+pub use Rattle.commands.specs.declared.command.Reason.the-variants.{Claimed as ByTwo}
 pub use Rattle.commands.specs.declared.command.Handed.{Handed}
 pub use Rattle.commands.specs.declared.command.Handed.the-variants.{Send, Wait}
 pub use Rattle.slots.specs.declared.Binding.the-variants.{Open, Bound, Claimed, Left}
@@ -61,6 +67,7 @@ pub use Rattle.arbitration.specs.Among.{Among}
 pub use Rattle.targets.specs.Target.{mapTargets}
 pub use Rattle.rule.specs.Acknowledge.{onBus}
 pub use Rattle.rule.specs.AnyBus.{beginningOver, runOver}
+pub use Rattle.rule.specs.Halves.{passByHalves}
 pub use Rattle.rule.specs.Bus.{pass, modelBus}
 pub use Rattle.rule.specs.Effect.{effect}
 pub use Rattle.rule.specs.PlainRule.{Given, Ending, served, noneFree, Distinct, ruled}
