@@ -1,12 +1,8 @@
 -- What the proofs of the two halves cite: a free address, or none; the choice that waits; the step over both.
 use Prim.Native.Nat.{ℕ}
 use mathlib.Core.Bool.{Bool}
-use mathlib.Core.List.{List, [], _∷_}
-use mathlib.Core.Logic.{inl, inr}
-use native.Mathlib.Omega.{arith}
-use denote.Enum.Declared.{tagOf}
-use types.Run.{OneOf}
-use mathlib.Core.Path.{_≡_, refl, sym, ap, _∙_}
+use mathlib.Core.List.{List}
+use mathlib.Core.Path.{_≡_, sym, ap, _∙_}
 use Rattle.pool.specs.declared.free.Free.{Free}
 use Rattle.pool.specs.declared.free.Free.the-variants.{At, AllUsed}
 use Rattle.udid.specs.declared.Udid.{Udid}
@@ -20,16 +16,12 @@ use Rattle.lists.specs.Choice.{pick}
 use Rattle.udid.specs.Udids.{isFixed}
 use Rattle.arp.specs.Bindings.{freed}
 use Rattle.picking.specs.Claims.{makesClaim}
-use Rattle.arp.specs.Choosing.{waitingWith, decided, decidedOn, issuing, carriedFor, carriedOn}
+use Rattle.arp.specs.Choosing.{waitingWith, decided, firstHalf, issuing, carriedFor}
 use Rattle.picking.specs.Picking.{reasonOf}
 use Rattle.commands.specs.Choices.{choiceIn}
-use Rattle.arp.specs.ChoosingLaws.{carried-told}
-use Rattle.arp.specs.Controller.{handed, changed, stepped}
+use Rattle.arp.specs.ChoosingLaws.{halves-are-the-step}
+use Rattle.arp.specs.Controller.{handed, stepped}
 use Rattle.picking.specs.Picking.{hasToPick, chosen}
-use Rattle.hearing.proofs.told.Told as declared
-use Rattle.hearing.specs.Told.{tells}
-use Rattle.hearing.specs.declared.told.Told.{Told}
-use Rattle.hearing.specs.declared.told.Told.the-variants.{Again, Over, GivenUp, Reply, Took, Unasked}
 use Rattle.arp.specs.State.{withPicked}
 use Rattle.commands.specs.declared.choice.Choice.{Choice}
 use Rattle.commands.specs.declared.choice.Choice.the-variants.{Of, Absent}
@@ -60,31 +52,10 @@ choice-waits s u picks a h m x r l k eh em ex er el e =
     ∙ ap (λ (n : ℕ). handed (withPicked s n) (Wait (Chosen u a r))) el
     ∙ ap (λ (q : Reason). handed (withPicked s (pick picks (a .0) (s .picked))) (Wait (Chosen u a q))) (er ∙ ap (λ (t : Bool). reasonOf t picks x) (em ∙ ap (λ (b : Binding). makesClaim (s .occupied) b (a .0)) eh) ∙ ap (reasonOf (makesClaim (s .occupied) (heldAt (s .slots) (a .0)) (a .0)) picks) ex)
 
--- what tells no reply leaves no choice
-no-reply : (s : Controller) (t : Told) → OneOf (0 ∷ 1 ∷ 2 ∷ 4 ∷ 5 ∷ []) (tagOf declared.the-type t) → decidedOn s t ≡ changed s t
-no-reply s Again k = refl
-no-reply s Over k = refl
-no-reply s GivenUp k = refl
-no-reply s (Reply u b) (inl k) = absurd (omega arith)
-no-reply s (Reply u b) (inr (inl k)) = absurd (omega arith)
-no-reply s (Reply u b) (inr (inr (inl k))) = absurd (omega arith)
-no-reply s (Reply u b) (inr (inr (inr (inl k)))) = absurd (omega arith)
-no-reply s (Reply u b) (inr (inr (inr (inr k)))) = absurd (omega arith)
-no-reply s (Took u a) k = refl
-no-reply s Unasked k = refl
+module _ (s : Controller) (tr : List ℕ) (half : Stepped) (c : Choice) where
+  pub issued-step : (u : Udid) (a : Address) (r : Stepped) → half ≡ firstHalf s tr → c ≡ choiceIn (half .command) → c ≡ Of u a → r ≡ issuing (half .state) → r ≡ stepped s tr
+  issued-step u a r e f g h =
+      h ∙ ap (carriedFor half) (sym g ∙ f) ∙ ap (λ (x : Stepped). carriedFor x (choiceIn (x .command))) e ∙ halves-are-the-step s tr
 
-module _ (s : Controller) (tr : List ℕ) (t : Told) (told : t ≡ tells (s .last) tr) where
-  pub other-step : (r : Stepped) → OneOf (0 ∷ 1 ∷ 2 ∷ 4 ∷ 5 ∷ []) (tagOf declared.the-type t) → r ≡ decidedOn s t → r ≡ stepped s tr
-  unfolding stepped
-  other-step r k h = h ∙ no-reply s t k ∙ ap (changed s) told
-
-  module _ (u : Udid) (b : ℕ) (reply : t ≡ Reply u b) (half : Stepped) (chose : half ≡ decided s u b) (c : Choice) (there : c ≡ choiceIn (half .command)) where
-    carried : carriedOn half ≡ stepped s tr
-    unfolding stepped
-    carried = ap carriedOn chose ∙ carried-told s (Reply u b) ∙ ap (changed s) (sym reply ∙ told)
-
-    pub issued-step : (v : Udid) (a : Address) (r : Stepped) → c ≡ Of v a → r ≡ issuing (half .state) → r ≡ stepped s tr
-    issued-step v a r g h = h ∙ ap (carriedFor half) (sym g ∙ there) ∙ carried
-
-    pub plain-step : c ≡ Absent → half ≡ stepped s tr
-    plain-step g = ap (carriedFor half) (sym g ∙ there) ∙ carried
+  pub plain-step : half ≡ firstHalf s tr → c ≡ choiceIn (half .command) → c ≡ Absent → half ≡ stepped s tr
+  plain-step e f g = ap (carriedFor half) (sym g ∙ f) ∙ ap (λ (x : Stepped). carriedFor x (choiceIn (x .command))) e ∙ halves-are-the-step s tr

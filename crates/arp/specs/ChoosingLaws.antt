@@ -48,7 +48,7 @@ unfolding issuing
 carried-waiting s u picks (At a) = refl
 carried-waiting s u picks AllUsed = refl
 
-pub carried-told : (s : Controller) (t : Told) → carriedOn (decidedOn s t) ≡ changed s t
+carried-told : (s : Controller) (t : Told) → carriedOn (decidedOn s t) ≡ changed s t
 unfolding decided replied
 carried-told s Again = carried-asked s
 carried-told s Over = refl

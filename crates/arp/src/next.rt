@@ -30,7 +30,7 @@ impl Controller {
     }
 
     // A target has replied: it is unbound from whatever it was bound to, and an address is chosen for it.
-    pub(crate) fn on_reply(self, u: Udid, b: u8) -> Stepped
+    fn on_reply(self, u: Udid, b: u8) -> Stepped
         ensures { λ r. ⌜ r ≡ decided self u b ⌝ }
     {
         let next = self.free(u);
@@ -43,7 +43,7 @@ impl Controller {
     }
 
     // What is told changes the state, and names what comes next. Where no command is outstanding the state stays as it is.
-    pub(crate) fn change(self, told: Told) -> Stepped
+    fn change(self, told: Told) -> Stepped
         ensures { λ r. ⌜ r ≡ decidedOn self told ⌝ }
     {
         match told {
