@@ -7,4 +7,3 @@ pub mod next;
 pub mod settle;
 pub mod start;
 pub mod state;
-pub mod whole;
