@@ -14,7 +14,9 @@ use Rattle.arp.specs.declared.state.Stepped.{Stepped}
 use Rattle.targets.specs.Records.{targetsOf}
 use Rattle.commands.specs.declared.command.End.the-variants.{Chosen}
 use Rattle.commands.specs.declared.command.Handed.the-variants.{Wait}
-use Rattle.rule.specs.HalvesLaws.{pass-by-halves}
+use Rattle.rule.specs.AnyBus.{beginningOver}
+use Rattle.rule.specs.Bus.{modelBus}
+use Rattle.rule.specs.HalvesLaws.{run-by-halves}
 use Rattle.promises.specs.Demands.{Halves, Settling, Choosing}
 
 halves-of : (s : Controller) (tr : List ℕ) → Halves s tr
@@ -44,7 +46,7 @@ choosing = record {
   halves = halves-of;
   settling = settling-of;
   throughout = halves-throughout;
-  in-a-pass = λ occupied last s. pass-by-halves occupied last (targetsOf s);
+  in-a-pass = λ occupied last s n. run-by-halves modelBus n (beginningOver occupied last (targetsOf s));
   reasons = λ s tr f l u b v h q w a x c. reasons-given s tr (f .2) l u b v h q w a x c;
   marks = λ occupied last es tr l u b f h q a x c. (
     claimed-marks occupied last es tr l u b f h q a x c,

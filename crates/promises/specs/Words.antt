@@ -67,7 +67,7 @@ pub use Rattle.arbitration.specs.Among.{Among}
 pub use Rattle.targets.specs.Target.{mapTargets}
 pub use Rattle.rule.specs.Acknowledge.{onBus}
 pub use Rattle.rule.specs.AnyBus.{beginningOver, runOver}
-pub use Rattle.rule.specs.Halves.{passByHalves}
+pub use Rattle.rule.specs.Halves.{runByHalves}
 pub use Rattle.rule.specs.Bus.{pass, modelBus}
 pub use Rattle.rule.specs.Effect.{effect}
 pub use Rattle.rule.specs.PlainRule.{Given, Ending, served, noneFree, Distinct, ruled}
