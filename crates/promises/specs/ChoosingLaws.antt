@@ -4,6 +4,7 @@ use mathlib.Core.Path.{_≡_, ap, _∙_, subst}
 use mathlib.Core.List.{List, _∷_}
 use Rattle.udid.specs.declared.Udid.{Udid}
 use Rattle.wire.specs.declared.address.Address.{Address}
+use Rattle.arp.specs.BetweenLaws.{halves-in-a-run, report-between}
 use Rattle.arp.specs.Choosing.{firstHalf}
 use Rattle.arp.specs.Numbers.{commandNumber}
 use Rattle.arp.specs.ReasonLaws.{reasons-given}
@@ -47,6 +48,8 @@ choosing = record {
   settling = settling-of;
   throughout = halves-throughout;
   in-a-pass = λ occupied last s n. run-by-halves modelBus n (beginningOver occupied last (targetsOf s));
+  in-a-run = λ occupied last es tr n. halves-in-a-run occupied last es tr n;
+  report-between = λ occupied last es a. report-between occupied last es a;
   reasons = λ s tr f l u b v h q w a x c. reasons-given s tr (f .2) l u b v h q w a x c;
   marks = λ occupied last es tr l u b f h q a x c. (
     claimed-marks occupied last es tr l u b f h q a x c,

@@ -37,7 +37,7 @@ use Rattle.promises.specs.Words.{used, count, not, Completes, BoundSince
 use Rattle.promises.specs.Words.{Asks, Binds, Continues, EndsWith, Replies, protocolFor, messageOf, traceOf, Handed, Send, Wait, Nothing, Prepare, GetUdid, Assign, Ended, Abandoned, NotOutstanding, Open, Bound, Claimed, Controller, Stepped}
 use Rattle.promises.specs.Words.{EvenOrFlag, SameAsEarlier, FixedOnTaken, LengthIsBad, None, FirstOf, targetsOf, movable, leftFree, pass, Given, Ending, served, noneFree, Distinct, ruled, RecordOf, OnePerUdid, getsOnBus, historyOnBus, modelNumber, Leaves, modelEnd, ModelAnswer, nextFree, Next, At, AllUsed, Pick, Picks, latestOf, picksOf, FreeAtEach, Picked, identifier, holding, Shows}
 use Rattle.promises.specs.Words.{Module, Lasting, silentIn, starts, stops, loses, receives, supplies, powered, refreshed, resumed, resumedNumber, Ready, AsRecorded, having, heardAll, acked, prepareOrder, resetOrder, directedReset, assignOrder, getOrder, Begins, Reachable, Known, Resets, PowersOn, PecDue, says, afterAsking, asked, replyTo}
-use Rattle.promises.specs.Words.{firstHalf, issuing, declining, stepsOver, halvesOver, runByHalves, Step, Choose, Issue, Chosen, Reason, ByTwo, Reasons, Waits, withLast}
+use Rattle.promises.specs.Words.{firstHalf, issuing, declining, stepsOver, halvesOver, runByHalves, Step, Choose, Gone, Issue, Chosen, Reason, ByTwo, Reasons, Waits, withLast}
 use Rattle.promises.specs.Words.{onBus, effect, mapTargets, Among, beginningOver, runOver, modelBus, exchange, recordsOf, Fitting, afterBytes, askedAll, runOn, passOn, getsOn}
 
 -- ---- THE ADDRESSES: TABLE 17 OF SMBus 3.3.1, Appendix C
@@ -309,6 +309,9 @@ pub record Choosing : Type 0 where
   -- choosing and always issuing has the single step's states and commands throughout: over any list of traces, and in the pass of demand 3, after any number of turns
   pub throughout : (s : Controller) (trs : List (List ℕ)) → halvesOver s trs ≡ stepsOver s trs
   pub in-a-pass : (occupied : Pool) (last : ℕ) (s : List ℕ) (n : ℕ) → runByHalves modelBus n (beginningOver occupied last (targetsOf s)) ≡ runOver modelBus n (beginningOver occupied last (targetsOf s))
+  -- and in any run: where no choice waits, a first half and then an issue leave the state that the step leaves; and a report before an issue may as well come after it
+  pub in-a-run : (occupied : Pool) (last : ℕ) (es : List Event) (tr : List ℕ) → (Waits (run occupied last es) → ⊥) → run occupied last (Issue ∷ Received Choose tr ∷ es) ≡ run occupied last (Received Step tr ∷ es)
+  pub report-between : (occupied : Pool) (last : ℕ) (es : List Event) (a : ℕ) → run occupied last (Issue ∷ Gone a ∷ es) ≡ run occupied last (Gone a ∷ Issue ∷ es)
   -- WHY: the four reasons, each exactly in its case, and the address by its rule
   pub reasons : (s : Controller) (tr : List ℕ) → Sound s → s .last ≡ Send GetUdid → (u : Udid) (b : ℕ) → In128 u → b < 256 → tr ≡ replyTrace (udidBytes u ++ b ∷ []) → (v : Udid) (a : Address) (x : Reason)
       → firstHalf s tr .command ≡ Wait (Chosen v a x) → (v ≡ u) × Reasons s (firstHalf s tr .state) u b (a .0) x
