@@ -4,12 +4,12 @@ use mathlib.Core.Path.{_≡_, ap, _∙_, subst}
 use mathlib.Core.List.{List, _∷_}
 use Rattle.udid.specs.declared.Udid.{Udid}
 use Rattle.wire.specs.declared.address.Address.{Address}
-use Rattle.arp.specs.BetweenLaws.{halves-in-a-run, report-between}
+use Rattle.arp.specs.BetweenLaws.{halves-in-a-run, report-between, declined-until-start}
 use Rattle.arp.specs.Choosing.{firstHalf}
 use Rattle.arp.specs.Numbers.{commandNumber}
 use Rattle.arp.specs.ReasonLaws.{reasons-given}
 use Rattle.arp.specs.SettleLaws.{issue-is, decline-is, none-to-issue, none-to-decline, issue-21, decline-21, chosen-exactly, waits-in-its-state, issued-is-the-step, alone-is-the-step, same-number, waiting-refuses, halves-throughout}
-use Rattle.arp.specs.WaitingLaws.{waiting-unbound, declined-unbound, claimed-is-own, claimed-marks}
+use Rattle.arp.specs.WaitingLaws.{waiting-unbound, claimed-is-own, claimed-marks}
 use Rattle.arp.specs.declared.state.Controller.{Controller}
 use Rattle.arp.specs.declared.state.Stepped.{Stepped}
 use Rattle.targets.specs.Records.{targetsOf}
@@ -55,5 +55,6 @@ choosing = record {
     claimed-marks occupied last es tr l u b f h q a x c,
     λ e. claimed-is-own occupied last es tr l u b f h q a (c ∙ ap (λ y. Wait (Chosen u a y)) e),
   );
-  unbound = λ occupied last es u a x e i. (waiting-unbound occupied last es u a x e i, declined-unbound occupied last es u a x e i);
+  unbound = λ occupied last es u a x e i. waiting-unbound occupied last es u a x e i;
+  declined = λ occupied last es u a x e later n. declined-until-start occupied last u es a x e later n;
 }

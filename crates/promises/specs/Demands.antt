@@ -37,7 +37,7 @@ use Rattle.promises.specs.Words.{used, count, not, Completes, BoundSince
 use Rattle.promises.specs.Words.{Asks, Binds, Continues, EndsWith, Replies, protocolFor, messageOf, traceOf, Handed, Send, Wait, Nothing, Prepare, GetUdid, Assign, Ended, Abandoned, NotOutstanding, Open, Bound, Claimed, Controller, Stepped}
 use Rattle.promises.specs.Words.{EvenOrFlag, SameAsEarlier, FixedOnTaken, LengthIsBad, None, FirstOf, targetsOf, movable, leftFree, pass, Given, Ending, served, noneFree, Distinct, ruled, RecordOf, OnePerUdid, getsOnBus, historyOnBus, modelNumber, Leaves, modelEnd, ModelAnswer, nextFree, Next, At, AllUsed, Pick, Picks, latestOf, picksOf, FreeAtEach, Picked, identifier, holding, Shows}
 use Rattle.promises.specs.Words.{Module, Lasting, silentIn, starts, stops, loses, receives, supplies, powered, refreshed, resumed, resumedNumber, Ready, AsRecorded, having, heardAll, acked, prepareOrder, resetOrder, directedReset, assignOrder, getOrder, Begins, Reachable, Known, Resets, PowersOn, PecDue, says, afterAsking, asked, replyTo}
-use Rattle.promises.specs.Words.{firstHalf, issuing, declining, stepsOver, halvesOver, runByHalves, Step, Choose, Gone, Issue, Chosen, Reason, ByTwo, Reasons, Waits, withLast}
+use Rattle.promises.specs.Words.{firstHalf, issuing, declining, stepsOver, halvesOver, runByHalves, Step, Choose, Gone, Issue, Decline, Chosen, Reason, ByTwo, Reasons, Waits, withLast}
 use Rattle.promises.specs.Words.{onBus, effect, mapTargets, Among, beginningOver, runOver, modelBus, exchange, recordsOf, Fitting, afterBytes, askedAll, runOn, passOn, getsOn}
 
 -- ---- THE ADDRESSES: TABLE 17 OF SMBus 3.3.1, Appendix C
@@ -319,9 +319,10 @@ pub record Choosing : Type 0 where
   pub marks : (occupied : Pool) (last : ℕ) (es : List Event) (tr : List ℕ) → run occupied last es .last ≡ Send GetUdid → (u : Udid) (b : ℕ) → In128 u → b < 256 → tr ≡ replyTrace (udidBytes u ++ b ∷ []) → (a : Address) (x : Reason)
       → firstHalf (run occupied last es) tr .command ≡ Wait (Chosen u a x)
       → ((x ≡ ByTwo) ↔ (lookupNumber (lookedUp (run occupied last (Received Step (assignTrace (udidBytes u) (2 * a .0)) ∷ Issue ∷ Received Choose tr ∷ es)) (a .0)) ≡ (16, []))) × (x ≡ ByTwo → (getD (udidBytes u) 0 0 < 64) × (b ≡ 0xFF → ⊥))
-  -- the identifier is bound nowhere while its choice waits, nor after a decline
-  pub unbound : (occupied : Pool) (last : ℕ) (es : List Event) (u : Udid) (a : Address) (x : Reason) → run occupied last es .last ≡ Wait (Chosen u a x) → (i : ℕ)
-      → (heldAt (run occupied last es .slots) i ≡ Bound u → ⊥) × (heldAt (declining (run occupied last es) .state .slots) i ≡ Bound u → ⊥)
+  -- the identifier is bound nowhere while its choice waits. A decline ends the pass, and leaves it bound nowhere, until the next start, whatever comes before that
+  pub unbound : (occupied : Pool) (last : ℕ) (es : List Event) (u : Udid) (a : Address) (x : Reason) → run occupied last es .last ≡ Wait (Chosen u a x) → (i : ℕ) → heldAt (run occupied last es .slots) i ≡ Bound u → ⊥
+  pub declined : (occupied : Pool) (last : ℕ) (es : List Event) (u : Udid) (a : Address) (x : Reason) → run occupied last es .last ≡ Wait (Chosen u a x) → (later : List Event) → NoStart later
+      → (run occupied last (later ++ Decline ∷ es) .last ≡ Wait Abandoned) × ((i : ℕ) → heldAt (run occupied last (later ++ Decline ∷ es) .slots) i ≡ Bound u → ⊥)
 
 -- PICKS
 pub record Picking : Type 0 where

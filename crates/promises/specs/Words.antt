@@ -36,7 +36,7 @@ pub use Rattle.commands.specs.CommandTraces.{prepareTrace, replyTrace, assignTr
 pub use Rattle.arp.specs.Controller.{newController, started, stepped}
 pub use Rattle.arp.specs.Gone.{reported}
 pub use Rattle.arp.specs.Choosing.{firstHalf, issuing, declining, stepsOver, halvesOver}
-pub use Rattle.arp.specs.History.{By, Step, Choose, Event, Received, Gone, Issue, NoStart, run}
+pub use Rattle.arp.specs.History.{By, Step, Choose, Event, Received, Gone, Issue, Decline, NoStart, run}
 pub use Rattle.arp.specs.Lookup.{lookedUp}
 pub use Rattle.arp.specs.Replay.{handedOut}
 pub use Rattle.arp.specs.RunPicks.{picksOf}
