@@ -312,9 +312,9 @@ pub record Choosing : Type 0 where
   -- and in any run: where no choice waits, a first half and then an issue leave the state that the step leaves; and a report before an issue may as well come after it
   pub in-a-run : (occupied : Pool) (last : ℕ) (es : List Event) (tr : List ℕ) → (Waits (run occupied last es) → ⊥) → run occupied last (Issue ∷ Received Choose tr ∷ es) ≡ run occupied last (Received Step tr ∷ es)
   pub report-between : (occupied : Pool) (last : ℕ) (es : List Event) (a : ℕ) → run occupied last (Issue ∷ Gone a ∷ es) ≡ run occupied last (Gone a ∷ Issue ∷ es)
-  -- WHY: the four reasons, each exactly in its case, and the address by its rule
-  pub reasons : (s : Controller) (tr : List ℕ) → Sound s → s .last ≡ Send GetUdid → (u : Udid) (b : ℕ) → In128 u → b < 256 → tr ≡ replyTrace (udidBytes u ++ b ∷ []) → (v : Udid) (a : Address) (x : Reason)
-      → firstHalf s tr .command ≡ Wait (Chosen v a x) → (v ≡ u) × Reasons s (firstHalf s tr .state) u b (a .0) x
+  -- WHY: an address is chosen on a reply alone, for the target that replies; the four reasons are each given exactly in its case, and the address is by its rule
+  pub reasons : (s : Controller) (tr : List ℕ) → Sound s → (u : Udid) (a : Address) (x : Reason) → firstHalf s tr .command ≡ Wait (Chosen u a x)
+      → (s .last ≡ Send GetUdid) × ((b : ℕ) × In128 u × (b < 256) × (tr ≡ replyTrace (udidBytes u ++ b ∷ [])) × Reasons s (firstHalf s tr .state) u b (a .0) x)
   -- in every run: claimed by two exactly if the Assign, issued and completed at once, makes lookup answer 16; and only for a fixed target's own address
   pub marks : (occupied : Pool) (last : ℕ) (es : List Event) (tr : List ℕ) → run occupied last es .last ≡ Send GetUdid → (u : Udid) (b : ℕ) → In128 u → b < 256 → tr ≡ replyTrace (udidBytes u ++ b ∷ []) → (a : Address) (x : Reason)
       → firstHalf (run occupied last es) tr .command ≡ Wait (Chosen u a x)
