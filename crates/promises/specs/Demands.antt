@@ -254,6 +254,8 @@ pub record Control : Type 0 where
       × ((a : ℕ) → (heldAt (r .state .slots) a ≡ heldAt (q .state .slots) a) × (member (r .state .pool) a ≡ member (q .state .pool) a))
   -- over any starts, traces, reports, issues and declines, the latest first; a trace may be taken by the whole step or by its first half
   pub reached : (occupied : Pool) (last : ℕ) (es : List Event) → Reached occupied (run occupied last es)
+  -- a state keeps what was handed out last, be it a command, a choice or an end; a report, and what is answered with 21, hands out nothing
+  pub kept-last : (occupied : Pool) (last : ℕ) (es : List Event) → run occupied last es .last ≡ handedOut occupied last es
   -- lookup's 0 with u: an Assign of a to u completed while a was not barred, bound or claimed, and since then no start, no report of a that was answered 0, no reply of u, and no
   -- other Assign of a that completed. Its 20: a report of a was answered 0, and since then no start, and no Assign of a that completed
   pub bound-since : (occupied : Pool) (last : ℕ) (es : List Event) (u : Udid) (a : ℕ) → (lookupNumber (lookedUp (run occupied last es) a) ≡ (0, u ∷ [])) ↔ BoundSince occupied last es u a
