@@ -1,5 +1,5 @@
--- Choosing apart from sending, for C: what an issue and a decline at the end of a list are answered, that a 21 changes nothing, and that a first
--- half with an issue after it, where a choice waits, is the step.
+-- Choosing apart from sending, for C: what a choice is told as, what an issue and a decline at the end of a list are answered, that a 21 changes
+-- nothing, and that a first half with an issue after it, where a choice waits, is the step.
 use Prim.Native.Nat.{ℕ, _<_}
 use mathlib.Core.Path.{_≡_, refl, sym, ap, _∙_}
 use mathlib.Core.List.{List, [], _∷_, _++_}
@@ -10,15 +10,16 @@ use lib.ListN.{length}
 use Rattle.lists.specs.AbsurdLaws.{zero-is-one}
 use Rattle.lists.specs.Choice.{pick}
 use Rattle.wire.specs.declared.address.Address.{Address}
+use Rattle.pool.specs.declared.Pool.{Pool}
 use Rattle.udid.specs.declared.Udid.{Udid}
 use Rattle.arp.specs.Choosing.{firstHalf, issuing, declining, carriedFor}
 use Rattle.arp.specs.ChoosingLaws.{halves-are-the-step}
 use Rattle.arp.specs.Controller.{stepped}
 use Rattle.arp.specs.History.{Step, Choose, Event, Start, Received, Gone, Issue, Decline}
 use Rattle.arp.specs.Lookup.{lookedUp}
-use Rattle.arp.specs.Numbers.{commandNumber}
+use Rattle.arp.specs.Numbers.{commandNumber, unless21}
 use Rattle.arp.specs.OutstandingLaws.{heard-21, idle-half, last-is-handed-out}
-use Rattle.arp.specs.Replay.{handedOut}
+use Rattle.arp.specs.Replay.{handedOut, answered}
 use Rattle.arp.specs.SettleLaws.{issue-is, decline-is, none-to-issue, none-to-decline, issue-21, decline-21}
 use Rattle.arp.specs.Waits.{Waits}
 use Rattle.commands.specs.Choices.{choiceIn}
@@ -37,7 +38,7 @@ use Rattle.c_arp.specs.declared.parts.HbPool.{HbPool}
 use Rattle.c_arp.specs.Choices.{ChoiceWaits, NoChoice, IsAnswered}
 use Rattle.c_arp.specs.CommandParts.{CommandParts}
 use Rattle.c_arp.specs.CommandPartLaws.{command-parts, command-21}
-use Rattle.c_arp.specs.Commands.{toldCommand}
+use Rattle.c_arp.specs.Commands.{toldCommand, reasonNumber}
 use Rattle.c_arp.specs.Histories.{eventsOf}
 use Rattle.c_arp.specs.Parts.{poolIn}
 use Rattle.c_arp.specs.Pass.{afterEvent, stepsOver, passOver, toldPass, refusedPass, passCommand, foundOf, toldFound, passFound}
@@ -69,6 +70,16 @@ kind-8 (Wait Abandoned) gets picked q = absurd (omega (arith, q))
 kind-8 (Wait NotOutstanding) gets picked q = absurd (omega (arith, q))
 kind-8 (Wait (Chosen u a x)) gets picked q = (u, a, x, refl)
 
+-- a choice that was answered last waits
+answered-waits : (occupied : Pool) (last : ℕ) (es : List Event) (u : Udid) (a : Address) (x : Reason) → answered occupied last es ≡ Wait (Chosen u a x) → handedOut occupied last es ≡ Wait (Chosen u a x)
+unfolding answered handedOut
+answered-waits occupied last [] u a x e = e
+answered-waits occupied last (Start ∷ es) u a x e = e
+answered-waits occupied last (Received w tr ∷ es) u a x e = ap (λ (k : Handed). unless21 k (handedOut occupied last es)) e
+answered-waits occupied last (Gone b ∷ es) u a x e = answered-waits occupied last es u a x e
+answered-waits occupied last (Issue ∷ es) u a x e = ap (λ (k : Handed). unless21 k (handedOut occupied last es)) e
+answered-waits occupied last (Decline ∷ es) u a x e = ap (λ (k : Handed). unless21 k (handedOut occupied last es)) e
+
 module _ (given : HbPool) (last : ℕ) (es : List Event) (rest : List ℕ) (v : Listed es) (cut : Cut rest) where
   abbrev bytes : List ℕ
   bytes = listBytes es ++ rest
@@ -93,6 +104,23 @@ module _ (given : HbPool) (last : ℕ) (es : List Event) (rest : List ℕ) (v : 
 
   no-choice-before : (Waits (before .state) → ⊥) ↔ NoChoice given last es
   no-choice-before = (λ n u a x c. n (u, a, x, choice-before u a x c), λ n w. n (w .0) (w .1) (w .2) (sym last-before ∙ w .3))
+
+  -- ---- a choice that is answered
+
+  pub hb-pass-chosen : (r : HbCommand) → last < 128 → r ≡ passCommand (poolIn given) last bytes → (u : Udid) (a : Address) (x : Reason)
+      → answered (poolIn given) last (eventsOf es) ≡ Wait (Chosen u a x) → CommandParts r 8 0 (a .0) (before .state .gets) (before .state .picked) (reasonNumber x) (u .high) (u .low)
+  hb-pass-chosen r small e u a x q =
+      command-parts (Wait (Chosen u a x)) (before .state .gets) (before .state .picked) r
+      (e ∙ command-told (poolIn given) last bytes small ∙ ap (λ (k : Handed). toldCommand k (before .state .gets) (before .state .picked)) (hb-pass-history given last es rest v cut .command ∙ q))
+
+  -- HB_CHOSEN is told of nothing else; and the choice that it tells waits
+  pub hb-pass-chosen-only : (r : HbCommand) → last < 128 → r ≡ passCommand (poolIn given) last bytes → r .kind ≡ 8
+      → (u : Udid) × (a : Address) × (x : Reason) × (answered (poolIn given) last (eventsOf es) ≡ Wait (Chosen u a x)) × ChoiceWaits given last es u a x
+  hb-pass-chosen-only r small e q =
+      let told : r ≡ toldPass before = e ∙ command-told (poolIn given) last bytes small in
+      let w = kind-8 (before .command) (before .state .gets) (before .state .picked) (sym (ap (λ (y : HbCommand). y .kind) told) ∙ q) in
+      let n : answered (poolIn given) last (eventsOf es) ≡ Wait (Chosen (w .0) (w .1) (w .2)) = sym (hb-pass-history given last es rest v cut .command) ∙ w .3 in
+      (w .0, w .1, w .2, n, answered-waits (poolIn given) last (eventsOf es) (w .0) (w .1) (w .2) n)
 
   -- ---- an issue or a decline as the last entry
 
@@ -125,6 +153,41 @@ module _ (given : HbPool) (last : ℕ) (es : List Event) (rest : List ℕ) (v : 
     hb-pass-decline e u a x c =
         command-parts (Wait Abandoned) (before .state .gets) (before .state .picked) r
         (told-one Decline tt e ∙ ap (λ (st : Stepped). toldPass st) (decline-is (before .state) u a x (choice-before u a x c)))
+
+    -- so by the struct k that told the choice: the Assign has its address and its identifier
+    pub hb-pass-issue-chosen : (k : HbCommand) → k ≡ passCommand (poolIn given) last bytes → k .kind ≡ 8 → r ≡ passCommand (poolIn given) last (listBytes (es ++ Issue ∷ []) ++ rest′)
+        → CommandParts r 2 0 (k .address) (k .gets) (k .picked) 0 (k .udid .high) (k .udid .low)
+    hb-pass-issue-chosen k f q e =
+        let w = hb-pass-chosen-only k small f q in
+        let c = hb-pass-chosen k small f (w .0) (w .1) (w .2) (w .3) in
+        let p = hb-pass-issue e (w .0) (w .1) (w .2) (w .4) in
+        record {
+          kind-is = p .kind-is;
+          answer-is = p .answer-is;
+          address-is = p .address-is ∙ sym (c .address-is);
+          gets-is = p .gets-is ∙ sym (c .gets-is);
+          picked-is = p .picked-is ∙ sym (c .picked-is);
+          reason-is = p .reason-is;
+          high-is = p .high-is ∙ sym (c .high-is);
+          low-is = p .low-is ∙ sym (c .low-is);
+        }
+
+    pub hb-pass-decline-chosen : (k : HbCommand) → k ≡ passCommand (poolIn given) last bytes → k .kind ≡ 8 → r ≡ passCommand (poolIn given) last (listBytes (es ++ Decline ∷ []) ++ rest′)
+        → CommandParts r 5 14 0 (k .gets) (k .picked) 0 0 0
+    hb-pass-decline-chosen k f q e =
+        let w = hb-pass-chosen-only k small f q in
+        let c = hb-pass-chosen k small f (w .0) (w .1) (w .2) (w .3) in
+        let p = hb-pass-decline e (w .0) (w .1) (w .2) (w .4) in
+        record {
+          kind-is = p .kind-is;
+          answer-is = p .answer-is;
+          address-is = p .address-is;
+          gets-is = p .gets-is ∙ sym (c .gets-is);
+          picked-is = p .picked-is ∙ sym (c .picked-is);
+          reason-is = p .reason-is;
+          high-is = p .high-is;
+          low-is = p .low-is;
+        }
 
     -- ---- a 21 changes nothing
 

@@ -25,6 +25,7 @@ pub enum Head {
     Decline,
 }
 
+// What an entry is that begins with this pair.
 pub(crate) fn head_of(first: u16) -> Head
     ensures { λ r. ⌜ r ≡ headOf first ⌝ }
 {

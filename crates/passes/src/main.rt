@@ -55,20 +55,25 @@ fn choose_on(c: Controller) -> Stepped {
     c.choose(&trace[..n])
 }
 
-// What an operation hands out that is none of 0, 3 and 4.
-fn next_of(c: Controller, operation: u8) -> Stepped {
-    match operation {
-        1 => c.start(),
-        2 => step_on(c),
+// A start or a step; the command is written.
+fn go_on(c: Controller, operation: u8) -> Stepped {
+    let next = if operation == 1 {
+        c.start()
+    } else {
+        step_on(c)
+    };
+    let command = next.command;
+    write_command(command);
+    next
+}
+
+// The first half of a step, an issue or a decline; the command is written.
+fn go_apart(c: Controller, operation: u8) -> Stepped {
+    let next = match operation {
         5 => choose_on(c),
         6 => c.issue(),
         _ => c.decline(),
-    }
-}
-
-// A start, a step, half of one, an issue or a decline; the command is written.
-fn go_on(c: Controller, operation: u8) -> Stepped {
-    let next = next_of(c, operation);
+    };
     let command = next.command;
     write_command(command);
     next
@@ -99,12 +104,15 @@ fn main() {
             0 => {
                 st = read_controller();
             }
-            1 | 2 | 5 | 6 | 7 => {
+            1 | 2 => {
                 st = go_on(st.state, operation);
             }
             3 => write_finds(st.state),
             4 => {
                 st = report(st);
+            }
+            5 | 6 | 7 => {
+                st = go_apart(st.state, operation);
             }
             _ => return,
         }

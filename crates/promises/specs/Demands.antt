@@ -1,8 +1,8 @@
 -- THE PAGE OF PROMISES: statements only. DemandsLaws has one inhabitant of each record, and so its proof.
 -- ≡ is 'equal', ↔ 'if and only if', × 'and', ⊎ 'or', P → ⊥ 'not P', (x : A) × P 'there is an x with P'; getD l i 0 is number i of the list l.
 -- A parameter such as (contract : Wrote ..) is what a function's `ensures` says, word for word. It need not be believed: the code meets it.
--- CONTRACTS: Leaves, Outcome, Wrote, lookedUp, loses, messageOf, modelEnd, newController, nextFree, powered, protocolFor, receives, refreshed, reported, resumed, silentIn, started, starts, stepped, stops, supplies, traceOf.
--- BELIEVED: 1009 lines, without imports, comments and blanks. Crate/file, then the lines of each definition; src is a type of the code. tests/programs/believed.rs counts them.
+-- CONTRACTS: Leaves, Outcome, Wrote, declining, firstHalf, issuing, lookedUp, loses, messageOf, modelEnd, newController, nextFree, powered, protocolFor, receives, refreshed, reported, resumed, silentIn, started, starts, stepped, stops, supplies, traceOf.
+-- BELIEVED: 1108 lines, without imports, comments and blanks. Crate/file, then the lines of each definition; src is a type of the code. tests/programs/believed.rs counts them.
 -- lists/Choice: and 3, not 3, or 3, pick 3; lists/Each: Any 3, Bytes 3, Each 3; wire/AddressTable: Bit 4, Covers 2, covers 3, lets 4, table17 25; wire/Addresses: isFromTo 2, isListed 2, isPreassigned 2, isReserved 2;
 -- wire/Symbols: ACK 2, NACK 2, START 2, STOP 2; wire/src: Address 1; pec/Pec: bitStep 2, pecFrom 3, pecOf 2, pecStep 2; trace/Rows: message 2; trace/Table: InTable 2, Line 6, Row 22, TraceOf 2, lastProtocol 2, line 2, symbols 2;
 -- trace/Trace: Message 6, ackOf 3, acked 3, inPlace 2, nacked 3; trace/src: Transaction 8; encode/Encode: encodeNumber 4; encode/src: Encoded 5; misfit/Cases: IsMisaddressed 2, IsMiscounted 2, IsOther 2, IsSwapped 2;
@@ -12,18 +12,20 @@
 -- udid/Bytes: bytesFrom 3, bytesOf 3, number 2, numberFrom 3, udidAt 2, udidBytes 2; udid/Udids: Fits 3, isFixed 2, sameUdid 2, value 2; udid/src: Udid 4; slots/Slots: heldAt 2; slots/src: Binding 6, Slots 7;
 -- module/Acknowledges: acked 3, getOrder 2; module/Obeys: assignOrder 2, directedReset 2, heardAll 3, packet 2, prepareOrder 2, resetOrder 2; module/Packets: Begins 2, Known 7, PecDue 6, PowersOn 7, Reachable 2, Resets 7,
 -- kindOf 2; module/Receive: forRead 2, forWrite 2; module/Reset: having 2; module/Resume: AsRecorded 9, resumedNumber 4; module/Says: afterAsking 3, asked 2, replyTo 2, says 3, sent 2; module/Supply: addressByte 2;
--- module/src: Lasting 8, Module 7, Resumed 5; commands/CommandTraces: ReplyOf 2, assignTrace 2, prepareTrace 2, replyTrace 3; commands/SameTrace: same 5; commands/src: Command 5, End 7, Handed 4; arp/Account: bindIn 5, binds 5,
--- knownIn 2, removals 5, removeIn 2, repliesFrom 5, unbindIn 5, unbindings 5; arp/History: Event 4, NoStart 5, run 5; arp/Numbers: commandNumber 3, endNumber 6, lookupNumber 6; arp/OneStep: Asks 3, Binds 8, BoundAt 3, Chooses 5,
--- Continues 2, EndsWith 2, Hands 5, Keeps 4, Removes 5, Replies 4, Rest 5, Same 2, Unbinds 5; arp/Replay: Table 3, handedOut 5, isBound 5, view 2; arp/RunPicks: isPicked 2, pickIn 5, picksOf 6; arp/SinceStart: BoundSince 7,
--- Completes 2, LeftSince 5, Removed 2, RepliedBy 2, Untaken 3; arp/src: Controller 8, Found 7, Reported 4, Stepped 4; arbitration/Among: Among 3; arbitration/Bits: bits 3, byteBits 3, bytesRead 3, numberOf 3;
--- arbitration/Wire: heard 3, later 3, level 3, next 3, staying 3; targets/ByteCases: EvenOrFlag 2, FixedAt 2, FixedOnTaken 2, SameAsEarlier 2, addressAt 2; targets/Cases: FirstOf 4, LengthIsBad 2, None 2;
--- targets/Records: addressByte 2, flagOf 2, recordCount 2, targetAt 2, targetsFrom 3, targetsOf 2, udidOf 2; targets/Reply: OnWire 3, coveredBytes 2, onWire 3, replyBytes 2, replyData 2, replyPec 2, sends 2, waiting 3;
--- targets/Target: Target 4, isResolved 2, mapTargets 3; bindings/src: ModelAnswer 9; report/Report: modelNumber 2; rule/Acknowledge: acknowledges 4, afterwards 2, answered 4, asking 2, assigningBytes 2, begins 4, gettingBytes 2,
--- onBus 2, preparingBytes 2, received 3, sentPart 5, somebody 3, standing 3; rule/AllBound: leftFree 2, movable 3, withFixed 3; rule/AnyBus: Bus 3, WorldOver 3, beginningOver 2, passOf 2, runOver 3, tookOver 3, turnOver 2;
--- rule/Bus: modelBus 2, pass 2; rule/Effect: addressIn 2, effect 5, isForMe 2; rule/PlainRule: Distinct 3, Ending 3, Given 3, Ruled 4, ascending 3, held 2, insert 3, isPickedFor 2, next 5, pickAfter 2, plainChoice 2, rule 3,
--- ruled 2; rule/Reading: OnePerUdid 3, RecordOf 2; rule/Sent: getsAmong 3, getsOnBus 2, getsOver 2, heardAfter 4, historyOnBus 2, oneIn 2, tracesOver 3; exchange/Exchange: Fitting 2, Left 3, Sender 4, after 3, afterByte 2,
--- afterBytes 3, anyAck 3, asked 2, blockLength 2, byteOn 2, bytesOn 3, exchange 2, hearing 2, line 3, put 2, reading 5, recordOf 2, recordsOf 2, rest 5, seen 3, sees 5, stopAll 2, walk 6; exchange/Pass: Bench 2, getsOn 2,
--- passOn 2, runOn 3, standsOn 2, tookOn 3, tracesOn 3, turnOn 2; exchange/Sending: askedAll 2, startedAgain 2; bus/Run: ModelEnd 4; promises/MarkedWords: Shows 2, holding 2, identifier 2, windows 3.
+-- module/src: Lasting 8, Module 7, Resumed 5; commands/Choices: choiceIn 3, inEnd 7; commands/CommandTraces: ReplyOf 2, assignTrace 2, prepareTrace 2, replyTrace 3; commands/SameTrace: same 5; commands/src: Choice 4, Command 5,
+-- End 8, Handed 4, Reason 6; arp/Account: bindIn 5, binds 7, knownIn 2, removals 7, removeIn 2, repliesFrom 5, unbindIn 5, unbindings 7; arp/Choosing: carriedFor 3, carriedOn 2, halvesOver 3, sending 2, sendingFor 3, stepsOver 3;
+-- arp/History: By 3, Event 6, NoStart 7, heard 3, run 7; arp/Numbers: commandNumber 3, endNumber 7, is21 3, is21End 7, lookupNumber 6, unless21 2; arp/OneStep: Asks 3, Binds 8, BoundAt 3, Chooses 5, Continues 2, EndsWith 2,
+-- Hands 5, Keeps 4, Removes 5, Replies 4, Rest 5, Same 2, Unbinds 5; arp/Reasons: Contested 2, MustPick 2, Reasons 7; arp/Replay: Table 3, handedOut 7, isBound 5, view 2; arp/RunPicks: isPicked 2, pickIn 5, picksOf 8;
+-- arp/SinceStart: BoundSince 9, Completes 2, LeftSince 7, Removed 2, RepliedBy 2, Untaken 3; arp/State: withLast 2; arp/Waits: Waits 2; arp/src: Controller 8, Found 7, Reported 4, Stepped 4; arbitration/Among: Among 3;
+-- arbitration/Bits: bits 3, byteBits 3, bytesRead 3, numberOf 3; arbitration/Wire: heard 3, later 3, level 3, next 3, staying 3; targets/ByteCases: EvenOrFlag 2, FixedAt 2, FixedOnTaken 2, SameAsEarlier 2, addressAt 2;
+-- targets/Cases: FirstOf 4, LengthIsBad 2, None 2; targets/Records: addressByte 2, flagOf 2, recordCount 2, targetAt 2, targetsFrom 3, targetsOf 2, udidOf 2; targets/Reply: OnWire 3, coveredBytes 2, onWire 3, replyBytes 2,
+-- replyData 2, replyPec 2, sends 2, waiting 3; targets/Target: Target 4, isResolved 2, mapTargets 3; bindings/src: ModelAnswer 9; report/Report: modelNumber 2; rule/Acknowledge: acknowledges 4, afterwards 2, answered 4, asking 2,
+-- assigningBytes 2, begins 4, gettingBytes 2, onBus 2, preparingBytes 2, received 3, sentPart 5, somebody 3, standing 3; rule/AllBound: leftFree 2, movable 3, withFixed 3; rule/AnyBus: Bus 3, WorldOver 3, beginningOver 2,
+-- passOf 2, runOver 3, tookOver 3, turnOver 2; rule/Bus: modelBus 2, pass 2; rule/Effect: addressIn 2, effect 5, isForMe 2; rule/Halves: passByHalves 2, runByHalves 3, tookByHalves 3; rule/PlainRule: Distinct 3, Ending 3,
+-- Given 3, Ruled 4, ascending 3, held 2, insert 3, isPickedFor 2, next 5, pickAfter 2, plainChoice 2, rule 3, ruled 2; rule/Reading: OnePerUdid 3, RecordOf 2; rule/Sent: getsAmong 3, getsOnBus 2, getsOver 2, heardAfter 4,
+-- historyOnBus 2, oneIn 2, tracesOver 3; exchange/Exchange: Fitting 2, Left 3, Sender 4, after 3, afterByte 2, afterBytes 3, anyAck 3, asked 2, blockLength 2, byteOn 2, bytesOn 3, exchange 2, hearing 2, line 3, put 2, reading 5,
+-- recordOf 2, recordsOf 2, rest 5, seen 3, sees 5, stopAll 2, walk 6; exchange/Pass: Bench 2, getsOn 2, passOn 2, runOn 3, standsOn 2, tookOn 3, tracesOn 3, turnOn 2; exchange/Sending: askedAll 2, startedAgain 2;
+-- bus/Run: ModelEnd 4; promises/MarkedWords: Shows 2, holding 2, identifier 2, windows 3.
 use mathlib.Core.Path.{_≡_}
 use mathlib.Core.Bool.{Bool, true, false}
 use mathlib.Core.List.{List, [], _∷_, _++_}

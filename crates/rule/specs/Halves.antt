@@ -6,7 +6,7 @@ use Rattle.targets.specs.Target.{Target}
 use Rattle.arp.specs.Choosing.{firstHalf, carriedOn}
 use Rattle.arp.specs.declared.state.Stepped.{Stepped}
 use Rattle.rule.specs.AnyBus.{Bus, WorldOver, beginningOver}
-use Rattle.rule.specs.Bus.{World, modelBus}
+use Rattle.rule.specs.Bus.{modelBus}
 
 -- A TURN, by what stands on the bus: nothing leaves all as it is
 abbrev pub tookByHalves : {A : Type 0} → Bus A → Stepped → A → List ℕ → WorldOver A
@@ -18,5 +18,5 @@ runByHalves bus zero w = w
 runByHalves bus (suc n) w = runByHalves bus n (tookByHalves bus (w .now) (w .targets) (bus .stands (w .now .command) (w .targets)))
 
 -- on the model's bus
-unfoldable pub passByHalves : Pool → ℕ → List Target → World
+unfoldable pub passByHalves : Pool → ℕ → List Target → WorldOver (List Target)
 passByHalves occupied last ts = runByHalves modelBus 300 (beginningOver occupied last ts)

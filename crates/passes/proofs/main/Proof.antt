@@ -29,6 +29,9 @@ report-requires c κs = search needs
 go-on-requires : tie.Need-go-on-requires Inv-loop μ-loop
 go-on-requires c κs = search needs
 
+go-apart-requires : tie.Need-go-apart-requires Inv-loop μ-loop
+go-apart-requires c κs = search needs
+
 returns : tie.Need-returns Inv-loop μ-loop
 returns c = search needs
 
@@ -57,6 +60,7 @@ main-spec =
     write-finds-requires
     report-requires
     go-on-requires
+    go-apart-requires
     returns
     sub-turns
     loop-less
