@@ -13,7 +13,6 @@ use Rattle.commands.specs.declared.command.End.{End}
 use Rattle.commands.specs.declared.command.End.the-variants.{Nothing, Ended, NoneFree, Abandoned, NotOutstanding, Chosen}
 use Rattle.commands.specs.declared.command.Handed.{Handed}
 use Rattle.commands.specs.declared.command.Handed.the-variants.{Send, Wait}
-use Rattle.commands.specs.declared.command.Reason.the-variants.{Fixed, Kept, Picked, Claimed}
 use Rattle.report.specs.Report.{numberIn}
 use Rattle.c_arp.specs.declared.kinds.HbCommand.{HbCommand}
 use Rattle.c_arp.specs.Commands.{toldEnd, toldCommand}
@@ -55,10 +54,7 @@ end-parts (NoneFree u) gets picked = record { kind-is = refl; answer-is = refl; 
 end-parts Abandoned gets picked = record { kind-is = refl; answer-is = refl; address-is = refl; gets-is = refl; picked-is = refl; reason-is = refl; high-is = refl; low-is = refl }
 end-parts NotOutstanding gets picked = record { kind-is = refl; answer-is = refl; address-is = refl; gets-is = refl; picked-is = refl; reason-is = refl; high-is = refl; low-is = refl }
 end-parts Nothing gets picked = record { kind-is = refl; answer-is = refl; address-is = refl; gets-is = refl; picked-is = refl; reason-is = refl; high-is = refl; low-is = refl }
-end-parts (Chosen u a Fixed) gets picked = record { kind-is = refl; answer-is = refl; address-is = refl; gets-is = refl; picked-is = refl; reason-is = refl; high-is = refl; low-is = refl }
-end-parts (Chosen u a Kept) gets picked = record { kind-is = refl; answer-is = refl; address-is = refl; gets-is = refl; picked-is = refl; reason-is = refl; high-is = refl; low-is = refl }
-end-parts (Chosen u a Picked) gets picked = record { kind-is = refl; answer-is = refl; address-is = refl; gets-is = refl; picked-is = refl; reason-is = refl; high-is = refl; low-is = refl }
-end-parts (Chosen u a Claimed) gets picked = record { kind-is = refl; answer-is = refl; address-is = refl; gets-is = refl; picked-is = refl; reason-is = refl; high-is = refl; low-is = refl }
+end-parts (Chosen u a why) gets picked = record { kind-is = refl; answer-is = refl; address-is = refl; gets-is = refl; picked-is = refl; reason-is = refl; high-is = refl; low-is = refl }
 
 pub command-parts : (k : Handed) (gets picked : ℕ) (r : HbCommand) → r ≡ toldCommand k gets picked → CommandIs k gets picked r
 command-parts k gets picked r e = subst (CommandIs k gets picked) (sym e) (go k)

@@ -8,9 +8,8 @@ use Rattle.commands.specs.declared.command.End.{End}
 use Rattle.commands.specs.declared.command.End.the-variants.{Nothing, Ended, NoneFree, Abandoned, NotOutstanding, Chosen}
 use Rattle.commands.specs.declared.command.Handed.{Handed}
 use Rattle.commands.specs.declared.command.Handed.the-variants.{Send, Wait}
-use Rattle.commands.specs.declared.command.Reason.the-variants.{Fixed, Kept, Picked, Claimed}
 use Rattle.c_arp.specs.declared.kinds.HbCommand.{HbCommand}
-use Rattle.c_arp.specs.Commands.{commandOf}
+use Rattle.c_arp.specs.Commands.{commandOf, reasonNumber}
 
 pub record CommandParts (r : HbCommand) (kind answer address gets picked reason high low : ℕ) : Type 0 where
   pub kind-is : r .kind ≡ kind
@@ -23,18 +22,14 @@ pub record CommandParts (r : HbCommand) (kind answer address gets picked reason 
   pub low-is : r .udid .low ≡ low
 
 -- an end: its kind, the scope's number, the Get UDIDs so far, the last pick, and the identifier of the target that found no address. With 21 all but the
--- kind and the number is zero. A choice that waits is of kind 8, and has its address, its target and its
--- reason: 1 fixed, 2 kept, 3 picked, 4 claimed by two; no other kind has a reason
+-- kind and the number is zero. A choice that waits is of kind 8, and has its address, its reason and its target: no other kind has a reason
 abbrev pub EndIs : End → ℕ → ℕ → HbCommand → Type 0
 EndIs Ended gets picked r = CommandParts r 3 0 0 gets picked 0 0 0
 EndIs (NoneFree u) gets picked r = CommandParts r 4 13 0 gets picked 0 (u .high) (u .low)
 EndIs Abandoned gets picked r = CommandParts r 5 14 0 gets picked 0 0 0
 EndIs NotOutstanding gets picked r = CommandParts r 6 21 0 0 0 0 0 0
 EndIs Nothing gets picked r = CommandParts r 7 0 0 gets picked 0 0 0
-EndIs (Chosen u a Fixed) gets picked r = CommandParts r 8 0 (a .0) gets picked 1 (u .high) (u .low)
-EndIs (Chosen u a Kept) gets picked r = CommandParts r 8 0 (a .0) gets picked 2 (u .high) (u .low)
-EndIs (Chosen u a Picked) gets picked r = CommandParts r 8 0 (a .0) gets picked 3 (u .high) (u .low)
-EndIs (Chosen u a Claimed) gets picked r = CommandParts r 8 0 (a .0) gets picked 4 (u .high) (u .low)
+EndIs (Chosen u a why) gets picked r = CommandParts r 8 0 (a .0) gets picked (reasonNumber why) (u .high) (u .low)
 
 -- the kind of each command, the Get UDIDs so far, the last pick, and the address and the identifier of an Assign
 abbrev pub CommandIs : Handed → ℕ → ℕ → HbCommand → Type 0
