@@ -46,3 +46,4 @@ pub mod AccountLaws
 pub mod ReasonLaws
 pub mod SettleLaws
 pub mod WaitingLaws
+pub mod BetweenLaws

@@ -26,7 +26,7 @@ use Rattle.commands.specs.declared.command.End.the-variants.{Chosen}
 use Rattle.commands.specs.declared.command.Handed.{Handed}
 use Rattle.commands.specs.declared.command.Handed.the-variants.{Send, Wait}
 use Rattle.commands.specs.declared.command.Reason.{Reason}
-use Rattle.commands.specs.declared.command.Reason.the-variants.{Claimed}
+use Rattle.commands.specs.declared.command.Reason.the-variants.{Fixed, Kept, Picked, Claimed}
 use Rattle.hearing.specs.Told.{tells}
 use Rattle.pool.specs.declared.free.Free.{Free}
 use Rattle.pool.specs.declared.free.Free.the-variants.{AllUsed}
@@ -164,3 +164,10 @@ pub reasons-given : (s : Controller) (tr : List ℕ) → s .picked < 128 → s .
 reasons-given s tr small l u b f h q v a x c =
     subst (λ (r : Stepped). (v ≡ u) × Reasons s (r .state) u b (a .0) x) (sym (decides s tr l u b f h q))
     (decided-reasons s small u b f v a x (ap (λ (r : Stepped). r .command) (sym (decides s tr l u b f h q)) ∙ c))
+
+-- ONE REASON is left
+pub one-reason : (s t : Controller) (u : Udid) (b a : ℕ) (x y : Reason) → Reasons s t u b a x → Reasons s t u b a y → x ≡ y
+one-reason s t u b a Fixed y h g = sym (g .fixed .1 (h .fixed .0 refl))
+one-reason s t u b a Kept y h g = sym (g .kept .1 (h .kept .0 refl))
+one-reason s t u b a Picked y h g = sym (g .picked .1 (h .picked .0 refl))
+one-reason s t u b a Claimed y h g = sym (g .claimed .1 (h .claimed .0 refl))

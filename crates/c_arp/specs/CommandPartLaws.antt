@@ -16,7 +16,7 @@ use Rattle.commands.specs.declared.command.Handed.the-variants.{Send, Wait}
 use Rattle.report.specs.Report.{numberIn}
 use Rattle.c_arp.specs.declared.kinds.HbCommand.{HbCommand}
 use Rattle.c_arp.specs.Commands.{toldEnd, toldCommand}
-use Rattle.c_arp.specs.CommandParts.{CommandParts, EndIs, CommandIs, KindsAre}
+use Rattle.c_arp.specs.CommandParts.{CommandParts, EndIs, CommandIs, KindsAre, ReasonsAre}
 
 -- the answer is the scope's number, 0 where there is none
 told-end-number : (e : End) (gets picked : ℕ) → toldEnd e gets picked .answer ≡ numberIn (endNumber e)
@@ -98,3 +98,7 @@ commands-of-kinds u a = record {
   assign = refl;
   other = λ kind h. rw (ne-eqb kind 0 (λ e. omega arith), ne-eqb kind 1 (λ e. omega arith), ne-eqb kind 2 (λ e. omega arith));
 }
+
+-- each reason is its number
+pub reasons-in-numbers : ReasonsAre
+reasons-in-numbers = record { fixed = refl; kept = refl; picked = refl; claimed = refl }

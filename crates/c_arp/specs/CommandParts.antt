@@ -8,6 +8,7 @@ use Rattle.commands.specs.declared.command.End.{End}
 use Rattle.commands.specs.declared.command.End.the-variants.{Nothing, Ended, NoneFree, Abandoned, NotOutstanding, Chosen}
 use Rattle.commands.specs.declared.command.Handed.{Handed}
 use Rattle.commands.specs.declared.command.Handed.the-variants.{Send, Wait}
+use Rattle.commands.specs.declared.command.Reason.the-variants.{Fixed, Kept, Picked, Claimed}
 use Rattle.c_arp.specs.declared.kinds.HbCommand.{HbCommand}
 use Rattle.c_arp.specs.Commands.{commandOf, reasonNumber}
 
@@ -44,3 +45,10 @@ pub record KindsAre (u : Udid) (a : Address) : Type 0 where
   pub get : commandOf 1 u a ≡ Send GetUdid
   pub assign : commandOf 2 u a ≡ Send (Assign u a)
   pub other : (kind : ℕ) → 3 ≤ kind → commandOf kind u a ≡ Wait Nothing
+
+-- why an address was chosen: 1 fixed, 2 kept, 3 picked, 4 claimed by two
+pub record ReasonsAre : Type 0 where
+  pub fixed : reasonNumber Fixed ≡ 1
+  pub kept : reasonNumber Kept ≡ 2
+  pub picked : reasonNumber Picked ≡ 3
+  pub claimed : reasonNumber Claimed ≡ 4

@@ -4,18 +4,21 @@ use mathlib.Core.Path.{_≡_, ap, _∙_, subst}
 use mathlib.Core.List.{List, _∷_}
 use Rattle.udid.specs.declared.Udid.{Udid}
 use Rattle.wire.specs.declared.address.Address.{Address}
+use Rattle.arp.specs.BetweenLaws.{halves-in-a-run, report-between, declined-until-start}
 use Rattle.arp.specs.Choosing.{firstHalf}
 use Rattle.arp.specs.Numbers.{commandNumber}
-use Rattle.arp.specs.ReasonLaws.{reasons-given}
 use Rattle.arp.specs.SettleLaws.{issue-is, decline-is, none-to-issue, none-to-decline, issue-21, decline-21, chosen-exactly, waits-in-its-state, issued-is-the-step, alone-is-the-step, same-number, waiting-refuses, halves-throughout}
-use Rattle.arp.specs.WaitingLaws.{waiting-unbound, declined-unbound, claimed-is-own, claimed-marks}
+use Rattle.arp.specs.WaitingLaws.{waiting-unbound, claimed-is-own, claimed-marks}
 use Rattle.arp.specs.declared.state.Controller.{Controller}
 use Rattle.arp.specs.declared.state.Stepped.{Stepped}
 use Rattle.targets.specs.Records.{targetsOf}
 use Rattle.commands.specs.declared.command.End.the-variants.{Chosen}
 use Rattle.commands.specs.declared.command.Handed.the-variants.{Wait}
-use Rattle.rule.specs.HalvesLaws.{pass-by-halves}
+use Rattle.rule.specs.AnyBus.{beginningOver}
+use Rattle.rule.specs.Bus.{modelBus}
+use Rattle.rule.specs.HalvesLaws.{run-by-halves}
 use Rattle.promises.specs.Demands.{Halves, Settling, Choosing}
+use Rattle.promises.specs.OneHalfLaws.{chosen-on-reply}
 
 halves-of : (s : Controller) (tr : List ℕ) → Halves s tr
 halves-of s tr = record {
@@ -44,11 +47,14 @@ choosing = record {
   halves = halves-of;
   settling = settling-of;
   throughout = halves-throughout;
-  in-a-pass = λ occupied last s. pass-by-halves occupied last (targetsOf s);
-  reasons = λ s tr f l u b v h q w a x c. reasons-given s tr (f .2) l u b v h q w a x c;
+  in-a-pass = λ occupied last s n. run-by-halves modelBus n (beginningOver occupied last (targetsOf s));
+  in-a-run = λ occupied last es tr n. halves-in-a-run occupied last es tr n;
+  report-between = λ occupied last es a. report-between occupied last es a;
+  reasons = chosen-on-reply;
   marks = λ occupied last es tr l u b f h q a x c. (
     claimed-marks occupied last es tr l u b f h q a x c,
     λ e. claimed-is-own occupied last es tr l u b f h q a (c ∙ ap (λ y. Wait (Chosen u a y)) e),
   );
-  unbound = λ occupied last es u a x e i. (waiting-unbound occupied last es u a x e i, declined-unbound occupied last es u a x e i);
+  unbound = λ occupied last es u a x e i. waiting-unbound occupied last es u a x e i;
+  declined = λ occupied last es u a x e later n. declined-until-start occupied last u es a x e later n;
 }

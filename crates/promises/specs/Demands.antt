@@ -39,7 +39,7 @@ use Rattle.promises.specs.Words.{used, count, not, Completes, BoundSince
 use Rattle.promises.specs.Words.{Asks, Binds, Continues, EndsWith, Replies, protocolFor, messageOf, traceOf, Handed, Send, Wait, Nothing, Prepare, GetUdid, Assign, Ended, Abandoned, NotOutstanding, Open, Bound, Claimed, Controller, Stepped}
 use Rattle.promises.specs.Words.{EvenOrFlag, SameAsEarlier, FixedOnTaken, LengthIsBad, None, FirstOf, targetsOf, movable, leftFree, pass, Given, Ending, served, noneFree, Distinct, ruled, RecordOf, OnePerUdid, getsOnBus, historyOnBus, modelNumber, Leaves, modelEnd, ModelAnswer, nextFree, Next, At, AllUsed, Pick, Picks, latestOf, picksOf, FreeAtEach, Picked, identifier, holding, Shows}
 use Rattle.promises.specs.Words.{Module, Lasting, silentIn, starts, stops, loses, receives, supplies, powered, refreshed, resumed, resumedNumber, Ready, AsRecorded, having, heardAll, acked, prepareOrder, resetOrder, directedReset, assignOrder, getOrder, Begins, Reachable, Known, Resets, PowersOn, PecDue, says, afterAsking, asked, replyTo}
-use Rattle.promises.specs.Words.{firstHalf, issuing, declining, stepsOver, halvesOver, passByHalves, Step, Choose, Issue, Chosen, Reason, ByTwo, Reasons, Waits, withLast}
+use Rattle.promises.specs.Words.{firstHalf, issuing, declining, stepsOver, halvesOver, runByHalves, Step, Choose, Gone, Issue, Decline, Chosen, Reason, ByTwo, Reasons, Waits, withLast}
 use Rattle.promises.specs.Words.{onBus, effect, mapTargets, Among, beginningOver, runOver, modelBus, exchange, recordsOf, Fitting, afterBytes, askedAll, runOn, passOn, getsOn}
 
 -- ---- THE ADDRESSES: TABLE 17 OF SMBus 3.3.1, Appendix C
@@ -256,6 +256,8 @@ pub record Control : Type 0 where
       × ((a : ℕ) → (heldAt (r .state .slots) a ≡ heldAt (q .state .slots) a) × (member (r .state .pool) a ≡ member (q .state .pool) a))
   -- over any starts, traces, reports, issues and declines, the latest first; a trace may be taken by the whole step or by its first half
   pub reached : (occupied : Pool) (last : ℕ) (es : List Event) → Reached occupied (run occupied last es)
+  -- a state keeps what was handed out last, be it a command, a choice or an end; a report, and what is answered with 21, hands out nothing
+  pub kept-last : (occupied : Pool) (last : ℕ) (es : List Event) → run occupied last es .last ≡ handedOut occupied last es
   -- lookup's 0 with u: an Assign of a to u completed while a was not barred, bound or claimed, and since then no start, no report of a that was answered 0, no reply of u, and no
   -- other Assign of a that completed. Its 20: a report of a was answered 0, and since then no start, and no Assign of a that completed
   pub bound-since : (occupied : Pool) (last : ℕ) (es : List Event) (u : Udid) (a : ℕ) → (lookupNumber (lookedUp (run occupied last es) a) ≡ (0, u ∷ [])) ↔ BoundSince occupied last es u a
@@ -308,19 +310,23 @@ pub record Settling (s : Controller) : Type 0 where
 pub record Choosing : Type 0 where
   pub halves : (s : Controller) (tr : List ℕ) → Halves s tr
   pub settling : (s : Controller) → Settling s
-  -- choosing and always issuing has the single step's states and commands throughout: over any list of traces, and in the pass of demand 3
+  -- choosing and always issuing has the single step's states and commands throughout: over any list of traces, and in the pass of demand 3, after any number of turns
   pub throughout : (s : Controller) (trs : List (List ℕ)) → halvesOver s trs ≡ stepsOver s trs
-  pub in-a-pass : (occupied : Pool) (last : ℕ) (s : List ℕ) → passByHalves occupied last (targetsOf s) ≡ pass occupied last (targetsOf s)
-  -- WHY: the four reasons, each exactly in its case, and the address by its rule
-  pub reasons : (s : Controller) (tr : List ℕ) → Sound s → s .last ≡ Send GetUdid → (u : Udid) (b : ℕ) → In128 u → b < 256 → tr ≡ replyTrace (udidBytes u ++ b ∷ []) → (v : Udid) (a : Address) (x : Reason)
-      → firstHalf s tr .command ≡ Wait (Chosen v a x) → (v ≡ u) × Reasons s (firstHalf s tr .state) u b (a .0) x
+  pub in-a-pass : (occupied : Pool) (last : ℕ) (s : List ℕ) (n : ℕ) → runByHalves modelBus n (beginningOver occupied last (targetsOf s)) ≡ runOver modelBus n (beginningOver occupied last (targetsOf s))
+  -- and in any run: where no choice waits, a first half and then an issue leave the state that the step leaves; and a report before an issue may as well come after it
+  pub in-a-run : (occupied : Pool) (last : ℕ) (es : List Event) (tr : List ℕ) → (Waits (run occupied last es) → ⊥) → run occupied last (Issue ∷ Received Choose tr ∷ es) ≡ run occupied last (Received Step tr ∷ es)
+  pub report-between : (occupied : Pool) (last : ℕ) (es : List Event) (a : ℕ) → run occupied last (Issue ∷ Gone a ∷ es) ≡ run occupied last (Gone a ∷ Issue ∷ es)
+  -- WHY: an address is chosen on a reply alone, for the target that replies; the four reasons are each given exactly in its case, and the address is by its rule
+  pub reasons : (s : Controller) (tr : List ℕ) → Sound s → (u : Udid) (a : Address) (x : Reason) → firstHalf s tr .command ≡ Wait (Chosen u a x)
+      → (s .last ≡ Send GetUdid) × ((b : ℕ) × In128 u × (b < 256) × (tr ≡ replyTrace (udidBytes u ++ b ∷ [])) × Reasons s (firstHalf s tr .state) u b (a .0) x)
   -- in every run: claimed by two exactly if the Assign, issued and completed at once, makes lookup answer 16; and only for a fixed target's own address
   pub marks : (occupied : Pool) (last : ℕ) (es : List Event) (tr : List ℕ) → run occupied last es .last ≡ Send GetUdid → (u : Udid) (b : ℕ) → In128 u → b < 256 → tr ≡ replyTrace (udidBytes u ++ b ∷ []) → (a : Address) (x : Reason)
       → firstHalf (run occupied last es) tr .command ≡ Wait (Chosen u a x)
       → ((x ≡ ByTwo) ↔ (lookupNumber (lookedUp (run occupied last (Received Step (assignTrace (udidBytes u) (2 * a .0)) ∷ Issue ∷ Received Choose tr ∷ es)) (a .0)) ≡ (16, []))) × (x ≡ ByTwo → (getD (udidBytes u) 0 0 < 64) × (b ≡ 0xFF → ⊥))
-  -- the identifier is bound nowhere while its choice waits, nor after a decline
-  pub unbound : (occupied : Pool) (last : ℕ) (es : List Event) (u : Udid) (a : Address) (x : Reason) → run occupied last es .last ≡ Wait (Chosen u a x) → (i : ℕ)
-      → (heldAt (run occupied last es .slots) i ≡ Bound u → ⊥) × (heldAt (declining (run occupied last es) .state .slots) i ≡ Bound u → ⊥)
+  -- the identifier is bound nowhere while its choice waits. A decline ends the pass, and leaves it bound nowhere, until the next start, whatever comes before that
+  pub unbound : (occupied : Pool) (last : ℕ) (es : List Event) (u : Udid) (a : Address) (x : Reason) → run occupied last es .last ≡ Wait (Chosen u a x) → (i : ℕ) → heldAt (run occupied last es .slots) i ≡ Bound u → ⊥
+  pub declined : (occupied : Pool) (last : ℕ) (es : List Event) (u : Udid) (a : Address) (x : Reason) → run occupied last es .last ≡ Wait (Chosen u a x) → (later : List Event) → NoStart later
+      → (run occupied last (later ++ Decline ∷ es) .last ≡ Wait Abandoned) × ((i : ℕ) → heldAt (run occupied last (later ++ Decline ∷ es) .slots) i ≡ Bound u → ⊥)
 
 -- PICKS
 pub record Picking : Type 0 where

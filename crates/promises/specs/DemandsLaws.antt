@@ -53,6 +53,7 @@ use Rattle.arp.specs.Gone.{reported}
 use Rattle.arp.specs.GoneLaws.{which-bound, nothing-reported, report-rest, report-removes, answered-0}
 use Rattle.arp.specs.Replay.{isBound}
 use Rattle.arp.specs.OneStep.{Removes}
+use Rattle.arp.specs.OutstandingLaws.{last-is-handed-out}
 use Rattle.arp.specs.SinceStartLaws.{lookup-0-since, lookup-20-since, claims-exactly, claim-stays}
 use Rattle.commands.specs.CommandTraces.{prepareTrace, replyTrace, assignTrace}
 use Rattle.pool.specs.FreeLaws.{lowest-is}
@@ -374,6 +375,7 @@ control = record {
   step = λ s tr f. let n : Sized128 (s .slots) = record { high = f .0 .0; low = f .0 .1 } in (sentences s tr n (f .2), each-number-exactly s tr (f .1) (f .2) (stepped s tr) (sentences s tr n (f .2)));
   one-step = λ s tr r q f h g. (let a = one-step s tr r q (f .1) (f .2) h g in (a .command, a .last, a .gets, a .occupied, a .picked, a .same));
   reached = reached;
+  kept-last = last-is-handed-out;
   bound-since = lookup-0-since;
   left-since = lookup-20-since;
   claims = claims-exactly;

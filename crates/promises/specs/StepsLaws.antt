@@ -203,6 +203,13 @@ none-chosen p last u b k m small c e = go (ℕ-discrete b 0xFF) (decLt (getD (ud
     go (no n) (no l) false z = absurd (assigned _ (c .own n (omega arith) z .0))
     go (no n) (no l) true z = picked (inr (omega arith, z)) (nextFree p last) refl
 
+-- an Assign
+abbrev isAssign : Handed → Bool
+isAssign (Send Prepare) = false
+isAssign (Send GetUdid) = false
+isAssign (Send (Assign u a)) = true
+isAssign (Wait e) = false
+
 module _ (s : Controller) (tr : List ℕ) (f : FitsLast s) (small : s .picked < 128) (r : Stepped) (h : Steps s tr r) where
   -- a command has its own number and no other
   apart : (k : Handed) (n : ℕ) (us : List Udid) → r .command ≡ k → (tag (commandNumber k) ≡ n → ⊥) → commandNumber (r .command) ≡ (n, us) ∷ [] → ⊥
@@ -357,3 +364,30 @@ module _ (s : Controller) (tr : List ℕ) (f : FitsLast s) (small : s .picked < 
 
   pub each-number-exactly : StepNumbers s tr r
   each-number-exactly = record { step-0 = ends-exactly; step-13 = none-exactly; step-14 = abandons-exactly; step-21 = refuses-exactly }
+
+  -- AN ASSIGN is sent on a reply alone
+  pub assigns-on-reply : (u : Udid) (a : Address) → r .command ≡ Send (Assign u a)
+      → (s .last ≡ Send GetUdid) × ((v : Udid) × (b : ℕ) × Fits v × (b < 256) × (tr ≡ replyTrace (udidBytes v ++ b ∷ [])))
+  assigns-on-reply u a q = go (every-case s tr f)
+    where
+      no-assign : (k : Handed) → r .command ≡ k → isAssign k ≡ false → ⊥
+      no-assign k e n = false-not-true (sym n ∙ ap isAssign (sym e ∙ q))
+
+      asks-none : Asks s r → ⊥
+      asks-none w = at (decLt (s .gets) 128)
+        where
+          at : Dec (s .gets < 128) → ⊥
+          at (yes k) = no-assign (Send GetUdid) (w .again k .command) refl
+          at (no k) = no-assign (Wait Abandoned) (w .limit (omega arith) .command) refl
+
+      go : Case s tr → (s .last ≡ Send GetUdid) × ((v : Udid) × (b : ℕ) × Fits v × (b < 256) × (tr ≡ replyTrace (udidBytes v ++ b ∷ [])))
+      go (Accepted e t) = absurd (asks-none (h .prepare-accepted e t .0))
+      go (Nobody e b w) = absurd (no-assign (Wait Ended) (h .prepare-nobody e b w .0 .command) refl)
+      go (Refused e n m) = absurd (no-assign (Wait Abandoned) (h .prepare-other e n m .0 .command) refl)
+      go (Replied e v b k l t) = (e, (v, b, k, l, t))
+      go (Counted e xs d l n t) = absurd (no-assign (Wait Ended) (h .get-count e xs d l n t .0 .command) refl)
+      go (Left e w) = absurd (no-assign (Wait Ended) (h .get-nobody e w .0 .command) refl)
+      go (Again e n m) = absurd (asks-none (h .get-again e n m .0))
+      go (Whole v c e k l t) = absurd (asks-none (h .assign-whole v c e k l t .0))
+      go (Other v c e n) = absurd (asks-none (h .assign-other v c e n .0))
+      go (None i) = absurd (no-assign (Wait NotOutstanding) (h .none-outstanding i .1) refl)

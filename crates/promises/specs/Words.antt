@@ -36,7 +36,7 @@ pub use Rattle.commands.specs.CommandTraces.{prepareTrace, replyTrace, assignTr
 pub use Rattle.arp.specs.Controller.{newController, started, stepped}
 pub use Rattle.arp.specs.Gone.{reported}
 pub use Rattle.arp.specs.Choosing.{firstHalf, issuing, declining, stepsOver, halvesOver}
-pub use Rattle.arp.specs.History.{By, Step, Choose, Event, Received, Issue, NoStart, run}
+pub use Rattle.arp.specs.History.{By, Step, Choose, Event, Received, Gone, Issue, Decline, NoStart, run}
 pub use Rattle.arp.specs.Lookup.{lookedUp}
 pub use Rattle.arp.specs.Replay.{handedOut}
 pub use Rattle.arp.specs.RunPicks.{picksOf}
@@ -67,7 +67,7 @@ pub use Rattle.arbitration.specs.Among.{Among}
 pub use Rattle.targets.specs.Target.{mapTargets}
 pub use Rattle.rule.specs.Acknowledge.{onBus}
 pub use Rattle.rule.specs.AnyBus.{beginningOver, runOver}
-pub use Rattle.rule.specs.Halves.{passByHalves}
+pub use Rattle.rule.specs.Halves.{runByHalves}
 pub use Rattle.rule.specs.Bus.{pass, modelBus}
 pub use Rattle.rule.specs.Effect.{effect}
 pub use Rattle.rule.specs.PlainRule.{Given, Ending, served, noneFree, Distinct, ruled}
