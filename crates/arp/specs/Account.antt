@@ -49,7 +49,7 @@ removeIn starting t a = one (and (not (starting a)) (isBound (t .held a)))
 abbrev pub knownIn : Pool → ℕ → List Event → Table
 knownIn occupied last es = view (run occupied last es)
 
--- how many of each; `known` says what was known after the events before it, `handed` what the latest start or step of them handed out
+-- how many of each; `known` says what was known after the events before it, `handed` what was handed out last
 unfoldable pub binds : (List Event → Table) → (List Event → Handed) → List Event → ℕ
 binds known handed [] = 0
 binds known handed (Start ∷ es) = 0

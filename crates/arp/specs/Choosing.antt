@@ -79,7 +79,7 @@ abbrev pub carriedFor : Stepped → Choice → Stepped
 carriedFor r (Of u a) = issuing (r .state)
 carriedFor r Absent = r
 
--- where the first half has left a choice, it is issued
+-- where the first half has handed out a choice, it is issued
 abbrev pub carriedOn : Stepped → Stepped
 carriedOn r = carriedFor r (choiceIn (r .command))
 

@@ -24,7 +24,8 @@ MustPick p u b = (b ≡ 0xFF) ⊎ ((64 ≤ getD (udidBytes u) 0 0) × (member p 
 abbrev pub Contested : Controller → ℕ → Type 0
 Contested t a = (member (barredPool (t .occupied)) a ≡ true) ⊎ (((w : Udid) × (heldAt (t .slots) a ≡ binding.Bound w)) ⊎ (heldAt (t .slots) a ≡ binding.Claimed))
 
--- x is why the address a is chosen for u, which replied with the address byte b in the state s; t is the state then
+-- x is why the address a is chosen for u, which replied with the address byte b in the state s; t is the state after the first half, in which u is
+-- bound nowhere
 pub record Reasons (s t : Controller) (u : Udid) (b a : ℕ) (x : Reason) : Type 0 where
   pub claimed : (x ≡ Claimed) ↔ Contested t a
   pub picked : (x ≡ Picked) ↔ ((Contested t a → ⊥) × MustPick (t .pool) u b)

@@ -18,7 +18,7 @@ use Rattle.arp.specs.History.{Event, Start, Received, Gone, Issue, Decli
 abbrev pub isPicked : ℕ → ℕ → Bool
 isPicked b a = or (eqb b 0xFF) (not (eqb a (b / 2)))
 
--- the pick of a step: an Assign is handed out on a reply, whose trace has the address byte at place 42. p is the pool that it was picked from
+-- the pick of a step: an Assign is handed out, or chosen, on a reply, whose trace has the address byte at place 42. p is the pool that it was picked from
 abbrev pub pickIn : List ℕ → Pool → Handed → List Pick
 pickIn tr p (Send (Assign u a)) = pick (isPicked (getD tr 42 0) (a .0)) (record { pool = p; at = a .0 } ∷ []) []
 pickIn tr p (Send Prepare) = []

@@ -213,7 +213,7 @@ pub record Steps (s : Controller) (tr : List ℕ) (r : Stepped) : Type 0 where
   -- no command outstanding: 21, and the state stays as it is
   pub none-outstanding : Idle s → (r .state ≡ s) × (r .command ≡ Wait NotOutstanding)
 
--- the numbers of a step, each if and only if its case; commandNumber gives a list, empty for a command to send. 13: one has to be picked (the reply has FFh, or the
+-- the numbers of a step, each if and only if its case; commandNumber gives a list, empty for a command to send and for a choice that waits. 13: one has to be picked (the reply has FFh, or the
 -- target is movable, its first byte 64 or more, and its own address b / 2 is in the pool), and with its old address freed all 128 are in the pool
 pub record StepNumbers (s : Controller) (tr : List ℕ) (r : Stepped) : Type 0 where
   pub step-0 : (commandNumber (r .command) ≡ (0, []) ∷ []) ↔ (((s .last ≡ Send Prepare) × ((b : ℕ) × CutAt 1 true tr b))
@@ -243,7 +243,7 @@ pub record Reached (occupied : Pool) (s : Controller) : Type 0 where
   pub gets : s .gets ≤ 128
 
 pub record Control : Type 0 where
-  -- a new controller has the starting pool, and nothing bound, claimed, left or outstanding; a start, at any time, makes it so again, but the last pick stays. A last pick
+  -- a new controller has the starting pool, and nothing bound, claimed, left or outstanding; a start, at any time, makes it so again and drops a choice that waits, but the last pick stays. A last pick
   -- above 127 counts as 127, never picked
   pub new : (occupied : Pool) (last : ℕ) → let c = newController occupied last in (c .occupied ≡ occupied) × (c .pool ≡ startingPool occupied)
       × (c .last ≡ Wait Nothing) × (c .gets ≡ 0) × ((a : ℕ) → heldAt (c .slots) a ≡ Open) × (last < 128 → c .picked ≡ last) × (127 < last → c .picked ≡ 127)
@@ -289,10 +289,10 @@ pub record TakingBack : Type 0 where
 -- CHOOSING APART FROM SENDING. The first half of a step does what the single step does, but an Assign of a to u waits as a choice, Wait (Chosen u a x), x being the reason. It is
 -- issued or declined. Waits s: a choice waits in the state s. withLast s k is s with k as what was handed out last, all else as it was
 pub record Halves (s : Controller) (tr : List ℕ) : Type 0 where
-  -- a choice waits exactly if the single step sends the Assign. The state is the single step's then, but for what was handed out last; and issued it gives the single step
+  -- a choice is handed out exactly if the single step sends the Assign. The state is the single step's then, but for what was handed out last; and issued it gives the single step
   pub chosen : (u : Udid) (a : Address) → (stepped s tr .command ≡ Send (Assign u a)) ↔ ((x : Reason) × (firstHalf s tr .command ≡ Wait (Chosen u a x)))
   pub waits : (u : Udid) (a : Address) (x : Reason) → firstHalf s tr .command ≡ Wait (Chosen u a x) → (firstHalf s tr .state ≡ withLast (stepped s tr .state) (Wait (Chosen u a x))) × (issuing (firstHalf s tr .state) ≡ stepped s tr)
-  -- with no choice the first half is the single step; and its numbers are the single step's, 13 among them
+  -- where none is handed out the first half is the single step; and its numbers are the single step's, 13 among them
   pub alone : ((u : Udid) (a : Address) (x : Reason) → firstHalf s tr .command ≡ Wait (Chosen u a x) → ⊥) → firstHalf s tr ≡ stepped s tr
   pub numbers : commandNumber (firstHalf s tr .command) ≡ commandNumber (stepped s tr .command)
 
