@@ -1,11 +1,8 @@
 -- The proofs of the page's records on choosing apart from sending.
 use Prim.Native.Nat.{ℕ}
-use mathlib.Core.Path.{_≡_, ap, _∙_, subst}
-use mathlib.Core.List.{List, _∷_}
-use Rattle.udid.specs.declared.Udid.{Udid}
-use Rattle.wire.specs.declared.address.Address.{Address}
+use mathlib.Core.Path.{ap, _∙_}
+use mathlib.Core.List.{List}
 use Rattle.arp.specs.BetweenLaws.{halves-in-a-run, report-between, declined-until-start}
-use Rattle.arp.specs.Choosing.{firstHalf}
 use Rattle.arp.specs.Numbers.{commandNumber}
 use Rattle.arp.specs.SettleLaws.{issue-is, decline-is, none-to-issue, none-to-decline, issue-21, decline-21, chosen-exactly, waits-in-its-state, issued-is-the-step, alone-is-the-step, same-number, waiting-refuses, halves-throughout}
 use Rattle.arp.specs.WaitingLaws.{waiting-unbound, claimed-is-own, claimed-marks}

@@ -2,7 +2,7 @@
 -- ≡ is 'equal', ↔ 'if and only if', × 'and', ⊎ 'or', P → ⊥ 'not P', (x : A) × P 'there is an x with P'; getD l i 0 is number i of the list l.
 -- A parameter such as (contract : Wrote ..) is what a function's `ensures` says, word for word. It need not be believed: the code meets it.
 -- CONTRACTS: Leaves, Outcome, Wrote, declining, firstHalf, issuing, lookedUp, loses, messageOf, modelEnd, newController, nextFree, powered, protocolFor, receives, refreshed, reported, resumed, silentIn, started, starts, stepped, stops, supplies, traceOf.
--- BELIEVED: 1108 lines, without imports, comments and blanks. Crate/file, then the lines of each definition; src is a type of the code. tests/programs/believed.rs counts them.
+-- BELIEVED: 1106 lines, without imports, comments and blanks. Crate/file, then the lines of each definition; src is a type of the code. tests/programs/believed.rs counts them.
 -- lists/Choice: and 3, not 3, or 3, pick 3; lists/Each: Any 3, Bytes 3, Each 3; wire/AddressTable: Bit 4, Covers 2, covers 3, lets 4, table17 25; wire/Addresses: isFromTo 2, isListed 2, isPreassigned 2, isReserved 2;
 -- wire/Symbols: ACK 2, NACK 2, START 2, STOP 2; wire/src: Address 1; pec/Pec: bitStep 2, pecFrom 3, pecOf 2, pecStep 2; trace/Rows: message 2; trace/Table: InTable 2, Line 6, Row 22, TraceOf 2, lastProtocol 2, line 2, symbols 2;
 -- trace/Trace: Message 6, ackOf 3, acked 3, inPlace 2, nacked 3; trace/src: Transaction 8; encode/Encode: encodeNumber 4; encode/src: Encoded 5; misfit/Cases: IsMisaddressed 2, IsMiscounted 2, IsOther 2, IsSwapped 2;
@@ -21,11 +21,11 @@
 -- targets/Cases: FirstOf 4, LengthIsBad 2, None 2; targets/Records: addressByte 2, flagOf 2, recordCount 2, targetAt 2, targetsFrom 3, targetsOf 2, udidOf 2; targets/Reply: OnWire 3, coveredBytes 2, onWire 3, replyBytes 2,
 -- replyData 2, replyPec 2, sends 2, waiting 3; targets/Target: Target 4, isResolved 2, mapTargets 3; bindings/src: ModelAnswer 9; report/Report: modelNumber 2; rule/Acknowledge: acknowledges 4, afterwards 2, answered 4, asking 2,
 -- assigningBytes 2, begins 4, gettingBytes 2, onBus 2, preparingBytes 2, received 3, sentPart 5, somebody 3, standing 3; rule/AllBound: leftFree 2, movable 3, withFixed 3; rule/AnyBus: Bus 3, WorldOver 3, beginningOver 2,
--- passOf 2, runOver 3, tookOver 3, turnOver 2; rule/Bus: modelBus 2, pass 2; rule/Effect: addressIn 2, effect 5, isForMe 2; rule/Halves: passByHalves 2, runByHalves 3, tookByHalves 3; rule/PlainRule: Distinct 3, Ending 3,
--- Given 3, Ruled 4, ascending 3, held 2, insert 3, isPickedFor 2, next 5, pickAfter 2, plainChoice 2, rule 3, ruled 2; rule/Reading: OnePerUdid 3, RecordOf 2; rule/Sent: getsAmong 3, getsOnBus 2, getsOver 2, heardAfter 4,
--- historyOnBus 2, oneIn 2, tracesOver 3; exchange/Exchange: Fitting 2, Left 3, Sender 4, after 3, afterByte 2, afterBytes 3, anyAck 3, asked 2, blockLength 2, byteOn 2, bytesOn 3, exchange 2, hearing 2, line 3, put 2, reading 5,
--- recordOf 2, recordsOf 2, rest 5, seen 3, sees 5, stopAll 2, walk 6; exchange/Pass: Bench 2, getsOn 2, passOn 2, runOn 3, standsOn 2, tookOn 3, tracesOn 3, turnOn 2; exchange/Sending: askedAll 2, startedAgain 2;
--- bus/Run: ModelEnd 4; promises/MarkedWords: Shows 2, holding 2, identifier 2, windows 3.
+-- passOf 2, runOver 3, tookOver 3, turnOver 2; rule/Bus: modelBus 2, pass 2; rule/Effect: addressIn 2, effect 5, isForMe 2; rule/Halves: runByHalves 3, tookByHalves 3; rule/PlainRule: Distinct 3, Ending 3, Given 3, Ruled 4,
+-- ascending 3, held 2, insert 3, isPickedFor 2, next 5, pickAfter 2, plainChoice 2, rule 3, ruled 2; rule/Reading: OnePerUdid 3, RecordOf 2; rule/Sent: getsAmong 3, getsOnBus 2, getsOver 2, heardAfter 4, historyOnBus 2, oneIn 2,
+-- tracesOver 3; exchange/Exchange: Fitting 2, Left 3, Sender 4, after 3, afterByte 2, afterBytes 3, anyAck 3, asked 2, blockLength 2, byteOn 2, bytesOn 3, exchange 2, hearing 2, line 3, put 2, reading 5, recordOf 2, recordsOf 2,
+-- rest 5, seen 3, sees 5, stopAll 2, walk 6; exchange/Pass: Bench 2, getsOn 2, passOn 2, runOn 3, standsOn 2, tookOn 3, tracesOn 3, turnOn 2; exchange/Sending: askedAll 2, startedAgain 2; bus/Run: ModelEnd 4;
+-- promises/MarkedWords: Shows 2, holding 2, identifier 2, windows 3.
 use mathlib.Core.Path.{_≡_}
 use mathlib.Core.Bool.{Bool, true, false}
 use mathlib.Core.List.{List, [], _∷_, _++_}
