@@ -7,7 +7,7 @@
 set -eu
 cd "$(dirname "$0")/.."
 # The targets, the limit against plain C bit by bit, and that against plain C with a table.
-limits='1:1.5:2.1 10:1.3:1.85 60:1.3:1.85 120:1.3:1.7'
+limits='1:1.5:2.1 10:1.3:2.05 60:1.3:2.05 120:1.3:1.85'
 growth=1.35
 out=build/bench
 library=${1:-target/staticlib/libc_api.a}

@@ -6,7 +6,7 @@
 #   bench/step.sh [LIBRARY PROGRAM]
 set -eu
 cd "$(dirname "$0")/.."
-limit=3600
+limit=3500
 out=build/bench
 library=${1:-target/staticlib/libc_api.a}
 program=${2:-target/bin/passes}
