@@ -5,6 +5,7 @@ use crate::addresses::*;
 use crate::commands::*;
 use crate::good::*;
 use crate::mistakes::trace_of;
+use crate::orders::*;
 use crate::recorder::{Op, Recorder};
 
 /// Those with a first byte below 40h are fixed.
@@ -180,37 +181,29 @@ const EVENTS: [fn(&Recorder, u8) -> Vec<Op>; 9] = [
     |_, _| vec![Op::Start, Op::Choose(trace_of(&prepare()))],
 ];
 
-/// So many events at an address in every order, with repetitions, each time in a new pass, and each time after a fixed
-/// target has taken the address. These alone are not occupied.
-fn orders(events: u32, at: u8, free: &[u8]) -> Recorder {
-    let occupied = (0..ADDRESSES).filter(|address| !free.contains(address)).collect();
-    let mut recorder = Recorder::new(&occupied, NEVER);
-    let count = EVENTS.len();
-    for order in 0..count.pow(events) {
-        begin(&mut recorder);
-        choose(&mut recorder, 0x01, 2 * at + 1);
+/// The events at an address in every order, each time in a new pass, and after a fixed target has taken the address.
+fn orders(place: &Place) -> Recorder {
+    let first = |recorder: &mut Recorder| {
+        begin(recorder);
+        choose(recorder, 0x01, 2 * place.at + 1);
         recorder.issue();
-        accept(&mut recorder);
-        for place in 0..events {
-            let ops = EVENTS[order / count.pow(place) % count](&recorder, at);
-            ops.into_iter().for_each(|op| recorder.record(op));
-        }
-        recorder.lookups();
-    }
-    recorder
+        accept(recorder);
+    };
+    let event = |recorder: &mut Recorder, number: usize| {
+        let ops = EVENTS[number](recorder, place.at);
+        ops.into_iter().for_each(|op| recorder.record(op));
+    };
+    in_every_order(place, EVENTS.len(), first, event)
 }
 
-/// At 20h, where that and 21h are free.
 pub fn every_order() -> Recorder {
-    orders(4, 0x20, &[0x20, 0x21])
+    orders(&FREE)
 }
 
-/// At 48h, an added row, where 21h and 47h are free.
 pub fn every_order_on_a_row() -> Recorder {
-    orders(4, 0x48, &[0x21, 0x47, 0x48])
+    orders(&ROW)
 }
 
-/// At 48h, an added row that is occupied.
 pub fn every_order_on_an_occupied_row() -> Recorder {
-    orders(3, 0x48, &[0x21, 0x47])
+    orders(&OCCUPIED_ROW)
 }

@@ -23,6 +23,7 @@ pub mod module_cases;
 pub mod module_events;
 pub mod module_lines;
 pub mod numbers;
+pub mod orders;
 pub mod pec;
 pub mod plain_rule;
 pub mod random;

@@ -4,6 +4,7 @@ use crate::addresses::*;
 use crate::commands::*;
 use crate::good::*;
 use crate::mistakes::trace_of;
+use crate::orders::*;
 use crate::recorder::Recorder;
 
 /// Those with a first byte below 40h are fixed.
@@ -228,32 +229,22 @@ fn gone_between(recorder: &mut Recorder, first: u8, at: u8, then: fn(&mut Record
     then(recorder);
 }
 
-/// So many events at an address in every order, with repetitions, each time in a new pass. These alone are not occupied.
-fn orders(events: u32, at: u8, free: &[u8]) -> Recorder {
-    let occupied = (0..ADDRESSES).filter(|address| !free.contains(address)).collect();
-    let mut recorder = Recorder::new(&occupied, NEVER);
-    let count = EVENTS.len();
-    for order in 0..count.pow(events) {
-        begin(&mut recorder);
-        for place in 0..events {
-            EVENTS[order / count.pow(place) % count](&mut recorder, at);
-        }
-        recorder.lookups();
-    }
-    recorder
+/// The events at an address in every order, each time in a new pass.
+fn orders(place: &Place) -> Recorder {
+    let first = |recorder: &mut Recorder| {
+        begin(recorder);
+    };
+    in_every_order(place, EVENTS.len(), first, |recorder, number| EVENTS[number](recorder, place.at))
 }
 
-/// At 20h, where that and 21h are free.
 pub fn every_order() -> Recorder {
-    orders(4, 0x20, &[0x20, 0x21])
+    orders(&FREE)
 }
 
-/// At 48h, an added row, where 21h and 47h are free.
 pub fn every_order_on_a_row() -> Recorder {
-    orders(4, 0x48, &[0x21, 0x47, 0x48])
+    orders(&ROW)
 }
 
-/// At 48h, an added row that is occupied.
 pub fn every_order_on_an_occupied_row() -> Recorder {
-    orders(3, 0x48, &[0x21, 0x47])
+    orders(&OCCUPIED_ROW)
 }
