@@ -32,7 +32,7 @@ same-halves a b h g = omega arith
 xor-half : (a b : ℕ) → bitXor a b / 2 ≡ bitXor (a / 2) (b / 2)
 xor-half a b = xor-shr a b 1
 
-xor-odd : (a b : ℕ) → bitXor a b % 2 ≡ (a + b) % 2
+pub xor-odd : (a b : ℕ) → bitXor a b % 2 ≡ (a + b) % 2
 xor-odd a b = omega (arith, xor-add-and a b)
 
 -- the lowest coefficient of three
@@ -52,7 +52,7 @@ xor-assoc = bin-ind (λ (n : ℕ). (b c : ℕ) → bitXor (bitXor n b) c ≡ bit
         (odd-left n b c ∙ sym (odd-right n b c))
 
 -- what is added twice is gone
-xor-twice : (a b : ℕ) → bitXor a (bitXor a b) ≡ b
+pub xor-twice : (a b : ℕ) → bitXor a (bitXor a b) ≡ b
 xor-twice a b = sym (xor-assoc a a b) ∙ ap (λ (x : ℕ). bitXor x b) (xor-self a)
 
 xor-swap : (a b c d : ℕ) → bitXor (bitXor a b) (bitXor c d) ≡ bitXor (bitXor a c) (bitXor b d)
@@ -88,7 +88,7 @@ timesG-double q =
 
 -- ---- what Leaves keeps to
 
-leaves-self : (p : ℕ) → Leaves p p
+pub leaves-self : (p : ℕ) → Leaves p p
 unfolding timesG
 leaves-self p = (0, refl)
 
@@ -118,7 +118,7 @@ bit-leaves c h = go (ltb c 128) refl
     go false e = (1, (let g = ltb-false c 128 e in let m : 2 * c ≡ 256 + 2 * (c - 128) = omega arith in m ∙ sym (seven-off (2 * (c - 128)) (omega arith))))
 
 -- a bit more
-next-bit : (p c : ℕ) → c < 256 → Leaves p c → Leaves (2 * p) (bitStep c)
+pub next-bit : (p c : ℕ) → c < 256 → Leaves p c → Leaves (2 * p) (bitStep c)
 next-bit p c h l = leaves-trans (2 * p) (2 * c) (bitStep c) (leaves-double p c l) (bit-leaves c h)
 
 -- eight bits more: times x^8
@@ -169,7 +169,7 @@ timesG-large d =
     omega arith
 
 -- so a multiple below x^8 is that by 0
-small-multiple : (d : ℕ) → timesG d < 256 → d ≡ 0
+pub small-multiple : (d : ℕ) → timesG d < 256 → d ≡ 0
 unfolding timesG
 small-multiple zero h = refl
 small-multiple (suc zero) h = omega arith

@@ -1,0 +1,11 @@
+pub mod Changes
+pub mod Multiples
+pub mod MultiplesLaws
+pub mod NumberBitsLaws
+pub mod FlippedLaws
+pub mod BurstLaws
+pub mod Register
+pub mod RegisterLaws
+pub mod PairLaws
+pub mod OddLaws
+pub mod EscapeLaws
