@@ -16,7 +16,7 @@ use Rattle.trace.specs.Trace.{Message, laid, firstByte, front, bytes, pecOf, in
 use Rattle.trace.specs.Sane.{Sane}
 use Rattle.scan.specs.ForwardLaws.{first-byte-fits}
 
-laid-bytes : (a : Part) (s : List ℕ) → Bytes s → counted a s ≤ 255 → Bytes (laid a s)
+pub laid-bytes : (a : Part) (s : List ℕ) → Bytes s → counted a s ≤ 255 → Bytes (laid a s)
 laid-bytes Nothing s h c = h
 laid-bytes (Fixed k) s h c = h
 laid-bytes Counted s h c = (omega arith, h)

@@ -1,0 +1,6 @@
+pub mod Overwrite
+pub mod WireBytesLaws
+pub mod SetLaws
+pub mod TraceSetLaws
+pub mod StaysLaws
+pub mod VerdictLaws
