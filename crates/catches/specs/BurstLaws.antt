@@ -1,66 +1,26 @@
--- CAUGHT: any change within eight consecutive bits, whatever the length.
-use mathlib.Core.Path.{_≡_, refl, sym, ap, _∙_, subst}
-use mathlib.Core.List.{List, [], _∷_}
-use Prim.Native.Nat.{ℕ, zero, _+_, _-_, _*_, _/_, _%_, _^_, _≤_, _<_}
-use native.Mathlib.Nat.{lt-of-lt-of-le, zero-mod}
+-- CAUGHT: any change within eight consecutive bits, whatever the length. What is flipped is a pattern below x^8 times a power of x. It is not 0,
+-- and so no multiple of x^8+x^2+x+1.
+use mathlib.Core.Path.{_≡_, ap, _∙_, subst}
+use mathlib.Core.List.{List}
+use Prim.Native.Nat.{ℕ, _*_, _/_, _^_, _<_}
 use native.Mathlib.Omega.{arith}
-use lib.ListN.{length}
-use lib.Pow.{pow-mono, shr-lt, split}
-use Rattle.catches.specs.Changes.{Flipped, RightPec, Came, Within}
-use Rattle.catches.specs.FlippedLaws.{inside, flips-size, flipped-exactly, coefficient-flipped}
+use Rattle.catches.specs.Changes.{RightPec, Came, Within}
 use Rattle.catches.specs.Multiples.{Multiple, flips}
 use Rattle.catches.specs.MultiplesLaws.{escapes-exactly, shifted-exactly, small-is-none}
-use Rattle.catches.specs.NumberBitsLaws.{not-one, low-same, high-none, zero-bit, placed}
+use Rattle.catches.specs.WindowLaws.{lowest, pattern-small, pattern-placed, some-flipped}
 
--- a window of w bits from a place on, in a message of n bits, is these coefficients, from the lowest on
-module _ (w : ℕ) (xs ys : List ℕ) (c : Came xs ys) (b : Within w xs ys) where
-  abbrev bits : ℕ
-  bits = 8 * length xs
-
-  abbrev lowest : ℕ
-  lowest = bits - (b .from + w)
-
-  -- each coefficient that is 1 lies in it
-  in-window : (k : ℕ) → k < bits → flips xs ys / 2 ^ k % 2 ≡ 1 → (lowest ≤ k) × (k < lowest + w)
-  in-window k l o =
-      let p = bits - 1 - k in
-      let m = b .among (p / 8) (p % 8) (omega arith) (coefficient-flipped xs ys (c .sent) (c .came) (c .as-many) k l o) in
-      (omega (arith, l, m .0, m .1), omega (arith, l, m .0, m .1))
-
-  none-below : flips xs ys % 2 ^ lowest ≡ 0
-  none-below =
-      low-same (flips xs ys) 0 lowest (λ k l. not-one _ (λ o. (let m = in-window k (omega (arith, l)) o in omega (arith, l, m .0))) ∙ sym (zero-bit k))
-      ∙ zero-mod (2 ^ lowest)
-
-  none-above : flips xs ys < 2 ^ (lowest + w)
-  none-above =
-      high-none (flips xs ys) (lowest + w) (bits - (lowest + w)) (lt-of-lt-of-le (flips-size xs ys (c .sent) (c .came) (c .as-many)) (pow-mono (omega arith)))
-      (λ k l g. not-one _ (λ o. (let m = in-window k (omega (arith, l, g)) o in omega (arith, l, m .1))))
-
-  -- so what is flipped is a polynomial of a degree below w, times a power of x
-  pattern-small : flips xs ys / 2 ^ lowest < 2 ^ w
-  pattern-small = shr-lt w lowest (subst (λ (k : ℕ). flips xs ys < 2 ^ k) (other-way lowest w) none-above)
-    where
-      other-way : (a b : ℕ) → a + b ≡ b + a
-      other-way a b = omega arith
-
-  pub pattern-placed : flips xs ys ≡ 2 ^ lowest * (flips xs ys / 2 ^ lowest)
-  pattern-placed = placed (2 ^ lowest) (flips xs ys / 2 ^ lowest) _ _ none-below (split (flips xs ys) lowest)
-
-  some-flipped : flips xs ys ≡ 0 → ⊥
-  some-flipped e =
-      let l = inside xs ys (c .as-many) (b .byte) (b .bit) (b .one) in
-      let o = flipped-exactly xs ys (c .sent) (c .came) (c .as-many) (b .byte) (b .bit) l (b .in-byte) .0 (b .one) in
-      let z = zero-bit (bits - 1 - (8 * b .byte + b .bit)) in
-      omega (arith, sym z ∙ ap (λ (n : ℕ). n / 2 ^ (bits - 1 - (8 * b .byte + b .bit)) % 2) (sym e) ∙ o)
-
--- CAUGHT: what is flipped is not 0, and so no multiple, since its pattern is below x^8
-pub eight-bits-caught : (xs ys : List ℕ) → Came xs ys → Within 8 xs ys → RightPec ys → ⊥
-eight-bits-caught xs ys c b r =
-    let p = pattern-placed 8 xs ys c b in
-    let m = shifted-exactly (lowest 8 xs ys c b) (flips xs ys / 2 ^ lowest 8 xs ys c b) .0 (subst Multiple p (escapes-exactly xs ys c .0 r)) in
-    let z = small-is-none (flips xs ys / 2 ^ lowest 8 xs ys c b) (pattern-small 8 xs ys c b) m in
-    some-flipped 8 xs ys c b (p ∙ ap (λ (n : ℕ). 2 ^ lowest 8 xs ys c b * n) z ∙ times-none (2 ^ lowest 8 xs ys c b))
+-- caught, if no pattern so small but 0 is a multiple
+caught-if-small : (w : ℕ) (xs ys : List ℕ) → Came xs ys → Within w xs ys → ((d : ℕ) → d < 2 ^ w → Multiple d → d ≡ 0) → RightPec ys → ⊥
+caught-if-small w xs ys c b small r =
+    let k = lowest w xs ys c b in
+    let p = pattern-placed w xs ys c b in
+    let m = shifted-exactly k (flips xs ys / 2 ^ k) .0 (subst Multiple p (escapes-exactly xs ys c .0 r)) in
+    let z = small (flips xs ys / 2 ^ k) (pattern-small w xs ys c b) m in
+    some-flipped w xs ys c b (p ∙ ap (λ (n : ℕ). 2 ^ k * n) z ∙ times-none (2 ^ k))
   where
     times-none : (n : ℕ) → n * 0 ≡ 0
     times-none n = omega arith
+
+-- CAUGHT
+pub eight-bits-caught : (xs ys : List ℕ) → Came xs ys → Within 8 xs ys → RightPec ys → ⊥
+eight-bits-caught xs ys c b = caught-if-small 8 xs ys c b small-is-none

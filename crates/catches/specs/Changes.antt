@@ -46,6 +46,10 @@ pub record TwoBits (xs ys : List ℕ) (i j k l : ℕ) : Type 0 where
   pub order : 8 * i + j < 8 * k + l
   pub flipped : (a b : ℕ) → b < 8 → Flipped xs ys a b ↔ (((a ≡ i) × (b ≡ j)) ⊎ ((a ≡ k) × (b ≡ l)))
 
+-- the very first bit of 16 bytes, and the very last
+abbrev pub FirstAndLast : ℕ → ℕ → ℕ → ℕ → Type 0
+FirstAndLast i j k l = (i ≡ 0) × (j ≡ 0) × (k ≡ 15) × (l ≡ 7)
+
 -- how many bits were flipped: of each byte the ones in the sum of the two
 abbrev pub howMany : List ℕ → List ℕ → ℕ
 howMany [] ys = 0

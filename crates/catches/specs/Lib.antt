@@ -3,6 +3,7 @@ pub mod Multiples
 pub mod MultiplesLaws
 pub mod NumberBitsLaws
 pub mod FlippedLaws
+pub mod WindowLaws
 pub mod BurstLaws
 pub mod Register
 pub mod RegisterLaws

@@ -128,4 +128,4 @@ shifted-exactly (suc k) n =
 -- nothing below x^8 but 0 is one
 pub small-is-none : (d : ℕ) → d < 2 ^ 8 → Multiple d → d ≡ 0
 unfolding timesG
-small-is-none d h (q, e) = let z = small-multiple q (subst (λ (n : ℕ). n < 256) e h) in e ∙ ap timesG z
+small-is-none d h (q, e) = e ∙ ap timesG (small-multiple q (omega (arith, h, e)))
