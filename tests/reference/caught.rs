@@ -21,6 +21,7 @@ struct Tried {
 }
 
 impl Tried {
+    /// Nothing yet.
     fn new(seed: u64) -> Tried {
         Tried { random: Random::new(seed), cases: 0, escaped: BTreeMap::new() }
     }
@@ -43,6 +44,7 @@ impl Tried {
         }
     }
 
+    /// The line of a family, and what escapes.
     fn report(self, name: &str) {
         report(name, self.cases);
         if !self.escaped.is_empty() {
@@ -60,7 +62,7 @@ fn none() -> BTreeSet<Change> {
 /// each other in the message.
 fn each_once() {
     let mut cases = 0;
-    for bits in (8..=40).step_by(8) {
+    for bits in (8..=168).step_by(8) {
         let listed = within(8, bits);
         let mut windows = BTreeSet::new();
         for first in 0..=bits - 8 {
@@ -114,6 +116,7 @@ fn escaping_pairs(bytes: usize) -> BTreeSet<Change> {
     pairs.iter().map(|pair| pair.to_vec()).collect()
 }
 
+/// Of two bits those above escape, and no other.
 fn two_bits() {
     let mut tried = Tried::new(5);
     for bytes in 1..=17 {
@@ -161,6 +164,7 @@ fn lowest_first() {
     tried.report("the lowest bit first");
 }
 
+/// Every family of changes.
 pub fn all() {
     each_once();
     eight_bits();

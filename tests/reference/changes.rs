@@ -5,6 +5,7 @@ use crate::pec::pec;
 use crate::random::Random;
 use std::collections::BTreeSet;
 
+/// The places that are turned over.
 pub type Change = Vec<usize>;
 
 /// Messages of so many bytes in all, each once: zeros, ones and random bytes, and the PEC last.
