@@ -80,6 +80,12 @@ impl Lent {
         unsafe { self.bytes.as_mut_ptr().add(MARGIN) }
     }
 
+    /// The symbols of the front.
+    pub fn symbols(&self, count: u32) -> Vec<u16> {
+        let front = &self.bytes[MARGIN..MARGIN + 2 * count as usize];
+        front.chunks(2).map(|pair| u16::from_le_bytes([pair[0], pair[1]])).collect()
+    }
+
     pub fn content(self) -> Content {
         Content(self.bytes)
     }

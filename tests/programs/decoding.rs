@@ -42,11 +42,13 @@ fn case_in(family: &mut Family, protocol: u8, with_pec: bool, trace: &[u16], roo
     answer
 }
 
-fn case(family: &mut Family, protocol: u8, with_pec: bool, trace: &[u16]) -> Answer {
+/// One call with room for any data.
+pub fn case(family: &mut Family, protocol: u8, with_pec: bool, trace: &[u16]) -> Answer {
     case_in(family, protocol, with_pec, trace, (255, 255))
 }
 
-fn print_numbers(reached: &Tally) {
+/// How many traces were answered with each number.
+pub fn print_numbers(reached: &Tally) {
     println!("{:<28}{:?}", "  answers by number", reached.totals());
 }
 

@@ -3,6 +3,7 @@
 
 mod family;
 mod ground_abi;
+mod pec_verdicts;
 
 use family::Family;
 use ground_abi as library;
@@ -148,6 +149,7 @@ fn main() {
     pec_bytes();
     pec_slices();
     stored_pecs(&folder);
+    pec_verdicts::all();
     wire_bytes();
     reserved_addresses();
     listed_addresses();

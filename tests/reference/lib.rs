@@ -4,6 +4,7 @@
 
 pub mod addresses;
 pub mod bus;
+pub mod changes;
 pub mod choices;
 pub mod commands;
 pub mod console;

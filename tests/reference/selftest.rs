@@ -2,6 +2,7 @@
 //!   selftest FOLDER      the folder of the stored vectors
 
 mod brute;
+mod caught;
 
 use reference::decode::{decode, Answer};
 use reference::numbers::{numbers, Tally, WRONG_SYMBOL};
@@ -149,6 +150,7 @@ fn main() {
     let folder = std::env::args().nth(1).expect("selftest FOLDER");
     published_pecs();
     remainders();
+    caught::all();
     marked_cases();
     hand_written(&folder);
     round_trips();
