@@ -11,9 +11,13 @@ use lib.ListN.{length, getD}
 use Rattle.lists.specs.Each.{Bytes}
 use Rattle.pec.specs.Pec.{pecOf}
 
+-- bit j of a byte is worth 2 to this power: bit 0 is worth 128, bit 7 is worth 1
+abbrev pub power : ℕ → ℕ
+power j = 7 - j
+
 -- bit j of byte i: 0 or 1
 abbrev pub bitOf : List ℕ → ℕ → ℕ → ℕ
-bitOf xs i j = getD xs i 0 / 2 ^ (7 - j) % 2
+bitOf xs i j = getD xs i 0 / 2 ^ power j % 2
 
 -- the bit is not the same in both
 abbrev pub Flipped : List ℕ → List ℕ → ℕ → ℕ → Type 0

@@ -12,7 +12,7 @@ use lib.Pow.{shr-shr}
 use Rattle.lists.specs.Each.{Bytes}
 use Rattle.pec.specs.PecDivision.{polynomialFrom, polynomial}
 use Rattle.pec.specs.PecDivisionLaws.{xor-odd}
-use Rattle.catches.specs.Changes.{bitOf, Flipped}
+use Rattle.catches.specs.Changes.{power, bitOf, Flipped}
 use Rattle.catches.specs.Multiples.{flips}
 use Rattle.catches.specs.NumberBitsLaws.{small-of-none, same-low-byte}
 
@@ -35,7 +35,7 @@ before-above n (x ∷ xs) h =
 pub polynomial-size : (xs : List ℕ) → Bytes xs → polynomial xs < 2 ^ (8 * length xs)
 polynomial-size xs h = small-of-none (polynomial xs) (8 * length xs) (before-above 0 xs h)
 
-first-place : (l j : ℕ) → j < 8 → 8 * suc l - 1 - (8 * 0 + j) ≡ 8 * l + (7 - j)
+first-place : (l j : ℕ) → j < 8 → 8 * suc l - 1 - (8 * 0 + j) ≡ 8 * l + power j
 first-place l j h = omega arith
 
 later-place : (l i j : ℕ) → 8 * suc l - 1 - (8 * suc i + j) ≡ 8 * l - 1 - (8 * i + j)
@@ -46,8 +46,8 @@ unfolding polynomialFrom
 bit-from n [] h i j l g = absurd (omega (arith, l))
 bit-from n (x ∷ xs) h zero j l g =
     ap (λ (k : ℕ). polynomialFrom (256 * n + x) xs / 2 ^ k % 2) (first-place (length xs) j g)
-    ∙ ap (λ (p : ℕ). p % 2) (sym (shr-shr (polynomialFrom (256 * n + x) xs) (8 * length xs) (7 - j)) ∙ ap (λ (p : ℕ). p / 2 ^ (7 - j)) (before-above (256 * n + x) xs (h .1)))
-    ∙ same-low-byte (256 * n + x) x (7 - j) (omega arith) (lower n x)
+    ∙ ap (λ (p : ℕ). p % 2) (sym (shr-shr (polynomialFrom (256 * n + x) xs) (8 * length xs) (power j)) ∙ ap (λ (p : ℕ). p / 2 ^ power j) (before-above (256 * n + x) xs (h .1)))
+    ∙ same-low-byte (256 * n + x) x (power j) (omega arith) (lower n x)
   where
     lower : (n x : ℕ) → (256 * n + x) % 256 ≡ x % 256
     lower n x = omega arith
@@ -82,7 +82,7 @@ inside xs ys e i j f = go (decLt i (length xs))
     go : Dec (i < length xs) → i < length xs
     go (yes l) = l
     go (no l) =
-        absurd (f (ap (λ (x : ℕ). x / 2 ^ (7 - j) % 2) (List·getD-eq-default xs 0 (omega (arith, l)) ∙ sym (List·getD-eq-default ys 0 (omega (arith, l, e))))))
+        absurd (f (ap (λ (x : ℕ). x / 2 ^ power j % 2) (List·getD-eq-default xs 0 (omega (arith, l)) ∙ sym (List·getD-eq-default ys 0 (omega (arith, l, e))))))
 
 module _ (xs ys : List ℕ) (h : Bytes xs) (g : Bytes ys) (e : length ys ≡ length xs) where
   pub flips-size : flips xs ys < 2 ^ (8 * length xs)
@@ -99,7 +99,7 @@ module _ (xs ys : List ℕ) (h : Bytes xs) (g : Bytes ys) (e : length ys ≡ len
   -- a bit is flipped exactly if its coefficient is 1
   pub flipped-exactly : (i j : ℕ) → i < length xs → j < 8 → Flipped xs ys i j ↔ (flips xs ys / 2 ^ (8 * length xs - 1 - (8 * i + j)) % 2 ≡ 1)
   flipped-exactly i j l b =
-      let o = odd-exactly (getD xs i 0 / 2 ^ (7 - j)) (getD ys i 0 / 2 ^ (7 - j)) in
+      let o = odd-exactly (getD xs i 0 / 2 ^ power j) (getD ys i 0 / 2 ^ power j) in
       let s = both-bits i j l b in
       (λ f. s ∙ o .1 f, λ k. o .0 (sym s ∙ k))
 
