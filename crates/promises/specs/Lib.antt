@@ -3,6 +3,7 @@ pub mod MarkedWords
 pub mod Demands
 pub mod StepsLaws
 pub mod DemandsLaws
+pub mod CatchesLaws
 pub mod OneHalfLaws
 pub mod ChoosingLaws
 pub mod ModulesLaws

@@ -19,6 +19,12 @@ pub use Rattle.scan.specs.Numbers.{decodeNumber}
 pub use Rattle.scan.specs.declared.answer.Decoded.{Decoded}
 pub use Rattle.scan.specs.declared.answer.Decoded.the-variants.{Done}
 pub use Rattle.decode.specs.Outcome.{Entered, Outcome}
+-- what the PEC catches
+pub use Rattle.pec.specs.PecDivision.{timesG, polynomial}
+pub use Rattle.scan.specs.BytesIn.{bytesIn}
+pub use Rattle.scan.specs.Fitting.{Whole}
+pub use Rattle.catches.specs.Changes.{RightPec, Came, Within, TwoBits, FirstAndLast, howMany}
+pub use Rattle.garbled.specs.Overwrite.{HasData, overwritten}
 -- the controller
 pub use Rattle.pool.specs.NextFree.{nextFree, Next}
 pub use Rattle.pool.specs.Picks.{Pick, Picks, latestOf, FreeAtEach, Picked}
