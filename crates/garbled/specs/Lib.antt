@@ -4,3 +4,5 @@ pub mod SetLaws
 pub mod TraceSetLaws
 pub mod StaysLaws
 pub mod VerdictLaws
+pub mod Sizes
+pub mod SizesLaws

@@ -54,11 +54,12 @@ bytes-are-bytes (x ∷ l) = go (ltb x 256) refl (bytes-are-bytes l)
 covered-pec : (q : List ℕ) (x : Line) → Row q x → pecOf (x .covered) < 256
 covered-pec q x r = let m = row-means q x r in subst (λ (l : List ℕ). pecOf l < 256) (sym (m .covers)) (pec-lt (shapeOf (x .protocol)) (sane (x .protocol)) (x .message) (m .valid))
 
--- the bytes of a message's trace end with their right PEC
+-- the bytes of a message's trace are those covered, and their PEC
+pub sent-covered : (protocol : ℕ) (t : Message) (tr : List ℕ) (w : TraceOf protocol true t tr) → bytesIn tr ≡ w .0 .covered ++ pecOf (w .0 .covered) ∷ []
+sent-covered protocol t tr w = let x = w .0 in ap bytesIn (w .4) ∙ bytes-of-line protocol (pecOf (x .covered)) x (w .1, w .2, covered-pec _ x (w .1))
+
 pub sent-right : (protocol : ℕ) (t : Message) (tr : List ℕ) → TraceOf protocol true t tr → RightPec (bytesIn tr)
-sent-right protocol t tr w =
-    let x = w .0 in
-    (x .covered, ap bytesIn (w .4) ∙ bytes-of-line protocol (pecOf (x .covered)) x (w .1, w .2, covered-pec _ x (w .1)))
+sent-right protocol t tr w = (w .0 .covered, sent-covered protocol t tr w)
 
 pub came : (protocol : ℕ) (t : Message) (tr tr′ : List ℕ) → TraceOf protocol true t tr → length (bytesIn tr′) ≡ length (bytesIn tr) → Came (bytesIn tr) (bytesIn tr′)
 came protocol t tr tr′ w e = record { sent = bytes-are-bytes tr; right = sent-right protocol t tr w; came = bytes-are-bytes tr′; as-many = e }
