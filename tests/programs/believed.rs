@@ -14,12 +14,12 @@ use std::process::exit;
 
 const PAGE: &str = "promises/specs/Demands.antt";
 // Under 250 for the base, and what the requests add: 28 for the last pick, 26 for taking back addresses, 19 for the listed ones,
-// 74 for the module's end, 47 for choosing apart from sending, 43 for what the PEC catches.
-const PAGE_LINES: usize = 250 + 28 + 26 + 19 + 74 + 47 + 43;
+// 74 for the module's end, 47 for choosing apart from sending, 53 for what the PEC catches.
+const PAGE_LINES: usize = 250 + 28 + 26 + 19 + 74 + 47 + 53;
 // 600 for the base, and what the requests add: 30 for the kinds of a wrong symbol, 36 for the last pick, 90 for taking
 // back addresses, 55 for the listed ones, of which 25 are the rows of the table, 198 for the module's end, 97 for choosing
-// apart from sending, 46 for what the PEC catches.
-const BELIEVED_LINES: usize = 600 + 30 + 36 + 90 + 55 + 198 + 97 + 46;
+// apart from sending, 49 for what the PEC catches.
+const BELIEVED_LINES: usize = 600 + 30 + 36 + 90 + 55 + 198 + 97 + 49;
 const WIDTH: usize = 230;
 
 /// A crate and a file of its specs.

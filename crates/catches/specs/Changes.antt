@@ -2,13 +2,15 @@
 -- its number in the byte, both from 0, the highest bit first: bit 0 of byte 0 is the very first bit on the wire. The place of bit j of byte i
 -- among all bits is 8 * i + j.
 use mathlib.Core.Path.{_≡_}
+use mathlib.Core.Bool.{Bool}
 use mathlib.Core.List.{List, [], _∷_, _++_}
 use mathlib.Core.Logic.{_⊎_, _↔_}
 use Prim.Native.Nat.{ℕ, _+_, _-_, _*_, _/_, _%_, _^_, _≤_, _<_}
-use lib.Bits.{bitXor}
-use lib.Count.{ones}
+use lib.Dec.{eqb}
 use lib.ListN.{length, getD}
+use Rattle.lists.specs.Choice.{not}
 use Rattle.lists.specs.Each.{Bytes}
+use Rattle.lists.specs.Passing.{passing}
 use Rattle.pec.specs.Pec.{pecOf}
 
 -- bit j of a byte is worth 2 to this power: bit 0 is worth 128, bit 7 is worth 1
@@ -54,8 +56,10 @@ pub record TwoBits (xs ys : List ℕ) (i j k l : ℕ) : Type 0 where
 abbrev pub FirstAndLast : ℕ → ℕ → ℕ → ℕ → Type 0
 FirstAndLast i j k l = (i ≡ 0) × (j ≡ 0) × (k ≡ 15) × (l ≡ 7)
 
--- how many bits were flipped: of each byte the ones in the sum of the two
+-- the bit at a place is not the same in both
+abbrev pub isFlipped : List ℕ → List ℕ → ℕ → Bool
+isFlipped xs ys n = not (eqb (bitOf xs (n / 8) (n % 8)) (bitOf ys (n / 8) (n % 8)))
+
+-- how many bits were flipped: the number of their places
 abbrev pub howMany : List ℕ → List ℕ → ℕ
-howMany [] ys = 0
-howMany (x ∷ xs) [] = 0
-howMany (x ∷ xs) (y ∷ ys) = ones (bitXor x y) + howMany xs ys
+howMany xs ys = length (passing (isFlipped xs ys) 0 (8 * length xs))

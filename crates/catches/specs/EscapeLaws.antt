@@ -1,22 +1,23 @@
 -- NOT CAUGHT: changes that leave the PEC right. Of 16 bytes the very first and the very last bit; of two bytes four bits that lie among nine.
-use mathlib.Core.Path.{_≡_, refl, sym, ap, ap₂, _∙_, subst}
+use mathlib.Core.Path.{_≡_, refl, ap₂, subst}
 use mathlib.Core.Bool.{Bool, true, false}
 use mathlib.Core.List.{List, [], _∷_, _++_}
-use mathlib.Core.Logic.{_⊎_, inl, inr, _↔_}
 use Prim.Native.Nat.{ℕ, _+_, _*_, _/_, _%_, _≤_, _<_}
 use native.Mathlib.Omega.{arith}
-use lib.Count.{ones, onesIn}
 use lib.Dec.{eqb, leb}
 use lib.ListN.{length, replicate}
 use borrow.Author.Tests.{eqb-true}
 use Rattle.lists.specs.All.{allBelow}
 use Rattle.lists.specs.AllLaws.{at-below}
 use Rattle.lists.specs.Choice.{or}
-use Rattle.lists.specs.EachLaws.{append-bytes, zeros-bytes}
-use Rattle.lists.specs.TestLaws.{eqb-is, leb-is, or-is}
+use Rattle.lists.specs.EachLaws.{zeros-bytes}
+use Rattle.lists.specs.Passing.{passing}
+use Rattle.lists.specs.TestLaws.{leb-is}
 use Rattle.pec.specs.Pec.{bitStep, pecStep, pecFrom}
 use Rattle.catches.specs.Changes.{bitOf, Flipped, RightPec, Came, Within, TwoBits, howMany}
 use Rattle.catches.specs.FlippedLaws.{inside}
+use Rattle.catches.specs.FlipLaws.{two-bits-are}
+use Rattle.catches.specs.PairLaws.{one-pair-of-sixteen}
 
 -- the bit of a place is the same in both, or the place passes a test
 abbrev sameOr : (ℕ → Bool) → List ℕ → List ℕ → ℕ → Bool
@@ -42,68 +43,43 @@ flipped-passes test xs ys e a i j h f =
 
 -- ---- 16 bytes: zeros, and the very first and the very last bit flipped
 
-abbrev pub sixteen : List ℕ
-sixteen = replicate 16 0
+abbrev pub sixteenZeros : List ℕ
+sixteenZeros = replicate 16 0
 
-abbrev pub sixteenFlipped : List ℕ
-sixteenFlipped = 0x80 ∷ (replicate 14 0 ++ 0x01 ∷ [])
+abbrev pub sixteenCame : List ℕ
+sixteenCame = 0x80 ∷ (replicate 14 0 ++ 0x01 ∷ [])
 
-sixteen-came : Came sixteen sixteenFlipped
+sixteen-zeros-right : RightPec sixteenZeros
 unfolding bitStep pecStep pecFrom
-sixteen-came =
-    record {
-      sent = zeros-bytes 16;
-      right = (replicate 15 0, refl);
-      came = (omega arith, append-bytes (replicate 14 0) (0x01 ∷ []) (zeros-bytes 14) (omega arith, tt));
-      as-many = refl;
-    }
-
-sixteen-right : RightPec sixteenFlipped
-unfolding bitStep pecStep pecFrom
-sixteen-right = (0x80 ∷ replicate 14 0, refl)
-
-sixteen-two : TwoBits sixteen sixteenFlipped 0 0 15 7
-sixteen-two =
-    record {
-      first-in-byte = omega arith;
-      second-in-byte = omega arith;
-      order = omega arith;
-      flipped = λ a b h. (λ f. there a b h (or-is _ _ (eqb-is (8 * a + b) 0) (eqb-is (8 * a + b) 127) .0 (flipped-passes (λ (n : ℕ). or (eqb n 0) (eqb n 127)) sixteen sixteenFlipped refl refl a b h f)), back a b);
-    }
-  where
-    there : (a b : ℕ) → b < 8 → (8 * a + b ≡ 0) ⊎ (8 * a + b ≡ 127) → ((a ≡ 0) × (b ≡ 0)) ⊎ ((a ≡ 15) × (b ≡ 7))
-    there a b h (inl e) = inl (omega (arith, e), omega (arith, e))
-    there a b h (inr e) = inr (omega (arith, e, h), omega (arith, e, h))
-
-    back : (a b : ℕ) → ((a ≡ 0) × (b ≡ 0)) ⊎ ((a ≡ 15) × (b ≡ 7)) → Flipped sixteen sixteenFlipped a b
-    back a b (inl e) f = omega (arith, subst (λ (p : ℕ × ℕ). bitOf sixteen (p .0) (p .1) ≡ bitOf sixteenFlipped (p .0) (p .1)) (ap₂ (λ (x y : ℕ). (x, y)) (e .0) (e .1)) f)
-    back a b (inr e) f = omega (arith, subst (λ (p : ℕ × ℕ). bitOf sixteen (p .0) (p .1) ≡ bitOf sixteenFlipped (p .0) (p .1)) (ap₂ (λ (x y : ℕ). (x, y)) (e .0) (e .1)) f)
+sixteen-zeros-right = (replicate 15 0, refl)
 
 -- such a pair of messages there is
-pub sixteen-escape : Came sixteen sixteenFlipped × (length sixteen ≡ 16) × TwoBits sixteen sixteenFlipped 0 0 15 7 × RightPec sixteenFlipped
-sixteen-escape = (sixteen-came, refl, sixteen-two, sixteen-right)
+pub sixteen-escape : Came sixteenZeros sixteenCame × (length sixteenZeros ≡ 16) × TwoBits sixteenZeros sixteenCame 0 0 15 7 × RightPec sixteenCame
+sixteen-escape =
+    let f = two-bits-are sixteenZeros (zeros-bytes 16) sixteen-zeros-right 0 0 15 7 (omega arith) (omega arith) (omega arith) (omega arith) in
+    (f .0, refl, f .1, one-pair-of-sixteen sixteenZeros sixteenCame (f .0) 0 0 15 7 (f .1) refl .1 (refl, refl, refl, refl))
 
 -- ---- two bytes: zeros, and x^8+x^2+x+1 flipped, four bits among nine
 
-abbrev pub two : List ℕ
-two = 0x00 ∷ 0x00 ∷ []
+abbrev pub twoZeros : List ℕ
+twoZeros = 0x00 ∷ 0x00 ∷ []
 
-abbrev pub twoFlipped : List ℕ
-twoFlipped = 0x01 ∷ 0x07 ∷ []
+abbrev pub twoCame : List ℕ
+twoCame = 0x01 ∷ 0x07 ∷ []
 
-two-came : Came two twoFlipped
+two-came : Came twoZeros twoCame
 unfolding bitStep pecStep pecFrom
 two-came = record { sent = (omega arith, (omega arith, tt)); right = (0x00 ∷ [], refl); came = (omega arith, (omega arith, tt)); as-many = refl }
 
-two-right : RightPec twoFlipped
+two-right : RightPec twoCame
 unfolding bitStep pecStep pecFrom
 two-right = (0x01 ∷ [], refl)
 
-two-within-nine : Within 9 two twoFlipped
+two-within-nine : Within 9 twoZeros twoCame
 two-within-nine =
     record {
       from = 7;
-      among = λ i j h f. in-nine i j h (inside two twoFlipped refl i j f) (leb-is 7 (8 * i + j) .0 (flipped-passes (leb 7) two twoFlipped refl refl i j h f));
+      among = λ i j h f. in-nine i j h (inside twoZeros twoCame refl i j f) (leb-is 7 (8 * i + j) .0 (flipped-passes (leb 7) twoZeros twoCame refl refl i j h f));
       byte = 0;
       bit = 7;
       in-byte = omega arith;
@@ -113,9 +89,9 @@ two-within-nine =
     in-nine : (i j : ℕ) → j < 8 → i < 2 → 7 ≤ 8 * i + j → (7 ≤ 8 * i + j) × (8 * i + j < 7 + 9)
     in-nine i j h l g = (g, omega arith)
 
-two-four : howMany two twoFlipped ≡ 4
-unfolding ones
+two-four : howMany twoZeros twoCame ≡ 4
+unfolding passing
 two-four = refl
 
-pub nine-bits-escape : Came two twoFlipped × Within 9 two twoFlipped × (howMany two twoFlipped ≡ 4) × RightPec twoFlipped
+pub nine-bits-escape : Came twoZeros twoCame × Within 9 twoZeros twoCame × (howMany twoZeros twoCame ≡ 4) × RightPec twoCame
 nine-bits-escape = (two-came, two-within-nine, two-four, two-right)

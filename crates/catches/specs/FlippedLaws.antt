@@ -1,20 +1,19 @@
 -- The flipped bits of a message, as the reader counts them, are the ones of its polynomial of flips: bit j of byte i of n bytes is the
 -- coefficient of x^(8 n - 1 - (8 i + j)).
-use mathlib.Core.Path.{_≡_, refl, sym, ap, ap₂, _∙_, subst}
+use mathlib.Core.Path.{_≡_, sym, ap, ap₂, _∙_, subst}
 use mathlib.Core.List.{List, [], _∷_}
 use mathlib.Core.Logic.{_⊎_, inl, inr, _↔_}
-use Prim.Native.Nat.{ℕ, zero, suc, _+_, _-_, _*_, _/_, _%_, _^_, _≤_, _<_}
+use Prim.Native.Nat.{ℕ, zero, suc, _+_, _-_, _*_, _/_, _%_, _^_, _<_}
 use native.Mathlib.Decide.{decLt}
 use native.Mathlib.Omega.{arith}
-use lib.Bits.{bitXor, xor-lt, xor-shr}
+use lib.Bits.{xor-lt}
 use lib.ListN.{length, getD, List·getD-eq-default}
 use lib.Pow.{shr-shr}
 use Rattle.lists.specs.Each.{Bytes}
 use Rattle.pec.specs.PecDivision.{polynomialFrom, polynomial}
-use Rattle.pec.specs.PecDivisionLaws.{xor-odd}
 use Rattle.catches.specs.Changes.{power, bitOf, Flipped}
 use Rattle.catches.specs.Multiples.{flips}
-use Rattle.catches.specs.NumberBitsLaws.{small-of-none, same-low-byte}
+use Rattle.catches.specs.NumberBitsLaws.{small-of-none, same-low-byte, bit-of-sum}
 
 -- ---- the bits of a polynomial
 
@@ -56,9 +55,6 @@ bit-from n (x ∷ xs) h (suc i) j l g =
 
 -- ---- the bits of what is flipped
 
-sum-of-bits : (a b : ℕ) → (a + b) % 2 ≡ (a % 2 + b % 2) % 2
-sum-of-bits a b = omega arith
-
 odd-exactly : (a b : ℕ) → ((a % 2 + b % 2) % 2 ≡ 1) ↔ (a % 2 ≡ b % 2 → ⊥)
 odd-exactly a b = (λ o e. omega (arith, o, e), λ n. go (two a) (two b) n)
   where
@@ -93,8 +89,7 @@ module _ (xs ys : List ℕ) (h : Bytes xs) (g : Bytes ys) (e : length ys ≡ len
       let k = 8 * length xs - 1 - (8 * i + j) in
       let s : polynomial ys / 2 ^ k % 2 ≡ bitOf ys i j =
       subst (λ (n : ℕ). polynomial ys / 2 ^ (8 * n - 1 - (8 * i + j)) % 2 ≡ bitOf ys i j) e (bit-from 0 ys g i j (subst (λ (n : ℕ). i < n) (sym e) l) b) in
-      ap (λ (n : ℕ). n % 2) (xor-shr (polynomial xs) (polynomial ys) k) ∙ xor-odd (polynomial xs / 2 ^ k) (polynomial ys / 2 ^ k)
-      ∙ sum-of-bits (polynomial xs / 2 ^ k) (polynomial ys / 2 ^ k) ∙ ap₂ (λ (a b : ℕ). (a + b) % 2) (bit-from 0 xs h i j l b) s
+      bit-of-sum (polynomial xs) (polynomial ys) k ∙ ap₂ (λ (a b : ℕ). (a + b) % 2) (bit-from 0 xs h i j l b) s
 
   -- a bit is flipped exactly if its coefficient is 1
   pub flipped-exactly : (i j : ℕ) → i < length xs → j < 8 → Flipped xs ys i j ↔ (flips xs ys / 2 ^ (8 * length xs - 1 - (8 * i + j)) % 2 ≡ 1)

@@ -8,5 +8,7 @@ pub mod BurstLaws
 pub mod Register
 pub mod RegisterLaws
 pub mod PairLaws
+pub mod HowManyLaws
 pub mod OddLaws
 pub mod EscapeLaws
+pub mod FlipLaws

@@ -5,13 +5,12 @@ use mathlib.Core.List.{List, [], _∷_, _++_}
 use Prim.Native.Nat.{ℕ, zero, suc, _+_, _*_, _/_, _%_, _^_, _<_}
 use native.Mathlib.Nat.{mul-comm, mul-assoc, pow-suc, one-mul}
 use native.Mathlib.Omega.{arith}
-use lib.Bits.{bitXor, xor-self, xor-shifted, xor-zero-r}
+use lib.Bits.{bitXor, xor-shifted}
 use lib.ListN.{length, length-append}
 use Rattle.lists.specs.Each.{Bytes}
 use Rattle.pec.specs.Pec.{pecOf}
-use Rattle.pec.specs.PecLaws.{pec-byte}
 use Rattle.pec.specs.PecDivision.{timesG, polynomialFrom, polynomial}
-use Rattle.pec.specs.PecDivisionLaws.{xor-odd, xor-assoc, xor-twice, timesG-xor, timesG-double, small-multiple, pec-is-remainder}
+use Rattle.pec.specs.PecDivisionLaws.{xor-odd, xor-twice, xor-back, timesG-xor, timesG-double, small-multiple, pec-is-remainder}
 use Rattle.catches.specs.Changes.{RightPec, Came}
 use Rattle.catches.specs.Multiples.{Multiple, flips}
 
@@ -38,18 +37,14 @@ one-more bs y h =
 
 -- ---- right is a multiple
 
--- what is added twice is gone
-pub gone : (a b : ℕ) → bitXor (bitXor a b) b ≡ a
-gone a b = cc (xor-assoc a b b, xor-self b, xor-zero-r a)
-
 multiple-of-right : (bs : List ℕ) (y : ℕ) → Bytes bs → y < 256 → (y ≡ pecOf bs) ↔ Multiple (polynomial (bs ++ y ∷ []))
 multiple-of-right bs y h g = (there, back)
   where
     there : y ≡ pecOf bs → Multiple (polynomial (bs ++ y ∷ []))
-    there r = let (q, e) = pec-is-remainder bs h y g .1 r in (q, one-more bs y g ∙ ap (λ (n : ℕ). bitXor n y) e ∙ gone (timesG q) y)
+    there r = let (q, e) = pec-is-remainder bs h y g .1 r in (q, one-more bs y g ∙ ap (λ (n : ℕ). bitXor n y) e ∙ xor-back (timesG q) y)
 
     back : Multiple (polynomial (bs ++ y ∷ [])) → y ≡ pecOf bs
-    back (q, e) = pec-is-remainder bs h y g .0 (q, sym (gone (256 * polynomial bs) y) ∙ ap (λ (n : ℕ). bitXor n y) (sym (one-more bs y g) ∙ e))
+    back (q, e) = pec-is-remainder bs h y g .0 (q, sym (xor-back (256 * polynomial bs) y) ∙ ap (λ (n : ℕ). bitXor n y) (sym (one-more bs y g) ∙ e))
 
 -- RIGHT EXACTLY IF A MULTIPLE, of all bytes, the PEC among them
 pub right-exactly : (xs : List ℕ) → Bytes xs → 0 < length xs → RightPec xs ↔ Multiple (polynomial xs)

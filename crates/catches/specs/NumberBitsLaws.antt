@@ -1,11 +1,13 @@
 -- Numbers by their bits: bit k of n is n / 2 ^ k % 2. Numbers with the same low bits are the same below, one whose high bits are 0 is small,
 -- and one whose highest bit is known is known from there on.
-use mathlib.Core.Path.{_≡_, refl, sym, ap, ap₂, _∙_, subst}
+use mathlib.Core.Path.{_≡_, sym, ap, ap₂, _∙_, subst}
 use Prim.Native.Nat.{ℕ, zero, suc, _+_, _-_, _*_, _/_, _%_, _^_, _≤_, _<_}
 use native.Mathlib.Decide.{decLt}
 use native.Mathlib.Nat.{mod-lt, mul-comm, zero-div, div-eq-of-lt}
 use native.Mathlib.Omega.{arith}
+use lib.Bits.{bitXor, xor-shr}
 use lib.Pow.{pow-pos, pow-lt, mod-pow-add, mod-mod-pow, field, shr-lt, split}
+use Rattle.pec.specs.PecDivisionLaws.{xor-odd}
 
 -- a bit is 0 or 1
 pub not-one : (x : ℕ) → (x % 2 ≡ 1 → ⊥) → x % 2 ≡ 0
@@ -69,6 +71,13 @@ low-bit y m h =
 
 pub same-low-byte : (y z m : ℕ) → m < 8 → y % 256 ≡ z % 256 → y / 2 ^ m % 2 ≡ z / 2 ^ m % 2
 same-low-byte y z m h e = low-bit y m h ∙ ap (λ (t : ℕ). t % 2 ^ (1 + m) / 2 ^ m) e ∙ sym (low-bit z m h)
+
+-- the bit of a sum
+pub bit-of-sum : (a b k : ℕ) → bitXor a b / 2 ^ k % 2 ≡ (a / 2 ^ k % 2 + b / 2 ^ k % 2) % 2
+bit-of-sum a b k = ap (λ (n : ℕ). n % 2) (xor-shr a b k) ∙ xor-odd (a / 2 ^ k) (b / 2 ^ k) ∙ by-bits (a / 2 ^ k) (b / 2 ^ k)
+  where
+    by-bits : (a b : ℕ) → (a + b) % 2 ≡ (a % 2 + b % 2) % 2
+    by-bits a b = omega arith
 
 -- the bits of 0
 pub zero-bit : (k : ℕ) → 0 / 2 ^ k % 2 ≡ 0

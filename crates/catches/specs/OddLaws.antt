@@ -1,27 +1,19 @@
 -- CAUGHT: any odd number of flipped bits, wherever they are and whatever the length. x^8+x^2+x+1 has four terms, so a multiple of it has an
 -- even number of ones.
-use mathlib.Core.Path.{_≡_, refl, sym, ap, ap₂, _∙_}
-use mathlib.Core.List.{List, [], _∷_}
-use Prim.Native.Nat.{ℕ, zero, suc, _+_, _*_, _/_, _%_, _^_, _<_}
-use native.Mathlib.Nat.{mul-comm}
+use mathlib.Core.Path.{_≡_, sym, ap, ap₂, _∙_}
+use mathlib.Core.List.{List}
+use Prim.Native.Nat.{ℕ, _+_, _*_, _/_, _%_}
 use native.Mathlib.Omega.{arith}
 use lib.Arith.{bin-ind}
-use lib.Bits.{bitXor, xor-block, xor-lt, xor-shr, xor-zero-l}
-use lib.Count.{ones, ones-step, ones-cat}
-use lib.ListN.{length}
-use lib.Pow.{pow-pos}
-use Rattle.lists.specs.Each.{Bytes}
-use Rattle.pec.specs.PecDivision.{timesG, polynomialFrom}
+use lib.Bits.{bitXor, xor-shr, xor-zero-l}
+use lib.Count.{ones, ones-step}
+use Rattle.pec.specs.PecDivision.{timesG}
 use Rattle.pec.specs.PecDivisionLaws.{xor-odd}
 use Rattle.catches.specs.Changes.{RightPec, Came, howMany}
-use Rattle.catches.specs.Multiples.{Multiple, flips}
+use Rattle.catches.specs.HowManyLaws.{no-ones, ones-placed, how-many-is}
 use Rattle.catches.specs.MultiplesLaws.{escapes-exactly}
 
 -- ---- the ones of a sum, and of a multiple
-
-no-ones : ones 0 ≡ 0
-unfolding ones
-no-ones = refl
 
 -- a remainder is as good as the number
 first-even : (a t : ℕ) → (a % 2 + t) % 2 ≡ (a + t) % 2
@@ -57,16 +49,6 @@ ones-of-sum = bin-ind (λ (a : ℕ). (b : ℕ) → ones (bitXor a b) % 2 ≡ (on
         ∙ add-up a b (ones (a / 2)) (ones (b / 2)) (ones (bitXor (a / 2) (b / 2))) (ih (b / 2))
         ∙ sym (ap₂ (λ (x y : ℕ). (x + y) % 2) (ones-step a) (ones-step b))
 
--- times x^k
-ones-placed : (k q : ℕ) → ones (2 ^ k * q) ≡ ones q
-ones-placed k q = ap ones (other-way (2 ^ k) q) ∙ ones-cat k q 0 (pow-pos k) ∙ (omega (arith, no-ones))
-  where
-    other-way : (p q : ℕ) → p * q ≡ q * p + 0
-    other-way p q = mul-comm p q ∙ plus-none (q * p)
-      where
-        plus-none : (n : ℕ) → n ≡ n + 0
-        plus-none n = omega arith
-
 -- of a multiple: four times those of the other factor, but for pairs that cancel
 multiple-even : (q : ℕ) → ones (timesG q) % 2 ≡ 0
 unfolding timesG
@@ -78,25 +60,6 @@ multiple-even q =
     let e2 : ones (4 * q) ≡ ones q = ones-placed 2 q in
     let e1 : ones (2 * q) ≡ ones q = ones-placed 1 q in
     omega (arith, a, b, c, e8, e2, e1)
-
--- ---- the ones of what is flipped
-
-counted-from : (n m : ℕ) (xs ys : List ℕ) → Bytes xs → Bytes ys → length ys ≡ length xs
-    → ones (bitXor (polynomialFrom n xs) (polynomialFrom m ys)) ≡ ones (bitXor n m) + howMany xs ys
-unfolding polynomialFrom
-counted-from n m [] [] h g e = omega arith
-counted-from n m [] (y ∷ ys) h g e = absurd (omega (arith, e))
-counted-from n m (x ∷ xs) [] h g e = absurd (omega (arith, e))
-counted-from n m (x ∷ xs) (y ∷ ys) h g e =
-    let s : ones (bitXor (256 * n + x) (256 * m + y)) ≡ ones (bitXor n m) + ones (bitXor x y) =
-    ap ones (apart n m x y (h .0) (g .0)) ∙ ones-cat 8 (bitXor n m) (bitXor x y) (xor-lt 8 x y (h .0) (g .0)) in
-    omega (arith, counted-from (256 * n + x) (256 * m + y) xs ys (h .1) (g .1) (omega (arith, e)), s)
-  where
-    apart : (n m x y : ℕ) → x < 256 → y < 256 → bitXor (256 * n + x) (256 * m + y) ≡ bitXor n m * 256 + bitXor x y
-    apart n m x y h g = rw (mul-comm 256 n, mul-comm 256 m) (xor-block 8 n m x y h g)
-
-pub how-many-is : (xs ys : List ℕ) → Came xs ys → ones (flips xs ys) ≡ howMany xs ys
-how-many-is xs ys c = omega (arith, counted-from 0 0 xs ys (c .sent) (c .came) (c .as-many), no-ones)
 
 -- CAUGHT
 pub odd-caught : (xs ys : List ℕ) → Came xs ys → howMany xs ys % 2 ≡ 1 → RightPec ys → ⊥

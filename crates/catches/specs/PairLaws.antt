@@ -53,7 +53,7 @@ module _ (xs ys : List ℕ) (c : Came xs ys) (i j k l : ℕ) (t : TwoBits xs ys 
 
   -- both places lie in the message, and so do the coefficients
   pub places : (8 * i + j < 8 * k + l) × (8 * k + l < bits)
-  places = (t .order, omega (arith, second-inside, t .second-in-byte))
+  places = (omega (arith, t .order), omega (arith, second-inside, t .second-in-byte))
 
   -- the window from the one to the other
   among-both : (a b : ℕ) → ((a ≡ i) × (b ≡ j)) ⊎ ((a ≡ k) × (b ≡ l)) → (8 * i + j ≤ 8 * a + b) × (8 * a + b < 8 * i + j + suc (suc gap))
@@ -122,16 +122,22 @@ module _ (xs ys : List ℕ) (c : Came xs ys) (i j k l : ℕ) (t : TwoBits xs ys 
   pattern-is : pattern ≡ 2 ^ suc gap + 1
   pattern-is = sym (split pattern (suc gap)) ∙ ap₂ (λ (a b : ℕ). a * 2 ^ suc gap + b) pattern-above pattern-below ∙ ap (λ (n : ℕ). n + 1) (one-mul (2 ^ suc gap))
 
+  -- what is flipped
+  flips-both : flips xs ys ≡ 2 ^ lower * (2 ^ suc gap + 1)
+  flips-both = pattern-placed (suc (suc gap)) xs ys c window ∙ ap (λ (n : ℕ). 2 ^ lower * n) pattern-is
+
+  pub pair-flips : (n : ℕ) × (g : ℕ) × (flips xs ys ≡ 2 ^ n * (2 ^ suc g + 1))
+  pair-flips = (lower, gap, flips-both)
+
   -- NOT CAUGHT EXACTLY IF the distance of the two is a multiple of 127, at any length
   pub pair-escapes-exactly : RightPec ys ↔ (((8 * k + l) - (8 * i + j)) % 127 ≡ 0)
   pair-escapes-exactly =
-      let e : flips xs ys ≡ 2 ^ lower * (2 ^ suc gap + 1) = pattern-placed (suc (suc gap)) xs ys c window ∙ ap (λ (n : ℕ). 2 ^ lower * n) pattern-is in
       let d : suc gap ≡ (8 * k + l) - (8 * i + j) = (let o = places .0 in omega (arith, o)) in
       let m = escapes-exactly xs ys c in
       let s = shifted-exactly lower (2 ^ suc gap + 1) in
       let p = period-127 gap in (
-        λ r. subst (λ (n : ℕ). n % 127 ≡ 0) d (p .0 (s .0 (subst Multiple e (m .0 r)))),
-        λ z. m .1 (subst Multiple (sym e) (s .1 (p .1 (subst (λ (n : ℕ). n % 127 ≡ 0) (sym d) z)))),
+        λ r. subst (λ (n : ℕ). n % 127 ≡ 0) d (p .0 (s .0 (subst Multiple flips-both (m .0 r)))),
+        λ z. m .1 (subst Multiple (sym flips-both) (s .1 (p .1 (subst (λ (n : ℕ). n % 127 ≡ 0) (sym d) z)))),
       )
 
   -- CAUGHT: any two bits of up to 15 bytes in all

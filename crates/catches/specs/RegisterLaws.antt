@@ -3,9 +3,8 @@
 use mathlib.Core.Path.{_≡_, refl, sym, ap, _∙_, subst}
 use mathlib.Core.Bool.{Bool, true, false}
 use mathlib.Core.Logic.{_↔_}
-use Prim.Native.Nat.{ℕ, zero, suc, _+_, _-_, _*_, _/_, _%_, _^_, _≤_, _<_}
-use native.Mathlib.Decide.{decLt}
-use native.Mathlib.Nat.{mul-comm, mul-assoc, mul-one, one-mul, pow-suc}
+use Prim.Native.Nat.{ℕ, zero, suc, _+_, _*_, _/_, _%_, _^_, _<_}
+use native.Mathlib.Nat.{mul-assoc, mul-one, one-mul, pow-suc}
 use native.Mathlib.Omega.{arith}
 use lib.Bits.{bitXor, xor-shifted}
 use lib.Dec.{eqb}
@@ -15,9 +14,8 @@ use Rattle.lists.specs.ChoiceLaws.{both-true, false-not-true}
 use Rattle.pec.specs.Pec.{bitStep}
 use Rattle.pec.specs.PecLaws.{bit-byte}
 use Rattle.pec.specs.PecDivision.{timesG, Leaves}
-use Rattle.pec.specs.PecDivisionLaws.{leaves-self, next-bit, remainder-unique}
+use Rattle.pec.specs.PecDivisionLaws.{xor-back, leaves-self, next-bit, remainder-unique}
 use Rattle.catches.specs.Multiples.{Multiple}
-use Rattle.catches.specs.MultiplesLaws.{gone}
 use Rattle.catches.specs.Register.{shifted}
 
 -- ---- what x^k leaves
@@ -47,13 +45,13 @@ multiple-by-register k = (there, back)
     there : Multiple (2 ^ suc k + 1) → shifted 1 (suc k) ≡ 1
     there (q, e) =
         let (a, f) = power-leaves (suc k) in
-        let g : 2 ^ suc k ≡ bitXor (timesG q) 1 = sym (gone (2 ^ suc k) 1) ∙ ap (λ (n : ℕ). bitXor n 1) (sym (without-carry k) ∙ e) in
+        let g : 2 ^ suc k ≡ bitXor (timesG q) 1 = sym (xor-back (2 ^ suc k) 1) ∙ ap (λ (n : ℕ). bitXor n 1) (sym (without-carry k) ∙ e) in
         remainder-unique a q (shifted 1 (suc k)) 1 (shifted-byte (suc k) 1 (omega arith)) (omega arith) (sym f ∙ g)
 
     back : shifted 1 (suc k) ≡ 1 → Multiple (2 ^ suc k + 1)
     back e =
         let (a, f) = power-leaves (suc k) in
-        (a, without-carry k ∙ ap (λ (n : ℕ). bitXor n 1) (f ∙ ap (bitXor (timesG a)) e) ∙ gone (timesG a) 1)
+        (a, without-carry k ∙ ap (λ (n : ℕ). bitXor n 1) (f ∙ ap (bitXor (timesG a)) e) ∙ xor-back (timesG a) 1)
 
 -- ---- when the register holds 1 again
 

@@ -6,16 +6,14 @@ use Prim.Native.Nat.{ℕ, zero, suc, _+_, _*_, _≤_, _<_}
 use native.Mathlib.Nat.{zero-add}
 use native.Mathlib.Omega.{arith}
 use lib.ListN.{length, set, length-set}
-use lib.Seq.{set-append-left, set-at}
+use lib.Seq.{set-append-left}
 use Rattle.lists.specs.Choice.{pick}
-use Rattle.lists.specs.Each.{Bytes}
-use Rattle.trace.specs.Shapes.{isCounted, countIn}
-use Rattle.trace.specs.Trace.{laid, acked, ackOf, nacked, LengthOf, counted}
+use Rattle.trace.specs.AckedLaws.{double-suc}
+use Rattle.trace.specs.LengthLaws.{laid-length}
+use Rattle.trace.specs.Shapes.{isCounted}
+use Rattle.trace.specs.Trace.{laid, acked, ackOf, nacked, LengthOf}
 use Rattle.trace.specs.declared.shape.Part.{Part}
 use Rattle.trace.specs.declared.shape.Part.the-variants.{Nothing, Fixed, Counted}
-
-double-suc : (i : ℕ) → 2 * suc i ≡ suc (suc (2 * i))
-double-suc i = omega arith
 
 pub set-acked : (xs : List ℕ) (i b : ℕ) → set (acked xs) (2 * i) b ≡ acked (set xs i b)
 set-acked [] i b = refl
@@ -38,22 +36,12 @@ set-append-right [] ys i b n e = ap (λ (k : ℕ). set ys k b) (e ∙ zero-add i
 set-append-right (x ∷ xs) ys i b zero e = absurd (omega (arith, e))
 set-append-right (x ∷ xs) ys i b (suc n) e = ap (λ (l : List ℕ). x ∷ l) (set-append-right xs ys i b n (omega (arith, e)))
 
-pub set-bytes : (xs : List ℕ) (i b : ℕ) → Bytes xs → b < 256 → Bytes (set xs i b)
-set-bytes [] i b h g = tt
-set-bytes (x ∷ xs) zero b h g = (g, h .1)
-set-bytes (x ∷ xs) (suc i) b h g = (h .0, set-bytes xs i b (h .1) g)
-
 -- ---- data of a part
 
 pub same-length-of : (least : ℕ) (a : Part) (s r : List ℕ) → length r ≡ length s → LengthOf least a s → LengthOf least a r
 same-length-of least Nothing s r e h = e ∙ h
 same-length-of least (Fixed k) s r e h = e ∙ h
 same-length-of least Counted s r e h = subst (λ (n : ℕ). least ≤ n) (sym e) h
-
-pub laid-length : (a : Part) (s : List ℕ) → length (laid a s) ≡ pick (isCounted a) 1 0 + length s
-laid-length Nothing s = omega arith
-laid-length (Fixed k) s = omega arith
-laid-length Counted s = omega arith
 
 -- a data byte, behind the count where there is one
 set-part : (a : Part) (s : List ℕ) (i b : ℕ) → set (laid a s) (pick (isCounted a) 1 0 + i) b ≡ laid a (set s i b)

@@ -1,16 +1,17 @@
--- THE SHAPE STAYS: a whole trace whose command, data or PEC are overwritten by bytes is a whole trace, of as many symbols and as many bytes.
+-- THE SHAPE STAYS: a trace that differs from that of a message in its command, its data and its PEC alone is whole, and has as many bytes.
 use mathlib.Core.Path.{_≡_, refl, sym, ap, ap₂, _∙_, subst}
 use mathlib.Core.Bool.{Bool, true, false}
-use mathlib.Core.List.{List, [], _∷_, _++_}
+use mathlib.Core.List.{List, [], _∷_, _++_, append-assoc, append-nil}
 use mathlib.Core.Logic.{_⊎_, inl, inr}
 use Prim.Native.Nat.{ℕ, zero, suc, _+_, _-_, _*_, _%_, _≤_, _<_}
 use native.Mathlib.Omega.{arith}
-use lib.ListN.{length, set, length-set, length-append}
+use lib.ListN.{length, getD, set, take, drop, length-set, length-append, length-drop, drop-of-length-le}
+use lib.Seq.{drop-cons, getD-at, length-take-le, set-at, set-getD, take-all, take-suc}
 use borrow.Author.Tests.{lt-ltb}
 use Rattle.lists.specs.Choice.{pick}
 use Rattle.lists.specs.ChoiceLaws.{false-not-true}
-use Rattle.lists.specs.Each.{Each}
-use Rattle.lists.specs.EachLaws.{each-map}
+use Rattle.lists.specs.EachLaws.{set-bytes}
+use Rattle.trace.specs.LengthLaws.{laid-length}
 use Rattle.trace.specs.Sane.{Sane}
 use Rattle.trace.specs.ShapeLaws.{by-row, row-is, sane, none-to-host}
 use Rattle.trace.specs.Shapes.{protocols, shapeOf, some, isCounted, countIn, writes, reads}
@@ -24,8 +25,8 @@ use Rattle.scan.specs.BytesIn.{bytesIn}
 use Rattle.scan.specs.Fitting.{Whole}
 use Rattle.scan.specs.FittingLaws.{whole-shaped}
 use Rattle.scan.specs.PecByteLaws.{pec-lt}
-use Rattle.garbled.specs.Overwrite.{sentFrom, HasData, overwritten}
-use Rattle.garbled.specs.SetLaws.{set-bytes, same-length-of, laid-length}
+use Rattle.garbled.specs.Places.{sentFrom, MayDiffer, Changed}
+use Rattle.garbled.specs.SetLaws.{same-length-of}
 use Rattle.garbled.specs.TraceSetLaws.{withCommand, withSent, withReceived, headBytes, front-length, set-command-byte, set-sent-byte, set-pec, set-received-byte}
 use Rattle.garbled.specs.WireBytesLaws.{bytes-of-trace}
 
@@ -41,7 +42,7 @@ pub record Framed (sh : Shape) (n m : ℕ) (tr : List ℕ) : Type 0 where
 
 -- ---- the message stays valid
 
-reads-some : (least : ℕ) (a : Part) (s : List ℕ) → LengthOf least a s → 0 < length s → some a ≡ true
+pub reads-some : (least : ℕ) (a : Part) (s : List ℕ) → LengthOf least a s → 0 < length s → some a ≡ true
 reads-some least Nothing s h l = absurd (omega (arith, h, l))
 reads-some least (Fixed k) s h l = refl
 reads-some least Counted s h l = refl
@@ -91,6 +92,27 @@ module _ (sh : Shape) (t : Message) (v : Valid sh t) (b : ℕ) (h : b < 256) whe
         received-bytes = set-bytes (t .received) i b (v .received-bytes) h;
         counts = subst (λ (n : ℕ). counted (sh .sent) (t .sent) + countIn (sh .received) n ≤ sh .most) (sym l) (v .counts);
       }
+
+-- ---- the first k symbols of one list, and the others of another
+
+module _ (tr tr′ : List ℕ) (k : ℕ) (e : length tr′ ≡ length tr) (h : k < length tr) where
+  first-length : length (take k tr′) ≡ k
+  first-length = length-take-le k tr′ (omega (arith, e, h))
+
+  mixed-length : length (take k tr′ ++ drop k tr) ≡ length tr
+  mixed-length = omega (arith, length-append (take k tr′) (drop k tr), first-length, length-drop k tr, h)
+
+  mixed-is : take k tr′ ++ drop k tr ≡ take k tr′ ++ getD tr k 0 ∷ drop (suc k) tr
+  mixed-is = ap (λ (l : List ℕ). take k tr′ ++ l) (drop-cons tr k 0 h)
+
+  mixed-at : getD (take k tr′ ++ drop k tr) k 0 ≡ getD tr k 0
+  mixed-at = ap (λ (l : List ℕ). getD l k 0) mixed-is ∙ getD-at (take k tr′) (getD tr k 0) (drop (suc k) tr) 0 k first-length
+
+  one-more : take (suc k) tr′ ++ drop (suc k) tr ≡ set (take k tr′ ++ drop k tr) k (getD tr′ k 0)
+  one-more =
+      ap (λ (l : List ℕ). l ++ drop (suc k) tr) (take-suc tr′ k 0 (omega (arith, e, h)))
+      ∙ append-assoc (take k tr′) (getD tr′ k 0 ∷ []) (drop (suc k) tr)
+      ∙ sym (ap (λ (l : List ℕ). set l k (getD tr′ k 0)) mixed-is ∙ set-at (take k tr′) (getD tr k 0) (drop (suc k) tr) (getD tr′ k 0) k first-length)
 
 -- ---- one byte, and any number of them
 
@@ -149,15 +171,18 @@ module _ (sh : Shape) (o : sh .tohost ≡ false) (n m : ℕ) where
         as-many-received = length-set (t .received) j b ∙ f .as-many-received;
       }
 
-  -- all of them, one after the other
-  framed-overwritten : (tr : List ℕ) → Framed sh n m tr → (es : List (ℕ × ℕ)) → Each (λ (e : ℕ × ℕ). Free sh n m (length tr) (e .0) × (e .1 < 256)) es
-      → Framed sh n m (overwritten es tr) × (length (overwritten es tr) ≡ length tr)
-  framed-overwritten tr f [] c = (f, refl)
-  framed-overwritten tr f (e ∷ es) c =
-      let r = framed-overwritten tr f es (c .1) in (
-        framed-set (e .1) (c .0 .1) (overwritten es tr) (e .0) (r .0) (subst (λ (l : ℕ). Free sh n m l (e .0)) (sym (r .1)) (c .0 .0)),
-        length-set (overwritten es tr) (e .0) (e .1) ∙ r .1,
-      )
+  -- all of them: the first k symbols have come, and the others are as they were
+  framed-mixed : (tr tr′ : List ℕ) → length tr′ ≡ length tr → Framed sh n m tr
+      → ((k : ℕ) → k < length tr → (getD tr′ k 0 ≡ getD tr k 0) ⊎ (Free sh n m (length tr) k × (getD tr′ k 0 < 256)))
+      → (k : ℕ) → k ≤ length tr → Framed sh n m (take k tr′ ++ drop k tr)
+  framed-mixed tr tr′ e f c zero h = f
+  framed-mixed tr tr′ e f c (suc k) h =
+      let r = framed-mixed tr tr′ e f c k (omega (arith, h)) in
+      subst (Framed sh n m) (sym (one-more tr tr′ k e h)) (go r (c k h))
+    where
+      go : Framed sh n m (take k tr′ ++ drop k tr) → (getD tr′ k 0 ≡ getD tr k 0) ⊎ (Free sh n m (length tr) k × (getD tr′ k 0 < 256)) → Framed sh n m (set (take k tr′ ++ drop k tr) k (getD tr′ k 0))
+      go r (inl q) = subst (Framed sh n m) (sym (ap (set (take k tr′ ++ drop k tr) k) (q ∙ sym (mixed-at tr tr′ k e h)) ∙ set-getD (take k tr′ ++ drop k tr) k 0)) r
+      go r (inr (p, b)) = framed-set (getD tr′ k 0) b (take k tr′ ++ drop k tr) k r (subst (λ (l : ℕ). Free sh n m l k) (sym (mixed-length tr tr′ k e h)) p)
 
 -- ---- as many bytes
 
@@ -183,7 +208,7 @@ framed-bytes sh hs n m tr f =
 -- ---- over the table
 
 -- where data are sent, they begin where the shape has them
-sent-from : (protocol : ℕ) → protocol < protocols → some (shapeOf protocol .sent) ≡ true → sentFrom protocol ≡ 1 + 2 * headBytes (shapeOf protocol)
+pub sent-from : (protocol : ℕ) → protocol < protocols → some (shapeOf protocol .sent) ≡ true → sentFrom protocol ≡ 1 + 2 * headBytes (shapeOf protocol)
 sent-from =
     by-row (λ (p : ℕ). some (shapeOf p .sent) ≡ true → sentFrom p ≡ 1 + 2 * headBytes (shapeOf p))
     (λ e. false-not-true e, (λ e. refl, (λ e. false-not-true e, (λ e. refl, (λ e. refl, (λ e. false-not-true e, (λ e. false-not-true e, (λ e. refl, (λ e. refl, (λ e. false-not-true e, (λ e. refl, tt)))))))))))
@@ -210,22 +235,30 @@ module _ (protocol : ℕ) (t : Message) (tr : List ℕ) (w : TraceOf protocol tr
     as-many-received = refl;
   }
 
-  free-place : (k : ℕ) → HasData protocol t (length tr) k → Free sh (length (t .sent)) (length (t .received)) (length tr) k
+  free-place : (k : ℕ) → MayDiffer protocol t (length tr) k → Free sh (length (t .sent)) (length (t .received)) (length tr) k
   free-place k (inl (h, e)) = inl (row-is protocol known .1 ∙ lt-ltb 2 protocol h, e)
   free-place k (inr (inl (i, l, e))) =
       inr (inl (i, l, (let s = sent-from protocol known (reads-some (sh .least) (sh .sent) (t .sent) (valid .sent-length) (omega (arith, l))) in omega (arith, e, s))))
-  free-place k (inr (inr c)) = inr (inr c)
+  free-place k (inr (inr (i, l, e))) = inr (inr (i, omega (arith, l), e))
 
   -- no Quick has a PEC
   no-quick : protocol ≡ 0 → true ≡ false
   no-quick e = quick-plain true _ (w .0) (w .1) (w .2 ∙ e)
 
-  pub stays : (es : List (ℕ × ℕ)) → Each (λ (e : ℕ × ℕ). HasData protocol t (length tr) (e .0) × (e .1 < 256)) es
-      → Whole protocol true (overwritten es tr) × (length (overwritten es tr) ≡ length tr) × (length (bytesIn (overwritten es tr)) ≡ length (bytesIn tr))
-  stays es c =
-      let r = framed-overwritten sh (none-to-host protocol) (length (t .sent)) (length (t .received)) tr framed es (each-map es (λ e h. (free-place (e .0) (h .0), h .1)) c) in
-      let f = r .0 in (
-        whole-shaped protocol true known no-quick (overwritten es tr) .1 (record { message = f .message; pec = f .pec; valid = f .valid; byte = (f .byte, tt); is = f .is }),
-        r .1,
-        framed-bytes sh (sane protocol) _ _ (overwritten es tr) f ∙ sym (framed-bytes sh (sane protocol) _ _ tr framed),
+  pub stays : (tr′ : List ℕ) → Changed protocol t tr tr′ → Whole protocol true tr′ × (length (bytesIn tr′) ≡ length (bytesIn tr))
+  stays tr′ c =
+      let f = subst (Framed sh (length (t .sent)) (length (t .received))) all-came
+      (framed-mixed sh (none-to-host protocol) (length (t .sent)) (length (t .received)) tr tr′ (c .as-long) framed (λ k h. free k (c .places k h)) (length tr) (omega arith)) in (
+        whole-shaped protocol true known no-quick tr′ .1 (record { message = f .message; pec = f .pec; valid = f .valid; byte = (f .byte, tt); is = f .is }),
+        framed-bytes sh (sane protocol) _ _ tr′ f ∙ sym (framed-bytes sh (sane protocol) _ _ tr framed),
       )
+    where
+      all-came : take (length tr) tr′ ++ drop (length tr) tr ≡ tr′
+      all-came =
+          ap₂ (λ (x y : List ℕ). x ++ y) (take-all (length tr) tr′ (omega (arith, c .as-long))) (drop-of-length-le tr {i = length tr} (omega arith))
+          ∙ append-nil tr′
+
+      free : (k : ℕ) → (getD tr′ k 0 ≡ getD tr k 0) ⊎ (MayDiffer protocol t (length tr) k × (getD tr′ k 0 < 256))
+          → (getD tr′ k 0 ≡ getD tr k 0) ⊎ (Free sh (length (t .sent)) (length (t .received)) (length tr) k × (getD tr′ k 0 < 256))
+      free k (inl e) = inl e
+      free k (inr (p, b)) = inr (free-place k p, b)

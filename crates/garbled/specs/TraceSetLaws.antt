@@ -1,19 +1,19 @@
 -- A byte put into a trace at the place of its command, of a data byte or of its PEC gives the trace of another message, of the same shape.
-use mathlib.Core.Path.{_≡_, refl, sym, ap, _∙_}
+use mathlib.Core.Path.{_≡_, sym, ap, _∙_}
 use mathlib.Core.Bool.{Bool, true, false}
-use mathlib.Core.List.{List, [], _∷_, _++_, append-assoc}
+use mathlib.Core.List.{List, [], _∷_, _++_}
 use Prim.Native.Nat.{ℕ, suc, _+_, _-_, _*_, _<_}
 use native.Mathlib.Omega.{arith}
 use lib.ListN.{length, set, length-append}
 use lib.Seq.{set-append-left, set-at}
 use Rattle.lists.specs.Choice.{pick}
 use Rattle.lists.specs.ChoiceLaws.{false-not-true}
-use Rattle.trace.specs.LengthLaws.{length-acked, length-nacked}
-use Rattle.trace.specs.RowsLaws.{ends-checked}
+use Rattle.trace.specs.LengthLaws.{length-acked, length-nacked, laid-length}
+use Rattle.trace.specs.PecPlaceLaws.{around-pec}
 use Rattle.trace.specs.Shapes.{isCounted, writes, reads}
 use Rattle.trace.specs.Trace.{Message, laid, acked, nacked, firstByte, front, byTarget, byController, traceAt}
 use Rattle.trace.specs.declared.shape.Shape.{Shape}
-use Rattle.garbled.specs.SetLaws.{set-acked, set-nacked, set-append-right, laid-length, set-laid, set-command, set-sent}
+use Rattle.garbled.specs.SetLaws.{set-acked, set-nacked, set-append-right, set-laid, set-command, set-sent}
 
 -- other fields
 abbrev pub withCommand : Message → ℕ → Message
@@ -44,14 +44,17 @@ module _ (sh : Shape) (t : Message) (q : List ℕ) where
       one-add i = omega arith
 
 -- the command
-pub set-command-byte : (sh : Shape) (t : Message) (q : List ℕ) (b : ℕ) → sh .command ≡ true → set (traceAt sh t q) 3 b ≡ traceAt sh (withCommand t b) q
-set-command-byte sh t q b e =
-    set-front sh t q 1 b (two-bytes (sh .command) (laid (sh .sent) (t .sent)) e)
-    ∙ ap (λ (l : List ℕ). 256 ∷ ((acked l ++ turn sh t q) ++ byController sh t q)) (set-command (sh .command) (firstByte sh t) (t .command) b (laid (sh .sent) (t .sent)) e)
+pub command-inside : (sh : Shape) (t : Message) → sh .command ≡ true → 1 < length (front sh t)
+command-inside sh t = two-bytes (sh .command) (laid (sh .sent) (t .sent))
   where
     two-bytes : (k : Bool) (l : List ℕ) → k ≡ true → 1 < length (firstByte sh t ∷ (pick k (t .command ∷ []) [] ++ l))
     two-bytes true l e = omega arith
     two-bytes false l e = false-not-true e
+
+pub set-command-byte : (sh : Shape) (t : Message) (q : List ℕ) (b : ℕ) → sh .command ≡ true → set (traceAt sh t q) 3 b ≡ traceAt sh (withCommand t b) q
+set-command-byte sh t q b e =
+    set-front sh t q 1 b (command-inside sh t e)
+    ∙ ap (λ (l : List ℕ). 256 ∷ ((acked l ++ turn sh t q) ++ byController sh t q)) (set-command (sh .command) (firstByte sh t) (t .command) b (laid (sh .sent) (t .sent)) e)
 
 -- how many bytes stand before the data sent
 abbrev pub headBytes : Shape → ℕ
@@ -67,6 +70,11 @@ front-length sh t = by-command (sh .command) ∙ sums (pick (sh .command) 1 0) (
     sums : (k c n l : ℕ) → l ≡ c + n → 1 + k + l ≡ 1 + k + c + n
     sums k c n l e = omega arith
 
+-- the bytes sent stand inside the trace
+pub front-inside : (sh : Shape) (t : Message) (q : List ℕ) (i : ℕ) → i < length (front sh t) → 1 + 2 * i < length (traceAt sh t q)
+front-inside sh t q i h =
+    omega (arith, h, length-acked (front sh t), length-append (acked (front sh t)) (turn sh t q), length-append (acked (front sh t) ++ turn sh t q) (byController sh t q))
+
 -- a data byte sent
 pub set-sent-byte : (sh : Shape) (t : Message) (q : List ℕ) (i b : ℕ) → i < length (t .sent) → set (traceAt sh t q) (1 + 2 * (headBytes sh + i)) b ≡ traceAt sh (withSent t (set (t .sent) i b)) q
 set-sent-byte sh t q i b h =
@@ -75,15 +83,9 @@ set-sent-byte sh t q i b h =
 
 -- ---- the PEC
 
--- what stands before it and what it gets do not go by it
-around-pec : (r : Bool) (xs ys zs : List ℕ)
-    → (before : List ℕ) × (gets : ℕ) × ((y : ℕ) → (xs ++ pick r ys (acked (y ∷ []))) ++ (pick r (nacked (zs ++ y ∷ [])) [] ++ 257 ∷ []) ≡ before ++ y ∷ gets ∷ 257 ∷ [])
-around-pec true xs ys zs = ((xs ++ ys) ++ acked zs, 259, λ y. ap (λ (l : List ℕ). (xs ++ ys) ++ l) (ends-checked zs y) ∙ sym (append-assoc (xs ++ ys) (acked zs) (y ∷ 259 ∷ 257 ∷ [])))
-around-pec false xs ys zs = (xs, 258, λ y. append-assoc xs (y ∷ 258 ∷ []) (257 ∷ []))
-
 pub set-pec : (sh : Shape) (t : Message) (y b k : ℕ) → k + 3 ≡ length (traceAt sh t (y ∷ [])) → set (traceAt sh t (y ∷ [])) k b ≡ traceAt sh t (b ∷ [])
 set-pec sh t y b k e =
-    let (p, g, f) = around-pec (reads sh) (256 ∷ acked (front sh t)) (pick (writes sh) (256 ∷ (firstByte sh t + 1) ∷ 258 ∷ []) []) (laid (sh .received) (t .received)) in
+    let (p, g, f) = around-pec sh t in
     let n : length p ≡ k = omega (arith, e, ap length (f y), length-append p (y ∷ g ∷ 257 ∷ [])) in
     ap (λ (l : List ℕ). set l k b) (f y) ∙ set-at p y (g ∷ 257 ∷ []) b k n ∙ sym (f b)
 

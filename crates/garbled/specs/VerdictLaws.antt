@@ -40,7 +40,7 @@ same-last xs ys x y e =
       sym (getD-at xs x [] 0 (length xs) refl) ∙ ap (λ (l : List ℕ). getD l (length xs) 0) e ∙ getD-at ys y [] 0 (length xs) n,
     )
 
-bytes-are-bytes : (l : List ℕ) → Bytes (bytesIn l)
+pub bytes-are-bytes : (l : List ℕ) → Bytes (bytesIn l)
 bytes-are-bytes [] = tt
 bytes-are-bytes (x ∷ l) = go (ltb x 256) refl (bytes-are-bytes l)
   where

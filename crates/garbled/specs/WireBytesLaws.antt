@@ -1,8 +1,8 @@
 -- The bytes of a whole trace with PEC are those that the PEC covers, and the one in PEC's place.
-use mathlib.Core.Path.{_≡_, refl, sym, ap, ap₂, _∙_, subst}
+use mathlib.Core.Path.{_≡_, refl, sym, ap, ap₂, _∙_}
 use mathlib.Core.Bool.{Bool, true, false}
 use mathlib.Core.List.{List, [], _∷_, _++_, append-assoc, append-nil}
-use Prim.Native.Nat.{ℕ, _+_, _≤_, _<_}
+use Prim.Native.Nat.{ℕ, _+_, _<_}
 use native.Mathlib.Omega.{arith}
 use Rattle.lists.specs.Choice.{pick}
 use Rattle.lists.specs.Each.{Bytes}
@@ -12,7 +12,7 @@ use Rattle.trace.specs.ShapeLaws.{sane}
 use Rattle.trace.specs.Shapes.{shapeOf, writes, reads}
 use Rattle.trace.specs.Table.{Line, InTable, symbols}
 use Rattle.trace.specs.TableLaws.{row-means}
-use Rattle.trace.specs.Trace.{Message, laid, acked, ackOf, nacked, firstByte, front, bytes, inPlace, byTarget, byController, traceAt, Valid}
+use Rattle.trace.specs.Trace.{Message, laid, acked, ackOf, nacked, firstByte, front, bytes, byTarget, byController, traceAt, Valid}
 use Rattle.trace.specs.declared.shape.Shape.{Shape}
 use Rattle.scan.specs.BytesIn.{bytesIn}
 use Rattle.scan.specs.BytesInLaws.{byte-more, no-byte-more, bytes-append, bytes-acked}

@@ -1,9 +1,9 @@
--- Two lists of bytes in a row are one, a list whose every place holds a byte is one, and so are zeros. What holds of each element holds of
--- the one at an index, and what follows from it holds of each.
+-- Two lists of bytes in a row are one, a list whose every place holds a byte is one, and so are zeros, and bytes among which a byte is put.
+-- What holds of each element holds of the one at an index, and what follows from it holds of each.
 use mathlib.Core.List.{List, [], _∷_, _++_}
 use Prim.Native.Nat.{ℕ, zero, suc, _<_}
 use native.Mathlib.Omega.{arith}
-use lib.ListN.{getD, replicate}
+use lib.ListN.{getD, set, replicate}
 use Rattle.lists.specs.Each.{Each, Bytes}
 
 pub append-bytes : (xs ys : List ℕ) → Bytes xs → Bytes ys → Bytes (xs ++ ys)
@@ -14,6 +14,17 @@ append-bytes (x ∷ xs) ys h g = (h .0, append-bytes xs ys (h .1) g)
 pub all-bytes : (s : List ℕ) → ((i : ℕ) → getD s i 0 < 256) → Bytes s
 all-bytes [] h = tt
 all-bytes (x ∷ s) h = (h 0, all-bytes s (λ i. h (suc i)))
+
+-- what an index finds in a list of bytes is a byte
+pub byte-at : (xs : List ℕ) (i : ℕ) → Bytes xs → getD xs i 0 < 256
+byte-at [] i h = omega arith
+byte-at (x ∷ xs) zero h = h .0
+byte-at (x ∷ xs) (suc i) h = byte-at xs i (h .1)
+
+pub set-bytes : (xs : List ℕ) (i b : ℕ) → Bytes xs → b < 256 → Bytes (set xs i b)
+set-bytes [] i b h g = tt
+set-bytes (x ∷ xs) zero b h g = (g, h .1)
+set-bytes (x ∷ xs) (suc i) b h g = (h .0, set-bytes xs i b (h .1) g)
 
 pub zeros-bytes : (n : ℕ) → Bytes (replicate n 0)
 zeros-bytes zero = tt

@@ -55,6 +55,9 @@ xor-assoc = bin-ind (λ (n : ℕ). (b c : ℕ) → bitXor (bitXor n b) c ≡ bit
 pub xor-twice : (a b : ℕ) → bitXor a (bitXor a b) ≡ b
 xor-twice a b = sym (xor-assoc a a b) ∙ ap (λ (x : ℕ). bitXor x b) (xor-self a)
 
+pub xor-back : (a b : ℕ) → bitXor (bitXor a b) b ≡ a
+xor-back a b = xor-assoc a b b ∙ ap (bitXor a) (xor-self b) ∙ xor-zero-r a
+
 xor-swap : (a b c d : ℕ) → bitXor (bitXor a b) (bitXor c d) ≡ bitXor (bitXor a c) (bitXor b d)
 xor-swap a b c d = cc (xor-assoc a b (bitXor c d), xor-assoc b c d, xor-comm b c, xor-assoc c b d, xor-assoc a c (bitXor b d))
 
@@ -157,7 +160,7 @@ xor-le : (a b : ℕ) → bitXor a b ≤ a + b
 xor-le a b = omega (arith, xor-add-and a b)
 
 le-xor : (a b : ℕ) → a ≤ bitXor a b + b
-le-xor a b = let e : bitXor (bitXor a b) b ≡ a = cc (xor-assoc a b b, xor-self b, xor-zero-r a) in omega (arith, xor-le (bitXor a b) b)
+le-xor a b = omega (arith, xor-back a b, xor-le (bitXor a b) b)
 
 -- as a number a multiple is large: 256 * d, of which the other three terms take off 7 * d at most
 timesG-large : (d : ℕ) → 249 * d ≤ timesG d

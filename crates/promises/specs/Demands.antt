@@ -1,32 +1,32 @@
--- THE PAGE OF PROMISES: statements only. DemandsLaws has one inhabitant of each record, and so its proof.
+-- THE PAGE OF PROMISES: statements only. Each record has one inhabitant, and so its proof: in DemandsLaws, CatchesLaws, ChoosingLaws, ModulesLaws or MarkedLaws.
 -- ≡ is 'equal', ↔ 'if and only if', × 'and', ⊎ 'or', P → ⊥ 'not P', (x : A) × P 'there is an x with P'; getD l i 0 is number i of the list l.
 -- A parameter such as (contract : Wrote ..) is what a function's `ensures` says, word for word. It need not be believed: the code meets it.
 -- CONTRACTS: Leaves, Outcome, Wrote, declining, firstHalf, issuing, lookedUp, loses, messageOf, modelEnd, newController, nextFree, powered, protocolFor, receives, refreshed, reported, resumed, silentIn, started, starts, stepped, stops, supplies, traceOf.
--- BELIEVED: 1152 lines, without imports, comments and blanks. Crate/file, then the lines of each definition; src is a type of the code. tests/programs/believed.rs counts them.
--- lists/Choice: and 3, not 3, or 3, pick 3; lists/Each: Any 3, Bytes 3, Each 3; wire/AddressTable: Bit 4, Covers 2, covers 3, lets 4, table17 25; wire/Addresses: isFromTo 2, isListed 2, isPreassigned 2, isReserved 2;
--- wire/Symbols: ACK 2, NACK 2, START 2, STOP 2; wire/src: Address 1; pec/Pec: bitStep 2, pecFrom 3, pecOf 2, pecStep 2; pec/PecDivision: polynomial 2, polynomialFrom 3, timesG 2; catches/Changes: Came 5, FirstAndLast 2,
--- Flipped 2, RightPec 2, TwoBits 5, Within 7, bitOf 2, howMany 4, power 2; trace/Rows: message 2; trace/Table: InTable 2, Line 6, Row 22, TraceOf 2, lastProtocol 2, line 2, symbols 2; trace/Trace: Message 6, ackOf 3, acked 3,
--- inPlace 2, nacked 3; trace/src: Transaction 8; encode/Encode: encodeNumber 4; encode/src: Encoded 5; misfit/Cases: IsMisaddressed 2, IsMiscounted 2, IsOther 2, IsSwapped 2; scan/Answers: summary 3; scan/Because: AfterStart 2;
--- scan/BytesIn: bytesIn 3; scan/Fitting: BitSwapped 4, Breaks 4, CountTooHigh 4, CutAt 9, Fits 2, FitsNext 2, Member 2, OtherPec 3, ToHost 2, Whole 2, Wrong 2; scan/Numbers: decodeNumber 3, refusalNumber 12; scan/src: Decoded 4,
--- Refusal 13; decode/Outcome: Entered 2; garbled/Overwrite: HasData 3, overwritten 3, sentFrom 2; pool/Counts: count 3, one 2; pool/Digits: digit 2, plus 2; pool/Free: used 2; pool/NextFree: Next 4; pool/Picks: FreeAtEach 3,
--- Pick 3, Picked 3, Picks 3, latestOf 3; pool/Pools: member 2, unionOf 2, withAddress 4; pool/Start: barredPool 2, emptyPool 2, listedPool 2, reservedPool 2, startingPool 2; pool/src: Free 4, Pool 4; udid/Bytes: bytesFrom 3,
--- bytesOf 3, number 2, numberFrom 3, udidAt 2, udidBytes 2; udid/Udids: Fits 3, isFixed 2, sameUdid 2, value 2; udid/src: Udid 4; slots/Slots: heldAt 2; slots/src: Binding 6, Slots 7; module/Acknowledges: acked 3, getOrder 2;
--- module/Obeys: assignOrder 2, directedReset 2, heardAll 3, packet 2, prepareOrder 2, resetOrder 2; module/Packets: Begins 2, Known 7, PecDue 6, PowersOn 7, Reachable 2, Resets 7, kindOf 2; module/Receive: forRead 2, forWrite 2;
--- module/Reset: having 2; module/Resume: AsRecorded 9, resumedNumber 4; module/Says: afterAsking 3, asked 2, replyTo 2, says 3, sent 2; module/Supply: addressByte 2; module/src: Lasting 8, Module 7, Resumed 5;
--- commands/Choices: choiceIn 3, inEnd 7; commands/CommandTraces: ReplyOf 2, assignTrace 2, prepareTrace 2, replyTrace 3; commands/SameTrace: same 5; commands/src: Choice 4, Command 5, End 8, Handed 4, Reason 6;
--- arp/Account: bindIn 5, binds 7, knownIn 2, removals 7, removeIn 2, repliesFrom 5, unbindIn 5, unbindings 7; arp/Choosing: carriedFor 3, carriedOn 2, halvesOver 3, sending 2, sendingFor 3, stepsOver 3; arp/History: By 3,
--- Event 6, NoStart 7, heard 3, run 7; arp/Numbers: commandNumber 3, endNumber 7, is21 3, is21End 7, lookupNumber 6, unless21 2; arp/OneStep: Asks 3, Binds 8, BoundAt 3, Chooses 5, Continues 2, EndsWith 2, Hands 5, Keeps 4,
--- Removes 5, Replies 4, Rest 5, Same 2, Unbinds 5; arp/Reasons: Contested 2, MustPick 2, Reasons 7; arp/Replay: Table 3, handedOut 7, isBound 5, view 2; arp/RunPicks: isPicked 2, pickIn 5, picksOf 8; arp/SinceStart: BoundSince 9,
--- Completes 2, LeftSince 7, Removed 2, RepliedBy 2, Untaken 3; arp/State: withLast 2; arp/Waits: Waits 2; arp/src: Controller 8, Found 7, Reported 4, Stepped 4; arbitration/Among: Among 3; arbitration/Bits: bits 3, byteBits 3,
--- bytesRead 3, numberOf 3; arbitration/Wire: heard 3, later 3, level 3, next 3, staying 3; targets/ByteCases: EvenOrFlag 2, FixedAt 2, FixedOnTaken 2, SameAsEarlier 2, addressAt 2; targets/Cases: FirstOf 4, LengthIsBad 2, None 2;
--- targets/Records: addressByte 2, flagOf 2, recordCount 2, targetAt 2, targetsFrom 3, targetsOf 2, udidOf 2; targets/Reply: OnWire 3, coveredBytes 2, onWire 3, replyBytes 2, replyData 2, replyPec 2, sends 2, waiting 3;
--- targets/Target: Target 4, isResolved 2, mapTargets 3; bindings/src: ModelAnswer 9; report/Report: modelNumber 2; rule/Acknowledge: acknowledges 4, afterwards 2, answered 4, asking 2, assigningBytes 2, begins 4, gettingBytes 2,
--- onBus 2, preparingBytes 2, received 3, sentPart 5, somebody 3, standing 3; rule/AllBound: leftFree 2, movable 3, withFixed 3; rule/AnyBus: Bus 3, WorldOver 3, beginningOver 2, passOf 2, runOver 3, tookOver 3, turnOver 2;
--- rule/Bus: modelBus 2, pass 2; rule/Effect: addressIn 2, effect 5, isForMe 2; rule/Halves: runByHalves 3, tookByHalves 3; rule/PlainRule: Distinct 3, Ending 3, Given 3, Ruled 4, ascending 3, held 2, insert 3, isPickedFor 2,
--- next 5, pickAfter 2, plainChoice 2, rule 3, ruled 2; rule/Reading: OnePerUdid 3, RecordOf 2; rule/Sent: getsAmong 3, getsOnBus 2, getsOver 2, heardAfter 4, historyOnBus 2, oneIn 2, tracesOver 3; exchange/Exchange: Fitting 2,
--- Left 3, Sender 4, after 3, afterByte 2, afterBytes 3, anyAck 3, asked 2, blockLength 2, byteOn 2, bytesOn 3, exchange 2, hearing 2, line 3, put 2, reading 5, recordOf 2, recordsOf 2, rest 5, seen 3, sees 5, stopAll 2, walk 6;
--- exchange/Pass: Bench 2, getsOn 2, passOn 2, runOn 3, standsOn 2, tookOn 3, tracesOn 3, turnOn 2; exchange/Sending: askedAll 2, startedAgain 2; bus/Run: ModelEnd 4; promises/MarkedWords: Shows 2, holding 2, identifier 2,
--- windows 3.
+-- BELIEVED: 1155 lines, without imports, comments and blanks. Crate/file, then the lines of each definition; src is a type of the code. tests/programs/believed.rs counts them.
+-- lists/Choice: and 3, not 3, or 3, pick 3; lists/Each: Any 3, Bytes 3, Each 3; lists/Passing: passing 3; wire/AddressTable: Bit 4, Covers 2, covers 3, lets 4, table17 25; wire/Addresses: isFromTo 2, isListed 2, isPreassigned 2,
+-- isReserved 2; wire/Symbols: ACK 2, NACK 2, START 2, STOP 2; wire/src: Address 1; pec/Pec: bitStep 2, pecFrom 3, pecOf 2, pecStep 2; pec/PecDivision: polynomial 2, polynomialFrom 3, timesG 2; catches/Changes: Came 5,
+-- FirstAndLast 2, Flipped 2, RightPec 2, TwoBits 5, Within 7, bitOf 2, howMany 2, isFlipped 2, power 2; trace/Rows: message 2; trace/Table: InTable 2, Line 6, Row 22, TraceOf 2, lastProtocol 2, line 2, symbols 2;
+-- trace/Trace: Message 6, ackOf 3, acked 3, inPlace 2, nacked 3; trace/src: Transaction 8; encode/Encode: encodeNumber 4; encode/src: Encoded 5; misfit/Cases: IsMisaddressed 2, IsMiscounted 2, IsOther 2, IsSwapped 2;
+-- scan/Answers: summary 3; scan/Because: AfterStart 2; scan/BytesIn: bytesIn 3; scan/Fitting: BitSwapped 4, Breaks 4, CountTooHigh 4, CutAt 9, Fits 2, FitsNext 2, Member 2, OtherPec 3, ToHost 2, Whole 2, Wrong 2;
+-- scan/Numbers: decodeNumber 3, refusalNumber 12; scan/src: Decoded 4, Refusal 13; decode/Outcome: Entered 2; garbled/Places: Changed 3, MayDiffer 3, sentFrom 2; pool/Counts: count 3, one 2; pool/Digits: digit 2, plus 2;
+-- pool/Free: used 2; pool/NextFree: Next 4; pool/Picks: FreeAtEach 3, Pick 3, Picked 3, Picks 3, latestOf 3; pool/Pools: member 2, unionOf 2, withAddress 4; pool/Start: barredPool 2, emptyPool 2, listedPool 2, reservedPool 2,
+-- startingPool 2; pool/src: Free 4, Pool 4; udid/Bytes: bytesFrom 3, bytesOf 3, number 2, numberFrom 3, udidAt 2, udidBytes 2; udid/Udids: Fits 3, isFixed 2, sameUdid 2, value 2; udid/src: Udid 4; slots/Slots: heldAt 2;
+-- slots/src: Binding 6, Slots 7; module/Acknowledges: acked 3, getOrder 2; module/Obeys: assignOrder 2, directedReset 2, heardAll 3, packet 2, prepareOrder 2, resetOrder 2; module/Packets: Begins 2, Known 7, PecDue 6, PowersOn 7,
+-- Reachable 2, Resets 7, kindOf 2; module/Receive: forRead 2, forWrite 2; module/Reset: having 2; module/Resume: AsRecorded 9, resumedNumber 4; module/Says: afterAsking 3, asked 2, replyTo 2, says 3, sent 2;
+-- module/Supply: addressByte 2; module/src: Lasting 8, Module 7, Resumed 5; commands/Choices: choiceIn 3, inEnd 7; commands/CommandTraces: ReplyOf 2, assignTrace 2, prepareTrace 2, replyTrace 3; commands/SameTrace: same 5;
+-- commands/src: Choice 4, Command 5, End 8, Handed 4, Reason 6; arp/Account: bindIn 5, binds 7, knownIn 2, removals 7, removeIn 2, repliesFrom 5, unbindIn 5, unbindings 7; arp/Choosing: carriedFor 3, carriedOn 2, halvesOver 3,
+-- sending 2, sendingFor 3, stepsOver 3; arp/History: By 3, Event 6, NoStart 7, heard 3, run 7; arp/Numbers: commandNumber 3, endNumber 7, is21 3, is21End 7, lookupNumber 6, unless21 2; arp/OneStep: Asks 3, Binds 8, BoundAt 3,
+-- Chooses 5, Continues 2, EndsWith 2, Hands 5, Keeps 4, Removes 5, Replies 4, Rest 5, Same 2, Unbinds 5; arp/Reasons: Contested 2, MustPick 2, Reasons 7; arp/Replay: Table 3, handedOut 7, isBound 5, view 2;
+-- arp/RunPicks: isPicked 2, pickIn 5, picksOf 8; arp/SinceStart: BoundSince 9, Completes 2, LeftSince 7, Removed 2, RepliedBy 2, Untaken 3; arp/State: withLast 2; arp/Waits: Waits 2; arp/src: Controller 8, Found 7, Reported 4,
+-- Stepped 4; arbitration/Among: Among 3; arbitration/Bits: bits 3, byteBits 3, bytesRead 3, numberOf 3; arbitration/Wire: heard 3, later 3, level 3, next 3, staying 3; targets/ByteCases: EvenOrFlag 2, FixedAt 2, FixedOnTaken 2,
+-- SameAsEarlier 2, addressAt 2; targets/Cases: FirstOf 4, LengthIsBad 2, None 2; targets/Records: addressByte 2, flagOf 2, recordCount 2, targetAt 2, targetsFrom 3, targetsOf 2, udidOf 2; targets/Reply: OnWire 3, coveredBytes 2,
+-- onWire 3, replyBytes 2, replyData 2, replyPec 2, sends 2, waiting 3; targets/Target: Target 4, isResolved 2, mapTargets 3; bindings/src: ModelAnswer 9; report/Report: modelNumber 2; rule/Acknowledge: acknowledges 4,
+-- afterwards 2, answered 4, asking 2, assigningBytes 2, begins 4, gettingBytes 2, onBus 2, preparingBytes 2, received 3, sentPart 5, somebody 3, standing 3; rule/AllBound: leftFree 2, movable 3, withFixed 3; rule/AnyBus: Bus 3,
+-- WorldOver 3, beginningOver 2, passOf 2, runOver 3, tookOver 3, turnOver 2; rule/Bus: modelBus 2, pass 2; rule/Effect: addressIn 2, effect 5, isForMe 2; rule/Halves: runByHalves 3, tookByHalves 3; rule/PlainRule: Distinct 3,
+-- Ending 3, Given 3, Ruled 4, ascending 3, held 2, insert 3, isPickedFor 2, next 5, pickAfter 2, plainChoice 2, rule 3, ruled 2; rule/Reading: OnePerUdid 3, RecordOf 2; rule/Sent: getsAmong 3, getsOnBus 2, getsOver 2,
+-- heardAfter 4, historyOnBus 2, oneIn 2, tracesOver 3; exchange/Exchange: Fitting 2, Left 3, Sender 4, after 3, afterByte 2, afterBytes 3, anyAck 3, asked 2, blockLength 2, byteOn 2, bytesOn 3, exchange 2, hearing 2, line 3,
+-- put 2, reading 5, recordOf 2, recordsOf 2, rest 5, seen 3, sees 5, stopAll 2, walk 6; exchange/Pass: Bench 2, getsOn 2, passOn 2, runOn 3, standsOn 2, tookOn 3, tracesOn 3, turnOn 2; exchange/Sending: askedAll 2,
+-- startedAgain 2; bus/Run: ModelEnd 4; promises/MarkedWords: Shows 2, holding 2, identifier 2, windows 3.
 use mathlib.Core.Path.{_≡_}
 use mathlib.Core.Bool.{Bool, true, false}
 use mathlib.Core.List.{List, [], _∷_, _++_}
@@ -42,7 +42,7 @@ use Rattle.promises.specs.Words.{Asks, Binds, Continues, EndsWith, Repli
 use Rattle.promises.specs.Words.{EvenOrFlag, SameAsEarlier, FixedOnTaken, LengthIsBad, None, FirstOf, targetsOf, movable, leftFree, pass, Given, Ending, served, noneFree, Distinct, ruled, RecordOf, OnePerUdid, getsOnBus, historyOnBus, modelNumber, Leaves, modelEnd, ModelAnswer, nextFree, Next, At, AllUsed, Pick, Picks, latestOf, picksOf, FreeAtEach, Picked, identifier, holding, Shows}
 use Rattle.promises.specs.Words.{Module, Lasting, silentIn, starts, stops, loses, receives, supplies, powered, refreshed, resumed, resumedNumber, Ready, AsRecorded, having, heardAll, acked, prepareOrder, resetOrder, directedReset, assignOrder, getOrder, Begins, Reachable, Known, Resets, PowersOn, PecDue, says, afterAsking, asked, replyTo}
 use Rattle.promises.specs.Words.{firstHalf, issuing, declining, stepsOver, halvesOver, runByHalves, Step, Choose, Gone, Issue, Decline, Chosen, Reason, ByTwo, Reasons, Waits, withLast}
-use Rattle.promises.specs.Words.{timesG, polynomial, bytesIn, Whole, RightPec, Came, Within, TwoBits, FirstAndLast, howMany, HasData, overwritten}
+use Rattle.promises.specs.Words.{timesG, polynomial, bytesIn, Whole, RightPec, Came, Within, TwoBits, FirstAndLast, howMany, MayDiffer, Changed, sentFrom}
 use Rattle.promises.specs.Words.{onBus, effect, mapTargets, Among, beginningOver, runOver, modelBus, exchange, recordsOf, Fitting, afterBytes, askedAll, runOn, passOn, getsOn}
 
 -- ---- THE ADDRESSES: TABLE 17 OF SMBus 3.3.1, Appendix C
@@ -149,11 +149,11 @@ pub record Demand2 (protocol : ℕ) (pec : Bool) : Type 0 where
   -- and a trace is that of one message alone
   pub one : (m t : Message) (tr : List ℕ) → TraceOf protocol pec m tr → TraceOf protocol pec t tr → m ≡ t
 
--- ---- WHAT THE PEC CATCHES. A message is all its bytes, the PEC among them, which is the last. Bits go as on the wire: bit j of byte i, both from 0, the highest bit of a byte first, has the place 8 * i + j
--- among all. Came xs ys: xs was sent with its right PEC, and ys came, as many bytes. Within 8: at least one bit is flipped, and all that are lie among eight consecutive ones. TwoBits i j k l: bit j of byte i is
--- flipped, after it bit l of byte k, and no other. FirstAndLast: bit 0 of byte 0, and bit 7 of byte 15
+-- ---- WHAT THE PEC CATCHES. A message is all its bytes, the PEC among them, which is the last. Bits go as on the wire, without the ACKs: bit j of byte i, both from 0, the highest bit of a byte first, has
+-- the place 8 * i + j among all. Came xs ys: xs was sent with its right PEC, and ys came, as many bytes. Within 8: at least one bit is flipped, and all that are lie among eight consecutive ones. TwoBits i j k l: bit j
+-- of byte i is flipped, after it bit l of byte k, and no other. FirstAndLast: bit 0 of byte 0, and bit 7 of byte 15. howMany: how many bits are flipped
 pub record Catches : Type 0 where
-  -- a PEC is right if and only if all bytes, as a polynomial, are a multiple of x^8+x^2+x+1; so a change is not caught if and only if what it flips is one
+  -- a PEC is right if and only if all bytes, as a polynomial, are a multiple of x^8+x^2+x+1; so a change is not caught if and only if what it flips is a multiple
   pub right : (xs : List ℕ) → Bytes xs → 0 < length xs → RightPec xs ↔ ((q : ℕ) × (polynomial xs ≡ timesG q))
   pub escapes : (xs ys : List ℕ) → Came xs ys → RightPec ys ↔ ((q : ℕ) × (bitXor (polynomial xs) (polynomial ys) ≡ timesG q))
   -- caught: any change within eight consecutive bits, at any length. Any odd number of bits, at any length. Any two bits of up to 15 bytes in all
@@ -164,14 +164,17 @@ pub record Catches : Type 0 where
   pub sixteen : (xs ys : List ℕ) → Came xs ys → (i j k l : ℕ) → TwoBits xs ys i j k l → length xs ≡ 16 → RightPec ys ↔ FirstAndLast i j k l
   pub sixteen-is : (xs : List ℕ) × (ys : List ℕ) × Came xs ys × (length xs ≡ 16) × TwoBits xs ys 0 0 15 7 × RightPec ys
   pub pairs : (xs ys : List ℕ) → Came xs ys → (i j k l : ℕ) → TwoBits xs ys i j k l → RightPec ys ↔ (((8 * k + l) - (8 * i + j)) % 127 ≡ 0)
-  -- and not nine bits: these four of two bytes escape
+  -- nine bits are not: of two bytes there are four bits, among nine, that escape
   pub nine-bits : (xs : List ℕ) × (ys : List ℕ) × Came xs ys × (length xs ≡ 2) × Within 9 xs ys × (howMany xs ys ≡ 4) × RightPec ys
+  -- any bit of any message can be flipped, and any two bits
+  pub any-bit : (xs : List ℕ) → Bytes xs → RightPec xs → (i j : ℕ) → i < length xs → j < 8 → (ys : List ℕ) × Came xs ys × Within 8 xs ys
+  pub any-two : (xs : List ℕ) → Bytes xs → RightPec xs → (i j k l : ℕ) → j < 8 → l < 8 → 8 * i + j < 8 * k + l → k < length xs → (ys : List ℕ) × Came xs ys × TwoBits xs ys i j k l × (howMany xs ys ≡ 2)
 
 -- the decoder on a changed trace: 7 at PEC's place, and both buffers as they were
 abbrev pub Seven : List ℕ → List ℕ → List ℕ → Decoded → List ℕ → List ℕ → Type 0
 Seven tr sent₀ received₀ a sent received = (decodeNumber a ≡ (7, length tr - 3)) × (sent ≡ sent₀) × (received ≡ received₀)
 
--- tr was sent with PEC, and tr′ came, with as many bytes. It still is a whole trace of the protocol, with any byte in PEC's place: so it is where bytes were put over the command, the data and the PEC alone (Stays)
+-- tr was sent with PEC, and tr′ came, with as many bytes. It still is a whole trace of the protocol, with any byte in PEC's place; Stays says when
 pub record Garbled (protocol : ℕ) (m : Message) (tr tr′ sent₀ received₀ : List ℕ) (a : Decoded) (sent received : List ℕ) (sends : TraceOf protocol true m tr) (whole : Whole protocol true tr′)
     (as-many : length (bytesIn tr′) ≡ length (bytesIn tr)) (entered : Entered protocol true sent₀ received₀) (contract : Outcome protocol true tr′ sent₀ received₀ a sent received) : Type 0 where
   -- the verdict is the PEC's, on all bytes that stood on the wire
@@ -184,10 +187,17 @@ pub record Garbled (protocol : ℕ) (m : Message) (tr tr′ sent₀ received₀ 
   pub two-bits : (i j k l : ℕ) → TwoBits (bytesIn tr) (bytesIn tr′) i j k l → length (bytesIn tr) ≤ 15 → Seven tr′ sent₀ received₀ a sent received
   pub sixteen : (i j k l : ℕ) → TwoBits (bytesIn tr) (bytesIn tr′) i j k l → length (bytesIn tr) ≡ 16 → (FirstAndLast i j k l → ⊥) → Seven tr′ sent₀ received₀ a sent received
 
+-- Changed tr tr′: as many symbols, at each place the same, or a byte where tr has its command, its data or its PEC
 pub record Stays (protocol : ℕ) (m : Message) (tr : List ℕ) (sends : TraceOf protocol true m tr) : Type 0 where
-  -- bytes put over the command, data sent, data received and the PEC, any of them, in any order: the trace is whole, of as many symbols and bytes
-  pub stays : (es : List (ℕ × ℕ)) → Each (λ (e : ℕ × ℕ). HasData protocol m (length tr) (e .0) × (e .1 < 256)) es
-      → Whole protocol true (overwritten es tr) × (length (overwritten es tr) ≡ length tr) × (length (bytesIn (overwritten es tr)) ≡ length (bytesIn tr))
+  pub stays : (tr′ : List ℕ) → Changed protocol m tr tr′ → Whole protocol true tr′ × (length (bytesIn tr′) ≡ length (bytesIn tr))
+  -- so a change of these alone, within eight bits, or of two bits of up to 15 bytes, is 7
+  pub seven : (tr′ : List ℕ) → Changed protocol m tr tr′ → (Within 8 (bytesIn tr) (bytesIn tr′) ⊎ ((i : ℕ) × (j : ℕ) × (k : ℕ) × (l : ℕ) × TwoBits (bytesIn tr) (bytesIn tr′) i j k l × (length (bytesIn tr) ≤ 15)))
+      → (sent₀ received₀ : List ℕ) (a : Decoded) (sent received : List ℕ) → Entered protocol true sent₀ received₀ → Outcome protocol true tr′ sent₀ received₀ a sent received → Seven tr sent₀ received₀ a sent received
+  -- and these are the places of all of them: the command, data byte i sent, data byte i received, the PEC
+  pub command : 2 < protocol → MayDiffer protocol m (length tr) 3 × (getD tr 3 0 ≡ m .command)
+  pub sent : (i : ℕ) → i < length (m .sent) → MayDiffer protocol m (length tr) (sentFrom protocol + 2 * i) × (getD tr (sentFrom protocol + 2 * i) 0 ≡ getD (m .sent) i 0)
+  pub received : (i k : ℕ) → i < length (m .received) → k + 3 + 2 * (length (m .received) - i) ≡ length tr → MayDiffer protocol m (length tr) k × (getD tr k 0 ≡ getD (m .received) i 0)
+  pub pec : MayDiffer protocol m (length tr) (length tr - 3)
 
 -- ---- DEMAND 3: THE RUN OVER THE BUS, BIT BY BIT, ENDS AS THE PLAIN RULE DOES
 -- `given` are the bindings of the plain rule over the targets of the records s, `ending` is its end, `picked` its last pick

@@ -24,7 +24,7 @@ pub use Rattle.pec.specs.PecDivision.{timesG, polynomial}
 pub use Rattle.scan.specs.BytesIn.{bytesIn}
 pub use Rattle.scan.specs.Fitting.{Whole}
 pub use Rattle.catches.specs.Changes.{RightPec, Came, Within, TwoBits, FirstAndLast, howMany}
-pub use Rattle.garbled.specs.Overwrite.{HasData, overwritten}
+pub use Rattle.garbled.specs.Places.{sentFrom, MayDiffer, Changed}
 -- the controller
 pub use Rattle.pool.specs.NextFree.{nextFree, Next}
 pub use Rattle.pool.specs.Picks.{Pick, Picks, latestOf, FreeAtEach, Picked}

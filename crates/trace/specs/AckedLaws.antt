@@ -7,7 +7,7 @@ use native.Mathlib.Omega.{arith}
 use lib.ListN.{length, getD}
 use Rattle.trace.specs.Trace.{acked, nacked}
 
-double-suc : (i : ℕ) → 2 * suc i ≡ suc (suc (2 * i))
+pub double-suc : (i : ℕ) → 2 * suc i ≡ suc (suc (2 * i))
 double-suc i = omega arith
 
 pub double-suc-plus-one : (i : ℕ) → 2 * suc i + 1 ≡ suc (suc (2 * i + 1))

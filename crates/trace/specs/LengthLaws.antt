@@ -31,7 +31,7 @@ pub pec-symbols : (p : Bool) → 2 * pick p 1 0 ≡ pick p 2 0
 pec-symbols true = refl
 pec-symbols false = refl
 
-laid-length : (a : Part) (s : List ℕ) → length (laid a s) ≡ pick (isCounted a) 1 0 + length s
+pub laid-length : (a : Part) (s : List ℕ) → length (laid a s) ≡ pick (isCounted a) 1 0 + length s
 laid-length Nothing s = omega arith
 laid-length (Fixed k) s = omega arith
 laid-length Counted s = omega arith

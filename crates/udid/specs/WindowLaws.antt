@@ -7,13 +7,8 @@ use lib.ListN.{length, getD, take, drop, replicate, length-append, length-drop, 
 use lib.Seq.{drop-cons, drop-drop, drop-at, take-at, length-take-le, getD-append-add, getD-drop, getD-take}
 use borrow.Author.Tests.{le-leb, lt-leb}
 use Rattle.lists.specs.Each.{Bytes}
+pub use Rattle.lists.specs.EachLaws.{byte-at}
 use Rattle.udid.specs.Bytes.{number, numberFrom, bytesFrom, putAt}
-
--- a byte of a list of bytes, zero past its end
-pub byte-at : (s : List ℕ) (i : ℕ) → Bytes s → getD s i 0 < 256
-byte-at [] i h = omega arith
-byte-at (x ∷ s) zero h = h .0
-byte-at (x ∷ s) (suc i) h = byte-at s i (h .1)
 
 pub length-from : (s : List ℕ) (i n : ℕ) → length (bytesFrom s i n) ≡ n
 unfolding bytesFrom
