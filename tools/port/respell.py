@@ -43,8 +43,10 @@ def is_walk(path):
 def snake(name):
     if name in FACTS:
         return FACTS[name]
-    head, rest = name[0], re.sub(r"(?<=[a-z0-9])([A-Z])", lambda m: "_" + m[1].lower(), name[1:])
-    return (head + rest).replace("-", "_").replace("′", "'")
+    if not name[0].isupper():
+        # a type, a constructor or a fact keeps its capitals
+        name = re.sub(r"(?<=[a-z0-9])([A-Z])", lambda m: "_" + m[1].lower(), name)
+    return name.replace("-", "_").replace("′", "'")
 
 
 def code_and_comment(line, mark):

@@ -23,7 +23,7 @@ use Rattle.udid.specs.declared.Udid.{Udid}
 use Rattle.slots.specs.Slots.{held_at}
 use Rattle.slots.specs.declared.Binding.{Binding}
 use Rattle.slots.specs.declared.Binding.TheVariants.{Open, Bound, Claimed, Left}
-use Rattle.commands.specs.CommandTraces.{reply_trace, assign_trace, Reply_of}
+use Rattle.commands.specs.CommandTraces.{reply_trace, assign_trace, ReplyOf}
 use Rattle.commands.specs.SameTrace.{same}
 use Rattle.commands.specs.SameTraceLaws.{same_self, same_true}
 use Rattle.commands.specs.declared.command.Command.TheVariants.{Prepare, GetUdid, Assign}
@@ -42,7 +42,7 @@ use Rattle.arp.specs.PickedLaws.{byte_at_42}
 use Rattle.arp.specs.ReadingLaws.{replied_exactly, reply_cases, assign_cases}
 use Rattle.arp.specs.Replay.{Happened, Replied, Assigned, Other, Table, holds, is_bound, after, read_as, handed_out, happened, view}
 use Rattle.arp.specs.SinceStartLaws.{completes_is_read}
-use Rattle.arp.specs.Sound.{Pending_in}
+use Rattle.arp.specs.Sound.{PendingIn}
 use Rattle.arp.specs.Story.{Story, story}
 use Rattle.arp.specs.TableLaws.{event_view, view_is_table}
 use Rattle.arp.specs.declared.gone.Reported.{Reported}
@@ -59,7 +59,7 @@ replies_is_read tr u f = (there, λ e. back ((replied_exactly (Send GetUdid) tr 
         let b = both_true (ltb (get_or tr 42 0) 256) (same tr (reply_trace (udid_bytes u ++ get_or tr 42 0 ∷ []))) e in
         (replied_exactly (Send GetUdid) tr u f).1 (refl, (get_or tr 42 0, ltb-true (get_or tr 42 0) 256 b.0, same_true tr (reply_trace (udid_bytes u ++ get_or tr 42 0 ∷ [])) b.1))
 
-    back : Reply_of u tr → replies_from tr (Bound u) ≡ true
+    back : ReplyOf u tr → replies_from tr (Bound u) ≡ true
     back (b, h, q) =
         let n : length (udid_bytes u ++ b ∷ []) ≡ 17 = omega (arith, length-append (udid_bytes u) (b ∷ []), length_udid u) in
         let k : get_or tr 42 0 ≡ b = ap (λ (l : List ℕ). get_or l 42 0) q ∙ byte_at_42 (udid_bytes u ++ b ∷ []) n ∙ get_or_at (udid_bytes u) b [] 0 16 (length_udid u) in
@@ -189,7 +189,7 @@ module _ (occupied : Pool) (last : ℕ) (es : List Event) where
           go (inr q) = absurd (n ((completes_is_read occupied last es tr u c.0).1 (ap (λ (x : Handed). read_as x tr) k ∙ q)).1)
 
       small : c.0 < 128
-      small = (subst (Pending_in before) (handed_out_is_last occupied last es (Assign u c) k) (reached_good occupied last es).1).small
+      small = (subst (PendingIn before) (handed_out_is_last occupied last es (Assign u c) k) (reached_good occupied last es).1).small
 
       used_whole : tr ≡ whole_assign → (a : ℕ) → member later a ≡ pick (eqb a c.0) true (member before.pool a)
       used_whole q a = used_after (Received by tr) a ∙ ap (λ (x : Happened). (after occupied x (view before)).used a) (read_whole q)

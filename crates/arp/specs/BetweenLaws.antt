@@ -30,11 +30,11 @@ use Rattle.arp.specs.Choosing.{first_half, waiting_with, decided, decided_on, is
 use Rattle.arp.specs.Controller.{handed, counted, asked, issued, replied, changed, stepped}
 use Rattle.arp.specs.Gone.{left_at, is_bound_target, reported}
 use Rattle.arp.specs.GoneLaws.{report_rest}
-use Rattle.arp.specs.History.{Step, Choose, Event, Start, Received, Gone, Issue, Decline, No_start, run}
+use Rattle.arp.specs.History.{Step, Choose, Event, Start, Received, Gone, Issue, Decline, NoStart, run}
 use Rattle.arp.specs.Lookup.{looked_up}
 use Rattle.arp.specs.OutstandingLaws.{idle_half}
 use Rattle.arp.specs.SettleLaws.{decline_is, none_to_issue, none_to_decline}
-use Rattle.arp.specs.SinceStart.{Bound_since}
+use Rattle.arp.specs.SinceStart.{BoundSince}
 use Rattle.arp.specs.SinceStartLaws.{bound_since}
 use Rattle.arp.specs.WaitingLaws.{declined_unbound}
 use Rattle.arp.specs.Waits.{Waits}
@@ -102,8 +102,8 @@ module _ (occupied : Pool) (last : ℕ) (es : List Event) where
 -- ---- after a decline
 
 -- the pass was given up, and u is bound nowhere
-abbrev Given_up_on : Udid → Controller → Type 0
-Given_up_on u s = (s.last ≡ Wait Abandoned) × ((i : ℕ) → held_at s.slots i ≡ Bound u → ⊥)
+abbrev GivenUpOn : Udid → Controller → Type 0
+GivenUpOn u s = (s.last ≡ Wait Abandoned) × ((i : ℕ) → held_at s.slots i ≡ Bound u → ⊥)
 
 no_choice_then : (s : Controller) → s.last ≡ Wait Abandoned → Waits s → ⊥
 no_choice_then s e (u, a, x, k) = let z : Wait Abandoned ≡ Wait (Chosen u a x) = sym e ∙ k in zero_is_one (cc z)
@@ -111,28 +111,28 @@ no_choice_then s e (u, a, x, k) = let z : Wait Abandoned ≡ Wait (Chosen u a x)
 module _ (occupied : Pool) (last : ℕ) (u : Udid) where
   -- a report unbinds, and binds nobody
   report_binds_nobody : (es : List Event) (b i : ℕ) → held_at (run occupied last (Gone b ∷ es)).slots i ≡ Bound u → held_at (run occupied last es).slots i ≡ Bound u
-  unfolding Bound_since
+  unfolding BoundSince
   report_binds_nobody es b i k = (bound_since occupied last es u i).1 ((bound_since occupied last (Gone b ∷ es) u i).0 k).0
 
-  given_up_on : (es later : List Event) → No_start later → Given_up_on u (run occupied last es) → Given_up_on u (run occupied last (later ++ es))
+  given_up_on : (es later : List Event) → NoStart later → GivenUpOn u (run occupied last es) → GivenUpOn u (run occupied last (later ++ es))
   unfolding run
   given_up_on es [] n g = g
   given_up_on es (Start ∷ later) n g = absurd n
   given_up_on es (Received w tr ∷ later) n g =
-      let h : Given_up_on u (run occupied last (later ++ es)) = given_up_on es later n g in
-      subst (Given_up_on u) (sym (ap (λ (r : Stepped). r.state) (idle_half w (run occupied last (later ++ es)) tr (ap no_command h.0)))) h
+      let h : GivenUpOn u (run occupied last (later ++ es)) = given_up_on es later n g in
+      subst (GivenUpOn u) (sym (ap (λ (r : Stepped). r.state) (idle_half w (run occupied last (later ++ es)) tr (ap no_command h.0)))) h
   given_up_on es (Gone b ∷ later) n g =
-      let h : Given_up_on u (run occupied last (later ++ es)) = given_up_on es later n g in
+      let h : GivenUpOn u (run occupied last (later ++ es)) = given_up_on es later n g in
       ((report_rest (run occupied last (later ++ es)) b).last ∙ h.0, λ i k. h.1 i (report_binds_nobody (later ++ es) b i k))
   given_up_on es (Issue ∷ later) n g =
-      let h : Given_up_on u (run occupied last (later ++ es)) = given_up_on es later n g in
-      subst (Given_up_on u) (sym (ap (λ (r : Stepped). r.state) (none_to_issue (run occupied last (later ++ es)) (no_choice_then (run occupied last (later ++ es)) h.0)))) h
+      let h : GivenUpOn u (run occupied last (later ++ es)) = given_up_on es later n g in
+      subst (GivenUpOn u) (sym (ap (λ (r : Stepped). r.state) (none_to_issue (run occupied last (later ++ es)) (no_choice_then (run occupied last (later ++ es)) h.0)))) h
   given_up_on es (Decline ∷ later) n g =
-      let h : Given_up_on u (run occupied last (later ++ es)) = given_up_on es later n g in
-      subst (Given_up_on u) (sym (ap (λ (r : Stepped). r.state) (none_to_decline (run occupied last (later ++ es)) (no_choice_then (run occupied last (later ++ es)) h.0)))) h
+      let h : GivenUpOn u (run occupied last (later ++ es)) = given_up_on es later n g in
+      subst (GivenUpOn u) (sym (ap (λ (r : Stepped). r.state) (none_to_decline (run occupied last (later ++ es)) (no_choice_then (run occupied last (later ++ es)) h.0)))) h
 
   -- A DECLINE ENDS THE PASS, and its target is bound nowhere, until the next start
-  pub declined_until_start : (es : List Event) (a : Address) (x : Reason) → (run occupied last es).last ≡ Wait (Chosen u a x) → (later : List Event) → No_start later
+  pub declined_until_start : (es : List Event) (a : Address) (x : Reason) → (run occupied last es).last ≡ Wait (Chosen u a x) → (later : List Event) → NoStart later
       → ((run occupied last (later ++ Decline ∷ es)).last ≡ Wait Abandoned) × ((i : ℕ) → held_at (run occupied last (later ++ Decline ∷ es)).slots i ≡ Bound u → ⊥)
   unfolding run
   declined_until_start es a x e later n =

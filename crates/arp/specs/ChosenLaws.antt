@@ -17,7 +17,7 @@ use Rattle.udid.specs.declared.Udid.{Udid}
 use Rattle.picking.specs.Picking.{has_to_pick, chosen, own_address}
 use Rattle.picking.specs.PickingLaws.{ff_picks, chosen_picked, chosen_own, own_is, picks_is_taken}
 use Rattle.arp.specs.FreeAfterLaws.{next_is_walked, none_met}
-use Rattle.arp.specs.Replay.{free_after, given_to, None_to_pick}
+use Rattle.arp.specs.Replay.{free_after, given_to, NoneToPick}
 use Rattle.arp.specs.RunPicks.{is_picked}
 
 -- ---- that it was picked
@@ -51,23 +51,23 @@ chosen_is_given p last u b h = go (eqb b 0xFF) (is_fixed u) (member p (b / 2)) (
     go false false false e = refl
 
 -- no address to pick: the pool is full, and the byte is FFh or the target is movable with its own address in the pool
-pub none_given_exactly : (used : ℕ → Bool) (last : ℕ) (u : Udid) (b : ℕ) → (given_to used last u b ≡ AllUsed) ↔ None_to_pick used u b
+pub none_given_exactly : (used : ℕ → Bool) (last : ℕ) (u : Udid) (b : ℕ) → (given_to used last u b ≡ AllUsed) ↔ NoneToPick used u b
 none_given_exactly used last u b = (λ e. forth (eqb b 0xFF) refl (is_fixed u) refl (used (b / 2)) refl e, λ h. back_to h.1 h)
   where
     never : {a : Address} → At a ≡ AllUsed → ⊥
     never q = zero_is_one (cc q)
 
     forth : (x : Bool) → eqb b 0xFF ≡ x → (f : Bool) → is_fixed u ≡ f → (m : Bool) → used (b / 2) ≡ m
-        → pick x (free_after used last) (pick f (At (record { 0 = b / 2 })) (pick m (free_after used last) (At (record { 0 = b / 2 })))) ≡ AllUsed → None_to_pick used u b
+        → pick x (free_after used last) (pick f (At (record { 0 = b / 2 })) (pick m (free_after used last) (At (record { 0 = b / 2 })))) ≡ AllUsed → NoneToPick used u b
     forth true p f q m r e = ((none_met used last).0 e, inl (eqb-true b 0xFF p))
     forth false p true q m r e = absurd (never e)
     forth false p false q true r e = ((none_met used last).0 e, inr (q, r))
     forth false p false q false r e = absurd (never e)
 
-    full : None_to_pick used u b → free_after used last ≡ AllUsed
+    full : NoneToPick used u b → free_after used last ≡ AllUsed
     full h = (none_met used last).1 h.0
 
-    back_to : (b ≡ 0xFF) ⊎ ((is_fixed u ≡ false) × (used (b / 2) ≡ true)) → None_to_pick used u b → given_to used last u b ≡ AllUsed
+    back_to : (b ≡ 0xFF) ⊎ ((is_fixed u ≡ false) × (used (b / 2) ≡ true)) → NoneToPick used u b → given_to used last u b ≡ AllUsed
     back_to (inl q) h =
         ap (λ (x : Bool). pick x (free_after used last) (pick (is_fixed u) (At (record { 0 = b / 2 })) (pick (used (b / 2)) (free_after used last) (At (record { 0 = b / 2 }))))) (eq-eqb b 0xFF q)
         ∙ full h
@@ -80,5 +80,5 @@ none_given_exactly used last u b = (λ e. forth (eqb b 0xFF) refl (is_fixed u) r
         either false = refl
 
 -- 13: the pool is full, and the byte is FFh or the target is movable with its own address in the pool
-pub none_chosen_exactly : (p : Pool) (last : ℕ) (u : Udid) (b : ℕ) → last < 128 → (chosen p last u b ≡ AllUsed) ↔ None_to_pick (member p) u b
-none_chosen_exactly p last u b h = subst (λ (f : Free). (f ≡ AllUsed) ↔ None_to_pick (member p) u b) (sym (chosen_is_given p last u b h)) (none_given_exactly (member p) last u b)
+pub none_chosen_exactly : (p : Pool) (last : ℕ) (u : Udid) (b : ℕ) → last < 128 → (chosen p last u b ≡ AllUsed) ↔ NoneToPick (member p) u b
+none_chosen_exactly p last u b h = subst (λ (f : Free). (f ≡ AllUsed) ↔ NoneToPick (member p) u b) (sym (chosen_is_given p last u b h)) (none_given_exactly (member p) last u b)

@@ -21,7 +21,7 @@ use Rattle.arp.specs.Lookup.{seen, looked_up}
 use Rattle.arp.specs.Numbers.{lookup_number}
 use Rattle.arp.specs.OneStep.{Rest, Removes}
 use Rattle.arp.specs.Replay.{is_bound}
-use Rattle.arp.specs.Sound.{Sound_in, Unbound, Pending}
+use Rattle.arp.specs.Sound.{SoundIn, Unbound, Pending}
 use Rattle.arp.specs.SoundLaws.{sound_vacated}
 use Rattle.arp.specs.declared.gone.Reported.{Reported}
 use Rattle.arp.specs.declared.lookup.Found.{Found}
@@ -116,12 +116,12 @@ module _ (s : Controller) (a : ℕ) where
 
 -- ---- it keeps a sound state sound
 
-pub sound_left : (s : Controller) (a : ℕ) → Sound_in s → a < 128 → Sound_in (left_at s a)
+pub sound_left : (s : Controller) (a : ℕ) → SoundIn s → a < 128 → SoundIn (left_at s a)
 sound_left s a v h = sound_vacated s.occupied s.pool s.slots v a h Left refl
 
 -- ---- and an Assign that is outstanding stays so
 
-left_is_unbound : (s : Controller) (u w : Udid) (a : ℕ) → Sound_in s → held_at s.slots a ≡ Bound w → Unbound u s.slots → Unbound u (left_at s a).slots
+left_is_unbound : (s : Controller) (u w : Udid) (a : ℕ) → SoundIn s → held_at s.slots a ≡ Bound w → Unbound u s.slots → Unbound u (left_at s a).slots
 left_is_unbound s u w a v e n i = go (ℕ_discrete i a)
   where
     go : Dec (i ≡ a) → bound_to u (held_at (with_binding s.slots a Left) i) ≡ false
@@ -137,7 +137,7 @@ left_frees s a n e = go (member (starting_pool s.occupied) a) (ℕ_discrete n a)
     go false (yes q) = ap (member (without_address s.pool a)) q ∙ has_without_same s.pool a
     go false (no q) = has_without_other s.pool a n q ∙ e
 
-pub pending_left : (s : Controller) (u w : Udid) (n a : ℕ) → Sound_in s → held_at s.slots a ≡ Bound w → Pending s u n → Pending (left_at s a) u n
+pub pending_left : (s : Controller) (u w : Udid) (n a : ℕ) → SoundIn s → held_at s.slots a ≡ Bound w → Pending s u n → Pending (left_at s a) u n
 pending_left s u w n a v e p = record {
   small = p.small;
   unbound = left_is_unbound s u w a v e p.unbound;

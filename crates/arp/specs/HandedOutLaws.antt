@@ -27,7 +27,7 @@ use Rattle.arp.specs.RunPicks.{picked_then}
 use Rattle.arp.specs.TableLaws.{freed_as_replied, trace_view, view_is_table}
 use Rattle.arp.specs.WithheldLaws.{half_withheld}
 use Rattle.arp.specs.Story.{Story, withheld, next_by, issued_then, declined_then, onward, story}
-use Rattle.arp.specs.Sound.{Sound_in}
+use Rattle.arp.specs.Sound.{SoundIn}
 use Rattle.arp.specs.Bindings.{freed, bound}
 use Rattle.arp.specs.Controller.{handed, counted, asked, issued, replied, stepped, changed}
 use Rattle.picking.specs.Picking.{has_to_pick, chosen}
@@ -78,7 +78,7 @@ module _ (s : Controller) where
       go false = asked_command s
   assign_command u n (Refused w k) xs = asked_command s
 
-module _ (s : Controller) (v : Sound_in s) (small : s.picked < 128) where
+module _ (s : Controller) (v : SoundIn s) (small : s.picked < 128) where
   replied_command : (u : Udid) (b : ℕ) → (replied s u b).command ≡ assigning u (given_to (released s.occupied u (view s)).used s.picked u b)
   unfolding replied
   replied_command u b =

@@ -17,7 +17,7 @@ use Rattle.arp.specs.GoneLaws.{report_rest}
 use Rattle.arp.specs.HistoryLaws.{reached_good}
 use Rattle.hearing.specs.ToldLaws.{Known, told_known}
 use Rattle.arp.specs.Handing.{Kept}
-use Rattle.arp.specs.Sound.{Pending, Pending_in}
+use Rattle.arp.specs.Sound.{Pending, PendingIn}
 use Rattle.arp.specs.Bindings.{freed_at, freed, bound_at, bound}
 use Rattle.slots.specs.Finding.{find_from}
 use Rattle.arp.specs.Controller.{handed, counted, asked, issued, replied, changed, stepped}
@@ -145,7 +145,7 @@ pub claims_are_fixed : (occupied : Pool) (last : ℕ) (es : List Event) (u : Udi
 claims_are_fixed occupied last es u a e h = go (is_fixed u) refl
   where
     p : Pending (run occupied last es) u a.0
-    p = subst (Pending_in (run occupied last es)) e (reached_good occupied last es).1
+    p = subst (PendingIn (run occupied last es)) e (reached_good occupied last es).1
 
     go : (b : Bool) → is_fixed u ≡ b → is_fixed u ≡ true
     go true q = q

@@ -12,7 +12,7 @@ use Rattle.trace.specs.Shapes.{shape_of, forbidden}
 use Rattle.scan.specs.DataLaws.{length_lows}
 use Rattle.scan.specs.declared.answer.Refusal.TheVariants.{NotAcknowledged}
 use Rattle.scan.specs.AnswersLaws as step
-use Rattle.scan.specs.Answers.{Cut_at}
+use Rattle.scan.specs.Answers.{CutAt}
 use Rattle.scan.specs.Handed.{sent_data, received_data}
 use Rattle.scan.specs.Numbers.{decode_number}
 use Rattle.scan.specs.declared.answer.Decoded.{Decoded}
@@ -75,7 +75,7 @@ gives_exactly protocol tr n v f = (
 )
 
 -- 6, exactly if the trace is cut at that byte: the target's NACK where its ACK is due, then STOP
-pub six_exactly : (protocol : ℕ) (tr : List ℕ) (b : ℕ) → forbidden protocol true ≡ false → Gives protocol tr 6 b ↔ Cut_at (shape_of protocol) true tr b
+pub six_exactly : (protocol : ℕ) (tr : List ℕ) (b : ℕ) → forbidden protocol true ≡ false → Gives protocol tr 6 b ↔ CutAt (shape_of protocol) true tr b
 six_exactly protocol tr b f =
     let g = gives_exactly protocol tr 6 b f in
     let c = step.refused_exactly protocol (shape_of protocol) (sane protocol) true tr NotAcknowledged b in

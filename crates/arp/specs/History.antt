@@ -41,13 +41,13 @@ pub data Event : Type 0 where
   Decline : Event
 
 -- anything but a start
-abbrev pub No_start : List Event → Type 0
-No_start [] = Unit
-No_start (Start ∷ es) = ⊥
-No_start (Received w tr ∷ es) = No_start es
-No_start (Gone a ∷ es) = No_start es
-No_start (Issue ∷ es) = No_start es
-No_start (Decline ∷ es) = No_start es
+abbrev pub NoStart : List Event → Type 0
+NoStart [] = Unit
+NoStart (Start ∷ es) = ⊥
+NoStart (Received w tr ∷ es) = NoStart es
+NoStart (Gone a ∷ es) = NoStart es
+NoStart (Issue ∷ es) = NoStart es
+NoStart (Decline ∷ es) = NoStart es
 
 -- the state after events, the latest first, of a controller that was made with these addresses occupied and this last pick
 unfoldable pub run : Pool → ℕ → List Event → Controller

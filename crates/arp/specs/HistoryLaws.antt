@@ -30,7 +30,7 @@ use Rattle.arp.specs.SoundLaws.{sound_open, sound_freed, sound_bound}
 use Rattle.slots.specs.SlotsLaws.{open_all}
 use Rattle.arp.specs.ChangedLaws.{by_told}
 use Rattle.hearing.specs.ToldLaws.{Known}
-use Rattle.arp.specs.Sound.{Sound_in, Good, Pending, Pending_in, Good_state}
+use Rattle.arp.specs.Sound.{SoundIn, Good, Pending, PendingIn, GoodState}
 use Rattle.arp.specs.Bindings.{freed_at, freed, bound_at, bound}
 use Rattle.picking.specs.Claims.{is_held}
 use Rattle.slots.specs.Finding.{find_from}
@@ -56,7 +56,7 @@ use Rattle.hearing.specs.declared.told.Told.TheVariants.{Again, Over, GivenUp, R
 -- ---- each function of the step keeps the state good
 
 -- what is outstanding can be bound whatever is kept as the last
-pending_kept : (s : Controller) (k : Handed) → Pending_in s k → Pending_in (with_last s k) k
+pending_kept : (s : Controller) (k : Handed) → PendingIn s k → PendingIn (with_last s k) k
 pending_kept s (Send Prepare) p = tt
 pending_kept s (Send GetUdid) p = tt
 pending_kept s (Send (Assign u a)) p = record { small = p.small; unbound = p.unbound; fits = p.fits; free = p.free }
@@ -68,18 +68,18 @@ pending_kept s (Wait NotOutstanding) p = tt
 pending_kept s (Wait (Chosen u a r)) p = record { small = p.small; unbound = p.unbound; fits = p.fits; free = p.free }
 
 module _ (occupied : Pool) where
-  good_asked : (s : Controller) → Good occupied s → Good_state occupied (asked s).state
+  good_asked : (s : Controller) → Good occupied s → GoodState occupied (asked s).state
   unfolding asked
   good_asked s g = go (leb 128 s.gets) refl
     where
-      go : (t : Bool) → leb 128 s.gets ≡ t → Good_state occupied (pick t (handed s (Wait Abandoned)) (handed (counted s) (Send GetUdid))).state
+      go : (t : Bool) → leb 128 s.gets ≡ t → GoodState occupied (pick t (handed s (Wait Abandoned)) (handed (counted s) (Send GetUdid))).state
       go true e = (record { sound = g.sound; gets = g.gets; occupies = g.occupies; picked = g.picked }, tt)
       go false e = (record { sound = g.sound; gets = (let l = leb-false 128 s.gets e in omega arith); occupies = g.occupies; picked = g.picked }, tt)
 
-  good_ended : (s : Controller) → Good occupied s → Good_state occupied (handed s (Wait Ended)).state
+  good_ended : (s : Controller) → Good occupied s → GoodState occupied (handed s (Wait Ended)).state
   good_ended s g = (record { sound = g.sound; gets = g.gets; occupies = g.occupies; picked = g.picked }, tt)
 
-  good_abandoned : (s : Controller) → Good occupied s → Good_state occupied (handed s (Wait Abandoned)).state
+  good_abandoned : (s : Controller) → Good occupied s → GoodState occupied (handed s (Wait Abandoned)).state
   good_abandoned s g = (record { sound = g.sound; gets = g.gets; occupies = g.occupies; picked = g.picked }, tt)
 
   -- unbinding and binding change the pool and the slots alone
@@ -87,7 +87,7 @@ module _ (occupied : Pool) where
   unfolding freed
   good_freed s u g = go (ltb 127 (find_from u s.slots 128 0)) (sound_freed s u g.sound).0
     where
-      go : (t : Bool) → Sound_in (pick t s (freed_at s (find_from u s.slots 128 0))) → Good occupied (pick t s (freed_at s (find_from u s.slots 128 0)))
+      go : (t : Bool) → SoundIn (pick t s (freed_at s (find_from u s.slots 128 0))) → Good occupied (pick t s (freed_at s (find_from u s.slots 128 0)))
       go true v = g
       go false v = record { sound = v; gets = g.gets; occupies = g.occupies; picked = g.picked }
 
@@ -95,11 +95,11 @@ module _ (occupied : Pool) where
   unfolding bound
   good_bound s u a g p = go (ltb 127 a) (sound_bound s u a g.sound p.unbound p.fits p.small p.free)
     where
-      go : (t : Bool) → Sound_in (pick t s (bound_at s u a)) → Good occupied (pick t s (bound_at s u a))
+      go : (t : Bool) → SoundIn (pick t s (bound_at s u a)) → Good occupied (pick t s (bound_at s u a))
       go true v = g
       go false v = record { sound = v; gets = g.gets; occupies = g.occupies; picked = g.picked }
 
-  good_replied : (s : Controller) (u : Udid) (b : ℕ) → Good occupied s → Fits u → b < 256 → Good_state occupied (replied s u b).state
+  good_replied : (s : Controller) (u : Udid) (b : ℕ) → Good occupied s → Fits u → b < 256 → GoodState occupied (replied s u b).state
   unfolding replied
   good_replied s u b g f h = go (chosen (freed s u).pool (freed s u).picked u b) refl
     where
@@ -113,44 +113,44 @@ module _ (occupied : Pool) where
       either true a l = l
       either false a l = v.picked
 
-      go : (k : Free) → chosen (freed s u).pool (freed s u).picked u b ≡ k → Good_state occupied (issued (freed s u) u picks k).state
+      go : (k : Free) → chosen (freed s u).pool (freed s u).picked u b ≡ k → GoodState occupied (issued (freed s u) u picks k).state
       go (At a) e =
           let c = chosen_small_and_free (freed s u).pool (freed s u).picked u b a h e in
           (record { sound = v.sound; gets = v.gets; occupies = v.occupies; picked = either picks a.0 c.0 }, record { small = c.0; unbound = (sound_freed s u g.sound).1; fits = f; free = c.1 })
       go AllUsed e = (record { sound = v.sound; gets = v.gets; occupies = v.occupies; picked = v.picked }, tt)
 
-  pub step_keeps_good : (s : Controller) (tr : List ℕ) → Good_state occupied s → Good_state occupied (stepped s tr).state
+  pub step_keeps_good : (s : Controller) (tr : List ℕ) → GoodState occupied s → GoodState occupied (stepped s tr).state
   unfolding stepped
-  step_keeps_good s tr g = by_told (λ (t : Told). Good_state occupied (changed s t).state) s tr go
+  step_keeps_good s tr g = by_told (λ (t : Told). GoodState occupied (changed s t).state) s tr go
     where
-      go : (t : Told) → Known s.last tr t → Good_state occupied (changed s t).state
+      go : (t : Told) → Known s.last tr t → GoodState occupied (changed s t).state
       go Again h = good_asked s g.0
       go Over h = good_ended s g.0
       go GivenUp h = good_abandoned s g.0
       go (Reply u b) h = good_replied s u b g.0 h.0 h.1
-      go (Took u a) h = good_asked (bound s u a.0) (good_bound s u a.0 g.0 (subst (Pending_in s) h.0 g.1))
+      go (Took u a) h = good_asked (bound s u a.0) (good_bound s u a.0 g.0 (subst (PendingIn s) h.0 g.1))
       go Unasked h = g
 
   -- the first half alone keeps it good: an Assign that waits can be bound as one that is out
-  half_good : (r q : Stepped) → Halved r q → Good_state occupied q.state → Good_state occupied r.state
-  half_good r q (inl (e, n)) g = subst (λ (x : Stepped). Good_state occupied x.state) (sym e) g
+  half_good : (r q : Stepped) → Halved r q → GoodState occupied q.state → GoodState occupied r.state
+  half_good r q (inl (e, n)) g = subst (λ (x : Stepped). GoodState occupied x.state) (sym e) g
   half_good r q (inr (u, a, x, e, f)) g =
-      let p : Pending q.state u a.0 = subst (Pending_in q.state) (ap (λ (y : Stepped). y.state.last) f) g.1 in
-      subst (λ (y : Stepped). Good_state occupied y.state) (sym e)
+      let p : Pending q.state u a.0 = subst (PendingIn q.state) (ap (λ (y : Stepped). y.state.last) f) g.1 in
+      subst (λ (y : Stepped). GoodState occupied y.state) (sym e)
       (record { sound = g.0.sound; gets = g.0.gets; occupies = g.0.occupies; picked = g.0.picked }, record { small = p.small; unbound = p.unbound; fits = p.fits; free = p.free })
 
-  pub heard_keeps_good : (w : By) (s : Controller) (tr : List ℕ) → Good_state occupied s → Good_state occupied (heard w s tr).state
+  pub heard_keeps_good : (w : By) (s : Controller) (tr : List ℕ) → GoodState occupied s → GoodState occupied (heard w s tr).state
   heard_keeps_good w s tr g = half_good (heard w s tr) (stepped s tr) (heard_halved w s tr) (step_keeps_good s tr g)
 
   -- a choice that waits is issued, or declined
-  pub issue_keeps_good : (s : Controller) → Good_state occupied s → Good_state occupied (issuing s).state
+  pub issue_keeps_good : (s : Controller) → GoodState occupied s → GoodState occupied (issuing s).state
   unfolding issuing
   issue_keeps_good s g = go s.last refl g.1
     where
-      good : (k : Handed) → Pending_in s k → Good_state occupied (handed s k).state
+      good : (k : Handed) → PendingIn s k → GoodState occupied (handed s k).state
       good k p = (record { sound = g.0.sound; gets = g.0.gets; occupies = g.0.occupies; picked = g.0.picked }, pending_kept s k p)
 
-      go : (k : Handed) → s.last ≡ k → Pending_in s k → Good_state occupied (issued_for s (choice_in k)).state
+      go : (k : Handed) → s.last ≡ k → PendingIn s k → GoodState occupied (issued_for s (choice_in k)).state
       go (Send k) e p = g
       go (Wait Nothing) e p = g
       go (Wait Ended) e p = g
@@ -159,16 +159,16 @@ module _ (occupied : Pool) where
       go (Wait NotOutstanding) e p = g
       go (Wait (Chosen u a r)) e p = good (Send (Assign u a)) p
 
-  pub decline_keeps_good : (s : Controller) → Good_state occupied s → Good_state occupied (declining s).state
+  pub decline_keeps_good : (s : Controller) → GoodState occupied s → GoodState occupied (declining s).state
   unfolding declining
   decline_keeps_good s g = go (choice_in s.last)
     where
-      go : (c : Choice) → Good_state occupied (declined_for s c).state
+      go : (c : Choice) → GoodState occupied (declined_for s c).state
       go (Of u a) = good_abandoned s g.0
       go Absent = g
 
   -- a report changes an address alone, and what is outstanding stays so
-  pending_then : (s : Controller) (w : Udid) (a : ℕ) → Sound_in s → held_at s.slots a ≡ Bound w → (k : Handed) → Pending_in s k → Pending_in (left_at s a) k
+  pending_then : (s : Controller) (w : Udid) (a : ℕ) → SoundIn s → held_at s.slots a ≡ Bound w → (k : Handed) → PendingIn s k → PendingIn (left_at s a) k
   pending_then s w a v e (Send Prepare) p = tt
   pending_then s w a v e (Send GetUdid) p = tt
   pending_then s w a v e (Send (Assign u n)) p = pending_left s u w n.0 a v e p
@@ -179,20 +179,20 @@ module _ (occupied : Pool) where
   pending_then s w a v e (Wait NotOutstanding) p = tt
   pending_then s w a v e (Wait (Chosen u n r)) p = pending_left s u w n.0 a v e p
 
-  pub report_keeps_good : (s : Controller) (a : ℕ) → Good_state occupied s → Good_state occupied (reported s a).state
+  pub report_keeps_good : (s : Controller) (a : ℕ) → GoodState occupied s → GoodState occupied (reported s a).state
   report_keeps_good s a g = go (is_bound (held_at s.slots a)) refl
     where
-      at : (w : Udid) × (held_at s.slots a ≡ Bound w) → Good_state occupied (reported s a).state
+      at : (w : Udid) × (held_at s.slots a ≡ Bound w) → GoodState occupied (reported s a).state
       at (w, e) =
-          subst (λ (x : Controller). Good_state occupied x) (sym (ap (λ (r : Reported). r.state) (removed s a w e)))
+          subst (λ (x : Controller). GoodState occupied x) (sym (ap (λ (r : Reported). r.state) (removed s a w e)))
           (record { sound = sound_left s a g.0.sound (bound_small s.slots a w e); gets = g.0.gets; occupies = g.0.occupies; picked = g.0.picked }, pending_then s w a g.0.sound e s.last g.1)
 
-      go : (t : Bool) → is_bound (held_at s.slots a) ≡ t → Good_state occupied (reported s a).state
+      go : (t : Bool) → is_bound (held_at s.slots a) ≡ t → GoodState occupied (reported s a).state
       go true e = at (which_bound (held_at s.slots a) e)
-      go false e = subst (Good_state occupied) (sym (nothing_reported s a e)) g
+      go false e = subst (GoodState occupied) (sym (nothing_reported s a e)) g
 
   -- EVERY STATE
-  pub reached_good : (last : ℕ) (es : List Event) → Good_state occupied (run occupied last es)
+  pub reached_good : (last : ℕ) (es : List Event) → GoodState occupied (run occupied last es)
   unfolding run
   reached_good last [] = (record { sound = sound_open occupied; gets = omega arith; occupies = refl; picked = last_pick_small last }, tt)
   reached_good last (Start ∷ es) =
@@ -234,7 +234,7 @@ reached_invariant occupied last es = record {
     s : Controller
     s = run occupied last es
 
-    v : Sound_in (run occupied last es)
+    v : SoundIn (run occupied last es)
     v = (reached_good occupied last es).0.sound
 
     exact : (a : ℕ) → member (run occupied last es).pool a ≡ or (member (starting_pool occupied) a) (is_held (held_at (run occupied last es).slots a))

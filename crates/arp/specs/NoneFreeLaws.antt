@@ -20,7 +20,7 @@ use Rattle.arp.specs.Controller.{stepped}
 use Rattle.hearing.specs.Heard.{answer, sent_in, received_in}
 use Rattle.arp.specs.History.{Event, run, gets_sent}
 use Rattle.arp.specs.Numbers.{end_number, command_number}
-use Rattle.arp.specs.Replay.{Happened, Replied, Assigned, Other, Table, released, reply_in, assigns, assign_in, read_as, handed_out, table, again, given_to, None_to_pick, assigning, next_prepare, next_reply, next_command}
+use Rattle.arp.specs.Replay.{Happened, Replied, Assigned, Other, Table, released, reply_in, assigns, assign_in, read_as, handed_out, table, again, given_to, NoneToPick, assigning, next_prepare, next_reply, next_command}
 use Rattle.commands.specs.CommandTraces.{reply_trace}
 use Rattle.commands.specs.declared.command.Command.TheVariants.{Prepare, GetUdid, Assign}
 use Rattle.commands.specs.declared.command.End.{End}
@@ -105,7 +105,7 @@ module _ (occupied : Pool) (t : Table) (last n : ℕ) (u : Udid) where
 -- A STEP GIVES 13 exactly at a reply for which, with what its identifier was bound to freed, there is no address to pick
 pub step_13_by_table : (occupied : Pool) (last : ℕ) (es : List Event) (tr : List ℕ) (u : Udid)
     → ((stepped (run occupied last es) tr).command ≡ Wait (NoneFree u))
-    ↔ ((read_as (handed_out occupied last es) tr ≡ Replied u) × None_to_pick (released occupied u (table occupied last es)).used u (get_or (received_in 9 tr) 16 0))
+    ↔ ((read_as (handed_out occupied last es) tr ≡ Replied u) × NoneToPick (released occupied u (table occupied last es)).used u (get_or (received_in 9 tr) 16 0))
 step_13_by_table occupied last es tr u = (forth, back_to)
   where
     both : (next_command occupied (table occupied last es) (run occupied last es).picked (gets_sent occupied last es) (handed_out occupied last es) tr ≡ Wait (NoneFree u))
@@ -113,12 +113,12 @@ step_13_by_table occupied last es tr u = (forth, back_to)
     both = next_none occupied (table occupied last es) (run occupied last es).picked (gets_sent occupied last es) u (handed_out occupied last es) tr
 
     forth : (stepped (run occupied last es) tr).command ≡ Wait (NoneFree u)
-        → (read_as (handed_out occupied last es) tr ≡ Replied u) × None_to_pick (released occupied u (table occupied last es)).used u (get_or (received_in 9 tr) 16 0)
+        → (read_as (handed_out occupied last es) tr ≡ Replied u) × NoneToPick (released occupied u (table occupied last es)).used u (get_or (received_in 9 tr) 16 0)
     forth e =
         let h = both.0 (sym (handed_out_by_table occupied last es tr) ∙ e) in
         (h.0, (none_given_exactly (released occupied u (table occupied last es)).used (run occupied last es).picked u (get_or (received_in 9 tr) 16 0)).0 h.1)
 
-    back_to : (read_as (handed_out occupied last es) tr ≡ Replied u) × None_to_pick (released occupied u (table occupied last es)).used u (get_or (received_in 9 tr) 16 0)
+    back_to : (read_as (handed_out occupied last es) tr ≡ Replied u) × NoneToPick (released occupied u (table occupied last es)).used u (get_or (received_in 9 tr) 16 0)
         → (stepped (run occupied last es) tr).command ≡ Wait (NoneFree u)
     back_to h =
         handed_out_by_table occupied last es tr
@@ -130,24 +130,24 @@ module _ (occupied : Pool) (last : ℕ) (es : List Event) (tr : List ℕ) where
   step_13_by_story u f = (λ e. there (in_story.0 e), λ w. in_story.1 (back_to w))
     where
       in_story : ((stepped (run occupied last es) tr).command ≡ Wait (NoneFree u))
-          ↔ ((read_as (story occupied last es).command tr ≡ Replied u) × None_to_pick (released occupied u (story occupied last es).known).used u (get_or (received_in 9 tr) 16 0))
+          ↔ ((read_as (story occupied last es).command tr ≡ Replied u) × NoneToPick (released occupied u (story occupied last es).known).used u (get_or (received_in 9 tr) 16 0))
       in_story =
           subst (λ (w : Story). ((stepped (run occupied last es) tr).command ≡ Wait (NoneFree u))
-          ↔ ((read_as w.command tr ≡ Replied u) × None_to_pick (released occupied u w.known).used u (get_or (received_in 9 tr) 16 0))) (table_is_story occupied last es)
+          ↔ ((read_as w.command tr ≡ Replied u) × NoneToPick (released occupied u w.known).used u (get_or (received_in 9 tr) 16 0))) (table_is_story occupied last es)
           (step_13_by_table occupied last es tr u)
 
       byte : (b : ℕ) → b < 256 → tr ≡ reply_trace (udid_bytes u ++ b ∷ []) → get_or (received_in 9 tr) 16 0 ≡ b
       byte b h q = ap (λ (l : List ℕ). get_or (received_in 9 l) 16 0) q ∙ reply_byte_received u b f h
 
-      there : (read_as (story occupied last es).command tr ≡ Replied u) × None_to_pick (released occupied u (story occupied last es).known).used u (get_or (received_in 9 tr) 16 0) → Full occupied last es tr u
+      there : (read_as (story occupied last es).command tr ≡ Replied u) × NoneToPick (released occupied u (story occupied last es).known).used u (get_or (received_in 9 tr) 16 0) → Full occupied last es tr u
       there w =
           let r = (replied_exactly (story occupied last es).command tr u f).0 w.0 in
-          (r.0, (r.1.0, r.1.1, r.1.2, subst (None_to_pick (released occupied u (story occupied last es).known).used u) (byte r.1.0 r.1.1 r.1.2) w.1))
+          (r.0, (r.1.0, r.1.1, r.1.2, subst (NoneToPick (released occupied u (story occupied last es).known).used u) (byte r.1.0 r.1.1 r.1.2) w.1))
 
-      back_to : Full occupied last es tr u → (read_as (story occupied last es).command tr ≡ Replied u) × None_to_pick (released occupied u (story occupied last es).known).used u (get_or (received_in 9 tr) 16 0)
+      back_to : Full occupied last es tr u → (read_as (story occupied last es).command tr ≡ Replied u) × NoneToPick (released occupied u (story occupied last es).known).used u (get_or (received_in 9 tr) 16 0)
       back_to (k, (b, h, q, n)) = (
         (replied_exactly (story occupied last es).command tr u f).1 (k, (b, h, q)),
-        subst (None_to_pick (released occupied u (story occupied last es).known).used u) (sym (byte b h q)) n,
+        subst (NoneToPick (released occupied u (story occupied last es).known).used u) (sym (byte b h q)) n,
       )
 
 abbrev first : List (ℕ × List Udid) → ℕ × List Udid

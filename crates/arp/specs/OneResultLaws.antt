@@ -30,7 +30,7 @@ use Rattle.slots.specs.Finding.{bound_to}
 use Rattle.hearing.specs.Heard.{answer, received_in, is_get}
 use Rattle.commands.specs.Codes.{block_read}
 use Rattle.commands.specs.CommandTraces.{reply_trace, Reply}
-use Rattle.arp.specs.OneStep.{Gives, Hands, Asks, Chooses, Keeps, Same, Bound_at, Unbinds, Binds, Continues, Ends_with, Replies, Alike}
+use Rattle.arp.specs.OneStep.{Gives, Hands, Asks, Chooses, Keeps, Same, BoundAt, Unbinds, Binds, Continues, EndsWith, Replies, Alike}
 use Rattle.commands.specs.Requests.{message_of}
 use Rattle.slots.specs.Slots.{held_at}
 use Rattle.commands.specs.declared.command.Command.TheVariants.{GetUdid, Assign}
@@ -129,7 +129,7 @@ keeps_both s t v h g a = (
 pub continues_alike : (s : Controller) (r q : Stepped) → Continues s r → Continues s q → Alike r q
 continues_alike s r q h g = asks_both s r q h.0 g.0 (h.1.picked ∙ sym g.1.picked) (keeps_both s r.state q.state h.1 g.1)
 
-pub ends_alike : (s : Controller) (r q : Stepped) (k : Handed) → Ends_with s r k → Ends_with s q k → Alike r q
+pub ends_alike : (s : Controller) (r q : Stepped) (k : Handed) → EndsWith s r k → EndsWith s q k → Alike r q
 ends_alike s r q k h g = hands_both s r q k s.gets h.0 g.0 (h.1.picked ∙ sym g.1.picked) (keeps_both s r.state q.state h.1 g.1)
 
 same_both : (s t v : Controller) (a : ℕ) → Same s t a → Same s v a → Same v t a
@@ -171,10 +171,10 @@ module _ (slots : Slots) (u : Udid) where
           at b h k (yes q) = n (ap (held_at slots) (sym q) ∙ k)
           at b h k (no q) = f b (omega arith) k
 
-  bound_at : (a : ℕ) → Dec (Bound_at slots u a)
+  bound_at : (a : ℕ) → Dec (BoundAt slots u a)
   bound_at a = go (bound_here a) (below a)
     where
-      go : Dec (held_at slots a ≡ Bound u) → Dec ((b : ℕ) → b < a → held_at slots b ≡ Bound u → ⊥) → Dec (Bound_at slots u a)
+      go : Dec (held_at slots a ≡ Bound u) → Dec ((b : ℕ) → b < a → held_at slots b ≡ Bound u → ⊥) → Dec (BoundAt slots u a)
       go (yes e) (yes f) = yes (record { here = e; lowest = f })
       go (no n) f = no (λ w. n w.here)
       go (yes e) (no n) = no (λ w. n w.lowest)
@@ -182,11 +182,11 @@ module _ (slots : Slots) (u : Udid) where
 unbinds_both : (u : Udid) (s t v : Controller) → Unbinds u s t → Unbinds u s v → (a : ℕ) → Same v t a
 unbinds_both u s t v h g a = go (bound_at s.slots u a)
   where
-    used : Bound_at s.slots u a → (b : Bool) → member (starting_pool s.occupied) a ≡ b → member t.pool a ≡ member v.pool a
+    used : BoundAt s.slots u a → (b : Bool) → member (starting_pool s.occupied) a ≡ b → member t.pool a ≡ member v.pool a
     used w true e = h.stays a w e ∙ sym (g.stays a w e)
     used w false e = h.out a w e ∙ sym (g.out a w e)
 
-    go : Dec (Bound_at s.slots u a) → Same v t a
+    go : Dec (BoundAt s.slots u a) → Same v t a
     go (yes w) = (h.there a w ∙ sym (g.there a w), used w (member (starting_pool s.occupied) a) refl)
     go (no n) = same_both s t v a (h.elsewhere a n) (g.elsewhere a n)
 

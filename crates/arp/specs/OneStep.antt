@@ -72,16 +72,16 @@ abbrev pub Same : Controller → Controller → ℕ → Type 0
 Same s t a = (held_at t.slots a ≡ held_at s.slots a) × (member t.pool a ≡ member s.pool a)
 
 -- the address that an identifier is bound to: the lowest one, and the only one in every state that is reached
-pub record Bound_at (slots : Slots) (u : Udid) (a : ℕ) : Type 0 where
+pub record BoundAt (slots : Slots) (u : Udid) (a : ℕ) : Type 0 where
   pub here : held_at slots a ≡ Bound u
   pub lowest : (b : ℕ) → b < a → held_at slots b ≡ Bound u → ⊥
 
 -- an identifier that was bound is unbound: its address is open, and out of the pool unless the starting pool has it; every other address is as it was
 pub record Unbinds (u : Udid) (s t : Controller) : Type 0 where
-  pub there : (a : ℕ) → Bound_at s.slots u a → held_at t.slots a ≡ Open
-  pub out : (a : ℕ) → Bound_at s.slots u a → member (starting_pool s.occupied) a ≡ false → member t.pool a ≡ false
-  pub stays : (a : ℕ) → Bound_at s.slots u a → member (starting_pool s.occupied) a ≡ true → member t.pool a ≡ member s.pool a
-  pub elsewhere : (a : ℕ) → (Bound_at s.slots u a → ⊥) → Same s t a
+  pub there : (a : ℕ) → BoundAt s.slots u a → held_at t.slots a ≡ Open
+  pub out : (a : ℕ) → BoundAt s.slots u a → member (starting_pool s.occupied) a ≡ false → member t.pool a ≡ false
+  pub stays : (a : ℕ) → BoundAt s.slots u a → member (starting_pool s.occupied) a ≡ true → member t.pool a ≡ member s.pool a
+  pub elsewhere : (a : ℕ) → (BoundAt s.slots u a → ⊥) → Same s t a
 
 -- the address is claimed by two if it is barred, or a target was bound there just before, or it was claimed; else it is bound to the identifier.
 -- It is in the pool then, and every other address is as it was, and the last pick
@@ -115,8 +115,8 @@ abbrev pub Continues : Controller → Stepped → Type 0
 Continues s r = Asks s r × Keeps s r.state
 
 -- the pass ends with k, and what was bound stands
-abbrev pub Ends_with : Controller → Stepped → Handed → Type 0
-Ends_with s r k = Hands s r k s.gets × Keeps s r.state
+abbrev pub EndsWith : Controller → Stepped → Handed → Type 0
+EndsWith s r k = Hands s r k s.gets × Keeps s r.state
 
 -- a reply with this identifier and this address byte: the identifier is unbound first, then an address is chosen
 pub record Replies (s : Controller) (u : Udid) (b : ℕ) (r : Stepped) : Type 0 where

@@ -44,7 +44,7 @@ use Rattle.picking.specs.Picking.{has_to_pick, chosen}
 use Rattle.hearing.specs.Heard.{answer, sent_in, is_assign}
 use Rattle.commands.specs.Codes.{block_write}
 use Rattle.commands.specs.CommandTraces.{prepare_trace, reply_trace, assign_trace}
-use Rattle.arp.specs.OneStep.{Gives, Hands, Asks, Chooses, Keeps, Bound_at, Unbinds, Binds, Continues, Ends_with, Replies}
+use Rattle.arp.specs.OneStep.{Gives, Hands, Asks, Chooses, Keeps, BoundAt, Unbinds, Binds, Continues, EndsWith, Replies}
 use Rattle.arp.specs.Replay.{assigning}
 use Rattle.slots.specs.Slots.{Sized128, held_at, with_binding}
 use Rattle.commands.specs.declared.command.Command.TheVariants.{Prepare, GetUdid, Assign}
@@ -89,7 +89,7 @@ keeps_asked s = go (leb 128 s.gets)
 continues : (s : Controller) → Continues s (asked s)
 continues s = (asks s s refl refl, keeps_asked s)
 
-ends_with : (s : Controller) (k : Handed) → Ends_with s (handed s k) k
+ends_with : (s : Controller) (k : Handed) → EndsWith s (handed s k) k
 ends_with s k = (hands s s k s.gets refl refl, record { slots = refl; pool = refl; picked = refl })
 
 -- ---- unbinding
@@ -114,15 +114,15 @@ module _ (s : Controller) (u : Udid) (size : Sized128 s.slots) where
   unbinds_none : Nowhere u s.slots 0 → Unbinds u s s
   unbinds_none n = record { there = λ a w. absurd (gone a w (dec_lt a 128)); out = λ a w q. absurd (gone a w (dec_lt a 128)); stays = λ a w q. refl; elsewhere = λ a w. (refl, refl) }
     where
-      gone : (a : ℕ) → Bound_at s.slots u a → Dec (a < 128) → ⊥
+      gone : (a : ℕ) → BoundAt s.slots u a → Dec (a < 128) → ⊥
       gone a w (yes h) = never (held_at s.slots a) (n a (omega arith) h) w.here
       gone a w (no h) = open_is_not_bound (held_at s.slots a) u (held_above_is_open s.slots a (omega arith)) w.here
 
   module _ (f : ℕ) (h : f < 128) (e : bound_to u (held_at s.slots f) ≡ true) (below : (j : ℕ) → j < f → bound_to u (held_at s.slots j) ≡ false) where
-    found : Bound_at s.slots u f
+    found : BoundAt s.slots u f
     found = record { here = bound_to_is_bound u (held_at s.slots f) e; lowest = λ b l q. never (held_at s.slots b) (below b l) q }
 
-    it : (a : ℕ) → Bound_at s.slots u a → a ≡ f
+    it : (a : ℕ) → BoundAt s.slots u a → a ≡ f
     it a w = go (dec_lt a f) (dec_lt f a)
       where
         go : Dec (a < f) → Dec (f < a) → a ≡ f
@@ -135,7 +135,7 @@ module _ (s : Controller) (u : Udid) (size : Sized128 s.slots) where
       there = λ a w. ap (held_at (with_binding s.slots f Open)) (it a w) ∙ held_same s.slots f Open size h;
       out = λ a w q. ap (member (freed_at s f).pool) (it a w) ∙ ap (then f) (ap (member (starting_pool s.occupied)) (sym (it a w)) ∙ q) ∙ has_without_same s.pool f;
       stays = λ a w q. ap (then a) (ap (member (starting_pool s.occupied)) (sym (it a w)) ∙ q);
-      elsewhere = λ a n. other a (λ q. n (subst (Bound_at s.slots u) (sym q) found)) (member (starting_pool s.occupied) f);
+      elsewhere = λ a n. other a (λ q. n (subst (BoundAt s.slots u) (sym q) found)) (member (starting_pool s.occupied) f);
     }
       where
         then : ℕ → Bool → Bool
@@ -309,26 +309,26 @@ module _ (s : Controller) (tr : List ℕ) where
   prepare_accepted e q = subst (Continues s) (sym (told_is_changed s tr (Send Prepare) Again e (traces.prepare_accepted tr (q ∙ sym (prepare_symbols []))))) (continues s)
 
   -- answer 6: the pass ends, nobody there
-  pub prepare_nobody : s.last ≡ Send Prepare → (b : ℕ) → Gives 1 tr 6 b → Ends_with s (stepped s tr) (Wait Ended)
+  pub prepare_nobody : s.last ≡ Send Prepare → (b : ℕ) → Gives 1 tr 6 b → EndsWith s (stepped s tr) (Wait Ended)
   prepare_nobody e b g =
-      subst (λ (r : Stepped). Ends_with s r (Wait Ended)) (sym (told_is_changed s tr (Send Prepare) Over e (traces.prepare_nobody tr b ((six_exactly 1 tr b refl).0 g)))) (ends_with s (Wait Ended))
+      subst (λ (r : Stepped). EndsWith s r (Wait Ended)) (sym (told_is_changed s tr (Send Prepare) Over e (traces.prepare_nobody tr b ((six_exactly 1 tr b refl).0 g)))) (ends_with s (Wait Ended))
 
   -- any other: 14
-  pub prepare_other : s.last ≡ Send Prepare → (tr ≡ prepare_trace → ⊥) → ((b : ℕ) → Gives 1 tr 6 b → ⊥) → Ends_with s (stepped s tr) (Wait Abandoned)
+  pub prepare_other : s.last ≡ Send Prepare → (tr ≡ prepare_trace → ⊥) → ((b : ℕ) → Gives 1 tr 6 b → ⊥) → EndsWith s (stepped s tr) (Wait Abandoned)
   prepare_other e n m =
-      subst (λ (r : Stepped). Ends_with s r (Wait Abandoned))
+      subst (λ (r : Stepped). EndsWith s r (Wait Abandoned))
       (sym (told_is_changed s tr (Send Prepare) GivenUp e (traces.prepare_other tr (λ q. n (q ∙ prepare_symbols [])) (λ b c. m b ((six_exactly 1 tr b refl).1 c)))))
       (ends_with s (Wait Abandoned))
 
   -- Get UDID: a complete reply whose count is not 17: the pass ends
-  pub get_count : s.last ≡ Send GetUdid → (xs : List ℕ) → Bytes xs → length xs ≤ 255 → (length xs ≡ 17 → ⊥) → tr ≡ reply_trace xs → Ends_with s (stepped s tr) (Wait Ended)
+  pub get_count : s.last ≡ Send GetUdid → (xs : List ℕ) → Bytes xs → length xs ≤ 255 → (length xs ≡ 17 → ⊥) → tr ≡ reply_trace xs → EndsWith s (stepped s tr) (Wait Ended)
   get_count e xs h l n q =
-      subst (λ (r : Stepped). Ends_with s r (Wait Ended)) (sym (told_is_changed s tr (Send GetUdid) Over e (traces.get_count tr xs h l (q ∙ sym (reply_symbols xs)) n))) (ends_with s (Wait Ended))
+      subst (λ (r : Stepped). EndsWith s r (Wait Ended)) (sym (told_is_changed s tr (Send GetUdid) Over e (traces.get_count tr xs h l (q ∙ sym (reply_symbols xs)) n))) (ends_with s (Wait Ended))
 
   -- answer 6 at byte 0, 1 or 2: the pass ends
-  pub get_nobody : s.last ≡ Send GetUdid → (b : ℕ) → b < 3 → Gives 9 tr 6 b → Ends_with s (stepped s tr) (Wait Ended)
+  pub get_nobody : s.last ≡ Send GetUdid → (b : ℕ) → b < 3 → Gives 9 tr 6 b → EndsWith s (stepped s tr) (Wait Ended)
   get_nobody e b l g =
-      subst (λ (r : Stepped). Ends_with s r (Wait Ended)) (sym (told_is_changed s tr (Send GetUdid) Over e (traces.get_nobody tr b ((six_exactly 9 tr b refl).0 g) l))) (ends_with s (Wait Ended))
+      subst (λ (r : Stepped). EndsWith s r (Wait Ended)) (sym (told_is_changed s tr (Send GetUdid) Over e (traces.get_nobody tr b ((six_exactly 9 tr b refl).0 g) l))) (ends_with s (Wait Ended))
 
   -- any other refusal, another address or another command: Get UDID again
   pub get_again : s.last ≡ Send GetUdid → ((xs : List ℕ) → Bytes xs → length xs ≤ 255 → tr ≡ reply_trace xs → ⊥) → ((b : ℕ) → b < 3 → Gives 9 tr 6 b → ⊥)

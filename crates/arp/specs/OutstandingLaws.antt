@@ -22,7 +22,7 @@ use Rattle.picking.specs.Picking.{has_to_pick, chosen}
 use Rattle.arp.specs.Choosing.{decided_on, first_half, issued_for, issuing, declined_for, declining}
 use Rattle.commands.specs.Choices.{choice_in}
 use Rattle.arp.specs.ChoosingLaws.{refuses_the_same, keeps_the_same}
-use Rattle.arp.specs.History.{By, Step, Choose, Event, Start, Received, Gone, Issue, Decline, No_start, heard, run}
+use Rattle.arp.specs.History.{By, Step, Choose, Event, Start, Received, Gone, Issue, Decline, NoStart, heard, run}
 use Rattle.commands.specs.declared.choice.Choice.{Choice}
 use Rattle.commands.specs.declared.choice.Choice.TheVariants.{Of, Absent}
 use Rattle.arp.specs.Numbers.{end_number, command_number, is21_end, is21, unless21}
@@ -214,7 +214,7 @@ none_to_decline : (s : Controller) → choice_in s.last ≡ Absent → (declinin
 unfolding declining
 none_to_decline s e = ap (λ (c : Choice). (declined_for s c).state) e
 
-unstarted : (occupied : Pool) (last : ℕ) (es : List Event) → No_start es → run occupied last es ≡ new_controller occupied last
+unstarted : (occupied : Pool) (last : ℕ) (es : List Event) → NoStart es → run occupied last es ≡ new_controller occupied last
 unfolding run
 unstarted occupied last [] n = refl
 unstarted occupied last (Start ∷ es) n = absurd n
@@ -225,7 +225,7 @@ unstarted occupied last (Decline ∷ es) n = ap (λ (s : Controller). (declining
 unstarted occupied last (Gone a ∷ es) n = ap (λ (s : Controller). (reported s a).state) (unstarted occupied last es n) ∙ nothing_reported (new_controller occupied last) a (ap is_bound (open_all a))
 
 -- EVERY STEP GIVES 21, and the controller stays new, whatever is reported
-pub refused_before_start : (occupied : Pool) (last : ℕ) (es : List Event) → No_start es → (tr : List ℕ)
+pub refused_before_start : (occupied : Pool) (last : ℕ) (es : List Event) → NoStart es → (tr : List ℕ)
     → (run occupied last es ≡ new_controller occupied last) × (command_number (stepped (run occupied last es) tr).command ≡ (21, []) ∷ [])
 refused_before_start occupied last es n tr =
     (unstarted occupied last es n, ap (λ (s : Controller). command_number (stepped s tr).command) (unstarted occupied last es n) ∙ ap command_number (idle_gives_21 (new_controller occupied last) tr refl).1)

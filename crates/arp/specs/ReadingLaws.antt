@@ -26,8 +26,8 @@ use Rattle.hearing.specs.Heard.{answer, sent_in, received_in, is_get, is_assign}
 use Rattle.commands.specs.Codes.{block_read, block_write}
 use Rattle.arp.specs.Replay.{Happened, Replied, Assigned, Other, reply_in, assigns, assign_in, read_as}
 use Rattle.commands.specs.Requests.{assign_data, message_of, trace_of}
-use Rattle.commands.specs.CommandTraces.{reply_trace, assign_trace, Reply_of}
-use Rattle.arp.specs.Reading.{Of_trace, Reading}
+use Rattle.commands.specs.CommandTraces.{reply_trace, assign_trace, ReplyOf}
+use Rattle.arp.specs.Reading.{OfTrace, Reading}
 use Rattle.commands.specs.declared.command.Command.TheVariants.{Prepare, GetUdid, Assign}
 use Rattle.commands.specs.declared.command.Handed.{Handed}
 use Rattle.commands.specs.declared.command.Handed.TheVariants.{Send, Wait}
@@ -100,24 +100,24 @@ read_as_reply_is_get_udid tr u e = only (answer 9 tr) refl e
 
 -- ---- no trace is a start or a report
 
-reply_of_trace : (d : Decoded) (xs : List ℕ) → Of_trace (reply_in d xs)
+reply_of_trace : (d : Decoded) (xs : List ℕ) → OfTrace (reply_in d xs)
 reply_of_trace (Done t) xs = go (and (eqb t.address.0 0x61) (eqb t.command 0x03)) (eqb t.received 17)
   where
-    go : (p q : Bool) → Of_trace (pick p (pick q (Replied (udid_at xs 0)) Other) Other)
+    go : (p q : Bool) → OfTrace (pick p (pick q (Replied (udid_at xs 0)) Other) Other)
     go true true = tt
     go true false = tt
     go false q = tt
 reply_of_trace (Refused w k) xs = tt
 
-assign_of_trace : (u : Udid) (a : ℕ) (d : Decoded) (xs : List ℕ) → Of_trace (assign_in u a d xs)
+assign_of_trace : (u : Udid) (a : ℕ) (d : Decoded) (xs : List ℕ) → OfTrace (assign_in u a d xs)
 assign_of_trace u a (Done t) xs = go (and (and (eqb t.address.0 0x61) (eqb t.command 0x04)) (and (eqb t.sent 17) (assigns u a xs)))
   where
-    go : (p : Bool) → Of_trace (pick p (Assigned u a) Other)
+    go : (p : Bool) → OfTrace (pick p (Assigned u a) Other)
     go true = tt
     go false = tt
 assign_of_trace u a (Refused w k) xs = tt
 
-pub read_of_trace : (k : Handed) (tr : List ℕ) → Of_trace (read_as k tr)
+pub read_of_trace : (k : Handed) (tr : List ℕ) → OfTrace (read_as k tr)
 read_of_trace (Send GetUdid) tr = reply_of_trace (answer 9 tr) (received_in 9 tr)
 read_of_trace (Send (Assign u a)) tr = assign_of_trace u a.0 (answer 8 tr) (sent_in 8 tr)
 read_of_trace (Send Prepare) tr = tt
@@ -146,7 +146,7 @@ module _ (u : Udid) (b : ℕ) (f : Fits u) (h : b < 256) where
       ∙ ap (λ (l : List ℕ). get_or l 16 0) (decoded_back 9 (message_of (Send GetUdid) (udid_bytes u ++ b ∷ [])) (valid_get (udid_bytes u ++ b ∷ []) reply_bytes (omega (arith, reply_length)))).2
       ∙ get_or_at (udid_bytes u) b [] 0 16 (length_udid u)
 
-reply_only : (tr : List ℕ) (u : Udid) → read_as (Send GetUdid) tr ≡ Replied u → Reply_of u tr
+reply_only : (tr : List ℕ) (u : Udid) → read_as (Send GetUdid) tr ≡ Replied u → ReplyOf u tr
 reply_only tr u e =
     let r = read_as_reply_is_get_udid tr u e in
     let w = seventeen_bytes_are_udid_and_byte (received_in 9 tr) (received_are_bytes 9 tr) r.2 in (
@@ -174,7 +174,7 @@ assign_cases v n (Done t) xs = go (and (and (eqb t.address.0 0x61) (eqb t.comman
 assign_cases v n (Refused w k) xs = inl refl
 
 -- A REPLY: Get UDID is outstanding, and the trace is Get UDID with 17 bytes, the identifier's first
-pub replied_exactly : (k : Handed) (tr : List ℕ) (u : Udid) → Fits u → (read_as k tr ≡ Replied u) ↔ ((k ≡ Send GetUdid) × Reply_of u tr)
+pub replied_exactly : (k : Handed) (tr : List ℕ) (u : Udid) → Fits u → (read_as k tr ≡ Replied u) ↔ ((k ≡ Send GetUdid) × ReplyOf u tr)
 replied_exactly k tr u f = (there k, λ w. ap (λ (x : Handed). read_as x tr) w.0 ∙ ap (read_as (Send GetUdid)) w.1.2 ∙ reply_read u w.1.0 f w.1.1)
   where
     differ : Other ≡ Replied u → ⊥
@@ -184,7 +184,7 @@ replied_exactly k tr u f = (there k, λ w. ap (λ (x : Handed). read_as x tr) w.
     assigned v n x (inl q) e = differ (sym q ∙ e)
     assigned v n x (inr q) e = let m : Assigned v n ≡ Replied u = sym q ∙ e in zero_is_one (cc m)
 
-    there : (k : Handed) → read_as k tr ≡ Replied u → (k ≡ Send GetUdid) × Reply_of u tr
+    there : (k : Handed) → read_as k tr ≡ Replied u → (k ≡ Send GetUdid) × ReplyOf u tr
     there (Send GetUdid) e = (refl, reply_only tr u e)
     there (Send (Assign v a)) e = absurd (assigned v a.0 (read_as (Send (Assign v a)) tr) (assign_cases v a.0 (answer 8 tr) (sent_in 8 tr)) e)
     there (Send Prepare) e = absurd (differ e)

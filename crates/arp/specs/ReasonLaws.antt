@@ -35,7 +35,7 @@ use Rattle.picking.specs.PickingLaws.{ff_picks, fixed_picks_none, movable_picks,
 use Rattle.picking.specs.Picking.{has_to_pick, chosen}
 use Rattle.arp.specs.OneStepLaws.{told_reply_lem}
 use Rattle.arp.specs.PickedLaws.{freed_keeps_picked}
-use Rattle.arp.specs.Reasons.{Must_pick, Contested, Reasons}
+use Rattle.arp.specs.Reasons.{MustPick, Contested, Reasons}
 use Rattle.arp.specs.declared.state.Controller.{Controller}
 use Rattle.arp.specs.declared.state.Stepped.{Stepped}
 
@@ -68,7 +68,7 @@ module _ (t : Controller) (a : ℕ) where
       go false e n = e
 
 module _ (p : Pool) (u : Udid) (b : ℕ) (f : Fits u) where
-  must_pick : Must_pick p u b → has_to_pick p u b ≡ true
+  must_pick : MustPick p u b → has_to_pick p u b ≡ true
   must_pick (inl e) = ap (has_to_pick p u) e ∙ ff_picks p u
   must_pick (inr w) = go (ℕ_discrete b 0xFF)
     where
@@ -76,20 +76,20 @@ module _ (p : Pool) (u : Udid) (b : ℕ) (f : Fits u) where
       go (yes e) = ap (has_to_pick p u) e ∙ ff_picks p u
       go (no n) = movable_picks p u b n ((movable_first u f).1 w.0) ∙ w.1
 
-  picks_as_it_must : has_to_pick p u b ≡ true → Must_pick p u b
+  picks_as_it_must : has_to_pick p u b ≡ true → MustPick p u b
   picks_as_it_must e = go (ℕ_discrete b 0xFF)
     where
-      go : Dec (b ≡ 0xFF) → Must_pick p u b
+      go : Dec (b ≡ 0xFF) → MustPick p u b
       go (yes q) = inl q
       go (no n) = let w = picks_is_taken p u b n e in inr ((movable_first u f).0 w.0, w.1)
 
-  no_pick : has_to_pick p u b ≡ false → Must_pick p u b → ⊥
+  no_pick : has_to_pick p u b ≡ false → MustPick p u b → ⊥
   no_pick e w = zero_is_one (cc (must_pick w, e))
 
   not_ff : has_to_pick p u b ≡ false → b ≡ 0xFF → ⊥
   not_ff e q = no_pick e (inl q)
 
-  need_not : (Must_pick p u b → ⊥) → has_to_pick p u b ≡ false
+  need_not : (MustPick p u b → ⊥) → has_to_pick p u b ≡ false
   need_not n = go (has_to_pick p u b) refl
     where
       go : (x : Bool) → has_to_pick p u b ≡ x → has_to_pick p u b ≡ false

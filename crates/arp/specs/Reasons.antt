@@ -13,8 +13,8 @@ use Rattle.commands.specs.declared.command.Reason.TheVariants.{Fixed, Kept, Pick
 use Rattle.arp.specs.declared.state.Controller.{Controller}
 
 -- an address has to be picked: the reply has FFh, or the target is movable (its first byte 64 or more) with its own address in the pool
-abbrev pub Must_pick : Pool → Udid → ℕ → Type 0
-Must_pick p u b = (b ≡ 0xFF) ⊎ ((64 ≤ get_or (udid_bytes u) 0 0) × (member p (b / 2) ≡ true))
+abbrev pub MustPick : Pool → Udid → ℕ → Type 0
+MustPick p u b = (b ≡ 0xFF) ⊎ ((64 ≤ get_or (udid_bytes u) 0 0) × (member p (b / 2) ≡ true))
 
 -- the address is barred, or a target is bound there, or two claim it
 abbrev pub Contested : Controller → ℕ → Type 0
@@ -24,9 +24,9 @@ Contested t a = (member (barred_pool t.occupied) a ≡ true) ⊎ (((w : Udid) ×
 -- bound nowhere
 pub record Reasons (s t : Controller) (u : Udid) (b a : ℕ) (x : Reason) : Type 0 where
   pub claimed : (x ≡ Claimed) ↔ Contested t a
-  pub picked : (x ≡ Picked) ↔ ((Contested t a → ⊥) × Must_pick t.pool u b)
+  pub picked : (x ≡ Picked) ↔ ((Contested t a → ⊥) × MustPick t.pool u b)
   pub fixed : (x ≡ Fixed) ↔ ((Contested t a → ⊥) × (b ≡ 0xFF → ⊥) × (get_or (udid_bytes u) 0 0 < 64))
   pub kept : (x ≡ Kept) ↔ ((Contested t a → ⊥) × (b ≡ 0xFF → ⊥) × (64 ≤ get_or (udid_bytes u) 0 0) × (member t.pool (b / 2) ≡ false))
   -- the first free one after the last pick, where one has to be picked; else its own
-  pub next : Must_pick t.pool u b → Next t.pool s.picked a
-  pub own : (Must_pick t.pool u b → ⊥) → a ≡ b / 2
+  pub next : MustPick t.pool u b → Next t.pool s.picked a
+  pub own : (MustPick t.pool u b → ⊥) → a ≡ b / 2

@@ -190,8 +190,8 @@ given_to used last u b =
     (pick (used (b / 2)) (free_after used last) (At (record { 0 = b / 2 }))))
 
 -- no address to pick: the pool is full, and the byte is FFh or the target is movable with its own address in the pool
-abbrev pub None_to_pick : (ℕ → Bool) → Udid → ℕ → Type 0
-None_to_pick used u b = ((c : ℕ) → c < 128 → used c ≡ true) × ((b ≡ 0xFF) ⊎ ((is_fixed u ≡ false) × (used (b / 2) ≡ true)))
+abbrev pub NoneToPick : (ℕ → Bool) → Udid → ℕ → Type 0
+NoneToPick used u b = ((c : ℕ) → c < 128 → used c ≡ true) × ((b ≡ 0xFF) ⊎ ((is_fixed u ≡ false) × (used (b / 2) ≡ true)))
 
 -- Assign Address; none free: 13
 abbrev pub assigning : Udid → Free → Handed

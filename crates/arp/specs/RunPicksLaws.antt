@@ -8,7 +8,7 @@ use Rattle.std.proofs.Math.ListN.{get_or}
 use Rattle.lists.specs.Choice.{pick}
 use Rattle.pool.specs.NextFree.{next_free}
 use Rattle.pool.specs.PickLaws.{picks_on, latest_on, rotation}
-use Rattle.pool.specs.Picks.{Pick, Picks, Free_at_each, Picked, latest_of}
+use Rattle.pool.specs.Picks.{Pick, Picks, FreeAtEach, Picked, latest_of}
 use Rattle.pool.specs.declared.Pool.{Pool}
 use Rattle.pool.specs.declared.free.Free.{Free}
 use Rattle.pool.specs.declared.free.Free.TheVariants.{At, AllUsed}
@@ -127,6 +127,6 @@ run_picks occupied last (Received w tr ∷ es) =
 -- picked
 pub not_picked_again : (occupied : Pool) (last : ℕ) (es : List Event) (before : List Pick) (x : Pick) (between : List Pick) (y : Pick) (rest : List Pick)
     → picks_of occupied last es ≡ before ++ (x ∷ (between ++ (y ∷ rest))) → y.at ≡ x.at
-    → (b : ℕ) → b < 128 → (b ≡ x.at → ⊥) → Free_at_each b (between ++ (y ∷ [])) → Picked b between
+    → (b : ℕ) → b < 128 → (b ≡ x.at → ⊥) → FreeAtEach b (between ++ (y ∷ [])) → Picked b between
 not_picked_again occupied last es before x between y rest e q b h n f =
     rotation (last_pick last) before x between y rest (subst (Picks (last_pick last)) e (run_picks occupied last es)) q b h n f

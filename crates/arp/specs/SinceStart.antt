@@ -8,7 +8,7 @@ use Rattle.udid.specs.Bytes.{udid_bytes}
 use Rattle.udid.specs.declared.Udid.{Udid}
 use Rattle.slots.specs.Slots.{held_at}
 use Rattle.slots.specs.declared.Binding.TheVariants.{Open, Left}
-use Rattle.commands.specs.CommandTraces.{assign_trace, Reply_of}
+use Rattle.commands.specs.CommandTraces.{assign_trace, ReplyOf}
 use Rattle.commands.specs.declared.command.Command.TheVariants.{GetUdid, Assign}
 use Rattle.commands.specs.declared.command.Handed.TheVariants.{Send}
 use Rattle.arp.specs.Gone.{reported}
@@ -21,8 +21,8 @@ abbrev pub Completes : Pool → ℕ → List Event → List ℕ → Udid → ℕ
 Completes occupied last es tr u a = (handed_out occupied last es ≡ Send (Assign u (record { 0 = a }))) × (tr ≡ assign_trace (udid_bytes u) (2 * a))
 
 -- Get UDID was handed out last, and the trace is a reply of u
-abbrev pub Replied_by : Pool → ℕ → List Event → List ℕ → Udid → Type 0
-Replied_by occupied last es tr u = (handed_out occupied last es ≡ Send GetUdid) × Reply_of u tr
+abbrev pub RepliedBy : Pool → ℕ → List Event → List ℕ → Udid → Type 0
+RepliedBy occupied last es tr u = (handed_out occupied last es ≡ Send GetUdid) × ReplyOf u tr
 
 -- a report of the address is answered 0
 abbrev pub Removed : Pool → ℕ → List Event → ℕ → Type 0
@@ -35,21 +35,21 @@ Untaken occupied last es a =
 
 -- an Assign of a to u completed while a was untaken, and since then there was no start, no report of a that was answered 0, no reply of
 -- u, and no other Assign of a that completed
-unfoldable pub Bound_since : Pool → ℕ → List Event → Udid → ℕ → Type 0
-Bound_since occupied last [] u a = ⊥
-Bound_since occupied last (Start ∷ es) u a = ⊥
-Bound_since occupied last (Received w tr ∷ es) u a =
+unfoldable pub BoundSince : Pool → ℕ → List Event → Udid → ℕ → Type 0
+BoundSince occupied last [] u a = ⊥
+BoundSince occupied last (Start ∷ es) u a = ⊥
+BoundSince occupied last (Received w tr ∷ es) u a =
     (Completes occupied last es tr u a × Untaken occupied last es a)
-    ⊎ (Bound_since occupied last es u a × (Replied_by occupied last es tr u → ⊥) × ((v : Udid) → Completes occupied last es tr v a → ⊥))
-Bound_since occupied last (Gone b ∷ es) u a = Bound_since occupied last es u a × ((b ≡ a) × Removed occupied last es b → ⊥)
-Bound_since occupied last (Issue ∷ es) u a = Bound_since occupied last es u a
-Bound_since occupied last (Decline ∷ es) u a = Bound_since occupied last es u a
+    ⊎ (BoundSince occupied last es u a × (RepliedBy occupied last es tr u → ⊥) × ((v : Udid) → Completes occupied last es tr v a → ⊥))
+BoundSince occupied last (Gone b ∷ es) u a = BoundSince occupied last es u a × ((b ≡ a) × Removed occupied last es b → ⊥)
+BoundSince occupied last (Issue ∷ es) u a = BoundSince occupied last es u a
+BoundSince occupied last (Decline ∷ es) u a = BoundSince occupied last es u a
 
 -- a report of a was answered 0, and since then there was no start, and no Assign of a that completed
-unfoldable pub Left_since : Pool → ℕ → List Event → ℕ → Type 0
-Left_since occupied last [] a = ⊥
-Left_since occupied last (Start ∷ es) a = ⊥
-Left_since occupied last (Received w tr ∷ es) a = Left_since occupied last es a × ((v : Udid) → Completes occupied last es tr v a → ⊥)
-Left_since occupied last (Gone b ∷ es) a = ((b ≡ a) × Removed occupied last es b) ⊎ Left_since occupied last es a
-Left_since occupied last (Issue ∷ es) a = Left_since occupied last es a
-Left_since occupied last (Decline ∷ es) a = Left_since occupied last es a
+unfoldable pub LeftSince : Pool → ℕ → List Event → ℕ → Type 0
+LeftSince occupied last [] a = ⊥
+LeftSince occupied last (Start ∷ es) a = ⊥
+LeftSince occupied last (Received w tr ∷ es) a = LeftSince occupied last es a × ((v : Udid) → Completes occupied last es tr v a → ⊥)
+LeftSince occupied last (Gone b ∷ es) a = ((b ≡ a) × Removed occupied last es b) ⊎ LeftSince occupied last es a
+LeftSince occupied last (Issue ∷ es) a = LeftSince occupied last es a
+LeftSince occupied last (Decline ∷ es) a = LeftSince occupied last es a

@@ -24,17 +24,17 @@ use Rattle.arp.specs.BindingLaws.{unheld_is_open_or_left}
 use Rattle.picking.specs.ClaimLaws.{barred_makes_claim, held_makes_claim}
 use Rattle.picking.specs.Claims.{is_held, makes_claim}
 use Rattle.arp.specs.GoneLaws.{which_bound, bound_small, left_small, answered_0}
-use Rattle.arp.specs.History.{By, Event, Start, Received, Gone, Issue, Decline, No_start, run}
+use Rattle.arp.specs.History.{By, Event, Start, Received, Gone, Issue, Decline, NoStart, run}
 use Rattle.arp.specs.HistoryLaws.{reached_good, reached_invariant}
 use Rattle.arp.specs.Lookup.{looked_up}
 use Rattle.arp.specs.LookupLaws.{lookup_0, lookup_20}
 use Rattle.arp.specs.Numbers.{lookup_number}
 use Rattle.arp.specs.OutstandingLaws.{handed_out_is_last}
-use Rattle.arp.specs.Reading.{Of_trace}
+use Rattle.arp.specs.Reading.{OfTrace}
 use Rattle.arp.specs.ReadingLaws.{read_of_trace, replied_exactly, assigned_exactly, read_assign_is_outstanding}
 use Rattle.arp.specs.Replay.{Happened, Started, Replied, Assigned, Pulled, Other, Table, holds, is_bound, after, read_as, handed_out, happened, view}
-use Rattle.arp.specs.SinceStart.{Completes, Replied_by, Removed, Untaken, Bound_since, Left_since}
-use Rattle.arp.specs.Sound.{Unbound, Pending, Pending_in}
+use Rattle.arp.specs.SinceStart.{Completes, RepliedBy, Removed, Untaken, BoundSince, LeftSince}
+use Rattle.arp.specs.Sound.{Unbound, Pending, PendingIn}
 use Rattle.arp.specs.SoundLaws.{bound_to_is_bound}
 use Rattle.arp.specs.TableLaws.{holds_is, event_view}
 use Rattle.arp.specs.declared.state.Controller.{Controller}
@@ -70,7 +70,7 @@ module _ (occupied : Pool) (last : ℕ) (es : List Event) where
 
   module _ (tr : List ℕ) where
     pending : (u : Udid) (a : ℕ) → handed_out occupied last es ≡ Send (Assign u (record { 0 = a })) → Pending before u a
-    pending u a e = subst (Pending_in before) (handed_out_is_last occupied last es (Assign u (record { 0 = a })) e) (reached_good occupied last es).1
+    pending u a e = subst (PendingIn before) (handed_out_is_last occupied last es (Assign u (record { 0 = a })) e) (reached_good occupied last es).1
 
     -- an Assign completes exactly where the trace is read so
     pub completes_is_read : (u : Udid) (a : ℕ) → Completes occupied last es tr u a ↔ (read_as (handed_out occupied last es) tr ≡ Assigned u a)
@@ -80,7 +80,7 @@ module _ (occupied : Pool) (last : ℕ) (es : List Event) where
     )
 
     -- a reply of an identifier of 128 bits likewise
-    pub replied_is_read : (u : Udid) → Fits u → Replied_by occupied last es tr u ↔ (read_as (handed_out occupied last es) tr ≡ Replied u)
+    pub replied_is_read : (u : Udid) → Fits u → RepliedBy occupied last es tr u ↔ (read_as (handed_out occupied last es) tr ≡ Replied u)
     replied_is_read u f = let r = replied_exactly (handed_out occupied last es) tr u f in (r.1, r.0)
 
   module _ (by : By) (tr : List ℕ) where
@@ -94,8 +94,8 @@ module _ (occupied : Pool) (last : ℕ) (es : List Event) where
     Fate a =
         ((w : Udid) × Completes occupied last es tr w a × (later a ≡ pick (taken a) Claimed (Bound w)))
         ⊎ (((w : Udid) → Completes occupied last es tr w a → ⊥)
-        × (((u : Udid) × (held_at before.slots a ≡ Bound u) × Replied_by occupied last es tr u × (later a ≡ Open))
-        ⊎ (((u : Udid) → held_at before.slots a ≡ Bound u → Replied_by occupied last es tr u → ⊥) × (later a ≡ held_at before.slots a))))
+        × (((u : Udid) × (held_at before.slots a ≡ Bound u) × RepliedBy occupied last es tr u × (later a ≡ Open))
+        ⊎ (((u : Udid) → held_at before.slots a ≡ Bound u → RepliedBy occupied last es tr u → ⊥) × (later a ≡ held_at before.slots a))))
 
     fate : (a : ℕ) → Fate a
     fate a = go (read_as (handed_out occupied last es) tr) refl (read_of_trace (handed_out occupied last es) tr)
@@ -110,7 +110,7 @@ module _ (occupied : Pool) (last : ℕ) (es : List Event) where
         no_assign : (x : Happened) → read_as (handed_out occupied last es) tr ≡ x → ((w : Udid) → x ≡ Assigned w a → ⊥) → (w : Udid) → Completes occupied last es tr w a → ⊥
         no_assign x q n w c = n w (sym q ∙ (completes_is_read tr w a).0 c)
 
-        no_reply : (x : Happened) → read_as (handed_out occupied last es) tr ≡ x → (u : Udid) → held_at before.slots a ≡ Bound u → (x ≡ Replied u → ⊥) → Replied_by occupied last es tr u → ⊥
+        no_reply : (x : Happened) → read_as (handed_out occupied last es) tr ≡ x → (u : Udid) → held_at before.slots a ≡ Bound u → (x ≡ Replied u → ⊥) → RepliedBy occupied last es tr u → ⊥
         no_reply x q u k n r = n (sym q ∙ (replied_is_read tr u (fits u k)).0 r)
 
         reply : (w : Udid) → read_as (handed_out occupied last es) tr ≡ Replied w → (t : Bool) → holds w (held_at before.slots a) ≡ t → Fate a
@@ -142,7 +142,7 @@ module _ (occupied : Pool) (last : ℕ) (es : List Event) where
             second : {v : Udid} {c : ℕ} → Assigned w b ≡ Assigned v c → b ≡ c
             second m = cc m
 
-        go : (x : Happened) → read_as (handed_out occupied last es) tr ≡ x → Of_trace x → Fate a
+        go : (x : Happened) → read_as (handed_out occupied last es) tr ≡ x → OfTrace x → Fate a
         go Started q o = absurd o
         go (Replied w) q o = reply w q (holds w (held_at before.slots a)) refl
         go (Assigned w b) q o = assign w b q (ℕ_discrete a b)
@@ -155,7 +155,7 @@ module _ (occupied : Pool) (last : ℕ) (es : List Event) where
     abbrev Either : Udid → ℕ → Type 0
     Either u a =
         (Completes occupied last es tr u a × Untaken occupied last es a)
-        ⊎ ((held_at before.slots a ≡ Bound u) × (Replied_by occupied last es tr u → ⊥) × ((w : Udid) → Completes occupied last es tr w a → ⊥))
+        ⊎ ((held_at before.slots a ≡ Bound u) × (RepliedBy occupied last es tr u → ⊥) × ((w : Udid) → Completes occupied last es tr w a → ⊥))
 
     bound_then : (a : ℕ) (u : Udid) → later a ≡ Bound u → Either u a
     bound_then a u e = go (fate a)
@@ -181,7 +181,7 @@ module _ (occupied : Pool) (last : ℕ) (es : List Event) where
       where
         go : Fate a → later a ≡ Bound u
         go (inl (w, c, q)) = absurd (n w c)
-        go (inr (m, inl (w, l, p, q))) = let v : w ≡ u = same_bound (sym l ∙ k) in absurd (r (subst (λ (x : Udid). Replied_by occupied last es tr x) v p))
+        go (inr (m, inl (w, l, p, q))) = let v : w ≡ u = same_bound (sym l ∙ k) in absurd (r (subst (λ (x : Udid). RepliedBy occupied last es tr x) v p))
         go (inr (m, inr (l, q))) = q ∙ k
 
     -- ---- an address of which an Assign completes
@@ -276,13 +276,13 @@ module _ (occupied : Pool) (last : ℕ) (es : List Event) where
         )
     taken_test (no d) t k = inr (λ z. d (sym z.0), ap (λ (x : Bool). and x (is_bound (held_at before.slots a))) (ne_eqb a b d))
 
-    abbrev Taken_or_not : Type 0
-    Taken_or_not = (Taken × (held_at (run occupied last (Gone b ∷ es)).slots a ≡ Left)) ⊎ ((Taken → ⊥) × (held_at (run occupied last (Gone b ∷ es)).slots a ≡ held_at before.slots a))
+    abbrev TakenOrNot : Type 0
+    TakenOrNot = (Taken × (held_at (run occupied last (Gone b ∷ es)).slots a ≡ Left)) ⊎ ((Taken → ⊥) × (held_at (run occupied last (Gone b ∷ es)).slots a ≡ held_at before.slots a))
 
-    taken_or_not : Taken_or_not
+    taken_or_not : TakenOrNot
     taken_or_not = go (taken_test (ℕ_discrete a b) (is_bound (held_at before.slots a)) refl)
       where
-        go : (Taken × (and (eqb a b) (is_bound (held_at before.slots a)) ≡ true)) ⊎ ((Taken → ⊥) × (and (eqb a b) (is_bound (held_at before.slots a)) ≡ false)) → Taken_or_not
+        go : (Taken × (and (eqb a b) (is_bound (held_at before.slots a)) ≡ true)) ⊎ ((Taken → ⊥) × (and (eqb a b) (is_bound (held_at before.slots a)) ≡ false)) → TakenOrNot
         go (inl (t, q)) = inl (t, held_reported ∙ ap (λ (x : Bool). pick x Left (held_at before.slots a)) q)
         go (inr (n, q)) = inr (n, held_reported ∙ ap (λ (x : Bool). pick x Left (held_at before.slots a)) q)
 
@@ -305,7 +305,7 @@ unchanged occupied last es e x a o ih =
     (λ k. ih.0 (sym q ∙ k), λ p. q ∙ ih.1 p)
 
 -- A CLAIM STAYS for the rest of the pass, whatever is received, reported, issued and declined
-pub claim_stays : (occupied : Pool) (last : ℕ) (es later : List Event) → No_start later → (a : ℕ) → held_at (run occupied last es).slots a ≡ Claimed
+pub claim_stays : (occupied : Pool) (last : ℕ) (es later : List Event) → NoStart later → (a : ℕ) → held_at (run occupied last es).slots a ≡ Claimed
     → held_at (run occupied last (later ++ es)).slots a ≡ Claimed
 claim_stays occupied last es [] n a e = e
 claim_stays occupied last es (Start ∷ later) n a e = absurd n
@@ -314,13 +314,13 @@ claim_stays occupied last es (Issue ∷ later) n a e = held_after occupied last 
 claim_stays occupied last es (Decline ∷ later) n a e = held_after occupied last (later ++ es) Decline a ∙ claim_stays occupied last es later n a e
 claim_stays occupied last es (Gone b ∷ later) n a e = go (taken_or_not occupied last (later ++ es) b a) (claim_stays occupied last es later n a e)
   where
-    go : Taken_or_not occupied last (later ++ es) b a → held_at (run occupied last (later ++ es)).slots a ≡ Claimed → held_at (run occupied last (Gone b ∷ (later ++ es))).slots a ≡ Claimed
+    go : TakenOrNot occupied last (later ++ es) b a → held_at (run occupied last (later ++ es)).slots a ≡ Claimed → held_at (run occupied last (Gone b ∷ (later ++ es))).slots a ≡ Claimed
     go (inl (t, l)) k = zero_is_one (cc ((answered_0 (run occupied last (later ++ es)) b).0 t.1, ap (λ (x : ℕ). is_bound (held_at (run occupied last (later ++ es)).slots x)) t.0, ap is_bound k))
     go (inr (n, l)) k = l ∙ k
 
 -- a target is bound there exactly if an Assign completed, and nothing that unbinds it came since
-pub bound_since : (occupied : Pool) (last : ℕ) (es : List Event) (u : Udid) (a : ℕ) → (held_at (run occupied last es).slots a ≡ Bound u) ↔ Bound_since occupied last es u a
-unfolding Bound_since
+pub bound_since : (occupied : Pool) (last : ℕ) (es : List Event) (u : Udid) (a : ℕ) → (held_at (run occupied last es).slots a ≡ Bound u) ↔ BoundSince occupied last es u a
+unfolding BoundSince
 bound_since occupied last [] u a = (λ e. zero_is_one (cc (none_held occupied last a, e)), λ b. absurd b)
 bound_since occupied last (Start ∷ es) u a = (λ e. zero_is_one (cc (none_held_at_start occupied last es a, e)), λ b. absurd b)
 bound_since occupied last (Issue ∷ es) u a = unchanged occupied last es Issue (Bound u) a refl (bound_since occupied last es u a)
@@ -333,25 +333,25 @@ bound_since occupied last (Received by tr ∷ es) u a = (
     Now : Type 0
     Now = Completes occupied last es tr u a × Untaken occupied last es a
 
-    there : (held_at (run occupied last es).slots a ≡ Bound u → Bound_since occupied last es u a) → Either occupied last es by tr u a
-        → Now ⊎ (Bound_since occupied last es u a × (Replied_by occupied last es tr u → ⊥) × ((w : Udid) → Completes occupied last es tr w a → ⊥))
+    there : (held_at (run occupied last es).slots a ≡ Bound u → BoundSince occupied last es u a) → Either occupied last es by tr u a
+        → Now ⊎ (BoundSince occupied last es u a × (RepliedBy occupied last es tr u → ⊥) × ((w : Udid) → Completes occupied last es tr w a → ⊥))
     there ih (inl c) = inl c
     there ih (inr (k, r, n)) = inr (ih k, r, n)
 
-    back : (Bound_since occupied last es u a → held_at (run occupied last es).slots a ≡ Bound u)
-        → Now ⊎ (Bound_since occupied last es u a × (Replied_by occupied last es tr u → ⊥) × ((w : Udid) → Completes occupied last es tr w a → ⊥)) → Either occupied last es by tr u a
+    back : (BoundSince occupied last es u a → held_at (run occupied last es).slots a ≡ Bound u)
+        → Now ⊎ (BoundSince occupied last es u a × (RepliedBy occupied last es tr u → ⊥) × ((w : Udid) → Completes occupied last es tr w a → ⊥)) → Either occupied last es by tr u a
     back ih (inl c) = inl c
     back ih (inr (k, r, n)) = inr (ih k, r, n)
 bound_since occupied last (Gone b ∷ es) u a = go (bound_since occupied last es u a) (taken_or_not occupied last es b a)
   where
-    go : (held_at (run occupied last es).slots a ≡ Bound u) ↔ Bound_since occupied last es u a → Taken_or_not occupied last es b a
-        → (held_at (run occupied last (Gone b ∷ es)).slots a ≡ Bound u) ↔ (Bound_since occupied last es u a × (Taken occupied last es b a → ⊥))
+    go : (held_at (run occupied last es).slots a ≡ Bound u) ↔ BoundSince occupied last es u a → TakenOrNot occupied last es b a
+        → (held_at (run occupied last (Gone b ∷ es)).slots a ≡ Bound u) ↔ (BoundSince occupied last es u a × (Taken occupied last es b a → ⊥))
     go ih (inl (t, l)) = (λ e. zero_is_one (cc (l, e)), λ s. absurd (s.1 t))
     go ih (inr (n, l)) = (λ e. (ih.0 (sym l ∙ e), n), λ s. l ∙ ih.1 s.0)
 
 -- an address is left exactly if a report of it was answered 0, and no Assign of it completed since
-pub left_since : (occupied : Pool) (last : ℕ) (es : List Event) (a : ℕ) → (held_at (run occupied last es).slots a ≡ Left) ↔ Left_since occupied last es a
-unfolding Left_since
+pub left_since : (occupied : Pool) (last : ℕ) (es : List Event) (a : ℕ) → (held_at (run occupied last es).slots a ≡ Left) ↔ LeftSince occupied last es a
+unfolding LeftSince
 left_since occupied last [] a = (λ e. zero_is_one (cc (none_held occupied last a, e)), λ b. absurd b)
 left_since occupied last (Start ∷ es) a = (λ e. zero_is_one (cc (none_held_at_start occupied last es a, e)), λ b. absurd b)
 left_since occupied last (Issue ∷ es) a = unchanged occupied last es Issue Left a refl (left_since occupied last es a)
@@ -362,24 +362,24 @@ left_since occupied last (Received by tr ∷ es) a = (
 )
 left_since occupied last (Gone b ∷ es) a = go (left_since occupied last es a) (taken_or_not occupied last es b a)
   where
-    other : (Taken occupied last es b a → ⊥) → Taken occupied last es b a ⊎ Left_since occupied last es a → Left_since occupied last es a
+    other : (Taken occupied last es b a → ⊥) → Taken occupied last es b a ⊎ LeftSince occupied last es a → LeftSince occupied last es a
     other n (inl t) = absurd (n t)
     other n (inr s) = s
 
-    go : (held_at (run occupied last es).slots a ≡ Left) ↔ Left_since occupied last es a → Taken_or_not occupied last es b a
-        → (held_at (run occupied last (Gone b ∷ es)).slots a ≡ Left) ↔ (Taken occupied last es b a ⊎ Left_since occupied last es a)
+    go : (held_at (run occupied last es).slots a ≡ Left) ↔ LeftSince occupied last es a → TakenOrNot occupied last es b a
+        → (held_at (run occupied last (Gone b ∷ es)).slots a ≡ Left) ↔ (Taken occupied last es b a ⊎ LeftSince occupied last es a)
     go ih (inl (t, l)) = (λ e. inl t, λ s. l)
     go ih (inr (n, l)) = (λ e. inr (ih.0 (sym l ∙ e)), λ s. l ∙ ih.1 (other n s))
 
 -- LOOKUP'S 0 WITH u, over any run
-pub lookup_0_since : (occupied : Pool) (last : ℕ) (es : List Event) (u : Udid) (a : ℕ) → (lookup_number (looked_up (run occupied last es) a) ≡ (0, u ∷ [])) ↔ Bound_since occupied last es u a
+pub lookup_0_since : (occupied : Pool) (last : ℕ) (es : List Event) (u : Udid) (a : ℕ) → (lookup_number (looked_up (run occupied last es) a) ≡ (0, u ∷ [])) ↔ BoundSince occupied last es u a
 lookup_0_since occupied last es u a = (
   λ e. (bound_since occupied last es u a).0 ((lookup_0 (run occupied last es) a u).0 e).1,
   λ s. (let k = (bound_since occupied last es u a).1 s in (lookup_0 (run occupied last es) a u).1 (bound_small (run occupied last es).slots a u k, k)),
 )
 
 -- LOOKUP'S 20, over any run
-pub lookup_20_since : (occupied : Pool) (last : ℕ) (es : List Event) (a : ℕ) → (lookup_number (looked_up (run occupied last es) a) ≡ (20, [])) ↔ Left_since occupied last es a
+pub lookup_20_since : (occupied : Pool) (last : ℕ) (es : List Event) (a : ℕ) → (lookup_number (looked_up (run occupied last es) a) ≡ (20, [])) ↔ LeftSince occupied last es a
 lookup_20_since occupied last es a = (
   λ e. (left_since occupied last es a).0 ((lookup_20 (run occupied last es) a).0 e).1,
   λ s. (let k = (left_since occupied last es a).1 s in (lookup_20 (run occupied last es) a).1 (left_small (run occupied last es).slots a k, k)),
@@ -389,7 +389,7 @@ lookup_20_since occupied last es a = (
 
 module _ (occupied : Pool) (last : ℕ) (es : List Event) (a : ℕ) (r : Removed occupied last es a) where
   left_now : held_at (run occupied last (Gone a ∷ es)).slots a ≡ Left
-  unfolding Left_since
+  unfolding LeftSince
   left_now = (left_since occupied last (Gone a ∷ es) a).1 (inl (refl, r))
 
   -- IT IS FREE, so it can be picked again, unless the starting pool has it
@@ -398,7 +398,7 @@ module _ (occupied : Pool) (last : ℕ) (es : List Event) (a : ℕ) (r : Removed
 
   -- AN ASSIGN OF IT THAT WAS OUTSTANDING GOES ON: when it completes its target is bound there, and nobody claims it
   pub bound_after_report : (by : By) (tr : List ℕ) (u : Udid) → Completes occupied last (Gone a ∷ es) tr u a → lookup_number (looked_up (run occupied last (Received by tr ∷ Gone a ∷ es)) a) ≡ (0, u ∷ [])
-  unfolding Bound_since
+  unfolding BoundSince
   bound_after_report by tr u c = (lookup_0_since occupied last (Received by tr ∷ Gone a ∷ es) u a).1 (inl (c, (unbarred (which_bound (held_at (run occupied last es).slots a) ((answered_0 (run occupied last es) a).0 r)), inr left_now)))
     where
       unbarred : (w : Udid) × (held_at (run occupied last es).slots a ≡ Bound w) → member (barred_pool occupied) a ≡ false

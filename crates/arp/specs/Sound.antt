@@ -30,8 +30,8 @@ pub record Sound (occupied pool : Pool) (slots : Slots) : Type 0 where
   pub fits : (a : ℕ) (u : Udid) → held_at slots a ≡ Bound u → Fits u
   pub exact : (a : ℕ) → member pool a ≡ or (member (starting_pool occupied) a) (is_held (held_at slots a))
 
-abbrev pub Sound_in : Controller → Type 0
-Sound_in s = Sound s.occupied s.pool s.slots
+abbrev pub SoundIn : Controller → Type 0
+SoundIn s = Sound s.occupied s.pool s.slots
 
 -- u is bound nowhere
 abbrev pub Unbound : Udid → Slots → Type 0
@@ -43,7 +43,7 @@ Nowhere u slots a = (j : ℕ) → a ≤ j → j < 128 → bound_to u (held_at sl
 
 -- a state without what was handed out last
 pub record Good (occupied : Pool) (s : Controller) : Type 0 where
-  pub sound : Sound_in s
+  pub sound : SoundIn s
   pub gets : s.gets ≤ 128
   pub occupies : s.occupied ≡ occupied
   pub picked : s.picked < 128
@@ -56,19 +56,19 @@ pub record Pending (s : Controller) (u : Udid) (a : ℕ) : Type 0 where
   pub free : is_fixed u ≡ false → member s.pool a ≡ false
 
 -- and so does a choice that waits
-abbrev pub Waiting_in : Controller → End → Type 0
-Waiting_in s Nothing = Unit
-Waiting_in s Ended = Unit
-Waiting_in s (NoneFree u) = Unit
-Waiting_in s Abandoned = Unit
-Waiting_in s NotOutstanding = Unit
-Waiting_in s (Chosen u a r) = Pending s u a.0
+abbrev pub WaitingIn : Controller → End → Type 0
+WaitingIn s Nothing = Unit
+WaitingIn s Ended = Unit
+WaitingIn s (NoneFree u) = Unit
+WaitingIn s Abandoned = Unit
+WaitingIn s NotOutstanding = Unit
+WaitingIn s (Chosen u a r) = Pending s u a.0
 
-abbrev pub Pending_in : Controller → Handed → Type 0
-Pending_in s (Send Prepare) = Unit
-Pending_in s (Send GetUdid) = Unit
-Pending_in s (Send (Assign u a)) = Pending s u a.0
-Pending_in s (Wait e) = Waiting_in s e
+abbrev pub PendingIn : Controller → Handed → Type 0
+PendingIn s (Send Prepare) = Unit
+PendingIn s (Send GetUdid) = Unit
+PendingIn s (Send (Assign u a)) = Pending s u a.0
+PendingIn s (Wait e) = WaitingIn s e
 
-abbrev pub Good_state : Pool → Controller → Type 0
-Good_state occupied s = Good occupied s × Pending_in s s.last
+abbrev pub GoodState : Pool → Controller → Type 0
+GoodState occupied s = Good occupied s × PendingIn s s.last

@@ -12,7 +12,7 @@ use Rattle.pool.specs.declared.Pool.{Pool}
 use Rattle.udid.specs.Udids.{Fits, is_fixed}
 use Rattle.udid.specs.UdidLaws.{same_equal, same_refl}
 use Rattle.udid.specs.declared.Udid.{Udid}
-use Rattle.arp.specs.Sound.{Sound, Sound_in, Unbound, Nowhere}
+use Rattle.arp.specs.Sound.{Sound, SoundIn, Unbound, Nowhere}
 use Rattle.arp.specs.BindingLaws.{bound_in_is}
 use Rattle.arp.specs.Bindings.{freed_at, freed, bound}
 use Rattle.picking.specs.Claims.{is_held, makes_claim, binding_for}
@@ -129,12 +129,12 @@ module _ (occupied pool : Pool) (slots : Slots) (v : Sound occupied pool slots) 
       go false k = k
       go true k = let r = away occupied pool slots v f h Open refl i u (bound_to_is_bound u _ k) in absurd (r.0 (v.once i f u r.1 here))
 
-pub sound_freed : (s : Controller) (u : Udid) → Sound_in s → Sound_in (freed s u) × Unbound u (freed s u).slots
+pub sound_freed : (s : Controller) (u : Udid) → SoundIn s → SoundIn (freed s u) × Unbound u (freed s u).slots
 unfolding freed
 sound_freed s u v = go (find_from u s.slots 128 0) (find_cases u s.slots 128 0 (omega arith))
   where
     go : (f : ℕ) → ((f ≡ 128) × Nowhere u s.slots 0) ⊎ ((f < 128) × (bound_to u (held_at s.slots f) ≡ true))
-        → Sound_in (pick (ltb 127 f) s (freed_at s f)) × Unbound u (pick (ltb 127 f) s (freed_at s f)).slots
+        → SoundIn (pick (ltb 127 f) s (freed_at s f)) × Unbound u (pick (ltb 127 f) s (freed_at s f)).slots
     go f (inl r) = rw (lt-ltb 127 f (omega (arith, r.0))) (v, unbound_all u s.slots r.1)
     go f (inr r) =
         rw (le-ltb 127 f (omega (arith, r.0)))
@@ -213,6 +213,6 @@ module _ (occupied pool : Pool) (slots : Slots) (v : Sound occupied pool slots) 
     exact = exactly_bound;
   }
 
-pub sound_bound : (s : Controller) (u : Udid) (a : ℕ) → Sound_in s → Unbound u s.slots → Fits u → a < 128 → (is_fixed u ≡ false → member s.pool a ≡ false) → Sound_in (bound s u a)
+pub sound_bound : (s : Controller) (u : Udid) (a : ℕ) → SoundIn s → Unbound u s.slots → Fits u → a < 128 → (is_fixed u ≡ false → member s.pool a ≡ false) → SoundIn (bound s u a)
 unfolding bound
 sound_bound s u a v n f h free = rw (le-ltb 127 a (omega arith)) (sound_bound_at s.occupied s.pool s.slots v u n f a h free)

@@ -16,7 +16,7 @@ use Rattle.arp.specs.History.{By, Step, Choose, Event, Start, Received, Gone, Is
 use Rattle.arp.specs.Lookup.{looked_up}
 use Rattle.arp.specs.Numbers.{command_number, lookup_number, unless21}
 use Rattle.commands.specs.CommandTraces.{reply_trace}
-use Rattle.arp.specs.Replay.{Replied, Assigned, Pulled, Table, is_bound_or_claimed, released, read_as, number_of, None_to_pick, next_command, emptied, after, handed_out}
+use Rattle.arp.specs.Replay.{Replied, Assigned, Pulled, Table, is_bound_or_claimed, released, read_as, number_of, NoneToPick, next_command, emptied, after, handed_out}
 use Rattle.arp.specs.RunPicks.{is_picked, picked_then}
 use Rattle.hearing.specs.Told.{no_command}
 use Rattle.commands.specs.declared.command.Command.TheVariants.{Prepare, GetUdid, Assign}
@@ -88,11 +88,11 @@ pub record Told (occupied : Pool) (last : ℕ) (es : List Event) : Type 0 where
 abbrev pub Full : Pool → ℕ → List Event → List ℕ → Udid → Type 0
 Full occupied last es tr u =
     ((story occupied last es).command ≡ Send GetUdid)
-    × ((b : ℕ) × (b < 256) × (tr ≡ reply_trace (udid_bytes u ++ b ∷ [])) × None_to_pick (released occupied u (story occupied last es).known).used u b)
+    × ((b : ℕ) × (b < 256) × (tr ≡ reply_trace (udid_bytes u ++ b ∷ [])) × NoneToPick (released occupied u (story occupied last es).known).used u b)
 
 -- ---- THE CONTROLLER BY ITS HISTORY: from any new controller, over any starts, traces, reports, issues and declines, the latest first
 
-pub record By_history (occupied : Pool) (last : ℕ) (es : List Event) : Type 0 where
+pub record ByHistory (occupied : Pool) (last : ℕ) (es : List Event) : Type 0 where
   -- what each address is known for, what the pool has, how many Get UDIDs were handed out in this pass, what was handed out last and the last
   -- pick are what the events alone give, in the scope's sentences
   pub told : Told occupied last es

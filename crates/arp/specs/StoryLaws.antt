@@ -20,7 +20,7 @@ use Rattle.arp.specs.OutstandingLaws.{step_21_by_events}
 use Rattle.slots.specs.SlotsLaws.{open_all}
 use Rattle.arp.specs.SinceStartLaws.{completes_is_read, replied_is_read, bound_either}
 use Rattle.arp.specs.TableLaws.{addresses_by_table, lookup_by_table}
-use Rattle.arp.specs.Story.{Story, next_by, story, Told, By_history}
+use Rattle.arp.specs.Story.{Story, next_by, story, Told, ByHistory}
 use Rattle.slots.specs.Slots.{held_at}
 use Rattle.arp.specs.Choosing.{sending}
 use Rattle.arp.specs.ChoosingLaws.{Halved, heard_halved, sends_the_same}
@@ -95,7 +95,7 @@ module _ (occupied : Pool) (last : ℕ) (es : List Event) (by : By) (tr : List �
 
 -- ---- ALL OF IT: from any new controller, over any starts, traces, reports, issues and declines
 
-pub by_history : (occupied : Pool) (last : ℕ) (es : List Event) → By_history occupied last es
+pub by_history : (occupied : Pool) (last : ℕ) (es : List Event) → ByHistory occupied last es
 by_history occupied last es = record {
   told = state_by_story occupied last es;
   lookup = λ a h. lookup_by_story occupied last es a h;

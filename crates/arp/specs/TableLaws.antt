@@ -27,7 +27,7 @@ use Rattle.arp.specs.OutstandingLaws.{last_is_handed_out}
 use Rattle.arp.specs.ReadingLaws.{is_assign_below_128}
 use Rattle.arp.specs.SoundLaws.{bound_to_is_bound, find_cases}
 use Rattle.slots.specs.SlotsLaws.{held_above_is_open, held_same, held_other, open_all}
-use Rattle.arp.specs.Sound.{Sound_in, Nowhere, Pending_in}
+use Rattle.arp.specs.Sound.{SoundIn, Nowhere, PendingIn}
 use Rattle.arp.specs.Bindings.{vacated, freed_at, freed, bound_at, bound}
 use Rattle.picking.specs.Claims.{makes_claim, binding_for}
 use Rattle.slots.specs.Finding.{bound_to, find_from}
@@ -109,7 +109,7 @@ module _ (s : Controller) (l : Sized128 s.slots) (f : ℕ) (h : f < 128) (test :
 
 -- ---- a reply
 
-module _ (s : Controller) (v : Sound_in s) (u : Udid) where
+module _ (s : Controller) (v : SoundIn s) (u : Udid) where
   -- bound nowhere: nothing changes
   none_held : Nowhere u s.slots 0 → (a : ℕ) → holds u (held_at s.slots a) ≡ false
   none_held n a = holds_is u (held_at s.slots a) ∙ go (dec_lt a 128)
@@ -179,7 +179,7 @@ module _ (s : Controller) (u : Udid) (b : ℕ) (l : Sized128 s.slots) (h : b < 1
 
 -- ---- each trace
 
-module _ (s : Controller) (v : Sound_in s) where
+module _ (s : Controller) (v : SoundIn s) where
   prepare_view : (d : Decoded) (xs : List ℕ) → view (changed s (told_prepare d xs)).state ≡ view s
   prepare_view (Done t) xs = go (is_prepare t xs)
     where
@@ -219,11 +219,11 @@ module _ (s : Controller) (v : Sound_in s) where
         go false = asked_view s
     assign_view (Refused w k) xs = asked_view s
 
-  step_view : Pending_in s s.last → (tr : List ℕ) → view (stepped s tr).state ≡ after s.occupied (read_as s.last tr) (view s)
+  step_view : PendingIn s s.last → (tr : List ℕ) → view (stepped s tr).state ≡ after s.occupied (read_as s.last tr) (view s)
   unfolding stepped
   step_view p tr = go s.last p
     where
-      go : (k : Handed) → Pending_in s k → view (changed s (tells k tr)).state ≡ after s.occupied (read_as k tr) (view s)
+      go : (k : Handed) → PendingIn s k → view (changed s (tells k tr)).state ≡ after s.occupied (read_as k tr) (view s)
       go (Send Prepare) q = prepare_view (answer send_byte tr) (sent_in send_byte tr)
       go (Send GetUdid) q = get_view (answer block_read tr) (received_in block_read tr)
       go (Send (Assign u a)) q = assign_view u a.0 q.small (answer block_write tr) (sent_in block_write tr)

@@ -35,14 +35,14 @@ use Rattle.arp.specs.OneStepLaws.{assign_whole}
 use Rattle.arp.specs.ReasonLaws.{reasons_given}
 use Rattle.arp.specs.Reasons.{Contested, Reasons}
 use Rattle.arp.specs.SettleLaws.{issue_is, waits_in_its_state}
-use Rattle.arp.specs.Sound.{Pending, Pending_in}
+use Rattle.arp.specs.Sound.{Pending, PendingIn}
 use Rattle.arp.specs.State.{with_last}
 use Rattle.arp.specs.declared.state.Controller.{Controller}
 use Rattle.arp.specs.declared.state.Stepped.{Stepped}
 
 module _ (occupied : Pool) (last : ℕ) (es : List Event) (u : Udid) (a : Address) (x : Reason) (e : (run occupied last es).last ≡ Wait (Chosen u a x)) where
   waiting_pending : Pending (run occupied last es) u a.0
-  waiting_pending = subst (Pending_in (run occupied last es)) e (reached_good occupied last es).1
+  waiting_pending = subst (PendingIn (run occupied last es)) e (reached_good occupied last es).1
 
   -- ITS TARGET IS BOUND NOWHERE
   pub waiting_unbound : (i : ℕ) → held_at (run occupied last es).slots i ≡ Bound u → ⊥
@@ -102,7 +102,7 @@ claimed_is_own occupied last es tr l u b f h q a c = ((fixed_first u f).0 (fixed
     last_is = ap (λ (x : Controller). x.last) (waits_in_its_state (run occupied last es) tr u a reason.Claimed c)
 
     p : Pending t u a.0
-    p = subst (Pending_in t) last_is (reached_good occupied last (Received Choose tr ∷ es)).1
+    p = subst (PendingIn t) last_is (reached_good occupied last (Received Choose tr ∷ es)).1
 
     in_use : member t.pool a.0 ≡ true
     in_use = go (r.claimed.0 refl)
@@ -136,7 +136,7 @@ claimed_marks occupied last es tr l u b f h q a x c = (λ e. there.0 (r.claimed.
     last_is = ap (λ (y : Controller). y.last) (waits_in_its_state (run occupied last es) tr u a x c)
 
     p : Pending t u a.0
-    p = subst (Pending_in t) last_is (reached_good occupied last (Received Choose tr ∷ es)).1
+    p = subst (PendingIn t) last_is (reached_good occupied last (Received Choose tr ∷ es)).1
 
     there : Contested t a.0 ↔ (lookup_number (looked_up (stepped (issuing t).state (assign_trace (udid_bytes u) (2 * a.0))).state a.0) ≡ (16, []))
     there =

@@ -8,7 +8,7 @@ use slots::Binding;
 use wire::address::Address;
 
 // The state after a report, and its answer: what a lookup of the address answered just before.
-#[derive(Drop)]
+#[derive(Clone, Copy)]
 pub struct Reported {
     pub state: Controller,
     pub found: Found,

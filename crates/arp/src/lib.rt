@@ -1,4 +1,6 @@
 // The ARP controller: which command comes next for each trace received, and which addresses are bound. Rests on hearing, slots and pool.
+#![tactic(auto)]
+
 pub mod bound;
 pub mod gone;
 pub mod issue;

@@ -7,7 +7,7 @@ use slots::Binding;
 use udid::Udid;
 use wire::address::Address;
 
-#[derive(Drop)]
+#[derive(Clone, Copy)]
 pub enum Found {
     // This target is bound there.
     Bound(Udid),

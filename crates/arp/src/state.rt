@@ -3,7 +3,7 @@ use commands::command::Handed;
 use pool::Pool;
 use slots::Slots;
 
-#[derive(Drop)]
+#[derive(Clone, Copy)]
 pub struct Controller {
     // The addresses that the caller gave as occupied. With the listed ones they are in use when a pass begins; with the reserved ones they
     // are barred.
@@ -21,7 +21,7 @@ pub struct Controller {
 }
 
 // The state after a step, and what it hands out.
-#[derive(Drop)]
+#[derive(Clone, Copy)]
 pub struct Stepped {
     pub state: Controller,
     pub command: Handed,

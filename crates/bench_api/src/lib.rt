@@ -1,9 +1,11 @@
 // What only the benchmark of the codec calls: the codec on symbols as 16-bit numbers, declared in bench/symbols.h. Nothing is turned into
 // byte pairs there, so that what is counted is the codec's work alone. C has traces as byte pairs, by crate c_api.
 // `rt staticlib bench_api` has these two functions and no others: a benchmark links libc_api.a beside it.
+#![tactic(auto)]
+
 ghost use Rattle.encode.specs.Encode.{message};
 ghost use Rattle.c_codec.specs.Numbers.{truth};
-ghost use Rattle.c_codec.specs.Codec.{Wrote_symbols, Read_symbols};
+ghost use Rattle.c_codec.specs.Codec.{WroteSymbols, ReadSymbols};
 
 use c_codec::answer::HbDecoded;
 use c_codec::codec::HbWritten;
@@ -21,7 +23,7 @@ pub extern "C" fn hb_encode_symbols(
     received: &[u8],
     out: &mut [u16],
 ) -> HbWritten
-    ensures { Wrote_symbols protocol (truth pec) (message address direction command sent.now received.now) out.old result out.new }
+    ensures { WroteSymbols protocol (truth pec) (message address direction command sent.now received.now) out.old result out.new }
 {
     encode_symbols(
         protocol, pec, address, direction, command, sent, received, out,
@@ -37,7 +39,7 @@ pub extern "C" fn hb_decode_symbols(
     sent: &mut [u8],
     received: &mut [u8],
 ) -> HbDecoded
-    ensures { Read_symbols protocol (truth pec) trace.now sent.old received.old result sent.new received.new }
+    ensures { ReadSymbols protocol (truth pec) trace.now sent.old received.old result sent.new received.new }
 {
     decode_symbols(protocol, pec, trace, sent, received)
 }

@@ -2,7 +2,7 @@
 use pool::Pool;
 use udid::Udid;
 
-#[derive(Drop)]
+#[derive(Clone, Copy)]
 pub struct ModelAnswer {
     // The scope's number.
     pub answer: u32,

@@ -4,7 +4,7 @@ ghost use Rattle.bindings.specs.Entries.{is_bound, entry_udid};
 
 use udid::Udid;
 
-#[derive(Drop)]
+#[derive(Clone, Copy)]
 pub enum Entry {
     Nobody,
     Bound(Udid),

@@ -20,7 +20,7 @@ use Rattle.slots.specs.Slots.{held_at}
 use Rattle.slots.specs.declared.Binding.{Binding}
 use Rattle.slots.specs.declared.Binding.TheVariants as binding
 use Rattle.slots.specs.declared.Slots.{Slots}
-use Rattle.targets.specs.Admission.{Admitted_targets}
+use Rattle.targets.specs.Admission.{AdmittedTargets}
 use Rattle.targets.specs.AdmissionLaws.{admitted_targets}
 use Rattle.targets.specs.Records.{targets_of}
 use Rattle.targets.specs.Refusals.{checked_list}
@@ -32,9 +32,9 @@ use Rattle.bindings.specs.declared.entry.Entry.TheVariants.{Nobody}
 use Rattle.rule.specs.AnyLaws.{any_map, any_each, any_constant}
 use Rattle.rule.specs.PassEndLaws.{given_free_distinct, given_movable_free, given_among_targets}
 use Rattle.rule.specs.PassEnd.{pass_end}
-use Rattle.rule.specs.PlainRule.{Given, ruled, Free_in, Movable_free_in, Distinct}
+use Rattle.rule.specs.PlainRule.{Given, ruled, FreeIn, MovableFreeIn, Distinct}
 use Rattle.rule.specs.ReadingLaws.{bound_given, given_bound, served_once}
-use Rattle.rule.specs.Reading.{Record_of, some_of, is_bound, bound_at, One_per_udid}
+use Rattle.rule.specs.Reading.{RecordOf, some_of, is_bound, bound_at, OnePerUdid}
 use Rattle.rule.specs.RecordsLaws as records
 use Rattle.bus.specs.EndLaws.{entry_bound, leaves_rule}
 use Rattle.bus.specs.Run.{Leaves, model_end}
@@ -51,11 +51,11 @@ bound_some h e = go (bound_in h) refl e
 -- ---- whom the plain rule gives which address
 
 module _ (occupied : Pool) (last : ℕ) (s : List ℕ) (bytes : Bytes s) (e : checked_list (barred_pool occupied) s ≡ Admitted) where
-  admitted : Admitted_targets (barred_pool occupied) (targets_of s)
+  admitted : AdmittedTargets (barred_pool occupied) (targets_of s)
   admitted = admitted_targets (barred_pool occupied) s bytes e
 
   -- each is a record of the list
-  pub given_in_records : Each (λ (g : Given). (i : ℕ) × (i < length s / 18) × Record_of s i g) (ruled (starting_pool occupied) last (targets_of s)).given
+  pub given_in_records : Each (λ (g : Given). (i : ℕ) × (i < length s / 18) × RecordOf s i g) (ruled (starting_pool occupied) last (targets_of s)).given
   given_in_records = records.given_records occupied last s bytes admitted
 
   -- an address below 128, none of the 21 reserved ones and not occupied; that of a movable target, whose first byte is 64 or more, is not listed
@@ -67,7 +67,7 @@ module _ (occupied : Pool) (last : ℕ) (s : List ℕ) (bytes : Bytes s) (e : ch
       each_both (ruled (starting_pool occupied) last (targets_of s)).given at (given_free_distinct occupied last (targets_of s) admitted).0
       (each_both (ruled (starting_pool occupied) last (targets_of s)).given (λ g m n. (m, n)) (given_movable_free occupied last (targets_of s) admitted) (given_among_targets occupied last (targets_of s) admitted))
     where
-      at : (g : Given) → Free_in (barred_pool occupied) g → Movable_free_in (starting_pool occupied) g × Among g.who (targets_of s) → Assignable g
+      at : (g : Given) → FreeIn (barred_pool occupied) g → MovableFreeIn (starting_pool occupied) g × Among g.who (targets_of s) → Assignable g
       at g f m =
           let n = neither (is_reserved g.address) (member occupied g.address) (sym (member_barred occupied g.address) ∙ f.1) in
           (f.0, n.0, n.1, λ h. (neither (is_listed g.address) (member occupied g.address) (sym (member_starting occupied g.address) ∙ m.0 ((movable_first g.who.udid (admitted.sized g.who m.1).udid).1 h))).0)
@@ -76,7 +76,7 @@ module _ (occupied : Pool) (last : ℕ) (s : List ℕ) (bytes : Bytes s) (e : ch
   pub given_distinct : Distinct (ruled (starting_pool occupied) last (targets_of s)).given
   given_distinct = (given_free_distinct occupied last (targets_of s) admitted).1
 
-  pub given_once : One_per_udid (ruled (starting_pool occupied) last (targets_of s)).given
+  pub given_once : OnePerUdid (ruled (starting_pool occupied) last (targets_of s)).given
   given_once = served_once occupied last (targets_of s) admitted
 
 -- ---- what the run answers and leaves of it: a list that is not refused, a buffer that is long enough, and what run_model's contract says

@@ -12,7 +12,7 @@ use Rattle.arp.specs.Numbers.{command_number}
 use Rattle.slots.specs.Slots.{held_at}
 use Rattle.slots.specs.declared.Binding.{Binding}
 use Rattle.slots.specs.declared.Slots.{Slots}
-use Rattle.targets.specs.Admission.{Admitted_targets}
+use Rattle.targets.specs.Admission.{AdmittedTargets}
 use Rattle.targets.specs.AdmissionLaws.{admitted_length, admitted_targets}
 use Rattle.targets.specs.IndexLaws.{length_targets}
 use Rattle.targets.specs.Records.{record_count, targets_of}
@@ -87,7 +87,7 @@ last_command_lem occupied last (t ∷ ts) = refl
 -- a list that is not refused, a buffer that is long enough, and what run_model's contract says of an answer and of the lists left
 module _ (occupied : Pool) (last : ℕ) (small : last < 128) (s b : List ℕ) (bytes : Bytes s) (long : 2048 ≤ length b) (e : checked_list (barred_pool occupied) s ≡ Admitted) (r : ModelAnswer) (s' b' : List ℕ)
     (l : Leaves (model_end occupied last s b) r s' b') where
-  admitted : Admitted_targets (barred_pool occupied) (targets_of s)
+  admitted : AdmittedTargets (barred_pool occupied) (targets_of s)
   admitted = admitted_targets (barred_pool occupied) s bytes e
 
   as_rule : pass occupied last (targets_of s) ≡ pass_end occupied last (targets_of s)

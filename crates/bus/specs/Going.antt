@@ -4,7 +4,7 @@ use Rattle.lists.specs.Each.{Bytes}
 use Rattle.targets.specs.Records.{targets_of}
 use Rattle.targets.specs.Target.{Target}
 use Rattle.arp.specs.declared.state.Stepped.{Stepped}
-use Rattle.rule.specs.AnyBus.{World_over, run_over}
+use Rattle.rule.specs.AnyBus.{WorldOver, run_over}
 use Rattle.bus.specs.RecordsBus.{records_bus}
 use Rattle.bus.specs.Turn.{Fit, Reaches, world_of}
 
@@ -18,7 +18,7 @@ pub record Going (st : Stepped) (s : List ℕ) : Type 0 where
   pub reaches : Reaches st.command (targets_of s)
 
 -- what holds of the records and the controller after some turns of a run from w over the records `first`, m of 300 left
-pub record Running (w : World_over (List ℕ)) (first : List ℕ) (m : ℕ) (st : Stepped) (s : List ℕ) : Type 0 where
+pub record Running (w : WorldOver (List ℕ)) (first : List ℕ) (m : ℕ) (st : Stepped) (s : List ℕ) : Type 0 where
   pub bytes : Bytes s
   pub fit : Fit s
   pub going : Going st s

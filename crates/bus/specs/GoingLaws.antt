@@ -43,10 +43,10 @@ use Rattle.arp.specs.declared.state.Controller.{Controller}
 use Rattle.arp.specs.declared.state.Stepped.{Stepped}
 use Rattle.rule.specs.Acknowledge.{on_bus}
 use Rattle.rule.specs.AcknowledgeLaws.{nothing_on_bus, start_on_bus}
-use Rattle.rule.specs.AnyBus.{World_over, run_over, pass_of}
+use Rattle.rule.specs.AnyBus.{WorldOver, run_over, pass_of}
 use Rattle.rule.specs.AnyBusLaws.{took_trace, silent_run}
 use Rattle.rule.specs.Bus.{reached, pass}
-use Rattle.rule.specs.SameBus.{Same_world}
+use Rattle.rule.specs.SameBus.{SameWorld}
 use Rattle.rule.specs.Acted.{acted}
 use Rattle.rule.specs.TraceLaws as on-bus
 use Rattle.rule.specs.StepLaws.{prepare_unheard, get_unheard, get_replied}
@@ -173,7 +173,7 @@ running_first occupied last st s q b e = record {
   same_size = refl;
 }
 
-pub running_next : (w : World_over (List ℕ)) (first : List ℕ) (m : ℕ) (st r : Stepped) (s after : List ℕ) → Running w first (suc m) st s → Bytes after → is_sent st.command ≡ true
+pub running_next : (w : WorldOver (List ℕ)) (first : List ℕ) (m : ℕ) (st r : Stepped) (s after : List ℕ) → Running w first (suc m) st s → Bytes after → is_sent st.command ≡ true
     → Matches (sent_to st (targets_of s) st.command) r s after → Running w first m r after
 running_next w first m st r s after v b e q =
     record {
@@ -192,7 +192,7 @@ module _ (occupied : Pool) (last : ℕ) (first : List ℕ) (st₀ : Stepped) (q 
       → Matches (pass occupied last (targets_of first)) st first s
   running_ended m st s v e =
       let x : pass_of records_bus occupied last first ≡ world_of st s = ap (λ (y : Stepped). run_over records_bus 300 (world_of y first)) (sym q) ∙ v.leads ∙ e in
-      let w = subst (λ (y : World_over (List ℕ)). Same_world (Holds first) y (pass occupied last (targets_of first))) x (records_pass first occupied last) in
+      let w = subst (λ (y : WorldOver (List ℕ)). SameWorld (Holds first) y (pass occupied last (targets_of first))) x (records_pass first occupied last) in
       record { controller = w.now; targets = w.targets.targets; stored = w.targets.stored }
 
   pub running_last : (m : ℕ) (st : Stepped) (s : List ℕ) → m ≡ 0 → Running (world_of st₀ first) first m st s → Matches (pass occupied last (targets_of first)) st first s

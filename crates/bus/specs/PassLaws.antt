@@ -16,7 +16,7 @@ use Rattle.targets.specs.declared.admit.Checked.TheVariants.{Admitted}
 use Rattle.bindings.specs.BufferLaws.{bytes_there}
 use Rattle.bindings.specs.Entries.{entry_bytes}
 use Rattle.rule.specs.Bus.{pass}
-use Rattle.bus.specs.Run.{Model_end, Leaves, ended_end, model_end}
+use Rattle.bus.specs.Run.{ModelEnd, Leaves, ended_end, model_end}
 use Rattle.report.specs.Report.{number_in, udid_in, entry_of, entry_at}
 use Rattle.bus.specs.RunLaws.{end_checked_lem, end_going}
 use Rattle.bindings.specs.declared.answer.ModelAnswer.{ModelAnswer}
@@ -25,7 +25,7 @@ use Rattle.bindings.specs.declared.answer.ModelAnswer.{ModelAnswer}
 module _ (occupied : Pool) (last : ℕ) (small : last < 128) (s b : List ℕ) (long : 2048 ≤ length b) (e : checked_list (barred_pool occupied) s ≡ Admitted) (r : ModelAnswer) (s' b' : List ℕ)
     (l : Leaves (model_end occupied last s b) r s' b') where
   pub leaves_pass : Leaves (ended_end (pass occupied last (targets_of s)) s b) r s' b'
-  leaves_pass = subst (λ (x : Model_end). Leaves x r s' b') (end_going occupied last s b small ∙ end_checked_lem occupied last s b Admitted long e) l
+  leaves_pass = subst (λ (x : ModelEnd). Leaves x r s' b') (end_going occupied last s b small ∙ end_checked_lem occupied last s b Admitted long e) l
 
   -- the number of the last command, the identifier in it, and the Get UDIDs that the controller counted
   pub answer_of_pass : r.answer ≡ number_in (command_number (pass occupied last (targets_of s)).now.command)

@@ -12,7 +12,7 @@ use Rattle.rule.specs.AnyBus.{pass_of}
 use Rattle.rule.specs.Bus.{model_bus, reached, pass}
 use Rattle.rule.specs.BusLaws.{effect_keeps_udid}
 use Rattle.rule.specs.Effect.{effect}
-use Rattle.rule.specs.SameBus.{Agree, Same_world}
+use Rattle.rule.specs.SameBus.{Agree, SameWorld}
 use Rattle.rule.specs.SameBusLaws.{same_pass, same_gets}
 use Rattle.rule.specs.Sent.{gets_over, gets_on_bus}
 use Rattle.bus.specs.RecordsBus.{records_bus, Holds}
@@ -41,7 +41,7 @@ module _ (first : List ℕ) where
   }
 
   -- ONE CONTROLLER AT THE END, and the records of the targets at the end
-  pub records_pass : (occupied : Pool) (last : ℕ) → Same_world (Holds first) (pass_of records_bus occupied last first) (pass occupied last (targets_of first))
+  pub records_pass : (occupied : Pool) (last : ℕ) → SameWorld (Holds first) (pass_of records_bus occupied last first) (pass occupied last (targets_of first))
   unfolding pass
   records_pass occupied last = same_pass records_bus model_bus (Holds first) records_agree occupied last first (targets_of first) (holds_first (started (new_controller occupied last)))
 

@@ -7,9 +7,9 @@ use Rattle.pool.specs.Start.{barred_pool}
 use Rattle.pool.specs.declared.Pool.{Pool}
 use Rattle.lists.specs.AbsurdLaws.{zero_is_one}
 use Rattle.lists.specs.Each.{Bytes}
-use Rattle.targets.specs.ByteCases.{Even_or_flag, Same_as_earlier, Fixed_on_taken, Given_by_bytes}
+use Rattle.targets.specs.ByteCases.{EvenOrFlag, SameAsEarlier, FixedOnTaken, GivenByBytes}
 use Rattle.targets.specs.ByteCasesLaws.{given_by_bytes}
-use Rattle.targets.specs.Cases.{Length_is_bad, None, First_of, Given}
+use Rattle.targets.specs.Cases.{LengthIsBad, None, FirstOf, Given}
 use Rattle.targets.specs.Numbers.{answer_of}
 use Rattle.targets.specs.Refusals.{checked_list}
 use Rattle.targets.specs.RefusalLaws.{given_exactly, answers_tell_apart}
@@ -22,7 +22,7 @@ use Rattle.commands.specs.declared.command.Handed.{Handed}
 use Rattle.commands.specs.declared.command.Handed.TheVariants.{Send, Wait}
 use Rattle.targets.specs.Records.{targets_of}
 use Rattle.rule.specs.Bus.{pass}
-use Rattle.bus.specs.Run.{Model_end, Leaves, refused_end, end_checked, run_end, model_end}
+use Rattle.bus.specs.Run.{ModelEnd, Leaves, refused_end, end_checked, run_end, model_end}
 use Rattle.report.specs.Report.{number_in, model_number, refused_answer}
 use Rattle.bus.specs.RunLaws.{end_short, end_checked_lem, end_forbidden, end_going}
 use Rattle.bindings.specs.declared.answer.ModelAnswer.{ModelAnswer}
@@ -82,14 +82,14 @@ admitted_or_not (Taken i) = inr (λ e. zero_is_one (cc e))
 module _ (occupied : Pool) (last : ℕ) (s b : List ℕ) (r : ModelAnswer) (s' b' : List ℕ) (l : Leaves (run_end occupied last s b) r s' b') where
   -- the end of each case
   short_end : length b < 2048 → Leaves (refused_end 2 0 s b) r s' b'
-  short_end h = subst (λ (x : Model_end). Leaves x r s' b') (end_short occupied last s b h) l
+  short_end h = subst (λ (x : ModelEnd). Leaves x r s' b') (end_short occupied last s b h) l
 
   checked_end : 2048 ≤ length b → Leaves (end_checked (checked_list (barred_pool occupied) s) occupied last s b) r s' b'
-  checked_end h = subst (λ (x : Model_end). Leaves x r s' b') (end_checked_lem occupied last s b (checked_list (barred_pool occupied) s) h refl) l
+  checked_end h = subst (λ (x : ModelEnd). Leaves x r s' b') (end_checked_lem occupied last s b (checked_list (barred_pool occupied) s) h refl) l
 
   refused_end_lem : 2048 ≤ length b → (checked_list (barred_pool occupied) s ≡ Admitted → ⊥)
       → Leaves (refused_end (answer_of (checked_list (barred_pool occupied) s)).number (answer_of (checked_list (barred_pool occupied) s)).value s b) r s' b'
-  refused_end_lem h n = subst (λ (x : Model_end). Leaves x r s' b') (refused_end_of_check (checked_list (barred_pool occupied) s) n occupied last s b) (checked_end h)
+  refused_end_lem h n = subst (λ (x : ModelEnd). Leaves x r s' b') (refused_end_of_check (checked_list (barred_pool occupied) s) n occupied last s b) (checked_end h)
 
   pass_number : 2048 ≤ length b → checked_list (barred_pool occupied) s ≡ Admitted → (1 ≤ r.answer) × (r.answer ≤ 12) → ⊥
   pass_number h e =
@@ -166,10 +166,10 @@ untouched s b r s' b' n i q = (
 -- ---- with any last pick: what run_model's contract says of an answer and of what the lent lists hold then
 module _ (occupied : Pool) (last : ℕ) (s b : List ℕ) (r : ModelAnswer) (s' b' : List ℕ) (l : Leaves (model_end occupied last s b) r s' b') where
   forbidden_end : 127 < last → Leaves (refused_end 1 0 s b) r s' b'
-  forbidden_end h = subst (λ (x : Model_end). Leaves x r s' b') (end_forbidden occupied last s b h) l
+  forbidden_end h = subst (λ (x : ModelEnd). Leaves x r s' b') (end_forbidden occupied last s b h) l
 
   going_end : last < 128 → Leaves (run_end occupied last s b) r s' b'
-  going_end h = subst (λ (x : Model_end). Leaves x r s' b') (end_going occupied last s b h) l
+  going_end h = subst (λ (x : ModelEnd). Leaves x r s' b') (end_going occupied last s b h) l
 
   -- 1: the last pick is above 127
   pub model_1 : (model_number r ≡ (1, 0)) ↔ (127 < last)
@@ -207,9 +207,9 @@ module _ (occupied : Pool) (last : ℕ) (s b : List ℕ) (r : ModelAnswer) (s' b
 
   -- the numbers, each if and only if its case, by the bytes of the records: record i is the 18 bytes from 18 i on
   module _ (bytes : Bytes s) where
-    refused_by_bytes : (k : Checked) → (k ≡ Admitted → ⊥) → (model_number r ≡ ((answer_of k).number, (answer_of k).value)) ↔ ((last < 128) × ((2048 ≤ length b) × Given_by_bytes (barred_pool occupied) s k))
+    refused_by_bytes : (k : Checked) → (k ≡ Admitted → ⊥) → (model_number r ≡ ((answer_of k).number, (answer_of k).value)) ↔ ((last < 128) × ((2048 ≤ length b) × GivenByBytes (barred_pool occupied) s k))
     refused_by_bytes k n =
-        other_number (answer_of k).number (answer_of k).value ((2048 ≤ length b) × Given_by_bytes (barred_pool occupied) s k) (λ e. omega (arith, (refusal_9_to_12 k n).0)) (λ v.
+        other_number (answer_of k).number (answer_of k).value ((2048 ≤ length b) × GivenByBytes (barred_pool occupied) s k) (λ e. omega (arith, (refusal_9_to_12 k n).0)) (λ v.
         let m = run_refused occupied last s b r s' b' v k n in
         let g = given_by_bytes (barred_pool occupied) s bytes k in
         (λ e. ((m.0 e).0, g.0 (m.0 e).1), λ h. m.1 (h.0, g.1 h.1)))
@@ -219,14 +219,14 @@ module _ (occupied : Pool) (last : ℕ) (s b : List ℕ) (r : ModelAnswer) (s' b
     model_9 = refused_by_bytes BadLength (λ e. zero_is_one (cc e))
 
     -- 10: the first record whose byte 16 is even or byte 17 above 1
-    pub model_10 : (i : ℕ) → (model_number r ≡ (10, i)) ↔ ((last < 128) × ((2048 ≤ length b) × ((Length_is_bad s → ⊥) × First_of (Even_or_flag s) (length s / 18) i)))
+    pub model_10 : (i : ℕ) → (model_number r ≡ (10, i)) ↔ ((last < 128) × ((2048 ≤ length b) × ((LengthIsBad s → ⊥) × FirstOf (EvenOrFlag s) (length s / 18) i)))
     model_10 i = refused_by_bytes (Malformed i) (λ e. zero_is_one (cc e))
 
     -- 11: the first record whose 16 bytes of identifier are those of an earlier one
-    pub model_11 : (i : ℕ) → (model_number r ≡ (11, i)) ↔ ((last < 128) × ((2048 ≤ length b) × ((Length_is_bad s → ⊥) × None (Even_or_flag s) (length s / 18) × First_of (Same_as_earlier s) (length s / 18) i)))
+    pub model_11 : (i : ℕ) → (model_number r ≡ (11, i)) ↔ ((last < 128) × ((2048 ≤ length b) × ((LengthIsBad s → ⊥) × None (EvenOrFlag s) (length s / 18) × FirstOf (SameAsEarlier s) (length s / 18) i)))
     model_11 i = refused_by_bytes (Repeated i) (λ e. zero_is_one (cc e))
 
     -- 12: the first fixed target whose address is barred (reserved or occupied), or is that of an earlier fixed one
     pub model_12 : (i : ℕ) → (model_number r ≡ (12, i))
-        ↔ ((last < 128) × ((2048 ≤ length b) × ((Length_is_bad s → ⊥) × None (Even_or_flag s) (length s / 18) × None (Same_as_earlier s) (length s / 18) × First_of (Fixed_on_taken (barred_pool occupied) s) (length s / 18) i)))
+        ↔ ((last < 128) × ((2048 ≤ length b) × ((LengthIsBad s → ⊥) × None (EvenOrFlag s) (length s / 18) × None (SameAsEarlier s) (length s / 18) × FirstOf (FixedOnTaken (barred_pool occupied) s) (length s / 18) i)))
     model_12 i = refused_by_bytes (Taken i) (λ e. zero_is_one (cc e))

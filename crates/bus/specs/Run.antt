@@ -25,23 +25,23 @@ Refused (Taken i) r = r ≡ refused_answer 12 i
 
 -- ---- the answer, the records and the binding buffer
 
-pub record Model_end : Type 0 where
+pub record ModelEnd : Type 0 where
   pub answer : ModelAnswer
   pub records : List ℕ
   pub bindings : List ℕ
 
 -- the answer given and what the lent lists hold then are those of the end e
-pub record Leaves (e : Model_end) (r : ModelAnswer) (records bindings : List ℕ) : Type 0 where
+pub record Leaves (e : ModelEnd) (r : ModelAnswer) (records bindings : List ℕ) : Type 0 where
   pub answered : r ≡ e.answer
   pub records_hold : records ≡ e.records
   pub bindings_hold : bindings ≡ e.bindings
 
 -- a refusal changes nothing lent
-abbrev pub refused_end : ℕ → ℕ → List ℕ → List ℕ → Model_end
+abbrev pub refused_end : ℕ → ℕ → List ℕ → List ℕ → ModelEnd
 refused_end n i s b = record { answer = refused_answer n i; records = s; bindings = b }
 
 -- the records take each target's address byte and flag, and the buffer the bindings in its first 2,048 bytes
-abbrev pub ended_end : World → List ℕ → List ℕ → Model_end
+abbrev pub ended_end : World → List ℕ → List ℕ → ModelEnd
 ended_end w s b = record {
   answer = reported w.now;
   records = records_with w.targets s;
@@ -49,7 +49,7 @@ ended_end w s b = record {
 }
 
 -- 9, 10, 11, 12, or the pass
-abbrev pub end_checked : Checked → Pool → ℕ → List ℕ → List ℕ → Model_end
+abbrev pub end_checked : Checked → Pool → ℕ → List ℕ → List ℕ → ModelEnd
 end_checked Admitted occupied last s b = ended_end (pass occupied last (targets_of s)) s b
 end_checked BadLength occupied last s b = refused_end (answer_of BadLength).number (answer_of BadLength).value s b
 end_checked (Malformed i) occupied last s b = refused_end (answer_of (Malformed i)).number (answer_of (Malformed i)).value s b
@@ -57,9 +57,9 @@ end_checked (Repeated i) occupied last s b = refused_end (answer_of (Repeated i)
 end_checked (Taken i) occupied last s b = refused_end (answer_of (Taken i)).number (answer_of (Taken i)).value s b
 
 -- 2 comes before them
-unfoldable pub run_end : Pool → ℕ → List ℕ → List ℕ → Model_end
+unfoldable pub run_end : Pool → ℕ → List ℕ → List ℕ → ModelEnd
 run_end occupied last s b = pick (ltb (length b) 2048) (refused_end 2 0 s b) (end_checked (checked_list (barred_pool occupied) s) occupied last s b)
 
 -- and 1 before all: the last pick is above 127
-unfoldable pub model_end : Pool → ℕ → List ℕ → List ℕ → Model_end
+unfoldable pub model_end : Pool → ℕ → List ℕ → List ℕ → ModelEnd
 model_end occupied last s b = pick (ltb 127 last) (refused_end 1 0 s b) (run_end occupied last s b)

@@ -9,7 +9,7 @@ use Rattle.targets.specs.Refusals.{checked_list}
 use Rattle.targets.specs.declared.admit.Checked.{Checked}
 use Rattle.targets.specs.declared.admit.Checked.TheVariants.{Admitted, BadLength, Malformed, Repeated, Taken}
 use Rattle.rule.specs.Bus.{pass}
-use Rattle.bus.specs.Run.{Model_end, Leaves, refused_end, ended_end, end_checked, run_end, model_end, Refused}
+use Rattle.bus.specs.Run.{ModelEnd, Leaves, refused_end, ended_end, end_checked, run_end, model_end, Refused}
 use Rattle.report.specs.Report.{refused_answer}
 use Rattle.bindings.specs.declared.answer.ModelAnswer.{ModelAnswer}
 
@@ -27,7 +27,7 @@ module _ (occupied : Pool) (last : ℕ) (s b : List ℕ) where
   -- ---- what the code answers in each case
 
   refused_leaves : (n i : ℕ) (r : ModelAnswer) → run_end occupied last s b ≡ refused_end n i s b → r ≡ refused_answer n i → Leaves (run_end occupied last s b) r s b
-  refused_leaves n i r e q = subst (λ (x : Model_end). Leaves x r s b) (sym e) (record { answered = q; records_hold = refl; bindings_hold = refl })
+  refused_leaves n i r e q = subst (λ (x : ModelEnd). Leaves x r s b) (sym e) (record { answered = q; records_hold = refl; bindings_hold = refl })
 
   pub leaves_short : (r : ModelAnswer) → length b < 2048 → r ≡ refused_answer 2 0 → Leaves (run_end occupied last s b) r s b
   leaves_short r h q = refused_leaves 2 0 r (end_short h) q
@@ -41,7 +41,7 @@ module _ (occupied : Pool) (last : ℕ) (s b : List ℕ) where
 
   pub leaves_run : (r : ModelAnswer) (s' b' : List ℕ) → 2048 ≤ length b → checked_list (barred_pool occupied) s ≡ Admitted → Leaves (ended_end (pass occupied last (targets_of s)) s b) r s' b'
       → Leaves (run_end occupied last s b) r s' b'
-  leaves_run r s' b' h e v = subst (λ (x : Model_end). Leaves x r s' b') (sym (end_checked_lem Admitted h e)) v
+  leaves_run r s' b' h e v = subst (λ (x : ModelEnd). Leaves x r s' b') (sym (end_checked_lem Admitted h e)) v
 
   -- ---- the last pick comes first
 
@@ -54,10 +54,10 @@ module _ (occupied : Pool) (last : ℕ) (s b : List ℕ) where
   end_going h = rw (le-ltb 127 last (omega arith))
 
   pub leaves_forbidden : (r : ModelAnswer) → 127 < last → r ≡ refused_answer 1 0 → Leaves (model_end occupied last s b) r s b
-  leaves_forbidden r h q = subst (λ (x : Model_end). Leaves x r s b) (sym (end_forbidden h)) (record { answered = q; records_hold = refl; bindings_hold = refl })
+  leaves_forbidden r h q = subst (λ (x : ModelEnd). Leaves x r s b) (sym (end_forbidden h)) (record { answered = q; records_hold = refl; bindings_hold = refl })
 
   pub leaves_going : (r : ModelAnswer) (s' b' : List ℕ) → last < 128 → Leaves (run_end occupied last s b) r s' b' → Leaves (model_end occupied last s b) r s' b'
-  leaves_going r s' b' h v = subst (λ (x : Model_end). Leaves x r s' b') (sym (end_going h)) v
+  leaves_going r s' b' h v = subst (λ (x : ModelEnd). Leaves x r s' b') (sym (end_going h)) v
 
 -- ---- one answer, one content of the records, one of the binding buffer
 

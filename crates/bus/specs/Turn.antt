@@ -5,7 +5,7 @@ use Rattle.wire.specs.Symbols.{START, STOP, ACK, NACK}
 use Rattle.encode.specs.Encode.{Wrote}
 use Rattle.encode.specs.declared.Encoded.{Encoded}
 use Rattle.arbitration.specs.Among.{Among}
-use Rattle.targets.specs.Cases.{Repeated_at, None}
+use Rattle.targets.specs.Cases.{RepeatedAt, None}
 use Rattle.targets.specs.Records.{record_count, targets_of, records_with}
 use Rattle.targets.specs.Target.{Target}
 use Rattle.arp.specs.Controller.{stepped}
@@ -16,13 +16,13 @@ use Rattle.commands.specs.declared.command.Handed.{Handed}
 use Rattle.commands.specs.declared.command.Handed.TheVariants.{Send, Wait}
 use Rattle.arp.specs.declared.state.Stepped.{Stepped}
 use Rattle.rule.specs.Acknowledge.{on_bus}
-use Rattle.rule.specs.AnyBus.{World_over}
+use Rattle.rule.specs.AnyBus.{WorldOver}
 use Rattle.rule.specs.Bus.{World, reached}
 
 -- records that a pass can run over: whole ones, no identifier twice
 pub record Fit (s : List ℕ) : Type 0 where
   pub whole : length s ≡ record_count s * 18
-  pub apart : None (Repeated_at s) (record_count s)
+  pub apart : None (RepeatedAt s) (record_count s)
 
 -- somebody is there to answer Get UDID, and an Assign of a 7-bit address goes to one of the targets
 abbrev pub Reaches : Handed → List Target → Type 0
@@ -54,7 +54,7 @@ Writes k reply before =
     (r : Encoded) (after : List ℕ) → Wrote (protocol_for k) true (message_of k reply) before r after → Sent k reply before r after
 
 -- the controller over the records
-abbrev pub world_of : Stepped → List ℕ → World_over (List ℕ)
+abbrev pub world_of : Stepped → List ℕ → WorldOver (List ℕ)
 world_of st s = record { now = st; targets = s }
 
 -- a command on the bus: the controller's step takes the trace that stands there, and so does each target

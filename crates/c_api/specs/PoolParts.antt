@@ -10,5 +10,5 @@ abbrev pub Listed : ℕ → Type 0
 Listed a = Reserved a ⊎ (((0x09 ≤ a) × (a ≤ 0x0B)) ⊎ (((0x2C ≤ a) × (a ≤ 0x2D)) ⊎ (((0x40 ≤ a) × (a ≤ 0x44)) ⊎ ((0x48 ≤ a) × (a ≤ 0x4B)))))
 
 -- bit a of the low half is address a, bit a of the high half is address 64 + a; no other number is in a pool
-abbrev pub In_pool : ℕ → ℕ → ℕ → Type 0
-In_pool low high a = ((a < 64) × (low / 2 ^ a % 2 ≡ 1)) ⊎ ((64 ≤ a) × (a < 128) × (high / 2 ^ (a - 64) % 2 ≡ 1))
+abbrev pub InPool : ℕ → ℕ → ℕ → Type 0
+InPool low high a = ((a < 64) × (low / 2 ^ a % 2 ≡ 1)) ⊎ ((64 ≤ a) × (a < 128) × (high / 2 ^ (a - 64) % 2 ≡ 1))

@@ -5,7 +5,7 @@ use Rattle.std.proofs.lemmas.List.{length-replicate}
 use Rattle.lists.specs.Each.{Bytes}
 use Rattle.lists.specs.Onto.{onto}
 use Rattle.trace.specs.Shapes.{shape_of}
-use Rattle.trace.specs.Table.{Trace_of}
+use Rattle.trace.specs.Table.{TraceOf}
 use Rattle.trace.specs.TableLaws.{listed_trace, quick_plain}
 use Rattle.trace.specs.Trace.{Message, trace}
 use Rattle.encode.specs.declared.Encoded.TheVariants.{Written}
@@ -18,9 +18,9 @@ use Rattle.c_codec.specs.declared.codec.HbWritten.{HbWritten}
 use Rattle.c_codec.specs.Numbers.{truth}
 use Rattle.pairs.specs.Pairs.{pairs_of, symbols_in}
 use Rattle.pairs.specs.PairLaws.{bytes_back, length_symbols}
-use Rattle.c_codec.specs.Codec.{told, told_decoded, Wrote_pairs, Wrote_symbols, Read_symbols}
+use Rattle.c_codec.specs.Codec.{told, told_decoded, WrotePairs, WroteSymbols, ReadSymbols}
 use Rattle.promises.specs.DemandsLaws.{of_bytes, demand_2}
-use Rattle.c_codec.specs.DecodeParts.{Pairs, Gives_back}
+use Rattle.c_codec.specs.DecodeParts.{Pairs, GivesBack}
 use Rattle.c_codec.specs.EncodeParts.{asked}
 use Rattle.c_codec.specs.EncodeCallLaws.{hb_encode, hb_encode_symbols}
 use Rattle.c_codec.specs.DecodeCallLaws.{hb_decode, hb_decode_0, gives_back}
@@ -39,8 +39,8 @@ module _ (protocol pec address direction command : ℕ) (sent received : List �
   wrote = trace (shape_of protocol) (truth pec) asks
 
   -- on the trace itself, which is written into any room that has it
-  trace_gives_back : (Listed protocol (truth pec) asks → ⊥) → Read_symbols protocol (truth pec) wrote sent₀ received₀ k sent₁ received₁
-      → Gives_back address direction command sent received sent₀ received₀ k sent₁ received₁
+  trace_gives_back : (Listed protocol (truth pec) asks → ⊥) → ReadSymbols protocol (truth pec) wrote sent₀ received₀ k sent₁ received₁
+      → GivesBack address direction command sent received sent₀ received₀ k sent₁ received₁
   trace_gives_back n d =
       let zeros : List ℕ = replicate (length wrote) 0 in
       let e : encoded protocol (truth pec) asks (length zeros) ≡ Written (length wrote) =
@@ -53,17 +53,17 @@ module _ (protocol pec address direction command : ℕ) (sent received : List �
       gives_back protocol asks sent₀ received₀ k sent₁ received₁ (d.is_told ∙ ap told_decoded g.0) g.1 g.2
 
   -- hb_encode_symbols, then hb_decode_symbols on the symbols that it wrote: every field comes back
-  pub hb_symbols_back : Wrote_symbols protocol (truth pec) (message address direction command sent received) before h after → h.answer ≡ 0
-      → Read_symbols protocol (truth pec) (take h.symbols after) sent₀ received₀ k sent₁ received₁
-      → Gives_back address direction command sent received sent₀ received₀ k sent₁ received₁
+  pub hb_symbols_back : WroteSymbols protocol (truth pec) (message address direction command sent received) before h after → h.answer ≡ 0
+      → ReadSymbols protocol (truth pec) (take h.symbols after) sent₀ received₀ k sent₁ received₁
+      → GivesBack address direction command sent received sent₀ received₀ k sent₁ received₁
   hb_symbols_back w q d =
       let e = hb_encode_symbols protocol pec address direction command sent received before h after w in
-      trace_gives_back (e.answered.answer_0.0 q).0 (subst (λ (l : List ℕ). Read_symbols protocol (truth pec) l sent₀ received₀ k sent₁ received₁) (e.front q) d)
+      trace_gives_back (e.answered.answer_0.0 q).0 (subst (λ (l : List ℕ). ReadSymbols protocol (truth pec) l sent₀ received₀ k sent₁ received₁) (e.front q) d)
 
   -- hb_encode, then hb_decode on the bytes that it wrote: every field comes back
-  pub hb_pairs_back : Wrote_pairs protocol (truth pec) (message address direction command sent received) before h after → h.answer ≡ 0
-      → Read_symbols protocol (truth pec) (symbols_in (length (take (2 * h.symbols) after) / 2) (take (2 * h.symbols) after)) sent₀ received₀ k sent₁ received₁
-      → Gives_back address direction command sent received sent₀ received₀ k sent₁ received₁
+  pub hb_pairs_back : WrotePairs protocol (truth pec) (message address direction command sent received) before h after → h.answer ≡ 0
+      → ReadSymbols protocol (truth pec) (symbols_in (length (take (2 * h.symbols) after) / 2) (take (2 * h.symbols) after)) sent₀ received₀ k sent₁ received₁
+      → GivesBack address direction command sent received sent₀ received₀ k sent₁ received₁
   hb_pairs_back w q d =
       let e = hb_encode protocol pec address direction command sent received before h after w in
       let l : h.symbols ≡ length wrote = e.answered.with_0 q in
@@ -82,11 +82,11 @@ module _ (protocol pec address direction command : ℕ) (sent received : List �
       trace_gives_back (e.answered.answer_0.0 q).0 (hb_decode protocol pec (take (2 * h.symbols) after) wrote sent₀ received₀ k sent₁ received₁ p d)
 
 -- a call of the decoder that answers 0, and one of the encoder on what it handed back
-module _ (protocol pec : ℕ) (tr sent₀ received₀ : List ℕ) (h : HbDecoded) (sent received : List ℕ) (d : Read_symbols protocol (truth pec) tr sent₀ received₀ h sent received) (q : h.answer ≡ 0) where
+module _ (protocol pec : ℕ) (tr sent₀ received₀ : List ℕ) (h : HbDecoded) (sent received : List ℕ) (d : ReadSymbols protocol (truth pec) tr sent₀ received₀ h sent received) (q : h.answer ≡ 0) where
   abbrev handed : Message
   handed = message h.address h.direction h.command (take h.sent sent) (take h.received received)
 
-  handed_message : (m : Message) × Trace_of protocol (truth pec) m tr × (handed ≡ m)
+  handed_message : (m : Message) × TraceOf protocol (truth pec) m tr × (handed ≡ m)
   handed_message =
       let k = hb_decode_0 protocol pec tr sent₀ received₀ h sent received d q in
       let m = k.0 in
@@ -109,7 +109,7 @@ module _ (protocol pec : ℕ) (tr sent₀ received₀ : List ℕ) (h : HbDecoded
       )
 
   pub hb_symbols_again : (before : List ℕ) → length tr ≤ length before → (w : HbWritten) (after : List ℕ)
-      → Wrote_symbols protocol (truth pec) (message h.address h.direction h.command (take h.sent sent) (take h.received received)) before w after
+      → WroteSymbols protocol (truth pec) (message h.address h.direction h.command (take h.sent sent) (take h.received received)) before w after
       → (w.answer ≡ 0) × (w.symbols ≡ length tr) × (take (length tr) after ≡ tr)
   hb_symbols_again before l w after v =
       let a = encodes_again (length before) l in
@@ -120,9 +120,9 @@ module _ (protocol pec : ℕ) (tr sent₀ received₀ : List ℕ) (h : HbDecoded
       (z, n, ap (λ (i : ℕ). take i after) (sym n) ∙ f.front z ∙ a.1)
 
 pub hb_pairs_again : (protocol pec : ℕ) (bytes sent₀ received₀ : List ℕ) → Bytes bytes → (h : HbDecoded) (sent received : List ℕ)
-    → Read_symbols protocol (truth pec) (symbols_in (length bytes / 2) bytes) sent₀ received₀ h sent received → h.answer ≡ 0
+    → ReadSymbols protocol (truth pec) (symbols_in (length bytes / 2) bytes) sent₀ received₀ h sent received → h.answer ≡ 0
     → (before : List ℕ) → length bytes / 2 ≤ length before / 2 → (w : HbWritten) (after : List ℕ)
-    → Wrote_pairs protocol (truth pec) (message h.address h.direction h.command (take h.sent sent) (take h.received received)) before w after
+    → WrotePairs protocol (truth pec) (message h.address h.direction h.command (take h.sent sent) (take h.received received)) before w after
     → (w.answer ≡ 0) × (w.symbols ≡ length bytes / 2) × (take (2 * w.symbols) after ≡ take (2 * w.symbols) bytes)
 hb_pairs_again protocol pec bytes sent₀ received₀ b h sent received d q before l w after v =
     let n : ℕ = length bytes / 2 in

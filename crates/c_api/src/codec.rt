@@ -3,7 +3,7 @@ ghost use Rattle.std.specs.Prelude.{◌/◌, length};
 ghost use Rattle.encode.specs.Encode.{message};
 ghost use Rattle.pairs.specs.Pairs.{symbols_in};
 ghost use Rattle.c_codec.specs.Numbers.{truth};
-ghost use Rattle.c_codec.specs.Codec.{Wrote_pairs, Read_symbols};
+ghost use Rattle.c_codec.specs.Codec.{WrotePairs, ReadSymbols};
 ghost use Rattle.c_codec.specs.LastData.{phase_of, Copied};
 
 use c_codec::answer::HbDecoded;
@@ -22,7 +22,7 @@ pub extern "C" fn hb_encode(
     received: &[u8],
     out: &mut [u8],
 ) -> HbWritten
-    ensures { Wrote_pairs protocol (truth pec) (message address direction command sent.now received.now) out.old result out.new }
+    ensures { WrotePairs protocol (truth pec) (message address direction command sent.now received.now) out.old result out.new }
 {
     encode_pairs(
         protocol, pec, address, direction, command, sent, received, out,
@@ -38,7 +38,7 @@ pub extern "C" fn hb_decode(
     sent: &mut [u8],
     received: &mut [u8],
 ) -> HbDecoded
-    ensures { Read_symbols protocol (truth pec) (symbols_in (length trace.now / 2) trace.now) sent.old received.old result sent.new received.new }
+    ensures { ReadSymbols protocol (truth pec) (symbols_in (length trace.now / 2) trace.now) sent.old received.old result sent.new received.new }
 {
     decode_pairs(protocol, pec, trace, sent, received)
 }

@@ -3,7 +3,7 @@
 // the entries of the list one after the other.
 ghost use Rattle.std.specs.Prelude.{◌≡◌, true};
 ghost use Rattle.commands.specs.Requests.{protocol_for, message_of};
-ghost use Rattle.c_codec.specs.Codec.{Wrote_pairs};
+ghost use Rattle.c_codec.specs.Codec.{WrotePairs};
 ghost use Rattle.c_arp.specs.Commands.{command_of};
 ghost use Rattle.c_arp.specs.Parts.{pool_in, udid_in};
 ghost use Rattle.c_arp.specs.Pass.{pass_command, pass_found};
@@ -22,7 +22,7 @@ pub extern "C" fn hb_put_command(
     reply: &[u8],
     out: &mut [u8],
 ) -> HbWritten
-    ensures { Wrote_pairs (protocol_for (command_of kind (udid_in udid) (record { 0 = address }))) true (message_of (command_of kind (udid_in udid) (record { 0 = address })) reply.now) out.old result out.new }
+    ensures { WrotePairs (protocol_for (command_of kind (udid_in udid) (record { 0 = address }))) true (message_of (command_of kind (udid_in udid) (record { 0 = address })) reply.now) out.old result out.new }
 {
     put_command_pairs(kind, udid, address, reply, out)
 }

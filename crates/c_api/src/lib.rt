@@ -3,6 +3,8 @@
 // 0 is false, any other true. A symbol of a trace is two bytes, the low one first.
 // Each only calls a proved function below, so that `rt staticlib c_api`, which proves its crate every time, has little to prove.
 // What only the benchmark calls stands in crate bench_api.
+#![tactic(auto)]
+
 pub mod codec;
 pub mod controller;
 pub mod ground;

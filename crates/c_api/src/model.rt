@@ -3,7 +3,7 @@ ghost use Rattle.std.specs.Prelude.{◌≡◌};
 ghost use Rattle.pool.specs.Start.{barred_pool};
 ghost use Rattle.targets.specs.Refusals.{checked_list};
 ghost use Rattle.c_arp.specs.Check.{told_checked};
-ghost use Rattle.c_arp.specs.Model.{Ran_model};
+ghost use Rattle.c_arp.specs.Model.{RanModel};
 ghost use Rattle.c_arp.specs.Parts.{pool_in};
 
 use c_arp::check::{HbChecked, check_targets};
@@ -26,7 +26,7 @@ pub extern "C" fn hb_run_model(
     records: &mut [u8],
     bindings: &mut [u8],
 ) -> HbModel
-    ensures { Ran_model (pool_in occupied) last records.old bindings.old result records.new bindings.new }
+    ensures { RanModel (pool_in occupied) last records.old bindings.old result records.new bindings.new }
 {
     model_run(occupied, last, records, bindings)
 }

@@ -19,7 +19,7 @@ use Rattle.commands.specs.declared.command.Handed.{Handed}
 use Rattle.commands.specs.declared.command.Handed.TheVariants.{Send, Wait}
 use Rattle.c_codec.specs.declared.codec.HbWritten.{HbWritten}
 use Rattle.pairs.specs.Pairs.{Put}
-use Rattle.c_codec.specs.Codec.{answer_of, Wrote_pairs}
+use Rattle.c_codec.specs.Codec.{answer_of, WrotePairs}
 use Rattle.c_codec.proofs.CodecLaws.{refused_pairs, small, short_pairs, done_pairs}
 
 command_byte : (k : Handed) (reply : List ℕ) → (message_of k reply).command < 256
@@ -40,15 +40,15 @@ received_bytes (Send GetUdid) reply b = b
 received_bytes (Send (Assign u a)) reply b = tt
 received_bytes (Wait e) reply b = tt
 
-abbrev pub Wrote_command : Handed → List ℕ → List ℕ → HbWritten → List ℕ → Type 0
-Wrote_command k reply before h after = Wrote_pairs (protocol_for k) true (message_of k reply) before h after
+abbrev pub WroteCommand : Handed → List ℕ → List ℕ → HbWritten → List ℕ → Type 0
+WroteCommand k reply before h after = WrotePairs (protocol_for k) true (message_of k reply) before h after
 
 module _ (k j : Handed) (same : k ≡ j) (reply : List ℕ) (bytes : Bytes reply) (buffer : List ℕ) (long : length buffer ≡ 525) (r : Encoded) (after : List ℕ)
     (w : Wrote (protocol_for k) true (message_of k reply) buffer r after) where
-  of_same : (out : List ℕ) (h : HbWritten) (last : List ℕ) → Wrote_command k reply out h last → Wrote_command j reply out h last
-  of_same out h last v = subst (λ (x : Handed). Wrote_command x reply out h last) same v
+  of_same : (out : List ℕ) (h : HbWritten) (last : List ℕ) → WroteCommand k reply out h last → WroteCommand j reply out h last
+  of_same out h last v = subst (λ (x : Handed). WroteCommand x reply out h last) same v
 
-  pub command_refused : (out : List ℕ) → OneOf (1 ∷ 2 ∷ []) (tag_of declared.the_type r) → (h : HbWritten) → h ≡ answer_of 1 0 → Wrote_command j reply out h out
+  pub command_refused : (out : List ℕ) → OneOf (1 ∷ 2 ∷ []) (tag_of declared.the_type r) → (h : HbWritten) → h ≡ answer_of 1 0 → WroteCommand j reply out h out
   command_refused out t h e =
       of_same out h out
       (refused_pairs (protocol_for k) true (message_of k reply) (command_byte k reply) (sent_bytes k reply) (received_bytes k reply bytes) buffer long r after w out t h e)
@@ -58,13 +58,13 @@ module _ (k j : Handed) (same : k ≡ j) (reply : List ℕ) (bytes : Bytes reply
       small (protocol_for k) true (message_of k reply) (command_byte k reply) (sent_bytes k reply) (received_bytes k reply bytes) buffer long r after w n e
 
   pub command_short : (out : List ℕ) (n : ℕ) → r ≡ Written n → (b : Bool) (last : List ℕ) → Put (take n after) out b last → b ≡ false
-      → (h : HbWritten) → h ≡ answer_of 2 0 → Wrote_command j reply out h last
+      → (h : HbWritten) → h ≡ answer_of 2 0 → WroteCommand j reply out h last
   command_short out n e b last p f h g =
       of_same out h last
       (short_pairs (protocol_for k) true (message_of k reply) (command_byte k reply) (sent_bytes k reply) (received_bytes k reply bytes) buffer long r after w out n e b last p f h g)
 
   pub command_done : (out : List ℕ) (n : ℕ) → r ≡ Written n → (b : Bool) (last : List ℕ) → Put (take n after) out b last → b ≡ true
-      → (h : HbWritten) → h ≡ answer_of 0 n → Wrote_command j reply out h last
+      → (h : HbWritten) → h ≡ answer_of 0 n → WroteCommand j reply out h last
   command_done out n e b last p f h g =
       of_same out h last
       (done_pairs (protocol_for k) true (message_of k reply) (command_byte k reply) (sent_bytes k reply) (received_bytes k reply bytes) buffer long r after w out n e b last p f h g)

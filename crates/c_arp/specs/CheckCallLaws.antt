@@ -4,7 +4,7 @@ use Rattle.std.proofs.Common.{sym, ap, ◌∙◌}
 use Rattle.std.proofs.Math.Logic.{Iff·trans}
 use Rattle.pool.specs.Start.{barred_pool}
 use Rattle.pool.specs.declared.Pool.{Pool}
-use Rattle.targets.specs.Cases.{Length_is_bad, Malformed_at, Repeated_at, Taken_at, None, First_of, Given}
+use Rattle.targets.specs.Cases.{LengthIsBad, MalformedAt, RepeatedAt, TakenAt, None, FirstOf, Given}
 use Rattle.targets.specs.Numbers.{answer_of}
 use Rattle.targets.specs.Records.{record_count}
 use Rattle.targets.specs.Refusals.{checked_list}
@@ -36,20 +36,20 @@ module _ (occupied : HbPool) (s : List ℕ) (r : HbChecked) (e : r ≡ told_chec
       )
 
   -- 9: the length; 10, 11 and 12, each with the first such record: malformed, repeated, on a taken address; 0: none of them
-  pub hb_check_9 : ((r.answer ≡ 9) × (r.place ≡ 0)) ↔ Length_is_bad s
+  pub hb_check_9 : ((r.answer ≡ 9) × (r.place ≡ 0)) ↔ LengthIsBad s
   hb_check_9 = check_number 9 0 BadLength refl refl
 
-  pub hb_check_10 : (i : ℕ) → ((r.answer ≡ 10) × (r.place ≡ i)) ↔ ((Length_is_bad s → ⊥) × First_of (Malformed_at s) (record_count s) i)
+  pub hb_check_10 : (i : ℕ) → ((r.answer ≡ 10) × (r.place ≡ i)) ↔ ((LengthIsBad s → ⊥) × FirstOf (MalformedAt s) (record_count s) i)
   hb_check_10 i = check_number 10 i (Malformed i) refl refl
 
-  pub hb_check_11 : (i : ℕ) → ((r.answer ≡ 11) × (r.place ≡ i)) ↔ ((Length_is_bad s → ⊥) × None (Malformed_at s) (record_count s) × First_of (Repeated_at s) (record_count s) i)
+  pub hb_check_11 : (i : ℕ) → ((r.answer ≡ 11) × (r.place ≡ i)) ↔ ((LengthIsBad s → ⊥) × None (MalformedAt s) (record_count s) × FirstOf (RepeatedAt s) (record_count s) i)
   hb_check_11 i = check_number 11 i (Repeated i) refl refl
 
   pub hb_check_12 : (i : ℕ)
       → ((r.answer ≡ 12) × (r.place ≡ i))
-      ↔ ((Length_is_bad s → ⊥) × None (Malformed_at s) (record_count s) × None (Repeated_at s) (record_count s) × First_of (Taken_at barred s) (record_count s) i)
+      ↔ ((LengthIsBad s → ⊥) × None (MalformedAt s) (record_count s) × None (RepeatedAt s) (record_count s) × FirstOf (TakenAt barred s) (record_count s) i)
   hb_check_12 i = check_number 12 i (Taken i) refl refl
 
   pub hb_check_0 : ((r.answer ≡ 0) × (r.place ≡ 0))
-      ↔ ((Length_is_bad s → ⊥) × None (Malformed_at s) (record_count s) × None (Repeated_at s) (record_count s) × None (Taken_at barred s) (record_count s))
+      ↔ ((LengthIsBad s → ⊥) × None (MalformedAt s) (record_count s) × None (RepeatedAt s) (record_count s) × None (TakenAt barred s) (record_count s))
   hb_check_0 = check_number 0 0 Admitted refl refl

@@ -32,8 +32,8 @@ use Rattle.commands.specs.declared.command.Reason.{Reason}
 use Rattle.report.specs.Report.{no_udid}
 use Rattle.c_arp.specs.declared.kinds.HbCommand.{HbCommand}
 use Rattle.c_arp.specs.declared.parts.HbPool.{HbPool}
-use Rattle.c_arp.specs.Choices.{Choice_waits, No_choice, Is_answered}
-use Rattle.c_arp.specs.Command_parts.{Command_parts}
+use Rattle.c_arp.specs.Choices.{ChoiceWaits, NoChoice, IsAnswered}
+use Rattle.c_arp.specs.CommandParts.{CommandParts}
 use Rattle.c_arp.specs.CommandPartLaws.{command_parts, command_21}
 use Rattle.c_arp.specs.Commands.{told_command, reason_number}
 use Rattle.c_arp.specs.Histories.{events_of}
@@ -96,23 +96,23 @@ module _ (given : HbPool) (last : ℕ) (es : List Event) (rest : List ℕ) (v : 
   last_before : before.state.last ≡ handed_out (pool_in given) last (events_of es)
   last_before = ap (λ (s : Controller). s.last) (hb_pass_history given last es rest v cut).state ∙ last_is_handed_out (pool_in given) last (events_of es)
 
-  choice_before : (u : Udid) (a : Address) (x : Reason) → Choice_waits given last es u a x → before.state.last ≡ Wait (Chosen u a x)
+  choice_before : (u : Udid) (a : Address) (x : Reason) → ChoiceWaits given last es u a x → before.state.last ≡ Wait (Chosen u a x)
   choice_before u a x c = last_before ∙ c
 
-  no_choice_before : (Waits before.state → ⊥) ↔ No_choice given last es
+  no_choice_before : (Waits before.state → ⊥) ↔ NoChoice given last es
   no_choice_before = (λ n u a x c. n (u, a, x, choice_before u a x c), λ n w. n w.0 w.1 w.2 (sym last_before ∙ w.3))
 
   -- ---- a choice that is answered
 
   pub hb_pass_chosen : (r : HbCommand) → last < 128 → r ≡ pass_command (pool_in given) last bytes → (u : Udid) (a : Address) (x : Reason)
-      → answered (pool_in given) last (events_of es) ≡ Wait (Chosen u a x) → Command_parts r 8 0 a.0 before.state.gets before.state.picked (reason_number x) u.high u.low
+      → answered (pool_in given) last (events_of es) ≡ Wait (Chosen u a x) → CommandParts r 8 0 a.0 before.state.gets before.state.picked (reason_number x) u.high u.low
   hb_pass_chosen r small e u a x q =
       command_parts (Wait (Chosen u a x)) before.state.gets before.state.picked r
       (e ∙ command_told (pool_in given) last bytes small ∙ ap (λ (k : Handed). told_command k before.state.gets before.state.picked) ((hb_pass_history given last es rest v cut).command ∙ q))
 
   -- HB_CHOSEN is told of nothing else; and the choice that it tells waits
   pub hb_pass_chosen_only : (r : HbCommand) → last < 128 → r ≡ pass_command (pool_in given) last bytes → r.kind ≡ 8
-      → (u : Udid) × (a : Address) × (x : Reason) × (answered (pool_in given) last (events_of es) ≡ Wait (Chosen u a x)) × Choice_waits given last es u a x
+      → (u : Udid) × (a : Address) × (x : Reason) × (answered (pool_in given) last (events_of es) ≡ Wait (Chosen u a x)) × ChoiceWaits given last es u a x
   hb_pass_chosen_only r small e q =
       let told : r ≡ told_pass before = e ∙ command_told (pool_in given) last bytes small in
       let w = kind_8 before.command before.state.gets before.state.picked (sym (ap (λ (y : HbCommand). y.kind) told) ∙ q) in
@@ -126,34 +126,34 @@ module _ (given : HbPool) (last : ℕ) (es : List Event) (rest : List ℕ) (v : 
     told_one x w e = e ∙ command_told (pool_in given) last (list_bytes (es ++ x ∷ []) ++ rest') small ∙ ap (λ (st : Stepped). told_pass st) (pass_one x rest' w cut')
 
     -- HB_ISSUE: 21 exactly if no choice waits
-    pub hb_pass_issue_21 : r ≡ pass_command (pool_in given) last (list_bytes (es ++ Issue ∷ []) ++ rest') → (r.answer ≡ 21) ↔ No_choice given last es
+    pub hb_pass_issue_21 : r ≡ pass_command (pool_in given) last (list_bytes (es ++ Issue ∷ []) ++ rest') → (r.answer ≡ 21) ↔ NoChoice given last es
     hb_pass_issue_21 e =
         let st : Stepped = issuing before.state in
         Iff·trans (command_21 st.command st.state.gets st.state.picked r (told_one Issue tt e)) (Iff·trans (issue_21 before.state) no_choice_before)
 
     -- else the Assign of the choice; the Get UDIDs and the last pick stay
-    pub hb_pass_issue : r ≡ pass_command (pool_in given) last (list_bytes (es ++ Issue ∷ []) ++ rest') → (u : Udid) (a : Address) (x : Reason) → Choice_waits given last es u a x
-        → Command_parts r 2 0 a.0 before.state.gets before.state.picked 0 u.high u.low
+    pub hb_pass_issue : r ≡ pass_command (pool_in given) last (list_bytes (es ++ Issue ∷ []) ++ rest') → (u : Udid) (a : Address) (x : Reason) → ChoiceWaits given last es u a x
+        → CommandParts r 2 0 a.0 before.state.gets before.state.picked 0 u.high u.low
     hb_pass_issue e u a x c =
         command_parts (Send (Assign u a)) before.state.gets before.state.picked r
         (told_one Issue tt e ∙ ap (λ (st : Stepped). told_pass st) (issue_is before.state u a x (choice_before u a x c)))
 
     -- HB_DECLINE: 21 exactly if no choice waits
-    pub hb_pass_decline_21 : r ≡ pass_command (pool_in given) last (list_bytes (es ++ Decline ∷ []) ++ rest') → (r.answer ≡ 21) ↔ No_choice given last es
+    pub hb_pass_decline_21 : r ≡ pass_command (pool_in given) last (list_bytes (es ++ Decline ∷ []) ++ rest') → (r.answer ≡ 21) ↔ NoChoice given last es
     hb_pass_decline_21 e =
         let st : Stepped = declining before.state in
         Iff·trans (command_21 st.command st.state.gets st.state.picked r (told_one Decline tt e)) (Iff·trans (decline_21 before.state) no_choice_before)
 
     -- else the pass has ended with 14
-    pub hb_pass_decline : r ≡ pass_command (pool_in given) last (list_bytes (es ++ Decline ∷ []) ++ rest') → (u : Udid) (a : Address) (x : Reason) → Choice_waits given last es u a x
-        → Command_parts r 5 14 0 before.state.gets before.state.picked 0 0 0
+    pub hb_pass_decline : r ≡ pass_command (pool_in given) last (list_bytes (es ++ Decline ∷ []) ++ rest') → (u : Udid) (a : Address) (x : Reason) → ChoiceWaits given last es u a x
+        → CommandParts r 5 14 0 before.state.gets before.state.picked 0 0 0
     hb_pass_decline e u a x c =
         command_parts (Wait Abandoned) before.state.gets before.state.picked r
         (told_one Decline tt e ∙ ap (λ (st : Stepped). told_pass st) (decline_is before.state u a x (choice_before u a x c)))
 
     -- so by the struct k that told the choice: the Assign has its address and its identifier
     pub hb_pass_issue_chosen : (k : HbCommand) → k ≡ pass_command (pool_in given) last bytes → k.kind ≡ 8 → r ≡ pass_command (pool_in given) last (list_bytes (es ++ Issue ∷ []) ++ rest')
-        → Command_parts r 2 0 k.address k.gets k.picked 0 k.udid.high k.udid.low
+        → CommandParts r 2 0 k.address k.gets k.picked 0 k.udid.high k.udid.low
     hb_pass_issue_chosen k f q e =
         let w = hb_pass_chosen_only k small f q in
         let c = hb_pass_chosen k small f w.0 w.1 w.2 w.3 in
@@ -170,7 +170,7 @@ module _ (given : HbPool) (last : ℕ) (es : List Event) (rest : List ℕ) (v : 
         }
 
     pub hb_pass_decline_chosen : (k : HbCommand) → k ≡ pass_command (pool_in given) last bytes → k.kind ≡ 8 → r ≡ pass_command (pool_in given) last (list_bytes (es ++ Decline ∷ []) ++ rest')
-        → Command_parts r 5 14 0 k.gets k.picked 0 0 0
+        → CommandParts r 5 14 0 k.gets k.picked 0 0 0
     hb_pass_decline_chosen k f q e =
         let w = hb_pass_chosen_only k small f q in
         let c = hb_pass_chosen k small f w.0 w.1 w.2 w.3 in
@@ -188,7 +188,7 @@ module _ (given : HbPool) (last : ℕ) (es : List Event) (rest : List ℕ) (v : 
 
     -- ---- a 21 changes nothing
 
-    still : (x : Event) → Is_answered x → command_number (after_event before x).command ≡ (21, []) ∷ [] → (after_event before x).state ≡ before.state
+    still : (x : Event) → IsAnswered x → command_number (after_event before x).command ≡ (21, []) ∷ [] → (after_event before x).state ≡ before.state
     still Start i q = absurd i
     still (Received w tr) i q = ap (λ (st : Stepped). st.state) (idle_half w before.state tr ((heard_21 before.state w tr).0 q))
     still (Gone a) i q = absurd i
@@ -196,7 +196,7 @@ module _ (given : HbPool) (last : ℕ) (es : List Event) (rest : List ℕ) (v : 
     still Decline i q = ap (λ (st : Stepped). st.state) (none_to_decline before.state ((decline_21 before.state).0 q))
 
     -- AN ENTRY THAT IS ANSWERED WITH 21 leaves the state of the pass as it was: a choice that waits goes on waiting
-    pub hb_pass_still : (x : Event) → Is_answered x → Listed (x ∷ []) → r ≡ pass_command (pool_in given) last (list_bytes (es ++ x ∷ []) ++ rest') → r.answer ≡ 21
+    pub hb_pass_still : (x : Event) → IsAnswered x → Listed (x ∷ []) → r ≡ pass_command (pool_in given) last (list_bytes (es ++ x ∷ []) ++ rest') → r.answer ≡ 21
         → (pass_over (pool_in given) last (list_bytes (es ++ x ∷ []) ++ rest')).state ≡ before.state
     hb_pass_still x i w e q =
         let st : Stepped = after_event before x in
@@ -204,7 +204,7 @@ module _ (given : HbPool) (last : ℕ) (es : List Event) (rest : List ℕ) (v : 
         ∙ still x i ((command_21 st.command st.state.gets st.state.picked r (told_one x w e)).0 q)
 
     -- and every lookup as it was
-    pub hb_lookup_still : (x : Event) → Is_answered x → Listed (x ∷ []) → r ≡ pass_command (pool_in given) last (list_bytes (es ++ x ∷ []) ++ rest') → r.answer ≡ 21
+    pub hb_lookup_still : (x : Event) → IsAnswered x → Listed (x ∷ []) → r ≡ pass_command (pool_in given) last (list_bytes (es ++ x ∷ []) ++ rest') → r.answer ≡ 21
         → (b : ℕ) → pass_found (pool_in given) last (list_bytes (es ++ x ∷ []) ++ rest') b ≡ pass_found (pool_in given) last bytes b
     unfolding pass_found
     hb_lookup_still x i w e q b = ap (λ (s : Controller). pick (ltb 127 last) (found_of 1 no_udid) (told_found (looked_up s b))) (hb_pass_still x i w e q)

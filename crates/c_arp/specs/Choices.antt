@@ -12,17 +12,17 @@ use Rattle.c_arp.specs.Histories.{events_of}
 use Rattle.c_arp.specs.Parts.{pool_in}
 
 -- the choice of a for u, for the reason x, was handed out last
-abbrev pub Choice_waits : HbPool → ℕ → List Event → Udid → Address → Reason → Type 0
-Choice_waits given last es u a x = handed_out (pool_in given) last (events_of es) ≡ Wait (Chosen u a x)
+abbrev pub ChoiceWaits : HbPool → ℕ → List Event → Udid → Address → Reason → Type 0
+ChoiceWaits given last es u a x = handed_out (pool_in given) last (events_of es) ≡ Wait (Chosen u a x)
 
 -- no choice was
-abbrev pub No_choice : HbPool → ℕ → List Event → Type 0
-No_choice given last es = (u : Udid) (a : Address) (x : Reason) → Choice_waits given last es u a x → ⊥
+abbrev pub NoChoice : HbPool → ℕ → List Event → Type 0
+NoChoice given last es = (u : Udid) (a : Address) (x : Reason) → ChoiceWaits given last es u a x → ⊥
 
 -- hb_pass answers every entry but a report
-abbrev pub Is_answered : Event → Type 0
-Is_answered Start = ⊥
-Is_answered (Received w tr) = Unit
-Is_answered (Gone a) = ⊥
-Is_answered Issue = Unit
-Is_answered Decline = Unit
+abbrev pub IsAnswered : Event → Type 0
+IsAnswered Start = ⊥
+IsAnswered (Received w tr) = Unit
+IsAnswered (Gone a) = ⊥
+IsAnswered Issue = Unit
+IsAnswered Decline = Unit

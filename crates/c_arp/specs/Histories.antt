@@ -15,6 +15,6 @@ abbrev pub events_of : List Event → List Event
 events_of xs = since (Start ∷ []) xs
 
 -- the state of a pass and what it answers last are those of a history
-pub record Is_history (occupied : Pool) (last : ℕ) (es : List Event) (st : Stepped) : Type 0 where
+pub record IsHistory (occupied : Pool) (last : ℕ) (es : List Event) (st : Stepped) : Type 0 where
   pub state : st.state ≡ run occupied last es
   pub command : st.command ≡ answered occupied last es

@@ -2,7 +2,7 @@ pub mod Parts
 pub mod Check
 pub mod CheckCallLaws
 pub mod Commands
-pub mod Command_parts
+pub mod CommandParts
 pub mod CommandPartLaws
 pub mod PutCommand
 pub mod PutCommandLaws
@@ -12,7 +12,7 @@ pub mod TraceLists
 pub mod TraceListLaws
 pub mod Histories
 pub mod PassLaws
-pub mod Found_parts
+pub mod FoundParts
 pub mod LookupCallLaws
 pub mod ReportCallLaws
 pub mod Choices

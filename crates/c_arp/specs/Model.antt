@@ -18,7 +18,7 @@ told_model a = record {
 }
 
 -- a model run over records and bindings: the answer h, and what the two hold then
-pub record Ran_model (occupied : Pool) (last : ℕ) (records₀ bindings₀ : List ℕ) (h : HbModel) (records bindings : List ℕ) : Type 0 where
+pub record RanModel (occupied : Pool) (last : ℕ) (records₀ bindings₀ : List ℕ) (h : HbModel) (records bindings : List ℕ) : Type 0 where
   pub answered : h ≡ told_model (model_end occupied last records₀ bindings₀).answer
   pub records_hold : records ≡ (model_end occupied last records₀ bindings₀).records
   pub bindings_hold : bindings ≡ (model_end occupied last records₀ bindings₀).bindings

@@ -16,7 +16,7 @@ answer_in h = record {
 }
 
 -- a refusal's other parts
-pub record Model_zero (h : HbModel) : Type 0 where
+pub record ModelZero (h : HbModel) : Type 0 where
   pub count : h.count ≡ 0
   pub gets : h.gets ≡ 0
   pub picked : h.picked ≡ 0

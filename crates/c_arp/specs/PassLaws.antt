@@ -30,11 +30,11 @@ use Rattle.c_arp.specs.CommandPartLaws.{never_1, command_parts, command_21}
 use Rattle.c_arp.specs.PassCallLaws.{command_forbidden, command_told}
 use Rattle.c_arp.specs.TraceListLaws.{listed_both, entries_back}
 use Rattle.c_arp.specs.TraceLists.{Listed, list_bytes, Cut}
-use Rattle.c_arp.specs.Command_parts.{Command_parts, Command_is}
-use Rattle.c_arp.specs.Histories.{since, events_of, Is_history}
+use Rattle.c_arp.specs.CommandParts.{CommandParts, CommandIs}
+use Rattle.c_arp.specs.Histories.{since, events_of, IsHistory}
 
 module _ (occupied : Pool) (last : ℕ) where
-  one_event : (es : List Event) (st : Stepped) → Is_history occupied last es st → (x : Event) → Is_history occupied last (x ∷ es) (after_event st x)
+  one_event : (es : List Event) (st : Stepped) → IsHistory occupied last es st → (x : Event) → IsHistory occupied last (x ∷ es) (after_event st x)
   unfolding run answered
   one_event es st h Start = record { state = ap (λ (c : Controller). (started c).state) h.state; command = ap (λ (c : Controller). (started c).command) h.state }
   one_event es st h (Received w tr) = record { state = ap (λ (c : Controller). (heard w c tr).state) h.state; command = ap (λ (c : Controller). (heard w c tr).command) h.state }
@@ -42,26 +42,26 @@ module _ (occupied : Pool) (last : ℕ) where
   one_event es st h Issue = record { state = ap (λ (c : Controller). (issuing c).state) h.state; command = ap (λ (c : Controller). (issuing c).command) h.state }
   one_event es st h Decline = record { state = ap (λ (c : Controller). (declining c).state) h.state; command = ap (λ (c : Controller). (declining c).command) h.state }
 
-  since_steps : (es : List Event) (st : Stepped) (xs : List Event) → Is_history occupied last es st → Is_history occupied last (since es xs) (steps_over st xs)
+  since_steps : (es : List Event) (st : Stepped) (xs : List Event) → IsHistory occupied last es st → IsHistory occupied last (since es xs) (steps_over st xs)
   unfolding since steps_over
   since_steps es st [] h = h
   since_steps es st (x ∷ xs) h = since_steps (x ∷ es) (after_event st x) xs (one_event es st h x)
 
-  start_history : Is_history occupied last (Start ∷ []) (started (new_controller occupied last))
+  start_history : IsHistory occupied last (Start ∷ []) (started (new_controller occupied last))
   unfolding run answered
   start_history = record { state = refl; command = refl }
 
 -- A PASS over any bytes leaves the state and gives the answer of the history of a start and the entries that they hold
 pub hb_pass_events : (given : HbPool) (last : ℕ) (l : List ℕ)
-    → Is_history (record { low = given.low; high = given.high }) last (events_of (entries_in (length l) l)) (pass_over (pool_in given) last l)
+    → IsHistory (record { low = given.low; high = given.high }) last (events_of (entries_in (length l) l)) (pass_over (pool_in given) last l)
 hb_pass_events given last l =
     since_steps (pool_in given) last (Start ∷ []) (started (new_controller (pool_in given) last)) (entries_in (length l) l) (start_history (pool_in given) last)
 
 -- so over the bytes of a list of entries, and whatever is left of an entry that is cut, those of a start and these events
 pub hb_pass_history : (given : HbPool) (last : ℕ) (es : List Event) (rest : List ℕ) → Listed es → Cut rest
-    → Is_history (record { low = given.low; high = given.high }) last (events_of es) (pass_over (pool_in given) last (list_bytes es ++ rest))
+    → IsHistory (record { low = given.low; high = given.high }) last (events_of es) (pass_over (pool_in given) last (list_bytes es ++ rest))
 hb_pass_history given last es rest v c =
-    subst (λ (xs : List Event). Is_history (pool_in given) last (events_of xs) (pass_over (pool_in given) last (list_bytes es ++ rest))) (entries_back es rest v c)
+    subst (λ (xs : List Event). IsHistory (pool_in given) last (events_of xs) (pass_over (pool_in given) last (list_bytes es ++ rest))) (entries_back es rest v c)
     (hb_pass_events given last (list_bytes es ++ rest))
 
 since_last : (es xs : List Event) (x : Event) → since es (xs ++ x ∷ []) ≡ x ∷ since es xs
@@ -79,7 +79,7 @@ module _ (given : HbPool) (last : ℕ) (l : List ℕ) (r : HbCommand) (e : r ≡
   told h = e ∙ command_told (pool_in given) last l h
 
   -- up to 127 the struct tells what the pass answered last, its Get UDIDs and its last pick
-  pub hb_pass_told : last < 128 → let st = pass_over (pool_in given) last l in Command_is st.command st.state.gets st.state.picked r
+  pub hb_pass_told : last < 128 → let st = pass_over (pool_in given) last l in CommandIs st.command st.state.gets st.state.picked r
   hb_pass_told h = let st = pass_over (pool_in given) last l in command_parts st.command st.state.gets st.state.picked r (told h)
 
   -- 1 exactly if it is above 127, and then every part but the kind is zero
@@ -92,9 +92,9 @@ module _ (given : HbPool) (last : ℕ) (l : List ℕ) (r : HbCommand) (e : r ≡
           let st : Stepped = pass_over (pool_in given) last l in
           absurd (never_1 st.command st.state.gets st.state.picked (sym (ap (λ (x : HbCommand). x.answer) (told (omega arith))) ∙ q))
 
-  pub hb_pass_1_zero : r.answer ≡ 1 → Command_parts r 6 1 0 0 0 0 0 0
+  pub hb_pass_1_zero : r.answer ≡ 1 → CommandParts r 6 1 0 0 0 0 0 0
   hb_pass_1_zero q =
-      subst (λ (x : HbCommand). Command_parts x 6 1 0 0 0 0 0 0) (sym (forbidden (hb_pass_1.0 q)))
+      subst (λ (x : HbCommand). CommandParts x 6 1 0 0 0 0 0 0) (sym (forbidden (hb_pass_1.0 q)))
       (record { kind_is = refl; answer_is = refl; address_is_lem = refl; gets_is = refl; picked_is = refl; reason_is = refl; high_is = refl; low_is = refl })
 
 -- ---- with one more entry as the last
@@ -128,7 +128,7 @@ hb_pass_21 given last es w tr rest small v short cut r e =
     Iff·trans (end_21 given last es (Received w tr) rest small v (short, tt) cut r e) (step_21_by_events (pool_in given) last (events_of es) w tr)
 
 -- with no entry it hands out Prepare
-pub hb_pass_start : (given : HbPool) (last : ℕ) (r : HbCommand) → last < 128 → r ≡ pass_command (pool_in given) last [] → Command_parts r 0 0 0 0 last 0 0 0
+pub hb_pass_start : (given : HbPool) (last : ℕ) (r : HbCommand) → last < 128 → r ≡ pass_command (pool_in given) last [] → CommandParts r 0 0 0 0 last 0 0 0
 unfolding entries_in steps_over
 hb_pass_start given last r small e =
     command_parts (Send Prepare) 0 last r (told given last [] r e small ∙ ap (told_command (Send Prepare) 0) (last_pick_is last small))

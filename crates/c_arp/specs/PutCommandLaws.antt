@@ -20,7 +20,7 @@ use Rattle.commands.specs.Requests.{protocol_for, message_of}
 use Rattle.commands.specs.declared.command.Command.TheVariants.{Prepare, GetUdid, Assign}
 use Rattle.commands.specs.declared.command.End.TheVariants.{Nothing}
 use Rattle.commands.specs.declared.command.Handed.TheVariants.{Send, Wait}
-use Rattle.c_codec.specs.Codec.{told, Wrote_pairs}
+use Rattle.c_codec.specs.Codec.{told, WrotePairs}
 use Rattle.c_codec.specs.WrittenLaws.{is_forbidden}
 use Rattle.c_arp.specs.Commands.{command_of}
 use Rattle.pairs.specs.Pairs.{pairs_of}
@@ -56,7 +56,7 @@ unsent_exactly kind u a reply = go (eqb kind 0) refl (eqb kind 1) refl (eqb kind
         above p q r = omega arith
 
 module _ (kind : ℕ) (u : Udid) (a : Address) (reply before : List ℕ) (h : HbWritten) (after : List ℕ)
-    (w : Wrote_pairs (protocol_for (command_of kind u a)) true (message_of (command_of kind u a) reply) before h after) where
+    (w : WrotePairs (protocol_for (command_of kind u a)) true (message_of (command_of kind u a) reply) before h after) where
   abbrev answered : Encoded
   answered = encoded (protocol_for (command_of kind u a)) true (message_of (command_of kind u a) reply) (length before / 2)
 

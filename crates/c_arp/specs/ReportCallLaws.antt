@@ -22,7 +22,7 @@ use Rattle.c_arp.specs.declared.kinds.HbCommand.{HbCommand}
 use Rattle.c_arp.specs.declared.parts.HbPool.{HbPool}
 use Rattle.c_arp.specs.declared.pass.HbFound.{HbFound}
 use Rattle.c_arp.specs.Commands.{told_command}
-use Rattle.c_arp.specs.Found_parts.{Found_parts}
+use Rattle.c_arp.specs.FoundParts.{FoundParts}
 use Rattle.c_arp.specs.Histories.{events_of}
 use Rattle.c_arp.specs.LookupCallLaws.{hb_lookup_0, hb_lookup_20}
 use Rattle.c_arp.specs.Parts.{pool_in}
@@ -73,7 +73,7 @@ module _ (given : HbPool) (last : ℕ) (es : List Event) (a : ℕ) (rest rest' :
       subst (λ (s : Controller). Sized128 s.slots) (sym (hb_pass_history given last es rest v cut).state) (reached_invariant (pool_in given) last (events_of es)).size
 
   -- A LOOKUP OF ITS ADDRESS answers 20 where it answered 0, and as before where it did not
-  pub hb_lookup_gone : (k r : HbFound) → k ≡ pass_found (pool_in given) last before a → r ≡ pass_found (pool_in given) last after a → k.answer ≡ 0 → Found_parts r 20 0 0
+  pub hb_lookup_gone : (k r : HbFound) → k ≡ pass_found (pool_in given) last before a → r ≡ pass_found (pool_in given) last after a → k.answer ≡ 0 → FoundParts r 20 0 0
   hb_lookup_gone k r e f z =
       let u : Udid = record { high = k.udid.high; low = k.udid.low } in
       let h = (hb_lookup_0 given last before a k e u).0 (record { answer_is = z; high_is = refl; low_is = refl }) in

@@ -11,7 +11,7 @@ use targets::admit::Checked;
 
 // The scope's number, 0 for a list that is not refused, and the record that is.
 #[repr(C)]
-#[derive(Drop)]
+#[derive(Clone, Copy)]
 pub struct HbChecked {
     pub answer: u32,
     pub place: usize,

@@ -10,7 +10,7 @@ ghost use Rattle.std.specs.Prelude.{◌≡◌, ◌+◌, ◌≤◌, length, drop}
 ghost use Rattle.c_arp.specs.Pass.{said, head_of, half_size, size_for, second_in, whole_size};
 
 // What an entry is, by its first pair.
-#[derive(Drop)]
+#[derive(Clone, Copy)]
 pub enum Head {
     // A trace for a step.
     Count,

@@ -3,7 +3,7 @@
 ghost use Rattle.std.specs.Prelude.{◌≡◌, true};
 ghost use Rattle.commands.specs.Requests.{protocol_for, message_of};
 ghost use Rattle.c_arp.specs.Parts.{udid_in};
-ghost use Rattle.c_codec.specs.Codec.{Wrote_pairs};
+ghost use Rattle.c_codec.specs.Codec.{WrotePairs};
 ghost use Rattle.c_arp.specs.Commands.{command_of, said_of, reason_number, choice_of, told_end, told_command};
 
 use crate::parts::{HbUdid, identifier, udid_in};
@@ -35,7 +35,7 @@ fn command_of(kind: u8, u: Udid, a: Address) -> Handed
 // the identifier that found no address, the Get UDIDs sent so far, the last pick, and why the address of a choice was chosen. Whatever a
 // kind lacks is 0. With 1 and 21 all is 0 but the answer and the kind, which says that no command is outstanding.
 #[repr(C)]
-#[derive(Drop)]
+#[derive(Clone, Copy)]
 pub struct HbCommand {
     pub kind: u32,
     pub answer: u32,
@@ -132,7 +132,7 @@ pub fn put_command_pairs(
     reply: &[u8],
     out: &mut [u8],
 ) -> HbWritten
-    ensures { Wrote_pairs (protocol_for (command_of kind (udid_in u) (record { 0 = address }))) true (message_of (command_of kind (udid_in u) (record { 0 = address })) reply.now) out.old result out.new }
+    ensures { WrotePairs (protocol_for (command_of kind (udid_in u) (record { 0 = address }))) true (message_of (command_of kind (udid_in u) (record { 0 = address })) reply.now) out.old result out.new }
 {
     let k = command_of(kind, udid_in(u), Address(address));
     let mut buf = [0u16; 525];

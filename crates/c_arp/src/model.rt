@@ -1,6 +1,6 @@
 // The model run for C: target records and a binding buffer lent as bytes, the answer as a struct of numbers.
 ghost use Rattle.c_arp.specs.Parts.{pool_in};
-ghost use Rattle.c_arp.specs.Model.{Ran_model};
+ghost use Rattle.c_arp.specs.Model.{RanModel};
 
 use crate::parts::{HbPool, HbUdid, addresses, identifier, pool_in};
 use bus::run::run_model;
@@ -8,7 +8,7 @@ use bus::run::run_model;
 // The scope's number; how many addresses are bound, the Get UDIDs sent, and the last pick; the record of a refusal; with 13 the
 // identifier that asked; and the bound addresses. Whatever an answer lacks is 0.
 #[repr(C)]
-#[derive(Drop)]
+#[derive(Clone, Copy)]
 pub struct HbModel {
     pub answer: u32,
     pub count: u32,
@@ -21,7 +21,7 @@ pub struct HbModel {
 
 // A whole pass against targets, with these addresses occupied and this last pick.
 pub fn model_run(occupied: HbPool, last: u8, records: &mut [u8], bindings: &mut [u8]) -> HbModel
-    ensures { Ran_model (pool_in occupied) last records.old bindings.old result records.new bindings.new }
+    ensures { RanModel (pool_in occupied) last records.old bindings.old result records.new bindings.new }
 {
     let a = run_model(pool_in(occupied), last, records, bindings);
     HbModel {

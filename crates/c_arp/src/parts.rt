@@ -7,7 +7,7 @@ use udid::Udid;
 
 // A device identifier: the first eight bytes on the wire are the high half.
 #[repr(C)]
-#[derive(Drop)]
+#[derive(Clone, Copy)]
 pub struct HbUdid {
     pub high: u64,
     pub low: u64,
@@ -15,7 +15,7 @@ pub struct HbUdid {
 
 // A set of addresses: bit k of low is address k, bit k of high is address 64 + k.
 #[repr(C)]
-#[derive(Drop)]
+#[derive(Clone, Copy)]
 pub struct HbPool {
     pub low: u64,
     pub high: u64,

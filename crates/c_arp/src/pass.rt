@@ -114,7 +114,7 @@ pub fn pass_command(occupied: HbPool, last: u8, entries: &[u8]) -> HbCommand
 
 // The scope's number, and with 0 the identifier that is bound at the address.
 #[repr(C)]
-#[derive(Drop)]
+#[derive(Clone, Copy)]
 pub struct HbFound {
     pub answer: u32,
     pub udid: HbUdid,

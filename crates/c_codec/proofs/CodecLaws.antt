@@ -26,7 +26,7 @@ use Rattle.encode.specs.Encode.{encoded_by, refused, encoded, symbols_of, Wrote}
 use Rattle.c_codec.specs.declared.codec.HbWritten.{HbWritten}
 use Rattle.pairs.specs.Pairs.{pairs_of, Put}
 use Rattle.pairs.specs.PairLaws.{put_true, put_false}
-use Rattle.c_codec.specs.Codec.{answer_of, told, Wrote_pairs, Wrote_symbols}
+use Rattle.c_codec.specs.Codec.{answer_of, told, WrotePairs, WroteSymbols}
 
 module _ (protocol : ℕ) (pec : Bool) (t : Message) (command : t.command < 256) (sent : Bytes t.sent) (received : Bytes t.received) where
   abbrev tr : List ℕ
@@ -56,7 +56,7 @@ module _ (protocol : ℕ) (pec : Bool) (t : Message) (command : t.command < 256)
         go false e Forbidden k h = let z : Forbidden ≡ Written (length tr) = h ∙ by_tests (length buffer) false false e (fits e) in zero_is_one cc
         go false e OutputTooShort k h = let z : OutputTooShort ≡ Written (length tr) = h ∙ by_tests (length buffer) false false e (fits e) in zero_is_one cc
 
-    pub refused_pairs : (out : List ℕ) → OneOf (1 ∷ 2 ∷ []) (tag_of declared.the_type r) → (h : HbWritten) → h ≡ answer_of 1 0 → Wrote_pairs protocol pec t out h out
+    pub refused_pairs : (out : List ℕ) → OneOf (1 ∷ 2 ∷ []) (tag_of declared.the_type r) → (h : HbWritten) → h ≡ answer_of 1 0 → WrotePairs protocol pec t out h out
     unfolding pairs_of
     refused_pairs out k h e =
         let a = by_tests (length out / 2) true _ (not_written k) refl in
@@ -82,7 +82,7 @@ module _ (protocol : ℕ) (pec : Bool) (t : Message) (command : t.command < 256)
     lent_put out n e b last p = subst (λ (l : List ℕ). Put l out b last) (lent_trace n e) p
 
     pub short_pairs : (out : List ℕ) (n : ℕ) → r ≡ Written n → (b : Bool) (last : List ℕ) → Put (take n after) out b last → b ≡ false
-        → (h : HbWritten) → h ≡ answer_of 2 0 → Wrote_pairs protocol pec t out h last
+        → (h : HbWritten) → h ≡ answer_of 2 0 → WrotePairs protocol pec t out h last
     unfolding pairs_of
     short_pairs out n e b last p f h g =
         let q = put_false tr out b last (lent_put out n e b last p) f in
@@ -90,7 +90,7 @@ module _ (protocol : ℕ) (pec : Bool) (t : Message) (command : t.command < 256)
         record { answer = rw a g; output = rw a q.1 }
 
     pub done_pairs : (out : List ℕ) (n : ℕ) → r ≡ Written n → (b : Bool) (last : List ℕ) → Put (take n after) out b last → b ≡ true
-        → (h : HbWritten) → h ≡ answer_of 0 n → Wrote_pairs protocol pec t out h last
+        → (h : HbWritten) → h ≡ answer_of 0 n → WrotePairs protocol pec t out h last
     done_pairs out n e b last p f h g =
         let q = put_true tr out b last (lent_put out n e b last p) f in
         let k = passed n e in
@@ -108,6 +108,6 @@ module _ (protocol : ℕ) (pec : Bool) (t : Message) (command : t.command < 256)
           let z : Written n ≡ Written (length tr) = sym e ∙ w.answer ∙ by_tests (length buffer) false false f g in
           let k : n ≡ length tr = cc in omega (arith, at_most f)
 
-  pub wrote_symbols : (buffer : List ℕ) (r : Encoded) (after : List ℕ) → Wrote protocol pec t buffer r after → (h : HbWritten) → h ≡ told r → Wrote_symbols protocol pec t buffer h after
+  pub wrote_symbols : (buffer : List ℕ) (r : Encoded) (after : List ℕ) → Wrote protocol pec t buffer r after → (h : HbWritten) → h ≡ told r → WroteSymbols protocol pec t buffer h after
   wrote_symbols buffer r after w h e =
       record { answer = e ∙ ap told w.answer; output = w.output ∙ ap (λ (q : Encoded). onto (symbols_of q tr) buffer) w.answer }

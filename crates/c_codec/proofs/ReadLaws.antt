@@ -15,7 +15,7 @@ use Rattle.decode.specs.Outcome.{Outcome}
 use Rattle.c_codec.specs.declared.answer.HbDecoded.{HbDecoded}
 use Rattle.pairs.specs.Pairs.{symbols_in, Got}
 use Rattle.pairs.specs.PairLaws.{length_symbols, fewer_symbols_front}
-use Rattle.c_codec.specs.Codec.{told_decoded, Read_symbols}
+use Rattle.c_codec.specs.Codec.{told_decoded, ReadSymbols}
 use Rattle.decode.specs.LongTraceLaws.{of_front}
 
 pub front_is : (n : ℕ) (bytes zeros filled : List ℕ) → filled ≡ onto (symbols_in n bytes) zeros → take n filled ≡ symbols_in n bytes
@@ -45,5 +45,5 @@ module _ (protocol : ℕ) (pec : Bool) (bytes zeros filled s₀ r₀ : List ℕ)
 
 -- the answer as numbers
 pub told_read : (protocol : ℕ) (pec : Bool) (tr s₀ r₀ : List ℕ) (a : Decoded) (s r : List ℕ) (h : HbDecoded)
-    → Outcome protocol pec tr s₀ r₀ a s r → h ≡ told_decoded a → Read_symbols protocol pec tr s₀ r₀ h s r
+    → Outcome protocol pec tr s₀ r₀ a s r → h ≡ told_decoded a → ReadSymbols protocol pec tr s₀ r₀ h s r
 told_read protocol pec tr s₀ r₀ a s r h o e = record { answer = a; outcome = o; is_told = e }

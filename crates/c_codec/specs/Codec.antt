@@ -19,12 +19,12 @@ answer_of a n = record { answer = a; symbols = n }
 abbrev pub told : Encoded → HbWritten
 told r = answer_of (encode_number r).0 (encode_number r).1
 
-pub record Wrote_pairs (protocol : ℕ) (pec : Bool) (t : Message) (before : List ℕ) (r : HbWritten) (after : List ℕ) : Type 0 where
+pub record WrotePairs (protocol : ℕ) (pec : Bool) (t : Message) (before : List ℕ) (r : HbWritten) (after : List ℕ) : Type 0 where
   pub answer : r ≡ told (encoded protocol pec t (length before / 2))
   pub output : after ≡ onto (pairs_of (symbols_of (encoded protocol pec t (length before / 2)) (trace (shape_of protocol) pec t))) before
 
 -- the same on symbols as they are
-pub record Wrote_symbols (protocol : ℕ) (pec : Bool) (t : Message) (before : List ℕ) (r : HbWritten) (after : List ℕ) : Type 0 where
+pub record WroteSymbols (protocol : ℕ) (pec : Bool) (t : Message) (before : List ℕ) (r : HbWritten) (after : List ℕ) : Type 0 where
   pub answer : r ≡ told (encoded protocol pec t (length before))
   pub output : after ≡ onto (symbols_of (encoded protocol pec t (length before)) (trace (shape_of protocol) pec t)) before
 
@@ -38,7 +38,7 @@ told_decoded (Done t) =
 told_decoded (Refused w k) = refusal_of (refusal_number w) k
 
 -- a call of the decoder on symbols tr: the answer as numbers of an outcome of decode
-pub record Read_symbols (protocol : ℕ) (pec : Bool) (tr sent₀ received₀ : List ℕ) (h : HbDecoded) (sent received : List ℕ) : Type 0 where
+pub record ReadSymbols (protocol : ℕ) (pec : Bool) (tr sent₀ received₀ : List ℕ) (h : HbDecoded) (sent received : List ℕ) : Type 0 where
   pub answer : Decoded
   pub outcome : Outcome protocol pec tr sent₀ received₀ answer sent received
   pub is_told : h ≡ told_decoded answer

@@ -4,7 +4,7 @@ use Rattle.std.proofs.Common.{ap, ◌∙◌, subst, inl, inr, arith}
 use Rattle.std.proofs.Math.Logic.{Iff·rfl, Iff·trans}
 use Rattle.trace.specs.Table.{last_protocol}
 use Rattle.trace.specs.Shapes.{forbidden}
-use Rattle.trace.specs.Table.{Trace_of}
+use Rattle.trace.specs.Table.{TraceOf}
 use Rattle.trace.specs.Trace.{Message}
 use Rattle.scan.specs.declared.answer.Decoded.TheVariants.{Done}
 use Rattle.scan.specs.Answers.{summary}
@@ -18,23 +18,23 @@ use Rattle.c_codec.specs.declared.answer.HbDecoded.{HbDecoded}
 use Rattle.c_codec.specs.Numbers.{truth}
 use Rattle.pairs.specs.Pairs.{symbols_in}
 use Rattle.pairs.specs.PairLaws.{symbols_are}
-use Rattle.c_codec.specs.Codec.{told_decoded, Read_symbols}
+use Rattle.c_codec.specs.Codec.{told_decoded, ReadSymbols}
 use Rattle.c_codec.specs.DecodedLaws.{read_carries, read_number, read_zeros, read_done}
-use Rattle.c_codec.specs.DecodeParts.{Others_zero, Pairs, Gives_back}
+use Rattle.c_codec.specs.DecodeParts.{OthersZero, Pairs, GivesBack}
 use Rattle.c_codec.specs.NumberLaws.{truth_is}
 use Rattle.decode.specs.OutcomeLaws as decode
 
 -- hb_decode on bytes answers and leaves what hb_decode_symbols does on their symbols: what follows holds of both
 pub hb_decode : (protocol pec : ℕ) (bytes tr sent₀ received₀ : List ℕ) (h : HbDecoded) (sent received : List ℕ) → Pairs bytes tr
-    → Read_symbols protocol (truth pec) (symbols_in (length bytes / 2) bytes) sent₀ received₀ h sent received
-    → Read_symbols protocol (truth pec) tr sent₀ received₀ h sent received
+    → ReadSymbols protocol (truth pec) (symbols_in (length bytes / 2) bytes) sent₀ received₀ h sent received
+    → ReadSymbols protocol (truth pec) tr sent₀ received₀ h sent received
 hb_decode protocol pec bytes tr sent₀ received₀ h sent received p d =
-    subst (λ (l : List ℕ). Read_symbols protocol (truth pec) l sent₀ received₀ h sent received) (symbols_are (length bytes / 2) bytes tr p.count p.each) d
+    subst (λ (l : List ℕ). ReadSymbols protocol (truth pec) l sent₀ received₀ h sent received) (symbols_are (length bytes / 2) bytes tr p.count p.each) d
 
 -- a transaction that is told, part by part
 pub gives_back : (protocol : ℕ) (m : Message) (sent₀ received₀ : List ℕ) (h : HbDecoded) (sent₁ received₁ : List ℕ) → h ≡ told_decoded (Done (summary protocol m))
     → sent₁ ≡ m.sent ++ drop (length m.sent) sent₀ → received₁ ≡ m.received ++ drop (length m.received) received₀
-    → Gives_back m.address m.direction m.command m.sent m.received sent₀ received₀ h sent₁ received₁
+    → GivesBack m.address m.direction m.command m.sent m.received sent₀ received₀ h sent₁ received₁
 gives_back protocol m sent₀ received₀ h sent₁ received₁ e s r = record {
   answer = ap (λ (x : HbDecoded). x.answer) e;
   value = ap (λ (x : HbDecoded). x.value) e;
@@ -48,7 +48,7 @@ gives_back protocol m sent₀ received₀ h sent₁ received₁ e s r = record {
 }
 
 module _ (protocol pec : ℕ) (tr sent₀ received₀ : List ℕ) (h : HbDecoded) (sent received : List ℕ)
-    (d : Read_symbols protocol (truth pec) tr sent₀ received₀ h sent received) where
+    (d : ReadSymbols protocol (truth pec) tr sent₀ received₀ h sent received) where
   -- THE NUMBER and what comes with it are those of an outcome of decode, so that each number is given exactly in its case P
   pub hb_decode_outcome : Outcome protocol (truth pec) tr sent₀ received₀ d.answer sent received
   hb_decode_outcome = d.outcome
@@ -95,11 +95,11 @@ module _ (protocol pec : ℕ) (tr sent₀ received₀ : List ℕ) (h : HbDecoded
   hb_decode_refused w k n = hb_decode_number (refusal_number w) k (decode_refused protocol (truth pec) tr sent₀ received₀ d.answer sent received d.outcome w k n)
 
   -- 0: the trace of a message of one of the rows
-  pub hb_decode_whole : ((h.answer ≡ 0) × (h.value ≡ 0)) ↔ (Entered protocol (truth pec) sent₀ received₀ × ((m : Message) × Trace_of protocol (truth pec) m tr))
+  pub hb_decode_whole : ((h.answer ≡ 0) × (h.value ≡ 0)) ↔ (Entered protocol (truth pec) sent₀ received₀ × ((m : Message) × TraceOf protocol (truth pec) m tr))
   hb_decode_whole = hb_decode_number 0 0 (decode_0 protocol (truth pec) tr sent₀ received₀ d.answer sent received d.outcome)
 
   -- a refusal: both buffers as they were, and every other part zero
-  pub hb_decode_refusal : (h.answer ≡ 0 → ⊥) → (sent ≡ sent₀) × (received ≡ received₀) × Others_zero h
+  pub hb_decode_refusal : (h.answer ≡ 0 → ⊥) → (sent ≡ sent₀) × (received ≡ received₀) × OthersZero h
   hb_decode_refusal z =
       let k = decode_refusal protocol (truth pec) tr sent₀ received₀ d.answer sent received d.outcome
       (λ q. z (read_number protocol (truth pec) tr sent₀ received₀ h sent received d ∙ q)) in
@@ -107,7 +107,7 @@ module _ (protocol pec : ℕ) (tr sent₀ received₀ : List ℕ) (h : HbDecoded
 
   -- 0: the parts are those of a message, whose trace this is
   pub hb_decode_0 : h.answer ≡ 0
-      → (m : Message) × Trace_of protocol (truth pec) m tr × Gives_back m.address m.direction m.command m.sent m.received sent₀ received₀ h sent received
+      → (m : Message) × TraceOf protocol (truth pec) m tr × GivesBack m.address m.direction m.command m.sent m.received sent₀ received₀ h sent received
   hb_decode_0 q =
       let k = read_done protocol (truth pec) tr sent₀ received₀ h sent received d q in
       let n = (decode_0 protocol (truth pec) tr sent₀ received₀ (Done k.0) sent received k.2).0 refl in

@@ -8,7 +8,7 @@ pub record Pairs (bytes tr : List ℕ) : Type 0 where
   pub each : (i : ℕ) → i < length bytes / 2 → get_or tr i 0 ≡ get_or bytes (2 * i) 0 + 256 * get_or bytes (2 * i + 1) 0
 
 -- the parts of a message, in the struct and at the fronts of the two buffers, which are as they were behind
-pub record Gives_back (address direction command : ℕ) (sent received sent₀ received₀ : List ℕ) (h : HbDecoded) (sent₁ received₁ : List ℕ) : Type 0 where
+pub record GivesBack (address direction command : ℕ) (sent received sent₀ received₀ : List ℕ) (h : HbDecoded) (sent₁ received₁ : List ℕ) : Type 0 where
   pub answer : h.answer ≡ 0
   pub value : h.value ≡ 0
   pub address_is_lem : h.address ≡ address
@@ -20,7 +20,7 @@ pub record Gives_back (address direction command : ℕ) (sent received sent₀ r
   pub received_data : received₁ ≡ received ++ drop (length received) received₀
 
 -- every part but the number and what comes with it is zero
-pub record Others_zero (h : HbDecoded) : Type 0 where
+pub record OthersZero (h : HbDecoded) : Type 0 where
   pub address : h.address ≡ 0
   pub direction : h.direction ≡ 0
   pub command : h.command ≡ 0

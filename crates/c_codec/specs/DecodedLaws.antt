@@ -8,15 +8,15 @@ use Rattle.scan.specs.NumberLaws.{refusal_is_not_0}
 use Rattle.scan.specs.Numbers.{decode_number}
 use Rattle.decode.specs.Outcome.{Outcome}
 use Rattle.c_codec.specs.declared.answer.HbDecoded.{HbDecoded}
-use Rattle.c_codec.specs.Codec.{told_decoded, Read_symbols}
-use Rattle.c_codec.specs.DecodeParts.{Others_zero}
+use Rattle.c_codec.specs.Codec.{told_decoded, ReadSymbols}
+use Rattle.c_codec.specs.DecodeParts.{OthersZero}
 
 -- the answer and the value are the scope's
 pub told_decoded_number : (a : Decoded) → ((told_decoded a).answer, (told_decoded a).value) ≡ decode_number a
 told_decoded_number (Done t) = refl
 told_decoded_number (Refused w k) = refl
 
-refusal_zeros : (a : Decoded) → ((told_decoded a).answer ≡ 0 → ⊥) → Others_zero (told_decoded a)
+refusal_zeros : (a : Decoded) → ((told_decoded a).answer ≡ 0 → ⊥) → OthersZero (told_decoded a)
 refusal_zeros (Done t) z = absurd (z refl)
 refusal_zeros (Refused w k) z = record { address = refl; direction = refl; command = refl; sent = refl; received = refl }
 
@@ -28,7 +28,7 @@ answer_0_done (Refused w k) e = absurd (omega (arith, refusal_is_not_0 w))
 pub pair_parts : (a b n v : ℕ) → (◌≡◌ {A = ℕ × ℕ} (a, b) (n, v)) ↔ ((a ≡ n) × (b ≡ v))
 pair_parts a b n v = (λ e. (ap (λ (p : ℕ × ℕ). p.0) e, ap (λ (p : ℕ × ℕ). p.1) e), λ h i. (h.0 i, h.1 i))
 
-module _ (protocol : ℕ) (pec : Bool) (tr sent₀ received₀ : List ℕ) (h : HbDecoded) (sent received : List ℕ) (d : Read_symbols protocol pec tr sent₀ received₀ h sent received) where
+module _ (protocol : ℕ) (pec : Bool) (tr sent₀ received₀ : List ℕ) (h : HbDecoded) (sent received : List ℕ) (d : ReadSymbols protocol pec tr sent₀ received₀ h sent received) where
   answer_is : h.answer ≡ (told_decoded d.answer).answer
   answer_is = ap (λ (x : HbDecoded). x.answer) d.is_told
 
@@ -43,8 +43,8 @@ module _ (protocol : ℕ) (pec : Bool) (tr sent₀ received₀ : List ℕ) (h : 
   read_number = answer_is ∙ ap (λ (x : ℕ × ℕ). x.0) (told_decoded_number d.answer)
 
   -- a refusal's other parts
-  pub read_zeros : (h.answer ≡ 0 → ⊥) → Others_zero h
-  read_zeros z = subst Others_zero (sym d.is_told) (refusal_zeros d.answer (λ q. z (answer_is ∙ q)))
+  pub read_zeros : (h.answer ≡ 0 → ⊥) → OthersZero h
+  read_zeros z = subst OthersZero (sym d.is_told) (refusal_zeros d.answer (λ q. z (answer_is ∙ q)))
 
   -- with 0 the outcome is a transaction, and it is told
   pub read_done : h.answer ≡ 0 → (u : Transaction) × (h ≡ told_decoded (Done u)) × Outcome protocol pec tr sent₀ received₀ (Done u) sent received

@@ -8,8 +8,8 @@ use Rattle.encode.specs.Encode.{message, encoded}
 use Rattle.c_codec.specs.declared.codec.HbWritten.{HbWritten}
 use Rattle.c_codec.specs.Numbers.{truth}
 use Rattle.pairs.specs.Pairs.{pairs_of}
-use Rattle.c_codec.specs.Codec.{told, Wrote_pairs, Wrote_symbols}
-use Rattle.c_codec.specs.EncodeParts.{asked, Encode_answers, Encodes_symbols, Encodes_pairs}
+use Rattle.c_codec.specs.Codec.{told, WrotePairs, WroteSymbols}
+use Rattle.c_codec.specs.EncodeParts.{asked, EncodeAnswers, EncodesSymbols, EncodesPairs}
 use Rattle.c_codec.specs.WrittenLaws as written
 
 by_answer : {A : Type 0} (h : HbWritten) → (h.answer ≡ 0 → A) → ((h.answer ≡ 0 → ⊥) → A) → A
@@ -26,7 +26,7 @@ module _ (protocol pec address direction command : ℕ) (sent received : List �
   abbrev tr : List ℕ
   tr = trace (shape_of protocol) (truth pec) t
 
-  encode_answers : (room : ℕ) (h : HbWritten) → h ≡ told (encoded protocol (truth pec) (message address direction command sent received) room) → Encode_answers protocol pec address direction command sent received room h
+  encode_answers : (room : ℕ) (h : HbWritten) → h ≡ told (encoded protocol (truth pec) (message address direction command sent received) room) → EncodeAnswers protocol pec address direction command sent received room h
   encode_answers room h e = record {
     answer_1 = written.written_1 protocol (truth pec) t room h e;
     answer_2 = written.written_2 protocol (truth pec) t room h e;
@@ -36,7 +36,7 @@ module _ (protocol pec address direction command : ℕ) (sent received : List �
   }
 
   pub hb_encode_symbols : (before : List ℕ) (h : HbWritten) (after : List ℕ)
-      → Wrote_symbols protocol (truth pec) (message address direction command sent received) before h after → Encodes_symbols protocol pec address direction command sent received before h after
+      → WroteSymbols protocol (truth pec) (message address direction command sent received) before h after → EncodesSymbols protocol pec address direction command sent received before h after
   hb_encode_symbols before h after w =
       let a = encode_answers (length before) h w.answer in
       let o = written.symbols_out protocol (truth pec) t before h after w in
@@ -52,7 +52,7 @@ module _ (protocol pec address direction command : ℕ) (sent received : List �
       }
 
   pub hb_encode : (before : List ℕ) (h : HbWritten) (after : List ℕ)
-      → Wrote_pairs protocol (truth pec) (message address direction command sent received) before h after → Encodes_pairs protocol pec address direction command sent received before h after
+      → WrotePairs protocol (truth pec) (message address direction command sent received) before h after → EncodesPairs protocol pec address direction command sent received before h after
   hb_encode before h after w =
       let a = encode_answers (length before / 2) h w.answer in
       let o = written.pairs_out protocol (truth pec) t before h after w in

@@ -8,13 +8,13 @@ use Rattle.last.specs.Last.{Whole}
 use Rattle.last.specs.LastLaws.{gives_received, gives_sent, gives_empty}
 use Rattle.c_codec.specs.declared.last_data.HbPart.{HbPart}
 use Rattle.c_codec.specs.LastData.{part_of, phase_of, Copied}
-use Rattle.c_codec.specs.LastDataParts.{Copies_out, Receives, Sends, having}
+use Rattle.c_codec.specs.LastDataParts.{CopiesOut, Receives, Sends, having}
 
-pub hb_last_data : (bytes before : List ℕ) (r : HbPart) (after : List ℕ) → Copied bytes before r after → Copies_out bytes before r after
+pub hb_last_data : (bytes before : List ℕ) (r : HbPart) (after : List ℕ) → Copied bytes before r after → CopiesOut bytes before r after
 hb_last_data bytes before r after c = go (ltb (length before) (length bytes)) refl c.answer c.output
   where
     go : (b : Bool) → ltb (length before) (length bytes) ≡ b → r ≡ pick b (part_of 2 0) (part_of 0 (length bytes)) → after ≡ pick b before (onto bytes before)
-        → Copies_out bytes before r after
+        → CopiesOut bytes before r after
     go true t e o = record {
       answer_2 = (λ q. ltb-true (length before) (length bytes) t, λ h. ap (λ (x : HbPart). x.answer) e);
       answer_0 = (λ q. absurd (omega (arith, ap (λ (x : HbPart). x.answer) e)), λ h. absurd (omega (arith, ltb-true (length before) (length bytes) t)));

@@ -16,7 +16,7 @@ abbrev pub Sends : ℕ → Type 0
 Sends p = (p ≡ 0) ⊎ ((p ≡ 1) ⊎ ((p ≡ 3) ⊎ ((p ≡ 4) ⊎ (p ≡ 8))))
 
 -- of the bytes: 2 exactly where the buffer is shorter, which then is as it was; else 0, and they stand at its front
-pub record Copies_out (bytes before : List ℕ) (r : HbPart) (after : List ℕ) : Type 0 where
+pub record CopiesOut (bytes before : List ℕ) (r : HbPart) (after : List ℕ) : Type 0 where
   pub answer_2 : (r.answer ≡ 2) ↔ (length before < length bytes)
   pub answer_0 : (r.answer ≡ 0) ↔ (length bytes ≤ length before)
   pub with_2 : r.answer ≡ 2 → (r.length ≡ 0) × (after ≡ before)

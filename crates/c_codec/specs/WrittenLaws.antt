@@ -16,7 +16,7 @@ use Rattle.encode.specs.EncodeLaws.{forbidden_exactly, too_short_exactly, writte
 use Rattle.c_codec.specs.declared.codec.HbWritten.{HbWritten}
 use Rattle.pairs.specs.Pairs.{pairs_of}
 use Rattle.pairs.specs.PairLaws.{pair_at, length_pairs}
-use Rattle.c_codec.specs.Codec.{told, Wrote_pairs, Wrote_symbols}
+use Rattle.c_codec.specs.Codec.{told, WrotePairs, WroteSymbols}
 
 -- the case of each number
 is_written : (r : Encoded) → (told r).answer ≡ 0 → r ≡ Written (told r).symbols
@@ -80,7 +80,7 @@ module _ (protocol : ℕ) (pec : Bool) (t : Message) (room : ℕ) (h : HbWritten
       (symbols_is ∙ k.0, k.1)
 
 -- ---- the output, in symbols
-module _ (protocol : ℕ) (pec : Bool) (t : Message) (before : List ℕ) (h : HbWritten) (after : List ℕ) (w : Wrote_symbols protocol pec t before h after) where
+module _ (protocol : ℕ) (pec : Bool) (t : Message) (before : List ℕ) (h : HbWritten) (after : List ℕ) (w : WroteSymbols protocol pec t before h after) where
   pub symbols_out : h.answer ≡ 0 → after ≡ onto (trace (shape_of protocol) pec t) before
   symbols_out q =
       w.output
@@ -90,7 +90,7 @@ module _ (protocol : ℕ) (pec : Bool) (t : Message) (before : List ℕ) (h : Hb
   symbols_kept z = w.output ∙ ap (λ (x : List ℕ). onto x before) (none_written protocol pec t (length before) h w.answer z).1
 
 -- ---- the output, in pairs
-module _ (protocol : ℕ) (pec : Bool) (t : Message) (before : List ℕ) (h : HbWritten) (after : List ℕ) (w : Wrote_pairs protocol pec t before h after) where
+module _ (protocol : ℕ) (pec : Bool) (t : Message) (before : List ℕ) (h : HbWritten) (after : List ℕ) (w : WrotePairs protocol pec t before h after) where
   pub pairs_out : h.answer ≡ 0 → after ≡ onto (pairs_of (trace (shape_of protocol) pec t)) before
   pairs_out q =
       w.output

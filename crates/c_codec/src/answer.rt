@@ -6,7 +6,7 @@ use scan::answer::{Decoded, refusal_number};
 
 // The scope's number; the place, length or byte that comes with a refusal; and the transaction with 0. Whatever an answer lacks is 0.
 #[repr(C)]
-#[derive(Drop)]
+#[derive(Clone, Copy)]
 pub struct HbDecoded {
     pub answer: u32,
     pub address: u32,

@@ -3,7 +3,7 @@ ghost use Rattle.std.specs.Prelude.{◌≡◌, ◌/◌, length};
 ghost use Rattle.encode.specs.Encode.{message};
 ghost use Rattle.c_codec.specs.Numbers.{truth};
 ghost use Rattle.pairs.specs.Pairs.{symbols_in};
-ghost use Rattle.c_codec.specs.Codec.{answer_of, Wrote_pairs, Read_symbols};
+ghost use Rattle.c_codec.specs.Codec.{answer_of, WrotePairs, ReadSymbols};
 
 use crate::answer::{HbDecoded, decoded};
 use encode::Encoded;
@@ -12,7 +12,7 @@ use wire::address::Address;
 
 // The answer's number, and the symbols that were written.
 #[repr(C)]
-#[derive(Drop)]
+#[derive(Clone, Copy)]
 pub struct HbWritten {
     pub answer: u32,
     pub symbols: u32,
@@ -36,7 +36,7 @@ pub fn encode_pairs(
     received: &[u8],
     out: &mut [u8],
 ) -> HbWritten
-    ensures { Wrote_pairs protocol (truth pec) (message address direction command sent.now received.now) out.old result out.new }
+    ensures { WrotePairs protocol (truth pec) (message address direction command sent.now received.now) out.old result out.new }
 {
     let mut buf = [0u16; 525];
     let r = encode::encode(
@@ -66,7 +66,7 @@ pub fn decode_pairs(
     sent: &mut [u8],
     received: &mut [u8],
 ) -> HbDecoded
-    ensures { Read_symbols protocol (truth pec) (symbols_in (length trace.now / 2) trace.now) sent.old received.old result sent.new received.new }
+    ensures { ReadSymbols protocol (truth pec) (symbols_in (length trace.now / 2) trace.now) sent.old received.old result sent.new received.new }
 {
     let mut buf = [0u16; 526];
     let n = get_pairs(&mut buf, trace);

@@ -9,7 +9,7 @@ use wire::address::Address;
 
 // The scope's number, and how many bytes were copied.
 #[repr(C)]
-#[derive(Drop)]
+#[derive(Clone, Copy)]
 pub struct HbPart {
     pub answer: u32,
     pub length: usize,

@@ -1,7 +1,7 @@
 // The codec on symbols as 16-bit numbers: nothing is turned into pairs.
 ghost use Rattle.encode.specs.Encode.{message};
 ghost use Rattle.c_codec.specs.Numbers.{truth};
-ghost use Rattle.c_codec.specs.Codec.{Wrote_symbols, Read_symbols};
+ghost use Rattle.c_codec.specs.Codec.{WroteSymbols, ReadSymbols};
 
 use crate::answer::{HbDecoded, decoded};
 use crate::codec::HbWritten;
@@ -19,7 +19,7 @@ pub fn encode_symbols(
     received: &[u8],
     out: &mut [u16],
 ) -> HbWritten
-    ensures { Wrote_symbols protocol (truth pec) (message address direction command sent.now received.now) out.old result out.new }
+    ensures { WroteSymbols protocol (truth pec) (message address direction command sent.now received.now) out.old result out.new }
 {
     let r = encode::encode(
         protocol,
@@ -55,7 +55,7 @@ pub fn decode_symbols(
     sent: &mut [u8],
     received: &mut [u8],
 ) -> HbDecoded
-    ensures { Read_symbols protocol (truth pec) trace.now sent.old received.old result sent.new received.new }
+    ensures { ReadSymbols protocol (truth pec) trace.now sent.old received.old result sent.new received.new }
 {
     decoded(decode::decode(protocol, pec != 0, trace, sent, received))
 }

@@ -11,7 +11,7 @@ use module::state::{Heard, Lasting, Module, Supplied};
 
 // A module between two events on the bus. The parts up to resolved outlast a packet.
 #[repr(C)]
-#[derive(Drop)]
+#[derive(Clone, Copy)]
 pub struct HbModule {
     pub udid: HbUdid,
     pub fresh: u32,
@@ -27,7 +27,7 @@ pub struct HbModule {
 
 // A byte was received: the module after it, and 1 for ACK.
 #[repr(C)]
-#[derive(Drop)]
+#[derive(Clone, Copy)]
 pub struct HbHeard {
     pub after: HbModule,
     pub ack: u32,
@@ -35,7 +35,7 @@ pub struct HbHeard {
 
 // A byte was asked for: the module after it, 1 where it has one to send, and the byte.
 #[repr(C)]
-#[derive(Drop)]
+#[derive(Clone, Copy)]
 pub struct HbSupplied {
     pub after: HbModule,
     pub drives: u32,
@@ -44,7 +44,7 @@ pub struct HbSupplied {
 
 // A module from a record, or the number of its refusal.
 #[repr(C)]
-#[derive(Drop)]
+#[derive(Clone, Copy)]
 pub struct HbResumed {
     pub after: HbModule,
     pub answer: u32,

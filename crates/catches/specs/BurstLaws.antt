@@ -2,13 +2,13 @@
 -- and so no multiple of x^8+x^2+x+1.
 use Rattle.std.specs.Prelude.{◌≡◌, List, ℕ, ◌*◌, ◌/◌, ◌^◌, ◌<◌}
 use Rattle.std.proofs.Common.{ap, ◌∙◌, subst, arith}
-use Rattle.catches.specs.Changes.{Right_pec, Came, Within}
+use Rattle.catches.specs.Changes.{RightPec, Came, Within}
 use Rattle.catches.specs.Multiples.{Multiple, flips}
 use Rattle.catches.specs.MultiplesLaws.{escapes_exactly, shifted_exactly, small_is_none}
 use Rattle.catches.specs.WindowLaws.{lowest, pattern_small, pattern_placed, some_flipped}
 
 -- caught, if no pattern so small but 0 is a multiple
-caught_if_small : (w : ℕ) (xs ys : List ℕ) → Came xs ys → Within w xs ys → ((d : ℕ) → d < 2 ^ w → Multiple d → d ≡ 0) → Right_pec ys → ⊥
+caught_if_small : (w : ℕ) (xs ys : List ℕ) → Came xs ys → Within w xs ys → ((d : ℕ) → d < 2 ^ w → Multiple d → d ≡ 0) → RightPec ys → ⊥
 caught_if_small w xs ys c b small r =
     let k = lowest w xs ys c b in
     let p = pattern_placed w xs ys c b in
@@ -20,5 +20,5 @@ caught_if_small w xs ys c b small r =
     times_none n = omega arith
 
 -- CAUGHT
-pub eight_bits_caught : (xs ys : List ℕ) → Came xs ys → Within 8 xs ys → Right_pec ys → ⊥
+pub eight_bits_caught : (xs ys : List ℕ) → Came xs ys → Within 8 xs ys → RightPec ys → ⊥
 eight_bits_caught xs ys c b = caught_if_small 8 xs ys c b small_is_none

@@ -20,13 +20,13 @@ abbrev pub Flipped : List ℕ → List ℕ → ℕ → ℕ → Type 0
 Flipped xs ys i j = bit_of xs i j ≡ bit_of ys i j → ⊥
 
 -- the last byte is the PEC of those before it
-abbrev pub Right_pec : List ℕ → Type 0
-Right_pec xs = (bs : List ℕ) × (xs ≡ bs ++ pec_of bs ∷ [])
+abbrev pub RightPec : List ℕ → Type 0
+RightPec xs = (bs : List ℕ) × (xs ≡ bs ++ pec_of bs ∷ [])
 
 -- xs was sent with its right PEC, and ys came: as many bytes
 pub record Came (xs ys : List ℕ) : Type 0 where
   pub sent : Bytes xs
-  pub right : Right_pec xs
+  pub right : RightPec xs
   pub came : Bytes ys
   pub as_many : length ys ≡ length xs
 
@@ -40,15 +40,15 @@ pub record Within (w : ℕ) (xs ys : List ℕ) : Type 0 where
   pub one : Flipped xs ys byte bit
 
 -- two bits were flipped and no other: bit j of byte i, and after it bit l of byte k
-pub record Two_bits (xs ys : List ℕ) (i j k l : ℕ) : Type 0 where
+pub record TwoBits (xs ys : List ℕ) (i j k l : ℕ) : Type 0 where
   pub first_in_byte : j < 8
   pub second_in_byte : l < 8
   pub order : 8 * i + j < 8 * k + l
   pub flipped : (a b : ℕ) → b < 8 → Flipped xs ys a b ↔ (((a ≡ i) × (b ≡ j)) ⊎ ((a ≡ k) × (b ≡ l)))
 
 -- the very first bit of 16 bytes, and the very last
-abbrev pub First_and_last : ℕ → ℕ → ℕ → ℕ → Type 0
-First_and_last i j k l = (i ≡ 0) × (j ≡ 0) × (k ≡ 15) × (l ≡ 7)
+abbrev pub FirstAndLast : ℕ → ℕ → ℕ → ℕ → Type 0
+FirstAndLast i j k l = (i ≡ 0) × (j ≡ 0) × (k ≡ 15) × (l ≡ 7)
 
 -- the bit at a place is not the same in both
 abbrev pub is_flipped : List ℕ → List ℕ → ℕ → Bool

@@ -8,7 +8,7 @@ use Rattle.lists.specs.EachLaws.{zeros_bytes}
 use Rattle.lists.specs.Passing.{passing}
 use Rattle.lists.specs.TestLaws.{leb_is}
 use Rattle.pec.specs.Pec.{bit_step, pec_step, pec_from}
-use Rattle.catches.specs.Changes.{bit_of, Flipped, Right_pec, Came, Within, Two_bits, how_many}
+use Rattle.catches.specs.Changes.{bit_of, Flipped, RightPec, Came, Within, TwoBits, how_many}
 use Rattle.catches.specs.FlippedLaws.{inside}
 use Rattle.catches.specs.FlipLaws.{two_bits_are}
 use Rattle.catches.specs.PairLaws.{one_pair_of_sixteen}
@@ -43,12 +43,12 @@ sixteen_zeros = replicate 16 0
 abbrev pub sixteen_came : List ℕ
 sixteen_came = 0x80 ∷ (replicate 14 0 ++ 0x01 ∷ [])
 
-sixteen_zeros_right : Right_pec sixteen_zeros
+sixteen_zeros_right : RightPec sixteen_zeros
 unfolding bit_step pec_step pec_from
 sixteen_zeros_right = (replicate 15 0, refl)
 
 -- such a pair of messages there is
-pub sixteen_escape : Came sixteen_zeros sixteen_came × (length sixteen_zeros ≡ 16) × Two_bits sixteen_zeros sixteen_came 0 0 15 7 × Right_pec sixteen_came
+pub sixteen_escape : Came sixteen_zeros sixteen_came × (length sixteen_zeros ≡ 16) × TwoBits sixteen_zeros sixteen_came 0 0 15 7 × RightPec sixteen_came
 sixteen_escape =
     let f = two_bits_are sixteen_zeros (zeros_bytes 16) sixteen_zeros_right 0 0 15 7 (omega arith) (omega arith) (omega arith) (omega arith) in
     (f.0, refl, f.1, (one_pair_of_sixteen sixteen_zeros sixteen_came f.0 0 0 15 7 f.1 refl).1 (refl, refl, refl, refl))
@@ -65,7 +65,7 @@ two_came_lem : Came two_zeros two_came
 unfolding bit_step pec_step pec_from
 two_came_lem = record { sent = (omega arith, (omega arith, tt)); right = (0x00 ∷ [], refl); came = (omega arith, (omega arith, tt)); as_many = refl }
 
-two_right : Right_pec two_came
+two_right : RightPec two_came
 unfolding bit_step pec_step pec_from
 two_right = (0x01 ∷ [], refl)
 
@@ -87,5 +87,5 @@ two_four : how_many two_zeros two_came ≡ 4
 unfolding passing
 two_four = refl
 
-pub nine_bits_escape : Came two_zeros two_came × Within 9 two_zeros two_came × (how_many two_zeros two_came ≡ 4) × Right_pec two_came
+pub nine_bits_escape : Came two_zeros two_came × Within 9 two_zeros two_came × (how_many two_zeros two_came ≡ 4) × RightPec two_came
 nine_bits_escape = (two_came_lem, two_within_nine, two_four, two_right)

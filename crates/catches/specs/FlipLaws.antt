@@ -11,7 +11,7 @@ use Rattle.lists.specs.ChoiceLaws.{false_not_true}
 use Rattle.lists.specs.Each.{Bytes}
 use Rattle.lists.specs.EachLaws.{byte_at, set_bytes}
 use Rattle.lists.specs.TestLaws.{eqb_is, and_is}
-use Rattle.catches.specs.Changes.{power, bit_of, Flipped, Right_pec, Came, Within, Two_bits}
+use Rattle.catches.specs.Changes.{power, bit_of, Flipped, RightPec, Came, Within, TwoBits}
 use Rattle.catches.specs.NumberBitsLaws.{bit_of_sum}
 
 -- bit j of byte i is flipped
@@ -73,7 +73,7 @@ two_marks false false x y e n = (λ f. absurd (f (omega (arith, e))), none)
 marked : (i j a b : ℕ) → (and (eqb a i) (eqb b j) ≡ true) ↔ ((a ≡ i) × (b ≡ j))
 marked i j a b = and_is (eqb a i) (eqb b j) (eqb_is a i) (eqb_is b j)
 
-module _ (xs : List ℕ) (h : Bytes xs) (r : Right_pec xs) where
+module _ (xs : List ℕ) (h : Bytes xs) (r : RightPec xs) where
   pub one_bit_is : (i j : ℕ) → i < length xs → j < 8 → Came xs (flip xs i j) × Within 8 xs (flip xs i j)
   one_bit_is i j l g = (
     record { sent = h; right = r; came = flip_bytes xs i j h; as_many = length-set xs i _ },
@@ -93,7 +93,7 @@ module _ (xs : List ℕ) (h : Bytes xs) (r : Right_pec xs) where
       at : (a b : ℕ) → (a ≡ i) × (b ≡ j) → (8 * i + j ≤ 8 * a + b) × (8 * a + b < 8 * i + j + 8)
       at a b e = (omega (arith, e.0, e.1), omega (arith, e.0, e.1))
 
-  pub two_bits_are : (i j k l : ℕ) → j < 8 → l < 8 → 8 * i + j < 8 * k + l → k < length xs → Came xs (flip (flip xs i j) k l) × Two_bits xs (flip (flip xs i j) k l) i j k l
+  pub two_bits_are : (i j k l : ℕ) → j < 8 → l < 8 → 8 * i + j < 8 * k + l → k < length xs → Came xs (flip (flip xs i j) k l) × TwoBits xs (flip (flip xs i j) k l) i j k l
   two_bits_are i j k l hj hl o m =
       let n = length-set xs i (bit_xor (2 ^ power j) (get_or xs i 0)) in (
         record { sent = h; right = r; came = flip_bytes (flip xs i j) k l (flip_bytes xs i j h); as_many = length-set (flip xs i j) k _ ∙ n },

@@ -7,7 +7,7 @@ use Rattle.std.proofs.Math.Pow.{field, mod-mod-pow, split}
 use Rattle.lists.specs.Choice.{pick}
 use Rattle.lists.specs.Passing.{passing}
 use Rattle.lists.specs.TestLaws.{eqb_is, not_is}
-use Rattle.catches.specs.Changes.{bit_of, Flipped, Came, Two_bits, is_flipped, how_many}
+use Rattle.catches.specs.Changes.{bit_of, Flipped, Came, TwoBits, is_flipped, how_many}
 use Rattle.catches.specs.FlippedLaws.{flips_size, flipped_exactly}
 use Rattle.catches.specs.Multiples.{flips}
 use Rattle.catches.specs.NumberBitsLaws.{highest, one_small}
@@ -131,7 +131,7 @@ how_many_is xs ys c =
         place n = omega arith
 
 -- so of two flipped bits there are two
-pub two_are_two : (xs ys : List ℕ) → Came xs ys → (i j k l : ℕ) → Two_bits xs ys i j k l → how_many xs ys ≡ 2
+pub two_are_two : (xs ys : List ℕ) → Came xs ys → (i j k l : ℕ) → TwoBits xs ys i j k l → how_many xs ys ≡ 2
 two_are_two xs ys c i j k l t =
     let (n, g, e) = pair_flips xs ys c i j k l t in
     sym (how_many_is xs ys c)

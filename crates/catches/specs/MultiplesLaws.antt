@@ -6,7 +6,7 @@ use Rattle.lists.specs.Each.{Bytes}
 use Rattle.pec.specs.Pec.{pec_of}
 use Rattle.pec.specs.PecDivision.{times_g, polynomial_from, polynomial}
 use Rattle.pec.specs.PecDivisionLaws.{xor_odd, xor_twice, xor_back, times_g_xor, times_g_double, small_multiple, pec_is_remainder}
-use Rattle.catches.specs.Changes.{Right_pec, Came}
+use Rattle.catches.specs.Changes.{RightPec, Came}
 use Rattle.catches.specs.Multiples.{Multiple, flips}
 
 -- ---- bytes and the byte after them
@@ -42,15 +42,15 @@ multiple_of_right bs y h g = (there, back)
     back (q, e) = (pec_is_remainder bs h y g).0 (q, sym (xor_back (256 * polynomial bs) y) ∙ ap (λ (n : ℕ). bit_xor n y) (sym (one_more bs y g) ∙ e))
 
 -- RIGHT EXACTLY IF A MULTIPLE, of all bytes, the PEC among them
-pub right_exactly : (xs : List ℕ) → Bytes xs → 0 < length xs → Right_pec xs ↔ Multiple (polynomial xs)
+pub right_exactly : (xs : List ℕ) → Bytes xs → 0 < length xs → RightPec xs ↔ Multiple (polynomial xs)
 right_exactly xs h l = (there, back xs h l)
   where
-    there : Right_pec xs → Multiple (polynomial xs)
+    there : RightPec xs → Multiple (polynomial xs)
     there (bs, e) =
         let s = split_bytes bs (pec_of bs) (subst Bytes e h) in
         subst (λ (l : List ℕ). Multiple (polynomial l)) (sym e) ((multiple_of_right bs (pec_of bs) s.0 s.1).0 refl)
 
-    back : (xs : List ℕ) → Bytes xs → 0 < length xs → Multiple (polynomial xs) → Right_pec xs
+    back : (xs : List ℕ) → Bytes xs → 0 < length xs → Multiple (polynomial xs) → RightPec xs
     back [] h l m = absurd (omega (arith, l))
     back (x ∷ xs) h l m =
         let (bs, y, e) = with_last_lem x xs in
@@ -58,11 +58,11 @@ right_exactly xs h l = (there, back xs h l)
         let r = (multiple_of_right bs y s.0 s.1).1 (subst (λ (l : List ℕ). Multiple (polynomial l)) e m) in
         (bs, e ∙ ap (λ (n : ℕ). bs ++ n ∷ []) r)
 
-pub right_some : (xs : List ℕ) → Right_pec xs → 0 < length xs
+pub right_some : (xs : List ℕ) → RightPec xs → 0 < length xs
 right_some xs (bs, e) = omega (arith, ap length e, length-append bs (pec_of bs ∷ []))
 
 -- NOT CAUGHT EXACTLY IF WHAT IT FLIPS IS A MULTIPLE
-pub escapes_exactly : (xs ys : List ℕ) → Came xs ys → Right_pec ys ↔ Multiple (flips xs ys)
+pub escapes_exactly : (xs ys : List ℕ) → Came xs ys → RightPec ys ↔ Multiple (flips xs ys)
 escapes_exactly xs ys c = (there, back)
   where
     some : 0 < length xs
@@ -71,16 +71,16 @@ escapes_exactly xs ys c = (there, back)
     sent : Multiple (polynomial xs)
     sent = (right_exactly xs c.sent some).0 c.right
 
-    came : Right_pec ys ↔ Multiple (polynomial ys)
+    came : RightPec ys ↔ Multiple (polynomial ys)
     came = right_exactly ys c.came (rw c.as_many some)
 
-    there : Right_pec ys → Multiple (flips xs ys)
+    there : RightPec ys → Multiple (flips xs ys)
     there r =
         let (a, e) = sent in
         let (b, f) = came.0 r in
         (bit_xor a b, cc (times_g_xor a b))
 
-    back : Multiple (flips xs ys) → Right_pec ys
+    back : Multiple (flips xs ys) → RightPec ys
     back (q, e) =
         let (a, f) = sent in
         came.1 (bit_xor a q, cc (times_g_xor a q, xor_twice (polynomial xs) (polynomial ys)))

@@ -8,7 +8,7 @@ use Rattle.std.proofs.lemmas.Nat.{xor_shr}
 use Rattle.std.specs.Int.Count.{ones, ones_step}
 use Rattle.pec.specs.PecDivision.{times_g}
 use Rattle.pec.specs.PecDivisionLaws.{xor_odd}
-use Rattle.catches.specs.Changes.{Right_pec, Came, how_many}
+use Rattle.catches.specs.Changes.{RightPec, Came, how_many}
 use Rattle.catches.specs.HowManyLaws.{no_ones, ones_placed, how_many_is}
 use Rattle.catches.specs.MultiplesLaws.{escapes_exactly}
 
@@ -61,7 +61,7 @@ multiple_even q =
     omega (arith, a, b, c, e8, e2, e1)
 
 -- CAUGHT
-pub odd_caught : (xs ys : List ℕ) → Came xs ys → how_many xs ys % 2 ≡ 1 → Right_pec ys → ⊥
+pub odd_caught : (xs ys : List ℕ) → Came xs ys → how_many xs ys % 2 ≡ 1 → RightPec ys → ⊥
 odd_caught xs ys c o r =
     let (q, e) = (escapes_exactly xs ys c).0 r in
     omega (arith, o, how_many_is xs ys c, ap ones e, multiple_even q)

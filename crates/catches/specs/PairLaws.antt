@@ -2,7 +2,7 @@
 use Rattle.std.specs.Prelude.{◌≡◌, refl, List, ◌⊎◌, ◌↔◌, ℕ, zero, suc, ◌+◌, ◌-◌, ◌*◌, ◌/◌, ◌%◌, ◌^◌, ◌≤◌, ◌<◌, length}
 use Rattle.std.proofs.Common.{sym, ap, ap₂, ◌∙◌, subst, inl, inr, mod-lt, mod-eq_of_lt, one-mul, arith, shr-shr}
 use Rattle.std.proofs.Math.Pow.{split}
-use Rattle.catches.specs.Changes.{Flipped, Right_pec, Came, Within, Two_bits, First_and_last}
+use Rattle.catches.specs.Changes.{Flipped, RightPec, Came, Within, TwoBits, FirstAndLast}
 use Rattle.catches.specs.FlippedLaws.{inside, flipped_exactly, coefficient_flipped}
 use Rattle.catches.specs.Multiples.{Multiple, flips}
 use Rattle.catches.specs.MultiplesLaws.{escapes_exactly, shifted_exactly}
@@ -26,7 +26,7 @@ apart x n g h e = omega arith
 above : (x n : ℕ) → x + suc n ≡ x → ⊥
 above x n e = omega arith
 
-module _ (xs ys : List ℕ) (c : Came xs ys) (i j k l : ℕ) (t : Two_bits xs ys i j k l) where
+module _ (xs ys : List ℕ) (c : Came xs ys) (i j k l : ℕ) (t : TwoBits xs ys i j k l) where
   abbrev bits : ℕ
   bits = 8 * length xs
 
@@ -125,7 +125,7 @@ module _ (xs ys : List ℕ) (c : Came xs ys) (i j k l : ℕ) (t : Two_bits xs ys
   pair_flips = (lower, gap, flips_both)
 
   -- NOT CAUGHT EXACTLY IF the distance of the two is a multiple of 127, at any length
-  pub pair_escapes_exactly : Right_pec ys ↔ (((8 * k + l) - (8 * i + j)) % 127 ≡ 0)
+  pub pair_escapes_exactly : RightPec ys ↔ (((8 * k + l) - (8 * i + j)) % 127 ≡ 0)
   pair_escapes_exactly =
       let d : suc gap ≡ (8 * k + l) - (8 * i + j) = (let o = places.0 in omega (arith, o)) in
       let m = escapes_exactly xs ys c in
@@ -136,19 +136,19 @@ module _ (xs ys : List ℕ) (c : Came xs ys) (i j k l : ℕ) (t : Two_bits xs ys
       )
 
   -- CAUGHT: any two bits of up to 15 bytes in all
-  pub two_bits_caught : length xs ≤ 15 → Right_pec ys → ⊥
+  pub two_bits_caught : length xs ≤ 15 → RightPec ys → ⊥
   two_bits_caught h r = omega (arith, h, places.0, places.1, pair_escapes_exactly.0 r)
 
   -- of 16 bytes in all, two bits escape exactly if they are the very first and the very last
-  pub one_pair_of_sixteen : length xs ≡ 16 → Right_pec ys ↔ First_and_last i j k l
+  pub one_pair_of_sixteen : length xs ≡ 16 → RightPec ys ↔ FirstAndLast i j k l
   one_pair_of_sixteen h = (there, λ z. pair_escapes_exactly.1 (ap (λ (n : ℕ). n % 127) (far i j k l z)))
     where
-      there : Right_pec ys → First_and_last i j k l
+      there : RightPec ys → FirstAndLast i j k l
       there r =
           let e = pair_escapes_exactly.0 r in
           let p = places in
           let u = t.second_in_byte in
           (omega (arith, h, e, p.0, p.1), omega (arith, h, e, p.0, p.1), omega (arith, h, e, p.0, p.1, u), omega (arith, h, e, p.0, p.1, u))
 
-      far : (i j k l : ℕ) → First_and_last i j k l → (8 * k + l) - (8 * i + j) ≡ 127
+      far : (i j k l : ℕ) → FirstAndLast i j k l → (8 * k + l) - (8 * i + j) ≡ 127
       far i j k l z = omega (arith, z.0, z.1, z.2, z.3)

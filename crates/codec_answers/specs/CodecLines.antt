@@ -3,7 +3,7 @@ use Rattle.std.specs.Prelude.{ℕ, ◌+◌, ◌%◌, ◌^◌, List, ◌++◌}
 use Rattle.text.specs.Chars.{chars}
 use Rattle.writing.specs.Written.{decimal_of, pair_of}
 use Rattle.requests.specs.declared.expected.Expected.{Expected}
-use Rattle.requests.specs.declared.expected.Expected.TheVariants.{Verb, Byte, Symbol, Protocol, Pec, Sent, Received, Udid, End, Targets, OddByte, Flag, Fresh, Event, Module, Number, View, Line}
+use Rattle.requests.specs.declared.expected.Expected.TheVariants.{Verb, Byte, Symbol, Protocol, Pec, Sent, Received, Udid, End, Targets, OddByte, Flag, Fresh, Event, Module, Line}
 use Rattle.encode.specs.declared.Encoded.{Encoded}
 use Rattle.encode.specs.declared.Encoded.TheVariants.{Written, Forbidden, OutputTooShort}
 use Rattle.pieces.specs.Pieces.{newline, front, symbols_text}
@@ -11,9 +11,9 @@ use Rattle.pieces.specs.Pieces.{newline, front, symbols_text}
 -- ---- what is no request
 
 abbrev pub expected_text : Expected → List ℕ
-expected_text Verb = chars " expected a verb: pec encode decode explain occupied free target untarget clear run start step choose issue decline lookup gone grid module m view help quit exit\n"
+expected_text Verb = chars " expected a verb\n"
 expected_text Byte = chars " expected a byte, 0 to 255\n"
-expected_text Symbol = chars " expected a symbol, 0 to 65535, S, P, A or N\n"
+expected_text Symbol = chars " expected a symbol, 0 to 65535\n"
 expected_text Protocol = chars " expected a protocol, by number or name\n"
 expected_text Pec = chars " expected p or -\n"
 expected_text Sent = chars " expected w\n"
@@ -26,8 +26,6 @@ expected_text Flag = chars " expected 0 or 1\n"
 expected_text Fresh = chars " expected 8 hexadecimal digits\n"
 expected_text Event = chars " expected start, byte, supply, lost, stop or state\n"
 expected_text Module = chars " expected a module, which the verb module makes\n"
-expected_text Number = chars " expected the number of a target\n"
-expected_text View = chars " expected letters, numbers, words or bare\n"
 expected_text Line = chars " expected a line of at most 16384 characters\n"
 
 -- the column of a place, in 64 bits

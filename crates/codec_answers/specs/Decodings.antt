@@ -1,5 +1,5 @@
 -- The answers of decode.
-use Rattle.std.specs.Prelude.{ℕ, List, [], ◌++◌, nat_lt}
+use Rattle.std.specs.Prelude.{ℕ, List, ◌++◌, nat_lt}
 use Rattle.text.specs.Chars.{chars}
 use Rattle.writing.specs.Written.{decimal_of, pair_of}
 use Rattle.lists.specs.Choice.{pick}
@@ -19,17 +19,17 @@ abbrev pub transaction_text : Transaction → List ℕ → List ℕ → List ℕ
 transaction_text t sent received =
     ((fields_text t ++ (chars " w" ++ bytes_text (front t.sent sent))) ++ (chars " r" ++ bytes_text (front t.received received))) ++ newline
 
+-- a label, and where
+abbrev pub place_text : List ℕ → ℕ → List ℕ
+place_text label n = (label ++ decimal_of n) ++ newline
+
 -- after a refusal's number: nothing where the trace was not read, which is 1 and 2; else which byte was not acknowledged, or the place
 abbrev pub where_text : Refusal → ℕ → List ℕ
-where_text w k = pick (nat_lt (refusal_number w) 3) [] (pick (is_nack w) (chars " byte " ++ decimal_of k) (chars " place " ++ decimal_of k))
+where_text w k = pick (nat_lt (refusal_number w) 3) newline (pick (is_nack w) (place_text (chars " byte ") k) (place_text (chars " place ") k))
 
 -- a refusal's number, and where
-abbrev pub refusal_text : Refusal → ℕ → List ℕ
-refusal_text w k = decimal_of (refusal_number w) ++ where_text w k
-
--- on a line of its own
 abbrev pub refused_text : Refusal → ℕ → List ℕ
-refused_text w k = refusal_text w k ++ newline
+refused_text w k = decimal_of (refusal_number w) ++ where_text w k
 
 abbrev pub decoded_text : Decoded → List ℕ → List ℕ → List ℕ
 decoded_text (Done t) sent received = transaction_text t sent received

@@ -1,4 +1,3 @@
 pub mod DecodingLaws
 pub mod Decodings
 pub mod CodecLines
-pub mod VerbsToldLaws

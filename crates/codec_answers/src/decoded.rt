@@ -2,10 +2,10 @@
 ghost use Rattle.std.specs.Prelude.{◌++◌};
 ghost use Rattle.writing.specs.Written.{Appended};
 ghost use Rattle.pieces.specs.Pieces.{bytes_text};
-ghost use Rattle.codec_answers.specs.Decodings.{fields_text, transaction_text, where_text, refusal_text, refused_text, decoded_text};
+ghost use Rattle.codec_answers.specs.Decodings.{fields_text, transaction_text, where_text, refused_text, decoded_text};
 
 use pieces::list::put_bytes;
-use pieces::piece::{put_hex, put_number};
+use pieces::piece::{number_line, put_hex, put_number};
 use scan::answer::{Decoded, Refusal, is_nack, refusal_number};
 use text::word::part;
 use trace::transaction::Transaction;
@@ -44,29 +44,21 @@ fn put_where(out: &mut [u8], at: usize, w: Refusal, place: usize) -> usize
     ensures { Appended out.old at (where_text w place) out.new result }
 {
     if refusal_number(w) < 3 {
-        return at;
+        return put(out, at, b"\n");
     }
     if is_nack(w) {
-        return put_number(out, at, b" byte ", place as u64);
+        return number_line(out, at, b" byte ", place as u64);
     }
-    put_number(out, at, b" place ", place as u64)
+    number_line(out, at, b" place ", place as u64)
 }
 
 // A refusal: its number, and where.
-pub fn put_refusal(out: &mut [u8], at: usize, w: Refusal, place: usize) -> usize
-    ensures { Appended out.old at (refusal_text w place) out.new result }
+fn put_refused(out: &mut [u8], at: usize, w: Refusal, place: usize) -> usize
+    ensures { Appended out.old at (refused_text w place) out.new result }
 {
     let n = refusal_number(w);
     let to = put_decimal(out, at, n as u64);
     put_where(out, to, w, place)
-}
-
-// A refusal on a line of its own.
-fn put_refused(out: &mut [u8], at: usize, w: Refusal, place: usize) -> usize
-    ensures { Appended out.old at (refused_text w place) out.new result }
-{
-    let to = put_refusal(out, at, w, place);
-    put(out, to, b"\n")
 }
 
 // What the decoder answered.

@@ -1,4 +1,6 @@
 // What the console prints for what is no request, and for the answers of the codec. Rests on pieces.
+#![tactic(auto)]
+
 pub mod codec;
 pub mod decoded;
 pub mod unclear;

@@ -11,13 +11,9 @@ fn put_expected(out: &mut [u8], at: usize, e: Expected) -> usize
     ensures { Appended out.old at (expected_text e) out.new result }
 {
     match e {
-        Expected::Verb => put(
-            out,
-            at,
-            b" expected a verb: pec encode decode explain occupied free target untarget clear run start step choose issue decline lookup gone grid module m view help quit exit\n",
-        ),
+        Expected::Verb => put(out, at, b" expected a verb\n"),
         Expected::Byte => put(out, at, b" expected a byte, 0 to 255\n"),
-        Expected::Symbol => put(out, at, b" expected a symbol, 0 to 65535, S, P, A or N\n"),
+        Expected::Symbol => put(out, at, b" expected a symbol, 0 to 65535\n"),
         Expected::Protocol => put(out, at, b" expected a protocol, by number or name\n"),
         Expected::Pec => put(out, at, b" expected p or -\n"),
         Expected::Sent => put(out, at, b" expected w\n"),
@@ -42,8 +38,6 @@ fn put_expected(out: &mut [u8], at: usize, e: Expected) -> usize
             at,
             b" expected a module, which the verb module makes\n",
         ),
-        Expected::Number => put(out, at, b" expected the number of a target\n"),
-        Expected::View => put(out, at, b" expected letters, numbers, words or bare\n"),
         Expected::Line => put(out, at, b" expected a line of at most 16384 characters\n"),
     }
 }

@@ -10,7 +10,7 @@ use Rattle.commands.specs.Requests.{trace_of}
 use Rattle.commands.specs.declared.command.Command.TheVariants.{Prepare, GetUdid, Assign}
 use Rattle.commands.specs.declared.command.Handed.TheVariants.{Send}
 
-pub record Command_rows : Type 0 where
+pub record CommandRows : Type 0 where
   -- Prepare To ARP: S C2 A 01 A PEC A P, the marked case M2, whatever is given as a reply
   pub prepare : (reply : List ℕ) → trace_of (Send Prepare) reply ≡ prepare_trace
   -- Get UDID with the 17 bytes of a reply: S C2 A 03 A S C3 A 11 A, each byte with A, PEC N P

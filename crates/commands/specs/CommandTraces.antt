@@ -27,5 +27,5 @@ abbrev pub Reply : List ℕ → Type 0
 Reply tr = (xs : List ℕ) × Bytes xs × (length xs ≤ 255) × (tr ≡ reply_trace xs)
 
 -- a trace is a reply of 17 bytes with this identifier
-abbrev pub Reply_of : Udid → List ℕ → Type 0
-Reply_of u tr = (b : ℕ) × (b < 256) × (tr ≡ reply_trace (udid_bytes u ++ b ∷ []))
+abbrev pub ReplyOf : Udid → List ℕ → Type 0
+ReplyOf u tr = (b : ℕ) × (b < 256) × (tr ≡ reply_trace (udid_bytes u ++ b ∷ []))

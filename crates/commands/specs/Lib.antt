@@ -4,7 +4,7 @@ pub mod Requests
 pub mod CommandTraces
 pub mod SameTrace
 pub mod SameTraceLaws
-pub mod Command_rows
+pub mod CommandRows
 pub mod Sending
 pub mod RequestLaws
 pub mod SendingLaws

@@ -19,7 +19,7 @@ use Rattle.udid.specs.declared.Udid.{Udid}
 use Rattle.commands.specs.Codes.{send_byte, block_read, block_write}
 use Rattle.commands.specs.Requests.{assign_data, message_of, trace_of}
 use Rattle.commands.specs.CommandTraces.{reply_trace, prepare_trace, assign_trace}
-use Rattle.commands.specs.Command_rows.{Command_rows}
+use Rattle.commands.specs.CommandRows.{CommandRows}
 use Rattle.commands.specs.declared.command.Command.TheVariants.{Prepare, GetUdid, Assign}
 use Rattle.commands.specs.declared.command.Handed.TheVariants.{Send}
 
@@ -103,7 +103,7 @@ assign_symbols u a =
 pub assign_symbols_small : (u : Udid) (a : Address) → a.0 < 128 → trace_of (Send (Assign u a)) [] ≡ assign_trace (udid_bytes u) (2 * a.0)
 assign_symbols_small u a h = assign_symbols u a ∙ ap (λ (n : ℕ). assign_trace (udid_bytes u) (2 * n)) (mod-eq_of_lt h)
 
-pub command_rows : Command_rows
+pub command_rows : CommandRows
 command_rows = record {
   prepare = prepare_symbols;
   get = reply_symbols_17;

@@ -24,7 +24,7 @@ Unsendable (Send (Assign u a)) reply = 127 < a.0
 Unsendable (Wait e) reply = Unit
 
 -- what put_command answers for an Assign, and the output after it
-pub record Assign_written (u : Udid) (a : ℕ) (before : List ℕ) (r : Encoded) (after : List ℕ) : Type 0 where
+pub record AssignWritten (u : Udid) (a : ℕ) (before : List ℕ) (r : Encoded) (after : List ℕ) : Type 0 where
   pub above_127 : 127 < a → (encode_number r ≡ (1, 0)) × (after ≡ before)
   pub too_short : a ≤ 127 → length before < 44 → (encode_number r ≡ (2, 0)) × (after ≡ before)
   pub written : a ≤ 127 → 44 ≤ length before → (encode_number r ≡ (0, 44)) × (after ≡ assign_trace (udid_bytes u) (2 * a) ++ drop 44 before)

@@ -12,7 +12,7 @@ use Rattle.pec.specs.Pec.{pec_of}
 use Rattle.wire.specs.declared.address.Address.{Address}
 use Rattle.trace.specs.Shapes.{protocols, shape_of}
 use Rattle.trace.specs.Trace.{Valid, Message, acked}
-use Rattle.trace.specs.Data_fits.{Data_fits}
+use Rattle.trace.specs.DataFits.{DataFits}
 use Rattle.trace.specs.DataFitsLaws.{listed_lengths_fit, fitting_lengths_listed}
 use Rattle.trace.specs.FieldLaws.{lengths_exactly}
 use Rattle.trace.specs.LengthLaws.{length_acked}
@@ -25,7 +25,7 @@ use Rattle.udid.specs.Bytes.{udid_bytes}
 use Rattle.udid.specs.UdidLaws.{length_udid}
 use Rattle.udid.specs.declared.Udid.{Udid}
 use Rattle.commands.specs.RequestLaws.{valid_prepare, valid_get, assign_data_has_17_bytes, assign_has_44_symbols, valid_assign, assign_symbols_small}
-use Rattle.commands.specs.Sending.{Sent, Unsendable, Assign_written}
+use Rattle.commands.specs.Sending.{Sent, Unsendable, AssignWritten}
 use Rattle.commands.specs.Codes.{block_write}
 use Rattle.commands.specs.Requests.{protocol_of, protocol_for, message_of, trace_of}
 use Rattle.commands.specs.CommandTraces.{assign_trace}
@@ -69,7 +69,7 @@ sending_is_unique k reply before r q after later w v = one_outcome (protocol_for
 
 -- a message of a protocol with PEC is in no listed case of refusal 1 if its fields and its data fit
 unlisted : (protocol : ℕ) (t : Message) → 1 ≤ protocol → protocol < protocols → t.address ≤ 127 → t.direction ≡ 0 → (protocol ≤ 2 → t.command ≡ 0)
-    → Data_fits protocol (length t.sent) (length t.received) → Listed protocol true t → ⊥
+    → DataFits protocol (length t.sent) (length t.received) → Listed protocol true t → ⊥
 unlisted protocol t l h a d c f (unknown_protocol q) = omega arith
 unlisted protocol t l h a d c f (address_above_127 q) = omega arith
 unlisted protocol t l h a d c f (direction_above_1 q) = omega arith
@@ -82,7 +82,7 @@ prepare_listed : (reply : List ℕ) → Listed (protocol_for (Send Prepare)) tru
 prepare_listed reply = unlisted 1 (message_of (Send Prepare) reply) (omega arith) (omega arith) (omega arith) refl (λ q. refl) (fitting_lengths_listed 1 (omega arith) 1 0 ((lengths_exactly (shape_of 1) 1 0).1 (refl, refl, omega arith)))
 
 -- a Block Read of more than 255 bytes does not fit
-too_many : (n : ℕ) → 255 < n → Data_fits 9 0 n → ⊥
+too_many : (n : ℕ) → 255 < n → DataFits 9 0 n → ⊥
 too_many n h d = let l = (lengths_exactly (shape_of 9) 0 n).0 (listed_lengths_fit 9 0 n d) in omega (arith, l.2)
 
 get_listed : (reply : List ℕ) → Listed (protocol_for (Send GetUdid)) true (message_of (Send GetUdid) reply) ↔ (255 < length reply)
@@ -157,7 +157,7 @@ module _ (u : Udid) (a : Address) (reply before : List ℕ) (r : Encoded) (after
       )
 
   -- PUT_COMMAND REFUSES AN ASSIGN OF A NUMBER ABOVE 127, and of any other the byte on the wire is twice the address
-  pub assign_written : Assign_written u a.0 before r after
+  pub assign_written : AssignWritten u a.0 before r after
   assign_written = record {
     above_127 = λ h. ((refused_exactly (Send (Assign u a)) reply before r after w).1 h, refused_untouched (Send (Assign u a)) reply before r after w h);
     too_short = λ h l. (short h l, refusal_untouched (protocol_for (Send (Assign u a))) true (message_of (Send (Assign u a)) reply) before r after w (not_zero (short h l)));

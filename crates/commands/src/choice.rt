@@ -7,7 +7,7 @@ use udid::Udid;
 use wire::address::Address;
 
 // Whether a choice waits, and which.
-#[derive(Drop)]
+#[derive(Clone, Copy)]
 pub enum Choice {
     // This address for this target.
     Of(Udid, Address),

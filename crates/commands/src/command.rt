@@ -10,7 +10,7 @@ pub const GET_UDID: u8 = 0x03;
 pub const ASSIGN_ADDRESS: u8 = 0x04;
 
 // A command on the bus.
-#[derive(Drop)]
+#[derive(Clone, Copy)]
 pub enum Command {
     // Prepare To ARP.
     Prepare,
@@ -21,7 +21,7 @@ pub enum Command {
 }
 
 // Why an address was chosen for a target.
-#[derive(Drop)]
+#[derive(Clone, Copy)]
 pub enum Reason {
     // The target is fixed, and the address is its own.
     Fixed,
@@ -34,7 +34,7 @@ pub enum Reason {
 }
 
 // Why nothing is to be sent.
-#[derive(Drop)]
+#[derive(Clone, Copy)]
 pub enum End {
     // No pass has begun.
     Nothing,
@@ -51,7 +51,7 @@ pub enum End {
 }
 
 // What is handed out.
-#[derive(Drop)]
+#[derive(Clone, Copy)]
 pub enum Handed {
     // This command is to be sent.
     Send(Command),

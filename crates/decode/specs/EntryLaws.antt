@@ -17,7 +17,7 @@ use Rattle.scan.specs.Run.{decoded_by}
 use Rattle.scan.specs.Handed.{sent_length, received_length, sent_place, received_place, sent_data, received_data}
 use Rattle.scan.specs.Sizes.{Sizes}
 use Rattle.scan.specs.SizeLaws.{sizes_of_answer}
-use Rattle.decode.specs.Outcome.{short, answered_by, Outcome_by, Outcome}
+use Rattle.decode.specs.Outcome.{short, answered_by, OutcomeBy, Outcome}
 
 -- both buffers are long enough
 pub both_at_least_255 : (s r : ℕ) → short s r ≡ false → (255 ≤ s) × (255 ≤ r)
@@ -31,10 +31,10 @@ module _ (number : ℕ) (sh : Shape) (barred p : Bool) (tr s r : List ℕ) where
   answered_is b c e f = sym (rw (e, f))
 
   -- refused before the trace is read
-  pub outcome_forbidden : barred ≡ true → Outcome_by number sh barred p tr s r (Refused Forbidden 0) s r
+  pub outcome_forbidden : barred ≡ true → OutcomeBy number sh barred p tr s r (Refused Forbidden 0) s r
   outcome_forbidden h = record { answer = answered_is true _ h refl; data_sent = refl; data_received = refl }
 
-  pub outcome_short : barred ≡ false → short (length s) (length r) ≡ true → Outcome_by number sh barred p tr s r (Refused BufferTooShort 0) s r
+  pub outcome_short : barred ≡ false → short (length s) (length r) ≡ true → OutcomeBy number sh barred p tr s r (Refused BufferTooShort 0) s r
   outcome_short h g = record { answer = answered_is false true h g; data_sent = refl; data_received = refl }
 
   module _ (hs : Sane sh) (a : Decoded) (g : a ≡ decoded_by number sh p tr) where
@@ -49,7 +49,7 @@ module _ (number : ℕ) (sh : Shape) (barred p : Bool) (tr s r : List ℕ) where
     received_copy_fits h = (omega (arith, here.received_small, both_at_least_255 (length s) (length r) h), here.received)
 
     pub outcome_read : barred ≡ false → short (length s) (length r) ≡ false → (x y : List ℕ) → x ≡ onto (sent_data sh tr a) s → y ≡ onto (received_data p tr a) r
-        → Outcome_by number sh barred p tr s r a x y
+        → OutcomeBy number sh barred p tr s r a x y
     outcome_read f h x y q k = record { answer = g ∙ answered_is false false f h; data_sent = q; data_received = k }
 
 -- ---- at the table of the protocols
@@ -58,7 +58,7 @@ module _ (protocol : ℕ) (p : Bool) (sh : Shape) (es : sh ≡ shape_of protocol
   pub sane_shape : Sane sh
   sane_shape = subst Sane (sym es) (sane protocol)
 
-  pub outcome_at_table : (barred : Bool) → barred ≡ forbidden protocol p → (tr s r : List ℕ) (a : Decoded) (x y : List ℕ) → Outcome_by protocol sh barred p tr s r a x y
+  pub outcome_at_table : (barred : Bool) → barred ≡ forbidden protocol p → (tr s r : List ℕ) (a : Decoded) (x y : List ℕ) → OutcomeBy protocol sh barred p tr s r a x y
       → Outcome protocol p tr s r a x y
   outcome_at_table barred eb tr s r a x y o =
-      subst (λ (b : Bool). Outcome_by protocol (shape_of protocol) b p tr s r a x y) eb (subst (λ (u : Shape). Outcome_by protocol u barred p tr s r a x y) es o)
+      subst (λ (b : Bool). OutcomeBy protocol (shape_of protocol) b p tr s r a x y) eb (subst (λ (u : Shape). OutcomeBy protocol u barred p tr s r a x y) es o)

@@ -8,7 +8,7 @@ use Rattle.trace.specs.ForbiddenLaws.{forbidden_cases, taken_cases}
 use Rattle.trace.specs.Table.{last_protocol}
 use Rattle.trace.specs.ShapeLaws.{sane, to_last_known, known_to_last}
 use Rattle.trace.specs.Shapes.{protocols, shape_of, forbidden}
-use Rattle.trace.specs.Table.{Trace_of, send_byte}
+use Rattle.trace.specs.Table.{TraceOf, send_byte}
 use Rattle.trace.specs.TableLaws.{listed_trace, trace_listed}
 use Rattle.trace.specs.Trace.{Message, trace, Valid}
 use Rattle.trace.specs.declared.shape.Shape.{Shape}
@@ -21,7 +21,7 @@ use Rattle.scan.specs.Because.{Because}
 use Rattle.scan.specs.BecauseLaws.{Agree, wrong_agrees, because_agrees}
 use Rattle.scan.specs.CountFittingLaws.{count_too_high}
 use Rattle.scan.specs.DecideLaws as Decides
-use Rattle.scan.specs.Fitting.{Other_pec, Wrong, Bit_swapped, Count_too_high, table_cases}
+use Rattle.scan.specs.Fitting.{OtherPec, Wrong, BitSwapped, CountTooHigh, table_cases}
 use Rattle.scan.specs.FittingLaws.{cases_shaped, other_pec_shaped, other_pec_byte, bit_shaped}
 use Rattle.scan.specs.Numbers.{refusal_number, decode_number}
 use Rattle.scan.specs.Refusal.{refusal_of}
@@ -32,7 +32,7 @@ use Rattle.scan.specs.declared.answer.Decoded.TheVariants.{Done}
 use Rattle.scan.specs.declared.answer.Refusal.{Refusal}
 use Rattle.scan.specs.declared.answer.Refusal.TheVariants.{Unexpected, NotAcknowledged, WrongAck, WrongAddress, WrongCount}
 use Rattle.decode.specs.EntryLaws.{both_at_least_255}
-use Rattle.decode.specs.Outcome.{short, Entered_by, Entered, Outcome}
+use Rattle.decode.specs.Outcome.{short, EnteredBy, Entered, Outcome}
 use Rattle.decode.specs.OutcomeLaws as decode
 
 -- 2: a buffer of under 255 bytes
@@ -88,7 +88,7 @@ module _ (protocol : ℕ) (pec : Bool) (tr sent₀ received₀ : List ℕ) (a : 
   entered_long r = (long_cases (length sent₀) (length received₀)).1 (r.2, r.3)
 
   -- entered at the table is entered over the shape
-  pub entered_exactly : Here ↔ Entered_by (forbidden protocol pec) sent₀ received₀
+  pub entered_exactly : Here ↔ EnteredBy (forbidden protocol pec) sent₀ received₀
   entered_exactly = (λ r. (entered_taken r, r.2, r.3), λ k. entered k.0 ((long_cases (length sent₀) (length received₀)).1 (k.1, k.2)))
 
   -- every number but 1 and 2 is the trace's, where it is read: in the case Q over shapes, which is the case P over the table
@@ -130,13 +130,13 @@ module _ (protocol : ℕ) (pec : Bool) (tr sent₀ received₀ : List ℕ) (a : 
       back h (Miscounted, b) = inr (inr (inr (given h.0 WrongCount (omega arith) b)))
 
   -- 17 and 19 worked out over the table
-  pub decode_bit : (k : ℕ) → (decode_number a ≡ (17, k)) ↔ (Here × Bit_swapped protocol pec tr k)
+  pub decode_bit : (k : ℕ) → (decode_number a ≡ (17, k)) ↔ (Here × BitSwapped protocol pec tr k)
   decode_bit k =
       by_trace _ _ 17 k (λ e. omega (arith, e)) (λ e. omega (arith, e))
       (λ h. (let b = bit_shaped protocol pec (entered_known h) h.1 tr k in (λ s. is_wrong_ack shape (sane protocol) pec tr k (b.0 s), λ w. b.1 (wrong_ack_is shape (sane protocol) pec tr k w))))
       (step.refused_exactly protocol shape (sane protocol) pec tr WrongAck k)
 
-  pub decode_count : (k : ℕ) → (decode_number a ≡ (19, k)) ↔ (Here × Count_too_high protocol tr k)
+  pub decode_count : (k : ℕ) → (decode_number a ≡ (19, k)) ↔ (Here × CountTooHigh protocol tr k)
   decode_count k =
       by_trace _ _ 19 k (λ e. omega (arith, e)) (λ e. omega (arith, e)) (λ h. count_too_high protocol pec (entered_known h) tr k)
       (step.refused_exactly protocol shape (sane protocol) pec tr WrongCount k)
@@ -148,12 +148,12 @@ module _ (protocol : ℕ) (pec : Bool) (tr sent₀ received₀ : List ℕ) (a : 
       step.byte_by_length protocol shape (sane protocol) pec tr b q.2
 
   -- with 7, the place is where the PEC stands
-  pub decode_7_place : Here → (place : ℕ) (q : Other_pec protocol pec tr place) → get_or tr place 0 ≡ q.1.0
+  pub decode_7_place : Here → (place : ℕ) (q : OtherPec protocol pec tr place) → get_or tr place 0 ≡ q.1.0
   decode_7_place h k q =
       step.pec_there protocol shape (sane protocol) pec tr k ((other_pec_shaped protocol pec (entered_known h) h.1 tr k).0 q) ∙ other_pec_byte protocol pec (entered_known h) h.1 tr k q
 
   -- 0: the trace is that of a message in the table
-  pub decode_0 : (decode_number a ≡ (0, 0)) ↔ (Here × ((m : Message) × Trace_of protocol pec m tr))
+  pub decode_0 : (decode_number a ≡ (0, 0)) ↔ (Here × ((m : Message) × TraceOf protocol pec m tr))
   decode_0 =
       by_trace _ ((m : Message) × Valid shape m × (tr ≡ trace shape pec m)) 0 0 (λ e. omega (arith, e)) (λ e. omega (arith, e))
       (λ h. (
@@ -163,7 +163,7 @@ module _ (protocol : ℕ) (pec : Bool) (tr sent₀ received₀ : List ℕ) (a : 
       (step.number_0 protocol shape (sane protocol) pec tr)
 
   -- and then the message is handed over: its fields, and its data at the fronts of the two buffers, which are as they were behind
-  pub decode_hands_over : Here → (m : Message) → Trace_of protocol pec m tr
+  pub decode_hands_over : Here → (m : Message) → TraceOf protocol pec m tr
       → (a ≡ Done (summary protocol m)) × (sent ≡ m.sent ++ drop (length m.sent) sent₀) × (received ≡ m.received ++ drop (length m.received) received₀)
   decode_hands_over h m w =
       let l = listed_trace protocol pec m tr w in

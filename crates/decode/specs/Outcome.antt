@@ -20,8 +20,8 @@ short sentRoom receivedRoom = or (ltb sentRoom 255) (ltb receivedRoom 255)
 -- ---- over a shape: `number` is the protocol's, and `barred` says that it, or a PEC of it, is forbidden
 
 -- neither 1 nor 2, so that the trace is read
-abbrev pub Entered_by : Bool → List ℕ → List ℕ → Type 0
-Entered_by barred sent₀ received₀ = (barred ≡ false) × (255 ≤ length sent₀) × (255 ≤ length received₀)
+abbrev pub EnteredBy : Bool → List ℕ → List ℕ → Type 0
+EnteredBy barred sent₀ received₀ = (barred ≡ false) × (255 ≤ length sent₀) × (255 ≤ length received₀)
 
 -- the answer, with the lengths of the two buffers: 1, then 2, then what the trace says
 unfoldable pub answered_by : ℕ → Shape → Bool → Bool → List ℕ → ℕ → ℕ → Decoded
@@ -29,7 +29,7 @@ answered_by number sh barred pec tr sentRoom receivedRoom =
     pick barred (Refused Forbidden 0) (pick (short sentRoom receivedRoom) (Refused BufferTooShort 0) (decoded_by number sh pec tr))
 
 -- the answer a of a call, and what the buffers hold after it, which held sent₀ and received₀ before
-pub record Outcome_by (number : ℕ) (sh : Shape) (barred pec : Bool) (tr sent₀ received₀ : List ℕ) (a : Decoded) (sent received : List ℕ) : Type 0 where
+pub record OutcomeBy (number : ℕ) (sh : Shape) (barred pec : Bool) (tr sent₀ received₀ : List ℕ) (a : Decoded) (sent received : List ℕ) : Type 0 where
   pub answer : a ≡ answered_by number sh barred pec tr (length sent₀) (length received₀)
   pub data_sent : sent ≡ onto (sent_data sh tr a) sent₀
   pub data_received : received ≡ onto (received_data pec tr a) received₀
@@ -48,8 +48,8 @@ pub record Read (number : ℕ) (sh : Shape) (pec : Bool) (tr sent₀ received₀
   pub front_sent : sent ≡ onto s sent₀
   pub front_received : received ≡ onto r received₀
 
-abbrev pub Means_by : ℕ → Shape → Bool → Bool → List ℕ → List ℕ → List ℕ → Decoded → List ℕ → List ℕ → Type 0
-Means_by number sh barred pec tr sent₀ received₀ a sent received =
+abbrev pub MeansBy : ℕ → Shape → Bool → Bool → List ℕ → List ℕ → List ℕ → Decoded → List ℕ → List ℕ → Type 0
+MeansBy number sh barred pec tr sent₀ received₀ a sent received =
     pick barred (Unread (Refused Forbidden 0) sent₀ received₀ a sent received)
     (pick (short (length sent₀) (length received₀)) (Unread (Refused BufferTooShort 0) sent₀ received₀ a sent received)
     (Read number sh pec tr sent₀ received₀ a sent received))
@@ -64,7 +64,7 @@ abbrev pub answered : ℕ → Bool → List ℕ → ℕ → ℕ → Decoded
 answered protocol pec tr sentRoom receivedRoom = answered_by protocol (shape_of protocol) (forbidden protocol pec) pec tr sentRoom receivedRoom
 
 abbrev pub Outcome : ℕ → Bool → List ℕ → List ℕ → List ℕ → Decoded → List ℕ → List ℕ → Type 0
-Outcome protocol pec tr sent₀ received₀ a sent received = Outcome_by protocol (shape_of protocol) (forbidden protocol pec) pec tr sent₀ received₀ a sent received
+Outcome protocol pec tr sent₀ received₀ a sent received = OutcomeBy protocol (shape_of protocol) (forbidden protocol pec) pec tr sent₀ received₀ a sent received
 
 abbrev pub Means : ℕ → Bool → List ℕ → List ℕ → List ℕ → Decoded → List ℕ → List ℕ → Type 0
-Means protocol pec tr sent₀ received₀ a sent received = Means_by protocol (shape_of protocol) (forbidden protocol pec) pec tr sent₀ received₀ a sent received
+Means protocol pec tr sent₀ received₀ a sent received = MeansBy protocol (shape_of protocol) (forbidden protocol pec) pec tr sent₀ received₀ a sent received

@@ -21,11 +21,11 @@ use Rattle.scan.specs.Numbers.{refusal_number, decode_number}
 use Rattle.scan.specs.Answers.{Because, summary}
 use Rattle.scan.specs.AnswersLaws as step
 use Rattle.decode.specs.EntryLaws.{both_at_least_255}
-use Rattle.decode.specs.Outcome.{short, Entered_by, answered_by, Outcome_by, Unread, Read, Means_by}
+use Rattle.decode.specs.Outcome.{short, EnteredBy, answered_by, OutcomeBy, Unread, Read, MeansBy}
 
 module _ (number : ℕ) (sh : Shape) (hs : Sane sh) (barred pec : Bool) (tr sent₀ received₀ : List ℕ) where
   -- one outcome alone: the answer, and what each buffer holds
-  pub one_outcome : (a b : Decoded) (s t r q : List ℕ) → Outcome_by number sh barred pec tr sent₀ received₀ a s r → Outcome_by number sh barred pec tr sent₀ received₀ b t q
+  pub one_outcome : (a b : Decoded) (s t r q : List ℕ) → OutcomeBy number sh barred pec tr sent₀ received₀ a s r → OutcomeBy number sh barred pec tr sent₀ received₀ b t q
       → (a ≡ b) × (s ≡ t) × (r ≡ q)
   one_outcome a b s t r q h g =
       let e : a ≡ b = h.answer ∙ sym g.answer in (
@@ -81,7 +81,7 @@ module _ (number : ℕ) (sh : Shape) (hs : Sane sh) (barred pec : Bool) (tr sent
         h.front_received ∙ ap (λ (x : List ℕ). onto x received₀) (sym k.2 ∙ ap (received_data pec tr) k.0),
       )
 
-  pub outcome_means : (a : Decoded) (s r : List ℕ) → Outcome_by number sh barred pec tr sent₀ received₀ a s r ↔ Means_by number sh barred pec tr sent₀ received₀ a s r
+  pub outcome_means : (a : Decoded) (s r : List ℕ) → OutcomeBy number sh barred pec tr sent₀ received₀ a s r ↔ MeansBy number sh barred pec tr sent₀ received₀ a s r
   unfolding answered_by
   outcome_means a s r = (
     λ h. computed_says barred (short (length sent₀) (length received₀)) a s r (h.answer, h.data_sent, h.data_received),
@@ -94,7 +94,7 @@ never_unread : (number : ℕ) (sh : Shape) (hs : Sane sh) (pec : Bool) (tr : Lis
 never_unread number sh hs pec tr w k n e =
     n ((step.answer_exactly number sh hs pec tr (Refused w k)).0 (refused_of (decoded_by number sh pec tr) w k e)).0
 
-module _ (number : ℕ) (sh : Shape) (hs : Sane sh) (barred pec : Bool) (tr sent₀ received₀ : List ℕ) (a : Decoded) (s r : List ℕ) (h : Outcome_by number sh barred pec tr sent₀ received₀ a s r) where
+module _ (number : ℕ) (sh : Shape) (hs : Sane sh) (barred pec : Bool) (tr sent₀ received₀ : List ℕ) (a : Decoded) (s r : List ℕ) (h : OutcomeBy number sh barred pec tr sent₀ received₀ a s r) where
   abbrev is_short : Bool
   is_short = short (length sent₀) (length received₀)
 
@@ -148,7 +148,7 @@ module _ (number : ℕ) (sh : Shape) (hs : Sane sh) (barred pec : Bool) (tr sent
       there false false e = (refl, refl, e)
 
   pub number_by_trace : (n v : ℕ) → (n ≡ 1 → ⊥) → (n ≡ 2 → ⊥)
-      → (decode_number a ≡ (n, v)) ↔ (Entered_by barred sent₀ received₀ × (decode_number (decoded_by number sh pec tr) ≡ (n, v)))
+      → (decode_number a ≡ (n, v)) ↔ (EnteredBy barred sent₀ received₀ × (decode_number (decoded_by number sh pec tr) ≡ (n, v)))
   number_by_trace n v one two =
       let q = other_number_exactly n v one two in (
         λ e. (let z = q.0 e in let l = both_at_least_255 (length sent₀) (length received₀) z.1 in ((z.0, l.0, l.1), z.2)),
@@ -160,7 +160,7 @@ no_data : (sh : Shape) (pec : Bool) (tr l : List ℕ) (a : Decoded) → ((decode
 no_data sh pec tr l (Done t) n = absurd (n refl)
 no_data sh pec tr l (Refused w k) n = (refl, refl)
 
-pub refusal_changes_nothing : (number : ℕ) (sh : Shape) (barred pec : Bool) (tr sent₀ received₀ : List ℕ) (a : Decoded) (s r : List ℕ) → Outcome_by number sh barred pec tr sent₀ received₀ a s r
+pub refusal_changes_nothing : (number : ℕ) (sh : Shape) (barred pec : Bool) (tr sent₀ received₀ : List ℕ) (a : Decoded) (s r : List ℕ) → OutcomeBy number sh barred pec tr sent₀ received₀ a s r
     → ((decode_number a).0 ≡ 0 → ⊥) → (s ≡ sent₀) × (r ≡ received₀)
 refusal_changes_nothing number sh barred pec tr sent₀ received₀ a s r h n =
     (h.data_sent ∙ (no_data sh pec tr sent₀ a n).0, h.data_received ∙ (no_data sh pec tr received₀ a n).1)
@@ -168,7 +168,7 @@ refusal_changes_nothing number sh barred pec tr sent₀ received₀ a s r h n =
 -- the encoder's trace of a message gives back its protocol, every field and both lists, and leaves the rest of the buffers as it was
 pub round_trip : (number : ℕ) (sh : Shape) (hs : Sane sh) (barred pec : Bool) (t : Message) (sent₀ received₀ : List ℕ) (a : Decoded) (s r : List ℕ)
     → barred ≡ false → short (length sent₀) (length received₀) ≡ false → Valid sh t
-    → Outcome_by number sh barred pec (trace sh pec t) sent₀ received₀ a s r
+    → OutcomeBy number sh barred pec (trace sh pec t) sent₀ received₀ a s r
     → (a ≡ Done (summary number t)) × (s ≡ t.sent ++ drop (length t.sent) sent₀) × (r ≡ t.received ++ drop (length t.received) received₀)
 round_trip number sh hs barred pec t sent₀ received₀ a s r f c v h =
     let tr : List ℕ = trace sh pec t in

@@ -1,11 +1,13 @@
 // The decoder at its entry: the refusals 1 and 2, the answer for the trace, and the data into the two lent buffers. Rests on scan.
 //
 // The trace is read whole before a byte of the buffers is written, so that a refusal changes neither.
+#![tactic(auto)]
+
 ghost use Rattle.std.specs.Prelude.{◌≡◌, ℕ, ◌+◌, ◌*◌, ◌≤◌, ◌<◌, length, drop};
 ghost use Rattle.lists.specs.Onto.{onto};
 ghost use Rattle.trace.specs.Sane.{Sane};
 ghost use Rattle.scan.specs.Handed.{lows, sent_length, sent_place, sent_data, received_length, received_place, received_data};
-ghost use Rattle.decode.specs.Outcome.{short, Outcome_by, Outcome};
+ghost use Rattle.decode.specs.Outcome.{short, OutcomeBy, Outcome};
 
 use crate::received::{received_length, received_place};
 use crate::sent::{sent_length, sent_place};
@@ -71,7 +73,7 @@ fn decode_into(
     received: &mut [u8],
 ) -> Decoded
     requires { Sane sh }
-    ensures { Outcome_by number sh forbidden pec trace.now sent.old received.old result sent.new received.new }
+    ensures { OutcomeBy number sh forbidden pec trace.now sent.old received.old result sent.new received.new }
 {
     if forbidden {
         return Decoded::Refused(Refusal::Forbidden, 0);

@@ -5,7 +5,7 @@ ghost use Rattle.lists.specs.Choice.{pick};
 ghost use Rattle.digits.specs.Numbers.{digit_of, base_of, are_digits, value_of, capped, is_hex, digits_of, number_of, hex_of, halves_of, quarter_of};
 
 // What a word says.
-#[derive(Drop)]
+#[derive(Clone, Copy)]
 pub enum Number {
     Is(u64),
     // A character that is no digit, or no digit at all.
@@ -15,14 +15,14 @@ pub enum Number {
 }
 
 // What a word of 32 hexadecimal digits says: the first 16, and the last 16.
-#[derive(Drop)]
+#[derive(Clone, Copy)]
 pub enum Halves {
     Are(u64, u64),
     NoHalves,
 }
 
 // What a word of 8 hexadecimal digits says.
-#[derive(Drop)]
+#[derive(Clone, Copy)]
 pub enum Quarter {
     Value(u32),
     NoQuarter,

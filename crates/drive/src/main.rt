@@ -1,4 +1,6 @@
 // drive: a pass of the controller over one target, as README.md shows it. There is no bus: every trace that comes back is made here.
+#![tactic(auto)]
+
 ghost use Rattle.std.specs.Prelude.{◌≤◌, ◌≡◌, length};
 
 use arp::lookup::Found;

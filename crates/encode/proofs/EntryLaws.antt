@@ -21,7 +21,7 @@ use Rattle.trace.specs.ShapeLaws.{sane}
 use Rattle.trace.specs.ValidLaws.{allowed_valid}
 use Rattle.encode.specs.declared.Encoded.{Encoded}
 use Rattle.encode.specs.declared.Encoded.TheVariants.{Written, Forbidden, OutputTooShort}
-use Rattle.encode.specs.Encode.{refused_by, encoded_by, Wrote_by, Wrote}
+use Rattle.encode.specs.Encode.{refused_by, encoded_by, WroteBy, Wrote}
 use Rattle.encode.specs.Pieces.{fields_fit, Ready}
 
 -- the tests in the order in which the code makes them
@@ -64,7 +64,7 @@ module _ (sh : Shape) (barred pec : Bool) (t : Message) where
           absurd (omega (arith, z, room_by_lem sh barred pec (length t.sent) (length t.received) false true eb eh, some_length sh barred pec (length t.sent) (length t.received)))
 
   -- a refusal leaves the output as it was
-  pub refused_wrote : (l : List ℕ) → refused_by sh barred t ≡ true → Wrote_by sh barred pec t l Forbidden l
+  pub refused_wrote : (l : List ℕ) → refused_by sh barred t ≡ true → WroteBy sh barred pec t l Forbidden l
   unfolding encoded_by
   refused_wrote l e = record { answer = rw e; output = refl }
 
@@ -83,11 +83,11 @@ module _ (sh : Shape) (barred pec : Bool) (t : Message) where
       length_is : n ≡ length (trace sh pec t)
       length_is = en ∙ given.2 ∙ sym (trace_length_lem sh pec t)
 
-      pub short_wrote : (l : List ℕ) → length l < n → Wrote_by sh barred pec t l OutputTooShort l
+      pub short_wrote : (l : List ℕ) → length l < n → WroteBy sh barred pec t l OutputTooShort l
       unfolding encoded_by
       short_wrote l h = record { answer = rw (not_refused, lt-ltb (length l) (length (trace sh pec t)) (omega (arith, length_is))); output = refl }
 
-      pub done_wrote : (l x : List ℕ) → n ≤ length l → x ≡ onto (trace sh pec t) l → Wrote_by sh barred pec t l (Written n) x
+      pub done_wrote : (l x : List ℕ) → n ≤ length l → x ≡ onto (trace sh pec t) l → WroteBy sh barred pec t l (Written n) x
       unfolding encoded_by
       done_wrote l x h e =
           record {
@@ -107,6 +107,6 @@ module _ (protocol : ℕ) (pec : Bool) (sh : Shape) (es : sh ≡ shape_of protoc
   pub sane_shape : Sane sh
   sane_shape = subst Sane (sym es) (sane protocol)
 
-  pub wrote_at_table : (barred : Bool) → barred ≡ forbidden protocol pec → (t : Message) (l : List ℕ) (r : Encoded) (x : List ℕ) → Wrote_by sh barred pec t l r x → Wrote protocol pec t l r x
+  pub wrote_at_table : (barred : Bool) → barred ≡ forbidden protocol pec → (t : Message) (l : List ℕ) (r : Encoded) (x : List ℕ) → WroteBy sh barred pec t l r x → Wrote protocol pec t l r x
   wrote_at_table barred en t l r x w =
-      subst (λ (b : Bool). Wrote_by (shape_of protocol) b pec t l r x) en (subst (λ (u : Shape). Wrote_by u barred pec t l r x) es w)
+      subst (λ (b : Bool). WroteBy (shape_of protocol) b pec t l r x) en (subst (λ (u : Shape). WroteBy u barred pec t l r x) es w)

@@ -21,7 +21,7 @@ use Rattle.trace.specs.declared.shape.Part.TheVariants.{Nothing, Fixed, Counted}
 use Rattle.trace.specs.declared.shape.Shape.{Shape}
 use Rattle.trace.specs.Shapes.{some, writes, reads}
 use Rattle.trace.specs.Sane.{Small}
-use Rattle.trace.specs.Trace.{Message, W, R, laid, acked, nacked, Length_of, counted, first_byte, front, bytes, pec_of, in_place, by_controller, trace}
+use Rattle.trace.specs.Trace.{Message, W, R, laid, acked, nacked, LengthOf, counted, first_byte, front, bytes, pec_of, in_place, by_controller, trace}
 use Rattle.trace.specs.LengthLaws.{length_acked}
 use Rattle.trace.specs.ValidLaws.{address_below_128}
 use Rattle.encode.specs.Pieces.{part_bytes, first_of, write_bytes, write_phase, repeated_start, read_bytes, read_phase, rest, bytes_after, pec_of_phases, Ready}
@@ -61,7 +61,7 @@ place_is true y x z e g = ap (λ (n : ℕ). n ∷ []) (e ∙ g)
 place_is false y x z e g = refl
 
 -- a read phase has a byte, which the NACK is for
-read_some : (a : Part) (r : List ℕ) (p : Bool) (y least : ℕ) → Small a → Length_of least a r → some a ≡ true → 0 < length (read_bytes a r p y)
+read_some : (a : Part) (r : List ℕ) (p : Bool) (y least : ℕ) → Small a → LengthOf least a r → some a ≡ true → 0 < length (read_bytes a r p y)
 read_some Nothing r p y least h l e = false_not_true e
 read_some (Fixed k) r p y least h l e = omega (arith, h, l, length-append r (in_place p y))
 read_some Counted r p y least h l e = omega arith

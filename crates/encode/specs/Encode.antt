@@ -38,7 +38,7 @@ symbols_of Forbidden tr = []
 symbols_of OutputTooShort tr = []
 
 -- the promise over a shape: for a message and an output as it was, the answer and the output as it is then
-pub record Wrote_by (sh : Shape) (barred pec : Bool) (t : Message) (before : List ℕ) (r : Encoded) (after : List ℕ) : Type 0 where
+pub record WroteBy (sh : Shape) (barred pec : Bool) (t : Message) (before : List ℕ) (r : Encoded) (after : List ℕ) : Type 0 where
   pub answer : r ≡ encoded_by sh barred pec t (length before)
   pub output : after ≡ onto (symbols_of r (trace sh pec t)) before
 
@@ -51,7 +51,7 @@ abbrev pub encoded : ℕ → Bool → Message → ℕ → Encoded
 encoded protocol pec t room = encoded_by (shape_of protocol) (forbidden protocol pec) pec t room
 
 abbrev pub Wrote : ℕ → Bool → Message → List ℕ → Encoded → List ℕ → Type 0
-Wrote protocol pec t before r after = Wrote_by (shape_of protocol) (forbidden protocol pec) pec t before r after
+Wrote protocol pec t before r after = WroteBy (shape_of protocol) (forbidden protocol pec) pec t before r after
 
 -- the same promise with nothing of how it is computed: what each answer means, and what it leaves in the output
 abbrev pub Means : ℕ → Bool → Message → List ℕ → Encoded → List ℕ → Type 0

@@ -13,7 +13,7 @@ use Rattle.trace.specs.Allowed.{allowed}
 use Rattle.trace.specs.ValidLaws.{allowed_valid, valid_allowed}
 use Rattle.encode.specs.declared.Encoded.{Encoded}
 use Rattle.encode.specs.declared.Encoded.TheVariants.{Written, Forbidden, OutputTooShort}
-use Rattle.encode.specs.Encode.{encode_number, refused_by, encoded_by, symbols_of, Wrote_by}
+use Rattle.encode.specs.Encode.{encode_number, refused_by, encoded_by, symbols_of, WroteBy}
 
 -- ---- the answer
 
@@ -76,7 +76,7 @@ taken_exactly sh barred t c s r = (
 -- ---- the output
 
 -- what is written: the trace at the front, and behind it what was there
-pub front_is_trace : (sh : Shape) (barred pec : Bool) (t : Message) (before : List ℕ) (n : ℕ) (after : List ℕ) → Wrote_by sh barred pec t before (Written n) after
+pub front_is_trace : (sh : Shape) (barred pec : Bool) (t : Message) (before : List ℕ) (n : ℕ) (after : List ℕ) → WroteBy sh barred pec t before (Written n) after
     → (take n after ≡ trace sh pec t) × (drop n after ≡ drop n before)
 front_is_trace sh barred pec t before n after w =
     let tr : List ℕ = trace sh pec t in
@@ -86,15 +86,15 @@ front_is_trace sh barred pec t before n after w =
     )
 
 -- a refusal changes no element
-pub refusal_untouched : (sh : Shape) (barred pec : Bool) (t : Message) (before : List ℕ) (r : Encoded) (after : List ℕ) → Wrote_by sh barred pec t before r after
+pub refusal_untouched : (sh : Shape) (barred pec : Bool) (t : Message) (before : List ℕ) (r : Encoded) (after : List ℕ) → WroteBy sh barred pec t before r after
     → ((encode_number r).0 ≡ 0 → ⊥) → after ≡ before
 refusal_untouched sh barred pec t before (Written n) after w z = absurd (z refl)
 refusal_untouched sh barred pec t before Forbidden after w z = w.output
 refusal_untouched sh barred pec t before OutputTooShort after w z = w.output
 
 -- two outcomes that keep the promise for the same inputs are equal
-pub one_outcome : (sh : Shape) (barred pec : Bool) (t : Message) (before : List ℕ) (r r' : Encoded) (after after' : List ℕ) → Wrote_by sh barred pec t before r after
-    → Wrote_by sh barred pec t before r' after' → (r ≡ r') × (after ≡ after')
+pub one_outcome : (sh : Shape) (barred pec : Bool) (t : Message) (before : List ℕ) (r r' : Encoded) (after after' : List ℕ) → WroteBy sh barred pec t before r after
+    → WroteBy sh barred pec t before r' after' → (r ≡ r') × (after ≡ after')
 one_outcome sh barred pec t before r r' after after' w v =
     let e : r ≡ r' = w.answer ∙ sym v.answer in
     (e, w.output ∙ ap (λ (x : Encoded). onto (symbols_of x (trace sh pec t)) before) e ∙ sym v.output)

@@ -1,6 +1,6 @@
 -- Refusal 1, case by case as the scope lists it, on protocol numbers. Nothing here says how it is computed.
 use Rattle.std.specs.Prelude.{◌≡◌, Bool, true, ℕ, ◌≤◌, ◌<◌, length}
-use Rattle.trace.specs.Data_fits.{Data_fits}
+use Rattle.trace.specs.DataFits.{DataFits}
 use Rattle.trace.specs.Shapes.{protocols}
 use Rattle.trace.specs.Trace.{Message}
 
@@ -12,4 +12,4 @@ pub data Listed (protocol : ℕ) (pec : Bool) (t : Message) : Type 0 where
   quick_with_pec : protocol ≡ 0 → pec ≡ true → Listed protocol pec t
   lacking_command : protocol ≤ 2 → (t.command ≡ 0 → ⊥) → Listed protocol pec t
   lacking_direction : (protocol ≡ 0 → ⊥) → (t.direction ≡ 0 → ⊥) → Listed protocol pec t
-  forbidden_length : (Data_fits protocol (length t.sent) (length t.received) → ⊥) → Listed protocol pec t
+  forbidden_length : (DataFits protocol (length t.sent) (length t.received) → ⊥) → Listed protocol pec t

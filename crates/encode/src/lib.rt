@@ -1,10 +1,12 @@
 // The encoder: the refusals, then the trace of a transaction at the front of the output.
 // Rests on trace. What it promises is the record Wrote of specs/Encode.antt; what each answer means, specs/EncodeLaws.antt.
+#![tactic(auto)]
+
 ghost use Rattle.std.specs.Prelude.{◌≡◌, length};
 ghost use Rattle.lists.specs.Onto.{onto};
 ghost use Rattle.trace.specs.Sane.{Sane};
 ghost use Rattle.trace.specs.Trace.{trace};
-ghost use Rattle.encode.specs.Encode.{message, Wrote_by, Wrote};
+ghost use Rattle.encode.specs.Encode.{message, WroteBy, Wrote};
 ghost use Rattle.encode.specs.Pieces.{fields_fit, Ready};
 
 use trace::length::room_by;
@@ -19,7 +21,7 @@ mod trace_pec;
 mod write;
 
 // What the encoder answers: done, with the length of the trace that it wrote; 1; 2.
-#[derive(Drop)]
+#[derive(Clone, Copy)]
 pub enum Encoded {
     Written(usize),
     Forbidden,
@@ -75,7 +77,7 @@ fn encode_by(
     out: &mut [u16],
 ) -> Encoded
     requires { Sane sh }
-    ensures { Wrote_by sh forbidden pec (message address.0 direction command sent.now received.now) out.old result out.new }
+    ensures { WroteBy sh forbidden pec (message address.0 direction command sent.now received.now) out.old result out.new }
 {
     // No trace is of length 0: that answer is a protocol, a PEC or a length that is refused.
     let n = room_by(sh, forbidden, pec, sent.len(), received.len());

@@ -13,7 +13,7 @@ use Rattle.arbitration.specs.Bits.{bits, byte_bits, number_of, bytes_read}
 use Rattle.arbitration.specs.BitLaws.{length_bits, number_bits}
 use Rattle.arbitration.specs.Wire.{heard}
 use Rattle.targets.specs.Target.{Target, is_resolved}
-use Rattle.targets.specs.Reply.{reply_data, covered_bytes, reply_pec, reply_bytes, sends, waiting, On_wire, shown, on_wire}
+use Rattle.targets.specs.Reply.{reply_data, covered_bytes, reply_pec, reply_bytes, sends, waiting, OnWire, shown, on_wire}
 use Rattle.rule.specs.Acknowledge as model
 use Rattle.rule.specs.Acknowledge.{acknowledges, somebody}
 use Rattle.rule.specs.TraceLaws.{get_read}
@@ -144,6 +144,6 @@ read_same ms e =
     let b : bytes_on (suc (suc (byte_on ns))) ns ≡ bytes_read 19 (heard 152 (waiting (records_of ms))) =
     ap (λ (x : ℕ). bytes_on x ns) n ∙ bytes_same 19 ns (answering_talks ms) ∙ ap (λ (x : List (List Bool)). bytes_read 19 (heard 152 x)) (wires_same ms) in
     record {
-      trace = ap (λ (x : List ℕ). nacked x ++ STOP ∷ []) b ∙ ap (λ (w : On_wire). model.received w ++ STOP ∷ []) (sym (waiting_some (records_of ms) e));
+      trace = ap (λ (x : List ℕ). nacked x ++ STOP ∷ []) b ∙ ap (λ (w : OnWire). model.received w ++ STOP ∷ []) (sym (waiting_some (records_of ms) e));
       records = records_silenced (after_bytes (suc (suc (byte_on ns))) ns) ∙ bytes_records (suc (suc (byte_on ns))) ns ∙ answering_records ms;
     }

@@ -3,7 +3,7 @@
 use Rattle.std.specs.Prelude.{ℕ, zero, suc, List, [], ◌∷◌}
 use Rattle.pool.specs.declared.Pool.{Pool}
 use Rattle.arp.specs.Controller.{stepped}
-use Rattle.rule.specs.AnyBus.{World_over, beginning_over}
+use Rattle.rule.specs.AnyBus.{WorldOver, beginning_over}
 use Rattle.rule.specs.Bus.{World}
 use Rattle.rule.specs.Sent.{gets_among}
 use Rattle.module.specs.declared.state.Module.{Module}
@@ -11,7 +11,7 @@ use Rattle.exchange.specs.Exchange.{records_of, exchange}
 
 -- the controller with what it handed out last, and the modules
 abbrev pub Bench : Type 0
-Bench = World_over (List Module)
+Bench = WorldOver (List Module)
 
 -- the same with the modules' records for targets
 abbrev pub world_of : Bench → World

@@ -8,7 +8,7 @@ use Rattle.pool.specs.Start.{barred_pool}
 use Rattle.pool.specs.declared.Pool.{Pool}
 use Rattle.udid.specs.Udids.{Fits}
 use Rattle.arbitration.specs.Among.{Among}
-use Rattle.targets.specs.Admission.{Admitted_targets}
+use Rattle.targets.specs.Admission.{AdmittedTargets}
 use Rattle.targets.specs.Target.{Target, map_targets, Sized}
 use Rattle.arp.specs.Controller.{last_pick, stepped}
 use Rattle.rule.specs.Acknowledge.{on_bus}
@@ -34,10 +34,10 @@ pub record Sound (b : Bench) : Type 0 where
 
 -- ---- one turn
 
-abbrev Fits_in : Target → Type 0
-Fits_in t = Fits t.udid
+abbrev FitsIn : Target → Type 0
+FitsIn t = Fits t.udid
 
-effect_fits : (tr : List ℕ) (ts : List Target) → Each Fits_in ts → Each Fits_in (map_targets (effect tr) ts)
+effect_fits : (tr : List ℕ) (ts : List Target) → Each FitsIn ts → Each FitsIn (map_targets (effect tr) ts)
 effect_fits tr [] h = tt
 effect_fits tr (t ∷ ts) h = (subst Fits (sym (effect_keeps_udid tr t)) h.0, effect_fits tr ts h.1)
 
@@ -50,8 +50,8 @@ module _ (b : Bench) (h : Sound b) where
 
   after_fits : Each Fitting ms
   after_fits =
-      each_from Fits_in record_of (λ m f. f) ms
-      (subst (Each Fits_in) (sym same.1) (effect_fits (stands_on b) (records_of b.targets) (each_made Fits_in record_of (λ m f. f) b.targets h.fitting)))
+      each_from FitsIn record_of (λ m f. f) ms
+      (subst (Each FitsIn) (sym same.1) (effect_fits (stands_on b) (records_of b.targets) (each_made FitsIn record_of (λ m f. f) b.targets h.fitting)))
 
   turn_world : world_of (turn_on b) ≡ turn_over model_bus (world_of b)
   turn_world = go (stands_on b) same.1 ∙ ap (took_over model_bus b.now (records_of b.targets)) same.0
@@ -110,6 +110,6 @@ sized_fits : (ms : List Module) → ((t : Target) → Among t (records_of ms) �
 sized_fits [] h = tt
 sized_fits (m ∷ ms) h = ((h (record_of m) (inl refl)).udid, sized_fits ms (λ t i. h t (inr i)))
 
-pub pass_rule : (occupied : Pool) (last : ℕ) (ms : List Module) → Admitted_targets (barred_pool occupied) (records_of ms)
+pub pass_rule : (occupied : Pool) (last : ℕ) (ms : List Module) → AdmittedTargets (barred_pool occupied) (records_of ms)
     → world_of (pass_on occupied last ms) ≡ pass_end occupied (last_pick last) (records_of ms)
 pass_rule occupied last ms v = pass_same occupied last ms (sized_fits ms v.sized) ∙ demand_3 occupied last (records_of ms) v

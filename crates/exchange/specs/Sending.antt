@@ -13,5 +13,5 @@ abbrev pub asked_all : List Module → List Module
 asked_all ms = map (hearing 0xC3) (started_again ms)
 
 -- one that has not lost, and has a byte of its reply to give
-abbrev pub Still_sends : Module → Type 0
-Still_sends m = m.phase ≡ Reply
+abbrev pub StillSends : Module → Type 0
+StillSends m = m.phase ≡ Reply

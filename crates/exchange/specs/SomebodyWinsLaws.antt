@@ -13,7 +13,7 @@ use Rattle.exchange.specs.AnsweringLaws.{answering, answering_talks, answering_d
 use Rattle.exchange.specs.Exchange.{Sender, asked, line, sees, after, after_byte, after_bytes}
 use Rattle.exchange.specs.GetLaws.{answering_all}
 use Rattle.exchange.specs.ReadLaws.{Talks, quiet, speaks, silent_drives, Ready, asked_all_lem, after_ready, ready_talks}
-use Rattle.exchange.specs.Sending.{asked_all, Still_sends}
+use Rattle.exchange.specs.Sending.{asked_all, StillSends}
 
 -- ---- bits
 
@@ -79,22 +79,22 @@ unfolding some
 answers (x ∷ ms) m (inl e) r = rw (answering_drives x ∙ ap not (ap (λ (z : Module). z.own.resolved) e ∙ r))
 answers (x ∷ ms) m (inr i) r = rw (answers ms m i r) (or_last (supplies (answering x)).drives)
 
-sends_still : (k : ℕ) (m : Module) → Talks k m → (supplies m).drives ≡ true → Still_sends m
+sends_still : (k : ℕ) (m : Module) → Talks k m → (supplies m).drives ≡ true → StillSends m
 sends_still k m (quiet o) e = not_both (silent_drives o) e
 sends_still k m (speaks o c j p) e = refl
 
-found : (k : ℕ) (ms : List Module) → Each (Talks k) ms → some (map asked ms) ≡ true → (n : Module) × Among n ms × Still_sends n
+found : (k : ℕ) (ms : List Module) → Each (Talks k) ms → some (map asked ms) ≡ true → (n : Module) × Among n ms × StillSends n
 unfolding some
 found k [] h e = false_not_true e
 found k (m ∷ ms) h e = go (supplies m).drives refl e (λ r. found k ms h.1 r)
   where
-    go : (b : Bool) → (supplies m).drives ≡ b → or b (some (map asked ms)) ≡ true → (some (map asked ms) ≡ true → (n : Module) × Among n ms × Still_sends n)
-        → (n : Module) × Among n (m ∷ ms) × Still_sends n
+    go : (b : Bool) → (supplies m).drives ≡ b → or b (some (map asked ms)) ≡ true → (some (map asked ms) ≡ true → (n : Module) × Among n ms × StillSends n)
+        → (n : Module) × Among n (m ∷ ms) × StillSends n
     go true q r f = (m, inl refl, sends_still k m h.0 q)
     go false q r f = let n = f r in (n.0, inr n.1, n.2)
 
 -- SOMEBODY WINS
-pub somebody_wins : (ms : List Module) (m : Module) → Among m ms → m.own.resolved ≡ false → (n : Module) × Among n (after_bytes 17 (asked_all ms)) × Still_sends n
+pub somebody_wins : (ms : List Module) (m : Module) → Among m ms → m.own.resolved ≡ false → (n : Module) × Among n (after_bytes 17 (asked_all ms)) × StillSends n
 somebody_wins ms m i r =
     let b = bytes_some 17 1 (map answering ms) (answering_talks ms) (answers ms m i r) in
-    subst (λ (l : List Module). (n : Module) × Among n (after_bytes 17 l) × Still_sends n) (sym (answering_all ms)) (found 2 (after_bytes 17 (map answering ms)) b.0 b.1)
+    subst (λ (l : List Module). (n : Module) × Among n (after_bytes 17 l) × StillSends n) (sym (answering_all ms)) (found 2 (after_bytes 17 (map answering ms)) b.0 b.1)

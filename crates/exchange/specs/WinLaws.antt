@@ -29,7 +29,7 @@ use Rattle.exchange.specs.Exchange.{Fitting, records_of, Sender, asked, line, se
 use Rattle.exchange.specs.GetLaws.{answering_all}
 use Rattle.exchange.specs.KeptLaws.{bytes_records}
 use Rattle.exchange.specs.ReadLaws.{Has, sees_has, Talks, Ready, silent_drives, asked_has, asked_all_lem, after_ready, ready_talks, says_next}
-use Rattle.exchange.specs.Sending.{asked_all, Still_sends}
+use Rattle.exchange.specs.Sending.{asked_all, StillSends}
 
 -- two lists of the same length, element beside element
 abbrev Both : {A B : Type 0} → (A → B → Type 0) → List A → List B → Type 0
@@ -90,18 +90,18 @@ sent_bits (suc j) ss h =
 -- ---- bytes
 
 -- m said the byte that stood on the wire, and goes on as m'
-abbrev Said_one : ℕ → Module → Module → Type 0
-Said_one b m m' = (supplies m').drives ≡ true → ((supplies m).drives ≡ true) × (((supplies m).byte % 256 ≡ b) × (m' ≡ (supplies m).after))
+abbrev SaidOne : ℕ → Module → Module → Type 0
+SaidOne b m m' = (supplies m').drives ≡ true → ((supplies m).drives ≡ true) × (((supplies m).byte % 256 ≡ b) × (m' ≡ (supplies m).after))
 
 said_bits : (n : ℕ) (l : List Bool) (ms : List Module) (ts : List Sender) → Both (Sent l) (map asked ms) ts → Each (Ready n) ts
-    → Both (Said_one (number_of l)) ms (map (λ (s : Sender). s.who) ts)
+    → Both (SaidOne (number_of l)) ms (map (λ (s : Sender). s.who) ts)
 said_bits n l [] [] b r = tt
 said_bits n l (m ∷ ms) (t ∷ ts) b r = (
   λ e. let q = b.0 (r.0.same ∙ e) in (q.0, (sym (number_bits 8 (supplies m).byte) ∙ ap number_of q.1.0, q.1.1)),
   said_bits n l ms ts b.1 r.1,
 )
 
-said_one : (n : ℕ) (ms : List Module) → Each (Talks (suc (suc n))) ms → Both (Said_one (byte_on ms)) ms (after_byte ms)
+said_one : (n : ℕ) (ms : List Module) → Each (Talks (suc (suc n))) ms → Both (SaidOne (byte_on ms)) ms (after_byte ms)
 said_one n ms h =
     let ss : List Sender = map asked ms in
     said_bits (suc n) (seen 8 ss) ms (after 8 ss) (sent_bits 8 ss (asked_has ms)) (after_ready 8 (suc n) ss (asked_all_lem n ms h))
@@ -113,7 +113,7 @@ low bs = map (λ (b : ℕ). b % 256) bs
 abbrev Said : ℕ → List ℕ → Module → Module → Type 0
 Said n bs m m' = (supplies m').drives ≡ true → ((supplies m).drives ≡ true) × ((low (says n m) ≡ bs) × (m'.own ≡ m.own))
 
-said_more : (n b : ℕ) (bs : List ℕ) (ms ns os : List Module) → Both (Said_one b) ms ns → Both (Said n bs) ns os → Both (Said (suc n) (b ∷ bs)) ms os
+said_more : (n b : ℕ) (bs : List ℕ) (ms ns os : List Module) → Both (SaidOne b) ms ns → Both (Said n bs) ns os → Both (Said (suc n) (b ∷ bs)) ms os
 said_more n b bs [] [] [] p q = tt
 said_more n b bs (m ∷ ms) (m1 ∷ ns) (m2 ∷ os) p q = (
   λ e.
@@ -170,7 +170,7 @@ answering_own m = go m.own.resolved
     go true = refl
     go false = refl
 
-drives_still : (m : Module) → Still_sends m → (supplies m).drives ≡ true
+drives_still : (m : Module) → StillSends m → (supplies m).drives ≡ true
 unfolding supplies
 drives_still m e = ap (λ (p : Phase). (supplied_in p m).drives) e
 
@@ -178,7 +178,7 @@ drives_still m e = ap (λ (p : Phase). (supplied_in p m).drives) e
 Winner : List ℕ → List Module → Module → Type 0
 Winner bs ms n = (m : Module) × Among m ms × (n.own ≡ m.own) × (17 ∷ udid_bytes n.own.udid ≡ bs)
 
-winner : (bs : List ℕ) (ms ns : List Module) → Both (Said 17 bs) (map answering ms) ns → (n : Module) → Among n ns → Still_sends n → Winner bs ms n
+winner : (bs : List ℕ) (ms ns : List Module) → Both (Said 17 bs) (map answering ms) ns → (n : Module) → Among n ns → StillSends n → Winner bs ms n
 unfolding Winner
 winner bs [] [] b x i s = absurd i
 winner bs (m ∷ ms) (n ∷ ns) b x (inl e) s =
@@ -192,17 +192,17 @@ module _ (ms : List Module) where
   pub still_there : (n : ℕ) → records_of (after_bytes n (asked_all ms)) ≡ records_of ms
   still_there n = bytes_records n (asked_all ms) ∙ ap records_of (answering_all ms) ∙ answering_records ms
 
-  wins : (n : Module) → Among n (after_bytes 17 (asked_all ms)) → Still_sends n → Winner (bytes_on 17 (asked_all ms)) ms n
-  wins = subst (λ (l : List Module). (n : Module) → Among n (after_bytes 17 l) → Still_sends n → Winner (bytes_on 17 l) ms n) (sym (answering_all ms))
+  wins : (n : Module) → Among n (after_bytes 17 (asked_all ms)) → StillSends n → Winner (bytes_on 17 (asked_all ms)) ms n
+  wins = subst (λ (l : List Module). (n : Module) → Among n (after_bytes 17 l) → StillSends n → Winner (bytes_on 17 l) ms n) (sym (answering_all ms))
       (winner (bytes_on 17 (map answering ms)) ms (after_bytes 17 (map answering ms)) (said_bytes 17 1 (map answering ms) (answering_talks ms)))
 
   -- ONE WINS: after the count and the 16 bytes of the identifier, whoever still sends has the identifier that stood on the wire
-  pub one_wins : (n : Module) → Among n (after_bytes 17 (asked_all ms)) → Still_sends n → bytes_on 17 (asked_all ms) ≡ 17 ∷ udid_bytes n.own.udid
+  pub one_wins : (n : Module) → Among n (after_bytes 17 (asked_all ms)) → StillSends n → bytes_on 17 (asked_all ms) ≡ 17 ∷ udid_bytes n.own.udid
   unfolding Winner
   one_wins n i s = sym (wins n i s).3
 
   -- so of two that still send both have the same
-  pub never_two : Each Fitting ms → (m n : Module) → Among m (after_bytes 17 (asked_all ms)) → Among n (after_bytes 17 (asked_all ms)) → Still_sends m → Still_sends n
+  pub never_two : Each Fitting ms → (m n : Module) → Among m (after_bytes 17 (asked_all ms)) → Among n (after_bytes 17 (asked_all ms)) → StillSends m → StillSends n
       → m.own.udid ≡ n.own.udid
   unfolding Winner
   never_two h m n i j s t =

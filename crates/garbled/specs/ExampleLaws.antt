@@ -7,7 +7,7 @@ use Rattle.lists.specs.Choice.{or}
 use Rattle.lists.specs.EachLaws.{zeros_bytes}
 use Rattle.pec.specs.Pec.{bit_step, pec_step, pec_from}
 use Rattle.trace.specs.Rows.{message}
-use Rattle.trace.specs.Table.{Trace_of, write_byte, block_write}
+use Rattle.trace.specs.Table.{TraceOf, write_byte, block_write}
 use Rattle.trace.specs.Trace.{Message, acked}
 use Rattle.scan.specs.BytesIn.{bytes_in}
 use Rattle.scan.specs.Numbers.{decode_number}
@@ -15,9 +15,9 @@ use Rattle.scan.specs.declared.answer.Decoded.{Decoded}
 use Rattle.decode.specs.NumberLaws.{decode_0}
 use Rattle.decode.specs.Outcome.{Entered, Outcome}
 use Rattle.catches.specs.BurstLaws.{eight_bits_caught}
-use Rattle.catches.specs.Changes.{Came, Within, Two_bits}
+use Rattle.catches.specs.Changes.{Came, Within, TwoBits}
 use Rattle.catches.specs.FlipLaws.{one_bit_is, two_bits_are}
-use Rattle.garbled.specs.Places.{May_differ, Changed}
+use Rattle.garbled.specs.Places.{MayDiffer, Changed}
 use Rattle.garbled.specs.StaysLaws.{stays}
 use Rattle.garbled.specs.VerdictLaws.{bytes_are_bytes, sent_right, caught_is_seven}
 
@@ -32,7 +32,7 @@ byte_sent = 256 ∷ 0x20 ∷ 258 ∷ 0x07 ∷ 258 ∷ 0x55 ∷ 258 ∷ 0x84 ∷ 
 abbrev pub byte_came : List ℕ
 byte_came = 256 ∷ 0x20 ∷ 258 ∷ 0x07 ∷ 258 ∷ 0x54 ∷ 258 ∷ 0x84 ∷ 258 ∷ 257 ∷ []
 
-byte_sent_lem : Trace_of 3 true written byte_sent
+byte_sent_lem : TraceOf 3 true written byte_sent
 unfolding bit_step pec_step pec_from
 byte_sent_lem = (_, write_byte 0x10 0x07 0x55 (omega arith) (omega arith) (omega arith) refl, refl, refl, refl)
 
@@ -43,7 +43,7 @@ byte_changed = record { as_long = refl; places = λ k h. go k (eqb (get_or byte_
     alike k = or (eqb (get_or byte_came k 0) (get_or byte_sent k 0)) (eqb k 5)
 
     go : (k : ℕ) (b : Bool) → eqb (get_or byte_came k 0) (get_or byte_sent k 0) ≡ b → or b (eqb k 5) ≡ true
-        → (get_or byte_came k 0 ≡ get_or byte_sent k 0) ⊎ (May_differ 3 written 10 k × (get_or byte_came k 0 < 256))
+        → (get_or byte_came k 0 ≡ get_or byte_sent k 0) ⊎ (MayDiffer 3 written 10 k × (get_or byte_came k 0 < 256))
     go k true e t = inl (eqb-true (get_or byte_came k 0) (get_or byte_sent k 0) e)
     go k false e t = let p = eqb-true k 5 t in inr (inr (inl (0, omega arith, p)), subst (λ (n : ℕ). get_or byte_came n 0 < 256) (sym p) (omega arith))
 
@@ -65,18 +65,18 @@ block_sent = 256 ∷ 0x20 ∷ 258 ∷ 0x07 ∷ 258 ∷ 12 ∷ 258 ∷ (acked (re
 abbrev pub block_came : List ℕ
 block_came = 256 ∷ 0xA0 ∷ 258 ∷ 0x07 ∷ 258 ∷ 12 ∷ 258 ∷ (acked (replicate 12 0) ++ 0x94 ∷ 258 ∷ 257 ∷ [])
 
-block_sent_lem : Trace_of 8 true (message 0x10 0 0x07 (replicate 12 0) []) block_sent
+block_sent_lem : TraceOf 8 true (message 0x10 0 0x07 (replicate 12 0) []) block_sent
 unfolding bit_step pec_step pec_from
 block_sent_lem = (_, block_write 0x10 0x07 (replicate 12 0) (omega arith) (omega arith) (zeros_bytes 12) (omega arith) refl, refl, refl, refl)
 
-block_came_lem : Trace_of 8 true (message 0x50 0 0x07 (replicate 12 0) []) block_came
+block_came_lem : TraceOf 8 true (message 0x50 0 0x07 (replicate 12 0) []) block_came
 unfolding bit_step pec_step pec_from
 block_came_lem = (_, block_write 0x50 0x07 (replicate 12 0) (omega arith) (omega arith) (zeros_bytes 12) (omega arith) refl, refl, refl, refl)
 
-block_flipped : Came (bytes_in block_sent) (bytes_in block_came) × Two_bits (bytes_in block_sent) (bytes_in block_came) 0 0 15 7
+block_flipped : Came (bytes_in block_sent) (bytes_in block_came) × TwoBits (bytes_in block_sent) (bytes_in block_came) 0 0 15 7
 block_flipped = two_bits_are (bytes_in block_sent) (bytes_are_bytes block_sent) (sent_right 8 _ block_sent block_sent_lem) 0 0 15 7 (omega arith) (omega arith) (omega arith) (omega arith)
 
 -- 16 bytes in all, of which two bits were flipped, and it is a good message to 50h
-pub block_escapes : (length (bytes_in block_sent) ≡ 16) × Two_bits (bytes_in block_sent) (bytes_in block_came) 0 0 15 7
+pub block_escapes : (length (bytes_in block_sent) ≡ 16) × TwoBits (bytes_in block_sent) (bytes_in block_came) 0 0 15 7
     × ((sent₀ received₀ : List ℕ) (a : Decoded) (sent received : List ℕ) → Entered 8 true sent₀ received₀ → Outcome 8 true block_came sent₀ received₀ a sent received → decode_number a ≡ (0, 0))
 block_escapes = (refl, block_flipped.1, λ sent₀ received₀ a sent received h o. (decode_0 8 true block_came sent₀ received₀ a sent received o).1 (h, (_, block_came_lem)))

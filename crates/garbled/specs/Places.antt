@@ -9,11 +9,11 @@ sent_from protocol = get_or (0 ∷ 3 ∷ 0 ∷ 5 ∷ 5 ∷ 0 ∷ 0 ∷ 5 ∷ 7 �
 
 -- the place k in the trace of a message, of so many symbols: it has the command; or data byte i sent; or the byte that is i bytes before the
 -- last one, which is the PEC for i = 0, and else received data
-abbrev pub May_differ : ℕ → Message → ℕ → ℕ → Type 0
-May_differ protocol m symbols k =
+abbrev pub MayDiffer : ℕ → Message → ℕ → ℕ → Type 0
+MayDiffer protocol m symbols k =
     ((2 < protocol) × (k ≡ 3)) ⊎ (((i : ℕ) × (i < length m.sent) × (k ≡ sent_from protocol + 2 * i)) ⊎ ((i : ℕ) × (i ≤ length m.received) × (k + 3 + 2 * i ≡ symbols)))
 
 -- tr' has as many symbols as the trace tr of the message m, and at each place what tr has, or else a byte where it may differ
 pub record Changed (protocol : ℕ) (m : Message) (tr tr' : List ℕ) : Type 0 where
   pub as_long : length tr' ≡ length tr
-  pub places : (k : ℕ) → k < length tr → (get_or tr' k 0 ≡ get_or tr k 0) ⊎ (May_differ protocol m (length tr) k × (get_or tr' k 0 < 256))
+  pub places : (k : ℕ) → k < length tr → (get_or tr' k 0 ≡ get_or tr k 0) ⊎ (MayDiffer protocol m (length tr) k × (get_or tr' k 0 < 256))

@@ -5,11 +5,11 @@ use Rattle.std.proofs.lemmas.List.{set-get_or}
 use Rattle.trace.specs.PecPlaceLaws.{pec_third}
 use Rattle.trace.specs.ShapeLaws.{row_is}
 use Rattle.trace.specs.Shapes.{shape_of, reads}
-use Rattle.trace.specs.Table.{Trace_of}
+use Rattle.trace.specs.Table.{TraceOf}
 use Rattle.trace.specs.TableLaws.{listed_trace}
 use Rattle.trace.specs.Trace.{Message, trace_at, pec_of}
 use Rattle.trace.specs.declared.shape.Shape.{Shape}
-use Rattle.garbled.specs.Places.{sent_from, May_differ}
+use Rattle.garbled.specs.Places.{sent_from, MayDiffer}
 use Rattle.garbled.specs.StaysLaws.{reads_some, sent_from_lem}
 use Rattle.garbled.specs.TraceSetLaws.{with_sent, with_received, head_bytes, front_length, front_inside, command_inside, set_command_byte, set_sent_byte, set_received_byte}
 
@@ -32,20 +32,20 @@ module _ (sh : Shape) (t : Message) (y : ℕ) where
       stands (trace_at sh t (y ∷ [])) k (get_or t.received i 0) (omega (arith, n)) e
 
 -- the command, data byte i sent, data byte i received
-module _ (protocol : ℕ) (t : Message) (tr : List ℕ) (w : Trace_of protocol true t tr) where
-  pub has_command : 2 < protocol → May_differ protocol t (length tr) 3 × (get_or tr 3 0 ≡ t.command)
+module _ (protocol : ℕ) (t : Message) (tr : List ℕ) (w : TraceOf protocol true t tr) where
+  pub has_command : 2 < protocol → MayDiffer protocol t (length tr) 3 × (get_or tr 3 0 ≡ t.command)
   has_command h =
       let (k, v, e) = listed_trace protocol true t tr w in
       (inl (h, refl), ap (λ (l : List ℕ). get_or l 3 0) e ∙ at_command (shape_of protocol) t _ ((row_is protocol k).1 ∙ lt-ltb 2 protocol h))
 
-  pub has_sent : (i : ℕ) → i < length t.sent → May_differ protocol t (length tr) (sent_from protocol + 2 * i) × (get_or tr (sent_from protocol + 2 * i) 0 ≡ get_or t.sent i 0)
+  pub has_sent : (i : ℕ) → i < length t.sent → MayDiffer protocol t (length tr) (sent_from protocol + 2 * i) × (get_or tr (sent_from protocol + 2 * i) 0 ≡ get_or t.sent i 0)
   has_sent i l =
       let (k, v, e) = listed_trace protocol true t tr w in
       let s = sent_from_lem protocol k (reads_some (shape_of protocol).least (shape_of protocol).sent t.sent v.sent_length_lem (omega (arith, l))) in
       let p : sent_from protocol + 2 * i ≡ 1 + 2 * (head_bytes (shape_of protocol) + i) = omega (arith, s) in
       (inr (inl (i, l, refl)), ap₂ (λ (l : List ℕ) (n : ℕ). get_or l n 0) e p ∙ at_sent (shape_of protocol) t _ i l)
 
-  pub has_received : (i k : ℕ) → i < length t.received → k + 3 + 2 * (length t.received - i) ≡ length tr → May_differ protocol t (length tr) k × (get_or tr k 0 ≡ get_or t.received i 0)
+  pub has_received : (i k : ℕ) → i < length t.received → k + 3 + 2 * (length t.received - i) ≡ length tr → MayDiffer protocol t (length tr) k × (get_or tr k 0 ≡ get_or t.received i 0)
   has_received i k l n =
       let (known, v, e) = listed_trace protocol true t tr w in (
         inr (inr (length t.received - i, omega arith, n)),
@@ -53,7 +53,7 @@ module _ (protocol : ℕ) (t : Message) (tr : List ℕ) (w : Trace_of protocol t
             ∙ at_received (shape_of protocol) t _ i k (reads_some (shape_of protocol).least (shape_of protocol).received t.received v.received_length_lem (omega (arith, l))) l (n ∙ ap length e),
       )
 
-  pub has_pec : May_differ protocol t (length tr) (length tr - 3)
+  pub has_pec : MayDiffer protocol t (length tr) (length tr - 3)
   has_pec =
       let (known, v, e) = listed_trace protocol true t tr w in
       let z = pec_third (shape_of protocol) t (pec_of (shape_of protocol) t) in

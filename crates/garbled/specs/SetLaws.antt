@@ -6,7 +6,7 @@ use Rattle.lists.specs.Choice.{pick}
 use Rattle.trace.specs.AckedLaws.{double_suc}
 use Rattle.trace.specs.LengthLaws.{laid_length}
 use Rattle.trace.specs.Shapes.{is_counted}
-use Rattle.trace.specs.Trace.{laid, acked, ack_of, nacked, Length_of}
+use Rattle.trace.specs.Trace.{laid, acked, ack_of, nacked, LengthOf}
 use Rattle.trace.specs.declared.shape.Part.{Part}
 use Rattle.trace.specs.declared.shape.Part.TheVariants.{Nothing, Fixed, Counted}
 
@@ -33,7 +33,7 @@ set_append_right (x ∷ xs) ys i b (suc n) e = ap (λ (l : List ℕ). x ∷ l) (
 
 -- ---- data of a part
 
-pub same_length_of : (least : ℕ) (a : Part) (s r : List ℕ) → length r ≡ length s → Length_of least a s → Length_of least a r
+pub same_length_of : (least : ℕ) (a : Part) (s r : List ℕ) → length r ≡ length s → LengthOf least a s → LengthOf least a r
 same_length_of least Nothing s r e h = e ∙ h
 same_length_of least (Fixed k) s r e h = e ∙ h
 same_length_of least Counted s r e h = subst (λ (n : ℕ). least ≤ n) (sym e) h

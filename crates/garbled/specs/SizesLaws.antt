@@ -3,7 +3,7 @@ use Rattle.std.specs.Prelude.{◌≡◌, refl, true, List, [], ◌∷◌, ℕ, �
 use Rattle.std.proofs.Common.{sym, ap, ◌∙◌, subst, arith, length-append}
 use Rattle.lists.specs.AbsurdLaws.{zero_is_one}
 use Rattle.pec.specs.Pec.{pec_of}
-use Rattle.trace.specs.Table.{Line, Row, quick, send_byte, receive_byte, write_byte, write_word, read_byte, read_word, process_call, block_write, block_read, block_process_call, Trace_of}
+use Rattle.trace.specs.Table.{Line, Row, quick, send_byte, receive_byte, write_byte, write_word, read_byte, read_word, process_call, block_write, block_read, block_process_call, TraceOf}
 use Rattle.trace.specs.Trace.{Message}
 use Rattle.scan.specs.BytesIn.{bytes_in}
 use Rattle.garbled.specs.Sizes.{bytes_in_all}
@@ -26,7 +26,7 @@ line_size y x (block_write a c d ha hc hd hl e) = subst Sized (sym e) (omega ari
 line_size y x (block_read a c r ha hc hr hl e) = subst Sized (sym e) (omega arith)
 line_size y x (block_process_call a c d r ha hc hd hr hl e) = subst Sized (sym e) (omega (arith, length-append d ((2 * a + 1) ∷ length r ∷ r)))
 
-pub bytes_in_all_lem : (protocol : ℕ) (t : Message) (tr : List ℕ) → Trace_of protocol true t tr → length (bytes_in tr) ≡ bytes_in_all protocol (length t.sent) (length t.received)
+pub bytes_in_all_lem : (protocol : ℕ) (t : Message) (tr : List ℕ) → TraceOf protocol true t tr → length (bytes_in tr) ≡ bytes_in_all protocol (length t.sent) (length t.received)
 bytes_in_all_lem protocol t tr w =
     let x = w.0 in
     ap length (sent_covered protocol t tr w)

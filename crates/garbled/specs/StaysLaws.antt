@@ -9,9 +9,9 @@ use Rattle.trace.specs.LengthLaws.{laid_length}
 use Rattle.trace.specs.Sane.{Sane}
 use Rattle.trace.specs.ShapeLaws.{by_row, row_is, sane, none_to_host}
 use Rattle.trace.specs.Shapes.{protocols, shape_of, some, is_counted, count_in, writes, reads}
-use Rattle.trace.specs.Table.{Trace_of}
+use Rattle.trace.specs.Table.{TraceOf}
 use Rattle.trace.specs.TableLaws.{listed_trace, quick_plain}
-use Rattle.trace.specs.Trace.{Message, laid, first_byte, front, bytes, trace_at, Length_of, counted, Valid}
+use Rattle.trace.specs.Trace.{Message, laid, first_byte, front, bytes, trace_at, LengthOf, counted, Valid}
 use Rattle.trace.specs.declared.shape.Part.{Part}
 use Rattle.trace.specs.declared.shape.Part.TheVariants.{Nothing, Fixed, Counted}
 use Rattle.trace.specs.declared.shape.Shape.{Shape}
@@ -19,7 +19,7 @@ use Rattle.scan.specs.BytesIn.{bytes_in}
 use Rattle.scan.specs.Fitting.{Whole}
 use Rattle.scan.specs.FittingLaws.{whole_shaped}
 use Rattle.scan.specs.PecByteLaws.{pec_lt}
-use Rattle.garbled.specs.Places.{sent_from, May_differ, Changed}
+use Rattle.garbled.specs.Places.{sent_from, MayDiffer, Changed}
 use Rattle.garbled.specs.SetLaws.{same_length_of}
 use Rattle.garbled.specs.TraceSetLaws.{with_command, with_sent, with_received, head_bytes, front_length, set_command_byte, set_sent_byte, set_pec, set_received_byte}
 use Rattle.garbled.specs.WireBytesLaws.{bytes_of_trace}
@@ -36,7 +36,7 @@ pub record Framed (sh : Shape) (n m : ℕ) (tr : List ℕ) : Type 0 where
 
 -- ---- the message stays valid
 
-pub reads_some : (least : ℕ) (a : Part) (s : List ℕ) → Length_of least a s → 0 < length s → some a ≡ true
+pub reads_some : (least : ℕ) (a : Part) (s : List ℕ) → LengthOf least a s → 0 < length s → some a ≡ true
 reads_some least Nothing s h l = absurd (omega (arith, h, l))
 reads_some least (Fixed k) s h l = refl
 reads_some least Counted s h l = refl
@@ -207,7 +207,7 @@ sent_from_lem =
     by_row (λ (p : ℕ). some (shape_of p).sent ≡ true → sent_from p ≡ 1 + 2 * head_bytes (shape_of p))
     (λ e. false_not_true e, (λ e. refl, (λ e. false_not_true e, (λ e. refl, (λ e. refl, (λ e. false_not_true e, (λ e. false_not_true e, (λ e. refl, (λ e. refl, (λ e. false_not_true e, (λ e. refl, tt)))))))))))
 
-module _ (protocol : ℕ) (t : Message) (tr : List ℕ) (w : Trace_of protocol true t tr) where
+module _ (protocol : ℕ) (t : Message) (tr : List ℕ) (w : TraceOf protocol true t tr) where
   abbrev sh : Shape
   sh = shape_of protocol
 
@@ -229,7 +229,7 @@ module _ (protocol : ℕ) (t : Message) (tr : List ℕ) (w : Trace_of protocol t
     as_many_received = refl;
   }
 
-  free_place : (k : ℕ) → May_differ protocol t (length tr) k → Free sh (length t.sent) (length t.received) (length tr) k
+  free_place : (k : ℕ) → MayDiffer protocol t (length tr) k → Free sh (length t.sent) (length t.received) (length tr) k
   free_place k (inl (h, e)) = inl ((row_is protocol known).1 ∙ lt-ltb 2 protocol h, e)
   free_place k (inr (inl (i, l, e))) =
       inr (inl (i, l, (let s = sent_from_lem protocol known (reads_some sh.least sh.sent t.sent valid.sent_length_lem (omega (arith, l))) in omega (arith, e, s))))
@@ -252,7 +252,7 @@ module _ (protocol : ℕ) (t : Message) (tr : List ℕ) (w : Trace_of protocol t
           ap₂ (λ (x y : List ℕ). x ++ y) (take_all (length tr) tr' (omega (arith, c.as_long))) (drop_of_length-le tr {i = length tr} (omega arith))
           ∙ append-nil tr'
 
-      free : (k : ℕ) → (get_or tr' k 0 ≡ get_or tr k 0) ⊎ (May_differ protocol t (length tr) k × (get_or tr' k 0 < 256))
+      free : (k : ℕ) → (get_or tr' k 0 ≡ get_or tr k 0) ⊎ (MayDiffer protocol t (length tr) k × (get_or tr' k 0 < 256))
           → (get_or tr' k 0 ≡ get_or tr k 0) ⊎ (Free sh (length t.sent) (length t.received) (length tr) k × (get_or tr' k 0 < 256))
       free k (inl e) = inl e
       free k (inr (p, b)) = inr (free_place k p, b)

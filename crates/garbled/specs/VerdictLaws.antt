@@ -9,7 +9,7 @@ use Rattle.pec.specs.Pec.{pec_of}
 use Rattle.trace.specs.PecPlaceLaws.{pec_third}
 use Rattle.trace.specs.ShapeLaws.{sane}
 use Rattle.trace.specs.Shapes.{shape_of}
-use Rattle.trace.specs.Table.{Line, Row, In_table, symbols, Trace_of}
+use Rattle.trace.specs.Table.{Line, Row, InTable, symbols, TraceOf}
 use Rattle.trace.specs.TableLaws.{row_means}
 use Rattle.trace.specs.Trace.{Message}
 use Rattle.scan.specs.BytesIn.{bytes_in}
@@ -20,7 +20,7 @@ use Rattle.scan.specs.declared.answer.Decoded.{Decoded}
 use Rattle.scan.specs.declared.answer.Refusal.TheVariants.{PecDiffers}
 use Rattle.decode.specs.NumberLaws.{decode_0, decode_refused, decode_refusal}
 use Rattle.decode.specs.Outcome.{Entered, Outcome}
-use Rattle.catches.specs.Changes.{Right_pec, Came}
+use Rattle.catches.specs.Changes.{RightPec, Came}
 use Rattle.garbled.specs.WireBytesLaws.{bytes_of_line}
 
 -- ---- lists
@@ -48,13 +48,13 @@ covered_pec : (q : List ℕ) (x : Line) → Row q x → pec_of x.covered < 256
 covered_pec q x r = let m = row_means q x r in subst (λ (l : List ℕ). pec_of l < 256) (sym m.covers) (pec_lt (shape_of x.protocol) (sane x.protocol) x.message m.valid)
 
 -- the bytes of a message's trace are those covered, and their PEC
-pub sent_covered : (protocol : ℕ) (t : Message) (tr : List ℕ) (w : Trace_of protocol true t tr) → bytes_in tr ≡ w.0.covered ++ pec_of w.0.covered ∷ []
+pub sent_covered : (protocol : ℕ) (t : Message) (tr : List ℕ) (w : TraceOf protocol true t tr) → bytes_in tr ≡ w.0.covered ++ pec_of w.0.covered ∷ []
 sent_covered protocol t tr w = let x = w.0 in ap bytes_in w.4 ∙ bytes_of_line protocol (pec_of x.covered) x (w.1, w.2, covered_pec _ x w.1)
 
-pub sent_right : (protocol : ℕ) (t : Message) (tr : List ℕ) → Trace_of protocol true t tr → Right_pec (bytes_in tr)
+pub sent_right : (protocol : ℕ) (t : Message) (tr : List ℕ) → TraceOf protocol true t tr → RightPec (bytes_in tr)
 sent_right protocol t tr w = (w.0.covered, sent_covered protocol t tr w)
 
-pub came : (protocol : ℕ) (t : Message) (tr tr' : List ℕ) → Trace_of protocol true t tr → length (bytes_in tr') ≡ length (bytes_in tr) → Came (bytes_in tr) (bytes_in tr')
+pub came : (protocol : ℕ) (t : Message) (tr tr' : List ℕ) → TraceOf protocol true t tr → length (bytes_in tr') ≡ length (bytes_in tr) → Came (bytes_in tr) (bytes_in tr')
 came protocol t tr tr' w e = record { sent = bytes_are_bytes tr; right = sent_right protocol t tr w; came = bytes_are_bytes tr'; as_many = e }
 
 -- PEC's place
@@ -69,21 +69,21 @@ three_symbols protocol tr (y, x, (r, e, h), f) =
 
 module _ (protocol : ℕ) (tr sent₀ received₀ : List ℕ) (a : Decoded) (sent received : List ℕ) (o : Outcome protocol true tr sent₀ received₀ a sent received) (h : Entered protocol true sent₀ received₀) (w : Whole protocol true tr) where
   -- the byte in PEC's place is the PEC of those before it exactly if the bytes on the wire end with their right PEC
-  right_in_place : (y : ℕ) (x : Line) → In_table protocol true y x → tr ≡ symbols x → Right_pec (bytes_in tr) ↔ (y ≡ pec_of x.covered)
+  right_in_place : (y : ℕ) (x : Line) → InTable protocol true y x → tr ≡ symbols x → RightPec (bytes_in tr) ↔ (y ≡ pec_of x.covered)
   right_in_place y x i e =
       let b = ap bytes_in e ∙ bytes_of_line protocol y x i in (
         λ r. (let s = same_last x.covered r.0 y (pec_of r.0) (sym b ∙ r.1) in s.1 ∙ ap pec_of (sym s.0)),
         λ p. (x.covered, b ∙ ap (λ (n : ℕ). x.covered ++ n ∷ []) p),
       )
 
-  pub verdict_0 : (decode_number a ≡ (0, 0)) ↔ Right_pec (bytes_in tr)
+  pub verdict_0 : (decode_number a ≡ (0, 0)) ↔ RightPec (bytes_in tr)
   verdict_0 =
       let d = decode_0 protocol true tr sent₀ received₀ a sent received o in (
         λ e. (let (m, z) = (d.0 e).1 in sent_right protocol m tr z),
         λ r. (let (y, x, i, f) = w in let p = (right_in_place y x i f).0 r in d.1 (h, (x.message, (x, subst (λ (n : ℕ). Row (n ∷ []) x) p i.0, i.1, refl, f)))),
       )
 
-  pub verdict_7 : (decode_number a ≡ (7, length tr - 3)) ↔ (Right_pec (bytes_in tr) → ⊥)
+  pub verdict_7 : (decode_number a ≡ (7, length tr - 3)) ↔ (RightPec (bytes_in tr) → ⊥)
   verdict_7 =
       let d = decode_refused protocol true tr sent₀ received₀ a sent received o PecDiffers (length tr - 3) (omega arith) in (
         λ e r. (let (u, (y, x, i, f, n), l) = (d.0 e).1 in n ((right_in_place y x i f).0 r)),
@@ -91,7 +91,7 @@ module _ (protocol : ℕ) (tr sent₀ received₀ : List ℕ) (a : Decoded) (sen
       )
 
   -- a change that is caught: 7 at PEC's place, and both buffers as they were
-  pub caught_is_seven : (Right_pec (bytes_in tr) → ⊥) → (decode_number a ≡ (7, length tr - 3)) × (sent ≡ sent₀) × (received ≡ received₀)
+  pub caught_is_seven : (RightPec (bytes_in tr) → ⊥) → (decode_number a ≡ (7, length tr - 3)) × (sent ≡ sent₀) × (received ≡ received₀)
   caught_is_seven n =
       let e = verdict_7.1 n in
       let u = decode_refusal protocol true tr sent₀ received₀ a sent received o (λ z. omega (arith, sym (ap (λ (p : ℕ × ℕ). p.0) e) ∙ z)) in

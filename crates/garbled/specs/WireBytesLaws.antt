@@ -7,7 +7,7 @@ use Rattle.lists.specs.EachLaws.{append_bytes}
 use Rattle.trace.specs.Sane.{Sane}
 use Rattle.trace.specs.ShapeLaws.{sane}
 use Rattle.trace.specs.Shapes.{shape_of, writes, reads}
-use Rattle.trace.specs.Table.{Line, In_table, symbols}
+use Rattle.trace.specs.Table.{Line, InTable, symbols}
 use Rattle.trace.specs.TableLaws.{row_means}
 use Rattle.trace.specs.Trace.{Message, laid, acked, ack_of, nacked, first_byte, front, bytes, by_target, by_controller, trace_at, Valid}
 use Rattle.trace.specs.declared.shape.Shape.{Shape}
@@ -53,7 +53,7 @@ bytes_of_trace sh hs t v y h =
     ∙ sym (append_assoc (front sh t) _ q)
 
 -- over the table
-pub bytes_of_line : (protocol y : ℕ) (x : Line) → In_table protocol true y x → bytes_in (symbols x) ≡ x.covered ++ y ∷ []
+pub bytes_of_line : (protocol y : ℕ) (x : Line) → InTable protocol true y x → bytes_in (symbols x) ≡ x.covered ++ y ∷ []
 bytes_of_line protocol y x (r, e, h) =
     let m = row_means (y ∷ []) x r in
     let sh = shape_of x.protocol in

@@ -47,13 +47,11 @@ pub(crate) fn decline(s: Shelf) -> Stepped {
 fn with_state(s: Shelf, controller: Controller) -> Shelf {
     let occupied = s.occupied;
     let plugged = s.plugged;
-    let manner = s.manner;
     Shelf {
         occupied,
         count: s.count,
         controller,
         plugged,
-        manner,
     }
 }
 

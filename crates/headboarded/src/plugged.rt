@@ -14,13 +14,11 @@ use wire::address::WireByte;
 fn with_module(s: Shelf, m: Module, at: usize) -> Turn {
     let occupied = s.occupied;
     let controller = s.controller;
-    let manner = s.manner;
     let shelf = Shelf {
         occupied,
         count: s.count,
         controller,
         plugged: Plugged::One(m),
-        manner,
     };
     Turn { shelf, at }
 }

@@ -9,7 +9,7 @@ use requests::request::Record;
 use wire::address::Address;
 
 // All are addresses.
-pub(crate) fn are_addresses(s: &[u8]) -> bool {
+fn are_addresses(s: &[u8]) -> bool {
     let mut i: usize = 0;
     while i < s.len() {
         if s[i] > 127 {
@@ -31,34 +31,23 @@ fn with_all(p: Pool, s: &[u8]) -> Pool {
     now
 }
 
-// The shelf with this set of occupied addresses, and how many there are.
-pub(crate) fn occupied_now(s: Shelf, occupied: Pool, out: &mut [u8], at: usize) -> Turn {
+// The shelf with these addresses occupied too, where all are addresses; and how many are now.
+fn occupy(s: Shelf, addresses: &[u8], out: &mut [u8], at: usize) -> Turn {
+    if !are_addresses(addresses) {
+        let next = put_no_address(out, at);
+        return Turn { shelf: s, at: next };
+    }
+    let occupied = with_all(s.occupied, addresses);
     let controller = s.controller;
     let plugged = s.plugged;
-    let manner = s.manner;
     let next = put_occupied(out, at, occupied.used());
     let shelf = Shelf {
         occupied,
         count: s.count,
         controller,
         plugged,
-        manner,
     };
     Turn { shelf, at: next }
-}
-
-// The shelf stays as it is: not all of them are addresses.
-pub(crate) fn no_address(s: Shelf, out: &mut [u8], at: usize) -> Turn {
-    let next = put_no_address(out, at);
-    Turn { shelf: s, at: next }
-}
-
-// The shelf with these addresses occupied too, where all are addresses.
-fn occupy(s: Shelf, addresses: &[u8], out: &mut [u8], at: usize) -> Turn {
-    if !are_addresses(addresses) {
-        return no_address(s, out, at);
-    }
-    occupied_now(s, with_all(s.occupied, addresses), out, at)
 }
 
 // The addresses stand from a place on.
@@ -81,21 +70,6 @@ fn put_record(t: Record, records: &mut [u8], n: usize) -> usize {
     n + 1
 }
 
-// The shelf with so many target records.
-pub(crate) fn with_count(s: Shelf, count: usize) -> Shelf {
-    let occupied = s.occupied;
-    let controller = s.controller;
-    let plugged = s.plugged;
-    let manner = s.manner;
-    Shelf {
-        occupied,
-        count,
-        controller,
-        plugged,
-        manner,
-    }
-}
-
 // Another target.
 pub(crate) fn target(
     s: Shelf,
@@ -111,16 +85,22 @@ pub(crate) fn target(
         let next = put_unclear(out, at, Expected::Targets, place);
         return Turn { shelf: s, at: next };
     }
+    let occupied = s.occupied;
+    let controller = s.controller;
+    let plugged = s.plugged;
+    let shelf = Shelf {
+        occupied,
+        count,
+        controller,
+        plugged,
+    };
     let next = put_target(out, at, n);
-    Turn {
-        shelf: with_count(s, count),
-        at: next,
-    }
+    Turn { shelf, at: next }
 }
 
-// All is as new, and the talk goes on in the same manner.
-pub(crate) fn clear(s: Shelf, out: &mut [u8], at: usize) -> Turn {
-    let shelf = new_shelf(s.manner);
+// All is as new.
+pub(crate) fn clear(out: &mut [u8], at: usize) -> Turn {
+    let shelf = new_shelf();
     let next = put_clear(out, at);
     Turn { shelf, at: next }
 }

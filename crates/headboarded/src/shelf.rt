@@ -5,24 +5,13 @@ use module::state::Module;
 use pool::Pool;
 
 // The module that m speaks to, where there is one.
-#[derive(Drop)]
+#[derive(Clone, Copy)]
 pub(crate) enum Plugged {
     Nobody,
     One(Module),
 }
 
-// How the talk goes on.
-#[derive(Drop)]
-pub(crate) struct Manner {
-    // Traces are written in letters, and not in numbers.
-    pub letters: bool,
-    // A number other than 0 is followed by words.
-    pub words: bool,
-    // Nothing more is read: that was asked for, or what is answered cannot be written.
-    pub over: bool,
-}
-
-#[derive(Drop)]
+#[derive(Clone, Copy)]
 pub(crate) struct Shelf {
     // The occupied addresses, for the next start and the next run.
     pub occupied: Pool,
@@ -32,19 +21,17 @@ pub(crate) struct Shelf {
     pub controller: Controller,
     // The module that the verb module made.
     pub plugged: Plugged,
-    // What view, quit and exit have set.
-    pub manner: Manner,
 }
 
 // What a request leaves: the shelf, and the place after the answer in the output.
-#[derive(Drop)]
+#[derive(Clone, Copy)]
 pub(crate) struct Turn {
     pub shelf: Shelf,
     pub at: usize,
 }
 
 // No targets, nothing occupied, the controller as new, no module.
-pub(crate) fn new_shelf(manner: Manner) -> Shelf {
+pub(crate) fn new_shelf() -> Shelf {
     let occupied = Pool::empty();
     let controller = Controller::new(occupied, NEVER_PICKED);
     Shelf {
@@ -52,33 +39,5 @@ pub(crate) fn new_shelf(manner: Manner) -> Shelf {
         count: 0,
         controller,
         plugged: Plugged::Nobody,
-        manner,
     }
-}
-
-// The shelf that goes on in another manner.
-pub(crate) fn with_manner(s: Shelf, manner: Manner) -> Shelf {
-    let occupied = s.occupied;
-    let controller = s.controller;
-    let plugged = s.plugged;
-    Shelf {
-        occupied,
-        count: s.count,
-        controller,
-        plugged,
-        manner,
-    }
-}
-
-// The shelf after which nothing more is read.
-pub(crate) fn over(s: Shelf) -> Shelf {
-    let m = s.manner;
-    with_manner(
-        s,
-        Manner {
-            letters: m.letters,
-            words: m.words,
-            over: true,
-        },
-    )
 }

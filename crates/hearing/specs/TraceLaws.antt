@@ -15,7 +15,7 @@ use Rattle.trace.specs.Shapes.{shape_of}
 use Rattle.trace.specs.Trace.{Message, trace, Valid}
 use Rattle.trace.specs.declared.transaction.Transaction.{Transaction}
 use Rattle.scan.specs.AnswersLaws as step
-use Rattle.scan.specs.Answers.{Cut_at, Carries, summary}
+use Rattle.scan.specs.Answers.{CutAt, Carries, summary}
 use Rattle.scan.specs.Handed.{sent_data, received_data}
 use Rattle.scan.specs.NumberLaws.{nack_is}
 use Rattle.scan.specs.Numbers.{is_nack}
@@ -50,10 +50,10 @@ complete protocol tr t e =
     subst (λ (x : Decoded). Carries protocol (shape_of protocol) true tr t (sent_data (shape_of protocol) tr x) (received_data true tr x)) (sym e)
     ((step.answer_exactly protocol (shape_of protocol) (sane protocol) true tr (Done t)).0 e)
 
-cut : (protocol : ℕ) (tr : List ℕ) (b : ℕ) → Cut_at (shape_of protocol) true tr b → answer protocol tr ≡ Refused NotAcknowledged b
+cut : (protocol : ℕ) (tr : List ℕ) (b : ℕ) → CutAt (shape_of protocol) true tr b → answer protocol tr ≡ Refused NotAcknowledged b
 cut protocol tr b h = (step.answer_exactly protocol (shape_of protocol) (sane protocol) true tr (Refused NotAcknowledged b)).1 (h, refl, refl)
 
-cut_back : (protocol : ℕ) (tr : List ℕ) (w : Refusal) (b : ℕ) → answer protocol tr ≡ Refused w b → is_nack w ≡ true → Cut_at (shape_of protocol) true tr b
+cut_back : (protocol : ℕ) (tr : List ℕ) (w : Refusal) (b : ℕ) → answer protocol tr ≡ Refused w b → is_nack w ≡ true → CutAt (shape_of protocol) true tr b
 cut_back protocol tr w b e h =
     ((step.answer_exactly protocol (shape_of protocol) (sane protocol) true tr (Refused NotAcknowledged b)).0 (e ∙ ap (λ (v : Refusal). Refused v b) (nack_is w h))).0
 
@@ -89,11 +89,11 @@ module _ (tr : List ℕ) where
       ∙ ap₂ told_prepare b.0 b.1
 
   -- answer 6: the pass ends
-  pub prepare_nobody : (b : ℕ) → Cut_at (shape_of send_byte) true tr b → tells (Send Prepare) tr ≡ Over
+  pub prepare_nobody : (b : ℕ) → CutAt (shape_of send_byte) true tr b → tells (Send Prepare) tr ≡ Over
   prepare_nobody b h = ap (λ (x : Decoded). told_prepare x (sent_in send_byte tr)) (cut send_byte tr b h)
 
   -- any other: 14
-  pub prepare_other : (tr ≡ trace_of (Send Prepare) [] → ⊥) → ((b : ℕ) → Cut_at (shape_of send_byte) true tr b → ⊥) → tells (Send Prepare) tr ≡ GivenUp
+  pub prepare_other : (tr ≡ trace_of (Send Prepare) [] → ⊥) → ((b : ℕ) → CutAt (shape_of send_byte) true tr b → ⊥) → tells (Send Prepare) tr ≡ GivenUp
   prepare_other n k = go (answer send_byte tr) refl
     where
       done : (t : Transaction) → answer send_byte tr ≡ Done t → (b : Bool) → is_prepare t (sent_in send_byte tr) ≡ b → pick b Again GivenUp ≡ GivenUp
@@ -145,11 +145,11 @@ module _ (tr : List ℕ) where
     get_reply n = get_is ∙ ap (λ (b : Bool). pick b (Reply (udid_at xs 0) (get_or xs 16 0)) Over) (eq-eqb (length xs) 17 n)
 
   -- answer 6 at byte 0, 1 or 2: the pass ends
-  pub get_nobody : (b : ℕ) → Cut_at (shape_of block_read) true tr b → b < 3 → tells (Send GetUdid) tr ≡ Over
+  pub get_nobody : (b : ℕ) → CutAt (shape_of block_read) true tr b → b < 3 → tells (Send GetUdid) tr ≡ Over
   get_nobody b h l = ap (λ (x : Decoded). told_get x (received_in block_read tr)) (cut block_read tr b h) ∙ ap (λ (q : Bool). pick q Over Again) (lt-ltb b 3 l)
 
   -- any other: Get UDID again
-  pub get_again : ((xs : List ℕ) → Bytes xs → length xs ≤ 255 → tr ≡ trace_of (Send GetUdid) xs → ⊥) → ((b : ℕ) → Cut_at (shape_of block_read) true tr b → b < 3 → ⊥) → tells (Send GetUdid) tr ≡ Again
+  pub get_again : ((xs : List ℕ) → Bytes xs → length xs ≤ 255 → tr ≡ trace_of (Send GetUdid) xs → ⊥) → ((b : ℕ) → CutAt (shape_of block_read) true tr b → b < 3 → ⊥) → tells (Send GetUdid) tr ≡ Again
   get_again n k = go (answer block_read tr) refl
     where
       done : (t : Transaction) → answer block_read tr ≡ Done t → (b : Bool) → is_get t ≡ b

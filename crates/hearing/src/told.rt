@@ -10,7 +10,7 @@ use trace::transaction::Transaction;
 use udid::Udid;
 use wire::address::Address;
 
-#[derive(Drop)]
+#[derive(Clone, Copy)]
 pub enum Told {
     // Nothing new: Get UDID is due.
     Again,

@@ -4,7 +4,7 @@ use Rattle.lists.specs.Choice.{pick, and}
 use Rattle.trace.specs.declared.transaction.Transaction.{Transaction}
 use Rattle.trace.specs.Shapes.{protocols, reads, shape_of}
 use Rattle.trace.specs.Allowed.{lengths_fit}
-use Rattle.trace.specs.Data_fits.{Data_fits}
+use Rattle.trace.specs.DataFits.{DataFits}
 use Rattle.last.specs.declared.Chosen.{Chosen}
 
 -- the protocol is known, both lengths belong to it, and buffers of s and r bytes have them
@@ -35,7 +35,7 @@ receives protocol = reads (shape_of protocol)
 -- a known protocol whose two lengths belong to it and are in their buffers
 pub record Whole (t : Transaction) (s r : ℕ) : Type 0 where
   pub known : t.protocol < protocols
-  pub lengths : Data_fits t.protocol t.sent t.received
+  pub lengths : DataFits t.protocol t.sent t.received
   pub sent : t.sent ≤ s
   pub received : t.received ≤ r
 

@@ -1,4 +1,6 @@
 // The last data phase of a transaction, as the very part of the buffer that holds it. Rests on trace.
+#![tactic(auto)]
+
 ghost use Rattle.std.specs.Prelude.{◌≡◌, ◌≤◌, length};
 ghost use Rattle.lists.specs.Choice.{pick};
 ghost use Rattle.last.specs.Last.{belongs, chosen, last_data, last_place};
@@ -9,7 +11,7 @@ use trace::transaction::Transaction;
 use trace::valid::lengths_fit;
 
 // Which buffer, and how much of its front.
-#[derive(Drop)]
+#[derive(Clone, Copy)]
 struct Chosen {
     received: bool,
     len: usize,

@@ -1,4 +1,6 @@
 // Symbols as letters: S, P, A and N, a byte as two upper-case hexadecimal digits, and a number that is no symbol in decimal.
 // Rests on pieces and writing.
+#![tactic(auto)]
+
 pub mod letter;
 pub mod trace;

@@ -17,6 +17,6 @@ all_below test zero = true
 all_below test (suc n) = and (test 0) (all_below (λ (i : ℕ). test (suc i)) n)
 
 -- what holds of 0, of 1 and so on, of n numbers
-abbrev pub Each_below : (ℕ → Type 0) → ℕ → Type 0
-Each_below P zero = Unit
-Each_below P (suc n) = P 0 × Each_below (λ (i : ℕ). P (suc i)) n
+abbrev pub EachBelow : (ℕ → Type 0) → ℕ → Type 0
+EachBelow P zero = Unit
+EachBelow P (suc n) = P 0 × EachBelow (λ (i : ℕ). P (suc i)) n

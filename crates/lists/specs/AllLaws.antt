@@ -1,7 +1,7 @@
 -- A test that every element passes is passed by the one at each place; one that each number below a bound passes, by any of them; what holds of each number below a bound holds of any.
 use Rattle.std.specs.Prelude.{◌≡◌, Bool, true, List, [], ◌∷◌, ℕ, zero, suc, ◌<◌, length, get_or}
 use Rattle.std.proofs.Common.{arith}
-use Rattle.lists.specs.All.{all, all_placed, all_below, Each_below}
+use Rattle.lists.specs.All.{all, all_placed, all_below, EachBelow}
 use Rattle.lists.specs.ChoiceLaws.{both_true}
 
 pub at_each : {A : Type 0} (test : A → Bool) (l : List A) (d : A) → all test l ≡ true → (n : ℕ) → n < length l → test (get_or l n d) ≡ true
@@ -26,7 +26,7 @@ at_below test zero e k h = absurd (omega arith)
 at_below test (suc n) e zero h = (both_true (test 0) (all_below (λ (i : ℕ). test (suc i)) n) e).0
 at_below test (suc n) e (suc k) h = at_below (λ (i : ℕ). test (suc i)) n (both_true (test 0) (all_below (λ (i : ℕ). test (suc i)) n) e).1 k (omega arith)
 
-pub each_below : (P : ℕ → Type 0) (n : ℕ) → Each_below P n → (k : ℕ) → k < n → P k
+pub each_below : (P : ℕ → Type 0) (n : ℕ) → EachBelow P n → (k : ℕ) → k < n → P k
 each_below P zero c k h = absurd (omega arith)
 each_below P (suc n) c zero h = c.0
 each_below P (suc n) c (suc k) h = each_below (λ (i : ℕ). P (suc i)) n c.1 k (omega arith)

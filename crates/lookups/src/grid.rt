@@ -12,7 +12,7 @@ use wire::address::Address;
 use writing::write::put;
 
 // What the table shows at an address.
-#[derive(Drop)]
+#[derive(Clone, Copy)]
 pub(crate) enum Cell {
     // Nobody is there.
     Free,

@@ -1,3 +1,5 @@
 // What the console prints for what a controller knows of its addresses: one of them, or all. Rests on pieces and arp.
+#![tactic(auto)]
+
 pub mod found;
 pub mod grid;

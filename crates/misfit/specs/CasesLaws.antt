@@ -1,12 +1,12 @@
 -- A wrong symbol is of one kind alone, and of the same kind wherever the same fits.
 use Rattle.std.specs.Prelude.{◌≡◌, refl, ◌↔◌, ℕ, ◌<◌}
 use Rattle.std.proofs.Common.{inl, inr, arith}
-use Rattle.misfit.specs.Cases.{Is_swapped, Is_misaddressed, Is_miscounted, Means}
+use Rattle.misfit.specs.Cases.{IsSwapped, IsMisaddressed, IsMiscounted, Means}
 use Rattle.misfit.specs.declared.kind.Kind.{Kind}
 use Rattle.misfit.specs.declared.kind.Kind.TheVariants.{Swapped, Misaddressed, Miscounted, Other}
 
 -- what is swapped is no byte
-pub swapped_is_no_byte : (fit : ℕ → Type 0) (x : ℕ) → Is_swapped fit x → x < 256 → ⊥
+pub swapped_is_no_byte : (fit : ℕ → Type 0) (x : ℕ) → IsSwapped fit x → x < 256 → ⊥
 swapped_is_no_byte fit x (inl (e, f)) h = omega (arith, e, h)
 swapped_is_no_byte fit x (inr (e, f)) h = omega (arith, e, h)
 
@@ -31,18 +31,18 @@ module _ (fit : ℕ → Type 0) (start host : Type 0) (x : ℕ) where
 
 -- said one way, each kind holds where it holds said the other way
 module _ (f g : ℕ → Type 0) (s t h i : Type 0) (same : (y : ℕ) → f y ↔ g y) (start : s ↔ t) (host : h ↔ i) (x : ℕ) where
-  swapped_there : Is_swapped f x → Is_swapped g x
+  swapped_there : IsSwapped f x → IsSwapped g x
   swapped_there (inl (e, a)) = inl (e, (same 259).0 a)
   swapped_there (inr (e, a)) = inr (e, (same 258).0 a)
 
-  swapped_back : Is_swapped g x → Is_swapped f x
+  swapped_back : IsSwapped g x → IsSwapped f x
   swapped_back (inl (e, a)) = inl (e, (same 259).1 a)
   swapped_back (inr (e, a)) = inr (e, (same 258).1 a)
 
-  misaddressed_same : Is_misaddressed s h x ↔ Is_misaddressed t i x
+  misaddressed_same : IsMisaddressed s h x ↔ IsMisaddressed t i x
   misaddressed_same = (λ a. (a.0, start.0 a.1, λ q. a.2 (host.1 q)), λ a. (a.0, start.1 a.1, λ q. a.2 (host.0 q)))
 
-  miscounted_same : Is_miscounted f s h x ↔ Is_miscounted g t i x
+  miscounted_same : IsMiscounted f s h x ↔ IsMiscounted g t i x
   miscounted_same = (
     λ a. (a.0, λ q. a.1 (start.1 q), λ q. a.2 (host.1 q), (a.3.0, a.3.1, (same a.3.0).0 a.3.2)),
     λ a. (a.0, λ q. a.1 (start.0 q), λ q. a.2 (host.0 q), (a.3.0, a.3.1, (same a.3.0).1 a.3.2)),

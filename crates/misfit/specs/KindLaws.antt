@@ -17,7 +17,7 @@ use Rattle.step.specs.declared.state.Decoder.{Decoder}
 use Rattle.step.specs.Fits.{ack_at, count_fits, fits_slot, fits_due, fits}
 use Rattle.misfit.specs.declared.kind.Kind.{Kind}
 use Rattle.misfit.specs.declared.kind.Kind.TheVariants.{Swapped, Misaddressed, Miscounted, Other}
-use Rattle.misfit.specs.Cases.{Is_swapped, Is_other, Means}
+use Rattle.misfit.specs.Cases.{IsSwapped, IsOther, Means}
 use Rattle.misfit.specs.Kinds.{is_address, is_count, kind_of_byte, kind_at, kind_due, kind_of, address_next}
 
 -- the controller's bit is ACK or NACK
@@ -37,7 +37,7 @@ ack_or_nack ReadPec = inl refl
 ack_or_nack End = inl refl
 
 -- neither kind of byte, and nothing swapped
-plain : (fit : ℕ → Type 0) (start host : Type 0) (x : ℕ) → (Is_swapped fit x → ⊥) → (x < 256 → ⊥) → Is_other fit start host x
+plain : (fit : ℕ → Type 0) (start host : Type 0) (x : ℕ) → (IsSwapped fit x → ⊥) → (x < 256 → ⊥) → IsOther fit start host x
 plain fit start host x n b = (n, λ a. b a.0, λ a. b a.0)
 
 pub either : (a b : Bool) → or a b ≡ true → (a ≡ true) ⊎ (b ≡ true)
@@ -68,7 +68,7 @@ module _ (sh : Shape) (hs : Sane sh) (d : Decoder) where
     abbrev At : Slot → Kind → Type 0
     At s k = Means (λ y. fits_slot sh s d y ≡ true) (is_address s ≡ true) (sh.tohost ≡ true) x k
 
-    none_swapped : (s : Slot) → Is_swapped (λ y. fits_slot sh s d y ≡ true) x → ⊥
+    none_swapped : (s : Slot) → IsSwapped (λ y. fits_slot sh s d y ≡ true) x → ⊥
     none_swapped s (inl (e, f)) = omega (arith, no_ack_fits s 259 f)
     none_swapped s (inr (e, f)) = omega (arith, no_ack_fits s 258 f)
 
@@ -107,7 +107,7 @@ module _ (sh : Shape) (hs : Sane sh) (d : Decoder) where
     Owed a k = Means (λ y. fits_due sh a d y ≡ true) (address_next a d.slot ≡ true) (sh.tohost ≡ true) x k
 
     -- where no byte fits, and no address byte is next, ACK and NACK alone can be told
-    no_byte_fits : (a : Due) → address_next a d.slot ≡ false → ((y : ℕ) → fits_due sh a d y ≡ true → 256 ≤ y) → (Is_swapped (λ y. fits_due sh a d y ≡ true) x → ⊥) → Owed a Other
+    no_byte_fits : (a : Due) → address_next a d.slot ≡ false → ((y : ℕ) → fits_due sh a d y ≡ true → 256 ≤ y) → (IsSwapped (λ y. fits_due sh a d y ≡ true) x → ⊥) → Owed a Other
     no_byte_fits a q n s = (s, λ m. not_both q m.1, λ m. omega (arith, m.3.1, n m.3.0 m.3.2))
 
     -- the controller's bit
@@ -115,17 +115,17 @@ module _ (sh : Shape) (hs : Sane sh) (d : Decoder) where
         → Means (λ y. eqb y w ≡ true) (false ≡ true) (sh.tohost ≡ true) x (pick b Swapped Other)
     own_bit w (inl e) f true h = go (either (eqb x ACK) (eqb x NACK) h)
       where
-        go : (eqb x ACK ≡ true) ⊎ (eqb x NACK ≡ true) → Is_swapped (λ y. eqb y w ≡ true) x
+        go : (eqb x ACK ≡ true) ⊎ (eqb x NACK ≡ true) → IsSwapped (λ y. eqb y w ≡ true) x
         go (inl q) = not_both f (eq-eqb x w (omega (arith, e, eqb-true x 258 q)))
         go (inr q) = inr (eqb-true x 259 q, eq-eqb 258 w (sym e))
     own_bit w (inr e) f true h = go (either (eqb x ACK) (eqb x NACK) h)
       where
-        go : (eqb x ACK ≡ true) ⊎ (eqb x NACK ≡ true) → Is_swapped (λ y. eqb y w ≡ true) x
+        go : (eqb x ACK ≡ true) ⊎ (eqb x NACK ≡ true) → IsSwapped (λ y. eqb y w ≡ true) x
         go (inl q) = inl (eqb-true x 258 q, eq-eqb 259 w (sym e))
         go (inr q) = not_both f (eq-eqb x w (omega (arith, e, eqb-true x 259 q)))
     own_bit w o f false h = (no_swap, λ m. false_not_true m.1, λ m. none m.3.0 m.3.1 o (eqb-true m.3.0 w m.3.2))
       where
-        no_swap : Is_swapped (λ y. eqb y w ≡ true) x → ⊥
+        no_swap : IsSwapped (λ y. eqb y w ≡ true) x → ⊥
         no_swap (inl (e, q)) = eqb-false x 258 (neither (eqb x ACK) (eqb x NACK) h).0 e
         no_swap (inr (e, q)) = eqb-false x 259 (neither (eqb x ACK) (eqb x NACK) h).1 e
 
@@ -142,12 +142,12 @@ module _ (sh : Shape) (hs : Sane sh) (d : Decoder) where
         above z (inl q) = omega (arith, eqb-true z 258 q)
         above z (inr q) = omega (arith, eqb-true z 259 q)
 
-        no_swap : Is_swapped (λ y. fits_due sh Target d y ≡ true) x → ⊥
+        no_swap : IsSwapped (λ y. fits_due sh Target d y ≡ true) x → ⊥
         no_swap (inl (e, q)) = eqb-false x 258 (neither (eqb x ACK) (eqb x NACK) f).0 e
         no_swap (inr (e, q)) = eqb-false x 259 (neither (eqb x ACK) (eqb x NACK) f).1 e
     due_means Halted f y g = no_byte_fits Halted refl (λ z h. omega (arith, eqb-true z 257 h)) no_swap
       where
-        no_swap : Is_swapped (λ y. fits_due sh Halted d y ≡ true) x → ⊥
+        no_swap : IsSwapped (λ y. fits_due sh Halted d y ≡ true) x → ⊥
         no_swap (inl (e, q)) = false_not_true q
         no_swap (inr (e, q)) = false_not_true q
     due_means Cut f y g = false_not_true g

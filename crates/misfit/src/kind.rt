@@ -6,7 +6,7 @@ use step::state::{Decoder, Due, Slot};
 use trace::shape::Shape;
 use wire::symbol::{ACK, NACK, is_byte};
 
-#[derive(Drop)]
+#[derive(Clone, Copy)]
 pub enum Kind {
     // The controller's ACK where its NACK is due, or its NACK where its ACK is.
     Swapped,

@@ -41,8 +41,8 @@ Resets o o' =
 
 -- WHAT POWER ON MAKES OF THE IDENTIFIER u, the stored address a and the fresh bytes f (Table 9): AR is clear. A fixed and a persistent module have the
 -- stored address, if it is one; the others have none, and a random one takes the fresh bytes into its identifier
-abbrev pub Powers_on : Udid → ℕ → ℕ → Lasting → Type 0
-Powers_on u a f o =
+abbrev pub PowersOn : Udid → ℕ → ℕ → Lasting → Type 0
+PowersOn u a f o =
     ((o.resolved ≡ false) × ((o.home ≡ a) × (o.fresh ≡ f)))
     × ((kind_of u ≤ 1 → a < 128 → (o.udid ≡ u) × ((o.valid ≡ true) × (o.address ≡ a)))
     × ((kind_of u ≤ 1 → 127 < a → (o.udid ≡ u) × ((o.valid ≡ false) × (o.address ≡ 0)))
@@ -50,8 +50,8 @@ Powers_on u a f o =
     × (kind_of u ≡ 3 → (udid_bytes o.udid ≡ take 12 (udid_bytes u) ++ bytes_of 4 f) × ((o.valid ≡ false) × (o.address ≡ 0))))))
 
 -- A COMMAND WHOSE PEC IS DUE NEXT, of the three that take effect with it: all bytes before the PEC
-abbrev pub Pec_due : Lasting → List ℕ → Type 0
-Pec_due o xs =
+abbrev pub PecDue : Lasting → List ℕ → Type 0
+PecDue o xs =
     (xs ≡ 0xC2 ∷ 0x01 ∷ [])
     ⊎ ((xs ≡ 0xC2 ∷ 0x02 ∷ [])
     ⊎ ((Reachable o × (xs ≡ 0xC2 ∷ 2 * o.address ∷ []))

@@ -18,7 +18,7 @@ use Rattle.module.specs.Acknowledges.{acked}
 use Rattle.module.specs.AckLaws.{acked_cons, past, identifier_step, given_step}
 use Rattle.module.specs.NackLaws.{wrong_pec}
 use Rattle.module.specs.SupplyLaws.{start_write, write_one}
-use Rattle.module.specs.Packets.{Known, Reachable, Pec_due}
+use Rattle.module.specs.Packets.{Known, Reachable, PecDue}
 use Rattle.module.specs.PacketsLaws.{acked_exactly, reachable_is}
 
 -- PEC after the default address
@@ -37,10 +37,10 @@ write_heard m bs = heard_cons (starts m) for_write bs ∙ ap (λ (h : Heard). he
 
 -- ---- where the PEC is due
 
-abbrev At_pec : Lasting → ℕ → Module → Type 0
-At_pec o c m = (m ≡ at o PreparePec 0 c 0) ⊎ ((m ≡ at o ResetPec 0 c 0) ⊎ ((g : ℕ) × (m ≡ at o AssignPec 0 c g)))
+abbrev AtPec : Lasting → ℕ → Module → Type 0
+AtPec o c m = (m ≡ at o PreparePec 0 c 0) ⊎ ((m ≡ at o ResetPec 0 c 0) ⊎ ((g : ℕ) × (m ≡ at o AssignPec 0 c g)))
 
-at_pec_refuses : (o : Lasting) (c b : ℕ) (m : Module) → At_pec o c m → (b ≡ c → ⊥) → receives m b ≡ refused o
+at_pec_refuses : (o : Lasting) (c b : ℕ) (m : Module) → AtPec o c m → (b ≡ c → ⊥) → receives m b ≡ refused o
 at_pec_refuses o c b m (inl e) n = ap (λ (x : Module). receives x b) e ∙ (wrong_pec o 0 c 0 b n).0
 at_pec_refuses o c b m (inr (inl e)) n = ap (λ (x : Module). receives x b) e ∙ (wrong_pec o 0 c 0 b n).1.0
 at_pec_refuses o c b m (inr (inr h)) n = ap (λ (x : Module). receives x b) h.1 ∙ (wrong_pec o 0 c h.0 b n).1.1
@@ -120,28 +120,28 @@ assign_due : (m : Module) (x : ℕ) → let xs : List ℕ = 0xC2 ∷ 0x04 ∷ 17
 unfolding heard_all receives pec_from
 assign_due m x = write_heard m (0x04 ∷ 17 ∷ (udid_bytes m.own.udid ++ (x ∷ []))) ∙ identifier_due m.own x (pec_step (pec_step first 0x04) 17)
 
-pec_is_due : (m : Module) (xs : List ℕ) → Pec_due m.own xs → At_pec m.own (pec_of xs) (heard_all (starts m) xs)
-pec_is_due m xs (inl e) = subst (λ (l : List ℕ). At_pec m.own (pec_of l) (heard_all (starts m) l)) (sym e) (inl (prepare_due m))
-pec_is_due m xs (inr (inl e)) = subst (λ (l : List ℕ). At_pec m.own (pec_of l) (heard_all (starts m) l)) (sym e) (inr (inl (reset_due m)))
-pec_is_due m xs (inr (inr (inl h))) = subst (λ (l : List ℕ). At_pec m.own (pec_of l) (heard_all (starts m) l)) (sym h.1) (inr (inl (directed_due m h.0)))
-pec_is_due m xs (inr (inr (inr h))) = subst (λ (l : List ℕ). At_pec m.own (pec_of l) (heard_all (starts m) l)) (sym h.1) (inr (inr (h.0 / 2, assign_due m h.0)))
+pec_is_due : (m : Module) (xs : List ℕ) → PecDue m.own xs → AtPec m.own (pec_of xs) (heard_all (starts m) xs)
+pec_is_due m xs (inl e) = subst (λ (l : List ℕ). AtPec m.own (pec_of l) (heard_all (starts m) l)) (sym e) (inl (prepare_due m))
+pec_is_due m xs (inr (inl e)) = subst (λ (l : List ℕ). AtPec m.own (pec_of l) (heard_all (starts m) l)) (sym e) (inr (inl (reset_due m)))
+pec_is_due m xs (inr (inr (inl h))) = subst (λ (l : List ℕ). AtPec m.own (pec_of l) (heard_all (starts m) l)) (sym h.1) (inr (inl (directed_due m h.0)))
+pec_is_due m xs (inr (inr (inr h))) = subst (λ (l : List ℕ). AtPec m.own (pec_of l) (heard_all (starts m) l)) (sym h.1) (inr (inr (h.0 / 2, assign_due m h.0)))
 
 -- ---- the bytes before it get ACK
 
-due_known : (o : Lasting) (xs : List ℕ) → Pec_due o xs → Known o xs
+due_known : (o : Lasting) (xs : List ℕ) → PecDue o xs → Known o xs
 due_known o xs (inl e) = inl (pec_of xs ∷ [], ap (λ (l : List ℕ). l ++ (pec_of l ∷ [])) (sym e))
 due_known o xs (inr (inl e)) = inr (inl (pec_of xs ∷ [], ap (λ (l : List ℕ). l ++ (pec_of l ∷ [])) (sym e)))
 due_known o xs (inr (inr (inl h))) = inr (inr (inr (inr (h.0, inl (pec_of xs ∷ [], ap (λ (l : List ℕ). l ++ (pec_of l ∷ [])) (sym h.1))))))
 due_known o xs (inr (inr (inr h))) = inr (inr (inr (inl (h.0, (pec_of xs ∷ [], ap (λ (l : List ℕ). l ++ (pec_of l ∷ [])) (sym h.1))))))
 
 -- each of them begins with C2h
-due_write : (o : Lasting) (xs : List ℕ) → Pec_due o xs → (ys : List ℕ) × (xs ≡ 0xC2 ∷ ys)
+due_write : (o : Lasting) (xs : List ℕ) → PecDue o xs → (ys : List ℕ) × (xs ≡ 0xC2 ∷ ys)
 due_write o xs (inl e) = (0x01 ∷ [], e)
 due_write o xs (inr (inl e)) = (0x02 ∷ [], e)
 due_write o xs (inr (inr (inl h))) = (2 * o.address ∷ [], h.1)
 due_write o xs (inr (inr (inr h))) = (0x04 ∷ 17 ∷ (udid_bytes o.udid ++ (h.0 ∷ [])), h.1)
 
-pub due_acked : (m : Module) (xs : List ℕ) → Pec_due m.own xs → acked (starts m) xs ≡ true
+pub due_acked : (m : Module) (xs : List ℕ) → PecDue m.own xs → acked (starts m) xs ≡ true
 due_acked m xs d =
     let w = due_write m.own xs d in
     ap (acked (starts m)) w.1 ∙ write_acked m w.0 ∙ ap (acked (starts (silent_in m.own))) (sym w.1) ∙ (acked_exactly m.own xs).1 (due_known m.own xs d)
@@ -153,7 +153,7 @@ unfolding heard_all
 heard_append m [] ys = refl
 heard_append m (x ∷ xs) ys = heard_append (receives m x).after xs ys
 
-pub differing_pec : (m : Module) (xs : List ℕ) (b : ℕ) → Pec_due m.own xs → (b ≡ pec_of xs → ⊥)
+pub differing_pec : (m : Module) (xs : List ℕ) (b : ℕ) → PecDue m.own xs → (b ≡ pec_of xs → ⊥)
     → ((receives (heard_all (starts m) xs) b).ack ≡ false) × ((rest : List ℕ) → heard_all (starts m) (xs ++ (b ∷ rest)) ≡ silent_in m.own)
 differing_pec m xs b d n =
     let r : receives (heard_all (starts m) xs) b ≡ refused m.own = at_pec_refuses m.own (pec_of xs) b (heard_all (starts m) xs) (pec_is_due m xs d) n in (

@@ -15,7 +15,7 @@ use Rattle.module.specs.declared.state.Lasting.{Lasting}
 use Rattle.module.specs.declared.state.Module.{Module}
 use Rattle.module.specs.State.{silent_in}
 use Rattle.module.specs.Reset.{having, prepared, at_home, renewed, reset_kind, reset, stored, powered}
-use Rattle.module.specs.Packets.{kind_of, Resets, Powers_on}
+use Rattle.module.specs.Packets.{kind_of, Resets, PowersOn}
 
 -- ---- the last four bytes of an identifier
 
@@ -123,7 +123,7 @@ module _ (u : Udid) (a f : ℕ) (w : Fits u) (g : f < 2 ^ 32) where
   unfolding reset
   rested = rests (top_bits u)
 
-  pub powers_on : Powers_on u a f (powered u a f).own
+  pub powers_on : PowersOn u a f (powered u a f).own
   unfolding powered
   powers_on =
       let random : kind_of u ≡ 3 → reset before ≡ having before (renewed u f) false 0 false = λ e. reset_at before 3 (kind ∙ e) in

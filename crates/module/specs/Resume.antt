@@ -40,7 +40,7 @@ resumed_number NoHome = 12
 
 -- WHAT THE MODULE OF A RECORD IS: as after STOP, with the record's identifier, address byte and flag; FFh is for AV clear, and then the address is 0; any other byte has the
 -- address in its upper seven bits, and a fixed one is fixed there
-pub record As_recorded (u : Udid) (b g f : ℕ) (m : Module) : Type 0 where
+pub record AsRecorded (u : Udid) (b g f : ℕ) (m : Module) : Type 0 where
   pub silent : m ≡ silent_in m.own
   pub udid : m.own.udid ≡ u
   pub byte : address_byte m.own ≡ b

@@ -16,7 +16,7 @@ use Rattle.module.specs.declared.state.Lasting.{Lasting}
 use Rattle.module.specs.declared.state.Module.{Module}
 use Rattle.module.specs.State.{silent_in}
 use Rattle.module.specs.Supply.{address_byte}
-use Rattle.module.specs.Resume.{is_malformed, lacks_home, recorded, resumed, resumed_number, As_recorded}
+use Rattle.module.specs.Resume.{is_malformed, lacks_home, recorded, resumed, resumed_number, AsRecorded}
 
 -- ---- the numbers of a choice
 
@@ -102,7 +102,7 @@ not_true_is : (t : Bool) → (not t ≡ true) ↔ (t ≡ false)
 not_true_is true = (λ e. false_not_true e, λ e. not_both e refl)
 not_true_is false = (λ e. refl, λ e. refl)
 
-pub as_recorded : (u : Udid) (b g f : ℕ) → Fits u → b < 256 → (m : Module) → resumed u b g f ≡ Ready m → As_recorded u b g f m
+pub as_recorded : (u : Udid) (b g f : ℕ) → Fits u → b < 256 → (m : Module) → resumed u b g f ≡ Ready m → AsRecorded u b g f m
 unfolding resumed
 as_recorded u b g f w l m e =
     let t = ready_tests (is_malformed b g) (lacks_home u b) (silent_in (recorded u b g f)) m e in

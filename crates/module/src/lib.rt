@@ -1,5 +1,7 @@
 // The module's own end of the bus: which received bytes it acknowledges, what it obeys, and which bytes it supplies (SMBus 3.3.1, 6.6.3).
 // Rests on wire, pec and udid.
+#![tactic(auto)]
+
 pub mod byte;
 mod command;
 mod effect;

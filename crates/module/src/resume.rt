@@ -7,7 +7,7 @@ use udid::Udid;
 use wire::address::WireByte;
 
 // What a record gives: the module, as after STOP, or why there is none.
-#[derive(Drop)]
+#[derive(Clone, Copy)]
 pub enum Resumed {
     Ready(Module),
     // The address byte is even, or the flag is above 1.

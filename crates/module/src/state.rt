@@ -5,7 +5,7 @@ ghost use Rattle.module.specs.State.{at, silent_in, taken, refused};
 use udid::Udid;
 
 // What is due next. Each byte that does not fit leads to Silent.
-#[derive(Drop)]
+#[derive(Clone, Copy)]
 pub enum Phase {
     // NACK for every byte, and nothing to say, until a START.
     Silent,
@@ -33,7 +33,7 @@ pub enum Phase {
 }
 
 // What outlasts a packet.
-#[derive(Drop)]
+#[derive(Clone, Copy)]
 pub struct Lasting {
     pub udid: Udid,
     // The flag Address Valid, and the address; 0 where the flag is clear.
@@ -48,7 +48,7 @@ pub struct Lasting {
 }
 
 // A module between two events on the bus.
-#[derive(Drop)]
+#[derive(Clone, Copy)]
 pub struct Module {
     pub own: Lasting,
     pub phase: Phase,
@@ -61,14 +61,14 @@ pub struct Module {
 }
 
 // A byte was received: the module after it, and whether it acknowledges.
-#[derive(Drop)]
+#[derive(Clone, Copy)]
 pub struct Heard {
     pub after: Module,
     pub ack: bool,
 }
 
 // A byte was asked for: the module after it, whether it has something to say, and what; FFh, which holds nothing down, where it has not.
-#[derive(Drop)]
+#[derive(Clone, Copy)]
 pub struct Supplied {
     pub after: Module,
     pub drives: bool,

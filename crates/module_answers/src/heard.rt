@@ -8,7 +8,7 @@ use module::state::Module;
 use writing::write::put;
 
 // The module after the bytes, and the place after the answer.
-#[derive(Drop)]
+#[derive(Clone, Copy)]
 pub struct Answered {
     pub after: Module,
     pub at: usize,

@@ -27,19 +27,3 @@ protocol_named s = place_in 255 names s 0 0
 unfoldable pub words_in : ℕ → List ℕ → ℕ → ℕ
 words_in zero text at = 0
 words_in (suc n) text at = pick (ltb (word_from text at).from (length text)) (suc (words_in n text (word_from text at).to)) 0
-
--- the place after k words of a text, from a place on
-unfoldable pub after_words : ℕ → List ℕ → ℕ → ℕ
-after_words zero text at = at
-after_words (suc k) text at = after_words k text (word_from text at).to
-
--- the first word of a text from a place on, and the k-th word, from 0; none where the text has not so many
-abbrev pub word_at : List ℕ → ℕ → List ℕ
-word_at text at = part_of text (word_from text at).from (word_from text at).to
-
-unfoldable pub word_of : List ℕ → ℕ → List ℕ
-word_of text k = word_at text (after_words k text 0)
-
--- the name of a protocol
-unfoldable pub name_of : ℕ → List ℕ
-name_of protocol = word_of names protocol

@@ -1,14 +1,10 @@
-// The protocols by name: one text with a word for each row of the table, in the order of the rows. Rests on text and writing.
+// The protocols by name: one text with a word for each row of the table, in the order of the rows. Rests on text.
+#![tactic(auto)]
+
 ghost use Rattle.std.specs.Prelude.{◌≡◌};
 ghost use Rattle.names.specs.Names.{place_in, protocol_named};
 
 use text::word::{next_word, part, same};
-
-pub mod name;
-
-// The names of the protocols, in the order of the table's rows.
-pub(crate) const NAMES: [u8; 125] =
-    *b"quick send_byte receive_byte write_byte write_word read_byte read_word process_call block_write block_read block_process_call";
 
 // What is answered for a word that is no protocol's name.
 pub const NO_PROTOCOL: u8 = 255;
@@ -37,6 +33,8 @@ fn place_in(names: &[u8], s: &[u8]) -> u8
 pub fn protocol_named(s: &[u8]) -> u8
     ensures { result ≡ protocol_named s.now }
 {
-    let names = NAMES;
-    place_in(&names, s)
+    place_in(
+        b"quick send_byte receive_byte write_byte write_word read_byte read_word process_call block_write block_read block_process_call",
+        s,
+    )
 }

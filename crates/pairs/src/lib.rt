@@ -1,4 +1,6 @@
 // Symbols as pairs of bytes, the low byte first: how a trace stands in a buffer of bytes.
+#![tactic(auto)]
+
 ghost use Rattle.std.specs.Prelude.{◌≡◌, ◌*◌, ◌≤◌, ltb, length};
 ghost use Rattle.lists.specs.Choice.{pick};
 ghost use Rattle.lists.specs.Onto.{onto};

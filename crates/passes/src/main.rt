@@ -11,6 +11,8 @@
 //   7                          the choice that waits is declined; the command is written
 //
 // The first byte that is none of these, or the end of the input, ends the run. Standard input is read and standard output is written.
+#![tactic(auto)]
+
 mod answers;
 mod script;
 

@@ -1,5 +1,7 @@
 // The packet error code: CRC-8 with x^8+x^2+x+1, start 0, highest bit first. Bytes in a row go by a table, one look-up for each; a byte by
 // itself goes without (decision 69). Rests on lists alone.
+#![tactic(auto)]
+
 ghost use Rattle.std.specs.Prelude.{◌≡◌, ◌<◌};
 ghost use Rattle.pec.specs.Pec.{pec_step, pec_from, pec_of};
 ghost use Rattle.pec.specs.Fold.{folded as foldedBack};
@@ -8,6 +10,7 @@ mod remainders;
 pub mod table;
 
 // n times x^8, folded back: x^8 leaves x^2+x+1, so it is n times that, where bits are added without carries.
+#[tactic(auto, unfolding(crate::specs::Fold::folded))]
 fn folded(n: u16) -> u16
     requires { n < 256 }
     ensures { result ≡ foldedBack n }

@@ -21,7 +21,7 @@ differs true b = not b
 differs false b = b
 
 -- r is the first place from k on at which n has a zero, or it is 64, and all from k to 63 are one
-pub record First_zero (n k r : ℕ) : Type 0 where
+pub record FirstZero (n k r : ℕ) : Type 0 where
   pub from : k ≤ r
   pub most : r ≤ 64
   pub ones : (j : ℕ) → k ≤ j → j < r → digit n j ≡ true

@@ -7,7 +7,7 @@ use Rattle.std.specs.Int.Count.{count_trailing_zeros, under}
 use Rattle.std.proofs.lemmas.Nat.{trailing_le}
 use Rattle.lists.specs.AbsurdLaws.{zero_is_one}
 use Rattle.lists.specs.Choice.{not}
-use Rattle.pool.specs.Digits.{digit, First_zero}
+use Rattle.pool.specs.Digits.{digit, FirstZero}
 use Rattle.pool.specs.DigitLaws.{digit_suc}
 
 digit_shift : (n k j : ℕ) → digit (n / 2 ^ k) j ≡ digit n (k + j)
@@ -58,7 +58,7 @@ trailing_digits (suc k) m = go (m % 2) (omega arith) refl (trailing_digits k (m 
     go (suc (suc d)) h e r = absurd (omega arith)
 
 -- the place of the first zero from k on
-pub first_zero : (n k m : ℕ) → n < 2 ^ 64 → k < 64 → suc (n / 2 ^ k + m) ≡ 2 ^ 64 → First_zero n k (k + count_trailing_zeros 64 m)
+pub first_zero : (n k m : ℕ) → n < 2 ^ 64 → k < 64 → suc (n / 2 ^ k + m) ≡ 2 ^ 64 → FirstZero n k (k + count_trailing_zeros 64 m)
 first_zero n k m h l e =
     record {
       from = omega arith;

@@ -2,7 +2,7 @@
 use Rattle.std.specs.Prelude.{ℕ, zero, suc, ◌+◌, ◌-◌, ◌<◌, ◌≤◌, ◌≡◌, Bool, true}
 use Rattle.std.proofs.Common.{ap, ◌∙◌, zero-add, add-zero, suc-add, arith}
 use Rattle.lists.specs.Choice.{pick}
-use Rattle.pool.specs.Digits.{digit, First_zero}
+use Rattle.pool.specs.Digits.{digit, FirstZero}
 use Rattle.pool.specs.Free.{free_from, address}
 use Rattle.pool.specs.FreeLaws.{from_cases, from_all}
 use Rattle.pool.specs.MemberLaws.{member_low, member_high}
@@ -23,12 +23,12 @@ skip p (suc m) n a h =
 
 -- k is the first zero of a half from its place n on; 64 where all are one from there
 module _ (p : Pool) (n k : ℕ) (h : n < 64) where
-  pub low_found : First_zero p.low n k → k < 64 → free_from p (128 - n) n ≡ At (address k)
+  pub low_found : FirstZero p.low n k → k < 64 → free_from p (128 - n) n ≡ At (address k)
   low_found z l =
       from_cases p (128 - n) n k z.from (omega arith) (member_low p k l ∙ z.zero l)
       (λ j o q. member_low p j (omega arith) ∙ z.ones j o q)
 
-  pub low_full : First_zero p.low n k → 64 ≤ k → free_from p (128 - n) n ≡ free_from p 64 64
+  pub low_full : FirstZero p.low n k → 64 ≤ k → free_from p (128 - n) n ≡ free_from p 64 64
   low_full z l =
       let e : 128 - n ≡ 64 - n + 64 = omega arith in
       let f : n + (64 - n) ≡ 64 = omega arith in
@@ -41,10 +41,10 @@ module _ (p : Pool) (n k : ℕ) (h : n < 64) where
       let e : j ≡ 64 + (j - 64) = omega arith in
       ap (member p) e ∙ member_high p (j - 64) (omega arith) ∙ w (j - 64) (omega arith) (omega arith)
 
-  pub high_found : First_zero p.high n k → k < 64 → free_from p (64 - n) (64 + n) ≡ At (address (64 + k))
+  pub high_found : FirstZero p.high n k → k < 64 → free_from p (64 - n) (64 + n) ≡ At (address (64 + k))
   high_found z l =
       from_cases p (64 - n) (64 + n) (64 + k) (omega (arith, z.from)) (omega arith) (member_high p k l ∙ z.zero l)
       (λ j o q. in_high k j z.most z.ones o q)
 
-  pub high_full : First_zero p.high n k → 64 ≤ k → free_from p (64 - n) (64 + n) ≡ AllUsed
+  pub high_full : FirstZero p.high n k → 64 ≤ k → free_from p (64 - n) (64 + n) ≡ AllUsed
   high_full z l = from_all p (64 - n) (64 + n) (λ j o q. in_high k j z.most z.ones o (omega arith))

@@ -8,7 +8,7 @@ use Rattle.pool.specs.Digits.{digit}
 use Rattle.pool.specs.Free.{free_from}
 use Rattle.pool.specs.NextFree.{next_free}
 use Rattle.pool.specs.NextFreeLaws.{next_is, next_free_lem}
-use Rattle.pool.specs.Picks.{Pick, Picks, Free_at_each, Picked, latest_of}
+use Rattle.pool.specs.Picks.{Pick, Picks, FreeAtEach, Picked, latest_of}
 use Rattle.pool.specs.Pools.{member}
 use Rattle.pool.specs.declared.Pool.{Pool}
 
@@ -94,8 +94,8 @@ still_before c d b a hc hd hb ha near n f =
 module _ (a b : ℕ) (ha : a < 128) (hb : b < 128) where
   -- b lies before a going on from c, and stays free until a is picked: then b was picked first
   pub first_picked : (c : ℕ) → c < 128 → (ys : List Pick) (x : Pick) (zs : List Pick) → Before c b a → Picks c (ys ++ (x ∷ zs))
-      → x.at ≡ a → Free_at_each b (ys ++ (x ∷ [])) → Picked b ys
-  unfolding Picks Free_at_each Picked
+      → x.at ≡ a → FreeAtEach b (ys ++ (x ∷ [])) → Picked b ys
+  unfolding Picks FreeAtEach Picked
   first_picked c hc [] x zs f r e w =
       let near = ((next_is x.pool c x.at hc).0 r.0).nearest b hb w.0 in
       let k : (a + 127 - c) % 128 ≤ (b + 127 - c) % 128 = rw (sym e) near in
@@ -114,7 +114,7 @@ module _ (a b : ℕ) (ha : a < 128) (hb : b < 128) where
 pub rotation : (last : ℕ) (ws : List Pick) (earlier : Pick) (between : List Pick) (later : Pick) (rest : List Pick)
     → Picks last (ws ++ (earlier ∷ (between ++ (later ∷ rest))))
     → later.at ≡ earlier.at
-    → (b : ℕ) → b < 128 → (b ≡ earlier.at → ⊥) → Free_at_each b (between ++ (later ∷ [])) → Picked b between
+    → (b : ℕ) → b < 128 → (b ≡ earlier.at → ⊥) → FreeAtEach b (between ++ (later ∷ [])) → Picked b between
 unfolding Picks
 rotation last [] x ys y zs r e b h n w =
     let k : x.at < 128 = (next_free_lem x.pool last x.at r.0).0 in

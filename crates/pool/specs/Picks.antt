@@ -16,9 +16,9 @@ Picks last [] = Unit
 Picks last (x ∷ xs) = (next_free x.pool last ≡ At (record { 0 = x.at })) × Picks x.at xs
 
 -- b was free at each of these picks
-unfoldable pub Free_at_each : ℕ → List Pick → Type 0
-Free_at_each b [] = Unit
-Free_at_each b (x ∷ xs) = (member x.pool b ≡ false) × Free_at_each b xs
+unfoldable pub FreeAtEach : ℕ → List Pick → Type 0
+FreeAtEach b [] = Unit
+FreeAtEach b (x ∷ xs) = (member x.pool b ≡ false) × FreeAtEach b xs
 
 -- b is one of the addresses picked
 unfoldable pub Picked : ℕ → List Pick → Type 0

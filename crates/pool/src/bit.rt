@@ -1,8 +1,9 @@
 // The binary digits of a number of 64 bits. A place counts modulo 64, so there is a digit at every place. Rests on nothing.
 ghost use Rattle.std.specs.Prelude.{◌≡◌, ◌%◌, ◌<◌};
-ghost use Rattle.pool.specs.Digits.{digit, plus, flip, First_zero};
+ghost use Rattle.pool.specs.Digits.{digit, plus, flip, FirstZero};
 
 // Digit k of n is one.
+#[tactic(auto, unfolding(crate::specs::Digits::digit))]
 pub(crate) fn is_one(n: u64, k: u8) -> bool
     ensures { result ≡ digit n (k % 64) }
 {
@@ -10,6 +11,7 @@ pub(crate) fn is_one(n: u64, k: u8) -> bool
 }
 
 // n with digit k one.
+#[tactic(auto, unfolding(crate::specs::Digits::plus))]
 pub(crate) fn with_one(n: u64, k: u8) -> u64
     ensures { result ≡ plus n (k % 64) }
 {
@@ -17,6 +19,7 @@ pub(crate) fn with_one(n: u64, k: u8) -> u64
 }
 
 // n with digit k turned over.
+#[tactic(auto, unfolding(crate::specs::Digits::flip))]
 pub(crate) fn turned(n: u64, k: u8) -> u64
     ensures { result ≡ flip n (k % 64) }
 {
@@ -26,7 +29,7 @@ pub(crate) fn turned(n: u64, k: u8) -> u64
 // The first place from k on at which n has a zero, or 64.
 pub(crate) fn zero_from(n: u64, k: u8) -> u8
     requires { k < 64 }
-    ensures { First_zero n k result }
+    ensures { FirstZero n k result }
 {
     k + u64::trailing_zeros(!(n >> k)) as u8
 }

@@ -1,11 +1,13 @@
 // The pool of used addresses: one bit for each of the 128. Rests on lists and wire.
+#![tactic(auto)]
+
 mod bit;
 pub mod free;
 pub mod members;
 pub mod start;
 
 // Bit k of low is address k, bit k of high is address 64 + k; a one is an address in use.
-#[derive(Drop)]
+#[derive(Clone, Copy)]
 pub struct Pool {
     pub low: u64,
     pub high: u64,

@@ -1,7 +1,7 @@
 -- The proofs of the page's records on what the PEC catches.
 use Rattle.std.specs.Prelude.{◌≡◌, refl, true, List, ◌⊎◌, ℕ, ◌-◌, ◌≤◌, length}
 use Rattle.std.proofs.Common.{subst, inl, inr}
-use Rattle.trace.specs.Table.{Trace_of}
+use Rattle.trace.specs.Table.{TraceOf}
 use Rattle.trace.specs.Trace.{Message}
 use Rattle.scan.specs.BytesIn.{bytes_in}
 use Rattle.scan.specs.Fitting.{Whole}
@@ -9,7 +9,7 @@ use Rattle.scan.specs.Numbers.{decode_number}
 use Rattle.scan.specs.declared.answer.Decoded.{Decoded}
 use Rattle.decode.specs.Outcome.{Entered, Outcome}
 use Rattle.catches.specs.BurstLaws.{eight_bits_caught}
-use Rattle.catches.specs.Changes.{Right_pec, Within, Two_bits}
+use Rattle.catches.specs.Changes.{RightPec, Within, TwoBits}
 use Rattle.catches.specs.EscapeLaws.{sixteen_zeros, sixteen_came, sixteen_escape, two_zeros, two_came, nine_bits_escape}
 use Rattle.catches.specs.FlipLaws.{one_bit_is, two_bits_are}
 use Rattle.catches.specs.HowManyLaws.{two_are_two}
@@ -37,7 +37,7 @@ catches = record {
   nine_bits = (two_zeros, two_came, nine_bits_escape.0, refl, nine_bits_escape.1, nine_bits_escape.2, nine_bits_escape.3);
 }
 
-pub garbled : (protocol : ℕ) (m : Message) (tr tr' sent₀ received₀ : List ℕ) (a : Decoded) (sent received : List ℕ) (sends : Trace_of protocol true m tr) (whole : Whole protocol true tr')
+pub garbled : (protocol : ℕ) (m : Message) (tr tr' sent₀ received₀ : List ℕ) (a : Decoded) (sent received : List ℕ) (sends : TraceOf protocol true m tr) (whole : Whole protocol true tr')
     (as_many : length (bytes_in tr') ≡ length (bytes_in tr)) (entered : Entered protocol true sent₀ received₀) (contract : Outcome protocol true tr' sent₀ received₀ a sent received)
     → Garbled protocol m tr tr' sent₀ received₀ a sent received sends whole as_many entered contract
 garbled protocol m tr tr' sent₀ received₀ a sent received s w n h o =
@@ -53,7 +53,7 @@ garbled protocol m tr tr' sent₀ received₀ a sent received s w n h o =
       sixteen = λ i j k l t e f. seven (λ r. f ((one_pair_of_sixteen (bytes_in tr) (bytes_in tr') c i j k l t e).0 r));
     }
 
-pub stays : (protocol : ℕ) (m : Message) (tr : List ℕ) (sends : Trace_of protocol true m tr) → Stays protocol m tr sends
+pub stays : (protocol : ℕ) (m : Message) (tr : List ℕ) (sends : TraceOf protocol true m tr) → Stays protocol m tr sends
 stays protocol m tr s = record {
   stays = whole-still protocol m tr s;
   seven = λ tr' c b sent₀ received₀ a sent received h o.
@@ -66,6 +66,6 @@ stays protocol m tr s = record {
 }
   where
     wrong : (tr' : List ℕ) → Changed protocol m tr tr'
-        → Within 8 (bytes_in tr) (bytes_in tr') ⊎ ((i : ℕ) × (j : ℕ) × (k : ℕ) × (l : ℕ) × Two_bits (bytes_in tr) (bytes_in tr') i j k l × (length (bytes_in tr) ≤ 15)) → Right_pec (bytes_in tr') → ⊥
+        → Within 8 (bytes_in tr) (bytes_in tr') ⊎ ((i : ℕ) × (j : ℕ) × (k : ℕ) × (l : ℕ) × TwoBits (bytes_in tr) (bytes_in tr') i j k l × (length (bytes_in tr) ≤ 15)) → RightPec (bytes_in tr') → ⊥
     wrong tr' c (inl b) = eight_bits_caught (bytes_in tr) (bytes_in tr') (came protocol m tr tr' s (whole-still protocol m tr s tr' c).1) b
     wrong tr' c (inr (i, j, k, l, t, n)) = two_bits_caught (bytes_in tr) (bytes_in tr') (came protocol m tr tr' s (whole-still protocol m tr s tr' c).1) i j k l t n

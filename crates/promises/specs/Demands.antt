@@ -29,15 +29,15 @@
 -- started_again 2; bus/Run: ModelEnd 4; promises/MarkedWords: Shows 2, holding 2, identifier 2, windows 3.
 use Rattle.std.specs.Prelude.{◌≡◌, Bool, true, false, List, [], ◌∷◌, ◌++◌, ◌⊎◌, ◌↔◌, ℕ, suc, ◌+◌, ◌-◌, ◌*◌, ◌/◌, ◌%◌, ◌^◌, ◌≤◌, ◌<◌, length, take, drop, get_or, replicate}
 use Rattle.std.specs.Int.Bits.{bit_xor}
-use Rattle.promises.specs.Words.{Each, Any, Bytes, is_reserved, is_preassigned, is_listed, table17, Covers, pec_of, Address, last_protocol, Trace_of, Message, message, encode_number, Wrote, Encoded}
-use Rattle.promises.specs.Words.{summary, Member, Fits, Breaks, Wrong, After_start, Fits_next, To_host, Is_swapped, Is_misaddressed, Is_miscounted, Is_other, Bit_swapped, Count_too_high, Cut_at, Other_pec, decode_number, Decoded, Done, Entered, Outcome}
-use Rattle.promises.specs.Words.{member, empty_pool, starting_pool, barred_pool, Pool, udid_bytes, In128, Udid, held_at, prepare_trace, reply_trace, assign_trace, new_controller, started, stepped, reported, By, Event, Received, No_start, run, looked_up, command_number, lookup_number}
-use Rattle.promises.specs.Words.{used, count, not, Completes, Bound_since, Left_since, binds, unbindings, removals, known_in, handed_out, Removes, Rest, Reported, Left}
-use Rattle.promises.specs.Words.{Asks, Binds, Continues, Ends_with, Replies, protocol_for, message_of, trace_of, Handed, Send, Wait, Nothing, Prepare, GetUdid, Assign, Ended, Abandoned, NotOutstanding, Open, Bound, Claimed, Controller, Stepped}
-use Rattle.promises.specs.Words.{Even_or_flag, Same_as_earlier, Fixed_on_taken, Length_is_bad, None, First_of, targets_of, movable, left_free, pass, Given, Ending, served, none_free, Distinct, ruled, Record_of, One_per_udid, gets_on_bus, history_on_bus, model_number, Leaves, model_end, ModelAnswer, next_free, Next, At, AllUsed, Pick, Picks, latest_of, picks_of, Free_at_each, Picked, identifier, holding, Shows}
-use Rattle.promises.specs.Words.{Module, Lasting, silent_in, starts, stops, loses, receives, supplies, powered, refreshed, resumed, resumed_number, Ready, As_recorded, having, heard_all, acked, prepare_order, reset_order, directed_reset, assign_order, get_order, Begins, Reachable, Known, Resets, Powers_on, Pec_due, says, after_asking, asked, reply_to}
+use Rattle.promises.specs.Words.{Each, Any, Bytes, is_reserved, is_preassigned, is_listed, table17, Covers, pec_of, Address, last_protocol, TraceOf, Message, message, encode_number, Wrote, Encoded}
+use Rattle.promises.specs.Words.{summary, Member, Fits, Breaks, Wrong, AfterStart, FitsNext, ToHost, IsSwapped, IsMisaddressed, IsMiscounted, IsOther, BitSwapped, CountTooHigh, CutAt, OtherPec, decode_number, Decoded, Done, Entered, Outcome}
+use Rattle.promises.specs.Words.{member, empty_pool, starting_pool, barred_pool, Pool, udid_bytes, In128, Udid, held_at, prepare_trace, reply_trace, assign_trace, new_controller, started, stepped, reported, By, Event, Received, NoStart, run, looked_up, command_number, lookup_number}
+use Rattle.promises.specs.Words.{used, count, not, Completes, BoundSince, LeftSince, binds, unbindings, removals, known_in, handed_out, Removes, Rest, Reported, Left}
+use Rattle.promises.specs.Words.{Asks, Binds, Continues, EndsWith, Replies, protocol_for, message_of, trace_of, Handed, Send, Wait, Nothing, Prepare, GetUdid, Assign, Ended, Abandoned, NotOutstanding, Open, Bound, Claimed, Controller, Stepped}
+use Rattle.promises.specs.Words.{EvenOrFlag, SameAsEarlier, FixedOnTaken, LengthIsBad, None, FirstOf, targets_of, movable, left_free, pass, Given, Ending, served, none_free, Distinct, ruled, RecordOf, OnePerUdid, gets_on_bus, history_on_bus, model_number, Leaves, model_end, ModelAnswer, next_free, Next, At, AllUsed, Pick, Picks, latest_of, picks_of, FreeAtEach, Picked, identifier, holding, Shows}
+use Rattle.promises.specs.Words.{Module, Lasting, silent_in, starts, stops, loses, receives, supplies, powered, refreshed, resumed, resumed_number, Ready, AsRecorded, having, heard_all, acked, prepare_order, reset_order, directed_reset, assign_order, get_order, Begins, Reachable, Known, Resets, PowersOn, PecDue, says, after_asking, asked, reply_to}
 use Rattle.promises.specs.Words.{first_half, issuing, declining, steps_over, halves_over, run_by_halves, Step, Choose, Gone, Issue, Decline, Chosen, Reason, ByTwo, Reasons, Waits, with_last}
-use Rattle.promises.specs.Words.{times_g, polynomial, bytes_in, Whole, Right_pec, Came, Within, Two_bits, First_and_last, how_many, May_differ, Changed, sent_from}
+use Rattle.promises.specs.Words.{times_g, polynomial, bytes_in, Whole, RightPec, Came, Within, TwoBits, FirstAndLast, how_many, MayDiffer, Changed, sent_from}
 use Rattle.promises.specs.Words.{on_bus, effect, map_targets, Among, beginning_over, run_over, model_bus, exchange, records_of, Fitting, after_bytes, asked_all, run_on, pass_on, gets_on}
 
 -- ---- THE ADDRESSES: TABLE 17 OF SMBus 3.3.1, Appendix C
@@ -55,40 +55,40 @@ pub record Addresses : Type 0 where
 
 -- ---- DEMAND 1: EACH NUMBER, IF AND ONLY IF ITS CASE; A REFUSAL CHANGES NOTHING THAT WAS LENT
 -- a message as the encoder's types have it: its command and its data are bytes
-abbrev pub Of_bytes : Message → Type 0
-Of_bytes m = (m.command < 256) × Bytes m.sent × Bytes m.received
+abbrev pub OfBytes : Message → Type 0
+OfBytes m = (m.command < 256) × Bytes m.sent × Bytes m.received
 
 -- encode of the message m, into an output that holds `before`: the answer r, and what the output holds after
-pub record Encodes (protocol : ℕ) (pec : Bool) (m : Message) (bytes : Of_bytes m) (before : List ℕ) (r : Encoded) (after : List ℕ) (contract : Wrote protocol pec m before r after) : Type 0 where
-  pub encode_0 : (n : ℕ) → (encode_number r ≡ (0, n)) ↔ ((tr : List ℕ) × Trace_of protocol pec m tr × (length tr ≡ n) × (n ≤ length before))
+pub record Encodes (protocol : ℕ) (pec : Bool) (m : Message) (bytes : OfBytes m) (before : List ℕ) (r : Encoded) (after : List ℕ) (contract : Wrote protocol pec m before r after) : Type 0 where
+  pub encode_0 : (n : ℕ) → (encode_number r ≡ (0, n)) ↔ ((tr : List ℕ) × TraceOf protocol pec m tr × (length tr ≡ n) × (n ≤ length before))
   -- 1: no row of the table has such a message: protocol, address, direction, a field that is lacking, a length or a count is not as it has to be
-  pub encode_1 : (encode_number r ≡ (1, 0)) ↔ ((tr : List ℕ) → Trace_of protocol pec m tr → ⊥)
-  pub encode_2 : (encode_number r ≡ (2, 0)) ↔ ((tr : List ℕ) × Trace_of protocol pec m tr × (length before < length tr))
+  pub encode_1 : (encode_number r ≡ (1, 0)) ↔ ((tr : List ℕ) → TraceOf protocol pec m tr → ⊥)
+  pub encode_2 : (encode_number r ≡ (2, 0)) ↔ ((tr : List ℕ) × TraceOf protocol pec m tr × (length before < length tr))
   -- with 0 the trace stands at the front, and the rest is as it was
-  pub written : (encode_number r).0 ≡ 0 → (tr : List ℕ) → Trace_of protocol pec m tr → after ≡ tr ++ drop (length tr) before
+  pub written : (encode_number r).0 ≡ 0 → (tr : List ℕ) → TraceOf protocol pec m tr → after ≡ tr ++ drop (length tr) before
   pub untouched : ((encode_number r).0 ≡ 0 → ⊥) → after ≡ before
 
 -- decode of the trace tr, with two buffers that hold sent₀ and received₀: the answer a, and what they hold after. k is a place, b a byte's number, take k tr
 -- what stands before k. Member: a whole trace, with any byte in PEC's place, or one that the target cut short with NACK and STOP. Fits: the beginning of one
 pub record Decodes (protocol : ℕ) (pec : Bool) (tr sent₀ received₀ : List ℕ) (a : Decoded) (sent received : List ℕ) (contract : Outcome protocol pec tr sent₀ received₀ a sent received) : Type 0 where
-  pub decode_0 : (decode_number a ≡ (0, 0)) ↔ (Entered protocol pec sent₀ received₀ × ((m : Message) × Trace_of protocol pec m tr))
+  pub decode_0 : (decode_number a ≡ (0, 0)) ↔ (Entered protocol pec sent₀ received₀ × ((m : Message) × TraceOf protocol pec m tr))
   pub decode_1 : (decode_number a ≡ (1, 0)) ↔ ((last_protocol < protocol) ⊎ ((protocol ≡ 0) × (pec ≡ true)))
   pub decode_2 : (decode_number a ≡ (2, 0)) ↔ ((protocol ≤ last_protocol) × (protocol ≡ 0 → pec ≡ false) × ((length sent₀ < 255) ⊎ (length received₀ < 255)))
   pub decode_3 : (k : ℕ) → (decode_number a ≡ (3, k)) ↔ (Entered protocol pec sent₀ received₀ × (Breaks protocol pec tr k × (259 < get_or tr k 0)))
   pub decode_4 : (n : ℕ) → (decode_number a ≡ (4, n)) ↔ (Entered protocol pec sent₀ received₀ × (Fits protocol pec tr × (Member protocol pec tr → ⊥) × (n ≡ length tr)))
-  pub decode_5 : (k : ℕ) → (decode_number a ≡ (5, k)) ↔ (Entered protocol pec sent₀ received₀ × (Wrong protocol pec tr k × Is_other (Fits_next protocol pec tr k) (After_start tr k) (To_host protocol) (get_or tr k 0)))
-  pub decode_6 : (b : ℕ) → (decode_number a ≡ (6, b)) ↔ (Entered protocol pec sent₀ received₀ × Cut_at protocol pec tr b)
-  pub decode_7 : (k : ℕ) → (decode_number a ≡ (7, k)) ↔ (Entered protocol pec sent₀ received₀ × Other_pec protocol pec tr k)
+  pub decode_5 : (k : ℕ) → (decode_number a ≡ (5, k)) ↔ (Entered protocol pec sent₀ received₀ × (Wrong protocol pec tr k × IsOther (FitsNext protocol pec tr k) (AfterStart tr k) (ToHost protocol) (get_or tr k 0)))
+  pub decode_6 : (b : ℕ) → (decode_number a ≡ (6, b)) ↔ (Entered protocol pec sent₀ received₀ × CutAt protocol pec tr b)
+  pub decode_7 : (k : ℕ) → (decode_number a ≡ (7, k)) ↔ (Entered protocol pec sent₀ received₀ × OtherPec protocol pec tr k)
   pub decode_8 : (k : ℕ) → (decode_number a ≡ (8, k)) ↔ (Entered protocol pec sent₀ received₀ × ((k < length tr) × Member protocol pec (take k tr) × (get_or tr k 0 ≤ 259)))
   -- the kinds of a wrong symbol: 17 ACK for NACK or NACK for ACK, 18 a byte right after START, 19 a byte elsewhere for which another would have fitted; else 5. Worked out over the table: bits, counts
-  pub decode_17 : (k : ℕ) → (decode_number a ≡ (17, k)) ↔ (Entered protocol pec sent₀ received₀ × (Wrong protocol pec tr k × Is_swapped (Fits_next protocol pec tr k) (get_or tr k 0)))
-  pub decode_18 : (k : ℕ) → (decode_number a ≡ (18, k)) ↔ (Entered protocol pec sent₀ received₀ × (Wrong protocol pec tr k × Is_misaddressed (After_start tr k) (To_host protocol) (get_or tr k 0)))
-  pub decode_19 : (k : ℕ) → (decode_number a ≡ (19, k)) ↔ (Entered protocol pec sent₀ received₀ × (Wrong protocol pec tr k × Is_miscounted (Fits_next protocol pec tr k) (After_start tr k) (To_host protocol) (get_or tr k 0)))
-  pub bits : (k : ℕ) → (decode_number a ≡ (17, k)) ↔ (Entered protocol pec sent₀ received₀ × Bit_swapped protocol pec tr k)
-  pub counts : (k : ℕ) → (decode_number a ≡ (19, k)) ↔ (Entered protocol pec sent₀ received₀ × Count_too_high protocol tr k)
+  pub decode_17 : (k : ℕ) → (decode_number a ≡ (17, k)) ↔ (Entered protocol pec sent₀ received₀ × (Wrong protocol pec tr k × IsSwapped (FitsNext protocol pec tr k) (get_or tr k 0)))
+  pub decode_18 : (k : ℕ) → (decode_number a ≡ (18, k)) ↔ (Entered protocol pec sent₀ received₀ × (Wrong protocol pec tr k × IsMisaddressed (AfterStart tr k) (ToHost protocol) (get_or tr k 0)))
+  pub decode_19 : (k : ℕ) → (decode_number a ≡ (19, k)) ↔ (Entered protocol pec sent₀ received₀ × (Wrong protocol pec tr k × IsMiscounted (FitsNext protocol pec tr k) (AfterStart tr k) (ToHost protocol) (get_or tr k 0)))
+  pub bits : (k : ℕ) → (decode_number a ≡ (17, k)) ↔ (Entered protocol pec sent₀ received₀ × BitSwapped protocol pec tr k)
+  pub counts : (k : ℕ) → (decode_number a ≡ (19, k)) ↔ (Entered protocol pec sent₀ received₀ × CountTooHigh protocol tr k)
   pub wrong : (k : ℕ) → ((decode_number a ≡ (5, k)) ⊎ ((decode_number a ≡ (17, k)) ⊎ ((decode_number a ≡ (18, k)) ⊎ (decode_number a ≡ (19, k))))) ↔ (Entered protocol pec sent₀ received₀ × Wrong protocol pec tr k)
   -- with 0 the message is handed over: its fields, and its data at the fronts of the buffers, which are as they were behind
-  pub handed : Entered protocol pec sent₀ received₀ → (m : Message) → Trace_of protocol pec m tr → (a ≡ Done (summary protocol m)) × (sent ≡ m.sent ++ drop (length m.sent) sent₀) × (received ≡ m.received ++ drop (length m.received) received₀)
+  pub handed : Entered protocol pec sent₀ received₀ → (m : Message) → TraceOf protocol pec m tr → (a ≡ Done (summary protocol m)) × (sent ≡ m.sent ++ drop (length m.sent) sent₀) × (received ≡ m.received ++ drop (length m.received) received₀)
   pub untouched : ((decode_number a).0 ≡ 0 → ⊥) → (sent ≡ sent₀) × (received ≡ received₀)
 
 -- put_command: 1 if and only if Bad, else the trace tr, as encode writes it
@@ -101,8 +101,8 @@ pub record Puts (Bad : Type 0) (tr before : List ℕ) (r : Encoded) (after : Lis
 
 pub record Commands (reply before : List ℕ) (r : Encoded) (after : List ℕ) : Type 0 where
   -- the commands' traces are lines of the table, with their PEC, to 61h; trace_of gives them
-  pub lines : Trace_of 1 true (message 0x61 0 0 (0x01 ∷ []) []) prepare_trace × (Bytes reply → length reply ≤ 255 → Trace_of 9 true (message 0x61 0 0x03 [] reply) (reply_trace reply))
-      × ((u : Udid) (a : ℕ) → a < 128 → Trace_of 8 true (message 0x61 0 0x04 (udid_bytes u ++ 2 * a ∷ []) []) (assign_trace (udid_bytes u) (2 * a)))
+  pub lines : TraceOf 1 true (message 0x61 0 0 (0x01 ∷ []) []) prepare_trace × (Bytes reply → length reply ≤ 255 → TraceOf 9 true (message 0x61 0 0x03 [] reply) (reply_trace reply))
+      × ((u : Udid) (a : ℕ) → a < 128 → TraceOf 8 true (message 0x61 0 0x04 (udid_bytes u ++ 2 * a ∷ []) []) (assign_trace (udid_bytes u) (2 * a)))
   pub traces : (trace_of (Send Prepare) reply ≡ prepare_trace) × (trace_of (Send GetUdid) reply ≡ reply_trace reply) × ((u : Udid) (a : Address) → a.0 < 128 → trace_of (Send (Assign u a)) [] ≡ assign_trace (udid_bytes u) (2 * a.0))
   pub prepare : Wrote (protocol_for (Send Prepare)) true (message_of (Send Prepare) reply) before r after → Puts ⊥ prepare_trace before r after
   pub get : Wrote (protocol_for (Send GetUdid)) true (message_of (Send GetUdid) reply) before r after → Puts (255 < length reply) (reply_trace reply) before r after
@@ -111,7 +111,7 @@ pub record Commands (reply before : List ℕ) (r : Encoded) (after : List ℕ) :
   pub none : (k : Handed) → (k ≡ Send Prepare → ⊥) → (k ≡ Send GetUdid → ⊥) → ((u : Udid) (a : Address) → k ≡ Send (Assign u a) → ⊥) → Wrote (protocol_for k) true (message_of k reply) before r after → Puts Unit [] before r after
 
 -- lookup of the address a in the state s
-pub record Looks_up (s : Controller) (a : ℕ) : Type 0 where
+pub record LooksUp (s : Controller) (a : ℕ) : Type 0 where
   pub lookup_0 : (u : Udid) → (lookup_number (looked_up s a) ≡ (0, u ∷ [])) ↔ ((a < 128) × (held_at s.slots a ≡ Bound u))
   pub lookup_1 : (lookup_number (looked_up s a) ≡ (1, [])) ↔ (127 < a)
   pub lookup_15 : (lookup_number (looked_up s a) ≡ (15, [])) ↔ ((a < 128) × (held_at s.slots a ≡ Open))
@@ -125,74 +125,74 @@ Refused r = (1 ≤ r.answer) × (r.answer ≤ 12)
 pub record Checks (occupied : Pool) (last : ℕ) (s b : List ℕ) (bytes : Bytes s) (r : ModelAnswer) (s' b' : List ℕ) (contract : Leaves (model_end occupied last s b) r s' b') : Type 0 where
   pub model_1 : (model_number r ≡ (1, 0)) ↔ (127 < last)
   pub model_2 : (model_number r ≡ (2, 0)) ↔ ((last < 128) × (length b < 2048))
-  pub model_9 : (model_number r ≡ (9, 0)) ↔ ((last < 128) × ((2048 ≤ length b) × Length_is_bad s))
-  pub model_10 : (i : ℕ) → (model_number r ≡ (10, i)) ↔ ((last < 128) × ((2048 ≤ length b) × ((Length_is_bad s → ⊥) × First_of (Even_or_flag s) (length s / 18) i)))
-  pub model_11 : (i : ℕ) → (model_number r ≡ (11, i)) ↔ ((last < 128) × ((2048 ≤ length b) × ((Length_is_bad s → ⊥) × None (Even_or_flag s) (length s / 18) × First_of (Same_as_earlier s) (length s / 18) i)))
-  pub model_12 : (i : ℕ) → (model_number r ≡ (12, i)) ↔ ((last < 128) × ((2048 ≤ length b) × ((Length_is_bad s → ⊥) × None (Even_or_flag s) (length s / 18) × None (Same_as_earlier s) (length s / 18) × First_of (Fixed_on_taken (barred_pool occupied) s) (length s / 18) i)))
+  pub model_9 : (model_number r ≡ (9, 0)) ↔ ((last < 128) × ((2048 ≤ length b) × LengthIsBad s))
+  pub model_10 : (i : ℕ) → (model_number r ≡ (10, i)) ↔ ((last < 128) × ((2048 ≤ length b) × ((LengthIsBad s → ⊥) × FirstOf (EvenOrFlag s) (length s / 18) i)))
+  pub model_11 : (i : ℕ) → (model_number r ≡ (11, i)) ↔ ((last < 128) × ((2048 ≤ length b) × ((LengthIsBad s → ⊥) × None (EvenOrFlag s) (length s / 18) × FirstOf (SameAsEarlier s) (length s / 18) i)))
+  pub model_12 : (i : ℕ) → (model_number r ≡ (12, i)) ↔ ((last < 128) × ((2048 ≤ length b) × ((LengthIsBad s → ⊥) × None (EvenOrFlag s) (length s / 18) × None (SameAsEarlier s) (length s / 18) × FirstOf (FixedOnTaken (barred_pool occupied) s) (length s / 18) i)))
   pub untouched : Refused r → (s' ≡ s) × (b' ≡ b) × (r.udid ≡ record { high = 0; low = 0 }) × (r.bound ≡ empty_pool) × (r.count ≡ 0) × (r.gets ≡ 0) × (r.picked ≡ 0)
 
 -- ---- DEMAND 2: THE DECODER READS WHAT THE ENCODER WRITES, AND NOTHING ELSE
 pub record Demand2 (protocol : ℕ) (pec : Bool) : Type 0 where
   -- what a call of the encoder wrote, a call of the decoder reads
-  pub there : (m : Message) (before : List ℕ) (r : Encoded) (after : List ℕ) → Of_bytes m → Wrote protocol pec m before r after → (n : ℕ) → encode_number r ≡ (0, n)
+  pub there : (m : Message) (before : List ℕ) (r : Encoded) (after : List ℕ) → OfBytes m → Wrote protocol pec m before r after → (n : ℕ) → encode_number r ≡ (0, n)
       → (sent₀ received₀ : List ℕ) (a : Decoded) (sent received : List ℕ) → 255 ≤ length sent₀ → 255 ≤ length received₀ → Outcome protocol pec (take n after) sent₀ received₀ a sent received
       → (a ≡ Done (summary protocol m)) × (sent ≡ m.sent ++ drop (length m.sent) sent₀) × (received ≡ m.received ++ drop (length m.received) received₀)
   -- what the decoder answers with 0 is the trace that the encoder writes for the message handed over, into any output that has room
   pub back : (tr sent₀ received₀ : List ℕ) (a : Decoded) (sent received : List ℕ) → Outcome protocol pec tr sent₀ received₀ a sent received → decode_number a ≡ (0, 0)
-      → (m : Message) × Of_bytes m × (a ≡ Done (summary protocol m)) × ((before : List ℕ) (r : Encoded) (after : List ℕ) → length tr ≤ length before
+      → (m : Message) × OfBytes m × (a ≡ Done (summary protocol m)) × ((before : List ℕ) (r : Encoded) (after : List ℕ) → length tr ≤ length before
       → Wrote protocol pec m before r after → (encode_number r ≡ (0, length tr)) × (take (length tr) after ≡ tr))
   -- and a trace is that of one message alone
-  pub one : (m t : Message) (tr : List ℕ) → Trace_of protocol pec m tr → Trace_of protocol pec t tr → m ≡ t
+  pub one : (m t : Message) (tr : List ℕ) → TraceOf protocol pec m tr → TraceOf protocol pec t tr → m ≡ t
 
 -- ---- WHAT THE PEC CATCHES. A message is all its bytes, the PEC among them, which is the last. Bits go as on the wire, without the ACKs: bit j of byte i, both from 0, the highest bit of a byte first, has
 -- the place 8 * i + j among all. Came xs ys: xs was sent with its right PEC, and ys came, as many bytes. Within 8: at least one bit is flipped, and all that are lie among eight consecutive ones. TwoBits i j k l: bit j
 -- of byte i is flipped, after it bit l of byte k, and no other. FirstAndLast: bit 0 of byte 0, and bit 7 of byte 15. how_many: how many bits are flipped
 pub record Catches : Type 0 where
   -- a PEC is right if and only if all bytes, as a polynomial, are a multiple of x^8+x^2+x+1; so a change is not caught if and only if what it flips is a multiple
-  pub right : (xs : List ℕ) → Bytes xs → 0 < length xs → Right_pec xs ↔ ((q : ℕ) × (polynomial xs ≡ times_g q))
-  pub escapes : (xs ys : List ℕ) → Came xs ys → Right_pec ys ↔ ((q : ℕ) × (bit_xor (polynomial xs) (polynomial ys) ≡ times_g q))
+  pub right : (xs : List ℕ) → Bytes xs → 0 < length xs → RightPec xs ↔ ((q : ℕ) × (polynomial xs ≡ times_g q))
+  pub escapes : (xs ys : List ℕ) → Came xs ys → RightPec ys ↔ ((q : ℕ) × (bit_xor (polynomial xs) (polynomial ys) ≡ times_g q))
   -- caught: any change within eight consecutive bits, at any length. Any odd number of bits, at any length. Any two bits of up to 15 bytes in all
-  pub eight_bits : (xs ys : List ℕ) → Came xs ys → Within 8 xs ys → Right_pec ys → ⊥
-  pub odd : (xs ys : List ℕ) → Came xs ys → how_many xs ys % 2 ≡ 1 → Right_pec ys → ⊥
-  pub two_bits : (xs ys : List ℕ) → Came xs ys → (i j k l : ℕ) → Two_bits xs ys i j k l → length xs ≤ 15 → Right_pec ys → ⊥
+  pub eight_bits : (xs ys : List ℕ) → Came xs ys → Within 8 xs ys → RightPec ys → ⊥
+  pub odd : (xs ys : List ℕ) → Came xs ys → how_many xs ys % 2 ≡ 1 → RightPec ys → ⊥
+  pub two_bits : (xs ys : List ℕ) → Came xs ys → (i j k l : ℕ) → TwoBits xs ys i j k l → length xs ≤ 15 → RightPec ys → ⊥
   -- of 16 bytes in all one pair escapes, and no other; and there are such messages. At any length a pair escapes if and only if its distance is a multiple of 127 bits
-  pub sixteen : (xs ys : List ℕ) → Came xs ys → (i j k l : ℕ) → Two_bits xs ys i j k l → length xs ≡ 16 → Right_pec ys ↔ First_and_last i j k l
-  pub sixteen_is : (xs : List ℕ) × (ys : List ℕ) × Came xs ys × (length xs ≡ 16) × Two_bits xs ys 0 0 15 7 × Right_pec ys
-  pub pairs : (xs ys : List ℕ) → Came xs ys → (i j k l : ℕ) → Two_bits xs ys i j k l → Right_pec ys ↔ (((8 * k + l) - (8 * i + j)) % 127 ≡ 0)
+  pub sixteen : (xs ys : List ℕ) → Came xs ys → (i j k l : ℕ) → TwoBits xs ys i j k l → length xs ≡ 16 → RightPec ys ↔ FirstAndLast i j k l
+  pub sixteen_is : (xs : List ℕ) × (ys : List ℕ) × Came xs ys × (length xs ≡ 16) × TwoBits xs ys 0 0 15 7 × RightPec ys
+  pub pairs : (xs ys : List ℕ) → Came xs ys → (i j k l : ℕ) → TwoBits xs ys i j k l → RightPec ys ↔ (((8 * k + l) - (8 * i + j)) % 127 ≡ 0)
   -- nine bits are not: of two bytes there are four bits, among nine, that escape
-  pub nine_bits : (xs : List ℕ) × (ys : List ℕ) × Came xs ys × (length xs ≡ 2) × Within 9 xs ys × (how_many xs ys ≡ 4) × Right_pec ys
+  pub nine_bits : (xs : List ℕ) × (ys : List ℕ) × Came xs ys × (length xs ≡ 2) × Within 9 xs ys × (how_many xs ys ≡ 4) × RightPec ys
   -- any bit of any message can be flipped, and any two bits
-  pub any_bit : (xs : List ℕ) → Bytes xs → Right_pec xs → (i j : ℕ) → i < length xs → j < 8 → (ys : List ℕ) × Came xs ys × Within 8 xs ys
-  pub any_two : (xs : List ℕ) → Bytes xs → Right_pec xs → (i j k l : ℕ) → j < 8 → l < 8 → 8 * i + j < 8 * k + l → k < length xs → (ys : List ℕ) × Came xs ys × Two_bits xs ys i j k l × (how_many xs ys ≡ 2)
+  pub any_bit : (xs : List ℕ) → Bytes xs → RightPec xs → (i j : ℕ) → i < length xs → j < 8 → (ys : List ℕ) × Came xs ys × Within 8 xs ys
+  pub any_two : (xs : List ℕ) → Bytes xs → RightPec xs → (i j k l : ℕ) → j < 8 → l < 8 → 8 * i + j < 8 * k + l → k < length xs → (ys : List ℕ) × Came xs ys × TwoBits xs ys i j k l × (how_many xs ys ≡ 2)
 
 -- the decoder on a changed trace: 7 at PEC's place, and both buffers as they were
 abbrev pub Seven : List ℕ → List ℕ → List ℕ → Decoded → List ℕ → List ℕ → Type 0
 Seven tr sent₀ received₀ a sent received = (decode_number a ≡ (7, length tr - 3)) × (sent ≡ sent₀) × (received ≡ received₀)
 
 -- tr was sent with PEC, and tr' came, with as many bytes. It still is a whole trace of the protocol, with any byte in PEC's place; Stays says when
-pub record Garbled (protocol : ℕ) (m : Message) (tr tr' sent₀ received₀ : List ℕ) (a : Decoded) (sent received : List ℕ) (sends : Trace_of protocol true m tr) (whole : Whole protocol true tr')
+pub record Garbled (protocol : ℕ) (m : Message) (tr tr' sent₀ received₀ : List ℕ) (a : Decoded) (sent received : List ℕ) (sends : TraceOf protocol true m tr) (whole : Whole protocol true tr')
     (as_many : length (bytes_in tr') ≡ length (bytes_in tr)) (entered : Entered protocol true sent₀ received₀) (contract : Outcome protocol true tr' sent₀ received₀ a sent received) : Type 0 where
   -- the verdict is the PEC's, on all bytes that stood on the wire
-  pub verdict_0 : (decode_number a ≡ (0, 0)) ↔ Right_pec (bytes_in tr')
-  pub verdict_7 : (decode_number a ≡ (7, length tr' - 3)) ↔ (Right_pec (bytes_in tr') → ⊥)
+  pub verdict_0 : (decode_number a ≡ (0, 0)) ↔ RightPec (bytes_in tr')
+  pub verdict_7 : (decode_number a ≡ (7, length tr' - 3)) ↔ (RightPec (bytes_in tr') → ⊥)
   pub came : Came (bytes_in tr) (bytes_in tr')
   -- so what is caught is 7
   pub eight_bits : Within 8 (bytes_in tr) (bytes_in tr') → Seven tr' sent₀ received₀ a sent received
   pub odd : how_many (bytes_in tr) (bytes_in tr') % 2 ≡ 1 → Seven tr' sent₀ received₀ a sent received
-  pub two_bits : (i j k l : ℕ) → Two_bits (bytes_in tr) (bytes_in tr') i j k l → length (bytes_in tr) ≤ 15 → Seven tr' sent₀ received₀ a sent received
-  pub sixteen : (i j k l : ℕ) → Two_bits (bytes_in tr) (bytes_in tr') i j k l → length (bytes_in tr) ≡ 16 → (First_and_last i j k l → ⊥) → Seven tr' sent₀ received₀ a sent received
+  pub two_bits : (i j k l : ℕ) → TwoBits (bytes_in tr) (bytes_in tr') i j k l → length (bytes_in tr) ≤ 15 → Seven tr' sent₀ received₀ a sent received
+  pub sixteen : (i j k l : ℕ) → TwoBits (bytes_in tr) (bytes_in tr') i j k l → length (bytes_in tr) ≡ 16 → (FirstAndLast i j k l → ⊥) → Seven tr' sent₀ received₀ a sent received
 
 -- Changed tr tr': as many symbols, at each place the same, or a byte where tr has its command, its data or its PEC
-pub record Stays (protocol : ℕ) (m : Message) (tr : List ℕ) (sends : Trace_of protocol true m tr) : Type 0 where
+pub record Stays (protocol : ℕ) (m : Message) (tr : List ℕ) (sends : TraceOf protocol true m tr) : Type 0 where
   pub stays : (tr' : List ℕ) → Changed protocol m tr tr' → Whole protocol true tr' × (length (bytes_in tr') ≡ length (bytes_in tr))
   -- so a change of these alone, within eight bits, or of two bits of up to 15 bytes, is 7
-  pub seven : (tr' : List ℕ) → Changed protocol m tr tr' → (Within 8 (bytes_in tr) (bytes_in tr') ⊎ ((i : ℕ) × (j : ℕ) × (k : ℕ) × (l : ℕ) × Two_bits (bytes_in tr) (bytes_in tr') i j k l × (length (bytes_in tr) ≤ 15)))
+  pub seven : (tr' : List ℕ) → Changed protocol m tr tr' → (Within 8 (bytes_in tr) (bytes_in tr') ⊎ ((i : ℕ) × (j : ℕ) × (k : ℕ) × (l : ℕ) × TwoBits (bytes_in tr) (bytes_in tr') i j k l × (length (bytes_in tr) ≤ 15)))
       → (sent₀ received₀ : List ℕ) (a : Decoded) (sent received : List ℕ) → Entered protocol true sent₀ received₀ → Outcome protocol true tr' sent₀ received₀ a sent received → Seven tr sent₀ received₀ a sent received
   -- and these are the places of all of them: the command, data byte i sent, data byte i received, the PEC
-  pub command : 2 < protocol → May_differ protocol m (length tr) 3 × (get_or tr 3 0 ≡ m.command)
-  pub sent : (i : ℕ) → i < length m.sent → May_differ protocol m (length tr) (sent_from protocol + 2 * i) × (get_or tr (sent_from protocol + 2 * i) 0 ≡ get_or m.sent i 0)
-  pub received : (i k : ℕ) → i < length m.received → k + 3 + 2 * (length m.received - i) ≡ length tr → May_differ protocol m (length tr) k × (get_or tr k 0 ≡ get_or m.received i 0)
-  pub pec : May_differ protocol m (length tr) (length tr - 3)
+  pub command : 2 < protocol → MayDiffer protocol m (length tr) 3 × (get_or tr 3 0 ≡ m.command)
+  pub sent : (i : ℕ) → i < length m.sent → MayDiffer protocol m (length tr) (sent_from protocol + 2 * i) × (get_or tr (sent_from protocol + 2 * i) 0 ≡ get_or m.sent i 0)
+  pub received : (i k : ℕ) → i < length m.received → k + 3 + 2 * (length m.received - i) ≡ length tr → MayDiffer protocol m (length tr) k × (get_or tr k 0 ≡ get_or m.received i 0)
+  pub pec : MayDiffer protocol m (length tr) (length tr - 3)
 
 -- ---- DEMAND 3: THE RUN OVER THE BUS, BIT BY BIT, ENDS AS THE PLAIN RULE DOES
 -- `given` are the bindings of the plain rule over the targets of the records s, `ending` is its end, `picked` its last pick
@@ -205,10 +205,10 @@ pub record Meets (occupied : Pool) (last : ℕ) (s b : List ℕ) (given : List G
   pub gets : (r.gets ≡ gets_on_bus occupied last (targets_of s)) × (0 < length s → r.gets ≡ suc r.count) × (length s ≡ 0 → r.gets ≡ 0)
   -- who is bound: targets of the records, no two to one address, each identifier once. None is on a reserved or an occupied address, and no movable one (its first byte is
   -- 64 or more) on a listed one
-  pub who : Each (λ (g : Given). (i : ℕ) × (i < length s / 18) × Record_of s i g) given
+  pub who : Each (λ (g : Given). (i : ℕ) × (i < length s / 18) × RecordOf s i g) given
   pub assignable : Each (λ (g : Given). (g.address < 128) × (is_reserved g.address ≡ false) × (member occupied g.address ≡ false)
       × (64 ≤ get_or (udid_bytes g.who.udid) 0 0 → is_listed g.address ≡ false)) given
-  pub distinct : Distinct given × One_per_udid given
+  pub distinct : Distinct given × OnePerUdid given
   pub bound : (a : ℕ) → a < 128 → (member r.bound a ≡ true) ↔ Any (λ (g : Given). g.address ≡ a) given
   -- the binding buffer: who is bound stands at 16 times the address, zeros where nobody is, and all after 2,048 bytes as it was
   pub bound_bytes : Each (λ (g : Given). take 16 (drop (16 * g.address) b') ≡ udid_bytes g.who.udid) given
@@ -216,8 +216,8 @@ pub record Meets (occupied : Pool) (last : ℕ) (s b : List ℕ) (given : List G
   pub rest : drop 2048 b' ≡ drop 2048 b
   -- the records: a bound one has twice its address plus 1 and flag 1, any other its address byte as it was and flag 0; no other byte changes
   pub same_length : length s' ≡ length s
-  pub bound_record : (i : ℕ) → i < length s / 18 → Each (λ (g : Given). Record_of s i g → (get_or s' (18 * i + 16) 0 ≡ 2 * g.address + 1) × (get_or s' (18 * i + 17) 0 ≡ 1)) given
-  pub unbound_record : (i : ℕ) → i < length s / 18 → (Any (Record_of s i) given → ⊥) → (get_or s' (18 * i + 16) 0 ≡ get_or s (18 * i + 16) 0) × (get_or s' (18 * i + 17) 0 ≡ 0)
+  pub bound_record : (i : ℕ) → i < length s / 18 → Each (λ (g : Given). RecordOf s i g → (get_or s' (18 * i + 16) 0 ≡ 2 * g.address + 1) × (get_or s' (18 * i + 17) 0 ≡ 1)) given
+  pub unbound_record : (i : ℕ) → i < length s / 18 → (Any (RecordOf s i) given → ⊥) → (get_or s' (18 * i + 16) 0 ≡ get_or s (18 * i + 16) 0) × (get_or s' (18 * i + 17) 0 ≡ 0)
   pub others : (j : ℕ) → j % 18 < 16 → get_or s' j 0 ≡ get_or s j 0
   -- all are bound if and only if the movable targets do not outnumber the addresses that the fixed ones leave free
   pub all_bound : (r.count ≡ length (targets_of s)) ↔ (movable (targets_of s) ≤ left_free (starting_pool occupied) (targets_of s))
@@ -228,7 +228,7 @@ pub record Meets (occupied : Pool) (last : ℕ) (s b : List ℕ) (given : List G
   pub of_pass : (targets_of s' ≡ (pass occupied last (targets_of s)).targets) × ((a : ℕ) (u : Udid) → a < 128 → held_at (pass occupied last (targets_of s)).now.state.slots a ≡ Bound u → take 16 (drop (16 * a) b') ≡ udid_bytes u)
 
 pub record Demand3 (occupied : Pool) (last : ℕ) (s b : List ℕ) (bytes : Bytes s) (r : ModelAnswer) (s' b' : List ℕ) (contract : Leaves (model_end occupied last s b) r s' b') : Type 0 where
-  pub meets : last < 128 → 2048 ≤ length b → (Length_is_bad s → ⊥) → None (Even_or_flag s) (length s / 18) → None (Same_as_earlier s) (length s / 18) → None (Fixed_on_taken (barred_pool occupied) s) (length s / 18)
+  pub meets : last < 128 → 2048 ≤ length b → (LengthIsBad s → ⊥) → None (EvenOrFlag s) (length s / 18) → None (SameAsEarlier s) (length s / 18) → None (FixedOnTaken (barred_pool occupied) s) (length s / 18)
       → let q = ruled (starting_pool occupied) last (targets_of s) in Meets occupied last s b q.given q.ending q.picked r s' b'
 
 -- ---- THE CONTROLLER
@@ -237,24 +237,24 @@ abbrev pub Idle : Controller → Type 0
 Idle s = (s.last ≡ Send Prepare → ⊥) × (s.last ≡ Send GetUdid → ⊥) × ((u : Udid) (a : Address) → s.last ≡ Send (Assign u a) → ⊥)
 
 -- the trace is no complete reply
-abbrev pub No_reply : List ℕ → Type 0
-No_reply tr = (xs : List ℕ) → Bytes xs → length xs ≤ 255 → tr ≡ reply_trace xs → ⊥
+abbrev pub NoReply : List ℕ → Type 0
+NoReply tr = (xs : List ℕ) → Bytes xs → length xs ≤ 255 → tr ≡ reply_trace xs → ⊥
 
 -- answer 6 at byte 0, 1 or 2 of Get UDID: nobody is left to answer
-abbrev pub Nobody_left : List ℕ → Type 0
-Nobody_left tr = (b : ℕ) × (b < 3) × Cut_at 9 true tr b
+abbrev pub NobodyLeft : List ℕ → Type 0
+NobodyLeft tr = (b : ℕ) × (b < 3) × CutAt 9 true tr b
 
 -- A STEP, sentence by sentence: r is what comes of the state s and the trace tr
 pub record Steps (s : Controller) (tr : List ℕ) (r : Stepped) : Type 0 where
   -- Prepare accepted: Get UDID. Answer 6: the pass ends, nobody there. Any other: 14
   pub prepare_accepted : s.last ≡ Send Prepare → tr ≡ prepare_trace → Continues s r
-  pub prepare_nobody : s.last ≡ Send Prepare → (b : ℕ) → Cut_at 1 true tr b → Ends_with s r (Wait Ended)
-  pub prepare_other : s.last ≡ Send Prepare → (tr ≡ prepare_trace → ⊥) → ((b : ℕ) → Cut_at 1 true tr b → ⊥) → Ends_with s r (Wait Abandoned)
+  pub prepare_nobody : s.last ≡ Send Prepare → (b : ℕ) → CutAt 1 true tr b → EndsWith s r (Wait Ended)
+  pub prepare_other : s.last ≡ Send Prepare → (tr ≡ prepare_trace → ⊥) → ((b : ℕ) → CutAt 1 true tr b → ⊥) → EndsWith s r (Wait Abandoned)
   -- Get UDID: a reply of 17 bytes is served. Another count, or answer 6 at byte 0, 1 or 2: the pass ends. Any other: Get UDID again
   pub get_reply : s.last ≡ Send GetUdid → (u : Udid) (b : ℕ) → In128 u → b < 256 → tr ≡ reply_trace (udid_bytes u ++ b ∷ []) → Replies s u b r
-  pub get_count : s.last ≡ Send GetUdid → (xs : List ℕ) → Bytes xs → length xs ≤ 255 → (length xs ≡ 17 → ⊥) → tr ≡ reply_trace xs → Ends_with s r (Wait Ended)
-  pub get_nobody : s.last ≡ Send GetUdid → Nobody_left tr → Ends_with s r (Wait Ended)
-  pub get_again : s.last ≡ Send GetUdid → No_reply tr → (Nobody_left tr → ⊥) → Continues s r
+  pub get_count : s.last ≡ Send GetUdid → (xs : List ℕ) → Bytes xs → length xs ≤ 255 → (length xs ≡ 17 → ⊥) → tr ≡ reply_trace xs → EndsWith s r (Wait Ended)
+  pub get_nobody : s.last ≡ Send GetUdid → NobodyLeft tr → EndsWith s r (Wait Ended)
+  pub get_again : s.last ≡ Send GetUdid → NoReply tr → (NobodyLeft tr → ⊥) → Continues s r
   -- Assign complete: bind, or claim, and add to the pool. Any other: no binding. Get UDID comes next; a number above 127 is no address
   pub assign_whole : (u : Udid) (a : Address) → s.last ≡ Send (Assign u a) → In128 u → a.0 < 128 → tr ≡ assign_trace (udid_bytes u) (2 * a.0) → Asks s r × Binds u a.0 s r.state
   pub assign_other : (u : Udid) (a : Address) → s.last ≡ Send (Assign u a) → (a.0 < 128 → tr ≡ assign_trace (udid_bytes u) (2 * a.0) → ⊥) → Continues s r
@@ -263,13 +263,13 @@ pub record Steps (s : Controller) (tr : List ℕ) (r : Stepped) : Type 0 where
 
 -- the numbers of a step, each if and only if its case; command_number gives a list, empty for a command to send and for a choice that waits. 13: one has to be picked (the reply has FFh, or the
 -- target is movable, its first byte 64 or more, and its own address b / 2 is in the pool), and with its old address freed all 128 are in the pool
-pub record Step_numbers (s : Controller) (tr : List ℕ) (r : Stepped) : Type 0 where
-  pub step_0 : (command_number r.command ≡ (0, []) ∷ []) ↔ (((s.last ≡ Send Prepare) × ((b : ℕ) × Cut_at 1 true tr b))
-      ⊎ ((s.last ≡ Send GetUdid) × (Nobody_left tr ⊎ ((xs : List ℕ) × Bytes xs × (length xs ≤ 255) × (length xs ≡ 17 → ⊥) × (tr ≡ reply_trace xs)))))
+pub record StepNumbers (s : Controller) (tr : List ℕ) (r : Stepped) : Type 0 where
+  pub step_0 : (command_number r.command ≡ (0, []) ∷ []) ↔ (((s.last ≡ Send Prepare) × ((b : ℕ) × CutAt 1 true tr b))
+      ⊎ ((s.last ≡ Send GetUdid) × (NobodyLeft tr ⊎ ((xs : List ℕ) × Bytes xs × (length xs ≤ 255) × (length xs ≡ 17 → ⊥) × (tr ≡ reply_trace xs)))))
   pub step_13 : (u : Udid) → (command_number r.command ≡ (13, u ∷ []) ∷ []) ↔ ((s.last ≡ Send GetUdid) × ((b : ℕ) × In128 u × (b < 256) × (tr ≡ reply_trace (udid_bytes u ++ b ∷ []))
       × ((b ≡ 0xFF) ⊎ ((64 ≤ get_or (udid_bytes u) 0 0) × (member r.state.pool (b / 2) ≡ true))) × ((a : ℕ) → a < 128 → member r.state.pool a ≡ true)))
-  pub step_14 : (command_number r.command ≡ (14, []) ∷ []) ↔ (((s.last ≡ Send Prepare) × (tr ≡ prepare_trace → ⊥) × ((b : ℕ) → Cut_at 1 true tr b → ⊥)) ⊎ ((128 ≤ s.gets)
-      × (((s.last ≡ Send Prepare) × (tr ≡ prepare_trace)) ⊎ (((s.last ≡ Send GetUdid) × No_reply tr × (Nobody_left tr → ⊥)) ⊎ ((u : Udid) × (a : Address) × (s.last ≡ Send (Assign u a)))))))
+  pub step_14 : (command_number r.command ≡ (14, []) ∷ []) ↔ (((s.last ≡ Send Prepare) × (tr ≡ prepare_trace → ⊥) × ((b : ℕ) → CutAt 1 true tr b → ⊥)) ⊎ ((128 ≤ s.gets)
+      × (((s.last ≡ Send Prepare) × (tr ≡ prepare_trace)) ⊎ (((s.last ≡ Send GetUdid) × NoReply tr × (NobodyLeft tr → ⊥)) ⊎ ((u : Udid) × (a : Address) × (s.last ≡ Send (Assign u a)))))))
   pub step_21 : (command_number r.command ≡ (21, []) ∷ []) ↔ Idle s
 
 -- a state has a slot for each address, the identifier of an outstanding Assign has 128 bits, and the last pick is up to 127
@@ -298,7 +298,7 @@ pub record Control : Type 0 where
   pub start : (s : Controller) → ((started s).command ≡ Send Prepare) × ((started s).state.last ≡ Send Prepare) × ((started s).state.gets ≡ 0)
       × ((started s).state.pool ≡ starting_pool s.occupied) × ((started s).state.occupied ≡ s.occupied) × ((a : ℕ) → held_at (started s).state.slots a ≡ Open) × ((started s).state.picked ≡ s.picked)
   -- every step is as the sentences say, and its number is given in its case alone; the sentences leave one result
-  pub step : (s : Controller) (tr : List ℕ) → Sound s → Steps s tr (stepped s tr) × Step_numbers s tr (stepped s tr)
+  pub step : (s : Controller) (tr : List ℕ) → Sound s → Steps s tr (stepped s tr) × StepNumbers s tr (stepped s tr)
   pub one_step : (s : Controller) (tr : List ℕ) (r q : Stepped) → Sound s → Steps s tr r → Steps s tr q
       → (r.command ≡ q.command) × (r.state.last ≡ q.state.last) × (r.state.gets ≡ q.state.gets) × (r.state.occupied ≡ q.state.occupied) × (r.state.picked ≡ q.state.picked)
       × ((a : ℕ) → (held_at r.state.slots a ≡ held_at q.state.slots a) × (member r.state.pool a ≡ member q.state.pool a))
@@ -308,13 +308,13 @@ pub record Control : Type 0 where
   pub kept_last : (occupied : Pool) (last : ℕ) (es : List Event) → (run occupied last es).last ≡ handed_out occupied last es
   -- lookup's 0 with u: an Assign of a to u completed while a was not barred, bound or claimed, and since then no start, no report of a that was answered 0, no reply of u, and no
   -- other Assign of a that completed. Its 20: a report of a was answered 0, and since then no start, and no Assign of a that completed
-  pub bound_since : (occupied : Pool) (last : ℕ) (es : List Event) (u : Udid) (a : ℕ) → (lookup_number (looked_up (run occupied last es) a) ≡ (0, u ∷ [])) ↔ Bound_since occupied last es u a
-  pub left_since : (occupied : Pool) (last : ℕ) (es : List Event) (a : ℕ) → (lookup_number (looked_up (run occupied last es) a) ≡ (20, [])) ↔ Left_since occupied last es a
+  pub bound_since : (occupied : Pool) (last : ℕ) (es : List Event) (u : Udid) (a : ℕ) → (lookup_number (looked_up (run occupied last es) a) ≡ (0, u ∷ [])) ↔ BoundSince occupied last es u a
+  pub left_since : (occupied : Pool) (last : ℕ) (es : List Event) (a : ℕ) → (lookup_number (looked_up (run occupied last es) a) ≡ (20, [])) ↔ LeftSince occupied last es a
   -- an Assign of a to u that completes leaves a claim exactly if a is barred, or another was bound there just before, or two claimed it already
   pub claims : (occupied : Pool) (last : ℕ) (es : List Event) (by : By) (tr : List ℕ) (u : Udid) (a : ℕ) → Completes occupied last es tr u a → (held_at (run occupied last (Received by tr ∷ es)).slots a ≡ Claimed)
       ↔ ((member (barred_pool occupied) a ≡ true) ⊎ (((w : Udid) × (w ≡ u → ⊥) × (held_at (run occupied last es).slots a ≡ Bound w)) ⊎ (held_at (run occupied last es).slots a ≡ Claimed)))
   -- a claim stays for the rest of the pass, whatever is received, reported, issued and declined later
-  pub claim_stays : (occupied : Pool) (last : ℕ) (es later : List Event) → No_start later → (a : ℕ) → held_at (run occupied last es).slots a ≡ Claimed → held_at (run occupied last (later ++ es)).slots a ≡ Claimed
+  pub claim_stays : (occupied : Pool) (last : ℕ) (es later : List Event) → NoStart later → (a : ℕ) → held_at (run occupied last es).slots a ≡ Claimed → held_at (run occupied last (later ++ es)).slots a ≡ Claimed
 
 -- THE MODULE AT THE ADDRESS a IS REPORTED GONE in the state s; r is what comes of it. Its answer has lookup's number
 pub record Reports (s : Controller) (a : ℕ) (r : Reported) : Type 0 where
@@ -327,7 +327,7 @@ pub record Reports (s : Controller) (a : ℕ) (r : Reported) : Type 0 where
   pub removes : (lookup_number r.found).0 ≡ 0 → Removes a s r.state × Rest s r.state
   pub untouched : ((lookup_number r.found).0 ≡ 0 → ⊥) → r.state ≡ s
 
-pub record Taking_back : Type 0 where
+pub record TakingBack : Type 0 where
   pub report : (s : Controller) (a : ℕ) → Sound s → Reports s a (reported s a)
   -- THE ACCOUNT, since the latest start: the addresses in use number the starting pool plus the binds to addresses then free, minus the removals and the unbindings of
   -- repeated identifiers, each of an address outside the starting pool. Whether an address was free, and who was bound there, is read off the state just before an event
@@ -373,7 +373,7 @@ pub record Choosing : Type 0 where
       → ((x ≡ ByTwo) ↔ (lookup_number (looked_up (run occupied last (Received Step (assign_trace (udid_bytes u) (2 * a.0)) ∷ Issue ∷ Received Choose tr ∷ es)) a.0) ≡ (16, []))) × (x ≡ ByTwo → (get_or (udid_bytes u) 0 0 < 64) × (b ≡ 0xFF → ⊥))
   -- the identifier is bound nowhere while its choice waits. A decline ends the pass, and leaves it bound nowhere, until the next start, whatever comes before that
   pub unbound : (occupied : Pool) (last : ℕ) (es : List Event) (u : Udid) (a : Address) (x : Reason) → (run occupied last es).last ≡ Wait (Chosen u a x) → (i : ℕ) → held_at (run occupied last es).slots i ≡ Bound u → ⊥
-  pub declined : (occupied : Pool) (last : ℕ) (es : List Event) (u : Udid) (a : Address) (x : Reason) → (run occupied last es).last ≡ Wait (Chosen u a x) → (later : List Event) → No_start later
+  pub declined : (occupied : Pool) (last : ℕ) (es : List Event) (u : Udid) (a : Address) (x : Reason) → (run occupied last es).last ≡ Wait (Chosen u a x) → (later : List Event) → NoStart later
       → ((run occupied last (later ++ Decline ∷ es)).last ≡ Wait Abandoned) × ((i : ℕ) → held_at (run occupied last (later ++ Decline ∷ es)).slots i ≡ Bound u → ⊥)
 
 -- PICKS
@@ -392,7 +392,7 @@ pub record Picking : Type 0 where
   pub joined : (l : ℕ) (xs ys : List Pick) → Picks l xs → Picks (latest_of l xs) ys → Picks l (xs ++ ys)
   -- in any run of picks: an address that was picked, x, is not picked again, y, before every other one that was free at each pick since then has been picked
   pub not_again : (l : ℕ) (before : List Pick) (x : Pick) (between : List Pick) (y : Pick) (rest : List Pick) → Picks l (before ++ (x ∷ (between ++ (y ∷ rest)))) → y.at ≡ x.at
-      → (b : ℕ) → b < 128 → (b ≡ x.at → ⊥) → Free_at_each b (between ++ (y ∷ [])) → Picked b between
+      → (b : ℕ) → b < 128 → (b ≡ x.at → ⊥) → FreeAtEach b (between ++ (y ∷ [])) → Picked b between
 
 -- ---- THE MODULE'S END OF THE BUS, SMBus 3.3.1, 6.6.3. The own part of a module outlasts a packet: identifier, Address Valid (AV), address, Address Resolved (AR), the address
 -- that it is fixed at, and the fresh bytes of its next reset. silent_in o is the module with the own part o after STOP, after it has lost, and after a NACK. heard_all (starts m) bs is
@@ -412,7 +412,7 @@ pub record Listens (m : Module) (fits : In128 m.own.udid) (four : m.own.fresh < 
   pub acks : (bs : List ℕ) → (acked (starts (silent_in m.own)) bs ≡ true) ↔ Known m.own bs
   pub nack : (b : ℕ) → (receives m b).ack ≡ false → (receives m b).after ≡ silent_in m.own
   -- a PEC b that differs from that of the bytes xs before it gets NACK, and nothing changes, whatever follows
-  pub wrong_pec : (xs : List ℕ) (b : ℕ) → Pec_due m.own xs → (b ≡ pec_of xs → ⊥) → (acked (starts m) xs ≡ true) × ((receives (heard_all (starts m) xs) b).ack ≡ false)
+  pub wrong_pec : (xs : List ℕ) (b : ℕ) → PecDue m.own xs → (b ≡ pec_of xs → ⊥) → (acked (starts m) xs ≡ true) × ((receives (heard_all (starts m) xs) b).ack ≡ false)
       × ((rest : List ℕ) → heard_all (starts m) (xs ++ b ∷ rest) ≡ silent_in m.own)
   -- A START begins a new packet, unless C3h follows. That gets ACK exactly right after C2h and a Get UDID: the general one while AR is clear, the one directed to it in any case
   pub anew : (b : ℕ) (bs : List ℕ) → (b ≡ 0xC3 → ⊥) → (heard_all (starts m) (b ∷ bs) ≡ heard_all (starts (silent_in m.own)) (b ∷ bs)) × (acked (starts m) (b ∷ bs) ≡ acked (starts (silent_in m.own)) (b ∷ bs))
@@ -434,18 +434,18 @@ pub record Listens (m : Module) (fits : In128 m.own.udid) (four : m.own.fresh < 
 pub record Modules : Type 0 where
   pub listens : (m : Module) (fits : In128 m.own.udid) (four : m.own.fresh < 2 ^ 32) → Listens m fits four
   -- power on, by the kind; other fresh bytes, and nothing else
-  pub power_on : (u : Udid) (a f : ℕ) → In128 u → f < 2 ^ 32 → (powered u a f ≡ silent_in (powered u a f).own) × Powers_on u a f (powered u a f).own
+  pub power_on : (u : Udid) (a f : ℕ) → In128 u → f < 2 ^ 32 → (powered u a f ≡ silent_in (powered u a f).own) × PowersOn u a f (powered u a f).own
   pub refresh : (m : Module) (f : ℕ) → ((refreshed m f).own ≡ record { udid = m.own.udid; valid = m.own.valid; address = m.own.address; resolved = m.own.resolved; home = m.own.home; fresh = f })
       × ((refreshed m f).phase ≡ m.phase) × ((refreshed m f).place ≡ m.place) × ((refreshed m f).pec ≡ m.pec) × ((refreshed m f).given ≡ m.given)
   -- from a record of the model, with the identifier u, the address byte b and the flag g: 10 for an even byte or a flag above 1, 12 for a fixed one (its first byte below 64) with FFh
   pub resume_0 : (u : Udid) (b g f : ℕ) → In128 u → (resumed_number (resumed u b g f) ≡ 0) ↔ ((((b % 2 ≡ 0) ⊎ (1 < g)) → ⊥) × (((get_or (udid_bytes u) 0 0 < 64) × (b ≡ 0xFF)) → ⊥))
   pub resume_10 : (u : Udid) (b g f : ℕ) → In128 u → (resumed_number (resumed u b g f) ≡ 10) ↔ ((b % 2 ≡ 0) ⊎ (1 < g))
   pub resume_12 : (u : Udid) (b g f : ℕ) → In128 u → (resumed_number (resumed u b g f) ≡ 12) ↔ ((((b % 2 ≡ 0) ⊎ (1 < g)) → ⊥) × ((get_or (udid_bytes u) 0 0 < 64) × (b ≡ 0xFF)))
-  pub recorded : (u : Udid) (b g f : ℕ) → In128 u → b < 256 → (m : Module) → resumed u b g f ≡ Ready m → As_recorded u b g f m
+  pub recorded : (u : Udid) (b g f : ℕ) → In128 u → b < 256 → (m : Module) → resumed u b g f ≡ Ready m → AsRecorded u b g f m
 
 -- A BUS OF MODULES, bit by bit: START, each byte and STOP are given to every module, an ACK stands where one or more give it, a zero beats a one, and who gives a one and sees a zero is told
 -- there and then. records_of ms are their records: the identifier, twice the address plus 1 or FFh where AV is clear, AR
-pub record Module_bus : Type 0 where
+pub record ModuleBus : Type 0 where
   -- one command, any modules in any states: the trace is that on the model's bus over their records, and what it does to the records is its effect there
   pub trace : (k : Handed) (ms : List Module) → ((u : Udid) (a : Address) → k ≡ Send (Assign u a) → In128 u) → Each Fitting ms → (exchange k ms).trace ≡ on_bus k (records_of ms)
   pub effects : (k : Handed) (ms : List Module) → ((u : Udid) (a : Address) → k ≡ Send (Assign u a) → In128 u) → Each Fitting ms
@@ -456,7 +456,7 @@ pub record Module_bus : Type 0 where
   pub gets : (occupied : Pool) (last : ℕ) (ms : List Module) → Each Fitting ms → gets_on occupied last ms ≡ gets_on_bus occupied last (records_of ms)
   -- of a list that is not refused, the pass ends as a run of the model over the same records, and so as Demand3 says: its controller, and the records
   pub rule : (occupied : Pool) (last : ℕ) (s b : List ℕ) (bytes : Bytes s) (r : ModelAnswer) (s' b' : List ℕ) → Leaves (model_end occupied last s b) r s' b' → last < 128 → 2048 ≤ length b
-      → (Length_is_bad s → ⊥) → None (Even_or_flag s) (length s / 18) → None (Same_as_earlier s) (length s / 18) → None (Fixed_on_taken (barred_pool occupied) s) (length s / 18)
+      → (LengthIsBad s → ⊥) → None (EvenOrFlag s) (length s / 18) → None (SameAsEarlier s) (length s / 18) → None (FixedOnTaken (barred_pool occupied) s) (length s / 18)
       → (ms : List Module) → Each Fitting ms → records_of ms ≡ targets_of s → ((pass_on occupied last ms).now ≡ (pass occupied last (targets_of s)).now) × (records_of (pass_on occupied last ms).targets ≡ targets_of s')
   -- of modules that answer a Get UDID together, any two that still have a byte to send after the identifier have the same identifier
   pub never_two : (ms : List Module) → Each Fitting ms → (m n : Module) → Among m (after_bytes 17 (asked_all ms)) → Among n (after_bytes 17 (asked_all ms)) → (supplies m).drives ≡ true → (supplies n).drives ≡ true
@@ -466,9 +466,9 @@ pub record Module_bus : Type 0 where
 pub record Marked (b : List ℕ) (room : 2048 ≤ length b) : Type 0 where
   pub m1 : (pec_of [] ≡ 0x00) × (pec_of (0x01 ∷ []) ≡ 0x07) × (pec_of (0x80 ∷ []) ≡ 0x89)
   pub m2 : trace_of (Send Prepare) [] ≡ 256 ∷ 194 ∷ 258 ∷ 1 ∷ 258 ∷ 192 ∷ 258 ∷ 257 ∷ []
-  pub m3 : Trace_of 2 true (message 0x0C 0 0 [] (0x4F ∷ [])) (256 ∷ 25 ∷ 258 ∷ 79 ∷ 258 ∷ 0 ∷ 259 ∷ 257 ∷ [])
+  pub m3 : TraceOf 2 true (message 0x0C 0 0 [] (0x4F ∷ [])) (256 ∷ 25 ∷ 258 ∷ 79 ∷ 258 ∷ 0 ∷ 259 ∷ 257 ∷ [])
   pub m4 : pec_of (0xC2 ∷ 0x02 ∷ []) ≡ 0xC9
-  pub m5 : Trace_of 9 false (message 0x10 0 0x07 [] []) (256 ∷ 32 ∷ 258 ∷ 7 ∷ 258 ∷ 256 ∷ 33 ∷ 258 ∷ 0 ∷ 259 ∷ 257 ∷ [])
+  pub m5 : TraceOf 9 false (message 0x10 0 0x07 [] []) (256 ∷ 32 ∷ 258 ∷ 7 ∷ 258 ∷ 256 ∷ 33 ∷ 258 ∷ 0 ∷ 259 ∷ 257 ∷ [])
   pub m6 : (before : List ℕ) (r : Encoded) (after : List ℕ) → length before ≡ 525 → (Wrote 10 false (message 0x10 0 7 (replicate 200 0) (replicate 55 0)) before r after → encode_number r ≡ (0, 523))
       × (Wrote 10 true (message 0x10 0 7 (replicate 200 0) (replicate 55 0)) before r after → encode_number r ≡ (0, 525))
       × ((pec : Bool) → Wrote 10 pec (message 0x10 0 7 (replicate 200 0) (replicate 56 0)) before r after → encode_number r ≡ (1, 0))

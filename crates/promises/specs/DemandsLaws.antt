@@ -12,7 +12,7 @@ use Rattle.wire.specs.AddressTableLaws.{listed_is}
 use Rattle.wire.specs.declared.address.Address.{Address}
 use Rattle.trace.specs.ShapeLaws.{sane, known_to_last}
 use Rattle.trace.specs.Shapes.{shape_of}
-use Rattle.trace.specs.Table.{Trace_of}
+use Rattle.trace.specs.Table.{TraceOf}
 use Rattle.trace.specs.Rows.{message}
 use Rattle.trace.specs.TableLaws.{listed_trace, trace_listed, quick_plain}
 use Rattle.trace.specs.Trace.{Message, trace}
@@ -59,7 +59,7 @@ use Rattle.commands.specs.RequestLaws.{valid_prepare, valid_get, valid_assign, p
 use Rattle.commands.specs.Requests.{assign_data, protocol_for, message_of}
 use Rattle.commands.specs.SendingLaws.{refused_exactly, small_address_protocol}
 use Rattle.slots.specs.Slots.{Sized128}
-use Rattle.arp.specs.Sound.{Pending_in}
+use Rattle.arp.specs.Sound.{PendingIn}
 use Rattle.slots.specs.SlotsLaws.{open_all}
 use Rattle.arp.specs.Controller.{stepped}
 use Rattle.picking.specs.Claims.{is_held}
@@ -70,9 +70,9 @@ use Rattle.commands.specs.declared.command.Handed.TheVariants.{Send, Wait}
 use Rattle.slots.specs.declared.Binding.{Binding}
 use Rattle.slots.specs.declared.Binding.TheVariants.{Open, Bound, Left}
 use Rattle.arp.specs.declared.state.Controller.{Controller}
-use Rattle.targets.specs.ByteCases.{Even_or_flag, Same_as_earlier, Fixed_on_taken}
+use Rattle.targets.specs.ByteCases.{EvenOrFlag, SameAsEarlier, FixedOnTaken}
 use Rattle.targets.specs.ByteCasesLaws.{given_by_bytes}
-use Rattle.targets.specs.Cases.{Length_is_bad, None}
+use Rattle.targets.specs.Cases.{LengthIsBad, None}
 use Rattle.targets.specs.RefusalLaws.{given_exactly}
 use Rattle.targets.specs.Refusals.{checked_list}
 use Rattle.targets.specs.declared.admit.Checked.TheVariants.{Admitted}
@@ -88,12 +88,12 @@ use Rattle.bus.specs.RecordsEndLaws.{records_length, record_of_bound, record_of_
 use Rattle.bus.specs.RefusalLaws as bus
 use Rattle.bus.specs.Run.{Leaves, model_end}
 use Rattle.bindings.specs.declared.answer.ModelAnswer.{ModelAnswer}
-use Rattle.promises.specs.Demands.{Addresses, Of_bytes, Encodes, Decodes, Puts, Commands, Looks_up, Checks, Demand2, Demand3, Sound, Reached, Control, Reports, Taking_back, Picking}
+use Rattle.promises.specs.Demands.{Addresses, OfBytes, Encodes, Decodes, Puts, Commands, LooksUp, Checks, Demand2, Demand3, Sound, Reached, Control, Reports, TakingBack, Picking}
 use Rattle.promises.specs.StepsLaws.{sentences, one_step, each_number_exactly}
 
 -- ---- demand 1
 
-pub encodes : (protocol : ℕ) (pec : Bool) (m : Message) (bytes : Of_bytes m) (before : List ℕ) (r : Encoded) (after : List ℕ) (contract : Wrote protocol pec m before r after)
+pub encodes : (protocol : ℕ) (pec : Bool) (m : Message) (bytes : OfBytes m) (before : List ℕ) (r : Encoded) (after : List ℕ) (contract : Wrote protocol pec m before r after)
     → Encodes protocol pec m bytes before r after contract
 encodes protocol pec m (c, s, v) before r after w = record {
   encode_0 = encode.encode_0 protocol pec m c s v before r after w;
@@ -189,11 +189,11 @@ commands reply before r after = record {
   none = λ k p g a w. puts k reply [] before r after Unit w (no_command_lem reply before r after k p g a w) (λ b. absurd (b tt));
 }
   where
-    assign_line : (u : Udid) (a : ℕ) → a < 128 → Trace_of 8 true (message 0x61 0 0x04 (udid_bytes u ++ 2 * a ∷ []) []) (assign_trace (udid_bytes u) (2 * a))
+    assign_line : (u : Udid) (a : ℕ) → a < 128 → TraceOf 8 true (message 0x61 0 0x04 (udid_bytes u ++ 2 * a ∷ []) []) (assign_trace (udid_bytes u) (2 * a))
     assign_line u a h =
         let k : Address = record { 0 = a } in
         let d : assign_data u a ≡ udid_bytes u ++ 2 * a ∷ [] = ap (λ (n : ℕ). udid_bytes u ++ 2 * n ∷ []) (mod-eq_of_lt h) in
-        subst (λ (l : List ℕ). Trace_of 8 true (message 0x61 0 0x04 l []) (assign_trace (udid_bytes u) (2 * a))) d
+        subst (λ (l : List ℕ). TraceOf 8 true (message 0x61 0 0x04 l []) (assign_trace (udid_bytes u) (2 * a))) d
         (trace_listed 8 true (message_of (Send (Assign u k)) []) (assign_trace (udid_bytes u) (2 * a)) (omega arith) (λ e. absurd (omega (arith, e))) (valid_assign u k)
         (sym (assign_symbols_small u k h)))
 
@@ -201,7 +201,7 @@ commands reply before r after = record {
     assigned u a b (yes l) = ap (λ (p : ℕ). trace (shape_of p) true (message_of (Send (Assign u a)) reply)) (small_address_protocol u a l) ∙ assign_symbols_small u a l
     assigned u a b (no l) = absurd (b (omega arith))
 
-pub looks_up : (s : Controller) (a : ℕ) → Looks_up s a
+pub looks_up : (s : Controller) (a : ℕ) → LooksUp s a
 looks_up s a = record { lookup_0 = arp.lookup_0 s a; lookup_1 = arp.lookup_1 s a; lookup_15 = arp.lookup_15 s a; lookup_16 = arp.lookup_16 s a; lookup_20 = arp.lookup_20 s a }
 
 pub checks : (occupied : Pool) (last : ℕ) (s b : List ℕ) (bytes : Bytes s) (r : ModelAnswer) (s' b' : List ℕ) (contract : Leaves (model_end occupied last s b) r s' b')
@@ -231,7 +231,7 @@ command_byte true o c h = h.0
 command_byte false o c h = let e : c ≡ 0 = h in omega arith
 
 -- a message of the table is one of bytes
-pub of_bytes : (protocol : ℕ) (pec : Bool) (m : Message) (tr : List ℕ) → Trace_of protocol pec m tr → Of_bytes m
+pub of_bytes : (protocol : ℕ) (pec : Bool) (m : Message) (tr : List ℕ) → TraceOf protocol pec m tr → OfBytes m
 of_bytes protocol pec m tr w =
     let v = (listed_trace protocol pec m tr w).1 in
     (command_byte (shape_of protocol).command (shape_of protocol).tohost m.command v.command, v.sent_bytes, v.received_bytes)
@@ -239,7 +239,7 @@ of_bytes protocol pec m tr w =
 pub demand_2 : (protocol : ℕ) (pec : Bool) → Demand2 protocol pec
 demand_2 protocol pec = record { there = there; back = back; one = one }
   where
-    there : (m : Message) (before : List ℕ) (r : Encoded) (after : List ℕ) → Of_bytes m → Wrote protocol pec m before r after → (n : ℕ) → encode_number r ≡ (0, n)
+    there : (m : Message) (before : List ℕ) (r : Encoded) (after : List ℕ) → OfBytes m → Wrote protocol pec m before r after → (n : ℕ) → encode_number r ≡ (0, n)
         → (sent₀ received₀ : List ℕ) (a : Decoded) (sent received : List ℕ) → 255 ≤ length sent₀ → 255 ≤ length received₀ → Outcome protocol pec (take n after) sent₀ received₀ a sent received
         → (a ≡ Done (summary protocol m)) × (sent ≡ m.sent ++ drop (length m.sent) sent₀) × (received ≡ m.received ++ drop (length m.received) received₀)
     there m before r after (c, s, v) w n e sent₀ received₀ a sent received hs hr o =
@@ -248,10 +248,10 @@ demand_2 protocol pec = record { there = there; back = back; one = one }
         let t = k.1 in
         let f : take n after ≡ x = ap (take n) (encode.encode_writes protocol pec m c s v before r after w (ap (λ (q : ℕ × ℕ). q.0) e) x t) ∙ take_at x (drop (length x) before) n k.2 in
         decode.decode_hands_over protocol pec (take n after) sent₀ received₀ a sent received o
-        (known_to_last protocol (listed_trace protocol pec m x t).0, λ z. quick_plain pec _ t.0 t.1 (t.2 ∙ z), hs, hr) m (subst (Trace_of protocol pec m) (sym f) t)
+        (known_to_last protocol (listed_trace protocol pec m x t).0, λ z. quick_plain pec _ t.0 t.1 (t.2 ∙ z), hs, hr) m (subst (TraceOf protocol pec m) (sym f) t)
 
     back : (tr sent₀ received₀ : List ℕ) (a : Decoded) (sent received : List ℕ) → Outcome protocol pec tr sent₀ received₀ a sent received → decode_number a ≡ (0, 0)
-        → (m : Message) × Of_bytes m × (a ≡ Done (summary protocol m)) × ((before : List ℕ) (r : Encoded) (after : List ℕ) → length tr ≤ length before
+        → (m : Message) × OfBytes m × (a ≡ Done (summary protocol m)) × ((before : List ℕ) (r : Encoded) (after : List ℕ) → length tr ≤ length before
         → Wrote protocol pec m before r after → (encode_number r ≡ (0, length tr)) × (take (length tr) after ≡ tr))
     back tr sent₀ received₀ a sent received o e =
         let k = (decode.decode_0 protocol pec tr sent₀ received₀ a sent received o).0 e in
@@ -269,7 +269,7 @@ demand_2 protocol pec = record { there = there; back = back; one = one }
               )),
         )
 
-    one : (m t : Message) (tr : List ℕ) → Trace_of protocol pec m tr → Trace_of protocol pec t tr → m ≡ t
+    one : (m t : Message) (tr : List ℕ) → TraceOf protocol pec m tr → TraceOf protocol pec t tr → m ≡ t
     one m t tr x y =
         let v = listed_trace protocol pec m tr x in
         let w = listed_trace protocol pec t tr y in
@@ -278,8 +278,8 @@ demand_2 protocol pec = record { there = there; back = back; one = one }
 -- ---- demand 3
 
 -- a list in none of the cases of 9 to 12 is admitted
-pub admitted : (occupied : Pool) (s : List ℕ) → Bytes s → (Length_is_bad s → ⊥) → None (Even_or_flag s) (length s / 18) → None (Same_as_earlier s) (length s / 18)
-    → None (Fixed_on_taken (barred_pool occupied) s) (length s / 18) → checked_list (barred_pool occupied) s ≡ Admitted
+pub admitted : (occupied : Pool) (s : List ℕ) → Bytes s → (LengthIsBad s → ⊥) → None (EvenOrFlag s) (length s / 18) → None (SameAsEarlier s) (length s / 18)
+    → None (FixedOnTaken (barred_pool occupied) s) (length s / 18) → checked_list (barred_pool occupied) s ≡ Admitted
 admitted occupied s bytes n m k f =
     sym ((given_exactly (barred_pool occupied) s Admitted).1 ((given_by_bytes (barred_pool occupied) s bytes Admitted).1 (n, m, k, f)))
 
@@ -352,7 +352,7 @@ pub reached : (occupied : Pool) (last : ℕ) (es : List Event) → Reached occup
 reached occupied last es =
     let g = reached_good occupied last es in
     record {
-      sound = ((g.0.sound.size.high, g.0.sound.size.low), λ u a e. (subst (Pending_in (run occupied last es)) e g.1).fits, g.0.picked);
+      sound = ((g.0.sound.size.high, g.0.sound.size.low), λ u a e. (subst (PendingIn (run occupied last es)) e g.1).fits, g.0.picked);
       occupies = g.0.occupies;
       pool = λ a. pool_exactly (member (starting_pool occupied) a) (member (run occupied last es).pool a) (held_at (run occupied last es).slots a) (reached_pool occupied last es a);
       unbarred = (reached_invariant occupied last es).bound_unbarred;
@@ -412,7 +412,7 @@ reports s a f = record {
     unbound true e n = absurd (n ((answered_0 s a).1 e))
     unbound false e n = e
 
-pub taking_back : Taking_back
+pub taking_back : TakingBack
 taking_back = record { report = reports; account = account }
 
 -- ---- picks

@@ -39,7 +39,7 @@ use Rattle.rule.specs.Bus.{World}
 use Rattle.rule.specs.PassEndLaws.{demand_3}
 use Rattle.rule.specs.PassEnd.{pass_end}
 use Rattle.rule.specs.PlainRule.{is_picked_for, plain_choice}
-use Rattle.bus.specs.Run.{Model_end, ended_end, model_end}
+use Rattle.bus.specs.Run.{ModelEnd, ended_end, model_end}
 use Rattle.report.specs.Report.{no_udid, number_in, udid_in, entry_at}
 use Rattle.arp.specs.LastPickLaws.{last_pick_is}
 use Rattle.bus.specs.RunLaws.{end_checked_lem, end_going}
@@ -168,10 +168,10 @@ shows m v b h =
     ∙ end_checked_lem m.occupied m.last m.records b Admitted h v.admitted
     ∙ ap (λ (w : World). ended_end w m.records b) (demand_3 m.occupied m.last (targets_of m.records) (admitted_targets (barred_pool m.occupied) m.records v.bytes v.admitted)
     ∙ ap (λ (l : ℕ). pass_end m.occupied l (targets_of m.records)) (last_pick_is m.last v.let_in)) in (
-      ap (λ (x : Model_end). x.answer) e
+      ap (λ (x : ModelEnd). x.answer) e
           ∙ (λ i. record { answer = v.number i; place = v.nowhere i; udid = v.asker i; bound = v.bound i; count = (ap used v.bound ∙ v.counted) i; gets = v.gets i; picked = v.picked i }),
-      ap (λ (x : Model_end). x.records) e ∙ v.stored,
-      ap (λ (x : Model_end). windows x.bindings m.places) e
+      ap (λ (x : ModelEnd). x.records) e ∙ v.stored,
+      ap (λ (x : ModelEnd). windows x.bindings m.places) e
           ∙ windows_are (entry_at (end_of m).now.state.slots) (drop 2048 b) m.places v.small ∙ v.shown,
     )
 

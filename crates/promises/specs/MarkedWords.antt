@@ -1,6 +1,6 @@
 -- The words of the marked cases: a record of the model, and what a run shows.
 use Rattle.std.specs.Prelude.{◌≡◌, List, [], ◌∷◌, ◌++◌, ℕ, ◌*◌, take, drop, replicate}
-use Rattle.bus.specs.Run.{Model_end}
+use Rattle.bus.specs.Run.{ModelEnd}
 use Rattle.bindings.specs.declared.answer.ModelAnswer.{ModelAnswer}
 
 -- the identifier that begins with this byte and ends with 1; a record: identifier, address byte, flag
@@ -16,5 +16,5 @@ windows l [] = []
 windows l (a ∷ as') = take 16 (drop (16 * a) l) ++ windows l as'
 
 -- a run's answer, the records after it, and what stands at some addresses
-abbrev pub Shows : Model_end → ModelAnswer → List ℕ → List ℕ → List ℕ → Type 0
+abbrev pub Shows : ModelEnd → ModelAnswer → List ℕ → List ℕ → List ℕ → Type 0
 Shows e r records places bytes = (e.answer ≡ r) × (e.records ≡ records) × (windows e.bindings places ≡ bytes)

@@ -11,8 +11,8 @@ use Rattle.commands.specs.declared.command.Handed.TheVariants.{Send, Wait}
 use Rattle.arbitration.specs.Among.{Among}
 use Rattle.pool.specs.Start.{barred_pool}
 use Rattle.pool.specs.declared.Pool.{Pool}
-use Rattle.targets.specs.ByteCases.{Even_or_flag, Same_as_earlier, Fixed_on_taken}
-use Rattle.targets.specs.Cases.{Length_is_bad, None}
+use Rattle.targets.specs.ByteCases.{EvenOrFlag, SameAsEarlier, FixedOnTaken}
+use Rattle.targets.specs.Cases.{LengthIsBad, None}
 use Rattle.targets.specs.Records.{targets_of}
 use Rattle.targets.specs.Target.{Target}
 use Rattle.rule.specs.Acted.{Names}
@@ -41,7 +41,7 @@ use Rattle.exchange.specs.Pass.{pass_on}
 use Rattle.exchange.specs.PassLaws.{equal_states, equal_gets, pass_same}
 use Rattle.exchange.specs.Sending.{asked_all}
 use Rattle.exchange.specs.WinLaws.{never_two}
-use Rattle.promises.specs.Demands.{Listens, Modules, Module_bus}
+use Rattle.promises.specs.Demands.{Listens, Modules, ModuleBus}
 use Rattle.promises.specs.DemandsLaws.{demand_3}
 
 -- ---- one module
@@ -97,7 +97,7 @@ names (Send GetUdid) h = tt
 names (Wait e) h = tt
 
 as_model_run : (occupied : Pool) (last : ℕ) (s b : List ℕ) (bytes : Bytes s) (r : ModelAnswer) (s' b' : List ℕ) → Leaves (model_end occupied last s b) r s' b' → last < 128 → 2048 ≤ length b
-    → (Length_is_bad s → ⊥) → None (Even_or_flag s) (length s / 18) → None (Same_as_earlier s) (length s / 18) → None (Fixed_on_taken (barred_pool occupied) s) (length s / 18)
+    → (LengthIsBad s → ⊥) → None (EvenOrFlag s) (length s / 18) → None (SameAsEarlier s) (length s / 18) → None (FixedOnTaken (barred_pool occupied) s) (length s / 18)
     → (ms : List Module) → Each Fitting ms → records_of ms ≡ targets_of s
     → ((pass_on occupied last ms).now ≡ (pass occupied last (targets_of s)).now) × (records_of (pass_on occupied last ms).targets ≡ targets_of s')
 as_model_run occupied last s b bytes r s' b' l small long n m k f ms h e =
@@ -105,7 +105,7 @@ as_model_run occupied last s b bytes r s' b' l small long n m k f ms h e =
     let q = ((demand_3 occupied last s b bytes r s' b' l).meets small long n m k f).of_pass.0 in
     (ap (λ (w : World). w.now) p, ap (λ (w : World). w.targets) p ∙ sym q)
 
-pub module_bus : Module_bus
+pub module_bus : ModuleBus
 module_bus = record {
   trace = λ k ms n h. (exchange_same k ms (names k n) h).0;
   effects = λ k ms n h. (exchange_same k ms (names k n) h).1;

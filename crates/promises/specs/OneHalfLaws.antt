@@ -27,33 +27,33 @@ use Rattle.promises.specs.Demands.{Sound}
 use Rattle.promises.specs.StepsLaws.{sentences, assigns_on_reply}
 
 -- Get UDID was outstanding, the trace is a reply of u, and the address and the reason are as the sentences say
-abbrev pub On_reply : Controller → List ℕ → Udid → Address → Reason → Controller → Type 0
-On_reply s tr u a x t = (s.last ≡ Send GetUdid) × ((b : ℕ) × Fits u × (b < 256) × (tr ≡ reply_trace (udid_bytes u ++ b ∷ [])) × Reasons s t u b a.0 x)
+abbrev pub OnReply : Controller → List ℕ → Udid → Address → Reason → Controller → Type 0
+OnReply s tr u a x t = (s.last ≡ Send GetUdid) × ((b : ℕ) × Fits u × (b < 256) × (tr ≡ reply_trace (udid_bytes u ++ b ∷ [])) × Reasons s t u b a.0 x)
 
-pub chosen_on_reply : (s : Controller) (tr : List ℕ) → Sound s → (u : Udid) (a : Address) (x : Reason) → (first_half s tr).command ≡ Wait (Chosen u a x) → On_reply s tr u a x (first_half s tr).state
+pub chosen_on_reply : (s : Controller) (tr : List ℕ) → Sound s → (u : Udid) (a : Address) (x : Reason) → (first_half s tr).command ≡ Wait (Chosen u a x) → OnReply s tr u a x (first_half s tr).state
 chosen_on_reply s tr f u a x c = go (assigns_on_reply s tr f.1 f.2 (stepped s tr) (sentences s tr size f.2) u a ((chosen_exactly s tr u a).1 (x, c)))
   where
     size : Sized128 s.slots
     size = record { high = f.0.0; low = f.0.1 }
 
-    go : (s.last ≡ Send GetUdid) × ((v : Udid) × (b : ℕ) × Fits v × (b < 256) × (tr ≡ reply_trace (udid_bytes v ++ b ∷ []))) → On_reply s tr u a x (first_half s tr).state
+    go : (s.last ≡ Send GetUdid) × ((v : Udid) × (b : ℕ) × Fits v × (b < 256) × (tr ≡ reply_trace (udid_bytes v ++ b ∷ []))) → OnReply s tr u a x (first_half s tr).state
     go (l, (v, b, k, h, q)) =
         let w = reasons_given s tr f.2 l v b k h q u a x c in
         let e : v ≡ u = sym w.0 in
         (l, (b, subst Fits e k, h, subst (λ (y : Udid). tr ≡ reply_trace (udid_bytes y ++ b ∷ [])) e q, subst (λ (y : Udid). Reasons s (first_half s tr).state y b a.0 x) e w.1))
 
 -- the sentences of Halves and `reasons`, of any result h in the place of the first half
-pub record Half_of (s : Controller) (tr : List ℕ) (h : Stepped) : Type 0 where
+pub record HalfOf (s : Controller) (tr : List ℕ) (h : Stepped) : Type 0 where
   pub chosen : (u : Udid) (a : Address) → ((stepped s tr).command ≡ Send (Assign u a)) ↔ ((x : Reason) × (h.command ≡ Wait (Chosen u a x)))
   pub waits : (u : Udid) (a : Address) (x : Reason) → h.command ≡ Wait (Chosen u a x) → h.state ≡ with_last (stepped s tr).state (Wait (Chosen u a x))
   pub alone : ((u : Udid) (a : Address) (x : Reason) → h.command ≡ Wait (Chosen u a x) → ⊥) → h ≡ stepped s tr
-  pub reasons : (u : Udid) (a : Address) (x : Reason) → h.command ≡ Wait (Chosen u a x) → On_reply s tr u a x h.state
+  pub reasons : (u : Udid) (a : Address) (x : Reason) → h.command ≡ Wait (Chosen u a x) → OnReply s tr u a x h.state
 
 one_byte : (u : Udid) (b c : ℕ) → Reply u b ≡ Reply u c → b ≡ c
 one_byte u b c e = cc e
 
 -- ONE FIRST HALF is left
-pub one_half : (s : Controller) (tr : List ℕ) (h : Stepped) → Sound s → Half_of s tr h → h ≡ first_half s tr
+pub one_half : (s : Controller) (tr : List ℕ) (h : Stepped) → Sound s → HalfOf s tr h → h ≡ first_half s tr
 one_half s tr h f g = go (stepped s tr).command refl
   where
     none : ((u : Udid) (a : Address) → (stepped s tr).command ≡ Send (Assign u a) → ⊥) → h ≡ first_half s tr

@@ -7,7 +7,7 @@ use Rattle.lists.specs.ChoiceLaws.{false_not_true}
 use Rattle.lists.specs.Each.{Bytes}
 use Rattle.wire.specs.declared.address.Address.{Address}
 use Rattle.trace.specs.Shapes.{protocols, forbidden}
-use Rattle.scan.specs.Fitting.{Cut_at}
+use Rattle.scan.specs.Fitting.{CutAt}
 use Rattle.scan.specs.FittingLaws.{cut_shaped}
 use Rattle.pool.specs.NextFree.{next_free}
 use Rattle.pool.specs.NextFreeLaws.{next_is, next_none}
@@ -35,21 +35,21 @@ use Rattle.commands.specs.declared.command.Handed.{Handed}
 use Rattle.commands.specs.declared.command.Handed.TheVariants.{Send, Wait}
 use Rattle.arp.specs.declared.state.Controller.{Controller}
 use Rattle.arp.specs.declared.state.Stepped.{Stepped}
-use Rattle.promises.specs.Demands.{Idle, No_reply, Nobody_left, Steps, Step_numbers}
+use Rattle.promises.specs.Demands.{Idle, NoReply, NobodyLeft, Steps, StepNumbers}
 
 -- ---- the words of the page and those of arp
 
 -- answer 6 for a trace is the trace cut at that byte
-six_is_cut : (protocol : ℕ) (tr : List ℕ) (b : ℕ) → forbidden protocol true ≡ false → protocol < protocols → (protocol ≡ 0 → ⊥) → Gives protocol tr 6 b ↔ Cut_at protocol true tr b
+six_is_cut : (protocol : ℕ) (tr : List ℕ) (b : ℕ) → forbidden protocol true ≡ false → protocol < protocols → (protocol ≡ 0 → ⊥) → Gives protocol tr 6 b ↔ CutAt protocol true tr b
 six_is_cut protocol tr b f k z =
     let e = six_exactly protocol tr b f in
     let c = cut_shaped protocol true k (λ q. absurd (z q)) tr b in
     (λ g. c.1 (e.0 g), λ g. e.1 (c.0 g))
 
-six_1 : (tr : List ℕ) (b : ℕ) → Gives 1 tr 6 b ↔ Cut_at 1 true tr b
+six_1 : (tr : List ℕ) (b : ℕ) → Gives 1 tr 6 b ↔ CutAt 1 true tr b
 six_1 tr b = six_is_cut 1 tr b refl (omega arith) (λ e. omega (arith, e))
 
-six_9 : (tr : List ℕ) (b : ℕ) → Gives 9 tr 6 b ↔ Cut_at 9 true tr b
+six_9 : (tr : List ℕ) (b : ℕ) → Gives 9 tr 6 b ↔ CutAt 9 true tr b
 six_9 tr b = six_is_cut 9 tr b refl (omega arith) (λ e. omega (arith, e))
 
 -- no command is outstanding
@@ -86,21 +86,21 @@ sentences s tr size small = record {
 
 data Case (s : Controller) (tr : List ℕ) : Type 0 where
   Accepted : s.last ≡ Send Prepare → tr ≡ prepare_trace → Case s tr
-  Nobody : s.last ≡ Send Prepare → (b : ℕ) → Cut_at 1 true tr b → Case s tr
-  Refused : s.last ≡ Send Prepare → (tr ≡ prepare_trace → ⊥) → ((b : ℕ) → Cut_at 1 true tr b → ⊥) → Case s tr
+  Nobody : s.last ≡ Send Prepare → (b : ℕ) → CutAt 1 true tr b → Case s tr
+  Refused : s.last ≡ Send Prepare → (tr ≡ prepare_trace → ⊥) → ((b : ℕ) → CutAt 1 true tr b → ⊥) → Case s tr
   Replied : s.last ≡ Send GetUdid → (u : Udid) (b : ℕ) → Fits u → b < 256 → tr ≡ reply_trace (udid_bytes u ++ b ∷ []) → Case s tr
   Counted : s.last ≡ Send GetUdid → (xs : List ℕ) → Bytes xs → length xs ≤ 255 → (length xs ≡ 17 → ⊥) → tr ≡ reply_trace xs → Case s tr
-  Left : s.last ≡ Send GetUdid → Nobody_left tr → Case s tr
-  Again : s.last ≡ Send GetUdid → No_reply tr → (Nobody_left tr → ⊥) → Case s tr
+  Left : s.last ≡ Send GetUdid → NobodyLeft tr → Case s tr
+  Again : s.last ≡ Send GetUdid → NoReply tr → (NobodyLeft tr → ⊥) → Case s tr
   Whole : (u : Udid) (a : Address) → s.last ≡ Send (Assign u a) → Fits u → a.0 < 128 → tr ≡ assign_trace (udid_bytes u) (2 * a.0) → Case s tr
   Other : (u : Udid) (a : Address) → s.last ≡ Send (Assign u a) → (a.0 < 128 → tr ≡ assign_trace (udid_bytes u) (2 * a.0) → ⊥) → Case s tr
   None : Idle s → Case s tr
 
 -- the identifier of an outstanding Assign has 128 bits
-abbrev Fits_last : Controller → Type 0
-Fits_last s = (u : Udid) (a : Address) → s.last ≡ Send (Assign u a) → Fits u
+abbrev FitsLast : Controller → Type 0
+FitsLast s = (u : Udid) (a : Address) → s.last ≡ Send (Assign u a) → Fits u
 
-every_case : (s : Controller) (tr : List ℕ) → Fits_last s → Case s tr
+every_case : (s : Controller) (tr : List ℕ) → FitsLast s → Case s tr
 every_case s tr f = go s.last refl
   where
     prepare : s.last ≡ Send Prepare → Dec (tr ≡ prepare_trace) → ((b : ℕ) × Gives 1 tr 6 b) ⊎ ((b : ℕ) → Gives 1 tr 6 b → ⊥) → Case s tr
@@ -112,7 +112,7 @@ every_case s tr f = go s.last refl
     reply e xs d l t (no n) = Counted e xs d l n t
     reply e xs d l t (yes n) = let k = seventeen_bytes_are_udid_and_byte xs d n in Replied e (udid_at xs 0) (get_or xs 16 0) k.0 k.1 (t ∙ ap reply_trace k.2)
 
-    six : s.last ≡ Send GetUdid → No_reply tr → (b : ℕ) → Gives 9 tr 6 b → Dec (b < 3) → Case s tr
+    six : s.last ≡ Send GetUdid → NoReply tr → (b : ℕ) → Gives 9 tr 6 b → Dec (b < 3) → Case s tr
     six e n b w (yes l) = Left e (b, l, (six_9 tr b).0 w)
     six e n b w (no l) = Again e n (λ x. let z = six_once 9 tr b x.0 refl w ((six_9 tr x.0).1 x.2) in let y = x.1 in omega arith)
 
@@ -151,7 +151,7 @@ idle_both s tr r q h g =
     }
 
 -- ONE RESULT: two results that the sentences allow are the same
-pub one_step : (s : Controller) (tr : List ℕ) (r q : Stepped) → Fits_last s → s.picked < 128 → Steps s tr r → Steps s tr q → Alike r q
+pub one_step : (s : Controller) (tr : List ℕ) (r q : Stepped) → FitsLast s → s.picked < 128 → Steps s tr r → Steps s tr q → Alike r q
 one_step s tr r q f small h g = go (every_case s tr f)
   where
     go : Case s tr → Alike r q
@@ -205,7 +205,7 @@ is_assign (Send GetUdid) = false
 is_assign (Send (Assign u a)) = true
 is_assign (Wait e) = false
 
-module _ (s : Controller) (tr : List ℕ) (f : Fits_last s) (small : s.picked < 128) (r : Stepped) (h : Steps s tr r) where
+module _ (s : Controller) (tr : List ℕ) (f : FitsLast s) (small : s.picked < 128) (r : Stepped) (h : Steps s tr r) where
   -- a command has its own number and no other
   apart : (k : Handed) (n : ℕ) (us : List Udid) → r.command ≡ k → (tag (command_number k) ≡ n → ⊥) → command_number r.command ≡ (n, us) ∷ [] → ⊥
   apart k n us e d q = d (ap (λ (x : Handed). tag (command_number x)) (sym e) ∙ ap tag q)
@@ -234,15 +234,15 @@ module _ (s : Controller) (tr : List ℕ) (f : Fits_last s) (small : s.picked < 
       go (inr e) = apart (Wait (NoneFree u)) n us e (λ z. d (sym z)) q
 
   -- 0: the pass ends
-  abbrev End_due : Type 0
-  End_due =
-      ((s.last ≡ Send Prepare) × ((b : ℕ) × Cut_at 1 true tr b))
-      ⊎ ((s.last ≡ Send GetUdid) × (Nobody_left tr ⊎ ((xs : List ℕ) × Bytes xs × (length xs ≤ 255) × (length xs ≡ 17 → ⊥) × (tr ≡ reply_trace xs))))
+  abbrev EndDue : Type 0
+  EndDue =
+      ((s.last ≡ Send Prepare) × ((b : ℕ) × CutAt 1 true tr b))
+      ⊎ ((s.last ≡ Send GetUdid) × (NobodyLeft tr ⊎ ((xs : List ℕ) × Bytes xs × (length xs ≤ 255) × (length xs ≡ 17 → ⊥) × (tr ≡ reply_trace xs))))
 
-  ends_exactly : (command_number r.command ≡ (0, []) ∷ []) ↔ End_due
+  ends_exactly : (command_number r.command ≡ (0, []) ∷ []) ↔ EndDue
   ends_exactly = (λ q. there q (every_case s tr f), back)
     where
-      there : command_number r.command ≡ (0, []) ∷ [] → Case s tr → End_due
+      there : command_number r.command ≡ (0, []) ∷ [] → Case s tr → EndDue
       there q (Accepted e t) = absurd (asks_not 0 [] (omega arith) (λ z. omega (arith, z)) (h.prepare_accepted e t).0 q)
       there q (Nobody e b w) = inl (e, (b, w))
       there q (Refused e n m) = absurd (apart (Wait Abandoned) 0 [] (h.prepare_other e n m).0.command (λ z. omega (arith, z)) q)
@@ -254,14 +254,14 @@ module _ (s : Controller) (tr : List ℕ) (f : Fits_last s) (small : s.picked < 
       there q (Other u a e n) = absurd (asks_not 0 [] (omega arith) (λ z. omega (arith, z)) (h.assign_other u a e n).0 q)
       there q (None i) = absurd (apart (Wait NotOutstanding) 0 [] (h.none_outstanding i).1 (λ z. omega (arith, z)) q)
 
-      back : End_due → command_number r.command ≡ (0, []) ∷ []
+      back : EndDue → command_number r.command ≡ (0, []) ∷ []
       back (inl (e, (b, w))) = ap command_number (h.prepare_nobody e b w).0.command
       back (inr (e, inl w)) = ap command_number (h.get_nobody e w).0.command
       back (inr (e, inr (xs, d, l, n, t))) = ap command_number (h.get_count e xs d l n t).0.command
 
   -- 13: no address for who replied
-  abbrev None_due : Udid → Type 0
-  None_due u =
+  abbrev NoneDue : Udid → Type 0
+  NoneDue u =
       (s.last ≡ Send GetUdid)
       × ((b : ℕ)
       × Fits u
@@ -270,11 +270,11 @@ module _ (s : Controller) (tr : List ℕ) (f : Fits_last s) (small : s.picked < 
       × ((b ≡ 0xFF) ⊎ ((64 ≤ get_or (udid_bytes u) 0 0) × (member r.state.pool (b / 2) ≡ true)))
       × ((a : ℕ) → a < 128 → member r.state.pool a ≡ true))
 
-  none_exactly : (u : Udid) → (command_number r.command ≡ (13, u ∷ []) ∷ []) ↔ None_due u
+  none_exactly : (u : Udid) → (command_number r.command ≡ (13, u ∷ []) ∷ []) ↔ NoneDue u
   none_exactly u = (λ q. there q (every_case s tr f), back)
     where
       replied : command_number r.command ≡ (13, u ∷ []) ∷ [] → s.last ≡ Send GetUdid → (v : Udid) (b : ℕ) → Fits v → b < 256 → tr ≡ reply_trace (udid_bytes v ++ b ∷ [])
-          → ((a : Address) × (r.command ≡ Send (Assign v a))) ⊎ (r.command ≡ Wait (NoneFree v)) → Chooses r.state.pool s.picked v b r.command r.state.picked → None_due u
+          → ((a : Address) × (r.command ≡ Send (Assign v a))) ⊎ (r.command ≡ Wait (NoneFree v)) → Chooses r.state.pool s.picked v b r.command r.state.picked → NoneDue u
       replied q e v b k l t (inl (a, z)) c = absurd (apart (Send (Assign v a)) 13 (u ∷ []) z (λ y. omega (arith, y)) q)
       replied q e v b k l t (inr z) c =
           let m : v ≡ u = same (sym (ap command_number z) ∙ q) in
@@ -287,7 +287,7 @@ module _ (s : Controller) (tr : List ℕ) (f : Fits_last s) (small : s.picked < 
               one : v ∷ [] ≡ u ∷ [] → v ≡ u
               one z = cc z
 
-      there : command_number r.command ≡ (13, u ∷ []) ∷ [] → Case s tr → None_due u
+      there : command_number r.command ≡ (13, u ∷ []) ∷ [] → Case s tr → NoneDue u
       there q (Accepted e t) = absurd (asks_not 13 _ (omega arith) (λ z. omega (arith, z)) (h.prepare_accepted e t).0 q)
       there q (Nobody e b w) = absurd (apart (Wait Ended) 13 _ (h.prepare_nobody e b w).0.command (λ z. omega (arith, z)) q)
       there q (Refused e n m) = absurd (apart (Wait Abandoned) 13 _ (h.prepare_other e n m).0.command (λ z. omega (arith, z)) q)
@@ -301,21 +301,21 @@ module _ (s : Controller) (tr : List ℕ) (f : Fits_last s) (small : s.picked < 
       there q (Other v a e n) = absurd (asks_not 13 _ (omega arith) (λ z. omega (arith, z)) (h.assign_other v a e n).0 q)
       there q (None i) = absurd (apart (Wait NotOutstanding) 13 _ (h.none_outstanding i).1 (λ z. omega (arith, z)) q)
 
-      back : None_due u → command_number r.command ≡ (13, u ∷ []) ∷ []
+      back : NoneDue u → command_number r.command ≡ (13, u ∷ []) ∷ []
       back (e, (b, k, l, t, w, a)) = ap command_number ((h.get_reply e u b k l t).chooses.none_free w a).0
 
   -- 14: the pass is abandoned
-  abbrev Abandon_due : Type 0
-  Abandon_due =
-      ((s.last ≡ Send Prepare) × (tr ≡ prepare_trace → ⊥) × ((b : ℕ) → Cut_at 1 true tr b → ⊥))
+  abbrev AbandonDue : Type 0
+  AbandonDue =
+      ((s.last ≡ Send Prepare) × (tr ≡ prepare_trace → ⊥) × ((b : ℕ) → CutAt 1 true tr b → ⊥))
       ⊎ ((128 ≤ s.gets)
       × (((s.last ≡ Send Prepare) × (tr ≡ prepare_trace))
-      ⊎ (((s.last ≡ Send GetUdid) × No_reply tr × (Nobody_left tr → ⊥)) ⊎ ((u : Udid) × (a : Address) × (s.last ≡ Send (Assign u a))))))
+      ⊎ (((s.last ≡ Send GetUdid) × NoReply tr × (NobodyLeft tr → ⊥)) ⊎ ((u : Udid) × (a : Address) × (s.last ≡ Send (Assign u a))))))
 
-  abandons_exactly : (command_number r.command ≡ (14, []) ∷ []) ↔ Abandon_due
+  abandons_exactly : (command_number r.command ≡ (14, []) ∷ []) ↔ AbandonDue
   abandons_exactly = (λ q. there q (every_case s tr f), back)
     where
-      there : command_number r.command ≡ (14, []) ∷ [] → Case s tr → Abandon_due
+      there : command_number r.command ≡ (14, []) ∷ [] → Case s tr → AbandonDue
       there q (Accepted e t) = inr (asks_14 (h.prepare_accepted e t).0 q, inl (e, t))
       there q (Nobody e b w) = absurd (apart (Wait Ended) 14 [] (h.prepare_nobody e b w).0.command (λ z. omega (arith, z)) q)
       there q (Refused e n m) = inl (e, n, m)
@@ -335,7 +335,7 @@ module _ (s : Controller) (tr : List ℕ) (f : Fits_last s) (small : s.picked < 
       assigned u a e (yes l) (yes t) = (h.assign_whole u a e (f u a e) l t).0
       assigned u a e (yes l) (no t) = (h.assign_other u a e (λ k. t)).0
 
-      back : Abandon_due → command_number r.command ≡ (14, []) ∷ []
+      back : AbandonDue → command_number r.command ≡ (14, []) ∷ []
       back (inl (e, n, m)) = ap command_number (h.prepare_other e n m).0.command
       back (inr (l, inl (e, t))) = limit (h.prepare_accepted e t).0 l
       back (inr (l, inr (inl (e, n, m)))) = limit (h.get_again e n m).0 l
@@ -357,7 +357,7 @@ module _ (s : Controller) (tr : List ℕ) (f : Fits_last s) (small : s.picked < 
       there q (Other u a e n) = absurd (asks_not 21 [] (omega arith) (λ z. omega (arith, z)) (h.assign_other u a e n).0 q)
       there q (None i) = i
 
-  pub each_number_exactly : Step_numbers s tr r
+  pub each_number_exactly : StepNumbers s tr r
   each_number_exactly = record { step_0 = ends_exactly; step_13 = none_exactly; step_14 = abandons_exactly; step_21 = refuses_exactly }
 
   -- AN ASSIGN is sent on a reply alone

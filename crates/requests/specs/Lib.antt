@@ -6,4 +6,3 @@ pub mod RunLaws
 pub mod GoneLaws
 pub mod ChoiceLaws
 pub mod ModuleLaws
-pub mod TalkLaws

@@ -1,11 +1,10 @@
 -- A list of numbers, word after word.
-use Rattle.std.specs.Prelude.{ℕ, zero, suc, ◌≡◌, refl, List, [], ◌∷◌, ◌++◌, Bool, true}
+use Rattle.std.specs.Prelude.{ℕ, zero, suc, ◌≡◌, refl, List, [], ◌∷◌, ◌++◌}
 use Rattle.std.proofs.Common.{ap, ◌∙◌}
-use Rattle.words.specs.Said.{byte_at}
-use Rattle.words.specs.Symbols.{symbol_at}
+use Rattle.words.specs.Said.{byte_at, symbol_at}
 use Rattle.requests.specs.Lists.{bytes_from, bytes_end, symbols_from, symbols_end}
 use Rattle.words.specs.declared.word.ByteWord.TheVariants.{Byte, NoByte}
-use Rattle.words.specs.declared.symbol.SymbolWord.TheVariants.{Symbol, Hex, NoSymbol}
+use Rattle.words.specs.declared.word.SymbolWord.TheVariants.{Symbol, NoSymbol}
 
 -- ---- bytes
 
@@ -49,61 +48,40 @@ bytes_end_full k line at h = rw h
 
 -- ---- symbols
 
-symbols_step : (k : ℕ) (hex : Bool) (line : List ℕ) (at b next : ℕ) → symbol_at hex line at ≡ Symbol b next
-    → symbols_from (suc k) hex line at ≡ (b ∷ []) ++ symbols_from k hex line next
+symbols_step : (k : ℕ) (line : List ℕ) (at b next : ℕ) → symbol_at line at ≡ Symbol b next → symbols_from (suc k) line at ≡ (b ∷ []) ++ symbols_from k line next
 unfolding symbols_from
-symbols_step k hex line at b next e = rw e
+symbols_step k line at b next e = rw e
 
 -- a symbol, and then those after it
-pub symbols_on : (k m : ℕ) (hex : Bool) (line : List ℕ) (at b next : ℕ) → k ≡ suc m → symbol_at hex line at ≡ Symbol b next
-    → symbols_from k hex line at ≡ (b ∷ []) ++ symbols_from m hex line next
-symbols_on k m hex line at b next h e = ap (λ (i : ℕ). symbols_from i hex line at) h ∙ symbols_step m hex line at b next e
+pub symbols_on : (k m : ℕ) (line : List ℕ) (at b next : ℕ) → k ≡ suc m → symbol_at line at ≡ Symbol b next → symbols_from k line at ≡ (b ∷ []) ++ symbols_from m line next
+symbols_on k m line at b next h e = ap (λ (i : ℕ). symbols_from i line at) h ∙ symbols_step m line at b next e
 
-symbols_hex_step : (k : ℕ) (hex : Bool) (line : List ℕ) (at next : ℕ) → symbol_at hex line at ≡ Hex next → symbols_from (suc k) hex line at ≡ symbols_from k true line next
+-- another word ends the list, and so does the end of the room
+pub symbols_over : (k : ℕ) (line : List ℕ) (at place : ℕ) → symbol_at line at ≡ NoSymbol place → symbols_from k line at ≡ []
 unfolding symbols_from
-symbols_hex_step k hex line at next e = rw e
+symbols_over zero line at place e = refl
+symbols_over (suc k) line at place e = rw e
 
--- the word hex, and then the symbols after it
-pub symbols_hex : (k m : ℕ) (hex : Bool) (line : List ℕ) (at next : ℕ) → k ≡ suc m → symbol_at hex line at ≡ Hex next
-    → symbols_from k hex line at ≡ symbols_from m true line next
-symbols_hex k m hex line at next h e = ap (λ (i : ℕ). symbols_from i hex line at) h ∙ symbols_hex_step m hex line at next e
-
--- another word ends the list
-pub symbols_over : (k : ℕ) (hex : Bool) (line : List ℕ) (at place : ℕ) → symbol_at hex line at ≡ NoSymbol place → symbols_from k hex line at ≡ []
+pub symbols_full : (k : ℕ) (line : List ℕ) (at : ℕ) → k ≡ 0 → symbols_from k line at ≡ []
 unfolding symbols_from
-symbols_over zero hex line at place e = refl
-symbols_over (suc k) hex line at place e = rw e
+symbols_full k line at h = rw h
 
-pub symbols_full : (k : ℕ) (hex : Bool) (line : List ℕ) (at : ℕ) → k ≡ 0 → symbols_from k hex line at ≡ []
-unfolding symbols_from
-symbols_full k hex line at h = rw h
-
-symbols_end_step : (k : ℕ) (hex : Bool) (line : List ℕ) (at b next : ℕ) → symbol_at hex line at ≡ Symbol b next → symbols_end (suc k) hex line at ≡ symbols_end k hex line next
+symbols_end_step : (k : ℕ) (line : List ℕ) (at b next : ℕ) → symbol_at line at ≡ Symbol b next → symbols_end (suc k) line at ≡ symbols_end k line next
 unfolding symbols_end
-symbols_end_step k hex line at b next e = rw e
+symbols_end_step k line at b next e = rw e
 
 -- the end is past a symbol
-pub symbols_end_on : (k m : ℕ) (hex : Bool) (line : List ℕ) (at b next : ℕ) → k ≡ suc m → symbol_at hex line at ≡ Symbol b next
-    → symbols_end k hex line at ≡ symbols_end m hex line next
-symbols_end_on k m hex line at b next h e = ap (λ (i : ℕ). symbols_end i hex line at) h ∙ symbols_end_step m hex line at b next e
+pub symbols_end_on : (k m : ℕ) (line : List ℕ) (at b next : ℕ) → k ≡ suc m → symbol_at line at ≡ Symbol b next → symbols_end k line at ≡ symbols_end m line next
+symbols_end_on k m line at b next h e = ap (λ (i : ℕ). symbols_end i line at) h ∙ symbols_end_step m line at b next e
 
-symbols_end_hex_step : (k : ℕ) (hex : Bool) (line : List ℕ) (at next : ℕ) → symbol_at hex line at ≡ Hex next → symbols_end (suc k) hex line at ≡ symbols_end k true line next
+symbols_end_stop : (k : ℕ) (line : List ℕ) (at place : ℕ) → symbol_at line at ≡ NoSymbol place → symbols_end (suc k) line at ≡ place
 unfolding symbols_end
-symbols_end_hex_step k hex line at next e = rw e
-
--- past the word hex
-pub symbols_end_hex : (k m : ℕ) (hex : Bool) (line : List ℕ) (at next : ℕ) → k ≡ suc m → symbol_at hex line at ≡ Hex next
-    → symbols_end k hex line at ≡ symbols_end m true line next
-symbols_end_hex k m hex line at next h e = ap (λ (i : ℕ). symbols_end i hex line at) h ∙ symbols_end_hex_step m hex line at next e
-
-symbols_end_stop : (k : ℕ) (hex : Bool) (line : List ℕ) (at place : ℕ) → symbol_at hex line at ≡ NoSymbol place → symbols_end (suc k) hex line at ≡ place
-unfolding symbols_end
-symbols_end_stop k hex line at place e = rw e
+symbols_end_stop k line at place e = rw e
 
 -- at another word
-pub symbols_end_over : (k m : ℕ) (hex : Bool) (line : List ℕ) (at place : ℕ) → k ≡ suc m → symbol_at hex line at ≡ NoSymbol place → symbols_end k hex line at ≡ place
-symbols_end_over k m hex line at place h e = ap (λ (i : ℕ). symbols_end i hex line at) h ∙ symbols_end_stop m hex line at place e
+pub symbols_end_over : (k m : ℕ) (line : List ℕ) (at place : ℕ) → k ≡ suc m → symbol_at line at ≡ NoSymbol place → symbols_end k line at ≡ place
+symbols_end_over k m line at place h e = ap (λ (i : ℕ). symbols_end i line at) h ∙ symbols_end_stop m line at place e
 
-pub symbols_end_full : (k : ℕ) (hex : Bool) (line : List ℕ) (at : ℕ) → k ≡ 0 → symbols_end k hex line at ≡ at
+pub symbols_end_full : (k : ℕ) (line : List ℕ) (at : ℕ) → k ≡ 0 → symbols_end k line at ≡ at
 unfolding symbols_end
-symbols_end_full k hex line at h = rw h
+symbols_end_full k line at h = rw h

@@ -8,10 +8,7 @@ use Rattle.text.specs.Words.{before, start_from, word_from, part_of, same_text}
 use Rattle.text.specs.declared.word.LineWord.{LineWord}
 use Rattle.digits.specs.Numbers.{digit_of, are_digits, value_from, digits_of, is_hex, number_of, halves_of, quarter_of}
 use Rattle.words.specs.Said.{word_in, byte_at, udid_at, fresh_at, protocol_at, pec_at, mark_at, rest_at}
-use Rattle.words.specs.Verbs.{module_verb, pass_verb, verb_of, known}
-use Rattle.words.specs.Views.{view_of}
-use Rattle.words.specs.declared.view.View.{View as ViewWord}
-use Rattle.words.specs.declared.view.View.TheVariants as view
+use Rattle.words.specs.Verbs.{module_verb, pass_verb, verb_of}
 use Rattle.words.specs.Events.{event_of}
 use Rattle.words.specs.declared.verb.Verb.{Verb}
 use Rattle.words.specs.declared.verb.Verb.TheVariants as verb
@@ -28,7 +25,7 @@ use Rattle.words.specs.declared.word.MarkWord.TheVariants.{Mark, Over, Another}
 use Rattle.words.specs.declared.word.Rest.{Rest}
 use Rattle.words.specs.declared.word.Rest.TheVariants as left
 use Rattle.requests.specs.Lists.{bytes_end, symbols_end}
-use Rattle.requests.specs.Requests.{bytes_to, symbols_to, ended_by, ended, byte_on, pec_request, head_at, fields_at, received_is, encode_received, sent_is, encode_sent, fields_on, encode_fields, encode_on, encode_request, decode_trace, decode_on, decode_request, last_at, run_request, occupied_request, step_request, choose_request, lookup_request, gone_request, byte_is, target_flag, target_byte, udid_is, target_request, is_random, fresh_is, module_fresh, fourth_is, fresh_on, flag_on, module_flag_is, module_flag, is_module_byte, byte_in, module_byte_is, module_byte, module_is, module_request, event_in, event_request, explain_request, untarget_request, free_request, view_in, view_request, help_in, help_is, help_request, request_in, request_of}
+use Rattle.requests.specs.Requests.{bytes_to, symbols_to, ended_by, ended, byte_on, pec_request, head_at, fields_at, received_is, encode_received, sent_is, encode_sent, fields_on, encode_fields, encode_on, encode_request, decode_trace, decode_on, decode_request, last_at, run_request, occupied_request, step_request, choose_request, lookup_request, gone_request, byte_is, target_flag, target_byte, udid_is, target_request, is_random, fresh_is, module_fresh, fourth_is, fresh_on, flag_on, module_flag_is, module_flag, is_module_byte, byte_in, module_byte_is, module_byte, module_is, module_request, event_in, event_request, request_in, request_of}
 use Rattle.requests.specs.declared.expected.Expected.TheVariants as expected
 use Rattle.requests.specs.declared.head.HeadWords.{HeadWords}
 use Rattle.requests.specs.declared.head.HeadWords.TheVariants.{HeadIs, NoHead}
@@ -39,7 +36,7 @@ use Rattle.requests.specs.declared.request.Fields.{Fields}
 use Rattle.requests.specs.declared.request.Record.{Record}
 use Rattle.requests.specs.declared.request.ModuleEvent.TheVariants as happens
 use Rattle.requests.specs.declared.request.Request.{Request}
-use Rattle.requests.specs.declared.request.Request.TheVariants.{Nothing, Unclear, Pec, Encode, Decode, Occupied, Target, Clear, Run, Start, Step, Lookup, Gone, Grid, Module, Event, Choose, Issue, Decline, Explain, Untarget, Free, View, Help, HelpOn, Quit, Exit}
+use Rattle.requests.specs.declared.request.Request.TheVariants.{Nothing, Unclear, Pec, Encode, Decode, Occupied, Target, Clear, Run, Start, Step, Lookup, Gone, Grid, Module, Event, Choose, Issue, Decline}
 
 -- a module's record: a byte that a module of that kind can have, and a flag of 0 or 1
 abbrev pub is_module : Record → Bool
@@ -65,14 +62,6 @@ fits (Event e p) = true
 fits (Choose p) = true
 fits Issue = true
 fits Decline = true
-fits (Explain p) = true
-fits (Untarget i p) = true
-fits (Free p) = true
-fits (View v) = true
-fits Help = true
-fits (HelpOn v) = true
-fits Quit = true
-fits Exit = true
 
 -- ---- what most requests end with
 
@@ -96,7 +85,7 @@ fits_bytes : (line : List ℕ) (at : ℕ) (q : Request) → fits q ≡ true → 
 fits_bytes line at q e = fits_pick (ltb (bytes_end (length line) line at) (length line)) (Unclear expected.Byte (bytes_end (length line) line at)) q refl e
 
 fits_symbols : (line : List ℕ) (at : ℕ) (q : Request) → fits q ≡ true → fits (symbols_to line at q) ≡ true
-fits_symbols line at q e = fits_pick (ltb (symbols_end (length line) false line at) (length line)) (Unclear expected.Symbol (symbols_end (length line) false line at)) q refl e
+fits_symbols line at q e = fits_pick (ltb (symbols_end (length line) line at) (length line)) (Unclear expected.Symbol (symbols_end (length line) line at)) q refl e
 
 -- ---- the requests of the codec
 
@@ -148,22 +137,6 @@ fits_event event.Stop line place w = fits_ended (Event happens.Stop place) line 
 fits_event event.State line place w = fits_ended (Event happens.State place) line w.to refl
 fits_event event.Other line place w = refl
 
--- ---- view, and help
-
-fits_view : (v : ViewWord) (line : List ℕ) (w : LineWord) → fits (view_in v line w) ≡ true
-fits_view view.Letters line w = fits_ended (View view.Letters) line w.to refl
-fits_view view.Numbers line w = fits_ended (View view.Numbers) line w.to refl
-fits_view view.Words line w = fits_ended (View view.Words) line w.to refl
-fits_view view.Bare line w = fits_ended (View view.Bare) line w.to refl
-fits_view view.Other line w = refl
-
-fits_help_in : (v : Verb) (line : List ℕ) (w : LineWord) → fits (help_in v line w) ≡ true
-fits_help_in v line w = fits_pick (known v) (ended (HelpOn v) line w.to) (Unclear expected.Verb w.from) (fits_ended (HelpOn v) line w.to refl) refl
-
-fits_help : (line : List ℕ) (at : ℕ) (r : Rest) → fits (help_is line at r) ≡ true
-fits_help line at left.Nothing = refl
-fits_help line at (left.Word p) = fits_help_in (verb_of (word_in line (word_from line at))) line (word_from line at)
-
 -- ---- module
 
 fits_fresh : (t : Record) (line : List ℕ) (w : FreshWord) → is_module t ≡ true → fits (fresh_is t line w) ≡ true
@@ -214,7 +187,7 @@ fits_module line (NoIdentifier p) = refl
 -- ---- a line
 
 fits_in : (v : Verb) (line : List ℕ) (place at : ℕ) → fits (request_in v line place at) ≡ true
-unfolding pec_request encode_request decode_request occupied_request target_request run_request step_request choose_request lookup_request gone_request module_request event_request explain_request untarget_request free_request view_request help_request
+unfolding pec_request encode_request decode_request occupied_request target_request run_request step_request choose_request lookup_request gone_request module_request event_request
 fits_in verb.Pec line place at = fits_bytes line at (Pec at) refl
 fits_in verb.Encode line place at = fits_encode line (head_at line at)
 fits_in verb.Decode line place at = fits_decode line (head_at line at)
@@ -232,13 +205,6 @@ fits_in verb.M line place at = fits_event (event_of (word_in line (word_from lin
 fits_in verb.Choose line place at = fits_symbols line at (Choose at) refl
 fits_in verb.Issue line place at = fits_ended Issue line at refl
 fits_in verb.Decline line place at = fits_ended Decline line at refl
-fits_in verb.Explain line place at = fits_symbols line at (Explain at) refl
-fits_in verb.Untarget line place at = fits_byte (λ (i : ℕ). Untarget i (word_from line at).from) line (byte_at line at) (λ i. refl)
-fits_in verb.Free line place at = fits_bytes line at (Free at) refl
-fits_in verb.View line place at = fits_view (view_of (word_in line (word_from line at))) line (word_from line at)
-fits_in verb.Help line place at = fits_help line at (rest_at line at)
-fits_in verb.Quit line place at = fits_ended Quit line at refl
-fits_in verb.Exit line place at = fits_ended Exit line at refl
 fits_in verb.Other line place at = refl
 
 fits_line : (line : List ℕ) → fits (request_of line) ≡ true

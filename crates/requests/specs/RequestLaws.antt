@@ -1,5 +1,5 @@
 -- What a line means, from what its words say.
-use Rattle.std.specs.Prelude.{ℕ, ◌≤◌, ◌<◌, ◌≡◌, false, List, length}
+use Rattle.std.specs.Prelude.{ℕ, ◌≤◌, ◌<◌, ◌≡◌, List, length}
 use borrow.Author.Tests.{lt-ltb, le-ltb, le-leb, lt-leb}
 use Rattle.text.specs.declared.word.LineWord.{LineWord}
 use Rattle.text.specs.Chars.{chars}
@@ -7,7 +7,7 @@ use Rattle.text.specs.Words.{word_from, part_of}
 use Rattle.words.specs.Verbs.{verb_of}
 use Rattle.words.specs.Said.{mark_at}
 use Rattle.requests.specs.Lists.{bytes_end, symbols_end}
-use Rattle.requests.specs.Requests.{symbols_to, bytes_to, pec_request, occupied_request, decode_trace, encode_received, request_in, request_of}
+use Rattle.requests.specs.Requests.{symbols_to, pec_request, occupied_request, decode_trace, encode_received, request_in, request_of}
 use Rattle.requests.specs.declared.expected.Expected.TheVariants as expected
 use Rattle.words.specs.declared.verb.Verb.{Verb}
 use Rattle.words.specs.declared.word.MarkWord.{MarkWord}
@@ -36,21 +36,14 @@ module _ (line : List ℕ) (at end : ℕ) (e : end ≡ bytes_end (length line) l
   unfolding occupied_request
   occupied_is t = rw (← e, le-ltb end (length line) t)
 
-module _ (q : Request) (line : List ℕ) (at end : ℕ) (e : end ≡ bytes_end (length line) line at) where
-  pub bytes_unclear : end < length line → Unclear expected.Byte end ≡ bytes_to line at q
-  bytes_unclear t = rw (← e, lt-ltb end (length line) t)
-
-  pub bytes_to_lem : length line ≤ end → q ≡ bytes_to line at q
-  bytes_to_lem t = rw (← e, le-ltb end (length line) t)
-
-module _ (q : Request) (line : List ℕ) (at end : ℕ) (e : end ≡ symbols_end (length line) false line at) where
+module _ (q : Request) (line : List ℕ) (at end : ℕ) (e : end ≡ symbols_end (length line) line at) where
   pub symbols_unclear : end < length line → Unclear expected.Symbol end ≡ symbols_to line at q
   symbols_unclear t = rw (← e, lt-ltb end (length line) t)
 
   pub symbols_are : length line ≤ end → q ≡ symbols_to line at q
   symbols_are t = rw (← e, le-ltb end (length line) t)
 
-module _ (h : Head) (line : List ℕ) (at end : ℕ) (e : end ≡ symbols_end (length line) false line at) where
+module _ (h : Head) (line : List ℕ) (at end : ℕ) (e : end ≡ symbols_end (length line) line at) where
   pub decode_unclear : end < length line → Unclear expected.Symbol end ≡ decode_trace h line at
   unfolding decode_trace
   decode_unclear t = rw (← e, lt-ltb end (length line) t)

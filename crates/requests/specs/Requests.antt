@@ -6,16 +6,13 @@ use Rattle.udid.specs.Udids.{top_bits, is_fixed}
 use Rattle.text.specs.Chars.{chars}
 use Rattle.text.specs.Words.{word_from}
 use Rattle.text.specs.declared.word.LineWord.{LineWord}
-use Rattle.words.specs.Verbs.{verb_of, known}
-use Rattle.words.specs.Views.{view_of}
+use Rattle.words.specs.Verbs.{verb_of}
 use Rattle.words.specs.Events.{event_of}
 use Rattle.words.specs.Said.{word_in, byte_at, udid_at, fresh_at, protocol_at, pec_at, mark_at, rest_at}
 use Rattle.requests.specs.Lists.{bytes_end, symbols_end}
 use Rattle.requests.specs.declared.expected.Expected.TheVariants as expected
 use Rattle.words.specs.declared.verb.Verb.{Verb}
 use Rattle.words.specs.declared.verb.Verb.TheVariants as verb
-use Rattle.words.specs.declared.view.View.{View as ViewWord}
-use Rattle.words.specs.declared.view.View.TheVariants as view
 use Rattle.words.specs.declared.event.Event.{Event as EventWord}
 use Rattle.words.specs.declared.event.Event.TheVariants as event
 use Rattle.words.specs.declared.word.ByteWord.{ByteWord}
@@ -41,14 +38,14 @@ use Rattle.requests.specs.declared.request.Fields.{Fields}
 use Rattle.requests.specs.declared.request.Record.{Record}
 use Rattle.requests.specs.declared.request.ModuleEvent.TheVariants as happens
 use Rattle.requests.specs.declared.request.Request.{Request}
-use Rattle.requests.specs.declared.request.Request.TheVariants.{Nothing, Unclear, Pec, Encode, Decode, Occupied, Target, Clear, Run, Start, Step, Lookup, Gone, Grid, Module, Event, Choose, Issue, Decline, Explain, Untarget, Free, View, Help, HelpOn, Quit, Exit}
+use Rattle.requests.specs.declared.request.Request.TheVariants.{Nothing, Unclear, Pec, Encode, Decode, Occupied, Target, Clear, Run, Start, Step, Lookup, Gone, Grid, Module, Event, Choose, Issue, Decline}
 
 -- a request whose list of bytes, or of symbols, reaches to the end of the line
 abbrev pub bytes_to : List ℕ → ℕ → Request → Request
 bytes_to line at q = pick (ltb (bytes_end (length line) line at) (length line)) (Unclear expected.Byte (bytes_end (length line) line at)) q
 
 abbrev pub symbols_to : List ℕ → ℕ → Request → Request
-symbols_to line at q = pick (ltb (symbols_end (length line) false line at) (length line)) (Unclear expected.Symbol (symbols_end (length line) false line at)) q
+symbols_to line at q = pick (ltb (symbols_end (length line) line at) (length line)) (Unclear expected.Symbol (symbols_end (length line) line at)) q
 
 -- a request after which no word is left
 abbrev pub ended_by : Request → Rest → Request
@@ -164,41 +161,6 @@ last_at line at = last_is line at (rest_at line at)
 
 unfoldable pub run_request : List ℕ → ℕ → Request
 run_request line at = byte_on Run line (last_at line at)
-
--- ---- explain SYMBOL..., free A..., untarget I
-
-unfoldable pub explain_request : List ℕ → ℕ → Request
-explain_request line at = symbols_to line at (Explain at)
-
-unfoldable pub free_request : List ℕ → ℕ → Request
-free_request line at = bytes_to line at (Free at)
-
-unfoldable pub untarget_request : List ℕ → ℕ → Request
-untarget_request line at = byte_on (λ (i : ℕ). Untarget i (word_from line at).from) line (byte_at line at)
-
--- ---- view letters, numbers, words or bare
-
-abbrev pub view_in : ViewWord → List ℕ → LineWord → Request
-view_in view.Letters line w = ended (View view.Letters) line w.to
-view_in view.Numbers line w = ended (View view.Numbers) line w.to
-view_in view.Words line w = ended (View view.Words) line w.to
-view_in view.Bare line w = ended (View view.Bare) line w.to
-view_in view.Other line w = Unclear expected.View w.from
-
-unfoldable pub view_request : List ℕ → ℕ → Request
-view_request line at = view_in (view_of (word_in line (word_from line at))) line (word_from line at)
-
--- ---- help, or help VERB
-
-abbrev pub help_in : Verb → List ℕ → LineWord → Request
-help_in v line w = pick (known v) (ended (HelpOn v) line w.to) (Unclear expected.Verb w.from)
-
-abbrev pub help_is : List ℕ → ℕ → Rest → Request
-help_is line at left.Nothing = Help
-help_is line at (left.Word place) = help_in (verb_of (word_in line (word_from line at))) line (word_from line at)
-
-unfoldable pub help_request : List ℕ → ℕ → Request
-help_request line at = help_is line at (rest_at line at)
 
 -- ---- occupied A..., step SYMBOL..., choose SYMBOL..., lookup A, gone A
 
@@ -324,13 +286,6 @@ request_in verb.M line place at = event_request line place at
 request_in verb.Choose line place at = choose_request line at
 request_in verb.Issue line place at = ended Issue line at
 request_in verb.Decline line place at = ended Decline line at
-request_in verb.Explain line place at = explain_request line at
-request_in verb.Untarget line place at = untarget_request line at
-request_in verb.Free line place at = free_request line at
-request_in verb.View line place at = view_request line at
-request_in verb.Help line place at = help_request line at
-request_in verb.Quit line place at = ended Quit line at
-request_in verb.Exit line place at = ended Exit line at
 request_in verb.Other line place at = Unclear expected.Verb place
 
 -- a line of no word asks for nothing

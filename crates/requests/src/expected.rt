@@ -1,11 +1,11 @@
 // What was expected where a line is no request.
-#[derive(Drop)]
+#[derive(Clone, Copy)]
 pub enum Expected {
     // One of the verbs.
     Verb,
     // A number of 0 to 255.
     Byte,
-    // A number of 0 to 65,535, or one of four letters.
+    // A number of 0 to 65,535.
     Symbol,
     // A protocol, by number or name.
     Protocol,
@@ -31,10 +31,6 @@ pub enum Expected {
     Event,
     // A module, which the verb module makes.
     Module,
-    // The number of a target record that there is.
-    Number,
-    // letters, numbers, words or bare.
-    View,
     // A line that is no longer than a line may be.
     Line,
 }

@@ -7,14 +7,14 @@ use crate::request::{Fields, Head};
 use words::word::{ByteWord, PecWord, byte_word, pec_word, protocol_word};
 
 // A head and the place after it, or what was expected at which place.
-#[derive(Drop)]
+#[derive(Clone, Copy)]
 pub(crate) enum HeadWords {
     HeadIs(Head, usize),
     NoHead(Expected, usize),
 }
 
 // Fields and the place after them, or the place of a word that is no byte.
-#[derive(Drop)]
+#[derive(Clone, Copy)]
 pub(crate) enum FieldWords {
     FieldsAre(Fields, usize),
     NoFields(usize),

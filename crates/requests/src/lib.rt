@@ -1,5 +1,7 @@
 // What a line of the console means: a request with its values, or the place and what was expected there. No function here reads a file or
 // changes anything but a buffer that is lent. Rests on words, and on text and udid below it.
+#![tactic(auto)]
+
 mod encoding;
 pub mod expected;
 mod head;
@@ -7,4 +9,3 @@ pub mod list;
 mod modules;
 mod other;
 pub mod request;
-mod talk;

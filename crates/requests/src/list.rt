@@ -1,11 +1,10 @@
-// Lists of bytes and of symbols in a line. A list ends at the first word that is none of its own. No line has more words than characters, so as many
+// Lists of numbers in a line. A list ends at the first word that is none of its numbers. No line has more words than characters, so as many
 // words are looked at. Rests on crate words.
-ghost use Rattle.std.specs.Prelude.{◌≡◌, false, length, set};
-ghost use Rattle.writing.specs.Written.{Appended, following};
+ghost use Rattle.std.specs.Prelude.{◌≡◌, length};
+ghost use Rattle.writing.specs.Written.{Appended};
 ghost use Rattle.requests.specs.Lists.{bytes_end, symbols_end, bytes_from, symbols_from};
 
-use words::symbol::{SymbolWord, symbol_word};
-use words::word::{ByteWord, byte_word};
+use words::word::{ByteWord, SymbolWord, byte_word, symbol_word};
 
 // The place of the first word from a place on that is no byte.
 pub(crate) fn bytes_end(line: &[u8], from: usize) -> usize
@@ -28,23 +27,17 @@ pub(crate) fn bytes_end(line: &[u8], from: usize) -> usize
     at
 }
 
-// The place of the first word from a place on that is none of a trace.
+// The place of the first word from a place on that is no symbol.
 pub(crate) fn symbols_end(line: &[u8], from: usize) -> usize
-    ensures { result ≡ symbols_end (length line.now) false line.now from }
+    ensures { result ≡ symbols_end (length line.now) line.now from }
 {
     let mut left = line.len();
     let mut at = from;
-    let mut hex = false;
     while left > 0 {
-        let x = symbol_word(line, at, hex);
+        let x = symbol_word(line, at);
         match x {
             SymbolWord::Symbol(_, next) => {
                 at = next;
-                left -= 1;
-            }
-            SymbolWord::Hex(next) => {
-                at = next;
-                hex = true;
                 left -= 1;
             }
             SymbolWord::NoSymbol(p) => {
@@ -77,38 +70,19 @@ pub fn read_bytes(line: &[u8], from: usize, out: &mut [u8]) -> usize
     n
 }
 
-// A symbol at a place of a buffer, and the place after it; where there is no room nothing is written.
-fn put_symbol(out: &mut [u16], at: usize, x: u16) -> usize
-    ensures { (result ≡ following (length out.old) at) × (out.new ≡ set out.old at x) }
-{
-    if at < out.len() {
-        out[at] = x;
-        at + 1
-    } else {
-        at
-    }
-}
-
-// The symbols from a place on, in the same way. The word hex takes no room.
+// The symbols from a place on, in the same way.
 pub fn read_symbols(line: &[u8], from: usize, out: &mut [u16]) -> usize
-    ensures { Appended out.old 0 (symbols_from (length line.now) false line.now from) out.new result }
+    ensures { Appended out.old 0 (symbols_from (length out.old) line.now from) out.new result }
 {
-    let mut left = line.len();
     let mut n: usize = 0;
     let mut at = from;
-    let mut hex = false;
-    while left > 0 {
-        let x = symbol_word(line, at, hex);
+    while n < out.len() {
+        let x = symbol_word(line, at);
         match x {
             SymbolWord::Symbol(v, next) => {
-                n = put_symbol(out, n, v);
+                out[n] = v;
+                n += 1;
                 at = next;
-                left -= 1;
-            }
-            SymbolWord::Hex(next) => {
-                at = next;
-                hex = true;
-                left -= 1;
             }
             SymbolWord::NoSymbol(_) => {
                 return n;

@@ -1,11 +1,10 @@
 // The requests of the shelf and of the controller.
 ghost use Rattle.std.specs.Prelude.{◌≡◌};
-ghost use Rattle.requests.specs.Requests.{symbols_to, bytes_to, occupied_request, free_request, explain_request, untarget_request, last_at, of_byte, byte_on, run_request, step_request, choose_request, lookup_request, gone_request, target_request, target_byte, target_flag, ended};
+ghost use Rattle.requests.specs.Requests.{symbols_to, occupied_request, last_at, of_byte, byte_on, run_request, step_request, choose_request, lookup_request, gone_request, target_request, target_byte, target_flag, ended};
 
 use crate::expected::Expected;
 use crate::list::{bytes_end, symbols_end};
 use crate::request::{Record, Request};
-use text::word::next_word;
 use udid::Udid;
 use words::word::{ByteWord, Rest, UdidWord, after_word, byte_word, udid_word};
 
@@ -13,7 +12,7 @@ use words::word::{ByteWord, Rest, UdidWord, after_word, byte_word, udid_word};
 const NEVER_PICKED: u8 = 127;
 
 // The requests of one byte.
-#[derive(Drop)]
+#[derive(Clone, Copy)]
 pub(crate) enum OneByte {
     Run,
     Lookup,
@@ -40,38 +39,6 @@ pub(crate) fn occupied(line: &[u8], from: usize) -> Request
         return Request::Unclear(Expected::Byte, end);
     }
     Request::Occupied(from)
-}
-
-// A request whose bytes from a place on reach to the end of the line.
-fn with_bytes(q: Request, line: &[u8], from: usize) -> Request
-    ensures { result ≡ bytes_to line.now from q }
-{
-    let end = bytes_end(line, from);
-    if end < line.len() {
-        return Request::Unclear(Expected::Byte, end);
-    }
-    q
-}
-
-// free A...
-pub(crate) fn free(line: &[u8], from: usize) -> Request
-    ensures { result ≡ free_request line.now from }
-{
-    with_bytes(Request::Free(from), line, from)
-}
-
-// untarget I
-pub(crate) fn untarget(line: &[u8], from: usize) -> Request
-    ensures { result ≡ untarget_request line.now from }
-{
-    let b = byte_word(line, from);
-    match b {
-        ByteWord::Byte(i, next) => {
-            let w = next_word(line, from);
-            ending(Request::Untarget(i, w.from), line, next)
-        }
-        ByteWord::NoByte(place) => Request::Unclear(Expected::Byte, place),
-    }
 }
 
 // LAST, a byte; where no word is left, never picked.
@@ -136,13 +103,6 @@ pub(crate) fn choose(line: &[u8], from: usize) -> Request
     ensures { result ≡ choose_request line.now from }
 {
     with_symbols(Request::Choose(from), line, from)
-}
-
-// explain SYMBOL...
-pub(crate) fn explain(line: &[u8], from: usize) -> Request
-    ensures { result ≡ explain_request line.now from }
-{
-    with_symbols(Request::Explain(from), line, from)
 }
 
 // lookup A

@@ -6,24 +6,20 @@ ghost use Rattle.requests.specs.Requests.{request_of, request_in};
 use crate::encoding::{decode, encode, pec};
 use crate::expected::Expected;
 use crate::modules::{event, resume};
-use crate::other::{
-    choose, ending, explain, free, gone, lookup, occupied, run, step, target, untarget,
-};
-use crate::talk::{help, view};
+use crate::other::{choose, ending, gone, lookup, occupied, run, step, target};
 use text::word::{next_word, part};
 use udid::Udid;
 use words::verb::{Verb, verb_of};
-use words::view::View;
 
 // A protocol's number, and whether there is a PEC.
-#[derive(Drop)]
+#[derive(Clone, Copy)]
 pub struct Head {
     pub protocol: u8,
     pub pec: bool,
 }
 
 // The fields of a transaction beside its data.
-#[derive(Drop)]
+#[derive(Clone, Copy)]
 pub struct Fields {
     pub address: u8,
     pub direction: u8,
@@ -31,7 +27,7 @@ pub struct Fields {
 }
 
 // A target record: the identifier, the address byte and the flag.
-#[derive(Drop)]
+#[derive(Clone, Copy)]
 pub struct Record {
     pub udid: Udid,
     pub byte: u8,
@@ -39,7 +35,7 @@ pub struct Record {
 }
 
 // What happens to a module at its own end of the bus, or what is asked of it there.
-#[derive(Drop)]
+#[derive(Clone, Copy)]
 pub enum ModuleEvent {
     Start,
     // It receives the bytes from a place on.
@@ -54,7 +50,7 @@ pub enum ModuleEvent {
 }
 
 // What a line asks for.
-#[derive(Drop)]
+#[derive(Clone, Copy)]
 pub enum Request {
     // A line of no word.
     Nothing,
@@ -91,20 +87,6 @@ pub enum Request {
     Issue,
     // The choice that waits is dropped, and the pass with it.
     Decline,
-    // The symbols from a place on, whatever their protocol.
-    Explain(usize),
-    // The target record of a number is taken away; and the place of the number.
-    Untarget(u8, usize),
-    // The addresses from a place on are in use no more.
-    Free(usize),
-    // How answers are to be written.
-    View(View),
-    // What there is to ask.
-    Help,
-    // What a verb asks for.
-    HelpOn(Verb),
-    Quit,
-    Exit,
 }
 
 // The request of a verb, with the words from a place on.
@@ -129,13 +111,6 @@ fn request_in(v: Verb, line: &[u8], verb: usize, from: usize) -> Request
         Verb::Choose => choose(line, from),
         Verb::Issue => ending(Request::Issue, line, from),
         Verb::Decline => ending(Request::Decline, line, from),
-        Verb::Explain => explain(line, from),
-        Verb::Untarget => untarget(line, from),
-        Verb::Free => free(line, from),
-        Verb::View => view(line, from),
-        Verb::Help => help(line, from),
-        Verb::Quit => ending(Request::Quit, line, from),
-        Verb::Exit => ending(Request::Exit, line, from),
         Verb::Other => Request::Unclear(Expected::Verb, verb),
     }
 }

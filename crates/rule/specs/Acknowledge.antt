@@ -7,7 +7,7 @@ use Rattle.wire.specs.Symbols.{STOP, ACK, NACK}
 use Rattle.trace.specs.Trace.{nacked}
 use Rattle.udid.specs.Bytes.{udid_bytes}
 use Rattle.targets.specs.Target.{Target, is_resolved}
-use Rattle.targets.specs.Reply.{waiting, On_wire, silence, shown, on_wire}
+use Rattle.targets.specs.Reply.{waiting, OnWire, silence, shown, on_wire}
 use Rattle.commands.specs.SameTrace.{same}
 use Rattle.commands.specs.Requests.{trace_of}
 use Rattle.commands.specs.declared.command.Command.TheVariants.{Prepare, GetUdid, Assign}
@@ -50,7 +50,7 @@ answered ack sent (x ∷ xs) rest =
     pick (eqb x ACK) (pick (ack sent) (ACK ∷ answered ack sent xs rest) (NACK ∷ STOP ∷ [])) (x ∷ answered ack (sent ++ x ∷ []) xs rest)
 
 -- the bytes that the targets send, each with the controller's ACK, the last with NACK
-abbrev pub received : On_wire → List ℕ
+abbrev pub received : OnWire → List ℕ
 received silence = []
 received (shown bytes) = nacked bytes
 

@@ -16,7 +16,7 @@ use Rattle.pool.specs.declared.free.Free.TheVariants.{At, AllUsed}
 use Rattle.udid.specs.Udids.{is_fixed, value}
 use Rattle.arbitration.specs.Among.{Among}
 use Rattle.targets.specs.Target.{Target}
-use Rattle.targets.specs.Admission.{Admitted_targets}
+use Rattle.targets.specs.Admission.{AdmittedTargets}
 use Rattle.rule.specs.PlainRule.{insert, ascending, plain_choice, pick_after, served, next, rule, ruled}
 use Rattle.rule.specs.Ready.{Ready}
 use Rattle.rule.specs.RuleLaws.{fixed_choice_own, movable_choice_free, ready_choice_free, movable_after, ready_next, choice_none, all_given_served}
@@ -148,7 +148,7 @@ used_ascending ts p =
 
 -- ---- for the targets as they are lent
 
-module _ (occupied : Pool) (last : ℕ) (ts : List Target) (v : Admitted_targets (barred_pool occupied) ts) where
+module _ (occupied : Pool) (last : ℕ) (ts : List Target) (v : AdmittedTargets (barred_pool occupied) ts) where
   room_exactly : (movable ts ≤ left_free (starting_pool occupied) ts) ↔ (used (with_fixed (starting_pool occupied) (ascending ts)) + movable (ascending ts) ≤ 128)
   room_exactly =
       let u = used_ascending ts (starting_pool occupied) in

@@ -4,7 +4,7 @@ use Rattle.arp.specs.declared.state.Stepped.{Stepped}
 use Rattle.pool.specs.declared.Pool.{Pool}
 use Rattle.targets.specs.Target.{Target, map_targets}
 use Rattle.rule.specs.Acknowledge.{on_bus}
-use Rattle.rule.specs.AnyBus.{Bus, World_over, took_over, turn_over, run_over, beginning_over, pass_of}
+use Rattle.rule.specs.AnyBus.{Bus, WorldOver, took_over, turn_over, run_over, beginning_over, pass_of}
 use Rattle.rule.specs.Effect.{effect}
 
 -- THE MODEL'S BUS: the symbols on it act on each target
@@ -12,13 +12,13 @@ abbrev pub model_bus : Bus (List Target)
 model_bus = record { stands = on_bus; acts = λ tr ts. map_targets (effect tr) ts }
 
 -- A PASS over it
-unfoldable pub pass : Pool → ℕ → List Target → World_over (List Target)
+unfoldable pub pass : Pool → ℕ → List Target → WorldOver (List Target)
 pass occupied last ts = pass_of model_bus occupied last ts
 
 -- ---- what the laws of a run over it speak of
 
 abbrev pub World : Type 0
-World = World_over (List Target)
+World = WorldOver (List Target)
 
 abbrev pub reached : List ℕ → List Target → List Target
 reached tr ts = model_bus.acts tr ts

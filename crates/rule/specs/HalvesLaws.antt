@@ -3,7 +3,7 @@ use Rattle.std.specs.Prelude.{ℕ, zero, suc, ◌≡◌, refl, List, [], ◌∷�
 use Rattle.std.proofs.Common.{ap, ◌∙◌}
 use Rattle.arp.specs.ChoosingLaws.{halves_are_the_step}
 use Rattle.arp.specs.declared.state.Stepped.{Stepped}
-use Rattle.rule.specs.AnyBus.{Bus, World_over, took_over, turn_over, run_over}
+use Rattle.rule.specs.AnyBus.{Bus, WorldOver, took_over, turn_over, run_over}
 use Rattle.rule.specs.Halves.{took_by_halves, run_by_halves}
 
 module _ {A : Type 0} (bus : Bus A) where
@@ -12,7 +12,7 @@ module _ {A : Type 0} (bus : Bus A) where
   turn_by_halves s ts (x ∷ xs) = ap (λ (r : Stepped). record { now = r; targets = bus.acts (x ∷ xs) ts }) (halves_are_the_step s.state (x ∷ xs))
 
   -- ANY NUMBER OF TURNS, over any bus
-  pub run_by_halves_lem : (n : ℕ) (w : World_over A) → run_by_halves bus n w ≡ run_over bus n w
+  pub run_by_halves_lem : (n : ℕ) (w : WorldOver A) → run_by_halves bus n w ≡ run_over bus n w
   run_by_halves_lem zero w = refl
   run_by_halves_lem (suc n) w =
       ap (run_by_halves bus n) (turn_by_halves w.now w.targets (bus.stands w.now.command w.targets)) ∙ run_by_halves_lem n (turn_over bus w)

@@ -22,7 +22,7 @@ use Rattle.arbitration.specs.Among.{Among}
 use Rattle.targets.specs.Target.{Target, is_resolved, prepared, cleared, resolve, Sized}
 use Rattle.targets.specs.Members.{Pairs}
 use Rattle.targets.specs.RecordLaws.{length_map}
-use Rattle.targets.specs.Admission.{Fixed_apart, Fixed_free, Admitted_targets}
+use Rattle.targets.specs.Admission.{FixedApart, FixedFree, AdmittedTargets}
 use Rattle.slots.specs.SlotsLaws.{open_all, sized_none}
 use Rattle.slots.specs.Finding.{bound_to}
 use Rattle.picking.specs.Claims.{makes_claim}
@@ -38,7 +38,7 @@ use Rattle.arp.specs.State.{state_of}
 use Rattle.rule.specs.AnyBusLaws.{run_add}
 use Rattle.rule.specs.Bus.{model_bus, turn, run, beginning, pass}
 use Rattle.rule.specs.BusLaws.{turn_takes}
-use Rattle.rule.specs.PlainRule.{insert, ascending, is_picked_for, plain_choice, pick_after, served, none_free, Given, next, rule, ruled, Free_in, Movable_free_in, Distinct}
+use Rattle.rule.specs.PlainRule.{insert, ascending, is_picked_for, plain_choice, pick_after, served, none_free, Given, next, rule, ruled, FreeIn, MovableFreeIn, Distinct}
 use Rattle.rule.specs.PassEnd.{ended, outcome, nobody_there, pass_end}
 use Rattle.rule.specs.EffectLaws.{effect_as_meant}
 use Rattle.rule.specs.TraceLaws as on-bus
@@ -115,12 +115,12 @@ sized_prepared t z = record { udid = z.udid; address_byte = z.address_byte }
 open_cleared : (ts : List Target) (y : Target) → Among y (cleared ts) → is_resolved y ≡ false
 open_cleared ts y m = ap is_resolved (sym (cleared_was ts y m).2)
 
-admitted_cleared : (b : Pool) (ts : List Target) → Admitted_targets b ts → Admitted_targets b (cleared ts)
+admitted_cleared : (b : Pool) (ts : List Target) → AdmittedTargets b ts → AdmittedTargets b (cleared ts)
 admitted_cleared b ts v = record {
   sized = λ y m. let r = cleared_was ts y m in subst Sized r.2 (sized_prepared r.0 (v.sized r.0 r.1));
   differ = pairs_cleared ts (λ x y h. h) v.differ;
   fixed_apart = pairs_cleared ts (λ x y h. h) v.fixed_apart;
-  fixed_free = λ y m. let r = cleared_was ts y m in subst (Fixed_free b) r.2 (v.fixed_free r.0 r.1);
+  fixed_free = λ y m. let r = cleared_was ts y m in subst (FixedFree b) r.2 (v.fixed_free r.0 r.1);
   at_most_120 = omega (arith, length_cleared ts, v.at_most_120);
 }
 
@@ -135,7 +135,7 @@ unfolding is_reserved
 last_address_barred occupied = member_barred occupied 127
 
 -- to begin with, the barred addresses are shut
-module _ (occupied : Pool) (ts : List Target) (v : Admitted_targets (barred_pool occupied) ts) where
+module _ (occupied : Pool) (ts : List Target) (v : AdmittedTargets (barred_pool occupied) ts) where
   pub ready_first : Ready (starting_pool occupied) (barred_pool occupied) (ascending ts)
   ready_first = record {
     apart = pairs_map (ascending ts) apart' (ascending_is_lower_first ts v.differ);
@@ -145,7 +145,7 @@ module _ (occupied : Pool) (ts : List Target) (v : Admitted_targets (barred_pool
     last_shut = last_address_barred occupied;
   }
     where
-      elsewhere' : (x y : Target) → (x ≡ y) ⊎ Fixed_apart x y → Lower x y → Fixed_apart x y
+      elsewhere' : (x y : Target) → (x ≡ y) ⊎ FixedApart x y → Lower x y → FixedApart x y
       elsewhere' x y (inl e) l = absurd (omega (arith, l, ap (λ (t : Target). value t.udid) e))
       elsewhere' x y (inr f) l = f
 
@@ -181,7 +181,7 @@ module _ (occupied : Pool) (last : ℕ) where
   start : Pool
   start = starting_pool occupied
 
-  first_turn : (t : Target) (ts : List Target) → Admitted_targets (barred_pool occupied) (t ∷ ts) → turn (beginning occupied last (t ∷ ts)) ≡ asking (last_pick last) occupied start no_bindings 1 (cleared (t ∷ ts))
+  first_turn : (t : Target) (ts : List Target) → AdmittedTargets (barred_pool occupied) (t ∷ ts) → turn (beginning occupied last (t ∷ ts)) ≡ asking (last_pick last) occupied start no_bindings 1 (cleared (t ∷ ts))
   unfolding start
   first_turn t ts v =
       turn_takes (beginning occupied last (t ∷ ts)).now (t ∷ ts) (Send Prepare) refl
@@ -196,7 +196,7 @@ module _ (occupied : Pool) (last : ℕ) where
       ∙ ap (λ (x : Stepped). record { now = x; targets = [] })
       (ap (stepped (state_of (last_pick last) occupied start no_bindings 0 (Send Prepare))) on-bus.prepare_cut ∙ prepare_silence_ends (last_pick last) occupied start no_bindings)
 
-  some_targets : (t : Target) (ts : List Target) → Admitted_targets (barred_pool occupied) (t ∷ ts) → run 300 (beginning occupied last (t ∷ ts)) ≡ pass_end occupied (last_pick last) (t ∷ ts)
+  some_targets : (t : Target) (ts : List Target) → AdmittedTargets (barred_pool occupied) (t ∷ ts) → run 300 (beginning occupied last (t ∷ ts)) ≡ pass_end occupied (last_pick last) (t ∷ ts)
   unfolding start
   some_targets t ts v =
       let us : List Target = cleared (t ∷ ts) in
@@ -215,7 +215,7 @@ module _ (occupied : Pool) (last : ℕ) where
       ∙ ended_run_stays (299 - n) _ _ _ _ _ (rule (ascending (t ∷ ts)) start (last_pick last)).ending _
 
 -- THE PASS ENDS AS THE PLAIN RULE SAYS: bindings, pool and last command of the controller, and every target
-pub demand_3 : (occupied : Pool) (last : ℕ) (ts : List Target) → Admitted_targets (barred_pool occupied) ts → pass occupied last ts ≡ pass_end occupied (last_pick last) ts
+pub demand_3 : (occupied : Pool) (last : ℕ) (ts : List Target) → AdmittedTargets (barred_pool occupied) ts → pass occupied last ts ≡ pass_end occupied (last_pick last) ts
 unfolding pass start
 demand_3 occupied last [] v = ap (run 299) (nobody_turn occupied last) ∙ ended_run_stays 299 (last_pick last) occupied (starting_pool occupied) no_bindings 0 served []
 demand_3 occupied last (t ∷ ts) v = some_targets occupied last t ts v
@@ -225,13 +225,13 @@ pub nobody_ends_first_turn : (occupied : Pool) (last : ℕ) → turn (beginning 
 unfolding start
 nobody_ends_first_turn occupied last = nobody_turn occupied last
 
-module _ (occupied : Pool) (last : ℕ) (ts : List Target) (v : Admitted_targets (barred_pool occupied) ts) where
+module _ (occupied : Pool) (last : ℕ) (ts : List Target) (v : AdmittedTargets (barred_pool occupied) ts) where
   -- the addresses given are below 128 and not barred, and none is given twice
-  pub given_free_distinct : Each (Free_in (barred_pool occupied)) (ruled (starting_pool occupied) last ts).given × Distinct (ruled (starting_pool occupied) last ts).given
+  pub given_free_distinct : Each (FreeIn (barred_pool occupied)) (ruled (starting_pool occupied) last ts).given × Distinct (ruled (starting_pool occupied) last ts).given
   given_free_distinct = rule_gives_free (ascending ts) (starting_pool occupied) (barred_pool occupied) last (ready_first occupied ts v)
 
   -- and a movable target's is not in the starting pool
-  pub given_movable_free : Each (Movable_free_in (starting_pool occupied)) (ruled (starting_pool occupied) last ts).given
+  pub given_movable_free : Each (MovableFreeIn (starting_pool occupied)) (ruled (starting_pool occupied) last ts).given
   given_movable_free = rule_gives_movable_free (ascending ts) (starting_pool occupied) last
 
   -- those served are targets of the bus

@@ -76,12 +76,12 @@ ruled b last ts = rule (ascending ts) b last
 -- ---- of what it gives
 
 -- an address that a set does not have
-abbrev pub Free_in : Pool → Given → Type 0
-Free_in p g = (g.address < 128) × (member p g.address ≡ false)
+abbrev pub FreeIn : Pool → Given → Type 0
+FreeIn p g = (g.address < 128) × (member p g.address ≡ false)
 
 -- an address that it does not have, where the target is movable
-abbrev pub Movable_free_in : Pool → Given → Type 0
-Movable_free_in p g = is_fixed g.who.udid ≡ false → member p g.address ≡ false
+abbrev pub MovableFreeIn : Pool → Given → Type 0
+MovableFreeIn p g = is_fixed g.who.udid ≡ false → member p g.address ≡ false
 
 -- no two at one address
 abbrev pub Distinct : List Given → Type 0

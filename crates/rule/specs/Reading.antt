@@ -12,8 +12,8 @@ use Rattle.targets.specs.Target.{Target, assigned_to}
 use Rattle.rule.specs.PlainRule.{Given}
 
 -- the 16 bytes of record i are the identifier of one who was given an address
-abbrev pub Record_of : List ℕ → ℕ → Given → Type 0
-Record_of s i g = take 16 (drop (18 * i) s) ≡ udid_bytes g.who.udid
+abbrev pub RecordOf : List ℕ → ℕ → Given → Type 0
+RecordOf s i g = take 16 (drop (18 * i) s) ≡ udid_bytes g.who.udid
 
 abbrev pub some_of : List Udid → Bool
 some_of [] = false
@@ -26,13 +26,13 @@ abbrev pub bound_at : Slots → ℕ → Bool
 bound_at s a = is_bound (held_at s a)
 
 -- one who was given this address has this identifier
-abbrev pub Given_at : ℕ → Udid → Given → Type 0
-Given_at a u g = (g.address ≡ a) × (g.who.udid ≡ u)
+abbrev pub GivenAt : ℕ → Udid → Given → Type 0
+GivenAt a u g = (g.address ≡ a) × (g.who.udid ≡ u)
 
 -- no two bindings of one identifier
-abbrev pub One_per_udid : List Given → Type 0
-One_per_udid [] = Unit
-One_per_udid (g ∷ gs) = Each (λ (h : Given). same_udid g.who.udid h.who.udid ≡ false) gs × One_per_udid gs
+abbrev pub OnePerUdid : List Given → Type 0
+OnePerUdid [] = Unit
+OnePerUdid (g ∷ gs) = Each (λ (h : Given). same_udid g.who.udid h.who.udid ≡ false) gs × OnePerUdid gs
 
 -- ---- what each target ends with
 
@@ -45,5 +45,5 @@ served_by (g ∷ gs) t = served_by gs (assigned_to g.who.udid g.address t)
 abbrev pub taken : Target → ℕ → Target
 taken t a = record { udid = t.udid; address_byte = 2 * (a % 128) + 1; flag = 1 }
 
-abbrev pub Taken_by : List Given → Target → Given → Type 0
-Taken_by gs t g = t.udid ≡ g.who.udid → served_by gs t ≡ taken t g.address
+abbrev pub TakenBy : List Given → Target → Given → Type 0
+TakenBy gs t g = t.udid ≡ g.who.udid → served_by gs t ≡ taken t g.address

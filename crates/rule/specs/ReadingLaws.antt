@@ -23,14 +23,14 @@ use Rattle.slots.specs.declared.Binding.TheVariants.{Open, Bound, Claimed}
 use Rattle.slots.specs.declared.Slots.{Slots}
 use Rattle.targets.specs.Target.{Target, map_targets, prepared, assigned_to, cleared, resolve}
 use Rattle.targets.specs.Members.{Pairs}
-use Rattle.targets.specs.Admission.{Admitted_targets}
-use Rattle.rule.specs.PlainRule.{plain_choice, pick_after, Given, next, rule, Free_in, Distinct, ascending, ruled}
+use Rattle.targets.specs.Admission.{AdmittedTargets}
+use Rattle.rule.specs.PlainRule.{plain_choice, pick_after, Given, next, rule, FreeIn, Distinct, ascending, ruled}
 use Rattle.rule.specs.RuleLaws.{rule_serves_these}
 use Rattle.rule.specs.Ready.{Lower}
 use Rattle.rule.specs.SortLaws.{ascending_is_lower_first}
 use Rattle.rule.specs.PassEnd.{put_all, resolve_all, pass_end}
 use Rattle.rule.specs.PassEndLaws.{given_free_distinct}
-use Rattle.rule.specs.Reading.{is_bound, bound_at, Given_at, One_per_udid, served_by, taken, Taken_by}
+use Rattle.rule.specs.Reading.{is_bound, bound_at, GivenAt, OnePerUdid, served_by, taken, TakenBy}
 
 -- ---- HOW MANY are bound
 
@@ -63,7 +63,7 @@ none_count (suc k) = zero-add (count (λ (j : ℕ). false) k) ∙ none_count k
 open_count : count (bound_at no_bindings) 128 ≡ 0
 open_count = count_cong (bound_at no_bindings) (λ (j : ℕ). false) 128 (λ j h. open_none j) ∙ none_count 128
 
-free_room : (b : Pool) (gs : List Given) → Each (Free_in b) gs → Each (Room no_bindings) gs
+free_room : (b : Pool) (gs : List Given) → Each (FreeIn b) gs → Each (Room no_bindings) gs
 free_room b [] h = tt
 free_room b (g ∷ gs) h = ((h.0.0, open_none g.address), free_room b gs h.1)
 
@@ -75,13 +75,13 @@ end_slots occupied last (t ∷ ts) = refl
 -- ---- WHO is bound where: only what was given
 
 held_given : (gs : List Given) (s : Slots) (a : ℕ) (u : Udid) → Sized128 s → Each (λ (g : Given). g.address < 128) gs → held_at (put_all gs s) a ≡ Bound u
-    → (held_at s a ≡ Bound u) ⊎ Any (Given_at a u) gs
+    → (held_at s a ≡ Bound u) ⊎ Any (GivenAt a u) gs
 held_given [] s a u l f e = inl e
 held_given (g ∷ gs) s a u l f e =
     go (held_given gs (with_binding s g.address (Bound g.who.udid)) a u (sized_with s g.address _ l) f.1 e) (ℕ_discrete a g.address)
   where
-    go : (held_at (with_binding s g.address (Bound g.who.udid)) a ≡ Bound u) ⊎ Any (Given_at a u) gs → Dec (a ≡ g.address)
-        → (held_at s a ≡ Bound u) ⊎ (Given_at a u g ⊎ Any (Given_at a u) gs)
+    go : (held_at (with_binding s g.address (Bound g.who.udid)) a ≡ Bound u) ⊎ Any (GivenAt a u) gs → Dec (a ≡ g.address)
+        → (held_at s a ≡ Bound u) ⊎ (GivenAt a u g ⊎ Any (GivenAt a u) gs)
     go (inr k) d = inr (inr k)
     go (inl k) (no q) = inl (sym (held_other s g.address a (Bound g.who.udid) q) ∙ k)
     go (inl k) (yes q) =
@@ -89,7 +89,7 @@ held_given (g ∷ gs) s a u l f e =
         ∙ ap (held_at (with_binding s g.address (Bound g.who.udid))) (sym q) ∙ k in
         inr (inl (sym q, cc m))
 
-given_below_128 : (b : Pool) (gs : List Given) → Each (Free_in b) gs → Each (λ (g : Given). g.address < 128) gs
+given_below_128 : (b : Pool) (gs : List Given) → Each (FreeIn b) gs → Each (λ (g : Given). g.address < 128) gs
 given_below_128 b [] h = tt
 given_below_128 b (g ∷ gs) h = (h.0.0, given_below_128 b gs h.1)
 
@@ -122,7 +122,7 @@ unclaimed (g ∷ gs) s h l f a = unclaimed gs (with_binding s g.address (Bound g
 open_unclaimed : (a : ℕ) → held_at no_bindings a ≡ Claimed → ⊥
 open_unclaimed a e = let q : Open ≡ Claimed = sym (open_all a) ∙ e in zero_is_one (cc q)
 
-module _ (occupied : Pool) (last : ℕ) (ts : List Target) (v : Admitted_targets (barred_pool occupied) ts) where
+module _ (occupied : Pool) (last : ℕ) (ts : List Target) (v : AdmittedTargets (barred_pool occupied) ts) where
   -- as many are bound as the plain rule serves
   pub bound_as_many_as_given : count (bound_at (pass_end occupied last ts).now.state.slots) 128 ≡ length (ruled (starting_pool occupied) last ts).given
   bound_as_many_as_given =
@@ -132,13 +132,13 @@ module _ (occupied : Pool) (last : ℕ) (ts : List Target) (v : Admitted_targets
       ∙ omega (arith, open_count)
 
   -- who is bound was given that address
-  pub bound_given : (a : ℕ) (u : Udid) → held_at (pass_end occupied last ts).now.state.slots a ≡ Bound u → Any (Given_at a u) (ruled (starting_pool occupied) last ts).given
+  pub bound_given : (a : ℕ) (u : Udid) → held_at (pass_end occupied last ts).now.state.slots a ≡ Bound u → Any (GivenAt a u) (ruled (starting_pool occupied) last ts).given
   bound_given a u e =
       go (held_given (ruled (starting_pool occupied) last ts).given no_bindings a u sized_none
       (given_below_128 (barred_pool occupied) (ruled (starting_pool occupied) last ts).given (given_free_distinct occupied last ts v).0)
       (ap (λ (s : Slots). held_at s a) (sym (end_slots occupied last ts)) ∙ e))
     where
-      go : (held_at no_bindings a ≡ Bound u) ⊎ Any (Given_at a u) (ruled (starting_pool occupied) last ts).given → Any (Given_at a u) (ruled (starting_pool occupied) last ts).given
+      go : (held_at no_bindings a ≡ Bound u) ⊎ Any (GivenAt a u) (ruled (starting_pool occupied) last ts).given → Any (GivenAt a u) (ruled (starting_pool occupied) last ts).given
       go (inl k) = zero_is_one (cc (open_none a, ap is_bound k))
       go (inr k) = k
 
@@ -202,11 +202,11 @@ lower_other t rest (g ∷ gs) l h = (other_udid t.udid g.who.udid (λ e. apart (
     apart : value t.udid < value g.who.udid → value t.udid ≡ value g.who.udid → ⊥
     apart k e = omega arith
 
-rule_serves_once : (rest : List Target) (p : Pool) (last : ℕ) → Pairs Lower rest → One_per_udid (rule rest p last).given
+rule_serves_once : (rest : List Target) (p : Pool) (last : ℕ) → Pairs Lower rest → OnePerUdid (rule rest p last).given
 rule_serves_once [] p last l = tt
 rule_serves_once (t ∷ rest) p last l = go (plain_choice p last t) (λ a. rule_serves_once rest (with_address p a.0) (pick_after p last t a.0) l.1)
   where
-    go : (c : Free) → ((a : Address) → One_per_udid (rule rest (with_address p a.0) (pick_after p last t a.0)).given) → One_per_udid (next (λ q l. rule rest q l) t p last c).given
+    go : (c : Free) → ((a : Address) → OnePerUdid (rule rest (with_address p a.0) (pick_after p last t a.0)).given) → OnePerUdid (next (λ q l. rule rest q l) t p last c).given
     go AllUsed ih = tt
     go (At a) ih = (lower_other t rest (rule rest (with_address p a.0) (pick_after p last t a.0)).given l.0 (rule_serves_these rest (with_address p a.0) (pick_after p last t a.0)), ih a)
 
@@ -215,8 +215,8 @@ each_equal [] u v e a = tt
 each_equal (h ∷ hs) u v e a = (ap (λ (x : Udid). same_udid x h.who.udid) (sym e) ∙ a.0, each_equal hs u v e a.1)
 
 -- an Assign of another identifier leaves the target
-taken_by_more : (g : Given) (gs : List Given) (t : Target) (hs : List Given) → Each (Taken_by gs t) hs → Each (λ (h : Given). same_udid g.who.udid h.who.udid ≡ false) hs
-    → Each (Taken_by (g ∷ gs) t) hs
+taken_by_more : (g : Given) (gs : List Given) (t : Target) (hs : List Given) → Each (TakenBy gs t) hs → Each (λ (h : Given). same_udid g.who.udid h.who.udid ≡ false) hs
+    → Each (TakenBy (g ∷ gs) t) hs
 taken_by_more g gs t [] a d = tt
 taken_by_more g gs t (h ∷ hs) a d = (at, taken_by_more g gs t hs a.1 d.1)
   where
@@ -225,7 +225,7 @@ taken_by_more g gs t (h ∷ hs) a d = (at, taken_by_more g gs t hs a.1 d.1)
         let n : same_udid t.udid g.who.udid ≡ false = ap (λ (x : Udid). same_udid x g.who.udid) e ∙ other_udid_turned g.who.udid h.who.udid d.0 in
         rw n (a.0 e)
 
-taken_by : (gs : List Given) (t : Target) → One_per_udid gs → Each (Taken_by gs t) gs
+taken_by : (gs : List Given) (t : Target) → OnePerUdid gs → Each (TakenBy gs t) gs
 taken_by [] t o = tt
 taken_by (g ∷ gs) t o = (first, taken_by_more g gs t gs (taken_by gs t o.1) o.0)
   where
@@ -234,11 +234,11 @@ taken_by (g ∷ gs) t o = (first, taken_by_more g gs t gs (taken_by gs t o.1) o.
         let q : same_udid t.udid g.who.udid ≡ true = ap (λ (x : Udid). same_udid x g.who.udid) e ∙ same_refl g.who.udid in
         rw q (unserved_stays gs (taken t g.address) (each_equal gs g.who.udid t.udid (sym e) o.0))
 
-module _ (occupied : Pool) (last : ℕ) (ts : List Target) (v : Admitted_targets (barred_pool occupied) ts) where
+module _ (occupied : Pool) (last : ℕ) (ts : List Target) (v : AdmittedTargets (barred_pool occupied) ts) where
   -- no identifier is served twice
-  pub served_once : One_per_udid (ruled (starting_pool occupied) last ts).given
+  pub served_once : OnePerUdid (ruled (starting_pool occupied) last ts).given
   served_once = rule_serves_once (ascending ts) (starting_pool occupied) last (ascending_is_lower_first ts v.differ)
 
   -- A SERVED TARGET ends with its address and flag 1
-  pub served_takes_address : (t : Target) → Each (Taken_by (ruled (starting_pool occupied) last ts).given (prepared t)) (ruled (starting_pool occupied) last ts).given
+  pub served_takes_address : (t : Target) → Each (TakenBy (ruled (starting_pool occupied) last ts).given (prepared t)) (ruled (starting_pool occupied) last ts).given
   served_takes_address t = taken_by (ruled (starting_pool occupied) last ts).given (prepared t) served_once

@@ -13,7 +13,7 @@ use Rattle.udid.specs.Bytes.{udid_bytes}
 use Rattle.udid.specs.Udids.{same_udid}
 use Rattle.udid.specs.UdidLaws.{bytes_back, same_bytes, other_udid}
 use Rattle.arbitration.specs.Among.{Among}
-use Rattle.targets.specs.Admission.{Admitted_targets}
+use Rattle.targets.specs.Admission.{AdmittedTargets}
 use Rattle.targets.specs.Change.{Changed}
 use Rattle.targets.specs.ChangeLaws.{changed_exactly}
 use Rattle.targets.specs.IndexLaws.{target_has_record, sized_at}
@@ -22,9 +22,9 @@ use Rattle.targets.specs.RecordLaws.{length_put_from, changed_targets, assigned_
 use Rattle.targets.specs.Target.{Target, map_targets, prepared, assigned_to}
 use Rattle.rule.specs.PassEndLaws.{given_free_distinct, given_among_targets}
 use Rattle.rule.specs.PassEnd.{pass_end}
-use Rattle.rule.specs.PlainRule.{Given, ruled, Free_in}
+use Rattle.rule.specs.PlainRule.{Given, ruled, FreeIn}
 use Rattle.rule.specs.ReadingLaws.{end_targets, unserved_stays, served_takes_address}
-use Rattle.rule.specs.Reading.{Record_of, served_by, taken, Taken_by}
+use Rattle.rule.specs.Reading.{RecordOf, served_by, taken, TakenBy}
 
 served_keeps : (gs : List Given) (t : Target) → (served_by gs t).udid ≡ t.udid
 served_keeps [] t = refl
@@ -41,7 +41,7 @@ not_any : {P Q : Given → Type 0} (gs : List Given) → ((g : Given) → (P g �
 not_any [] f n = tt
 not_any (g ∷ gs) f n = (f g (λ p. n (inl p)), not_any gs f (λ p. n (inr p)))
 
-module _ (occupied : Pool) (last : ℕ) (s : List ℕ) (b : Bytes s) (v : Admitted_targets (barred_pool occupied) (targets_of s)) where
+module _ (occupied : Pool) (last : ℕ) (s : List ℕ) (b : Bytes s) (v : AdmittedTargets (barred_pool occupied) (targets_of s)) where
   abbrev given : List Given
   given = (ruled (starting_pool occupied) last (targets_of s)).given
 
@@ -57,10 +57,10 @@ module _ (occupied : Pool) (last : ℕ) (s : List ℕ) (b : Bytes s) (v : Admitt
   same_length = changed.same_length
 
   -- each who was given an address is a record of the list
-  pub given_records : Each (λ (g : Given). (i : ℕ) × (i < length s / 18) × Record_of s i g) given
+  pub given_records : Each (λ (g : Given). (i : ℕ) × (i < length s / 18) × RecordOf s i g) given
   given_records = each_map given at (given_among_targets occupied last (targets_of s) v)
     where
-      at : (g : Given) → Among g.who (targets_of s) → (i : ℕ) × (i < length s / 18) × Record_of s i g
+      at : (g : Given) → Among g.who (targets_of s) → (i : ℕ) × (i < length s / 18) × RecordOf s i g
       at g m =
           let r = target_has_record s (record_count s) 0 g.who m in
           let h : r.0 < length s / 18 = omega (arith, r.2) in
@@ -78,11 +78,11 @@ module _ (occupied : Pool) (last : ℕ) (s : List ℕ) (b : Bytes s) (v : Admitt
 
   -- A RECORD WHOSE TARGET IS BOUND ends with twice its address plus 1, and flag 1
   pub bound_record : (i : ℕ) → i < length s / 18
-      → Each (λ (g : Given). Record_of s i g → (get_or after (18 * i + 16) 0 ≡ 2 * g.address + 1) × (get_or after (18 * i + 17) 0 ≡ 1)) given
+      → Each (λ (g : Given). RecordOf s i g → (get_or after (18 * i + 16) 0 ≡ 2 * g.address + 1) × (get_or after (18 * i + 17) 0 ≡ 1)) given
   bound_record i h =
       each_both given (λ g f. f) (each_both given at (given_free_distinct occupied last (targets_of s) v).0 (given_among_targets occupied last (targets_of s) v)) (served_takes_address occupied last (targets_of s) v (target_at s i))
     where
-      at : (g : Given) → Free_in (barred_pool occupied) g → Among g.who (targets_of s) → Taken_by given (prepared (target_at s i)) g → Record_of s i g
+      at : (g : Given) → FreeIn (barred_pool occupied) g → Among g.who (targets_of s) → TakenBy given (prepared (target_at s i)) g → RecordOf s i g
           → (get_or after (18 * i + 16) 0 ≡ 2 * g.address + 1) × (get_or after (18 * i + 17) 0 ≡ 1)
       at g f m t r =
           let u : (target_at s i).udid ≡ g.who.udid = (same_bytes (target_at s i).udid g.who.udid (sized_at s b i).udid (v.sized g.who m).udid).0 (sym (record_bytes s i b h) ∙ r) in
@@ -90,7 +90,7 @@ module _ (occupied : Pool) (last : ℕ) (s : List ℕ) (b : Bytes s) (v : Admitt
           (l.0 ∙ ap (λ (a : ℕ). 2 * a + 1) (mod-eq_of_lt f.0), l.1)
 
   -- EVERY OTHER RECORD keeps its address byte, and has flag 0
-  pub other_record : (i : ℕ) → i < length s / 18 → (Any (Record_of s i) given → ⊥)
+  pub other_record : (i : ℕ) → i < length s / 18 → (Any (RecordOf s i) given → ⊥)
       → (get_or after (18 * i + 16) 0 ≡ get_or s (18 * i + 16) 0) × (get_or after (18 * i + 17) 0 ≡ 0)
   unfolding target_at
   other_record i h n =
@@ -98,7 +98,7 @@ module _ (occupied : Pool) (last : ℕ) (s : List ℕ) (b : Bytes s) (v : Admitt
       let l = last_two_bytes i h (prepared (target_at s i)) (unserved_stays given (prepared (target_at s i)) (not_any given at n)) in
       (l.0 ∙ ap (λ (k : ℕ). get_or s k 0) (sym e), l.1)
     where
-      at : (g : Given) → (Record_of s i g → ⊥) → same_udid (target_at s i).udid g.who.udid ≡ false
+      at : (g : Given) → (RecordOf s i g → ⊥) → same_udid (target_at s i).udid g.who.udid ≡ false
       at g q = other_udid (target_at s i).udid g.who.udid (λ u. q (record_bytes s i b h ∙ ap udid_bytes u))
 
   -- NO OTHER BYTE of the list changes

@@ -22,7 +22,7 @@ use Rattle.udid.specs.Udids.{top_bits, is_fixed, value}
 use Rattle.arbitration.specs.Among.{Among}
 use Rattle.targets.specs.Target.{Target, Sized}
 use Rattle.picking.specs.Picking.{has_to_pick, chosen}
-use Rattle.rule.specs.PlainRule.{held, is_picked_for, plain_choice, pick_after, served, Given, next, rule, Free_in, Movable_free_in, Distinct}
+use Rattle.rule.specs.PlainRule.{held, is_picked_for, plain_choice, pick_after, served, Given, next, rule, FreeIn, MovableFreeIn, Distinct}
 use Rattle.rule.specs.Ready.{Ready}
 
 -- ---- the choice
@@ -141,20 +141,20 @@ ready_next p shut last r rest a v e = record {
 -- ---- the bindings that it gives
 
 -- an address that is free in a set with a more is free in the set, and is not a
-free_before : (p : Pool) (a : ℕ) → a < 128 → (g : Given) → Free_in (with_address p a) g → Free_in p g × (g.address ≡ a → ⊥)
+free_before : (p : Pool) (a : ℕ) → a < 128 → (g : Given) → FreeIn (with_address p a) g → FreeIn p g × (g.address ≡ a → ⊥)
 free_before p a l g f =
     let n : g.address ≡ a → ⊥ = λ q. zero_is_one (cc (f.1, ap (member (with_address p a)) q, has_with_same p a l)) in
     ((f.0, sym (has_with_other p a g.address n) ∙ f.1), n)
 
 -- every address given is one that is not shut, and none is given twice
-pub rule_gives_free : (rest : List Target) (p shut : Pool) (last : ℕ) → Ready p shut rest → Each (Free_in shut) (rule rest p last).given × Distinct (rule rest p last).given
+pub rule_gives_free : (rest : List Target) (p shut : Pool) (last : ℕ) → Ready p shut rest → Each (FreeIn shut) (rule rest p last).given × Distinct (rule rest p last).given
 rule_gives_free [] p shut last v = (tt, tt)
 rule_gives_free (t ∷ rest) p shut last v =
     go (plain_choice p last t) refl (λ a e. rule_gives_free rest (with_address p a.0) (with_address shut a.0) (pick_after p last t a.0) (ready_next p shut last t rest a v e))
   where
     go : (c : Free) → plain_choice p last t ≡ c
-        → ((a : Address) → plain_choice p last t ≡ At a → Each (Free_in (with_address shut a.0)) (rule rest (with_address p a.0) (pick_after p last t a.0)).given × Distinct (rule rest (with_address p a.0) (pick_after p last t a.0)).given)
-        → Each (Free_in shut) (next (λ q l. rule rest q l) t p last c).given × Distinct (next (λ q l. rule rest q l) t p last c).given
+        → ((a : Address) → plain_choice p last t ≡ At a → Each (FreeIn (with_address shut a.0)) (rule rest (with_address p a.0) (pick_after p last t a.0)).given × Distinct (rule rest (with_address p a.0) (pick_after p last t a.0)).given)
+        → Each (FreeIn shut) (next (λ q l. rule rest q l) t p last c).given × Distinct (next (λ q l. rule rest q l) t p last c).given
     go AllUsed e ih = (tt, tt)
     go (At a) e ih =
         let f = ready_choice_free p shut last t rest a v e in
@@ -164,13 +164,13 @@ rule_gives_free (t ∷ rest) p shut last v =
         )
 
 -- and what a movable target is given is free in the pool
-pub rule_gives_movable_free : (rest : List Target) (p : Pool) (last : ℕ) → Each (Movable_free_in p) (rule rest p last).given
+pub rule_gives_movable_free : (rest : List Target) (p : Pool) (last : ℕ) → Each (MovableFreeIn p) (rule rest p last).given
 rule_gives_movable_free [] p last = tt
 rule_gives_movable_free (t ∷ rest) p last = go (plain_choice p last t) refl (λ a. rule_gives_movable_free rest (with_address p a.0) (pick_after p last t a.0))
   where
     go : (c : Free) → plain_choice p last t ≡ c
-        → ((a : Address) → Each (Movable_free_in (with_address p a.0)) (rule rest (with_address p a.0) (pick_after p last t a.0)).given)
-        → Each (Movable_free_in p) (next (λ q l. rule rest q l) t p last c).given
+        → ((a : Address) → Each (MovableFreeIn (with_address p a.0)) (rule rest (with_address p a.0) (pick_after p last t a.0)).given)
+        → Each (MovableFreeIn p) (next (λ q l. rule rest q l) t p last c).given
     go AllUsed e ih = tt
     go (At a) e ih = (
       λ f. movable_choice_free p last t a f e,

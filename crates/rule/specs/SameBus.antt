@@ -2,7 +2,7 @@
 use Rattle.std.specs.Prelude.{ℕ, ◌≡◌, List, ◌∷◌}
 use Rattle.arp.specs.Controller.{stepped}
 use Rattle.arp.specs.declared.state.Stepped.{Stepped}
-use Rattle.rule.specs.AnyBus.{Bus, World_over}
+use Rattle.rule.specs.AnyBus.{Bus, WorldOver}
 
 -- R relates the states of their targets. It may also speak of the controller, and so of the commands that a run hands out. The same trace
 -- stands on both, and what that trace does to the targets, and to the controller, keeps R
@@ -12,6 +12,6 @@ pub record Agree {A B : Type 0} (a : Bus A) (b : Bus B) (R : Stepped → A → B
       → R (stepped s.state (t ∷ tr)) (a.acts (t ∷ tr) x) (b.acts (t ∷ tr) y)
 
 -- one controller over both, and related targets
-pub record Same_world {A B : Type 0} (R : Stepped → A → B → Type 0) (v : World_over A) (w : World_over B) : Type 0 where
+pub record SameWorld {A B : Type 0} (R : Stepped → A → B → Type 0) (v : WorldOver A) (w : WorldOver B) : Type 0 where
   pub now : v.now ≡ w.now
   pub targets : R v.now v.targets w.targets

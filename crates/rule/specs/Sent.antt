@@ -6,11 +6,11 @@ use Rattle.pool.specs.declared.Pool.{Pool}
 use Rattle.targets.specs.Target.{Target}
 use Rattle.arp.specs.History.{Step, Event, Start, Received}
 use Rattle.rule.specs.Acknowledge.{begins}
-use Rattle.rule.specs.AnyBus.{Bus, World_over, turn_over, beginning_over}
+use Rattle.rule.specs.AnyBus.{Bus, WorldOver, turn_over, beginning_over}
 use Rattle.rule.specs.Bus.{World, model_bus}
 
 -- the traces of so many turns, in order: each is that of the command that is out; after the end of a pass, no symbol
-abbrev pub traces_over : {A : Type 0} → Bus A → ℕ → World_over A → List (List ℕ)
+abbrev pub traces_over : {A : Type 0} → Bus A → ℕ → WorldOver A → List (List ℕ)
 traces_over bus zero w = []
 traces_over bus (suc n) w = bus.stands w.now.command w.targets ∷ traces_over bus n (turn_over bus w)
 

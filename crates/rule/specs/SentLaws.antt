@@ -5,7 +5,7 @@ use Rattle.std.proofs.Common.{ap₂, ◌∙◌, subst, arith}
 use mathlib.Core.List.{List, [], ◌∷◌}
 use Rattle.pool.specs.Start.{starting_pool, barred_pool}
 use Rattle.pool.specs.declared.Pool.{Pool}
-use Rattle.targets.specs.Admission.{Admitted_targets}
+use Rattle.targets.specs.Admission.{AdmittedTargets}
 use Rattle.targets.specs.Target.{Target}
 use Rattle.arp.specs.Handing.{Kept}
 use Rattle.arp.specs.HandingLaws.{busy_handed}
@@ -128,7 +128,7 @@ module _ (occupied : Pool) (last : ℕ) where
   nobody_there_traces n = ap₂ (λ (x : List ℕ) (l : List (List ℕ)). x ∷ l) on-bus.prepare_cut (ap (traces n) (nobody_ends_first_turn occupied last) ∙ nobody_there_silent n occupied (last_pick last))
 
   -- AFTER THE PASS THE BUS IS SILENT: no Get UDID follows those that are counted
-  pub silent_after : (ts : List Target) → Admitted_targets (barred_pool occupied) ts → stands (pass occupied last ts) ≡ []
+  pub silent_after : (ts : List Target) → AdmittedTargets (barred_pool occupied) ts → stands (pass occupied last ts) ≡ []
   silent_after ts v = ap stands (demand_3 occupied last ts v) ∙ go ts
     where
       go : (ts : List Target) → stands (pass_end occupied (last_pick last) ts) ≡ []
@@ -136,7 +136,7 @@ module _ (occupied : Pool) (last : ℕ) where
       go (t ∷ ts) = end_silent (ruled (starting_pool occupied) (last_pick last) (t ∷ ts)).ending (pass_end occupied (last_pick last) (t ∷ ts)).targets
 
   -- THE CONTROLLER'S COUNT IS THAT OF THE GET UDIDS ON THE BUS
-  pub counted_on_bus : (ts : List Target) → Admitted_targets (barred_pool occupied) ts → (pass occupied last ts).now.state.gets ≡ gets_on_bus occupied last ts
+  pub counted_on_bus : (ts : List Target) → AdmittedTargets (barred_pool occupied) ts → (pass occupied last ts).now.state.gets ≡ gets_on_bus occupied last ts
   unfolding gets_on_bus pass
   counted_on_bus [] v = ap (λ (w : World). w.now.state.gets) (demand_3 occupied last [] v) ∙ sym (gets_none 300 (beginning occupied last []) refl)
   counted_on_bus (t ∷ ts) v =
@@ -144,7 +144,7 @@ module _ (occupied : Pool) (last : ℕ) where
       (ap (λ (w : World). one_get w.now.command) (demand_3 occupied last (t ∷ ts) v) ∙ end_counts (ruled (starting_pool occupied) (last_pick last) (t ∷ ts)).ending)
 
   -- ONE MORE THAN TARGETS ARE BOUND, where there is a target; with none, no Get UDID
-  pub gets_one_more_than_bound : (t : Target) (ts : List Target) → Admitted_targets (barred_pool occupied) (t ∷ ts) → gets_on_bus occupied last (t ∷ ts) ≡ suc (length (ruled (starting_pool occupied) (last_pick last) (t ∷ ts)).given)
+  pub gets_one_more_than_bound : (t : Target) (ts : List Target) → AdmittedTargets (barred_pool occupied) (t ∷ ts) → gets_on_bus occupied last (t ∷ ts) ≡ suc (length (ruled (starting_pool occupied) (last_pick last) (t ∷ ts)).given)
   gets_one_more_than_bound t ts v = sym (counted_on_bus (t ∷ ts) v) ∙ ap (λ (w : World). w.now.state.gets) (demand_3 occupied last (t ∷ ts) v) ∙ omega arith
 
   pub no_gets_without_target : gets_on_bus occupied last [] ≡ 0

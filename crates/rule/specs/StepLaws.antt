@@ -6,7 +6,7 @@ use Rattle.std.proofs.lemmas.Bool.{lt-leb}
 use Rattle.wire.specs.Symbols.{START, STOP, ACK, NACK}
 use Rattle.wire.specs.declared.address.Address.{Address}
 use Rattle.trace.specs.Shapes.{shape_of}
-use Rattle.scan.specs.Answers.{Cut_at}
+use Rattle.scan.specs.Answers.{CutAt}
 use Rattle.pool.specs.Pools.{with_address}
 use Rattle.pool.specs.declared.Pool.{Pool}
 use Rattle.udid.specs.Bytes.{udid_bytes, udid_at}
@@ -46,7 +46,7 @@ unfolding asked
 prepare_asks_first l b p s = told_is_changed (state_of l b p s 0 (Send Prepare)) (trace_of (Send Prepare) []) (Send Prepare) Again refl (prepare_accepted (trace_of (Send Prepare) []) refl)
 
 -- S C2 N P: byte 0 was not acknowledged
-cut_prepare : Cut_at (shape_of send_byte) true (START ∷ 0xC2 ∷ NACK ∷ STOP ∷ []) 0
+cut_prepare : CutAt (shape_of send_byte) true (START ∷ 0xC2 ∷ NACK ∷ STOP ∷ []) 0
 cut_prepare = record {
   message = message_of (Send Prepare) [];
   pec = 0;
@@ -68,7 +68,7 @@ prepare_silence_ends l b p s = prepare_unheard (state_of l b p s 0 (Send Prepare
 
 -- ---- Get UDID
 
-cut_get : Cut_at (shape_of block_read) true (START ∷ 0xC2 ∷ ACK ∷ 0x03 ∷ ACK ∷ START ∷ 0xC3 ∷ NACK ∷ STOP ∷ []) 2
+cut_get : CutAt (shape_of block_read) true (START ∷ 0xC2 ∷ ACK ∷ 0x03 ∷ ACK ∷ START ∷ 0xC3 ∷ NACK ∷ STOP ∷ []) 2
 cut_get = record {
   message = message_of (Send GetUdid) [];
   pec = 0;

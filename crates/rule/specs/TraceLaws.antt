@@ -18,7 +18,7 @@ use Rattle.udid.specs.UdidLaws.{length_udid, udid_bytes_lem}
 use Rattle.udid.specs.declared.Udid.{Udid}
 use Rattle.wire.specs.declared.address.Address.{Address}
 use Rattle.targets.specs.Target.{Target, is_resolved}
-use Rattle.targets.specs.Reply.{reply_data, On_wire}
+use Rattle.targets.specs.Reply.{reply_data, OnWire}
 use Rattle.targets.specs.Members.{Least}
 use Rattle.targets.specs.ReplyLaws.{least_on_wire}
 use Rattle.targets.specs.TraceLaws.{reply_trace_lem}
@@ -89,7 +89,7 @@ get_whole ts r l =
     let c : somebody (acknowledges (256 ∷ 194 ∷ 3 ∷ 256 ∷ 195 ∷ [])) ts ≡ true =
     one_acknowledges (acknowledges (256 ∷ 194 ∷ 3 ∷ 256 ∷ 195 ∷ [])) ts r l.among (get_read r ∙ ap (λ (b : Bool). pick b false true) l.unresolved) in
     rw (get_first ts r l.among, get_second ts r l.among, c)
-    (ap (λ (w : On_wire). asking ++ (received w ++ STOP ∷ [])) (least_on_wire ts r l) ∙ sym (reply_trace_lem r))
+    (ap (λ (w : OnWire). asking ++ (received w ++ STOP ∷ [])) (least_on_wire ts r l) ∙ sym (reply_trace_lem r))
 
 -- all are resolved: the read address is not acknowledged
 pub get_cut : (t : Target) (ts : List Target) → ((x : Target) → Among x (t ∷ ts) → is_resolved x ≡ true)
@@ -124,17 +124,17 @@ bytes_assigned u b h =
     (omega arith, (omega arith, (omega arith, append_bytes (udid_bytes u) (b ∷ _ ∷ []) (udid_bytes_lem u) (h, (p, tt)))))
 
 -- each of the bytes is acknowledged, after what was sent before it
-abbrev Ack_all : (List ℕ → Bool) → List ℕ → List ℕ → Type 0
-Ack_all ack sent [] = Unit
-Ack_all ack sent (b ∷ bs) = (ack (sent ++ b ∷ []) ≡ true) × Ack_all ack (sent ++ b ∷ []) bs
+abbrev AckAll : (List ℕ → Bool) → List ℕ → List ℕ → Type 0
+AckAll ack sent [] = Unit
+AckAll ack sent (b ∷ bs) = (ack (sent ++ b ∷ []) ≡ true) × AckAll ack (sent ++ b ∷ []) bs
 
-ack_all : (ack : List ℕ → Bool) (whole : List ℕ) → ((p q : List ℕ) → p ++ q ≡ whole → ack p ≡ true) → (sent bs : List ℕ) → sent ++ bs ≡ whole → Ack_all ack sent bs
+ack_all : (ack : List ℕ → Bool) (whole : List ℕ) → ((p q : List ℕ) → p ++ q ≡ whole → ack p ≡ true) → (sent bs : List ℕ) → sent ++ bs ≡ whole → AckAll ack sent bs
 ack_all ack whole h sent [] e = tt
 ack_all ack whole h sent (b ∷ bs) e =
     let f : (sent ++ b ∷ []) ++ bs ≡ whole = append_assoc sent (b ∷ []) bs ∙ e in
     (h (sent ++ b ∷ []) bs f, ack_all ack whole h (sent ++ b ∷ []) bs f)
 
-answered_acked : (ack : List ℕ → Bool) (sent bs rest : List ℕ) → Bytes bs → Ack_all ack sent bs → answered ack sent (acked bs) rest ≡ acked bs ++ rest
+answered_acked : (ack : List ℕ → Bool) (sent bs rest : List ℕ) → Bytes bs → AckAll ack sent bs → answered ack sent (acked bs) rest ≡ acked bs ++ rest
 unfolding answered
 answered_acked ack sent [] rest h g = refl
 answered_acked ack sent (b ∷ bs) rest h g =

@@ -22,7 +22,7 @@ pub record Whole (sh : Shape) (p : Bool) (tr : List ℕ) : Type 0 where
 
 -- a trace cut at a byte whose ACK is due from the target: NACK stands there, then STOP. The byte is the last before the NACK, and its
 -- number, from 0 and only bytes counted, is b: so many less one numbers below 256 stand before the NACK
-pub record Cut_at (sh : Shape) (p : Bool) (tr : List ℕ) (b : ℕ) : Type 0 where
+pub record CutAt (sh : Shape) (p : Bool) (tr : List ℕ) (b : ℕ) : Type 0 where
   pub message : Message
   pub pec : ℕ
   pub valid : Valid sh message
@@ -34,7 +34,7 @@ pub record Cut_at (sh : Shape) (p : Bool) (tr : List ℕ) (b : ℕ) : Type 0 whe
   pub number : length (bytes_in before) ≡ suc b
 
 abbrev pub Member : Shape → Bool → List ℕ → Type 0
-Member sh p tr = Whole sh p tr ⊎ ((b : ℕ) × Cut_at sh p tr b)
+Member sh p tr = Whole sh p tr ⊎ ((b : ℕ) × CutAt sh p tr b)
 
 -- a trace fits if it is the beginning of a member
 abbrev pub Fits : Shape → Bool → List ℕ → Type 0
@@ -52,7 +52,7 @@ pub record Breaks (sh : Shape) (p : Bool) (tr : List ℕ) (k : ℕ) : Type 0 whe
   pub here : Fits sh p (take (suc k) tr) → ⊥
 
 -- 7: a whole trace but for its PEC, whose place is k
-pub record Other_pec (sh : Shape) (p : Bool) (tr : List ℕ) (k : ℕ) : Type 0 where
+pub record OtherPec (sh : Shape) (p : Bool) (tr : List ℕ) (k : ℕ) : Type 0 where
   pub used : p ≡ true
   pub message : Message
   pub pec : ℕ
@@ -73,7 +73,7 @@ pub record Carries (protocol : ℕ) (sh : Shape) (p : Bool) (tr : List ℕ) (t :
 
 -- why the trace tr is refused, with the place k
 abbrev pub shape_cases : Shape → Bool → List ℕ → Cases
-shape_cases sh p tr = record { fits = Fits sh p tr; member = Member sh p tr; member_to = λ k. Member sh p (take k tr); breaks = Breaks sh p tr; cut = Cut_at sh p tr; other_pec = Other_pec sh p tr; next = λ k y. Fits sh p (take k tr ++ y ∷ []); to_host = sh.tohost ≡ true }
+shape_cases sh p tr = record { fits = Fits sh p tr; member = Member sh p tr; member_to = λ k. Member sh p (take k tr); breaks = Breaks sh p tr; cut = CutAt sh p tr; other_pec = OtherPec sh p tr; next = λ k y. Fits sh p (take k tr ++ y ∷ []); to_host = sh.tohost ≡ true }
 
 abbrev pub Because : Shape → Bool → List ℕ → Refusal → ℕ → Type 0
 Because sh p tr w k = because.Because (shape_cases sh p tr) tr w k

@@ -25,7 +25,7 @@ use Rattle.scan.specs.Run.{run, concluded, decoded_by}
 use Rattle.scan.specs.Handed.{sent_data, received_data}
 use Rattle.scan.specs.NumberLaws.{done_of, refused_of}
 use Rattle.scan.specs.Numbers.{refusal_number, decode_number}
-use Rattle.scan.specs.Answers.{Cut_at, Member, Fits, summary, Breaks, Other_pec, Because, Answers}
+use Rattle.scan.specs.Answers.{CutAt, Member, Fits, summary, Breaks, OtherPec, Because, Answers}
 use Rattle.scan.specs.RunLaws.{run_append, run_fits, run_stops}
 use Rattle.scan.specs.MemberLaws.{member_runs, fits_back, fits_runs}
 use Rattle.scan.specs.PlaceLaws.{reads_no_more, nothing_follows}
@@ -110,7 +110,7 @@ module _ (num : ℕ) (sh : Shape) (hs : Sane sh) (p : Bool) where
     byte_by_length b e = cut_number sh hs p tr b ((refused_exactly NotAcknowledged b).0 e)
 
     -- and the symbol at that place is the PEC that differs
-    pub pec_there : (place : ℕ) (o : Other_pec sh p tr place) → get_or tr place 0 ≡ o.pec
+    pub pec_there : (place : ℕ) (o : OtherPec sh p tr place) → get_or tr place 0 ≡ o.pec
     pec_there k o =
         ap (λ (l : List ℕ). get_or l k 0) o.is ∙ pec_found sh o.message o.pec k (o.place ∙ ap length o.is)
 
@@ -129,7 +129,7 @@ module _ (num : ℕ) (sh : Shape) (hs : Sane sh) (p : Bool) where
     three_before_eight k h m g = (refused_exactly NoSymbol k).1 (nothing_after k h m, g)
 
     -- 6 comes before 7: a trace that the target cut is none whose PEC differs
-    pub six_before_seven : (byte place : ℕ) → Cut_at sh p tr byte → Other_pec sh p tr place → ⊥
+    pub six_before_seven : (byte place : ℕ) → CutAt sh p tr byte → OtherPec sh p tr place → ⊥
     six_before_seven b k h g =
         let e = sym (ap (λ (q : ℕ × ℕ). q.0) ((refused_exactly NotAcknowledged b).1 h)) ∙ ap (λ (q : ℕ × ℕ). q.0) ((refused_exactly PecDiffers k).1 g) in
         omega (arith, e)

@@ -24,16 +24,16 @@ pub record Cases : Type 1 where
   pub to_host : Type 0
 
 -- the place k is right after a START
-abbrev pub After_start : List ℕ → ℕ → Type 0
-After_start tr k = (j : ℕ) × (k ≡ suc j) × (get_or tr j 0 ≡ 256)
+abbrev pub AfterStart : List ℕ → ℕ → Type 0
+AfterStart tr k = (j : ℕ) × (k ≡ suc j) × (get_or tr j 0 ≡ 256)
 
 -- a wrong symbol stands at k, in a trace that is not over there
 abbrev pub Wrong : Cases → List ℕ → ℕ → Type 0
 Wrong c tr k = c.breaks k × (c.member_to k → ⊥) × (get_or tr k 0 ≤ 259)
 
 -- and of which kind it is
-abbrev pub Of_kind : Cases → List ℕ → ℕ → Kind → Type 0
-Of_kind c tr k w = Means (c.next k) (After_start tr k) c.to_host (get_or tr k 0) w
+abbrev pub OfKind : Cases → List ℕ → ℕ → Kind → Type 0
+OfKind c tr k w = Means (c.next k) (AfterStart tr k) c.to_host (get_or tr k 0) w
 
 -- why the trace tr is refused, with the place k; 1 and 2 are given before a trace is read
 abbrev pub Because : Cases → List ℕ → Refusal → ℕ → Type 0
@@ -41,10 +41,10 @@ Because c tr Forbidden k = ⊥
 Because c tr BufferTooShort k = ⊥
 Because c tr NoSymbol k = c.breaks k × (259 < get_or tr k 0)
 Because c tr EndsEarly k = c.fits × (c.member → ⊥) × (k ≡ length tr)
-Because c tr Unexpected k = Wrong c tr k × Of_kind c tr k Other
+Because c tr Unexpected k = Wrong c tr k × OfKind c tr k Other
 Because c tr NotAcknowledged k = c.cut k
 Because c tr PecDiffers k = c.other_pec k
 Because c tr AfterStop k = (k < length tr) × c.member_to k × (get_or tr k 0 ≤ 259)
-Because c tr WrongAck k = Wrong c tr k × Of_kind c tr k Swapped
-Because c tr WrongAddress k = Wrong c tr k × Of_kind c tr k Misaddressed
-Because c tr WrongCount k = Wrong c tr k × Of_kind c tr k Miscounted
+Because c tr WrongAck k = Wrong c tr k × OfKind c tr k Swapped
+Because c tr WrongAddress k = Wrong c tr k × OfKind c tr k Misaddressed
+Because c tr WrongCount k = Wrong c tr k × OfKind c tr k Miscounted

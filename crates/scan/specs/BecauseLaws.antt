@@ -3,7 +3,7 @@ use Rattle.std.specs.Prelude.{List, ◌↔◌, ℕ, get_or}
 use Rattle.misfit.specs.CasesLaws.{same_kinds}
 use Rattle.misfit.specs.declared.kind.Kind.{Kind}
 use Rattle.misfit.specs.declared.kind.Kind.TheVariants.{Swapped, Misaddressed, Miscounted, Other}
-use Rattle.scan.specs.Because.{Cases, After_start, Wrong, Of_kind, Because}
+use Rattle.scan.specs.Because.{Cases, AfterStart, Wrong, OfKind, Because}
 use Rattle.scan.specs.Refusal.{refusal_of}
 use Rattle.scan.specs.declared.answer.Refusal.{Refusal}
 use Rattle.scan.specs.declared.answer.Refusal.TheVariants.{Forbidden, BufferTooShort, NoSymbol, EndsEarly, Unexpected, NotAcknowledged, PecDiffers, AfterStop, WrongAck, WrongAddress, WrongCount}
@@ -20,7 +20,7 @@ pub record Agree (c d : Cases) : Type 0 where
   pub to_host : c.to_host ↔ d.to_host
 
 -- a wrong symbol of a kind is refused for it
-pub of_kind : (c : Cases) (tr : List ℕ) (k : ℕ) (w : Kind) → Wrong c tr k → Of_kind c tr k w → Because c tr (refusal_of w) k
+pub of_kind : (c : Cases) (tr : List ℕ) (k : ℕ) (w : Kind) → Wrong c tr k → OfKind c tr k w → Because c tr (refusal_of w) k
 of_kind c tr k Swapped h m = (h, m)
 of_kind c tr k Misaddressed h m = (h, m)
 of_kind c tr k Miscounted h m = (h, m)
@@ -30,9 +30,9 @@ module _ (c d : Cases) (s : Agree c d) (tr : List ℕ) (k : ℕ) where
   pub wrong_agrees : Wrong c tr k ↔ Wrong d tr k
   wrong_agrees = (λ x. ((s.breaks k).0 x.0, λ m. x.1 ((s.member_to k).1 m), x.2), λ x. ((s.breaks k).1 x.0, λ m. x.1 ((s.member_to k).0 m), x.2))
 
-  kind_agrees : (w : Kind) → (Wrong c tr k × Of_kind c tr k w) ↔ (Wrong d tr k × Of_kind d tr k w)
+  kind_agrees : (w : Kind) → (Wrong c tr k × OfKind c tr k w) ↔ (Wrong d tr k × OfKind d tr k w)
   kind_agrees w =
-      let m = same_kinds (c.next k) (d.next k) (After_start tr k) (After_start tr k) c.to_host d.to_host (s.next k) (λ x. x, λ x. x) s.to_host (get_or tr k 0) w in
+      let m = same_kinds (c.next k) (d.next k) (AfterStart tr k) (AfterStart tr k) c.to_host d.to_host (s.next k) (λ x. x, λ x. x) s.to_host (get_or tr k 0) w in
       (λ x. (wrong_agrees.0 x.0, m.0 x.1), λ x. (wrong_agrees.1 x.0, m.1 x.1))
 
 pub because_agrees : (c d : Cases) → Agree c d → (tr : List ℕ) (w : Refusal) (k : ℕ) → Because c tr w k ↔ Because d tr w k

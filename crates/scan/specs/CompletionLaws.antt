@@ -31,7 +31,7 @@ use Rattle.scan.specs.RunLaws.{run_append, run_from}
 use Rattle.scan.specs.Leads.{no_controller, no_target}
 use Rattle.scan.specs.LeadLaws.{leads_run, leads_byte}
 use Rattle.scan.specs.ForwardLaws.{to_data_lem, to_read_data_lem, target_ack_leads, data_leads, count_leads, count_test, received_leads, read_count_leads}
-use Rattle.scan.specs.Roomy.{At_count, Roomy}
+use Rattle.scan.specs.Roomy.{AtCount, Roomy}
 use Rattle.scan.specs.RoomyLaws.{least_of_le}
 
 pub zero_byte : (p : Bool) → Bytes (in_place p 0)
@@ -180,7 +180,7 @@ module _ (sh : Shape) (hs : Sane sh) (p : Bool) where
         ends_via (x ∷ ACK ∷ []) _ _ (byte_step (to First k) (after_first sh p) x z f c m n (pec_step z x) x c m ok (way_byte sh) (way_fits_lem sh) refl)
         (ends_after_first sh.command (pec_step z x) x c n ok)
 
-    ends_slot : (s : Slot) (k z f c n : ℕ) (ok : Bool) → At_count sh s m → Ends sh p (state (to s k) Nobody z f c m n ok)
+    ends_slot : (s : Slot) (k z f c n : ℕ) (ok : Bool) → AtCount sh s m → Ends sh p (state (to s k) Nobody z f c m n ok)
     unfolding run
     ends_slot Start k z f c n ok g = ends_via (START ∷ []) _ _ refl (ends_first 0 z f c n ok)
     ends_slot First k z f c n ok g = ends_first k z f c n ok

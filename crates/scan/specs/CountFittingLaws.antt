@@ -9,8 +9,8 @@ use Rattle.trace.specs.Shapes.{shapes, protocols, no_row, shape_of, is_counted}
 use Rattle.trace.specs.declared.shape.Shape.{Shape}
 use Rattle.scan.specs.Answers.{Because}
 use Rattle.scan.specs.CompletionLaws.{zero_byte}
-use Rattle.scan.specs.CountLaws.{Too_much, wrong_count_is, is_wrong_count}
-use Rattle.scan.specs.Fitting.{Count_too_high}
+use Rattle.scan.specs.CountLaws.{TooMuch, wrong_count_is, is_wrong_count}
+use Rattle.scan.specs.Fitting.{CountTooHigh}
 use Rattle.scan.specs.declared.answer.Refusal.TheVariants.{WrongCount}
 
 -- one row alone has both counts
@@ -23,13 +23,13 @@ only_ten n h s r =
     go a b s r e = eqb-true n 10 (subst (λ (u : Bool). or (not (and u true)) (eqb n 10) ≡ true) s (subst (λ (u : Bool). or (not (and a u)) (eqb n 10) ≡ true) r e))
 
 module _ (p : ℕ) (pec : Bool) (h : p < protocols) (tr : List ℕ) (k : ℕ) where
-  there : Because (shape_of p) pec tr WrongCount k → Count_too_high p tr k
+  there : Because (shape_of p) pec tr WrongCount k → CountTooHigh p tr k
   there w =
       let t = wrong_count_is (shape_of p) (sane p) (limits_of_row p) pec tr k w in
       let e = only_ten p h t.both.0 t.both.1 in
-      subst (λ (n : ℕ). Count_too_high n tr k) (sym e) (fields (subst (λ (n : ℕ). Too_much (shape_of n) pec (take k tr) (get_or tr k 0)) e t))
+      subst (λ (n : ℕ). CountTooHigh n tr k) (sym e) (fields (subst (λ (n : ℕ). TooMuch (shape_of n) pec (take k tr) (get_or tr k 0)) e t))
     where
-      fields : Too_much (shape_of 10) pec (take k tr) (get_or tr k 0) → Count_too_high 10 tr k
+      fields : TooMuch (shape_of 10) pec (take k tr) (get_or tr k 0) → CountTooHigh 10 tr k
       fields t = (
         refl,
         w.0.0.inside,
@@ -37,10 +37,10 @@ module _ (p : ℕ) (pec : Bool) (h : p < protocols) (tr : List ℕ) (k : ℕ) wh
         (t.message.address, t.message.command, t.message.sent, t.valid.address, t.valid.command.0, t.valid.sent_bytes, omega (arith, t.valid.counts), t.sum, t.before),
       )
 
-  back : Count_too_high p tr k → Because (shape_of p) pec tr WrongCount k
+  back : CountTooHigh p tr k → Because (shape_of p) pec tr WrongCount k
   back (e, l, b, (a, c, d, ha, hc, hd, hl, s, w)) =
       is_wrong_count (shape_of p) (sane p) (limits_of_row p) pec tr k (none_to_host p) l b
-      (subst (λ (n : ℕ). Too_much (shape_of n) pec (take k tr) (get_or tr k 0)) (sym e) (record {
+      (subst (λ (n : ℕ). TooMuch (shape_of n) pec (take k tr) (get_or tr k 0)) (sym e) (record {
         message = message a 0 c d [];
         valid = record {
           address = ha;
@@ -59,5 +59,5 @@ module _ (p : ℕ) (pec : Bool) (h : p < protocols) (tr : List ℕ) (k : ℕ) wh
         sum = s;
       }))
 
-  pub count_too_high : Count_too_high p tr k ↔ Because (shape_of p) pec tr WrongCount k
+  pub count_too_high : CountTooHigh p tr k ↔ Because (shape_of p) pec tr WrongCount k
   count_too_high = (back, there)

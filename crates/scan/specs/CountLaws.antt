@@ -34,7 +34,7 @@ use Rattle.scan.specs.declared.answer.Refusal.TheVariants.{WrongCount}
 use Rattle.scan.specs.declared.answer.Decoded.TheVariants.{Refused}
 use Rattle.scan.specs.declared.whole.Progress.TheVariants.{Reading, Answered}
 use Rattle.scan.specs.Answers.{Fits, Because}
-use Rattle.scan.specs.Because.{After_start}
+use Rattle.scan.specs.Because.{AfterStart}
 use Rattle.scan.specs.CompletionLaws.{acknowledged_ends}
 use Rattle.scan.specs.AnswersLaws.{answer_exactly}
 use Rattle.scan.specs.DecideLaws.{by_stop, stuck}
@@ -179,7 +179,7 @@ module _ (sh : Shape) (p : Bool) where
 -- ---- what stands before a wrong count
 
 -- w is what a message has up to the target's last ACK, and a count x behind it comes to too much with the count sent
-pub record Too_much (sh : Shape) (p : Bool) (w : List ℕ) (x : ℕ) : Type 0 where
+pub record TooMuch (sh : Shape) (p : Bool) (w : List ℕ) (x : ℕ) : Type 0 where
   pub message : Message
   pub valid : Valid sh message
   pub pec : ℕ
@@ -275,11 +275,11 @@ module _ (sh : Shape) (hs : Sane sh) (limits : Limits sh) (p : Bool) where
             (sym (run_append sh p (by_target sh t (in_place p y)) (z ∷ zs) fresh (turn_state sh p t y) 0 turn) ∙ sym (ap (run sh p fresh 0) e) ∙ q) in
             not_both {b = beyond ReadCount} refl (sym (ap beyond s) ∙ o)
 
-    too_much_at : (x : ℕ) → x < 256 → count_fits sh d.sentcount x ≡ false → Too_much sh p w x
+    too_much_at : (x : ℕ) → x < 256 → count_fits sh d.sentcount x ≡ false → TooMuch sh p w x
     unfolding run
     too_much_at x b f = go ends.rest refl
       where
-        go : (rest : List ℕ) → ends.rest ≡ rest → Too_much sh p w x
+        go : (rest : List ℕ) → ends.rest ≡ rest → TooMuch sh p w x
         go [] e =
             let z : d ≡ ends.last = same_state (subst (λ (l : List ℕ). run sh p d 0 l ≡ Reading ends.last) e ends.leads) in
             let n : ReadCount ≡ End = sym s ∙ ap (λ (u : Decoder). u.slot) z ∙ ends.slot in
@@ -309,24 +309,24 @@ module _ (sh : Shape) (hs : Sane sh) (limits : Limits sh) (p : Bool) where
 
   module _ (tr : List ℕ) (k : ℕ) where
     -- a wrong count is one received that comes to too much
-    pub wrong_count_is : Because sh p tr WrongCount k → Too_much sh p (take k tr) (get_or tr k 0)
+    pub wrong_count_is : Because sh p tr WrongCount k → TooMuch sh p (take k tr) (get_or tr k 0)
     wrong_count_is h =
         let x : ℕ = get_or tr k 0 in
         let r = fits_runs sh hs p (take k tr) h.0.0.before in
         let f = stuck 0 sh hs p tr k h.0.0 r.0 r.1 in
         let m = kind_holds sh hs p tr k r.0 h.0 r.1 f in
-        let e = one_kind (λ y. Fits sh p (take k tr ++ y ∷ [])) (After_start tr k) (sh.tohost ≡ true) x (kind_of sh r.0 x) Miscounted m h.1 in
+        let e = one_kind (λ y. Fits sh p (take k tr ++ y ∷ [])) (AfterStart tr k) (sh.tohost ≡ true) x (kind_of sh r.0 x) Miscounted m h.1 in
         let c = count_slot sh r.0 x e in
         go r.0 r.1 f c.0 (one_of_two r.0.slot c.1)
       where
-        go : (d : Decoder) → run sh p fresh 0 (take k tr) ≡ Reading d → fits sh d (get_or tr k 0) ≡ false → d.due ≡ Nobody → (d.slot ≡ Count) ⊎ (d.slot ≡ ReadCount) → Too_much sh p (take k tr) (get_or tr k 0)
+        go : (d : Decoder) → run sh p fresh 0 (take k tr) ≡ Reading d → fits sh d (get_or tr k 0) ≡ false → d.due ≡ Nobody → (d.slot ≡ Count) ⊎ (d.slot ≡ ReadCount) → TooMuch sh p (take k tr) (get_or tr k 0)
         go d q f a (inl s) =
             let g : count_fits sh (least_of sh.received sh.least) (get_or tr k 0) ≡ false = sym (ap (λ (u : Due). fits_due sh u d (get_or tr k 0)) a ∙ ap (λ (u : Slot). fits_slot sh u d (get_or tr k 0)) s) ∙ f in
             absurd (omega (arith, count_above (least_of sh.received sh.least) (get_or tr k 0) g, least_of_le sh.received sh.least, limits.0, h.1.0))
         go d q f a (inr s) = too_much_at (take k tr) d q a s (get_or tr k 0) h.1.0 (sym (at_count d (get_or tr k 0) a s) ∙ f)
 
     -- and the other way
-    pub is_wrong_count : sh.tohost ≡ false → k < length tr → get_or tr k 0 < 256 → Too_much sh p (take k tr) (get_or tr k 0) → Because sh p tr WrongCount k
+    pub is_wrong_count : sh.tohost ≡ false → k < length tr → get_or tr k 0 < 256 → TooMuch sh p (take k tr) (get_or tr k 0) → Because sh p tr WrongCount k
     is_wrong_count h l b t =
         let x : ℕ = get_or tr k 0 in
         let d : Decoder = turn_state sh p t.message t.pec in

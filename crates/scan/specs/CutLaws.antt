@@ -12,7 +12,7 @@ use Rattle.trace.specs.LengthLaws.{length_acked}
 use Rattle.trace.specs.Trace.{acked, front, first_byte, in_place}
 use Rattle.scan.specs.BytesIn.{bytes_in}
 use Rattle.scan.specs.BytesInLaws.{byte_more, bytes_append, bytes_acked}
-use Rattle.scan.specs.Answers.{Cut_at}
+use Rattle.scan.specs.Answers.{CutAt}
 use Rattle.scan.specs.ForwardLaws.{first_byte_fits}
 use Rattle.scan.specs.PecByteLaws.{front_bytes}
 
@@ -95,7 +95,7 @@ odd_or_even r w f bs q before after hb hq hf e = go (at_ack bs before after _ hb
     go (inl o) = inl o
     go (inr l) = whole l.mid l.is (rest r w hf l.mid l.left)
 
-module _ (sh : Shape) (hs : Sane sh) (p : Bool) (tr : List ℕ) (b : ℕ) (c : Cut_at sh p tr b) where
+module _ (sh : Shape) (hs : Sane sh) (p : Bool) (tr : List ℕ) (b : ℕ) (c : CutAt sh p tr b) where
   -- START stands first, and no ACK is due for it
   cut_lengths : (before : List ℕ) → c.before ≡ before → (length tr ≡ 2 * b + 4) ⊎ (length tr ≡ 2 * b + 5)
   cut_lengths [] e =

@@ -9,7 +9,7 @@ use Rattle.trace.specs.declared.shape.Part.TheVariants.{Nothing, Fixed, Counted}
 use Rattle.trace.specs.declared.shape.Shape.{Shape}
 use Rattle.trace.specs.declared.transaction.Transaction.{Transaction}
 use Rattle.trace.specs.Shapes.{some, writes, reads}
-use Rattle.trace.specs.Trace.{Message, W, R, laid, acked, ack_of, nacked, first_byte, by_target, trace_at, in_place, Length_of, counted, Valid}
+use Rattle.trace.specs.Trace.{Message, W, R, laid, acked, ack_of, nacked, first_byte, by_target, trace_at, in_place, LengthOf, counted, Valid}
 use Rattle.trace.specs.LengthLaws.{length_nacked, length_place}
 use Rattle.trace.specs.Sane.{Sane}
 use Rattle.scan.specs.Run.{data_length, transaction}
@@ -55,7 +55,7 @@ at_end b r p y h =
     let e : length b ≡ received_place p (length r) (length (b ++ on)) = omega (arith, length-append b on) in
     rw (drop_at b on _ e) (lows_nacked r (in_place p y) (STOP ∷ []) h)
 
-back_is : (k : ℕ) (b : List ℕ) (a : Part) (r : List ℕ) (p : Bool) (y : ℕ) → Length_of k a r → Bytes r
+back_is : (k : ℕ) (b : List ℕ) (a : Part) (r : List ℕ) (p : Bool) (y : ℕ) → LengthOf k a r → Bytes r
     → lows (length r) (drop (received_place p (length r) (length (b ++ (pick (some a) (nacked (laid a r ++ in_place p y)) [] ++ STOP ∷ [])))) (b ++ (pick (some a) (nacked (laid a r ++ in_place p y)) [] ++ STOP ∷ []))) ≡ r
 back_is k b Nothing [] p y l h = refl
 back_is k b Nothing (x ∷ r) p y l h = absurd (omega arith)
@@ -70,7 +70,7 @@ pub received_is_lem : (sh : Shape) (t : Message) (p : Bool) (y : ℕ) → Valid 
 received_is_lem sh t p y v = back_is sh.least (by_target sh t (in_place p y)) sh.received t.received p y v.received_length_lem v.received_bytes
 
 -- the fields
-pub length_is : (k : ℕ) (a : Part) (s : List ℕ) → Length_of k a s → data_length a (counted a s) ≡ length s
+pub length_is : (k : ℕ) (a : Part) (s : List ℕ) → LengthOf k a s → data_length a (counted a s) ≡ length s
 length_is k Nothing s l = sym l
 length_is k (Fixed j) s l = sym l
 length_is k Counted s l = refl

@@ -33,10 +33,10 @@ use Rattle.misfit.specs.CasesLaws.{one_kind}
 use Rattle.misfit.specs.Kinds.{kind_of}
 use Rattle.misfit.specs.declared.kind.Kind.{Kind}
 use Rattle.misfit.specs.declared.kind.Kind.TheVariants.{Swapped, Misaddressed, Miscounted, Other}
-use Rattle.scan.specs.Because.{After_start, Wrong, Of_kind}
+use Rattle.scan.specs.Because.{AfterStart, Wrong, OfKind}
 use Rattle.scan.specs.BecauseLaws.{of_kind}
 use Rattle.scan.specs.WrongLaws.{kind_holds}
-use Rattle.scan.specs.Answers.{Whole, Cut_at, Member, Fits, summary, Breaks, Other_pec, Carries, shape_cases, Because, Answers}
+use Rattle.scan.specs.Answers.{Whole, CutAt, Member, Fits, summary, Breaks, OtherPec, Carries, shape_cases, Because, Answers}
 use Rattle.scan.specs.RunLaws.{same_state}
 use Rattle.scan.specs.EndState.{end_state}
 use Rattle.scan.specs.JoinedLaws.{trace_joined}
@@ -91,12 +91,12 @@ at_least_three : (sh : Shape) (t : Message) (q : List ℕ) → 3 ≤ length (tra
 at_least_three sh t q = omega (arith, ap length (trace_joined sh t q))
 
 module _ (num : ℕ) (sh : Shape) (hs : Sane sh) (p : Bool) (tr : List ℕ) where
-  cut_right : (d : Decoder) → run sh p fresh 0 tr ≡ Reading d → is_cut d.due ≡ true → Cut_at sh p tr (byte_count tr - 1)
+  cut_right : (d : Decoder) → run sh p fresh 0 tr ≡ Reading d → is_cut d.due ≡ true → CutAt sh p tr (byte_count tr - 1)
   cut_right d q c =
       let r = cut_back sh hs p tr d q (is_cut_lem d.due c) in
       let k = r.1 in
       let n : byte_count tr ≡ suc r.0 = ap byte_count k.is ∙ nack_adds_no_byte k.before ∙ byte_count_is k.before ∙ k.number in
-      subst (Cut_at sh p tr) (omega arith) k
+      subst (CutAt sh p tr) (omega arith) k
 
   -- the whole trace, and the state at its end
   whole_right : (w : Whole sh p tr) (d : Decoder) → run sh p fresh 0 tr ≡ Reading d → d ≡ end_state sh p w.message w.pec
@@ -120,7 +120,7 @@ module _ (num : ℕ) (sh : Shape) (hs : Sane sh) (p : Bool) (tr : List ℕ) wher
       let s = same_place p w.pec (pec_of sh w.message) (sym (ap (λ (u : Decoder). u.good) e) ∙ g) in
       carries w.message w.valid (transaction num sh d) (w.is ∙ ap (trace_at sh w.message) s) (ap (transaction num sh) e ∙ fields_are num sh hs p w.message w.pec w.valid w.byte)
 
-  pec_right : (w : Whole sh p tr) (d : Decoder) → run sh p fresh 0 tr ≡ Reading d → d.good ≡ false → Other_pec sh p tr (length tr - 3)
+  pec_right : (w : Whole sh p tr) (d : Decoder) → run sh p fresh 0 tr ≡ Reading d → d.good ≡ false → OtherPec sh p tr (length tr - 3)
   pec_right w d q g =
       let o = other_place p w.pec (pec_of sh w.message) (sym (ap (λ (u : Decoder). u.good) (whole_right w d q)) ∙ g) in
       let i : in_place p w.pec ≡ w.pec ∷ [] = ap (λ (b : Bool). in_place b w.pec) o.0 in
@@ -225,7 +225,7 @@ module _ (num : ℕ) (sh : Shape) (hs : Sane sh) (p : Bool) (tr : List ℕ) wher
         k.data_received ∙ sym h.data_received,
       )
 
-  only_pec : (k : ℕ) → Other_pec sh p tr k → decoded_by num sh p tr ≡ Refused PecDiffers k
+  only_pec : (k : ℕ) → OtherPec sh p tr k → decoded_by num sh p tr ≡ Refused PecDiffers k
   only_pec k h =
       let m = h.message in
       let i : h.pec ∷ [] ≡ in_place p h.pec = ap (λ (b : Bool). in_place b h.pec) (sym h.used) in
@@ -235,7 +235,7 @@ module _ (num : ℕ) (sh : Shape) (hs : Sane sh) (p : Bool) (tr : List ℕ) wher
       let g : pick p (eqb h.pec (pec_of sh m)) true ≡ false = ap (λ (b : Bool). pick b (eqb h.pec (pec_of sh m)) true) h.used ∙ ne_eqb h.pec (pec_of sh m) h.differs in
       by_reading _ false true false q refl refl g ∙ ap (Refused PecDiffers) (omega (arith, h.place))
 
-  only_cut : (b : ℕ) → Cut_at sh p tr b → decoded_by num sh p tr ≡ Refused NotAcknowledged b
+  only_cut : (b : ℕ) → CutAt sh p tr b → decoded_by num sh p tr ≡ Refused NotAcknowledged b
   only_cut b h =
       let r = cut_runs sh hs p tr b h in
       let n : byte_count tr ≡ suc b = ap byte_count h.is ∙ nack_adds_no_byte h.before ∙ byte_count_is h.before ∙ h.number in
@@ -252,7 +252,7 @@ module _ (num : ℕ) (sh : Shape) (hs : Sane sh) (p : Bool) (tr : List ℕ) wher
       go d q true e = absurd (n (member_back sh hs p tr d q e))
 
   -- a wrong symbol: the kind that is worked out, and no other
-  wrong_is : (k : ℕ) → Wrong (shape_cases sh p tr) tr k → (w : Kind) × Of_kind (shape_cases sh p tr) tr k w × (decoded_by num sh p tr ≡ Refused (refusal_of w) k)
+  wrong_is : (k : ℕ) → Wrong (shape_cases sh p tr) tr k → (w : Kind) × OfKind (shape_cases sh p tr) tr k w × (decoded_by num sh p tr ≡ Refused (refusal_of w) k)
   wrong_is k h =
       let z = h.0 in
       let f = fits_runs sh hs p (take k tr) z.before in
@@ -262,10 +262,10 @@ module _ (num : ℕ) (sh : Shape) (hs : Sane sh) (p : Bool) (tr : List ℕ) wher
         by_stop k f.0 true false z.inside f.1 s (le-leb (get_or tr k 0) NACK h.2) (not_over k f.0 f.1 h.1),
       )
 
-  only_wrong : (w : Kind) (k : ℕ) → Wrong (shape_cases sh p tr) tr k → Of_kind (shape_cases sh p tr) tr k w → decoded_by num sh p tr ≡ Refused (refusal_of w) k
+  only_wrong : (w : Kind) (k : ℕ) → Wrong (shape_cases sh p tr) tr k → OfKind (shape_cases sh p tr) tr k w → decoded_by num sh p tr ≡ Refused (refusal_of w) k
   only_wrong w k h m =
       let r = wrong_is k h in
-      r.2 ∙ ap (λ (u : Kind). Refused (refusal_of u) k) (one_kind (λ y. Fits sh p (take k tr ++ y ∷ [])) (After_start tr k) (sh.tohost ≡ true) (get_or tr k 0) r.0 w r.1 m)
+      r.2 ∙ ap (λ (u : Kind). Refused (refusal_of u) k) (one_kind (λ y. Fits sh p (take k tr ++ y ∷ [])) (AfterStart tr k) (sh.tohost ≡ true) (get_or tr k 0) r.0 w r.1 m)
 
   -- every wrong symbol is refused for its kind
   pub wrong_decided : (k : ℕ) → Wrong (shape_cases sh p tr) tr k → (w : Kind) × Because sh p tr (refusal_of w) k

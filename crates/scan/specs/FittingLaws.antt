@@ -11,7 +11,7 @@ use Rattle.wire.specs.Addresses.{host_address}
 use Rattle.pec.specs.Pec as Pec
 use Rattle.trace.specs.Shapes.{protocols, shape_of}
 use Rattle.trace.specs.ShapeLaws.{sane, none_to_host}
-use Rattle.trace.specs.Table.{Line, Row, line, In_table}
+use Rattle.trace.specs.Table.{Line, Row, line, InTable}
 use Rattle.trace.specs.TableLaws.{row_means, row_of}
 use Rattle.trace.specs.Trace.{Message, in_place, pec_of, bytes, by_target, by_controller, trace_at, Valid}
 use Rattle.trace.specs.declared.shape.Shape.{Shape}
@@ -19,9 +19,9 @@ use Rattle.step.specs.State.{fresh}
 use Rattle.scan.specs.Answers as shaped
 use Rattle.scan.specs.MemberLaws.{fits_back}
 use Rattle.scan.specs.Run.{run}
-use Rattle.scan.specs.SwapLaws.{Swapped_at}
+use Rattle.scan.specs.SwapLaws.{SwappedAt}
 use Rattle.scan.specs.BecauseLaws.{Agree}
-use Rattle.scan.specs.Fitting.{Whole, Cut_at, Member, Fits, Breaks, Other_pec, To_host, Bit_swapped, table_cases}
+use Rattle.scan.specs.Fitting.{Whole, CutAt, Member, Fits, Breaks, OtherPec, ToHost, BitSwapped, table_cases}
 
 -- what a line of the table is, by its own protocol
 record Known (p : ℕ) (pec : Bool) (y : ℕ) (x : Line) : Type 0 where
@@ -35,7 +35,7 @@ one_byte : (pec : Bool) (y : ℕ) → y < 256 → Bytes (in_place pec y)
 one_byte true y h = (h, tt)
 one_byte false y h = tt
 
-known : (p : ℕ) (pec : Bool) (y : ℕ) (x : Line) → In_table p pec y x → Known p pec y x
+known : (p : ℕ) (pec : Bool) (y : ℕ) (x : Line) → InTable p pec y x → Known p pec y x
 known p pec y x (r, e, h) =
     let m = row_means (in_place pec y) x r in
     let k : shape_of x.protocol ≡ shape_of p = ap shape_of e in
@@ -67,7 +67,7 @@ module _ (p : ℕ) (pec : Bool) (k : p < protocols) (z : p ≡ 0 → pec ≡ fal
   abbrev line_of : Message → ℕ → Line
   line_of t y = line p t (bytes sh t) (by_target sh t (in_place pec y)) (by_controller sh t (in_place pec y))
 
-  in_table : (t : Message) (y : ℕ) → Valid sh t → Bytes (in_place pec y) → In_table p pec (placed pec y) (line_of t (placed pec y))
+  in_table : (t : Message) (y : ℕ) → Valid sh t → Bytes (in_place pec y) → InTable p pec (placed pec y) (line_of t (placed pec y))
   in_table t y v h = (row_of p k t (in_place pec (placed pec y)) (λ e. rw (z e)) v, refl, placed_byte pec y h)
 
   pub whole_shaped : (tr : List ℕ) → Whole p pec tr ↔ shaped.Whole sh pec tr
@@ -86,10 +86,10 @@ module _ (p : ℕ) (pec : Bool) (k : p < protocols) (z : p ≡ 0 → pec ≡ fal
         w.is ∙ ap (λ (q : List ℕ). trace_at sh w.message q) (sym (placed_same pec w.pec)),
       )
 
-  pub cut_shaped : (tr : List ℕ) (b : ℕ) → Cut_at p pec tr b ↔ shaped.Cut_at sh pec tr b
+  pub cut_shaped : (tr : List ℕ) (b : ℕ) → CutAt p pec tr b ↔ shaped.CutAt sh pec tr b
   cut_shaped tr b = (there, back)
     where
-      there : Cut_at p pec tr b → shaped.Cut_at sh pec tr b
+      there : CutAt p pec tr b → shaped.CutAt sh pec tr b
       there c =
           let w = known p pec c.y c.row c.listed in
           record {
@@ -104,7 +104,7 @@ module _ (p : ℕ) (pec : Bool) (k : p < protocols) (z : p ≡ 0 → pec ≡ fal
             number = c.number;
           }
 
-      back : shaped.Cut_at sh pec tr b → Cut_at p pec tr b
+      back : shaped.CutAt sh pec tr b → CutAt p pec tr b
       back c =
           record {
             y = placed pec c.pec;
@@ -137,10 +137,10 @@ module _ (p : ℕ) (pec : Bool) (k : p < protocols) (z : p ≡ 0 → pec ≡ fal
     λ b. record { inside = b.inside; before = (fits_shaped (take n tr)).1 b.before; here = λ f. b.here ((fits_shaped (take (suc n) tr)).0 f) },
   )
 
-  pub other_pec_shaped : (tr : List ℕ) (n : ℕ) → Other_pec p pec tr n ↔ shaped.Other_pec sh pec tr n
+  pub other_pec_shaped : (tr : List ℕ) (n : ℕ) → OtherPec p pec tr n ↔ shaped.OtherPec sh pec tr n
   other_pec_shaped tr n = (there, back)
     where
-      there : Other_pec p pec tr n → shaped.Other_pec sh pec tr n
+      there : OtherPec p pec tr n → shaped.OtherPec sh pec tr n
       there (u, (y, x, i, e, d), l) =
           let w = known p pec y x i in
           record {
@@ -154,7 +154,7 @@ module _ (p : ℕ) (pec : Bool) (k : p < protocols) (z : p ≡ 0 → pec ≡ fal
             place = l;
           }
 
-      back : shaped.Other_pec sh pec tr n → Other_pec p pec tr n
+      back : shaped.OtherPec sh pec tr n → OtherPec p pec tr n
       back o =
           let j : in_place pec o.pec ≡ o.pec ∷ [] = ap (λ (q : Bool). in_place q o.pec) o.used in
           let s : placed pec o.pec ≡ o.pec = ap (λ (q : Bool). placed q o.pec) o.used in (
@@ -170,14 +170,14 @@ module _ (p : ℕ) (pec : Bool) (k : p < protocols) (z : p ≡ 0 → pec ≡ fal
           )
 
   -- with the same byte in PEC's place
-  pub other_pec_byte : (tr : List ℕ) (n : ℕ) (q : Other_pec p pec tr n) → ((other_pec_shaped tr n).0 q).pec ≡ q.1.0
+  pub other_pec_byte : (tr : List ℕ) (n : ℕ) (q : OtherPec p pec tr n) → ((other_pec_shaped tr n).0 q).pec ≡ q.1.0
   unfolding other_pec_shaped
   other_pec_byte tr n q = refl
 
-  pub bit_shaped : (tr : List ℕ) (n : ℕ) → Bit_swapped p pec tr n ↔ Swapped_at sh pec tr n
+  pub bit_shaped : (tr : List ℕ) (n : ℕ) → BitSwapped p pec tr n ↔ SwappedAt sh pec tr n
   bit_shaped tr n = (there, back)
     where
-      there : Bit_swapped p pec tr n → Swapped_at sh pec tr n
+      there : BitSwapped p pec tr n → SwappedAt sh pec tr n
       there (h, (y, x, u, s, v, i, o, g, e)) =
           let w = known p pec y x i in
           record {
@@ -194,7 +194,7 @@ module _ (p : ℕ) (pec : Bool) (k : p < protocols) (z : p ≡ 0 → pec ≡ fal
             other = e;
           }
 
-      back : Swapped_at sh pec tr n → Bit_swapped p pec tr n
+      back : SwappedAt sh pec tr n → BitSwapped p pec tr n
       back c =
           let same = placed_same pec c.pec in (
             c.inside,
@@ -212,7 +212,7 @@ module _ (p : ℕ) (pec : Bool) (k : p < protocols) (z : p ≡ 0 → pec ≡ fal
           )
 
   -- the address 0 is one of a protocol that does not go to the host alone
-  other_address : sh.tohost ≡ false → To_host p → ⊥
+  other_address : sh.tohost ≡ false → ToHost p → ⊥
   unfolding run
   other_address h f =
       let m = fitting_message in
@@ -238,13 +238,13 @@ module _ (p : ℕ) (pec : Bool) (k : p < protocols) (z : p ≡ 0 → pec ≡ fal
           go (inr (b, c)) = (c.message, c.valid)
 
   -- so none of the table goes to the host alone
-  pub none_to_host_alone : To_host p → ⊥
+  pub none_to_host_alone : ToHost p → ⊥
   none_to_host_alone = other_address (none_to_host p)
 
-  pub to_host_shaped : To_host p ↔ (sh.tohost ≡ true)
+  pub to_host_shaped : ToHost p ↔ (sh.tohost ≡ true)
   to_host_shaped = (λ f. there sh.tohost refl f, λ h q x r e. at_host h q x r e)
     where
-      there : (b : Bool) → sh.tohost ≡ b → To_host p → b ≡ true
+      there : (b : Bool) → sh.tohost ≡ b → ToHost p → b ≡ true
       there true h f = refl
       there false h f = absurd (other_address h f)
 

@@ -16,7 +16,7 @@ use Rattle.trace.specs.declared.shape.Part.{Part}
 use Rattle.trace.specs.declared.shape.Part.TheVariants.{Nothing, Fixed, Counted}
 use Rattle.trace.specs.declared.shape.Shape.{Shape}
 use Rattle.trace.specs.Shapes.{some, writes, reads, least_of}
-use Rattle.trace.specs.Trace.{Message, W, R, laid, acked, ack_of, nacked, first_byte, front, by_target, by_controller, in_place, Length_of, counted, Valid}
+use Rattle.trace.specs.Trace.{Message, W, R, laid, acked, ack_of, nacked, first_byte, front, by_target, by_controller, in_place, LengthOf, counted, Valid}
 use Rattle.trace.specs.Allowed.{address_fits}
 use Rattle.trace.specs.Sane.{Sane}
 use Rattle.trace.specs.ValidLaws.{address_below_128, address_there, sender_there}
@@ -54,7 +54,7 @@ pub count_test : (sh : Shape) (k x : ℕ) → sh.least ≤ x → x + k ≤ sh.mo
 count_test sh k x h g = rw (le-leb sh.least x h, le-leb x (sh.most - k) (omega arith))
 
 -- what a part adds to the sum of the counts at the least
-least_counted : (least : ℕ) (a : Part) (r : List ℕ) → Length_of least a r → least_of a least ≤ counted a r
+least_counted : (least : ℕ) (a : Part) (r : List ℕ) → LengthOf least a r → least_of a least ≤ counted a r
 least_counted least Nothing r h = omega arith
 least_counted least (Fixed k) r h = omega arith
 least_counted least Counted r h = h
@@ -94,7 +94,7 @@ module _ (sh : Shape) where
       leads_byte no_controller sh p (to Count k) z f c m n ok x (ACK ∷ []) _ h refl t (target_ack_leads p (to_data sh p x) (pec_step z x) f c x n ok)
 
   -- with their count
-  sent_leads : (p : Bool) (a : Part) (s : List ℕ) (z f c n : ℕ) (ok : Bool) → Length_of sh.least a s → Bytes s → counted a s + least_of sh.received sh.least ≤ sh.most
+  sent_leads : (p : Bool) (a : Part) (s : List ℕ) (z f c n : ℕ) (ok : Bool) → LengthOf sh.least a s → Bytes s → counted a s + least_of sh.received sh.least ≤ sh.most
       → sh.most ≤ 255
       → Writes sh p (state (to_sent sh p a) Nobody z f c 0 n ok) (acked (laid a s)) (state (after_write sh p) Nobody (pec_from z (laid a s)) f c (counted a s) n ok)
   unfolding pec_from
@@ -137,7 +137,7 @@ module _ (sh : Shape) where
       leads_byte no_target sh p (to ReadCount k) z f c m n ok x (w ∷ []) _ h refl t (controller_ack_leads p (to_read_data p x) (pec_step z x) f c m x ok w e)
 
   read_part_leads : (p : Bool) (a : Part) (r : List ℕ) (y z f c m : ℕ) (ok : Bool)
-      → Length_of sh.least a r → counted a r + m ≤ sh.most → sh.most ≤ 255 → Bytes r → Bytes (in_place p y)
+      → LengthOf sh.least a r → counted a r + m ≤ sh.most → sh.most ≤ 255 → Bytes r → Bytes (in_place p y)
       → Reads sh p (state (to_read a p) Nobody z f c m 0 ok) (nacked (laid a r ++ in_place p y) ++ STOP ∷ [])
       (state (to End 0) Nobody (pec_from z (laid a r)) f c m (counted a r) (pick p (eqb y (pec_from z (laid a r))) ok))
   unfolding pec_from
@@ -178,7 +178,7 @@ module _ (sh : Shape) where
       leads_byte no_controller sh p (to Command 0) z f 0 m n ok x (ACK ∷ []) _ h refl e (target_ack_leads p (to_sent sh p sh.sent) (pec_step z x) f x m n ok)
 
   head_leads : (p b : Bool) (c : ℕ) (s : List ℕ) (z f : ℕ) → pick b ((c < 256) × pick sh.tohost (c % 2 ≡ 0) Unit) (c ≡ 0)
-      → Length_of sh.least sh.sent s → Bytes s → counted sh.sent s + least_of sh.received sh.least ≤ sh.most → sh.most ≤ 255
+      → LengthOf sh.least sh.sent s → Bytes s → counted sh.sent s + least_of sh.received sh.least ≤ sh.most → sh.most ≤ 255
       → Writes sh p (state (pick b (to Command 0) (to_sent sh p sh.sent)) Nobody z f 0 0 0 true)
       (acked (pick b (c ∷ []) [] ++ laid sh.sent s))
       (state (after_write sh p) Nobody (pec_from z (pick b (c ∷ []) [] ++ laid sh.sent s)) f c (counted sh.sent s) 0 true)
@@ -198,7 +198,7 @@ module _ (sh : Shape) (p : Bool) where
   after_write_leads false true z f c m y h k = leads_nil no_controller sh p _
   after_write_leads w false z f c m y h k = pec_leads sh p y z f c m 0 true h
 
-  after_turn_leads : (w : Bool) (a : Part) (r : List ℕ) (z f c m y : ℕ) → Length_of sh.least a r → counted a r + m ≤ sh.most → sh.most ≤ 255 → Bytes r → Bytes (in_place p y)
+  after_turn_leads : (w : Bool) (a : Part) (r : List ℕ) (z f c m y : ℕ) → LengthOf sh.least a r → counted a r + m ≤ sh.most → sh.most ≤ 255 → Bytes r → Bytes (in_place p y)
       → Leads no_target sh p (turned p w (some a) a z f c m y) (pick (some a) (nacked (laid a r ++ in_place p y)) [] ++ STOP ∷ [])
       (ended_at p (pec_from z (pick (some a) (pick w ((f + 1) ∷ []) [] ++ laid a r) [])) f c m (counted a r) y)
   unfolding pec_from Leads

@@ -28,7 +28,7 @@ use Rattle.scan.specs.Refusal.{ended, over, why}
 use Rattle.scan.specs.BytesIn.{bytes_in}
 use Rattle.scan.specs.BytesInLaws.{byte_count_is}
 use Rattle.scan.specs.Run.{run, byte_count}
-use Rattle.scan.specs.Answers.{Cut_at, Member, Fits}
+use Rattle.scan.specs.Answers.{CutAt, Member, Fits}
 use Rattle.scan.specs.RunLaws.{refused_not_reading, same_state, run_append, run_before, run_from}
 use Rattle.scan.specs.Leads.{Leads, no_controller, no_target}
 use Rattle.scan.specs.LeadLaws.{leads_run, leads_inside}
@@ -74,7 +74,7 @@ module _ (sh : Shape) (hs : Sane sh) (p : Bool) where
   target_ack_runs d i ys e = subst (λ (a : Due). run sh p (at d d.slot a d.left) i (ACK ∷ ys) ≡ run sh p (at d d.slot Nobody d.left) (suc i) ys) (sym e) (target_ack_runs_at d i ys)
 
   -- a cut trace is read to its end, and the decoder says so
-  pub cut_runs : (tr : List ℕ) (b : ℕ) → Cut_at sh p tr b → (e : Decoder) × (run sh p fresh 0 tr ≡ Reading e) × (e.due ≡ Cut)
+  pub cut_runs : (tr : List ℕ) (b : ℕ) → CutAt sh p tr b → (e : Decoder) × (run sh p fresh 0 tr ≡ Reading e) × (e.due ≡ Cut)
   cut_runs tr b c =
       let l = leads_inside no_controller sh p c.before 258 c.after fresh _ (subst (λ (xs : List ℕ). Leads no_controller sh p fresh xs (turn_state sh p c.message c.pec)) c.ack (target_part_leads sh hs p c.message c.pec c.valid c.byte)) in
       let m = l.0 in
@@ -237,7 +237,7 @@ module _ (sh : Shape) (hs : Sane sh) (p : Bool) where
       not_both {b = no_target m.due} (ap no_target g) (ap (λ (u : Decoder). no_target u.due) w ∙ l.3)
 
   -- a trace at whose end the decoder is cut is a cut trace
-  pub cut_back : (tr : List ℕ) (e : Decoder) → run sh p fresh 0 tr ≡ Reading e → e.due ≡ Cut → (b : ℕ) × Cut_at sh p tr b
+  pub cut_back : (tr : List ℕ) (e : Decoder) → run sh p fresh 0 tr ≡ Reading e → e.due ≡ Cut → (b : ℕ) × CutAt sh p tr b
   cut_back tr e q c =
       let n = cut_inside tr fresh e 0 refl q c in
       let m = n.state in

@@ -11,7 +11,7 @@ use Rattle.trace.specs.declared.shape.Part.{Part}
 use Rattle.trace.specs.declared.shape.Part.TheVariants.{Nothing, Fixed, Counted}
 use Rattle.trace.specs.declared.shape.Shape.{Shape}
 use Rattle.trace.specs.Shapes.{some, writes, reads, least_of}
-use Rattle.trace.specs.Trace.{Message, W, R, laid, acked, ack_of, nacked, first_byte, in_place, Length_of, counted}
+use Rattle.trace.specs.Trace.{Message, W, R, laid, acked, ack_of, nacked, first_byte, in_place, LengthOf, counted}
 use Rattle.trace.specs.Allowed.{address_fits}
 use Rattle.trace.specs.Sane.{Sane}
 use Rattle.trace.specs.ValidLaws.{address_back, sender_back}
@@ -41,7 +41,7 @@ count_or (Fixed k) s m = m
 count_or Counted s m = length s
 
 -- data of k bytes received, PEC, STOP
-record Back_l (p : Bool) (k : ℕ) (tr : List ℕ) : Type 0 where
+record BackL (p : Bool) (k : ℕ) (tr : List ℕ) : Type 0 where
   r : List ℕ
   y : ℕ
   len : length r ≡ k
@@ -50,55 +50,55 @@ record Back_l (p : Bool) (k : ℕ) (tr : List ℕ) : Type 0 where
   is : tr ≡ nacked (r ++ in_place p y) ++ STOP ∷ []
 
 -- the same after the address byte of a read
-record Read_l (sh : Shape) (p : Bool) (a : Part) (m : ℕ) (tr : List ℕ) : Type 0 where
+record ReadL (sh : Shape) (p : Bool) (a : Part) (m : ℕ) (tr : List ℕ) : Type 0 where
   r : List ℕ
   y : ℕ
-  len : Length_of sh.least a r
+  len : LengthOf sh.least a r
   room : counted a r ≤ sh.most - m
   bytes : Bytes r
   pec : Bytes (in_place p y)
   is : tr ≡ nacked (laid a r ++ in_place p y) ++ STOP ∷ []
 
-record After_l (sh : Shape) (p : Bool) (a : Part) (w : Bool) (m f : ℕ) (tr : List ℕ) : Type 0 where
+record AfterL (sh : Shape) (p : Bool) (a : Part) (w : Bool) (m f : ℕ) (tr : List ℕ) : Type 0 where
   r : List ℕ
   y : ℕ
-  len : Length_of sh.least a r
+  len : LengthOf sh.least a r
   room : counted a r ≤ sh.most - m
   bytes : Bytes r
   pec : Bytes (in_place p y)
   is : tr ≡ after a w ((f + 1) % 256) r (in_place p y)
 
 -- data of k bytes sent, and what follows
-record Out_l (sh : Shape) (p : Bool) (k m f : ℕ) (tr : List ℕ) : Type 0 where
+record OutL (sh : Shape) (p : Bool) (k m f : ℕ) (tr : List ℕ) : Type 0 where
   s : List ℕ
   on : List ℕ
   len : length s ≡ k
   bytes : Bytes s
   is : tr ≡ acked s ++ on
-  then : After_l sh p sh.received (writes sh) m f on
+  then : AfterL sh p sh.received (writes sh) m f on
 
-record Sent_l (sh : Shape) (p : Bool) (a : Part) (m f : ℕ) (tr : List ℕ) : Type 0 where
+record SentL (sh : Shape) (p : Bool) (a : Part) (m f : ℕ) (tr : List ℕ) : Type 0 where
   s : List ℕ
   on : List ℕ
-  len : Length_of sh.least a s
+  len : LengthOf sh.least a s
   small : counted a s ≤ sh.most
   bytes : Bytes s
   is : tr ≡ acked (laid a s) ++ on
-  then : After_l sh p sh.received (writes sh) (count_or a s m) f on
+  then : AfterL sh p sh.received (writes sh) (count_or a s m) f on
 
-record Command_l (sh : Shape) (p : Bool) (m f : ℕ) (tr : List ℕ) : Type 0 where
+record CommandL (sh : Shape) (p : Bool) (m f : ℕ) (tr : List ℕ) : Type 0 where
   c : ℕ
   on : List ℕ
   fit : command_fits sh c ≡ true
   is : tr ≡ c ∷ ACK ∷ on
-  then : Sent_l sh p sh.sent m f on
+  then : SentL sh p sh.sent m f on
 
-record First_l (sh : Shape) (p : Bool) (m : ℕ) (tr : List ℕ) : Type 0 where
+record FirstL (sh : Shape) (p : Bool) (m : ℕ) (tr : List ℕ) : Type 0 where
   f : ℕ
   on : List ℕ
   fit : first_fits sh f ≡ true
   is : tr ≡ f ∷ ACK ∷ on
-  then : pick sh.command (Command_l sh p m f on) (Sent_l sh p sh.sent m f on)
+  then : pick sh.command (CommandL sh p m f on) (SentL sh p sh.sent m f on)
 
 record Ahead (x : ℕ) (L : List ℕ → Type 0) (tr : List ℕ) : Type 0 where
   on : List ℕ
@@ -106,35 +106,35 @@ record Ahead (x : ℕ) (L : List ℕ → Type 0) (tr : List ℕ) : Type 0 where
   then : L on
 
 -- a byte, a symbol, STOP
-record Pec_l (w : ℕ) (tr : List ℕ) : Type 0 where
+record PecL (w : ℕ) (tr : List ℕ) : Type 0 where
   y : ℕ
   byte : y < 256
   is : tr ≡ y ∷ w ∷ STOP ∷ []
 
-abbrev Lang_s : Shape → Bool → Slot → ℕ → ℕ → ℕ → List ℕ → Type 0
-Lang_s sh p Start k m f tr = Ahead START (First_l sh p m) tr
-Lang_s sh p First k m f tr = First_l sh p m tr
-Lang_s sh p Command k m f tr = Command_l sh p m f tr
-Lang_s sh p Count k m f tr = Sent_l sh p Counted m f tr
-Lang_s sh p Data k m f tr = Out_l sh p (suc k) m f tr
-Lang_s sh p Pec k m f tr = Pec_l ACK tr
-Lang_s sh p Restart k m f tr = Ahead START (Ahead ((f + 1) % 256) (Ahead ACK (Read_l sh p sh.received m))) tr
-Lang_s sh p Second k m f tr = Ahead ((f + 1) % 256) (Ahead ACK (Read_l sh p sh.received m)) tr
-Lang_s sh p ReadCount k m f tr = Read_l sh p Counted m tr
-Lang_s sh p ReadData k m f tr = Back_l p (suc k) tr
-Lang_s sh p ReadPec k m f tr = Pec_l NACK tr
-Lang_s sh p Stop k m f tr = tr ≡ STOP ∷ []
-Lang_s sh p End k m f tr = tr ≡ []
+abbrev LangS : Shape → Bool → Slot → ℕ → ℕ → ℕ → List ℕ → Type 0
+LangS sh p Start k m f tr = Ahead START (FirstL sh p m) tr
+LangS sh p First k m f tr = FirstL sh p m tr
+LangS sh p Command k m f tr = CommandL sh p m f tr
+LangS sh p Count k m f tr = SentL sh p Counted m f tr
+LangS sh p Data k m f tr = OutL sh p (suc k) m f tr
+LangS sh p Pec k m f tr = PecL ACK tr
+LangS sh p Restart k m f tr = Ahead START (Ahead ((f + 1) % 256) (Ahead ACK (ReadL sh p sh.received m))) tr
+LangS sh p Second k m f tr = Ahead ((f + 1) % 256) (Ahead ACK (ReadL sh p sh.received m)) tr
+LangS sh p ReadCount k m f tr = ReadL sh p Counted m tr
+LangS sh p ReadData k m f tr = BackL p (suc k) tr
+LangS sh p ReadPec k m f tr = PecL NACK tr
+LangS sh p Stop k m f tr = tr ≡ STOP ∷ []
+LangS sh p End k m f tr = tr ≡ []
 
-abbrev Lang_d : Shape → Bool → Due → Slot → ℕ → ℕ → ℕ → List ℕ → Type 0
-Lang_d sh p Nobody s k m f tr = Lang_s sh p s k m f tr
-Lang_d sh p Target s k m f tr = Ahead ACK (Lang_s sh p s k m f) tr
-Lang_d sh p Controller s k m f tr = Ahead (ack_at s) (Lang_s sh p s k m f) tr
-Lang_d sh p Halted s k m f tr = ⊥
-Lang_d sh p Cut s k m f tr = ⊥
+abbrev LangD : Shape → Bool → Due → Slot → ℕ → ℕ → ℕ → List ℕ → Type 0
+LangD sh p Nobody s k m f tr = LangS sh p s k m f tr
+LangD sh p Target s k m f tr = Ahead ACK (LangS sh p s k m f) tr
+LangD sh p Controller s k m f tr = Ahead (ack_at s) (LangS sh p s k m f) tr
+LangD sh p Halted s k m f tr = ⊥
+LangD sh p Cut s k m f tr = ⊥
 
 abbrev Lang : Shape → Bool → Decoder → List ℕ → Type 0
-Lang sh p d tr = Lang_d sh p d.due d.slot d.left d.sentcount d.first tr
+Lang sh p d tr = LangD sh p d.due d.slot d.left d.sentcount d.first tr
 
 one_more : (k : ℕ) → (k ≡ 0 → ⊥) → suc (k - 1) ≡ k
 one_more k h = omega arith
@@ -143,16 +143,16 @@ zero_le : (n : ℕ) → 0 ≤ n
 zero_le n = omega arith
 
 -- the aims
-back_aim : (sh : Shape) (p : Bool) (k m f : ℕ) (tr : List ℕ) → Lang_s sh p (to_read_data p k).slot (to_read_data p k).left m f tr → Back_l p k tr
+back_aim : (sh : Shape) (p : Bool) (k m f : ℕ) (tr : List ℕ) → LangS sh p (to_read_data p k).slot (to_read_data p k).left m f tr → BackL p k tr
 back_aim sh p k m f tr = go p (eqb k 0) refl
   where
-    go : (p b : Bool) → eqb k 0 ≡ b → Lang_s sh p (pick b (after_read p) (to ReadData (k - 1))).slot (pick b (after_read p) (to ReadData (k - 1))).left m f tr → Back_l p k tr
+    go : (p b : Bool) → eqb k 0 ≡ b → LangS sh p (pick b (after_read p) (to ReadData (k - 1))).slot (pick b (after_read p) (to ReadData (k - 1))).left m f tr → BackL p k tr
     go true true e l = record { r = []; y = l.y; len = sym (eqb-true k 0 e); bytes = tt; pec = (l.byte, tt); is = l.is }
     go false true e l = record { r = []; y = 0; len = sym (eqb-true k 0 e); bytes = tt; pec = tt; is = l }
-    go true false e l = subst (λ (j : ℕ). Back_l true j tr) (one_more k (eqb-false k 0 e)) l
-    go false false e l = subst (λ (j : ℕ). Back_l false j tr) (one_more k (eqb-false k 0 e)) l
+    go true false e l = subst (λ (j : ℕ). BackL true j tr) (one_more k (eqb-false k 0 e)) l
+    go false false e l = subst (λ (j : ℕ). BackL false j tr) (one_more k (eqb-false k 0 e)) l
 
-read_aim : (sh : Shape) (p : Bool) (a : Part) (m f : ℕ) (tr : List ℕ) → Lang_s sh p (to_read a p).slot (to_read a p).left m f tr → Read_l sh p a m tr
+read_aim : (sh : Shape) (p : Bool) (a : Part) (m f : ℕ) (tr : List ℕ) → LangS sh p (to_read a p).slot (to_read a p).left m f tr → ReadL sh p a m tr
 read_aim sh true Nothing m f tr l = record { r = []; y = l.y; len = refl; room = zero_le (sh.most - m); bytes = tt; pec = (l.byte, tt); is = l.is }
 read_aim sh false Nothing m f tr l = record { r = []; y = 0; len = refl; room = zero_le (sh.most - m); bytes = tt; pec = tt; is = l }
 read_aim sh p (Fixed k) m f tr l =
@@ -165,19 +165,19 @@ T_true true t = refl
 T_true false t = absurd t
 
 turned : (sh : Shape) (p : Bool) (a : Part) (m f : ℕ) (tr : List ℕ) → T (some a) → sh.received ≡ a
-    → Lang_s sh p Restart 0 m f tr → After_l sh p a true m f tr
+    → LangS sh p Restart 0 m f tr → AfterL sh p a true m f tr
 turned sh p a m f tr so e l =
-    let q = subst (λ (b : Part). Read_l sh p b m l.then.then.on) e l.then.then.then in
+    let q = subst (λ (b : Part). ReadL sh p b m l.then.then.on) e l.then.then.then in
     record { r = q.r; y = q.y; len = q.len; room = q.room; bytes = q.bytes; pec = q.pec; is = rw (T_true (some a) so) (cc (l.is, l.then.is, l.then.then.is, q.is)) }
 
-plain : (sh : Shape) (p : Bool) (a : Part) (m f : ℕ) (tr : List ℕ) → T (some a) → Read_l sh p a m tr → After_l sh p a false m f tr
+plain : (sh : Shape) (p : Bool) (a : Part) (m f : ℕ) (tr : List ℕ) → T (some a) → ReadL sh p a m tr → AfterL sh p a false m f tr
 plain sh p a m f tr so l =
     record { r = l.r; y = l.y; len = l.len; room = l.room; bytes = l.bytes; pec = l.pec; is = rw (T_true (some a) so) l.is }
 
 after_aim : (sh : Shape) (p : Bool) (a : Part) (w : Bool) (m f : ℕ) (tr : List ℕ) → sh.received ≡ a
-    → Lang_s sh p (pick (some a) (pick w (to Restart 0) (to_read a p)) (to (pick p Pec Stop) 0)).slot
+    → LangS sh p (pick (some a) (pick w (to Restart 0) (to_read a p)) (to (pick p Pec Stop) 0)).slot
     (pick (some a) (pick w (to Restart 0) (to_read a p)) (to (pick p Pec Stop) 0)).left m f tr
-    → After_l sh p a w m f tr
+    → AfterL sh p a w m f tr
 after_aim sh true Nothing w m f tr e l = record { r = []; y = l.y; len = refl; room = zero_le (sh.most - m); bytes = tt; pec = (l.byte, tt); is = l.is }
 after_aim sh false Nothing w m f tr e l = record { r = []; y = 0; len = refl; room = zero_le (sh.most - m); bytes = tt; pec = tt; is = l }
 after_aim sh p (Fixed k) true m f tr e l = turned sh p (Fixed k) m f tr tt e l
@@ -185,14 +185,14 @@ after_aim sh p (Fixed k) false m f tr e l = plain sh p (Fixed k) m f tr tt (read
 after_aim sh p Counted true m f tr e l = turned sh p Counted m f tr tt e l
 after_aim sh p Counted false m f tr e l = plain sh p Counted m f tr tt (read_aim sh p Counted m f tr l)
 
-data_aim : (sh : Shape) (p : Bool) (k m f : ℕ) (tr : List ℕ) → Lang_s sh p (to_data sh p k).slot (to_data sh p k).left m f tr → Out_l sh p k m f tr
+data_aim : (sh : Shape) (p : Bool) (k m f : ℕ) (tr : List ℕ) → LangS sh p (to_data sh p k).slot (to_data sh p k).left m f tr → OutL sh p k m f tr
 data_aim sh p k m f tr = go (eqb k 0) refl
   where
-    go : (b : Bool) → eqb k 0 ≡ b → Lang_s sh p (pick b (after_write sh p) (to Data (k - 1))).slot (pick b (after_write sh p) (to Data (k - 1))).left m f tr → Out_l sh p k m f tr
+    go : (b : Bool) → eqb k 0 ≡ b → LangS sh p (pick b (after_write sh p) (to Data (k - 1))).slot (pick b (after_write sh p) (to Data (k - 1))).left m f tr → OutL sh p k m f tr
     go true e l = record { s = []; on = tr; len = sym (eqb-true k 0 e); bytes = tt; is = refl; then = after_aim sh p sh.received (writes sh) m f tr refl l }
-    go false e l = subst (λ (j : ℕ). Out_l sh p j m f tr) (one_more k (eqb-false k 0 e)) l
+    go false e l = subst (λ (j : ℕ). OutL sh p j m f tr) (one_more k (eqb-false k 0 e)) l
 
-sent_aim : (sh : Shape) (p : Bool) (a : Part) (m f : ℕ) (tr : List ℕ) → Lang_s sh p (to_sent sh p a).slot (to_sent sh p a).left m f tr → Sent_l sh p a m f tr
+sent_aim : (sh : Shape) (p : Bool) (a : Part) (m f : ℕ) (tr : List ℕ) → LangS sh p (to_sent sh p a).slot (to_sent sh p a).left m f tr → SentL sh p a m f tr
 sent_aim sh p Nothing m f tr l =
     record { s = []; on = tr; len = refl; small = zero_le sh.most; bytes = tt; is = refl; then = after_aim sh p sh.received (writes sh) m f tr refl l }
 sent_aim sh p (Fixed k) m f tr l =
@@ -201,8 +201,8 @@ sent_aim sh p (Fixed k) m f tr l =
 sent_aim sh p Counted m f tr l = l
 
 first_aim : (sh : Shape) (p b : Bool) (m f : ℕ) (tr : List ℕ)
-    → Lang_s sh p (pick b (to Command 0) (to_sent sh p sh.sent)).slot (pick b (to Command 0) (to_sent sh p sh.sent)).left m f tr
-    → pick b (Command_l sh p m f tr) (Sent_l sh p sh.sent m f tr)
+    → LangS sh p (pick b (to Command 0) (to_sent sh p sh.sent)).slot (pick b (to Command 0) (to_sent sh p sh.sent)).left m f tr
+    → pick b (CommandL sh p m f tr) (SentL sh p sh.sent m f tr)
 first_aim sh p true m f tr l = l
 first_aim sh p false m f tr l = sent_aim sh p sh.sent m f tr l
 
@@ -241,7 +241,7 @@ at_least : (x n least : ℕ) → least ≤ x → n ≡ x → least ≤ n
 at_least x n least h e = omega arith
 
 module _ (sh : Shape) (hs : Sane sh) (p : Bool) (d : Decoder) (x : ℕ) (xs : List ℕ) where
-  slot_back : (s : Slot) → fits_slot sh s d x ≡ true → Lang sh p (move_slot sh p s d x) xs → Lang_s sh p s d.left d.sentcount d.first (x ∷ xs)
+  slot_back : (s : Slot) → fits_slot sh s d x ≡ true → Lang sh p (move_slot sh p s d x) xs → LangS sh p s d.left d.sentcount d.first (x ∷ xs)
   slot_back Start h l = record { on = xs; is = ap (λ (n : ℕ). n ∷ xs) (eqb-true x START h); then = l }
   slot_back First h l = record { f = x; on = l.on; fit = h; is = ap (◌∷◌ x) l.is; then = first_aim sh p sh.command d.sentcount x l.on l.then }
   slot_back Command h l =
@@ -268,11 +268,11 @@ module _ (sh : Shape) (hs : Sane sh) (p : Bool) (d : Decoder) (x : ℕ) (xs : Li
   slot_back Stop h l = ap₂ ◌∷◌ (eqb-true x STOP h) l
   slot_back End h l = false_not_true h
 
-  due_back : (a : Due) → fits_due sh a d x ≡ true → Lang sh p (move_due sh p a d x) xs → Lang_d sh p a d.slot d.left d.sentcount d.first (x ∷ xs)
+  due_back : (a : Due) → fits_due sh a d x ≡ true → Lang sh p (move_due sh p a d x) xs → LangD sh p a d.slot d.left d.sentcount d.first (x ∷ xs)
   due_back Nobody h l = slot_back d.slot h (subst (λ (u : Decoder). Lang sh p u xs) (slot_low sh hs p d.slot d x h) l)
   due_back Target h l = go (eqb x ACK) refl l
     where
-      go : (b : Bool) → eqb x ACK ≡ b → Lang_d sh p (pick b Nobody Halted) d.slot d.left d.sentcount d.first xs → Lang_d sh p Target d.slot d.left d.sentcount d.first (x ∷ xs)
+      go : (b : Bool) → eqb x ACK ≡ b → LangD sh p (pick b Nobody Halted) d.slot d.left d.sentcount d.first xs → LangD sh p Target d.slot d.left d.sentcount d.first (x ∷ xs)
       go true e l = record { on = xs; is = ap (λ (n : ℕ). n ∷ xs) (eqb-true x ACK e); then = l }
       go false e l = absurd l
   due_back Controller h l = record { on = xs; is = ap (λ (n : ℕ). n ∷ xs) (eqb-true x (ack_at d.slot) h); then = l }
@@ -290,18 +290,18 @@ run_in_lang sh hs p (x ∷ xs) d e i q s g = go (fits sh d x) refl q (λ k. run_
     go true h q ih = due_back sh hs p d x xs d.due h (ih q)
     go false h q ih = absurd (refused_not_reading q)
 
-record Head_l (sh : Shape) (p b : Bool) (m f : ℕ) (tr : List ℕ) : Type 0 where
+record HeadL (sh : Shape) (p b : Bool) (m f : ℕ) (tr : List ℕ) : Type 0 where
   c : ℕ
   s : List ℕ
   on : List ℕ
   command : pick b ((c < 256) × pick sh.tohost (c % 2 ≡ 0) Unit) (c ≡ 0)
-  len : Length_of sh.least sh.sent s
+  len : LengthOf sh.least sh.sent s
   small : counted sh.sent s ≤ sh.most
   bytes : Bytes s
   is : tr ≡ acked (pick b (c ∷ []) [] ++ laid sh.sent s) ++ on
-  then : After_l sh p sh.received (writes sh) (count_or sh.sent s m) f on
+  then : AfterL sh p sh.received (writes sh) (count_or sh.sent s m) f on
 
-head_of : (sh : Shape) (p b : Bool) (m f : ℕ) (tr : List ℕ) → pick b (Command_l sh p m f tr) (Sent_l sh p sh.sent m f tr) → Head_l sh p b m f tr
+head_of : (sh : Shape) (p b : Bool) (m f : ℕ) (tr : List ℕ) → pick b (CommandL sh p m f tr) (SentL sh p sh.sent m f tr) → HeadL sh p b m f tr
 head_of sh p true m f tr l =
     let s = l.then in
     let b = both_true (ltb l.c 256) _ l.fit in

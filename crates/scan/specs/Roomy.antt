@@ -7,21 +7,21 @@ use Rattle.step.specs.declared.state.Slot.TheVariants.{Start, First, Command, Co
 use Rattle.step.specs.declared.state.Decoder.{Decoder}
 
 -- where the count to be received stands next, room for the least that it can be
-abbrev pub At_count : Shape → Slot → ℕ → Type 0
-At_count sh ReadCount m = m + sh.least ≤ sh.most
-At_count sh Start m = Unit
-At_count sh First m = Unit
-At_count sh Command m = Unit
-At_count sh Count m = Unit
-At_count sh Data m = Unit
-At_count sh Pec m = Unit
-At_count sh Restart m = Unit
-At_count sh Second m = Unit
-At_count sh ReadData m = Unit
-At_count sh ReadPec m = Unit
-At_count sh Stop m = Unit
-At_count sh End m = Unit
+abbrev pub AtCount : Shape → Slot → ℕ → Type 0
+AtCount sh ReadCount m = m + sh.least ≤ sh.most
+AtCount sh Start m = Unit
+AtCount sh First m = Unit
+AtCount sh Command m = Unit
+AtCount sh Count m = Unit
+AtCount sh Data m = Unit
+AtCount sh Pec m = Unit
+AtCount sh Restart m = Unit
+AtCount sh Second m = Unit
+AtCount sh ReadData m = Unit
+AtCount sh ReadPec m = Unit
+AtCount sh Stop m = Unit
+AtCount sh End m = Unit
 
 pub record Roomy (sh : Shape) (d : Decoder) : Type 0 where
   pub room : d.sentcount + least_of sh.received sh.least ≤ sh.most
-  pub ahead : At_count sh d.slot d.sentcount
+  pub ahead : AtCount sh d.slot d.sentcount

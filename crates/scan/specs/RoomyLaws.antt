@@ -22,7 +22,7 @@ use Rattle.step.specs.Fits.{fits_slot, fits_due, fits}
 use Rattle.step.specs.Move.{move_slot, move_due, move}
 use Rattle.scan.specs.Refusal.{why}
 use Rattle.scan.specs.Run.{run}
-use Rattle.scan.specs.Roomy.{At_count, Roomy}
+use Rattle.scan.specs.Roomy.{AtCount, Roomy}
 use Rattle.scan.specs.RunLaws.{refused_not_reading, same_state}
 use Rattle.scan.specs.ReverseLaws.{count_back}
 
@@ -35,49 +35,49 @@ pub fresh_roomy : (sh : Shape) → Sane sh → Roomy sh fresh
 fresh_roomy sh hs = record { room = omega (arith, hs.least_twice, least_of_le sh.received sh.least); ahead = tt }
 
 -- the aims
-ahead_end : (sh : Shape) (p : Bool) (m : ℕ) → At_count sh (after_read p).slot m
+ahead_end : (sh : Shape) (p : Bool) (m : ℕ) → AtCount sh (after_read p).slot m
 ahead_end sh true m = tt
 ahead_end sh false m = tt
 
-ahead_data : (sh : Shape) (p : Bool) (k m : ℕ) → At_count sh (to_read_data p k).slot m
+ahead_data : (sh : Shape) (p : Bool) (k m : ℕ) → AtCount sh (to_read_data p k).slot m
 ahead_data sh p k m = go (eqb k 0)
   where
-    go : (b : Bool) → At_count sh (pick b (after_read p) (to ReadData (k - 1))).slot m
+    go : (b : Bool) → AtCount sh (pick b (after_read p) (to ReadData (k - 1))).slot m
     go true = ahead_end sh p m
     go false = tt
 
 module _ (sh : Shape) (p : Bool) (m : ℕ) where
-  ahead_read : (a : Part) → m + least_of a sh.least ≤ sh.most → At_count sh (to_read a p).slot m
+  ahead_read : (a : Part) → m + least_of a sh.least ≤ sh.most → AtCount sh (to_read a p).slot m
   ahead_read Nothing h = ahead_end sh p m
   ahead_read (Fixed k) h = ahead_data sh p k m
   ahead_read Counted h = h
 
   module _ (h : m + least_of sh.received sh.least ≤ sh.most) where
-    ahead_after : At_count sh (after_write sh p).slot m
+    ahead_after : AtCount sh (after_write sh p).slot m
     ahead_after = go (reads sh) (writes sh) p
       where
-        go : (r w q : Bool) → At_count sh (pick r (pick w (to Restart 0) (to_read sh.received p)) (to (pick q Pec Stop) 0)).slot m
+        go : (r w q : Bool) → AtCount sh (pick r (pick w (to Restart 0) (to_read sh.received p)) (to (pick q Pec Stop) 0)).slot m
         go true true q = tt
         go true false q = ahead_read sh.received h
         go false w true = tt
         go false w false = tt
 
-    ahead_sending : (k : ℕ) → At_count sh (to_data sh p k).slot m
+    ahead_sending : (k : ℕ) → AtCount sh (to_data sh p k).slot m
     ahead_sending k = go (eqb k 0)
       where
-        go : (b : Bool) → At_count sh (pick b (after_write sh p) (to Data (k - 1))).slot m
+        go : (b : Bool) → AtCount sh (pick b (after_write sh p) (to Data (k - 1))).slot m
         go true = ahead_after
         go false = tt
 
-    ahead_sent : (a : Part) → At_count sh (to_sent sh p a).slot m
+    ahead_sent : (a : Part) → AtCount sh (to_sent sh p a).slot m
     ahead_sent Nothing = ahead_after
     ahead_sent (Fixed k) = ahead_sending k
     ahead_sent Counted = tt
 
-    ahead_first : At_count sh (after_first sh p).slot m
+    ahead_first : AtCount sh (after_first sh p).slot m
     ahead_first = go sh.command
       where
-        go : (b : Bool) → At_count sh (pick b (to Command 0) (to_sent sh p sh.sent)).slot m
+        go : (b : Bool) → AtCount sh (pick b (to Command 0) (to_sent sh p sh.sent)).slot m
         go true = tt
         go false = ahead_sent sh.sent
 

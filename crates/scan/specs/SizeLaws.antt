@@ -8,7 +8,7 @@ use Rattle.trace.specs.declared.shape.Part.TheVariants.{Nothing, Fixed, Counted}
 use Rattle.trace.specs.declared.shape.Shape.{Shape}
 use Rattle.trace.specs.declared.transaction.Transaction.{Transaction}
 use Rattle.trace.specs.Shapes.{some, writes}
-use Rattle.trace.specs.Trace.{Message, laid, acked, nacked, first_byte, by_target, trace_at, pec_of, in_place, Length_of, counted}
+use Rattle.trace.specs.Trace.{Message, laid, acked, nacked, first_byte, by_target, trace_at, pec_of, in_place, LengthOf, counted}
 use Rattle.trace.specs.LengthLaws.{length_acked, length_nacked, length_place}
 use Rattle.trace.specs.Sane.{Small, Sane}
 use Rattle.scan.specs.declared.answer.Decoded.{Decoded}
@@ -21,7 +21,7 @@ use Rattle.scan.specs.Joined.{after}
 use Rattle.scan.specs.Sizes.{Sizes}
 use Rattle.scan.specs.AnswersLaws.{answer_holds}
 
-part_at_most_255 : (least : ℕ) (a : Part) (s : List ℕ) → Small a → Length_of least a s → counted a s ≤ 255 → length s ≤ 255
+part_at_most_255 : (least : ℕ) (a : Part) (s : List ℕ) → Small a → LengthOf least a s → counted a s ≤ 255 → length s ≤ 255
 part_at_most_255 least Nothing s h l c = omega arith
 part_at_most_255 least (Fixed k) s h l c = omega (arith, h.1)
 part_at_most_255 least Counted s h l c = c
@@ -40,7 +40,7 @@ sent_inside sh t q =
     let body : List ℕ = pick sh.command (t.command ∷ []) [] ++ laid sh.sent t.sent in
     omega (arith, ap length (trace_joined sh t q), length-append (acked body) (after sh.received (writes sh) (first_byte sh t + 1) t.received q), length_acked body, front_length sh.command sh.sent t.command t.sent)
 
-back_inside : (least : ℕ) (b : List ℕ) (a : Part) (r : List ℕ) (p : Bool) (y : ℕ) → Length_of least a r → 0 < length r
+back_inside : (least : ℕ) (b : List ℕ) (a : Part) (r : List ℕ) (p : Bool) (y : ℕ) → LengthOf least a r → 0 < length r
     → 2 * (length r + pick p 1 0) + 1 ≤ length (b ++ (pick (some a) (nacked (laid a r ++ in_place p y)) [] ++ STOP ∷ []))
 back_inside least b Nothing r p y l h = absurd (omega arith)
 back_inside least b (Fixed k) r p y l h =

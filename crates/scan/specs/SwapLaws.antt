@@ -17,7 +17,7 @@ use Rattle.step.specs.declared.state.Decoder.{Decoder}
 use Rattle.step.specs.State.{fresh}
 use Rattle.step.specs.Fits.{ack_at, fits_due, fits}
 use Rattle.step.specs.Move.{at}
-use Rattle.misfit.specs.Cases.{Is_swapped}
+use Rattle.misfit.specs.Cases.{IsSwapped}
 use Rattle.misfit.specs.CasesLaws.{one_kind}
 use Rattle.misfit.specs.KindLaws.{no_ack_fits, swapped_due}
 use Rattle.misfit.specs.Kinds.{kind_of}
@@ -27,7 +27,7 @@ use Rattle.scan.specs.declared.answer.Decoded.TheVariants.{Refused}
 use Rattle.scan.specs.declared.whole.Progress.TheVariants.{Reading}
 use Rattle.scan.specs.Answers.{Fits, Because}
 use Rattle.scan.specs.AnswersLaws.{answer_exactly}
-use Rattle.scan.specs.Because.{After_start}
+use Rattle.scan.specs.Because.{AfterStart}
 use Rattle.scan.specs.CompletionLaws.{controller_due_ends}
 use Rattle.scan.specs.DecideLaws.{by_stop, stuck}
 use Rattle.scan.specs.EndState.{turn_state, end_state}
@@ -44,7 +44,7 @@ use Rattle.scan.specs.RunLaws.{same_state, first_fits, run_append, run_from}
 use Rattle.scan.specs.WrongLaws.{fits_behind, kind_holds}
 
 -- the symbol at k is the other of ACK and NACK than s, which a whole trace has there among the controller's
-pub record Swapped_at (sh : Shape) (p : Bool) (tr : List ℕ) (k : ℕ) : Type 0 where
+pub record SwappedAt (sh : Shape) (p : Bool) (tr : List ℕ) (k : ℕ) : Type 0 where
   pub message : Message
   pub pec : ℕ
   pub valid : Valid sh message
@@ -73,7 +73,7 @@ module _ (sh : Shape) (hs : Sane sh) (p : Bool) where
   module _ (tr : List ℕ) (k : ℕ) where
     -- the whole trace that goes on with the bit that is due
     goes_on : (d : Decoder) → run sh p fresh 0 (take k tr) ≡ Reading d → d.due ≡ Controller → k < length tr
-        → ((get_or tr k 0 ≡ 258) × (ack_at d.slot ≡ 259)) ⊎ ((get_or tr k 0 ≡ 259) × (ack_at d.slot ≡ 258)) → Swapped_at sh p tr k
+        → ((get_or tr k 0 ≡ 258) × (ack_at d.slot ≡ 259)) ⊎ ((get_or tr k 0 ≡ 259) × (ack_at d.slot ≡ 258)) → SwappedAt sh p tr k
     unfolding run
     goes_on d q a h o = go ends.rest refl
       where
@@ -86,7 +86,7 @@ module _ (sh : Shape) (hs : Sane sh) (p : Bool) where
         turned_other e (inr (x, s)) = inl (e ∙ s, x)
 
         at_bit : (t : Message) (c : ℕ) → Valid sh t → Bytes (in_place p c) → (y : ℕ) (ys : List ℕ) → y ≡ ack_at d.slot
-            → Parted (by_target sh t (in_place p c)) (by_controller sh t (in_place p c)) (take k tr) y ys → Swapped_at sh p tr k
+            → Parted (by_target sh t (in_place p c)) (by_controller sh t (in_place p c)) (take k tr) y ys → SwappedAt sh p tr k
         at_bit t c v hc y ys e (early post g) =
             let l = leads_inside no_controller sh p (take k tr) y post fresh (turn_state sh p t c) (subst (λ (l : List ℕ). Leads no_controller sh p fresh l (turn_state sh p t c)) g (target_part_leads sh hs p t c v hc)) in
             let m : l.0 ≡ d = same_state (sym (leads_run no_controller sh p (take k tr) fresh l.0 0 l.1) ∙ q) in
@@ -94,7 +94,7 @@ module _ (sh : Shape) (hs : Sane sh) (p : Bool) where
         at_bit t c v hc y ys e (late mid g r) =
             record { message = t; pec = c; valid = v; byte = hc; before = mid; bit = y; after = ys; own = r; is = g; inside = h; other = turned_other e o }
 
-        go : (rest : List ℕ) → ends.rest ≡ rest → Swapped_at sh p tr k
+        go : (rest : List ℕ) → ends.rest ≡ rest → SwappedAt sh p tr k
         go [] e =
             let z : d ≡ ends.last = same_state (subst (λ (l : List ℕ). run sh p d 0 l ≡ Reading ends.last) e ends.leads) in
             let n : Controller ≡ Nobody = sym a ∙ ap (λ (u : Decoder). u.due) z ∙ ends.due in
@@ -105,17 +105,17 @@ module _ (sh : Shape) (hs : Sane sh) (p : Bool) where
             at_bit r.message r.pec r.valid r.byte y ys (eqb-true y (ack_at d.slot) (sym (bit_fits d y a) ∙ first_fits sh p d ends.last 0 y ys l)) (split_at_symbol _ _ (take k tr) y ys (sym r.is))
 
     -- 17 is given there
-    pub wrong_ack_is : Because sh p tr WrongAck k → Swapped_at sh p tr k
+    pub wrong_ack_is : Because sh p tr WrongAck k → SwappedAt sh p tr k
     wrong_ack_is h =
         let x : ℕ = get_or tr k 0 in
         let r = fits_runs sh hs p (take k tr) h.0.0.before in
         let f = stuck 0 sh hs p tr k h.0.0 r.0 r.1 in
         let m = kind_holds sh hs p tr k r.0 h.0 r.1 f in
-        let e = one_kind (λ y. Fits sh p (take k tr ++ y ∷ [])) (After_start tr k) (sh.tohost ≡ true) x (kind_of sh r.0 x) Swapped m h.1 in
+        let e = one_kind (λ y. Fits sh p (take k tr ++ y ∷ [])) (AfterStart tr k) (sh.tohost ≡ true) x (kind_of sh r.0 x) Swapped m h.1 in
         let a = swapped_due sh r.0 x e in
         goes_on r.0 r.1 a h.0.0.inside (turn r.0 r.1 a h.1)
       where
-        turn : (d : Decoder) → run sh p fresh 0 (take k tr) ≡ Reading d → d.due ≡ Controller → Is_swapped (λ y. Fits sh p (take k tr ++ y ∷ [])) (get_or tr k 0)
+        turn : (d : Decoder) → run sh p fresh 0 (take k tr) ≡ Reading d → d.due ≡ Controller → IsSwapped (λ y. Fits sh p (take k tr ++ y ∷ [])) (get_or tr k 0)
             → ((get_or tr k 0 ≡ 258) × (ack_at d.slot ≡ 259)) ⊎ ((get_or tr k 0 ≡ 259) × (ack_at d.slot ≡ 258))
         turn d q a (inl (x, g)) = inl (x, sym (eqb-true 259 (ack_at d.slot) (sym (bit_fits d 259 a) ∙ (fits_behind sh hs p (take k tr) d q 259).0 g)))
         turn d q a (inr (x, g)) = inr (x, sym (eqb-true 258 (ack_at d.slot) (sym (bit_fits d 258 a) ∙ (fits_behind sh hs p (take k tr) d q 258).0 g)))
@@ -125,7 +125,7 @@ module _ (sh : Shape) (hs : Sane sh) (p : Bool) where
     unfolding kind_of
     swapped_kind d x a e = rw (a, e)
 
-    pub is_wrong_ack : Swapped_at sh p tr k → Because sh p tr WrongAck k
+    pub is_wrong_ack : SwappedAt sh p tr k → Because sh p tr WrongAck k
     is_wrong_ack t =
         let c : List ℕ = in_place p t.pec in
         let z = turn_state sh p t.message t.pec in

@@ -21,7 +21,7 @@ use Rattle.misfit.specs.Kinds.{kind_of, address_next}
 use Rattle.misfit.specs.StartLaws.{Steady, fresh_steady, address_after_start, stays_steady}
 use Rattle.scan.specs.declared.whole.Progress.TheVariants.{Reading, Answered}
 use Rattle.scan.specs.Answers.{Member, Fits, shape_cases}
-use Rattle.scan.specs.Because.{After_start, Wrong, Of_kind}
+use Rattle.scan.specs.Because.{AfterStart, Wrong, OfKind}
 use Rattle.scan.specs.Refusal.{why}
 use Rattle.scan.specs.Run.{run}
 use Rattle.scan.specs.RunLaws.{refused_not_reading, same_state, first_fits, run_append, run_before, run_fits}
@@ -70,14 +70,14 @@ module _ (sh : Shape) (hs : Sane sh) (p : Bool) where
         sym (ap (λ (u : Decoder). address_next u.due u.slot) o.1)
         ∙ address_after_start sh hs p r.0 (get_or tr j 0) (run_steady (take j tr) fresh r.0 0 fresh_steady r.1) o.0
 
-    pub after_start : (k : ℕ) (d : Decoder) → k < length tr → run sh p fresh 0 (take k tr) ≡ Reading d → After_start tr k ↔ (address_next d.due d.slot ≡ true)
+    pub after_start : (k : ℕ) (d : Decoder) → k < length tr → run sh p fresh 0 (take k tr) ≡ Reading d → AfterStart tr k ↔ (address_next d.due d.slot ≡ true)
     unfolding run
     after_start k d h q = (there, λ e. back (eqb k 0) refl e)
       where
-        there : After_start tr k → address_next d.due d.slot ≡ true
+        there : AfterStart tr k → address_next d.due d.slot ≡ true
         there (j, e, s) = behind_start j d (omega (arith, e, h)) (subst (λ (n : ℕ). run sh p fresh 0 (take n tr) ≡ Reading d) e q) ∙ eq-eqb (get_or tr j 0) 256 s
 
-        back : (b : Bool) → eqb k 0 ≡ b → address_next d.due d.slot ≡ true → After_start tr k
+        back : (b : Bool) → eqb k 0 ≡ b → address_next d.due d.slot ≡ true → AfterStart tr k
         back true z e =
             let f : fresh ≡ d = same_state (subst (λ (n : ℕ). run sh p fresh 0 (take n tr) ≡ Reading d) (eqb-true k 0 z) q) in
             false_not_true (ap (λ (u : Decoder). address_next u.due u.slot) f ∙ e)
@@ -88,9 +88,9 @@ module _ (sh : Shape) (hs : Sane sh) (p : Bool) where
 
     -- the kind that is worked out is the kind that is meant
     pub kind_holds : (k : ℕ) (d : Decoder) → Wrong (shape_cases sh p tr) tr k → run sh p fresh 0 (take k tr) ≡ Reading d → fits sh d (get_or tr k 0) ≡ false
-        → Of_kind (shape_cases sh p tr) tr k (kind_of sh d (get_or tr k 0))
+        → OfKind (shape_cases sh p tr) tr k (kind_of sh d (get_or tr k 0))
     kind_holds k d w q f =
         let s = something_fits (take k tr) d q w.0.before w.1 in
-        (same_kinds (λ y. Fits sh p (take k tr ++ y ∷ [])) (λ y. fits sh d y ≡ true) (After_start tr k) (address_next d.due d.slot ≡ true) (sh.tohost ≡ true) (sh.tohost ≡ true)
+        (same_kinds (λ y. Fits sh p (take k tr ++ y ∷ [])) (λ y. fits sh d y ≡ true) (AfterStart tr k) (address_next d.due d.slot ≡ true) (sh.tohost ≡ true) (sh.tohost ≡ true)
         (fits_behind (take k tr) d q) (after_start k d w.0.inside q) (λ x. x, λ x. x) (get_or tr k 0) (kind_of sh d (get_or tr k 0))).1
         (kind_means sh hs d (get_or tr k 0) f s.0 s.1)

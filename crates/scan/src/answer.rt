@@ -5,7 +5,7 @@ ghost use Rattle.scan.specs.Numbers.{refusal_number, is_nack};
 use trace::transaction::Transaction;
 
 // Why a trace, or a call, is refused.
-#[derive(Drop)]
+#[derive(Clone, Copy)]
 pub enum Refusal {
     // No such protocol, or a PEC where none may be used.
     Forbidden,
@@ -31,7 +31,7 @@ pub enum Refusal {
     WrongCount,
 }
 
-#[derive(Drop)]
+#[derive(Clone, Copy)]
 pub enum Decoded {
     // The trace is the encoder's trace of this transaction.
     Done(Transaction),

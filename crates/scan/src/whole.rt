@@ -15,7 +15,7 @@ use step::state::{Decoder, start};
 use trace::shape::Shape;
 
 // How far a trace was read: a refusal is not left again.
-#[derive(Drop)]
+#[derive(Clone, Copy)]
 pub enum Progress {
     Reading(Decoder),
     Answered(Decoded),

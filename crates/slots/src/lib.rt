@@ -1,4 +1,6 @@
 // What each address is known for. `held_at` is the one reader, `put` the one writer, `none` where a pass begins. Rests on crates pool and udid.
+#![tactic(auto)]
+
 ghost use Rattle.std.specs.Prelude.{◌≡◌};
 ghost use Rattle.slots.specs.Slots.{held_at, with_binding, no_bindings};
 ghost use Rattle.slots.specs.declared.Binding.TheVariants.{Open, Bound, Claimed, Left};
@@ -10,7 +12,7 @@ use wire::address::Address;
 pub mod find;
 
 // What an address is known for in this pass: nothing; the target bound there; that two targets claim it; that its target was reported gone.
-#[derive(Drop)]
+#[derive(Clone, Copy)]
 pub enum Binding {
     Open,
     Bound(Udid),
@@ -18,7 +20,7 @@ pub enum Binding {
     Left,
 }
 
-#[derive(Drop)]
+#[derive(Clone, Copy)]
 pub struct Slots {
     // The addresses to which a target is bound.
     pub bound: Pool,

@@ -7,7 +7,7 @@ use crate::state::Slot;
 use trace::shape::{Part, Shape, has_read, has_write};
 
 // The slot, and the data bytes that follow the next one there.
-#[derive(Drop)]
+#[derive(Clone, Copy)]
 pub struct Aim {
     pub slot: Slot,
     pub left: u8,

@@ -12,16 +12,16 @@ abbrev pub Differ : Target → Target → Type 0
 Differ r t = value r.udid ≡ value t.udid → ⊥
 
 -- two fixed targets are at different addresses
-abbrev pub Fixed_apart : Target → Target → Type 0
-Fixed_apart r t = is_fixed r.udid ≡ true → is_fixed t.udid ≡ true → r.address_byte / 2 ≡ t.address_byte / 2 → ⊥
+abbrev pub FixedApart : Target → Target → Type 0
+FixedApart r t = is_fixed r.udid ≡ true → is_fixed t.udid ≡ true → r.address_byte / 2 ≡ t.address_byte / 2 → ⊥
 
 -- a fixed target is at an address that is not barred
-abbrev pub Fixed_free : Pool → Target → Type 0
-Fixed_free barred t = is_fixed t.udid ≡ true → member barred (t.address_byte / 2) ≡ false
+abbrev pub FixedFree : Pool → Target → Type 0
+FixedFree barred t = is_fixed t.udid ≡ true → member barred (t.address_byte / 2) ≡ false
 
-pub record Admitted_targets (barred : Pool) (ts : List Target) : Type 0 where
+pub record AdmittedTargets (barred : Pool) (ts : List Target) : Type 0 where
   pub sized : (t : Target) → Among t ts → Sized t
   pub differ : Pairs Differ ts
-  pub fixed_apart : Pairs Fixed_apart ts
-  pub fixed_free : (t : Target) → Among t ts → Fixed_free barred t
+  pub fixed_apart : Pairs FixedApart ts
+  pub fixed_free : (t : Target) → Among t ts → FixedFree barred t
   pub at_most_120 : length ts ≤ 120

@@ -13,14 +13,14 @@ use Rattle.udid.specs.UdidLaws.{fits_at, value_same}
 use Rattle.targets.specs.Records.{udid_of, address_byte, flag_of, target_at, record_count, targets_of}
 use Rattle.targets.specs.Refusals.{checked_list}
 use Rattle.targets.specs.Target.{Sized}
-use Rattle.targets.specs.Cases.{Length_is_bad, Given}
+use Rattle.targets.specs.Cases.{LengthIsBad, Given}
 use Rattle.targets.specs.RefusalLaws.{given_exactly}
 use Rattle.targets.specs.IndexLaws.{target_has_record, pairs_from, length_targets, sized_at}
-use Rattle.targets.specs.Admission.{Differ, Fixed_apart, Fixed_free, Admitted_targets}
+use Rattle.targets.specs.Admission.{Differ, FixedApart, FixedFree, AdmittedTargets}
 use Rattle.targets.specs.declared.admit.Checked.TheVariants.{Admitted}
 
 -- the list is whole records, 120 at most
-pub good_length_whole : (s : List ℕ) → (Length_is_bad s → ⊥) → (length s ≤ 2160) × (length s ≡ record_count s * 18)
+pub good_length_whole : (s : List ℕ) → (LengthIsBad s → ⊥) → (length s ≤ 2160) × (length s ≡ record_count s * 18)
 good_length_whole s n = go (dec_lt 2160 (length s)) (ℕ_discrete (length s % 18) 0)
   where
     go : Dec (2160 < length s) → Dec (length s % 18 ≡ 0) → (length s ≤ 2160) × (length s ≡ record_count s * 18)
@@ -47,7 +47,7 @@ module _ (barred : Pool) (s : List ℕ) (b : Bytes s) (e : checked_list barred s
   pub admitted_differ : (j k : ℕ) → j < k → k < record_count s → value (udid_of s j) ≡ value (udid_of s k) → ⊥
   admitted_differ j k l h q = given.2 k h (j, l, value_same (udid_of s j) (udid_of s k) (fits_at s (j * 18) b).low (fits_at s (k * 18) b).low q)
 
-  fixed_free : (i : ℕ) → i < record_count s → Fixed_free barred (target_at s i)
+  fixed_free : (i : ℕ) → i < record_count s → FixedFree barred (target_at s i)
   unfolding target_at
   fixed_free i h f = go (member barred (address_byte s i / 2)) refl
     where
@@ -55,7 +55,7 @@ module _ (barred : Pool) (s : List ℕ) (b : Bytes s) (e : checked_list barred s
       go true m = absurd (given.3 i h (f, inl m))
       go false m = m
 
-  fixed_apart : (j k : ℕ) → j < k → k < record_count s → Fixed_apart (target_at s j) (target_at s k)
+  fixed_apart : (j k : ℕ) → j < k → k < record_count s → FixedApart (target_at s j) (target_at s k)
   unfolding target_at
   fixed_apart j k l h f g q = given.3 k h (g, inr (j, l, f, q))
 
@@ -63,11 +63,11 @@ module _ (barred : Pool) (s : List ℕ) (b : Bytes s) (e : checked_list barred s
   unfolding target_at
   apart j k l h = admitted_differ j k l h
 
-  pub admitted_targets : Admitted_targets barred (targets_of s)
+  pub admitted_targets : AdmittedTargets barred (targets_of s)
   admitted_targets = record {
     sized = λ t m. let r = target_has_record s (record_count s) 0 t m in subst Sized r.3 (sized_at s b r.0);
     differ = pairs_from Differ s (record_count s) 0 (λ j k a h l. apart j k h (omega arith));
-    fixed_apart = pairs_from Fixed_apart s (record_count s) 0 (λ j k a h l. fixed_apart j k h (omega arith));
-    fixed_free = λ t m. let r = target_has_record s (record_count s) 0 t m in subst (Fixed_free barred) r.3 (fixed_free r.0 (omega (arith, r.2)));
+    fixed_apart = pairs_from FixedApart s (record_count s) 0 (λ j k a h l. fixed_apart j k h (omega arith));
+    fixed_free = λ t m. let r = target_has_record s (record_count s) 0 t m in subst (FixedFree barred) r.3 (fixed_free r.0 (omega (arith, r.2)));
     at_most_120 = omega (arith, length_targets s (record_count s) 0, admitted_length.0);
   }

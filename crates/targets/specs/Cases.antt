@@ -8,20 +8,20 @@ use Rattle.targets.specs.declared.admit.Checked.{Checked}
 use Rattle.targets.specs.declared.admit.Checked.TheVariants.{Admitted, BadLength, Malformed, Repeated, Taken}
 
 -- 9: the list is not a multiple of 18 bytes, or over 2,160
-abbrev pub Length_is_bad : List ℕ → Type 0
-Length_is_bad s = (2160 < length s) ⊎ (length s % 18 ≡ 0 → ⊥)
+abbrev pub LengthIsBad : List ℕ → Type 0
+LengthIsBad s = (2160 < length s) ⊎ (length s % 18 ≡ 0 → ⊥)
 
 -- 10: byte 16 is even, or byte 17 above 1
-abbrev pub Malformed_at : List ℕ → ℕ → Type 0
-Malformed_at s i = (address_byte s i % 2 ≡ 0) ⊎ (1 < flag_of s i)
+abbrev pub MalformedAt : List ℕ → ℕ → Type 0
+MalformedAt s i = (address_byte s i % 2 ≡ 0) ⊎ (1 < flag_of s i)
 
 -- 11: the identifier is that of an earlier record
-abbrev pub Repeated_at : List ℕ → ℕ → Type 0
-Repeated_at s i = (j : ℕ) × (j < i) × (udid_of s j ≡ udid_of s i)
+abbrev pub RepeatedAt : List ℕ → ℕ → Type 0
+RepeatedAt s i = (j : ℕ) × (j < i) × (udid_of s j ≡ udid_of s i)
 
 -- 12: the target is fixed, and its address is barred or is that of an earlier fixed one
-abbrev pub Taken_at : Pool → List ℕ → ℕ → Type 0
-Taken_at barred s i =
+abbrev pub TakenAt : Pool → List ℕ → ℕ → Type 0
+TakenAt barred s i =
     (is_fixed (udid_of s i) ≡ true)
     × ((member barred (address_byte s i / 2) ≡ true)
     ⊎ ((j : ℕ) × (j < i) × (is_fixed (udid_of s j) ≡ true) × (address_byte s j / 2 ≡ address_byte s i / 2)))
@@ -33,17 +33,17 @@ abbrev pub None : (ℕ → Type 0) → ℕ → Type 0
 None P n = (i : ℕ) → i < n → P i → ⊥
 
 -- of the first n records, i is the first that is so
-pub record First_of (P : ℕ → Type 0) (n i : ℕ) : Type 0 where
+pub record FirstOf (P : ℕ → Type 0) (n i : ℕ) : Type 0 where
   pub below : i < n
   pub holds : P i
   pub none_before : None P i
 
 -- what each answer says of the list: each refusal is looked for over the whole list, and in their order
 abbrev pub Given : Pool → List ℕ → Checked → Type 0
-Given barred s BadLength = Length_is_bad s
-Given barred s (Malformed i) = (Length_is_bad s → ⊥) × First_of (Malformed_at s) (record_count s) i
-Given barred s (Repeated i) = (Length_is_bad s → ⊥) × None (Malformed_at s) (record_count s) × First_of (Repeated_at s) (record_count s) i
+Given barred s BadLength = LengthIsBad s
+Given barred s (Malformed i) = (LengthIsBad s → ⊥) × FirstOf (MalformedAt s) (record_count s) i
+Given barred s (Repeated i) = (LengthIsBad s → ⊥) × None (MalformedAt s) (record_count s) × FirstOf (RepeatedAt s) (record_count s) i
 Given barred s (Taken i) =
-    (Length_is_bad s → ⊥) × None (Malformed_at s) (record_count s) × None (Repeated_at s) (record_count s) × First_of (Taken_at barred s) (record_count s) i
+    (LengthIsBad s → ⊥) × None (MalformedAt s) (record_count s) × None (RepeatedAt s) (record_count s) × FirstOf (TakenAt barred s) (record_count s) i
 Given barred s Admitted =
-    (Length_is_bad s → ⊥) × None (Malformed_at s) (record_count s) × None (Repeated_at s) (record_count s) × None (Taken_at barred s) (record_count s)
+    (LengthIsBad s → ⊥) × None (MalformedAt s) (record_count s) × None (RepeatedAt s) (record_count s) × None (TakenAt barred s) (record_count s)

@@ -15,7 +15,7 @@ pub record Changed (f : Target → Target) (s t : List ℕ) : Type 0 where
   pub others : (k : ℕ) → ((i : ℕ) → i < record_count s → Elsewhere k i) → get_or t k 0 ≡ get_or s k 0
 
 -- byte 17 of each record is 0, and every other byte of the list is as it was
-pub record Flags_cleared (s t : List ℕ) : Type 0 where
+pub record FlagsCleared (s t : List ℕ) : Type 0 where
   pub same_length : length t ≡ length s
   pub flags : (i : ℕ) → i < length s / 18 → get_or t (18 * i + 17) 0 ≡ 0
   pub others : (k : ℕ) → ((i : ℕ) → i < length s / 18 → k ≡ 18 * i + 17 → ⊥) → get_or t k 0 ≡ get_or s k 0

@@ -10,7 +10,7 @@ use Rattle.udid.specs.declared.Udid.{Udid}
 use Rattle.targets.specs.Target.{Target, prepared, assigned_to, map_targets, cleared, resolve}
 use Rattle.targets.specs.Records.{address_byte, flag_of, target_at, targets_from, record_count, targets_of, put_target, put_from, records_with, assigned_in}
 use Rattle.targets.specs.RecordLaws.{put_keeps_byte, length_put_from, changed_targets, prepared_keeps_udid, assigned_keeps_udid}
-use Rattle.targets.specs.Change.{Elsewhere, Changed, Flags_cleared, Assigned}
+use Rattle.targets.specs.Change.{Elsewhere, Changed, FlagsCleared, Assigned}
 
 other_bytes : (ts : List Target) (i : ℕ) (s : List ℕ) (k : ℕ) → ((j : ℕ) → i ≤ j → j < i + length ts → Elsewhere k j) → get_or (put_from ts i s) k 0 ≡ get_or s k 0
 other_bytes [] i s k h = refl
@@ -68,7 +68,7 @@ module _ (f : Target → Target) (keeps : (t : Target) → (f t).udid ≡ t.udid
   pub changed_exactly : (t : List ℕ) → (t ≡ records_with (map_targets f (targets_of s)) s) ↔ Changed f s t
   changed_exactly t = (λ e. subst (Changed f s) (sym e) changed_holds, λ c. changed_unique t (records_with (map_targets f (targets_of s)) s) c changed_holds)
 
-cleared_unique : (s t u : List ℕ) → Flags_cleared s t → Flags_cleared s u → t ≡ u
+cleared_unique : (s t u : List ℕ) → FlagsCleared s t → FlagsCleared s u → t ≡ u
 cleared_unique s t u c d = ext_get_or 0 t u (c.same_length ∙ sym d.same_length) (λ k h. go k (dec_lt (k / 18) (length s / 18)) (ℕ_discrete (k % 18) 17))
   where
     apart : (k : ℕ) → ((i : ℕ) → i < length s / 18 → k ≡ 18 * i + 17 → ⊥) → get_or t k 0 ≡ get_or u k 0
@@ -81,7 +81,7 @@ cleared_unique s t u c d = ext_get_or 0 t u (c.same_length ∙ sym d.same_length
         let e : k ≡ 18 * (k / 18) + 17 = omega arith in
         ap (λ (x : ℕ). get_or t x 0) e ∙ c.flags (k / 18) l ∙ sym (d.flags (k / 18) l) ∙ ap (λ (x : ℕ). get_or u x 0) (sym e)
 
-cleared_bytes : (s t : List ℕ) → Changed prepared s t → Flags_cleared s t
+cleared_bytes : (s t : List ℕ) → Changed prepared s t → FlagsCleared s t
 unfolding target_at
 cleared_bytes s t c = record {
   same_length = c.same_length;
@@ -102,12 +102,12 @@ cleared_bytes s t c = record {
         let e : k ≡ k / 18 * 18 + 16 = omega arith in
         ap (λ (x : ℕ). get_or t x 0) e ∙ ap (λ (x : Target). x.address_byte) (c.records (k / 18) l) ∙ ap (λ (x : ℕ). get_or s x 0) (sym e)
 
-cleared_holds : (s : List ℕ) → Flags_cleared s (records_with (cleared (targets_of s)) s)
+cleared_holds : (s : List ℕ) → FlagsCleared s (records_with (cleared (targets_of s)) s)
 cleared_holds s = cleared_bytes s (records_with (cleared (targets_of s)) s) ((changed_exactly prepared prepared_keeps_udid s (records_with (cleared (targets_of s)) s)).0 refl)
 
 -- PREPARE CLEARS THE FLAG OF EVERY RECORD, and nothing else changes
-pub prepared_exactly : (s t : List ℕ) → (t ≡ records_with (cleared (targets_of s)) s) ↔ Flags_cleared s t
-prepared_exactly s t = (λ e. subst (Flags_cleared s) (sym e) (cleared_holds s), λ c. cleared_unique s t (records_with (cleared (targets_of s)) s) c (cleared_holds s))
+pub prepared_exactly : (s t : List ℕ) → (t ≡ records_with (cleared (targets_of s)) s) ↔ FlagsCleared s t
+prepared_exactly s t = (λ e. subst (FlagsCleared s) (sym e) (cleared_holds s), λ c. cleared_unique s t (records_with (cleared (targets_of s)) s) c (cleared_holds s))
 
 -- the two cases of Assign
 pub assigned_above : (u : Udid) (a : ℕ) (s : List ℕ) → 127 < a → assigned_in u a s ≡ s

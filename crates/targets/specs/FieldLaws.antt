@@ -13,7 +13,7 @@ use Rattle.udid.specs.Bytes.{number, number_from, bytes_from, udid_at}
 use Rattle.udid.specs.Udids.{is_fixed}
 use Rattle.udid.specs.UdidLaws.{fits_at, bytes_back, same_bytes, top_of_first}
 use Rattle.targets.specs.Records.{udid_of, address_byte}
-use Rattle.targets.specs.Cases.{Taken_at}
+use Rattle.targets.specs.Cases.{TakenAt}
 
 -- ---- past the end
 
@@ -55,7 +55,7 @@ module _ (s : List ℕ) (b : Bytes s) where
       ∙ ap (λ (x : ℕ). x / 64) (get_or-take 16 (drop (i * 18) s) 0 0 (omega arith) ∙ get_or-drop (i * 18) s 0 0 ∙ ap (λ (k : ℕ). get_or s k 0) (add-zero (i * 18))))
 
 -- a fixed target with no address, FFh, counts as one at 7Fh, which is reserved: it is refused
-pub fixed_without_address_taken : (occupied : Pool) (s : List ℕ) (i : ℕ) → is_fixed (udid_of s i) ≡ true → address_byte s i ≡ 0xFF → Taken_at (barred_pool occupied) s i
+pub fixed_without_address_taken : (occupied : Pool) (s : List ℕ) (i : ℕ) → is_fixed (udid_of s i) ≡ true → address_byte s i ≡ 0xFF → TakenAt (barred_pool occupied) s i
 unfolding is_reserved
 fixed_without_address_taken occupied s i f e =
     let k : address_byte s i / 2 ≡ 127 = omega arith in

@@ -15,7 +15,7 @@ use Rattle.targets.specs.First.{first, some}
 use Rattle.targets.specs.FirstLaws.{first_before, first_passes, none_below}
 use Rattle.targets.specs.Records.{udid_of, address_byte, flag_of, record_count}
 use Rattle.targets.specs.Refusals.{is_bad_length, is_malformed, is_same_as, is_repeated, is_fixed_as, is_taken, among_records, checked_list}
-use Rattle.targets.specs.Cases.{Length_is_bad, Malformed_at, Repeated_at, Taken_at, None, First_of, Given}
+use Rattle.targets.specs.Cases.{LengthIsBad, MalformedAt, RepeatedAt, TakenAt, None, FirstOf, Given}
 use Rattle.targets.specs.Numbers.{Answer, answer_of}
 use Rattle.targets.specs.declared.admit.Checked.{Checked}
 use Rattle.targets.specs.declared.admit.Checked.TheVariants.{Admitted, BadLength, Malformed, Repeated, Taken}
@@ -26,7 +26,7 @@ module _ (test : ℕ → Bool) (P : ℕ → Type 0) (decides : (i : ℕ) → (te
   false_then_not : (i : ℕ) → test i ≡ false → P i → ⊥
   false_then_not i e h = (false_is (test i) (decides i)).0 e h
 
-  some_first : (n : ℕ) → some test n ≡ true → First_of P n (first test n)
+  some_first : (n : ℕ) → some test n ≡ true → FirstOf P n (first test n)
   some_first n e =
       let l = ltb-true (first test n) n e in
       record { below = l; holds = (decides (first test n)).0 (first_passes test n l); none_before = λ j h. false_then_not j (first_before test n j h) }
@@ -41,7 +41,7 @@ module _ (test : ℕ → Bool) (P : ℕ → Type 0) (decides : (i : ℕ) → (te
       go (yes l) = absurd (h (first test n) l ((decides (first test n)).0 (first_passes test n l)))
       go (no l) = le-ltb (first test n) n (omega arith)
 
-  first_unique : (n i : ℕ) → First_of P n i → first test n ≡ i
+  first_unique : (n i : ℕ) → FirstOf P n i → first test n ≡ i
   first_unique n i h = go (dec_lt (first test n) i) (dec_lt i (first test n))
     where
       go : Dec (first test n < i) → Dec (i < first test n) → first test n ≡ i
@@ -51,15 +51,15 @@ module _ (test : ℕ → Bool) (P : ℕ → Type 0) (decides : (i : ℕ) → (te
       go (no l) (yes k) = not_both (first_before test n i k) ((decides i).1 h.holds)
       go (no l) (no k) = omega arith
 
-  first_some : (n i : ℕ) → First_of P n i → some test n ≡ true
+  first_some : (n i : ℕ) → FirstOf P n i → some test n ≡ true
   first_some n i h = lt-ltb (first test n) n (omega (arith, first_unique n i h, h.below))
 
 -- ---- the four tests
 
-bad_length_exactly : (s : List ℕ) → (is_bad_length (length s) ≡ true) ↔ Length_is_bad s
+bad_length_exactly : (s : List ℕ) → (is_bad_length (length s) ≡ true) ↔ LengthIsBad s
 bad_length_exactly s = or_is (ltb 2160 (length s)) (not (eqb (length s % 18) 0)) (ltb_is 2160 (length s)) (not_is (eqb (length s % 18) 0) (eqb_is (length s % 18) 0))
 
-malformed_exactly : (s : List ℕ) (i : ℕ) → (is_malformed s i ≡ true) ↔ Malformed_at s i
+malformed_exactly : (s : List ℕ) (i : ℕ) → (is_malformed s i ≡ true) ↔ MalformedAt s i
 malformed_exactly s i = or_is (eqb (address_byte s i % 2) 0) (ltb 1 (flag_of s i)) (eqb_is (address_byte s i % 2) 0) (ltb_is 1 (flag_of s i))
 
 -- some number below n passes a test
@@ -73,7 +73,7 @@ some_exactly test n = (
     go true e h = e
     go false e h = not_both (none_below test n e h.0 h.1) h.2
 
-repeated_exactly : (s : List ℕ) (i : ℕ) → (is_repeated s i ≡ true) ↔ Repeated_at s i
+repeated_exactly : (s : List ℕ) (i : ℕ) → (is_repeated s i ≡ true) ↔ RepeatedAt s i
 repeated_exactly s i = (
   λ e. let r = (some_exactly (is_same_as s i) i).0 e in (r.0, r.1, (same_is (udid_of s r.0) (udid_of s i)).0 r.2),
   λ h. (some_exactly (is_same_as s i) i).1 (h.0, h.1, (same_is (udid_of s h.0) (udid_of s i)).1 h.2),
@@ -82,7 +82,7 @@ repeated_exactly s i = (
 fixed_as_exactly : (s : List ℕ) (i j : ℕ) → (is_fixed_as s i j ≡ true) ↔ ((is_fixed (udid_of s j) ≡ true) × (address_byte s j / 2 ≡ address_byte s i / 2))
 fixed_as_exactly s i j = and_is (is_fixed (udid_of s j)) (eqb (address_byte s j / 2) (address_byte s i / 2)) (λ e. e, λ e. e) (eqb_is (address_byte s j / 2) (address_byte s i / 2))
 
-taken_exactly : (barred : Pool) (s : List ℕ) (i : ℕ) → (is_taken barred s i ≡ true) ↔ Taken_at barred s i
+taken_exactly : (barred : Pool) (s : List ℕ) (i : ℕ) → (is_taken barred s i ≡ true) ↔ TakenAt barred s i
 taken_exactly barred s i =
     and_is (is_fixed (udid_of s i)) (or m (some (is_fixed_as s i) i)) (λ e. e, λ e. e) (or_is m (some (is_fixed_as s i) i) (λ e. e, λ e. e) earlier)
   where
@@ -98,10 +98,10 @@ taken_exactly barred s i =
 -- ---- the answer
 
 module _ (barred : Pool) (s : List ℕ) where
-  good_length_not_bad : is_bad_length (length s) ≡ false → Length_is_bad s → ⊥
+  good_length_not_bad : is_bad_length (length s) ≡ false → LengthIsBad s → ⊥
   good_length_not_bad e h = (false_is (is_bad_length (length s)) (bad_length_exactly s)).0 e h
 
-  not_bad_length : (Length_is_bad s → ⊥) → is_bad_length (length s) ≡ false
+  not_bad_length : (LengthIsBad s → ⊥) → is_bad_length (length s) ≡ false
   not_bad_length n = (false_is (is_bad_length (length s)) (bad_length_exactly s)).1 n
 
   -- what the check answers is so
@@ -117,23 +117,23 @@ module _ (barred : Pool) (s : List ℕ) where
           (pick a BadLength
           (pick b (Malformed (first (is_malformed s) n)) (pick c (Repeated (first (is_repeated s) n)) (pick d (Taken (first (is_taken barred s) n)) Admitted))))
       go true e b f c g d h = (bad_length_exactly s).0 e
-      go false e true f c g d h = (good_length_not_bad e, some_first (is_malformed s) (Malformed_at s) (malformed_exactly s) n f)
+      go false e true f c g d h = (good_length_not_bad e, some_first (is_malformed s) (MalformedAt s) (malformed_exactly s) n f)
       go false e false f true g d h = (
         good_length_not_bad e,
-        some_none (is_malformed s) (Malformed_at s) (malformed_exactly s) n f,
-        some_first (is_repeated s) (Repeated_at s) (repeated_exactly s) n g,
+        some_none (is_malformed s) (MalformedAt s) (malformed_exactly s) n f,
+        some_first (is_repeated s) (RepeatedAt s) (repeated_exactly s) n g,
       )
       go false e false f false g true h = (
         good_length_not_bad e,
-        some_none (is_malformed s) (Malformed_at s) (malformed_exactly s) n f,
-        some_none (is_repeated s) (Repeated_at s) (repeated_exactly s) n g,
-        some_first (is_taken barred s) (Taken_at barred s) (taken_exactly barred s) n h,
+        some_none (is_malformed s) (MalformedAt s) (malformed_exactly s) n f,
+        some_none (is_repeated s) (RepeatedAt s) (repeated_exactly s) n g,
+        some_first (is_taken barred s) (TakenAt barred s) (taken_exactly barred s) n h,
       )
       go false e false f false g false h = (
         good_length_not_bad e,
-        some_none (is_malformed s) (Malformed_at s) (malformed_exactly s) n f,
-        some_none (is_repeated s) (Repeated_at s) (repeated_exactly s) n g,
-        some_none (is_taken barred s) (Taken_at barred s) (taken_exactly barred s) n h,
+        some_none (is_malformed s) (MalformedAt s) (malformed_exactly s) n f,
+        some_none (is_repeated s) (RepeatedAt s) (repeated_exactly s) n g,
+        some_none (is_taken barred s) (TakenAt barred s) (taken_exactly barred s) n h,
       )
 
   -- and what is so is what it answers
@@ -141,13 +141,13 @@ module _ (barred : Pool) (s : List ℕ) where
   unfolding checked_list among_records
   given_then_checked BadLength h = rw ((bad_length_exactly s).1 h)
   given_then_checked (Malformed i) h =
-      rw (not_bad_length h.0, first_some (is_malformed s) (Malformed_at s) (malformed_exactly s) (record_count s) i h.1, first_unique (is_malformed s) (Malformed_at s) (malformed_exactly s) (record_count s) i h.1)
+      rw (not_bad_length h.0, first_some (is_malformed s) (MalformedAt s) (malformed_exactly s) (record_count s) i h.1, first_unique (is_malformed s) (MalformedAt s) (malformed_exactly s) (record_count s) i h.1)
   given_then_checked (Repeated i) h =
-      rw (not_bad_length h.0, none_some (is_malformed s) (Malformed_at s) (malformed_exactly s) (record_count s) h.1, first_some (is_repeated s) (Repeated_at s) (repeated_exactly s) (record_count s) i h.2, first_unique (is_repeated s) (Repeated_at s) (repeated_exactly s) (record_count s) i h.2)
+      rw (not_bad_length h.0, none_some (is_malformed s) (MalformedAt s) (malformed_exactly s) (record_count s) h.1, first_some (is_repeated s) (RepeatedAt s) (repeated_exactly s) (record_count s) i h.2, first_unique (is_repeated s) (RepeatedAt s) (repeated_exactly s) (record_count s) i h.2)
   given_then_checked (Taken i) h =
-      rw (not_bad_length h.0, none_some (is_malformed s) (Malformed_at s) (malformed_exactly s) (record_count s) h.1, none_some (is_repeated s) (Repeated_at s) (repeated_exactly s) (record_count s) h.2, first_some (is_taken barred s) (Taken_at barred s) (taken_exactly barred s) (record_count s) i h.3, first_unique (is_taken barred s) (Taken_at barred s) (taken_exactly barred s) (record_count s) i h.3)
+      rw (not_bad_length h.0, none_some (is_malformed s) (MalformedAt s) (malformed_exactly s) (record_count s) h.1, none_some (is_repeated s) (RepeatedAt s) (repeated_exactly s) (record_count s) h.2, first_some (is_taken barred s) (TakenAt barred s) (taken_exactly barred s) (record_count s) i h.3, first_unique (is_taken barred s) (TakenAt barred s) (taken_exactly barred s) (record_count s) i h.3)
   given_then_checked Admitted h =
-      rw (not_bad_length h.0, none_some (is_malformed s) (Malformed_at s) (malformed_exactly s) (record_count s) h.1, none_some (is_repeated s) (Repeated_at s) (repeated_exactly s) (record_count s) h.2, none_some (is_taken barred s) (Taken_at barred s) (taken_exactly barred s) (record_count s) h.3)
+      rw (not_bad_length h.0, none_some (is_malformed s) (MalformedAt s) (malformed_exactly s) (record_count s) h.1, none_some (is_repeated s) (RepeatedAt s) (repeated_exactly s) (record_count s) h.2, none_some (is_taken barred s) (TakenAt barred s) (taken_exactly barred s) (record_count s) h.3)
 
   -- EACH OF 9, 10, 11 AND 12 IS GIVEN EXACTLY IN ITS LISTED CASE, with the first record, and in that order
   pub given_exactly : (r : Checked) → (r ≡ checked_list barred s) ↔ Given barred s r

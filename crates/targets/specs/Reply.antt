@@ -33,11 +33,11 @@ waiting [] = []
 waiting (t ∷ ts) = pick (is_resolved t) (waiting ts) (sends t ∷ waiting ts)
 
 -- nobody answers, so that the read address gets NACK; or these bytes stand on the wire
-pub data On_wire : Type 0 where
-  silence : On_wire
-  shown : List ℕ → On_wire
+pub data OnWire : Type 0 where
+  silence : OnWire
+  shown : List ℕ → OnWire
 
-abbrev pub on_wire : List (List Bool) → On_wire
+abbrev pub on_wire : List (List Bool) → OnWire
 on_wire [] = silence
 on_wire (s ∷ ss) = shown (bytes_read 19 (heard 152 (s ∷ ss)))
 

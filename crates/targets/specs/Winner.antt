@@ -4,7 +4,7 @@ use Rattle.lists.specs.Choice.{pick}
 use Rattle.udid.specs.Udids.{value, is_below}
 use Rattle.targets.specs.Cases.{None}
 use Rattle.targets.specs.Records.{udid_of, flag_of, target_at, record_count}
-use Rattle.targets.specs.Reply.{reply_bytes, On_wire, silence, shown}
+use Rattle.targets.specs.Reply.{reply_bytes, OnWire, silence, shown}
 use Rattle.targets.specs.declared.winner.Winner.{Winner}
 use Rattle.targets.specs.declared.winner.Winner.TheVariants.{At, AllResolved}
 
@@ -46,6 +46,6 @@ Won s (At w) = Wins s (record_count s) w
 Won s AllResolved = None (Unresolved s) (record_count s)
 
 -- what stands on the wire: the reply of the winner
-abbrev pub shown_by : List ℕ → Winner → On_wire
+abbrev pub shown_by : List ℕ → Winner → OnWire
 shown_by s AllResolved = silence
 shown_by s (At w) = shown (reply_bytes (target_at s w))

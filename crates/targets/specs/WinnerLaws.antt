@@ -16,7 +16,7 @@ use Rattle.arbitration.specs.Wire.{sending}
 use Rattle.arbitration.specs.DropOut.{sharing}
 use Rattle.targets.specs.Target.{Target, is_resolved, Sized}
 use Rattle.targets.specs.Records.{udid_of, flag_of, target_at, record_count, targets_of}
-use Rattle.targets.specs.Cases.{Repeated_at, None}
+use Rattle.targets.specs.Cases.{RepeatedAt, None}
 use Rattle.targets.specs.Winner.{better_of, best_from, least_of, winner_of, Unresolved, Wins, Won, shown_by}
 use Rattle.targets.specs.Reply.{sends, waiting, on_wire}
 use Rattle.targets.specs.Members.{Least}
@@ -131,7 +131,7 @@ module _ (s : List ℕ) where
 
 -- ---- what stands on the wire
 
-module _ (s : List ℕ) (b : Bytes s) (differ : None (Repeated_at s) (record_count s)) where
+module _ (s : List ℕ) (b : Bytes s) (differ : None (RepeatedAt s) (record_count s)) where
   pub unresolved_by_flag : (i : ℕ) (t : Target) → target_at s i ≡ t → is_resolved t ≡ false → Unresolved s i
   unfolding target_at
   unresolved_by_flag i t e o = eqb-false (flag_of s i) 1 (ap is_resolved e ∙ o)

@@ -10,7 +10,7 @@ use super::{fields, malformed, same, taken};
 use pool::Pool;
 
 // Admitted, or why not, with the first record that is so.
-#[derive(Drop)]
+#[derive(Clone, Copy)]
 pub enum Checked {
     Admitted,
     // no multiple of 18 bytes, or over 2,160

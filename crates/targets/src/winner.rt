@@ -9,14 +9,14 @@ use arbitration::win;
 use udid::Udid;
 
 // The record that wins, or that all are resolved and nobody answers.
-#[derive(Drop)]
+#[derive(Clone, Copy)]
 pub enum Winner {
     At(usize),
     AllResolved,
 }
 
 // The best so far (n: none yet), with its identifier.
-#[derive(Drop)]
+#[derive(Clone, Copy)]
 struct Best {
     place: usize,
     udid: Udid,

@@ -6,7 +6,7 @@ ghost use Rattle.lists.specs.Choice.{not};
 ghost use Rattle.text.specs.Words.{blank, feed, hash, before, outside, word_from, part_of, same_text};
 
 // Where a word begins and where it ends. They are equal where no word is left.
-#[derive(Drop)]
+#[derive(Clone, Copy)]
 pub struct LineWord {
     pub from: usize,
     pub to: usize,
@@ -81,6 +81,7 @@ fn word_end(s: &[u8], at: usize) -> usize
 }
 
 // The first word from a place on.
+#[tactic(auto, unfolding(crate::specs::Words::start_from, crate::specs::Words::word_from))]
 pub fn next_word(s: &[u8], at: usize) -> LineWord
     ensures { result ≡ word_from s.now at }
 {

@@ -27,8 +27,8 @@ pub record Columns : Type 0 where
   pub block_process_call : Has 10 (λ m n. 13 + 2 * (m + n))
 
 -- no trace of a shape is longer than the longest
-abbrev pub At_most : Shape → Type 0
-At_most sh = (p : Bool) (t : Message) → Valid sh t → length (trace sh p t) ≤ longest_trace
+abbrev pub AtMost : Shape → Type 0
+AtMost sh = (p : Bool) (t : Message) → Valid sh t → length (trace sh p t) ≤ longest_trace
 
 -- the room: m bytes sent, n received, two symbols more with PEC
 pub record Room : Type 0 where

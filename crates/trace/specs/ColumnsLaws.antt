@@ -15,7 +15,7 @@ use Rattle.trace.specs.Shapes.{shapes, no_row, shape_of}
 use Rattle.trace.specs.Trace.{Message, Valid, trace}
 use Rattle.trace.specs.Lengths.{trace_length, longest_of}
 use Rattle.trace.specs.LengthLaws.{trace_length_lem, pec_symbols}
-use Rattle.trace.specs.Columns.{Columns, At_most}
+use Rattle.trace.specs.Columns.{Columns, AtMost}
 
 pub columns : Columns
 unfolding trace_length
@@ -68,7 +68,7 @@ no_row_at_most : leb (longest_of no_row) longest_trace ≡ true
 unfolding trace_length longest_of
 no_row_at_most = refl
 
-pub longest : (protocol : ℕ) → At_most (shape_of protocol)
+pub longest : (protocol : ℕ) → AtMost (shape_of protocol)
 longest protocol p t v =
     let h = leb-true (longest_of (shape_of protocol)) longest_trace (at_every_number (λ (sh : Shape). leb (longest_of sh) longest_trace) rows_at_most no_row_at_most protocol) in
     omega (arith, longest_of_shape (shape_of protocol) p t v, h)

@@ -3,5 +3,5 @@ use Rattle.std.specs.Prelude.{◌≡◌, [], ℕ, length}
 use Rattle.trace.specs.Table.{Line, Row}
 
 -- m bytes sent, n received
-abbrev pub Data_fits : ℕ → ℕ → ℕ → Type 0
-Data_fits protocol m n = (x : Line) × Row [] x × (x.protocol ≡ protocol) × (length x.message.sent ≡ m) × (length x.message.received ≡ n)
+abbrev pub DataFits : ℕ → ℕ → ℕ → Type 0
+DataFits protocol m n = (x : Line) × Row [] x × (x.protocol ≡ protocol) × (length x.message.sent ≡ m) × (length x.message.received ≡ n)

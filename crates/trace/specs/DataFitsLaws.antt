@@ -7,14 +7,14 @@ use Rattle.lists.specs.EachLaws.{zeros_bytes}
 use Rattle.wire.specs.Addresses.{host_address}
 use Rattle.trace.specs.declared.shape.Shape.{Shape}
 use Rattle.trace.specs.Allowed.{lengths_fit, allowed}
-use Rattle.trace.specs.Data_fits.{Data_fits}
+use Rattle.trace.specs.DataFits.{DataFits}
 use Rattle.trace.specs.Rows.{message}
 use Rattle.trace.specs.Shapes.{protocols, shape_of, writes, reads}
 use Rattle.trace.specs.TableLaws.{row_means, valid_exactly}
 use Rattle.trace.specs.Trace.{Message, Valid}
 use Rattle.trace.specs.ValidLaws.{allowed_valid, lengths_of_valid}
 
-pub listed_lengths_fit : (protocol m n : ℕ) → Data_fits protocol m n → lengths_fit (shape_of protocol) m n ≡ true
+pub listed_lengths_fit : (protocol m n : ℕ) → DataFits protocol m n → lengths_fit (shape_of protocol) m n ≡ true
 listed_lengths_fit protocol m n (x, r, e, s, t) =
     ap₂ (λ (i j : ℕ). lengths_fit (shape_of protocol) i j) (sym s) (sym t)
     ∙ lengths_of_valid (shape_of protocol) x.message (subst (λ (p : ℕ). Valid (shape_of p) x.message) e (row_means _ x r).valid)
@@ -43,7 +43,7 @@ module _ (sh : Shape) (m n : ℕ) where
       allowed_valid sh zeros (omega arith) (zeros_bytes m) (zeros_bytes n)
       (rw (address_fits sh.tohost, direction_fits (or (writes sh) (reads sh)), command_fits sh.command sh.tohost, length-replicate {A = ℕ} m 0, length-replicate {A = ℕ} n 0, h))
 
-pub fitting_lengths_listed : (protocol : ℕ) → protocol < protocols → (m n : ℕ) → lengths_fit (shape_of protocol) m n ≡ true → Data_fits protocol m n
+pub fitting_lengths_listed : (protocol : ℕ) → protocol < protocols → (m n : ℕ) → lengths_fit (shape_of protocol) m n ≡ true → DataFits protocol m n
 fitting_lengths_listed protocol k m n h =
     let z = zeros (shape_of protocol) m n in
     let x = (valid_exactly protocol k z).0 (zeros_valid (shape_of protocol) m n h) in

@@ -4,9 +4,9 @@ pub mod Sane
 pub mod Trace
 pub mod Allowed
 pub mod Lengths
-pub mod Data_fits
+pub mod DataFits
 pub mod Rows
-pub mod Word_rows
+pub mod WordRows
 pub mod Borders
 pub mod Columns
 pub mod Parts

@@ -9,7 +9,7 @@ use Rattle.lists.specs.ChoiceLaws.{false_not_true}
 use Rattle.trace.specs.declared.shape.Shape.{Shape}
 use Rattle.trace.specs.Shapes.{protocols, shape_of, forbidden}
 use Rattle.trace.specs.Allowed.{lengths_fit}
-use Rattle.trace.specs.Data_fits.{Data_fits}
+use Rattle.trace.specs.DataFits.{DataFits}
 use Rattle.trace.specs.DataFitsLaws.{listed_lengths_fit, fitting_lengths_listed}
 use Rattle.trace.specs.FieldLaws.{lengths_exactly}
 use Rattle.trace.specs.ForbiddenLaws.{forbidden_cases, taken_cases}
@@ -44,21 +44,21 @@ module _ (sh : Shape) (barred pec : Bool) (m n : ℕ) where
 
 -- none: a protocol that the table lacks, Quick with PEC, or lengths that the protocol does not allow
 pub no_room : (protocol : ℕ) (pec : Bool) (m n : ℕ)
-    → (room_for protocol pec m n ≡ 0) ↔ (((protocols ≤ protocol) ⊎ ((protocol ≡ 0) × (pec ≡ true))) ⊎ (Data_fits protocol m n → ⊥))
+    → (room_for protocol pec m n ≡ 0) ↔ (((protocols ≤ protocol) ⊎ ((protocol ≡ 0) × (pec ≡ true))) ⊎ (DataFits protocol m n → ⊥))
 no_room protocol pec m n = (λ e. there (forbidden protocol pec) (lengths_fit (shape_of protocol) m n) refl refl e, back)
   where
     there : (b h : Bool) → forbidden protocol pec ≡ b → lengths_fit (shape_of protocol) m n ≡ h → room_for protocol pec m n ≡ 0
-        → ((protocols ≤ protocol) ⊎ ((protocol ≡ 0) × (pec ≡ true))) ⊎ (Data_fits protocol m n → ⊥)
+        → ((protocols ≤ protocol) ⊎ ((protocol ≡ 0) × (pec ≡ true))) ⊎ (DataFits protocol m n → ⊥)
     there true h eb eh e = inl ((forbidden_cases protocol pec).0 eb)
     there false true eb eh e = absurd (omega (arith, some_length (shape_of protocol) (forbidden protocol pec) pec m n, sym (room_by_lem (shape_of protocol) (forbidden protocol pec) pec m n false true eb eh) ∙ e))
     there false false eb eh e = inr (λ d. false_not_true (sym eh ∙ listed_lengths_fit protocol m n d))
 
-    unfit : (b h : Bool) → forbidden protocol pec ≡ b → lengths_fit (shape_of protocol) m n ≡ h → (Data_fits protocol m n → ⊥) → room_for protocol pec m n ≡ 0
+    unfit : (b h : Bool) → forbidden protocol pec ≡ b → lengths_fit (shape_of protocol) m n ≡ h → (DataFits protocol m n → ⊥) → room_for protocol pec m n ≡ 0
     unfit true h eb eh z = room_by_lem (shape_of protocol) (forbidden protocol pec) pec m n true h eb eh
     unfit false false eb eh z = room_by_lem (shape_of protocol) (forbidden protocol pec) pec m n false false eb eh
     unfit false true eb eh z = absurd (z (fitting_lengths_listed protocol ((taken_cases protocol pec).0 eb).0 m n eh))
 
-    back : ((protocols ≤ protocol) ⊎ ((protocol ≡ 0) × (pec ≡ true))) ⊎ (Data_fits protocol m n → ⊥) → room_for protocol pec m n ≡ 0
+    back : ((protocols ≤ protocol) ⊎ ((protocol ≡ 0) × (pec ≡ true))) ⊎ (DataFits protocol m n → ⊥) → room_for protocol pec m n ≡ 0
     back (inl f) = room_by_lem (shape_of protocol) (forbidden protocol pec) pec m n true _ ((forbidden_cases protocol pec).1 f) refl
     back (inr z) = unfit (forbidden protocol pec) (lengths_fit (shape_of protocol) m n) refl refl z
 

@@ -2,7 +2,7 @@
 -- host alone, and that the limits of each make sense.
 use Rattle.std.specs.Prelude.{◌≡◌, refl, Bool, true, false, ℕ, ◌+◌, ◌≤◌, ◌<◌, ltb, leb, eqb}
 use Rattle.std.proofs.Common.{sym, arith, leb-true, eqb-true}
-use Rattle.lists.specs.All.{all, Each_below}
+use Rattle.lists.specs.All.{all, EachBelow}
 use Rattle.lists.specs.AllLaws.{at_each, at_any, at_place, each_below}
 use Rattle.lists.specs.Choice.{or, not, same}
 use Rattle.lists.specs.ChoiceLaws.{both_true, same_true}
@@ -24,7 +24,7 @@ pub at_every_number : (test : Shape → Bool) → all test shapes ≡ true → t
 at_every_number test e f = at_any test shapes no_row e f
 
 -- what holds of each number of a row
-pub by_row : (P : ℕ → Type 0) → Each_below P protocols → (protocol : ℕ) → protocol < protocols → P protocol
+pub by_row : (P : ℕ → Type 0) → EachBelow P protocols → (protocol : ℕ) → protocol < protocols → P protocol
 by_row P c = each_below P protocols c
 
 -- the last row is the last one of the table

@@ -48,12 +48,12 @@ pub data Row (q : List ℕ) (x : Line) : Type 0 where
       → x ≡ line 10 (message a 0 c d r) (2 * a ∷ c ∷ length d ∷ (d ++ (2 * a + 1) ∷ length r ∷ r)) (S ∷ 2 * a ∷ A ∷ c ∷ A ∷ length d ∷ A ∷ (acked d ++ S ∷ (2 * a + 1) ∷ A ∷ [])) (nacked (length r ∷ (r ++ q)) ++ P ∷ []) → Row q x
 
 -- a line of the protocol, with the byte y in PEC's place where PEC is used
-abbrev pub In_table : ℕ → Bool → ℕ → Line → Type 0
-In_table protocol pec y x = Row (in_place pec y) x × (x.protocol ≡ protocol) × (y < 256)
+abbrev pub InTable : ℕ → Bool → ℕ → Line → Type 0
+InTable protocol pec y x = Row (in_place pec y) x × (x.protocol ≡ protocol) × (y < 256)
 
 abbrev pub symbols : Line → List ℕ
 symbols x = x.by_target ++ x.by_controller
 
 -- THE TRACE of a message: a line of its protocol, with the PEC of the bytes that it covers
-abbrev pub Trace_of : ℕ → Bool → Message → List ℕ → Type 0
-Trace_of protocol pec t tr = (x : Line) × Row (in_place pec (pec_of x.covered)) x × (x.protocol ≡ protocol) × (x.message ≡ t) × (tr ≡ symbols x)
+abbrev pub TraceOf : ℕ → Bool → Message → List ℕ → Type 0
+TraceOf protocol pec t tr = (x : Line) × Row (in_place pec (pec_of x.covered)) x × (x.protocol ≡ protocol) × (x.message ≡ t) × (tr ≡ symbols x)

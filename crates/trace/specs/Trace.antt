@@ -79,10 +79,10 @@ abbrev pub trace : Shape → Bool → Message → List ℕ
 trace sh p t = trace_at sh t (in_place p (pec_of sh t))
 
 -- the length of a part's data belongs to it
-abbrev pub Length_of : ℕ → Part → List ℕ → Type 0
-Length_of least Nothing ds = length ds ≡ 0
-Length_of least (Fixed k) ds = length ds ≡ k
-Length_of least Counted ds = least ≤ length ds
+abbrev pub LengthOf : ℕ → Part → List ℕ → Type 0
+LengthOf least Nothing ds = length ds ≡ 0
+LengthOf least (Fixed k) ds = length ds ≡ k
+LengthOf least Counted ds = least ≤ length ds
 
 abbrev pub counted : Part → List ℕ → ℕ
 counted a ds = count_in a (length ds)
@@ -92,8 +92,8 @@ pub record Valid (sh : Shape) (t : Message) : Type 0 where
   pub address : pick sh.tohost (t.address ≡ host_address) (t.address < 128)
   pub direction : pick (or (writes sh) (reads sh)) (t.direction ≡ 0) (t.direction ≤ 1)
   pub command : pick sh.command ((t.command < 256) × pick sh.tohost (t.command % 2 ≡ 0) Unit) (t.command ≡ 0)
-  pub sent_length_lem : Length_of sh.least sh.sent t.sent
+  pub sent_length_lem : LengthOf sh.least sh.sent t.sent
   pub sent_bytes : Bytes t.sent
-  pub received_length_lem : Length_of sh.least sh.received t.received
+  pub received_length_lem : LengthOf sh.least sh.received t.received
   pub received_bytes : Bytes t.received
   pub counts : counted sh.sent t.sent + counted sh.received t.received ≤ sh.most

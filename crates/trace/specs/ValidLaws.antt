@@ -9,15 +9,15 @@ use Rattle.trace.specs.declared.shape.Part.{Part}
 use Rattle.trace.specs.declared.shape.Part.TheVariants.{Nothing, Fixed, Counted}
 use Rattle.trace.specs.declared.shape.Shape.{Shape}
 use Rattle.trace.specs.Shapes.{writes, reads}
-use Rattle.trace.specs.Trace.{Message, Length_of, counted, Valid}
+use Rattle.trace.specs.Trace.{Message, LengthOf, counted, Valid}
 use Rattle.trace.specs.Allowed.{length_fits, lengths_fit, address_fits, direction_fits, command_fits, allowed}
 
-length_back : (least : ℕ) (a : Part) (s : List ℕ) → length_fits least a (length s) ≡ true → Length_of least a s
+length_back : (least : ℕ) (a : Part) (s : List ℕ) → length_fits least a (length s) ≡ true → LengthOf least a s
 length_back least Nothing s h = eqb-true (length s) 0 h
 length_back least (Fixed k) s h = eqb-true (length s) k h
 length_back least Counted s h = leb-true least (length s) h
 
-length_there : (least : ℕ) (a : Part) (s : List ℕ) → Length_of least a s → length_fits least a (length s) ≡ true
+length_there : (least : ℕ) (a : Part) (s : List ℕ) → LengthOf least a s → length_fits least a (length s) ≡ true
 length_there least Nothing s h = eq-eqb (length s) 0 h
 length_there least (Fixed k) s h = eq-eqb (length s) k h
 length_there least Counted s h = le-leb least (length s) h

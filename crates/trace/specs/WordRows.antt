@@ -5,7 +5,7 @@ use Rattle.pec.specs.Pec.{pec_of as pec}
 use Rattle.trace.specs.Rows.{S, P, A, N, message, plain, checked}
 
 -- a is the address, c the command, w the word sent, v the word received
-pub record Word_rows : Type 0 where
+pub record WordRows : Type 0 where
   pub write_word : (a c w l h : ℕ) → l < 256 → w ≡ l + 256 * h → plain 4 (message a 0 c (word_bytes w) []) ≡ S ∷ 2 * a ∷ A ∷ c ∷ A ∷ l ∷ A ∷ h ∷ A ∷ P ∷ []
   pub write_word_pec : (a c w l h : ℕ) → l < 256 → w ≡ l + 256 * h → checked 4 (message a 0 c (word_bytes w) [])
       ≡ S ∷ 2 * a ∷ A ∷ c ∷ A ∷ l ∷ A ∷ h ∷ A ∷ pec (2 * a ∷ c ∷ l ∷ h ∷ []) ∷ A ∷ P ∷ []

@@ -5,13 +5,13 @@ use Rattle.wire.specs.Words.{word_bytes}
 use Rattle.wire.specs.WordsLaws.{low_is, high_is}
 use Rattle.trace.specs.RowsLaws.{rows}
 use Rattle.trace.specs.Rows.{message, plain, checked}
-use Rattle.trace.specs.Word_rows.{Word_rows}
+use Rattle.trace.specs.WordRows.{WordRows}
 
 -- a word's bytes in the order in which they go
 pub word_bytes_are : (w l h : ℕ) → l < 256 → w ≡ l + 256 * h → word_bytes w ≡ l ∷ h ∷ []
 word_bytes_are w l h k e = ap word_bytes e ∙ ap₂ (λ (x y : ℕ). x ∷ y ∷ []) (low_is l h k) (high_is l h k)
 
-pub word_rows : Word_rows
+pub word_rows : WordRows
 word_rows =
     record {
       write_word = λ a c w l h k e. ap (λ (s : List ℕ). plain 4 (message a 0 c s [])) (word_bytes_are w l h k e) ∙ rows.write_word a c l h;

@@ -3,14 +3,14 @@ ghost use Rattle.std.specs.Prelude.{◌≡◌, ◌≤◌};
 ghost use Rattle.trace.specs.Shapes.{some, is_counted, count_in, writes, reads, least_of};
 
 // What a protocol sends or receives: nothing, so many bytes, or a count and as many bytes.
-#[derive(Drop)]
+#[derive(Clone, Copy)]
 pub enum Part {
     Nothing,
     Fixed(u8),
     Counted,
 }
 
-#[derive(Drop)]
+#[derive(Clone, Copy)]
 pub struct Shape {
     // A command byte follows the first address byte.
     pub command: bool,

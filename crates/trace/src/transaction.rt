@@ -2,7 +2,7 @@
 use wire::address::Address;
 
 // sent and received are the lengths of its data, which lie in slices beside it.
-#[derive(Drop)]
+#[derive(Clone, Copy)]
 pub struct Transaction {
     pub protocol: u8,
     pub address: Address,

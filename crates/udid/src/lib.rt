@@ -1,4 +1,6 @@
 // The unique device identifier of a target: 128 bits as two halves, and its 16 bytes on the wire, highest byte first. Rests on lists.
+#![tactic(auto)]
+
 pub mod compare;
 pub mod kind;
 pub mod read;
@@ -6,7 +8,7 @@ pub mod write;
 
 // The high half holds capabilities, version, vendor, device and interface, the low one subsystem vendor, subsystem device and the
 // vendor-specific 32 bits.
-#[derive(Drop)]
+#[derive(Clone, Copy)]
 pub struct Udid {
     pub high: u64,
     pub low: u64,

@@ -3,11 +3,11 @@ ghost use Rattle.std.specs.Prelude.{◌≡◌, ◌+◌, ◌*◌, ◌/◌, ◌%�
 ghost use Rattle.wire.specs.Addresses.{is_from_to, is_reserved, is_preassigned, is_listed};
 
 // An address. A number above 127 is no address: whoever is to send to one, or to look one up, refuses it.
-#[derive(Drop)]
+#[derive(Clone, Copy)]
 pub struct Address(pub u8);
 
 // The byte on the wire: twice the address, plus 1 for a read.
-#[derive(Drop)]
+#[derive(Clone, Copy)]
 pub struct WireByte(pub u8);
 
 // The number is one of those from low to high.
@@ -96,6 +96,7 @@ impl Address {
     }
 
     // One of the 21 on which no target may stand, not even a fixed one: 00h to 08h, 0Ch, 28h, 37h, 61h, 78h to 7Fh.
+    #[tactic(auto, unfolding(crate::specs::Addresses::is_reserved))]
     pub fn is_reserved(self) -> bool
         ensures { result ≡ is_reserved self.0 }
     {
@@ -122,6 +123,7 @@ impl Address {
     }
 
     // One of the other 14 of Table 17: 09h to 0Bh, 2Ch, 2Dh, 40h to 44h, 48h to 4Bh. A fixed target may stand there.
+    #[tactic(auto, unfolding(crate::specs::Addresses::is_preassigned))]
     pub fn is_preassigned(self) -> bool
         ensures { result ≡ is_preassigned self.0 }
     {
@@ -139,6 +141,7 @@ impl Address {
     }
 
     // On a row of Table 17, one of 35: never picked, and never kept by a movable target.
+    #[tactic(auto, unfolding(crate::specs::Addresses::is_listed))]
     pub fn is_listed(self) -> bool
         ensures { result ≡ is_listed self.0 }
     {

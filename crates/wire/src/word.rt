@@ -2,7 +2,7 @@
 ghost use Rattle.std.specs.Prelude.{◌≡◌, ◌+◌, ◌*◌, ◌/◌, ◌%◌};
 ghost use Rattle.wire.specs.Words.{low_byte, high_byte, word_of};
 
-#[derive(Drop)]
+#[derive(Clone, Copy)]
 pub struct Word(pub u16);
 
 impl Word {

@@ -1,9 +1,4 @@
 pub mod Verbs
 pub mod Events
-pub mod Views
 pub mod Said
-pub mod VerbList
-pub mod VerbListLaws
-pub mod Symbols
-pub mod SymbolLaws
 pub mod SaidLaws

@@ -14,6 +14,8 @@ use Rattle.digits.specs.Numbers.{number_of, halves_of, quarter_of}
 use Rattle.names.specs.Names.{no_protocol, protocol_named}
 use Rattle.words.specs.declared.word.ByteWord.{ByteWord}
 use Rattle.words.specs.declared.word.ByteWord.TheVariants.{Byte, NoByte}
+use Rattle.words.specs.declared.word.SymbolWord.{SymbolWord}
+use Rattle.words.specs.declared.word.SymbolWord.TheVariants.{Symbol, NoSymbol}
 use Rattle.words.specs.declared.word.UdidWord.{UdidWord}
 use Rattle.words.specs.declared.word.UdidWord.TheVariants.{Identifier, NoIdentifier}
 use Rattle.words.specs.declared.word.FreshWord.{FreshWord}
@@ -37,6 +39,15 @@ byte_said w TooLarge = NoByte w.from
 
 unfoldable pub byte_at : List ℕ → ℕ → ByteWord
 byte_at line at = byte_said (word_from line at) (number_of (word_in line (word_from line at)))
+
+-- a symbol: a number below 65,536
+abbrev pub symbol_said : LineWord → Number → SymbolWord
+symbol_said w (Is n) = pick (ltb n 65536) (Symbol n w.to) (NoSymbol w.from)
+symbol_said w NoNumber = NoSymbol w.from
+symbol_said w TooLarge = NoSymbol w.from
+
+unfoldable pub symbol_at : List ℕ → ℕ → SymbolWord
+symbol_at line at = symbol_said (word_from line at) (number_of (word_in line (word_from line at)))
 
 -- an identifier: 32 hexadecimal digits
 abbrev pub udid_said : LineWord → Halves → UdidWord

@@ -12,9 +12,10 @@ use Rattle.text.specs.Chars.{chars}
 use Rattle.text.specs.Words.{word_from, part_of, same_text}
 use Rattle.digits.specs.Numbers.{number_of, halves_of, quarter_of}
 use Rattle.names.specs.Names.{no_protocol, protocol_named}
-use Rattle.words.specs.Said.{byte_at, udid_at, fresh_at, protocol_at, pec_at, mark_at, rest_at}
+use Rattle.words.specs.Said.{byte_at, symbol_at, udid_at, fresh_at, protocol_at, pec_at, mark_at, rest_at}
 use Rattle.words.specs.declared.word.ByteWord.{ByteWord}
 use Rattle.words.specs.declared.word.ByteWord.TheVariants.{Byte, NoByte}
+use Rattle.words.specs.declared.word.SymbolWord.TheVariants.{Symbol, NoSymbol}
 use Rattle.words.specs.declared.word.UdidWord.TheVariants.{Identifier, NoIdentifier}
 use Rattle.words.specs.declared.word.FreshWord.TheVariants.{Fresh, NoFresh}
 use Rattle.words.specs.declared.word.PecWord.TheVariants.{With, Without, Neither}
@@ -39,6 +40,24 @@ module _ (line : List ℕ) (at : ℕ) (w : LineWord) (s : List ℕ) (e : w ≡ w
   pub byte_over : (n : Number) → n ≡ number_of s → n ≡ TooLarge → NoByte w.from ≡ byte_at line at
   unfolding byte_at
   byte_over n g h = rw (← e, ← f, ← g, h)
+
+  -- ---- a symbol
+
+  pub symbol_is : (n : Number) (v : ℕ) → n ≡ number_of s → n ≡ Is v → v < 65536 → Symbol v w.to ≡ symbol_at line at
+  unfolding symbol_at
+  symbol_is n v g h t = rw (← e, ← f, ← g, h, lt-ltb v 65536 t)
+
+  pub symbol_large : (n : Number) (v : ℕ) → n ≡ number_of s → n ≡ Is v → 65536 ≤ v → NoSymbol w.from ≡ symbol_at line at
+  unfolding symbol_at
+  symbol_large n v g h t = rw (← e, ← f, ← g, h, le-ltb v 65536 t)
+
+  pub symbol_none : (n : Number) → n ≡ number_of s → n ≡ NoNumber → NoSymbol w.from ≡ symbol_at line at
+  unfolding symbol_at
+  symbol_none n g h = rw (← e, ← f, ← g, h)
+
+  pub symbol_over : (n : Number) → n ≡ number_of s → n ≡ TooLarge → NoSymbol w.from ≡ symbol_at line at
+  unfolding symbol_at
+  symbol_over n g h = rw (← e, ← f, ← g, h)
 
   -- ---- an identifier
 

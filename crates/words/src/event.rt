@@ -5,7 +5,7 @@ ghost use Rattle.words.specs.Events.{event_of};
 use text::word::same;
 
 // A signal, bytes received, a byte asked for; or what the module is now.
-#[derive(Drop)]
+#[derive(Clone, Copy)]
 pub enum Event {
     Start,
     Byte,

@@ -1,7 +1,6 @@
-// What one word of a request says: a verb, an event, a view, a protocol, a byte, a symbol, an identifier or its end, or a mark. Rests on
-// text, digits, names and udid.
+// What one word of a request says: a verb, an event, a protocol, a byte, a symbol, an identifier or its end, or a mark. Rests on text, digits, names and udid.
+#![tactic(auto)]
+
 pub mod event;
-pub mod symbol;
 pub mod verb;
-pub mod view;
 pub mod word;

@@ -1,10 +1,10 @@
 // The verbs: the first word of a request.
 ghost use Rattle.std.specs.Prelude.{◌≡◌};
-ghost use Rattle.words.specs.Verbs.{verb_of, pass_verb, module_verb, choice_verb, shelf_verb, talk_verb, known};
+ghost use Rattle.words.specs.Verbs.{verb_of, pass_verb, module_verb, choice_verb};
 
 use text::word::same;
 
-#[derive(Drop)]
+#[derive(Clone, Copy)]
 pub enum Verb {
     Pec,
     Encode,
@@ -25,52 +25,8 @@ pub enum Verb {
     Choose,
     Issue,
     Decline,
-    // A trace without its protocol; a record, or an occupied address, is taken away again.
-    Explain,
-    Untarget,
-    Free,
-    // How answers are written; what there is to ask; the end.
-    View,
-    Help,
-    Quit,
-    Exit,
     // Any other word.
     Other,
-}
-
-// The verbs of the talk itself.
-fn talk_verb(s: &[u8]) -> Verb
-    ensures { result ≡ talk_verb s.now }
-{
-    if same(s, b"view") {
-        return Verb::View;
-    }
-    if same(s, b"help") {
-        return Verb::Help;
-    }
-    if same(s, b"quit") {
-        return Verb::Quit;
-    }
-    if same(s, b"exit") {
-        return Verb::Exit;
-    }
-    Verb::Other
-}
-
-// The verbs that explain, and those that take away.
-fn shelf_verb(s: &[u8]) -> Verb
-    ensures { result ≡ shelf_verb s.now }
-{
-    if same(s, b"explain") {
-        return Verb::Explain;
-    }
-    if same(s, b"untarget") {
-        return Verb::Untarget;
-    }
-    if same(s, b"free") {
-        return Verb::Free;
-    }
-    talk_verb(s)
 }
 
 // The verbs of a choice.
@@ -86,7 +42,7 @@ fn choice_verb(s: &[u8]) -> Verb
     if same(s, b"decline") {
         return Verb::Decline;
     }
-    shelf_verb(s)
+    Verb::Other
 }
 
 // The verbs of the module's own end.
@@ -150,37 +106,4 @@ pub fn verb_of(s: &[u8]) -> Verb
         return Verb::Run;
     }
     pass_verb(s)
-}
-
-// Whether it is a verb at all.
-pub fn is_known(v: Verb) -> bool
-    ensures { result ≡ known v }
-{
-    match v {
-        Verb::Pec => true,
-        Verb::Encode => true,
-        Verb::Decode => true,
-        Verb::Occupied => true,
-        Verb::Target => true,
-        Verb::Clear => true,
-        Verb::Run => true,
-        Verb::Start => true,
-        Verb::Step => true,
-        Verb::Lookup => true,
-        Verb::Gone => true,
-        Verb::Grid => true,
-        Verb::Module => true,
-        Verb::M => true,
-        Verb::Choose => true,
-        Verb::Issue => true,
-        Verb::Decline => true,
-        Verb::Explain => true,
-        Verb::Untarget => true,
-        Verb::Free => true,
-        Verb::View => true,
-        Verb::Help => true,
-        Verb::Quit => true,
-        Verb::Exit => true,
-        Verb::Other => false,
-    }
 }

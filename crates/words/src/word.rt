@@ -1,6 +1,6 @@
 // One word of a line, read as what is due there. Rests on crates text, digits and names.
 ghost use Rattle.std.specs.Prelude.{◌≡◌};
-ghost use Rattle.words.specs.Said.{byte_at, udid_at, fresh_at, protocol_at, pec_at, mark_at, rest_at};
+ghost use Rattle.words.specs.Said.{byte_at, symbol_at, udid_at, fresh_at, protocol_at, pec_at, mark_at, rest_at};
 
 use digits::number::{Halves, Number, Quarter, read_halves, read_number, read_quarter};
 use names::{NO_PROTOCOL, protocol_named};
@@ -8,28 +8,35 @@ use text::word::{next_word, part, same};
 use udid::Udid;
 
 // A byte and the place after its word, or the place of a word that is none.
-#[derive(Drop)]
+#[derive(Clone, Copy)]
 pub enum ByteWord {
     Byte(u8, usize),
     NoByte(usize),
 }
 
+// A symbol and the place after its word, or the place of a word that is none.
+#[derive(Clone, Copy)]
+pub enum SymbolWord {
+    Symbol(u16, usize),
+    NoSymbol(usize),
+}
+
 // An identifier with the place of its word and the place after it, or the place of a word that is none.
-#[derive(Drop)]
+#[derive(Clone, Copy)]
 pub enum UdidWord {
     Identifier(Udid, usize, usize),
     NoIdentifier(usize),
 }
 
 // The last four bytes of an identifier and the place after their word, or the place of a word that is none.
-#[derive(Drop)]
+#[derive(Clone, Copy)]
 pub enum FreshWord {
     Fresh(u32, usize),
     NoFresh(usize),
 }
 
 // With PEC or without, and the place after the word; or the place of another word.
-#[derive(Drop)]
+#[derive(Clone, Copy)]
 pub enum PecWord {
     With(usize),
     Without(usize),
@@ -37,7 +44,7 @@ pub enum PecWord {
 }
 
 // The place after a mark, the end of the line, or the place of another word.
-#[derive(Drop)]
+#[derive(Clone, Copy)]
 pub enum MarkWord {
     Mark(usize),
     Over(usize),
@@ -45,7 +52,7 @@ pub enum MarkWord {
 }
 
 // The end of the line, or the place of a word.
-#[derive(Drop)]
+#[derive(Clone, Copy)]
 pub enum Rest {
     Nothing,
     Word(usize),
@@ -67,6 +74,25 @@ pub fn byte_word(line: &[u8], at: usize) -> ByteWord
         }
         Number::NoNumber => ByteWord::NoByte(w.from),
         Number::TooLarge => ByteWord::NoByte(w.from),
+    }
+}
+
+// The next word as a symbol.
+pub fn symbol_word(line: &[u8], at: usize) -> SymbolWord
+    ensures { result ≡ symbol_at line.now at }
+{
+    let w = next_word(line, at);
+    let n = read_number(part(line, w.from, w.to));
+    match n {
+        Number::Is(v) => {
+            if v < 65536 {
+                SymbolWord::Symbol(v as u16, w.to)
+            } else {
+                SymbolWord::NoSymbol(w.from)
+            }
+        }
+        Number::NoNumber => SymbolWord::NoSymbol(w.from),
+        Number::TooLarge => SymbolWord::NoSymbol(w.from),
     }
 }
 

@@ -1,2 +1,4 @@
 // Text and numbers as text, written into a lent buffer from a place on. Rests on lists.
+#![tactic(auto)]
+
 pub mod write;

@@ -1,23 +1,34 @@
-use Rattle.writing.specs.WrittenLaws.{appended_on}
-use Rattle.std.proofs.Common.{rules}
+use Rattle.std.proofs.Common.{ap, rules}
+use Rattle.writing.specs.Written.{decimal_of}
+use Rattle.writing.specs.WrittenLaws.{appended_on, appended_as}
 use Rattle.codec_answers.proofs.decoded.put_refused.Statement.{statement}
 use Rattle.codec_answers.proofs.decoded.put_refused.Tie as tie
 
-put-refusal-requires : tie.Need-put-refusal-requires
-put-refusal-requires c κs = search rules
+refusal-number-requires : tie.Need-refusal-number-requires
+refusal-number-requires c κs = search rules
 
-slice-aggregate-put : tie.Need-slice-aggregate-put
-slice-aggregate-put c = search rules
+cast-put-decimal : tie.Need-overflow-cast-put-decimal
+cast-put-decimal c = search rules
 
-put-requires : tie.Need-put-requires
-put-requires c κs = search rules
+put-decimal-requires : tie.Need-put-decimal-requires
+put-decimal-requires c κs = search rules
+
+put-where-requires : tie.Need-put-where-requires
+put-where-requires c κs = search rules
 
 same_length : tie.Need-same-length
 same_length c = search rules
 
 returns : tie.Need-returns
-returns c = appended_on c.before.before.before.before.before.before.before.put-refusal.ensures c.before.before.put.ensures
+returns c = appended_on (appended_as (ap decimal_of c.before.before.before.before.before.before.before.before.refusal-number.ensures) c.before.before.before.before.before.before.put-decimal.ensures) c.before.before.put-where.ensures
 
 pub put-refused-spec : {M : Type 1} → statement M
 put-refused-spec =
-    tie.close (tie.spec put-refusal-requires slice-aggregate-put put-requires same_length returns)
+    tie.close
+    (tie.spec
+    refusal-number-requires
+    cast-put-decimal
+    put-decimal-requires
+    put-where-requires
+    same_length
+    returns)

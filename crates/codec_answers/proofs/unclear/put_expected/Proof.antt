@@ -148,24 +148,6 @@ slice-aggregate-put-16 c = search rules
 put-requires-16 : tie.Need-put-requires-16
 put-requires-16 c κs = search rules
 
-enum-told-17 : tie.Need-enum-told-17
-enum-told-17 c = search rules
-
-slice-aggregate-put-17 : tie.Need-slice-aggregate-put-17
-slice-aggregate-put-17 c = search rules
-
-put-requires-17 : tie.Need-put-requires-17
-put-requires-17 c κs = search rules
-
-enum-told-18 : tie.Need-enum-told-18
-enum-told-18 c = search rules
-
-slice-aggregate-put-18 : tie.Need-slice-aggregate-put-18
-slice-aggregate-put-18 c = search rules
-
-put-requires-18 : tie.Need-put-requires-18
-put-requires-18 c κs = search rules
-
 same_length : tie.Need-same-length
 same_length c = search rules
 
@@ -262,18 +244,6 @@ same-length-16 c = search rules
 returns-16 : tie.Need-returns-16
 returns-16 c = appended_as (sym (ap expected_text c.before.before.before.before.before.enum-told16.given.1)) c.before.before.put16.ensures
 
-same-length-17 : tie.Need-same-length-17
-same-length-17 c = search rules
-
-returns-17 : tie.Need-returns-17
-returns-17 c = appended_as (sym (ap expected_text c.before.before.before.before.before.enum-told17.given.1)) c.before.before.put17.ensures
-
-same-length-18 : tie.Need-same-length-18
-same-length-18 c = search rules
-
-returns-18 : tie.Need-returns-18
-returns-18 c = appended_as (sym (ap expected_text c.before.before.before.before.before.enum-told18.given.1)) c.before.before.put18.ensures
-
 pub put-expected-spec : {M : Type 1} → statement M
 put-expected-spec =
     tie.close
@@ -326,12 +296,6 @@ put-expected-spec =
     enum-told-16
     slice-aggregate-put-16
     put-requires-16
-    enum-told-17
-    slice-aggregate-put-17
-    put-requires-17
-    enum-told-18
-    slice-aggregate-put-18
-    put-requires-18
     same_length
     returns
     same-length-2
@@ -363,8 +327,4 @@ put-expected-spec =
     same-length-15
     returns-15
     same-length-16
-    returns-16
-    same-length-17
-    returns-17
-    same-length-18
-    returns-18)
+    returns-16)

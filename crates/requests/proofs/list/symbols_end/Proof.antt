@@ -1,19 +1,18 @@
-use borrow.Author.Rules.{rules}
 use mathlib.Core.Path.{◌≡◌, refl, sym, ◌∙◌}
-use mathlib.Core.Bool.{false}
 use Prim.Native.Nat.{◌-◌}
 use lib.ListN.{length}
 use native.Mathlib.Omega.{arith}
 use Rattle.requests.specs.Lists.{symbols_end}
-use Rattle.requests.specs.ListLaws.{symbols_end_on, symbols_end_hex, symbols_end_over, symbols_end_full}
+use Rattle.requests.specs.ListLaws.{symbols_end_on, symbols_end_over, symbols_end_full}
+use borrow.Author.Rules.{rules}
 use Rattle.requests.proofs.list.symbols_end.Statement.{statement}
 use Rattle.requests.proofs.list.symbols_end.Tie as tie
 
 abbrev invariant-loop : tie.invariant-loop
-invariant-loop line from left₀ at₀ hex₀ left at hex = symbols_end (length line) false line from ≡ symbols_end left hex line at
+invariant-loop line from left₀ at₀ left at = symbols_end (length line) line from ≡ symbols_end left line at
 
 abbrev decreases-loop : tie.decreases-loop
-decreases-loop line from left₀ at₀ hex₀ left at hex = left
+decreases-loop line from left₀ at₀ left at = left
 
 loop-holds : tie.Need-loop-init invariant-loop decreases-loop
 loop-holds c = refl
@@ -31,28 +30,18 @@ loop-less : tie.Need-loop-smaller invariant-loop decreases-loop
 loop-less c = search rules
 
 loop-again : tie.Need-loop-preserved invariant-loop decreases-loop
-loop-again c = c.before.before.before.before.before.loop.invariant ∙ symbols_end_on c.before.before.before.before.before.loop.left (c.before.before.before.before.before.loop.left - 1) c.before.before.before.before.before.loop.hex c.before.before.before.before.before.before.before.args.line.now c.before.before.before.before.before.loop.at _ _ (omega arith) (sym c.before.before.before.symbol-word.ensures ∙ c.before.x.given.1)
+loop-again c =
+    c.before.before.before.before.before.loop.invariant ∙ symbols_end_on c.before.before.before.before.before.loop.left (c.before.before.before.before.before.loop.left - 1) c.before.before.before.before.before.before.before.args.line.now c.before.before.before.before.before.loop.at _ _ (omega arith) (sym c.before.before.before.symbol-word.ensures ∙ c.before.x.given.1)
 
 enum-known-x-2 : tie.Need-enum-known-x-2 invariant-loop decreases-loop
 enum-known-x-2 c = search rules
 
-sub-left-2 : tie.Need-overflow-sub-left-2 invariant-loop decreases-loop
-sub-left-2 c = search rules
-
-loop-less-2 : tie.Need-loop-smaller-2 invariant-loop decreases-loop
-loop-less-2 c = search rules
-
-loop-again-2 : tie.Need-loop-preserved-2 invariant-loop decreases-loop
-loop-again-2 c = c.before.before.before.before.before.loop.invariant ∙ symbols_end_hex c.before.before.before.before.before.loop.left (c.before.before.before.before.before.loop.left - 1) c.before.before.before.before.before.loop.hex c.before.before.before.before.before.before.before.args.line.now c.before.before.before.before.before.loop.at _ (omega arith) (sym c.before.before.before.symbol-word.ensures ∙ c.before.x2.given.1)
-
-enum-known-x-3 : tie.Need-enum-known-x-3 invariant-loop decreases-loop
-enum-known-x-3 c = search rules
-
 returns : tie.Need-returns invariant-loop decreases-loop
-returns c = sym (c.before.before.before.before.before.loop.invariant ∙ symbols_end_over c.before.before.before.before.before.loop.left (c.before.before.before.before.before.loop.left - 1) c.before.before.before.before.before.loop.hex c.before.before.before.before.before.before.before.args.line.now c.before.before.before.before.before.loop.at _ (omega arith) (sym c.before.before.before.symbol-word.ensures ∙ c.before.x3.given.1))
+returns c =
+    sym (c.before.before.before.before.before.loop.invariant ∙ symbols_end_over c.before.before.before.before.before.loop.left (c.before.before.before.before.before.loop.left - 1) c.before.before.before.before.before.before.before.args.line.now c.before.before.before.before.before.loop.at _ (omega arith) (sym c.before.before.before.symbol-word.ensures ∙ c.before.x2.given.1))
 
 returns-2 : tie.Need-returns-2 invariant-loop decreases-loop
-returns-2 c = sym (c.before.loop.invariant ∙ symbols_end_full c.before.loop.left c.before.loop.hex c.before.before.before.args.line.now c.before.loop.at (omega arith))
+returns-2 c = sym (c.before.loop.invariant ∙ symbols_end_full c.before.loop.left c.before.before.before.args.line.now c.before.loop.at (omega arith))
 
 pub symbols-end-spec : {M : Type 1} → statement M
 symbols-end-spec =
@@ -67,9 +56,5 @@ symbols-end-spec =
     loop-less
     loop-again
     enum-known-x-2
-    sub-left-2
-    loop-less-2
-    loop-again-2
-    enum-known-x-3
     returns
     returns-2)

@@ -1,6 +1,6 @@
-use borrow.Author.Rules.{rules}
 use mathlib.Core.Path.{sym, ap, ◌∙◌}
 use Rattle.words.specs.declared.verb.Verb.{Verb}
+use borrow.Author.Rules.{rules}
 use Rattle.requests.specs.Requests.{request_in}
 use Rattle.requests.proofs.request.request_in.Statement.{statement}
 use Rattle.requests.proofs.request.request_in.Tie as tie
@@ -110,48 +110,6 @@ ending-requires-5 c κs = search rules
 enum-told-18 : tie.Need-enum-told-18
 enum-told-18 c = search rules
 
-explain-requires : tie.Need-explain-requires
-explain-requires c κs = search rules
-
-enum-told-19 : tie.Need-enum-told-19
-enum-told-19 c = search rules
-
-untarget-requires : tie.Need-untarget-requires
-untarget-requires c κs = search rules
-
-enum-told-20 : tie.Need-enum-told-20
-enum-told-20 c = search rules
-
-free-requires : tie.Need-free-requires
-free-requires c κs = search rules
-
-enum-told-21 : tie.Need-enum-told-21
-enum-told-21 c = search rules
-
-view-requires : tie.Need-view-requires
-view-requires c κs = search rules
-
-enum-told-22 : tie.Need-enum-told-22
-enum-told-22 c = search rules
-
-help-requires : tie.Need-help-requires
-help-requires c κs = search rules
-
-enum-told-23 : tie.Need-enum-told-23
-enum-told-23 c = search rules
-
-ending-requires-6 : tie.Need-ending-requires-6
-ending-requires-6 c κs = search rules
-
-enum-told-24 : tie.Need-enum-told-24
-enum-told-24 c = search rules
-
-ending-requires-7 : tie.Need-ending-requires-7
-ending-requires-7 c κs = search rules
-
-enum-told-25 : tie.Need-enum-told-25
-enum-told-25 c = search rules
-
 returns : tie.Need-returns
 returns c = c.pec.ensures ∙ sym (ap (λ (v : Verb). request_in v c.before.before.before.before.args.line.now c.before.before.before.before.args.verb c.before.before.before.before.args.from) c.before.enum_told.given.1)
 
@@ -204,28 +162,7 @@ returns-17 : tie.Need-returns-17
 returns-17 c = c.ending5.ensures ∙ sym (ap (λ (v : Verb). request_in v c.before.before.before.before.args.line.now c.before.before.before.before.args.verb c.before.before.before.before.args.from) c.before.enum-told17.given.1)
 
 returns-18 : tie.Need-returns-18
-returns-18 c = c.explain.ensures ∙ sym (ap (λ (v : Verb). request_in v c.before.before.before.before.args.line.now c.before.before.before.before.args.verb c.before.before.before.before.args.from) c.before.enum-told18.given.1)
-
-returns-19 : tie.Need-returns-19
-returns-19 c = c.untarget.ensures ∙ sym (ap (λ (v : Verb). request_in v c.before.before.before.before.args.line.now c.before.before.before.before.args.verb c.before.before.before.before.args.from) c.before.enum-told19.given.1)
-
-returns-20 : tie.Need-returns-20
-returns-20 c = c.free.ensures ∙ sym (ap (λ (v : Verb). request_in v c.before.before.before.before.args.line.now c.before.before.before.before.args.verb c.before.before.before.before.args.from) c.before.enum-told20.given.1)
-
-returns-21 : tie.Need-returns-21
-returns-21 c = c.view.ensures ∙ sym (ap (λ (v : Verb). request_in v c.before.before.before.before.args.line.now c.before.before.before.before.args.verb c.before.before.before.before.args.from) c.before.enum-told21.given.1)
-
-returns-22 : tie.Need-returns-22
-returns-22 c = c.help.ensures ∙ sym (ap (λ (v : Verb). request_in v c.before.before.before.before.args.line.now c.before.before.before.before.args.verb c.before.before.before.before.args.from) c.before.enum-told22.given.1)
-
-returns-23 : tie.Need-returns-23
-returns-23 c = c.ending6.ensures ∙ sym (ap (λ (v : Verb). request_in v c.before.before.before.before.args.line.now c.before.before.before.before.args.verb c.before.before.before.before.args.from) c.before.enum-told23.given.1)
-
-returns-24 : tie.Need-returns-24
-returns-24 c = c.ending7.ensures ∙ sym (ap (λ (v : Verb). request_in v c.before.before.before.before.args.line.now c.before.before.before.before.args.verb c.before.before.before.before.args.from) c.before.enum-told24.given.1)
-
-returns-25 : tie.Need-returns-25
-returns-25 c = sym (ap (λ (v : Verb). request_in v c.before.before.before.args.line.now c.before.before.before.args.verb c.before.before.before.args.from) c.enum-told25.given.1)
+returns-18 c = sym (ap (λ (v : Verb). request_in v c.before.before.before.args.line.now c.before.before.before.args.verb c.before.before.before.args.from) c.enum-told18.given.1)
 
 pub request-in-spec : {M : Type 1} → statement M
 request-in-spec =
@@ -266,20 +203,6 @@ request-in-spec =
     enum-told-17
     ending-requires-5
     enum-told-18
-    explain-requires
-    enum-told-19
-    untarget-requires
-    enum-told-20
-    free-requires
-    enum-told-21
-    view-requires
-    enum-told-22
-    help-requires
-    enum-told-23
-    ending-requires-6
-    enum-told-24
-    ending-requires-7
-    enum-told-25
     returns
     returns-2
     returns-3
@@ -297,11 +220,4 @@ request-in-spec =
     returns-15
     returns-16
     returns-17
-    returns-18
-    returns-19
-    returns-20
-    returns-21
-    returns-22
-    returns-23
-    returns-24
-    returns-25)
+    returns-18)

@@ -34,12 +34,9 @@ returns-3 : tie.Need-returns-3
 unfolding choice_verb
 returns-3 c = rw (sym c.before.before.before.before.before.before.before.same.ensures ∙ c.before.before.before.before.before.before.if1.false, sym c.before.before.before.before.same2.ensures ∙ c.before.before.before.if2.false, sym c.before.same3.ensures ∙ c.if3.true)
 
-shelf-verb-requires : tie.Need-shelf-verb-requires
-shelf-verb-requires c κs = search rules
-
 returns-4 : tie.Need-returns-4
 unfolding choice_verb
-returns-4 c = rw (sym c.before.before.before.before.before.before.before.before.same.ensures ∙ c.before.before.before.before.before.before.before.if1.false, sym c.before.before.before.before.before.same2.ensures ∙ c.before.before.before.before.if2.false, sym c.before.before.same3.ensures ∙ c.before.if3.false, c.shelf-verb.ensures)
+returns-4 c = rw (sym c.before.before.before.before.before.before.before.same.ensures ∙ c.before.before.before.before.before.before.if1.false, sym c.before.before.before.before.same2.ensures ∙ c.before.before.before.if2.false, sym c.before.same3.ensures ∙ c.if3.false)
 
 pub choice-verb-spec : {M : Type 1} → statement M
 choice-verb-spec =
@@ -54,5 +51,4 @@ choice-verb-spec =
     slice-aggregate-same-3
     same-requires-3
     returns-3
-    shelf-verb-requires
     returns-4)
