@@ -33,7 +33,7 @@ pub bounds-self-at-in-loop-n : goal.bounds-self-at-in-loop-n
 bounds-self-at-in-loop-n c = omega arith
 
 pub returns-then-is_bound_to : goal.returns-then-is_bound_to
-returns-then-is_bound_to c = let l = c.loop-n in let s = c.args in sym (l.invariant.1 ∙ here s.u s.t1 l.n (omega arith) (bound_by_halves s.t1 l.n s.u ∙ sym c.is_bound_to.ensures ∙ c.if-is_bound_to.true))
+returns-then-is_bound_to c = let l = c.loop-n in let s = c.args in sym (l.invariant.1 ∙ here s.u s.self l.n (omega arith) (bound_by_halves s.self l.n s.u ∙ sym c.is_bound_to.ensures ∙ c.if-is_bound_to.true))
 
 pub overflow_add-n : goal.overflow_add-n
 overflow_add-n c = omega arith
@@ -42,8 +42,8 @@ pub loop-n-smaller : goal.loop-n-smaller
 loop-n-smaller c = omega arith
 
 pub loop-n-preserved : goal.loop-n-preserved
-loop-n-preserved c = let l = c.loop-n in let s = c.args in (omega arith, l.invariant.1 ∙ onward s.u s.t1 l.n (omega arith) (bound_by_halves s.t1 l.n s.u ∙ sym c.is_bound_to.ensures ∙ c.if-is_bound_to.false))
+loop-n-preserved c = let l = c.loop-n in let s = c.args in (omega arith, l.invariant.1 ∙ onward s.u s.self l.n (omega arith) (bound_by_halves s.self l.n s.u ∙ sym c.is_bound_to.ensures ∙ c.if-is_bound_to.false))
 
 pub returns : goal.returns
 unfolding find_from
-returns c = let l = c.loop-n in let s = c.args in let e : 128 - l.n ≡ 0 = omega arith in sym (l.invariant.1 ∙ ap (λ (n : ℕ). find_from s.u s.t1 n l.n) e)
+returns c = let l = c.loop-n in let s = c.args in let e : 128 - l.n ≡ 0 = omega arith in sym (l.invariant.1 ∙ ap (λ (n : ℕ). find_from s.u s.self n l.n) e)
