@@ -1,13 +1,7 @@
-use Prim.Native.Nat.{ℕ}
-use mathlib.Core.Path.{◌≡◌, refl, sym, ap, ◌∙◌}
-use mathlib.Core.Bool.{Bool, true, false}
-use lib.Dec.{eqb}
-use borrow.Author.Tests.{eq-eqb, ne_eqb}
+use Rattle.std.proofs.Common.{ℕ, ◌≡◌, refl, sym, ap, ◌∙◌, Bool, true, false, eqb, eq-eqb, ne_eqb}
 use Rattle.lists.specs.Choice.{and}
 use Rattle.pool.specs.Pools.{member}
-use borrow.Author.Rules.{rules}
-use Rattle.slots.proofs.find.is_bound_to.Statement.{statement}
-use Rattle.slots.proofs.find.is_bound_to.Tie as tie
+use Rattle.slots.proofs.find.is_bound_to.Goals as goal
 
 none-of-both : (b h : Bool) → false ≡ and b (and h false)
 none-of-both true true = refl
@@ -35,17 +29,11 @@ both-same b h l x y p q =
     ∙ ap (λ (r : Bool). and b (and true r)) (sym (eq-eqb l y p))
     ∙ ap (λ (r : Bool). and b (and r (eqb l y))) (sym (eq-eqb h x q))
 
-returns : tie.Need-returns
-returns c = let s = c.before.before.args in low-differs (member s.bound s.n) s.high s.low s.u.high s.u.low c.if1.true
+pub returns-then-low-u : goal.returns-then-low-u
+returns-then-low-u c = let s = c.args in low-differs (member s.bound s.n) s.high s.low s.u.high s.u.low c.if-low-u.true
 
-returns-2 : tie.Need-returns-2
-returns-2 c = let s = c.before.before.before.before.args in high-differs (member s.bound s.n) s.high s.low s.u.high s.u.low c.if2.true
+pub returns-then-high-u : goal.returns-then-high-u
+returns-then-high-u c = let s = c.args in high-differs (member s.bound s.n) s.high s.low s.u.high s.u.low c.if-high-u.true
 
-has-requires : tie.Need-has-requires
-has-requires c κs = search rules
-
-returns-3 : tie.Need-returns-3
-returns-3 c = let s = c.before.before.before.before.before.args in c.has.ensures ∙ both-same (member s.bound s.n) s.high s.low s.u.high s.u.low c.before.before.before.if1.false c.before.if2.false
-
-pub is-bound-to-spec : {M : Type 1} → statement M
-is-bound-to-spec = tie.close (tie.spec returns returns-2 has-requires returns-3)
+pub returns : goal.returns
+returns c = let s = c.args in c.has.ensures ∙ both-same (member s.bound s.n) s.high s.low s.u.high s.u.low c.if-low-u.false c.if-high-u.false
