@@ -1,23 +1,13 @@
-use Prim.Native.Nat.{ℕ}
+use Rattle.std.proofs.Common.{ℕ, [], ◌∷◌, inl, inr, ◌≡◌, refl, ◌∙◌, arith}
 use Rattle.module.specs.State.{at}
 use Rattle.module.specs.Receive.{started_in, starts}
-use Rattle.module.specs.contracts.state.Phase as declared
 use Rattle.module.specs.declared.state.Phase.{Phase}
 use Rattle.module.specs.declared.state.Phase.TheVariants.{Silent, First, Command, Asked, Called, AskedAgain, CalledAgain, Count, Identifier, Given, PreparePec, ResetPec, AssignPec, Reply}
 use Rattle.module.specs.declared.state.Lasting.{Lasting}
 use denote.Enum.Declared.{tag_of}
-use mathlib.Core.List.{[], ◌∷◌}
-use mathlib.Core.Logic.{inl, inr}
-use mathlib.Core.Path.{◌≡◌, refl, ◌∙◌}
-use native.Mathlib.Omega.{arith}
 use types.Run.{OneOf}
-use borrow.Author.Rules.{rules}
-use Rattle.module.proofs.state.Module.start.Statement.{statement}
-use Rattle.module.proofs.state.Module.start.Tie as tie
-use Rattle.module.proofs.state.Module.start.Reads as reads
-use Rattle.module.proofs.state.Module.start.Lts as lts
-use Rattle.module.proofs.signal.at_first.Reads as at-first-reads
-use Rattle.module.proofs.state.module_at.Reads as module-at-reads
+use Rattle.module.specs.contracts.state.Phase as declared
+use Rattle.module.proofs.state.Module.start.Goals as goal
 
 -- whatever the phase, but right after a Get UDID
 other : (ph : Phase) (o : Lasting) (c : ℕ) → OneOf (0 ∷ 1 ∷ 2 ∷ 5 ∷ 6 ∷ 7 ∷ 8 ∷ 9 ∷ 10 ∷ 11 ∷ 12 ∷ 13 ∷ []) (tag_of declared.the_type ph) → at o First 0 0 0 ≡ started_in ph o c
@@ -58,50 +48,14 @@ other ResetPec o c k = refl
 other AssignPec o c k = refl
 other Reply o c k = refl
 
--- src/signal.rt:26:44
-enum_told : tie.Need-enum-told
-enum_told c = search rules
-
--- src/signal.rt:26:29
-module-at-requires : tie.Need-module-at-requires
-module-at-requires c κs = search rules
-
--- src/signal.rt:27:45
-enum-told-2 : tie.Need-enum-told-2
-enum-told-2 c = search rules
-
--- src/signal.rt:27:30
-module-at-requires-2 : tie.Need-module-at-requires-2
-module-at-requires-2 c κs = search rules
-
--- src/signal.rt:28:18
-at-first-requires : tie.Need-at-first-requires
-at-first-requires c κs = search rules
-
--- src/signal.rt:20:5
-returns : tie.Need-returns
+pub returns-in-Asked : goal.returns-in-Asked
 unfolding starts
-returns c = rw (c.module-at.ensures, c.before.enum_told.given.1)
+returns-in-Asked c = rw (c.module_at.ensures, c.in-Asked.is)
 
--- src/signal.rt:20:5
-returns-2 : tie.Need-returns-2
+pub returns-in-Called : goal.returns-in-Called
 unfolding starts
-returns-2 c = rw (c.module-at2.ensures, c.before.enum-told2.given.1)
+returns-in-Called c = rw (c.module_at-in-Called.ensures, c.in-Called.is)
 
--- src/signal.rt:20:5
-returns-3 : tie.Need-returns-3
+pub returns-in_default : goal.returns-in_default
 unfolding starts
-returns-3 c = c.at_first.ensures ∙ other c.before.before.before.args.self.phase c.before.before.before.args.self.own c.before.before.before.args.self.pec c.before.match.keys3
-
-pub start_spec : {M : Type 1} → statement M
-start_spec =
-    tie.close
-    (tie.spec
-    enum_told
-    module-at-requires
-    enum-told-2
-    module-at-requires-2
-    at-first-requires
-    returns
-    returns-2
-    returns-3)
+returns-in_default c = c.at_first.ensures ∙ other c.args.self.phase c.args.self.own c.args.self.pec c.in_default.in_default-own.keys3
