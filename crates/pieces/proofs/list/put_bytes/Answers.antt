@@ -1,4 +1,4 @@
-use Rattle.std.proofs.Common.{◌-◌, length, arith}
+use Rattle.std.proofs.Common.{length, arith}
 use Rattle.pieces.specs.PieceLaws.{below_on, below_over}
 use Rattle.pieces.specs.Pieces.{below, byte_text}
 use Rattle.writing.specs.WrittenLaws.{came_start, came_turn, came_done}

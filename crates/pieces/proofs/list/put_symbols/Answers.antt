@@ -1,4 +1,4 @@
-use Rattle.std.proofs.Common.{ℕ, ◌-◌, length, ◌++◌, ap, arith}
+use Rattle.std.proofs.Common.{ℕ, length, ◌++◌, ap, arith}
 use Rattle.pieces.specs.PieceLaws.{below_on, below_over}
 use Rattle.pieces.specs.Pieces.{below, symbol_text}
 use Rattle.text.specs.Chars.{chars}

@@ -4,11 +4,7 @@ use Rattle.writing.specs.Written.{Came}
 use Rattle.pieces.proofs.list.put_symbols.Given as goal
 
 abbrev pub invariant-loop-i : goal.invariant-loop-i
-invariant-loop-i l = Came out₀ at (below (symbol_text s) 0 (length s)) out to (below (symbol_text s) i (length s))
-
--- CONVERT: the variables were out₀ at s to₀ i₀ blank out to i
+invariant-loop-i l = Came l.fn.out l.at (below (symbol_text l.s) 0 (length l.s)) l.out l.to (below (symbol_text l.s) l.i (length l.s))
 
 abbrev pub decreases-loop-i : goal.decreases-loop-i
-decreases-loop-i l = length s - i
-
--- CONVERT: the variables were out₀ at s to₀ i₀ blank out to i
+decreases-loop-i l = length l.s - l.i
