@@ -18,7 +18,7 @@ use Rattle.c_arp.specs.Parts.{pool_in}
 use Rattle.c_arp.specs.Model.{told_model, RanModel}
 use Rattle.promises.specs.Demands.{Meets}
 use Rattle.promises.specs.DemandsLaws.{demand_3}
-use Rattle.promises.specs.MarkedLaws.{marked}
+use Rattle.promises.proofs.MarkedLaws.{marked}
 use Rattle.c_codec.specs.DecodedLaws.{pair_parts}
 use Rattle.c_arp.specs.ModelParts.{answer_in, ModelZero}
 

@@ -20,7 +20,7 @@ use Rattle.pool.specs.FreeLaws.{used_ones, lowest_is, none_free}
 use Rattle.pool.specs.MemberLaws.{member_low, member_high, member_above, member_with, member_without, member_union}
 use Rattle.pool.specs.Pools.{member, with_address, without_address, union_of}
 use Rattle.pool.specs.Start.{starting_pool, barred_pool}
-use Rattle.pool.specs.StartLaws.{member_starting, member_barred}
+use Rattle.pool.proofs.StartLaws.{member_starting, member_barred}
 use Rattle.pool.specs.declared.Pool.{Pool}
 use Rattle.pool.specs.declared.free.Free.{Free}
 use Rattle.pool.specs.declared.free.Free.TheVariants.{At, AllUsed}
@@ -29,7 +29,7 @@ use Rattle.c_codec.specs.Numbers.{bit, Says}
 use Rattle.c_arp.specs.Parts.{pool_in, told_pool, free_number}
 use Rattle.c_api.specs.PoolParts.{Reserved, Listed, InPool}
 use Rattle.c_codec.specs.NumberLaws.{bit_says}
-use Rattle.wire.specs.AddressLaws.{reserved_is}
+use Rattle.wire.proofs.AddressLaws.{reserved_is}
 use Rattle.c_api.specs.AddressCallLaws.{listed_in_numbers}
 
 module _ (low high a : ℕ) where

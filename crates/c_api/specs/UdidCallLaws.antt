@@ -4,7 +4,7 @@ use Rattle.std.proofs.Common.{ap, ◌∙◌, arith}
 use Rattle.std.proofs.Math.Logic.Iff.{trans as iff_trans}
 use Rattle.lists.specs.TestLaws.{eqb_is, ltb_is, and_is}
 use Rattle.udid.specs.Bytes.{number_from, bytes_of, bytes_from, udid_bytes, udid_at, put_at}
-use Rattle.udid.specs.UdidLaws.{put_back}
+use Rattle.udid.proofs.UdidLaws.{put_back}
 use Rattle.udid.specs.Udids.{same_udid, is_below, is_fixed}
 use Rattle.c_arp.specs.declared.parts.HbUdid.{HbUdid}
 use Rattle.c_codec.specs.Numbers.{bit, Says}

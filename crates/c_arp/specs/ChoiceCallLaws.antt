@@ -10,14 +10,14 @@ use Rattle.wire.specs.declared.address.Address.{Address}
 use Rattle.pool.specs.declared.Pool.{Pool}
 use Rattle.udid.specs.declared.Udid.{Udid}
 use Rattle.arp.specs.Choosing.{first_half, issuing, declining, carried_for}
-use Rattle.arp.specs.ChoosingLaws.{halves_are_the_step}
+use Rattle.arp.proofs.ChoosingLaws.{halves_are_the_step}
 use Rattle.arp.specs.Controller.{stepped}
 use Rattle.arp.specs.History.{Step, Choose, Event, Start, Received, Gone, Issue, Decline}
 use Rattle.arp.specs.Lookup.{looked_up}
 use Rattle.arp.specs.Numbers.{command_number, unless21}
-use Rattle.arp.specs.OutstandingLaws.{heard_21, idle_half, last_is_handed_out}
+use Rattle.arp.proofs.OutstandingLaws.{heard_21, idle_half, last_is_handed_out}
 use Rattle.arp.specs.Replay.{handed_out, answered}
-use Rattle.arp.specs.SettleLaws.{issue_is, decline_is, none_to_issue, none_to_decline, issue_21, decline_21}
+use Rattle.arp.proofs.SettleLaws.{issue_is, decline_is, none_to_issue, none_to_decline, issue_21, decline_21}
 use Rattle.arp.specs.Waits.{Waits}
 use Rattle.commands.specs.Choices.{choice_in}
 use Rattle.commands.specs.declared.choice.Choice.{Choice}

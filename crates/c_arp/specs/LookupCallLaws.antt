@@ -16,7 +16,7 @@ use Rattle.c_arp.specs.declared.parts.HbPool.{HbPool}
 use Rattle.c_arp.specs.Parts.{pool_in}
 use Rattle.c_arp.specs.PassCallLaws.{found_forbidden, found_told}
 use Rattle.c_arp.specs.Pass.{pass_over, found_of, told_found, pass_found}
-use Rattle.arp.specs.LookupLaws.{lookup_0, lookup_15, lookup_16, lookup_20, lookup_1}
+use Rattle.arp.proofs.LookupLaws.{lookup_0, lookup_15, lookup_16, lookup_20, lookup_1}
 use Rattle.c_arp.specs.FoundParts.{FoundParts, FoundIs}
 use Rattle.arp.specs.declared.lookup.Found.TheVariants as found
 

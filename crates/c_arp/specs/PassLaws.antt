@@ -7,8 +7,8 @@ use mathlib.Core.List.{List, [], ◌∷◌, ◌++◌}
 use Rattle.std.proofs.Math.Logic.Iff.{trans as iff_trans}
 use Rattle.std.proofs.Math.Decide.{dec_lt}
 use Rattle.pool.specs.declared.Pool.{Pool}
-use Rattle.arp.specs.LastPickLaws.{last_pick_is}
-use Rattle.arp.specs.OutstandingLaws.{step_21_by_events}
+use Rattle.arp.proofs.LastPickLaws.{last_pick_is}
+use Rattle.arp.proofs.OutstandingLaws.{step_21_by_events}
 use Rattle.arp.specs.Choosing.{issuing, declining}
 use Rattle.arp.specs.Controller.{new_controller, started}
 use Rattle.arp.specs.Gone.{reported}

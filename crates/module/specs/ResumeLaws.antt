@@ -8,7 +8,7 @@ use Rattle.lists.specs.ChoiceLaws.{false_not_true, not_both}
 use Rattle.lists.specs.TestLaws.{eqb_is, ltb_is, or_is, and_is, false_is}
 use Rattle.udid.specs.Bytes.{udid_bytes}
 use Rattle.udid.specs.Udids.{Fits, is_fixed}
-use Rattle.udid.specs.UdidLaws.{fixed_first}
+use Rattle.udid.proofs.UdidLaws.{fixed_first}
 use Rattle.udid.specs.declared.Udid.{Udid}
 use Rattle.module.specs.declared.resume.Resumed.{Resumed}
 use Rattle.module.specs.declared.resume.Resumed.TheVariants.{Ready, Malformed, NoHome}

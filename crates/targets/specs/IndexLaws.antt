@@ -3,8 +3,8 @@ use Rattle.std.specs.Prelude.{ℕ, zero, suc, ◌+◌, ◌*◌, ◌≤◌, ◌<�
 use Rattle.std.proofs.Common.{sym, ap, ◌∙◌, subst, inl, inr, arith, take-add, drop-drop, drop-cons}
 use Rattle.std.proofs.Math.Decide.{ℕ_discrete}
 use Rattle.lists.specs.Each.{Bytes}
-use Rattle.udid.specs.UdidLaws.{fits_at, bytes_back}
-use Rattle.udid.specs.WindowLaws.{byte_at}
+use Rattle.udid.proofs.UdidLaws.{fits_at, bytes_back}
+use Rattle.udid.proofs.WindowLaws.{byte_at}
 use Rattle.arbitration.specs.Among.{Among}
 use Rattle.targets.specs.Target.{Target, Sized}
 use Rattle.targets.specs.Records.{address_byte, target_at, targets_from}

@@ -4,7 +4,7 @@ use Rattle.std.proofs.Common.{sym, ap, ◌∙◌, inl, inr, arith}
 use Rattle.lists.specs.AbsurdLaws.{zero_is_one}
 use Rattle.lists.specs.Choice.{pick}
 use Rattle.udid.specs.Udids.{same_udid, value}
-use Rattle.udid.specs.UdidLaws.{same_refl, other_udid}
+use Rattle.udid.proofs.UdidLaws.{same_refl, other_udid}
 use Rattle.udid.specs.declared.Udid.{Udid}
 use Rattle.arbitration.specs.Among.{Among}
 use Rattle.targets.specs.Members.{Waits}

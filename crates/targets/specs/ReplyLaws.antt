@@ -5,19 +5,19 @@ use Rattle.std.proofs.Common.{sym, ap, ◌∙◌, inl, inr, append_assoc, arith,
 use Rattle.lists.specs.Choice.{pick}
 use Rattle.lists.specs.EachLaws.{append_bytes}
 use Rattle.lists.specs.Each.{Each, Bytes}
-use Rattle.pec.specs.PecLaws.{pec_byte}
+use Rattle.pec.proofs.PecLaws.{pec_byte}
 use Rattle.udid.specs.Bytes.{udid_bytes}
 use Rattle.udid.specs.Udids.{Fits, value, is_below}
-use Rattle.udid.specs.UdidLaws.{length_udid, udid_bytes_lem}
+use Rattle.udid.proofs.UdidLaws.{length_udid, udid_bytes_lem}
 use Rattle.arbitration.specs.Among.{Among}
 use Rattle.arbitration.specs.Bits.{bits, udid_bits, byte_bits, bytes_read, sent}
 use Rattle.arbitration.specs.BitLaws.{length_bits, length_byte_bits, byte_bits_append, read_bytes_lem, udid_bits_lem}
 use Rattle.arbitration.specs.Wire.{heard, sending}
 use Rattle.arbitration.specs.DropOut.{shared, no_later, sharing, Stays}
-use Rattle.arbitration.specs.OrderLaws.{no_later_refl}
-use Rattle.arbitration.specs.WinLaws.{drop_out_within}
-use Rattle.arbitration.specs.WireLaws.{heard_who_stays, sending_who_share}
-use Rattle.arbitration.specs.PairLaws.{sent_order}
+use Rattle.arbitration.proofs.OrderLaws.{no_later_refl}
+use Rattle.arbitration.proofs.WinLaws.{drop_out_within}
+use Rattle.arbitration.proofs.WireLaws.{heard_who_stays, sending_who_share}
+use Rattle.arbitration.proofs.PairLaws.{sent_order}
 use Rattle.targets.specs.Target.{Target, is_resolved, Sized}
 use Rattle.targets.specs.Reply.{reply_data, covered_bytes, reply_pec, reply_bytes, sends, waiting, silence, shown, on_wire}
 use Rattle.targets.specs.Members.{Least}

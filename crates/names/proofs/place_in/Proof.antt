@@ -2,7 +2,7 @@ use Prim.Native.Nat.{ℕ, ◌+◌, ◌-◌, ◌≤◌}
 use mathlib.Core.Path.{◌≡◌, refl, sym, ap, ◌∙◌}
 use native.Mathlib.Omega.{arith}
 use Rattle.names.specs.Names.{place_in}
-use Rattle.names.specs.NamesLaws.{place_over, place_here, place_on, place_full}
+use Rattle.names.proofs.NamesLaws.{place_over, place_here, place_on, place_full}
 use borrow.Author.Rules.{rules}
 use Rattle.names.proofs.place_in.Statement.{statement}
 use Rattle.names.proofs.place_in.Tie as tie

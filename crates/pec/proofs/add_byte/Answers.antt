@@ -1,6 +1,6 @@
 use Rattle.std.proofs.Common.{arith}
 use Rattle.std.proofs.lemmas.Nat.{xor_lt}
-use Rattle.pec.specs.FoldLaws.{two_folds}
+use Rattle.pec.proofs.FoldLaws.{two_folds}
 use Rattle.pec.proofs.add_byte.Goals as goal
 
 pub overflow_cast-c : goal.overflow_cast-c

@@ -1,6 +1,6 @@
 use Rattle.std.proofs.Common.{◌∙◌, arith}
 use Rattle.lists.specs.EachLaws.{all_bytes}
-use Rattle.pec.specs.TableLaws.{from_by_lem}
+use Rattle.pec.proofs.TableLaws.{from_by_lem}
 use Rattle.pec.proofs.add_bytes.Goals as goal
 
 pub returns : goal.returns

@@ -2,7 +2,7 @@ use lib.Bits.{bit_xor}
 use lib.Count.{leading_le}
 use native.Mathlib.Omega.{arith}
 use borrow.Author.Rules.{rules}
-use Rattle.arbitration.specs.DropOutLaws.{drop_out_in_high_half, drop_out_in_low_half}
+use Rattle.arbitration.proofs.DropOutLaws.{drop_out_in_high_half, drop_out_in_low_half}
 use Rattle.arbitration.proofs.leave.drop_out.Statement.{statement}
 use Rattle.arbitration.proofs.leave.drop_out.Tie as tie
 

@@ -1,7 +1,7 @@
 use mathlib.Core.Path.{◌∙◌}
 use borrow.Author.Rules.{rules}
 use borrow.Author.Tests.{lt-ltb, le-ltb}
-use Rattle.arbitration.specs.WinLaws.{drop_out_test_below}
+use Rattle.arbitration.proofs.WinLaws.{drop_out_test_below}
 use Rattle.arbitration.proofs.win.beats.Statement.{statement}
 use Rattle.arbitration.proofs.win.beats.Tie as tie
 

@@ -1,6 +1,6 @@
 use mathlib.Core.Path.{sym}
 use native.Mathlib.Omega.{arith}
-use Rattle.arp.specs.LastPickLaws.{last_pick_is, last_pick_above}
+use Rattle.arp.proofs.LastPickLaws.{last_pick_is, last_pick_above}
 use Rattle.arp.proofs.start.last_pick.Statement.{statement}
 use Rattle.arp.proofs.start.last_pick.Tie as tie
 use Rattle.arp.proofs.start.last_pick.Reads as reads

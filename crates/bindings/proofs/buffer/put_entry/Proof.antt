@@ -2,7 +2,7 @@ use Prim.Native.Nat.{◌*◌}
 use mathlib.Core.Path.{sym, ap, ◌∙◌}
 use Rattle.udid.specs.Bytes.{udid_bytes, put_at}
 use Rattle.udid.specs.declared.Udid.{Udid}
-use Rattle.bindings.specs.BufferLaws.{put_above, put_below}
+use Rattle.bindings.proofs.BufferLaws.{put_above, put_below}
 use borrow.Author.Rules.{rules}
 use Rattle.bindings.proofs.buffer.put_entry.Statement.{statement}
 use Rattle.bindings.proofs.buffer.put_entry.Tie as tie

@@ -1,5 +1,5 @@
 use mathlib.Core.Path.{sym, ◌∙◌}
-use Rattle.bindings.specs.BufferLaws.{read_above, read_below}
+use Rattle.bindings.proofs.BufferLaws.{read_above, read_below}
 use borrow.Author.Rules.{rules}
 use Rattle.bindings.proofs.buffer.udid_at.Statement.{statement}
 use Rattle.bindings.proofs.buffer.udid_at.Tie as tie

@@ -1,6 +1,6 @@
 use Rattle.std.proofs.Common.{arith}
 use Rattle.trace.specs.Trace.{acked, in_place}
-use Rattle.trace.specs.LengthLaws.{length_acked}
+use Rattle.trace.proofs.LengthLaws.{length_acked}
 use Rattle.encode.proofs.WriterLaws.{onto_stop}
 use Rattle.encode.proofs.read.put_end.Goals as goal
 

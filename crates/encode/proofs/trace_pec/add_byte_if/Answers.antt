@@ -1,6 +1,6 @@
 use Rattle.std.proofs.Common.{◌∙◌, arith}
 use Rattle.pec.specs.Pec.{pec_from}
-use Rattle.pec.specs.TableLaws.{step_by_lem}
+use Rattle.pec.proofs.TableLaws.{step_by_lem}
 use Rattle.encode.proofs.trace_pec.add_byte_if.Goals as goal
 
 pub returns-then-there : goal.returns-then-there

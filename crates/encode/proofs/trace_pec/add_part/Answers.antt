@@ -1,6 +1,6 @@
 use Rattle.std.proofs.Common.{◌∙◌, arith}
 use Rattle.lists.specs.EachLaws.{all_bytes}
-use Rattle.pec.specs.TableLaws.{from_by_lem}
+use Rattle.pec.proofs.TableLaws.{from_by_lem}
 use Rattle.encode.proofs.PecLaws.{part_pec}
 use Rattle.encode.proofs.trace_pec.add_part.Goals as goal
 

@@ -1,5 +1,5 @@
 use Rattle.std.proofs.Common.{◌∙◌, arith}
-use Rattle.pec.specs.TableLaws.{step_by_lem}
+use Rattle.pec.proofs.TableLaws.{step_by_lem}
 use Rattle.encode.proofs.PecLaws.{write_pec}
 use Rattle.encode.proofs.trace_pec.write_pec.Goals as goal
 

@@ -1,4 +1,4 @@
-use Rattle.letters.specs.LettersLaws.{capitals_are}
+use Rattle.letters.proofs.LettersLaws.{capitals_are}
 use Rattle.writing.specs.WrittenLaws.{appended_as, appended_on, one_put}
 use native.Mathlib.Omega.{arith}
 use borrow.Author.Rules.{rules}

@@ -1,4 +1,4 @@
-use Rattle.letters.specs.LettersLaws.{letter_byte, letter_sign}
+use Rattle.letters.proofs.LettersLaws.{letter_byte, letter_sign}
 use Rattle.writing.specs.WrittenLaws.{appended_as}
 use borrow.Author.Rules.{rules}
 use Rattle.letters.proofs.letter.put_letter.Statement.{statement}

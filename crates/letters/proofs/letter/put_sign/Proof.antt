@@ -1,4 +1,4 @@
-use Rattle.letters.specs.LettersLaws.{sign_start, sign_stop, sign_ack, sign_nack, sign_number}
+use Rattle.letters.proofs.LettersLaws.{sign_start, sign_stop, sign_ack, sign_nack, sign_number}
 use Rattle.writing.specs.WrittenLaws.{appended_as}
 use borrow.Author.Rules.{rules}
 use Rattle.letters.proofs.letter.put_sign.Statement.{statement}

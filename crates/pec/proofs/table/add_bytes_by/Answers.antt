@@ -1,5 +1,5 @@
 use Rattle.std.proofs.Common.{rules, ◌-◌}
-use Rattle.pec.specs.TableLaws.{by_turn, by_end}
+use Rattle.pec.proofs.TableLaws.{by_turn, by_end}
 use Rattle.pec.proofs.table.add_bytes_by.Goals as goal
 
 pub loop-i-preserved : goal.loop-i-preserved

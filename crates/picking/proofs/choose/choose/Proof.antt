@@ -1,7 +1,7 @@
 use Prim.Native.Nat.{ℕ}
 use mathlib.Core.Path.{sym, ap, ◌∙◌}
 use Rattle.pool.specs.declared.free.Free.TheVariants.{At}
-use Rattle.picking.specs.PickingLaws.{chosen_picked, chosen_own}
+use Rattle.picking.proofs.PickingLaws.{chosen_picked, chosen_own}
 use borrow.Author.Rules.{rules}
 use Rattle.picking.proofs.choose.choose.Statement.{statement}
 use Rattle.picking.proofs.choose.choose.Tie as tie

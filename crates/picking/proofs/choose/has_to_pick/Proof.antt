@@ -1,6 +1,6 @@
 use mathlib.Core.Path.{sym, ap, ◌∙◌}
 use Rattle.pool.specs.Pools.{member}
-use Rattle.picking.specs.PickingLaws.{ff_picks, fixed_picks_none, movable_picks}
+use Rattle.picking.proofs.PickingLaws.{ff_picks, fixed_picks_none, movable_picks}
 use Rattle.picking.specs.Picking.{has_to_pick}
 use borrow.Author.Rules.{rules}
 use Rattle.picking.proofs.choose.has_to_pick.Statement.{statement}

@@ -10,7 +10,7 @@ use Rattle.lists.specs.Choice.{pick}
 use Rattle.udid.specs.declared.Udid.{Udid}
 use Rattle.slots.specs.Slots.{kept_udid}
 use Rattle.bindings.specs.Entries.{put_entry, rows_of}
-use Rattle.bindings.specs.BufferLaws.{rows_none, rows_more}
+use Rattle.bindings.proofs.BufferLaws.{rows_none, rows_more}
 use Rattle.bindings.specs.declared.entry.Entry.TheVariants.{Nobody, Bound}
 use Rattle.report.specs.BoundSetLaws.{entry_by_bound}
 use Rattle.report.specs.Report.{entry_at}

@@ -1,5 +1,5 @@
 use Rattle.std.proofs.Common.{true, false, refl, sym, ◌∙◌}
-use Rattle.scan.specs.TestLaws.{finish_is}
+use Rattle.scan.proofs.TestLaws.{finish_is}
 use Rattle.scan.proofs.ending.finished.Goals as goal
 
 pub returns-then-is_cut : goal.returns-then-is_cut

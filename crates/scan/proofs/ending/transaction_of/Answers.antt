@@ -1,4 +1,4 @@
-use Rattle.scan.specs.TestLaws.{transaction_is}
+use Rattle.scan.proofs.TestLaws.{transaction_is}
 use Rattle.scan.proofs.ending.transaction_of.Goals as goal
 
 pub returns : goal.returns

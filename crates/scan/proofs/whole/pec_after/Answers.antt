@@ -1,5 +1,5 @@
 use Rattle.std.proofs.Common.{◌∙◌, ◌%◌, arith}
-use Rattle.pec.specs.TableLaws.{step_by_lem}
+use Rattle.pec.proofs.TableLaws.{step_by_lem}
 use Rattle.scan.proofs.whole.pec_after.Goals as goal
 
 pub returns : goal.returns

@@ -2,7 +2,7 @@ use Rattle.std.proofs.Common.{ℕ, suc, ◌+◌, ◌-◌, ◌<◌, ◌≡◌, re
 use Rattle.udid.specs.declared.Udid.{Udid}
 use Rattle.slots.specs.Finding.{bound_to, find_from}
 use Rattle.slots.specs.Slots.{held_at}
-use Rattle.slots.specs.FindingLaws.{bound_by_halves}
+use Rattle.slots.proofs.FindingLaws.{bound_by_halves}
 use Rattle.slots.specs.declared.Slots.{Slots}
 use Rattle.slots.proofs.Slots.find.Goals as goal
 

@@ -1,5 +1,5 @@
 use Rattle.std.proofs.Common.{sym, ◌∙◌, arith}
-use Rattle.slots.specs.SlotsLaws.{held_bound, held_claimed, held_left, held_open, held_above_is_open}
+use Rattle.slots.proofs.SlotsLaws.{held_bound, held_claimed, held_left, held_open, held_above_is_open}
 use Rattle.slots.proofs.Slots.held_at.Goals as goal
 
 pub returns-then-n-gt127 : goal.returns-then-n-gt127

@@ -1,6 +1,6 @@
 use Rattle.std.proofs.Common.{sym, arith, rules}
 use Rattle.slots.specs.Slots.{with_binding}
-use Rattle.slots.specs.SlotsLaws.{put_above}
+use Rattle.slots.proofs.SlotsLaws.{put_above}
 use Rattle.slots.specs.declared.Binding.TheVariants.{Bound}
 use Rattle.slots.proofs.Slots.put_bound.Goals as goal
 

@@ -1,5 +1,5 @@
 use Rattle.std.proofs.Common.{refl, sym, ◌∙◌, true, false}
-use Rattle.trace.specs.RoomLaws.{room_by_lem}
+use Rattle.trace.proofs.RoomLaws.{room_by_lem}
 use Rattle.trace.proofs.length.room_by.Goals as goal
 
 pub returns-then-forbidden : goal.returns-then-forbidden

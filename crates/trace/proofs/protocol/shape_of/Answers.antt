@@ -1,5 +1,5 @@
 use Rattle.std.proofs.Common.{sym, ◌≤◌, zero-le}
-use Rattle.trace.specs.FieldLaws.{shape_above}
+use Rattle.trace.proofs.FieldLaws.{shape_above}
 use Rattle.trace.specs.Shapes.{protocols}
 use Rattle.trace.proofs.Fields.{up}
 use Rattle.trace.proofs.protocol.shape_of.Goals as goal

@@ -1,5 +1,5 @@
 use Rattle.std.proofs.Common.{eq-eqb, ne_eqb, sym, ◌∙◌, rules}
-use Rattle.udid.specs.UdidLaws.{below_halves}
+use Rattle.udid.proofs.UdidLaws.{below_halves}
 use Rattle.udid.proofs.Udid.is_below.Goals as goal
 
 pub returns-then-self-other : goal.returns-then-self-other

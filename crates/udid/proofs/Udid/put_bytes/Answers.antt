@@ -1,8 +1,8 @@
 use Rattle.std.proofs.Common.{sym, arith}
 use Rattle.udid.specs.Bytes.{bytes_of, udid_bytes}
-use Rattle.udid.specs.ByteLaws.{length_bytes}
-use Rattle.udid.specs.UdidLaws.{length_udid}
-use Rattle.udid.specs.WindowLaws.{put_short, put_two}
+use Rattle.udid.proofs.ByteLaws.{length_bytes}
+use Rattle.udid.proofs.UdidLaws.{length_udid}
+use Rattle.udid.proofs.WindowLaws.{put_short, put_two}
 use Rattle.udid.proofs.Udid.put_bytes.Goals as goal
 
 pub returns-then-out-lt16 : goal.returns-then-out-lt16

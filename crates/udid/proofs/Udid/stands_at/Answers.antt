@@ -1,7 +1,7 @@
 use Rattle.std.proofs.Common.{ℕ, ◌+◌, ◌≡◌, sym, ap, ◌∙◌, false, List}
 use Rattle.udid.specs.Bytes.{number, bytes_from, udid_at}
 use Rattle.udid.specs.Udids.{same_udid}
-use Rattle.udid.specs.UdidLaws.{other_udid}
+use Rattle.udid.proofs.UdidLaws.{other_udid}
 use Rattle.udid.specs.declared.Udid.{Udid}
 use Rattle.udid.proofs.Udid.stands_at.Goals as goal
 

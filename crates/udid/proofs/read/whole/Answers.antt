@@ -1,4 +1,4 @@
-use Rattle.udid.specs.WindowLaws.{number_halves}
+use Rattle.udid.proofs.WindowLaws.{number_halves}
 use Rattle.udid.proofs.read.whole.Goals as goal
 
 pub returns : goal.returns

@@ -1,6 +1,6 @@
 use Rattle.std.proofs.Common.{ℕ, suc, ◌+◌, ◌-◌, ◌/◌, ◌%◌, ◌^◌, ◌<◌, ◌≤◌, ◌≡◌, sym, ap, ◌∙◌, List, arith, length, drop, set, pow-suc, div-one}
 use native.Mathlib.Nat.{div-div-eq-div-mul}
-use Rattle.udid.specs.WriteLaws.{start, finish, kept, next}
+use Rattle.udid.proofs.WriteLaws.{start, finish, kept, next}
 use Rattle.udid.proofs.write.put_number.Goals as goal
 
 -- what is left of the number

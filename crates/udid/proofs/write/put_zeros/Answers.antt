@@ -1,6 +1,6 @@
 use Rattle.std.proofs.Common.{ℕ, ◌+◌, ◌-◌, ◌^◌, ◌≡◌, sym, ap, ◌∙◌, List, arith, length, drop, set}
 use native.Mathlib.Nat.{zero-div}
-use Rattle.udid.specs.WriteLaws.{start, finish, kept, next}
+use Rattle.udid.proofs.WriteLaws.{start, finish, kept, next}
 use Rattle.udid.proofs.write.put_zeros.Goals as goal
 
 pub loop-k-init : goal.loop-k-init

@@ -1,6 +1,6 @@
 use mathlib.Core.Path.{sym, ap, ◌∙◌}
 use mathlib.Core.Bool.{true, false}
-use Rattle.arp.specs.GoneLaws.{reported_is}
+use Rattle.arp.proofs.GoneLaws.{reported_is}
 use Rattle.arp.specs.declared.state.Controller.{Controller}
 use borrow.Author.Rules.{rules}
 use Rattle.arp.proofs.state.Controller.report_gone.Statement.{statement}

@@ -1,0 +1,4 @@
+pub mod FoldLaws
+pub mod PecDivisionLaws
+pub mod PecLaws
+pub mod TableLaws
