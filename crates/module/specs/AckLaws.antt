@@ -1,22 +1,22 @@
 -- The module acknowledges as `known` says.
-use Rattle.std.specs.Prelude.{ℕ, zero, suc, ◌+◌, ◌*◌, ◌/◌, ◌%◌, ◌<◌, ◌≤◌, ◌≡◌, refl, Bool, true, false, List, [], ◌∷◌, ◌++◌, ltb, leb, eqb, length, get_or, drop}
+use Rattle.std.specs.Prelude.{ℕ, suc, ◌+◌, ◌*◌, ◌/◌, ◌%◌, ◌<◌, ◌≡◌, refl, Bool, true, false, List, [], ◌∷◌, ◌++◌, ltb, leb, eqb, length, get_or, drop}
 use Rattle.std.proofs.Common.{sym, ap, ap₂, subst, ◌∙◌, append_assoc, arith, add-one, mod-eq_of_lt, drop_of_length-le, drop-cons, ltb-true, ltb-false, leb-true, le-leb, eqb-true, eq-eqb, ne_eqb}
 use Rattle.std.proofs.lemmas.Bool.{eqb-false}
 use Rattle.lists.specs.Choice.{pick, and, or, not}
 use Rattle.lists.specs.ChoiceLaws.{both_true, or_none}
-use Rattle.pec.specs.Pec.{pec_step, pec_from, pec_of}
+use Rattle.pec.specs.Pec.{pec_step, pec_from}
 use Rattle.udid.specs.Bytes.{udid_bytes}
 use Rattle.udid.specs.UdidLaws.{length_udid}
-use Rattle.module.specs.declared.state.Phase.TheVariants.{Silent, First, Command, Asked, Called, AskedAgain, CalledAgain, Count, Identifier, Given, PreparePec, ResetPec, AssignPec, Reply}
+use Rattle.module.specs.declared.state.Phase.TheVariants.{First, Command, Asked, Called, AskedAgain, CalledAgain, Count, Identifier, Given, PreparePec, ResetPec, AssignPec, Reply}
 use Rattle.module.specs.declared.state.Lasting.{Lasting}
 use Rattle.module.specs.declared.state.Module.{Module}
 use Rattle.module.specs.declared.state.Heard.{Heard}
 use Rattle.module.specs.State.{at, silent_in, taken, refused}
 use Rattle.module.specs.Reset.{prepared, assigned, reset}
-use Rattle.module.specs.Receive.{for_write, for_read, at_first, is_own, at_directed, at_command, at_identifier, at_pec, receives}
+use Rattle.module.specs.Receive.{for_write, for_read, at_first, is_own, at_directed, at_command, at_pec, receives}
 use Rattle.module.specs.Obeys.{begins, is_reachable}
 use Rattle.module.specs.ObeysLaws.{own_small, own_true, even}
-use Rattle.module.specs.Acknowledges.{acked, get_order, known}
+use Rattle.module.specs.Acknowledges.{acked, known}
 
 -- a NACK, and it is silent
 pub acked_cons : (m : Module) (b : ℕ) (bs : List ℕ) (h : Heard) → receives m b ≡ h → acked m (b ∷ bs) ≡ and h.ack (acked h.after bs)

@@ -9,7 +9,7 @@ use Rattle.module.specs.declared.state.Phase.TheVariants.{Silent, First, Command
 use Rattle.module.specs.declared.state.Lasting.{Lasting}
 use Rattle.module.specs.declared.state.Module.{Module}
 use Rattle.module.specs.declared.state.Heard.{Heard}
-use Rattle.module.specs.State.{at, silent_in, taken, refused}
+use Rattle.module.specs.State.{at, silent_in, refused}
 use Rattle.module.specs.Reset.{prepared, assigned, reset}
 use Rattle.module.specs.Receive.{for_write, for_read, is_own, at_first, at_directed, at_command, at_again, at_pec, received_in, receives}
 

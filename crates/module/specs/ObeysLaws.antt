@@ -1,25 +1,22 @@
 -- The module changes as `obeys` says, whatever it stood in before the START.
-use Rattle.std.specs.Prelude.{ℕ, zero, suc, ◌+◌, ◌*◌, ◌/◌, ◌%◌, ◌<◌, ◌≤◌, ◌≡◌, Bool, true, false, List, [], ◌∷◌, ◌++◌, ltb, leb, eqb, length, get_or, drop}
+use Rattle.std.specs.Prelude.{ℕ, suc, ◌+◌, ◌*◌, ◌/◌, ◌%◌, ◌<◌, ◌≡◌, Bool, true, false, List, [], ◌∷◌, ◌++◌, ltb, leb, eqb, length, get_or, drop}
 use Rattle.std.proofs.Math.Path.{refl}
-use Rattle.std.proofs.Common.{sym, ap, ap₂, subst, ◌∙◌, append_assoc, arith, add-one, mod-eq_of_lt, drop_of_length-le, drop-cons, ltb-true, ltb-false, leb-true, leb-false, eqb-true, lt-ltb, le-ltb, le-leb, eq-eqb, ne_eqb}
+use Rattle.std.proofs.Common.{sym, ap, ap₂, subst, ◌∙◌, append_assoc, arith, add-one, mod-eq_of_lt, drop_of_length-le, drop-cons, ltb-true, ltb-false, leb-true, eqb-true, le-leb, eq-eqb, ne_eqb}
 use Rattle.std.proofs.lemmas.Bool.{eqb-false, lt-leb}
-use Rattle.lists.specs.Choice.{pick, and, or}
+use Rattle.lists.specs.Choice.{pick, and}
 use Rattle.lists.specs.ChoiceLaws.{both_true, and_none}
 use Rattle.pec.specs.Pec.{pec_step, pec_from, pec_of}
 use Rattle.udid.specs.Bytes.{udid_bytes}
 use Rattle.udid.specs.UdidLaws.{length_udid}
-use Rattle.udid.specs.declared.Udid.{Udid}
 use Rattle.module.specs.declared.state.Phase.{Phase}
 use Rattle.module.specs.declared.state.Phase.TheVariants.{Silent, First, Command, Asked, Called, AskedAgain, CalledAgain, Count, Identifier, Given, PreparePec, ResetPec, AssignPec, Reply}
 use Rattle.module.specs.declared.state.Lasting.{Lasting}
 use Rattle.module.specs.declared.state.Module.{Module}
 use Rattle.module.specs.declared.state.Heard.{Heard}
-use Rattle.module.specs.declared.state.Supplied.{Supplied}
 use Rattle.module.specs.State.{at, silent_in, taken, refused}
 use Rattle.module.specs.Reset.{prepared, assigned, reset}
 use Rattle.module.specs.Receive.{for_write, for_read, started_in, starts, at_first, is_own, at_directed, at_command, at_again, at_count, at_identifier, at_pec, receives}
-use Rattle.module.specs.Supply.{unsaid, supplies}
-use Rattle.module.specs.Obeys.{heard_all, acks, begins, packet, prepare_order, reset_order, directed_reset, assign_order, is_reachable, obeys}
+use Rattle.module.specs.Obeys.{heard_all, begins, is_reachable, obeys}
 
 -- ---- steps
 

@@ -1,10 +1,9 @@
 -- What a module obeys, and which bytes it acknowledges, over whole packets (Packets).
-use Rattle.std.specs.Prelude.{ℕ, zero, suc, ◌+◌, ◌*◌, ◌/◌, ◌%◌, ◌^◌, ◌<◌, ◌≤◌, ◌≡◌, refl, Bool, true, false, ◌⊎◌, ◌↔◌, List, [], ◌∷◌, ◌++◌, ltb, leb, eqb, length, get_or, drop}
-use Rattle.std.proofs.Common.{sym, ap, ap₂, subst, ◌∙◌, inl, inr, append_assoc, arith, eqb-true, eq-eqb}
-use Rattle.std.proofs.Math.Logic.{Iff·trans}
+use Rattle.std.specs.Prelude.{ℕ, suc, ◌+◌, ◌*◌, ◌/◌, ◌<◌, ◌≤◌, ◌≡◌, refl, Bool, true, false, ◌↔◌, List, [], ◌∷◌, ◌++◌, leb, eqb, length, get_or, drop}
+use Rattle.std.proofs.Common.{sym, ap, ap₂, ◌∙◌, append_assoc, arith, eqb-true, eq-eqb}
 use Rattle.std.proofs.Math.ListN.{get_or-append}
 use Rattle.std.proofs.lemmas.List.{get_or_at}
-use Rattle.lists.specs.Choice.{pick, and, or}
+use Rattle.lists.specs.Choice.{and}
 use Rattle.lists.specs.ChoiceLaws.{both_true, false_not_true}
 use Rattle.lists.specs.TestLaws.{or_is, and_is, false_is, leb_is}
 use Rattle.pec.specs.Pec.{bit_step, pec_step, pec_from, pec_of}
@@ -13,11 +12,11 @@ use Rattle.udid.specs.UdidLaws.{length_udid}
 use Rattle.udid.specs.declared.Udid.{Udid}
 use Rattle.module.specs.declared.state.Lasting.{Lasting}
 use Rattle.module.specs.declared.state.Module.{Module}
-use Rattle.module.specs.State.{at, silent_in}
-use Rattle.module.specs.Reset.{having, prepared, assigned, reset}
-use Rattle.module.specs.Receive.{for_write, starts, receives}
-use Rattle.module.specs.Obeys.{heard_all, begins, packet, prepare_order, reset_order, directed_reset, assign_order, is_reachable, obeys}
-use Rattle.module.specs.ObeysLaws.{own_after, obeyed}
+use Rattle.module.specs.State.{silent_in}
+use Rattle.module.specs.Reset.{having, assigned, reset}
+use Rattle.module.specs.Receive.{for_write, starts}
+use Rattle.module.specs.Obeys.{heard_all, begins, prepare_order, reset_order, directed_reset, assign_order, is_reachable, obeys}
+use Rattle.module.specs.ObeysLaws.{obeyed}
 use Rattle.module.specs.Acknowledges.{acked, known, get_order}
 use Rattle.module.specs.AckLaws.{acknowledged}
 use Rattle.module.specs.Packets.{Begins, Reachable, Known}

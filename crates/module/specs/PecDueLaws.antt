@@ -1,18 +1,18 @@
 -- A PEC THAT DIFFERS, after a command that takes effect with its PEC: every byte before it gets ACK, it gets NACK, and nothing changes, whatever follows.
-use Rattle.std.specs.Prelude.{ℕ, zero, suc, ◌+◌, ◌*◌, ◌/◌, ◌%◌, ◌<◌, ◌≤◌, ◌≡◌, Bool, true, false, ◌⊎◌, List, [], ◌∷◌, ◌++◌, ltb, eqb, length, get_or, drop}
+use Rattle.std.specs.Prelude.{ℕ, zero, suc, ◌+◌, ◌*◌, ◌/◌, ◌%◌, ◌<◌, ◌≤◌, ◌≡◌, Bool, true, false, ◌⊎◌, List, [], ◌∷◌, ◌++◌, get_or, drop}
 use Rattle.std.proofs.Math.Path.{refl, ap}
-use Rattle.std.proofs.Common.{sym, ap₂, subst, ◌∙◌, inl, inr, append_assoc, arith, add-one, drop_of_length-le, drop-cons, lt-ltb, le-ltb, eq-eqb, ne_eqb}
-use Rattle.lists.specs.Choice.{pick, and}
+use Rattle.std.proofs.Common.{sym, ap₂, subst, ◌∙◌, inl, inr, arith, add-one, drop_of_length-le, drop-cons, lt-ltb, le-ltb, eq-eqb, ne_eqb}
+use Rattle.lists.specs.Choice.{pick}
 use Rattle.pec.specs.Pec.{pec_step, pec_from, pec_of}
 use Rattle.udid.specs.Bytes.{udid_bytes}
 use Rattle.udid.specs.UdidLaws.{length_udid}
-use Rattle.module.specs.declared.state.Phase.TheVariants.{Command, Count, Identifier, Given, PreparePec, ResetPec, AssignPec}
+use Rattle.module.specs.declared.state.Phase.TheVariants.{Command, Identifier, Given, PreparePec, ResetPec, AssignPec}
 use Rattle.module.specs.declared.state.Lasting.{Lasting}
 use Rattle.module.specs.declared.state.Module.{Module}
 use Rattle.module.specs.declared.state.Heard.{Heard}
 use Rattle.module.specs.State.{at, silent_in, taken, refused}
 use Rattle.module.specs.Receive.{for_write, is_own, starts, receives}
-use Rattle.module.specs.Obeys.{heard_all, prepare_order, reset_order, directed_reset, assign_order}
+use Rattle.module.specs.Obeys.{heard_all}
 use Rattle.module.specs.ObeysLaws.{heard_cons, silent_stays, true_own}
 use Rattle.module.specs.Acknowledges.{acked}
 use Rattle.module.specs.AckLaws.{acked_cons, past, identifier_step, given_step}

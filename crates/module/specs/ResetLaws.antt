@@ -1,8 +1,8 @@
 -- Reset and power on, kind by kind.
 use Prim.Native.Nat.{ℕ, zero, suc, ◌+◌, ◌*◌, ◌/◌, ◌%◌, ◌^◌, ◌<◌, ◌≤◌}
-use Rattle.std.specs.Prelude.{◌≡◌, Bool, true, List, [], ◌∷◌, ◌++◌, eqb, get_or, take}
+use Rattle.std.specs.Prelude.{◌≡◌, Bool, true, ◌++◌, eqb, take}
 use Rattle.std.proofs.Math.Path.{refl, ap}
-use Rattle.std.proofs.Common.{sym, ap₂, ◌∙◌, arith}
+use Rattle.std.proofs.Common.{sym, ◌∙◌, arith}
 use Rattle.std.proofs.Math.Bool.{false}
 use Rattle.std.proofs.Math.Dec.{ltb}
 use borrow.Author.Tests.{lt-ltb, le-ltb}
@@ -12,7 +12,6 @@ use Rattle.udid.specs.Udids.{Fits, top_bits}
 use Rattle.udid.specs.UdidLaws.{top_of_first}
 use Rattle.udid.specs.declared.Udid.{Udid}
 use Rattle.module.specs.declared.state.Lasting.{Lasting}
-use Rattle.module.specs.declared.state.Module.{Module}
 use Rattle.module.specs.State.{silent_in}
 use Rattle.module.specs.Reset.{having, prepared, at_home, renewed, reset_kind, reset, stored, powered}
 use Rattle.module.specs.Packets.{kind_of, Resets, PowersOn}

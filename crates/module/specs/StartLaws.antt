@@ -1,10 +1,10 @@
 -- WHAT A START BEGINS: a new packet, whatever came before it, unless C3h follows. And C3h is answered right after a Get UDID alone.
-use Rattle.std.specs.Prelude.{ℕ, zero, suc, ◌+◌, ◌*◌, ◌/◌, ◌%◌, ◌<◌, ◌≤◌, ◌≡◌, refl, Bool, true, false, ◌⊎◌, ◌↔◌, List, [], ◌∷◌, ◌++◌, ltb, eqb, length, get_or}
-use Rattle.std.proofs.Common.{sym, ap, ap₂, subst, ◌∙◌, inl, inr, arith, eqb-true, eq-eqb, ne_eqb, le-leb}
+use Rattle.std.specs.Prelude.{ℕ, zero, suc, ◌+◌, ◌*◌, ◌/◌, ◌%◌, ◌≤◌, ◌≡◌, refl, Bool, true, false, ◌⊎◌, ◌↔◌, List, [], ◌∷◌, ltb, eqb, length, get_or}
+use Rattle.std.proofs.Common.{sym, ap, subst, ◌∙◌, inl, inr, arith, eqb-true, eq-eqb, ne_eqb, le-leb}
 use Rattle.std.proofs.lemmas.Bool.{eqb-false}
-use Rattle.lists.specs.Choice.{pick, and, not}
+use Rattle.lists.specs.Choice.{pick}
 use Rattle.lists.specs.ChoiceLaws.{false_not_true, not_both}
-use Rattle.pec.specs.Pec.{pec_step, pec_from, pec_of}
+use Rattle.pec.specs.Pec.{pec_step, pec_from}
 use Rattle.udid.specs.Bytes.{udid_bytes}
 use Rattle.module.specs.declared.state.Phase.{Phase}
 use Rattle.module.specs.declared.state.Phase.TheVariants.{Silent, First, Command, Asked, Called, AskedAgain, CalledAgain, Count, Identifier, Given, PreparePec, ResetPec, AssignPec, Reply}
@@ -14,7 +14,7 @@ use Rattle.module.specs.declared.state.Heard.{Heard}
 use Rattle.module.specs.declared.state.Supplied.{Supplied}
 use Rattle.module.specs.State.{at, silent_in, taken, refused}
 use Rattle.module.specs.Reset.{prepared, assigned, reset}
-use Rattle.module.specs.Receive.{for_write, for_read, started_in, starts, is_own, at_first, at_directed, at_command, at_again, at_pec, received_in, receives}
+use Rattle.module.specs.Receive.{for_write, for_read, started_in, starts, is_own, at_first, at_directed, received_in, receives}
 use Rattle.module.specs.Supply.{supplied_in, supplies}
 use Rattle.module.specs.Obeys.{heard_all}
 use Rattle.module.specs.ObeysLaws.{heard_cons, silent_stays, own_true}

@@ -1,19 +1,18 @@
 -- What a module supplies: its reply to Get UDID, whole, and nothing after it; nothing while it is silent.
-use Rattle.std.specs.Prelude.{ℕ, zero, suc, ◌+◌, ◌*◌, ◌/◌, ◌%◌, ◌<◌, ◌≤◌, ◌≡◌, refl, Bool, true, false, List, [], ◌∷◌, ◌++◌, ltb, leb, eqb}
-use Rattle.std.proofs.Common.{sym, ap, ap₂, ◌∙◌, append-nil, zero-add, suc-add, arith, ltb-true, ltb-false, eq-eqb, ne_eqb}
-use Rattle.lists.specs.Choice.{pick, and, or}
-use Rattle.pec.specs.Pec.{pec_step, pec_from, pec_of}
+use Rattle.std.specs.Prelude.{ℕ, zero, suc, ◌+◌, ◌%◌, ◌≤◌, ◌≡◌, refl, Bool, true, false, [], ◌∷◌, ◌++◌, ltb}
+use Rattle.std.proofs.Common.{ap, ap₂, ◌∙◌, append-nil, zero-add, suc-add, arith, ltb-true, ltb-false, eq-eqb, ne_eqb}
+use Rattle.lists.specs.Choice.{pick}
+use Rattle.pec.specs.Pec.{pec_step, pec_from}
 use Rattle.udid.specs.Bytes.{bytes_of, udid_bytes}
 use Rattle.module.specs.declared.state.Phase.{Phase}
 use Rattle.module.specs.declared.state.Phase.TheVariants.{Silent, First, Command, Asked, Called, AskedAgain, CalledAgain, Count, Identifier, Given, PreparePec, ResetPec, AssignPec, Reply}
 use Rattle.module.specs.declared.state.Lasting.{Lasting}
 use Rattle.module.specs.declared.state.Module.{Module}
 use Rattle.module.specs.declared.state.Heard.{Heard}
-use Rattle.module.specs.declared.state.Supplied.{Supplied}
 use Rattle.module.specs.State.{at, silent_in, taken, refused}
 use Rattle.module.specs.Receive.{for_write, for_read, started_in, starts, is_own, receives}
-use Rattle.module.specs.Supply.{address_byte, reply_byte, unsaid, supplied_in, supplies}
-use Rattle.module.specs.Obeys.{heard_all, acks, is_reachable}
+use Rattle.module.specs.Supply.{reply_byte, supplied_in, supplies}
+use Rattle.module.specs.Obeys.{heard_all}
 use Rattle.module.specs.Says.{says, after_asking, reply, sent, asked, asked_pec}
 use Rattle.module.specs.ObeysLaws.{own_small}
 

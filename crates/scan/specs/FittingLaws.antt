@@ -1,6 +1,6 @@
 -- What fits over the table is what fits over the shapes: for a protocol of the table, and Quick without PEC, each word of Fitting holds if and
 -- only if the word of the same name in Answers does.
-use Rattle.std.specs.Prelude.{◌≡◌, Bool, true, ◌↔◌, ℕ, suc, ◌+◌, ◌<◌, take}
+use Rattle.std.specs.Prelude.{◌≡◌, Bool, true, ◌↔◌, ℕ, suc, ◌<◌, take}
 use Rattle.std.proofs.Math.Path.{refl}
 use Rattle.std.proofs.Common.{sym, ap, ap₂, ◌∙◌, subst, inl, inr, arith}
 use Rattle.std.proofs.Math.Bool.{false}
@@ -13,7 +13,7 @@ use Rattle.trace.specs.Shapes.{protocols, shape_of}
 use Rattle.trace.specs.ShapeLaws.{sane, none_to_host}
 use Rattle.trace.specs.Table.{Line, Row, line, InTable}
 use Rattle.trace.specs.TableLaws.{row_means, row_of}
-use Rattle.trace.specs.Trace.{Message, in_place, pec_of, bytes, by_target, by_controller, trace_at, Valid}
+use Rattle.trace.specs.Trace.{Message, in_place, bytes, by_target, by_controller, trace_at, Valid}
 use Rattle.trace.specs.declared.shape.Shape.{Shape}
 use Rattle.step.specs.State.{fresh}
 use Rattle.scan.specs.Answers as shaped

@@ -1,6 +1,6 @@
 -- Whole traces are read to their end, cut traces are found cut, and both ways round: the members are the traces at whose end the decoder is
 -- over, and what fits is what is not refused.
-use Rattle.std.specs.Prelude.{◌≡◌, Bool, ℕ, suc, ◌+◌, ◌-◌, ◌<◌, ◌%◌, ltb, length}
+use Rattle.std.specs.Prelude.{◌≡◌, Bool, ℕ, suc, ◌+◌, ◌<◌, ◌%◌, ltb, length}
 use Rattle.std.proofs.Math.Path.{refl, ap, ap₂}
 use Rattle.std.proofs.Common.{sym, ◌∙◌, subst, inl, inr, arith, eqb-true, lt-ltb}
 use Rattle.std.proofs.Math.Bool.{true, false}

@@ -1,5 +1,5 @@
 -- The data that any answer of the decoder hands over lie inside the trace, and are at most 255 bytes.
-use Rattle.std.specs.Prelude.{◌≡◌, refl, Bool, true, false, List, [], ◌∷◌, ◌++◌, ℕ, ◌+◌, ◌-◌, ◌*◌, ◌≤◌, ◌<◌, length}
+use Rattle.std.specs.Prelude.{◌≡◌, refl, Bool, true, false, List, [], ◌∷◌, ◌++◌, ℕ, ◌+◌, ◌*◌, ◌≤◌, ◌<◌, length}
 use Rattle.std.proofs.Common.{ap, arith, length-append}
 use Rattle.lists.specs.Choice.{pick}
 use Rattle.wire.specs.Symbols.{STOP}

@@ -1,6 +1,6 @@
 -- What stands around a wrong symbol, by the state that it finds: which symbols would have fitted in its place, that some would have, and whether
 -- a START stands right before it. So the kind that is worked out from the state is the kind that is meant.
-use Rattle.std.specs.Prelude.{◌≡◌, Bool, ◌↔◌, ℕ, suc, ◌+◌, ◌-◌, ◌<◌, eqb, length, take, get_or}
+use Rattle.std.specs.Prelude.{◌≡◌, Bool, ◌↔◌, ℕ, suc, ◌-◌, ◌<◌, eqb, length, take, get_or}
 use Rattle.std.proofs.Math.Path.{refl, subst}
 use Rattle.std.proofs.Common.{sym, ◌∙◌, ap, arith, take-suc}
 use Rattle.std.proofs.Math.Bool.{true, false}

@@ -8,7 +8,6 @@ use Rattle.lists.specs.Choice.{pick}
 use Rattle.pool.specs.MemberLaws.{member_above, with_above, without_above, has_with_same, has_with_other, has_without_same, has_without_other}
 use Rattle.pool.specs.Pools.{member}
 use Rattle.pool.specs.StartLaws.{member_empty}
-use Rattle.udid.specs.declared.Udid.{Udid}
 use Rattle.slots.specs.Slots.{Sized128, kept_udid, held_at, with_binding, no_bindings}
 use Rattle.slots.specs.declared.Slots.{Slots}
 use Rattle.slots.specs.declared.Binding.{Binding}

@@ -5,8 +5,8 @@ use Rattle.slots.specs.declared.Binding.TheVariants.{Bound}
 use Rattle.slots.proofs.Slots.put_bound.Goals as goal
 
 pub returns-then-n-gt127 : goal.returns-then-n-gt127
-returns-then-n-gt127 c =  -- CONVERT: a path in the next line
-    let s = c.args.self in let h = c.before.well-formed in sym (put_above s c.args.a.0 (Bound c.args.u) (record { high = search rules; low = search rules }) (omega arith))
+returns-then-n-gt127 c =
+    let s = c.args.self in sym (put_above s c.args.a.0 (Bound c.args.u) (record { high = search rules; low = search rules }) (omega arith))
 
 pub returns : goal.returns
 unfolding with_binding
