@@ -9,4 +9,4 @@ returns-in-Done c = appended_as (sym (ap (λ (d : Decoded). decoded_text d c.arg
 
 pub returns-in-Refused : goal.returns-in-Refused
 returns-in-Refused c =  -- CONVERT: a path in the next line
-    appended_as (sym (ap (λ (d : Decoded). decoded_text d c.args.sent.now c.args.received.now) c.in-Refused.is)) c.before.before.Put-refused.ensures
+    appended_as (sym (ap (λ (d : Decoded). decoded_text d c.args.sent.now c.args.received.now) c.in-Refused.is)) c.before.before.put_refused.ensures

@@ -7,4 +7,4 @@ use Rattle.codec_answers.proofs.unclear.put_unclear.Goals as goal
 
 pub returns : goal.returns
 unfolding unclear_text
-returns c = appended_on (appended_as (ap (λ (n : ℕ). chars "? " ++ decimal_of n) c.wrapping_add_u64-column.ensures) c.put_number-to.ensures) c.put_expected.ensures
+returns c = appended_on (appended_as (ap (λ (n : ℕ). chars "? " ++ decimal_of n) c.wrapping_add_u64-column.ensures.value) c.put_number-to.ensures) c.put_expected.ensures
