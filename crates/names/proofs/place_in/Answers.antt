@@ -1,6 +1,6 @@
 use Rattle.std.proofs.Common.{ℕ, ◌+◌, ◌-◌, refl, sym, ap, ◌∙◌, arith}
 use Rattle.names.specs.Names.{place_in}
-use Rattle.names.specs.NamesLaws.{place_over, place_here, place_on, place_full}
+use Rattle.names.proofs.NamesLaws.{place_over, place_here, place_on, place_full}
 use Rattle.names.proofs.place_in.Goals as goal
 
 pub loop-k-init : goal.loop-k-init
