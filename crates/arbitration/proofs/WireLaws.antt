@@ -22,6 +22,7 @@ level_one m ((true ∷ t) ∷ ts) h = level_one m ts h.1
 level_one m ((false ∷ t) ∷ ts) h = false_not_true h.0.0
 
 level_zero : (m : List Bool) (ts : List (List Bool)) → Among (false ∷ m) ts → level ts ≡ false
+level_zero m [] x' = elim x' [ ]
 level_zero m (t ∷ ts) (inl e) = rw e
 level_zero m ([] ∷ ts) (inr h) = level_zero m ts h
 level_zero m ((true ∷ t) ∷ ts) (inr h) = level_zero m ts h
@@ -43,6 +44,7 @@ staying_each false m ((true ∷ t) ∷ ts) h = staying_each false m ts h.1
 staying_each false m ((false ∷ t) ∷ ts) h = ((h.0.0, omega arith), staying_each false m ts h.1)
 
 staying_among : (b : Bool) (m : List Bool) (ts : List (List Bool)) → Among (b ∷ m) ts → Among m (staying b ts)
+staying_among b m [] x' = elim x' [ ]
 staying_among b m ([] ∷ ts) (inl e) = zero_is_one (cc e)
 staying_among true m ((true ∷ t) ∷ ts) (inl e) = inl (cc)
 staying_among true m ((false ∷ t) ∷ ts) (inl e) = inl (cc)
