@@ -5,7 +5,8 @@ use Rattle.std.specs.Int.Bits.{bit_xor, xor_shifted}
 use Rattle.lists.specs.Each.{Bytes}
 use Rattle.pec.specs.Pec.{pec_of}
 use Rattle.pec.specs.PecDivision.{times_g, polynomial_from, polynomial}
-use Rattle.pec.proofs.PecDivisionLaws.{xor_odd, xor_twice, xor_back, times_g_xor, times_g_double, small_multiple, pec_is_remainder}
+use Rattle.pec.proofs.PecDivisionLaws.{small_multiple, pec_is_remainder}
+use Rattle.pec.proofs.PecBitLaws.{xor_odd, xor_twice, xor_back, times_g_xor, times_g_double}
 use Rattle.catches.specs.Changes.{RightPec, Came}
 use Rattle.catches.specs.Multiples.{Multiple, flips}
 

@@ -7,7 +7,7 @@ use Rattle.std.specs.Int.Bits.{bit_xor, xor_zero_l}
 use Rattle.std.proofs.lemmas.Nat.{xor_shr}
 use Rattle.std.specs.Int.Count.{ones, ones_step}
 use Rattle.pec.specs.PecDivision.{times_g}
-use Rattle.pec.proofs.PecDivisionLaws.{xor_odd}
+use Rattle.pec.proofs.PecBitLaws.{xor_odd}
 use Rattle.catches.specs.Changes.{RightPec, Came, how_many}
 use Rattle.catches.proofs.HowManyLaws.{no_ones, ones_placed, how_many_is}
 use Rattle.catches.proofs.MultiplesLaws.{escapes_exactly}

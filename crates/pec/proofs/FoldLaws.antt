@@ -5,7 +5,8 @@ use Rattle.std.specs.Int.Bits.{bit_xor, xor_self, xor_shifted, xor_zero_r}
 use Rattle.std.proofs.lemmas.Nat.{xor_comm, xor_lt, xor_mod}
 use Rattle.pec.specs.Pec.{pec_step}
 use Rattle.pec.specs.PecDivision.{times_g, Leaves}
-use Rattle.pec.proofs.PecDivisionLaws.{xor_assoc, leaves_plus, leaves_trans, step_is_remainder}
+use Rattle.pec.proofs.PecDivisionLaws.{step_is_remainder}
+use Rattle.pec.proofs.PecBitLaws.{xor_assoc, leaves_plus, leaves_trans}
 use Rattle.pec.specs.Fold.{folded}
 
 -- what a number times x^8 leaves

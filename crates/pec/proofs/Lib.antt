@@ -2,3 +2,4 @@ pub mod FoldLaws
 pub mod PecDivisionLaws
 pub mod PecLaws
 pub mod TableLaws
+pub mod PecBitLaws
