@@ -1,4 +1,4 @@
-use Rattle.std.proofs.Common.{rules, ◌-◌}
+use Rattle.std.proofs.Common.{rules}
 use Rattle.pec.proofs.TableLaws.{by_turn, by_end}
 use Rattle.pec.proofs.table.add_bytes_by.Goals as goal
 
