@@ -1,9 +1,8 @@
 -- What each symbol's text says: read as letters and digits, it is that symbol. Prepare To ARP as an example.
-use Rattle.std.specs.Prelude.{ℕ, ◌+◌, ◌*◌, ◌-◌, ◌/◌, ◌%◌, ◌≤◌, ◌<◌, ◌≡◌, refl, Bool, true, false, List, [], ◌∷◌, ltb, leb, eqb}
+use Rattle.std.specs.Prelude.{ℕ, ◌+◌, ◌*◌, ◌-◌, ◌/◌, ◌%◌, ◌<◌, ◌≡◌, refl, Bool, true, false, List, [], ◌∷◌, ltb, leb, eqb}
 use Rattle.std.proofs.Common.{sym, ◌∙◌, mod-eq_of_lt, arith}
 use Rattle.std.proofs.Math.Path.{ap}
 use borrow.Author.Tests.{eqb-true, eq-eqb, ne_eqb, ltb-true}
-use Rattle.lists.specs.All.{all_below}
 use Rattle.lists.specs.AllLaws.{at_below}
 use Rattle.lists.specs.Choice.{pick, and}
 use Rattle.text.specs.Chars.{chars}
