@@ -12,6 +12,7 @@ use Rattle.targets.specs.Members.{Pairs}
 use Rattle.targets.specs.Reply.{reply_data}
 
 pub target_has_record : (s : List ℕ) (n i : ℕ) (t : Target) → Among t (targets_from s n i) → (j : ℕ) × (i ≤ j) × (j < i + n) × (target_at s j ≡ t)
+target_has_record s zero i t x' = elim x' [ ]
 target_has_record s (suc n) i t (inl e) = (i, omega arith, omega arith, e)
 target_has_record s (suc n) i t (inr m) = let r = target_has_record s n (suc i) t m in (r.0, omega (arith, r.1), omega (arith, r.2), r.3)
 

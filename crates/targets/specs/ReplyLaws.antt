@@ -93,6 +93,7 @@ each_waiting P (t ∷ ts) h = go (is_resolved t) refl (each_waiting P ts (λ x m
     go false e r = (h t (inl refl) e, r)
 
 among_waiting : (ts : List Target) (r : Target) → Among r ts → is_resolved r ≡ false → Among (sends r) (waiting ts)
+among_waiting [] r x'' e = elim x'' [ ]
 among_waiting (t ∷ ts) r (inl m) e =
     let f : is_resolved t ≡ false = ap is_resolved m ∙ e in
     rw f (inl (ap sends m))
@@ -133,6 +134,7 @@ module _ (ts : List Target) (r : Target) (l : Least ts r) where
   least_on_wire = go (waiting ts) stays (among_waiting ts r l.among l.unresolved)
     where
       go : (ss : List (List Bool)) → Each (Stays (sends r)) ss → Among (sends r) ss → on_wire ss ≡ shown (reply_bytes r)
+      go [] k a = elim a [ ]
       go (s ∷ ss) k a =
           let q : heard 152 (s ∷ ss) ≡ sends r = ap (λ (n : ℕ). heard n (s ∷ ss)) (sym (length_sends r)) ∙ heard_who_stays (sends r) (s ∷ ss) k a in
           ap shown (ap (bytes_read 19) q ∙ read_sends r l.sized.address_byte)
