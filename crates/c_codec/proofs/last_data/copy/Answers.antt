@@ -1,4 +1,4 @@
-use Rattle.std.proofs.Common.{◌∙◌, ap, List, ℕ, ◌-◌, arith, length-set, take_all}
+use Rattle.std.proofs.Common.{◌∙◌, ap, List, ℕ, arith, length-set, take_all}
 use Rattle.lists.specs.Onto.{onto}
 use Rattle.c_codec.proofs.LastLaws.{copy_turn}
 use Rattle.c_codec.proofs.last_data.copy.Goals as goal
