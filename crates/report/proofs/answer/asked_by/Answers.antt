@@ -9,4 +9,4 @@ returns-in-Send c = sym (ap (λ (x : Handed). udid_in (command_number x)) c.in-S
 
 pub returns-in-Wait : goal.returns-in-Wait
 returns-in-Wait c =  -- CONVERT: a path in the next line
-    c.Named-by.ensures ∙ sym (ap (λ (x : Handed). udid_in (command_number x)) c.in-Wait.is)
+    c.named_by.ensures ∙ sym (ap (λ (x : Handed). udid_in (command_number x)) c.in-Wait.is)

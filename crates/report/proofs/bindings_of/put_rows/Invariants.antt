@@ -1,4 +1,4 @@
-use Rattle.std.proofs.Common.{◌+◌, ◌*◌, ◌-◌, ◌≤◌, ◌≡◌, ◌++◌, length, drop}
+use Rattle.std.proofs.Common.{◌*◌, ◌-◌, ◌≤◌, ◌≡◌, ◌++◌, length, drop}
 use Rattle.bindings.specs.Entries.{rows_of}
 use Rattle.report.specs.Report.{entry_at}
 use Rattle.report.proofs.bindings_of.put_rows.Given as goal
