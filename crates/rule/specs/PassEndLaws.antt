@@ -99,6 +99,7 @@ plain_cleared (t ∷ rest) p last s k ts =
 -- ---- clearing the flags leaves what is admitted
 
 cleared_was : (ts : List Target) (y : Target) → Among y (cleared ts) → (x : Target) × Among x ts × (prepared x ≡ y)
+cleared_was [] y x' = elim x' [ ]
 cleared_was (t ∷ ts) y (inl e) = (t, inl refl, e)
 cleared_was (t ∷ ts) y (inr m) = let r = cleared_was ts y m in (r.0, inr r.1, r.2)
 

@@ -53,6 +53,7 @@ unbound_set u t s a z l n h i = go (ℕ_discrete i a)
 
 -- an Assign keeps the identifiers
 fits_next : (u : Udid) (a : ℕ) (ts : List Target) → ((t : Target) → Among t ts → Fits t.udid) → (t : Target) → Among t (resolve u a ts) → Fits t.udid
+fits_next u a [] h t x'' = elim x'' [ ]
 fits_next u a (x ∷ ts) h t (inl e) = subst Fits (sym (assigned_keeps_udid u a x) ∙ ap (λ (y : Target). y.udid) e) (h x (inl refl))
 fits_next u a (x ∷ ts) h t (inr m) = fits_next u a ts (λ y k. h y (inr k)) t m
 

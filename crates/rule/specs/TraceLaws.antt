@@ -34,6 +34,7 @@ use Rattle.commands.specs.SameTrace.{same}
 -- one who does is enough
 pub one_acknowledges : (f : Target → Bool) (ts : List Target) (t : Target) → Among t ts → f t ≡ true → somebody f ts ≡ true
 unfolding somebody
+one_acknowledges f [] t x'' e = elim x'' [ ]
 one_acknowledges f (x ∷ ts) t (inl m) e =
     let g : f x ≡ true = ap f m ∙ e in
     rw g
