@@ -28,7 +28,7 @@ loop-i-smaller c = omega arith
 
 pub loop-i-preserved : goal.loop-i-preserved
 loop-i-preserved c = let l = c.loop-i in
-    let after = c.send-n.new.records.0 in
+    let after = c.send-n.new.records in
     let e : 300 - l.i ≡ suc (300 - (l.i + 1)) = omega arith in (
       omega arith,
       running_next _ c.args.records.now (300 - (l.i + 1)) l.st c.step-st.result l.records after (rw e at l.invariant.1)

@@ -1,4 +1,4 @@
-use Rattle.std.proofs.Common.{ℕ, ◌-◌, ◌≡◌, sym, ap, ◌∙◌, List, arith, take}
+use Rattle.std.proofs.Common.{ℕ, ◌≡◌, sym, ap, ◌∙◌, List, arith, take}
 use Rattle.commands.specs.SendingLaws.{get_sent}
 use Rattle.lists.specs.EachLaws.{all_bytes}
 use Rattle.bus.specs.Turn.{lent_part}
