@@ -1,4 +1,4 @@
-use Rattle.std.proofs.Common.{◌-◌, arith}
+use Rattle.std.proofs.Common.{arith}
 use Rattle.c_arp.proofs.PassLaws.{leads_first, leads_stop, leads_end, from_start, leads_turn, size_room, turn_less, lent_whole}
 use Rattle.c_arp.proofs.pass.run_pass.Goals as goal
 
