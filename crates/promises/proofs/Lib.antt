@@ -1,1 +1,2 @@
 pub mod MarkedLaws
+pub mod MarkedCasesLaws

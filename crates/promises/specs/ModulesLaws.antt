@@ -1,5 +1,5 @@
 -- THE PROOFS of the page on the module's end of the bus: one inhabitant of each of its records.
-use Rattle.std.specs.Prelude.{◌≡◌, refl, Bool, true, false, List, [], ◌∷◌, ℕ, ◌/◌, ◌^◌, ◌≤◌, ◌<◌, length}
+use Rattle.std.specs.Prelude.{◌≡◌, refl, false, List, ℕ, ◌/◌, ◌^◌, ◌≤◌, ◌<◌, length}
 use Rattle.std.proofs.Common.{sym, ap, subst, ◌∙◌}
 use Rattle.lists.specs.Each.{Each, Bytes}
 use Rattle.wire.specs.declared.address.Address.{Address}
@@ -8,26 +8,24 @@ use Rattle.udid.specs.declared.Udid.{Udid}
 use Rattle.commands.specs.declared.command.Command.TheVariants.{Prepare, GetUdid, Assign}
 use Rattle.commands.specs.declared.command.Handed.{Handed}
 use Rattle.commands.specs.declared.command.Handed.TheVariants.{Send, Wait}
-use Rattle.arbitration.specs.Among.{Among}
 use Rattle.pool.specs.Start.{barred_pool}
 use Rattle.pool.specs.declared.Pool.{Pool}
 use Rattle.targets.specs.ByteCases.{EvenOrFlag, SameAsEarlier, FixedOnTaken}
 use Rattle.targets.specs.Cases.{LengthIsBad, None}
 use Rattle.targets.specs.Records.{targets_of}
-use Rattle.targets.specs.Target.{Target}
 use Rattle.rule.specs.Acted.{Names}
 use Rattle.rule.specs.Bus.{World, pass}
 use Rattle.bindings.specs.declared.answer.ModelAnswer.{ModelAnswer}
 use Rattle.bus.specs.Run.{Leaves, model_end}
 use Rattle.module.specs.declared.state.Heard.{Heard}
 use Rattle.module.specs.declared.state.Module.{Module}
-use Rattle.module.specs.Obeys.{heard_all, reset_order, directed_reset}
+use Rattle.module.specs.Obeys.{heard_all}
 use Rattle.module.specs.Packets.{Resets}
 use Rattle.module.proofs.PacketsLaws.{acked_exactly, obeys_prepare, obeys_reset, obeys_directed, obeys_assign, obeys_no_other}
 use Rattle.module.proofs.PecDueLaws.{due_acked, differing_pec}
 use Rattle.module.proofs.MiddleLaws.{nothing_moved, replying, start_twice}
 use Rattle.module.proofs.NackLaws.{nack_refuses}
-use Rattle.module.specs.Receive.{starts, receives}
+use Rattle.module.specs.Receive.{starts}
 use Rattle.module.specs.Reset.{reset}
 use Rattle.module.proofs.ResetLaws.{resets, powers_on, powered_silent}
 use Rattle.module.specs.ResumeLaws.{resume_0, resume_10, resume_12, as_recorded}
@@ -35,11 +33,10 @@ use Rattle.module.proofs.StartLaws.{new_packet, read_any, read_over, mute_else, 
 use Rattle.module.specs.State.{silent_in}
 use Rattle.module.specs.Supply.{supplies}
 use Rattle.module.proofs.SupplyLaws.{silent_nack, supplied_own}
-use Rattle.exchange.specs.Exchange.{records_of, Fitting, after_bytes}
+use Rattle.exchange.specs.Exchange.{records_of, Fitting}
 use Rattle.exchange.specs.ExchangeLaws.{exchange_same}
 use Rattle.exchange.specs.Pass.{pass_on}
 use Rattle.exchange.specs.PassLaws.{equal_states, equal_gets, pass_same}
-use Rattle.exchange.specs.Sending.{asked_all}
 use Rattle.exchange.specs.WinLaws.{never_two}
 use Rattle.promises.specs.Demands.{Listens, Modules, ModuleBus}
 use Rattle.promises.specs.DemandsLaws.{demand_3}
