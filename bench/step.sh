@@ -8,13 +8,10 @@ set -eu
 cd "$(dirname "$0")/.."
 limit=3500
 out=build/bench
-library=${1:-target/staticlib/libc_api.a}
-program=${2:-target/bin/passes}
+library=${1:-crates/c_api/out/libc_api.a}
+program=${2:-crates/passes/out/passes}
 mkdir -p "$out"
-[ $# -gt 0 ] || { rt staticlib c_api && rt check passes; } >build/step.log 2>&1 || {
-    cat build/step.log
-    exit 1
-}
+[ $# -gt 0 ] || sh tests/build.sh c_api passes
 gcc -std=c11 -O2 -Wall -Wextra -Werror -Iinclude bench/step.c "$library" -o "$out/step"
 "$out/step" 2 >"$out/before.script"
 "$out/step" 3 >"$out/bound.script"
