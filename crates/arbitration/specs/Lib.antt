@@ -3,8 +3,3 @@ pub mod Bits
 pub mod Wire
 pub mod DropOut
 pub mod BitLaws
-pub mod OrderLaws
-pub mod DropOutLaws
-pub mod WinLaws
-pub mod WireLaws
-pub mod PairLaws

@@ -1,6 +1,6 @@
 -- The bindings: the state with a target unbound, and with it bound.
 use Rattle.std.specs.Prelude.{ℕ, ltb}
-use Rattle.lists.specs.Choice.{pick, or}
+use Rattle.lists.specs.Choice.{pick}
 use Rattle.pool.specs.Pools.{member, with_address, without_address}
 use Rattle.pool.specs.Start.{starting_pool}
 use Rattle.udid.specs.declared.Udid.{Udid}

@@ -1,7 +1,6 @@
 -- What the controller does, as the scope says it.
 use Rattle.std.specs.Prelude.{ℕ, ◌+◌, Bool, List, ltb, leb}
 use Rattle.lists.specs.Choice.{pick}
-use Rattle.wire.specs.declared.address.Address.{Address}
 use Rattle.pool.specs.Start.{starting_pool}
 use Rattle.pool.specs.declared.Pool.{Pool}
 use Rattle.pool.specs.declared.free.Free.{Free}

@@ -8,10 +8,10 @@ use Rattle.lists.specs.EachLaws.{each_both}
 use Rattle.wire.specs.Addresses.{is_reserved, is_listed}
 use Rattle.pool.specs.Pools.{member}
 use Rattle.pool.specs.Start.{starting_pool, barred_pool}
-use Rattle.pool.specs.StartLaws.{member_starting, member_barred}
+use Rattle.pool.proofs.StartLaws.{member_starting, member_barred}
 use Rattle.pool.specs.declared.Pool.{Pool}
 use Rattle.udid.specs.Bytes.{udid_bytes}
-use Rattle.udid.specs.UdidLaws.{movable_first}
+use Rattle.udid.proofs.UdidLaws.{movable_first}
 use Rattle.udid.specs.declared.Udid.{Udid}
 use Rattle.arp.specs.BindingLaws.{bound_in_is}
 use Rattle.arbitration.specs.Among.{Among}
@@ -25,8 +25,8 @@ use Rattle.targets.specs.AdmissionLaws.{admitted_targets}
 use Rattle.targets.specs.Records.{targets_of}
 use Rattle.targets.specs.Refusals.{checked_list}
 use Rattle.targets.specs.declared.admit.Checked.TheVariants.{Admitted}
-use Rattle.bindings.specs.BoundLaws.{bound_set_has}
-use Rattle.bindings.specs.BufferLaws.{bytes_there, rest_there, nobody_bytes}
+use Rattle.bindings.proofs.BoundLaws.{bound_set_has}
+use Rattle.bindings.proofs.BufferLaws.{bytes_there, rest_there, nobody_bytes}
 use Rattle.bindings.specs.Entries as entries
 use Rattle.bindings.specs.declared.entry.Entry.TheVariants.{Nobody}
 use Rattle.rule.specs.AnyLaws.{any_map, any_each, any_constant}

@@ -19,12 +19,12 @@ use Rattle.targets.specs.Records.{record_count, targets_of}
 use Rattle.targets.specs.Refusals.{checked_list}
 use Rattle.targets.specs.Target.{Target}
 use Rattle.targets.specs.declared.admit.Checked.TheVariants.{Admitted}
-use Rattle.bindings.specs.BoundLaws.{bound_set_count}
+use Rattle.bindings.proofs.BoundLaws.{bound_set_count}
 use Rattle.bindings.specs.Entries as entries
 use Rattle.rule.specs.AllBoundLaws.{all_served, all_given}
 use Rattle.rule.specs.AllBound.{movable, left_free}
 use Rattle.rule.specs.Bus.{World, pass}
-use Rattle.arp.specs.LastPickLaws.{last_pick_is}
+use Rattle.arp.proofs.LastPickLaws.{last_pick_is}
 use Rattle.rule.specs.PassEndLaws.{demand_3}
 use Rattle.rule.specs.EndAnswer.{number_of, asker_of, gets_for}
 use Rattle.rule.specs.PassEnd.{last_command, pass_end}

@@ -25,7 +25,7 @@ use Rattle.targets.specs.Members.{Least}
 use Rattle.targets.specs.declared.admit.Checked.TheVariants.{Admitted}
 use Rattle.targets.specs.declared.winner.Winner.{Winner}
 use Rattle.targets.specs.declared.winner.Winner.TheVariants as winner
-use Rattle.picking.specs.PickingLaws.{chosen_small_and_free}
+use Rattle.picking.proofs.PickingLaws.{chosen_small_and_free}
 use Rattle.arp.specs.Bindings.{bound, freed}
 use Rattle.arp.specs.Controller.{handed, counted, asked, issued, replied, stepped, started, new_controller, changed}
 use Rattle.picking.specs.Picking.{has_to_pick, chosen}
@@ -33,7 +33,7 @@ use Rattle.hearing.specs.Heard.{answer, sent_in, is_assign}
 use Rattle.commands.specs.Codes.{block_write}
 use Rattle.commands.specs.Requests.{trace_of}
 use Rattle.hearing.specs.Told.{told_assign, tells}
-use Rattle.arp.specs.ChangedLaws.{told_is_changed}
+use Rattle.arp.proofs.ChangedLaws.{told_is_changed}
 use Rattle.hearing.specs.TraceLaws.{prepare_accepted}
 use Rattle.commands.specs.declared.command.Command.TheVariants.{Prepare, GetUdid, Assign}
 use Rattle.commands.specs.declared.command.End.TheVariants.{Abandoned}

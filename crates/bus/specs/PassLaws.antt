@@ -13,7 +13,7 @@ use Rattle.slots.specs.declared.Binding.TheVariants.{Bound}
 use Rattle.targets.specs.Records.{targets_of, records_with}
 use Rattle.targets.specs.Refusals.{checked_list}
 use Rattle.targets.specs.declared.admit.Checked.TheVariants.{Admitted}
-use Rattle.bindings.specs.BufferLaws.{bytes_there}
+use Rattle.bindings.proofs.BufferLaws.{bytes_there}
 use Rattle.bindings.specs.Entries.{entry_bytes}
 use Rattle.rule.specs.Bus.{pass}
 use Rattle.bus.specs.Run.{ModelEnd, Leaves, ended_end, model_end}

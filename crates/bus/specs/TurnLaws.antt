@@ -5,7 +5,7 @@ use Rattle.lists.specs.Each.{Bytes}
 use Rattle.lists.specs.LengthLaws.{empty_of_length}
 use Rattle.trace.specs.Shapes.{shape_of}
 use Rattle.trace.specs.Lengths.{trace_length}
-use Rattle.trace.specs.LengthLaws.{trace_length_lem}
+use Rattle.trace.proofs.LengthLaws.{trace_length_lem}
 use Rattle.arbitration.specs.Among.{Among}
 use Rattle.pool.specs.declared.free.Free.TheVariants.{At}
 use Rattle.udid.specs.Udids.{Fits}

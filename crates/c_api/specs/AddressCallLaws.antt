@@ -2,7 +2,7 @@
 use Rattle.std.specs.Prelude.{◌≡◌, true, ◌↔◌, ℕ, ◌%◌, ◌<◌, ltb, eqb}
 use Rattle.lists.specs.TestLaws.{eqb_is, ltb_is, or_is}
 use Rattle.wire.specs.Addresses.{is_reserved, is_preassigned, is_listed}
-use Rattle.wire.specs.AddressLaws.{reserved_is, preassigned_is}
+use Rattle.wire.proofs.AddressLaws.{reserved_is, preassigned_is}
 use Rattle.c_codec.specs.Numbers.{bit, Says}
 use Rattle.c_api.specs.PoolParts.{Reserved, Listed}
 use Rattle.c_codec.specs.NumberLaws.{bit_says}

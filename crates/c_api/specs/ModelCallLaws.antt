@@ -1,7 +1,7 @@
 -- What a call of hb_run_model gives, in the scope's numbers and in the parts of the struct of include/headboarded.h.
 use Rattle.std.specs.Prelude.{◌≡◌, List, [], ◌∷◌, ◌++◌, ◌↔◌, ℕ, ◌+◌, ◌/◌, ◌^◌, ◌≤◌, ◌<◌, length}
 use Rattle.std.proofs.Common.{sym, ap, ◌∙◌}
-use Rattle.std.proofs.Math.Logic.{Iff·trans, Iff·symm}
+use Rattle.std.proofs.Math.Logic.Iff.{trans as iff_trans, symm as iff_symm}
 use Rattle.lists.specs.Each.{Bytes}
 use Rattle.pool.specs.declared.Pool.{Pool}
 use Rattle.pool.specs.Start.{starting_pool, barred_pool}
@@ -18,7 +18,7 @@ use Rattle.c_arp.specs.Parts.{pool_in}
 use Rattle.c_arp.specs.Model.{told_model, RanModel}
 use Rattle.promises.specs.Demands.{Meets}
 use Rattle.promises.specs.DemandsLaws.{demand_3}
-use Rattle.promises.specs.MarkedLaws.{marked}
+use Rattle.promises.proofs.MarkedLaws.{marked}
 use Rattle.c_codec.specs.DecodedLaws.{pair_parts}
 use Rattle.c_arp.specs.ModelParts.{answer_in, ModelZero}
 
@@ -33,7 +33,7 @@ module _ (given : HbPool) (last : ℕ) (s b : List ℕ) (h : HbModel) (s' b' : L
 
   -- each number, with its record: 1 for a last pick above 127, 2, 9, and 10, 11 and 12 with the first such record
   in_parts : (n i : ℕ) (P : Type 0) → (◌≡◌ {A = ℕ × ℕ} (h.answer, h.place) (n, i)) ↔ P → ((h.answer ≡ n) × (h.place ≡ i)) ↔ P
-  in_parts n i P f = Iff·trans (Iff·symm (pair_parts h.answer h.place n i)) f
+  in_parts n i P f = iff_trans (iff_symm (pair_parts h.answer h.place n i)) f
 
   pub hb_model_1 : ((h.answer ≡ 1) × (h.place ≡ 0)) ↔ (127 < last)
   hb_model_1 = in_parts 1 0 _ (model_1 occupied last s b (answer_in h) s' b' hb_model_leaves)

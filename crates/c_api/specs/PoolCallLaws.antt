@@ -3,7 +3,8 @@ use Rattle.std.specs.Prelude.{◌≡◌, refl, Bool, false, ◌⊎◌, ◌↔◌
 use Rattle.std.proofs.Common.{sym, ◌∙◌, subst}
 use Rattle.std.proofs.Math.Path.{ap}
 use Rattle.std.proofs.Math.Bool.{true}
-use Rattle.std.proofs.Math.Logic.{inl, inr, Iff·trans, Iff·symm}
+use Rattle.std.proofs.Math.Logic.{inl, inr}
+use Rattle.std.proofs.Math.Logic.Iff.{trans as iff_trans, symm as iff_symm}
 use Rattle.std.proofs.Math.Decide.{dec_lt}
 use native.Mathlib.Omega.{arith}
 use Rattle.std.specs.Int.Count.{ones}
@@ -19,7 +20,7 @@ use Rattle.pool.specs.FreeLaws.{used_ones, lowest_is, none_free}
 use Rattle.pool.specs.MemberLaws.{member_low, member_high, member_above, member_with, member_without, member_union}
 use Rattle.pool.specs.Pools.{member, with_address, without_address, union_of}
 use Rattle.pool.specs.Start.{starting_pool, barred_pool}
-use Rattle.pool.specs.StartLaws.{member_starting, member_barred}
+use Rattle.pool.proofs.StartLaws.{member_starting, member_barred}
 use Rattle.pool.specs.declared.Pool.{Pool}
 use Rattle.pool.specs.declared.free.Free.{Free}
 use Rattle.pool.specs.declared.free.Free.TheVariants.{At, AllUsed}
@@ -28,7 +29,7 @@ use Rattle.c_codec.specs.Numbers.{bit, Says}
 use Rattle.c_arp.specs.Parts.{pool_in, told_pool, free_number}
 use Rattle.c_api.specs.PoolParts.{Reserved, Listed, InPool}
 use Rattle.c_codec.specs.NumberLaws.{bit_says}
-use Rattle.wire.specs.AddressLaws.{reserved_is}
+use Rattle.wire.proofs.AddressLaws.{reserved_is}
 use Rattle.c_api.specs.AddressCallLaws.{listed_in_numbers}
 
 module _ (low high a : ℕ) where
@@ -83,32 +84,32 @@ same_test e h = (λ q. h.0 (sym e ∙ q), λ p. e ∙ h.1 p)
 pub hb_pool_with : (pool : HbPool) (address : ℕ) (r : HbPool) → r ≡ told_pool (with_address (pool_in pool) address)
     → (a : ℕ) → a < 128 → InPool r.low r.high a ↔ ((a ≡ address) ⊎ InPool pool.low pool.high a)
 hb_pool_with pool address r e a h =
-    Iff·trans (Iff·symm (of_struct (with_address (pool_in pool) address) r e a))
+    iff_trans (iff_symm (of_struct (with_address (pool_in pool) address) r e a))
     (same_test (member_with (pool_in pool) address a h) (or_is (eqb a address) (member (pool_in pool) a) (eqb_is a address) (pool_is pool.low pool.high a)))
 
 pub hb_pool_without : (pool : HbPool) (address : ℕ) (r : HbPool) → r ≡ told_pool (without_address (pool_in pool) address)
     → (a : ℕ) → InPool r.low r.high a ↔ ((a ≡ address → ⊥) × InPool pool.low pool.high a)
 hb_pool_without pool address r e a =
-    Iff·trans (Iff·symm (of_struct (without_address (pool_in pool) address) r e a))
+    iff_trans (iff_symm (of_struct (without_address (pool_in pool) address) r e a))
     (same_test (member_without (pool_in pool) address a) (and_is (not (eqb a address)) (member (pool_in pool) a) (not_is (eqb a address) (eqb_is a address)) (pool_is pool.low pool.high a)))
 
 pub hb_pool_union : (one other : HbPool) (r : HbPool) → r ≡ told_pool (union_of (pool_in one) (pool_in other))
     → (a : ℕ) → InPool r.low r.high a ↔ (InPool one.low one.high a ⊎ InPool other.low other.high a)
 hb_pool_union one other r e a =
-    Iff·trans (Iff·symm (of_struct (union_of (pool_in one) (pool_in other)) r e a))
+    iff_trans (iff_symm (of_struct (union_of (pool_in one) (pool_in other)) r e a))
     (same_test (member_union (pool_in one) (pool_in other) a) (or_is (member (pool_in one) a) (member (pool_in other) a) (pool_is one.low one.high a) (pool_is other.low other.high a)))
 
 -- the two sets to begin with: the listed addresses and the occupied ones, the reserved addresses and the occupied ones
 pub hb_pool_starting : (occupied : HbPool) (r : HbPool) → r ≡ told_pool (starting_pool (pool_in occupied))
     → (a : ℕ) → InPool r.low r.high a ↔ (Listed a ⊎ InPool occupied.low occupied.high a)
 hb_pool_starting occupied r e a =
-    Iff·trans (Iff·symm (of_struct (starting_pool (pool_in occupied)) r e a))
+    iff_trans (iff_symm (of_struct (starting_pool (pool_in occupied)) r e a))
     (same_test (member_starting (pool_in occupied) a) (or_is (is_listed a) (member (pool_in occupied) a) (listed_in_numbers a) (pool_is occupied.low occupied.high a)))
 
 pub hb_pool_barred : (occupied : HbPool) (r : HbPool) → r ≡ told_pool (barred_pool (pool_in occupied))
     → (a : ℕ) → InPool r.low r.high a ↔ (Reserved a ⊎ InPool occupied.low occupied.high a)
 hb_pool_barred occupied r e a =
-    Iff·trans (Iff·symm (of_struct (barred_pool (pool_in occupied)) r e a))
+    iff_trans (iff_symm (of_struct (barred_pool (pool_in occupied)) r e a))
     (same_test (member_barred (pool_in occupied) a) (or_is (is_reserved a) (member (pool_in occupied) a) (reserved_is a) (pool_is occupied.low occupied.high a)))
 
 -- how many of the 128 addresses are in the pool, as bits that are one

@@ -6,7 +6,7 @@ use Rattle.lists.specs.Each.{Bytes}
 use Rattle.lists.specs.Onto.{onto}
 use Rattle.trace.specs.Shapes.{shape_of}
 use Rattle.trace.specs.Table.{TraceOf}
-use Rattle.trace.specs.TableLaws.{listed_trace, quick_plain}
+use Rattle.trace.proofs.TableLaws.{listed_trace, quick_plain}
 use Rattle.trace.specs.Trace.{Message, trace}
 use Rattle.encode.specs.declared.Encoded.TheVariants.{Written}
 use Rattle.encode.specs.Encode.{message, encoded, Wrote}

@@ -1,10 +1,10 @@
 -- What the functions on identifiers answer for C: the first eight bytes on the wire are the high half, highest byte first.
 use Rattle.std.specs.Prelude.{◌≡◌, List, [], ◌∷◌, ℕ, ◌+◌, ◌*◌, ◌/◌, ◌^◌, ◌≤◌, ◌<◌, eqb, length, replicate}
 use Rattle.std.proofs.Common.{ap, ◌∙◌, arith}
-use Rattle.std.proofs.Math.Logic.{Iff·trans}
+use Rattle.std.proofs.Math.Logic.Iff.{trans as iff_trans}
 use Rattle.lists.specs.TestLaws.{eqb_is, ltb_is, and_is}
 use Rattle.udid.specs.Bytes.{number_from, bytes_of, bytes_from, udid_bytes, udid_at, put_at}
-use Rattle.udid.specs.UdidLaws.{put_back}
+use Rattle.udid.proofs.UdidLaws.{put_back}
 use Rattle.udid.specs.Udids.{same_udid, is_below, is_fixed}
 use Rattle.c_arp.specs.declared.parts.HbUdid.{HbUdid}
 use Rattle.c_codec.specs.Numbers.{bit, Says}
@@ -43,4 +43,4 @@ hb_udid_is_below one other r e =
 -- the top two bits are 00
 pub hb_udid_is_fixed : (udid : HbUdid) (r : ℕ) → r ≡ bit (is_fixed (udid_in udid)) → Says r (udid.high < 2 ^ 62)
 hb_udid_is_fixed udid r e =
-    bit_says (is_fixed (udid_in udid)) (Iff·trans (eqb_is (udid.high / 2 ^ 62) 0) (λ q. omega (arith, q), λ h. omega arith)) r e
+    bit_says (is_fixed (udid_in udid)) (iff_trans (eqb_is (udid.high / 2 ^ 62) 0) (λ q. omega (arith, q), λ h. omega arith)) r e

@@ -12,18 +12,18 @@ use lib.Seq.{get_or-drop, get_or-take, drop-drop, length-take-le, take_all, take
 use Rattle.lists.specs.Choice.{pick, and}
 use Rattle.lists.specs.ChoiceLaws.{both_true, false_not_true, and_none}
 use Rattle.pool.specs.declared.Pool.{Pool}
-use Rattle.slots.specs.SlotsLaws.{held_above_is_open}
+use Rattle.slots.proofs.SlotsLaws.{held_above_is_open}
 use Rattle.hearing.specs.LongTraceLaws.{same_told}
 use Rattle.arp.specs.Choosing.{decided_on, first_half, issuing, declining}
 use Rattle.arp.specs.Controller.{new_controller, started, stepped}
 use Rattle.arp.specs.Gone.{reported}
-use Rattle.arp.specs.GoneLaws.{nothing_reported}
+use Rattle.arp.proofs.GoneLaws.{nothing_reported}
 use Rattle.arp.specs.History.{By, Step, Choose, Event, Received, Gone, heard}
 use Rattle.arp.specs.Replay.{is_bound}
 use Rattle.arp.specs.declared.gone.Reported.{Reported}
 use Rattle.arp.specs.declared.state.Controller.{Controller}
 use Rattle.arp.specs.declared.state.Stepped.{Stepped}
-use Rattle.arp.specs.ChangedLaws.{step_of_front}
+use Rattle.arp.proofs.ChangedLaws.{step_of_front}
 use Rattle.pairs.specs.Pairs.{symbols_in, Got}
 use Rattle.pairs.specs.PairLaws.{length_symbols, symbols_of_part, fewer_symbols_front}
 use Rattle.c_codec.proofs.ReadLaws.{front_is}

@@ -1,7 +1,7 @@
 -- What a call of hb_check_targets gives, in the scope's numbers.
 use Rattle.std.specs.Prelude.{◌≡◌, refl, List, ◌↔◌, ℕ}
 use Rattle.std.proofs.Common.{sym, ap, ◌∙◌}
-use Rattle.std.proofs.Math.Logic.{Iff·trans}
+use Rattle.std.proofs.Math.Logic.Iff.{trans as iff_trans}
 use Rattle.pool.specs.Start.{barred_pool}
 use Rattle.pool.specs.declared.Pool.{Pool}
 use Rattle.targets.specs.Cases.{LengthIsBad, MalformedAt, RepeatedAt, TakenAt, None, FirstOf, Given}
@@ -21,7 +21,7 @@ module _ (occupied : HbPool) (s : List ℕ) (r : HbChecked) (e : r ≡ told_chec
   barred = barred_pool (record { low = occupied.low; high = occupied.high })
 
   check_number : (n i : ℕ) (k : Checked) → (answer_of k).number ≡ n → (answer_of k).value ≡ i → ((r.answer ≡ n) × (r.place ≡ i)) ↔ Given barred s k
-  check_number n i k en ei = Iff·trans (there, back) (given_exactly barred s k)
+  check_number n i k en ei = iff_trans (there, back) (given_exactly barred s k)
     where
       there : (r.answer ≡ n) × (r.place ≡ i) → k ≡ checked_list barred s
       there (a, p) =

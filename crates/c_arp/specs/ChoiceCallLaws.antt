@@ -3,21 +3,21 @@
 use Rattle.std.specs.Prelude.{ℕ, ◌<◌, ◌≡◌, refl, List, [], ◌∷◌, ◌++◌, ◌↔◌, ltb, length}
 use Rattle.std.proofs.Common.{sym, ◌∙◌, arith}
 use Rattle.std.proofs.Math.Path.{ap}
-use Rattle.std.proofs.Math.Logic.{Iff·trans}
+use Rattle.std.proofs.Math.Logic.Iff.{trans as iff_trans}
 use Rattle.lists.specs.AbsurdLaws.{zero_is_one}
 use Rattle.lists.specs.Choice.{pick}
 use Rattle.wire.specs.declared.address.Address.{Address}
 use Rattle.pool.specs.declared.Pool.{Pool}
 use Rattle.udid.specs.declared.Udid.{Udid}
 use Rattle.arp.specs.Choosing.{first_half, issuing, declining, carried_for}
-use Rattle.arp.specs.ChoosingLaws.{halves_are_the_step}
+use Rattle.arp.proofs.ChoosingLaws.{halves_are_the_step}
 use Rattle.arp.specs.Controller.{stepped}
 use Rattle.arp.specs.History.{Step, Choose, Event, Start, Received, Gone, Issue, Decline}
 use Rattle.arp.specs.Lookup.{looked_up}
 use Rattle.arp.specs.Numbers.{command_number, unless21}
-use Rattle.arp.specs.OutstandingLaws.{heard_21, idle_half, last_is_handed_out}
+use Rattle.arp.proofs.OutstandingLaws.{heard_21, idle_half, last_is_handed_out}
 use Rattle.arp.specs.Replay.{handed_out, answered}
-use Rattle.arp.specs.SettleLaws.{issue_is, decline_is, none_to_issue, none_to_decline, issue_21, decline_21}
+use Rattle.arp.proofs.SettleLaws.{issue_is, decline_is, none_to_issue, none_to_decline, issue_21, decline_21}
 use Rattle.arp.specs.Waits.{Waits}
 use Rattle.commands.specs.Choices.{choice_in}
 use Rattle.commands.specs.declared.choice.Choice.{Choice}
@@ -129,7 +129,7 @@ module _ (given : HbPool) (last : ℕ) (es : List Event) (rest : List ℕ) (v : 
     pub hb_pass_issue_21 : r ≡ pass_command (pool_in given) last (list_bytes (es ++ Issue ∷ []) ++ rest') → (r.answer ≡ 21) ↔ NoChoice given last es
     hb_pass_issue_21 e =
         let st : Stepped = issuing before.state in
-        Iff·trans (command_21 st.command st.state.gets st.state.picked r (told_one Issue tt e)) (Iff·trans (issue_21 before.state) no_choice_before)
+        iff_trans (command_21 st.command st.state.gets st.state.picked r (told_one Issue tt e)) (iff_trans (issue_21 before.state) no_choice_before)
 
     -- else the Assign of the choice; the Get UDIDs and the last pick stay
     pub hb_pass_issue : r ≡ pass_command (pool_in given) last (list_bytes (es ++ Issue ∷ []) ++ rest') → (u : Udid) (a : Address) (x : Reason) → ChoiceWaits given last es u a x
@@ -142,7 +142,7 @@ module _ (given : HbPool) (last : ℕ) (es : List Event) (rest : List ℕ) (v : 
     pub hb_pass_decline_21 : r ≡ pass_command (pool_in given) last (list_bytes (es ++ Decline ∷ []) ++ rest') → (r.answer ≡ 21) ↔ NoChoice given last es
     hb_pass_decline_21 e =
         let st : Stepped = declining before.state in
-        Iff·trans (command_21 st.command st.state.gets st.state.picked r (told_one Decline tt e)) (Iff·trans (decline_21 before.state) no_choice_before)
+        iff_trans (command_21 st.command st.state.gets st.state.picked r (told_one Decline tt e)) (iff_trans (decline_21 before.state) no_choice_before)
 
     -- else the pass has ended with 14
     pub hb_pass_decline : r ≡ pass_command (pool_in given) last (list_bytes (es ++ Decline ∷ []) ++ rest') → (u : Udid) (a : Address) (x : Reason) → ChoiceWaits given last es u a x

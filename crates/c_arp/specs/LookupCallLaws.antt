@@ -1,7 +1,7 @@
 -- What a call of hb_pass_lookup gives, in the scope's numbers and in the parts of the struct of include/headboarded.h.
 use Rattle.std.specs.Prelude.{◌≡◌, refl, List, ◌⊎◌, ◌↔◌, ℕ, ◌<◌}
 use Rattle.std.proofs.Common.{sym, ap, ◌∙◌, subst, inl, inr, arith}
-use Rattle.std.proofs.Math.Logic.{Iff·trans}
+use Rattle.std.proofs.Math.Logic.Iff.{trans as iff_trans}
 use Rattle.std.proofs.Math.Decide.{dec_lt}
 use Rattle.udid.specs.declared.Udid.{Udid}
 use Rattle.slots.specs.Slots.{held_at}
@@ -16,7 +16,7 @@ use Rattle.c_arp.specs.declared.parts.HbPool.{HbPool}
 use Rattle.c_arp.specs.Parts.{pool_in}
 use Rattle.c_arp.specs.PassCallLaws.{found_forbidden, found_told}
 use Rattle.c_arp.specs.Pass.{pass_over, found_of, told_found, pass_found}
-use Rattle.arp.specs.LookupLaws.{lookup_0, lookup_15, lookup_16, lookup_20, lookup_1}
+use Rattle.arp.proofs.LookupLaws.{lookup_0, lookup_15, lookup_16, lookup_20, lookup_1}
 use Rattle.c_arp.specs.FoundParts.{FoundParts, FoundIs}
 use Rattle.arp.specs.declared.lookup.Found.TheVariants as found
 
@@ -88,25 +88,25 @@ module _ (given : HbPool) (last : ℕ) (l : List ℕ) (a : ℕ) (r : HbFound) (e
   -- 0 with the identifier that is bound there; 15 where nobody is; 16 where two claim it; 20 where its target was reported gone; 1 for a last pick or an address above 127; no identifier with these
   pub hb_lookup_0 : (u : Udid) → FoundParts r 0 u.high u.low ↔ ((last < 128) × ((a < 128) × (held_at (pass_over (pool_in given) last l).state.slots a ≡ Bound u)))
   unfolding after
-  hb_lookup_0 u = let_in 0 u.high u.low _ (λ z. omega (arith, z)) (λ h. Iff·trans (found_is after a r (told h) (found.Bound u)) (lookup_0 after a u))
+  hb_lookup_0 u = let_in 0 u.high u.low _ (λ z. omega (arith, z)) (λ h. iff_trans (found_is after a r (told h) (found.Bound u)) (lookup_0 after a u))
 
   pub hb_lookup_15 : FoundParts r 15 0 0 ↔ ((last < 128) × ((a < 128) × (held_at (pass_over (pool_in given) last l).state.slots a ≡ Open)))
   unfolding after
-  hb_lookup_15 = let_in 15 0 0 _ (λ z. omega (arith, z)) (λ h. Iff·trans (found_is after a r (told h) found.Nobody) (lookup_15 after a))
+  hb_lookup_15 = let_in 15 0 0 _ (λ z. omega (arith, z)) (λ h. iff_trans (found_is after a r (told h) found.Nobody) (lookup_15 after a))
 
   pub hb_lookup_16 : FoundParts r 16 0 0 ↔ ((last < 128) × ((a < 128) × (held_at (pass_over (pool_in given) last l).state.slots a ≡ Claimed)))
   unfolding after
-  hb_lookup_16 = let_in 16 0 0 _ (λ z. omega (arith, z)) (λ h. Iff·trans (found_is after a r (told h) found.Two) (lookup_16 after a))
+  hb_lookup_16 = let_in 16 0 0 _ (λ z. omega (arith, z)) (λ h. iff_trans (found_is after a r (told h) found.Two) (lookup_16 after a))
 
   pub hb_lookup_20 : FoundParts r 20 0 0 ↔ ((last < 128) × ((a < 128) × (held_at (pass_over (pool_in given) last l).state.slots a ≡ Left)))
   unfolding after
-  hb_lookup_20 = let_in 20 0 0 _ (λ z. omega (arith, z)) (λ h. Iff·trans (found_is after a r (told h) found.Left) (lookup_20 after a))
+  hb_lookup_20 = let_in 20 0 0 _ (λ z. omega (arith, z)) (λ h. iff_trans (found_is after a r (told h) found.Left) (lookup_20 after a))
 
   pub hb_lookup_1 : FoundParts r 1 0 0 ↔ ((127 < last) ⊎ (127 < a))
   hb_lookup_1 = (λ p. go p (dec_lt 127 last), λ q. back (dec_lt 127 last) q)
     where
       in_pass : last < 128 → FoundParts r 1 0 0 ↔ (127 < a)
-      in_pass h = Iff·trans (found_is after a r (told h) found.NoAddress) (lookup_1 after a)
+      in_pass h = iff_trans (found_is after a r (told h) found.NoAddress) (lookup_1 after a)
 
       go : FoundParts r 1 0 0 → Dec (127 < last) → (127 < last) ⊎ (127 < a)
       go p (yes h) = inl h

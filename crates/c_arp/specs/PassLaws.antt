@@ -4,11 +4,11 @@ use Rattle.std.specs.Prelude.{◌≡◌, true, ◌↔◌, ℕ, ◌<◌, length}
 use Rattle.std.proofs.Math.Path.{refl, ap}
 use Rattle.std.proofs.Common.{sym, ◌∙◌, subst, arith}
 use mathlib.Core.List.{List, [], ◌∷◌, ◌++◌}
-use Rattle.std.proofs.Math.Logic.{Iff·trans}
+use Rattle.std.proofs.Math.Logic.Iff.{trans as iff_trans}
 use Rattle.std.proofs.Math.Decide.{dec_lt}
 use Rattle.pool.specs.declared.Pool.{Pool}
-use Rattle.arp.specs.LastPickLaws.{last_pick_is}
-use Rattle.arp.specs.OutstandingLaws.{step_21_by_events}
+use Rattle.arp.proofs.LastPickLaws.{last_pick_is}
+use Rattle.arp.proofs.OutstandingLaws.{step_21_by_events}
 use Rattle.arp.specs.Choosing.{issuing, declining}
 use Rattle.arp.specs.Controller.{new_controller, started}
 use Rattle.arp.specs.Gone.{reported}
@@ -125,7 +125,7 @@ pub hb_pass_21 : (given : HbPool) (last : ℕ) (es : List Event) (w : By) (tr re
     → (r.answer ≡ 21) ↔ (no_command (handed_out (record { low = given.low; high = given.high }) last (events_of es)) ≡ true)
 unfolding answered
 hb_pass_21 given last es w tr rest small v short cut r e =
-    Iff·trans (end_21 given last es (Received w tr) rest small v (short, tt) cut r e) (step_21_by_events (pool_in given) last (events_of es) w tr)
+    iff_trans (end_21 given last es (Received w tr) rest small v (short, tt) cut r e) (step_21_by_events (pool_in given) last (events_of es) w tr)
 
 -- with no entry it hands out Prepare
 pub hb_pass_start : (given : HbPool) (last : ℕ) (r : HbCommand) → last < 128 → r ≡ pass_command (pool_in given) last [] → CommandParts r 0 0 0 0 last 0 0 0

@@ -9,9 +9,9 @@ use Rattle.udid.specs.declared.Udid.{Udid}
 use Rattle.slots.specs.Slots.{Sized128, held_at}
 use Rattle.slots.specs.declared.Binding.{Binding}
 use Rattle.arp.specs.Gone.{reported}
-use Rattle.arp.specs.GoneLaws.{nothing_reported, report_rest, report_removes, which_bound, bound_small}
+use Rattle.arp.proofs.GoneLaws.{nothing_reported, report_rest, report_removes, which_bound, bound_small}
 use Rattle.arp.specs.History.{Event, Gone}
-use Rattle.arp.specs.HistoryLaws.{reached_invariant}
+use Rattle.arp.proofs.HistoryLaws.{reached_invariant}
 use Rattle.arp.specs.Lookup.{seen}
 use Rattle.arp.specs.Replay.{is_bound}
 use Rattle.arp.specs.declared.lookup.Found.TheVariants as found

@@ -17,7 +17,7 @@ use Rattle.lists.specs.Each.{Bytes}
 use Rattle.lists.specs.Onto.{onto}
 use Rattle.trace.specs.Shapes.{shape_of, forbidden}
 use Rattle.trace.specs.Trace.{Message, trace}
-use Rattle.trace.specs.ColumnsLaws.{longest}
+use Rattle.trace.proofs.ColumnsLaws.{longest}
 use Rattle.encode.specs.declared.Encoded.{Encoded}
 use Rattle.encode.specs.contracts.Encoded as declared
 use Rattle.encode.specs.declared.Encoded.TheVariants.{Written, Forbidden, OutputTooShort}

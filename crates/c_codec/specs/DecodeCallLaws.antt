@@ -1,7 +1,7 @@
 -- What a call of hb_decode and of hb_decode_symbols gives, in the scope's numbers and in the parts of the struct of include/headboarded.h.
 use Rattle.std.specs.Prelude.{◌≡◌, refl, Bool, true, false, List, ◌++◌, ◌⊎◌, ◌↔◌, ℕ, ◌/◌, ◌<◌, length, drop}
 use Rattle.std.proofs.Common.{ap, ◌∙◌, subst, inl, inr, arith}
-use Rattle.std.proofs.Math.Logic.{Iff·rfl, Iff·trans}
+use Rattle.std.proofs.Math.Logic.Iff.{rfl as iff_rfl, trans as iff_trans}
 use Rattle.trace.specs.Table.{last_protocol}
 use Rattle.trace.specs.Shapes.{forbidden}
 use Rattle.trace.specs.Table.{TraceOf}
@@ -54,11 +54,11 @@ module _ (protocol pec : ℕ) (tr sent₀ received₀ : List ℕ) (h : HbDecoded
   hb_decode_outcome = d.outcome
 
   pub hb_decode_number : (n v : ℕ) {P : Type 0} → (decode_number d.answer ≡ (n, v)) ↔ P → ((h.answer ≡ n) × (h.value ≡ v)) ↔ P
-  hb_decode_number n v e = Iff·trans (read_carries protocol (truth pec) tr sent₀ received₀ h sent received d n v) e
+  hb_decode_number n v e = iff_trans (read_carries protocol (truth pec) tr sent₀ received₀ h sent received d n v) e
 
   -- 1: a protocol above the last, or Quick with PEC
   pub hb_decode_1 : ((h.answer ≡ 1) × (h.value ≡ 0)) ↔ ((last_protocol < protocol) ⊎ ((protocol ≡ 0) × (pec ≡ 0 → ⊥)))
-  hb_decode_1 = hb_decode_number 1 0 (Iff·trans (decode_1 protocol (truth pec) tr sent₀ received₀ d.answer sent received d.outcome) (there, back))
+  hb_decode_1 = hb_decode_number 1 0 (iff_trans (decode_1 protocol (truth pec) tr sent₀ received₀ d.answer sent received d.outcome) (there, back))
     where
       there : (last_protocol < protocol) ⊎ ((protocol ≡ 0) × (truth pec ≡ true)) → (last_protocol < protocol) ⊎ ((protocol ≡ 0) × (pec ≡ 0 → ⊥))
       there (inl x) = inl x
@@ -80,7 +80,7 @@ module _ (protocol pec : ℕ) (tr sent₀ received₀ : List ℕ) (h : HbDecoded
       two = decode.number_2 protocol (truth pec) tr sent₀ received₀ d.answer sent received d.outcome
 
       there : decode_number d.answer ≡ (2, 0) → ((last_protocol < protocol) ⊎ ((protocol ≡ 0) × (pec ≡ 0 → ⊥)) → ⊥) × ((length sent₀ < 255) ⊎ (length received₀ < 255))
-      there e = (λ c. omega (arith, (hb_decode_1.1 c).0, ((hb_decode_number 2 0 Iff·rfl).1 e).0), (short_cases (length sent₀) (length received₀)).0 (two.0 e).1)
+      there e = (λ c. omega (arith, (hb_decode_1.1 c).0, ((hb_decode_number 2 0 iff_rfl).1 e).0), (short_cases (length sent₀) (length received₀)).0 (two.0 e).1)
 
       allowed : ((last_protocol < protocol) ⊎ ((protocol ≡ 0) × (pec ≡ 0 → ⊥)) → ⊥) → (b : Bool) → forbidden protocol (truth pec) ≡ b → b ≡ false
       allowed n true e = absurd (n (hb_decode_1.0 ((hb_decode_number 1 0 one).1 e)))

@@ -1,14 +1,5 @@
 pub mod Changes
 pub mod Multiples
-pub mod MultiplesLaws
 pub mod NumberBitsLaws
-pub mod FlippedLaws
-pub mod WindowLaws
-pub mod BurstLaws
 pub mod Register
 pub mod RegisterLaws
-pub mod PairLaws
-pub mod HowManyLaws
-pub mod OddLaws
-pub mod EscapeLaws
-pub mod FlipLaws

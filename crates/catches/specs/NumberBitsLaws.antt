@@ -7,7 +7,7 @@ use Rattle.std.proofs.Math.Nat.{zero-div, div-eq_of_lt}
 use Rattle.std.specs.Int.Bits.{bit_xor}
 use Rattle.std.proofs.lemmas.Nat.{xor_shr, mod-pow-add}
 use Rattle.std.proofs.Math.Pow.{pow-lt, mod-mod-pow, field, split}
-use Rattle.pec.specs.PecDivisionLaws.{xor_odd}
+use Rattle.pec.proofs.PecBitLaws.{xor_odd}
 
 -- a bit is 0 or 1
 pub not_one : (x : ℕ) → (x % 2 ≡ 1 → ⊥) → x % 2 ≡ 0

@@ -6,9 +6,10 @@ use Rattle.std.specs.Int.Bits.{bit_xor, xor_shifted}
 use Rattle.lists.specs.Choice.{and, not}
 use Rattle.lists.specs.ChoiceLaws.{both_true, false_not_true}
 use Rattle.pec.specs.Pec.{bit_step}
-use Rattle.pec.specs.PecLaws.{bit_byte}
+use Rattle.pec.proofs.PecLaws.{bit_byte}
 use Rattle.pec.specs.PecDivision.{times_g, Leaves}
-use Rattle.pec.specs.PecDivisionLaws.{xor_back, leaves_self, next_bit, remainder_unique}
+use Rattle.pec.proofs.PecDivisionLaws.{next_bit, remainder_unique}
+use Rattle.pec.proofs.PecBitLaws.{xor_back, leaves_self}
 use Rattle.catches.specs.Multiples.{Multiple}
 use Rattle.catches.specs.Register.{shifted}
 

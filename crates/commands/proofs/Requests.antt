@@ -12,8 +12,8 @@ use Rattle.encode.specs.Encode.{message, refused_by, encoded_by, Wrote}
 use Rattle.encode.specs.declared.Encoded.{Encoded}
 use Rattle.encode.specs.declared.Encoded.TheVariants.{Forbidden}
 use Rattle.udid.specs.Bytes.{udid_bytes, put_at}
-use Rattle.udid.specs.UdidLaws.{length_udid}
-use Rattle.udid.specs.WindowLaws.{put_fits}
+use Rattle.udid.proofs.UdidLaws.{length_udid}
+use Rattle.udid.proofs.WindowLaws.{put_fits}
 use Rattle.udid.specs.declared.Udid.{Udid}
 use Rattle.wire.specs.Addresses.{default_address}
 use Rattle.wire.specs.declared.address.Address.{Address}

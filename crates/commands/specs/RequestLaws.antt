@@ -6,15 +6,15 @@ use Rattle.lists.specs.Each.{Bytes}
 use Rattle.lists.specs.EachLaws.{append_bytes}
 use Rattle.pec.specs.Pec.{bit_step, pec_step, pec_from, pec_of}
 use Rattle.wire.specs.declared.address.Address.{Address}
-use Rattle.trace.specs.RowsLaws.{rows}
+use Rattle.trace.proofs.RowsLaws.{rows}
 use Rattle.trace.specs.Lengths.{trace_length}
-use Rattle.trace.specs.LengthLaws.{trace_length_lem}
+use Rattle.trace.proofs.LengthLaws.{trace_length_lem}
 use Rattle.trace.specs.Shapes.{shape_of}
 use Rattle.trace.specs.Trace.{acked, Valid}
 use Rattle.udid.specs.Bytes.{udid_bytes, udid_at}
-use Rattle.udid.specs.UdidLaws.{udid_bytes_lem, length_udid, bytes_back, fits_at}
+use Rattle.udid.proofs.UdidLaws.{udid_bytes_lem, length_udid, bytes_back, fits_at}
 use Rattle.udid.specs.Udids.{Fits}
-use Rattle.udid.specs.WindowLaws.{byte_at}
+use Rattle.udid.proofs.WindowLaws.{byte_at}
 use Rattle.udid.specs.declared.Udid.{Udid}
 use Rattle.commands.specs.Codes.{send_byte, block_read, block_write}
 use Rattle.commands.specs.Requests.{assign_data, message_of, trace_of}

@@ -13,16 +13,16 @@ use Rattle.wire.specs.declared.address.Address.{Address}
 use Rattle.trace.specs.Shapes.{protocols, shape_of}
 use Rattle.trace.specs.Trace.{Valid, Message, acked}
 use Rattle.trace.specs.DataFits.{DataFits}
-use Rattle.trace.specs.DataFitsLaws.{listed_lengths_fit, fitting_lengths_listed}
-use Rattle.trace.specs.FieldLaws.{lengths_exactly}
-use Rattle.trace.specs.LengthLaws.{length_acked}
+use Rattle.trace.proofs.DataFitsLaws.{listed_lengths_fit, fitting_lengths_listed}
+use Rattle.trace.proofs.FieldLaws.{lengths_exactly}
+use Rattle.trace.proofs.LengthLaws.{length_acked}
 use Rattle.encode.specs.Encode.{symbols_of, Wrote, encode_number}
 use Rattle.encode.specs.EncodeLaws.{written_valid, one_outcome, answer_1, answer_2, refusal_untouched}
 use Rattle.encode.specs.Listed.{Listed, unknown_protocol, address_above_127, direction_above_1, quick_with_pec, lacking_command, lacking_direction, forbidden_length}
 use Rattle.encode.specs.declared.Encoded.{Encoded}
 use Rattle.encode.specs.declared.Encoded.TheVariants.{Written}
 use Rattle.udid.specs.Bytes.{udid_bytes}
-use Rattle.udid.specs.UdidLaws.{length_udid}
+use Rattle.udid.proofs.UdidLaws.{length_udid}
 use Rattle.udid.specs.declared.Udid.{Udid}
 use Rattle.commands.specs.RequestLaws.{valid_prepare, valid_get, assign_data_has_17_bytes, assign_has_44_symbols, valid_assign, assign_symbols_small}
 use Rattle.commands.specs.Sending.{Sent, Unsendable, AssignWritten}

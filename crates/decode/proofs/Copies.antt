@@ -11,7 +11,7 @@ use Rattle.lists.specs.Choice.{pick}
 use Rattle.lists.specs.Onto.{onto}
 use Rattle.lists.specs.OntoLaws.{onto_put}
 use Rattle.trace.specs.declared.shape.Shape.{Shape}
-use Rattle.scan.specs.DataLaws.{length_lows}
+use Rattle.scan.proofs.DataLaws.{length_lows}
 use Rattle.scan.specs.Handed.{lows, count_places, sent_place, received_place}
 
 lows_more : (n : ℕ) (l : List ℕ) → lows (suc n) l ≡ lows n l ++ (get_or l (2 * n) 0 % 256) ∷ []

@@ -9,14 +9,14 @@ use Rattle.lists.specs.Onto.{onto}
 use Rattle.trace.specs.declared.shape.Shape.{Shape}
 use Rattle.trace.specs.Shapes.{shape_of, forbidden}
 use Rattle.trace.specs.Sane.{Sane}
-use Rattle.trace.specs.ShapeLaws.{sane}
+use Rattle.trace.proofs.ShapeLaws.{sane}
 use Rattle.scan.specs.declared.answer.Decoded.{Decoded}
 use Rattle.scan.specs.declared.answer.Decoded.TheVariants.{Refused}
 use Rattle.scan.specs.declared.answer.Refusal.TheVariants.{Forbidden, BufferTooShort}
 use Rattle.scan.specs.Run.{decoded_by}
 use Rattle.scan.specs.Handed.{sent_length, received_length, sent_place, received_place, sent_data, received_data}
 use Rattle.scan.specs.Sizes.{Sizes}
-use Rattle.scan.specs.SizeLaws.{sizes_of_answer}
+use Rattle.scan.proofs.SizeLaws.{sizes_of_answer}
 use Rattle.decode.specs.Outcome.{short, answered_by, OutcomeBy, Outcome}
 
 -- both buffers are long enough

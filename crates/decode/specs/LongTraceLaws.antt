@@ -9,10 +9,10 @@ use Rattle.lists.specs.Onto.{onto}
 use Rattle.wire.specs.Symbols.{STOP, ACK, NACK}
 use Rattle.trace.specs.declared.shape.Shape.{Shape}
 use Rattle.trace.specs.Shapes.{shape_of, forbidden, reads}
-use Rattle.trace.specs.ShapeLaws.{sane}
+use Rattle.trace.proofs.ShapeLaws.{sane}
 use Rattle.trace.specs.Trace.{Message, in_place, nacked, laid, by_target, by_controller, trace_at, Valid}
-use Rattle.trace.specs.LengthLaws.{length_at, trace_length_lem}
-use Rattle.trace.specs.ColumnsLaws.{longest}
+use Rattle.trace.proofs.LengthLaws.{length_at, trace_length_lem}
+use Rattle.trace.proofs.ColumnsLaws.{longest}
 use Rattle.scan.specs.declared.answer.Decoded.{Decoded}
 use Rattle.scan.specs.declared.answer.Decoded.TheVariants.{Done, Refused}
 use Rattle.scan.specs.declared.answer.Refusal.TheVariants.{Forbidden, BufferTooShort}
@@ -26,9 +26,9 @@ use Rattle.scan.specs.Refusal.{why}
 use Rattle.scan.specs.Run.{run, concluded, decoded_by}
 use Rattle.scan.specs.Handed.{lows, sent_length, sent_place, received_length, received_place}
 use Rattle.scan.specs.Answers.{Member, Fits, Answers}
-use Rattle.scan.specs.RunLaws.{refused_not_reading}
-use Rattle.scan.specs.MemberLaws.{fits_back}
-use Rattle.scan.specs.DecideLaws.{answer_holds}
+use Rattle.scan.proofs.RunLaws.{refused_not_reading}
+use Rattle.scan.proofs.MemberLaws.{fits_back}
+use Rattle.scan.proofs.DecideLaws.{answer_holds}
 use Rattle.decode.specs.Outcome.{short, answered_by, answered, Outcome}
 
 module _ (protocol : ℕ) (p : Bool) where

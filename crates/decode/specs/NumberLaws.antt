@@ -4,29 +4,29 @@ use Rattle.std.specs.Prelude.{◌≡◌, refl, Bool, true, false, List, [], ◌�
 use Rattle.std.proofs.Common.{ap, ◌∙◌, subst, inl, inr, arith, ltb-true, lt-ltb, le-ltb}
 use Rattle.lists.specs.Choice.{or}
 use Rattle.lists.specs.ChoiceLaws.{or_last}
-use Rattle.trace.specs.ForbiddenLaws.{forbidden_cases, taken_cases}
+use Rattle.trace.proofs.ForbiddenLaws.{forbidden_cases, taken_cases}
 use Rattle.trace.specs.Table.{last_protocol}
-use Rattle.trace.specs.ShapeLaws.{sane, to_last_known, known_to_last}
+use Rattle.trace.proofs.ShapeLaws.{sane, to_last_known, known_to_last}
 use Rattle.trace.specs.Shapes.{protocols, shape_of, forbidden}
 use Rattle.trace.specs.Table.{TraceOf, send_byte}
-use Rattle.trace.specs.TableLaws.{listed_trace, trace_listed}
+use Rattle.trace.proofs.TableLaws.{listed_trace, trace_listed}
 use Rattle.trace.specs.Trace.{Message, trace, Valid}
 use Rattle.trace.specs.declared.shape.Shape.{Shape}
 use Rattle.misfit.specs.declared.kind.Kind.{Kind}
 use Rattle.misfit.specs.declared.kind.Kind.TheVariants.{Swapped, Misaddressed, Miscounted, Other}
 use Rattle.scan.specs.Answers.{summary, shape_cases}
-use Rattle.scan.specs.AnswersLaws as step
-use Rattle.scan.specs.BytesInLaws.{byte_more}
+use Rattle.scan.proofs.AnswersLaws as step
+use Rattle.scan.proofs.BytesInLaws.{byte_more}
 use Rattle.scan.specs.Because.{Because}
 use Rattle.scan.specs.BecauseLaws.{Agree, wrong_agrees, because_agrees}
-use Rattle.scan.specs.CountFittingLaws.{count_too_high}
-use Rattle.scan.specs.DecideLaws as Decides
+use Rattle.scan.proofs.CountFittingLaws.{count_too_high}
+use Rattle.scan.proofs.DecideLaws as Decides
 use Rattle.scan.specs.Fitting.{OtherPec, Wrong, BitSwapped, CountTooHigh, table_cases}
-use Rattle.scan.specs.FittingLaws.{cases_shaped, other_pec_shaped, other_pec_byte, bit_shaped}
+use Rattle.scan.proofs.FittingLaws.{cases_shaped, other_pec_shaped, other_pec_byte, bit_shaped}
 use Rattle.scan.specs.Numbers.{refusal_number, decode_number}
 use Rattle.scan.specs.Refusal.{refusal_of}
 use Rattle.scan.specs.Run.{decoded_by}
-use Rattle.scan.specs.SwapLaws.{wrong_ack_is, is_wrong_ack}
+use Rattle.scan.proofs.SwapLaws.{wrong_ack_is, is_wrong_ack}
 use Rattle.scan.specs.declared.answer.Decoded.{Decoded}
 use Rattle.scan.specs.declared.answer.Decoded.TheVariants.{Done}
 use Rattle.scan.specs.declared.answer.Refusal.{Refusal}

@@ -19,7 +19,7 @@ use Rattle.scan.specs.Handed.{sent_data, received_data}
 use Rattle.scan.specs.NumberLaws.{refused_of}
 use Rattle.scan.specs.Numbers.{refusal_number, decode_number}
 use Rattle.scan.specs.Answers.{Because, summary}
-use Rattle.scan.specs.AnswersLaws as step
+use Rattle.scan.proofs.AnswersLaws as step
 use Rattle.decode.specs.EntryLaws.{both_at_least_255}
 use Rattle.decode.specs.Outcome.{short, EnteredBy, answered_by, OutcomeBy, Unread, Read, MeansBy}
 

@@ -2,7 +2,7 @@
 -- case, a refusal changes no byte of either buffer, and a trace of the encoder gives back its message.
 use Rattle.std.specs.Prelude.{◌≡◌, Bool, true, false, List, ◌++◌, ◌↔◌, ℕ, length, drop}
 use Rattle.trace.specs.Shapes.{shape_of, forbidden}
-use Rattle.trace.specs.ShapeLaws.{sane}
+use Rattle.trace.proofs.ShapeLaws.{sane}
 use Rattle.trace.specs.Trace.{Message, trace, Valid}
 use Rattle.scan.specs.declared.answer.Decoded.{Decoded}
 use Rattle.scan.specs.declared.answer.Decoded.TheVariants.{Done}

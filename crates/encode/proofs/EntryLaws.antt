@@ -15,10 +15,10 @@ use Rattle.trace.specs.Sane.{Sane}
 use Rattle.trace.specs.Trace.{Message, trace}
 use Rattle.trace.specs.Allowed.{address_fits, direction_fits, command_fits, lengths_fit, allowed}
 use Rattle.trace.specs.Lengths.{trace_length, room_by}
-use Rattle.trace.specs.LengthLaws.{trace_length_lem}
-use Rattle.trace.specs.RoomLaws.{room_by_lem, some_length, some_room}
-use Rattle.trace.specs.ShapeLaws.{sane}
-use Rattle.trace.specs.ValidLaws.{allowed_valid}
+use Rattle.trace.proofs.LengthLaws.{trace_length_lem}
+use Rattle.trace.proofs.RoomLaws.{room_by_lem, some_length, some_room}
+use Rattle.trace.proofs.ShapeLaws.{sane}
+use Rattle.trace.proofs.ValidLaws.{allowed_valid}
 use Rattle.encode.specs.declared.Encoded.{Encoded}
 use Rattle.encode.specs.declared.Encoded.TheVariants.{Written, Forbidden, OutputTooShort}
 use Rattle.encode.specs.Encode.{refused_by, encoded_by, WroteBy, Wrote}

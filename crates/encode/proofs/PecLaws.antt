@@ -4,7 +4,7 @@ use mathlib.Core.Bool.{Bool, true, false}
 use mathlib.Core.List.{List, ◌++◌}
 use Prim.Native.Nat.{ℕ}
 use Rattle.pec.specs.Pec.{pec_step, pec_from, pec_of}
-use Rattle.pec.specs.PecLaws.{pec_append, pec_cons, pec_nil}
+use Rattle.pec.proofs.PecLaws.{pec_append, pec_cons, pec_nil}
 use Rattle.trace.specs.declared.shape.Part.{Part}
 use Rattle.trace.specs.declared.shape.Shape.{Shape}
 use Rattle.trace.specs.Shapes.{is_counted, writes, reads}

@@ -12,7 +12,7 @@ use Rattle.trace.specs.declared.shape.Part.{Part}
 use Rattle.trace.specs.declared.shape.Shape.{Shape}
 use Rattle.trace.specs.Shapes.{is_counted, writes, reads}
 use Rattle.trace.specs.Trace.{acked, nacked, in_place}
-use Rattle.trace.specs.LengthLaws.{length_acked, length_nacked}
+use Rattle.trace.proofs.LengthLaws.{length_acked, length_nacked}
 use Rattle.encode.specs.Pieces.{count_byte, part_bytes, write_bytes, write_phase, repeated_start, read_bytes, read_phase, ending, rest}
 use Rattle.encode.proofs.WriterLaws.{put_start, onto_next, onto_next_acked, onto_nack_stop}
 

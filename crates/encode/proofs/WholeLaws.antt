@@ -15,15 +15,15 @@ use Rattle.lists.specs.Onto.{onto}
 use Rattle.lists.specs.OntoLaws.{onto_lent}
 use Rattle.wire.specs.Symbols.{START, STOP, ACK}
 use Rattle.pec.specs.Pec as Pec
-use Rattle.pec.specs.PecLaws.{pec_append}
+use Rattle.pec.proofs.PecLaws.{pec_append}
 use Rattle.trace.specs.declared.shape.Part.{Part}
 use Rattle.trace.specs.declared.shape.Part.TheVariants.{Nothing, Fixed, Counted}
 use Rattle.trace.specs.declared.shape.Shape.{Shape}
 use Rattle.trace.specs.Shapes.{some, writes, reads}
 use Rattle.trace.specs.Sane.{Small}
 use Rattle.trace.specs.Trace.{Message, W, R, laid, acked, nacked, LengthOf, counted, first_byte, front, bytes, pec_of, in_place, by_controller, trace}
-use Rattle.trace.specs.LengthLaws.{length_acked}
-use Rattle.trace.specs.ValidLaws.{address_below_128}
+use Rattle.trace.proofs.LengthLaws.{length_acked}
+use Rattle.trace.proofs.ValidLaws.{address_below_128}
 use Rattle.encode.specs.Pieces.{part_bytes, first_of, write_bytes, write_phase, repeated_start, read_bytes, read_phase, rest, bytes_after, pec_of_phases, Ready}
 
 -- nothing is cut: a count of at most 255, an address of seven bits, a direction of one

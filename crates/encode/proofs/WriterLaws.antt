@@ -13,8 +13,8 @@ use Rattle.lists.specs.Onto.{onto}
 use Rattle.lists.specs.OntoLaws.{onto_put, onto_onto, onto_take}
 use Rattle.wire.specs.Symbols.{START, STOP, ACK, NACK}
 use Rattle.trace.specs.Trace.{acked, nacked, in_place}
-use Rattle.trace.specs.AckedLaws.{double_suc_plus_one}
-use Rattle.trace.specs.LengthLaws.{length_acked, length_nacked}
+use Rattle.trace.proofs.AckedLaws.{double_suc_plus_one}
+use Rattle.trace.proofs.LengthLaws.{length_acked, length_nacked}
 use Rattle.encode.specs.Pieces.{repeated_start}
 
 pub acked_append : (xs ys : List ℕ) → acked (xs ++ ys) ≡ acked xs ++ acked ys

@@ -10,7 +10,7 @@ use Rattle.lists.specs.Onto.{onto}
 use Rattle.trace.specs.declared.shape.Shape.{Shape}
 use Rattle.trace.specs.Trace.{Message, trace, Valid}
 use Rattle.trace.specs.Allowed.{allowed}
-use Rattle.trace.specs.ValidLaws.{allowed_valid, valid_allowed}
+use Rattle.trace.proofs.ValidLaws.{allowed_valid, valid_allowed}
 use Rattle.encode.specs.declared.Encoded.{Encoded}
 use Rattle.encode.specs.declared.Encoded.TheVariants.{Written, Forbidden, OutputTooShort}
 use Rattle.encode.specs.Encode.{encode_number, refused_by, encoded_by, symbols_of, WroteBy}

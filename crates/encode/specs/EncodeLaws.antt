@@ -7,7 +7,7 @@ use Rattle.lists.specs.ChoiceLaws.{not_both}
 use Rattle.lists.specs.Each.{Bytes}
 use Rattle.trace.specs.declared.shape.Shape.{Shape}
 use Rattle.trace.specs.Shapes.{protocols, shape_of, forbidden}
-use Rattle.trace.specs.ForbiddenLaws.{taken_cases}
+use Rattle.trace.proofs.ForbiddenLaws.{taken_cases}
 use Rattle.trace.specs.Trace.{Message, trace, Valid}
 use Rattle.encode.specs.declared.Encoded.{Encoded}
 use Rattle.encode.specs.declared.Encoded.TheVariants.{Written, Forbidden, OutputTooShort}

@@ -7,9 +7,9 @@ use Rattle.lists.specs.Choice.{pick, or, and, not}
 use Rattle.lists.specs.ChoiceLaws.{false_not_true, not_both, or_last}
 use Rattle.trace.specs.declared.shape.Shape.{Shape}
 use Rattle.trace.specs.Shapes.{protocols, shape_of, forbidden, writes, reads}
-use Rattle.trace.specs.FieldLaws.{address_of_row, command_of_row, direction_of_row}
-use Rattle.trace.specs.ForbiddenLaws.{forbidden_is}
-use Rattle.trace.specs.DataFitsLaws.{listed_lengths_fit, fitting_lengths_listed}
+use Rattle.trace.proofs.FieldLaws.{address_of_row, command_of_row, direction_of_row}
+use Rattle.trace.proofs.ForbiddenLaws.{forbidden_is}
+use Rattle.trace.proofs.DataFitsLaws.{listed_lengths_fit, fitting_lengths_listed}
 use Rattle.trace.specs.Trace.{Message}
 use Rattle.trace.specs.Allowed.{lengths_fit, address_fits, direction_fits, command_fits, allowed}
 use Rattle.encode.specs.Encode.{refused_by, refused}

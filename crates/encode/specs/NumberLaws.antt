@@ -5,7 +5,7 @@ use Rattle.lists.specs.ChoiceLaws.{not_both}
 use Rattle.lists.specs.Each.{Bytes}
 use Rattle.trace.specs.Shapes.{shape_of}
 use Rattle.trace.specs.Table.{TraceOf}
-use Rattle.trace.specs.TableLaws.{listed_trace, trace_listed, quick_plain}
+use Rattle.trace.proofs.TableLaws.{listed_trace, trace_listed, quick_plain}
 use Rattle.trace.specs.Trace.{Message, trace}
 use Rattle.encode.specs.Encode.{encode_number, refused, Wrote}
 use Rattle.encode.specs.EncodeLaws.{unlisted_valid, answer_0, answer_1, answer_2}

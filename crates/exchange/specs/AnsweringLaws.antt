@@ -23,7 +23,7 @@ use Rattle.module.specs.declared.state.Phase.TheVariants.{Reply}
 use Rattle.module.specs.State.{at, silent_in}
 use Rattle.module.specs.Supply.{address_byte, reply_byte, supplies}
 use Rattle.module.specs.Says.{says, reply, asked_pec}
-use Rattle.module.specs.SupplyLaws.{reply_says}
+use Rattle.module.proofs.SupplyLaws.{reply_says}
 use Rattle.exchange.specs.AlikeLaws.{Says, some, seen_alike}
 use Rattle.exchange.specs.Exchange.{record_of, records_of, asked, seen, byte_on, bytes_on, after_bytes, reading}
 use Rattle.exchange.specs.KeptLaws.{bytes_records}

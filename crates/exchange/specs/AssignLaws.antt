@@ -13,7 +13,7 @@ use Rattle.pec.specs.Pec.{pec_step, pec_from, pec_of}
 use Rattle.wire.specs.declared.address.Address.{Address}
 use Rattle.udid.specs.Bytes.{udid_bytes}
 use Rattle.udid.specs.Udids.{Fits, same_udid}
-use Rattle.udid.specs.UdidLaws.{length_udid, same_bytes, same_refl, other_udid}
+use Rattle.udid.proofs.UdidLaws.{length_udid, same_bytes, same_refl, other_udid}
 use Rattle.udid.specs.declared.Udid.{Udid}
 use Rattle.targets.specs.Target.{Target, assigned_to}
 use Rattle.commands.specs.SameTrace.{same}

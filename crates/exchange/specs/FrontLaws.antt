@@ -7,7 +7,7 @@ use Rattle.module.specs.declared.state.Module.{Module}
 use Rattle.module.specs.declared.state.Phase.TheVariants.{Command}
 use Rattle.module.specs.Receive.{for_write, starts}
 use Rattle.module.specs.State.{at}
-use Rattle.module.specs.SupplyLaws.{start_write}
+use Rattle.module.proofs.SupplyLaws.{start_write}
 use Rattle.exchange.specs.Exchange.{record_of}
 use Rattle.exchange.specs.WalkLaws.{Follows, follows_ack}
 

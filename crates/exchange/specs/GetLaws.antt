@@ -25,7 +25,7 @@ use Rattle.module.specs.declared.state.Phase.TheVariants.{Command, Asked, AskedA
 use Rattle.module.specs.Obeys.{heard_all}
 use Rattle.module.specs.Receive.{for_write, for_read, starts, receives}
 use Rattle.module.specs.State.{at, taken, refused}
-use Rattle.module.specs.SupplyLaws.{start_write, asked_general}
+use Rattle.module.proofs.SupplyLaws.{start_write, asked_general}
 use Rattle.exchange.specs.AnsweringLaws.{answering, asking, get_ack, shows, read_same}
 use Rattle.exchange.specs.Exchange.{record_of, records_of, hearing, any_ack, walk, reading, exchange}
 use Rattle.exchange.specs.FrontLaws.{first, first_ack, front_follows}

@@ -8,7 +8,7 @@ use Rattle.module.specs.declared.state.Lasting.{Lasting}
 use Rattle.module.specs.declared.state.Module.{Module}
 use Rattle.module.specs.Receive.{loses}
 use Rattle.module.specs.Supply.{address_byte}
-use Rattle.module.specs.SupplyLaws.{supplied_own}
+use Rattle.module.proofs.SupplyLaws.{supplied_own}
 use Rattle.exchange.specs.Exchange.{record_of, records_of, Sender, asked, line, sees, after, after_byte, after_bytes}
 
 sees_record : (w : Bool) (s : Sender) → record_of (sees w s).who ≡ record_of s.who

@@ -12,7 +12,7 @@ use Rattle.hearing.specs.ToldLaws.{Known}
 use Rattle.hearing.specs.declared.told.Told.{Told}
 use Rattle.hearing.specs.declared.told.Told.TheVariants.{Again, Over, GivenUp, Reply, Took, Unasked}
 use Rattle.arp.specs.Bindings.{freed, bound}
-use Rattle.arp.specs.ChangedLaws.{by_told}
+use Rattle.arp.proofs.ChangedLaws.{by_told}
 use Rattle.arp.specs.Controller.{handed, asked, counted, issued, replied, changed, stepped}
 use Rattle.picking.specs.Picking.{has_to_pick, chosen}
 use Rattle.arp.specs.declared.state.Controller.{Controller}

@@ -15,7 +15,7 @@ use Rattle.module.specs.declared.state.Lasting.{Lasting}
 use Rattle.module.specs.declared.state.Module.{Module}
 use Rattle.module.specs.Receive.{starts, receives, stops}
 use Rattle.module.specs.State.{silent_in, refused}
-use Rattle.module.specs.SupplyLaws.{silent_nack}
+use Rattle.module.proofs.SupplyLaws.{silent_nack}
 use Rattle.exchange.specs.Exchange.{record_of, records_of, hearing, any_ack, Left, put, stop_all, walk}
 
 -- ---- a module beside its record

@@ -9,7 +9,7 @@ use Rattle.lists.specs.ChoiceLaws.{both_true, false_not_true, not_both}
 use Rattle.lists.specs.Each.{Each, Bytes}
 use Rattle.lists.specs.LengthLaws.{empty_of_length}
 use Rattle.udid.specs.Bytes.{bytes_of, udid_bytes}
-use Rattle.udid.specs.UdidLaws.{udid_bytes_lem, same_bytes}
+use Rattle.udid.proofs.UdidLaws.{udid_bytes_lem, same_bytes}
 use Rattle.udid.specs.Udids.{Fits}
 use Rattle.arbitration.specs.Among.{Among}
 use Rattle.arbitration.specs.Bits.{number_of}
@@ -22,7 +22,7 @@ use Rattle.module.specs.declared.state.Phase.TheVariants.{Reply}
 use Rattle.module.specs.State.{at}
 use Rattle.module.specs.Supply.{reply_byte, supplied_in, supplies}
 use Rattle.module.specs.Says.{says, asked_pec}
-use Rattle.module.specs.SupplyLaws.{supplied_own}
+use Rattle.module.proofs.SupplyLaws.{supplied_own}
 use Rattle.exchange.specs.AnsweringLaws.{replying, answering, answering_talks, answering_records}
 use Rattle.exchange.specs.EachLaws.{each_made}
 use Rattle.exchange.specs.Exchange.{Fitting, records_of, Sender, asked, line, sees, seen, after, byte_on, after_byte, bytes_on, after_bytes}

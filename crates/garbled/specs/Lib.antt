@@ -2,9 +2,6 @@ pub mod Places
 pub mod WireBytesLaws
 pub mod SetLaws
 pub mod TraceSetLaws
-pub mod StaysLaws
-pub mod PlacesLaws
 pub mod VerdictLaws
 pub mod Sizes
 pub mod SizesLaws
-pub mod ExampleLaws

@@ -3,8 +3,8 @@ use Rattle.std.specs.Prelude.{◌≡◌, refl, Bool, true, false, List, [], ◌�
 use Rattle.std.proofs.Common.{sym, ap, ap₂, ◌∙◌, subst, zero-add, arith, length-set}
 use Rattle.std.proofs.lemmas.List.{set-append_left}
 use Rattle.lists.specs.Choice.{pick}
-use Rattle.trace.specs.AckedLaws.{double_suc}
-use Rattle.trace.specs.LengthLaws.{laid_length}
+use Rattle.trace.proofs.AckedLaws.{double_suc}
+use Rattle.trace.proofs.LengthLaws.{laid_length}
 use Rattle.trace.specs.Shapes.{is_counted}
 use Rattle.trace.specs.Trace.{laid, acked, ack_of, nacked, LengthOf}
 use Rattle.trace.specs.declared.shape.Part.{Part}

@@ -4,8 +4,8 @@ use Rattle.std.proofs.Common.{sym, ap, ◌∙◌, arith, length-append}
 use Rattle.std.proofs.lemmas.List.{set-append_left, set_at}
 use Rattle.lists.specs.Choice.{pick}
 use Rattle.lists.specs.ChoiceLaws.{false_not_true}
-use Rattle.trace.specs.LengthLaws.{length_acked, length_nacked, laid_length}
-use Rattle.trace.specs.PecPlaceLaws.{around_pec}
+use Rattle.trace.proofs.LengthLaws.{length_acked, length_nacked, laid_length}
+use Rattle.trace.proofs.PecPlaceLaws.{around_pec}
 use Rattle.trace.specs.Shapes.{is_counted, writes, reads}
 use Rattle.trace.specs.Trace.{Message, laid, acked, nacked, first_byte, front, by_target, by_controller, trace_at}
 use Rattle.trace.specs.declared.shape.Shape.{Shape}

@@ -6,16 +6,16 @@ use Rattle.std.proofs.lemmas.List.{get_or_at}
 use Rattle.lists.specs.Choice.{pick}
 use Rattle.lists.specs.Each.{Bytes}
 use Rattle.pec.specs.Pec.{pec_of}
-use Rattle.trace.specs.PecPlaceLaws.{pec_third}
-use Rattle.trace.specs.ShapeLaws.{sane}
+use Rattle.trace.proofs.PecPlaceLaws.{pec_third}
+use Rattle.trace.proofs.ShapeLaws.{sane}
 use Rattle.trace.specs.Shapes.{shape_of}
 use Rattle.trace.specs.Table.{Line, Row, InTable, symbols, TraceOf}
-use Rattle.trace.specs.TableLaws.{row_means}
+use Rattle.trace.proofs.TableLaws.{row_means}
 use Rattle.trace.specs.Trace.{Message}
 use Rattle.scan.specs.BytesIn.{bytes_in}
 use Rattle.scan.specs.Fitting.{Whole}
 use Rattle.scan.specs.Numbers.{decode_number}
-use Rattle.scan.specs.PecByteLaws.{pec_lt}
+use Rattle.scan.proofs.PecByteLaws.{pec_lt}
 use Rattle.scan.specs.declared.answer.Decoded.{Decoded}
 use Rattle.scan.specs.declared.answer.Refusal.TheVariants.{PecDiffers}
 use Rattle.decode.specs.NumberLaws.{decode_0, decode_refused, decode_refusal}

@@ -5,16 +5,16 @@ use Rattle.lists.specs.Choice.{pick}
 use Rattle.lists.specs.Each.{Bytes}
 use Rattle.lists.specs.EachLaws.{append_bytes}
 use Rattle.trace.specs.Sane.{Sane}
-use Rattle.trace.specs.ShapeLaws.{sane}
+use Rattle.trace.proofs.ShapeLaws.{sane}
 use Rattle.trace.specs.Shapes.{shape_of, writes, reads}
 use Rattle.trace.specs.Table.{Line, InTable, symbols}
-use Rattle.trace.specs.TableLaws.{row_means}
+use Rattle.trace.proofs.TableLaws.{row_means}
 use Rattle.trace.specs.Trace.{Message, laid, acked, ack_of, nacked, first_byte, front, bytes, by_target, by_controller, trace_at, Valid}
 use Rattle.trace.specs.declared.shape.Shape.{Shape}
 use Rattle.scan.specs.BytesIn.{bytes_in}
-use Rattle.scan.specs.BytesInLaws.{byte_more, no_byte_more, bytes_append, bytes_acked}
-use Rattle.scan.specs.ForwardLaws.{first_byte_fits}
-use Rattle.scan.specs.PecByteLaws.{laid_bytes, front_bytes}
+use Rattle.scan.proofs.BytesInLaws.{byte_more, no_byte_more, bytes_append, bytes_acked}
+use Rattle.scan.proofs.ForwardLaws.{first_byte_fits}
+use Rattle.scan.proofs.PecByteLaws.{laid_bytes, front_bytes}
 
 -- what a received byte gets is no byte
 ack_is_none : (bs l : List ℕ) → bytes_in (ack_of bs ∷ l) ≡ bytes_in l

@@ -9,9 +9,9 @@ use Rattle.scan.specs.Numbers.{is_nack}
 use Rattle.scan.specs.declared.answer.Decoded.{Decoded}
 use Rattle.scan.specs.declared.answer.Decoded.TheVariants.{Done, Refused}
 use Rattle.udid.specs.Bytes.{udid_at}
-use Rattle.udid.specs.UdidLaws.{fits_at}
+use Rattle.udid.proofs.UdidLaws.{fits_at}
 use Rattle.udid.specs.Udids.{Fits}
-use Rattle.udid.specs.WindowLaws.{byte_at}
+use Rattle.udid.proofs.WindowLaws.{byte_at}
 use Rattle.udid.specs.declared.Udid.{Udid}
 use Rattle.wire.specs.declared.address.Address.{Address}
 use Rattle.hearing.specs.TraceLaws.{complete_assign_is_its_trace}

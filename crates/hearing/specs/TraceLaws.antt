@@ -10,11 +10,11 @@ use Rattle.lists.specs.Each.{Bytes}
 use Rattle.wire.specs.Addresses.{default_address}
 use Rattle.wire.specs.declared.address.Address.{Address}
 use Rattle.lists.specs.ChoiceLaws.{both_true}
-use Rattle.trace.specs.ShapeLaws.{sane}
+use Rattle.trace.proofs.ShapeLaws.{sane}
 use Rattle.trace.specs.Shapes.{shape_of}
 use Rattle.trace.specs.Trace.{Message, trace, Valid}
 use Rattle.trace.specs.declared.transaction.Transaction.{Transaction}
-use Rattle.scan.specs.AnswersLaws as step
+use Rattle.scan.proofs.AnswersLaws as step
 use Rattle.scan.specs.Answers.{CutAt, Carries, summary}
 use Rattle.scan.specs.Handed.{sent_data, received_data}
 use Rattle.scan.specs.NumberLaws.{nack_is}
@@ -24,7 +24,7 @@ use Rattle.scan.specs.declared.answer.Decoded.TheVariants.{Done, Refused}
 use Rattle.scan.specs.declared.answer.Refusal.{Refusal}
 use Rattle.scan.specs.declared.answer.Refusal.TheVariants.{NotAcknowledged}
 use Rattle.udid.specs.Bytes.{udid_bytes, udid_at}
-use Rattle.udid.specs.UdidLaws.{length_udid, udid_back, bytes_back, same_equal, same_refl}
+use Rattle.udid.proofs.UdidLaws.{length_udid, udid_back, bytes_back, same_equal, same_refl}
 use Rattle.udid.specs.Udids.{Fits, same_udid}
 use Rattle.udid.specs.declared.Udid.{Udid}
 use Rattle.commands.specs.RequestLaws.{valid_prepare, valid_get, assign_data_has_17_bytes, valid_assign}

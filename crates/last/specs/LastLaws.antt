@@ -8,7 +8,7 @@ use Rattle.lists.specs.ChoiceLaws.{both_true}
 use Rattle.trace.specs.declared.transaction.Transaction.{Transaction}
 use Rattle.trace.specs.Shapes.{protocols, reads, shape_of}
 use Rattle.trace.specs.Allowed.{lengths_fit}
-use Rattle.trace.specs.DataFitsLaws.{listed_lengths_fit, fitting_lengths_listed}
+use Rattle.trace.proofs.DataFitsLaws.{listed_lengths_fit, fitting_lengths_listed}
 use Rattle.last.specs.Last.{belongs, chosen, last_data, last_place, Whole, Gives}
 
 -- the tests pass exactly for a whole transaction

@@ -1,10 +1,9 @@
 -- Which bytes a module acknowledges, said of the bytes that follow a START: those, and only those, that with all before them are the
 -- beginning of a command that it knows.
-use Rattle.std.specs.Prelude.{ℕ, ◌+◌, ◌*◌, Bool, true, false, List, [], ◌∷◌, get_or}
+use Rattle.std.specs.Prelude.{ℕ, ◌+◌, ◌*◌, Bool, true, List, [], ◌∷◌, get_or}
 use Rattle.lists.specs.Choice.{and, or}
 use Rattle.module.specs.declared.state.Lasting.{Lasting}
 use Rattle.module.specs.declared.state.Module.{Module}
-use Rattle.module.specs.declared.state.Heard.{Heard}
 use Rattle.module.specs.Receive.{for_write, receives}
 use Rattle.module.specs.Obeys.{begins, prepare_order, reset_order, directed_reset, assign_order, is_reachable}
 

@@ -1,7 +1,7 @@
 -- A byte of an identifier by its place.
-use Rattle.std.specs.Prelude.{ℕ, zero, suc, ◌+◌, ◌*◌, ◌-◌, ◌/◌, ◌%◌, ◌^◌, ◌<◌, ◌≤◌, ◌≡◌, refl, List, [], ◌∷◌, ◌++◌, length, get_or}
-use Rattle.std.proofs.Common.{sym, ap, ◌∙◌, arith, get_or-append-add}
-use Rattle.udid.specs.ByteLaws.{length_bytes}
+use Rattle.std.specs.Prelude.{ℕ, zero, suc, ◌+◌, ◌*◌, ◌-◌, ◌/◌, ◌%◌, ◌^◌, ◌<◌, ◌≤◌, ◌≡◌, refl, length, get_or}
+use Rattle.std.proofs.Common.{sym, arith, get_or-append-add}
+use Rattle.udid.proofs.ByteLaws.{length_bytes}
 use Rattle.udid.specs.Bytes.{bytes_of, udid_bytes}
 use Rattle.udid.specs.declared.Udid.{Udid}
 

@@ -6,15 +6,6 @@ pub mod Receive
 pub mod Supply
 pub mod Obeys
 pub mod Says
-pub mod ObeysLaws
-pub mod SupplyLaws
 pub mod Acknowledges
-pub mod AckLaws
-pub mod NackLaws
 pub mod Packets
-pub mod PacketsLaws
-pub mod ResetLaws
 pub mod ResumeLaws
-pub mod PecDueLaws
-pub mod MiddleLaws
-pub mod StartLaws

@@ -1,18 +1,14 @@
 -- What a module obeys, said of the bytes that follow a START: it changes if and only if they begin with a whole Prepare To ARP, Reset Device,
 -- general or directed to it, or Assign Address with its identifier, the last byte being the right PEC.
 use Rattle.std.specs.Prelude.{ℕ, ◌*◌, ◌/◌, Bool, true, false, List, [], ◌∷◌, ◌++◌, leb, eqb, get_or}
-use Rattle.lists.specs.Choice.{pick, and, or}
+use Rattle.lists.specs.Choice.{pick, and}
 use Rattle.pec.specs.Pec.{pec_of}
 use Rattle.udid.specs.Bytes.{udid_bytes}
 use Rattle.udid.specs.declared.Udid.{Udid}
 use Rattle.module.specs.declared.state.Lasting.{Lasting}
 use Rattle.module.specs.declared.state.Module.{Module}
-use Rattle.module.specs.declared.state.Heard.{Heard}
-use Rattle.module.specs.declared.state.Supplied.{Supplied}
-use Rattle.module.specs.State.{silent_in}
 use Rattle.module.specs.Reset.{prepared, assigned, reset}
 use Rattle.module.specs.Receive.{for_write, receives}
-use Rattle.module.specs.Supply.{supplies}
 
 -- the module after bytes received
 unfoldable pub heard_all : Module → List ℕ → Module

@@ -1,5 +1,5 @@
 -- What a module obeys and acknowledges, in the words of the bus: whole packets, and beginnings of them.
-use Rattle.std.specs.Prelude.{ℕ, ◌+◌, ◌*◌, ◌/◌, ◌≤◌, ◌<◌, ◌≡◌, Bool, true, false, ◌⊎◌, List, [], ◌∷◌, ◌++◌, get_or, take}
+use Rattle.std.specs.Prelude.{ℕ, ◌+◌, ◌*◌, ◌/◌, ◌≤◌, ◌<◌, ◌≡◌, true, false, ◌⊎◌, List, [], ◌∷◌, ◌++◌, get_or, take}
 use Rattle.udid.specs.Bytes.{bytes_of, udid_bytes}
 use Rattle.udid.specs.declared.Udid.{Udid}
 use Rattle.module.specs.declared.state.Lasting.{Lasting}

@@ -1,5 +1,5 @@
 -- START, STOP and lost; a byte received, phase by phase: 6.6.3.12, steps 7 to 29.
-use Rattle.std.specs.Prelude.{ℕ, ◌+◌, ◌/◌, ◌%◌, Bool, true, false, ltb, leb, eqb, get_or}
+use Rattle.std.specs.Prelude.{ℕ, ◌+◌, ◌/◌, ◌%◌, Bool, false, ltb, leb, eqb, get_or}
 use Rattle.lists.specs.Choice.{pick, and}
 use Rattle.pec.specs.Pec.{pec_step}
 use Rattle.udid.specs.Bytes.{udid_bytes}

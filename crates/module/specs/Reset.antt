@@ -1,5 +1,5 @@
 -- What the commands do to what outlasts a packet: 6.6.3.2, 6.6.3.3, 6.6.3.5, 6.6.3.7, and Table 9 for power on.
-use Rattle.std.specs.Prelude.{ℕ, ◌+◌, ◌*◌, ◌/◌, ◌%◌, ◌^◌, Bool, true, false, ltb, eqb}
+use Rattle.std.specs.Prelude.{ℕ, ◌+◌, ◌*◌, ◌/◌, ◌^◌, Bool, true, false, ltb, eqb}
 use Rattle.lists.specs.Choice.{pick}
 use Rattle.udid.specs.declared.Udid.{Udid}
 use Rattle.udid.specs.Udids.{top_bits}

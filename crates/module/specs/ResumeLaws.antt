@@ -1,14 +1,14 @@
 -- A module from a record: each number if and only if its case, and that the module is as the record says.
 use Rattle.std.specs.Prelude.{ℕ, ◌+◌, ◌*◌, ◌/◌, ◌%◌, ◌≤◌, ◌<◌, ◌≡◌, refl, Bool, true, false, ◌⊎◌, ◌↔◌, ltb, eqb, get_or}
-use Rattle.std.proofs.Common.{sym, ap, ap₂, ◌∙◌, inl, inr, arith, eqb-true, eq-eqb, ne_eqb, ltb-false}
-use Rattle.std.proofs.Math.Logic.{Iff·trans}
+use Rattle.std.proofs.Common.{sym, ap, ◌∙◌, inl, inr, arith, eqb-true, eq-eqb, ne_eqb, ltb-false}
+use Rattle.std.proofs.Math.Logic.Iff.{trans as iff_trans}
 use Rattle.std.proofs.lemmas.Bool.{eqb-false}
-use Rattle.lists.specs.Choice.{pick, or, and, not}
+use Rattle.lists.specs.Choice.{pick, not}
 use Rattle.lists.specs.ChoiceLaws.{false_not_true, not_both}
 use Rattle.lists.specs.TestLaws.{eqb_is, ltb_is, or_is, and_is, false_is}
 use Rattle.udid.specs.Bytes.{udid_bytes}
 use Rattle.udid.specs.Udids.{Fits, is_fixed}
-use Rattle.udid.specs.UdidLaws.{fixed_first}
+use Rattle.udid.proofs.UdidLaws.{fixed_first}
 use Rattle.udid.specs.declared.Udid.{Udid}
 use Rattle.module.specs.declared.resume.Resumed.{Resumed}
 use Rattle.module.specs.declared.resume.Resumed.TheVariants.{Ready, Malformed, NoHome}
@@ -60,15 +60,15 @@ module _ (u : Udid) (b g f : ℕ) (w : Fits u) where
 
   pub resume_10 : (resumed_number (resumed u b g f) ≡ 10) ↔ Bad
   unfolding resumed
-  resume_10 = Iff·trans (ten (is_malformed b g) (lacks_home u b) (silent_in (recorded u b g f))) bad_is
+  resume_10 = iff_trans (ten (is_malformed b g) (lacks_home u b) (silent_in (recorded u b g f))) bad_is
 
   pub resume_12 : (resumed_number (resumed u b g f) ≡ 12) ↔ ((Bad → ⊥) × Homeless)
   unfolding resumed
-  resume_12 = Iff·trans (twelve (is_malformed b g) (lacks_home u b) (silent_in (recorded u b g f))) (both_iff (false_is (is_malformed b g) bad_is) homeless_is)
+  resume_12 = iff_trans (twelve (is_malformed b g) (lacks_home u b) (silent_in (recorded u b g f))) (both_iff (false_is (is_malformed b g) bad_is) homeless_is)
 
   pub resume_0 : (resumed_number (resumed u b g f) ≡ 0) ↔ ((Bad → ⊥) × (Homeless → ⊥))
   unfolding resumed
-  resume_0 = Iff·trans (none (is_malformed b g) (lacks_home u b) (silent_in (recorded u b g f))) (both_iff (false_is (is_malformed b g) bad_is) (false_is (lacks_home u b) homeless_is))
+  resume_0 = iff_trans (none (is_malformed b g) (lacks_home u b) (silent_in (recorded u b g f))) (both_iff (false_is (is_malformed b g) bad_is) (false_is (lacks_home u b) homeless_is))
 
 -- ---- THE MODULE IS AS THE RECORD SAYS
 
@@ -115,7 +115,7 @@ as_recorded u b g f w l m e =
       udid = ap (λ (x : Lasting). x.udid) o;
       byte = ap address_byte o ∙ byte_recorded u b g f l (λ h. bad (inl h));
       flag = ap (λ (x : Lasting). pick x.resolved 1 0) o ∙ flag_recorded g small;
-      valid = Iff·trans (to_recorded (λ (x : Lasting). x.valid) o) (Iff·trans (not_true_is (eqb b 0xFF)) (false_is (eqb b 0xFF) (eqb_is b 0xFF)));
+      valid = iff_trans (to_recorded (λ (x : Lasting). x.valid) o) (iff_trans (not_true_is (eqb b 0xFF)) (false_is (eqb b 0xFF) (eqb_is b 0xFF)));
       address = λ h. (ap (λ (x : Lasting). x.address) o ∙ (address_recorded u b g f h).0, ap (λ (x : Lasting). x.home) o ∙ (address_recorded u b g f h).1);
       none = λ h. ap (λ (x : Lasting). x.address) o ∙ none_recorded u b g f h;
       fresh = ap (λ (x : Lasting). x.fresh) o;

@@ -5,7 +5,6 @@ use Rattle.pec.specs.Pec.{pec_from, pec_of}
 use Rattle.udid.specs.Bytes.{udid_bytes}
 use Rattle.module.specs.declared.state.Lasting.{Lasting}
 use Rattle.module.specs.declared.state.Module.{Module}
-use Rattle.module.specs.declared.state.Supplied.{Supplied}
 use Rattle.module.specs.Receive.{for_write, for_read, starts}
 use Rattle.module.specs.Supply.{address_byte, supplies}
 use Rattle.module.specs.Obeys.{heard_all}

@@ -1,5 +1,5 @@
 -- A module in a phase, and its two answers to a byte.
-use Rattle.std.specs.Prelude.{ℕ, Bool, true, false}
+use Rattle.std.specs.Prelude.{ℕ, true, false}
 use Rattle.module.specs.declared.state.Phase.{Phase}
 use Rattle.module.specs.declared.state.Phase.TheVariants.{Silent}
 use Rattle.module.specs.declared.state.Lasting.{Lasting}

@@ -1,5 +1,5 @@
 -- A byte that the module supplies: steps 22 to 25, and 29.
-use Rattle.std.specs.Prelude.{ℕ, ◌+◌, ◌-◌, ◌*◌, ◌%◌, Bool, true, false, ltb, eqb, get_or}
+use Rattle.std.specs.Prelude.{ℕ, ◌+◌, ◌-◌, ◌*◌, ◌%◌, true, false, ltb, eqb, get_or}
 use Rattle.lists.specs.Choice.{pick}
 use Rattle.pec.specs.Pec.{pec_step}
 use Rattle.udid.specs.Bytes.{udid_bytes}

@@ -1,2 +1,1 @@
 pub mod Names
-pub mod NamesLaws

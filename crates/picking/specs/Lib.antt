@@ -1,4 +1,2 @@
 pub mod Picking
 pub mod Claims
-pub mod PickingLaws
-pub mod ClaimLaws

@@ -3,7 +3,7 @@ use Rattle.std.specs.Prelude.{ℕ, suc, ◌+◌, ◌-◌, ◌<◌, ◌≤◌, �
 use Rattle.std.proofs.Common.{append-nil, add-one, arith, drop_of_length-le}
 use Rattle.udid.specs.declared.Udid.{Udid}
 use Rattle.udid.specs.Bytes.{udid_bytes, put_at}
-use Rattle.udid.specs.UdidLaws.{length_udid}
+use Rattle.udid.proofs.UdidLaws.{length_udid}
 use Rattle.pieces.specs.Pieces.{texts, below}
 
 texts_on : (f : ℕ → List ℕ) (i k m : ℕ) → k ≡ suc m → texts f i k ≡ f i ++ texts f (i + 1) m

@@ -7,7 +7,6 @@ pub mod DigitLaws
 pub mod CountLaws
 pub mod MemberLaws
 pub mod HalfLaws
-pub mod StartLaws
 pub mod FreeLaws
 pub mod FirstZeroLaws
 pub mod HalfSearchLaws

@@ -8,17 +8,17 @@ use Rattle.scan.specs.Fitting.{Whole}
 use Rattle.scan.specs.Numbers.{decode_number}
 use Rattle.scan.specs.declared.answer.Decoded.{Decoded}
 use Rattle.decode.specs.Outcome.{Entered, Outcome}
-use Rattle.catches.specs.BurstLaws.{eight_bits_caught}
+use Rattle.catches.proofs.BurstLaws.{eight_bits_caught}
 use Rattle.catches.specs.Changes.{RightPec, Within, TwoBits}
-use Rattle.catches.specs.EscapeLaws.{sixteen_zeros, sixteen_came, sixteen_escape, two_zeros, two_came, nine_bits_escape}
-use Rattle.catches.specs.FlipLaws.{one_bit_is, two_bits_are}
-use Rattle.catches.specs.HowManyLaws.{two_are_two}
-use Rattle.catches.specs.MultiplesLaws.{right_exactly, escapes_exactly}
-use Rattle.catches.specs.OddLaws.{odd_caught}
-use Rattle.catches.specs.PairLaws.{pair_escapes_exactly, two_bits_caught, one_pair_of_sixteen}
+use Rattle.catches.proofs.EscapeLaws.{sixteen_zeros, sixteen_came, sixteen_escape, two_zeros, two_came, nine_bits_escape}
+use Rattle.catches.proofs.FlipLaws.{one_bit_is, two_bits_are}
+use Rattle.catches.proofs.HowManyLaws.{two_are_two}
+use Rattle.catches.proofs.MultiplesLaws.{right_exactly, escapes_exactly}
+use Rattle.catches.proofs.OddLaws.{odd_caught}
+use Rattle.catches.proofs.PairLaws.{pair_escapes_exactly, two_bits_caught, one_pair_of_sixteen}
 use Rattle.garbled.specs.Places.{Changed}
-use Rattle.garbled.specs.PlacesLaws.{has_command, has_sent, has_received, has_pec}
-use Rattle.garbled.specs.StaysLaws.{stays as whole-still}
+use Rattle.garbled.proofs.PlacesLaws.{has_command, has_sent, has_received, has_pec}
+use Rattle.garbled.proofs.StaysLaws.{stays as whole-still}
 use Rattle.garbled.specs.VerdictLaws.{came, verdict_0, verdict_7, caught_is_seven}
 use Rattle.promises.specs.Demands.{Catches, Garbled, Stays}
 

@@ -1,10 +1,10 @@
 -- The proofs of the page's records on choosing apart from sending.
 use Rattle.std.specs.Prelude.{ℕ, List}
 use Rattle.std.proofs.Common.{ap, ◌∙◌}
-use Rattle.arp.specs.BetweenLaws.{halves_in_a_run, report_between, declined_until_start}
+use Rattle.arp.proofs.BetweenLaws.{halves_in_a_run, report_between, declined_until_start}
 use Rattle.arp.specs.Numbers.{command_number}
-use Rattle.arp.specs.SettleLaws.{issue_is, decline_is, none_to_issue, none_to_decline, issue_21, decline_21, chosen_exactly, waits_in_its_state, issued_is_the_step, alone_is_the_step, same_number, waiting_refuses, halves_throughout}
-use Rattle.arp.specs.WaitingLaws.{waiting_unbound, claimed_is_own, claimed_marks}
+use Rattle.arp.proofs.SettleLaws.{issue_is, decline_is, none_to_issue, none_to_decline, issue_21, decline_21, chosen_exactly, waits_in_its_state, issued_is_the_step, alone_is_the_step, same_number, waiting_refuses, halves_throughout}
+use Rattle.arp.proofs.WaitingLaws.{waiting_unbound, claimed_is_own, claimed_marks}
 use Rattle.arp.specs.declared.state.Controller.{Controller}
 use Rattle.arp.specs.declared.state.Stepped.{Stepped}
 use Rattle.targets.specs.Records.{targets_of}

@@ -7,14 +7,14 @@ use Rattle.lists.specs.Choice.{pick, or, not}
 use Rattle.lists.specs.ChoiceLaws.{false_not_true}
 use Rattle.lists.specs.Each.{Bytes}
 use Rattle.wire.specs.Addresses.{is_reserved, is_preassigned, is_listed}
-use Rattle.wire.specs.AddressLaws.{reserved_is, preassigned_exactly}
-use Rattle.wire.specs.AddressTableLaws.{listed_is}
+use Rattle.wire.proofs.AddressLaws.{reserved_is, preassigned_exactly}
+use Rattle.wire.proofs.AddressTableLaws.{listed_is}
 use Rattle.wire.specs.declared.address.Address.{Address}
-use Rattle.trace.specs.ShapeLaws.{sane, known_to_last}
+use Rattle.trace.proofs.ShapeLaws.{sane, known_to_last}
 use Rattle.trace.specs.Shapes.{shape_of}
 use Rattle.trace.specs.Table.{TraceOf}
 use Rattle.trace.specs.Rows.{message}
-use Rattle.trace.specs.TableLaws.{listed_trace, trace_listed, quick_plain}
+use Rattle.trace.proofs.TableLaws.{listed_trace, trace_listed, quick_plain}
 use Rattle.trace.specs.Trace.{Message, trace}
 use Rattle.encode.specs.Encode.{encode_number, Wrote}
 use Rattle.encode.specs.EncodeLaws.{answer_0, answer_1, answer_2, refusal_untouched}
@@ -23,7 +23,7 @@ use Rattle.encode.specs.Listed.{Listed}
 use Rattle.encode.specs.declared.Encoded.{Encoded}
 use Rattle.encode.specs.declared.Encoded.TheVariants.{Written, Forbidden, OutputTooShort}
 use Rattle.scan.specs.Answers.{summary}
-use Rattle.scan.specs.AnswersLaws.{one_message}
+use Rattle.scan.proofs.AnswersLaws.{one_message}
 use Rattle.scan.specs.Numbers.{decode_number}
 use Rattle.scan.specs.declared.answer.Decoded.{Decoded}
 use Rattle.scan.specs.declared.answer.Decoded.TheVariants.{Done}
@@ -32,35 +32,35 @@ use Rattle.decode.specs.NumberLaws as decode
 use Rattle.decode.specs.Outcome.{Outcome}
 use Rattle.pool.specs.Pools.{member}
 use Rattle.pool.specs.Start.{starting_pool, barred_pool}
-use Rattle.pool.specs.StartLaws.{member_starting, member_barred}
+use Rattle.pool.proofs.StartLaws.{member_starting, member_barred}
 use Rattle.pool.specs.Counts.{count}
 use Rattle.pool.specs.declared.Pool.{Pool}
-use Rattle.udid.specs.UdidLaws.{fixed_first}
+use Rattle.udid.proofs.UdidLaws.{fixed_first}
 use Rattle.udid.specs.Bytes.{udid_bytes}
 use Rattle.udid.specs.declared.Udid.{Udid}
 use Rattle.arp.specs.BindingLaws.{unheld_is_open_or_left}
 use Rattle.slots.specs.Slots.{held_at}
 use Rattle.arp.specs.Numbers.{command_number, lookup_number}
-use Rattle.arp.specs.AccountLaws.{account}
+use Rattle.arp.proofs.AccountLaws.{account}
 use Rattle.arp.specs.Gone.{reported}
-use Rattle.arp.specs.GoneLaws.{which_bound, nothing_reported, report_rest, report_removes, answered_0}
+use Rattle.arp.proofs.GoneLaws.{which_bound, nothing_reported, report_rest, report_removes, answered_0}
 use Rattle.arp.specs.Replay.{is_bound}
 use Rattle.arp.specs.OneStep.{Removes}
-use Rattle.arp.specs.OutstandingLaws.{last_is_handed_out}
-use Rattle.arp.specs.SinceStartLaws.{lookup_0_since, lookup_20_since, claims_exactly, claim_stays}
+use Rattle.arp.proofs.OutstandingLaws.{last_is_handed_out}
+use Rattle.arp.proofs.SinceStartLaws.{lookup_0_since, lookup_20_since, claims_exactly, claim_stays}
 use Rattle.commands.specs.CommandTraces.{prepare_trace, reply_trace, assign_trace}
 use Rattle.pool.specs.FreeLaws.{lowest_is}
 use Rattle.pool.specs.NextFreeLaws.{next_is, next_none, next_above, again_only_if}
-use Rattle.arp.specs.RunPicksLaws.{last_is_latest, run_picks}
+use Rattle.arp.proofs.RunPicksLaws.{last_is_latest, run_picks}
 use Rattle.pool.specs.PickLaws.{picks_on, rotation}
-use Rattle.arp.specs.HistoryLaws.{reached_good, reached_pool, reached_invariant, new_controller_is_new}
-use Rattle.arp.specs.LookupLaws as arp
+use Rattle.arp.proofs.HistoryLaws.{reached_good, reached_pool, reached_invariant, new_controller_is_new}
+use Rattle.arp.proofs.LookupLaws as arp
 use Rattle.commands.specs.RequestLaws.{valid_prepare, valid_get, valid_assign, prepare_symbols, reply_symbols, assign_symbols_small}
 use Rattle.commands.specs.Requests.{assign_data, protocol_for, message_of}
 use Rattle.commands.specs.SendingLaws.{refused_exactly, small_address_protocol}
 use Rattle.slots.specs.Slots.{Sized128}
 use Rattle.arp.specs.Sound.{PendingIn}
-use Rattle.slots.specs.SlotsLaws.{open_all}
+use Rattle.slots.proofs.SlotsLaws.{open_all}
 use Rattle.arp.specs.Controller.{stepped}
 use Rattle.picking.specs.Claims.{is_held}
 use Rattle.arp.specs.History.{Event, run}

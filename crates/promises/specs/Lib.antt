@@ -7,4 +7,3 @@ pub mod CatchesLaws
 pub mod OneHalfLaws
 pub mod ChoosingLaws
 pub mod ModulesLaws
-pub mod MarkedLaws

@@ -23,18 +23,18 @@ use Rattle.module.specs.declared.state.Heard.{Heard}
 use Rattle.module.specs.declared.state.Module.{Module}
 use Rattle.module.specs.Obeys.{heard_all, reset_order, directed_reset}
 use Rattle.module.specs.Packets.{Resets}
-use Rattle.module.specs.PacketsLaws.{acked_exactly, obeys_prepare, obeys_reset, obeys_directed, obeys_assign, obeys_no_other}
-use Rattle.module.specs.PecDueLaws.{due_acked, differing_pec}
-use Rattle.module.specs.MiddleLaws.{nothing_moved, replying, start_twice}
-use Rattle.module.specs.NackLaws.{nack_refuses}
+use Rattle.module.proofs.PacketsLaws.{acked_exactly, obeys_prepare, obeys_reset, obeys_directed, obeys_assign, obeys_no_other}
+use Rattle.module.proofs.PecDueLaws.{due_acked, differing_pec}
+use Rattle.module.proofs.MiddleLaws.{nothing_moved, replying, start_twice}
+use Rattle.module.proofs.NackLaws.{nack_refuses}
 use Rattle.module.specs.Receive.{starts, receives}
 use Rattle.module.specs.Reset.{reset}
-use Rattle.module.specs.ResetLaws.{resets, powers_on, powered_silent}
+use Rattle.module.proofs.ResetLaws.{resets, powers_on, powered_silent}
 use Rattle.module.specs.ResumeLaws.{resume_0, resume_10, resume_12, as_recorded}
-use Rattle.module.specs.StartLaws.{new_packet, read_any, read_over, mute_else, sending, says_general, says_directed, replied_general, replied_directed}
+use Rattle.module.proofs.StartLaws.{new_packet, read_any, read_over, mute_else, sending, says_general, says_directed, replied_general, replied_directed}
 use Rattle.module.specs.State.{silent_in}
 use Rattle.module.specs.Supply.{supplies}
-use Rattle.module.specs.SupplyLaws.{silent_nack, supplied_own}
+use Rattle.module.proofs.SupplyLaws.{silent_nack, supplied_own}
 use Rattle.exchange.specs.Exchange.{records_of, Fitting, after_bytes}
 use Rattle.exchange.specs.ExchangeLaws.{exchange_same}
 use Rattle.exchange.specs.Pass.{pass_on}

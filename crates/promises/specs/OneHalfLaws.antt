@@ -16,10 +16,10 @@ use Rattle.commands.specs.declared.command.Handed.TheVariants.{Send, Wait}
 use Rattle.commands.specs.declared.command.Reason.{Reason}
 use Rattle.arp.specs.Choosing.{first_half}
 use Rattle.arp.specs.Controller.{stepped}
-use Rattle.arp.specs.OneStepLaws.{told_reply_lem}
-use Rattle.arp.specs.ReasonLaws.{reasons_given, one_reason}
+use Rattle.arp.proofs.OneStepLaws.{told_reply_lem}
+use Rattle.arp.proofs.ReasonLaws.{reasons_given, one_reason}
 use Rattle.arp.specs.Reasons.{Reasons}
-use Rattle.arp.specs.SettleLaws.{chosen_exactly, waits_in_its_state, alone_is_the_step}
+use Rattle.arp.proofs.SettleLaws.{chosen_exactly, waits_in_its_state, alone_is_the_step}
 use Rattle.arp.specs.State.{with_last}
 use Rattle.arp.specs.declared.state.Controller.{Controller}
 use Rattle.arp.specs.declared.state.Stepped.{Stepped}

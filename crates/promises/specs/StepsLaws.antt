@@ -8,7 +8,7 @@ use Rattle.lists.specs.Each.{Bytes}
 use Rattle.wire.specs.declared.address.Address.{Address}
 use Rattle.trace.specs.Shapes.{protocols, forbidden}
 use Rattle.scan.specs.Fitting.{CutAt}
-use Rattle.scan.specs.FittingLaws.{cut_shaped}
+use Rattle.scan.proofs.FittingLaws.{cut_shaped}
 use Rattle.pool.specs.NextFree.{next_free}
 use Rattle.pool.specs.NextFreeLaws.{next_is, next_none}
 use Rattle.pool.specs.Pools.{member}
@@ -21,12 +21,12 @@ use Rattle.udid.specs.declared.Udid.{Udid}
 use Rattle.slots.specs.Slots.{Sized128, held_at}
 use Rattle.commands.specs.CommandTraces.{prepare_trace, reply_trace, assign_trace, Reply}
 use Rattle.arp.specs.Controller.{stepped}
-use Rattle.arp.specs.HeardLaws.{six_exactly}
-use Rattle.arp.specs.NoneFreeLaws.{number_13_is_none_free}
+use Rattle.arp.proofs.HeardLaws.{six_exactly}
+use Rattle.arp.proofs.NoneFreeLaws.{number_13_is_none_free}
 use Rattle.arp.specs.Numbers.{command_number}
-use Rattle.arp.specs.OneResultLaws.{same_trace_or_not, six_or_not, six_once, reply_or_not, continues_alike, ends_alike, binds_alike, replies_alike, chooses_address_or_none}
+use Rattle.arp.proofs.OneResultLaws.{same_trace_or_not, six_or_not, six_once, reply_or_not, continues_alike, ends_alike, binds_alike, replies_alike, chooses_address_or_none}
 use Rattle.arp.specs.OneStep.{Gives, Asks, Chooses, Continues, Replies, Alike}
-use Rattle.arp.specs.OneStepLaws as arp
+use Rattle.arp.proofs.OneStepLaws as arp
 use Rattle.hearing.specs.Told.{no_command}
 use Rattle.commands.specs.RequestLaws.{seventeen_bytes_are_udid_and_byte}
 use Rattle.commands.specs.declared.command.Command.TheVariants.{Prepare, GetUdid, Assign}

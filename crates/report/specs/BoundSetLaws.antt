@@ -4,10 +4,10 @@ use Rattle.std.proofs.Common.{sym, ◌∙◌}
 use Rattle.lists.specs.Choice.{pick}
 use Rattle.pool.specs.Pools.{Fits, member}
 use Rattle.slots.specs.Slots.{kept_udid}
-use Rattle.slots.specs.SlotsLaws.{by_bound}
+use Rattle.slots.proofs.SlotsLaws.{by_bound}
 use Rattle.slots.specs.declared.Slots.{Slots}
 use Rattle.slots.specs.declared.Binding.{Binding}
-use Rattle.bindings.specs.BoundLaws.{bound_set_exactly}
+use Rattle.bindings.proofs.BoundLaws.{bound_set_exactly}
 use Rattle.bindings.specs.Entries.{is_bound, bound_set}
 use Rattle.bindings.specs.declared.entry.Entry.TheVariants.{Nobody, Bound}
 use Rattle.report.specs.Report.{entry_of, entry_at}

@@ -7,7 +7,7 @@ use Rattle.text.specs.Chars.{chars}
 use Rattle.text.specs.Words.{before, start_from, word_from, part_of, same_text}
 use Rattle.text.specs.declared.word.LineWord.{LineWord}
 use Rattle.digits.specs.Numbers.{digit_of, are_digits, value_from, digits_of, is_hex, number_of, halves_of, quarter_of}
-use Rattle.words.specs.Said.{word_in, byte_at, udid_at, fresh_at, protocol_at, pec_at, mark_at, rest_at}
+use Rattle.words.specs.Said.{word_in, byte_at, udid_at, fresh_at, mark_at, rest_at}
 use Rattle.words.specs.Verbs.{module_verb, pass_verb, verb_of}
 use Rattle.words.specs.Events.{event_of}
 use Rattle.words.specs.declared.verb.Verb.{Verb}

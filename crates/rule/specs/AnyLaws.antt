@@ -4,16 +4,19 @@ use Rattle.std.proofs.Common.{inl, inr}
 use Rattle.lists.specs.Each.{Each, Any}
 
 pub any_map : {A : Type 0} {P Q : A → Type 0} (l : List A) → ((x : A) → P x → Q x) → Any P l → Any Q l
+any_map {A = A} {P = P} {Q = Q} [] f x'' = elim x'' [ ]
 any_map (x ∷ l) f (inl p) = inl (f x p)
 any_map (x ∷ l) f (inr p) = inr (any_map l f p)
 
 -- one thing holds of one, another of each, and so a third of one
 pub any_each : {A : Type 0} {P Q R : A → Type 0} (l : List A) → ((x : A) → P x → Q x → R x) → Any P l → Each Q l → Any R l
+any_each {A = A} {P = P} {Q = Q} {R = R} [] f x3 q = elim x3 [ ]
 any_each (x ∷ l) f (inl p) q = inl (f x p q.0)
 any_each (x ∷ l) f (inr p) q = inr (any_each l f p q.1)
 
 -- what holds whichever one it is
 pub any_constant : {A : Type 0} {C : Type 0} (l : List A) → Any (λ (x : A). C) l → C
+any_constant {A = A} {C = C} [] x' = elim x' [ ]
 any_constant (x ∷ l) (inl p) = p
 any_constant (x ∷ l) (inr p) = any_constant l p
 

@@ -7,14 +7,14 @@ use Rattle.lists.specs.Choice.{pick, and}
 use Rattle.lists.specs.EachLaws.{append_bytes}
 use Rattle.lists.specs.Each.{Each, Bytes}
 use Rattle.pec.specs.Pec.{pec_of}
-use Rattle.pec.specs.PecLaws.{pec_byte}
+use Rattle.pec.proofs.PecLaws.{pec_byte}
 use Rattle.wire.specs.Symbols.{STOP, ACK, NACK}
 use Rattle.wire.specs.declared.address.Address.{Address}
-use Rattle.trace.specs.LengthLaws.{length_acked}
+use Rattle.trace.proofs.LengthLaws.{length_acked}
 use Rattle.trace.specs.Trace.{acked}
 use Rattle.arbitration.specs.Among.{Among}
 use Rattle.udid.specs.Bytes.{udid_bytes}
-use Rattle.udid.specs.UdidLaws.{length_udid, udid_bytes_lem, same_equal, same_refl, same_bytes}
+use Rattle.udid.proofs.UdidLaws.{length_udid, udid_bytes_lem, same_equal, same_refl, same_bytes}
 use Rattle.udid.specs.Udids.{Fits, same_udid}
 use Rattle.udid.specs.declared.Udid.{Udid}
 use Rattle.targets.specs.Target.{Target, map_targets, prepared, assigned_to}

@@ -1,7 +1,7 @@
 -- A run by the two halves is the run by whole steps, turn for turn. So demand 3 stands over the halves.
 use Rattle.std.specs.Prelude.{ℕ, zero, suc, ◌≡◌, refl, List, [], ◌∷◌}
 use Rattle.std.proofs.Common.{ap, ◌∙◌}
-use Rattle.arp.specs.ChoosingLaws.{halves_are_the_step}
+use Rattle.arp.proofs.ChoosingLaws.{halves_are_the_step}
 use Rattle.arp.specs.declared.state.Stepped.{Stepped}
 use Rattle.rule.specs.AnyBus.{Bus, WorldOver, took_over, turn_over, run_over}
 use Rattle.rule.specs.Halves.{took_by_halves, run_by_halves}

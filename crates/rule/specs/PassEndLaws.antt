@@ -12,7 +12,7 @@ use Rattle.wire.specs.Addresses.{is_reserved}
 use Rattle.wire.specs.declared.address.Address.{Address}
 use Rattle.pool.specs.Pools.{member, with_address}
 use Rattle.pool.specs.Start.{starting_pool, barred_pool}
-use Rattle.pool.specs.StartLaws.{member_barred, barred_starting}
+use Rattle.pool.proofs.StartLaws.{member_barred, barred_starting}
 use Rattle.pool.specs.declared.Pool.{Pool}
 use Rattle.pool.specs.declared.free.Free.{Free}
 use Rattle.pool.specs.declared.free.Free.TheVariants.{At, AllUsed}
@@ -23,7 +23,7 @@ use Rattle.targets.specs.Target.{Target, is_resolved, prepared, cleared, resolve
 use Rattle.targets.specs.Members.{Pairs}
 use Rattle.targets.specs.RecordLaws.{length_map}
 use Rattle.targets.specs.Admission.{FixedApart, FixedFree, AdmittedTargets}
-use Rattle.slots.specs.SlotsLaws.{open_all, sized_none}
+use Rattle.slots.proofs.SlotsLaws.{open_all, sized_none}
 use Rattle.slots.specs.Finding.{bound_to}
 use Rattle.picking.specs.Claims.{makes_claim}
 use Rattle.arp.specs.Controller.{last_pick, stepped}
@@ -99,6 +99,7 @@ plain_cleared (t ∷ rest) p last s k ts =
 -- ---- clearing the flags leaves what is admitted
 
 cleared_was : (ts : List Target) (y : Target) → Among y (cleared ts) → (x : Target) × Among x ts × (prepared x ≡ y)
+cleared_was [] y x' = elim x' [ ]
 cleared_was (t ∷ ts) y (inl e) = (t, inl refl, e)
 cleared_was (t ∷ ts) y (inr m) = let r = cleared_was ts y m in (r.0, inr r.1, r.2)
 

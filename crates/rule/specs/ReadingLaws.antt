@@ -13,10 +13,10 @@ use Rattle.pool.specs.declared.Pool.{Pool}
 use Rattle.pool.specs.declared.free.Free.{Free}
 use Rattle.pool.specs.declared.free.Free.TheVariants.{At, AllUsed}
 use Rattle.udid.specs.Udids.{same_udid, value}
-use Rattle.udid.specs.UdidLaws.{same_refl, same_equal, other_udid}
+use Rattle.udid.proofs.UdidLaws.{same_refl, same_equal, other_udid}
 use Rattle.udid.specs.declared.Udid.{Udid}
 use Rattle.arbitration.specs.Among.{Among}
-use Rattle.slots.specs.SlotsLaws.{held_same, held_other, open_all, sized_none, sized_with}
+use Rattle.slots.proofs.SlotsLaws.{held_same, held_other, open_all, sized_none, sized_with}
 use Rattle.slots.specs.Slots.{Sized128, held_at, with_binding, no_bindings}
 use Rattle.slots.specs.declared.Binding.{Binding}
 use Rattle.slots.specs.declared.Binding.TheVariants.{Open, Bound, Claimed}

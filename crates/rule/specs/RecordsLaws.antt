@@ -11,7 +11,7 @@ use Rattle.pool.specs.Start.{starting_pool, barred_pool}
 use Rattle.pool.specs.declared.Pool.{Pool}
 use Rattle.udid.specs.Bytes.{udid_bytes}
 use Rattle.udid.specs.Udids.{same_udid}
-use Rattle.udid.specs.UdidLaws.{bytes_back, same_bytes, other_udid}
+use Rattle.udid.proofs.UdidLaws.{bytes_back, same_bytes, other_udid}
 use Rattle.arbitration.specs.Among.{Among}
 use Rattle.targets.specs.Admission.{AdmittedTargets}
 use Rattle.targets.specs.Change.{Changed}

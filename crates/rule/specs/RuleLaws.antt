@@ -17,7 +17,7 @@ use Rattle.pool.specs.MemberLaws.{has_with_same, has_with_other, outside, with_k
 use Rattle.pool.specs.declared.Pool.{Pool}
 use Rattle.pool.specs.declared.free.Free.{Free}
 use Rattle.pool.specs.declared.free.Free.TheVariants.{At, AllUsed}
-use Rattle.udid.specs.UdidLaws.{fixed_is}
+use Rattle.udid.proofs.UdidLaws.{fixed_is}
 use Rattle.udid.specs.Udids.{top_bits, is_fixed, value}
 use Rattle.arbitration.specs.Among.{Among}
 use Rattle.targets.specs.Target.{Target, Sized}

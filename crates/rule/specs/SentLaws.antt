@@ -8,7 +8,7 @@ use Rattle.pool.specs.declared.Pool.{Pool}
 use Rattle.targets.specs.Admission.{AdmittedTargets}
 use Rattle.targets.specs.Target.{Target}
 use Rattle.arp.specs.Handing.{Kept}
-use Rattle.arp.specs.HandingLaws.{busy_handed}
+use Rattle.arp.proofs.HandingLaws.{busy_handed}
 use Rattle.arp.specs.Controller.{last_pick, changed, stepped}
 use Rattle.arp.specs.History.{one_get}
 use Rattle.hearing.specs.Told.{tells}

@@ -10,7 +10,7 @@ use Rattle.pool.specs.declared.Pool.{Pool}
 use Rattle.pool.specs.declared.free.Free.{Free}
 use Rattle.pool.specs.declared.free.Free.TheVariants.{At, AllUsed}
 use Rattle.udid.specs.Udids.{Fits, same_udid, is_fixed, value}
-use Rattle.udid.specs.UdidLaws.{other_udid}
+use Rattle.udid.proofs.UdidLaws.{other_udid}
 use Rattle.udid.specs.declared.Udid.{Udid}
 use Rattle.arbitration.specs.Among.{Among}
 use Rattle.targets.specs.Target.{Target, is_resolved, assigned_to, resolve, Sized}
@@ -21,7 +21,7 @@ use Rattle.slots.specs.Finding.{bound_to}
 use Rattle.picking.specs.Claims.{makes_claim}
 use Rattle.arp.specs.Controller.{issued, stepped}
 use Rattle.slots.specs.Slots.{Sized128, held_at, with_binding}
-use Rattle.slots.specs.SlotsLaws.{held_same, held_other, sized_with}
+use Rattle.slots.proofs.SlotsLaws.{held_same, held_other, sized_with}
 use Rattle.commands.specs.declared.command.Command.TheVariants.{GetUdid, Assign}
 use Rattle.slots.specs.declared.Binding.{Binding}
 use Rattle.slots.specs.declared.Binding.TheVariants.{Bound}
@@ -53,6 +53,7 @@ unbound_set u t s a z l n h i = go (ℕ_discrete i a)
 
 -- an Assign keeps the identifiers
 fits_next : (u : Udid) (a : ℕ) (ts : List Target) → ((t : Target) → Among t ts → Fits t.udid) → (t : Target) → Among t (resolve u a ts) → Fits t.udid
+fits_next u a [] h t x'' = elim x'' [ ]
 fits_next u a (x ∷ ts) h t (inl e) = subst Fits (sym (assigned_keeps_udid u a x) ∙ ap (λ (y : Target). y.udid) e) (h x (inl refl))
 fits_next u a (x ∷ ts) h t (inr m) = fits_next u a ts (λ y k. h y (inr k)) t m
 

@@ -31,9 +31,11 @@ insert_keeps t (x ∷ xs) y h = go (ltb (value t.udid) (value x.udid)) h (λ k. 
     go false (inr (inr m)) ih = inr (ih (inr m))
 
 pub ascending_adds_none : (ts : List Target) (y : Target) → Among y (ascending ts) → Among y ts
+ascending_adds_none [] y h = elim h [ ]
 ascending_adds_none (t ∷ ts) y h = elim (insert_adds_one t (ascending ts) y h) [ inl e ↦ inl e | inr m ↦ inr (ascending_adds_none ts y m) ]
 
 pub ascending_keeps : (ts : List Target) (y : Target) → Among y ts → Among y (ascending ts)
+ascending_keeps [] y x' = elim x' [ ]
 ascending_keeps (t ∷ ts) y (inl e) = insert_keeps t (ascending ts) y (inl e)
 ascending_keeps (t ∷ ts) y (inr m) = insert_keeps t (ascending ts) y (inr (ascending_keeps ts y m))
 
@@ -74,6 +76,7 @@ ascending_is_lower_first (t ∷ ts) h = insert_lower t (ascending ts) (λ x m. h
 
 -- what holds of any two in a list
 pub pairs_any_two : {R : Target → Target → Type 0} (ts : List Target) → ((x y : Target) → R x y → R y x) → Pairs R ts → (x y : Target) → Among x ts → Among y ts → (x ≡ y) ⊎ R x y
+pairs_any_two {R = R} [] s h x y x6 _ = elim x6 [ ]
 pairs_any_two (t ∷ ts) s h x y (inl e) (inl f) = inl (sym e ∙ f)
 pairs_any_two {R} (t ∷ ts) s h x y (inl e) (inr m) = inr (rw e at (h.0 y m))
 pairs_any_two {R} (t ∷ ts) s h x y (inr m) (inl f) = inr (s y x (rw f at (h.0 x m)))

@@ -10,7 +10,7 @@ use Rattle.scan.specs.Answers.{CutAt}
 use Rattle.pool.specs.Pools.{with_address}
 use Rattle.pool.specs.declared.Pool.{Pool}
 use Rattle.udid.specs.Bytes.{udid_bytes, udid_at}
-use Rattle.udid.specs.UdidLaws.{length_udid, udid_back}
+use Rattle.udid.proofs.UdidLaws.{length_udid, udid_back}
 use Rattle.udid.specs.Udids.{Fits}
 use Rattle.udid.specs.declared.Udid.{Udid}
 use Rattle.targets.specs.Target.{Target, Sized}
@@ -24,7 +24,7 @@ use Rattle.picking.specs.Picking.{has_to_pick, chosen}
 use Rattle.commands.specs.Codes.{send_byte, block_read}
 use Rattle.commands.specs.RequestLaws.{valid_prepare, valid_get}
 use Rattle.commands.specs.Requests.{message_of, trace_of}
-use Rattle.arp.specs.ChangedLaws.{told_is_changed}
+use Rattle.arp.proofs.ChangedLaws.{told_is_changed}
 use Rattle.hearing.specs.TraceLaws.{prepare_accepted, prepare_nobody, get_reply, get_nobody, assign_whole}
 use Rattle.slots.specs.Slots.{held_at, with_binding}
 use Rattle.commands.specs.declared.command.Command.TheVariants.{Prepare, GetUdid, Assign}

@@ -9,12 +9,12 @@ use Rattle.lists.specs.ChoiceLaws.{or_last}
 use Rattle.lists.specs.Each.{Bytes}
 use Rattle.lists.specs.EachLaws.{append_bytes}
 use Rattle.pec.specs.Pec.{bit_step, pec_step, pec_from, pec_of}
-use Rattle.pec.specs.PecLaws.{pec_byte}
+use Rattle.pec.proofs.PecLaws.{pec_byte}
 use Rattle.wire.specs.Symbols.{START, STOP, ACK, NACK}
 use Rattle.arbitration.specs.Among.{Among}
 use Rattle.trace.specs.Trace.{acked}
 use Rattle.udid.specs.Bytes.{udid_bytes}
-use Rattle.udid.specs.UdidLaws.{length_udid, udid_bytes_lem}
+use Rattle.udid.proofs.UdidLaws.{length_udid, udid_bytes_lem}
 use Rattle.udid.specs.declared.Udid.{Udid}
 use Rattle.wire.specs.declared.address.Address.{Address}
 use Rattle.targets.specs.Target.{Target, is_resolved}
@@ -34,6 +34,7 @@ use Rattle.commands.specs.SameTrace.{same}
 -- one who does is enough
 pub one_acknowledges : (f : Target → Bool) (ts : List Target) (t : Target) → Among t ts → f t ≡ true → somebody f ts ≡ true
 unfolding somebody
+one_acknowledges f [] t x'' e = elim x'' [ ]
 one_acknowledges f (x ∷ ts) t (inl m) e =
     let g : f x ≡ true = ap f m ∙ e in
     rw g

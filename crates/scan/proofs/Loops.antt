@@ -15,7 +15,7 @@ use Rattle.step.specs.Fits.{fits}
 use Rattle.step.specs.Move.{move}
 use Rattle.scan.specs.Refusal.{why}
 use Rattle.scan.specs.Run.{run, byte_count}
-use Rattle.scan.specs.RunLaws.{run_fits, run_stops}
+use Rattle.scan.proofs.RunLaws.{run_fits, run_stops}
 
 module _ (sh : Shape) (p : Bool) (s : List ℕ) (d : Decoder) (i : ℕ) where
   pub read_turn : i < length s → fits sh d (get_or s i 0) ≡ true → run sh p d i (drop i s) ≡ run sh p (move sh p d (get_or s i 0)) (i + 1) (drop (i + 1) s)

@@ -1,4 +1,2 @@
 pub mod Slots
 pub mod Finding
-pub mod FindingLaws
-pub mod SlotsLaws

@@ -9,7 +9,7 @@ use Rattle.lists.specs.Each.{Bytes}
 use Rattle.pool.specs.Pools.{member}
 use Rattle.pool.specs.declared.Pool.{Pool}
 use Rattle.udid.specs.Udids.{value}
-use Rattle.udid.specs.UdidLaws.{fits_at, value_same}
+use Rattle.udid.proofs.UdidLaws.{fits_at, value_same}
 use Rattle.targets.specs.Records.{udid_of, address_byte, flag_of, target_at, record_count, targets_of}
 use Rattle.targets.specs.Refusals.{checked_list}
 use Rattle.targets.specs.Target.{Sized}

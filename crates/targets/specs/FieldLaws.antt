@@ -7,11 +7,11 @@ use Rattle.lists.specs.Each.{Bytes}
 use Rattle.wire.specs.Addresses.{is_reserved}
 use Rattle.pool.specs.Pools.{member}
 use Rattle.pool.specs.Start.{barred_pool}
-use Rattle.pool.specs.StartLaws.{member_barred}
+use Rattle.pool.proofs.StartLaws.{member_barred}
 use Rattle.pool.specs.declared.Pool.{Pool}
 use Rattle.udid.specs.Bytes.{number, number_from, bytes_from, udid_at}
 use Rattle.udid.specs.Udids.{is_fixed}
-use Rattle.udid.specs.UdidLaws.{fits_at, bytes_back, same_bytes, top_of_first}
+use Rattle.udid.proofs.UdidLaws.{fits_at, bytes_back, same_bytes, top_of_first}
 use Rattle.targets.specs.Records.{udid_of, address_byte}
 use Rattle.targets.specs.Cases.{TakenAt}
 

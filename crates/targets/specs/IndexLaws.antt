@@ -3,8 +3,8 @@ use Rattle.std.specs.Prelude.{ℕ, zero, suc, ◌+◌, ◌*◌, ◌≤◌, ◌<�
 use Rattle.std.proofs.Common.{sym, ap, ◌∙◌, subst, inl, inr, arith, take-add, drop-drop, drop-cons}
 use Rattle.std.proofs.Math.Decide.{ℕ_discrete}
 use Rattle.lists.specs.Each.{Bytes}
-use Rattle.udid.specs.UdidLaws.{fits_at, bytes_back}
-use Rattle.udid.specs.WindowLaws.{byte_at}
+use Rattle.udid.proofs.UdidLaws.{fits_at, bytes_back}
+use Rattle.udid.proofs.WindowLaws.{byte_at}
 use Rattle.arbitration.specs.Among.{Among}
 use Rattle.targets.specs.Target.{Target, Sized}
 use Rattle.targets.specs.Records.{address_byte, target_at, targets_from}
@@ -12,6 +12,7 @@ use Rattle.targets.specs.Members.{Pairs}
 use Rattle.targets.specs.Reply.{reply_data}
 
 pub target_has_record : (s : List ℕ) (n i : ℕ) (t : Target) → Among t (targets_from s n i) → (j : ℕ) × (i ≤ j) × (j < i + n) × (target_at s j ≡ t)
+target_has_record s zero i t x' = elim x' [ ]
 target_has_record s (suc n) i t (inl e) = (i, omega arith, omega arith, e)
 target_has_record s (suc n) i t (inr m) = let r = target_has_record s n (suc i) t m in (r.0, omega (arith, r.1), omega (arith, r.2), r.3)
 

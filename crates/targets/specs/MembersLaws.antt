@@ -1,10 +1,10 @@
 -- What a resolve leaves unresolved.
-use Rattle.std.specs.Prelude.{ℕ, ◌+◌, ◌*◌, ◌%◌, ◌<◌, ◌≡◌, refl, Bool, true, false, List, ◌∷◌, eqb}
+use Rattle.std.specs.Prelude.{[], ℕ, ◌+◌, ◌*◌, ◌%◌, ◌<◌, ◌≡◌, refl, Bool, true, false, List, ◌∷◌, eqb}
 use Rattle.std.proofs.Common.{sym, ap, ◌∙◌, inl, inr, arith}
 use Rattle.lists.specs.AbsurdLaws.{zero_is_one}
 use Rattle.lists.specs.Choice.{pick}
 use Rattle.udid.specs.Udids.{same_udid, value}
-use Rattle.udid.specs.UdidLaws.{same_refl, other_udid}
+use Rattle.udid.proofs.UdidLaws.{same_refl, other_udid}
 use Rattle.udid.specs.declared.Udid.{Udid}
 use Rattle.arbitration.specs.Among.{Among}
 use Rattle.targets.specs.Members.{Waits}
@@ -12,6 +12,7 @@ use Rattle.targets.specs.Target.{Target, is_resolved, resolve}
 
 -- who is unresolved after a resolve was so before, and has another identifier
 unresolved_before : (u : Udid) (a : ℕ) (ts : List Target) (t : Target) → Among t (resolve u a ts) → is_resolved t ≡ false → Among t ts × (same_udid t.udid u ≡ false)
+unresolved_before u a [] t x'' e = elim x'' [ ]
 unresolved_before u a (x ∷ ts) t (inr h) e = let r = unresolved_before u a ts t h e in (inr r.0, r.1)
 unresolved_before u a (x ∷ ts) t (inl h) e = go (same_udid x.udid u) refl h
   where
@@ -22,6 +23,7 @@ unresolved_before u a (x ∷ ts) t (inl h) e = go (same_udid x.udid u) refl h
 
 -- who has another identifier is left as it was
 others_kept : (u : Udid) (a : ℕ) (ts : List Target) (t : Target) → Among t ts → same_udid t.udid u ≡ false → Among t (resolve u a ts)
+others_kept u a [] t x'' e = elim x'' [ ]
 others_kept u a (x ∷ ts) t (inr h) e = inr (others_kept u a ts t h e)
 others_kept u a (x ∷ ts) t (inl h) e =
     let f : same_udid x.udid u ≡ false = ap (λ (y : Target). same_udid y.udid u) h ∙ e in

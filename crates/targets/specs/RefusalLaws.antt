@@ -10,7 +10,7 @@ use Rattle.lists.specs.TestLaws.{eqb_is, ltb_is, or_is, and_is, not_is, false_is
 use Rattle.pool.specs.Pools.{member}
 use Rattle.pool.specs.declared.Pool.{Pool}
 use Rattle.udid.specs.Udids.{is_fixed}
-use Rattle.udid.specs.UdidLaws.{same_is}
+use Rattle.udid.proofs.UdidLaws.{same_is}
 use Rattle.targets.specs.First.{first, some}
 use Rattle.targets.specs.FirstLaws.{first_before, first_passes, none_below}
 use Rattle.targets.specs.Records.{udid_of, address_byte, flag_of, record_count}

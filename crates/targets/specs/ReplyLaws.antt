@@ -5,19 +5,19 @@ use Rattle.std.proofs.Common.{sym, ap, ◌∙◌, inl, inr, append_assoc, arith,
 use Rattle.lists.specs.Choice.{pick}
 use Rattle.lists.specs.EachLaws.{append_bytes}
 use Rattle.lists.specs.Each.{Each, Bytes}
-use Rattle.pec.specs.PecLaws.{pec_byte}
+use Rattle.pec.proofs.PecLaws.{pec_byte}
 use Rattle.udid.specs.Bytes.{udid_bytes}
 use Rattle.udid.specs.Udids.{Fits, value, is_below}
-use Rattle.udid.specs.UdidLaws.{length_udid, udid_bytes_lem}
+use Rattle.udid.proofs.UdidLaws.{length_udid, udid_bytes_lem}
 use Rattle.arbitration.specs.Among.{Among}
 use Rattle.arbitration.specs.Bits.{bits, udid_bits, byte_bits, bytes_read, sent}
 use Rattle.arbitration.specs.BitLaws.{length_bits, length_byte_bits, byte_bits_append, read_bytes_lem, udid_bits_lem}
 use Rattle.arbitration.specs.Wire.{heard, sending}
 use Rattle.arbitration.specs.DropOut.{shared, no_later, sharing, Stays}
-use Rattle.arbitration.specs.OrderLaws.{no_later_refl}
-use Rattle.arbitration.specs.WinLaws.{drop_out_within}
-use Rattle.arbitration.specs.WireLaws.{heard_who_stays, sending_who_share}
-use Rattle.arbitration.specs.PairLaws.{sent_order}
+use Rattle.arbitration.proofs.OrderLaws.{no_later_refl}
+use Rattle.arbitration.proofs.WinLaws.{drop_out_within}
+use Rattle.arbitration.proofs.WireLaws.{heard_who_stays, sending_who_share}
+use Rattle.arbitration.proofs.PairLaws.{sent_order}
 use Rattle.targets.specs.Target.{Target, is_resolved, Sized}
 use Rattle.targets.specs.Reply.{reply_data, covered_bytes, reply_pec, reply_bytes, sends, waiting, silence, shown, on_wire}
 use Rattle.targets.specs.Members.{Least}
@@ -93,6 +93,7 @@ each_waiting P (t ∷ ts) h = go (is_resolved t) refl (each_waiting P ts (λ x m
     go false e r = (h t (inl refl) e, r)
 
 among_waiting : (ts : List Target) (r : Target) → Among r ts → is_resolved r ≡ false → Among (sends r) (waiting ts)
+among_waiting [] r x'' e = elim x'' [ ]
 among_waiting (t ∷ ts) r (inl m) e =
     let f : is_resolved t ≡ false = ap is_resolved m ∙ e in
     rw f (inl (ap sends m))
@@ -133,6 +134,7 @@ module _ (ts : List Target) (r : Target) (l : Least ts r) where
   least_on_wire = go (waiting ts) stays (among_waiting ts r l.among l.unresolved)
     where
       go : (ss : List (List Bool)) → Each (Stays (sends r)) ss → Among (sends r) ss → on_wire ss ≡ shown (reply_bytes r)
+      go [] k a = elim a [ ]
       go (s ∷ ss) k a =
           let q : heard 152 (s ∷ ss) ≡ sends r = ap (λ (n : ℕ). heard n (s ∷ ss)) (sym (length_sends r)) ∙ heard_who_stays (sends r) (s ∷ ss) k a in
           ap shown (ap (bytes_read 19) q ∙ read_sends r l.sized.address_byte)

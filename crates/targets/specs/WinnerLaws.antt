@@ -11,7 +11,7 @@ use borrow.Author.Tests.{ltb-true, ltb-false, lt-ltb, le-ltb, eqb-true, eqb-fals
 use Rattle.lists.specs.Choice.{pick}
 use Rattle.lists.specs.Each.{Bytes}
 use Rattle.udid.specs.Udids.{value, is_below}
-use Rattle.udid.specs.UdidLaws.{fits_at, value_same}
+use Rattle.udid.proofs.UdidLaws.{fits_at, value_same}
 use Rattle.arbitration.specs.Wire.{sending}
 use Rattle.arbitration.specs.DropOut.{sharing}
 use Rattle.targets.specs.Target.{Target, is_resolved, Sized}

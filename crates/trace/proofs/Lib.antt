@@ -1,1 +1,15 @@
 pub mod Fields
+pub mod AckedLaws
+pub mod BordersLaws
+pub mod ColumnsLaws
+pub mod DataFitsLaws
+pub mod FieldLaws
+pub mod ForbiddenLaws
+pub mod LengthLaws
+pub mod PecPlaceLaws
+pub mod RoomLaws
+pub mod RowsLaws
+pub mod ShapeLaws
+pub mod TableLaws
+pub mod ValidLaws
+pub mod WordRowsLaws

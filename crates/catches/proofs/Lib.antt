@@ -1,0 +1,9 @@
+pub mod BurstLaws
+pub mod EscapeLaws
+pub mod FlipLaws
+pub mod FlippedLaws
+pub mod HowManyLaws
+pub mod MultiplesLaws
+pub mod OddLaws
+pub mod PairLaws
+pub mod WindowLaws

@@ -1,0 +1,3 @@
+pub mod ExampleLaws
+pub mod PlacesLaws
+pub mod StaysLaws

@@ -1,0 +1,9 @@
+pub mod AckLaws
+pub mod MiddleLaws
+pub mod NackLaws
+pub mod ObeysLaws
+pub mod PacketsLaws
+pub mod PecDueLaws
+pub mod ResetLaws
+pub mod StartLaws
+pub mod SupplyLaws

@@ -1,0 +1,5 @@
+pub mod FoldLaws
+pub mod PecDivisionLaws
+pub mod PecLaws
+pub mod TableLaws
+pub mod PecBitLaws

@@ -1,0 +1,15 @@
+use Rattle.std.proofs.Common.{lt-ltb, le-ltb}
+use Rattle.pool.specs.Pools.{member}
+use Rattle.pool.proofs.Pool.has.Goals as goal
+
+pub returns-then-n-lt64 : goal.returns-then-n-lt64
+unfolding member
+returns-then-n-lt64 c = simp (lt-ltb _ _ c.if-n-lt64.true) c.is_one.ensures
+
+pub returns-then-n-lt128 : goal.returns-then-n-lt128
+unfolding member
+returns-then-n-lt128 c = simp (le-ltb _ _ c.if-n-lt64.false, lt-ltb _ _ c.if-n-lt128.true) c.is_one-then-n-lt128.ensures
+
+pub returns : goal.returns
+unfolding member
+returns c = simp (le-ltb _ _ c.if-n-lt64.false, le-ltb _ _ c.if-n-lt128.false)

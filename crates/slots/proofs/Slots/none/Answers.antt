@@ -1,0 +1,6 @@
+use Rattle.slots.specs.Slots.{no_bindings}
+use Rattle.slots.proofs.Slots.none.Goals as goal
+
+pub returns : goal.returns
+unfolding no_bindings
+returns c = simp c.empty-none.ensures

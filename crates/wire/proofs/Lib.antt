@@ -1,0 +1,3 @@
+pub mod AddressLaws
+pub mod AddressTableLaws
+pub mod WordsLaws
