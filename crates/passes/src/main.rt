@@ -34,86 +34,77 @@ fn new_controller(occupied: Pool, last: u8) -> Stepped {
 }
 
 // The controller that the script asks for.
-fn read_controller(input: &mut impl Read) -> io::Result<Stepped> {
+fn read_controller(input: &mut impl Read, st: &mut Stepped) -> io::Result<()> {
     let occupied = read_pool(input)?;
     let last = read_byte(input)?;
-    Ok(new_controller(occupied, last))
+    *st = new_controller(occupied, last);
+    Ok(())
 }
 
-fn step_on(input: &mut impl Read, c: Controller) -> io::Result<Stepped> {
+fn step_on(input: &mut impl Read, st: &mut Stepped) -> io::Result<()> {
     let mut trace = [0u16; 1000];
     let n = read_trace(input, &mut trace)?;
-    Ok(c.step(&trace[..n]))
+    *st = st.state.step(&trace[..n]);
+    Ok(())
 }
 
-fn choose_on(input: &mut impl Read, c: Controller) -> io::Result<Stepped> {
+fn choose_on(input: &mut impl Read, st: &mut Stepped) -> io::Result<()> {
     let mut trace = [0u16; 1000];
     let n = read_trace(input, &mut trace)?;
-    Ok(c.choose(&trace[..n]))
+    *st = st.state.choose(&trace[..n]);
+    Ok(())
 }
 
 // A start or a step; the command is written.
 fn go_on(
     input: &mut impl Read,
     output: &mut impl Write,
-    c: Controller,
+    st: &mut Stepped,
     operation: u8,
-) -> io::Result<Stepped> {
-    let next = if operation == 1 {
-        c.start()
+) -> io::Result<()> {
+    if operation == 1 {
+        *st = st.state.start();
     } else {
-        step_on(input, c)?
-    };
-    write_command(output, next.command)?;
-    Ok(next)
+        step_on(input, st)?;
+    }
+    write_command(output, st.command)
 }
 
 // The first half of a step, an issue or a decline; the command is written.
 fn go_apart(
     input: &mut impl Read,
     output: &mut impl Write,
-    c: Controller,
+    st: &mut Stepped,
     operation: u8,
-) -> io::Result<Stepped> {
-    let next = match operation {
-        5 => choose_on(input, c)?,
-        6 => c.issue(),
-        _ => c.decline(),
-    };
-    write_command(output, next.command)?;
-    Ok(next)
+) -> io::Result<()> {
+    match operation {
+        5 => choose_on(input, st)?,
+        6 => *st = st.state.issue(),
+        _ => *st = st.state.decline(),
+    }
+    write_command(output, st.command)
 }
 
 // A report; its answer is written. What was handed out last stays so.
-fn report(input: &mut impl Read, output: &mut impl Write, st: Stepped) -> io::Result<Stepped> {
+fn report(input: &mut impl Read, output: &mut impl Write, st: &mut Stepped) -> io::Result<()> {
     let a = Address(read_byte(input)?);
     let told = st.state.report_gone(a);
-    write_find(output, told.found)?;
-    Ok(Stepped {
-        state: told.state,
-        command: st.command,
-    })
+    st.state = told.state;
+    write_find(output, told.found)
 }
 
-// A proved loop has to end, and nothing says that an input does: the turns are counted up to a number that no run reaches.
+// The state is large: it stays in one place, and what may fail gives nothing back but that. A proved loop has to end, and nothing says that
+// an input does: the turns are counted up to a number that no run reaches.
 fn run(input: &mut impl Read, output: &mut impl Write) -> io::Result<()> {
     let mut st = new_controller(Pool { low: 0, high: 0 }, NEVER_PICKED);
     for _ in 0..u64::MAX {
         let operation = read_byte(input)?;
         match operation {
-            0 => {
-                st = read_controller(input)?;
-            }
-            1 | 2 => {
-                st = go_on(input, output, st.state, operation)?;
-            }
+            0 => read_controller(input, &mut st)?,
+            1 | 2 => go_on(input, output, &mut st, operation)?,
             3 => write_finds(output, st.state)?,
-            4 => {
-                st = report(input, output, st)?;
-            }
-            5 | 6 | 7 => {
-                st = go_apart(input, output, st.state, operation)?;
-            }
+            4 => report(input, output, &mut st)?,
+            5 | 6 | 7 => go_apart(input, output, &mut st, operation)?,
             _ => return Ok(()),
         }
     }
