@@ -13,6 +13,8 @@
 // The first byte that is none of these, or the end of the input, ends the run. Standard input is read and standard output is written.
 #![tactic(auto)]
 
+ghost use Rattle.std.specs.Prelude.{◌≤◌, length};
+
 mod answers;
 mod script;
 
@@ -41,16 +43,19 @@ fn read_controller(input: &mut impl Read, st: &mut Stepped) -> io::Result<()> {
     Ok(())
 }
 
-fn step_on(input: &mut impl Read, st: &mut Stepped) -> io::Result<()> {
-    let mut trace = [0u16; 1000];
-    let n = read_trace(input, &mut trace)?;
+// The trace is read into a lent buffer.
+fn step_on(input: &mut impl Read, trace: &mut [u16], st: &mut Stepped) -> io::Result<()>
+    requires { 1000 ≤ length trace.old }
+{
+    let n = read_trace(input, trace)?;
     *st = st.state.step(&trace[..n]);
     Ok(())
 }
 
-fn choose_on(input: &mut impl Read, st: &mut Stepped) -> io::Result<()> {
-    let mut trace = [0u16; 1000];
-    let n = read_trace(input, &mut trace)?;
+fn choose_on(input: &mut impl Read, trace: &mut [u16], st: &mut Stepped) -> io::Result<()>
+    requires { 1000 ≤ length trace.old }
+{
+    let n = read_trace(input, trace)?;
     *st = st.state.choose(&trace[..n]);
     Ok(())
 }
@@ -59,13 +64,16 @@ fn choose_on(input: &mut impl Read, st: &mut Stepped) -> io::Result<()> {
 fn go_on(
     input: &mut impl Read,
     output: &mut impl Write,
+    trace: &mut [u16],
     st: &mut Stepped,
     operation: u8,
-) -> io::Result<()> {
+) -> io::Result<()>
+    requires { 1000 ≤ length trace.old }
+{
     if operation == 1 {
         *st = st.state.start();
     } else {
-        step_on(input, st)?;
+        step_on(input, trace, st)?;
     }
     write_command(output, st.command)
 }
@@ -74,11 +82,14 @@ fn go_on(
 fn go_apart(
     input: &mut impl Read,
     output: &mut impl Write,
+    trace: &mut [u16],
     st: &mut Stepped,
     operation: u8,
-) -> io::Result<()> {
+) -> io::Result<()>
+    requires { 1000 ≤ length trace.old }
+{
     match operation {
-        5 => choose_on(input, st)?,
+        5 => choose_on(input, trace, st)?,
         6 => *st = st.state.issue(),
         _ => *st = st.state.decline(),
     }
@@ -97,14 +108,15 @@ fn report(input: &mut impl Read, output: &mut impl Write, st: &mut Stepped) -> i
 // an input does: the turns are counted up to a number that no run reaches.
 fn run(input: &mut impl Read, output: &mut impl Write) -> io::Result<()> {
     let mut st = new_controller(Pool { low: 0, high: 0 }, NEVER_PICKED);
+    let mut trace = [0u16; 1000];
     for _ in 0..u64::MAX {
         let operation = read_byte(input)?;
         match operation {
             0 => read_controller(input, &mut st)?,
-            1 | 2 => go_on(input, output, &mut st, operation)?,
+            1 | 2 => go_on(input, output, &mut trace, &mut st, operation)?,
             3 => write_finds(output, st.state)?,
             4 => report(input, output, &mut st)?,
-            5 | 6 | 7 => go_apart(input, output, &mut st, operation)?,
+            5 | 6 | 7 => go_apart(input, output, &mut trace, &mut st, operation)?,
             _ => return Ok(()),
         }
     }
