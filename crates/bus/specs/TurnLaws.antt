@@ -7,7 +7,6 @@ use Rattle.trace.specs.Shapes.{shape_of}
 use Rattle.trace.specs.Lengths.{trace_length}
 use Rattle.trace.proofs.LengthLaws.{trace_length_lem}
 use Rattle.arbitration.specs.Among.{Among}
-use Rattle.pool.specs.declared.free.Free.TheVariants.{At}
 use Rattle.udid.specs.Udids.{Fits}
 use Rattle.udid.specs.declared.Udid.{Udid}
 use Rattle.wire.specs.declared.address.Address.{Address}

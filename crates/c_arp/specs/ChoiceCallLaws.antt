@@ -161,7 +161,7 @@ module _ (given : HbPool) (last : ℕ) (es : List Event) (rest : List ℕ) (v : 
         record {
           kind_is = p.kind_is;
           answer_is = p.answer_is;
-          address_is_lem = p.address_is ∙ sym c.address_is;
+          address_is = p.address_is ∙ sym c.address_is;
           gets_is = p.gets_is ∙ sym c.gets_is;
           picked_is = p.picked_is ∙ sym c.picked_is;
           reason_is = p.reason_is;
@@ -178,7 +178,7 @@ module _ (given : HbPool) (last : ℕ) (es : List Event) (rest : List ℕ) (v : 
         record {
           kind_is = p.kind_is;
           answer_is = p.answer_is;
-          address_is_lem = p.address_is;
+          address_is = p.address_is;
           gets_is = p.gets_is ∙ sym c.gets_is;
           picked_is = p.picked_is ∙ sym c.picked_is;
           reason_is = p.reason_is;

@@ -45,20 +45,20 @@ told_command_number (Send (Assign u a)) gets picked = refl
 told_command_number (Wait e) gets picked = told_end_number e gets picked
 
 end_parts : (e : End) (gets picked : ℕ) → EndIs e gets picked (told_end e gets picked)
-end_parts Ended gets picked = record { kind_is = refl; answer_is = refl; address_is_lem = refl; gets_is = refl; picked_is = refl; reason_is = refl; high_is = refl; low_is = refl }
-end_parts (NoneFree u) gets picked = record { kind_is = refl; answer_is = refl; address_is_lem = refl; gets_is = refl; picked_is = refl; reason_is = refl; high_is = refl; low_is = refl }
-end_parts Abandoned gets picked = record { kind_is = refl; answer_is = refl; address_is_lem = refl; gets_is = refl; picked_is = refl; reason_is = refl; high_is = refl; low_is = refl }
-end_parts NotOutstanding gets picked = record { kind_is = refl; answer_is = refl; address_is_lem = refl; gets_is = refl; picked_is = refl; reason_is = refl; high_is = refl; low_is = refl }
-end_parts Nothing gets picked = record { kind_is = refl; answer_is = refl; address_is_lem = refl; gets_is = refl; picked_is = refl; reason_is = refl; high_is = refl; low_is = refl }
-end_parts (Chosen u a why) gets picked = record { kind_is = refl; answer_is = refl; address_is_lem = refl; gets_is = refl; picked_is = refl; reason_is = refl; high_is = refl; low_is = refl }
+end_parts Ended gets picked = record { kind_is = refl; answer_is = refl; address_is = refl; gets_is = refl; picked_is = refl; reason_is = refl; high_is = refl; low_is = refl }
+end_parts (NoneFree u) gets picked = record { kind_is = refl; answer_is = refl; address_is = refl; gets_is = refl; picked_is = refl; reason_is = refl; high_is = refl; low_is = refl }
+end_parts Abandoned gets picked = record { kind_is = refl; answer_is = refl; address_is = refl; gets_is = refl; picked_is = refl; reason_is = refl; high_is = refl; low_is = refl }
+end_parts NotOutstanding gets picked = record { kind_is = refl; answer_is = refl; address_is = refl; gets_is = refl; picked_is = refl; reason_is = refl; high_is = refl; low_is = refl }
+end_parts Nothing gets picked = record { kind_is = refl; answer_is = refl; address_is = refl; gets_is = refl; picked_is = refl; reason_is = refl; high_is = refl; low_is = refl }
+end_parts (Chosen u a why) gets picked = record { kind_is = refl; answer_is = refl; address_is = refl; gets_is = refl; picked_is = refl; reason_is = refl; high_is = refl; low_is = refl }
 
 pub command_parts : (k : Handed) (gets picked : ℕ) (r : HbCommand) → r ≡ told_command k gets picked → CommandIs k gets picked r
 command_parts k gets picked r e = subst (CommandIs k gets picked) (sym e) (go k)
   where
     go : (k : Handed) → CommandIs k gets picked (told_command k gets picked)
-    go (Send Prepare) = record { kind_is = refl; answer_is = refl; address_is_lem = refl; gets_is = refl; picked_is = refl; reason_is = refl; high_is = refl; low_is = refl }
-    go (Send GetUdid) = record { kind_is = refl; answer_is = refl; address_is_lem = refl; gets_is = refl; picked_is = refl; reason_is = refl; high_is = refl; low_is = refl }
-    go (Send (Assign u a)) = record { kind_is = refl; answer_is = refl; address_is_lem = refl; gets_is = refl; picked_is = refl; reason_is = refl; high_is = refl; low_is = refl }
+    go (Send Prepare) = record { kind_is = refl; answer_is = refl; address_is = refl; gets_is = refl; picked_is = refl; reason_is = refl; high_is = refl; low_is = refl }
+    go (Send GetUdid) = record { kind_is = refl; answer_is = refl; address_is = refl; gets_is = refl; picked_is = refl; reason_is = refl; high_is = refl; low_is = refl }
+    go (Send (Assign u a)) = record { kind_is = refl; answer_is = refl; address_is = refl; gets_is = refl; picked_is = refl; reason_is = refl; high_is = refl; low_is = refl }
     go (Wait x) = end_parts x gets picked
 
 -- 21, exactly where the controller gives it, and then every other part is zero; the kind is the number of the case
@@ -66,7 +66,7 @@ end_21 : (e : End) (gets picked : ℕ) → (told_end e gets picked).answer ≡ 2
 end_21 Ended gets picked q = absurd (omega arith)
 end_21 (NoneFree u) gets picked q = absurd (omega arith)
 end_21 Abandoned gets picked q = absurd (omega arith)
-end_21 NotOutstanding gets picked q = (refl, record { kind_is = refl; answer_is = refl; address_is_lem = refl; gets_is = refl; picked_is = refl; reason_is = refl; high_is = refl; low_is = refl })
+end_21 NotOutstanding gets picked q = (refl, record { kind_is = refl; answer_is = refl; address_is = refl; gets_is = refl; picked_is = refl; reason_is = refl; high_is = refl; low_is = refl })
 end_21 Nothing gets picked q = absurd (omega arith)
 end_21 (Chosen u a why) gets picked q = absurd (omega arith)
 

@@ -14,7 +14,7 @@ use Rattle.c_arp.specs.Commands.{command_of, reason_number}
 pub record CommandParts (r : HbCommand) (kind answer address gets picked reason high low : ℕ) : Type 0 where
   pub kind_is : r.kind ≡ kind
   pub answer_is : r.answer ≡ answer
-  pub address_is_lem : r.address ≡ address
+  pub address_is : r.address ≡ address
   pub gets_is : r.gets ≡ gets
   pub picked_is : r.picked ≡ picked
   pub reason_is : r.reason ≡ reason

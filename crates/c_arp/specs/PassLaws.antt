@@ -95,7 +95,7 @@ module _ (given : HbPool) (last : ℕ) (l : List ℕ) (r : HbCommand) (e : r ≡
   pub hb_pass_1_zero : r.answer ≡ 1 → CommandParts r 6 1 0 0 0 0 0 0
   hb_pass_1_zero q =
       subst (λ (x : HbCommand). CommandParts x 6 1 0 0 0 0 0 0) (sym (forbidden (hb_pass_1.0 q)))
-      (record { kind_is = refl; answer_is = refl; address_is_lem = refl; gets_is = refl; picked_is = refl; reason_is = refl; high_is = refl; low_is = refl })
+      (record { kind_is = refl; answer_is = refl; address_is = refl; gets_is = refl; picked_is = refl; reason_is = refl; high_is = refl; low_is = refl })
 
 -- ---- with one more entry as the last
 

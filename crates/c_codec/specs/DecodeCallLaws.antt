@@ -38,7 +38,7 @@ pub gives_back : (protocol : ℕ) (m : Message) (sent₀ received₀ : List ℕ)
 gives_back protocol m sent₀ received₀ h sent₁ received₁ e s r = record {
   answer = ap (λ (x : HbDecoded). x.answer) e;
   value = ap (λ (x : HbDecoded). x.value) e;
-  address_is_lem = ap (λ (x : HbDecoded). x.address) e;
+  address_is = ap (λ (x : HbDecoded). x.address) e;
   direction_is_lem = ap (λ (x : HbDecoded). x.direction) e;
   command_is_lem = ap (λ (x : HbDecoded). x.command) e;
   sent_length_lem = ap (λ (x : HbDecoded). x.sent) e;

@@ -11,7 +11,7 @@ pub record Pairs (bytes tr : List ℕ) : Type 0 where
 pub record GivesBack (address direction command : ℕ) (sent received sent₀ received₀ : List ℕ) (h : HbDecoded) (sent₁ received₁ : List ℕ) : Type 0 where
   pub answer : h.answer ≡ 0
   pub value : h.value ≡ 0
-  pub address_is_lem : h.address ≡ address
+  pub address_is : h.address ≡ address
   pub direction_is_lem : h.direction ≡ direction
   pub command_is_lem : h.command ≡ command
   pub sent_length_lem : h.sent ≡ length sent

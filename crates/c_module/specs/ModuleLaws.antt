@@ -1,8 +1,7 @@
 -- What C is given and gives back unchanged is the same module, so that a run of calls is a run of the module's own methods. And which part of the
 -- struct is which.
-use Rattle.std.specs.Prelude.{ℕ, ◌≡◌, refl, Bool, true, false}
-use Rattle.std.proofs.Common.{sym, ap, ap₂, ◌∙◌}
-use Rattle.udid.specs.declared.Udid.{Udid}
+use Rattle.std.specs.Prelude.{◌≡◌, refl, Bool, true, false}
+use Rattle.std.proofs.Common.{ap₂}
 use Rattle.module.specs.declared.state.Lasting.{Lasting}
 use Rattle.module.specs.declared.state.Module.{Module}
 use Rattle.module.specs.declared.state.Phase.{Phase}

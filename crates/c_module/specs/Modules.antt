@@ -1,6 +1,4 @@
 -- A module as a struct for C, there and back, and what each call hands back.
-use Rattle.std.specs.Prelude.{ℕ, Bool, true, false}
-use Rattle.udid.specs.declared.Udid.{Udid}
 use Rattle.module.specs.declared.resume.Resumed.{Resumed}
 use Rattle.module.specs.declared.resume.Resumed.TheVariants.{Ready, Malformed, NoHome}
 use Rattle.module.specs.declared.state.Lasting.{Lasting}

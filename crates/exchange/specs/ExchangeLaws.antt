@@ -1,6 +1,6 @@
 -- ONE COMMAND: on the bus of modules stands what stands on the model's bus over their records, and what is left of the modules has the records that
 -- this trace leaves there.
-use Rattle.std.specs.Prelude.{◌≡◌, refl, List, ◌∷◌, ℕ}
+use Rattle.std.specs.Prelude.{[], ◌≡◌, refl, List, ◌∷◌, ℕ}
 use Rattle.std.proofs.Common.{sym, ap, ◌∙◌, subst, inl, inr}
 use Rattle.lists.specs.Each.{Each}
 use Rattle.udid.specs.Udids.{Fits}
@@ -29,6 +29,7 @@ meant_same (Send (Assign u a)) ms n h = assign_same u a n ms h
 meant_same (Wait e) ms n h = record { trace = refl; records = refl }
 
 records_fit : (ms : List Module) → Each Fitting ms → (t : Target) → Among t (records_of ms) → Fits t.udid
+records_fit [] h t x'' = elim x'' [ ]
 records_fit (m ∷ ms) h t (inl e) = subst (λ (x : Target). Fits x.udid) e h.0
 records_fit (m ∷ ms) h t (inr i) = records_fit ms h.1 t i
 

@@ -158,5 +158,6 @@ module _ (ms : List Module) where
       rw (a, b, c)
     where
       among_records : (l : List Module) → Among m l → Among (record_of m) (records_of l)
+      among_records [] x' = elim x' [ ]
       among_records (x ∷ l) (inl q) = inl (ap record_of q)
       among_records (x ∷ l) (inr q) = inr (among_records l q)

@@ -76,6 +76,7 @@ bytes_some (suc n) k ms h e =
 
 answers : (ms : List Module) (m : Module) → Among m ms → m.own.resolved ≡ false → some (map asked (map answering ms)) ≡ true
 unfolding some
+answers [] m x'' r = elim x'' [ ]
 answers (x ∷ ms) m (inl e) r = rw (answering_drives x ∙ ap not (ap (λ (z : Module). z.own.resolved) e ∙ r))
 answers (x ∷ ms) m (inr i) r = rw (answers ms m i r) (or_last (supplies (answering x)).drives)
 

@@ -70,17 +70,29 @@ abreast sent bs f g (m ∷ ms) h = (h.0, abreast sent bs f g ms h.1)
 module _ (sent : List ℕ) (b : ℕ) (bs : List ℕ) where
   pub any_same : (ms : List Module) (ts ts' : List Target) → Abreast sent (b ∷ bs) ms ts ts' → any_ack b ms ≡ somebody (acknowledges (sent ++ b ∷ [])) ts
   unfolding any_ack somebody
+  any_same [] [] (t' ∷ ts') h = elim h [ ]
+  any_same [] (t ∷ ts) _ h = elim h [ ]
+  any_same (m ∷ ms) [] _ h = elim h [ ]
+  any_same (m ∷ ms) (t ∷ ts) [] h = elim h [ ]
   any_same [] [] [] h = refl
   any_same (m ∷ ms) (t ∷ ts) (t' ∷ ts') h = ap₂ or h.0.0 (any_same ms ts ts' h.1)
 
   none_same : (ms : List Module) (ts ts' : List Target) → Abreast sent (b ∷ bs) ms ts ts' → any_ack b ms ≡ false → records_of (map stops (map (hearing b) ms)) ≡ ts'
   unfolding any_ack
+  none_same [] [] (t' ∷ ts') h e = elim h [ ]
+  none_same [] (t ∷ ts) _ h e = elim h [ ]
+  none_same (m ∷ ms) [] _ h e = elim h [ ]
+  none_same (m ∷ ms) (t ∷ ts) [] h e = elim h [ ]
   none_same [] [] [] h e = refl
   none_same (m ∷ ms) (t ∷ ts) (t' ∷ ts') h e =
       let f = neither (receives m b).ack (any_ack b ms) e in
       ap₂ (λ (x : Target) (l : List Target). x ∷ l) (h.0.1.0 f.0) (none_same ms ts ts' h.1 f.1)
 
   pub next_same : (ms : List Module) (ts ts' : List Target) → Abreast sent (b ∷ bs) ms ts ts' → Abreast (sent ++ b ∷ []) bs (map (hearing b) ms) ts ts'
+  next_same [] [] (t' ∷ ts') h = elim h [ ]
+  next_same [] (t ∷ ts) _ h = elim h [ ]
+  next_same (m ∷ ms) [] _ h = elim h [ ]
+  next_same (m ∷ ms) (t ∷ ts) [] h = elim h [ ]
   next_same [] [] [] h = tt
   next_same (m ∷ ms) (t ∷ ts) (t' ∷ ts') h = (h.0.1.1, next_same ms ts ts' h.1)
 
@@ -90,6 +102,10 @@ all_heard [] ms = ms
 all_heard (b ∷ bs) ms = all_heard bs (map (hearing b) ms)
 
 abreast_end : (sent bs : List ℕ) (ms : List Module) (ts ts' : List Target) → Abreast sent bs ms ts ts' → records_of (all_heard bs ms) ≡ ts'
+abreast_end sent [] [] [] (t' ∷ ts') h = elim h [ ]
+abreast_end sent [] [] (t ∷ ts) ts' h = elim h [ ]
+abreast_end sent [] (m ∷ ms) [] ts' h = elim h [ ]
+abreast_end sent [] (m ∷ ms) (t ∷ ts) [] h = elim h [ ]
 abreast_end sent [] [] [] [] h = refl
 abreast_end sent [] (m ∷ ms) (t ∷ ts) (t' ∷ ts') h = ap₂ (λ (x : Target) (l : List Target). x ∷ l) h.0 (abreast_end sent [] ms ts ts' h.1)
 abreast_end sent (b ∷ bs) ms ts ts' h = abreast_end (sent ++ b ∷ []) bs (map (hearing b) ms) ts ts' (next_same sent b bs ms ts ts' h)

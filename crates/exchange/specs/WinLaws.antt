@@ -70,6 +70,8 @@ one_bit j w s h g = go s.sends s.left w h g
     go true (false ∷ l) false q r e = (refl, (refl, refl))
 
 sent_back : (j : ℕ) (w : Bool) (l : List Bool) (ss ts : List Sender) → Each (Has (suc j)) ss → Each (Gives w) ss → Both (Sent l) (map (sees w) ss) ts → Both (Sent (w ∷ l)) ss ts
+sent_back j w l [] (t ∷ ts) h g b = elim b [ ]
+sent_back j w l (s ∷ ss) [] h g b = elim b [ ]
 sent_back j w l [] [] h g b = tt
 sent_back j w l (s ∷ ss) (t ∷ ts) h g b = (
   λ e. let r = b.0 e in let q = one_bit j w s h.0 g.0 r.0 in (q.0, (q.1.0 ∙ ap (◌∷◌ w) r.1.0, r.1.1 ∙ q.1.1)),
@@ -95,6 +97,8 @@ SaidOne b m m' = (supplies m').drives ≡ true → ((supplies m).drives ≡ true
 
 said_bits : (n : ℕ) (l : List Bool) (ms : List Module) (ts : List Sender) → Both (Sent l) (map asked ms) ts → Each (Ready n) ts
     → Both (SaidOne (number_of l)) ms (map (λ (s : Sender). s.who) ts)
+said_bits n l [] (t ∷ ts) b r = elim b [ ]
+said_bits n l (m ∷ ms) [] b r = elim b [ ]
 said_bits n l [] [] b r = tt
 said_bits n l (m ∷ ms) (t ∷ ts) b r = (
   λ e. let q = b.0 (r.0.same ∙ e) in (q.0, (sym (number_bits 8 (supplies m).byte) ∙ ap number_of q.1.0, q.1.1)),
@@ -114,6 +118,10 @@ abbrev Said : ℕ → List ℕ → Module → Module → Type 0
 Said n bs m m' = (supplies m').drives ≡ true → ((supplies m).drives ≡ true) × ((low (says n m) ≡ bs) × (m'.own ≡ m.own))
 
 said_more : (n b : ℕ) (bs : List ℕ) (ms ns os : List Module) → Both (SaidOne b) ms ns → Both (Said n bs) ns os → Both (Said (suc n) (b ∷ bs)) ms os
+said_more n b bs [] [] (m2 ∷ os) p q = elim q [ ]
+said_more n b bs [] (m1 ∷ ns) os p q = elim p [ ]
+said_more n b bs (m ∷ ms) [] os p q = elim p [ ]
+said_more n b bs (m ∷ ms) (m1 ∷ ns) [] p q = elim q [ ]
 said_more n b bs [] [] [] p q = tt
 said_more n b bs (m ∷ ms) (m1 ∷ ns) (m2 ∷ os) p q = (
   λ e.
@@ -180,6 +188,8 @@ Winner bs ms n = (m : Module) × Among m ms × (n.own ≡ m.own) × (17 ∷ udid
 
 winner : (bs : List ℕ) (ms ns : List Module) → Both (Said 17 bs) (map answering ms) ns → (n : Module) → Among n ns → StillSends n → Winner bs ms n
 unfolding Winner
+winner bs [] (n ∷ ns) b x i s = elim b [ ]
+winner bs (m ∷ ms) [] b x i s = elim b [ ]
 winner bs [] [] b x i s = absurd i
 winner bs (m ∷ ms) (n ∷ ns) b x (inl e) s =
     let q = b.0 (drives_still n (ap (λ (z : Module). z.phase) e ∙ s)) in
@@ -211,6 +221,7 @@ module _ (ms : List Module) where
       (same_bytes m.own.udid n.own.udid (fits m (wins m i s).0 (wins m i s).1 (wins m i s).2) (fits n (wins n j t).0 (wins n j t).1 (wins n j t).2)).0 r
     where
       of : (l : List Module) → Each Fitting l → (k : Module) → Among k l → Fitting k
+      of [] g k x'' = elim x'' [ ]
       of (x ∷ l) g k (inl e) = subst Fitting e g.0
       of (x ∷ l) g k (inr e) = of l g.1 k e
 
