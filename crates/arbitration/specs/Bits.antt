@@ -9,7 +9,7 @@ unfoldable pub bits : ℕ → ℕ → List Bool
 bits zero n = []
 bits (suc k) n = digit n k ∷ bits k n
 
--- the 128 bits of an identifier: those of its 16 bytes (BitLaws, udid-bits)
+-- the 128 bits of an identifier: those of its 16 bytes (BitLaws, udid_bits_lem)
 abbrev pub udid_bits : Udid → List Bool
 udid_bits u = bits 64 u.high ++ bits 64 u.low
 

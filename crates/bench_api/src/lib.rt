@@ -1,6 +1,6 @@
 // What only the benchmark of the codec calls: the codec on symbols as 16-bit numbers, declared in bench/symbols.h. Nothing is turned into
 // byte pairs there, so that what is counted is the codec's work alone. C has traces as byte pairs, by crate c_api.
-// `rt staticlib bench_api` has these two functions and no others: a benchmark links libc_api.a beside it.
+// Its archive has these two functions and no others: a benchmark links libc_api.a beside it.
 #![tactic(auto)]
 
 ghost use Rattle.encode.specs.Encode.{message};

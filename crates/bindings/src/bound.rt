@@ -1,4 +1,4 @@
-// The set of bound addresses, one address after the other. Rests on entry and pool; what it has in the end is in specs/BoundLaws.
+// The set of bound addresses, one address after the other. Rests on entry and pool; what it has in the end is in proofs/BoundLaws.
 ghost use Rattle.std.specs.Prelude.{◌≡◌};
 ghost use Rattle.bindings.specs.Entries.{with_entry};
 

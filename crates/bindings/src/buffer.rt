@@ -1,4 +1,4 @@
-// One entry of the binding buffer, written and read. Rests on entry; what the buffer holds once all are written is in specs/BufferLaws.
+// One entry of the binding buffer, written and read. Rests on entry; what the buffer holds once all are written is in proofs/BufferLaws.
 ghost use Rattle.std.specs.Prelude.{◌≡◌};
 ghost use Rattle.bindings.specs.Entries.{put_entry, read_udid};
 

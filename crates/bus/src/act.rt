@@ -1,4 +1,4 @@
-// What a command means for the targets; that its symbols on the bus do just that is effect-as-meant in rule/specs/EffectLaws. Rests on targets.
+// What a command means for the targets; that its symbols on the bus do just that is effect_as_meant in rule/specs/EffectLaws. Rests on targets.
 ghost use Rattle.std.specs.Prelude.{◌≡◌};
 ghost use Rattle.targets.specs.Records.{targets_of, records_with};
 ghost use Rattle.rule.specs.Acted.{acted};

@@ -29,7 +29,7 @@ fn refused(s: Shelf, e: Expected, place: usize, out: &mut [u8], at: usize) -> Tu
     Turn { shelf: s, at: next }
 }
 
-// A module in place of any other. There is one of whatever record a line asks for (module_answers, asked-is-ready).
+// A module in place of any other. There is one of whatever record a line asks for (module_answers, asked_is_ready).
 pub(crate) fn resume(s: Shelf, t: Record, fresh: u32, out: &mut [u8], at: usize) -> Turn {
     let u = t.udid;
     let r = Module::of_record(u, WireByte(t.byte), t.flag, fresh);

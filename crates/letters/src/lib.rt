@@ -2,5 +2,5 @@
 // Rests on pieces and writing.
 #![tactic(auto)]
 
+pub mod encoded;
 pub mod letter;
-pub mod trace;

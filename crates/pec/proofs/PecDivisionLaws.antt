@@ -1,5 +1,5 @@
 -- The packet error code is the remainder of a division of polynomials: of the bytes, times x^8, by x^8+x^2+x+1. A remainder is a number
--- below 256: a polynomial of a degree below 8. pec-divides says that the PEC is a remainder, remainder-unique that there is one only, and
+-- below 256: a polynomial of a degree below 8. pec_divides says that the PEC is a remainder, remainder_unique that there is one only, and
 -- pec_is_remainder puts the two together.
 use Rattle.std.specs.Prelude.{◌≡◌, refl, ◌↔◌, List, [], ◌∷◌, ℕ, zero, suc, ◌+◌, ◌*◌, ◌≤◌, ◌<◌}
 use Rattle.std.proofs.Common.{sym, ◌∙◌, mul_comm, arith}

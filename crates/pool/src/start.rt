@@ -1,5 +1,5 @@
 // The sets to begin with: none; the reserved addresses and the listed ones, and each with the occupied ones. Rests on members;
-// specs/StartLaws holds them against the lists of addresses.
+// proofs/StartLaws holds them against the lists of addresses.
 ghost use Rattle.std.specs.Prelude.{◌≡◌};
 ghost use Rattle.pool.specs.Start.{empty_pool, reserved_pool, listed_pool, starting_pool, barred_pool};
 

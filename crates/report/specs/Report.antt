@@ -19,7 +19,7 @@ abbrev pub no_udid : Udid
 no_udid = record { high = 0; low = 0 }
 
 -- ---- the end of the pass, in the scope's numbers. A command to send is no end and has none, nor has a choice that waits: they would
--- read as 0, but no pass stops at one (demand-3)
+-- read as 0, but no pass stops at one (demand_3)
 
 abbrev pub number_in : List (ℕ × List Udid) → ℕ
 number_in [] = 0

@@ -124,7 +124,7 @@ module _ (num : ℕ) (sh : Shape) (hs : Sane sh) (p : Bool) where
           here = λ g. (let q = fits_runs sh hs p (take (suc k) tr) g in reads_no_more sh p tr k fresh r.0 h r.1 (nothing_follows sh p r.0 (get_or tr k 0) r.2) q.0 q.1);
         }
 
-    -- 3 comes before 8 at one place; before 5 it comes by refused-exactly
+    -- 3 comes before 8 at one place; before 5 it comes by refused_exactly
     pub three_before_eight : (place : ℕ) → place < length tr → Member sh p (take place tr) → 259 < get_or tr place 0 → decode_number answer ≡ (3, place)
     three_before_eight k h m g = (refused_exactly NoSymbol k).1 (nothing_after k h m, g)
 

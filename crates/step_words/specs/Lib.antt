@@ -1,3 +1,5 @@
+pub mod Refused
+pub mod RefusedLaws
 pub mod Taken
 pub mod TakenLaws
 pub mod Stepped

@@ -5,7 +5,7 @@ use Rattle.text.specs.Chars.{chars}
 use Rattle.writing.specs.Written.{decimal_of}
 use Rattle.scan.specs.declared.answer.Decoded.{Decoded}
 use Rattle.scan.specs.declared.answer.Decoded.TheVariants.{Done, Refused}
-use Rattle.codec_answers.specs.Decodings.{refusal_text}
+use Rattle.step_words.specs.Refused.{refusal_text}
 use Rattle.commands.specs.Codes.{send_byte, block_read, block_write}
 use Rattle.commands.specs.declared.command.Command.{Command}
 use Rattle.commands.specs.declared.command.Command.TheVariants.{Prepare, GetUdid, Assign}

@@ -1,30 +1,23 @@
 -- What a trace was taken for, row by row: by the command that was outstanding and by what the trace decodes to. And the words say what the
 -- trace told the controller, no more and no less.
-use Rattle.std.specs.Prelude.{ℕ, ◌≡◌, refl, Bool, true, false, List, [], ◌++◌, eqb, length, take}
+use Rattle.std.specs.Prelude.{ℕ, ◌≡◌, Bool, List, [], ◌++◌}
 use Rattle.std.proofs.Math.Path.{sym, ap₂}
-use Rattle.std.proofs.Common.{ap, ◌∙◌, append-nil, eq-eqb, ne_eqb}
-use Rattle.lists.specs.Choice.{pick, and}
+use Rattle.std.proofs.Common.{ap, ◌∙◌, eq-eqb, ne_eqb}
+use Rattle.lists.specs.Choice.{pick}
 use Rattle.text.specs.Chars.{chars}
-use Rattle.text.specs.Words.{same_text}
-use Rattle.writing.specs.Written.{decimal_of}
 use Rattle.wire.specs.declared.address.Address.{Address}
-use Rattle.trace.specs.declared.transaction.Transaction.{Transaction}
-use Rattle.scan.specs.Numbers.{is_nack}
 use Rattle.scan.specs.declared.answer.Decoded.{Decoded}
-use Rattle.scan.specs.declared.answer.Decoded.TheVariants.{Done, Refused}
+use Rattle.scan.specs.declared.answer.Decoded.TheVariants.{Refused}
 use Rattle.scan.specs.declared.answer.Refusal.{Refusal}
-use Rattle.udid.specs.Bytes.{udid_at}
 use Rattle.udid.specs.declared.Udid.{Udid}
-use Rattle.codec_answers.specs.Decodings.{refusal_text}
 use Rattle.commands.specs.Codes.{send_byte, block_read, block_write}
 use Rattle.commands.specs.declared.command.Command.{Command}
 use Rattle.commands.specs.declared.command.Command.TheVariants.{Prepare, GetUdid, Assign}
 use Rattle.commands.specs.declared.command.Handed.TheVariants.{Send}
-use Rattle.hearing.specs.Heard.{answer, sent_in, received_in, is_prepare, is_get, is_assign, nobody}
-use Rattle.hearing.specs.Told.{told_prepare, told_get, told_assign, tells}
+use Rattle.hearing.specs.Heard.{answer}
+use Rattle.hearing.specs.Told.{tells}
 use Rattle.hearing.specs.declared.told.Told.{Told}
-use Rattle.hearing.specs.declared.told.Told.TheVariants.{Again, Over, GivenUp, Reply, Took, Unasked}
-use Rattle.step_words.specs.Taken.{because, left_text, asked_text, unheard_text, prepare_text, get_text, assign_text, taken_text, decoded_as, taken_for}
+use Rattle.step_words.specs.Taken.{because, left_text, asked_text, prepare_text, get_text, assign_text, taken_text, decoded_as, taken_for}
 
 -- ---- what the functions write
 

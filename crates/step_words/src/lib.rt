@@ -2,5 +2,6 @@
 // trace tells, on scan for the decoder's answer, and on meanings for the words of a number.
 #![tactic(auto)]
 
+mod refusal;
 pub mod stepped;
 mod taken;

@@ -3,7 +3,7 @@ ghost use Rattle.std.specs.Prelude.{◌≡◌, ◌++◌};
 ghost use Rattle.writing.specs.Written.{Appended};
 ghost use Rattle.step_words.specs.Taken.{because, left_text, asked_text, prepare_text, unheard_text, get_text, assign_text};
 
-use codec_answers::decoded::put_refusal;
+use super::refusal::put_refusal;
 use hearing::told::Told;
 use pieces::piece::put_number;
 use scan::answer::Decoded;

@@ -1,5 +1,5 @@
 // Equality and order of identifiers. The order is that of their bytes on the wire: the first byte that differs decides
-// (specs/UdidLaws, below-bytes). Rests on the halves alone.
+// (proofs/UdidLaws, below_bytes). Rests on the halves alone.
 ghost use Rattle.std.specs.Prelude.{◌≡◌};
 ghost use Rattle.udid.specs.Udids.{same_udid, is_below};
 

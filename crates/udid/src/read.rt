@@ -1,5 +1,5 @@
 // An identifier from its bytes, highest byte first, at any place of a slice. A byte that the slice does not have counts as zero.
-// What is read is what was written: specs/UdidLaws, udid-back and bytes-back.
+// What is read is what was written: proofs/UdidLaws, udid_back and bytes_back.
 ghost use Rattle.std.specs.Prelude.{◌≡◌, ◌+◌, ◌^◌, ◌<◌, ◌≤◌, length, get_or};
 ghost use Rattle.udid.specs.Bytes.{number, bytes_from, udid_at};
 ghost use Rattle.udid.specs.Udids.{same_udid};

@@ -1,4 +1,4 @@
-// The bytes of an identifier, highest byte first, at any place of a slice. What was written is read there: specs/UdidLaws, put-back.
+// The bytes of an identifier, highest byte first, at any place of a slice. What was written is read there: proofs/UdidLaws, put-back.
 ghost use Rattle.std.specs.Prelude.{◌≡◌, ◌++◌, ◌+◌, ◌≤◌, length, take, drop};
 ghost use Rattle.udid.specs.Bytes.{bytes_of, udid_bytes, put_at};
 

@@ -1,0 +1,10 @@
+use Rattle.std.proofs.Common.{ap, sym, ◌∙◌}
+use Rattle.pool.specs.Free.{lowest_free}
+use Rattle.c_arp.specs.Parts.{free_number}
+use Rattle.c_api.proofs.pools.hb_pool_lowest_free.Goals as goal
+
+pub returns-in-At : goal.returns-in-At
+returns-in-At c = ap free_number (sym c.in-At.is ∙ c.lowest_free-f.ensures ∙ ap lowest_free c.pool_in-p.ensures)
+
+pub returns-in-AllUsed : goal.returns-in-AllUsed
+returns-in-AllUsed c = ap free_number (sym c.in-AllUsed.is ∙ c.lowest_free-f.ensures ∙ ap lowest_free c.pool_in-p.ensures)
