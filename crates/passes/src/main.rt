@@ -13,8 +13,6 @@
 // The first byte that is none of these, or the end of the input, ends the run. Standard input is read and standard output is written.
 #![tactic(auto)]
 
-ghost use Rattle.std.specs.Prelude.{◌≤◌, length};
-
 mod answers;
 mod script;
 
@@ -44,17 +42,13 @@ fn read_controller(input: &mut impl Read, st: &mut Stepped) -> io::Result<()> {
 }
 
 // The trace is read into a lent buffer.
-fn step_on(input: &mut impl Read, trace: &mut [u16], st: &mut Stepped) -> io::Result<()>
-    requires { 1000 ≤ length trace.old }
-{
+fn step_on(input: &mut impl Read, trace: &mut [u16; 1000], st: &mut Stepped) -> io::Result<()> {
     let n = read_trace(input, trace)?;
     *st = st.state.step(&trace[..n]);
     Ok(())
 }
 
-fn choose_on(input: &mut impl Read, trace: &mut [u16], st: &mut Stepped) -> io::Result<()>
-    requires { 1000 ≤ length trace.old }
-{
+fn choose_on(input: &mut impl Read, trace: &mut [u16; 1000], st: &mut Stepped) -> io::Result<()> {
     let n = read_trace(input, trace)?;
     *st = st.state.choose(&trace[..n]);
     Ok(())
@@ -64,12 +58,10 @@ fn choose_on(input: &mut impl Read, trace: &mut [u16], st: &mut Stepped) -> io::
 fn go_on(
     input: &mut impl Read,
     output: &mut impl Write,
-    trace: &mut [u16],
+    trace: &mut [u16; 1000],
     st: &mut Stepped,
     operation: u8,
-) -> io::Result<()>
-    requires { 1000 ≤ length trace.old }
-{
+) -> io::Result<()> {
     if operation == 1 {
         *st = st.state.start();
     } else {
@@ -82,12 +74,10 @@ fn go_on(
 fn go_apart(
     input: &mut impl Read,
     output: &mut impl Write,
-    trace: &mut [u16],
+    trace: &mut [u16; 1000],
     st: &mut Stepped,
     operation: u8,
-) -> io::Result<()>
-    requires { 1000 ≤ length trace.old }
-{
+) -> io::Result<()> {
     match operation {
         5 => choose_on(input, trace, st)?,
         6 => *st = st.state.issue(),
