@@ -10,7 +10,6 @@ mod remainders;
 pub mod table;
 
 // n times x^8, folded back: x^8 leaves x^2+x+1, so it is n times that, where bits are added without carries.
-#[tactic(auto, unfolding(crate::specs::Fold::folded))]
 fn folded(n: u16) -> u16
     requires { n < 256 }
     ensures { result ≡ foldedBack n }

@@ -6,7 +6,6 @@ ghost use Rattle.pec.specs.Table.{Remainders, step_by, from_by};
 use crate::remainders::REMAINDERS;
 
 // The table, to be lent.
-#[tactic(auto, unfolding(crate::specs::Table::is_remainder, crate::specs::Pec::pec_step, crate::specs::Pec::bit_step))]
 pub fn table() -> [u8; 256]
     ensures { Remainders result }
 {
@@ -14,7 +13,6 @@ pub fn table() -> [u8; 256]
 }
 
 // The PEC of one byte more by a table that is lent: its entry at the PEC so far xor the byte.
-#[tactic(auto, unfolding(crate::specs::Table::step_by))]
 pub fn add_byte_by(t: &[u8; 256], c: u8, b: u8) -> u8
     ensures { result ≡ step_by t.now c b }
 {

@@ -3,7 +3,6 @@ ghost use Rattle.std.specs.Prelude.{◌≡◌, ◌%◌, ◌<◌};
 ghost use Rattle.pool.specs.Digits.{digit, plus, flip, FirstZero};
 
 // Digit k of n is one.
-#[tactic(auto, unfolding(crate::specs::Digits::digit))]
 pub(crate) fn is_one(n: u64, k: u8) -> bool
     ensures { result ≡ digit n (k % 64) }
 {
@@ -11,7 +10,6 @@ pub(crate) fn is_one(n: u64, k: u8) -> bool
 }
 
 // n with digit k one.
-#[tactic(auto, unfolding(crate::specs::Digits::plus))]
 pub(crate) fn with_one(n: u64, k: u8) -> u64
     ensures { result ≡ plus n (k % 64) }
 {
@@ -19,7 +17,6 @@ pub(crate) fn with_one(n: u64, k: u8) -> u64
 }
 
 // n with digit k turned over.
-#[tactic(auto, unfolding(crate::specs::Digits::flip))]
 pub(crate) fn turned(n: u64, k: u8) -> u64
     ensures { result ≡ flip n (k % 64) }
 {

@@ -30,7 +30,6 @@ impl Pool {
     }
 
     // The first free address after the last one picked, going from 7Fh round to 00h. After 127, and after any number above, the lowest.
-    #[tactic(auto, unfolding(crate::specs::NextFree::next_free))]
     pub fn next_free(self, last: u8) -> Free
         ensures { result ≡ next_free self last }
     {
@@ -45,7 +44,6 @@ impl Pool {
     }
 
     // The lowest free address of those from n on.
-    #[tactic(auto, unfolding(crate::specs::Free::free_from))]
     fn free_from(self, n: u8) -> Free
         ensures { result ≡ free_from self (128 - n) n }
     {

@@ -8,7 +8,6 @@ use wire::address::Address;
 
 impl Pool {
     // The address is in use.
-    #[tactic(auto, unfolding(crate::specs::Pools::member))]
     pub fn has(self, a: Address) -> bool
         ensures { result ≡ member self a.0 }
     {
@@ -23,7 +22,6 @@ impl Pool {
     }
 
     // The pool with the address in use.
-    #[tactic(auto, unfolding(crate::specs::Pools::with_address))]
     pub fn with(self, a: Address) -> Pool
         ensures { result ≡ with_address self a.0 }
     {
@@ -44,7 +42,6 @@ impl Pool {
     }
 
     // The pool with the address free.
-    #[tactic(auto, unfolding(crate::specs::Pools::without_address))]
     pub fn without(self, a: Address) -> Pool
         ensures { result ≡ without_address self a.0 }
     {
@@ -66,7 +63,6 @@ impl Pool {
     }
 
     // The addresses in use in either.
-    #[tactic(auto, unfolding(crate::specs::Pools::union_of))]
     pub fn union(self, other: Pool) -> Pool
         ensures { result ≡ union_of self other }
     {

@@ -14,7 +14,6 @@ impl Pool {
     }
 
     // The 21 on which no target may stand: 00h to 08h, 0Ch, 28h and 37h, then 61h and 78h to 7Fh.
-    #[tactic(auto, unfolding(crate::specs::Start::reserved_pool))]
     pub fn reserved() -> Pool
         ensures { result ≡ reserved_pool }
     {
@@ -25,7 +24,6 @@ impl Pool {
     }
 
     // The 35 of Table 17: those, and 09h to 0Bh, 2Ch and 2Dh, then 40h to 44h and 48h to 4Bh.
-    #[tactic(auto, unfolding(crate::specs::Start::listed_pool))]
     pub fn listed() -> Pool
         ensures { result ≡ listed_pool }
     {
@@ -36,7 +34,6 @@ impl Pool {
     }
 
     // The starting pool: the listed and the occupied addresses together. Nothing is picked from it.
-    #[tactic(auto, unfolding(crate::specs::Start::starting_pool))]
     pub fn starting(occupied: Pool) -> Pool
         ensures { result ≡ starting_pool occupied }
     {
@@ -45,7 +42,6 @@ impl Pool {
     }
 
     // The barred addresses: the reserved and the occupied ones together. Not even a fixed target may stand there.
-    #[tactic(auto, unfolding(crate::specs::Start::barred_pool))]
     pub fn barred(occupied: Pool) -> Pool
         ensures { result ≡ barred_pool occupied }
     {

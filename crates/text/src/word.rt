@@ -81,7 +81,6 @@ fn word_end(s: &[u8], at: usize) -> usize
 }
 
 // The first word from a place on.
-#[tactic(auto, unfolding(crate::specs::Words::start_from, crate::specs::Words::word_from))]
 pub fn next_word(s: &[u8], at: usize) -> LineWord
     ensures { result ≡ word_from s.now at }
 {

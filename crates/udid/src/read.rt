@@ -26,7 +26,6 @@ fn byte(s: &[u8], at: usize, k: usize) -> u64
 }
 
 // The number that eight bytes make, from byte `from` after a place on.
-#[tactic(auto, unfolding(crate::specs::Bytes::number_from, crate::specs::Bytes::bytes_from))]
 fn word(s: &[u8], at: usize, from: u8) -> u64
     ensures { result ≡ number (bytes_from s.now (at + from) 8) }
 {
@@ -40,7 +39,6 @@ fn word(s: &[u8], at: usize, from: u8) -> u64
 }
 
 // The number that four bytes make, all of which the slice has. In one sum, which compiles to one load.
-#[tactic(auto, unfolding(crate::specs::Bytes::number_from, crate::specs::Bytes::bytes_from))]
 fn half(s: &[u8], at: usize) -> u64
     requires { at + 4 ≤ length s.now }
     ensures { (result ≡ number (bytes_from s.now at 4)) × (result < 2 ^ 32) }
@@ -64,7 +62,6 @@ fn whole(s: &[u8], at: usize) -> u64
 
 impl Udid {
     // The identifier whose bytes stand from a place on, where the slice may end before the last of them.
-    #[tactic(auto, unfolding(crate::specs::Bytes::udid_at))]
     fn from_few(s: &[u8], at: usize) -> Udid
         ensures { result ≡ udid_at s.now at }
     {
@@ -77,7 +74,6 @@ impl Udid {
     }
 
     // The identifier whose bytes stand from a place on.
-    #[tactic(auto, unfolding(crate::specs::Bytes::udid_at))]
     pub fn from_bytes(s: &[u8], at: usize) -> Udid
         ensures { result ≡ udid_at s.now at }
     {
@@ -93,7 +89,6 @@ impl Udid {
     }
 
     // The high half of the identifier whose bytes stand from a place on.
-    #[tactic(auto, unfolding(crate::specs::Bytes::udid_at))]
     pub fn high_at(s: &[u8], at: usize) -> u64
         ensures { result ≡ (udid_at s.now at).high }
     {
@@ -107,7 +102,6 @@ impl Udid {
     }
 
     // It is the identifier whose bytes stand from a place on. The low half is looked at first: it mostly tells two targets apart.
-    #[tactic(auto, unfolding(crate::specs::Bytes::udid_at))]
     pub fn stands_at(self, s: &[u8], at: usize) -> bool
         ensures { result ≡ same_udid (udid_at s.now at) self }
     {

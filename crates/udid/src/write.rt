@@ -44,7 +44,6 @@ fn put_word(out: &mut [u8], at: usize, n: u64)
 
 impl Udid {
     // The 16 bytes from a place on. A slice that ends before them stays as it is.
-    #[tactic(auto, unfolding(crate::specs::Bytes::udid_bytes))]
     pub fn put_bytes(self, out: &mut [u8], at: usize)
         ensures { out.new ≡ put_at out.old at (udid_bytes self) }
     {

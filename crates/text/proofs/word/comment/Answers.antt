@@ -1,4 +1,4 @@
-use Rattle.std.proofs.Common.{◌-◌, sym, ◌∙◌, zero-add, arith, eq-eqb, ne_eqb}
+use Rattle.std.proofs.Common.{sym, ◌∙◌, zero-add, arith, eq-eqb, ne_eqb}
 use Rattle.text.specs.Words.{hash}
 use Rattle.text.specs.WordLaws.{search_found, search_on, search_over}
 use Rattle.text.proofs.word.comment.Goals as goal

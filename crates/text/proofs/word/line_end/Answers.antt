@@ -1,4 +1,4 @@
-use Rattle.std.proofs.Common.{◌-◌, refl, arith, eq-eqb, ne_eqb}
+use Rattle.std.proofs.Common.{refl, arith, eq-eqb, ne_eqb}
 use Rattle.text.specs.Words.{feed}
 use Rattle.text.specs.WordLaws.{search_found, search_on, search_over}
 use Rattle.text.proofs.word.line_end.Goals as goal

@@ -1,4 +1,4 @@
-use Rattle.std.proofs.Common.{◌-◌, sym, refl, ◌∙◌, arith}
+use Rattle.std.proofs.Common.{sym, refl, ◌∙◌, arith}
 use Rattle.text.specs.WordLaws.{other_lengths_differ, same_on, same_not, same_over}
 use Rattle.text.proofs.word.same.Goals as goal
 

@@ -1,4 +1,4 @@
-use Rattle.std.proofs.Common.{◌-◌, refl, sym, arith}
+use Rattle.std.proofs.Common.{refl, sym, arith}
 use Rattle.text.specs.Words.{outside}
 use Rattle.text.specs.WordLaws.{search_found, search_on, search_over}
 use Rattle.text.proofs.word.word_start.Goals as goal
