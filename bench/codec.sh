@@ -9,13 +9,10 @@
 set -eu
 cd "$(dirname "$0")/.."
 out=build/bench
-library=${1:-target/staticlib/libc_api.a}
-symbols=${2:-target/staticlib/libbench_api.a}
+library=${1:-crates/c_api/out/libc_api.a}
+symbols=${2:-crates/bench_api/out/libbench_api.a}
 mkdir -p "$out"
-[ $# -gt 0 ] || { rt staticlib c_api && rt staticlib bench_api; } >build/staticlib.log 2>&1 || {
-    cat build/staticlib.log
-    exit 1
-}
+[ $# -gt 0 ] || sh tests/build.sh c_api bench_api
 sh bench/plain.sh
 gcc -std=c11 -O2 -Wall -Wextra -Werror -Iinclude bench/codec.c "$out/bit.o" "$out/table.o" "$library" "$symbols" -o "$out/codec"
 sh bench/counted.sh codec

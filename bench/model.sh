@@ -10,12 +10,9 @@ cd "$(dirname "$0")/.."
 limits='1:1.5:2.1 10:1.3:2.05 60:1.3:2.05 120:1.3:1.85'
 growth=1.35
 out=build/bench
-library=${1:-target/staticlib/libc_api.a}
+library=${1:-crates/c_api/out/libc_api.a}
 mkdir -p "$out"
-[ $# -gt 0 ] || rt staticlib c_api >build/staticlib.log 2>&1 || {
-    cat build/staticlib.log
-    exit 1
-}
+[ $# -gt 0 ] || sh tests/build.sh c_api
 sh bench/plain.sh
 gcc -std=c11 -O2 -Wall -Wextra -Werror -Iinclude bench/model.c "$out/bit.o" "$out/bit_model.o" "$out/table.o" "$out/table_model.o" \
     "$library" -o "$out/model"

@@ -7,12 +7,9 @@ cd "$(dirname "$0")/.."
 # The bytes, and the limit for each of them; 0: none.
 limits='1:0 16:8 255:4.1 65536:0'
 out=build/bench
-library=${1:-target/staticlib/libc_api.a}
+library=${1:-crates/c_api/out/libc_api.a}
 mkdir -p "$out"
-[ $# -gt 0 ] || rt staticlib c_api >build/staticlib.log 2>&1 || {
-    cat build/staticlib.log
-    exit 1
-}
+[ $# -gt 0 ] || sh tests/build.sh c_api
 sh bench/plain.sh
 gcc -std=c11 -O2 -Wall -Wextra -Werror -Iinclude bench/pec.c "$out/bit.o" "$out/table.o" "$library" -o "$out/pec"
 

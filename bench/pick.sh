@@ -7,12 +7,9 @@ cd "$(dirname "$0")/.."
 limit=150
 cases=18 # in bench/pick.c
 out=build/bench
-library=${1:-target/staticlib/libc_api.a}
+library=${1:-crates/c_api/out/libc_api.a}
 mkdir -p "$out"
-[ $# -gt 0 ] || rt staticlib c_api >build/staticlib.log 2>&1 || {
-    cat build/staticlib.log
-    exit 1
-}
+[ $# -gt 0 ] || sh tests/build.sh c_api
 gcc -std=c11 -O2 -Wall -Wextra -Werror -Iinclude bench/pick.c "$library" -o "$out/pick"
 sh bench/counted.sh pick
 awk -v limit="$limit" -v cases="$cases" '

@@ -8,7 +8,7 @@
  * A truth value is 0 or 1; as an input, any number but 0 is true. A symbol of a trace is a number: 0 to 255 a byte, HB_START, HB_STOP,
  * HB_ACK or HB_NACK; as bytes it is a pair, low byte first. Bytes after the last whole pair of a trace are not read.
  *
- * The library is target/staticlib/libc_api.a, which `rt staticlib c_api` proves and builds. */
+ * The library is crates/c_api/out/libc_api.a, which `rt lib` in crates/c_api proves and builds. */
 #ifndef HEADBOARDED_H
 #define HEADBOARDED_H
 

@@ -1,6 +1,6 @@
 #!/bin/sh
 # What the documents show is true: every example in them is run, and compared. Needs rt, gcc, rustc, and what tests/run builds.
-# HB_CONSOLE names another console than target/bin/headboarded.
+# HB_CONSOLE names another console than crates/headboarded/out/headboarded.
 # What it makes goes to build/documents/. Everything is tried, and every difference is printed, before it fails.
 #
 # How examples are written. A block of code is fenced, and the words after its fence say what it is:
@@ -18,7 +18,7 @@
 set -eu
 cd "$(dirname "$0")/.."
 out=build/documents
-console=${HB_CONSOLE:-target/bin/headboarded}
+console=${HB_CONSOLE:-crates/headboarded/out/headboarded}
 documents="README.md docs/*.md tests/README.md bench/RESULTS.md"
 rm -rf "$out"
 mkdir -p "$out"
@@ -137,7 +137,7 @@ while read -r id document line kind file; do
     output)
         [ -n "$commands" ] || { wrong "$where: an output of no commands"; continue; }
         # On another processor than x86-64 what rt built can't be started as it is. The block then is held against its file alone.
-        if [ "$(uname -m)" != x86_64 ] && grep -q target/ "$commands"; then
+        if [ "$(uname -m)" != x86_64 ] && grep -q 'crates/[a-z_]*/out/' "$commands"; then
             [ "$file" = - ] || is_piece "$block" "$file" || wrong "$where: its lines do not follow each other in $file"
             commands=
             continue
@@ -181,7 +181,7 @@ done <"$out/requests" | sort -u >"$out/given"
 same 'docs/CONSOLE.md, the requests listed against those shown' "$out/listed" "$out/given"
 
 # The crates.
-sed -n 's/^\([a-z_]*\):.*/\1/p' crates.txt | sort >"$out/crates"
+sed -n 's/^\([a-z_]*\)\( staticlib\)\{0,1\}:.*/\1/p' crates.txt | sort >"$out/crates"
 sed -n 's/^| `\([a-z_]*\)` | .*/\1/p' README.md | sort >"$out/given"
 same 'README.md, its crates against those of crates.txt' "$out/given" "$out/crates"
 

@@ -6,24 +6,14 @@ set -eu
 cd "$(dirname "$0")/.."
 out=build/tests
 emulated=build/emulated
-library=target/staticlib/libc_api.a
-symbols=target/staticlib/libbench_api.a
+library=crates/c_api/out/libc_api.a
+symbols=crates/bench_api/out/libbench_api.a
 mkdir -p "$out" "$emulated"
 
-build() { # LOG WORDS..: rt, and what it said where it fails
-    log=build/$1.log
-    shift
-    rt "$@" >"$log" 2>&1 || {
-        cat "$log"
-        exit 1
-    }
-}
-build programs check c_api bench_api passes drive headboarded
-build c_api staticlib c_api
-build bench_api staticlib bench_api
+sh tests/build.sh passes drive headboarded c_api bench_api
 
 for name in passes headboarded; do
-    printf '#!/bin/sh\nexec sh "%s/tests/emulate.sh" "%s/target/bin/%s" "$@"\n' "$PWD" "$PWD" "$name" >"$emulated/$name"
+    printf '#!/bin/sh\nexec sh "%s/tests/emulate.sh" "%s/crates/%s/out/%s" "$@"\n' "$PWD" "$PWD" "$name" "$name" >"$emulated/$name"
     chmod +x "$emulated/$name"
 done
 
@@ -47,5 +37,5 @@ CC_FOR_C="sh tests/x86_cc.sh" RUN_C="sh tests/emulate.sh" sh tests/boundary.sh "
 HB_CONSOLE=$emulated/headboarded sh tests/documents.sh
 
 echo "tests: not run on $(uname -m): the Rust programs that link the library, valgrind, the benchmarks, the examples of README.md that start"
-echo "tests: target/bin/drive or link the library"
+echo "tests: crates/drive/out/drive or link the library"
 echo "tests: ok"

@@ -42,8 +42,8 @@ help
 version
 WORDS
 
-find . -type d \( -name .git -o -name target -o -name build \) -prune -o -type f -print | sed 's|^\./||' >"$out/files"
-sed -n 's/^\([a-z_]*\):.*/\1/p' crates.txt >"$out/crates"
+find . -type d \( -name .git -o -path './crates/*/out' -o -name build \) -prune -o -type f -print | sed 's|^\./||' >"$out/files"
+sed -n 's/^\([a-z_]*\)\( staticlib\)\{0,1\}:.*/\1/p' crates.txt >"$out/crates"
 
 # What the crates define.
 grep '^crates/.*\.antt$' "$out/files" | tr '\n' '\0' | LC_ALL=C xargs -0 awk '
@@ -143,7 +143,7 @@ function from_here(path,    folder) {
 function is_there(path) { return (path in files) || (path in folders) }
 function is_path(path,    first, rest) {
     sub(/\/$/, "", path)
-    if (path ~ /^(target|build)(\/|$)/ || path ~ /(CRATE|NAME|LABEL)/) return 1
+    if (path ~ /^build(\/|$)/ || path ~ /^crates\/[A-Za-z_]+\/out(\/|$)/ || path ~ /(CRATE|NAME|LABEL)/) return 1
     if (is_there(path) || is_there(from_here(path)) || is_there("crates/" path) || (path in parts)) return 1
     first = path
     sub(/\/.*/, "", first)

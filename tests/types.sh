@@ -1,28 +1,33 @@
 #!/bin/sh
 # An edit that the type checker refuses: a wire byte passed where an address is meant. The must-fail edits of the crates reach the
-# prover; this one must not. It is tried in a copy under build/.
+# prover; this one must not. It is tried in a copy of the crates, outside the repository, where rt reads no other files.
 set -eu
 cd "$(dirname "$0")/.."
-rm -rf build/types
-mkdir -p build/types
-cp -r crates.txt crates build/types/
-for part in target/*; do
-    [ -e "$part" ] || continue
-    case $part in
-        */must-fail | */mutants | */generated | */bin) ;;
-        *) mkdir -p build/types/target && cp -r "$part" build/types/target/ ;;
-    esac
+mkdir -p build
+log=$PWD/build/types.log
+copy=$(mktemp -d)
+trap 'rm -rf "$copy"' EXIT
+cp crates.txt "$copy/"
+mkdir "$copy/crates"
+for crate in crates/*; do
+    mkdir "$copy/$crate"
+    for part in "$crate"/*; do
+        case $part in
+        */out | */must-fail) ;;
+        *) cp -r "$part" "$copy/$crate/" ;;
+        esac
+    done
 done
-file=build/types/crates/encode/src/lib.rt
+file=$copy/crates/encode/src/lib.rt
 old='if !address_fits(sh, address) {'
 new='if !address_fits(sh, address.for_write()) {'
 [ "$(grep -cF "$old" "$file")" = 1 ] || { echo "types: '$old' does not stand once in $file"; exit 1; }
-awk -v old="$old" -v new="$new" '{ i = index($0, old); if (i) $0 = substr($0, 1, i - 1) new; print }' "$file" >build/types/edited
-mv build/types/edited "$file"
-if (cd build/types && rt mir encode) >build/types/log 2>&1; then
+awk -v old="$old" -v new="$new" '{ i = index($0, old); if (i) $0 = substr($0, 1, i - 1) new; print }' "$file" >"$copy/edited"
+mv "$copy/edited" "$file"
+# rt try reads a program and the crates that it rests on, and proves nothing.
+if (cd "$copy/crates/drive" && rt try) >"$log" 2>&1 </dev/null; then
     echo "types: a wire byte was taken for an address"
     exit 1
 fi
-grep -q 'error\[mismatched-types\]: expected `Address`, found `WireByte`' build/types/log || { cat build/types/log; exit 1; }
-rm -rf build/types
+grep -q 'error\[mismatched-types\]: expected `Address`, found `WireByte`' "$log" || { cat "$log"; exit 1; }
 printf '%-36s %8d cases\n' 'types: a wire byte for an address' 1

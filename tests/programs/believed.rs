@@ -41,18 +41,18 @@ enum Origin {
     Type(String, String),
 }
 
-/// `Rattle·NAME.specs.FILE` or `Rattle·NAME·specs.specs.FILE`; the types of src/ are under `declared`.
-fn origin(path: &str) -> Option<Origin> {
-    let rest = path.strip_prefix("Rattle·")?;
-    let (name, rest) = rest.split_once('.')?;
-    let name = name.strip_suffix("·specs").unwrap_or(name).to_string();
-    let rest = rest.strip_prefix("specs.")?;
-    if let Some(declared) = rest.strip_prefix("declared.") {
-        let declared = declared.strip_suffix(".the-variants").unwrap_or(declared);
+/// `Rattle.NAME.specs.FILE` or `Rattle.NAME.proofs.FILE`, where NAME is a crate of the repository and none of the kit's; the types of src/
+/// are under `specs.declared`.
+fn origin(path: &str, order: &[String]) -> Option<Origin> {
+    let (name, rest) = path.strip_prefix("Rattle.")?.split_once('.')?;
+    let name = order.iter().find(|known| *known == name)?.clone();
+    if let Some(declared) = rest.strip_prefix("specs.declared.") {
+        let declared = declared.strip_suffix(".TheVariants").unwrap_or(declared);
         let last = declared.rsplit('.').next()?;
         return Some(Origin::Type(name, last.to_string()));
     }
-    Some(Origin::Specs((name, rest.to_string())))
+    let file = rest.strip_prefix("specs.").or_else(|| rest.strip_prefix("proofs."))?;
+    Some(Origin::Specs((name, file.to_string())))
 }
 
 fn code(line: &str) -> &str {
@@ -77,14 +77,14 @@ fn defined(line: &str) -> Option<(String, bool)> {
     after.starts_with(": ").then(|| (name.to_string(), false))
 }
 
-fn read_file(path: &Path) -> File {
+fn read_file(path: &Path, order: &[String]) -> File {
     let text = fs::read_to_string(path).unwrap_or_else(|e| fail(&format!("{}: {e}", path.display())));
     let mut file = File::default();
     let mut current: Option<(String, bool)> = None;
     for line in text.lines() {
         let used = line.strip_prefix("pub ").unwrap_or(line);
         if let Some(path) = used.strip_prefix("use ") {
-            import(&mut file, path);
+            import(&mut file, path, order);
             continue;
         }
         if code(line).trim().is_empty() {
@@ -110,15 +110,15 @@ fn read_file(path: &Path) -> File {
     file
 }
 
-fn import(file: &mut File, path: &str) {
+fn import(file: &mut File, path: &str, order: &[String]) {
     if let Some((path, alias)) = path.split_once(" as ").filter(|(p, _)| !p.contains('{')) {
-        if let Some(from) = origin(path) {
+        if let Some(from) = origin(path, order) {
             file.aliases.insert(alias.trim().to_string(), from);
         }
         return;
     }
     let Some((path, names)) = path.split_once(".{") else { return };
-    let Some(from) = origin(path) else { return };
+    let Some(from) = origin(path, order) else { return };
     for name in names.trim_end_matches('}').split(',') {
         let (there, here) = name.split_once(" as ").unwrap_or((name, name));
         file.imports.insert(here.trim().to_string(), (from.clone(), there.trim().to_string()));
@@ -156,6 +156,8 @@ fn bound(lines: &[String]) -> BTreeSet<String> {
 
 struct Search {
     crates: PathBuf,
+    /// The names of the crates, in their order.
+    order: Vec<String>,
     files: HashMap<Place, File>,
     contracts: BTreeSet<String>,
     met: BTreeSet<String>,
@@ -166,8 +168,10 @@ struct Search {
 impl Search {
     fn file(&mut self, place: &Place) {
         if !self.files.contains_key(place) {
-            let path = self.crates.join(&place.0).join("specs").join(format!("{}.antt", place.1));
-            self.files.insert(place.clone(), read_file(&path));
+            let of = |folder| self.crates.join(&place.0).join(folder).join(format!("{}.antt", place.1));
+            let path = Some(of("specs")).filter(|path| path.exists()).unwrap_or_else(|| of("proofs"));
+            let file = read_file(&path, &self.order);
+            self.files.insert(place.clone(), file);
         }
     }
 
@@ -292,7 +296,9 @@ fn list(found: &BTreeMap<Place, BTreeMap<String, usize>>, order: &[String]) -> V
 fn order(crates: &Path) -> Vec<String> {
     let path = crates.join("../crates.txt");
     let text = fs::read_to_string(&path).unwrap_or_else(|e| fail(&format!("{}: {e}", path.display())));
-    text.lines().filter(|l| !l.starts_with('#')).filter_map(|l| l.split_once(':')).map(|(name, _)| name.to_string()).collect()
+    let words = text.lines().filter(|l| !l.starts_with('#')).filter_map(|l| l.split_once(':'));
+    // A static library has the word staticlib after its name.
+    words.filter_map(|(words, _)| words.split_whitespace().next()).map(String::from).collect()
 }
 
 fn fail(why: &str) -> ! {
@@ -309,6 +315,7 @@ fn main() {
     let place: Place = ("promises".to_string(), "Demands".to_string());
     let mut search = Search {
         crates: crates.clone(),
+        order: order(&crates),
         files: HashMap::new(),
         contracts: contracts.trim_end_matches('.').split(", ").map(String::from).collect(),
         met: BTreeSet::new(),
@@ -321,7 +328,7 @@ fn main() {
     }
     search.found.remove(&place);
     let total: usize = search.found.values().flat_map(|d| d.values()).sum();
-    let due = list(&search.found, &order(&crates));
+    let due = list(&search.found, &search.order);
     if arguments.get(2).is_some_and(|a| a == "list") {
         println!("-- BELIEVED: {total} lines");
         due.iter().for_each(|l| println!("{l}"));
@@ -342,9 +349,9 @@ fn check(crates: &Path, lines: &[&str], search: &Search, total: usize, due: &[St
             walk(&folder, &mut sources);
         }
     }
-    let clauses: Vec<&str> = sources.iter().flat_map(|s| s.lines()).filter(|l| !l.trim().starts_with("//") && !l.starts_with("ghost use")).collect();
+    let clauses: Vec<&str> = sources.iter().flat_map(|s| s.lines()).filter(|l| !l.trim().starts_with("//") && !l.trim().starts_with("ghost use")).collect();
     for name in &search.contracts {
-        let cites = |l: &&str| l.split(|c: char| !c.is_alphanumeric()).any(|w| w == name);
+        let cites = |l: &&str| l.split(|c: char| !c.is_alphanumeric() && !"_-'".contains(c)).any(|w| w == name);
         if !clauses.iter().any(cites) {
             fail(&format!("{name} stands in no contract of src/"));
         }

@@ -10,55 +10,50 @@ use commands::command::{Command, Handed};
 use commands::request::put_command;
 use encode::Encoded;
 use pool::Pool;
+use std::io;
 use udid::Udid;
 use wire::address::Address;
 
-const OUTPUT: i32 = 1;
-
-fn say_udid(u: Udid) {
-    io::print_hex(OUTPUT, u.high, 16);
-    io::print_hex(OUTPUT, u.low, 16);
-    io::write_all(OUTPUT, b"\n");
+fn say_udid(rt: &impl Print, u: Udid) -> io::Result<()> {
+    println!(rt; "{:016x}{:016x}", u.high, u.low)
 }
 
-fn say_assign(u: Udid, a: Address) {
-    io::write_all(OUTPUT, b"Assign Address 0x");
-    io::print_hex(OUTPUT, a.0 as u64, 2);
-    io::write_all(OUTPUT, b" to ");
-    say_udid(u);
+fn say_assign(rt: &impl Print, u: Udid, a: Address) -> io::Result<()> {
+    print!(rt; "Assign Address 0x{:02x} to ", a.0)?;
+    say_udid(rt, u)
 }
 
-fn say_line(s: &[u8]) {
-    io::write_all(OUTPUT, s);
+fn say_line(rt: &impl Print, s: &str) -> io::Result<()> {
+    println!(rt; "{s}")
 }
 
 // A command, in a line.
-fn say_sent(c: Command) {
+fn say_sent(rt: &impl Print, c: Command) -> io::Result<()> {
     match c {
-        Command::Prepare => say_line(b"Prepare To ARP\n"),
-        Command::GetUdid => say_line(b"Get UDID\n"),
-        Command::Assign(u, a) => say_assign(u, a),
+        Command::Prepare => say_line(rt, "Prepare To ARP"),
+        Command::GetUdid => say_line(rt, "Get UDID"),
+        Command::Assign(u, a) => say_assign(rt, u, a),
     }
 }
 
 // A command, or that the pass has ended, in a line.
-fn say(c: Handed) {
+fn say(rt: &impl Print, c: Handed) -> io::Result<()> {
     match c {
-        Handed::Send(k) => say_sent(k),
-        Handed::Wait(_) => say_line(b"the pass has ended\n"),
+        Handed::Send(k) => say_sent(rt, k),
+        Handed::Wait(_) => say_line(rt, "the pass has ended"),
     }
 }
 
-fn say_bound(u: Udid) {
-    io::write_all(OUTPUT, b"bound: ");
-    say_udid(u);
+fn say_bound(rt: &impl Print, u: Udid) -> io::Result<()> {
+    print!(rt; "bound: ")?;
+    say_udid(rt, u)
 }
 
 // Who was found at an address, in a line.
-fn say_found(f: Found) {
+fn say_found(rt: &impl Print, f: Found) -> io::Result<()> {
     match f {
-        Found::Bound(u) => say_bound(u),
-        _ => say_line(b"nobody is bound\n"),
+        Found::Bound(u) => say_bound(rt, u),
+        _ => say_line(rt, "nobody is bound"),
     }
 }
 
@@ -87,23 +82,22 @@ fn symbols(e: Encoded) -> usize
 }
 
 // README.md shows the lines from here ..
-fn exchange(turn: Stepped, reply: &[u8]) -> Stepped {
-    let command = turn.command; // an enum is copied out of its struct before it is passed on
-    say(command);
+fn exchange(rt: &impl Print, turn: Stepped, reply: &[u8]) -> io::Result<Stepped> {
+    say(rt, turn.command)?;
     let mut trace = [0u16; 64];
-    let n = symbols(put_command(command, reply, &mut trace));
+    let n = symbols(put_command(turn.command, reply, &mut trace));
     // A driver sends the trace here; of Get UDID the part up to the read address, for the rest is the target's reply.
     // Then it hands the step what stood on the bus. In this program that is the trace as it is: nothing goes wrong.
-    turn.state.step(&trace[..n])
+    Ok(turn.state.step(&trace[..n]))
 }
 
-fn main() {
+fn main(rt: HostRuntime) -> io::Result<()> {
     let controller = Controller::new(Pool::empty(), NEVER_PICKED); // no address is given as occupied
     let reply = reply_data(); // what the one target here answers to Get UDID
     let first = controller.start();
-    let second = exchange(first, &reply[..0]);
-    let third = exchange(second, &reply);
-    let fourth = exchange(third, &reply[..0]);
-    say_found(fourth.state.lookup(Address(0x0D)));
+    let second = exchange(&rt, first, &reply[..0])?;
+    let third = exchange(&rt, second, &reply)?;
+    let fourth = exchange(&rt, third, &reply[..0])?;
+    say_found(&rt, fourth.state.lookup(Address(0x0D)))
 }
 // .. to here.

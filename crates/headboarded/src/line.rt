@@ -7,6 +7,7 @@ use crate::print::{flush, room};
 use crate::shelf::{Shelf, Turn, new_shelf};
 use codec_answers::unclear::put_unclear;
 use requests::expected::Expected;
+use std::io::{self, Write};
 use text::word::{comment, line_end, part};
 
 // How many characters of the line are held, and whether there were more than the buffer has room for.
@@ -42,8 +43,7 @@ fn gather(h: Held, chars: &[u8], from: usize, to: usize, line: &mut [u8]) -> Hel
     requires { to ≤ length chars.now }
 {
     let mut n = h.count;
-    let mut i = from;
-    while i < to {
+    for i in from..to {
         if n >= line.len() {
             return Held {
                 count: n,
@@ -52,7 +52,6 @@ fn gather(h: Held, chars: &[u8], from: usize, to: usize, line: &mut [u8]) -> Hel
         }
         line[n] = chars[i];
         n += 1;
-        i += 1;
     }
     Held {
         count: n,
@@ -61,68 +60,85 @@ fn gather(h: Held, chars: &[u8], from: usize, to: usize, line: &mut [u8]) -> Hel
 }
 
 // A whole line is answered. The comment is cut off first.
-fn end_line(s: Shelf, h: Held, line: &[u8], records: &mut [u8], out: &mut [u8], at: usize) -> Turn {
-    let to = room(out, at);
+fn end_line(
+    output: &mut impl Write,
+    s: Shelf,
+    h: Held,
+    line: &[u8],
+    records: &mut [u8],
+    out: &mut [u8],
+    at: usize,
+) -> io::Result<Turn> {
+    let to = room(output, out, at)?;
     if h.long {
         let next = put_unclear(out, to, Expected::Line, 16384);
-        return Turn { shelf: s, at: next };
+        return Ok(Turn { shelf: s, at: next });
     }
     let whole = part(line, 0, h.count);
     let end = comment(whole);
-    answer(s, part(whole, 0, end), records, out, to)
+    Ok(answer(s, part(whole, 0, end), records, out, to))
 }
 
 // A line that has ended: the session goes on with an empty one.
-fn next_line(s: Session, h: Held, line: &[u8], records: &mut [u8], out: &mut [u8]) -> Session {
-    let shelf = s.shelf;
-    let t = end_line(shelf, h, line, records, out, s.at);
-    let after = t.shelf;
+fn next_line(
+    output: &mut impl Write,
+    s: Session,
+    h: Held,
+    line: &[u8],
+    records: &mut [u8],
+    out: &mut [u8],
+) -> io::Result<Session> {
+    let t = end_line(output, s.shelf, h, line, records, out, s.at)?;
     let held = nothing();
-    Session {
-        shelf: after,
+    Ok(Session {
+        shelf: t.shelf,
         held,
         at: t.at,
-    }
+    })
 }
 
 // The end of a part: the answers go out, and what there is of a line is held.
-fn end_part(s: Session, h: Held, out: &[u8]) -> Session {
-    flush(out, s.at);
-    let shelf = s.shelf;
-    Session {
-        shelf,
+fn end_part(output: &mut impl Write, s: Session, h: Held, out: &[u8]) -> io::Result<Session> {
+    flush(output, out, s.at)?;
+    Ok(Session {
+        shelf: s.shelf,
         held: h,
         at: 0,
-    }
+    })
 }
 
-// The lines that end in a part are answered; what follows the last of them is held.
+// The lines that end in a part are answered; what follows the last of them is held. There are no more lines than characters.
 pub(crate) fn lines(
+    output: &mut impl Write,
     s: Session,
     chars: &[u8],
     line: &mut [u8],
     records: &mut [u8],
     out: &mut [u8],
-) -> Session {
+) -> io::Result<Session> {
     let mut now = s;
     let mut i: usize = 0;
-    while i < chars.len() {
+    for _ in 0..chars.len() {
         let end = line_end(chars, i);
         if end >= chars.len() {
-            let rest = gather(now.held, chars, i, chars.len(), line);
-            return end_part(now, rest, out);
+            break;
         }
         let whole = gather(now.held, chars, i, end, line);
-        now = next_line(now, whole, line, records, out);
+        now = next_line(output, now, whole, line, records, out)?;
         i = end + 1;
     }
-    let held = now.held;
-    end_part(now, held, out)
+    let rest = gather(now.held, chars, i, chars.len(), line);
+    end_part(output, now, rest, out)
 }
 
 // The end of the input ends a line that has begun.
-pub(crate) fn end_last(s: Session, line: &[u8], records: &mut [u8], out: &mut [u8]) {
-    let held = s.held;
-    let last = next_line(s, held, line, records, out);
-    flush(out, last.at);
+pub(crate) fn end_last(
+    output: &mut impl Write,
+    s: Session,
+    line: &[u8],
+    records: &mut [u8],
+    out: &mut [u8],
+) -> io::Result<()> {
+    let last = next_line(output, s, s.held, line, records, out)?;
+    flush(output, out, last.at)
 }

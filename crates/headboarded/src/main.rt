@@ -15,36 +15,49 @@ mod run;
 mod setup;
 mod shelf;
 
+use help::argument;
 use line::{end_last, lines, new_session};
-
-const INPUT: i32 = 0;
+use std::env::FillError;
+use std::io::{self, Read, Write};
+use std::rt::Env;
 
 // Reads what there is, a line that was typed or a part of a file, and answers its lines, up to the end of the input, where the last line may
-// lack its line feed. A proved loop has to end, and nothing says that an input does: the turns are counted down from a number that no run
-// uses up.
-fn talk(line: &mut [u8], records: &mut [u8], out: &mut [u8]) {
+// lack its line feed. A proved loop has to end, and nothing says that an input does: the turns are counted up to a number that no run
+// reaches.
+fn talk(
+    input: &mut impl Read,
+    output: &mut impl Write,
+    line: &mut [u8],
+    records: &mut [u8],
+    out: &mut [u8],
+) -> io::Result<()> {
     let mut s = new_session();
-    let mut turns = u64::MAX;
-    while turns > 0 {
-        let mut buffer = io::large_buffer();
-        let got = libc::read(INPUT, &mut buffer);
-        let n = io::count(got, &buffer);
+    let mut buffer = [0u8; 65536];
+    for _ in 0..u64::MAX {
+        let n = input.read(&mut buffer)?;
         if n == 0 {
-            end_last(s, line, records, out);
-            return;
+            return end_last(output, s, line, records, out);
         }
-        s = lines(s, &buffer[..n], line, records, out);
-        turns -= 1;
+        s = lines(output, s, &buffer[..n], line, records, out)?;
     }
+    Ok(())
 }
 
-fn main() {
-    if 1 < os::arg_count() {
-        help::argument();
-        return;
-    }
+// The console, with no argument.
+fn console(input: &mut impl Read, output: &mut impl Write) -> io::Result<()> {
     let mut line = [0u8; 16384];
     let mut records = [0u8; 2160];
     let mut out = [0u8; 65536];
-    talk(&mut line, &mut records, &mut out);
+    talk(input, output, &mut line, &mut records, &mut out)
+}
+
+// A read or a write that fails ends the run with its error. An argument that has no room in the buffer is none that is known.
+fn main(rt: HostRuntime) -> io::Result<()> {
+    let mut output = rt.stdout();
+    let mut word = [0u8; 16];
+    match rt.arg(1, &mut word) {
+        Ok(n) => argument(&mut output, &word[..n]),
+        Err(FillError::TooLong) => argument(&mut output, b""),
+        Err(FillError::NotPresent) => console(&mut rt.stdin(), &mut output),
+    }
 }

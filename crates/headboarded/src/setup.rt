@@ -10,12 +10,10 @@ use wire::address::Address;
 
 // All are addresses.
 fn are_addresses(s: &[u8]) -> bool {
-    let mut i: usize = 0;
-    while i < s.len() {
-        if s[i] > 127 {
+    for a in s {
+        if *a > 127 {
             return false;
         }
-        i += 1;
     }
     true
 }
@@ -23,10 +21,8 @@ fn are_addresses(s: &[u8]) -> bool {
 // The pool with these too.
 fn with_all(p: Pool, s: &[u8]) -> Pool {
     let mut now = p;
-    let mut i: usize = 0;
-    while i < s.len() {
-        now = now.with(Address(s[i]));
-        i += 1;
+    for a in s {
+        now = now.with(Address(*a));
     }
     now
 }

@@ -7,30 +7,29 @@ ghost use Rattle.std.specs.Prelude.{◌+◌, ◌≤◌, length};
 use arp::lookup::Found;
 use arp::state::Controller;
 use commands::command::{Command, End, Handed, Reason};
+use std::io::{self, Write};
 use udid::Udid;
 use wire::address::Address;
 
-const OUTPUT: i32 = 1;
-
-fn write_answer(tag: u8, u: Udid, a: Address) {
+fn write_answer(output: &mut impl Write, tag: u8, u: Udid, a: Address) -> io::Result<()> {
     let mut out = [0u8; 18];
     out[0] = tag;
     out[17] = a.0;
     u.put_bytes(&mut out, 1);
-    io::write_all(OUTPUT, &out);
+    output.write_all(&out)
 }
 
 // A tag alone.
-fn write_tag(tag: u8) {
+fn write_tag(output: &mut impl Write, tag: u8) -> io::Result<()> {
     let u = Udid { high: 0, low: 0 };
-    write_answer(tag, u, Address(0));
+    write_answer(output, tag, u, Address(0))
 }
 
-fn write_sent(c: Command) {
+fn write_sent(output: &mut impl Write, c: Command) -> io::Result<()> {
     match c {
-        Command::Prepare => write_tag(0),
-        Command::GetUdid => write_tag(1),
-        Command::Assign(u, a) => write_answer(2, u, a),
+        Command::Prepare => write_tag(output, 0),
+        Command::GetUdid => write_tag(output, 1),
+        Command::Assign(u, a) => write_answer(output, 2, u, a),
     }
 }
 
@@ -44,21 +43,21 @@ fn choice_tag(why: Reason) -> u8 {
     }
 }
 
-fn write_end(e: End) {
+fn write_end(output: &mut impl Write, e: End) -> io::Result<()> {
     match e {
-        End::Ended => write_tag(3),
-        End::NoneFree(u) => write_answer(4, u, Address(0)),
-        End::Abandoned => write_tag(5),
-        End::NotOutstanding => write_tag(6),
-        End::Nothing => write_tag(7),
-        End::Chosen(u, a, why) => write_answer(choice_tag(why), u, a),
+        End::Ended => write_tag(output, 3),
+        End::NoneFree(u) => write_answer(output, 4, u, Address(0)),
+        End::Abandoned => write_tag(output, 5),
+        End::NotOutstanding => write_tag(output, 6),
+        End::Nothing => write_tag(output, 7),
+        End::Chosen(u, a, why) => write_answer(output, choice_tag(why), u, a),
     }
 }
 
-pub(crate) fn write_command(c: Handed) {
+pub(crate) fn write_command(output: &mut impl Write, c: Handed) -> io::Result<()> {
     match c {
-        Handed::Send(k) => write_sent(k),
-        Handed::Wait(e) => write_end(e),
+        Handed::Send(k) => write_sent(output, k),
+        Handed::Wait(e) => write_end(output, e),
     }
 }
 
@@ -86,26 +85,23 @@ fn put_find(out: &mut [u8], at: usize, f: Found)
 fn put_finds(out: &mut [u8], c: Controller)
     requires { 2176 ≤ length out.old }
 {
-    let mut a: u8 = 0;
-    let mut at: usize = 0;
-    while a < 128 {
+    for a in 0u8..128 {
+        let at = 17 * usize::from(a);
         put_find(out, at, c.lookup(Address(a)));
-        a += 1;
-        at += 17;
     }
 }
 
 // What a report was answered.
-pub(crate) fn write_find(f: Found) {
+pub(crate) fn write_find(output: &mut impl Write, f: Found) -> io::Result<()> {
     let mut out = [0u8; 17];
     put_find(&mut out, 0, f);
-    io::write_all(OUTPUT, &out);
+    output.write_all(&out)
 }
 
 // All addresses looked up, and the last pick.
-pub(crate) fn write_finds(c: Controller) {
+pub(crate) fn write_finds(output: &mut impl Write, c: Controller) -> io::Result<()> {
     let mut out = [0u8; 2177];
     out[2176] = c.picked;
     put_finds(&mut out, c);
-    io::write_all(OUTPUT, &out);
+    output.write_all(&out)
 }

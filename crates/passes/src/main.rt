@@ -22,6 +22,7 @@ use arp::state::{Controller, Stepped};
 use commands::command::{End, Handed};
 use pool::Pool;
 use script::{read_byte, read_pool, read_trace};
+use std::io::{self, BufReader, Read, Write};
 use wire::address::Address;
 
 // A new controller, which has handed out nothing.
@@ -33,85 +34,88 @@ fn new_controller(occupied: Pool, last: u8) -> Stepped {
 }
 
 // The controller that the script asks for.
-fn read_controller() -> Stepped {
-    let occupied = read_pool();
-    let last = read_byte();
-    new_controller(occupied, last)
+fn read_controller(input: &mut impl Read, st: &mut Stepped) -> io::Result<()> {
+    let occupied = read_pool(input)?;
+    let last = read_byte(input)?;
+    *st = new_controller(occupied, last);
+    Ok(())
 }
 
-fn step_on(c: Controller) -> Stepped {
-    let mut trace = [0u16; 1000];
-    let n = read_trace(&mut trace);
-    c.step(&trace[..n])
+// The trace is read into a lent buffer.
+fn step_on(input: &mut impl Read, trace: &mut [u16; 1000], st: &mut Stepped) -> io::Result<()> {
+    let n = read_trace(input, trace)?;
+    *st = st.state.step(&trace[..n]);
+    Ok(())
 }
 
-fn choose_on(c: Controller) -> Stepped {
-    let mut trace = [0u16; 1000];
-    let n = read_trace(&mut trace);
-    c.choose(&trace[..n])
+fn choose_on(input: &mut impl Read, trace: &mut [u16; 1000], st: &mut Stepped) -> io::Result<()> {
+    let n = read_trace(input, trace)?;
+    *st = st.state.choose(&trace[..n]);
+    Ok(())
 }
 
 // A start or a step; the command is written.
-fn go_on(c: Controller, operation: u8) -> Stepped {
-    let next = if operation == 1 {
-        c.start()
+fn go_on(
+    input: &mut impl Read,
+    output: &mut impl Write,
+    trace: &mut [u16; 1000],
+    st: &mut Stepped,
+    operation: u8,
+) -> io::Result<()> {
+    if operation == 1 {
+        *st = st.state.start();
     } else {
-        step_on(c)
-    };
-    let command = next.command;
-    write_command(command);
-    next
+        step_on(input, trace, st)?;
+    }
+    write_command(output, st.command)
 }
 
 // The first half of a step, an issue or a decline; the command is written.
-fn go_apart(c: Controller, operation: u8) -> Stepped {
-    let next = match operation {
-        5 => choose_on(c),
-        6 => c.issue(),
-        _ => c.decline(),
-    };
-    let command = next.command;
-    write_command(command);
-    next
+fn go_apart(
+    input: &mut impl Read,
+    output: &mut impl Write,
+    trace: &mut [u16; 1000],
+    st: &mut Stepped,
+    operation: u8,
+) -> io::Result<()> {
+    match operation {
+        5 => choose_on(input, trace, st)?,
+        6 => *st = st.state.issue(),
+        _ => *st = st.state.decline(),
+    }
+    write_command(output, st.command)
 }
 
 // A report; its answer is written. What was handed out last stays so.
-fn report(st: Stepped) -> Stepped {
-    let a = Address(read_byte());
-    let state = st.state;
-    let told = state.report_gone(a);
-    let found = told.found;
-    write_find(found);
-    let next = told.state;
-    let command = st.command;
-    Stepped {
-        state: next,
-        command: command,
-    }
+fn report(input: &mut impl Read, output: &mut impl Write, st: &mut Stepped) -> io::Result<()> {
+    let a = Address(read_byte(input)?);
+    let told = st.state.report_gone(a);
+    st.state = told.state;
+    write_find(output, told.found)
 }
 
-// A proved loop has to end, and nothing says that an input does: the turns are counted down from a number that no run uses up.
-fn main() {
+// The state is large: it stays in one place, and what may fail gives nothing back but that. A proved loop has to end, and nothing says that
+// an input does: the turns are counted up to a number that no run reaches.
+fn run(input: &mut impl Read, output: &mut impl Write) -> io::Result<()> {
     let mut st = new_controller(Pool { low: 0, high: 0 }, NEVER_PICKED);
-    let mut turns = u64::MAX;
-    while turns > 0 {
-        let operation = read_byte();
+    let mut trace = [0u16; 1000];
+    for _ in 0..u64::MAX {
+        let operation = read_byte(input)?;
         match operation {
-            0 => {
-                st = read_controller();
-            }
-            1 | 2 => {
-                st = go_on(st.state, operation);
-            }
-            3 => write_finds(st.state),
-            4 => {
-                st = report(st);
-            }
-            5 | 6 | 7 => {
-                st = go_apart(st.state, operation);
-            }
-            _ => return,
+            0 => read_controller(input, &mut st)?,
+            1 | 2 => go_on(input, output, &mut trace, &mut st, operation)?,
+            3 => write_finds(output, st.state)?,
+            4 => report(input, output, &mut st)?,
+            5 | 6 | 7 => go_apart(input, output, &mut trace, &mut st, operation)?,
+            _ => return Ok(()),
         }
-        turns -= 1;
     }
+    Ok(())
+}
+
+// A read or a write that fails ends the run with its error.
+fn main(rt: HostRuntime) -> io::Result<()> {
+    let mut input = BufReader::new(rt.alloc(), rt.stdin())?;
+    let mut output = rt.stdout();
+    run(&mut input, &mut output)
 }

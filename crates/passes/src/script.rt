@@ -1,15 +1,30 @@
 // The script's bytes.
-ghost use Rattle.std.specs.Prelude.{◌*◌, ◌≤◌, ◌<◌, length};
+ghost use Rattle.std.specs.Prelude.{◌*◌, ◌≤◌, ◌<◌, length, IfOk};
 
 use pool::Pool;
+use std::io::{self, Read};
 
-const INPUT: i32 = 0;
+// Reads until the buffer is full or the input ends. What the input does not reach stays as it is.
+fn read_full(input: &mut impl Read, buffer: &mut [u8]) -> io::Result<()> {
+    let mut rest = buffer;
+    for _ in 0..u64::MAX {
+        if rest.is_empty() {
+            break;
+        }
+        let n = input.read(rest)?;
+        if n == 0 {
+            break;
+        }
+        rest = &mut rest[n..];
+    }
+    Ok(())
+}
 
 // The next byte; 255, which is no operation, at the end.
-pub(crate) fn read_byte() -> u8 {
+pub(crate) fn read_byte(input: &mut impl Read) -> io::Result<u8> {
     let mut byte = [255u8; 1];
-    io::read_full(INPUT, &mut byte);
-    byte[0]
+    read_full(input, &mut byte)?;
+    Ok(byte[0])
 }
 
 fn wide(x: u8) -> u64
@@ -29,59 +44,55 @@ fn number(bytes: &[u8]) -> u64
     requires { 8 ≤ length bytes.now }
 {
     let mut n: u64 = 0;
-    let mut k: usize = 8;
-    while k > 0 {
-        k -= 1;
+    for k in (0..8usize).rev() {
         n = n % 0x100_0000_0000_0000 * 256 + wide(bytes[k]);
     }
     n
 }
 
-pub(crate) fn read_pool() -> Pool {
+pub(crate) fn read_pool(input: &mut impl Read) -> io::Result<Pool> {
     let mut bytes = [0u8; 16];
-    io::read_full(INPUT, &mut bytes);
+    read_full(input, &mut bytes)?;
     let low = number(&bytes);
     let high = number(&bytes[8..]);
-    Pool { low, high }
+    Ok(Pool { low, high })
 }
 
 // The symbols of byte pairs.
 fn symbols(trace: &mut [u16], bytes: &[u8], n: usize)
     requires { (n ≤ length trace.old) × (2 * n ≤ length bytes.now) }
 {
-    let mut i: usize = 0;
-    while i < n {
+    for i in 0..n {
         trace[i] = middling(bytes[2 * i]) + 256 * middling(bytes[2 * i + 1]);
-        i += 1;
     }
 }
 
-fn read_count() -> usize {
+fn read_count(input: &mut impl Read) -> io::Result<usize> {
     let mut count = [0u8; 2];
-    io::read_full(INPUT, &mut count);
+    read_full(input, &mut count)?;
     let low = middling(count[0]);
     let high = middling(count[1]);
-    (low + 256 * high) as usize
+    Ok((low + 256 * high) as usize)
 }
 
-fn read_pairs(bytes: &mut [u8], n: usize)
+fn read_pairs(input: &mut impl Read, bytes: &mut [u8], n: usize) -> io::Result<()>
     requires { 2 * n ≤ length bytes.old }
 {
     let end = 2 * n;
-    io::read_full(INPUT, &mut bytes[..end]);
+    read_full(input, &mut bytes[..end])
 }
 
 // Reads a trace, and answers how many symbols it has; none where there are more than 1,000.
-pub(crate) fn read_trace(trace: &mut [u16]) -> usize
+pub(crate) fn read_trace(input: &mut impl Read, trace: &mut [u16]) -> io::Result<usize>
     requires { 1000 ≤ length trace.old }
-    ensures { result ≤ length trace.new }
+    ensures { IfOk result (λ n. n ≤ length trace.new) }
 {
-    let n = read_count();
+    let n = read_count(input)?;
     if n > 1000 {
-        return 0;
+        return Ok(0);
     }
     let mut bytes = [0u8; 2000];
-    read_pairs(&mut bytes, n);
+    read_pairs(input, &mut bytes, n)?;
     symbols(trace, &bytes, n);
-    n
+    Ok(n)
 }
