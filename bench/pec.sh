@@ -4,8 +4,9 @@
 #   bench/pec.sh [LIBRARY]
 set -eu
 cd "$(dirname "$0")/.."
-# The bytes, and the limit for each of them; 0: none.
-limits='1:0 16:8 255:4.1 65536:0'
+# The bytes, and the limit for each of them; 0: none. The compiler clears the table before it fills it, which is 17 instructions more than its
+# forerunner took, under which the limits were 8 and 4.1.
+limits='1:0 16:9 255:4.2 65536:0'
 out=build/bench
 library=${1:-crates/c_api/out/libc_api.a}
 mkdir -p "$out"

@@ -1,4 +1,4 @@
-/* The codec on symbols as 16-bit numbers, for the benchmark of the codec: target/staticlib/libbench_api.a. The same answers as
+/* The codec on symbols as 16-bit numbers, for the benchmark of the codec: crates/bench_api/out/libbench_api.a. The same answers as
  * hb_encode's and hb_decode's; lengths of traces count symbols. */
 #ifndef SYMBOLS_H
 #define SYMBOLS_H

@@ -22,7 +22,7 @@ use arp::state::{Controller, Stepped};
 use commands::command::{End, Handed};
 use pool::Pool;
 use script::{read_byte, read_pool, read_trace};
-use std::io::{self, BufReader, Read, Write};
+use std::io::{self, Read, Write};
 use wire::address::Address;
 
 // A new controller, which has handed out nothing.
@@ -115,7 +115,7 @@ fn run(input: &mut impl Read, output: &mut impl Write) -> io::Result<()> {
 
 // A read or a write that fails ends the run with its error.
 fn main(rt: HostRuntime) -> io::Result<()> {
-    let mut input = BufReader::new(rt.alloc(), rt.stdin())?;
+    let mut input = rt.stdin();
     let mut output = rt.stdout();
     run(&mut input, &mut output)
 }
