@@ -8,5 +8,5 @@ pub returns-in-Done : goal.returns-in-Done
 returns-in-Done c = appended_as (sym (ap (λ (d : Decoded). decoded_text d c.args.sent.now c.args.received.now) c.in-Done.is)) c.put_transaction.ensures
 
 pub returns-in-Refused : goal.returns-in-Refused
-returns-in-Refused c =  -- CONVERT: a path in the next line
-    appended_as (sym (ap (λ (d : Decoded). decoded_text d c.args.sent.now c.args.received.now) c.in-Refused.is)) c.before.before.put_refused.ensures
+returns-in-Refused c =
+    appended_as (sym (ap (λ (d : Decoded). decoded_text d c.args.sent.now c.args.received.now) c.in-Refused.is)) c.put_refused.ensures

@@ -8,5 +8,5 @@ pub returns-in-Send : goal.returns-in-Send
 returns-in-Send c = sym (ap (λ (x : Handed). udid_in (command_number x)) c.in-Send.is)
 
 pub returns-in-Wait : goal.returns-in-Wait
-returns-in-Wait c =  -- CONVERT: a path in the next line
+returns-in-Wait c =
     c.named_by.ensures ∙ sym (ap (λ (x : Handed). udid_in (command_number x)) c.in-Wait.is)

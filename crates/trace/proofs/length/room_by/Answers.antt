@@ -12,5 +12,5 @@ pub trace_length-requires : goal.trace_length-requires
 trace_length-requires c = c.lengths_fit.ensures.1 c.if-not-lengths_fit.false
 
 pub returns : goal.returns
-returns c =  -- CONVERT: a path in the next line
+returns c =
     c.trace_length.ensures ∙ sym (room_by_lem c.args.sh c.args.forbidden c.args.pec c.args.m c.args.n false true c.if-forbidden.false (sym c.lengths_fit.ensures.0 ∙ c.if-not-lengths_fit.false))
