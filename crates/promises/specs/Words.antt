@@ -33,7 +33,6 @@ pub use Rattle.pool.specs.Free.{used}
 pub use Rattle.pool.specs.Pools.{member}
 pub use Rattle.pool.specs.Start.{empty_pool, starting_pool, barred_pool}
 pub use Rattle.pool.specs.declared.Pool.{Pool}
-pub use Rattle.std.specs.Prelude.{Some, None as AllUsed}
 pub use Rattle.udid.specs.Bytes.{udid_bytes}
 pub use Rattle.udid.specs.Udids.{Fits as In128}
 pub use Rattle.udid.specs.declared.Udid.{Udid}
