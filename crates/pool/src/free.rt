@@ -29,7 +29,7 @@ impl Pool {
         if last >= 127 {
             return self.lowest_free();
         }
-        self.free_from(last + 1).or(self.lowest_free())
+        self.free_from(last + 1).or(self.free_from(0))
     }
 
     // The lowest free address of those from n on.

@@ -17,4 +17,4 @@ returns-then-last-ge127 c = let a = c.args in c.lowest_free.ensures ∙ sym (nex
 pub returns : goal.returns
 returns c =
     let a = c.args in
-    rw (c.or.ensures, c.free_from.ensures, c.lowest_free-2.ensures) (next a.self a.last (omega (arith, c.if-last-ge127.false)))
+    rw (c.or.ensures, c.free_from.ensures, c.free_from-2.ensures) (next a.self a.last (omega (arith, c.if-last-ge127.false)))
