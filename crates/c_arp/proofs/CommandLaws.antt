@@ -9,8 +9,8 @@ use types.Run.{OneOf}
 use lib.ListN.{length, take}
 use Rattle.lists.specs.Each.{Bytes}
 use Rattle.encode.specs.contracts.Encoded as declared
-use Rattle.encode.specs.declared.Encoded.{Encoded}
-use Rattle.encode.specs.declared.Encoded.TheVariants.{Written}
+use Rattle.encode.specs.Encode.{Encoded}
+use Rattle.std.specs.Prelude.{Ok}
 use Rattle.encode.specs.Encode.{Wrote}
 use Rattle.commands.specs.RequestLaws.{valid_assign}
 use Rattle.commands.specs.Requests.{protocol_for, message_of}
@@ -53,17 +53,17 @@ module _ (k j : Handed) (same : k ≡ j) (reply : List ℕ) (bytes : Bytes reply
       of_same out h out
       (refused_pairs (protocol_for k) true (message_of k reply) (command_byte k reply) (sent_bytes k reply) (received_bytes k reply bytes) buffer long r after w out t h e)
 
-  pub command_small : (n : ℕ) → r ≡ Written n → n ≤ 525
+  pub command_small : (n : ℕ) → r ≡ Ok n → n ≤ 525
   command_small n e =
       small (protocol_for k) true (message_of k reply) (command_byte k reply) (sent_bytes k reply) (received_bytes k reply bytes) buffer long r after w n e
 
-  pub command_short : (out : List ℕ) (n : ℕ) → r ≡ Written n → (b : Bool) (last : List ℕ) → Put (take n after) out b last → b ≡ false
+  pub command_short : (out : List ℕ) (n : ℕ) → r ≡ Ok n → (b : Bool) (last : List ℕ) → Put (take n after) out b last → b ≡ false
       → (h : HbWritten) → h ≡ answer_of 2 0 → WroteCommand j reply out h last
   command_short out n e b last p f h g =
       of_same out h last
       (short_pairs (protocol_for k) true (message_of k reply) (command_byte k reply) (sent_bytes k reply) (received_bytes k reply bytes) buffer long r after w out n e b last p f h g)
 
-  pub command_done : (out : List ℕ) (n : ℕ) → r ≡ Written n → (b : Bool) (last : List ℕ) → Put (take n after) out b last → b ≡ true
+  pub command_done : (out : List ℕ) (n : ℕ) → r ≡ Ok n → (b : Bool) (last : List ℕ) → Put (take n after) out b last → b ≡ true
       → (h : HbWritten) → h ≡ answer_of 0 n → WroteCommand j reply out h last
   command_done out n e b last p f h g =
       of_same out h last

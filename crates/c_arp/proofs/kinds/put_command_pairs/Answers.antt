@@ -18,32 +18,32 @@ slice_bounds-buf-end c =
     let a = c.args in
     let e = c.command_of-k.ensures ∙ ap (λ (u : Udid). command_of a.kind u (record { 0 = a.address })) c.udid_in.ensures in
     let b = all_bytes a.reply.now (λ i. (c.shared_slice_known-1.given i).fits) in
-    omega (arith, command_small _ _ e a.reply.now b _ refl _ _ c.put_command-r.ensures _ c.in-Written.is, c.buf-2-1.given)
+    omega (arith, command_small _ _ e a.reply.now b _ refl _ _ c.put_command-r.ensures _ c.in-Ok.is, c.buf-2-1.given)
 
 pub slice_bounds-put_pairs-end : goal.slice_bounds-put_pairs-end
 slice_bounds-put_pairs-end c =
     let a = c.args in
     let e = c.command_of-k.ensures ∙ ap (λ (u : Udid). command_of a.kind u (record { 0 = a.address })) c.udid_in.ensures in
     let b = all_bytes a.reply.now (λ i. (c.shared_slice_known-1.given i).fits) in
-    sym (length-take-le _ _ (omega (arith, command_small _ _ e a.reply.now b _ refl _ _ c.put_command-r.ensures _ c.in-Written.is, c.buf-2-1.given)))
+    sym (length-take-le _ _ (omega (arith, command_small _ _ e a.reply.now b _ refl _ _ c.put_command-r.ensures _ c.in-Ok.is, c.buf-2-1.given)))
 
 pub overflow_cast-n : goal.overflow_cast-n
 overflow_cast-n c =
     let a = c.args in
     let e = c.command_of-k.ensures ∙ ap (λ (u : Udid). command_of a.kind u (record { 0 = a.address })) c.udid_in.ensures in
     let b = all_bytes a.reply.now (λ i. (c.shared_slice_known-1.given i).fits) in
-    omega (arith, command_small _ _ e a.reply.now b _ refl _ _ c.put_command-r.ensures _ c.in-Written.is)
+    omega (arith, command_small _ _ e a.reply.now b _ refl _ _ c.put_command-r.ensures _ c.in-Ok.is)
 
 pub returns-then-put_pairs : goal.returns-then-put_pairs
 returns-then-put_pairs c =
     let a = c.args in
     let e = c.command_of-k.ensures ∙ ap (λ (u : Udid). command_of a.kind u (record { 0 = a.address })) c.udid_in.ensures in
     let b = all_bytes a.reply.now (λ i. (c.shared_slice_known-1.given i).fits) in
-    command_done _ _ e a.reply.now b _ refl _ _ c.put_command-r.ensures _ _ c.in-Written.is _ _ c.put_pairs.ensures c.if-put_pairs.true _ c.written-then-put_pairs.ensures
+    command_done _ _ e a.reply.now b _ refl _ _ c.put_command-r.ensures _ _ c.in-Ok.is _ _ c.put_pairs.ensures c.if-put_pairs.true _ c.written-then-put_pairs.ensures
 
 pub returns : goal.returns
 returns c =
     let a = c.args in
     let e = c.command_of-k.ensures ∙ ap (λ (u : Udid). command_of a.kind u (record { 0 = a.address })) c.udid_in.ensures in
     let b = all_bytes a.reply.now (λ i. (c.shared_slice_known-1.given i).fits) in
-    command_short _ _ e a.reply.now b _ refl _ _ c.put_command-r.ensures _ _ c.in-Written.is _ _ c.put_pairs.ensures c.if-put_pairs.false _ c.written-2.ensures
+    command_short _ _ e a.reply.now b _ refl _ _ c.put_command-r.ensures _ _ c.in-Ok.is _ _ c.put_pairs.ensures c.if-put_pairs.false _ c.written-2.ensures

@@ -14,16 +14,16 @@ overflow_cast-result c =
     let cb : a.command < 256 = omega arith in
     let sb = all_bytes a.sent.now (λ i. (c.shared_slice_known-1.given i).fits) in
     let rb = all_bytes a.received.now (λ i. (c.shared_slice_known-2-1.given i).fits) in
-    omega (arith, small_symbols a.protocol (truth a.pec) t cb sb rb _ _ _ c.encode-r.ensures _ c.in-Written.is)
+    omega (arith, small_symbols a.protocol (truth a.pec) t cb sb rb _ _ _ c.encode-r.ensures _ c.in-Ok.is)
 
-pub returns-in-Written : goal.returns-in-Written
-returns-in-Written c =
+pub returns-in-Ok : goal.returns-in-Ok
+returns-in-Ok c =
     let a = c.args in
     let t : Message = message a.address a.direction a.command a.sent.now a.received.now in
     let cb : a.command < 256 = omega arith in
     let sb = all_bytes a.sent.now (λ i. (c.shared_slice_known-1.given i).fits) in
     let rb = all_bytes a.received.now (λ i. (c.shared_slice_known-2-1.given i).fits) in
-    wrote_symbols a.protocol (truth a.pec) t cb sb rb _ _ _ c.encode-r.ensures _ (ap told (sym c.in-Written.is))
+    wrote_symbols a.protocol (truth a.pec) t cb sb rb _ _ _ c.encode-r.ensures _ (ap told (sym c.in-Ok.is))
 
 pub returns-in-Forbidden : goal.returns-in-Forbidden
 returns-in-Forbidden c =

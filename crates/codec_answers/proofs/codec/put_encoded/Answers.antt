@@ -1,11 +1,11 @@
 use Rattle.std.proofs.Common.{sym, ap, ◌∙◌}
 use Rattle.codec_answers.specs.CodecLines.{encoded_text, trace_text}
-use Rattle.encode.specs.declared.Encoded.{Encoded}
+use Rattle.encode.specs.Encode.{Encoded}
 use Rattle.writing.specs.WrittenLaws.{appended_as}
 use Rattle.codec_answers.proofs.codec.put_encoded.Goals as goal
 
-pub returns-in-Written : goal.returns-in-Written
-returns-in-Written c = appended_as (ap trace_text c.symbols_part.ensures ∙ sym (ap (λ (e : Encoded). encoded_text e c.args.trace.now) c.in-Written.is)) c.put_trace.ensures
+pub returns-in-Ok : goal.returns-in-Ok
+returns-in-Ok c = appended_as (ap trace_text c.symbols_part.ensures ∙ sym (ap (λ (e : Encoded). encoded_text e c.args.trace.now) c.in-Ok.is)) c.put_trace.ensures
 
 pub returns-in-Forbidden : goal.returns-in-Forbidden
 returns-in-Forbidden c = appended_as (sym (ap (λ (e : Encoded). encoded_text e c.args.trace.now) c.in-Forbidden.is)) c.put_line.ensures
