@@ -5,10 +5,8 @@ use mathlib.Core.List.{List, [], ◌∷◌}
 use native.Mathlib.Omega.{arith}
 use lib.ListN.{length, take, drop, set}
 use lib.Seq.{take_at}
-use Rattle.lists.specs.AbsurdLaws.{zero_is_one}
 use Rattle.encode.specs.Encode.{Encoded}
-use Rattle.std.specs.Prelude.{Ok, Err}
-use Rattle.encode.specs.declared.EncodeError.TheVariants.{Forbidden, OutputTooShort}
+use Rattle.std.specs.Prelude.{Ok}
 use Rattle.commands.specs.Sending.{Sent}
 use Rattle.commands.specs.Requests.{trace_of}
 use Rattle.commands.specs.declared.command.Handed.{Handed}
@@ -17,17 +15,11 @@ use Rattle.commands.specs.declared.command.Handed.{Handed}
 pub sent_front : (k : Handed) (reply before : List ℕ) (r : Encoded) (after : List ℕ) (n : ℕ) → Sent k reply before r after → r ≡ Ok n
     → (n ≡ length (trace_of k reply)) × (take n after ≡ trace_of k reply)
 sent_front k reply before r after n s e =
-    let h : n ≡ length (trace_of k reply) = same n (length (trace_of k reply)) (sym e ∙ s.0) in
+    let h : n ≡ length (trace_of k reply) = same r n (length (trace_of k reply)) e s.0 in
     (h, ap (take n) s.1 ∙ take_at (trace_of k reply) (drop (length (trace_of k reply)) before) n (sym h))
   where
-    same : (a b : ℕ) → Ok a ≡ Ok b → a ≡ b
-    same a b q = cc q
-
-pub sent_allowed : (k : Handed) (reply before : List ℕ) (r : Encoded) (after : List ℕ) → Sent k reply before r after → r ≡ Err Forbidden → ⊥
-sent_allowed k reply before r after s e = zero_is_one (cc (s.0, e))
-
-pub sent_roomy : (k : Handed) (reply before : List ℕ) (r : Encoded) (after : List ℕ) → Sent k reply before r after → r ≡ Err OutputTooShort → ⊥
-sent_roomy k reply before r after s e = zero_is_one (cc (s.0, e))
+    same : (q : Encoded) (a b : ℕ) → q ≡ Ok a → q ≡ Ok b → a ≡ b
+    same q a b x y = cc (x, y)
 
 -- symbols stored one after the other at the front
 pub four_stored : (l : List ℕ) → 4 ≤ length l → take 4 (set (set (set (set l 0 256) 1 0xC2) 2 259) 3 257) ≡ 256 ∷ 0xC2 ∷ 259 ∷ 257 ∷ []

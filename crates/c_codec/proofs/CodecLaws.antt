@@ -2,11 +2,8 @@
 use mathlib.Core.Path.{◌≡◌, refl, sym, ap, ◌∙◌, subst}
 use mathlib.Core.Bool.{Bool, true, false}
 use mathlib.Core.List.{List, [], ◌∷◌}
-use mathlib.Core.Logic.{inl, inr}
 use Prim.Native.Nat.{ℕ, ◌/◌, ◌≤◌, ◌<◌}
 use native.Mathlib.Omega.{arith}
-use denote.Enum.Declared.{tag_of}
-use types.Run.{OneOf}
 use lib.Dec.{ltb}
 use borrow.Author.Tests.{lt-ltb, le-ltb}
 use lib.ListN.{length, take, drop}
@@ -19,8 +16,8 @@ use Rattle.trace.specs.Shapes.{shape_of, forbidden}
 use Rattle.trace.specs.Trace.{Message, trace}
 use Rattle.trace.proofs.ColumnsLaws.{longest}
 use Rattle.encode.specs.Encode.{Encoded}
-use Rattle.encode.specs.contracts.Encoded as declared
 use Rattle.std.specs.Prelude.{Ok, Err}
+use Rattle.encode.specs.declared.EncodeError.{EncodeError}
 use Rattle.encode.specs.declared.EncodeError.TheVariants.{Forbidden, OutputTooShort}
 use Rattle.encode.specs.EncodeByLaws.{taken_exactly}
 use Rattle.encode.specs.Encode.{encoded_by, refused, encoded, symbols_of, Wrote}
@@ -47,20 +44,17 @@ module _ (protocol : ℕ) (pec : Bool) (t : Message) (command : t.command < 256)
     fits h = le-ltb (length buffer) (length tr) (omega (arith, at_most h))
 
     -- no trace was written: refusal 1, whatever the room
-    not_written : OneOf (1 ∷ 2 ∷ []) (tag_of declared.the_type r) → refused protocol pec t ≡ true
-    not_written k = go (refused protocol pec t) refl r k w.answer
+    not_written : (why : EncodeError) → r ≡ Err why → refused protocol pec t ≡ true
+    not_written why k = go (refused protocol pec t) refl
       where
-        go : (b : Bool) → refused protocol pec t ≡ b → (q : Encoded) → OneOf (1 ∷ 2 ∷ []) (tag_of declared.the_type q) → q ≡ encoded protocol pec t (length buffer) → b ≡ true
-        go true e q k h = refl
-        go false e (Ok n) (inl k) h = absurd (omega arith)
-        go false e (Ok n) (inr k) h = absurd (omega arith)
-        go false e (Err Forbidden) k h = let z : (Err Forbidden) ≡ Ok (length tr) = h ∙ by_tests (length buffer) false false e (fits e) in zero_is_one cc
-        go false e (Err OutputTooShort) k h = let z : (Err OutputTooShort) ≡ Ok (length tr) = h ∙ by_tests (length buffer) false false e (fits e) in zero_is_one cc
+        go : (b : Bool) → refused protocol pec t ≡ b → b ≡ true
+        go true e = refl
+        go false e = let z : Err why ≡ Ok (length tr) = sym k ∙ w.answer ∙ by_tests (length buffer) false false e (fits e) in zero_is_one cc
 
-    pub refused_pairs : (out : List ℕ) → OneOf (1 ∷ 2 ∷ []) (tag_of declared.the_type r) → (h : HbWritten) → h ≡ answer_of 1 0 → WrotePairs protocol pec t out h out
+    pub refused_pairs : (out : List ℕ) (why : EncodeError) → r ≡ Err why → (h : HbWritten) → h ≡ answer_of 1 0 → WrotePairs protocol pec t out h out
     unfolding pairs_of
-    refused_pairs out k h e =
-        let a = by_tests (length out / 2) true _ (not_written k) refl in
+    refused_pairs out why k h e =
+        let a = by_tests (length out / 2) true _ (not_written why k) refl in
         record { answer = rw a e; output = rw a }
 
     -- a trace was written: all tests passed, and its length is told

@@ -4,7 +4,6 @@ use Rattle.encode.specs.Encode.{message}
 use Rattle.lists.specs.EachLaws.{all_bytes}
 use Rattle.c_codec.specs.Numbers.{truth}
 use Rattle.c_codec.proofs.CodecLaws.{refused_pairs, small, short_pairs, done_pairs}
-use borrow.Enum.Refused.{opened}
 use Rattle.c_codec.proofs.codec.encode_pairs.Goals as goal
 
 pub returns-in_default : goal.returns-in_default
@@ -14,7 +13,7 @@ returns-in_default c =
     let cb : a.command < 256 = omega arith in
     let sb = all_bytes a.sent.now (λ i. (c.shared_slice_known-1.given i).fits) in
     let rb = all_bytes a.received.now (λ i. (c.shared_slice_known-2-1.given i).fits) in
-    refused_pairs a.protocol (truth a.pec) t cb sb rb _ refl _ _ c.encode-r.ensures a.out.now (opened c.in_default.in_default-own.keys2) _ c.written.ensures
+    refused_pairs a.protocol (truth a.pec) t cb sb rb _ refl _ _ c.encode-r.ensures a.out.now _ c.in_default.is _ c.written.ensures
 
 pub slice_bounds-buf-end : goal.slice_bounds-buf-end
 slice_bounds-buf-end c =
