@@ -28,10 +28,10 @@
 -- Sender 4, after 3, after_byte 2, after_bytes 3, any_ack 3, asked 2, block_length 2, byte_on 2, bytes_on 3, exchange 2, hearing 2, line 3, put 2, reading 5, record_of 2, records_of 2, rest 5, seen 3, sees 5, stop_all 2, walk 6;
 -- exchange/Pass: Bench 2, gets_on 2, pass_on 2, run_on 3, stands_on 2, took_on 3, traces_on 3, turn_on 2; exchange/Sending: asked_all 2, started_again 2; bus/Run: ModelEnd 4; promises/MarkedWords: Shows 2, holding 2,
 -- identifier 2, windows 3.
-use Rattle.std.specs.Prelude.{◌≡◌, Bool, true, false, List, [], ◌∷◌, ◌++◌, ◌⊎◌, ◌↔◌, ℕ, suc, ◌+◌, ◌-◌, ◌*◌, ◌/◌, ◌%◌, ◌^◌, ◌≤◌, ◌<◌, length, take, drop, get_or, replicate}
+use Rattle.std.specs.Prelude.{◌≡◌, Bool, true, false, List, [], ◌∷◌, ◌++◌, ◌⊎◌, ◌↔◌, ℕ, suc, ◌+◌, ◌-◌, ◌*◌, ◌/◌, ◌%◌, ◌^◌, ◌≤◌, ◌<◌, length, take, drop, get_or, replicate, Ok}
 use Rattle.std.specs.Int.Bits.{bit_xor}
 use Rattle.promises.specs.Words.{Each, Any, Bytes, is_reserved, is_preassigned, is_listed, table17, Covers, pec_of, Address, last_protocol, TraceOf, Message, message, encode_number, Wrote, Encoded}
-use Rattle.promises.specs.Words.{summary, Member, Fits, Breaks, Wrong, AfterStart, FitsNext, ToHost, IsSwapped, IsMisaddressed, IsMiscounted, IsOther, BitSwapped, CountTooHigh, CutAt, OtherPec, decode_number, Decoded, Done, Entered, Outcome}
+use Rattle.promises.specs.Words.{summary, Member, Fits, Breaks, Wrong, AfterStart, FitsNext, ToHost, IsSwapped, IsMisaddressed, IsMiscounted, IsOther, BitSwapped, CountTooHigh, CutAt, OtherPec, decode_number, Decoded, Entered, Outcome}
 use Rattle.promises.specs.Words.{member, empty_pool, starting_pool, barred_pool, Pool, udid_bytes, In128, Udid, held_at, prepare_trace, reply_trace, assign_trace, new_controller, started, stepped, reported, By, Event, Received, NoStart, run, looked_up, command_number, lookup_number}
 use Rattle.promises.specs.Words.{used, count, not, Completes, BoundSince, LeftSince, binds, unbindings, removals, known_in, handed_out, Removes, Rest, Reported, Left}
 use Rattle.promises.specs.Words.{Asks, Binds, Continues, EndsWith, Replies, protocol_for, message_of, trace_of, Handed, Send, Wait, Nothing, Prepare, GetUdid, Assign, Ended, Abandoned, NotOutstanding, Open, Bound, Claimed, Controller, Stepped}
@@ -89,7 +89,7 @@ pub record Decodes (protocol : ℕ) (pec : Bool) (tr sent₀ received₀ : List 
   pub counts : (k : ℕ) → (decode_number a ≡ (19, k)) ↔ (Entered protocol pec sent₀ received₀ × CountTooHigh protocol tr k)
   pub wrong : (k : ℕ) → ((decode_number a ≡ (5, k)) ⊎ ((decode_number a ≡ (17, k)) ⊎ ((decode_number a ≡ (18, k)) ⊎ (decode_number a ≡ (19, k))))) ↔ (Entered protocol pec sent₀ received₀ × Wrong protocol pec tr k)
   -- with 0 the message is handed over: its fields, and its data at the fronts of the buffers, which are as they were behind
-  pub handed : Entered protocol pec sent₀ received₀ → (m : Message) → TraceOf protocol pec m tr → (a ≡ Done (summary protocol m)) × (sent ≡ m.sent ++ drop (length m.sent) sent₀) × (received ≡ m.received ++ drop (length m.received) received₀)
+  pub handed : Entered protocol pec sent₀ received₀ → (m : Message) → TraceOf protocol pec m tr → (a ≡ Ok (summary protocol m)) × (sent ≡ m.sent ++ drop (length m.sent) sent₀) × (received ≡ m.received ++ drop (length m.received) received₀)
   pub untouched : ((decode_number a).0 ≡ 0 → ⊥) → (sent ≡ sent₀) × (received ≡ received₀)
 
 -- put_command: 1 if and only if Bad, else the trace tr, as encode writes it
@@ -137,10 +137,10 @@ pub record Demand2 (protocol : ℕ) (pec : Bool) : Type 0 where
   -- what a call of the encoder wrote, a call of the decoder reads
   pub there : (m : Message) (before : List ℕ) (r : Encoded) (after : List ℕ) → OfBytes m → Wrote protocol pec m before r after → (n : ℕ) → encode_number r ≡ (0, n)
       → (sent₀ received₀ : List ℕ) (a : Decoded) (sent received : List ℕ) → 255 ≤ length sent₀ → 255 ≤ length received₀ → Outcome protocol pec (take n after) sent₀ received₀ a sent received
-      → (a ≡ Done (summary protocol m)) × (sent ≡ m.sent ++ drop (length m.sent) sent₀) × (received ≡ m.received ++ drop (length m.received) received₀)
+      → (a ≡ Ok (summary protocol m)) × (sent ≡ m.sent ++ drop (length m.sent) sent₀) × (received ≡ m.received ++ drop (length m.received) received₀)
   -- what the decoder answers with 0 is the trace that the encoder writes for the message handed over, into any output that has room
   pub back : (tr sent₀ received₀ : List ℕ) (a : Decoded) (sent received : List ℕ) → Outcome protocol pec tr sent₀ received₀ a sent received → decode_number a ≡ (0, 0)
-      → (m : Message) × OfBytes m × (a ≡ Done (summary protocol m)) × ((before : List ℕ) (r : Encoded) (after : List ℕ) → length tr ≤ length before
+      → (m : Message) × OfBytes m × (a ≡ Ok (summary protocol m)) × ((before : List ℕ) (r : Encoded) (after : List ℕ) → length tr ≤ length before
       → Wrote protocol pec m before r after → (encode_number r ≡ (0, length tr)) × (take (length tr) after ≡ tr))
   -- and a trace is that of one message alone
   pub one : (m t : Message) (tr : List ℕ) → TraceOf protocol pec m tr → TraceOf protocol pec t tr → m ≡ t
