@@ -1,5 +1,5 @@
 -- How a trace is read where the controller is told by its events (specs/Replay.antt): by what decode answers for it, and as symbols.
-use Rattle.std.specs.Prelude.{ℕ, ◌*◌, ◌≤◌, ◌<◌, ◌≡◌, true, ◌↔◌, List, length, Ok}
+use Rattle.std.specs.Prelude.{ℕ, ◌*◌, ◌≤◌, ◌<◌, ◌≡◌, true, ◌↔◌, List, length}
 use Rattle.wire.specs.declared.address.Address.{Address}
 use Rattle.scan.specs.Decoded.{Decoded}
 use Rattle.decode.specs.Outcome.{Outcome}
