@@ -19,7 +19,7 @@
 -- is21 3, is21_end 7, lookup_number 6, unless21 2; arp/OneStep: Asks 3, Binds 8, BoundAt 3, Chooses 5, Continues 2, EndsWith 2, Hands 5, Keeps 4, Removes 5, Replies 4, Rest 5, Same 2, Unbinds 5; arp/Reasons: Contested 2,
 -- MustPick 2, Reasons 7; arp/Replay: Table 3, handed_out 7, is_bound 5, view 2; arp/RunPicks: is_picked 2, pick_in 5, picks_of 8; arp/SinceStart: BoundSince 9, Completes 2, LeftSince 7, Removed 2, RepliedBy 2, Untaken 3;
 -- arp/State: with_last 2; arp/Waits: Waits 2; arp/src: Controller 8, Found 7, Reported 4, Stepped 4; arbitration/Among: Among 3; arbitration/Bits: bits 3, byte_bits 3, bytes_read 3, number_of 3; arbitration/Wire: heard 3,
--- later 3, level 3, next 3, staying 3; targets/ByteCases: EvenOrFlag 2, FixedAt 2, FixedOnTaken 2, SameAsEarlier 2, address_at 2; targets/Cases: FirstOf 4, LengthIsBad 2, None 2; targets/Records: address_byte 2, flag_of 2,
+-- later 3, level 3, next 3, staying 3; targets/ByteCases: EvenOrFlag 2, FixedAt 2, FixedOnTaken 2, SameAsEarlier 2, address_at 2; targets/Cases: FirstOf 4, LengthIsBad 2, NoneOf 2; targets/Records: address_byte 2, flag_of 2,
 -- record_count 2, target_at 2, targets_from 3, targets_of 2, udid_of 2; targets/Reply: OnWire 3, covered_bytes 2, on_wire 3, reply_bytes 2, reply_data 2, reply_pec 2, sends 2, waiting 3; targets/Target: Target 4, is_resolved 2,
 -- map_targets 3; bindings/src: ModelAnswer 9; report/Report: model_number 2; rule/Acknowledge: acknowledges 4, afterwards 2, answered 4, asking 2, assigning_bytes 2, begins 4, getting_bytes 2, on_bus 2, preparing_bytes 2,
 -- received 3, sent_part 5, somebody 3, standing 3; rule/AllBound: left_free 2, movable 3, with_fixed 3; rule/AnyBus: Bus 3, WorldOver 3, beginning_over 2, pass_of 2, run_over 3, took_over 3, turn_over 2; rule/Bus: model_bus 2,
@@ -35,7 +35,7 @@ use Rattle.promises.specs.Words.{summary, Member, Fits, Breaks, Wrong, AfterStar
 use Rattle.promises.specs.Words.{member, empty_pool, starting_pool, barred_pool, Pool, udid_bytes, In128, Udid, held_at, prepare_trace, reply_trace, assign_trace, new_controller, started, stepped, reported, By, Event, Received, NoStart, run, looked_up, command_number, lookup_number}
 use Rattle.promises.specs.Words.{used, count, not, Completes, BoundSince, LeftSince, binds, unbindings, removals, known_in, handed_out, Removes, Rest, Reported, Left}
 use Rattle.promises.specs.Words.{Asks, Binds, Continues, EndsWith, Replies, protocol_for, message_of, trace_of, Handed, Send, Wait, Nothing, Prepare, GetUdid, Assign, Ended, Abandoned, NotOutstanding, Open, Bound, Claimed, Controller, Stepped}
-use Rattle.promises.specs.Words.{EvenOrFlag, SameAsEarlier, FixedOnTaken, LengthIsBad, None, FirstOf, targets_of, movable, left_free, pass, Given, Ending, served, none_free, Distinct, ruled, RecordOf, OnePerUdid, gets_on_bus, history_on_bus, model_number, Leaves, model_end, ModelAnswer, next_free, Next, At, AllUsed, Pick, Picks, latest_of, picks_of, FreeAtEach, Picked, identifier, holding, Shows}
+use Rattle.promises.specs.Words.{EvenOrFlag, SameAsEarlier, FixedOnTaken, LengthIsBad, NoneOf, FirstOf, targets_of, movable, left_free, pass, Given, Ending, served, none_free, Distinct, ruled, RecordOf, OnePerUdid, gets_on_bus, history_on_bus, model_number, Leaves, model_end, ModelAnswer, next_free, Next, At, AllUsed, Pick, Picks, latest_of, picks_of, FreeAtEach, Picked, identifier, holding, Shows}
 use Rattle.promises.specs.Words.{Module, silent_in, starts, stops, loses, receives, supplies, powered, refreshed, resumed, resumed_number, Ready, AsRecorded, having, heard_all, acked, prepare_order, reset_order, directed_reset, assign_order, get_order, Begins, Reachable, Known, Resets, PowersOn, PecDue, says, after_asking, asked, reply_to}
 use Rattle.promises.specs.Words.{first_half, issuing, declining, steps_over, halves_over, run_by_halves, Step, Choose, Gone, Issue, Decline, Chosen, Reason, ByTwo, Reasons, Waits, with_last}
 use Rattle.promises.specs.Words.{times_g, polynomial, bytes_in, Whole, RightPec, Came, Within, TwoBits, FirstAndLast, how_many, MayDiffer, Changed, sent_from}
@@ -128,8 +128,8 @@ pub record Checks (occupied : Pool) (last : ℕ) (s b : List ℕ) (bytes : Bytes
   pub model_2 : (model_number r ≡ (2, 0)) ↔ ((last < 128) × (length b < 2048))
   pub model_9 : (model_number r ≡ (9, 0)) ↔ ((last < 128) × ((2048 ≤ length b) × LengthIsBad s))
   pub model_10 : (i : ℕ) → (model_number r ≡ (10, i)) ↔ ((last < 128) × ((2048 ≤ length b) × ((LengthIsBad s → ⊥) × FirstOf (EvenOrFlag s) (length s / 18) i)))
-  pub model_11 : (i : ℕ) → (model_number r ≡ (11, i)) ↔ ((last < 128) × ((2048 ≤ length b) × ((LengthIsBad s → ⊥) × None (EvenOrFlag s) (length s / 18) × FirstOf (SameAsEarlier s) (length s / 18) i)))
-  pub model_12 : (i : ℕ) → (model_number r ≡ (12, i)) ↔ ((last < 128) × ((2048 ≤ length b) × ((LengthIsBad s → ⊥) × None (EvenOrFlag s) (length s / 18) × None (SameAsEarlier s) (length s / 18) × FirstOf (FixedOnTaken (barred_pool occupied) s) (length s / 18) i)))
+  pub model_11 : (i : ℕ) → (model_number r ≡ (11, i)) ↔ ((last < 128) × ((2048 ≤ length b) × ((LengthIsBad s → ⊥) × NoneOf (EvenOrFlag s) (length s / 18) × FirstOf (SameAsEarlier s) (length s / 18) i)))
+  pub model_12 : (i : ℕ) → (model_number r ≡ (12, i)) ↔ ((last < 128) × ((2048 ≤ length b) × ((LengthIsBad s → ⊥) × NoneOf (EvenOrFlag s) (length s / 18) × NoneOf (SameAsEarlier s) (length s / 18) × FirstOf (FixedOnTaken (barred_pool occupied) s) (length s / 18) i)))
   pub untouched : Refused r → (s' ≡ s) × (b' ≡ b) × (r.udid ≡ record { high = 0; low = 0 }) × (r.bound ≡ empty_pool) × (r.count ≡ 0) × (r.gets ≡ 0) × (r.picked ≡ 0)
 
 -- ---- DEMAND 2: THE DECODER READS WHAT THE ENCODER WRITES, AND NOTHING ELSE
@@ -229,7 +229,7 @@ pub record Meets (occupied : Pool) (last : ℕ) (s b : List ℕ) (given : List G
   pub of_pass : (targets_of s' ≡ (pass occupied last (targets_of s)).targets) × ((a : ℕ) (u : Udid) → a < 128 → held_at (pass occupied last (targets_of s)).now.state.slots a ≡ Bound u → take 16 (drop (16 * a) b') ≡ udid_bytes u)
 
 pub record Demand3 (occupied : Pool) (last : ℕ) (s b : List ℕ) (bytes : Bytes s) (r : ModelAnswer) (s' b' : List ℕ) (contract : Leaves (model_end occupied last s b) r s' b') : Type 0 where
-  pub meets : last < 128 → 2048 ≤ length b → (LengthIsBad s → ⊥) → None (EvenOrFlag s) (length s / 18) → None (SameAsEarlier s) (length s / 18) → None (FixedOnTaken (barred_pool occupied) s) (length s / 18)
+  pub meets : last < 128 → 2048 ≤ length b → (LengthIsBad s → ⊥) → NoneOf (EvenOrFlag s) (length s / 18) → NoneOf (SameAsEarlier s) (length s / 18) → NoneOf (FixedOnTaken (barred_pool occupied) s) (length s / 18)
       → let q = ruled (starting_pool occupied) last (targets_of s) in Meets occupied last s b q.given q.ending q.picked r s' b'
 
 -- ---- THE CONTROLLER
@@ -457,7 +457,7 @@ pub record ModuleBus : Type 0 where
   pub gets : (occupied : Pool) (last : ℕ) (ms : List Module) → Each Fitting ms → gets_on occupied last ms ≡ gets_on_bus occupied last (records_of ms)
   -- of a list that is not refused, the pass ends as a run of the model over the same records, and so as Demand3 says: its controller, and the records
   pub rule : (occupied : Pool) (last : ℕ) (s b : List ℕ) (bytes : Bytes s) (r : ModelAnswer) (s' b' : List ℕ) → Leaves (model_end occupied last s b) r s' b' → last < 128 → 2048 ≤ length b
-      → (LengthIsBad s → ⊥) → None (EvenOrFlag s) (length s / 18) → None (SameAsEarlier s) (length s / 18) → None (FixedOnTaken (barred_pool occupied) s) (length s / 18)
+      → (LengthIsBad s → ⊥) → NoneOf (EvenOrFlag s) (length s / 18) → NoneOf (SameAsEarlier s) (length s / 18) → NoneOf (FixedOnTaken (barred_pool occupied) s) (length s / 18)
       → (ms : List Module) → Each Fitting ms → records_of ms ≡ targets_of s → ((pass_on occupied last ms).now ≡ (pass occupied last (targets_of s)).now) × (records_of (pass_on occupied last ms).targets ≡ targets_of s')
   -- of modules that answer a Get UDID together, any two that still have a byte to send after the identifier have the same identifier
   pub never_two : (ms : List Module) → Each Fitting ms → (m n : Module) → Among m (after_bytes 17 (asked_all ms)) → Among n (after_bytes 17 (asked_all ms)) → (supplies m).drives ≡ true → (supplies n).drives ≡ true
