@@ -20,13 +20,13 @@ use Rattle.encode.specs.Encode.{encode_number, Wrote}
 use Rattle.encode.specs.EncodeLaws.{answer_0, answer_1, answer_2, refusal_untouched}
 use Rattle.encode.specs.NumberLaws as encode
 use Rattle.encode.specs.Listed.{Listed}
-use Rattle.encode.specs.declared.Encoded.{Encoded}
-use Rattle.encode.specs.declared.Encoded.TheVariants.{Written, Forbidden, OutputTooShort}
+use Rattle.encode.specs.Encode.{Encoded}
+use Rattle.std.specs.Prelude.{Ok, Err}
+use Rattle.encode.specs.declared.EncodeError.TheVariants.{Forbidden, OutputTooShort}
 use Rattle.scan.specs.Answers.{summary}
 use Rattle.scan.proofs.AnswersLaws.{one_message}
 use Rattle.scan.specs.Numbers.{decode_number}
-use Rattle.scan.specs.declared.answer.Decoded.{Decoded}
-use Rattle.scan.specs.declared.answer.Decoded.TheVariants.{Done}
+use Rattle.scan.specs.Decoded.{Decoded}
 use Rattle.scan.specs.declared.answer.Refusal.TheVariants.{NoSymbol, EndsEarly, Unexpected, NotAcknowledged, PecDiffers, AfterStop, WrongAck, WrongAddress, WrongCount}
 use Rattle.decode.specs.NumberLaws as decode
 use Rattle.decode.specs.Outcome.{Outcome}
@@ -127,9 +127,9 @@ decodes protocol pec tr sent₀ received₀ a sent received o = record {
 -- what put_command writes for a command whose trace is tr, and which is refused in the case Bad
 written_trace : (protocol : ℕ) (pec : Bool) (t : Message) (before : List ℕ) (r : Encoded) (after : List ℕ) → Wrote protocol pec t before r after → (encode_number r).0 ≡ 0
     → after ≡ trace (shape_of protocol) pec t ++ drop (length (trace (shape_of protocol) pec t)) before
-written_trace protocol pec t before (Written n) after w e = w.output
-written_trace protocol pec t before Forbidden after w e = absurd (omega (arith, e))
-written_trace protocol pec t before OutputTooShort after w e = absurd (omega (arith, e))
+written_trace protocol pec t before (Ok n) after w e = w.output
+written_trace protocol pec t before (Err Forbidden) after w e = absurd (omega (arith, e))
+written_trace protocol pec t before (Err OutputTooShort) after w e = absurd (omega (arith, e))
 
 module _ (k : Handed) (reply tr before : List ℕ) (r : Encoded) (after : List ℕ) (Bad : Type 0) (w : Wrote (protocol_for k) true (message_of k reply) before r after)
     (one : (encode_number r ≡ (1, 0)) ↔ Bad) (same : (Bad → ⊥) → trace (shape_of (protocol_for k)) true (message_of k reply) ≡ tr) where
@@ -240,7 +240,7 @@ demand_2 protocol pec = record { there = there; back = back; one = one }
   where
     there : (m : Message) (before : List ℕ) (r : Encoded) (after : List ℕ) → OfBytes m → Wrote protocol pec m before r after → (n : ℕ) → encode_number r ≡ (0, n)
         → (sent₀ received₀ : List ℕ) (a : Decoded) (sent received : List ℕ) → 255 ≤ length sent₀ → 255 ≤ length received₀ → Outcome protocol pec (take n after) sent₀ received₀ a sent received
-        → (a ≡ Done (summary protocol m)) × (sent ≡ m.sent ++ drop (length m.sent) sent₀) × (received ≡ m.received ++ drop (length m.received) received₀)
+        → (a ≡ Ok (summary protocol m)) × (sent ≡ m.sent ++ drop (length m.sent) sent₀) × (received ≡ m.received ++ drop (length m.received) received₀)
     there m before r after (c, s, v) w n e sent₀ received₀ a sent received hs hr o =
         let k = (encode.encode_0 protocol pec m c s v before r after w n).0 e in
         let x = k.0 in
@@ -250,7 +250,7 @@ demand_2 protocol pec = record { there = there; back = back; one = one }
         (known_to_last protocol (listed_trace protocol pec m x t).0, λ z. quick_plain pec _ t.0 t.1 (t.2 ∙ z), hs, hr) m (subst (TraceOf protocol pec m) (sym f) t)
 
     back : (tr sent₀ received₀ : List ℕ) (a : Decoded) (sent received : List ℕ) → Outcome protocol pec tr sent₀ received₀ a sent received → decode_number a ≡ (0, 0)
-        → (m : Message) × OfBytes m × (a ≡ Done (summary protocol m)) × ((before : List ℕ) (r : Encoded) (after : List ℕ) → length tr ≤ length before
+        → (m : Message) × OfBytes m × (a ≡ Ok (summary protocol m)) × ((before : List ℕ) (r : Encoded) (after : List ℕ) → length tr ≤ length before
         → Wrote protocol pec m before r after → (encode_number r ≡ (0, length tr)) × (take (length tr) after ≡ tr))
     back tr sent₀ received₀ a sent received o e =
         let k = (decode.decode_0 protocol pec tr sent₀ received₀ a sent received o).0 e in
