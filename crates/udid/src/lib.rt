@@ -8,7 +8,7 @@ pub mod write;
 
 // The high half holds capabilities, version, vendor, device and interface, the low one subsystem vendor, subsystem device and the
 // vendor-specific 32 bits.
-#[derive(Clone, Copy)]
+#[derive(Clone, Copy, PartialEq, Eq, PartialOrd, Ord)]
 pub struct Udid {
     pub high: u64,
     pub low: u64,
