@@ -31,11 +31,10 @@ impl Controller {
         ensures { result ≡ freed self u }
     {
         let slots = self.slots;
-        let n = slots.find(u);
-        if n > 127 {
-            return self;
+        match slots.find(u) {
+            Some(a) => self.vacate(a, Binding::Open),
+            None => self,
         }
-        self.vacate(Address(n), Binding::Open)
     }
 
     // The state with the target bound to the address, or the address claimed by two; the address is in the pool then.

@@ -33,11 +33,7 @@ fn put_rows(out: &mut [u8], slots: Slots)
     let mut a: u8 = 0;
     while a < 128 {
         let at = a as usize;
-        let u = Udid {
-            high: slots.high[at],
-            low: slots.low[at],
-        };
-        let e = entry_of(bound.has(Address(a)), u);
+        let e = entry_of(bound.has(Address(a)), slots.udids[at]);
         put_entry(&mut out[..], Address(a), e);
         a += 1;
     }

@@ -13,3 +13,8 @@ pub struct Udid {
     pub high: u64,
     pub low: u64,
 }
+
+impl Udid {
+    // All bits zero: what stands where there is no identifier.
+    pub const ZERO: Udid = Udid { high: 0, low: 0 };
+}

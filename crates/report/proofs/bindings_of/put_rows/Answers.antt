@@ -11,27 +11,6 @@ use Rattle.report.proofs.bindings_of.put_rows.Goals as goal
 pub loop-a-init : goal.loop-a-init
 loop-a-init c = (omega arith, refl, rows_none (entry_at c.args.slots) c.args.out.now)
 
-pub overflow_cast-at : goal.overflow_cast-at
-overflow_cast-at c = omega arith
-
-pub offset_bounds-slots-at : goal.offset_bounds-slots-at
-offset_bounds-slots-at c = omega arith
-
-pub bounds-slots-at : goal.bounds-slots-at
-bounds-slots-at c = omega arith
-
-pub offset_bounds-slots-at-in-loop-a : goal.offset_bounds-slots-at-in-loop-a
-offset_bounds-slots-at-in-loop-a c = omega arith
-
-pub bounds-slots-at-in-loop-a : goal.bounds-slots-at-in-loop-a
-bounds-slots-at-in-loop-a c = omega arith
-
-pub overflow_add-a : goal.overflow_add-a
-overflow_add-a c = omega arith
-
-pub loop-a-smaller : goal.loop-a-smaller
-loop-a-smaller c = omega arith
-
 pub loop-a-preserved : goal.loop-a-preserved
 loop-a-preserved c =
     let l = c.loop-a in
