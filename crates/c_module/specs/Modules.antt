@@ -1,12 +1,11 @@
 -- A module as a struct for C, there and back, and what each call hands back.
-use Rattle.module.specs.declared.resume.Resumed.{Resumed}
-use Rattle.module.specs.declared.resume.Resumed.TheVariants.{Ready, Malformed, NoHome}
+use Rattle.std.specs.Prelude.{Ok, Err}
 use Rattle.module.specs.declared.state.Lasting.{Lasting}
 use Rattle.module.specs.declared.state.Module.{Module}
 use Rattle.module.specs.declared.state.Heard.{Heard}
 use Rattle.module.specs.declared.state.Supplied.{Supplied}
 use Rattle.module.specs.State.{at}
-use Rattle.module.specs.Resume.{resumed_number}
+use Rattle.module.specs.Resume.{Resumed, resumed_number}
 use Rattle.c_codec.specs.Numbers.{truth, bit}
 use Rattle.c_arp.specs.Parts.{udid_in, told_udid}
 use Rattle.c_module.specs.Phases.{phase_in, phase_number}
@@ -48,6 +47,5 @@ abbrev pub no_module : HbModule
 no_module = record { udid = record { high = 0; low = 0 }; fresh = 0; home = 0; valid = 0; address = 0; resolved = 0; phase = 0; place = 0; pec = 0; given = 0 }
 
 abbrev pub told_resumed : Resumed → HbResumed
-told_resumed (Ready m) = record { after = told_module m; answer = resumed_number (Ready m) }
-told_resumed Malformed = record { after = no_module; answer = resumed_number Malformed }
-told_resumed NoHome = record { after = no_module; answer = resumed_number NoHome }
+told_resumed (Ok m) = record { after = told_module m; answer = resumed_number (Ok m) }
+told_resumed (Err e) = record { after = no_module; answer = resumed_number (Err e) }

@@ -36,7 +36,7 @@ use Rattle.promises.specs.Words.{member, empty_pool, starting_pool, barred_pool,
 use Rattle.promises.specs.Words.{used, count, not, Completes, BoundSince, LeftSince, binds, unbindings, removals, known_in, handed_out, Removes, Rest, Reported, Left}
 use Rattle.promises.specs.Words.{Asks, Binds, Continues, EndsWith, Replies, protocol_for, message_of, trace_of, Handed, Send, Wait, Nothing, Prepare, GetUdid, Assign, Ended, Abandoned, NotOutstanding, Open, Bound, Claimed, Controller, Stepped}
 use Rattle.promises.specs.Words.{EvenOrFlag, SameAsEarlier, FixedOnTaken, LengthIsBad, None, FirstOf, targets_of, movable, left_free, pass, Given, Ending, served, none_free, Distinct, ruled, RecordOf, OnePerUdid, gets_on_bus, history_on_bus, model_number, Leaves, model_end, ModelAnswer, next_free, Next, At, AllUsed, Pick, Picks, latest_of, picks_of, FreeAtEach, Picked, identifier, holding, Shows}
-use Rattle.promises.specs.Words.{Module, silent_in, starts, stops, loses, receives, supplies, powered, refreshed, resumed, resumed_number, Ready, AsRecorded, having, heard_all, acked, prepare_order, reset_order, directed_reset, assign_order, get_order, Begins, Reachable, Known, Resets, PowersOn, PecDue, says, after_asking, asked, reply_to}
+use Rattle.promises.specs.Words.{Module, silent_in, starts, stops, loses, receives, supplies, powered, refreshed, resumed, resumed_number, AsRecorded, having, heard_all, acked, prepare_order, reset_order, directed_reset, assign_order, get_order, Begins, Reachable, Known, Resets, PowersOn, PecDue, says, after_asking, asked, reply_to}
 use Rattle.promises.specs.Words.{first_half, issuing, declining, steps_over, halves_over, run_by_halves, Step, Choose, Gone, Issue, Decline, Chosen, Reason, ByTwo, Reasons, Waits, with_last}
 use Rattle.promises.specs.Words.{times_g, polynomial, bytes_in, Whole, RightPec, Came, Within, TwoBits, FirstAndLast, how_many, MayDiffer, Changed, sent_from}
 use Rattle.promises.specs.Words.{on_bus, effect, map_targets, Among, beginning_over, run_over, model_bus, exchange, records_of, Fitting, after_bytes, asked_all, run_on, pass_on, gets_on}
@@ -442,7 +442,7 @@ pub record Modules : Type 0 where
   pub resume_0 : (u : Udid) (b g f : ℕ) → In128 u → (resumed_number (resumed u b g f) ≡ 0) ↔ ((((b % 2 ≡ 0) ⊎ (1 < g)) → ⊥) × (((get_or (udid_bytes u) 0 0 < 64) × (b ≡ 0xFF)) → ⊥))
   pub resume_10 : (u : Udid) (b g f : ℕ) → In128 u → (resumed_number (resumed u b g f) ≡ 10) ↔ ((b % 2 ≡ 0) ⊎ (1 < g))
   pub resume_12 : (u : Udid) (b g f : ℕ) → In128 u → (resumed_number (resumed u b g f) ≡ 12) ↔ ((((b % 2 ≡ 0) ⊎ (1 < g)) → ⊥) × ((get_or (udid_bytes u) 0 0 < 64) × (b ≡ 0xFF)))
-  pub recorded : (u : Udid) (b g f : ℕ) → In128 u → b < 256 → (m : Module) → resumed u b g f ≡ Ready m → AsRecorded u b g f m
+  pub recorded : (u : Udid) (b g f : ℕ) → In128 u → b < 256 → (m : Module) → resumed u b g f ≡ Ok m → AsRecorded u b g f m
 
 -- A BUS OF MODULES, bit by bit: START, each byte and STOP are given to every module, an ACK stands where one or more give it, a zero beats a one, and who gives a one and sees a zero is told
 -- there and then. records_of ms are their records: the identifier, twice the address plus 1 or FFh where AV is clear, AR
