@@ -5,6 +5,7 @@ use Rattle.module.specs.declared.state.Module.{Module}
 use Rattle.module.specs.declared.state.Heard.{Heard}
 use Rattle.module.specs.declared.state.Supplied.{Supplied}
 use Rattle.module.specs.State.{at}
+use Rattle.module.specs.Supply.{drives, driven}
 use Rattle.module.specs.Resume.{Resumed, resumed_number}
 use Rattle.c_codec.specs.Numbers.{truth, bit}
 use Rattle.c_arp.specs.Parts.{udid_in, told_udid}
@@ -40,7 +41,7 @@ abbrev pub told_heard : Heard → HbHeard
 told_heard h = record { after = told_module h.after; ack = bit h.ack }
 
 abbrev pub told_supplied : Supplied → HbSupplied
-told_supplied s = record { after = told_module s.after; drives = bit s.drives; byte = s.byte }
+told_supplied s = record { after = told_module s.after; drives = bit (drives s); byte = driven s }
 
 -- a refusal has no module: every part of it is 0
 abbrev pub no_module : HbModule

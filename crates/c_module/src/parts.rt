@@ -117,15 +117,15 @@ pub(crate) fn told_heard(h: Heard) -> HbHeard
     }
 }
 
-// The answer to a byte asked for, for C.
+// The answer to a byte asked for, for C. Where there is none, FFh stands for it, which holds nothing down.
 pub(crate) fn told_supplied(s: Supplied) -> HbSupplied
     ensures { result ≡ told_supplied s }
 {
     let m = s.after;
     HbSupplied {
         after: told_module(m),
-        drives: as_number(s.drives) as u32,
-        byte: s.byte as u32,
+        drives: as_number(s.byte.is_some()) as u32,
+        byte: s.byte.unwrap_or(0xFF) as u32,
     }
 }
 

@@ -21,7 +21,7 @@ use Rattle.module.specs.declared.state.Lasting.{Lasting}
 use Rattle.module.specs.declared.state.Module.{Module}
 use Rattle.module.specs.declared.state.Phase.TheVariants.{Reply}
 use Rattle.module.specs.State.{at, silent_in}
-use Rattle.module.specs.Supply.{address_byte, reply_byte, supplies}
+use Rattle.module.specs.Supply.{address_byte, reply_byte, drives, driven, supplies}
 use Rattle.module.specs.Says.{says, reply, asked_pec}
 use Rattle.module.proofs.SupplyLaws.{reply_says}
 use Rattle.exchange.specs.AlikeLaws.{Says, some, seen_alike}
@@ -45,14 +45,14 @@ answering_talks (m ∷ ms) = (go m.own.resolved, answering_talks ms)
     go true = quiet m.own
     go false = speaks {n = 19} m.own (asked_pec 0x03) 0 refl
 
-reply_first : (o : Lasting) (c : ℕ) → (supplies (at o Reply 0 c 0)).byte ≡ 17
+reply_first : (o : Lasting) (c : ℕ) → driven (supplies (at o Reply 0 c 0)) ≡ 17
 unfolding supplies reply_byte
 reply_first o c = refl
 
-pub answering_drives : (m : Module) → (supplies (answering m)).drives ≡ not m.own.resolved
+pub answering_drives : (m : Module) → drives (supplies (answering m)) ≡ not m.own.resolved
 answering_drives m = go m.own.resolved
   where
-    go : (b : Bool) → (supplies (replying b m.own)).drives ≡ not b
+    go : (b : Bool) → drives (supplies (replying b m.own)) ≡ not b
     go true = silent_drives m.own
     go false = reply_drives m.own 0 (asked_pec 0x03)
 
@@ -76,8 +76,8 @@ answering_says : (ms : List Module) → Each (Says (bits 8 17)) (map asked (map 
 answering_says [] = tt
 answering_says (m ∷ ms) = (go m.own.resolved, answering_says ms)
   where
-    go : (b : Bool) → (supplies (replying b m.own)).drives ≡ true
-        → bits 8 (supplies (replying b m.own)).byte ≡ bits 8 17
+    go : (b : Bool) → drives (supplies (replying b m.own)) ≡ true
+        → bits 8 (driven (supplies (replying b m.own))) ≡ bits 8 17
     go true e = not_both (silent_drives m.own) e
     go false e = ap (bits 8) (reply_first m.own (asked_pec 0x03))
 
@@ -107,7 +107,7 @@ wires_same [] = refl
 wires_same (m ∷ ms) = go m.own.resolved (wires_same ms)
   where
     go : (b : Bool) → wires 19 (map answering ms) ≡ waiting (records_of ms)
-        → pick (supplies (replying b m.own)).drives
+        → pick (drives (supplies (replying b m.own)))
         (byte_bits (says 19 (replying b m.own)) ∷ wires 19 (map answering ms)) (wires 19 (map answering ms))
         ≡ pick (eqb (pick b 1 0) 1) (waiting (records_of ms)) (sends (record_of m) ∷ waiting (records_of ms))
     go true r = rw (silent_drives m.own) r

@@ -15,7 +15,7 @@ use Rattle.commands.specs.declared.command.Handed.TheVariants.{Send, Wait}
 use Rattle.rule.specs.Acknowledge.{sent_part}
 use Rattle.module.specs.declared.state.Module.{Module}
 use Rattle.module.specs.Receive.{starts, receives, loses, stops}
-use Rattle.module.specs.Supply.{address_byte, supplies}
+use Rattle.module.specs.Supply.{address_byte, drives, driven, supplies}
 
 -- the identifier of a module is a number of 128 bits
 abbrev pub Fitting : Module → Type 0
@@ -65,7 +65,7 @@ pub record Sender : Type 0 where
   pub left : List Bool
 
 abbrev pub asked : Module → Sender
-asked m = record { who = (supplies m).after; sends = (supplies m).drives; left = bits 8 (supplies m).byte }
+asked m = record { who = (supplies m).after; sends = drives (supplies m); left = bits 8 (driven (supplies m)) }
 
 -- the wire is one where nobody gives a zero
 unfoldable pub line : List Sender → Bool

@@ -36,7 +36,7 @@ use Rattle.promises.specs.Words.{member, empty_pool, starting_pool, barred_pool,
 use Rattle.promises.specs.Words.{used, count, not, Completes, BoundSince, LeftSince, binds, unbindings, removals, known_in, handed_out, Removes, Rest, Reported, Left}
 use Rattle.promises.specs.Words.{Asks, Binds, Continues, EndsWith, Replies, protocol_for, message_of, trace_of, Handed, Send, Wait, Nothing, Prepare, GetUdid, Assign, Ended, Abandoned, NotOutstanding, Open, Bound, Claimed, Controller, Stepped}
 use Rattle.promises.specs.Words.{EvenOrFlag, SameAsEarlier, FixedOnTaken, LengthIsBad, None, FirstOf, targets_of, movable, left_free, pass, Given, Ending, served, none_free, Distinct, ruled, RecordOf, OnePerUdid, gets_on_bus, history_on_bus, model_number, Leaves, model_end, ModelAnswer, next_free, Next, At, AllUsed, Pick, Picks, latest_of, picks_of, FreeAtEach, Picked, identifier, holding, Shows}
-use Rattle.promises.specs.Words.{Module, silent_in, starts, stops, loses, receives, supplies, powered, refreshed, resumed, resumed_number, AsRecorded, having, heard_all, acked, prepare_order, reset_order, directed_reset, assign_order, get_order, Begins, Reachable, Known, Resets, PowersOn, PecDue, says, after_asking, asked, reply_to}
+use Rattle.promises.specs.Words.{Module, silent_in, starts, stops, loses, receives, supplies, drives, driven, powered, refreshed, resumed, resumed_number, AsRecorded, having, heard_all, acked, prepare_order, reset_order, directed_reset, assign_order, get_order, Begins, Reachable, Known, Resets, PowersOn, PecDue, says, after_asking, asked, reply_to}
 use Rattle.promises.specs.Words.{first_half, issuing, declining, steps_over, halves_over, run_by_halves, Step, Choose, Gone, Issue, Decline, Chosen, Reason, ByTwo, Reasons, Waits, with_last}
 use Rattle.promises.specs.Words.{times_g, polynomial, bytes_in, Whole, RightPec, Came, Within, TwoBits, FirstAndLast, how_many, MayDiffer, Changed, sent_from}
 use Rattle.promises.specs.Words.{on_bus, effect, map_targets, Among, beginning_over, run_over, model_bus, exchange, records_of, Fitting, after_bytes, asked_all, run_on, pass_on, gets_on}
@@ -424,13 +424,13 @@ pub record Listens (m : Module) (fits : In128 m.own.udid) (four : m.own.fresh < 
   pub directed : Reachable m.own → let k = 2 * m.own.address + 1 in (n : ℕ) → (says (19 + n) (asked m k) ≡ reply_to m.own k) × (after_asking (19 + n) (asked m k) ≡ silent_in m.own)
   pub nothing_else : (bs : List ℕ) (n : ℕ) → (bs ≡ 0xC3 ∷ [] → (receives (starts m) 0xC3).ack ≡ false) → says n (heard_all (starts m) bs) ≡ []
   -- asked for a byte where it has none, it stays as it was. In a reply no byte gets ACK, and after its last byte it is silent. A START then, or right after a START, begins a new packet, before C3h too
-  pub released : (supplies m).drives ≡ false → ((supplies m).after ≡ m) × ((supplies m).byte ≡ 0xFF)
-  pub replying : (supplies m).drives ≡ true → (starts m ≡ starts (silent_in m.own)) × ((b : ℕ) → (receives m b).ack ≡ false)
-      × ((supplies (supplies m).after).drives ≡ false → (supplies m).after ≡ silent_in m.own)
+  pub released : drives (supplies m) ≡ false → ((supplies m).after ≡ m) × (driven (supplies m) ≡ 0xFF)
+  pub replying : drives (supplies m) ≡ true → (starts m ≡ starts (silent_in m.own)) × ((b : ℕ) → (receives m b).ack ≡ false)
+      × (drives (supplies (supplies m).after) ≡ false → (supplies m).after ≡ silent_in m.own)
   pub twice : starts (starts m) ≡ starts (silent_in m.own)
   -- LOST, STOPPED OR AFTER A NACK, up to the next START: no byte gets ACK, and no bit is driven
   pub told : (loses m ≡ silent_in m.own) × (stops m ≡ silent_in m.own)
-  pub silent : (b : ℕ) → ((receives (silent_in m.own) b).ack ≡ false) × ((receives (silent_in m.own) b).after ≡ silent_in m.own) × ((supplies (silent_in m.own)).drives ≡ false)
+  pub silent : (b : ℕ) → ((receives (silent_in m.own) b).ack ≡ false) × ((receives (silent_in m.own) b).after ≡ silent_in m.own) × (drives (supplies (silent_in m.own)) ≡ false)
 
 pub record Modules : Type 0 where
   pub listens : (m : Module) (fits : In128 m.own.udid) (four : m.own.fresh < 2 ^ 32) → Listens m fits four
@@ -460,7 +460,7 @@ pub record ModuleBus : Type 0 where
       → (LengthIsBad s → ⊥) → None (EvenOrFlag s) (length s / 18) → None (SameAsEarlier s) (length s / 18) → None (FixedOnTaken (barred_pool occupied) s) (length s / 18)
       → (ms : List Module) → Each Fitting ms → records_of ms ≡ targets_of s → ((pass_on occupied last ms).now ≡ (pass occupied last (targets_of s)).now) × (records_of (pass_on occupied last ms).targets ≡ targets_of s')
   -- of modules that answer a Get UDID together, any two that still have a byte to send after the identifier have the same identifier
-  pub never_two : (ms : List Module) → Each Fitting ms → (m n : Module) → Among m (after_bytes 17 (asked_all ms)) → Among n (after_bytes 17 (asked_all ms)) → (supplies m).drives ≡ true → (supplies n).drives ≡ true
+  pub never_two : (ms : List Module) → Each Fitting ms → (m n : Module) → Among m (after_bytes 17 (asked_all ms)) → Among n (after_bytes 17 (asked_all ms)) → drives (supplies m) ≡ true → drives (supplies n) ≡ true
       → m.own.udid ≡ n.own.udid
 
 -- ---- THE MARKED CASES, whatever binding buffer of at least 2,048 bytes is lent
