@@ -1,5 +1,5 @@
 -- THE PROOFS of the page (Demands): one inhabitant of each record, put together from the laws of the crates whose definitions they are about.
-use Rattle.std.specs.Prelude.{◌≡◌, refl, Bool, true, false, List, [], ◌∷◌, ◌++◌, ◌⊎◌, ◌↔◌, ℕ, ◌*◌, ◌/◌, ◌%◌, ◌≤◌, ◌<◌, length, take, drop}
+use Rattle.std.specs.Prelude.{◌≡◌, refl, Bool, true, false, List, [], ◌∷◌, ◌++◌, ◌⊎◌, ◌↔◌, ℕ, ◌*◌, ◌/◌, ◌%◌, ◌≤◌, ◌<◌, length, take, drop, Ok}
 use Rattle.std.proofs.Common.{sym, ap, ◌∙◌, subst, inl, inr, mod-eq_of_lt, arith, take_at}
 use Rattle.std.proofs.Math.Decide.{dec_lt}
 use Rattle.lists.specs.AbsurdLaws.{zero_is_one}
@@ -72,10 +72,9 @@ use Rattle.slots.specs.declared.Binding.TheVariants.{Open, Bound, Left}
 use Rattle.arp.specs.declared.state.Controller.{Controller}
 use Rattle.targets.specs.ByteCases.{EvenOrFlag, SameAsEarlier, FixedOnTaken}
 use Rattle.targets.specs.ByteCasesLaws.{given_by_bytes}
-use Rattle.targets.specs.Cases.{LengthIsBad, None}
+use Rattle.targets.specs.Cases.{LengthIsBad, NoneOf}
 use Rattle.targets.specs.RefusalLaws.{given_exactly}
 use Rattle.targets.specs.Refusals.{checked_list}
-use Rattle.targets.specs.declared.admit.Checked.TheVariants.{Admitted}
 use Rattle.bus.specs.BindingsEndLaws.{given_in_records, given_assignable, given_distinct, given_once, bound_exactly, bytes_of_bound, bytes_of_free, bytes_after_kept}
 use Rattle.targets.specs.Records.{targets_of}
 use Rattle.rule.specs.PassHistoryLaws.{pass_is_history}
@@ -278,10 +277,10 @@ demand_2 protocol pec = record { there = there; back = back; one = one }
 -- ---- demand 3
 
 -- a list in none of the cases of 9 to 12 is admitted
-pub admitted : (occupied : Pool) (s : List ℕ) → Bytes s → (LengthIsBad s → ⊥) → None (EvenOrFlag s) (length s / 18) → None (SameAsEarlier s) (length s / 18)
-    → None (FixedOnTaken (barred_pool occupied) s) (length s / 18) → checked_list (barred_pool occupied) s ≡ Admitted
+pub admitted : (occupied : Pool) (s : List ℕ) → Bytes s → (LengthIsBad s → ⊥) → NoneOf (EvenOrFlag s) (length s / 18) → NoneOf (SameAsEarlier s) (length s / 18)
+    → NoneOf (FixedOnTaken (barred_pool occupied) s) (length s / 18) → checked_list (barred_pool occupied) s ≡ Ok tt
 admitted occupied s bytes n m k f =
-    sym ((given_exactly (barred_pool occupied) s Admitted).1 ((given_by_bytes (barred_pool occupied) s bytes Admitted).1 (n, m, k, f)))
+    sym ((given_exactly (barred_pool occupied) s (Ok tt)).1 ((given_by_bytes (barred_pool occupied) s bytes (Ok tt)).1 (n, m, k, f)))
 
 pub demand_3 : (occupied : Pool) (last : ℕ) (s b : List ℕ) (bytes : Bytes s) (r : ModelAnswer) (s' b' : List ℕ) (contract : Leaves (model_end occupied last s b) r s' b')
     → Demand3 occupied last s b bytes r s' b' contract

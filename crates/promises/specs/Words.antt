@@ -66,7 +66,7 @@ pub use Rattle.arp.specs.declared.state.Controller.{Controller}
 pub use Rattle.arp.specs.declared.state.Stepped.{Stepped}
 -- the model
 pub use Rattle.targets.specs.ByteCases.{EvenOrFlag, SameAsEarlier, FixedOnTaken}
-pub use Rattle.targets.specs.Cases.{LengthIsBad, None, FirstOf}
+pub use Rattle.targets.specs.Cases.{LengthIsBad, NoneOf, FirstOf}
 pub use Rattle.targets.specs.Records.{targets_of}
 pub use Rattle.rule.specs.AllBound.{movable, left_free}
 pub use Rattle.arbitration.specs.Among.{Among}
