@@ -30,14 +30,11 @@ recorded u b g f = record {
 }
 
 -- the module of a record, or why there is none
-abbrev pub Resumed : Type 0
-Resumed = Result Module RecordError
-
-unfoldable pub resumed : Udid → ℕ → ℕ → ℕ → Resumed
+unfoldable pub resumed : Udid → ℕ → ℕ → ℕ → Result Module RecordError
 resumed u b g f = pick (is_malformed b g) (Err Malformed) (pick (lacks_home u b) (Err NoHome) (Ok (silent_in (recorded u b g f))))
 
 -- the numbers of the answers: as for a list of targets, where a fixed one with FFh counts as 7Fh, which is reserved
-abbrev pub resumed_number : Resumed → ℕ
+abbrev pub resumed_number : Result Module RecordError → ℕ
 resumed_number (Ok m) = 0
 resumed_number (Err Malformed) = 10
 resumed_number (Err NoHome) = 12

@@ -1,5 +1,5 @@
 -- A module from a record: each number if and only if its case, and that the module is as the record says.
-use Rattle.std.specs.Prelude.{ℕ, ◌+◌, ◌*◌, ◌/◌, ◌%◌, ◌≤◌, ◌<◌, ◌≡◌, refl, Bool, true, false, ◌⊎◌, ◌↔◌, Ok, Err, ltb, eqb, get_or}
+use Rattle.std.specs.Prelude.{ℕ, ◌+◌, ◌*◌, ◌/◌, ◌%◌, ◌≤◌, ◌<◌, ◌≡◌, refl, Bool, true, false, ◌⊎◌, ◌↔◌, Result, Ok, Err, ltb, eqb, get_or}
 use Rattle.std.proofs.Common.{sym, ap, ◌∙◌, inl, inr, arith, eqb-true, eq-eqb, ne_eqb, ltb-false}
 use Rattle.std.proofs.Math.Logic.Iff.{trans as iff_trans}
 use Rattle.std.proofs.lemmas.Bool.{eqb-false}
@@ -10,16 +10,17 @@ use Rattle.udid.specs.Bytes.{udid_bytes}
 use Rattle.udid.specs.Udids.{Fits, is_fixed}
 use Rattle.udid.proofs.UdidLaws.{fixed_first}
 use Rattle.udid.specs.declared.Udid.{Udid}
+use Rattle.module.specs.declared.resume.RecordError.{RecordError}
 use Rattle.module.specs.declared.resume.RecordError.TheVariants.{Malformed, NoHome}
 use Rattle.module.specs.declared.state.Lasting.{Lasting}
 use Rattle.module.specs.declared.state.Module.{Module}
 use Rattle.module.specs.State.{silent_in}
 use Rattle.module.specs.Supply.{address_byte}
-use Rattle.module.specs.Resume.{is_malformed, lacks_home, recorded, Resumed, resumed, resumed_number, AsRecorded}
+use Rattle.module.specs.Resume.{is_malformed, lacks_home, recorded, resumed, resumed_number, AsRecorded}
 
 -- ---- the numbers of a choice
 
-abbrev chosen : Bool → Bool → Module → Resumed
+abbrev chosen : Bool → Bool → Module → Result Module RecordError
 chosen x y m = pick x (Err Malformed) (pick y (Err NoHome) (Ok m))
 
 ten : (x y : Bool) (m : Module) → (resumed_number (chosen x y m) ≡ 10) ↔ (x ≡ true)

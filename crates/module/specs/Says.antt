@@ -1,18 +1,18 @@
 -- What a module says: the bytes that it supplies when it is asked for some, and its reply to Get UDID.
-use Rattle.std.specs.Prelude.{ℕ, zero, suc, List, [], ◌∷◌, ◌++◌}
+use Rattle.std.specs.Prelude.{ℕ, zero, suc, List, [], ◌∷◌, ◌++◌, is_some, unwrap_or}
 use Rattle.lists.specs.Choice.{pick}
 use Rattle.pec.specs.Pec.{pec_from, pec_of}
 use Rattle.udid.specs.Bytes.{udid_bytes}
 use Rattle.module.specs.declared.state.Lasting.{Lasting}
 use Rattle.module.specs.declared.state.Module.{Module}
 use Rattle.module.specs.Receive.{for_write, for_read, starts}
-use Rattle.module.specs.Supply.{address_byte, drives, driven, supplies}
+use Rattle.module.specs.Supply.{address_byte, supplies}
 use Rattle.module.specs.Obeys.{heard_all}
 
 -- asked for n bytes: those that it supplies, and the module after them
 unfoldable pub says : ℕ → Module → List ℕ
 says zero m = []
-says (suc n) m = pick (drives (supplies m)) (driven (supplies m) ∷ says n (supplies m).after) (says n (supplies m).after)
+says (suc n) m = pick (is_some (supplies m).byte) (unwrap_or (supplies m).byte 0xFF ∷ says n (supplies m).after) (says n (supplies m).after)
 
 unfoldable pub after_asking : ℕ → Module → Module
 after_asking zero m = m

@@ -1,5 +1,5 @@
 -- A byte that the module supplies: steps 22 to 25, and 29.
-use Rattle.std.specs.Prelude.{ℕ, ◌+◌, ◌-◌, ◌*◌, ◌%◌, Bool, Some, None, is_some, unwrap_or, ltb, eqb, get_or}
+use Rattle.std.specs.Prelude.{ℕ, ◌+◌, ◌-◌, ◌*◌, ◌%◌, Some, None, ltb, eqb, get_or}
 use Rattle.lists.specs.Choice.{pick}
 use Rattle.pec.specs.Pec.{pec_step}
 use Rattle.udid.specs.Bytes.{udid_bytes}
@@ -26,16 +26,9 @@ after_byte o c k b = pick (ltb k 18) (at o Reply (k + 1) (pec_step c b) 0) (sile
 abbrev pub said : Module → ℕ → Supplied
 said m b = record { after = m; byte = Some b }
 
+-- it holds nothing down, as FFh would not
 abbrev pub unsaid : Module → Supplied
 unsaid m = record { after = m; byte = None }
-
--- it has a byte to say
-abbrev pub drives : Supplied → Bool
-drives s = is_some s.byte
-
--- the byte that it says; FFh, which holds nothing down, where it says none
-abbrev pub driven : Supplied → ℕ
-driven s = unwrap_or s.byte 0xFF
 
 abbrev pub supplied_at : Lasting → ℕ → ℕ → Supplied
 supplied_at o c k = said (after_byte o c k (reply_byte o c k)) (reply_byte o c k)

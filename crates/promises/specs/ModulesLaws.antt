@@ -1,5 +1,5 @@
 -- THE PROOFS of the page on the module's end of the bus: one inhabitant of each of its records.
-use Rattle.std.specs.Prelude.{◌≡◌, refl, false, List, ℕ, ◌/◌, ◌^◌, ◌≤◌, ◌<◌, length}
+use Rattle.std.specs.Prelude.{◌≡◌, refl, false, List, ℕ, ◌/◌, ◌^◌, ◌≤◌, ◌<◌, length, is_some}
 use Rattle.std.proofs.Common.{sym, ap, subst, ◌∙◌}
 use Rattle.lists.specs.Each.{Each, Bytes}
 use Rattle.wire.specs.declared.address.Address.{Address}
@@ -31,7 +31,7 @@ use Rattle.module.proofs.ResetLaws.{resets, powers_on, powered_silent}
 use Rattle.module.specs.ResumeLaws.{resume_0, resume_10, resume_12, as_recorded}
 use Rattle.module.proofs.StartLaws.{new_packet, read_any, read_over, mute_else, sending, says_general, says_directed, replied_general, replied_directed}
 use Rattle.module.specs.State.{silent_in}
-use Rattle.module.specs.Supply.{drives, supplies}
+use Rattle.module.specs.Supply.{supplies}
 use Rattle.module.proofs.SupplyLaws.{silent_nack, supplied_own}
 use Rattle.exchange.specs.Exchange.{records_of, Fitting}
 use Rattle.exchange.specs.ExchangeLaws.{exchange_same}
@@ -43,7 +43,7 @@ use Rattle.promises.specs.DemandsLaws.{demand_3}
 
 -- ---- one module
 
-silent_mute : (m : Module) → drives (supplies (silent_in m.own)) ≡ false
+silent_mute : (m : Module) → is_some (supplies (silent_in m.own)).byte ≡ false
 unfolding supplies
 silent_mute m = refl
 
