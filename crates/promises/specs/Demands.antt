@@ -35,13 +35,8 @@ use Rattle.promises.specs.Words.{summary, Member, Fits, Breaks, Wrong, AfterStar
 use Rattle.promises.specs.Words.{member, empty_pool, starting_pool, barred_pool, Pool, udid_bytes, In128, Udid, held_at, prepare_trace, reply_trace, assign_trace, new_controller, started, stepped, reported, By, Event, Received, NoStart, run, looked_up, command_number, lookup_number}
 use Rattle.promises.specs.Words.{used, count, not, Completes, BoundSince, LeftSince, binds, unbindings, removals, known_in, handed_out, Removes, Rest, Reported, Left}
 use Rattle.promises.specs.Words.{Asks, Binds, Continues, EndsWith, Replies, protocol_for, message_of, trace_of, Handed, Send, Wait, Nothing, Prepare, GetUdid, Assign, Ended, Abandoned, NotOutstanding, Open, Bound, Claimed, Controller, Stepped}
-<<<<<<< HEAD
-use Rattle.promises.specs.Words.{EvenOrFlag, SameAsEarlier, FixedOnTaken, LengthIsBad, NoneOf, FirstOf, targets_of, movable, left_free, pass, Given, Ending, served, none_free, Distinct, ruled, RecordOf, OnePerUdid, gets_on_bus, history_on_bus, model_number, Leaves, model_end, ModelAnswer, next_free, Next, At, AllUsed, Pick, Picks, latest_of, picks_of, FreeAtEach, Picked, identifier, holding, Shows}
-use Rattle.promises.specs.Words.{Module, silent_in, starts, stops, loses, receives, supplies, powered, refreshed, resumed, resumed_number, AsRecorded, having, heard_all, acked, prepare_order, reset_order, directed_reset, assign_order, get_order, Begins, Reachable, Known, Resets, PowersOn, PecDue, says, after_asking, asked, reply_to}
-=======
 use Rattle.promises.specs.Words.{EvenOrFlag, SameAsEarlier, FixedOnTaken, LengthIsBad, FirstOf, targets_of, movable, left_free, pass, Given, Ending, served, none_free, Distinct, ruled, RecordOf, OnePerUdid, gets_on_bus, history_on_bus, model_number, Leaves, model_end, ModelAnswer, next_free, Next, Pick, Picks, latest_of, picks_of, FreeAtEach, Picked, identifier, holding, Shows, NoneOf}
-use Rattle.promises.specs.Words.{Module, silent_in, starts, stops, loses, receives, supplies, powered, refreshed, resumed, resumed_number, Ready, AsRecorded, having, heard_all, acked, prepare_order, reset_order, directed_reset, assign_order, get_order, Begins, Reachable, Known, Resets, PowersOn, PecDue, says, after_asking, asked, reply_to}
->>>>>>> origin/main
+use Rattle.promises.specs.Words.{Module, silent_in, starts, stops, loses, receives, supplies, powered, refreshed, resumed, resumed_number, AsRecorded, having, heard_all, acked, prepare_order, reset_order, directed_reset, assign_order, get_order, Begins, Reachable, Known, Resets, PowersOn, PecDue, says, after_asking, asked, reply_to}
 use Rattle.promises.specs.Words.{first_half, issuing, declining, steps_over, halves_over, run_by_halves, Step, Choose, Gone, Issue, Decline, Chosen, Reason, ByTwo, Reasons, Waits, with_last}
 use Rattle.promises.specs.Words.{times_g, polynomial, bytes_in, Whole, RightPec, Came, Within, TwoBits, FirstAndLast, how_many, MayDiffer, Changed, sent_from}
 use Rattle.promises.specs.Words.{on_bus, effect, map_targets, Among, beginning_over, run_over, model_bus, exchange, records_of, Fitting, after_bytes, asked_all, run_on, pass_on, gets_on}
