@@ -8,22 +8,12 @@ use super::fields;
 fn is_malformed(records: &[u8], i: usize) -> bool
     ensures { result ≡ is_malformed records.now i }
 {
-    if fields::address_byte(records, i) % 2 == 0 {
-        return true;
-    }
-    fields::flag_of(records, i) > 1
+    fields::address_byte(records, i) % 2 == 0 || fields::flag_of(records, i) > 1
 }
 
-// The first such record below n, or n.
-pub(crate) fn first_malformed(records: &[u8], n: usize) -> usize
+// The first such record below n.
+pub(crate) fn first_malformed(records: &[u8], n: usize) -> Option<usize>
     ensures { result ≡ first (is_malformed records.now) n }
 {
-    let mut i: usize = 0;
-    while i < n {
-        if is_malformed(records, i) {
-            return i;
-        }
-        i += 1;
-    }
-    n
+    (0..n).find(|&i| is_malformed(records, i))
 }
