@@ -1,5 +1,5 @@
 -- Every command of a pass is the state's own and reaches somebody, and so the code's run over the records is the pass bit by bit.
-use Rattle.std.specs.Prelude.{ℕ, suc, ◌*◌, ◌/◌, ◌<◌, ◌≡◌, refl, Bool, true, false, Option, Some, None, List, [], ◌∷◌, leb, length, drop, Ok}
+use Rattle.std.specs.Prelude.{ℕ, suc, ◌*◌, ◌/◌, ◌<◌, ◌≡◌, refl, Bool, true, false, Option, Some, None, List, [], ◌∷◌, leb, length, drop, Ok, Err}
 use Rattle.std.proofs.Common.{sym, ap, ◌∙◌, subst, arith}
 use Rattle.lists.specs.Choice.{pick}
 use Rattle.lists.specs.ChoiceLaws.{false_not_true}
@@ -10,8 +10,7 @@ use Rattle.pool.specs.Start.{barred_pool}
 use Rattle.pool.specs.declared.Pool.{Pool}
 use Rattle.pool.specs.declared.free.Free.{Free}
 use Rattle.pool.specs.declared.free.Free.TheVariants.{At, AllUsed}
-use Rattle.scan.specs.declared.answer.Decoded.{Decoded}
-use Rattle.scan.specs.declared.answer.Decoded.TheVariants.{Done, Refused}
+use Rattle.scan.specs.Decoded.{Decoded}
 use Rattle.udid.specs.declared.Udid.{Udid}
 use Rattle.targets.specs.AdmissionLaws.{admitted_length}
 use Rattle.targets.specs.Records.{target_at, targets_of, records_with}
@@ -70,12 +69,12 @@ fine_issued c t picks AllUsed ts m h = (refl, tt)
 
 -- whatever an Assign is told: a Get UDID is due
 fine_assigned : (c : Controller) (u : Udid) (a : Address) (d : Decoded) (sent : List ℕ) (ts : List Target) → 0 < length ts → Fine (changed c (told_assign u a d sent)) ts
-fine_assigned c u a (Done t) sent ts h = go (is_assign u a.0 t sent)
+fine_assigned c u a (Ok t) sent ts h = go (is_assign u a.0 t sent)
   where
     go : (b : Bool) → Fine (changed c (pick b (Took u a) Again)) ts
     go true = fine_asked (bound c u a.0) ts h
     go false = fine_asked c ts h
-fine_assigned c u a (Refused w k) sent ts h = fine_asked c ts h
+fine_assigned c u a (Err e) sent ts h = fine_asked c ts h
 
 -- Prepare To ARP
 fine_prepare : (c : Controller) (ts : List Target) → c.last ≡ Send Prepare → Fine (stepped c (on_bus (Send Prepare) ts)) (acted (Send Prepare) ts)

@@ -25,8 +25,7 @@ use Rattle.encode.specs.declared.Encoded.TheVariants.{Written, Forbidden, Output
 use Rattle.scan.specs.Answers.{summary}
 use Rattle.scan.proofs.AnswersLaws.{one_message}
 use Rattle.scan.specs.Numbers.{decode_number}
-use Rattle.scan.specs.declared.answer.Decoded.{Decoded}
-use Rattle.scan.specs.declared.answer.Decoded.TheVariants.{Done}
+use Rattle.scan.specs.Decoded.{Decoded}
 use Rattle.scan.specs.declared.answer.Refusal.TheVariants.{NoSymbol, EndsEarly, Unexpected, NotAcknowledged, PecDiffers, AfterStop, WrongAck, WrongAddress, WrongCount}
 use Rattle.decode.specs.NumberLaws as decode
 use Rattle.decode.specs.Outcome.{Outcome}
@@ -240,7 +239,7 @@ demand_2 protocol pec = record { there = there; back = back; one = one }
   where
     there : (m : Message) (before : List ℕ) (r : Encoded) (after : List ℕ) → OfBytes m → Wrote protocol pec m before r after → (n : ℕ) → encode_number r ≡ (0, n)
         → (sent₀ received₀ : List ℕ) (a : Decoded) (sent received : List ℕ) → 255 ≤ length sent₀ → 255 ≤ length received₀ → Outcome protocol pec (take n after) sent₀ received₀ a sent received
-        → (a ≡ Done (summary protocol m)) × (sent ≡ m.sent ++ drop (length m.sent) sent₀) × (received ≡ m.received ++ drop (length m.received) received₀)
+        → (a ≡ Ok (summary protocol m)) × (sent ≡ m.sent ++ drop (length m.sent) sent₀) × (received ≡ m.received ++ drop (length m.received) received₀)
     there m before r after (c, s, v) w n e sent₀ received₀ a sent received hs hr o =
         let k = (encode.encode_0 protocol pec m c s v before r after w n).0 e in
         let x = k.0 in
@@ -250,7 +249,7 @@ demand_2 protocol pec = record { there = there; back = back; one = one }
         (known_to_last protocol (listed_trace protocol pec m x t).0, λ z. quick_plain pec _ t.0 t.1 (t.2 ∙ z), hs, hr) m (subst (TraceOf protocol pec m) (sym f) t)
 
     back : (tr sent₀ received₀ : List ℕ) (a : Decoded) (sent received : List ℕ) → Outcome protocol pec tr sent₀ received₀ a sent received → decode_number a ≡ (0, 0)
-        → (m : Message) × OfBytes m × (a ≡ Done (summary protocol m)) × ((before : List ℕ) (r : Encoded) (after : List ℕ) → length tr ≤ length before
+        → (m : Message) × OfBytes m × (a ≡ Ok (summary protocol m)) × ((before : List ℕ) (r : Encoded) (after : List ℕ) → length tr ≤ length before
         → Wrote protocol pec m before r after → (encode_number r ≡ (0, length tr)) × (take (length tr) after ≡ tr))
     back tr sent₀ received₀ a sent received o e =
         let k = (decode.decode_0 protocol pec tr sent₀ received₀ a sent received o).0 e in

@@ -15,9 +15,8 @@ pub use Rattle.scan.specs.Answers.{summary}
 pub use Rattle.misfit.specs.Cases.{IsSwapped, IsMisaddressed, IsMiscounted, IsOther}
 pub use Rattle.scan.specs.Because.{AfterStart}
 pub use Rattle.scan.specs.Fitting.{Member, Fits, Breaks, CutAt, OtherPec, FitsNext, ToHost, Wrong, BitSwapped, CountTooHigh}
+pub use Rattle.scan.specs.Decoded.{Decoded}
 pub use Rattle.scan.specs.Numbers.{decode_number}
-pub use Rattle.scan.specs.declared.answer.Decoded.{Decoded}
-pub use Rattle.scan.specs.declared.answer.Decoded.TheVariants.{Done}
 pub use Rattle.decode.specs.Outcome.{Entered, Outcome}
 -- what the PEC catches
 pub use Rattle.pec.specs.PecDivision.{times_g, polynomial}
