@@ -3,14 +3,14 @@ ghost use Rattle.std.specs.Prelude.{◌≡◌};
 ghost use Rattle.targets.specs.First.{first};
 ghost use Rattle.targets.specs.Refusals.{is_repeated};
 
-use super::fields;
+use super::fields::Record;
 
 // Record i has the identifier of an earlier one.
 fn is_repeated(records: &[u8], i: usize) -> bool
     ensures { result ≡ is_repeated records.now i }
 {
-    let u = fields::udid_of(records, i);
-    (0..i).any(|j| fields::is_of(records, j, u))
+    let u = Record { records, i }.udid();
+    (0..i).any(|j| Record { records, i: j }.is_of(u))
 }
 
 // The first such record below n.

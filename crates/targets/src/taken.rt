@@ -3,14 +3,15 @@ ghost use Rattle.std.specs.Prelude.{◌≡◌};
 ghost use Rattle.targets.specs.First.{first, some};
 ghost use Rattle.targets.specs.Refusals.{is_fixed_as, is_taken};
 
-use super::fields;
+use super::fields::Record;
 use pool::Pool;
 
 // Record j is fixed, at the address of record i.
 fn is_fixed_as(records: &[u8], i: usize, j: usize) -> bool
     ensures { result ≡ is_fixed_as records.now i j }
 {
-    fields::address_of(records, j).0 == fields::address_of(records, i).0 && fields::udid_of(records, j).is_fixed()
+    let earlier = Record { records, i: j };
+    earlier.address().0 == Record { records, i }.address().0 && earlier.udid().is_fixed()
 }
 
 // An earlier record is.
@@ -23,7 +24,8 @@ fn is_earlier_fixed(records: &[u8], i: usize) -> bool
 fn is_taken(records: &[u8], i: usize, barred: Pool) -> bool
     ensures { result ≡ is_taken barred records.now i }
 {
-    fields::udid_of(records, i).is_fixed() && (barred.has(fields::address_of(records, i)) || is_earlier_fixed(records, i))
+    let r = Record { records, i };
+    r.udid().is_fixed() && (barred.has(r.address()) || is_earlier_fixed(records, i))
 }
 
 // The first such record below n.

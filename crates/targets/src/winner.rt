@@ -5,6 +5,7 @@ ghost use Rattle.targets.specs.Winner.{is_better, least_of, winner_of};
 ghost use Rattle.targets.specs.Search.{place_of, Holds};
 
 use super::fields;
+use super::fields::Record;
 use arbitration::win;
 use udid::Udid;
 
@@ -20,11 +21,12 @@ fn is_better(records: &[u8], i: usize, best: Option<Best>) -> bool
     requires { Holds records.now best }
     ensures { result ≡ is_better records.now i (place_of best) }
 {
-    if fields::flag_of(records, i) == 1 {
+    let r = Record { records, i };
+    if r.flag() == 1 {
         return false;
     }
     let Some(held) = best else { return true };
-    fields::high_of(records, i) <= held.udid.high && win::beats(fields::udid_of(records, i), held.udid)
+    r.high() <= held.udid.high && win::beats(r.udid(), held.udid)
 }
 
 // The best of the first n records.
@@ -34,7 +36,7 @@ fn least(records: &[u8], n: usize) -> Option<Best>
     let mut best = None;
     for i in 0..n {
         if is_better(records, i, best) {
-            let udid = fields::udid_of(records, i);
+            let udid = Record { records, i }.udid();
             best = Some(Best { place: i, udid });
         }
     }

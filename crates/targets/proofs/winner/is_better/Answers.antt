@@ -31,19 +31,19 @@ above a b c d h l = omega arith
 not_below : (u v : Udid) → v.low < 2 ^ 64 → v.high < u.high → is_below u v ≡ false
 not_below u v h l = le-ltb (value u) (value v) (above u.high u.low v.high v.low h l)
 
-pub returns-then-flag_of-eq1 : goal.returns-then-flag_of-eq1
-returns-then-flag_of-eq1 c = resolved _ _ _ (sym c.flag_of.ensures ∙ c.if-flag_of-eq1.true)
+pub returns-then-flag-eq1 : goal.returns-then-flag-eq1
+returns-then-flag-eq1 c = resolved _ _ _ (sym c.flag.ensures ∙ c.if-flag-eq1.true)
 
 pub returns-in_default : goal.returns-in_default
-returns-in_default c = first_one c.args.records.now c.args.i c.args.best (λ q. c.if-flag_of-eq1.false (c.flag_of.ensures ∙ q)) c.in_default.is
+returns-in_default c = first_one c.args.records.now c.args.i c.args.best (λ q. c.if-flag-eq1.false (c.flag.ensures ∙ q)) c.in_default.is
 
-pub returns-then-high_of-held : goal.returns-then-high_of-held
-returns-then-high_of-held c =
-    c.beats.ensures ∙ ap (λ (u : Udid). is_below u c.in-Some.held.udid) c.udid_of.ensures
-    ∙ against c.args.records.now c.args.i c.args.best c.in-Some.held (λ q. c.if-flag_of-eq1.false (c.flag_of.ensures ∙ q)) c.in-Some.is c.requires
+pub returns-then-high-held : goal.returns-then-high-held
+returns-then-high-held c =
+    c.beats.ensures ∙ ap (λ (u : Udid). is_below u c.in-Some.held.udid) c.udid.ensures
+    ∙ against c.args.records.now c.args.i c.args.best c.in-Some.held (λ q. c.if-flag-eq1.false (c.flag.ensures ∙ q)) c.in-Some.is c.requires
 
-pub returns-else-high_of-held : goal.returns-else-high_of-held
-returns-else-high_of-held c =
-    let l : c.in-Some.held.udid.high < (udid_of c.args.records.now c.args.i).high = rw (← c.high_of.ensures) c.if-high_of-held.false in
-    lt-leb _ _ c.if-high_of-held.false ∙ sym (not_below (udid_of c.args.records.now c.args.i) c.in-Some.held.udid (search rules) l)
-    ∙ against c.args.records.now c.args.i c.args.best c.in-Some.held (λ q. c.if-flag_of-eq1.false (c.flag_of.ensures ∙ q)) c.in-Some.is c.requires
+pub returns-else-high-held : goal.returns-else-high-held
+returns-else-high-held c =
+    let l : c.in-Some.held.udid.high < (udid_of c.args.records.now c.args.i).high = rw (← c.high.ensures) c.if-high-held.false in
+    lt-leb _ _ c.if-high-held.false ∙ sym (not_below (udid_of c.args.records.now c.args.i) c.in-Some.held.udid (search rules) l)
+    ∙ against c.args.records.now c.args.i c.args.best c.in-Some.held (λ q. c.if-flag-eq1.false (c.flag.ensures ∙ q)) c.in-Some.is c.requires

@@ -28,6 +28,6 @@ loop-i-init c = (refl, tt)
 
 pub loop-i-preserved : goal.loop-i-preserved
 loop-i-preserved c = elim c.if-is_better.branch [
-  then-is_better w ↦ taken c.args.records.now c.loop-i.i c.loop-i.best _ _ c.loop-i.invariant (sym c.is_better.ensures ∙ w.if-is_better.true) w.udid_of-udid.ensures w.best-is
+  | then-is_better w ↦ taken c.args.records.now c.loop-i.i c.loop-i.best _ _ c.loop-i.invariant (sym c.is_better.ensures ∙ w.if-is_better.true) w.udid-udid.ensures w.best-is
   | else-is_better w ↦ passed c.args.records.now c.loop-i.i c.loop-i.best _ c.loop-i.invariant (sym c.is_better.ensures ∙ w.if-is_better.false) w.best-is
 ]
