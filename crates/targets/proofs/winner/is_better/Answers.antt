@@ -44,6 +44,7 @@ returns-then-high-held c =
 
 pub returns-else-high-held : goal.returns-else-high-held
 returns-else-high-held c =
+    let a = c.args in
     let l : c.in-Some.held.udid.high < (udid_of c.args.records.now c.args.i).high = rw (← c.high.ensures) c.if-high-held.false in
     lt-leb _ _ c.if-high-held.false ∙ sym (not_below (udid_of c.args.records.now c.args.i) c.in-Some.held.udid (search rules) l)
-    ∙ against c.args.records.now c.args.i c.args.best c.in-Some.held (λ q. c.if-flag-eq1.false (c.flag.ensures ∙ q)) c.in-Some.is c.requires
+    ∙ against a.records.now a.i a.best c.in-Some.held (λ q. c.if-flag-eq1.false (c.flag.ensures ∙ q)) c.in-Some.is c.requires
