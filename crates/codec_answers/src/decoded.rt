@@ -66,7 +66,7 @@ pub fn put_decoded(page: &mut Page, d: Decoded, sent: &[u8], received: &[u8])
     ensures { page.new ≡ with_text page.old (decoded_text d sent.now received.now) }
 {
     match d {
-        Decoded::Done(t) => put_transaction(page, t, sent, received),
-        Decoded::Refused(w, place) => put_refused(page, w, place),
+        Ok(t) => put_transaction(page, t, sent, received),
+        Err(e) => put_refused(page, e.why, e.place),
     }
 }

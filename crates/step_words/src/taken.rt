@@ -15,8 +15,8 @@ fn put_because(page: &mut Page, label: &[u8], d: Decoded)
 {
     page.put(label);
     match d {
-        Decoded::Done(_) => page.put(b"another transaction"),
-        Decoded::Refused(w, place) => put_refusal(page, w, place),
+        Ok(_) => page.put(b"another transaction"),
+        Err(e) => put_refusal(page, e.why, e.place),
     }
 }
 
@@ -25,10 +25,10 @@ fn put_left(page: &mut Page, d: Decoded)
     ensures { page.new ≡ with_text page.old (left_text d) }
 {
     match d {
-        Decoded::Done(t) => put_number(page, b"nobody is left: a count of ", t.received as u64),
-        Decoded::Refused(w, place) => {
+        Ok(t) => put_number(page, b"nobody is left: a count of ", t.received as u64),
+        Err(e) => {
             page.put(b"nobody is left: ");
-            put_refusal(page, w, place);
+            put_refusal(page, e.why, e.place);
         }
     }
 }
