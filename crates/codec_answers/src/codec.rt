@@ -3,7 +3,7 @@ ghost use Rattle.std.specs.Prelude.{◌≡◌, ◌++◌};
 ghost use Rattle.writing.specs.Pages.{with_text};
 ghost use Rattle.codec_answers.specs.CodecLines.{pec_text, trace_text, encoded_text};
 
-use encode::Encoded;
+use encode::EncodeError;
 use pieces::list::{put_symbols, symbols_part};
 use pieces::piece::{hex_line, put_line};
 use writing::page::Page;
@@ -25,12 +25,12 @@ fn put_trace(page: &mut Page, s: &[u16])
 }
 
 // What the encoder answered: the trace that stands at the front of a buffer, or the number of a refusal.
-pub fn put_encoded(page: &mut Page, e: Encoded, trace: &[u16])
+pub fn put_encoded(page: &mut Page, e: Result<usize, EncodeError>, trace: &[u16])
     ensures { page.new ≡ with_text page.old (encoded_text e trace.now) }
 {
     match e {
-        Encoded::Written(n) => put_trace(page, symbols_part(trace, 0, n)),
-        Encoded::Forbidden => put_line(page, b"1"),
-        Encoded::OutputTooShort => put_line(page, b"2"),
+        Ok(n) => put_trace(page, symbols_part(trace, 0, n)),
+        Err(EncodeError::Forbidden) => put_line(page, b"1"),
+        Err(EncodeError::OutputTooShort) => put_line(page, b"2"),
     }
 }

@@ -1,7 +1,6 @@
 // The requests of a module at its own end of the bus: module, and m with what happens to it.
 use crate::shelf::Shelf;
 use codec_answers::unclear::put_unclear;
-use module::resume::Resumed;
 use module::state::Module;
 use module_answers::heard::put_heard;
 use module_answers::line::{put_lost, put_made, put_start, put_state, put_stop, put_supplied};
@@ -14,11 +13,11 @@ use writing::page::Page;
 // A module in place of any other. There is one of whatever record a line asks for (module_answers, asked_is_ready).
 pub(crate) fn resume(page: &mut Page, shelf: &mut Shelf, t: Record, fresh: u32) {
     match Module::of_record(t.udid, WireByte(t.byte), t.flag, fresh) {
-        Resumed::Ready(m) => {
+        Ok(m) => {
             shelf.plugged = Some(m);
             put_made(page);
         }
-        Resumed::Malformed | Resumed::NoHome => put_unclear(page, Expected::OddByte, 0),
+        Err(_) => put_unclear(page, Expected::OddByte, 0),
     }
 }
 

@@ -4,7 +4,7 @@ ghost use Rattle.writing.specs.Pages.{with_text};
 ghost use Rattle.letters.specs.Letters.{trace_letters, encoded_letters};
 
 use crate::letter::put_letters;
-use encode::Encoded;
+use encode::EncodeError;
 use pieces::list::symbols_part;
 use pieces::piece::put_line;
 use writing::page::Page;
@@ -19,12 +19,12 @@ fn put_trace(page: &mut Page, s: &[u16])
 }
 
 // What the encoder answered: the trace that stands at the front of a buffer, or the number of a refusal.
-pub fn put_encoded_letters(page: &mut Page, e: Encoded, trace: &[u16])
+pub fn put_encoded_letters(page: &mut Page, e: Result<usize, EncodeError>, trace: &[u16])
     ensures { page.new ≡ with_text page.old (encoded_letters e trace.now) }
 {
     match e {
-        Encoded::Written(n) => put_trace(page, symbols_part(trace, 0, n)),
-        Encoded::Forbidden => put_line(page, b"1"),
-        Encoded::OutputTooShort => put_line(page, b"2"),
+        Ok(n) => put_trace(page, symbols_part(trace, 0, n)),
+        Err(EncodeError::Forbidden) => put_line(page, b"1"),
+        Err(EncodeError::OutputTooShort) => put_line(page, b"2"),
     }
 }

@@ -40,10 +40,9 @@ pub fn put_stop(page: &mut Page)
 pub fn put_supplied(page: &mut Page, s: Supplied)
     ensures { page.new ≡ with_text page.old (supplied_text s) }
 {
-    if s.drives {
-        hex_line(page, b"0 byte 0x", s.byte);
-    } else {
-        put_line(page, b"0 released");
+    match s.byte {
+        Some(byte) => hex_line(page, b"0 byte 0x", byte),
+        None => put_line(page, b"0 released"),
     }
 }
 
