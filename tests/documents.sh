@@ -19,8 +19,8 @@ set -eu
 cd "$(dirname "$0")/.."
 out=build/documents
 console=${HB_CONSOLE:-crates/headboarded/out/headboarded}
-# docs/PORT.md stands apart: it has the names that were, beside those that are.
-documents="README.md $(ls docs/*.md | grep -v '^docs/PORT\.md$' | tr '\n' ' ')tests/README.md bench/RESULTS.md"
+# docs/PORT.md and docs/DESIGN-PASS.md stand apart: they have the names that were, beside those that are.
+documents="README.md $(ls docs/*.md | grep -vE '^docs/(PORT|DESIGN-PASS)\.md$' | tr '\n' ' ')tests/README.md bench/RESULTS.md"
 rm -rf "$out"
 mkdir -p "$out"
 failed=0
