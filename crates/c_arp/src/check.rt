@@ -3,9 +3,9 @@ ghost use Rattle.std.specs.Prelude.{◌≡◌};
 ghost use Rattle.pool.specs.Start.{barred_pool};
 ghost use Rattle.targets.specs.Refusals.{checked_list};
 ghost use Rattle.c_arp.specs.Parts.{pool_in};
-ghost use Rattle.c_arp.specs.Check.{checked_of, told_checked};
+ghost use Rattle.c_arp.specs.Check.{told_checked};
 
-use crate::parts::{HbPool, pool_in};
+use crate::parts::HbPool;
 use targets::admit;
 use targets::admit::Checked;
 
@@ -17,21 +17,18 @@ pub struct HbChecked {
     pub place: usize,
 }
 
-fn checked(answer: u32, place: usize) -> HbChecked
-    ensures { result ≡ checked_of answer place }
-{
-    HbChecked { answer, place }
-}
+impl From<Checked> for HbChecked {
+    ghost from_gives = { λ c h. h ≡ told_checked c };
 
-fn told_checked(c: Checked) -> HbChecked
-    ensures { result ≡ told_checked c }
-{
-    match c {
-        Checked::Admitted => checked(0, 0),
-        Checked::BadLength => checked(9, 0),
-        Checked::Malformed(i) => checked(10, i),
-        Checked::Repeated(i) => checked(11, i),
-        Checked::Taken(i) => checked(12, i),
+    fn from(c: Checked) -> HbChecked {
+        let (answer, place) = match c {
+            Checked::Admitted => (0, 0),
+            Checked::BadLength => (9, 0),
+            Checked::Malformed(i) => (10, i),
+            Checked::Repeated(i) => (11, i),
+            Checked::Taken(i) => (12, i),
+        };
+        HbChecked { answer, place }
     }
 }
 
@@ -39,5 +36,5 @@ fn told_checked(c: Checked) -> HbChecked
 pub fn check_targets(occupied: HbPool, records: &[u8]) -> HbChecked
     ensures { result ≡ told_checked (checked_list (barred_pool (pool_in occupied)) records.now) }
 {
-    told_checked(admit::check(records, pool_in(occupied)))
+    admit::check(records, occupied.into()).into()
 }
