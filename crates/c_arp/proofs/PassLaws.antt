@@ -1,5 +1,4 @@
--- A pass over a list: the size of an entry at a place, a report, an entry as a part of the list, a turn of the loop, and a step or its first
--- half on the front of a long trace.
+-- A pass over a list: an entry as the code reads it, a report, a turn of the loop, and a step or its first half on the front of a long trace.
 use Prim.Native.Nat.{ℕ, zero, suc, ◌+◌, ◌*◌, ◌-◌, ◌/◌, ◌≤◌, ◌<◌}
 use mathlib.Core.Path.{◌≡◌, refl, sym, ap, ap₂, ◌∙◌}
 use mathlib.Core.Bool.{Bool, true, false}
