@@ -7,7 +7,7 @@ ghost use Rattle.c_arp.specs.Check.{told_checked};
 
 use crate::parts::HbPool;
 use targets::admit;
-use targets::admit::Checked;
+use targets::admit::ListError;
 
 // The scope's number, 0 for a list that is not refused, and the record that is.
 #[repr(C)]
@@ -17,18 +17,20 @@ pub struct HbChecked {
     pub place: usize,
 }
 
-impl From<Checked> for HbChecked {
+impl From<Result<(), ListError>> for HbChecked {
     ghost from_gives = { λ c h. h ≡ told_checked c };
 
-    fn from(c: Checked) -> HbChecked {
-        let (answer, place) = match c {
-            Checked::Admitted => (0, 0),
-            Checked::BadLength => (9, 0),
-            Checked::Malformed(i) => (10, i),
-            Checked::Repeated(i) => (11, i),
-            Checked::Taken(i) => (12, i),
-        };
-        HbChecked { answer, place }
+    fn from(c: Result<(), ListError>) -> HbChecked {
+        match c {
+            Ok(()) => HbChecked {
+                answer: 0,
+                place: 0,
+            },
+            Err(e) => HbChecked {
+                answer: e.number(),
+                place: e.place(),
+            },
+        }
     }
 }
 

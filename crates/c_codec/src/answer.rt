@@ -34,7 +34,7 @@ impl From<Decoded> for HbDecoded {
 
     fn from(a: Decoded) -> HbDecoded {
         match a {
-            Decoded::Done(t) => HbDecoded {
+            Ok(t) => HbDecoded {
                 address: u32::from(t.address.0),
                 direction: u32::from(t.direction),
                 command: u32::from(t.command),
@@ -42,9 +42,9 @@ impl From<Decoded> for HbDecoded {
                 received: t.received,
                 ..NOTHING
             },
-            Decoded::Refused(w, place) => HbDecoded {
-                answer: u32::from(refusal_number(w)),
-                value: place,
+            Err(e) => HbDecoded {
+                answer: u32::from(refusal_number(e.why)),
+                value: e.place,
                 ..NOTHING
             },
         }

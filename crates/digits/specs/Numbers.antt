@@ -1,12 +1,8 @@
 -- Numbers: what a word of digits says.
-use Rattle.std.specs.Prelude.{ℕ, ◌+◌, ◌-◌, ◌*◌, Bool, true, List, [], ◌∷◌, eqb, leb, ltb, length, take, drop, get_or}
+use Rattle.std.specs.Prelude.{ℕ, ◌+◌, ◌-◌, ◌*◌, Bool, true, List, [], ◌∷◌, eqb, leb, ltb, length, take, drop, get_or, Option, Some, None, Result, Ok, Err}
 use Rattle.lists.specs.Choice.{pick, and}
-use Rattle.digits.specs.declared.number.Number.{Number}
-use Rattle.digits.specs.declared.number.Number.TheVariants.{Is, NoNumber, TooLarge}
-use Rattle.digits.specs.declared.number.Halves.{Halves}
-use Rattle.digits.specs.declared.number.Halves.TheVariants.{Are, NoHalves}
-use Rattle.digits.specs.declared.number.Quarter.{Quarter}
-use Rattle.digits.specs.declared.number.Quarter.TheVariants.{Value, NoQuarter}
+use Rattle.digits.specs.declared.number.NumberError.{NumberError}
+use Rattle.digits.specs.declared.number.NumberError.TheVariants.{NoNumber, TooLarge}
 
 -- a character from one to another
 abbrev pub from_to : ℕ → ℕ → ℕ → Bool
@@ -16,8 +12,12 @@ from_to a b c = and (leb a c) (leb c b)
 unfoldable pub digit_of : ℕ → ℕ
 digit_of c = pick (from_to 48 57 c) (c - 48) (pick (from_to 65 70 c) (c - 55) (pick (from_to 97 102 c) (c - 87) 16))
 
-abbrev pub base_of : Bool → ℕ
-base_of hex = pick hex 16 10
+-- a digit in the base has a value, and no other character
+abbrev pub digit_in : ℕ → ℕ → Option ℕ
+digit_in base c = pick (ltb (digit_of c) base) (Some (digit_of c)) None
+
+abbrev pub digit_said : ℕ → Option ℕ
+digit_said c = digit_in 16 c
 
 -- every character is a digit in the base
 unfoldable pub are_digits : ℕ → List ℕ → Bool
@@ -37,28 +37,32 @@ abbrev pub capped : ℕ → ℕ
 capped n = pick (ltb n 65536) n 65536
 
 -- the number that digits say: at least one, all of them digits, and at most 65,535
-unfoldable pub digits_of : ℕ → List ℕ → Number
-digits_of base [] = NoNumber
+unfoldable pub digits_of : ℕ → List ℕ → Result ℕ NumberError
+digits_of base [] = Err NoNumber
 digits_of base (c ∷ cs) =
-    pick (are_digits base (c ∷ cs)) (pick (ltb (value_of base (c ∷ cs)) 65536) (Is (value_of base (c ∷ cs))) TooLarge) NoNumber
+    pick (are_digits base (c ∷ cs)) (pick (ltb (value_of base (c ∷ cs)) 65536) (Ok (value_of base (c ∷ cs))) (Err TooLarge)) (Err NoNumber)
 
 -- `0x` at the front
 unfoldable pub is_hex : List ℕ → Bool
 is_hex s = and (leb 2 (length s)) (and (eqb (get_or s 0 0) 48) (eqb (get_or s 1 0) 120))
 
 -- the number that a word says
-unfoldable pub number_of : List ℕ → Number
+unfoldable pub number_of : List ℕ → Result ℕ NumberError
 number_of s = pick (is_hex s) (digits_of 16 (drop 2 s)) (digits_of 10 s)
 
 -- the number that a word says whose digits are hexadecimal, with `0x` before them or without
-unfoldable pub hex_of : List ℕ → Number
+unfoldable pub hex_of : List ℕ → Result ℕ NumberError
 hex_of s = pick (is_hex s) (digits_of 16 (drop 2 s)) (digits_of 16 s)
 
+-- the value of hexadecimal digits, all of them digits
+abbrev pub hex_said : List ℕ → Option ℕ
+hex_said s = pick (are_digits 16 s) (Some (value_of 16 s)) None
+
 -- the two halves that 32 hexadecimal digits say
-unfoldable pub halves_of : List ℕ → Halves
+unfoldable pub halves_of : List ℕ → Option (ℕ × ℕ)
 halves_of s =
-    pick (and (eqb (length s) 32) (are_digits 16 s)) (Are (value_of 16 (take 16 s)) (value_of 16 (take 16 (drop 16 s)))) NoHalves
+    pick (and (eqb (length s) 32) (are_digits 16 s)) (Some (value_of 16 (take 16 s), value_of 16 (take 16 (drop 16 s)))) None
 
 -- the number that 8 hexadecimal digits say
-unfoldable pub quarter_of : List ℕ → Quarter
-quarter_of s = pick (and (eqb (length s) 8) (are_digits 16 s)) (Value (value_of 16 (take 8 s))) NoQuarter
+unfoldable pub quarter_of : List ℕ → Option ℕ
+quarter_of s = pick (and (eqb (length s) 8) (are_digits 16 s)) (Some (value_of 16 (take 8 s))) None

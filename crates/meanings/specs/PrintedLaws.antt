@@ -1,7 +1,7 @@
 -- The number that is read from an answer is the one that was printed: decimal digits, and a blank or a line feed after them. A line that
 -- begins with `?` begins with none.
 use Prim.Native.Nat.{ℕ, zero, suc, ◌+◌, ◌-◌, ◌/◌, ◌%◌, ◌≤◌, ◌<◌, zero-le}
-use Rattle.std.specs.Prelude.{◌≡◌, Bool, false, ltb, leb, eqb}
+use Rattle.std.specs.Prelude.{◌≡◌, Err, Bool, false, ltb, leb, eqb}
 use Rattle.std.proofs.Math.Path.{refl, sym, ap}
 use Rattle.std.proofs.Common.{◌∙◌, arith, lt-ltb, ltb-true, ltb-false, eqb-true}
 use Rattle.std.proofs.Math.Bool.{true}
@@ -17,7 +17,7 @@ use Rattle.writing.specs.WrittenLaws.{decimal_digit, decimal_more}
 use Rattle.digits.specs.Numbers.{digit_of, are_digits, value_of, is_hex, number_of}
 use Rattle.digits.specs.NumberLaws.{number_decimal, digits_say_number, other_characters_no_number}
 use Rattle.digits.specs.BackLaws.{glyph_back, decimal_back}
-use Rattle.digits.specs.declared.number.Number.TheVariants.{NoNumber}
+use Rattle.digits.specs.declared.number.NumberError.TheVariants.{NoNumber}
 use Rattle.meanings.specs.Meanings.{has_words}
 use Rattle.meanings.specs.MeaningLaws.{none_below}
 use Rattle.meanings.specs.Worded.{first_line, or_zero, number_in, number, worded}
@@ -160,7 +160,7 @@ module _ (n : ℕ) (fits : n < 65536) (xs : List ℕ) where
 
 -- ---- a line that begins with `?`
 
-no_number : (w : List ℕ) → number_of (63 ∷ w) ≡ NoNumber
+no_number : (w : List ℕ) → number_of (63 ∷ w) ≡ Err NoNumber
 unfolding is_hex are_digits digit_of
 no_number w =
     number_decimal (63 ∷ w) (and_none (leb 2 (suc (length w)))) ∙ other_characters_no_number 10 (63 ∷ w) refl

@@ -1,9 +1,9 @@
 -- An answer with words: the words of its number stand at the end of its first line.
-use Rattle.std.specs.Prelude.{ℕ, List, ◌++◌, take, drop}
+use Rattle.std.specs.Prelude.{ℕ, List, ◌++◌, take, drop, Result}
+use Rattle.std.specs.Result.{result_unwrap_or}
 use Rattle.text.specs.Words.{feed, before, word_from, part_of}
 use Rattle.digits.specs.Numbers.{number_of}
-use Rattle.digits.specs.declared.number.Number.{Number}
-use Rattle.digits.specs.declared.number.Number.TheVariants.{Is, NoNumber, TooLarge}
+use Rattle.digits.specs.declared.number.NumberError.{NumberError}
 use Rattle.meanings.specs.Meanings.{noted}
 
 -- what stands before the first line feed, and the rest, with that line feed
@@ -14,10 +14,8 @@ unfoldable pub rest : List ℕ → List ℕ
 rest answer = drop (before feed answer) answer
 
 -- a number, or 0 for a word that says none
-abbrev pub or_zero : Number → ℕ
-or_zero (Is n) = n
-or_zero NoNumber = 0
-or_zero TooLarge = 0
+abbrev pub or_zero : Result ℕ NumberError → ℕ
+or_zero r = result_unwrap_or r 0
 
 -- the number that the first word of a line says
 unfoldable pub number_in : List ℕ → ℕ

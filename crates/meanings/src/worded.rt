@@ -4,7 +4,7 @@ ghost use Rattle.writing.specs.Written.{Appended};
 ghost use Rattle.meanings.specs.Worded.{first_line, rest, number_in, number, headed, worded};
 
 use crate::meaning::put_noted;
-use digits::number::{Number, read_number};
+use digits::number::read_number;
 use text::word::{line_end, next_word, part};
 use writing::write::put;
 
@@ -27,12 +27,7 @@ fn number_in(line: &[u8]) -> u64
     ensures { result ≡ number_in line.now }
 {
     let w = next_word(line, 0);
-    let n = read_number(part(line, w.from, w.to));
-    match n {
-        Number::Is(v) => v,
-        Number::NoNumber => 0,
-        Number::TooLarge => 0,
-    }
+    read_number(part(line, w.from, w.to)).unwrap_or(0)
 }
 
 // The number that an answer begins with, or 0 where it begins with none.

@@ -1,13 +1,8 @@
 -- What the next word of a line says, where one thing or another is due.
-use Rattle.std.specs.Prelude.{ℕ, List, ltb, length}
+use Rattle.std.specs.Prelude.{ℕ, List, ltb, length, Option, Some, None, Result, Ok, Err}
 use Rattle.lists.specs.Choice.{pick}
 use Rattle.text.specs.declared.word.LineWord.{LineWord}
-use Rattle.digits.specs.declared.number.Number.{Number}
-use Rattle.digits.specs.declared.number.Number.TheVariants.{Is, NoNumber, TooLarge}
-use Rattle.digits.specs.declared.number.Halves.{Halves}
-use Rattle.digits.specs.declared.number.Halves.TheVariants.{Are, NoHalves}
-use Rattle.digits.specs.declared.number.Quarter.{Quarter}
-use Rattle.digits.specs.declared.number.Quarter.TheVariants.{Value, NoQuarter}
+use Rattle.digits.specs.declared.number.NumberError.{NumberError}
 use Rattle.text.specs.Chars.{chars}
 use Rattle.text.specs.Words.{word_from, part_of, same_text}
 use Rattle.digits.specs.Numbers.{number_of, halves_of, quarter_of}
@@ -32,35 +27,33 @@ abbrev pub word_in : List ℕ → LineWord → List ℕ
 word_in line w = part_of line w.from w.to
 
 -- a byte: a number below 256
-abbrev pub byte_said : LineWord → Number → ByteWord
-byte_said w (Is n) = pick (ltb n 256) (Byte n w.to) (NoByte w.from)
-byte_said w NoNumber = NoByte w.from
-byte_said w TooLarge = NoByte w.from
+abbrev pub byte_said : LineWord → Result ℕ NumberError → ByteWord
+byte_said w (Ok n) = pick (ltb n 256) (Byte n w.to) (NoByte w.from)
+byte_said w (Err e) = NoByte w.from
 
 unfoldable pub byte_at : List ℕ → ℕ → ByteWord
 byte_at line at = byte_said (word_from line at) (number_of (word_in line (word_from line at)))
 
 -- a symbol: a number below 65,536
-abbrev pub symbol_said : LineWord → Number → SymbolWord
-symbol_said w (Is n) = pick (ltb n 65536) (Symbol n w.to) (NoSymbol w.from)
-symbol_said w NoNumber = NoSymbol w.from
-symbol_said w TooLarge = NoSymbol w.from
+abbrev pub symbol_said : LineWord → Result ℕ NumberError → SymbolWord
+symbol_said w (Ok n) = pick (ltb n 65536) (Symbol n w.to) (NoSymbol w.from)
+symbol_said w (Err e) = NoSymbol w.from
 
 unfoldable pub symbol_at : List ℕ → ℕ → SymbolWord
 symbol_at line at = symbol_said (word_from line at) (number_of (word_in line (word_from line at)))
 
 -- an identifier: 32 hexadecimal digits
-abbrev pub udid_said : LineWord → Halves → UdidWord
-udid_said w (Are high low) = Identifier (record { high = high; low = low }) w.from w.to
-udid_said w NoHalves = NoIdentifier w.from
+abbrev pub udid_said : LineWord → Option (ℕ × ℕ) → UdidWord
+udid_said w (Some (high, low)) = Identifier (record { high = high; low = low }) w.from w.to
+udid_said w None = NoIdentifier w.from
 
 unfoldable pub udid_at : List ℕ → ℕ → UdidWord
 udid_at line at = udid_said (word_from line at) (halves_of (word_in line (word_from line at)))
 
 -- the last four bytes of an identifier: 8 hexadecimal digits
-abbrev pub fresh_said : LineWord → Quarter → FreshWord
-fresh_said w (Value v) = Fresh v w.to
-fresh_said w NoQuarter = NoFresh w.from
+abbrev pub fresh_said : LineWord → Option ℕ → FreshWord
+fresh_said w (Some v) = Fresh v w.to
+fresh_said w None = NoFresh w.from
 
 unfoldable pub fresh_at : List ℕ → ℕ → FreshWord
 fresh_at line at = fresh_said (word_from line at) (quarter_of (word_in line (word_from line at)))

@@ -1,13 +1,8 @@
 -- What the next word says, from its place, its characters and what these are.
-use Rattle.std.specs.Prelude.{ℕ, ◌≤◌, ◌<◌, ◌≡◌, Bool, true, false, List, length}
+use Rattle.std.specs.Prelude.{ℕ, ◌≤◌, ◌<◌, ◌≡◌, Bool, true, false, List, length, Option, Some, None, Result, Ok, Err}
 use borrow.Author.Tests.{lt-ltb, le-ltb}
 use Rattle.text.specs.declared.word.LineWord.{LineWord}
-use Rattle.digits.specs.declared.number.Number.{Number}
-use Rattle.digits.specs.declared.number.Number.TheVariants.{Is, NoNumber, TooLarge}
-use Rattle.digits.specs.declared.number.Halves.{Halves}
-use Rattle.digits.specs.declared.number.Halves.TheVariants.{Are, NoHalves}
-use Rattle.digits.specs.declared.number.Quarter.{Quarter}
-use Rattle.digits.specs.declared.number.Quarter.TheVariants.{Value, NoQuarter}
+use Rattle.digits.specs.declared.number.NumberError.{NumberError}
 use Rattle.text.specs.Chars.{chars}
 use Rattle.text.specs.Words.{word_from, part_of, same_text}
 use Rattle.digits.specs.Numbers.{number_of, halves_of, quarter_of}
@@ -25,55 +20,47 @@ use Rattle.words.specs.declared.word.Rest.TheVariants as left
 module _ (line : List ℕ) (at : ℕ) (w : LineWord) (s : List ℕ) (e : w ≡ word_from line at) (f : s ≡ part_of line w.from w.to) where
   -- ---- a byte
 
-  pub byte_is : (n : Number) (v : ℕ) → n ≡ number_of s → n ≡ Is v → v < 256 → Byte v w.to ≡ byte_at line at
+  pub byte_is : (n : Result ℕ NumberError) (v : ℕ) → n ≡ number_of s → n ≡ Ok v → v < 256 → Byte v w.to ≡ byte_at line at
   unfolding byte_at
   byte_is n v g h t = rw (← e, ← f, ← g, h, lt-ltb v 256 t)
 
-  pub byte_large : (n : Number) (v : ℕ) → n ≡ number_of s → n ≡ Is v → 256 ≤ v → NoByte w.from ≡ byte_at line at
+  pub byte_large : (n : Result ℕ NumberError) (v : ℕ) → n ≡ number_of s → n ≡ Ok v → 256 ≤ v → NoByte w.from ≡ byte_at line at
   unfolding byte_at
   byte_large n v g h t = rw (← e, ← f, ← g, h, le-ltb v 256 t)
 
-  pub byte_none : (n : Number) → n ≡ number_of s → n ≡ NoNumber → NoByte w.from ≡ byte_at line at
+  pub byte_none : (n : Result ℕ NumberError) (x : NumberError) → n ≡ number_of s → n ≡ Err x → NoByte w.from ≡ byte_at line at
   unfolding byte_at
-  byte_none n g h = rw (← e, ← f, ← g, h)
-
-  pub byte_over : (n : Number) → n ≡ number_of s → n ≡ TooLarge → NoByte w.from ≡ byte_at line at
-  unfolding byte_at
-  byte_over n g h = rw (← e, ← f, ← g, h)
+  byte_none n x g h = rw (← e, ← f, ← g, h)
 
   -- ---- a symbol
 
-  pub symbol_is : (n : Number) (v : ℕ) → n ≡ number_of s → n ≡ Is v → v < 65536 → Symbol v w.to ≡ symbol_at line at
+  pub symbol_is : (n : Result ℕ NumberError) (v : ℕ) → n ≡ number_of s → n ≡ Ok v → v < 65536 → Symbol v w.to ≡ symbol_at line at
   unfolding symbol_at
   symbol_is n v g h t = rw (← e, ← f, ← g, h, lt-ltb v 65536 t)
 
-  pub symbol_large : (n : Number) (v : ℕ) → n ≡ number_of s → n ≡ Is v → 65536 ≤ v → NoSymbol w.from ≡ symbol_at line at
+  pub symbol_large : (n : Result ℕ NumberError) (v : ℕ) → n ≡ number_of s → n ≡ Ok v → 65536 ≤ v → NoSymbol w.from ≡ symbol_at line at
   unfolding symbol_at
   symbol_large n v g h t = rw (← e, ← f, ← g, h, le-ltb v 65536 t)
 
-  pub symbol_none : (n : Number) → n ≡ number_of s → n ≡ NoNumber → NoSymbol w.from ≡ symbol_at line at
+  pub symbol_none : (n : Result ℕ NumberError) (x : NumberError) → n ≡ number_of s → n ≡ Err x → NoSymbol w.from ≡ symbol_at line at
   unfolding symbol_at
-  symbol_none n g h = rw (← e, ← f, ← g, h)
-
-  pub symbol_over : (n : Number) → n ≡ number_of s → n ≡ TooLarge → NoSymbol w.from ≡ symbol_at line at
-  unfolding symbol_at
-  symbol_over n g h = rw (← e, ← f, ← g, h)
+  symbol_none n x g h = rw (← e, ← f, ← g, h)
 
   -- ---- an identifier
 
-  pub udid_is : (h : Halves) (x y : ℕ) → h ≡ halves_of s → h ≡ Are x y → Identifier (record { high = x; low = y }) w.from w.to ≡ udid_at line at
+  pub udid_is : (h : Option (ℕ × ℕ)) (x y : ℕ) → h ≡ halves_of s → h ≡ Some (x, y) → Identifier (record { high = x; low = y }) w.from w.to ≡ udid_at line at
   unfolding udid_at
   udid_is h x y g k = rw (← e, ← f, ← g, k)
 
-  pub udid_none : (h : Halves) → h ≡ halves_of s → h ≡ NoHalves → NoIdentifier w.from ≡ udid_at line at
+  pub udid_none : (h : Option (ℕ × ℕ)) → h ≡ halves_of s → h ≡ None → NoIdentifier w.from ≡ udid_at line at
   unfolding udid_at
   udid_none h g k = rw (← e, ← f, ← g, k)
 
-  pub fresh_is : (q : Quarter) (x : ℕ) → q ≡ quarter_of s → q ≡ Value x → Fresh x w.to ≡ fresh_at line at
+  pub fresh_is : (q : Option ℕ) (x : ℕ) → q ≡ quarter_of s → q ≡ Some x → Fresh x w.to ≡ fresh_at line at
   unfolding fresh_at
   fresh_is q x g k = rw (← e, ← f, ← g, k)
 
-  pub fresh_none : (q : Quarter) → q ≡ quarter_of s → q ≡ NoQuarter → NoFresh w.from ≡ fresh_at line at
+  pub fresh_none : (q : Option ℕ) → q ≡ quarter_of s → q ≡ None → NoFresh w.from ≡ fresh_at line at
   unfolding fresh_at
   fresh_none q g k = rw (← e, ← f, ← g, k)
 

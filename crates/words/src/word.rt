@@ -2,7 +2,7 @@
 ghost use Rattle.std.specs.Prelude.{◌≡◌};
 ghost use Rattle.words.specs.Said.{byte_at, symbol_at, udid_at, fresh_at, protocol_at, pec_at, mark_at, rest_at};
 
-use digits::number::{Halves, Number, Quarter, read_halves, read_number, read_quarter};
+use digits::number::{read_halves, read_number, read_quarter};
 use names::{NO_PROTOCOL, protocol_named};
 use text::word::{next_word, part, same};
 use udid::Udid;
@@ -65,15 +65,14 @@ pub fn byte_word(line: &[u8], at: usize) -> ByteWord
     let w = next_word(line, at);
     let n = read_number(part(line, w.from, w.to));
     match n {
-        Number::Is(v) => {
+        Ok(v) => {
             if v < 256 {
                 ByteWord::Byte(v as u8, w.to)
             } else {
                 ByteWord::NoByte(w.from)
             }
         }
-        Number::NoNumber => ByteWord::NoByte(w.from),
-        Number::TooLarge => ByteWord::NoByte(w.from),
+        Err(_) => ByteWord::NoByte(w.from),
     }
 }
 
@@ -84,15 +83,14 @@ pub fn symbol_word(line: &[u8], at: usize) -> SymbolWord
     let w = next_word(line, at);
     let n = read_number(part(line, w.from, w.to));
     match n {
-        Number::Is(v) => {
+        Ok(v) => {
             if v < 65536 {
                 SymbolWord::Symbol(v as u16, w.to)
             } else {
                 SymbolWord::NoSymbol(w.from)
             }
         }
-        Number::NoNumber => SymbolWord::NoSymbol(w.from),
-        Number::TooLarge => SymbolWord::NoSymbol(w.from),
+        Err(_) => SymbolWord::NoSymbol(w.from),
     }
 }
 
@@ -103,8 +101,8 @@ pub fn udid_word(line: &[u8], at: usize) -> UdidWord
     let w = next_word(line, at);
     let h = read_halves(part(line, w.from, w.to));
     match h {
-        Halves::Are(high, low) => UdidWord::Identifier(Udid { high, low }, w.from, w.to),
-        Halves::NoHalves => UdidWord::NoIdentifier(w.from),
+        Some((high, low)) => UdidWord::Identifier(Udid { high, low }, w.from, w.to),
+        None => UdidWord::NoIdentifier(w.from),
     }
 }
 
@@ -115,8 +113,8 @@ pub fn fresh_word(line: &[u8], at: usize) -> FreshWord
     let w = next_word(line, at);
     let q = read_quarter(part(line, w.from, w.to));
     match q {
-        Quarter::Value(v) => FreshWord::Fresh(v, w.to),
-        Quarter::NoQuarter => FreshWord::NoFresh(w.from),
+        Some(v) => FreshWord::Fresh(v, w.to),
+        None => FreshWord::NoFresh(w.from),
     }
 }
 

@@ -1,30 +1,33 @@
-use Rattle.std.proofs.Common.{◌+◌, ◌<◌, ◌≡◌, sym, ◌∙◌, arith, get_or}
+use Rattle.std.proofs.Common.{sym, ◌∙◌, ◌≡◌, ◌<◌, get_or, arith}
 use Rattle.digits.specs.Numbers.{digit_of}
-use Rattle.digits.specs.NumberLaws.{digit_at, hex_bound, hex_fits, hex_start, hex_on, hex_over, hex_below}
+use Rattle.digits.specs.NumberLaws.{said_value, said_none, digits_not, digits_on, digits_over, value_on, value_over, hex_none, hex_some, hex_bound, hex_fits}
 use Rattle.digits.proofs.number.hex_value.Goals as goal
 
-pub loop-k-init : goal.loop-k-init
-loop-k-init c = (omega arith, omega arith, hex_start c.args.s.now c.args.n c.args.at)
-
 pub overflow_mul-v : goal.overflow_mul-v
-overflow_mul-v c = record { fits = (omega (arith, hex_fits c.loop-k.v 0 c.loop-k.k (omega arith) c.loop-k.invariant.1 (omega arith))) }
+overflow_mul-v c = record { fits = (omega (arith, hex_fits c.loop-c.v 0 c.loop-c.c-index (omega arith) c.loop-c.invariant.below (omega arith))) }
+
+pub returns-in_err-digit-clause-said : goal.returns-in_err-digit-clause-said
+returns-in_err-digit-clause-said c =
+    c.from_residual.ensures
+    ∙ hex_none c.args.digits.now (c.loop-c.invariant.digits ∙ digits_not 16 c.args.digits.now c.loop-c.c-index (omega arith) (said_none 16 _ (c.in_err-digit.ensures)))
 
 pub overflow_add-v : goal.overflow_add-v
 overflow_add-v c =
-    let d : c.wide.result < 16 = omega (arith, c.wide.ensures.0, c.digit.ensures, digit_at 16 c.args.s.now (c.args.at + c.loop-k.k) c.requires.2 (omega (arith, c.requires.0, c.requires.1))) in
-    record { fits = hex_fits c.loop-k.v c.wide.result c.loop-k.k (omega arith) c.loop-k.invariant.1 d }
+    let d = said_value 16 _ _ (c.in_ok-digit.ensures) in
+    record { fits = hex_fits c.loop-c.v c.from.result c.loop-c.c-index (omega arith) c.loop-c.invariant.below (omega (arith, d.1, c.from.ensures)) }
 
-pub loop-k-preserved : goal.loop-k-preserved
-loop-k-preserved c =
-    let d : c.wide.result ≡ digit_of (get_or c.args.s.now (c.args.at + c.loop-k.k) 0) = c.wide.ensures.0 ∙ c.digit.ensures in
-    let g : digit_of (get_or c.args.s.now (c.args.at + c.loop-k.k) 0) < 16 = digit_at 16 c.args.s.now (c.args.at + c.loop-k.k) c.requires.2 (omega (arith, c.requires.0, c.requires.1)) in (
-      omega arith,
-      hex_bound c.loop-k.v c.wide.result c.loop-k.k c.loop-k.invariant.1 (omega arith),
-      c.loop-k.invariant.2 ∙ hex_on c.args.s.now c.args.n c.loop-k.v c.args.at c.loop-k.k (omega arith) (omega (arith, c.requires.1)) ∙ rw (sym d),
-    )
+pub loop-c-preserved : goal.loop-c-preserved
+loop-c-preserved c =
+    let d = said_value 16 _ _ (c.in_ok-digit.ensures) in
+    let e : digit_of (get_or c.args.digits.now c.loop-c.c-index 0) ≡ c.from.result = sym (c.from.ensures ∙ d.0) in
+    let h : c.from.result < 16 = omega (arith, d.1, c.from.ensures) in
+    record {
+      below = hex_bound c.loop-c.v c.from.result c.loop-c.c-index c.loop-c.invariant.below h;
+      digits = c.loop-c.invariant.digits ∙ digits_on 16 c.args.digits.now c.loop-c.c-index (omega arith) (omega (arith, e, h));
+      value = c.loop-c.invariant.value ∙ value_on 16 c.loop-c.v c.args.digits.now c.loop-c.c-index (omega arith) ∙ rw e;
+    }
 
-pub returns : goal.returns
-returns c = (
-  sym (c.loop-k.invariant.2 ∙ hex_over c.args.s.now c.args.n c.loop-k.v c.args.at c.loop-k.k (omega arith)),
-  hex_below c.loop-k.v c.args.n c.loop-k.k c.loop-k.invariant.1 c.loop-k.invariant.0,
-)
+pub returns-clause-said : goal.returns-clause-said
+returns-clause-said c =
+    hex_some c.args.digits.now c.loop-c.v (c.loop-c.invariant.digits ∙ digits_over 16 c.args.digits.now c.loop-c.c-index (omega arith))
+    (c.loop-c.invariant.value ∙ value_over 16 c.loop-c.v c.args.digits.now c.loop-c.c-index (omega arith))
