@@ -7,8 +7,7 @@ ghost use Rattle.pool.specs.Start.{starting_pool, barred_pool};
 ghost use Rattle.c_codec.specs.Numbers.{bit};
 ghost use Rattle.c_arp.specs.Parts.{pool_in, told_pool, free_number};
 
-use c_arp::parts::{HbPool, addresses, pool_in};
-use c_codec::numbers::as_number;
+use c_arp::parts::HbPool;
 use pool::Pool;
 use pool::free::Free;
 use wire::address::Address;
@@ -18,8 +17,7 @@ use wire::address::Address;
 pub extern "C" fn hb_pool_has(pool: HbPool, address: u8) -> u8
     ensures { result ≡ bit (member (pool_in pool) address) }
 {
-    let p = pool_in(pool);
-    as_number(p.has(Address(address)))
+    u8::from(Pool::from(pool).has(Address(address)))
 }
 
 // The set and the address.
@@ -27,8 +25,7 @@ pub extern "C" fn hb_pool_has(pool: HbPool, address: u8) -> u8
 pub extern "C" fn hb_pool_with(pool: HbPool, address: u8) -> HbPool
     ensures { result ≡ told_pool (with_address (pool_in pool) address) }
 {
-    let p = pool_in(pool);
-    addresses(p.with(Address(address)))
+    Pool::from(pool).with(Address(address)).into()
 }
 
 // The set without the address.
@@ -36,8 +33,7 @@ pub extern "C" fn hb_pool_with(pool: HbPool, address: u8) -> HbPool
 pub extern "C" fn hb_pool_without(pool: HbPool, address: u8) -> HbPool
     ensures { result ≡ told_pool (without_address (pool_in pool) address) }
 {
-    let p = pool_in(pool);
-    addresses(p.without(Address(address)))
+    Pool::from(pool).without(Address(address)).into()
 }
 
 // The addresses of either set.
@@ -45,8 +41,7 @@ pub extern "C" fn hb_pool_without(pool: HbPool, address: u8) -> HbPool
 pub extern "C" fn hb_pool_union(one: HbPool, other: HbPool) -> HbPool
     ensures { result ≡ told_pool (union_of (pool_in one) (pool_in other)) }
 {
-    let p = pool_in(one);
-    addresses(p.union(pool_in(other)))
+    Pool::from(one).union(other.into()).into()
 }
 
 // The starting pool: the listed addresses and these.
@@ -54,7 +49,7 @@ pub extern "C" fn hb_pool_union(one: HbPool, other: HbPool) -> HbPool
 pub extern "C" fn hb_pool_starting(occupied: HbPool) -> HbPool
     ensures { result ≡ told_pool (starting_pool (pool_in occupied)) }
 {
-    addresses(Pool::starting(pool_in(occupied)))
+    Pool::starting(occupied.into()).into()
 }
 
 // The barred addresses: the reserved ones and these.
@@ -62,7 +57,7 @@ pub extern "C" fn hb_pool_starting(occupied: HbPool) -> HbPool
 pub extern "C" fn hb_pool_barred(occupied: HbPool) -> HbPool
     ensures { result ≡ told_pool (barred_pool (pool_in occupied)) }
 {
-    addresses(Pool::barred(pool_in(occupied)))
+    Pool::barred(occupied.into()).into()
 }
 
 // How many addresses the set has.
@@ -70,8 +65,7 @@ pub extern "C" fn hb_pool_barred(occupied: HbPool) -> HbPool
 pub extern "C" fn hb_pool_used(pool: HbPool) -> u32
     ensures { result ≡ used (pool_in pool) }
 {
-    let p = pool_in(pool);
-    p.used()
+    Pool::from(pool).used()
 }
 
 // The lowest address that the set does not have, or 128.
@@ -79,9 +73,7 @@ pub extern "C" fn hb_pool_used(pool: HbPool) -> u32
 pub extern "C" fn hb_pool_lowest_free(pool: HbPool) -> u8
     ensures { result ≡ free_number (lowest_free (pool_in pool)) }
 {
-    let p = pool_in(pool);
-    let f = p.lowest_free();
-    match f {
+    match Pool::from(pool).lowest_free() {
         Free::At(a) => a.0,
         Free::AllUsed => 128,
     }
@@ -92,9 +84,7 @@ pub extern "C" fn hb_pool_lowest_free(pool: HbPool) -> u8
 pub extern "C" fn hb_pool_next_free(pool: HbPool, last: u8) -> u8
     ensures { result ≡ free_number (next_free (pool_in pool) last) }
 {
-    let p = pool_in(pool);
-    let f = p.next_free(last);
-    match f {
+    match Pool::from(pool).next_free(last) {
         Free::At(a) => a.0,
         Free::AllUsed => 128,
     }
