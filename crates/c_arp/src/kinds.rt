@@ -13,7 +13,6 @@ use arp::state::Stepped;
 use c_codec::codec::{HbWritten, written};
 use commands::command::{Command, End, Handed, Reason};
 use commands::request::put_command;
-use encode::Encoded;
 use pairs::put_pairs;
 use udid::Udid;
 use wire::address::Address;
@@ -140,7 +139,7 @@ pub fn put_command_pairs(
     let k = command_of(kind, u.into(), Address(address));
     let mut buf = [0u16; 525];
     let r = put_command(k, reply, &mut buf);
-    let Encoded::Written(n) = r else {
+    let Ok(n) = r else {
         return written(1, 0);
     };
     if put_pairs(out, &buf[..n]) {

@@ -2,14 +2,14 @@
 -- ≡ is 'equal', ↔ 'if and only if', × 'and', ⊎ 'or', P → ⊥ 'not P', (x : A) × P 'there is an x with P'; get_or l i 0 is number i of the list l.
 -- A parameter such as (contract : Wrote ..) is what a function's `ensures` says, word for word. It need not be believed: the code meets it.
 -- CONTRACTS: Leaves, Outcome, Wrote, declining, first_half, issuing, looked_up, loses, message_of, model_end, new_controller, next_free, powered, protocol_for, receives, refreshed, reported, resumed, silent_in, started, starts, stepped, stops, supplies, trace_of.
--- BELIEVED: 1157 lines, without imports, comments and blanks. Crate/file, then the lines of each definition; src is a type of the code. tests/programs/believed.rs counts them.
+-- BELIEVED: 1158 lines, without imports, comments and blanks. Crate/file, then the lines of each definition; src is a type of the code. tests/programs/believed.rs counts them.
 -- lists/Choice: and 3, not 3, or 3, pick 3; lists/Each: Any 3, Bytes 3, Each 3; lists/Passing: passing 3; wire/AddressTable: Bit 4, Covers 2, covers 3, lets 4, table17 25; wire/Addresses: is_from_to 2, is_listed 2,
 -- is_preassigned 2, is_reserved 2; wire/Symbols: ACK 2, NACK 2, START 2, STOP 2; wire/src: Address 1; pec/Pec: bit_step 2, pec_from 3, pec_of 2, pec_step 2; pec/PecDivision: polynomial 2, polynomial_from 3, times_g 2;
 -- catches/Changes: Came 5, FirstAndLast 2, Flipped 2, RightPec 2, TwoBits 5, Within 7, bit_of 2, how_many 2, is_flipped 2, power 2; trace/Rows: message 2; trace/Table: InTable 2, Line 6, Row 22, TraceOf 2, last_protocol 2,
--- line 2, symbols 2; trace/Trace: Message 6, ack_of 3, acked 3, in_place 2, nacked 3; trace/src: Transaction 8; encode/Encode: encode_number 4; encode/src: Encoded 5; misfit/Cases: IsMisaddressed 2, IsMiscounted 2, IsOther 2,
--- IsSwapped 2; scan/Answers: summary 3; scan/Because: AfterStart 2; scan/BytesIn: bytes_in 3; scan/Decoded: Decoded 2; scan/Fitting: BitSwapped 4, Breaks 4, CountTooHigh 4, CutAt 9, Fits 2, FitsNext 2, Member 2, OtherPec 3,
--- ToHost 2, Whole 2, Wrong 2; scan/Numbers: decode_number 3, refusal_number 12; scan/src: Refusal 13, Refused 4; decode/Outcome: Entered 2; garbled/Places: Changed 3, MayDiffer 3, sent_from 2; pool/Counts: count 3, one 2;
--- pool/Digits: digit 2, plus 2; pool/Free: used 2; pool/NextFree: Next 4; pool/Picks: FreeAtEach 3, Pick 3, Picked 3, Picks 3, latest_of 3; pool/Pools: member 2, union_of 2, with_address 4; pool/Start: barred_pool 2,
+-- line 2, symbols 2; trace/Trace: Message 6, ack_of 3, acked 3, in_place 2, nacked 3; trace/src: Transaction 8; encode/Encode: Encoded 2, encode_number 4; encode/src: EncodeError 4; misfit/Cases: IsMisaddressed 2, IsMiscounted 2,
+-- IsOther 2, IsSwapped 2; scan/Answers: summary 3; scan/Because: AfterStart 2; scan/BytesIn: bytes_in 3; scan/Decoded: Decoded 2; scan/Fitting: BitSwapped 4, Breaks 4, CountTooHigh 4, CutAt 9, Fits 2, FitsNext 2, Member 2,
+-- OtherPec 3, ToHost 2, Whole 2, Wrong 2; scan/Numbers: decode_number 3, refusal_number 12; scan/src: Refusal 13, Refused 4; decode/Outcome: Entered 2; garbled/Places: Changed 3, MayDiffer 3, sent_from 2; pool/Counts: count 3,
+-- one 2; pool/Digits: digit 2, plus 2; pool/Free: used 2; pool/NextFree: Next 4; pool/Picks: FreeAtEach 3, Pick 3, Picked 3, Picks 3, latest_of 3; pool/Pools: member 2, union_of 2, with_address 4; pool/Start: barred_pool 2,
 -- empty_pool 2, listed_pool 2, reserved_pool 2, starting_pool 2; pool/src: Free 4, Pool 4; udid/Bytes: bytes_from 3, bytes_of 3, number 2, number_from 3, udid_at 2, udid_bytes 2; udid/Udids: Fits 3, is_fixed 2, same_udid 2,
 -- value 2; udid/src: Udid 4; slots/Slots: held_at 2; slots/src: Binding 6, Slots 7; module/Acknowledges: acked 3, get_order 2; module/Obeys: assign_order 2, directed_reset 2, heard_all 3, packet 2, prepare_order 2, reset_order 2;
 -- module/Packets: Begins 2, Known 7, PecDue 6, PowersOn 7, Reachable 2, Resets 7, kind_of 2; module/Receive: for_read 2, for_write 2; module/Reset: having 2; module/Resume: AsRecorded 9, resumed_number 4;

@@ -10,7 +10,7 @@ pub use Rattle.trace.specs.Rows.{message}
 pub use Rattle.trace.specs.Table.{last_protocol, TraceOf}
 pub use Rattle.trace.specs.Trace.{Message}
 pub use Rattle.encode.specs.Encode.{encode_number, Wrote}
-pub use Rattle.encode.specs.declared.Encoded.{Encoded}
+pub use Rattle.encode.specs.Encode.{Encoded}
 pub use Rattle.scan.specs.Answers.{summary}
 pub use Rattle.misfit.specs.Cases.{IsSwapped, IsMisaddressed, IsMiscounted, IsOther}
 pub use Rattle.scan.specs.Because.{AfterStart}
