@@ -9,7 +9,6 @@ ghost use Rattle.c_arp.specs.Parts.{pool_in, told_pool, free_number};
 
 use c_arp::parts::HbPool;
 use pool::Pool;
-use pool::free::Free;
 use wire::address::Address;
 
 // 1 where the set has the address.
@@ -68,15 +67,15 @@ pub extern "C" fn hb_pool_used(pool: HbPool) -> u32
     Pool::from(pool).used()
 }
 
+// Kept: C has no Option, and headboarded.h promises 128, which is no address.
+const NONE_FREE: u8 = 128;
+
 // The lowest address that the set does not have, or 128.
 #[unsafe(no_mangle)]
 pub extern "C" fn hb_pool_lowest_free(pool: HbPool) -> u8
     ensures { result ≡ free_number (lowest_free (pool_in pool)) }
 {
-    match Pool::from(pool).lowest_free() {
-        Free::At(a) => a.0,
-        Free::AllUsed => 128,
-    }
+    Pool::from(pool).lowest_free().map_or(NONE_FREE, |a| a.0)
 }
 
 // The first address after the last one, going from 7Fh round to 00h, that the set does not have, or 128.
@@ -84,8 +83,5 @@ pub extern "C" fn hb_pool_lowest_free(pool: HbPool) -> u8
 pub extern "C" fn hb_pool_next_free(pool: HbPool, last: u8) -> u8
     ensures { result ≡ free_number (next_free (pool_in pool) last) }
 {
-    match Pool::from(pool).next_free(last) {
-        Free::At(a) => a.0,
-        Free::AllUsed => 128,
-    }
+    Pool::from(pool).next_free(last).map_or(NONE_FREE, |a| a.0)
 }
