@@ -4,7 +4,7 @@ ghost use Rattle.c_module.specs.Modules.{module_in, told_module, told_heard, tol
 
 use crate::phases::{phase_in, phase_number};
 use c_arp::parts::HbUdid;
-use module::resume::Resumed;
+use module::resume::RecordError;
 use module::state::{Heard, Lasting, Module, Supplied};
 
 // A module between two events on the bus. The parts up to resolved outlast a packet.
@@ -102,15 +102,15 @@ impl From<Heard> for HbHeard {
     }
 }
 
-// The answer to a byte asked for, for C.
+// The answer to a byte asked for, for C. Where there is none, FFh stands for it, which holds nothing down.
 impl From<Supplied> for HbSupplied {
     ghost from_gives = { λ s h. h ≡ told_supplied s };
 
     fn from(s: Supplied) -> HbSupplied {
         HbSupplied {
             after: s.after.into(),
-            drives: u32::from(s.drives),
-            byte: u32::from(s.byte),
+            drives: u32::from(s.byte.is_some()),
+            byte: u32::from(s.byte.unwrap_or(0xFF)),
         }
     }
 }
@@ -130,20 +130,20 @@ const NO_MODULE: HbModule = HbModule {
 };
 
 // A module from a record, or why there is none, for C.
-impl From<Resumed> for HbResumed {
+impl From<Result<Module, RecordError>> for HbResumed {
     ghost from_gives = { λ r h. h ≡ told_resumed r };
 
-    fn from(r: Resumed) -> HbResumed {
+    fn from(r: Result<Module, RecordError>) -> HbResumed {
         match r {
-            Resumed::Ready(m) => HbResumed {
+            Ok(m) => HbResumed {
                 after: m.into(),
                 answer: 0,
             },
-            Resumed::Malformed => HbResumed {
+            Err(RecordError::Malformed) => HbResumed {
                 after: NO_MODULE,
                 answer: 10,
             },
-            Resumed::NoHome => HbResumed {
+            Err(RecordError::NoHome) => HbResumed {
                 after: NO_MODULE,
                 answer: 12,
             },
