@@ -4,7 +4,6 @@ ghost use Rattle.lists.specs.Choice.{pick};
 ghost use Rattle.scan.specs.Handed.{received_length, received_place};
 
 use scan::answer::Decoded;
-use wire::number::less;
 
 pub(crate) fn received_length(a: Decoded) -> usize
     ensures { result ≡ received_length a }
@@ -27,5 +26,5 @@ fn end_places(pec: bool) -> usize
 pub(crate) fn received_place(pec: bool, n: usize, len: usize) -> usize
     ensures { result ≡ received_place pec n len }
 {
-    less(less(less(len, end_places(pec)), n), n)
+    len.saturating_sub(end_places(pec)).saturating_sub(n).saturating_sub(n)
 }

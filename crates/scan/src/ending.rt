@@ -9,7 +9,6 @@ use step::state::{Decoder, Due};
 use trace::shape::{Part, Shape, has_read, has_write};
 use trace::transaction::Transaction;
 use wire::address::{Address, WireByte};
-use wire::number::less;
 use wire::symbol::is_byte;
 
 // 1 for a byte, 0 for any other symbol.
@@ -88,7 +87,7 @@ pub(crate) fn finished(protocol: u8, sh: Shape, d: Decoder, tr: &[u16]) -> Decod
     if is_cut(due) {
         return Err(Refused {
             why: Refusal::NotAcknowledged,
-            place: less(count_bytes(tr), 1),
+            place: count_bytes(tr).saturating_sub(1),
         });
     }
     if !is_over(d) {
@@ -102,7 +101,7 @@ pub(crate) fn finished(protocol: u8, sh: Shape, d: Decoder, tr: &[u16]) -> Decod
     } else {
         Err(Refused {
             why: Refusal::PecDiffers,
-            place: less(tr.len(), 3),
+            place: tr.len().saturating_sub(3),
         })
     }
 }

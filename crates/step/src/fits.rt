@@ -65,12 +65,6 @@ fn command_fits(sh: Shape, x: u16) -> bool
     sender_fits(sh, x)
 }
 
-fn less(a: u8, b: u8) -> u8
-    ensures { result ≡ a - b }
-{
-    if a < b { 0 } else { a - b }
-}
-
 // A count, where so many of the most that the shape allows are taken.
 fn count_fits(sh: Shape, taken: u8, x: u16) -> bool
     ensures { result ≡ count_fits sh taken x }
@@ -78,7 +72,7 @@ fn count_fits(sh: Shape, taken: u8, x: u16) -> bool
     if x < sh.least as u16 {
         return false;
     }
-    x <= less(sh.most, taken) as u16
+    x <= sh.most.saturating_sub(taken) as u16
 }
 
 // The symbol may stand at the slot.

@@ -5,7 +5,7 @@ use Rattle.scan.proofs.ending.finished.Goals as goal
 pub returns-then-is_cut : goal.returns-then-is_cut
 returns-then-is_cut c =
     let a = c.args in
-    rw (c.less.ensures, c.count_bytes.ensures) (finish_is a.protocol a.sh a.d a.tr.now true _ _ (sym c.is_cut.ensures ∙ c.if-is_cut.true) (refl) (refl))
+    rw (c.saturating_sub.ensures, c.count_bytes.ensures) (finish_is a.protocol a.sh a.d a.tr.now true _ _ (sym c.is_cut.ensures ∙ c.if-is_cut.true) (refl) (refl))
 
 pub returns-then-not-is_over : goal.returns-then-not-is_over
 returns-then-not-is_over c =
@@ -20,4 +20,4 @@ returns-then-d c =
 pub returns-else-d : goal.returns-else-d
 returns-else-d c =
     let a = c.args in
-    rw c.less-else-d.ensures (finish_is a.protocol a.sh a.d a.tr.now false true false (sym c.is_cut.ensures ∙ c.if-is_cut.false) (sym c.is_over.ensures ∙ c.if-not-is_over.false) c.if-d.false)
+    rw c.saturating_sub-else-d.ensures (finish_is a.protocol a.sh a.d a.tr.now false true false (sym c.is_cut.ensures ∙ c.if-is_cut.false) (sym c.is_over.ensures ∙ c.if-not-is_over.false) c.if-d.false)

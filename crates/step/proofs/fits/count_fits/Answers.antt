@@ -6,4 +6,4 @@ pub returns-then-x-sh : goal.returns-then-x-sh
 returns-then-x-sh c = rw (lt-leb c.args.sh.least c.args.x c.if-x-sh.true)
 
 pub returns : goal.returns
-returns c = rw (le-leb c.args.sh.least c.args.x c.if-x-sh.false, c.less.ensures)
+returns c = rw (le-leb c.args.sh.least c.args.x c.if-x-sh.false, c.saturating_sub.ensures)
