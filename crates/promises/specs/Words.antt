@@ -81,7 +81,6 @@ pub use Rattle.report.specs.Report.{model_number}
 pub use Rattle.bus.specs.Run.{Leaves, model_end}
 pub use Rattle.bindings.specs.declared.answer.ModelAnswer.{ModelAnswer}
 -- the module's end
-pub use Rattle.module.specs.declared.resume.Resumed.TheVariants.{Ready}
 pub use Rattle.module.specs.declared.state.Lasting.{Lasting}
 pub use Rattle.module.specs.declared.state.Module.{Module}
 pub use Rattle.module.specs.State.{silent_in}
