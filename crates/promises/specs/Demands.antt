@@ -2,7 +2,7 @@
 -- ≡ is 'equal', ↔ 'if and only if', × 'and', ⊎ 'or', P → ⊥ 'not P', (x : A) × P 'there is an x with P'; get_or l i 0 is number i of the list l.
 -- A parameter such as (contract : Wrote ..) is what a function's `ensures` says, word for word. It need not be believed: the code meets it.
 -- CONTRACTS: Leaves, Outcome, Wrote, declining, first_half, issuing, looked_up, loses, message_of, model_end, new_controller, next_free, powered, protocol_for, receives, refreshed, reported, resumed, silent_in, started, starts, stepped, stops, supplies, trace_of.
--- BELIEVED: 1149 lines, without imports, comments and blanks. Crate/file, then the lines of each definition; src is a type of the code. tests/programs/believed.rs counts them.
+-- BELIEVED: 1152 lines, without imports, comments and blanks. Crate/file, then the lines of each definition; src is a type of the code. tests/programs/believed.rs counts them.
 -- lists/Choice: and 3, not 3, or 3, pick 3; lists/Each: Any 3, Bytes 3, Each 3; lists/Passing: passing 3; wire/AddressTable: Bit 4, Covers 2, covers 3, lets 4, table17 25; wire/Addresses: is_from_to 2, is_listed 2,
 -- is_preassigned 2, is_reserved 2; wire/Symbols: ACK 2, NACK 2, START 2, STOP 2; wire/src: Address 1; pec/Pec: bit_step 2, pec_from 3, pec_of 2, pec_step 2; pec/PecDivision: polynomial 2, polynomial_from 3, times_g 2;
 -- catches/Changes: Came 5, FirstAndLast 2, Flipped 2, RightPec 2, TwoBits 5, Within 7, bit_of 2, how_many 2, is_flipped 2, power 2; trace/Rows: message 2; trace/Table: InTable 2, Line 6, Row 22, TraceOf 2, last_protocol 2,
@@ -11,23 +11,23 @@
 -- OtherPec 3, ToHost 2, Whole 2, Wrong 2; scan/Numbers: decode_number 3, refusal_number 12; scan/src: Refusal 13, Refused 4; decode/Outcome: Entered 2; garbled/Places: Changed 3, MayDiffer 3, sent_from 2; pool/Counts: count 3,
 -- one 2; pool/Digits: digit 2, plus 2; pool/Free: used 2; pool/NextFree: Next 4; pool/Picks: FreeAtEach 3, Pick 3, Picked 3, Picks 3, latest_of 3; pool/Pools: member 2, union_of 2, with_address 4; pool/Start: barred_pool 2,
 -- empty_pool 2, listed_pool 2, reserved_pool 2, starting_pool 2; pool/src: Pool 4; udid/Bytes: bytes_from 3, bytes_of 3, number 2, number_from 3, udid_at 2, udid_bytes 2; udid/Udids: Fits 3, is_fixed 2, same_udid 2, value 2;
--- udid/src: Udid 4; slots/Slots: held_at 2; slots/src: Binding 6, Slots 7; module/Acknowledges: acked 3, get_order 2; module/Obeys: assign_order 2, directed_reset 2, heard_all 3, packet 2, prepare_order 2, reset_order 2;
--- module/Packets: Begins 2, Known 7, PecDue 6, PowersOn 7, Reachable 2, Resets 7, kind_of 2; module/Receive: for_read 2, for_write 2; module/Reset: having 2; module/Resume: AsRecorded 9, resumed_number 4;
--- module/Says: after_asking 3, asked 2, reply_to 2, says 3, sent 2; module/Supply: address_byte 2; module/src: Lasting 8, Module 7, RecordError 4; commands/Choices: choice_in 3, in_end 7; commands/CommandTraces: ReplyOf 2,
--- assign_trace 2, prepare_trace 2, reply_trace 3; commands/SameTrace: same 5; commands/src: Command 5, End 8, Handed 4, Reason 6; arp/Account: bind_in 5, binds 7, known_in 2, removals 7, remove_in 2, replies_from 5, unbind_in 5,
--- unbindings 7; arp/Choosing: carried_for 3, carried_on 2, halves_over 3, sending 2, sending_for 3, steps_over 3; arp/History: By 3, Event 6, NoStart 7, heard 3, run 7; arp/Numbers: command_number 3, end_number 7, is21 3,
--- is21_end 7, lookup_number 6, unless21 2; arp/OneStep: Asks 3, Binds 8, BoundAt 3, Chooses 5, Continues 2, EndsWith 2, Hands 5, Keeps 4, Removes 5, Replies 4, Rest 5, Same 2, Unbinds 5; arp/Reasons: Contested 2, MustPick 2,
--- Reasons 7; arp/Replay: Table 3, handed_out 7, is_bound 5, view 2; arp/RunPicks: is_picked 2, pick_in 5, picks_of 8; arp/SinceStart: BoundSince 9, Completes 2, LeftSince 7, Removed 2, RepliedBy 2, Untaken 3;
--- arp/State: with_last 2; arp/Waits: Waits 2; arp/src: Controller 8, Found 7, Reported 4, Stepped 4; arbitration/Among: Among 3; arbitration/Bits: bits 3, byte_bits 3, bytes_read 3, number_of 3; arbitration/Wire: heard 3,
--- later 3, level 3, next 3, staying 3; targets/ByteCases: EvenOrFlag 2, FixedAt 2, FixedOnTaken 2, SameAsEarlier 2, address_at 2; targets/Cases: FirstOf 4, LengthIsBad 2, NoneOf 2; targets/Records: address_byte 2, flag_of 2,
--- record_count 2, target_at 2, targets_from 3, targets_of 2, udid_of 2; targets/Reply: OnWire 3, covered_bytes 2, on_wire 3, reply_bytes 2, reply_data 2, reply_pec 2, sends 2, waiting 3; targets/Target: Target 4, is_resolved 2,
--- map_targets 3; bindings/src: ModelAnswer 9; report/Report: model_number 2; rule/Acknowledge: acknowledges 4, afterwards 2, answered 4, asking 2, assigning_bytes 2, begins 4, getting_bytes 2, on_bus 2, preparing_bytes 2,
--- received 3, sent_part 5, somebody 3, standing 3; rule/AllBound: left_free 2, movable 3, with_fixed 3; rule/AnyBus: Bus 3, WorldOver 3, beginning_over 2, pass_of 2, run_over 3, took_over 3, turn_over 2; rule/Bus: model_bus 2,
--- pass 2; rule/Effect: address_in 2, effect 5, is_for_me 2; rule/Halves: run_by_halves 3, took_by_halves 3; rule/PlainRule: Distinct 3, Ending 3, Given 3, Ruled 4, ascending 3, held 2, insert 3, is_picked_for 2, next 5,
--- pick_after 2, plain_choice 2, rule 3, ruled 2; rule/Reading: OnePerUdid 3, RecordOf 2; rule/Sent: gets_among 3, gets_on_bus 2, gets_over 2, heard_after 4, history_on_bus 2, one_in 2, traces_over 3; exchange/Exchange: Fitting 2,
--- Left 3, Sender 4, after 3, after_byte 2, after_bytes 3, any_ack 3, asked 2, block_length 2, byte_on 2, bytes_on 3, exchange 2, hearing 2, line 3, put 2, reading 5, record_of 2, records_of 2, rest 5, seen 3, sees 5, stop_all 2,
--- walk 6; exchange/Pass: Bench 2, gets_on 2, pass_on 2, run_on 3, stands_on 2, took_on 3, traces_on 3, turn_on 2; exchange/Sending: asked_all 2, started_again 2; bus/Run: ModelEnd 4; promises/MarkedWords: Shows 2, holding 2,
--- identifier 2, windows 3.
+-- udid/src: Udid 4; slots/Slots: held_at 2, kept_udid 2, zero_udid 2; slots/src: Binding 6, Slots 6; module/Acknowledges: acked 3, get_order 2; module/Obeys: assign_order 2, directed_reset 2, heard_all 3, packet 2,
+-- prepare_order 2, reset_order 2; module/Packets: Begins 2, Known 7, PecDue 6, PowersOn 7, Reachable 2, Resets 7, kind_of 2; module/Receive: for_read 2, for_write 2; module/Reset: having 2; module/Resume: AsRecorded 9,
+-- resumed_number 4; module/Says: after_asking 3, asked 2, reply_to 2, says 3, sent 2; module/Supply: address_byte 2; module/src: Lasting 8, Module 7, RecordError 4; commands/Choices: choice_in 3, in_end 7;
+-- commands/CommandTraces: ReplyOf 2, assign_trace 2, prepare_trace 2, reply_trace 3; commands/SameTrace: same 5; commands/src: Command 5, End 8, Handed 4, Reason 6; arp/Account: bind_in 5, binds 7, known_in 2, removals 7,
+-- remove_in 2, replies_from 5, unbind_in 5, unbindings 7; arp/Choosing: carried_for 3, carried_on 2, halves_over 3, sending 2, sending_for 3, steps_over 3; arp/History: By 3, Event 6, NoStart 7, heard 3, run 7;
+-- arp/Numbers: command_number 3, end_number 7, is21 3, is21_end 7, lookup_number 6, unless21 2; arp/OneStep: Asks 3, Binds 8, BoundAt 3, Chooses 5, Continues 2, EndsWith 2, Hands 5, Keeps 4, Removes 5, Replies 4, Rest 5, Same 2,
+-- Unbinds 5; arp/Reasons: Contested 2, MustPick 2, Reasons 7; arp/Replay: Table 3, handed_out 7, is_bound 5, view 2; arp/RunPicks: is_picked 2, pick_in 5, picks_of 8; arp/SinceStart: BoundSince 9, Completes 2, LeftSince 7,
+-- Removed 2, RepliedBy 2, Untaken 3; arp/State: with_last 2; arp/Waits: Waits 2; arp/src: Controller 8, Found 7, Reported 4, Stepped 4; arbitration/Among: Among 3; arbitration/Bits: bits 3, byte_bits 3, bytes_read 3, number_of 3;
+-- arbitration/Wire: heard 3, later 3, level 3, next 3, staying 3; targets/ByteCases: EvenOrFlag 2, FixedAt 2, FixedOnTaken 2, SameAsEarlier 2, address_at 2; targets/Cases: FirstOf 4, LengthIsBad 2, NoneOf 2;
+-- targets/Records: address_byte 2, flag_of 2, record_count 2, target_at 2, targets_from 3, targets_of 2, udid_of 2; targets/Reply: OnWire 3, covered_bytes 2, on_wire 3, reply_bytes 2, reply_data 2, reply_pec 2, sends 2,
+-- waiting 3; targets/Target: Target 4, is_resolved 2, map_targets 3; bindings/src: ModelAnswer 9; report/Report: model_number 2; rule/Acknowledge: acknowledges 4, afterwards 2, answered 4, asking 2, assigning_bytes 2, begins 4,
+-- getting_bytes 2, on_bus 2, preparing_bytes 2, received 3, sent_part 5, somebody 3, standing 3; rule/AllBound: left_free 2, movable 3, with_fixed 3; rule/AnyBus: Bus 3, WorldOver 3, beginning_over 2, pass_of 2, run_over 3,
+-- took_over 3, turn_over 2; rule/Bus: model_bus 2, pass 2; rule/Effect: address_in 2, effect 5, is_for_me 2; rule/Halves: run_by_halves 3, took_by_halves 3; rule/PlainRule: Distinct 3, Ending 3, Given 3, Ruled 4, ascending 3,
+-- held 2, insert 3, is_picked_for 2, next 5, pick_after 2, plain_choice 2, rule 3, ruled 2; rule/Reading: OnePerUdid 3, RecordOf 2; rule/Sent: gets_among 3, gets_on_bus 2, gets_over 2, heard_after 4, history_on_bus 2, one_in 2,
+-- traces_over 3; exchange/Exchange: Fitting 2, Left 3, Sender 4, after 3, after_byte 2, after_bytes 3, any_ack 3, asked 2, block_length 2, byte_on 2, bytes_on 3, exchange 2, hearing 2, line 3, put 2, reading 5, record_of 2,
+-- records_of 2, rest 5, seen 3, sees 5, stop_all 2, walk 6; exchange/Pass: Bench 2, gets_on 2, pass_on 2, run_on 3, stands_on 2, took_on 3, traces_on 3, turn_on 2; exchange/Sending: asked_all 2, started_again 2;
+-- bus/Run: ModelEnd 4; promises/MarkedWords: Shows 2, holding 2, identifier 2, windows 3.
 use Rattle.std.specs.Prelude.{◌≡◌, Bool, true, false, List, [], ◌∷◌, ◌++◌, ◌⊎◌, ◌↔◌, ℕ, suc, ◌+◌, ◌-◌, ◌*◌, ◌/◌, ◌%◌, ◌^◌, ◌≤◌, ◌<◌, length, take, drop, get_or, replicate, Some, None, Ok, is_some, unwrap_or}
 use Rattle.std.specs.Int.Bits.{bit_xor}
 use Rattle.promises.specs.Words.{Each, Any, Bytes, is_reserved, is_preassigned, is_listed, table17, Covers, pec_of, Address, last_protocol, TraceOf, Message, message, encode_number, Wrote, Encoded}

@@ -34,7 +34,7 @@ pub chosen_on_reply : (s : Controller) (tr : List ℕ) → Sound s → (u : Udid
 chosen_on_reply s tr f u a x c = go (assigns_on_reply s tr f.1 f.2 (stepped s tr) (sentences s tr size f.2) u a ((chosen_exactly s tr u a).1 (x, c)))
   where
     size : Sized128 s.slots
-    size = record { high = f.0.0; low = f.0.1 }
+    size = record { udids = f.0 }
 
     go : (s.last ≡ Send GetUdid) × ((v : Udid) × (b : ℕ) × Fits v × (b < 256) × (tr ≡ reply_trace (udid_bytes v ++ b ∷ []))) → OnReply s tr u a x (first_half s tr).state
     go (l, (v, b, k, h, q)) =

@@ -6,7 +6,6 @@ ghost use Rattle.report.specs.Report.{entry_at, with_bindings};
 use bindings::buffer::{BUFFER, put_entry};
 use pool::Pool;
 use slots::Slots;
-use udid::Udid;
 use wire::address::Address;
 
 // The addresses to which somebody is bound.
