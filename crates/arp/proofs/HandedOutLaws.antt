@@ -1,13 +1,12 @@
 -- Each command that a step hands out is the one that the table of the events, the count of Get UDIDs and the command outstanding give. So the
 -- story of the events alone gives all three.
-use Rattle.std.specs.Prelude.{ℕ, ◌+◌, ◌<◌, ◌≡◌, Bool, true, false, List, [], ◌∷◌, ltb, leb, eqb, get_or}
+use Rattle.std.specs.Prelude.{ℕ, ◌+◌, ◌<◌, ◌≡◌, Bool, true, false, List, [], ◌∷◌, ltb, leb, eqb, get_or, Ok, Err}
 use Rattle.std.proofs.Math.Path.{refl, ap}
 use Rattle.std.proofs.Common.{ap₂, ◌∙◌}
 use Rattle.lists.specs.Choice.{pick, and}
 use Rattle.trace.specs.declared.transaction.Transaction.{Transaction}
 use Rattle.scan.specs.Numbers.{is_nack}
-use Rattle.scan.specs.declared.answer.Decoded.{Decoded}
-use Rattle.scan.specs.declared.answer.Decoded.TheVariants.{Done, Refused}
+use Rattle.scan.specs.Decoded.{Decoded}
 use Rattle.pool.specs.declared.Pool.{Pool}
 use Rattle.pool.specs.declared.free.Free.{Free}
 use Rattle.pool.specs.declared.free.Free.TheVariants.{At, AllUsed}
@@ -59,24 +58,24 @@ issued_command s u picks AllUsed = refl
 
 module _ (s : Controller) where
   prepare_command : (d : Decoded) (xs : List ℕ) → (changed s (told_prepare d xs)).command ≡ next_prepare s.gets d xs
-  prepare_command (Done t) xs = go (is_prepare t xs)
+  prepare_command (Ok t) xs = go (is_prepare t xs)
     where
       go : (q : Bool) → (changed s (pick q Again GivenUp)).command ≡ pick q (again s.gets) (Wait Abandoned)
       go true = asked_command s
       go false = refl
-  prepare_command (Refused w k) xs = go (is_nack w)
+  prepare_command (Err e) xs = go (is_nack e.why)
     where
       go : (q : Bool) → (changed s (pick q Over GivenUp)).command ≡ pick q (Wait Ended) (Wait Abandoned)
       go true = refl
       go false = refl
 
   assign_command : (u : Udid) (n : ℕ) (d : Decoded) (xs : List ℕ) → (changed s (told_assign u (record { 0 = n }) d xs)).command ≡ again s.gets
-  assign_command u n (Done t) xs = go (is_assign u n t xs)
+  assign_command u n (Ok t) xs = go (is_assign u n t xs)
     where
       go : (q : Bool) → (changed s (pick q (Took u (record { 0 = n })) Again)).command ≡ again s.gets
       go true = asked_command (bound s u n) ∙ ap again (bound_keeps_gets s u n)
       go false = asked_command s
-  assign_command u n (Refused w k) xs = asked_command s
+  assign_command u n (Err e) xs = asked_command s
 
 module _ (s : Controller) (v : SoundIn s) (small : s.picked < 128) where
   replied_command : (u : Udid) (b : ℕ) → (replied s u b).command ≡ assigning u (given_to (released s.occupied u (view s)).used s.picked u b)
@@ -87,7 +86,7 @@ module _ (s : Controller) (v : SoundIn s) (small : s.picked < 128) where
       ∙ ap (assigning u) (chosen_is_given (freed s u).pool s.picked u b small)
       ∙ ap (λ (t : Table). assigning u (given_to t.used s.picked u b)) (freed_as_replied s v u)
 
-  reply_command : (t : Transaction) (xs : List ℕ) → (changed s (told_reply t xs)).command ≡ next_reply s.occupied (view s) s.picked s.gets (Done t) xs
+  reply_command : (t : Transaction) (xs : List ℕ) → (changed s (told_reply t xs)).command ≡ next_reply s.occupied (view s) s.picked s.gets (Ok t) xs
   reply_command t xs = go (is_get t) (eqb t.received 17)
     where
       go : (p q : Bool) → (changed s (pick p (pick q (Reply (udid_at xs 0) (get_or xs 16 0)) Over) Again)).command
@@ -97,8 +96,8 @@ module _ (s : Controller) (v : SoundIn s) (small : s.picked < 128) where
       go false q = asked_command s
 
   get_command : (d : Decoded) (xs : List ℕ) → (changed s (told_get d xs)).command ≡ next_reply s.occupied (view s) s.picked s.gets d xs
-  get_command (Done t) xs = reply_command t xs
-  get_command (Refused w k) xs = go (and (is_nack w) (ltb k 3))
+  get_command (Ok t) xs = reply_command t xs
+  get_command (Err e) xs = go (and (is_nack e.why) (ltb e.place 3))
     where
       go : (q : Bool) → (changed s (pick q Over Again)).command ≡ pick q (Wait Ended) (again s.gets)
       go true = refl

@@ -1,6 +1,6 @@
 -- What the controller hears of a trace is what decode answers for it: for every call of decode with two buffers of at least 255 bytes, the
 -- answer, the data at the fronts of the buffers, and what specs/Replay.antt reads from them.
-use Rattle.std.specs.Prelude.{ℕ, zero, suc, ◌+◌, ◌*◌, ◌≤◌, ◌<◌, ◌≡◌, refl, Bool, true, false, List, ◌∷◌, ◌↔◌, eqb, length, get_or, drop, replicate}
+use Rattle.std.specs.Prelude.{ℕ, zero, suc, ◌+◌, ◌*◌, ◌≤◌, ◌<◌, ◌≡◌, refl, Bool, true, false, List, ◌∷◌, ◌↔◌, eqb, length, get_or, drop, replicate, Ok, Err}
 use Rattle.std.proofs.Common.{sym, ap, ap₂, ◌∙◌, arith, le-ltb, eqb-true}
 use Rattle.std.proofs.lemmas.List.{length-replicate}
 use Rattle.std.proofs.Math.ListN.{get_or-append}
@@ -15,8 +15,7 @@ use Rattle.scan.proofs.AnswersLaws as step
 use Rattle.scan.specs.Answers.{CutAt}
 use Rattle.scan.specs.Handed.{sent_data, received_data}
 use Rattle.scan.specs.Numbers.{decode_number}
-use Rattle.scan.specs.declared.answer.Decoded.{Decoded}
-use Rattle.scan.specs.declared.answer.Decoded.TheVariants.{Done, Refused}
+use Rattle.scan.specs.Decoded.{Decoded}
 use Rattle.decode.specs.OutcomeLaws.{answer_by_trace}
 use Rattle.decode.specs.Outcome.{short, answered_by, answered, Outcome}
 use Rattle.pool.specs.declared.Pool.{Pool}
@@ -100,36 +99,36 @@ front_udid xs l h = λ i. record { high = number (front_bytes xs l 0 8 (omega ar
 -- decode's answer and its two buffers, in one place of each
 module _ (tr l : List ℕ) where
   reply_front : (d : Decoded) → reply_in d (onto (received_data true tr d) l) ≡ reply_in d (received_data true tr d)
-  reply_front (Done t) = go (eqb t.received 17) refl
+  reply_front (Ok t) = go (eqb t.received 17) refl
     where
       go : (q : Bool) → eqb t.received 17 ≡ q
-          → pick (and (eqb t.address.0 0x61) (eqb t.command 0x03)) (pick (eqb t.received 17) (Replied (udid_at (onto (received_data true tr (Done t)) l) 0)) Other) Other
-          ≡ pick (and (eqb t.address.0 0x61) (eqb t.command 0x03)) (pick (eqb t.received 17) (Replied (udid_at (received_data true tr (Done t)) 0)) Other) Other
+          → pick (and (eqb t.address.0 0x61) (eqb t.command 0x03)) (pick (eqb t.received 17) (Replied (udid_at (onto (received_data true tr (Ok t)) l) 0)) Other) Other
+          ≡ pick (and (eqb t.address.0 0x61) (eqb t.command 0x03)) (pick (eqb t.received 17) (Replied (udid_at (received_data true tr (Ok t)) 0)) Other) Other
       go true e =
           ap (λ (u : Udid). pick (and (eqb t.address.0 0x61) (eqb t.command 0x03)) (pick (eqb t.received 17) (Replied u) Other) Other)
-          (front_udid (received_data true tr (Done t)) l (length_lows t.received _ ∙ eqb-true t.received 17 e))
+          (front_udid (received_data true tr (Ok t)) l (length_lows t.received _ ∙ eqb-true t.received 17 e))
       go false e = rw e
-  reply_front (Refused w k) = refl
+  reply_front (Err e) = refl
 
   module _ (u : Udid) (a : ℕ) where
     assign_front : (d : Decoded) → assign_in u a d (onto (sent_data (shape_of 8) tr d) l) ≡ assign_in u a d (sent_data (shape_of 8) tr d)
-    assign_front (Done t) = go (eqb t.sent 17) refl
+    assign_front (Ok t) = go (eqb t.sent 17) refl
       where
         result : Bool → Happened
         result q = pick (and (and (eqb t.address.0 0x61) (eqb t.command 0x04)) q) (Assigned u a) Other
 
         go : (q : Bool) → eqb t.sent 17 ≡ q
-            → result (and (eqb t.sent 17) (assigns u a (onto (sent_data (shape_of 8) tr (Done t)) l)))
-            ≡ result (and (eqb t.sent 17) (assigns u a (sent_data (shape_of 8) tr (Done t))))
+            → result (and (eqb t.sent 17) (assigns u a (onto (sent_data (shape_of 8) tr (Ok t)) l)))
+            ≡ result (and (eqb t.sent 17) (assigns u a (sent_data (shape_of 8) tr (Ok t))))
         go true e =
-            let n : length (sent_data (shape_of 8) tr (Done t)) ≡ 17 = length_lows t.sent _ ∙ eqb-true t.sent 17 e in
+            let n : length (sent_data (shape_of 8) tr (Ok t)) ≡ 17 = length_lows t.sent _ ∙ eqb-true t.sent 17 e in
             ap₂ (λ (v : Udid) (b : ℕ). result (and (eqb t.sent 17) (and (same_udid v u) (eqb b (2 * a)))))
-            (front_udid (sent_data (shape_of 8) tr (Done t)) l n) (front_at (sent_data (shape_of 8) tr (Done t)) l 16 (omega arith))
+            (front_udid (sent_data (shape_of 8) tr (Ok t)) l n) (front_at (sent_data (shape_of 8) tr (Ok t)) l 16 (omega arith))
         go false e = rw e
-    assign_front (Refused w k) = refl
+    assign_front (Err e) = refl
 
   next_reply_front : (occupied : Pool) (t : Table) (last n : ℕ) (d : Decoded) → next_reply occupied t last n d (onto (received_data true tr d) l) ≡ next_reply occupied t last n d (received_data true tr d)
-  next_reply_front occupied t last n (Done x) = go (eqb x.received 17) refl
+  next_reply_front occupied t last n (Ok x) = go (eqb x.received 17) refl
     where
       result : Udid → ℕ → Handed
       result u b =
@@ -138,21 +137,21 @@ module _ (tr l : List ℕ) where
           (again n)
 
       go : (q : Bool) → eqb x.received 17 ≡ q
-          → result (udid_at (onto (received_data true tr (Done x)) l) 0) (get_or (onto (received_data true tr (Done x)) l) 16 0)
-          ≡ result (udid_at (received_data true tr (Done x)) 0) (get_or (received_data true tr (Done x)) 16 0)
+          → result (udid_at (onto (received_data true tr (Ok x)) l) 0) (get_or (onto (received_data true tr (Ok x)) l) 16 0)
+          ≡ result (udid_at (received_data true tr (Ok x)) 0) (get_or (received_data true tr (Ok x)) 16 0)
       go true e =
-          let k : length (received_data true tr (Done x)) ≡ 17 = length_lows x.received _ ∙ eqb-true x.received 17 e in
-          ap₂ result (front_udid (received_data true tr (Done x)) l k) (front_at (received_data true tr (Done x)) l 16 (omega arith))
+          let k : length (received_data true tr (Ok x)) ≡ 17 = length_lows x.received _ ∙ eqb-true x.received 17 e in
+          ap₂ result (front_udid (received_data true tr (Ok x)) l k) (front_at (received_data true tr (Ok x)) l 16 (omega arith))
       go false e = rw e
-  next_reply_front occupied t last n (Refused w k) = refl
+  next_reply_front occupied t last n (Err e) = refl
 
   -- a complete Send Byte has one byte
   next_prepare_front : (n : ℕ) (d : Decoded) → answer 1 tr ≡ d → next_prepare n d (onto (sent_data (shape_of 1) tr d) l) ≡ next_prepare n d (sent_data (shape_of 1) tr d)
-  next_prepare_front n (Done t) e =
-      let c = (step.answer_exactly 1 (shape_of 1) (sane 1) true tr (Done t)).0 e in
-      let k : length (sent_data (shape_of 1) tr (Done t)) ≡ 1 = ap length c.data_sent ∙ c.valid.sent_length_lem in
-      ap (λ (b : ℕ). pick (and (eqb t.address.0 0x61) (eqb b 0x01)) (again n) (Wait Abandoned)) (front_at (sent_data (shape_of 1) tr (Done t)) l 0 (omega arith))
-  next_prepare_front n (Refused w k) e = refl
+  next_prepare_front n (Ok t) e =
+      let c = (step.answer_exactly 1 (shape_of 1) (sane 1) true tr (Ok t)).0 e in
+      let k : length (sent_data (shape_of 1) tr (Ok t)) ≡ 1 = ap length c.data_sent ∙ c.valid.sent_length_lem in
+      ap (λ (b : ℕ). pick (and (eqb t.address.0 0x61) (eqb b 0x01)) (again n) (Wait Abandoned)) (front_at (sent_data (shape_of 1) tr (Ok t)) l 0 (omega arith))
+  next_prepare_front n (Err r) e = refl
 
 -- THE EVENTS' READING IS DECODE'S: for every call of decode with buffers of at least 255 bytes
 module _ (tr sent₀ received₀ : List ℕ) (d : Decoded) (sent received : List ℕ) (l : 255 ≤ length sent₀) (m : 255 ≤ length received₀) where

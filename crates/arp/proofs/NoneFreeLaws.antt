@@ -1,11 +1,10 @@
 -- 13 is handed out with an identifier exactly at its reply, if with what it was bound to freed there is no address to pick.
-use Rattle.std.specs.Prelude.{ℕ, ◌<◌, ◌≡◌, refl, Bool, true, false, List, [], ◌∷◌, ◌++◌, ◌↔◌, ltb, leb, eqb, get_or}
+use Rattle.std.specs.Prelude.{ℕ, ◌<◌, ◌≡◌, refl, Bool, true, false, List, [], ◌∷◌, ◌++◌, ◌↔◌, ltb, leb, eqb, get_or, Ok, Err}
 use Rattle.std.proofs.Common.{sym, ap, ◌∙◌, subst, arith}
 use Rattle.lists.specs.AbsurdLaws.{zero_is_one}
 use Rattle.lists.specs.Choice.{pick, and}
 use Rattle.scan.specs.Numbers.{is_nack}
-use Rattle.scan.specs.declared.answer.Decoded.{Decoded}
-use Rattle.scan.specs.declared.answer.Decoded.TheVariants.{Done, Refused}
+use Rattle.scan.specs.Decoded.{Decoded}
 use Rattle.pool.specs.declared.Pool.{Pool}
 use Rattle.pool.specs.declared.free.Free.{Free}
 use Rattle.pool.specs.declared.free.Free.TheVariants.{At, AllUsed}
@@ -37,12 +36,12 @@ module _ (occupied : Pool) (t : Table) (last n : ℕ) (u : Udid) where
       go false k = zero_is_one (cc k)
 
   prepare_none : (d : Decoded) (xs : List ℕ) → next_prepare n d xs ≡ Wait (NoneFree u) → ⊥
-  prepare_none (Done x) xs e = go (and (eqb x.address.0 0x61) (eqb (get_or xs 0 0) 0x01)) e
+  prepare_none (Ok x) xs e = go (and (eqb x.address.0 0x61) (eqb (get_or xs 0 0) 0x01)) e
     where
       go : (b : Bool) → pick b (again n) (Wait Abandoned) ≡ Wait (NoneFree u) → ⊥
       go true k = again_none k
       go false k = zero_is_one (cc k)
-  prepare_none (Refused w k) xs e = go (is_nack w) e
+  prepare_none (Err r) xs e = go (is_nack r.why) e
     where
       go : (b : Bool) → pick b (Wait Ended) (Wait Abandoned) ≡ Wait (NoneFree u) → ⊥
       go true k = zero_is_one (cc k)
@@ -78,20 +77,20 @@ module _ (occupied : Pool) (t : Table) (last n : ℕ) (u : Udid) where
   neither xs = (λ e. absurd (again_none e), λ h. absurd (not_reply xs h))
 
   reply_none_free : (d : Decoded) (xs : List ℕ) → (next_reply occupied t last n d xs ≡ Wait (NoneFree u)) ↔ Unserved (reply_in d xs) xs
-  reply_none_free (Done x) xs = done_none (and (eqb x.address.0 0x61) (eqb x.command 0x03)) (eqb x.received 17) (udid_at xs 0) xs
-  reply_none_free (Refused w k) xs = (λ e. absurd (go (and (is_nack w) (ltb k 3)) e), λ h. absurd (not_reply xs h))
+  reply_none_free (Ok x) xs = done_none (and (eqb x.address.0 0x61) (eqb x.command 0x03)) (eqb x.received 17) (udid_at xs 0) xs
+  reply_none_free (Err r) xs = (λ e. absurd (go (and (is_nack r.why) (ltb r.place 3)) e), λ h. absurd (not_reply xs h))
     where
       go : (q : Bool) → pick q (Wait Ended) (again n) ≡ Wait (NoneFree u) → ⊥
       go true k = zero_is_one (cc k)
       go false k = again_none k
 
   assign_asks : (w : Udid) (a : ℕ) (d : Decoded) (xs ys : List ℕ) → Unserved (assign_in w a d xs) ys → ⊥
-  assign_asks w a (Done x) xs ys h = go (and (and (eqb x.address.0 0x61) (eqb x.command 0x04)) (and (eqb x.sent 17) (assigns w a xs))) h.0
+  assign_asks w a (Ok x) xs ys h = go (and (and (eqb x.address.0 0x61) (eqb x.command 0x04)) (and (eqb x.sent 17) (assigns w a xs))) h.0
     where
       go : (q : Bool) → pick q (Assigned w a) Other ≡ Replied u → ⊥
       go true k = zero_is_one (cc k)
       go false k = zero_is_one (cc k)
-  assign_asks w a (Refused v k) xs ys h = not_reply ys h
+  assign_asks w a (Err e) xs ys h = not_reply ys h
 
   idle_none : (xs : List ℕ) → ((Wait NotOutstanding) ≡ Wait (NoneFree u)) ↔ Unserved Other xs
   idle_none xs = (λ e. zero_is_one (cc e), λ h. absurd (not_reply xs h))

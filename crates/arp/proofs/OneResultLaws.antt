@@ -1,5 +1,5 @@
 -- The sentences on a step leave one result: whatever two results agree with is the same for both, and every trace falls under a sentence.
-use Rattle.std.specs.Prelude.{ℕ, zero, suc, ◌/◌, ◌≤◌, ◌<◌, ◌≡◌, refl, Bool, true, false, List, [], ◌∷◌, ◌⊎◌, length, get_or, drop}
+use Rattle.std.specs.Prelude.{ℕ, zero, suc, ◌/◌, ◌≤◌, ◌<◌, ◌≡◌, refl, Bool, true, false, List, [], ◌∷◌, ◌⊎◌, length, get_or, drop, Ok, Err}
 use Rattle.std.proofs.Common.{sym, ap, ap₂, ◌∙◌, subst, inl, inr, arith}
 use Rattle.std.proofs.Math.Decide.{ℕ_discrete, dec_lt}
 use Rattle.lists.specs.AbsurdLaws.{zero_is_one}
@@ -10,8 +10,7 @@ use Rattle.trace.specs.Shapes.{forbidden}
 use Rattle.trace.specs.declared.transaction.Transaction.{Transaction}
 use Rattle.scan.specs.NumberLaws.{refusal_is_not_0}
 use Rattle.scan.specs.Numbers.{refusal_number, decode_number}
-use Rattle.scan.specs.declared.answer.Decoded.{Decoded}
-use Rattle.scan.specs.declared.answer.Decoded.TheVariants.{Done, Refused}
+use Rattle.scan.specs.Decoded.{Decoded}
 use Rattle.pool.specs.NextFree.{next_free, Next}
 use Rattle.pool.specs.NextFreeLaws.{next_is, next_none}
 use Rattle.pool.specs.Pools.{member}
@@ -65,12 +64,12 @@ six_or_not protocol tr f = go (answer protocol tr) refl
     other d e n b g = n (ap (λ (x : Decoded). (decode_number x).0) (sym e) ∙ ap (λ (p : ℕ × ℕ). p.0) ((gives_exactly protocol tr 6 b f).0 g))
 
     go : (d : Decoded) → answer protocol tr ≡ d → ((b : ℕ) × Gives protocol tr 6 b) ⊎ ((b : ℕ) → Gives protocol tr 6 b → ⊥)
-    go (Done t) e = inr (other (Done t) e (λ q. omega arith))
-    go (Refused w k) e = nack (ℕ_discrete (refusal_number w) 6)
+    go (Ok t) e = inr (other (Ok t) e (λ q. omega arith))
+    go (Err r) e = nack (ℕ_discrete (refusal_number r.why) 6)
       where
-        nack : Dec (refusal_number w ≡ 6) → ((b : ℕ) × Gives protocol tr 6 b) ⊎ ((b : ℕ) → Gives protocol tr 6 b → ⊥)
-        nack (yes q) = inl (k, (gives_exactly protocol tr 6 k f).1 (ap decode_number e ∙ ap (λ (n : ℕ). (n, k)) q))
-        nack (no n) = inr (other (Refused w k) e n)
+        nack : Dec (refusal_number r.why ≡ 6) → ((b : ℕ) × Gives protocol tr 6 b) ⊎ ((b : ℕ) → Gives protocol tr 6 b → ⊥)
+        nack (yes q) = inl (r.place, (gives_exactly protocol tr 6 r.place f).1 (ap decode_number e ∙ ap (λ (n : ℕ). (n, r.place)) q))
+        nack (no n) = inr (other (Err r) e n)
 
 -- and with one byte alone
 pub six_once : (protocol : ℕ) (tr : List ℕ) (b c : ℕ) → forbidden protocol true ≡ false → Gives protocol tr 6 b → Gives protocol tr 6 c → b ≡ c
@@ -81,25 +80,25 @@ pub reply_or_not : (s : Controller) (tr : List ℕ) → Reply tr ⊎ ((xs : List
 reply_or_not s tr = go (answer block_read tr) refl
   where
     -- if it is, decode answers 0 with that address and command
-    is : (xs : List ℕ) → Bytes xs → length xs ≤ 255 → tr ≡ reply_trace xs → (t : Transaction) × (answer block_read tr ≡ Done t) × (is_get t ≡ true)
+    is : (xs : List ℕ) → Bytes xs → length xs ≤ 255 → tr ≡ reply_trace xs → (t : Transaction) × (answer block_read tr ≡ Ok t) × (is_get t ≡ true)
     is xs h l e = (_, ap (answer block_read) (e ∙ sym (reply_symbols xs)) ∙ (decoded_back block_read (message_of (Send GetUdid) xs) (valid_get xs h l)).0, refl)
 
     other : (d : Decoded) → answer block_read tr ≡ d → ((decode_number d).0 ≡ 0 → ⊥) → (xs : List ℕ) → Bytes xs → length xs ≤ 255 → tr ≡ reply_trace xs → ⊥
     other d e n xs h l q = let w = is xs h l q in n (ap (λ (x : Decoded). (decode_number x).0) (sym e ∙ w.1))
 
-    done : (t : Transaction) → answer block_read tr ≡ Done t → (b : Bool) → is_get t ≡ b → Reply tr ⊎ ((xs : List ℕ) → Bytes xs → length xs ≤ 255 → tr ≡ reply_trace xs → ⊥)
+    done : (t : Transaction) → answer block_read tr ≡ Ok t → (b : Bool) → is_get t ≡ b → Reply tr ⊎ ((xs : List ℕ) → Bytes xs → length xs ≤ 255 → tr ≡ reply_trace xs → ⊥)
     done t e true k = let d = complete_get_data_fits tr t e in inl (received_in block_read tr, d.0, d.1, complete_get_is_its_trace tr t e k ∙ reply_symbols (received_in block_read tr))
     done t e false k = inr (λ xs h l q. clash (is xs h l q))
       where
-        clash : (t : Transaction) × (answer block_read tr ≡ Done t) × (is_get t ≡ true) → ⊥
+        clash : (t : Transaction) × (answer block_read tr ≡ Ok t) × (is_get t ≡ true) → ⊥
         clash w =
-            let m : Done t ≡ Done w.0 = sym e ∙ w.1 in
+            let m : Ok t ≡ Ok w.0 = sym e ∙ w.1 in
             let j : t ≡ w.0 = cc m in
             not_both k (ap is_get j ∙ w.2)
 
     go : (d : Decoded) → answer block_read tr ≡ d → Reply tr ⊎ ((xs : List ℕ) → Bytes xs → length xs ≤ 255 → tr ≡ reply_trace xs → ⊥)
-    go (Done t) e = done t e (is_get t) refl
-    go (Refused w k) e = inr (other (Refused w k) e (λ q. omega (arith, refusal_is_not_0 w)))
+    go (Ok t) e = done t e (is_get t) refl
+    go (Err r) e = inr (other (Err r) e (λ q. omega (arith, refusal_is_not_0 r.why)))
 
 -- ---- what two results agree with
 

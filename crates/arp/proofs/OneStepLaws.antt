@@ -1,5 +1,5 @@
 -- The scope's sentences on a step (specs/OneStep.antt) hold of every step, from every state: whatever was done before it.
-use Rattle.std.specs.Prelude.{ℕ, zero, suc, ◌+◌, ◌*◌, ◌/◌, ◌≤◌, ◌<◌, ◌≡◌, Bool, true, false, List, [], ◌∷◌, ◌++◌, ◌⊎◌, ltb, leb, length, get_or}
+use Rattle.std.specs.Prelude.{ℕ, zero, suc, ◌+◌, ◌*◌, ◌/◌, ◌≤◌, ◌<◌, ◌≡◌, Bool, true, false, List, [], ◌∷◌, ◌++◌, ◌⊎◌, ltb, leb, length, get_or, Ok, Err}
 use Rattle.std.proofs.Math.Path.{refl}
 use Rattle.std.proofs.Common.{sym, ap, ap₂, ◌∙◌, subst, inl, inr, arith, length-append, lt-ltb, le-ltb, le-leb}
 use Rattle.std.proofs.Math.Decide.{ℕ_discrete, dec_lt}
@@ -11,8 +11,7 @@ use Rattle.lists.specs.ChoiceLaws.{or_last}
 use Rattle.lists.specs.Each.{Bytes}
 use Rattle.lists.specs.EachLaws.{append_bytes}
 use Rattle.wire.specs.declared.address.Address.{Address}
-use Rattle.scan.specs.declared.answer.Decoded.{Decoded}
-use Rattle.scan.specs.declared.answer.Decoded.TheVariants.{Done, Refused}
+use Rattle.scan.specs.Decoded.{Decoded}
 use Rattle.pool.specs.NextFree.{next_free}
 use Rattle.pool.specs.NextFreeLaws.{next_is, next_none}
 use Rattle.pool.specs.MemberLaws.{has_with_same, has_with_other, has_without_same, has_without_other}
@@ -301,8 +300,8 @@ module _ (s : Controller) (tr : List ℕ) where
       either false = refl
 
       go : (d : Decoded) (xs : List ℕ) → changed s (told_assign u a d xs) ≡ asked s
-      go (Done t) xs = either (is_assign u a.0 t xs)
-      go (Refused w k) xs = refl
+      go (Ok t) xs = either (is_assign u a.0 t xs)
+      go (Err e) xs = refl
 
   -- Prepare accepted: send Get UDID
   pub prepare_accepted : s.last ≡ Send Prepare → tr ≡ prepare_trace → Continues s (stepped s tr)

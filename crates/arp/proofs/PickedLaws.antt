@@ -1,6 +1,6 @@
 -- The last pick after a step: the address of the Assign that it hands out, if that was picked, else what it was before. It is told by the trace
 -- and the command alone (specs/RunPicks.antt).
-use Rattle.std.specs.Prelude.{ℕ, ◌≡◌, Bool, true, false, List, ltb, leb, eqb, length, get_or}
+use Rattle.std.specs.Prelude.{ℕ, ◌≡◌, Bool, true, false, List, ltb, leb, eqb, length, get_or, Ok, Err}
 use Rattle.std.proofs.Math.Path.{refl, ap, ap₂}
 use Rattle.std.proofs.Common.{sym, ◌∙◌, arith}
 use Rattle.std.proofs.Math.ListN.{get_or-append}
@@ -12,8 +12,7 @@ use Rattle.trace.proofs.LengthLaws.{length_acked}
 use Rattle.trace.specs.Trace.{acked}
 use Rattle.trace.specs.declared.transaction.Transaction.{Transaction}
 use Rattle.scan.specs.Numbers.{is_nack}
-use Rattle.scan.specs.declared.answer.Decoded.{Decoded}
-use Rattle.scan.specs.declared.answer.Decoded.TheVariants.{Done, Refused}
+use Rattle.scan.specs.Decoded.{Decoded}
 use Rattle.pool.specs.declared.free.Free.{Free}
 use Rattle.pool.specs.declared.free.Free.TheVariants.{At, AllUsed}
 use Rattle.udid.specs.Bytes.{udid_at}
@@ -85,7 +84,7 @@ told_byte_at_42 tr u b e = go (answer 9 tr) refl e
     same : {v : Udid} {c : ℕ} → Reply v c ≡ Reply u b → c ≡ b
     same k = cc k
 
-    done : (t : Transaction) → answer 9 tr ≡ Done t → (p : Bool) → is_get t ≡ p → (q : Bool) → eqb t.received 17 ≡ q
+    done : (t : Transaction) → answer 9 tr ≡ Ok t → (p : Bool) → is_get t ≡ p → (q : Bool) → eqb t.received 17 ≡ q
         → pick p (pick q (Reply (udid_at (received_in 9 tr) 0) (get_or (received_in 9 tr) 16 0)) Over) Again ≡ Reply u b → get_or tr 42 0 ≡ b
     done t e true g true n k =
         let r = read_as_reply_is_get_udid tr (udid_at (received_in 9 tr) 0)
@@ -99,29 +98,29 @@ told_byte_at_42 tr u b e = go (answer 9 tr) refl e
     nack false k = zero_is_one (cc k)
 
     go : (d : Decoded) → answer 9 tr ≡ d → told_get d (received_in 9 tr) ≡ Reply u b → get_or tr 42 0 ≡ b
-    go (Done t) e k = done t e (is_get t) refl (eqb t.received 17) refl k
-    go (Refused w i) e k = nack (nobody (Refused w i)) k
+    go (Ok t) e k = done t e (is_get t) refl (eqb t.received 17) refl k
+    go (Err r) e k = nack (nobody (Err r)) k
 
 -- after Prepare and after an Assign no reply is told
 prepare_no_reply : (d : Decoded) (xs : List ℕ) (u : Udid) (b : ℕ) → told_prepare d xs ≡ Reply u b → ⊥
-prepare_no_reply (Done t) xs u b e = go (is_prepare t xs) e
+prepare_no_reply (Ok t) xs u b e = go (is_prepare t xs) e
   where
     go : (q : Bool) → pick q Again GivenUp ≡ Reply u b → ⊥
     go true k = zero_is_one (cc k)
     go false k = zero_is_one (cc k)
-prepare_no_reply (Refused w i) xs u b e = go (is_nack w) e
+prepare_no_reply (Err r) xs u b e = go (is_nack r.why) e
   where
     go : (q : Bool) → pick q Over GivenUp ≡ Reply u b → ⊥
     go true k = zero_is_one (cc k)
     go false k = zero_is_one (cc k)
 
 assign_no_reply : (v : Udid) (a : Address) (d : Decoded) (xs : List ℕ) (u : Udid) (b : ℕ) → told_assign v a d xs ≡ Reply u b → ⊥
-assign_no_reply v a (Done t) xs u b e = go (is_assign v a.0 t xs) e
+assign_no_reply v a (Ok t) xs u b e = go (is_assign v a.0 t xs) e
   where
     go : (q : Bool) → pick q (Took v a) Again ≡ Reply u b → ⊥
     go true k = zero_is_one (cc k)
     go false k = zero_is_one (cc k)
-assign_no_reply v a (Refused w i) xs u b e = zero_is_one (cc e)
+assign_no_reply v a (Err r) xs u b e = zero_is_one (cc e)
 
 -- whatever is outstanding, the byte that is told is that of the trace
 pub told_byte : (k : Handed) (tr : List ℕ) (u : Udid) (b : ℕ) → tells k tr ≡ Reply u b → get_or tr 42 0 ≡ b

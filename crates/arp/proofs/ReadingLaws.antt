@@ -1,6 +1,6 @@
 -- How a trace is read where the controller is told by its events: by what decode answers for it; as a reply, exactly if it is Get UDID with 17
 -- bytes; as a complete Assign, exactly if it is the Assign outstanding, acknowledged whole; and never as a start.
-use Rattle.std.specs.Prelude.{ℕ, ◌*◌, ◌<◌, ◌≡◌, refl, Bool, true, false, List, [], ◌∷◌, ◌++◌, ◌⊎◌, ◌↔◌, eqb, length, get_or}
+use Rattle.std.specs.Prelude.{ℕ, ◌*◌, ◌<◌, ◌≡◌, refl, Bool, true, false, List, [], ◌∷◌, ◌++◌, ◌⊎◌, ◌↔◌, eqb, length, get_or, Ok, Err}
 use Rattle.std.proofs.Common.{sym, ap, ap₂, ◌∙◌, inl, inr, mod-eq_of_lt, arith, length-append, eq-eqb, eqb-true}
 use Rattle.std.proofs.lemmas.List.{get_or_at}
 use Rattle.lists.specs.AbsurdLaws.{zero_is_one}
@@ -12,8 +12,7 @@ use Rattle.trace.specs.declared.transaction.Transaction.{Transaction}
 use Rattle.scan.proofs.DataLaws.{length_lows}
 use Rattle.scan.specs.Answers.{summary}
 use Rattle.scan.specs.Handed.{received_length}
-use Rattle.scan.specs.declared.answer.Decoded.{Decoded}
-use Rattle.scan.specs.declared.answer.Decoded.TheVariants.{Done, Refused}
+use Rattle.scan.specs.Decoded.{Decoded}
 use Rattle.udid.specs.Bytes.{udid_at, udid_bytes}
 use Rattle.udid.proofs.UdidLaws.{length_udid, udid_bytes_lem, udid_back}
 use Rattle.udid.specs.Udids.{Fits, same_udid}
@@ -56,15 +55,15 @@ reads_assign_exactly u a tr f h = (λ e. only (answer 8 tr) refl e, λ e. ap (re
     differ : Other ≡ Assigned u a.0 → ⊥
     differ k = zero_is_one (cc k)
 
-    done : (t : Transaction) → answer 8 tr ≡ Done t → (q : Bool) → is_assign u a.0 t (sent_in 8 tr) ≡ q → pick q (Assigned u a.0) Other ≡ Assigned u a.0
+    done : (t : Transaction) → answer 8 tr ≡ Ok t → (q : Bool) → is_assign u a.0 t (sent_in 8 tr) ≡ q → pick q (Assigned u a.0) Other ≡ Assigned u a.0
         → tr ≡ trace_of (Send (Assign u a)) []
     done t e true k g = complete_assign_is_its_trace u a tr t e k
     done t e false k g = absurd (differ g)
 
     only : (d : Decoded) → answer 8 tr ≡ d → assign_in u a.0 d (sent_in 8 tr) ≡ Assigned u a.0 → tr ≡ trace_of (Send (Assign u a)) []
-    only (Done t) e g =
+    only (Ok t) e g =
         done t e (is_assign u a.0 t (sent_in 8 tr)) refl (ap (λ (q : Bool). pick q (Assigned u a.0) Other) (is_assign_below_128 u a.0 h t (sent_in 8 tr)) ∙ g)
-    only (Refused w k) e g = absurd (differ g)
+    only (Err r) e g = absurd (differ g)
 
 -- Get UDID outstanding: a whole trace of it with 17 bytes is read as a reply with the identifier of its first 16
 pub reads_reply : (xs : List ℕ) → Bytes xs → length xs ≡ 17 → read_as (Send GetUdid) (trace_of (Send GetUdid) xs) ≡ Replied (udid_at xs 0)
@@ -83,10 +82,10 @@ read_as_reply_is_get_udid tr u e = only (answer 9 tr) refl e
     same : {w : Udid} → Replied w ≡ Replied u → w ≡ u
     same k = cc k
 
-    count : (t : Transaction) → answer 9 tr ≡ Done t → t.received ≡ 17 → length (received_in 9 tr) ≡ 17
+    count : (t : Transaction) → answer 9 tr ≡ Ok t → t.received ≡ 17 → length (received_in 9 tr) ≡ 17
     count t k h = length_lows (received_length (answer 9 tr)) _ ∙ ap received_length k ∙ h
 
-    done : (t : Transaction) → answer 9 tr ≡ Done t → (p : Bool) → is_get t ≡ p → (q : Bool) → eqb t.received 17 ≡ q
+    done : (t : Transaction) → answer 9 tr ≡ Ok t → (p : Bool) → is_get t ≡ p → (q : Bool) → eqb t.received 17 ≡ q
         → pick p (pick q (Replied (udid_at (received_in 9 tr) 0)) Other) Other ≡ Replied u
         → (tr ≡ trace_of (Send GetUdid) (received_in 9 tr)) × (udid_at (received_in 9 tr) 0 ≡ u) × (length (received_in 9 tr) ≡ 17)
     done t k true g true n m = (complete_get_is_its_trace tr t k g, same m, count t k (eqb-true t.received 17 n))
@@ -95,27 +94,27 @@ read_as_reply_is_get_udid tr u e = only (answer 9 tr) refl e
 
     only : (d : Decoded) → answer 9 tr ≡ d → reply_in d (received_in 9 tr) ≡ Replied u
         → (tr ≡ trace_of (Send GetUdid) (received_in 9 tr)) × (udid_at (received_in 9 tr) 0 ≡ u) × (length (received_in 9 tr) ≡ 17)
-    only (Done t) k g = done t k (is_get t) refl (eqb t.received 17) refl g
-    only (Refused w i) k g = absurd (differ g)
+    only (Ok t) k g = done t k (is_get t) refl (eqb t.received 17) refl g
+    only (Err e) k g = absurd (differ g)
 
 -- ---- no trace is a start or a report
 
 reply_of_trace : (d : Decoded) (xs : List ℕ) → OfTrace (reply_in d xs)
-reply_of_trace (Done t) xs = go (and (eqb t.address.0 0x61) (eqb t.command 0x03)) (eqb t.received 17)
+reply_of_trace (Ok t) xs = go (and (eqb t.address.0 0x61) (eqb t.command 0x03)) (eqb t.received 17)
   where
     go : (p q : Bool) → OfTrace (pick p (pick q (Replied (udid_at xs 0)) Other) Other)
     go true true = tt
     go true false = tt
     go false q = tt
-reply_of_trace (Refused w k) xs = tt
+reply_of_trace (Err e) xs = tt
 
 assign_of_trace : (u : Udid) (a : ℕ) (d : Decoded) (xs : List ℕ) → OfTrace (assign_in u a d xs)
-assign_of_trace u a (Done t) xs = go (and (and (eqb t.address.0 0x61) (eqb t.command 0x04)) (and (eqb t.sent 17) (assigns u a xs)))
+assign_of_trace u a (Ok t) xs = go (and (and (eqb t.address.0 0x61) (eqb t.command 0x04)) (and (eqb t.sent 17) (assigns u a xs)))
   where
     go : (p : Bool) → OfTrace (pick p (Assigned u a) Other)
     go true = tt
     go false = tt
-assign_of_trace u a (Refused w k) xs = tt
+assign_of_trace u a (Err e) xs = tt
 
 pub read_of_trace : (k : Handed) (tr : List ℕ) → OfTrace (read_as k tr)
 read_of_trace (Send GetUdid) tr = reply_of_trace (answer 9 tr) (received_in 9 tr)
@@ -157,21 +156,21 @@ reply_only tr u e =
 
 -- each trace is read as a reply or as nothing, as complete or as nothing
 pub reply_cases : (d : Decoded) (xs : List ℕ) → (reply_in d xs ≡ Other) ⊎ (reply_in d xs ≡ Replied (udid_at xs 0))
-reply_cases (Done t) xs = go (and (eqb t.address.0 0x61) (eqb t.command 0x03)) (eqb t.received 17)
+reply_cases (Ok t) xs = go (and (eqb t.address.0 0x61) (eqb t.command 0x03)) (eqb t.received 17)
   where
     go : (p q : Bool) → (pick p (pick q (Replied (udid_at xs 0)) Other) Other ≡ Other) ⊎ (pick p (pick q (Replied (udid_at xs 0)) Other) Other ≡ Replied (udid_at xs 0))
     go true true = inr refl
     go true false = inl refl
     go false q = inl refl
-reply_cases (Refused w k) xs = inl refl
+reply_cases (Err e) xs = inl refl
 
 pub assign_cases : (v : Udid) (n : ℕ) (d : Decoded) (xs : List ℕ) → (assign_in v n d xs ≡ Other) ⊎ (assign_in v n d xs ≡ Assigned v n)
-assign_cases v n (Done t) xs = go (and (and (eqb t.address.0 0x61) (eqb t.command 0x04)) (and (eqb t.sent 17) (assigns v n xs)))
+assign_cases v n (Ok t) xs = go (and (and (eqb t.address.0 0x61) (eqb t.command 0x04)) (and (eqb t.sent 17) (assigns v n xs)))
   where
     go : (q : Bool) → (pick q (Assigned v n) Other ≡ Other) ⊎ (pick q (Assigned v n) Other ≡ Assigned v n)
     go true = inr refl
     go false = inl refl
-assign_cases v n (Refused w k) xs = inl refl
+assign_cases v n (Err e) xs = inl refl
 
 -- A REPLY: Get UDID is outstanding, and the trace is Get UDID with 17 bytes, the identifier's first
 pub replied_exactly : (k : Handed) (tr : List ℕ) (u : Udid) → Fits u → (read_as k tr ≡ Replied u) ↔ ((k ≡ Send GetUdid) × ReplyOf u tr)

@@ -1,6 +1,6 @@
 -- Each step changes what is bound and what the pool has as its event says. So in every state that is reached these are what the table of the
 -- events says (specs/Replay.antt).
-use Rattle.std.specs.Prelude.{ℕ, ◌<◌, ◌≡◌, Bool, true, false, List, [], ◌∷◌, ◌⊎◌, ltb, leb, eqb, get_or}
+use Rattle.std.specs.Prelude.{ℕ, ◌<◌, ◌≡◌, Bool, true, false, List, [], ◌∷◌, ◌⊎◌, ltb, leb, eqb, get_or, Ok, Err}
 use Rattle.std.proofs.Math.Path.{refl, ap, fun_ext}
 use Rattle.std.proofs.Common.{sym, ap₂, ◌∙◌, inl, inr, arith, lt-ltb, le-ltb, eq-eqb, ne_eqb}
 use Rattle.std.proofs.Math.Decide.{ℕ_discrete, dec_lt}
@@ -8,8 +8,7 @@ use Rattle.lists.specs.Choice.{pick, and}
 use Rattle.lists.specs.ChoiceLaws.{and_none}
 use Rattle.trace.specs.declared.transaction.Transaction.{Transaction}
 use Rattle.scan.specs.Numbers.{is_nack}
-use Rattle.scan.specs.declared.answer.Decoded.{Decoded}
-use Rattle.scan.specs.declared.answer.Decoded.TheVariants.{Done, Refused}
+use Rattle.scan.specs.Decoded.{Decoded}
 use Rattle.pool.specs.MemberLaws.{has_with_same, has_with_other, has_without_same, has_without_other}
 use Rattle.pool.specs.Pools.{member, with_address, without_address}
 use Rattle.pool.specs.Start.{starting_pool}
@@ -181,18 +180,18 @@ module _ (s : Controller) (u : Udid) (b : ℕ) (l : Sized128 s.slots) (h : b < 1
 
 module _ (s : Controller) (v : SoundIn s) where
   prepare_view : (d : Decoded) (xs : List ℕ) → view (changed s (told_prepare d xs)).state ≡ view s
-  prepare_view (Done t) xs = go (is_prepare t xs)
+  prepare_view (Ok t) xs = go (is_prepare t xs)
     where
       go : (q : Bool) → view (changed s (pick q Again GivenUp)).state ≡ view s
       go true = asked_view s
       go false = refl
-  prepare_view (Refused w k) xs = go (is_nack w)
+  prepare_view (Err e) xs = go (is_nack e.why)
     where
       go : (q : Bool) → view (changed s (pick q Over GivenUp)).state ≡ view s
       go true = refl
       go false = refl
 
-  reply_view : (t : Transaction) (xs : List ℕ) → view (changed s (told_reply t xs)).state ≡ after s.occupied (reply_in (Done t) xs) (view s)
+  reply_view : (t : Transaction) (xs : List ℕ) → view (changed s (told_reply t xs)).state ≡ after s.occupied (reply_in (Ok t) xs) (view s)
   reply_view t xs = go (is_get t) (eqb t.received 17)
     where
       go : (p q : Bool) → view (changed s (pick p (pick q (Reply (udid_at xs 0) (get_or xs 16 0)) Over) Again)).state
@@ -202,8 +201,8 @@ module _ (s : Controller) (v : SoundIn s) where
       go false q = asked_view s
 
   get_view : (d : Decoded) (xs : List ℕ) → view (changed s (told_get d xs)).state ≡ after s.occupied (reply_in d xs) (view s)
-  get_view (Done t) xs = reply_view t xs
-  get_view (Refused w k) xs = go (and (is_nack w) (ltb k 3))
+  get_view (Ok t) xs = reply_view t xs
+  get_view (Err e) xs = go (and (is_nack e.why) (ltb e.place 3))
     where
       go : (q : Bool) → view (changed s (pick q Over Again)).state ≡ view s
       go true = refl
@@ -211,13 +210,13 @@ module _ (s : Controller) (v : SoundIn s) where
 
   module _ (u : Udid) (n : ℕ) (h : n < 128) where
     assign_view : (d : Decoded) (xs : List ℕ) → view (changed s (told_assign u (record { 0 = n }) d xs)).state ≡ after s.occupied (assign_in u n d xs) (view s)
-    assign_view (Done t) xs =
+    assign_view (Ok t) xs =
         go (is_assign u n t xs) ∙ ap (λ (q : Bool). after s.occupied (pick q (Assigned u n) Other) (view s)) (is_assign_below_128 u n h t xs)
       where
         go : (q : Bool) → view (changed s (pick q (Took u (record { 0 = n })) Again)).state ≡ after s.occupied (pick q (Assigned u n) Other) (view s)
         go true = asked_view (bound s u n) ∙ bound_view s u n v.size h
         go false = asked_view s
-    assign_view (Refused w k) xs = asked_view s
+    assign_view (Err e) xs = asked_view s
 
   step_view : PendingIn s s.last → (tr : List ℕ) → view (stepped s tr).state ≡ after s.occupied (read_as s.last tr) (view s)
   unfolding stepped

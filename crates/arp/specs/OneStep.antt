@@ -2,7 +2,7 @@
 -- cites how the step is computed. The record Steps of crate promises puts the sentences together.
 use Rattle.std.specs.Prelude.{ℕ, ◌+◌, ◌/◌, ◌≤◌, ◌<◌, ◌≡◌, true, false, List, ◌⊎◌, length, get_or}
 use Rattle.scan.specs.Numbers.{decode_number}
-use Rattle.scan.specs.declared.answer.Decoded.{Decoded}
+use Rattle.scan.specs.Decoded.{Decoded}
 use Rattle.decode.specs.Outcome.{Outcome}
 use Rattle.pool.specs.NextFree.{Next}
 use Rattle.pool.specs.Pools.{member}

@@ -1,7 +1,7 @@
 -- How a trace is read where the controller is told by its events (specs/Replay.antt): by what decode answers for it, and as symbols.
 use Rattle.std.specs.Prelude.{ℕ, ◌*◌, ◌≤◌, ◌<◌, ◌≡◌, true, ◌↔◌, List, length}
 use Rattle.wire.specs.declared.address.Address.{Address}
-use Rattle.scan.specs.declared.answer.Decoded.{Decoded}
+use Rattle.scan.specs.Decoded.{Decoded}
 use Rattle.decode.specs.Outcome.{Outcome}
 use Rattle.pool.specs.declared.Pool.{Pool}
 use Rattle.udid.specs.Bytes.{udid_bytes}

@@ -1,11 +1,10 @@
 -- What is bound, claimed and left, and what the pool has, told by the events alone, in the scope's sentences. The table does not cite the
 -- controller's own definitions of freeing, binding or stepping: an event is read from the command that was handed out last and from what
 -- decode answers for the trace (specs/Reading.antt).
-use Rattle.std.specs.Prelude.{ℕ, zero, suc, ◌*◌, ◌/◌, ◌%◌, ◌<◌, ◌≡◌, Bool, true, false, List, [], ◌∷◌, ◌⊎◌, ltb, leb, eqb, get_or}
+use Rattle.std.specs.Prelude.{ℕ, zero, suc, ◌*◌, ◌/◌, ◌%◌, ◌<◌, ◌≡◌, Bool, true, false, List, [], ◌∷◌, ◌⊎◌, ltb, leb, eqb, get_or, Ok, Err}
 use Rattle.lists.specs.Choice.{pick, or, and}
 use Rattle.scan.specs.Numbers.{is_nack}
-use Rattle.scan.specs.declared.answer.Decoded.{Decoded}
-use Rattle.scan.specs.declared.answer.Decoded.TheVariants.{Done, Refused}
+use Rattle.scan.specs.Decoded.{Decoded}
 use Rattle.pool.specs.Pools.{member}
 use Rattle.pool.specs.Start.{starting_pool, barred_pool}
 use Rattle.pool.specs.declared.Pool.{Pool}
@@ -107,8 +106,8 @@ after occupied Other t = t
 
 -- where a reply is due: answer 0 for Block Read (protocol 9), from 61h with command 03h, of 17 bytes: the identifier in the first 16
 abbrev pub reply_in : Decoded → List ℕ → Happened
-reply_in (Done t) received = pick (and (eqb t.address.0 0x61) (eqb t.command 0x03)) (pick (eqb t.received 17) (Replied (udid_at received 0)) Other) Other
-reply_in (Refused w k) received = Other
+reply_in (Ok t) received = pick (and (eqb t.address.0 0x61) (eqb t.command 0x03)) (pick (eqb t.received 17) (Replied (udid_at received 0)) Other) Other
+reply_in (Err e) received = Other
 
 -- the bytes of Assign Address: u, and a in the upper seven bits of the last byte, bit 0 zero
 abbrev pub assigns : Udid → ℕ → List ℕ → Bool
@@ -116,9 +115,9 @@ assigns u a sent = and (same_udid (udid_at sent 0) u) (eqb (get_or sent 16 0) (2
 
 -- where an Assign of a to u is outstanding: answer 0 for Block Write (protocol 8), to 61h with command 04h, of 17 bytes, those bytes
 abbrev pub assign_in : Udid → ℕ → Decoded → List ℕ → Happened
-assign_in u a (Done t) sent =
+assign_in u a (Ok t) sent =
     pick (and (and (eqb t.address.0 0x61) (eqb t.command 0x04)) (and (eqb t.sent 17) (assigns u a sent))) (Assigned u a) Other
-assign_in u a (Refused w k) sent = Other
+assign_in u a (Err e) sent = Other
 
 -- by the command that is outstanding; a trace where none is, or where Prepare is, changes nothing
 abbrev pub read_as : Handed → List ℕ → Happened
@@ -200,17 +199,17 @@ assigning u AllUsed = Wait (NoneFree u)
 
 -- Prepare accepted (answer 0 for Send Byte, protocol 1, to 61h, of the byte 01h): Get UDID. Answer 6: the pass ends. Any other: 14
 abbrev pub next_prepare : ℕ → Decoded → List ℕ → Handed
-next_prepare n (Done t) sent = pick (and (eqb t.address.0 0x61) (eqb (get_or sent 0 0) 0x01)) (again n) (Wait Abandoned)
-next_prepare n (Refused w k) sent = pick (is_nack w) (Wait Ended) (Wait Abandoned)
+next_prepare n (Ok t) sent = pick (and (eqb t.address.0 0x61) (eqb (get_or sent 0 0) 0x01)) (again n) (Wait Abandoned)
+next_prepare n (Err e) sent = pick (is_nack e.why) (Wait Ended) (Wait Abandoned)
 
 -- a reply of 17 bytes: an address is assigned, from the pool with what the identifier was bound to freed. A complete reply of another
 -- count, or answer 6 at byte 0, 1 or 2: the pass ends. Another address or command, or any other refusal: Get UDID again
 abbrev pub next_reply : Pool → Table → ℕ → ℕ → Decoded → List ℕ → Handed
-next_reply occupied t last n (Done x) received =
+next_reply occupied t last n (Ok x) received =
     pick (and (eqb x.address.0 0x61) (eqb x.command 0x03))
     (pick (eqb x.received 17) (assigning (udid_at received 0) (given_to (released occupied (udid_at received 0) t).used last (udid_at received 0) (get_or received 16 0))) (Wait Ended))
     (again n)
-next_reply occupied t last n (Refused w k) received = pick (and (is_nack w) (ltb k 3)) (Wait Ended) (again n)
+next_reply occupied t last n (Err e) received = pick (and (is_nack e.why) (ltb e.place 3)) (Wait Ended) (again n)
 
 -- after an Assign, complete or not: Get UDID. With no command of a pass outstanding: 21
 abbrev pub next_command : Pool → Table → ℕ → ℕ → Handed → List ℕ → Handed

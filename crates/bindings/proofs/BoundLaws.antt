@@ -1,6 +1,6 @@
 -- The set of bound addresses has an address if and only if something is bound to it, and so it counts them.
 use Prim.Native.Nat.{ℕ, zero, suc, ◌+◌, ◌≤◌, ◌<◌}
-use Rattle.std.specs.Prelude.{◌≡◌, Bool, ◌↔◌}
+use Rattle.std.specs.Prelude.{◌≡◌, Bool, ◌↔◌, Option, Some, None}
 use Rattle.std.proofs.Math.Path.{refl}
 use Rattle.std.proofs.Common.{sym, ap, ◌∙◌, arith}
 use Rattle.std.proofs.Math.Bool.{true, false}
@@ -15,32 +15,30 @@ use Rattle.pool.specs.Start.{empty_pool}
 use Rattle.pool.proofs.StartLaws.{member_empty}
 use Rattle.pool.specs.declared.Pool.{Pool}
 use Rattle.bindings.specs.Entries.{is_bound, with_entry, bound_from, bound_set}
-use Rattle.bindings.specs.declared.entry.Entry.{Entry}
-use Rattle.bindings.specs.declared.entry.Entry.TheVariants.{Nobody, Bound}
 use Rattle.udid.specs.declared.Udid.{Udid}
 
 -- one address: it is added where somebody is bound to it, and the set is as it was where nobody is
-pub with_bound : (set : Pool) (a : ℕ) (u : Udid) → with_entry set a (Bound u) ≡ with_address set a
+pub with_bound : (set : Pool) (a : ℕ) (u : Udid) → with_entry set a (Some u) ≡ with_address set a
 with_bound set a u = refl
 
-pub with_nobody : (set : Pool) (a : ℕ) → with_entry set a Nobody ≡ set
+pub with_nobody : (set : Pool) (a : ℕ) → with_entry set a None ≡ set
 with_nobody set a = refl
 
-with_entry_other : (set : Pool) (a : ℕ) (e : Entry) (j : ℕ) → (j ≡ a → ⊥) → member (with_entry set a e) j ≡ member set j
+with_entry_other : (set : Pool) (a : ℕ) (e : Option Udid) (j : ℕ) → (j ≡ a → ⊥) → member (with_entry set a e) j ≡ member set j
 with_entry_other set a e j n = go (is_bound e)
   where
     go : (t : Bool) → member (pick t (with_address set a) set) j ≡ member set j
     go true = has_with_other set a j n
     go false = refl
 
-with_entry_same : (set : Pool) (a : ℕ) (e : Entry) → a < 128 → member set a ≡ false → member (with_entry set a e) a ≡ is_bound e
+with_entry_same : (set : Pool) (a : ℕ) (e : Option Udid) → a < 128 → member set a ≡ false → member (with_entry set a e) a ≡ is_bound e
 with_entry_same set a e l f = go (is_bound e)
   where
     go : (t : Bool) → member (pick t (with_address set a) set) a ≡ t
     go true = has_with_same set a l
     go false = f
 
-module _ (held : ℕ → Entry) where
+module _ (held : ℕ → Option Udid) where
   -- those before a are not touched
   bound_from_leaves_earlier : (n a : ℕ) (set : Pool) (j : ℕ) → j < a → member (bound_from held n a set) j ≡ member set j
   unfolding bound_from

@@ -5,4 +5,3 @@
 pub mod answer;
 pub mod bound;
 pub mod buffer;
-pub mod entry;

@@ -1,5 +1,5 @@
 -- Which addresses are bound at the end of the model run, to whom, and what the binding buffer shows, in terms of the plain rule alone.
-use Rattle.std.specs.Prelude.{ℕ, ◌*◌, ◌/◌, ◌≤◌, ◌<◌, ◌≡◌, refl, true, false, ◌↔◌, List, [], ◌∷◌, length, get_or, take, drop, replicate}
+use Rattle.std.specs.Prelude.{ℕ, ◌*◌, ◌/◌, ◌≤◌, ◌<◌, ◌≡◌, refl, true, false, ◌↔◌, List, [], ◌∷◌, length, get_or, take, drop, replicate, Ok, None}
 use Rattle.std.proofs.Common.{sym, ap, ◌∙◌}
 use Rattle.lists.specs.AbsurdLaws.{zero_is_one}
 use Rattle.lists.specs.ChoiceLaws.{neither}
@@ -24,11 +24,9 @@ use Rattle.targets.specs.Admission.{AdmittedTargets}
 use Rattle.targets.specs.AdmissionLaws.{admitted_targets}
 use Rattle.targets.specs.Records.{targets_of}
 use Rattle.targets.specs.Refusals.{checked_list}
-use Rattle.targets.specs.declared.admit.Checked.TheVariants.{Admitted}
 use Rattle.bindings.proofs.BoundLaws.{bound_set_has}
 use Rattle.bindings.proofs.BufferLaws.{bytes_there, rest_there, nobody_bytes}
 use Rattle.bindings.specs.Entries as entries
-use Rattle.bindings.specs.declared.entry.Entry.TheVariants.{Nobody}
 use Rattle.rule.specs.AnyLaws.{any_map, any_each, any_constant}
 use Rattle.rule.specs.PassEndLaws.{given_free_distinct, given_movable_free, given_among_targets}
 use Rattle.rule.specs.PassEnd.{pass_end}
@@ -50,7 +48,7 @@ bound_some h e = go (bound_in h) refl e
 
 -- ---- whom the plain rule gives which address
 
-module _ (occupied : Pool) (last : ℕ) (s : List ℕ) (bytes : Bytes s) (e : checked_list (barred_pool occupied) s ≡ Admitted) where
+module _ (occupied : Pool) (last : ℕ) (s : List ℕ) (bytes : Bytes s) (e : checked_list (barred_pool occupied) s ≡ Ok tt) where
   admitted : AdmittedTargets (barred_pool occupied) (targets_of s)
   admitted = admitted_targets (barred_pool occupied) s bytes e
 
@@ -81,7 +79,7 @@ module _ (occupied : Pool) (last : ℕ) (s : List ℕ) (bytes : Bytes s) (e : ch
 
 -- ---- what the run answers and leaves of it: a list that is not refused, a buffer that is long enough, and what run_model's contract says
 
-module _ (occupied : Pool) (last : ℕ) (small : last < 128) (s b : List ℕ) (bytes : Bytes s) (long : 2048 ≤ length b) (e : checked_list (barred_pool occupied) s ≡ Admitted) (r : ModelAnswer) (s' b' : List ℕ)
+module _ (occupied : Pool) (last : ℕ) (small : last < 128) (s b : List ℕ) (bytes : Bytes s) (long : 2048 ≤ length b) (e : checked_list (barred_pool occupied) s ≡ Ok tt) (r : ModelAnswer) (s' b' : List ℕ)
     (l : Leaves (model_end occupied last s b) r s' b') where
   abbrev given : List Given
   given = (ruled (starting_pool occupied) last (targets_of s)).given
@@ -116,7 +114,7 @@ module _ (occupied : Pool) (last : ℕ) (small : last < 128) (s b : List ℕ) (b
   pub bytes_of_free : (a : ℕ) → a < 128 → (Any (λ (g : Given). g.address ≡ a) given → ⊥) → take 16 (drop (16 * a) b') ≡ replicate 16 0
   bytes_of_free a h n = buffer_at a h ∙ ap entries.entry_bytes (go (bound_in (held_at slots a)) refl) ∙ nobody_bytes
     where
-      go : (us : List Udid) → bound_in (held_at slots a) ≡ us → entry_for us ≡ Nobody
+      go : (us : List Udid) → bound_in (held_at slots a) ≡ us → entry_for us ≡ None
       go [] q = refl
       go (u ∷ us) q = absurd (n (any_map given (λ g p. p.0) (bound_given occupied last (targets_of s) (admitted occupied last s bytes e) a u (bound_in_is (held_at slots a) u us q))))
 

@@ -1,6 +1,6 @@
 -- What the model run answers, in terms of the plain rule alone: the number, who asked, how many are bound, how many Get UDIDs there were,
 -- and when all are bound.
-use Rattle.std.specs.Prelude.{ℕ, zero, suc, ◌*◌, ◌/◌, ◌≤◌, ◌<◌, ◌≡◌, refl, ◌↔◌, List, [], ◌∷◌, length}
+use Rattle.std.specs.Prelude.{ℕ, zero, suc, ◌*◌, ◌/◌, ◌≤◌, ◌<◌, ◌≡◌, refl, ◌↔◌, List, [], ◌∷◌, length, Ok}
 use Rattle.std.proofs.Common.{sym, ap, ◌∙◌, subst, arith}
 use Rattle.lists.specs.Each.{Bytes}
 use Rattle.pool.specs.CountLaws.{count_cong}
@@ -18,7 +18,6 @@ use Rattle.targets.specs.IndexLaws.{length_targets}
 use Rattle.targets.specs.Records.{record_count, targets_of}
 use Rattle.targets.specs.Refusals.{checked_list}
 use Rattle.targets.specs.Target.{Target}
-use Rattle.targets.specs.declared.admit.Checked.TheVariants.{Admitted}
 use Rattle.bindings.proofs.BoundLaws.{bound_set_count}
 use Rattle.bindings.specs.Entries as entries
 use Rattle.rule.specs.AllBoundLaws.{all_served, all_given}
@@ -85,7 +84,7 @@ last_command_lem occupied last [] = refl
 last_command_lem occupied last (t ∷ ts) = refl
 
 -- a list that is not refused, a buffer that is long enough, and what run_model's contract says of an answer and of the lists left
-module _ (occupied : Pool) (last : ℕ) (small : last < 128) (s b : List ℕ) (bytes : Bytes s) (long : 2048 ≤ length b) (e : checked_list (barred_pool occupied) s ≡ Admitted) (r : ModelAnswer) (s' b' : List ℕ)
+module _ (occupied : Pool) (last : ℕ) (small : last < 128) (s b : List ℕ) (bytes : Bytes s) (long : 2048 ≤ length b) (e : checked_list (barred_pool occupied) s ≡ Ok tt) (r : ModelAnswer) (s' b' : List ℕ)
     (l : Leaves (model_end occupied last s b) r s' b') where
   admitted : AdmittedTargets (barred_pool occupied) (targets_of s)
   admitted = admitted_targets (barred_pool occupied) s bytes e

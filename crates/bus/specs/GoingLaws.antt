@@ -1,5 +1,5 @@
 -- Every command of a pass is the state's own and reaches somebody, and so the code's run over the records is the pass bit by bit.
-use Rattle.std.specs.Prelude.{ℕ, suc, ◌*◌, ◌/◌, ◌<◌, ◌≡◌, refl, Bool, true, false, List, [], ◌∷◌, leb, length, drop}
+use Rattle.std.specs.Prelude.{ℕ, suc, ◌*◌, ◌/◌, ◌<◌, ◌≡◌, refl, Bool, true, false, Option, Some, None, List, [], ◌∷◌, leb, length, drop, Ok, Err}
 use Rattle.std.proofs.Common.{sym, ap, ◌∙◌, subst, arith}
 use Rattle.lists.specs.Choice.{pick}
 use Rattle.lists.specs.ChoiceLaws.{false_not_true}
@@ -10,8 +10,7 @@ use Rattle.pool.specs.Start.{barred_pool}
 use Rattle.pool.specs.declared.Pool.{Pool}
 use Rattle.pool.specs.declared.free.Free.{Free}
 use Rattle.pool.specs.declared.free.Free.TheVariants.{At, AllUsed}
-use Rattle.scan.specs.declared.answer.Decoded.{Decoded}
-use Rattle.scan.specs.declared.answer.Decoded.TheVariants.{Done, Refused}
+use Rattle.scan.specs.Decoded.{Decoded}
 use Rattle.udid.specs.declared.Udid.{Udid}
 use Rattle.targets.specs.AdmissionLaws.{admitted_length}
 use Rattle.targets.specs.Records.{target_at, targets_of, records_with}
@@ -22,9 +21,6 @@ use Rattle.targets.specs.Target.{Target, assigned_to}
 use Rattle.targets.specs.Winner.{winner_of}
 use Rattle.targets.specs.WinnerLaws.{winner_exactly, winner_least}
 use Rattle.targets.specs.Members.{Least}
-use Rattle.targets.specs.declared.admit.Checked.TheVariants.{Admitted}
-use Rattle.targets.specs.declared.winner.Winner.{Winner}
-use Rattle.targets.specs.declared.winner.Winner.TheVariants as winner
 use Rattle.picking.proofs.PickingLaws.{chosen_small_and_free}
 use Rattle.arp.specs.Bindings.{bound, freed}
 use Rattle.arp.specs.Controller.{handed, counted, asked, issued, replied, stepped, started, new_controller, changed}
@@ -73,12 +69,12 @@ fine_issued c t picks AllUsed ts m h = (refl, tt)
 
 -- whatever an Assign is told: a Get UDID is due
 fine_assigned : (c : Controller) (u : Udid) (a : Address) (d : Decoded) (sent : List ℕ) (ts : List Target) → 0 < length ts → Fine (changed c (told_assign u a d sent)) ts
-fine_assigned c u a (Done t) sent ts h = go (is_assign u a.0 t sent)
+fine_assigned c u a (Ok t) sent ts h = go (is_assign u a.0 t sent)
   where
     go : (b : Bool) → Fine (changed c (pick b (Took u a) Again)) ts
     go true = fine_asked (bound c u a.0) ts h
     go false = fine_asked c ts h
-fine_assigned c u a (Refused w k) sent ts h = fine_asked c ts h
+fine_assigned c u a (Err e) sent ts h = fine_asked c ts h
 
 -- Prepare To ARP
 fine_prepare : (c : Controller) (ts : List Target) → c.last ≡ Send Prepare → Fine (stepped c (on_bus (Send Prepare) ts)) (acted (Send Prepare) ts)
@@ -100,12 +96,12 @@ fine_replied c ts t m b =
 fine_get : (c : Controller) (s : List ℕ) → Bytes s → Fit s → c.last ≡ Send GetUdid → 0 < length (targets_of s) → Fine (stepped c (on_bus (Send GetUdid) (targets_of s))) (targets_of s)
 fine_get c s b f e h = go (winner_of s) refl
   where
-    go : (w : Winner) → w ≡ winner_of s → Fine (stepped c (on_bus (Send GetUdid) (targets_of s))) (targets_of s)
-    go winner.AllResolved q =
+    go : (w : Option ℕ) → w ≡ winner_of s → Fine (stepped c (on_bus (Send GetUdid) (targets_of s))) (targets_of s)
+    go None q =
         subst (λ (x : Stepped). Fine x (targets_of s))
         (sym (ap (stepped c) (get_silence s b f h q) ∙ get_unheard c e)) (refl, tt)
-    go (winner.At w) q =
-        let l : Least (targets_of s) (target_at s w) = winner_least s b f.apart w ((winner_exactly s (winner.At w)).0 q) in
+    go (Some w) q =
+        let l : Least (targets_of s) (target_at s w) = winner_least s b f.apart w ((winner_exactly s (Some w)).0 q) in
         subst (λ (x : Stepped). Fine x (targets_of s))
         (sym (ap (stepped c) (on-bus.get_whole (targets_of s) (target_at s w) l) ∙ get_replied c (target_at s w) e l.sized))
         (fine_replied c (targets_of s) (target_at s w) l.among l.sized.address_byte)
@@ -163,11 +159,11 @@ fit_put ts s after f e = subst Fit (sym e) (record {
   apart = λ i h r. f.apart i (omega (arith, h, ap (λ (n : ℕ). n / 18) (length_put_from ts 0 s))) (r.0, r.1, sym (put_from_keeps_udid ts 0 s r.0) ∙ r.2 ∙ put_from_keeps_udid ts 0 s i);
 })
 
-pub running_first : (occupied : Pool) (last : ℕ) (st : Stepped) (s : List ℕ) → st ≡ started (new_controller occupied last) → Bytes s → checked_list (barred_pool occupied) s ≡ Admitted
+pub running_first : (occupied : Pool) (last : ℕ) (st : Stepped) (s : List ℕ) → st ≡ started (new_controller occupied last) → Bytes s → checked_list (barred_pool occupied) s ≡ Ok tt
     → Running (world_of st s) s 300 st s
 running_first occupied last st s q b e = record {
   bytes = b;
-  fit = record { whole = (admitted_length (barred_pool occupied) s b e).1; apart = ((given_exactly (barred_pool occupied) s Admitted).0 (sym e)).2 };
+  fit = record { whole = (admitted_length (barred_pool occupied) s b e).1; apart = ((given_exactly (barred_pool occupied) s (Ok tt)).0 (sym e)).2 };
   going = subst (λ (x : Stepped). Going x s) (sym q) (record { handed = refl; reaches = tt });
   leads = refl;
   same_size = refl;

@@ -1,6 +1,6 @@
 -- The delivered run is the pass over the bus bit by bit: its answer, the records that it leaves and the binding buffer are those of the
 -- pass, whose commands are the controller's steps and whose traces are what stands on the wire.
-use Rattle.std.specs.Prelude.{ℕ, ◌*◌, ◌≤◌, ◌<◌, ◌≡◌, List, length, take, drop}
+use Rattle.std.specs.Prelude.{ℕ, ◌*◌, ◌≤◌, ◌<◌, ◌≡◌, List, length, take, drop, Ok}
 use Rattle.std.proofs.Common.{ap, ◌∙◌, subst}
 use Rattle.pool.specs.Start.{barred_pool}
 use Rattle.pool.specs.declared.Pool.{Pool}
@@ -12,7 +12,6 @@ use Rattle.slots.specs.declared.Binding.{Binding}
 use Rattle.slots.specs.declared.Binding.TheVariants.{Bound}
 use Rattle.targets.specs.Records.{targets_of, records_with}
 use Rattle.targets.specs.Refusals.{checked_list}
-use Rattle.targets.specs.declared.admit.Checked.TheVariants.{Admitted}
 use Rattle.bindings.proofs.BufferLaws.{bytes_there}
 use Rattle.bindings.specs.Entries.{entry_bytes}
 use Rattle.rule.specs.Bus.{pass}
@@ -22,10 +21,10 @@ use Rattle.bus.specs.RunLaws.{end_checked_lem, end_going}
 use Rattle.bindings.specs.declared.answer.ModelAnswer.{ModelAnswer}
 
 -- a list that is not refused, a buffer that is long enough, and what run_model's contract says of an answer and of the lists left
-module _ (occupied : Pool) (last : ℕ) (small : last < 128) (s b : List ℕ) (long : 2048 ≤ length b) (e : checked_list (barred_pool occupied) s ≡ Admitted) (r : ModelAnswer) (s' b' : List ℕ)
+module _ (occupied : Pool) (last : ℕ) (small : last < 128) (s b : List ℕ) (long : 2048 ≤ length b) (e : checked_list (barred_pool occupied) s ≡ Ok tt) (r : ModelAnswer) (s' b' : List ℕ)
     (l : Leaves (model_end occupied last s b) r s' b') where
   pub leaves_pass : Leaves (ended_end (pass occupied last (targets_of s)) s b) r s' b'
-  leaves_pass = subst (λ (x : ModelEnd). Leaves x r s' b') (end_going occupied last s b small ∙ end_checked_lem occupied last s b Admitted long e) l
+  leaves_pass = subst (λ (x : ModelEnd). Leaves x r s' b') (end_going occupied last s b small ∙ end_checked_lem occupied last s b (Ok tt) long e) l
 
   -- the number of the last command, the identifier in it, and the Get UDIDs that the controller counted
   pub answer_of_pass : r.answer ≡ number_in (command_number (pass occupied last (targets_of s)).now.command)

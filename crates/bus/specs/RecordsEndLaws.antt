@@ -1,5 +1,5 @@
 -- What the model run leaves in the records, byte by byte, in terms of the plain rule alone; and that nothing is left open by this.
-use Rattle.std.specs.Prelude.{ℕ, ◌+◌, ◌*◌, ◌/◌, ◌%◌, ◌≤◌, ◌<◌, ◌≡◌, length, get_or, take, drop}
+use Rattle.std.specs.Prelude.{ℕ, ◌+◌, ◌*◌, ◌/◌, ◌%◌, ◌≤◌, ◌<◌, ◌≡◌, length, get_or, take, drop, Ok}
 use Rattle.std.proofs.Common.{sym, ap, ◌∙◌, subst, arith, ext_get_or}
 use mathlib.Core.List.{List, List-discrete}
 use Rattle.std.proofs.Math.Decide.{ℕ_discrete, dec_lt}
@@ -12,7 +12,6 @@ use Rattle.targets.specs.Admission.{AdmittedTargets}
 use Rattle.targets.specs.AdmissionLaws.{admitted_targets}
 use Rattle.targets.specs.Records.{targets_of}
 use Rattle.targets.specs.Refusals.{checked_list}
-use Rattle.targets.specs.declared.admit.Checked.TheVariants.{Admitted}
 use Rattle.rule.specs.AnyLaws.{any_each, any_constant, any_decided}
 use Rattle.rule.specs.PlainRule.{Given, ruled}
 use Rattle.rule.specs.Reading.{RecordOf}
@@ -22,7 +21,7 @@ use Rattle.bus.specs.Run.{Leaves, model_end}
 use Rattle.bindings.specs.declared.answer.ModelAnswer.{ModelAnswer}
 
 -- a list that is not refused, a buffer that is long enough, and what run_model's contract says of an answer and of the lists left
-module _ (occupied : Pool) (last : ℕ) (small : last < 128) (s b : List ℕ) (bytes : Bytes s) (long : 2048 ≤ length b) (e : checked_list (barred_pool occupied) s ≡ Admitted) (r : ModelAnswer) (s' b' : List ℕ)
+module _ (occupied : Pool) (last : ℕ) (small : last < 128) (s b : List ℕ) (bytes : Bytes s) (long : 2048 ≤ length b) (e : checked_list (barred_pool occupied) s ≡ Ok tt) (r : ModelAnswer) (s' b' : List ℕ)
     (l : Leaves (model_end occupied last s b) r s' b') where
   admitted : AdmittedTargets (barred_pool occupied) (targets_of s)
   admitted = admitted_targets (barred_pool occupied) s bytes e

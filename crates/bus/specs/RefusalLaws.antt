@@ -1,6 +1,6 @@
 -- The refusals of the model run: 1, 2, 9, 10, 11 and 12 are given exactly in their listed cases, with the record, and then nothing lent
 -- changes and every other part of the answer is zero.
-use Rattle.std.specs.Prelude.{ℕ, ◌/◌, ◌%◌, ◌≤◌, ◌<◌, ◌≡◌, refl, ◌⊎◌, ◌↔◌, List, length}
+use Rattle.std.specs.Prelude.{ℕ, ◌/◌, ◌%◌, ◌≤◌, ◌<◌, ◌≡◌, refl, ◌⊎◌, ◌↔◌, List, length, Ok, Err}
 use Rattle.std.proofs.Common.{sym, ap, ◌∙◌, subst, inl, inr, arith}
 use Rattle.std.proofs.Math.Decide.{dec_lt}
 use Rattle.pool.specs.Start.{barred_pool}
@@ -9,12 +9,12 @@ use Rattle.lists.specs.AbsurdLaws.{zero_is_one}
 use Rattle.lists.specs.Each.{Bytes}
 use Rattle.targets.specs.ByteCases.{EvenOrFlag, SameAsEarlier, FixedOnTaken, GivenByBytes}
 use Rattle.targets.specs.ByteCasesLaws.{given_by_bytes}
-use Rattle.targets.specs.Cases.{LengthIsBad, None, FirstOf, Given}
+use Rattle.targets.specs.Cases.{LengthIsBad, NoneOf, FirstOf, Given}
 use Rattle.targets.specs.Numbers.{answer_of}
 use Rattle.targets.specs.Refusals.{checked_list}
 use Rattle.targets.specs.RefusalLaws.{given_exactly, answers_tell_apart}
-use Rattle.targets.specs.declared.admit.Checked.{Checked}
-use Rattle.targets.specs.declared.admit.Checked.TheVariants.{Admitted, BadLength, Malformed, Repeated, Taken}
+use Rattle.targets.specs.Checked.{Checked}
+use Rattle.targets.specs.declared.admit.ListError.TheVariants.{BadLength, Malformed, Repeated, Taken}
 use Rattle.arp.specs.Numbers.{end_number, command_number}
 use Rattle.commands.specs.declared.command.End.{End}
 use Rattle.commands.specs.declared.command.End.TheVariants.{Nothing, Ended, NoneFree, Abandoned, NotOutstanding, Chosen}
@@ -49,20 +49,17 @@ not_in_pass k n e h = go (number_is k)
     go (inl z) = omega (arith, h.0)
     go (inr z) = omega (arith, h.1)
 
-refusal_9_to_12 : (k : Checked) → (k ≡ Admitted → ⊥) → (9 ≤ (answer_of k).number) × ((answer_of k).number ≤ 12)
-refusal_9_to_12 Admitted n = absurd (n refl)
-refusal_9_to_12 BadLength n = (omega arith, omega arith)
-refusal_9_to_12 (Malformed i) n = (omega arith, omega arith)
-refusal_9_to_12 (Repeated i) n = (omega arith, omega arith)
-refusal_9_to_12 (Taken i) n = (omega arith, omega arith)
+refusal_9_to_12 : (k : Checked) → (k ≡ Ok tt → ⊥) → (9 ≤ (answer_of k).number) × ((answer_of k).number ≤ 12)
+refusal_9_to_12 (Ok tt) n = absurd (n refl)
+refusal_9_to_12 (Err BadLength) n = (omega arith, omega arith)
+refusal_9_to_12 (Err (Malformed i)) n = (omega arith, omega arith)
+refusal_9_to_12 (Err (Repeated i)) n = (omega arith, omega arith)
+refusal_9_to_12 (Err (Taken i)) n = (omega arith, omega arith)
 
 -- a refused list: the answer's number and record are those of the refusal
-refused_end_of_check : (k : Checked) → (k ≡ Admitted → ⊥) → (occupied : Pool) (last : ℕ) (s b : List ℕ) → end_checked k occupied last s b ≡ refused_end (answer_of k).number (answer_of k).value s b
-refused_end_of_check Admitted n occupied last s b = absurd (n refl)
-refused_end_of_check BadLength n occupied last s b = refl
-refused_end_of_check (Malformed i) n occupied last s b = refl
-refused_end_of_check (Repeated i) n occupied last s b = refl
-refused_end_of_check (Taken i) n occupied last s b = refl
+refused_end_of_check : (k : Checked) → (k ≡ Ok tt → ⊥) → (occupied : Pool) (last : ℕ) (s b : List ℕ) → end_checked k occupied last s b ≡ refused_end (answer_of k).number (answer_of k).value s b
+refused_end_of_check (Ok tt) n occupied last s b = absurd (n refl)
+refused_end_of_check (Err k) n occupied last s b = refl
 
 pairs_tell_apart : (k j : Checked) → ◌≡◌ {A = ℕ × ℕ} ((answer_of k).number, (answer_of k).value) ((answer_of j).number, (answer_of j).value) → k ≡ j
 pairs_tell_apart k j e =
@@ -70,12 +67,9 @@ pairs_tell_apart k j e =
     let v : (answer_of k).value ≡ (answer_of j).value = ap (λ (p : ℕ × ℕ). p.1) e in
     answers_tell_apart k j (λ i. record { number = a i; value = v i })
 
-admitted_or_not : (k : Checked) → (k ≡ Admitted) ⊎ (k ≡ Admitted → ⊥)
-admitted_or_not Admitted = inl refl
-admitted_or_not BadLength = inr (λ e. zero_is_one (cc e))
-admitted_or_not (Malformed i) = inr (λ e. zero_is_one (cc e))
-admitted_or_not (Repeated i) = inr (λ e. zero_is_one (cc e))
-admitted_or_not (Taken i) = inr (λ e. zero_is_one (cc e))
+admitted_or_not : (k : Checked) → (k ≡ Ok tt) ⊎ (k ≡ Ok tt → ⊥)
+admitted_or_not (Ok tt) = inl refl
+admitted_or_not (Err k) = inr (λ e. zero_is_one (cc e))
 
 -- ---- with a last pick up to 127
 
@@ -87,22 +81,22 @@ module _ (occupied : Pool) (last : ℕ) (s b : List ℕ) (r : ModelAnswer) (s' b
   checked_end : 2048 ≤ length b → Leaves (end_checked (checked_list (barred_pool occupied) s) occupied last s b) r s' b'
   checked_end h = subst (λ (x : ModelEnd). Leaves x r s' b') (end_checked_lem occupied last s b (checked_list (barred_pool occupied) s) h refl) l
 
-  refused_end_lem : 2048 ≤ length b → (checked_list (barred_pool occupied) s ≡ Admitted → ⊥)
+  refused_end_lem : 2048 ≤ length b → (checked_list (barred_pool occupied) s ≡ Ok tt → ⊥)
       → Leaves (refused_end (answer_of (checked_list (barred_pool occupied) s)).number (answer_of (checked_list (barred_pool occupied) s)).value s b) r s' b'
   refused_end_lem h n = subst (λ (x : ModelEnd). Leaves x r s' b') (refused_end_of_check (checked_list (barred_pool occupied) s) n occupied last s b) (checked_end h)
 
-  pass_number : 2048 ≤ length b → checked_list (barred_pool occupied) s ≡ Admitted → (1 ≤ r.answer) × (r.answer ≤ 12) → ⊥
+  pass_number : 2048 ≤ length b → checked_list (barred_pool occupied) s ≡ Ok tt → (1 ≤ r.answer) × (r.answer ≤ 12) → ⊥
   pass_number h e =
       let q = subst (λ (k : Checked). Leaves (end_checked k occupied last s b) r s' b') e (checked_end h) in
       not_in_pass (pass occupied last (targets_of s)).now.command r.answer (sym (ap (λ (x : ModelAnswer). x.answer) q.answered))
 
   -- what the number is: 2 with a short buffer, 9 to 12 with a refused list, and none from 1 to 12 with a pass
   run_cases : (1 ≤ r.answer) × (r.answer ≤ 12)
-      → ((length b < 2048) × (r.answer ≡ 2)) ⊎ ((2048 ≤ length b) × (checked_list (barred_pool occupied) s ≡ Admitted → ⊥) × ((9 ≤ r.answer) × (r.answer ≤ 12)))
+      → ((length b < 2048) × (r.answer ≡ 2)) ⊎ ((2048 ≤ length b) × (checked_list (barred_pool occupied) s ≡ Ok tt → ⊥) × ((9 ≤ r.answer) × (r.answer ≤ 12)))
   run_cases h = go (dec_lt (length b) 2048) (admitted_or_not (checked_list (barred_pool occupied) s))
     where
-      go : Dec (length b < 2048) → (checked_list (barred_pool occupied) s ≡ Admitted) ⊎ (checked_list (barred_pool occupied) s ≡ Admitted → ⊥)
-          → ((length b < 2048) × (r.answer ≡ 2)) ⊎ ((2048 ≤ length b) × (checked_list (barred_pool occupied) s ≡ Admitted → ⊥) × ((9 ≤ r.answer) × (r.answer ≤ 12)))
+      go : Dec (length b < 2048) → (checked_list (barred_pool occupied) s ≡ Ok tt) ⊎ (checked_list (barred_pool occupied) s ≡ Ok tt → ⊥)
+          → ((length b < 2048) × (r.answer ≡ 2)) ⊎ ((2048 ≤ length b) × (checked_list (barred_pool occupied) s ≡ Ok tt → ⊥) × ((9 ≤ r.answer) × (r.answer ≤ 12)))
       go (yes k) c = inl (k, ap (λ (x : ModelAnswer). x.answer) (short_end k).answered)
       go (no k) (inl a) = absurd (pass_number (omega arith) a h)
       go (no k) (inr n) =
@@ -114,7 +108,7 @@ module _ (occupied : Pool) (last : ℕ) (s b : List ℕ) (r : ModelAnswer) (s' b
   run_not_1 : r.answer ≡ 1 → ⊥
   run_not_1 e = go (run_cases (omega arith, omega arith))
     where
-      go : ((length b < 2048) × (r.answer ≡ 2)) ⊎ ((2048 ≤ length b) × (checked_list (barred_pool occupied) s ≡ Admitted → ⊥) × ((9 ≤ r.answer) × (r.answer ≤ 12))) → ⊥
+      go : ((length b < 2048) × (r.answer ≡ 2)) ⊎ ((2048 ≤ length b) × (checked_list (barred_pool occupied) s ≡ Ok tt → ⊥) × ((9 ≤ r.answer) × (r.answer ≤ 12))) → ⊥
       go (inl w) = omega (arith, w.1)
       go (inr w) = omega (arith, w.2.0)
 
@@ -125,12 +119,12 @@ module _ (occupied : Pool) (last : ℕ) (s b : List ℕ) (r : ModelAnswer) (s' b
       there : r.answer ≡ 2 → length b < 2048
       there e = go (run_cases (omega arith, omega arith))
         where
-          go : ((length b < 2048) × (r.answer ≡ 2)) ⊎ ((2048 ≤ length b) × (checked_list (barred_pool occupied) s ≡ Admitted → ⊥) × ((9 ≤ r.answer) × (r.answer ≤ 12))) → length b < 2048
+          go : ((length b < 2048) × (r.answer ≡ 2)) ⊎ ((2048 ≤ length b) × (checked_list (barred_pool occupied) s ≡ Ok tt → ⊥) × ((9 ≤ r.answer) × (r.answer ≤ 12))) → length b < 2048
           go (inl w) = w.0
           go (inr w) = absurd (omega (arith, w.2.0))
 
   -- 9, 10, 11 and 12: the buffer is long enough, and the list is what the scope lists for that number and record
-  run_refused : (k : Checked) → (k ≡ Admitted → ⊥) → (model_number r ≡ ((answer_of k).number, (answer_of k).value)) ↔ ((2048 ≤ length b) × Given (barred_pool occupied) s k)
+  run_refused : (k : Checked) → (k ≡ Ok tt → ⊥) → (model_number r ≡ ((answer_of k).number, (answer_of k).value)) ↔ ((2048 ≤ length b) × Given (barred_pool occupied) s k)
   run_refused k n = (there, back)
     where
       there : model_number r ≡ ((answer_of k).number, (answer_of k).value) → (2048 ≤ length b) × Given (barred_pool occupied) s k
@@ -139,7 +133,7 @@ module _ (occupied : Pool) (last : ℕ) (s b : List ℕ) (r : ModelAnswer) (s' b
           q : r.answer ≡ (answer_of k).number
           q = ap (λ (p : ℕ × ℕ). p.0) e
 
-          go : ((length b < 2048) × (r.answer ≡ 2)) ⊎ ((2048 ≤ length b) × (checked_list (barred_pool occupied) s ≡ Admitted → ⊥) × ((9 ≤ r.answer) × (r.answer ≤ 12)))
+          go : ((length b < 2048) × (r.answer ≡ 2)) ⊎ ((2048 ≤ length b) × (checked_list (barred_pool occupied) s ≡ Ok tt → ⊥) × ((9 ≤ r.answer) × (r.answer ≤ 12)))
               → (2048 ≤ length b) × Given (barred_pool occupied) s k
           go (inl w) = absurd (omega (arith, w.1, q, (refusal_9_to_12 k n).0))
           go (inr w) =
@@ -197,7 +191,7 @@ module _ (occupied : Pool) (last : ℕ) (s b : List ℕ) (r : ModelAnswer) (s' b
       run : Leaves (run_end occupied last s b) r s' b' → Untouched s b r s' b'
       run v = at (run_cases occupied last s b r s' b' v h)
         where
-          at : ((length b < 2048) × (r.answer ≡ 2)) ⊎ ((2048 ≤ length b) × (checked_list (barred_pool occupied) s ≡ Admitted → ⊥) × ((9 ≤ r.answer) × (r.answer ≤ 12))) → Untouched s b r s' b'
+          at : ((length b < 2048) × (r.answer ≡ 2)) ⊎ ((2048 ≤ length b) × (checked_list (barred_pool occupied) s ≡ Ok tt → ⊥) × ((9 ≤ r.answer) × (r.answer ≤ 12))) → Untouched s b r s' b'
           at (inl w) = untouched s b r s' b' 2 0 (short_end occupied last s b r s' b' v w.0)
           at (inr w) = untouched s b r s' b' _ _ (refused_end_lem occupied last s b r s' b' v w.0 w.1)
 
@@ -207,7 +201,7 @@ module _ (occupied : Pool) (last : ℕ) (s b : List ℕ) (r : ModelAnswer) (s' b
 
   -- the numbers, each if and only if its case, by the bytes of the records: record i is the 18 bytes from 18 i on
   module _ (bytes : Bytes s) where
-    refused_by_bytes : (k : Checked) → (k ≡ Admitted → ⊥) → (model_number r ≡ ((answer_of k).number, (answer_of k).value)) ↔ ((last < 128) × ((2048 ≤ length b) × GivenByBytes (barred_pool occupied) s k))
+    refused_by_bytes : (k : Checked) → (k ≡ Ok tt → ⊥) → (model_number r ≡ ((answer_of k).number, (answer_of k).value)) ↔ ((last < 128) × ((2048 ≤ length b) × GivenByBytes (barred_pool occupied) s k))
     refused_by_bytes k n =
         other_number (answer_of k).number (answer_of k).value ((2048 ≤ length b) × GivenByBytes (barred_pool occupied) s k) (λ e. omega (arith, (refusal_9_to_12 k n).0)) (λ v.
         let m = run_refused occupied last s b r s' b' v k n in
@@ -216,17 +210,17 @@ module _ (occupied : Pool) (last : ℕ) (s b : List ℕ) (r : ModelAnswer) (s' b
 
     -- 9: over 2,160 bytes, or no multiple of 18
     pub model_9 : (model_number r ≡ (9, 0)) ↔ ((last < 128) × ((2048 ≤ length b) × ((2160 < length s) ⊎ (length s % 18 ≡ 0 → ⊥))))
-    model_9 = refused_by_bytes BadLength (λ e. zero_is_one (cc e))
+    model_9 = refused_by_bytes (Err BadLength) (λ e. zero_is_one (cc e))
 
     -- 10: the first record whose byte 16 is even or byte 17 above 1
     pub model_10 : (i : ℕ) → (model_number r ≡ (10, i)) ↔ ((last < 128) × ((2048 ≤ length b) × ((LengthIsBad s → ⊥) × FirstOf (EvenOrFlag s) (length s / 18) i)))
-    model_10 i = refused_by_bytes (Malformed i) (λ e. zero_is_one (cc e))
+    model_10 i = refused_by_bytes (Err (Malformed i)) (λ e. zero_is_one (cc e))
 
     -- 11: the first record whose 16 bytes of identifier are those of an earlier one
-    pub model_11 : (i : ℕ) → (model_number r ≡ (11, i)) ↔ ((last < 128) × ((2048 ≤ length b) × ((LengthIsBad s → ⊥) × None (EvenOrFlag s) (length s / 18) × FirstOf (SameAsEarlier s) (length s / 18) i)))
-    model_11 i = refused_by_bytes (Repeated i) (λ e. zero_is_one (cc e))
+    pub model_11 : (i : ℕ) → (model_number r ≡ (11, i)) ↔ ((last < 128) × ((2048 ≤ length b) × ((LengthIsBad s → ⊥) × NoneOf (EvenOrFlag s) (length s / 18) × FirstOf (SameAsEarlier s) (length s / 18) i)))
+    model_11 i = refused_by_bytes (Err (Repeated i)) (λ e. zero_is_one (cc e))
 
     -- 12: the first fixed target whose address is barred (reserved or occupied), or is that of an earlier fixed one
     pub model_12 : (i : ℕ) → (model_number r ≡ (12, i))
-        ↔ ((last < 128) × ((2048 ≤ length b) × ((LengthIsBad s → ⊥) × None (EvenOrFlag s) (length s / 18) × None (SameAsEarlier s) (length s / 18) × FirstOf (FixedOnTaken (barred_pool occupied) s) (length s / 18) i)))
-    model_12 i = refused_by_bytes (Taken i) (λ e. zero_is_one (cc e))
+        ↔ ((last < 128) × ((2048 ≤ length b) × ((LengthIsBad s → ⊥) × NoneOf (EvenOrFlag s) (length s / 18) × NoneOf (SameAsEarlier s) (length s / 18) × FirstOf (FixedOnTaken (barred_pool occupied) s) (length s / 18) i)))
+    model_12 i = refused_by_bytes (Err (Taken i)) (λ e. zero_is_one (cc e))

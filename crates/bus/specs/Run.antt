@@ -1,13 +1,12 @@
 -- What the model run answers, and leaves in the lent records and the binding buffer.
-use Rattle.std.specs.Prelude.{ℕ, ◌≡◌, List, ◌++◌, length, drop, ltb}
+use Rattle.std.specs.Prelude.{ℕ, ◌≡◌, List, ◌++◌, length, drop, ltb, Ok, Err}
 use Rattle.lists.specs.Choice.{pick}
 use Rattle.pool.specs.Start.{barred_pool}
 use Rattle.pool.specs.declared.Pool.{Pool}
-use Rattle.targets.specs.Numbers.{answer_of}
+use Rattle.targets.specs.Numbers.{error_number, error_place}
 use Rattle.targets.specs.Records.{targets_of, records_with}
 use Rattle.targets.specs.Refusals.{checked_list}
-use Rattle.targets.specs.declared.admit.Checked.{Checked}
-use Rattle.targets.specs.declared.admit.Checked.TheVariants.{Admitted, BadLength, Malformed, Repeated, Taken}
+use Rattle.targets.specs.Checked.{Checked}
 use Rattle.bindings.specs.Entries.{buffer_of}
 use Rattle.rule.specs.Bus.{World, pass}
 use Rattle.report.specs.Report.{entry_at, refused_answer, reported}
@@ -17,11 +16,8 @@ use Rattle.bindings.specs.declared.answer.ModelAnswer.{ModelAnswer}
 
 -- the answer of a refusal, in the scope's number and value
 abbrev pub Refused : Checked → ModelAnswer → Type 0
-Refused Admitted r = ⊥
-Refused BadLength r = r ≡ refused_answer 9 0
-Refused (Malformed i) r = r ≡ refused_answer 10 i
-Refused (Repeated i) r = r ≡ refused_answer 11 i
-Refused (Taken i) r = r ≡ refused_answer 12 i
+Refused (Ok tt) r = ⊥
+Refused (Err e) r = r ≡ refused_answer (error_number e) (error_place e)
 
 -- ---- the answer, the records and the binding buffer
 
@@ -50,11 +46,8 @@ ended_end w s b = record {
 
 -- 9, 10, 11, 12, or the pass
 abbrev pub end_checked : Checked → Pool → ℕ → List ℕ → List ℕ → ModelEnd
-end_checked Admitted occupied last s b = ended_end (pass occupied last (targets_of s)) s b
-end_checked BadLength occupied last s b = refused_end (answer_of BadLength).number (answer_of BadLength).value s b
-end_checked (Malformed i) occupied last s b = refused_end (answer_of (Malformed i)).number (answer_of (Malformed i)).value s b
-end_checked (Repeated i) occupied last s b = refused_end (answer_of (Repeated i)).number (answer_of (Repeated i)).value s b
-end_checked (Taken i) occupied last s b = refused_end (answer_of (Taken i)).number (answer_of (Taken i)).value s b
+end_checked (Ok tt) occupied last s b = ended_end (pass occupied last (targets_of s)) s b
+end_checked (Err e) occupied last s b = refused_end (error_number e) (error_place e) s b
 
 -- 2 comes before them
 unfoldable pub run_end : Pool → ℕ → List ℕ → List ℕ → ModelEnd

@@ -1,13 +1,13 @@
 -- The model run by its cases, and that it has one answer.
-use Rattle.std.specs.Prelude.{ℕ, ◌≤◌, ◌<◌, ◌≡◌, refl, List, length}
+use Rattle.std.specs.Prelude.{ℕ, ◌≤◌, ◌<◌, ◌≡◌, refl, List, length, Ok, Err}
 use Rattle.std.proofs.Common.{sym, subst, arith, lt-ltb, le-ltb}
 use Rattle.lists.specs.UniqueLaws.{one_answer}
 use Rattle.pool.specs.Start.{barred_pool}
 use Rattle.pool.specs.declared.Pool.{Pool}
 use Rattle.targets.specs.Records.{targets_of}
 use Rattle.targets.specs.Refusals.{checked_list}
-use Rattle.targets.specs.declared.admit.Checked.{Checked}
-use Rattle.targets.specs.declared.admit.Checked.TheVariants.{Admitted, BadLength, Malformed, Repeated, Taken}
+use Rattle.targets.specs.Checked.{Checked}
+use Rattle.targets.specs.Numbers.{error_number, error_place}
 use Rattle.rule.specs.Bus.{pass}
 use Rattle.bus.specs.Run.{ModelEnd, Leaves, refused_end, ended_end, end_checked, run_end, model_end, Refused}
 use Rattle.report.specs.Report.{refused_answer}
@@ -33,15 +33,12 @@ module _ (occupied : Pool) (last : ℕ) (s b : List ℕ) where
   leaves_short r h q = refused_leaves 2 0 r (end_short h) q
 
   pub leaves_refused : (k : Checked) (r : ModelAnswer) → 2048 ≤ length b → checked_list (barred_pool occupied) s ≡ k → Refused k r → Leaves (run_end occupied last s b) r s b
-  leaves_refused Admitted r h e q = absurd q
-  leaves_refused BadLength r h e q = refused_leaves 9 0 r (end_checked_lem BadLength h e) q
-  leaves_refused (Malformed i) r h e q = refused_leaves 10 i r (end_checked_lem (Malformed i) h e) q
-  leaves_refused (Repeated i) r h e q = refused_leaves 11 i r (end_checked_lem (Repeated i) h e) q
-  leaves_refused (Taken i) r h e q = refused_leaves 12 i r (end_checked_lem (Taken i) h e) q
+  leaves_refused (Ok tt) r h e q = absurd q
+  leaves_refused (Err k) r h e q = refused_leaves (error_number k) (error_place k) r (end_checked_lem (Err k) h e) q
 
-  pub leaves_run : (r : ModelAnswer) (s' b' : List ℕ) → 2048 ≤ length b → checked_list (barred_pool occupied) s ≡ Admitted → Leaves (ended_end (pass occupied last (targets_of s)) s b) r s' b'
+  pub leaves_run : (r : ModelAnswer) (s' b' : List ℕ) → 2048 ≤ length b → checked_list (barred_pool occupied) s ≡ Ok tt → Leaves (ended_end (pass occupied last (targets_of s)) s b) r s' b'
       → Leaves (run_end occupied last s b) r s' b'
-  leaves_run r s' b' h e v = subst (λ (x : ModelEnd). Leaves x r s' b') (sym (end_checked_lem Admitted h e)) v
+  leaves_run r s' b' h e v = subst (λ (x : ModelEnd). Leaves x r s' b') (sym (end_checked_lem (Ok tt) h e)) v
 
   -- ---- the last pick comes first
 

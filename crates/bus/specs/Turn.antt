@@ -5,7 +5,7 @@ use Rattle.wire.specs.Symbols.{START, STOP, ACK, NACK}
 use Rattle.encode.specs.Encode.{Wrote}
 use Rattle.encode.specs.declared.Encoded.{Encoded}
 use Rattle.arbitration.specs.Among.{Among}
-use Rattle.targets.specs.Cases.{RepeatedAt, None}
+use Rattle.targets.specs.Cases.{RepeatedAt, NoneOf}
 use Rattle.targets.specs.Records.{record_count, targets_of, records_with}
 use Rattle.targets.specs.Target.{Target}
 use Rattle.arp.specs.Controller.{stepped}
@@ -22,7 +22,7 @@ use Rattle.rule.specs.Bus.{World, reached}
 -- records that a pass can run over: whole ones, no identifier twice
 pub record Fit (s : List ℕ) : Type 0 where
   pub whole : length s ≡ record_count s * 18
-  pub apart : None (RepeatedAt s) (record_count s)
+  pub apart : NoneOf (RepeatedAt s) (record_count s)
 
 -- somebody is there to answer Get UDID, and an Assign of a 7-bit address goes to one of the targets
 abbrev pub Reaches : Handed → List Target → Type 0

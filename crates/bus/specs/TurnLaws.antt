@@ -1,5 +1,5 @@
 -- The code's turn over the records' bytes is the bus's turn over their targets.
-use Rattle.std.specs.Prelude.{ℕ, ◌+◌, ◌*◌, ◌-◌, ◌≤◌, ◌<◌, ◌≡◌, refl, Bool, true, false, List, [], ◌∷◌, length, take, drop}
+use Rattle.std.specs.Prelude.{ℕ, ◌+◌, ◌*◌, ◌-◌, ◌≤◌, ◌<◌, ◌≡◌, refl, Bool, true, false, Some, None, List, [], ◌∷◌, length, take, drop}
 use Rattle.std.proofs.Common.{sym, ap, ◌∙◌, subst, arith}
 use Rattle.lists.specs.Each.{Bytes}
 use Rattle.lists.specs.LengthLaws.{empty_of_length}
@@ -18,7 +18,6 @@ use Rattle.targets.specs.ReplyLaws.{length_reply_data, bytes_reply_data}
 use Rattle.targets.specs.Target.{Target, is_resolved}
 use Rattle.targets.specs.Winner.{winner_of, Wins}
 use Rattle.targets.specs.WinnerLaws.{winner_exactly, winner_least, unresolved_by_flag}
-use Rattle.targets.specs.declared.winner.Winner.TheVariants as winner
 use Rattle.commands.specs.RequestLaws.{assign_has_44_symbols}
 use Rattle.commands.specs.SendingLaws.{assign_sent}
 use Rattle.arp.specs.Controller.{stepped}
@@ -53,22 +52,22 @@ prepare_all s n = go (targets_of s) (length_targets s (record_count s) 0)
     go (t ∷ ts) e = on-bus.prepare_whole t ts
 
 -- Get UDID: the winner's reply, or silence
-pub get_winner : (s : List ℕ) → Bytes s → Fit s → (w : ℕ) → winner.At w ≡ winner_of s → on_bus (Send GetUdid) (targets_of s) ≡ trace_of (Send GetUdid) (take 17 (drop (w * 18) s))
+pub get_winner : (s : List ℕ) → Bytes s → Fit s → (w : ℕ) → Some w ≡ winner_of s → on_bus (Send GetUdid) (targets_of s) ≡ trace_of (Send GetUdid) (take 17 (drop (w * 18) s))
 get_winner s b f w e =
-    let v : Wins s (record_count s) w = (winner_exactly s (winner.At w)).0 e in
+    let v : Wins s (record_count s) w = (winner_exactly s (Some w)).0 e in
     on-bus.get_whole (targets_of s) (target_at s w) (winner_least s b f.apart w v)
     ∙ ap (trace_of (Send GetUdid)) (sym (record_reply s w b (omega (arith, v.below, f.whole))))
 
-all_resolved : (s : List ℕ) → Bytes s → Fit s → winner.AllResolved ≡ winner_of s → (t : Target) → Among t (targets_of s) → is_resolved t ≡ true
+all_resolved : (s : List ℕ) → Bytes s → Fit s → None ≡ winner_of s → (t : Target) → Among t (targets_of s) → is_resolved t ≡ true
 all_resolved s b f e t m = go (is_resolved t) refl
   where
     go : (c : Bool) → is_resolved t ≡ c → is_resolved t ≡ true
     go true q = q
     go false q =
         let r = target_has_record s (record_count s) 0 t m in
-        absurd ((winner_exactly s winner.AllResolved).0 e r.0 (omega (arith, r.2)) (unresolved_by_flag s b f.apart r.0 t r.3 q))
+        absurd ((winner_exactly s None).0 e r.0 (omega (arith, r.2)) (unresolved_by_flag s b f.apart r.0 t r.3 q))
 
-pub get_silence : (s : List ℕ) → Bytes s → Fit s → 0 < length (targets_of s) → winner.AllResolved ≡ winner_of s → on_bus (Send GetUdid) (targets_of s) ≡ silence
+pub get_silence : (s : List ℕ) → Bytes s → Fit s → 0 < length (targets_of s) → None ≡ winner_of s → on_bus (Send GetUdid) (targets_of s) ≡ silence
 get_silence s b f h e = go (targets_of s) h (all_resolved s b f e)
   where
     go : (ts : List Target) → 0 < length ts → ((t : Target) → Among t ts → is_resolved t ≡ true) → on_bus (Send GetUdid) ts ≡ silence
@@ -114,18 +113,18 @@ pub own_targets_stored : (s : List ℕ) → s ≡ records_with (targets_of s) s
 own_targets_stored s = sym (put_all_self (record_count s) 0 s)
 
 -- the winner's record is one of the list
-pub winner_inside : (s : List ℕ) → Fit s → (w : ℕ) → winner.At w ≡ winner_of s → w * 18 + 18 ≤ length s
-winner_inside s f w e = let v : Wins s (record_count s) w = (winner_exactly s (winner.At w)).0 e in omega (arith, v.below, f.whole)
+pub winner_inside : (s : List ℕ) → Fit s → (w : ℕ) → Some w ≡ winner_of s → w * 18 + 18 ≤ length s
+winner_inside s f w e = let v : Wins s (record_count s) w = (winner_exactly s (Some w)).0 e in omega (arith, v.below, f.whole)
 
 part_of_17 : (s : List ℕ) (at : ℕ) → take (at + 17 - at) (drop at s) ≡ take 17 (drop at s)
 part_of_17 s at = let e : at + 17 - at ≡ 17 = omega arith in ap (λ (n : ℕ). take n (drop at s)) e
 
-pub winner_part_lent : (s : List ℕ) → Bytes s → Fit s → (w : ℕ) → winner.At w ≡ winner_of s → Lent (lent_part s w)
+pub winner_part_lent : (s : List ℕ) → Bytes s → Fit s → (w : ℕ) → Some w ≡ winner_of s → Lent (lent_part s w)
 winner_part_lent s b f w e =
     subst Lent (sym (part_of_17 s (w * 18) ∙ record_reply s w b (omega (arith, winner_inside s f w e))))
     (record { bytes = bytes_reply_data (target_at s w) (sized_at s b w).address_byte; long = length_reply_data (target_at s w) })
 
-pub get_winner_part : (s : List ℕ) → Bytes s → Fit s → (w : ℕ) → winner.At w ≡ winner_of s
+pub get_winner_part : (s : List ℕ) → Bytes s → Fit s → (w : ℕ) → Some w ≡ winner_of s
     → on_bus (Send GetUdid) (targets_of s) ≡ trace_of (Send GetUdid) (lent_part s w)
 get_winner_part s b f w e = get_winner s b f w e ∙ ap (trace_of (Send GetUdid)) (sym (part_of_17 s (w * 18)))
 

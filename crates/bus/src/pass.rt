@@ -1,10 +1,9 @@
 // A whole pass over the records: the controller's step takes the trace of each command. Rests on arp and turn; that it is the pass bit by
 // bit is in specs/GoingLaws.
-ghost use Rattle.std.specs.Prelude.{◌≡◌};
+ghost use Rattle.std.specs.Prelude.{◌≡◌, Ok};
 ghost use Rattle.pool.specs.Start.{barred_pool};
 ghost use Rattle.targets.specs.Records.{targets_of};
 ghost use Rattle.targets.specs.Refusals.{checked_list};
-ghost use Rattle.targets.specs.declared.admit.Checked.TheVariants.{Admitted};
 ghost use Rattle.rule.specs.Bus.{pass};
 ghost use Rattle.bus.specs.Turn.{is_sent, Matches};
 
@@ -28,7 +27,7 @@ fn is_sent(k: Handed) -> bool
 }
 
 pub(crate) fn run_pass(occupied: Pool, last: u8, records: &mut [u8]) -> Stepped
-    requires { checked_list (barred_pool occupied) records.old ≡ Admitted }
+    requires { checked_list (barred_pool occupied) records.old ≡ Ok tt }
     ensures { Matches (pass occupied last (targets_of records.old)) result records.old records.new }
 {
     let c = Controller::new(occupied, last);

@@ -1,9 +1,8 @@
 // The model run: refusals 1, 2, 9, 10, 11 and 12, or a whole pass. Rests on targets for the refusals, on pass, and on crate report.
-ghost use Rattle.std.specs.Prelude.{◌≡◌, ◌≤◌, length};
+ghost use Rattle.std.specs.Prelude.{◌≡◌, ◌≤◌, length, Ok};
 ghost use Rattle.pool.specs.Start.{barred_pool};
 ghost use Rattle.targets.specs.Records.{targets_of};
 ghost use Rattle.targets.specs.Refusals.{checked_list};
-ghost use Rattle.targets.specs.declared.admit.Checked.TheVariants.{Admitted};
 ghost use Rattle.bindings.specs.Entries.{buffer_size};
 ghost use Rattle.rule.specs.Bus.{pass};
 ghost use Rattle.bus.specs.Run.{Leaves, ended_end, run_end, model_end};
@@ -15,11 +14,10 @@ use pool::Pool;
 use report::answer::{refused, report};
 use report::bindings_of::put_bindings;
 use targets::admit;
-use targets::admit::Checked;
 
 // A list that is not refused.
 fn run_admitted(occupied: Pool, last: u8, records: &mut [u8], bindings: &mut [u8]) -> ModelAnswer
-    requires { (checked_list (barred_pool occupied) records.old ≡ Admitted) × (buffer_size ≤ length bindings.old) }
+    requires { (checked_list (barred_pool occupied) records.old ≡ Ok tt) × (buffer_size ≤ length bindings.old) }
     ensures { Leaves (ended_end (pass occupied last (targets_of records.old)) records.old bindings.old) result records.new bindings.new }
 {
     let end = run_pass(occupied, last, &mut records[..]);
@@ -36,13 +34,9 @@ fn run_from(occupied: Pool, last: u8, records: &mut [u8], bindings: &mut [u8]) -
     if bindings.len() < BUFFER {
         return refused(2, 0);
     }
-    let checked = admit::check(&records[..], occupied);
-    match checked {
-        Checked::BadLength => refused(9, 0),
-        Checked::Malformed(i) => refused(10, i),
-        Checked::Repeated(i) => refused(11, i),
-        Checked::Taken(i) => refused(12, i),
-        Checked::Admitted => run_admitted(occupied, last, &mut records[..], &mut bindings[..]),
+    match admit::check(&records[..], occupied) {
+        Err(e) => refused(e.number(), e.place()),
+        Ok(()) => run_admitted(occupied, last, &mut records[..], &mut bindings[..]),
     }
 }
 

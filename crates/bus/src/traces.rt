@@ -11,7 +11,6 @@ use commands::command::{Command, Handed};
 use commands::request::put_command;
 use encode::Encoded;
 use targets::fields::RECORD;
-use targets::winner::Winner;
 use targets::{fields, winner};
 use wire::symbol::{ACK, NACK, START, STOP};
 
@@ -79,7 +78,7 @@ fn put_get(records: &[u8], out: &mut [u16]) -> usize
     requires { Fit records.now × Reaches (Handed.Send Command.GetUdid) (targets_of records.now) × (trace_room ≤ length out.old) }
     ensures { (result ≤ trace_room) × (take result out.new ≡ on_bus (Handed.Send Command.GetUdid) (targets_of records.now)) }
 {
-    let Winner::At(w) = winner::find(records) else {
+    let Some(w) = winner::find(records) else {
         return put_silence(&mut out[..]);
     };
     let at = w * RECORD;

@@ -6,7 +6,7 @@ use Rattle.lists.specs.Each.{Bytes}
 use Rattle.pool.specs.declared.Pool.{Pool}
 use Rattle.pool.specs.Start.{starting_pool, barred_pool}
 use Rattle.targets.specs.ByteCases.{EvenOrFlag, SameAsEarlier, FixedOnTaken}
-use Rattle.targets.specs.Cases.{LengthIsBad, None, FirstOf}
+use Rattle.targets.specs.Cases.{LengthIsBad, NoneOf, FirstOf}
 use Rattle.targets.specs.Records.{targets_of}
 use Rattle.rule.specs.PlainRule.{ruled}
 use Rattle.bus.specs.RefusalLaws.{model_1, model_2, model_9, model_10, model_11, model_12, model_untouched}
@@ -50,13 +50,13 @@ module _ (given : HbPool) (last : ℕ) (s b : List ℕ) (h : HbModel) (s' b' : L
 
     pub hb_model_11 : (i : ℕ)
         → ((h.answer ≡ 11) × (h.place ≡ i))
-        ↔ ((last < 128) × ((2048 ≤ length b) × ((LengthIsBad s → ⊥) × None (EvenOrFlag s) (length s / 18) × FirstOf (SameAsEarlier s) (length s / 18) i)))
+        ↔ ((last < 128) × ((2048 ≤ length b) × ((LengthIsBad s → ⊥) × NoneOf (EvenOrFlag s) (length s / 18) × FirstOf (SameAsEarlier s) (length s / 18) i)))
     hb_model_11 i = in_parts 11 i _ (model_11 occupied last s b (answer_in h) s' b' hb_model_leaves bytes i)
 
     pub hb_model_12 : (i : ℕ)
         → ((h.answer ≡ 12) × (h.place ≡ i))
         ↔ ((last < 128) × ((2048 ≤ length b)
-        × ((LengthIsBad s → ⊥) × None (EvenOrFlag s) (length s / 18) × None (SameAsEarlier s) (length s / 18) × FirstOf (FixedOnTaken (barred_pool occupied) s) (length s / 18) i)))
+        × ((LengthIsBad s → ⊥) × NoneOf (EvenOrFlag s) (length s / 18) × NoneOf (SameAsEarlier s) (length s / 18) × FirstOf (FixedOnTaken (barred_pool occupied) s) (length s / 18) i)))
     hb_model_12 i = in_parts 12 i _ (model_12 occupied last s b (answer_in h) s' b' hb_model_leaves bytes i)
 
   -- a refusal: nothing lent has changed, and every other part is zero
@@ -77,8 +77,8 @@ module _ (given : HbPool) (last : ℕ) (s b : List ℕ) (h : HbModel) (s' b' : L
       )
 
   -- DEMAND 3: any other run ends as the plain rule does
-  pub hb_model_meets : Bytes s → last < 128 → 2048 ≤ length b → (LengthIsBad s → ⊥) → None (EvenOrFlag s) (length s / 18) → None (SameAsEarlier s) (length s / 18)
-      → None (FixedOnTaken (barred_pool occupied) s) (length s / 18)
+  pub hb_model_meets : Bytes s → last < 128 → 2048 ≤ length b → (LengthIsBad s → ⊥) → NoneOf (EvenOrFlag s) (length s / 18) → NoneOf (SameAsEarlier s) (length s / 18)
+      → NoneOf (FixedOnTaken (barred_pool occupied) s) (length s / 18)
       → let q = ruled (starting_pool occupied) last (targets_of s) in Meets occupied last s b q.given q.ending q.picked (answer_in h) s' b'
   hb_model_meets bytes = (demand_3 occupied last s b bytes (answer_in h) s' b' hb_model_leaves).meets
 

@@ -1,7 +1,7 @@
 -- The check of a target list for C.
 use Rattle.std.specs.Prelude.{ℕ}
 use Rattle.targets.specs.Numbers.{answer_of}
-use Rattle.targets.specs.declared.admit.Checked.{Checked}
+use Rattle.targets.specs.Checked.{Checked}
 use Rattle.c_arp.specs.declared.check.HbChecked.{HbChecked}
 
 abbrev pub checked_of : ℕ → ℕ → HbChecked

@@ -7,7 +7,7 @@ ghost use Rattle.c_arp.specs.Check.{checked_of, told_checked};
 
 use crate::parts::{HbPool, pool_in};
 use targets::admit;
-use targets::admit::Checked;
+use targets::admit::ListError;
 
 // The scope's number, 0 for a list that is not refused, and the record that is.
 #[repr(C)]
@@ -23,15 +23,12 @@ fn checked(answer: u32, place: usize) -> HbChecked
     HbChecked { answer, place }
 }
 
-fn told_checked(c: Checked) -> HbChecked
+fn told_checked(c: Result<(), ListError>) -> HbChecked
     ensures { result ≡ told_checked c }
 {
     match c {
-        Checked::Admitted => checked(0, 0),
-        Checked::BadLength => checked(9, 0),
-        Checked::Malformed(i) => checked(10, i),
-        Checked::Repeated(i) => checked(11, i),
-        Checked::Taken(i) => checked(12, i),
+        Ok(()) => checked(0, 0),
+        Err(e) => checked(e.number(), e.place()),
     }
 }
 

@@ -10,7 +10,7 @@ use lib.ListN.{length, take, drop}
 use lib.Seq.{take_at}
 use Rattle.lists.specs.Choice.{pick}
 use Rattle.lists.specs.Onto.{onto}
-use Rattle.scan.specs.declared.answer.Decoded.{Decoded}
+use Rattle.scan.specs.Decoded.{Decoded}
 use Rattle.decode.specs.Outcome.{Outcome}
 use Rattle.c_codec.specs.declared.answer.HbDecoded.{HbDecoded}
 use Rattle.pairs.specs.Pairs.{symbols_in, Got}

@@ -1,13 +1,12 @@
 -- The codec for C: the same answers as numbers; over byte pairs, the room in pairs and the symbols as pairs.
-use Rattle.std.specs.Prelude.{◌≡◌, Bool, List, ℕ, ◌/◌, length}
+use Rattle.std.specs.Prelude.{◌≡◌, Bool, List, ℕ, ◌/◌, length, Ok, Err}
 use Rattle.lists.specs.Onto.{onto}
 use Rattle.trace.specs.Shapes.{shape_of}
 use Rattle.trace.specs.Trace.{Message, trace}
 use Rattle.encode.specs.declared.Encoded.{Encoded}
 use Rattle.encode.specs.Encode.{encode_number, encoded, symbols_of}
 use Rattle.scan.specs.Numbers.{refusal_number}
-use Rattle.scan.specs.declared.answer.Decoded.{Decoded}
-use Rattle.scan.specs.declared.answer.Decoded.TheVariants.{Done, Refused}
+use Rattle.scan.specs.Decoded.{Decoded}
 use Rattle.decode.specs.Outcome.{Outcome}
 use Rattle.c_codec.specs.declared.answer.HbDecoded.{HbDecoded}
 use Rattle.c_codec.specs.declared.codec.HbWritten.{HbWritten}
@@ -33,9 +32,9 @@ abbrev pub refusal_of : ℕ → ℕ → HbDecoded
 refusal_of a v = record { answer = a; address = 0; direction = 0; command = 0; value = v; sent = 0; received = 0 }
 
 abbrev pub told_decoded : Decoded → HbDecoded
-told_decoded (Done t) =
+told_decoded (Ok t) =
     record { answer = 0; address = t.address.0; direction = t.direction; command = t.command; value = 0; sent = t.sent; received = t.received }
-told_decoded (Refused w k) = refusal_of (refusal_number w) k
+told_decoded (Err e) = refusal_of (refusal_number e.why) e.place
 
 -- a call of the decoder on symbols tr: the answer as numbers of an outcome of decode
 pub record ReadSymbols (protocol : ℕ) (pec : Bool) (tr sent₀ received₀ : List ℕ) (h : HbDecoded) (sent received : List ℕ) : Type 0 where

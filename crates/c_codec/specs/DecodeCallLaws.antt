@@ -1,12 +1,11 @@
 -- What a call of hb_decode and of hb_decode_symbols gives, in the scope's numbers and in the parts of the struct of include/headboarded.h.
-use Rattle.std.specs.Prelude.{◌≡◌, refl, Bool, true, false, List, ◌++◌, ◌⊎◌, ◌↔◌, ℕ, ◌/◌, ◌<◌, length, drop}
+use Rattle.std.specs.Prelude.{◌≡◌, refl, Bool, true, false, List, ◌++◌, ◌⊎◌, ◌↔◌, ℕ, ◌/◌, ◌<◌, length, drop, Ok}
 use Rattle.std.proofs.Common.{ap, ◌∙◌, subst, inl, inr, arith}
 use Rattle.std.proofs.Math.Logic.Iff.{rfl as iff_rfl, trans as iff_trans}
 use Rattle.trace.specs.Table.{last_protocol}
 use Rattle.trace.specs.Shapes.{forbidden}
 use Rattle.trace.specs.Table.{TraceOf}
 use Rattle.trace.specs.Trace.{Message}
-use Rattle.scan.specs.declared.answer.Decoded.TheVariants.{Done}
 use Rattle.scan.specs.Answers.{summary}
 use Rattle.scan.specs.declared.answer.Refusal.{Refusal}
 use Rattle.scan.specs.Because.{Because}
@@ -32,7 +31,7 @@ hb_decode protocol pec bytes tr sent₀ received₀ h sent received p d =
     subst (λ (l : List ℕ). ReadSymbols protocol (truth pec) l sent₀ received₀ h sent received) (symbols_are (length bytes / 2) bytes tr p.count p.each) d
 
 -- a transaction that is told, part by part
-pub gives_back : (protocol : ℕ) (m : Message) (sent₀ received₀ : List ℕ) (h : HbDecoded) (sent₁ received₁ : List ℕ) → h ≡ told_decoded (Done (summary protocol m))
+pub gives_back : (protocol : ℕ) (m : Message) (sent₀ received₀ : List ℕ) (h : HbDecoded) (sent₁ received₁ : List ℕ) → h ≡ told_decoded (Ok (summary protocol m))
     → sent₁ ≡ m.sent ++ drop (length m.sent) sent₀ → received₁ ≡ m.received ++ drop (length m.received) received₀
     → GivesBack m.address m.direction m.command m.sent m.received sent₀ received₀ h sent₁ received₁
 gives_back protocol m sent₀ received₀ h sent₁ received₁ e s r = record {
@@ -110,7 +109,7 @@ module _ (protocol pec : ℕ) (tr sent₀ received₀ : List ℕ) (h : HbDecoded
       → (m : Message) × TraceOf protocol (truth pec) m tr × GivesBack m.address m.direction m.command m.sent m.received sent₀ received₀ h sent received
   hb_decode_0 q =
       let k = read_done protocol (truth pec) tr sent₀ received₀ h sent received d q in
-      let n = (decode_0 protocol (truth pec) tr sent₀ received₀ (Done k.0) sent received k.2).0 refl in
+      let n = (decode_0 protocol (truth pec) tr sent₀ received₀ (Ok k.0) sent received k.2).0 refl in
       let m = n.1.0 in
-      let g = decode_hands_over protocol (truth pec) tr sent₀ received₀ (Done k.0) sent received k.2 n.0 m n.1.1 in
+      let g = decode_hands_over protocol (truth pec) tr sent₀ received₀ (Ok k.0) sent received k.2 n.0 m n.1.1 in
       (m, n.1.1, gives_back protocol m sent₀ received₀ h sent received (k.1 ∙ ap told_decoded g.0) g.1 g.2)

@@ -1,9 +1,8 @@
 -- What the decoder's answer for C says: the scope's number of an outcome of decode, the transaction with 0, and zeros with a refusal.
-use Rattle.std.specs.Prelude.{◌≡◌, refl, Bool, List, ◌↔◌, ℕ}
+use Rattle.std.specs.Prelude.{◌≡◌, refl, Bool, List, ◌↔◌, ℕ, Ok, Err}
 use Rattle.std.proofs.Common.{sym, ap, ◌∙◌, subst, arith}
 use Rattle.trace.specs.declared.transaction.Transaction.{Transaction}
-use Rattle.scan.specs.declared.answer.Decoded.{Decoded}
-use Rattle.scan.specs.declared.answer.Decoded.TheVariants.{Done, Refused}
+use Rattle.scan.specs.Decoded.{Decoded}
 use Rattle.scan.specs.NumberLaws.{refusal_is_not_0}
 use Rattle.scan.specs.Numbers.{decode_number}
 use Rattle.decode.specs.Outcome.{Outcome}
@@ -13,16 +12,16 @@ use Rattle.c_codec.specs.DecodeParts.{OthersZero}
 
 -- the answer and the value are the scope's
 pub told_decoded_number : (a : Decoded) → ((told_decoded a).answer, (told_decoded a).value) ≡ decode_number a
-told_decoded_number (Done t) = refl
-told_decoded_number (Refused w k) = refl
+told_decoded_number (Ok t) = refl
+told_decoded_number (Err e) = refl
 
 refusal_zeros : (a : Decoded) → ((told_decoded a).answer ≡ 0 → ⊥) → OthersZero (told_decoded a)
-refusal_zeros (Done t) z = absurd (z refl)
-refusal_zeros (Refused w k) z = record { address = refl; direction = refl; command = refl; sent = refl; received = refl }
+refusal_zeros (Ok t) z = absurd (z refl)
+refusal_zeros (Err e) z = record { address = refl; direction = refl; command = refl; sent = refl; received = refl }
 
-answer_0_done : (a : Decoded) → (told_decoded a).answer ≡ 0 → (u : Transaction) × (a ≡ Done u)
-answer_0_done (Done u) e = (u, refl)
-answer_0_done (Refused w k) e = absurd (omega (arith, refusal_is_not_0 w))
+answer_0_done : (a : Decoded) → (told_decoded a).answer ≡ 0 → (u : Transaction) × (a ≡ Ok u)
+answer_0_done (Ok u) e = (u, refl)
+answer_0_done (Err r) e = absurd (omega (arith, refusal_is_not_0 r.why))
 
 -- a pair, part by part
 pub pair_parts : (a b n v : ℕ) → (◌≡◌ {A = ℕ × ℕ} (a, b) (n, v)) ↔ ((a ≡ n) × (b ≡ v))
@@ -47,7 +46,7 @@ module _ (protocol : ℕ) (pec : Bool) (tr sent₀ received₀ : List ℕ) (h : 
   read_zeros z = subst OthersZero (sym d.is_told) (refusal_zeros d.answer (λ q. z (answer_is ∙ q)))
 
   -- with 0 the outcome is a transaction, and it is told
-  pub read_done : h.answer ≡ 0 → (u : Transaction) × (h ≡ told_decoded (Done u)) × Outcome protocol pec tr sent₀ received₀ (Done u) sent received
+  pub read_done : h.answer ≡ 0 → (u : Transaction) × (h ≡ told_decoded (Ok u)) × Outcome protocol pec tr sent₀ received₀ (Ok u) sent received
   read_done q =
       let k = answer_0_done d.answer (sym answer_is ∙ q) in
       (k.0, d.is_told ∙ ap told_decoded k.1, subst (λ (x : Decoded). Outcome protocol pec tr sent₀ received₀ x sent received) k.1 d.outcome)

@@ -36,7 +36,7 @@ pub fn decoded(a: Decoded) -> HbDecoded
     ensures { result ≡ told_decoded a }
 {
     match a {
-        Decoded::Done(t) => {
+        Ok(t) => {
             let address = t.address;
             HbDecoded {
                 answer: 0,
@@ -48,6 +48,6 @@ pub fn decoded(a: Decoded) -> HbDecoded
                 received: t.received,
             }
         }
-        Decoded::Refused(w, place) => refusal(refusal_number(w) as u32, place),
+        Err(e) => refusal(refusal_number(e.why) as u32, e.place),
     }
 }

@@ -1,12 +1,11 @@
 -- The answers of decode.
-use Rattle.std.specs.Prelude.{ℕ, List, ◌++◌, nat_lt}
+use Rattle.std.specs.Prelude.{ℕ, List, ◌++◌, nat_lt, Ok, Err}
 use Rattle.text.specs.Chars.{chars}
 use Rattle.writing.specs.Written.{decimal_of, pair_of}
 use Rattle.lists.specs.Choice.{pick}
 use Rattle.scan.specs.Numbers.{refusal_number, is_nack}
 use Rattle.trace.specs.declared.transaction.Transaction.{Transaction}
-use Rattle.scan.specs.declared.answer.Decoded.{Decoded}
-use Rattle.scan.specs.declared.answer.Decoded.TheVariants.{Done, Refused}
+use Rattle.scan.specs.Decoded.{Decoded}
 use Rattle.scan.specs.declared.answer.Refusal.{Refusal}
 use Rattle.pieces.specs.Pieces.{newline, front, bytes_text}
 
@@ -32,5 +31,5 @@ abbrev pub refused_text : Refusal → ℕ → List ℕ
 refused_text w k = decimal_of (refusal_number w) ++ where_text w k
 
 abbrev pub decoded_text : Decoded → List ℕ → List ℕ → List ℕ
-decoded_text (Done t) sent received = transaction_text t sent received
-decoded_text (Refused w k) sent received = refused_text w k
+decoded_text (Ok t) sent received = transaction_text t sent received
+decoded_text (Err e) sent received = refused_text e.why e.place

@@ -66,7 +66,7 @@ pub fn put_decoded(out: &mut [u8], at: usize, d: Decoded, sent: &[u8], received:
     ensures { Appended out.old at (decoded_text d sent.now received.now) out.new result }
 {
     match d {
-        Decoded::Done(t) => put_transaction(out, at, t, sent, received),
-        Decoded::Refused(w, place) => put_refused(out, at, w, place),
+        Ok(t) => put_transaction(out, at, t, sent, received),
+        Err(e) => put_refused(out, at, e.why, e.place),
     }
 }

@@ -10,8 +10,7 @@ use Rattle.trace.specs.declared.shape.Shape.{Shape}
 use Rattle.trace.specs.Shapes.{shape_of, forbidden}
 use Rattle.trace.specs.Sane.{Sane}
 use Rattle.trace.proofs.ShapeLaws.{sane}
-use Rattle.scan.specs.declared.answer.Decoded.{Decoded}
-use Rattle.scan.specs.declared.answer.Decoded.TheVariants.{Refused}
+use Rattle.scan.specs.Decoded.{Decoded, refused}
 use Rattle.scan.specs.declared.answer.Refusal.TheVariants.{Forbidden, BufferTooShort}
 use Rattle.scan.specs.Run.{decoded_by}
 use Rattle.scan.specs.Handed.{sent_length, received_length, sent_place, received_place, sent_data, received_data}
@@ -26,15 +25,15 @@ both_at_least_255 s r h = let n = neither (ltb s 255) (ltb r 255) h in (ltb-fals
 module _ (number : ℕ) (sh : Shape) (barred p : Bool) (tr s r : List ℕ) where
   -- the answer, from the tests
   answered_is : (b c : Bool) → barred ≡ b → short (length s) (length r) ≡ c
-      → pick b (Refused Forbidden 0) (pick c (Refused BufferTooShort 0) (decoded_by number sh p tr)) ≡ answered_by number sh barred p tr (length s) (length r)
+      → pick b (refused Forbidden 0) (pick c (refused BufferTooShort 0) (decoded_by number sh p tr)) ≡ answered_by number sh barred p tr (length s) (length r)
   unfolding answered_by
   answered_is b c e f = sym (rw (e, f))
 
   -- refused before the trace is read
-  pub outcome_forbidden : barred ≡ true → OutcomeBy number sh barred p tr s r (Refused Forbidden 0) s r
+  pub outcome_forbidden : barred ≡ true → OutcomeBy number sh barred p tr s r (refused Forbidden 0) s r
   outcome_forbidden h = record { answer = answered_is true _ h refl; data_sent = refl; data_received = refl }
 
-  pub outcome_short : barred ≡ false → short (length s) (length r) ≡ true → OutcomeBy number sh barred p tr s r (Refused BufferTooShort 0) s r
+  pub outcome_short : barred ≡ false → short (length s) (length r) ≡ true → OutcomeBy number sh barred p tr s r (refused BufferTooShort 0) s r
   outcome_short h g = record { answer = answered_is false true h g; data_sent = refl; data_received = refl }
 
   module _ (hs : Sane sh) (a : Decoded) (g : a ≡ decoded_by number sh p tr) where

@@ -1,5 +1,5 @@
 -- No trace that fits has more than 525 symbols, so the first 526 symbols of a longer one decide its answer.
-use Rattle.std.specs.Prelude.{◌≡◌, Bool, ℕ, suc, ◌≤◌, length, take, drop}
+use Rattle.std.specs.Prelude.{◌≡◌, Bool, ℕ, suc, ◌≤◌, length, take, drop, Result, Ok, Err}
 use Rattle.std.proofs.Math.Path.{refl, ap}
 use Rattle.std.proofs.Common.{sym, ◌∙◌, inl, inr, arith, length-append, take-append-drop, length-take-le}
 use Rattle.std.proofs.Math.Bool.{true, false}
@@ -13,12 +13,10 @@ use Rattle.trace.proofs.ShapeLaws.{sane}
 use Rattle.trace.specs.Trace.{Message, in_place, nacked, laid, by_target, by_controller, trace_at, Valid}
 use Rattle.trace.proofs.LengthLaws.{length_at, trace_length_lem}
 use Rattle.trace.proofs.ColumnsLaws.{longest}
-use Rattle.scan.specs.declared.answer.Decoded.{Decoded}
-use Rattle.scan.specs.declared.answer.Decoded.TheVariants.{Done, Refused}
+use Rattle.scan.specs.Decoded.{Decoded, refused}
+use Rattle.scan.specs.declared.answer.Refused.{Refused}
 use Rattle.scan.specs.declared.answer.Refusal.TheVariants.{Forbidden, BufferTooShort}
 use Rattle.step.specs.declared.state.Decoder.{Decoder}
-use Rattle.scan.specs.declared.whole.Progress.{Progress}
-use Rattle.scan.specs.declared.whole.Progress.TheVariants.{Reading, Answered}
 use Rattle.step.specs.State.{fresh}
 use Rattle.step.specs.Fits.{fits}
 use Rattle.step.specs.Move.{move}
@@ -61,23 +59,23 @@ module _ (protocol : ℕ) (p : Bool) where
   fits_small tr f = omega (arith, member_small (tr ++ f.0) f.1, length-append tr f.0)
 
   -- what is refused stays refused, whatever follows
-  refused_on : (xs ys : List ℕ) (d : Decoder) (i : ℕ) (a : Decoded) → run sh p d i xs ≡ Answered a → run sh p d i (xs ++ ys) ≡ Answered a
+  refused_on : (xs ys : List ℕ) (d : Decoder) (i : ℕ) (e : Refused) → run sh p d i xs ≡ Err e → run sh p d i (xs ++ ys) ≡ Err e
   unfolding run
-  refused_on [] ys d i a q = absurd (refused_not_reading (sym q))
-  refused_on (x ∷ xs) ys d i a q = go (fits sh d x) q (λ k. refused_on xs ys (move sh p d x) (suc i) a k)
+  refused_on [] ys d i e q = absurd (refused_not_reading (sym q))
+  refused_on (x ∷ xs) ys d i e q = go (fits sh d x) q (λ k. refused_on xs ys (move sh p d x) (suc i) e k)
     where
-      go : (b : Bool) → pick b (run sh p (move sh p d x) (suc i) xs) (Answered (why sh d i x)) ≡ Answered a
-          → (run sh p (move sh p d x) (suc i) xs ≡ Answered a → run sh p (move sh p d x) (suc i) (xs ++ ys) ≡ Answered a)
-          → pick b (run sh p (move sh p d x) (suc i) (xs ++ ys)) (Answered (why sh d i x)) ≡ Answered a
+      go : (b : Bool) → pick b (run sh p (move sh p d x) (suc i) xs) (Err (why sh d i x)) ≡ Err e
+          → (run sh p (move sh p d x) (suc i) xs ≡ Err e → run sh p (move sh p d x) (suc i) (xs ++ ys) ≡ Err e)
+          → pick b (run sh p (move sh p d x) (suc i) (xs ++ ys)) (Err (why sh d i x)) ≡ Err e
       go true q ih = ih q
       go false q ih = q
 
   module _ (tr : List ℕ) (long : 526 ≤ length tr) where
-    front_refused : (g : Progress) → run sh p fresh 0 (take 526 tr) ≡ g → (a : Decoded) × (g ≡ Answered a)
-    front_refused (Reading d) q =
+    front_refused : (g : Result Decoder Refused) → run sh p fresh 0 (take 526 tr) ≡ g → (e : Refused) × (g ≡ Err e)
+    front_refused (Ok d) q =
         let n = fits_small (take 526 tr) (fits_back sh (sane protocol) p (take 526 tr) d q) in
         absurd (omega (arith, length-take-le 526 tr long))
-    front_refused (Answered a) q = (a, refl)
+    front_refused (Err e) q = (e, refl)
 
     pub same_run : run sh p fresh 0 (take 526 tr) ≡ run sh p fresh 0 tr
     same_run =
@@ -93,8 +91,8 @@ module _ (protocol : ℕ) (p : Bool) where
 
     -- it hands over no data
     no_data : (a : Decoded) (s r : List ℕ) → Answers protocol sh p tr a s r → (sent_length a ≡ 0) × (received_length a ≡ 0)
-    no_data (Done t) s r c = absurd (omega (arith, ap length c.is, longest protocol p c.message c.valid))
-    no_data (Refused w k) s r c = (refl, refl)
+    no_data (Ok t) s r c = absurd (omega (arith, ap length c.is, longest protocol p c.message c.valid))
+    no_data (Err e) s r c = (refl, refl)
 
     pub decoded_none : (sent_length (decoded_by protocol sh p tr) ≡ 0) × (received_length (decoded_by protocol sh p tr) ≡ 0)
     decoded_none = no_data (decoded_by protocol sh p tr) _ _ (answer_holds protocol sh (sane protocol) p tr)
@@ -103,14 +101,14 @@ module _ (protocol : ℕ) (p : Bool) where
     unfolding answered_by
     answered_none s r = go (forbidden protocol p) (short s r)
       where
-        go : (b c : Bool) → (sent_length (pick b (Refused Forbidden 0) (pick c (Refused BufferTooShort 0) (decoded_by protocol sh p tr))) ≡ 0) × (received_length (pick b (Refused Forbidden 0) (pick c (Refused BufferTooShort 0) (decoded_by protocol sh p tr))) ≡ 0)
+        go : (b c : Bool) → (sent_length (pick b (refused Forbidden 0) (pick c (refused BufferTooShort 0) (decoded_by protocol sh p tr))) ≡ 0) × (received_length (pick b (refused Forbidden 0) (pick c (refused BufferTooShort 0) (decoded_by protocol sh p tr))) ≡ 0)
         go true c = (refl, refl)
         go false true = (refl, refl)
         go false false = decoded_none
 
     same_answered : (s r : ℕ) → answered protocol p (take 526 tr) s r ≡ answered protocol p tr s r
     unfolding answered_by
-    same_answered s r = ap (λ (a : Decoded). pick (forbidden protocol p) (Refused Forbidden 0) (pick (short s r) (Refused BufferTooShort 0) a)) same_decoded
+    same_answered s r = ap (λ (a : Decoded). pick (forbidden protocol p) (refused Forbidden 0) (pick (short s r) (refused BufferTooShort 0) a)) same_decoded
 
     -- what the first 526 symbols give is what the whole gives
     pub of_front : (s₀ r₀ : List ℕ) (a : Decoded) (s r : List ℕ) → Outcome protocol p (take 526 tr) s₀ r₀ a s r → Outcome protocol p tr s₀ r₀ a s r

@@ -1,6 +1,6 @@
 -- The decoder's numbers, each if and only if its case, over the table of the protocols (trace/specs/Table, scan/specs/Fitting): what a call
 -- answers, and what it leaves in the two buffers.
-use Rattle.std.specs.Prelude.{◌≡◌, refl, Bool, true, false, List, [], ◌∷◌, ◌++◌, ◌⊎◌, ◌↔◌, ℕ, ◌-◌, ◌*◌, ◌/◌, ◌≤◌, ◌<◌, ltb, length, drop, get_or}
+use Rattle.std.specs.Prelude.{◌≡◌, refl, Bool, true, false, List, [], ◌∷◌, ◌++◌, ◌⊎◌, ◌↔◌, ℕ, ◌-◌, ◌*◌, ◌/◌, ◌≤◌, ◌<◌, ltb, length, drop, get_or, Ok}
 use Rattle.std.proofs.Common.{ap, ◌∙◌, subst, inl, inr, arith, ltb-true, lt-ltb, le-ltb}
 use Rattle.lists.specs.Choice.{or}
 use Rattle.lists.specs.ChoiceLaws.{or_last}
@@ -27,8 +27,7 @@ use Rattle.scan.specs.Numbers.{refusal_number, decode_number}
 use Rattle.scan.specs.Refusal.{refusal_of}
 use Rattle.scan.specs.Run.{decoded_by}
 use Rattle.scan.proofs.SwapLaws.{wrong_ack_is, is_wrong_ack}
-use Rattle.scan.specs.declared.answer.Decoded.{Decoded}
-use Rattle.scan.specs.declared.answer.Decoded.TheVariants.{Done}
+use Rattle.scan.specs.Decoded.{Decoded}
 use Rattle.scan.specs.declared.answer.Refusal.{Refusal}
 use Rattle.scan.specs.declared.answer.Refusal.TheVariants.{Unexpected, NotAcknowledged, WrongAck, WrongAddress, WrongCount}
 use Rattle.decode.specs.EntryLaws.{both_at_least_255}
@@ -164,7 +163,7 @@ module _ (protocol : ℕ) (pec : Bool) (tr sent₀ received₀ : List ℕ) (a : 
 
   -- and then the message is handed over: its fields, and its data at the fronts of the two buffers, which are as they were behind
   pub decode_hands_over : Here → (m : Message) → TraceOf protocol pec m tr
-      → (a ≡ Done (summary protocol m)) × (sent ≡ m.sent ++ drop (length m.sent) sent₀) × (received ≡ m.received ++ drop (length m.received) received₀)
+      → (a ≡ Ok (summary protocol m)) × (sent ≡ m.sent ++ drop (length m.sent) sent₀) × (received ≡ m.received ++ drop (length m.received) received₀)
   decode_hands_over h m w =
       let l = listed_trace protocol pec m tr w in
       decode.round_trip protocol pec m sent₀ received₀ a sent received (entered_taken h) (entered_long h) l.1

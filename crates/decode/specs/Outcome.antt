@@ -6,8 +6,7 @@ use Rattle.lists.specs.Onto.{onto}
 use Rattle.trace.specs.Table.{last_protocol}
 use Rattle.trace.specs.declared.shape.Shape.{Shape}
 use Rattle.trace.specs.Shapes.{shape_of, forbidden}
-use Rattle.scan.specs.declared.answer.Decoded.{Decoded}
-use Rattle.scan.specs.declared.answer.Decoded.TheVariants.{Refused}
+use Rattle.scan.specs.Decoded.{Decoded, refused}
 use Rattle.scan.specs.declared.answer.Refusal.TheVariants.{Forbidden, BufferTooShort}
 use Rattle.scan.specs.Run.{decoded_by}
 use Rattle.scan.specs.Handed.{sent_data, received_data}
@@ -26,7 +25,7 @@ EnteredBy barred sent₀ received₀ = (barred ≡ false) × (255 ≤ length sen
 -- the answer, with the lengths of the two buffers: 1, then 2, then what the trace says
 unfoldable pub answered_by : ℕ → Shape → Bool → Bool → List ℕ → ℕ → ℕ → Decoded
 answered_by number sh barred pec tr sentRoom receivedRoom =
-    pick barred (Refused Forbidden 0) (pick (short sentRoom receivedRoom) (Refused BufferTooShort 0) (decoded_by number sh pec tr))
+    pick barred (refused Forbidden 0) (pick (short sentRoom receivedRoom) (refused BufferTooShort 0) (decoded_by number sh pec tr))
 
 -- the answer a of a call, and what the buffers hold after it, which held sent₀ and received₀ before
 pub record OutcomeBy (number : ℕ) (sh : Shape) (barred pec : Bool) (tr sent₀ received₀ : List ℕ) (a : Decoded) (sent received : List ℕ) : Type 0 where
@@ -50,8 +49,8 @@ pub record Read (number : ℕ) (sh : Shape) (pec : Bool) (tr sent₀ received₀
 
 abbrev pub MeansBy : ℕ → Shape → Bool → Bool → List ℕ → List ℕ → List ℕ → Decoded → List ℕ → List ℕ → Type 0
 MeansBy number sh barred pec tr sent₀ received₀ a sent received =
-    pick barred (Unread (Refused Forbidden 0) sent₀ received₀ a sent received)
-    (pick (short (length sent₀) (length received₀)) (Unread (Refused BufferTooShort 0) sent₀ received₀ a sent received)
+    pick barred (Unread (refused Forbidden 0) sent₀ received₀ a sent received)
+    (pick (short (length sent₀) (length received₀)) (Unread (refused BufferTooShort 0) sent₀ received₀ a sent received)
     (Read number sh pec tr sent₀ received₀ a sent received))
 
 -- ---- for the protocols of the table

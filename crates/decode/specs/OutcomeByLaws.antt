@@ -1,6 +1,6 @@
 -- The decoder's call over a shape. One outcome is possible, and it is what the scope says. Each number is given exactly in its case, a refusal
 -- changes no byte of either buffer, and a trace of the encoder gives back its message.
-use Rattle.std.specs.Prelude.{◌≡◌, Bool, List, ◌++◌, ◌↔◌, length, drop}
+use Rattle.std.specs.Prelude.{◌≡◌, Bool, List, ◌++◌, ◌↔◌, length, drop, Ok, Err}
 use Rattle.std.proofs.Math.Path.{refl, ap}
 use Rattle.std.proofs.Common.{sym, ◌∙◌, arith, le-ltb}
 use Rattle.std.proofs.Math.Bool.{true, false}
@@ -10,8 +10,7 @@ use Rattle.lists.specs.Onto.{onto}
 use Rattle.trace.specs.declared.shape.Shape.{Shape}
 use Rattle.trace.specs.Sane.{Sane}
 use Rattle.trace.specs.Trace.{Message, trace, Valid}
-use Rattle.scan.specs.declared.answer.Decoded.{Decoded}
-use Rattle.scan.specs.declared.answer.Decoded.TheVariants.{Done, Refused}
+use Rattle.scan.specs.Decoded.{Decoded, refused}
 use Rattle.scan.specs.declared.answer.Refusal.{Refusal}
 use Rattle.scan.specs.declared.answer.Refusal.TheVariants.{Forbidden, BufferTooShort}
 use Rattle.scan.specs.Run.{decoded_by}
@@ -37,12 +36,12 @@ module _ (number : ℕ) (sh : Shape) (hs : Sane sh) (barred pec : Bool) (tr sent
   -- the outcome is what the scope says, and nothing else is
   abbrev Computed : Bool → Bool → Decoded → List ℕ → List ℕ → Type 0
   Computed b c a s r =
-      (a ≡ pick b (Refused Forbidden 0) (pick c (Refused BufferTooShort 0) (decoded_by number sh pec tr)))
+      (a ≡ pick b (refused Forbidden 0) (pick c (refused BufferTooShort 0) (decoded_by number sh pec tr)))
       × (s ≡ onto (sent_data sh tr a) sent₀) × (r ≡ onto (received_data pec tr a) received₀)
 
   abbrev Says : Bool → Bool → Decoded → List ℕ → List ℕ → Type 0
   Says b c a s r =
-      pick b (Unread (Refused Forbidden 0) sent₀ received₀ a s r) (pick c (Unread (Refused BufferTooShort 0) sent₀ received₀ a s r) (Read number sh pec tr sent₀ received₀ a s r))
+      pick b (Unread (refused Forbidden 0) sent₀ received₀ a s r) (pick c (Unread (refused BufferTooShort 0) sent₀ received₀ a s r) (Read number sh pec tr sent₀ received₀ a s r))
 
   computed_says : (b c : Bool) (a : Decoded) (s r : List ℕ) → Computed b c a s r → Says b c a s r
   computed_says true c a s r h = record {
@@ -92,14 +91,14 @@ module _ (number : ℕ) (sh : Shape) (hs : Sane sh) (barred pec : Bool) (tr sent
 never_unread : (number : ℕ) (sh : Shape) (hs : Sane sh) (pec : Bool) (tr : List ℕ) (w : Refusal) (k : ℕ) → (Because sh pec tr w k → ⊥)
     → decode_number (decoded_by number sh pec tr) ≡ (refusal_number w, k) → ⊥
 never_unread number sh hs pec tr w k n e =
-    n ((step.answer_exactly number sh hs pec tr (Refused w k)).0 (refused_of (decoded_by number sh pec tr) w k e)).0
+    n ((step.answer_exactly number sh hs pec tr (refused w k)).0 (refused_of (decoded_by number sh pec tr) w k e)).0
 
 module _ (number : ℕ) (sh : Shape) (hs : Sane sh) (barred pec : Bool) (tr sent₀ received₀ : List ℕ) (a : Decoded) (s r : List ℕ) (h : OutcomeBy number sh barred pec tr sent₀ received₀ a s r) where
   abbrev is_short : Bool
   is_short = short (length sent₀) (length received₀)
 
   abbrev whole : Bool → Bool → Decoded
-  whole b c = pick b (Refused Forbidden 0) (pick c (Refused BufferTooShort 0) (decoded_by number sh pec tr))
+  whole b c = pick b (refused Forbidden 0) (pick c (refused BufferTooShort 0) (decoded_by number sh pec tr))
 
   first_of : (e : ℕ × ℕ) (n : ℕ) → e ≡ (n, 0) → e.0 ≡ n
   first_of e n q = ap (λ (x : ℕ × ℕ). x.0) q
@@ -157,8 +156,8 @@ module _ (number : ℕ) (sh : Shape) (hs : Sane sh) (barred pec : Bool) (tr sent
 
 -- a refusal changes no byte of either buffer
 no_data : (sh : Shape) (pec : Bool) (tr l : List ℕ) (a : Decoded) → ((decode_number a).0 ≡ 0 → ⊥) → (onto (sent_data sh tr a) l ≡ l) × (onto (received_data pec tr a) l ≡ l)
-no_data sh pec tr l (Done t) n = absurd (n refl)
-no_data sh pec tr l (Refused w k) n = (refl, refl)
+no_data sh pec tr l (Ok t) n = absurd (n refl)
+no_data sh pec tr l (Err e) n = (refl, refl)
 
 pub refusal_changes_nothing : (number : ℕ) (sh : Shape) (barred pec : Bool) (tr sent₀ received₀ : List ℕ) (a : Decoded) (s r : List ℕ) → OutcomeBy number sh barred pec tr sent₀ received₀ a s r
     → ((decode_number a).0 ≡ 0 → ⊥) → (s ≡ sent₀) × (r ≡ received₀)
@@ -169,7 +168,7 @@ refusal_changes_nothing number sh barred pec tr sent₀ received₀ a s r h n =
 pub round_trip : (number : ℕ) (sh : Shape) (hs : Sane sh) (barred pec : Bool) (t : Message) (sent₀ received₀ : List ℕ) (a : Decoded) (s r : List ℕ)
     → barred ≡ false → short (length sent₀) (length received₀) ≡ false → Valid sh t
     → OutcomeBy number sh barred pec (trace sh pec t) sent₀ received₀ a s r
-    → (a ≡ Done (summary number t)) × (s ≡ t.sent ++ drop (length t.sent) sent₀) × (r ≡ t.received ++ drop (length t.received) received₀)
+    → (a ≡ Ok (summary number t)) × (s ≡ t.sent ++ drop (length t.sent) sent₀) × (r ≡ t.received ++ drop (length t.received) received₀)
 round_trip number sh hs barred pec t sent₀ received₀ a s r f c v h =
     let tr : List ℕ = trace sh pec t in
     let k = step.round_trip number sh hs pec t v in

@@ -1,11 +1,10 @@
 -- The decoder's call at the table of the protocols. One outcome is possible, and it is what the scope says. Each number is given exactly in its
 -- case, a refusal changes no byte of either buffer, and a trace of the encoder gives back its message.
-use Rattle.std.specs.Prelude.{◌≡◌, Bool, true, false, List, ◌++◌, ◌↔◌, ℕ, length, drop}
+use Rattle.std.specs.Prelude.{◌≡◌, Bool, true, false, List, ◌++◌, ◌↔◌, ℕ, length, drop, Ok}
 use Rattle.trace.specs.Shapes.{shape_of, forbidden}
 use Rattle.trace.proofs.ShapeLaws.{sane}
 use Rattle.trace.specs.Trace.{Message, trace, Valid}
-use Rattle.scan.specs.declared.answer.Decoded.{Decoded}
-use Rattle.scan.specs.declared.answer.Decoded.TheVariants.{Done}
+use Rattle.scan.specs.Decoded.{Decoded}
 use Rattle.scan.specs.Run.{decoded_by}
 use Rattle.scan.specs.Numbers.{decode_number}
 use Rattle.scan.specs.Answers.{summary}
@@ -48,5 +47,5 @@ refusal_changes_nothing protocol pec = shaped.refusal_changes_nothing protocol (
 pub round_trip : (protocol : ℕ) (pec : Bool) (t : Message) (sent₀ received₀ : List ℕ) (a : Decoded) (s r : List ℕ)
     → forbidden protocol pec ≡ false → short (length sent₀) (length received₀) ≡ false → Valid (shape_of protocol) t
     → Outcome protocol pec (trace (shape_of protocol) pec t) sent₀ received₀ a s r
-    → (a ≡ Done (summary protocol t)) × (s ≡ t.sent ++ drop (length t.sent) sent₀) × (r ≡ t.received ++ drop (length t.received) received₀)
+    → (a ≡ Ok (summary protocol t)) × (s ≡ t.sent ++ drop (length t.sent) sent₀) × (r ≡ t.received ++ drop (length t.received) received₀)
 round_trip protocol pec = shaped.round_trip protocol (shape_of protocol) (sane protocol) (forbidden protocol pec) pec

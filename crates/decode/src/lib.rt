@@ -11,7 +11,7 @@ ghost use Rattle.decode.specs.Outcome.{short, OutcomeBy, Outcome};
 
 use crate::received::{received_length, received_place};
 use crate::sent::{sent_length, sent_place};
-use scan::answer::{Decoded, Refusal};
+use scan::answer::{Decoded, Refusal, Refused};
 use scan::whole::decode_by;
 use trace::protocol::{is_forbidden, shape_of};
 use trace::shape::Shape;
@@ -76,10 +76,16 @@ fn decode_into(
     ensures { OutcomeBy number sh forbidden pec trace.now sent.old received.old result sent.new received.new }
 {
     if forbidden {
-        return Decoded::Refused(Refusal::Forbidden, 0);
+        return Err(Refused {
+            why: Refusal::Forbidden,
+            place: 0,
+        });
     }
     if is_short(sent.len(), received.len()) {
-        return Decoded::Refused(Refusal::BufferTooShort, 0);
+        return Err(Refused {
+            why: Refusal::BufferTooShort,
+            place: 0,
+        });
     }
     let a = decode_by(number, sh, pec, trace);
     put_sent(sh, a, trace, sent);

@@ -10,8 +10,8 @@ pub(crate) fn received_length(a: Decoded) -> usize
     ensures { result ≡ received_length a }
 {
     match a {
-        Decoded::Done(t) => t.received,
-        Decoded::Refused(_, _) => 0,
+        Ok(t) => t.received,
+        Err(_) => 0,
     }
 }
 

@@ -9,8 +9,8 @@ pub(crate) fn sent_length(a: Decoded) -> usize
     ensures { result ≡ sent_length a }
 {
     match a {
-        Decoded::Done(t) => t.sent,
-        Decoded::Refused(_, _) => 0,
+        Ok(t) => t.sent,
+        Err(_) => 0,
     }
 }
 

@@ -11,7 +11,7 @@ use Rattle.trace.specs.Table.{TraceOf, write_byte, block_write}
 use Rattle.trace.specs.Trace.{Message, acked}
 use Rattle.scan.specs.BytesIn.{bytes_in}
 use Rattle.scan.specs.Numbers.{decode_number}
-use Rattle.scan.specs.declared.answer.Decoded.{Decoded}
+use Rattle.scan.specs.Decoded.{Decoded}
 use Rattle.decode.specs.NumberLaws.{decode_0}
 use Rattle.decode.specs.Outcome.{Entered, Outcome}
 use Rattle.catches.proofs.BurstLaws.{eight_bits_caught}

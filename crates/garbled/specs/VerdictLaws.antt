@@ -16,7 +16,7 @@ use Rattle.scan.specs.BytesIn.{bytes_in}
 use Rattle.scan.specs.Fitting.{Whole}
 use Rattle.scan.specs.Numbers.{decode_number}
 use Rattle.scan.proofs.PecByteLaws.{pec_lt}
-use Rattle.scan.specs.declared.answer.Decoded.{Decoded}
+use Rattle.scan.specs.Decoded.{Decoded}
 use Rattle.scan.specs.declared.answer.Refusal.TheVariants.{PecDiffers}
 use Rattle.decode.specs.NumberLaws.{decode_0, decode_refused, decode_refusal}
 use Rattle.decode.specs.Outcome.{Entered, Outcome}

@@ -15,8 +15,8 @@ use Rattle.lists.specs.Onto.{onto}
 use Rattle.decode.specs.Outcome.{answered_by, Outcome}
 use Rattle.scan.specs.Handed.{sent_data, received_data}
 use Rattle.scan.specs.Numbers.{is_nack}
-use Rattle.scan.specs.declared.answer.Decoded.{Decoded}
-use Rattle.scan.specs.declared.answer.Decoded.TheVariants.{Done, Refused}
+use Rattle.std.specs.Prelude.{Ok, Err}
+use Rattle.scan.specs.Decoded.{Decoded, refused}
 use Rattle.scan.specs.declared.answer.Refusal.{Refusal}
 use Rattle.trace.specs.Shapes.{shape_of}
 use Rattle.trace.specs.declared.transaction.Transaction.{Transaction}
@@ -66,7 +66,7 @@ onto_udid xs = λ i. record { high = number (window xs 0 8 i); low = number (win
 
 -- ---- the decoder's answer
 
-pub nobody_by_nack : (a : Decoded) (w : Refusal) (b : ℕ) (q : Bool) → a ≡ Refused w b → is_nack w ≡ q → and q (ltb b 3) ≡ nobody a
+pub nobody_by_nack : (a : Decoded) (w : Refusal) (b : ℕ) (q : Bool) → a ≡ refused w b → is_nack w ≡ q → and q (ltb b 3) ≡ nobody a
 nobody_by_nack a w b q e h = sym (ap nobody e ∙ ap (λ (x : Bool). and x (ltb b 3)) h)
 
 -- ---- Prepare To ARP
@@ -82,22 +82,22 @@ module _ (tr : List ℕ) (a : Decoded) (sent received : List ℕ) (o : Outcome s
   by_prepare : told_prepare a (sent_data (shape_of send_byte) tr a) ≡ tells (Send Prepare) tr
   by_prepare = ap (λ (x : Decoded). told_prepare x (sent_data (shape_of send_byte) tr x)) heard_1
 
-  by_refusal : (w : Refusal) (k : ℕ) → a ≡ Refused w k → pick (is_nack w) Over GivenUp ≡ tells (Send Prepare) tr
+  by_refusal : (w : Refusal) (k : ℕ) → a ≡ refused w k → pick (is_nack w) Over GivenUp ≡ tells (Send Prepare) tr
   by_refusal w k e = sym (ap (λ (x : Decoded). told_prepare x (sent_data (shape_of send_byte) tr a)) e) ∙ by_prepare
 
-  pub prepare_nack : (w : Refusal) (k : ℕ) → a ≡ Refused w k → is_nack w ≡ true → Over ≡ tells (Send Prepare) tr
+  pub prepare_nack : (w : Refusal) (k : ℕ) → a ≡ refused w k → is_nack w ≡ true → Over ≡ tells (Send Prepare) tr
   prepare_nack w k e h = sym (ap (λ (b : Bool). pick b Over GivenUp) h) ∙ by_refusal w k e
 
-  pub prepare_other : (w : Refusal) (k : ℕ) → a ≡ Refused w k → is_nack w ≡ false → GivenUp ≡ tells (Send Prepare) tr
+  pub prepare_other : (w : Refusal) (k : ℕ) → a ≡ refused w k → is_nack w ≡ false → GivenUp ≡ tells (Send Prepare) tr
   prepare_other w k e h = sym (ap (λ (b : Bool). pick b Over GivenUp) h) ∙ by_refusal w k e
 
-  prepare_done : (t : Transaction) → a ≡ Done t → pick (is_prepare t sent) Again GivenUp ≡ tells (Send Prepare) tr
+  prepare_done : (t : Transaction) → a ≡ Ok t → pick (is_prepare t sent) Again GivenUp ≡ tells (Send Prepare) tr
   prepare_done t e = ap (λ (b : Bool). pick b Again GivenUp) (is_prepare_lem t) ∙ sym (ap (λ (x : Decoded). told_prepare x (sent_data (shape_of send_byte) tr a)) e) ∙ by_prepare
 
-  pub prepare_accepted : (t : Transaction) → a ≡ Done t → is_prepare t sent ≡ true → Again ≡ tells (Send Prepare) tr
+  pub prepare_accepted : (t : Transaction) → a ≡ Ok t → is_prepare t sent ≡ true → Again ≡ tells (Send Prepare) tr
   prepare_accepted t e h = sym (ap (λ (b : Bool). pick b Again GivenUp) h) ∙ prepare_done t e
 
-  pub prepare_another : (t : Transaction) → a ≡ Done t → is_prepare t sent ≡ false → GivenUp ≡ tells (Send Prepare) tr
+  pub prepare_another : (t : Transaction) → a ≡ Ok t → is_prepare t sent ≡ false → GivenUp ≡ tells (Send Prepare) tr
   prepare_another t e h = sym (ap (λ (b : Bool). pick b Again GivenUp) h) ∙ prepare_done t e
 
 -- ---- Get UDID
@@ -117,15 +117,15 @@ module _ (tr : List ℕ) (a : Decoded) (sent received : List ℕ) (o : Outcome b
   get_nobody e = go a e ∙ by_get
     where
       go : (x : Decoded) → nobody x ≡ true → Over ≡ told_get x (received_data true tr a)
-      go (Done t) k = zero_is_one (cc k)
-      go (Refused w i) k = rw k
+      go (Ok t) k = zero_is_one (cc k)
+      go (Err e) k = rw k
 
-  pub get_again : nobody a ≡ false → (w : Refusal) (k : ℕ) → a ≡ Refused w k → Again ≡ tells (Send GetUdid) tr
+  pub get_again : nobody a ≡ false → (w : Refusal) (k : ℕ) → a ≡ refused w k → Again ≡ tells (Send GetUdid) tr
   get_again e w k h =
       sym (ap (λ (b : Bool). pick b Over Again) (sym (ap nobody h) ∙ e))
       ∙ sym (ap (λ (x : Decoded). told_get x (received_data true tr a)) h) ∙ by_get
 
-  pub get_done : (t : Transaction) → a ≡ Done t → told_reply t received ≡ tells (Send GetUdid) tr
+  pub get_done : (t : Transaction) → a ≡ Ok t → told_reply t received ≡ tells (Send GetUdid) tr
   get_done t e =
       ap (told_reply t) o.data_received
       ∙ on_reply t (received_data true tr a)
@@ -147,8 +147,8 @@ module _ (t : Transaction) (xs : List ℕ) where
 
 -- taken where the Assign is complete, and nothing new otherwise
 on_assign : (u : Udid) (n : Address) (a : Decoded) (sent : List ℕ) → pick (completes u n.0 a sent) (Took u n) Again ≡ told_assign u n a sent
-on_assign u n (Done t) sent = refl
-on_assign u n (Refused w k) sent = refl
+on_assign u n (Ok t) sent = refl
+on_assign u n (Err e) sent = refl
 
 module _ (u : Udid) (n : Address) (tr : List ℕ) (a : Decoded) (sent received : List ℕ) (o : Outcome block_write true tr zeros zeros a sent received) where
   heard_8 : a ≡ answer block_write tr
@@ -166,8 +166,8 @@ module _ (u : Udid) (n : Address) (tr : List ℕ) (a : Decoded) (sent received :
     where
       go : (x : Decoded) → ((t : Transaction) → is_assign u n.0 t sent ≡ is_assign u n.0 t (sent_data (shape_of block_write) tr a))
           → completes u n.0 x sent ≡ completes u n.0 x (sent_data (shape_of block_write) tr a)
-      go (Done t) h = h t
-      go (Refused w k) h = refl
+      go (Ok t) h = h t
+      go (Err e) h = refl
 
   assign_by : pick (completes u n.0 a sent) (Took u n) Again ≡ tells (Send (Assign u n)) tr
   assign_by = ap (λ (b : Bool). pick b (Took u n) Again) complete_is ∙ on_assign u n a (sent_data (shape_of block_write) tr a) ∙ by_assign

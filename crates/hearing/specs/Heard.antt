@@ -1,5 +1,5 @@
 -- What a received trace says: the decoder's answer for the command's protocol, with PEC, and whether it is the command that was sent.
-use Rattle.std.specs.Prelude.{ℕ, ◌*◌, ◌%◌, Bool, true, false, List, ltb, eqb, get_or}
+use Rattle.std.specs.Prelude.{ℕ, ◌*◌, ◌%◌, Bool, true, false, List, ltb, eqb, get_or, Ok, Err}
 use Rattle.lists.specs.Choice.{and}
 use Rattle.wire.specs.Addresses.{default_address}
 use Rattle.trace.specs.Shapes.{shape_of}
@@ -7,8 +7,7 @@ use Rattle.trace.specs.declared.transaction.Transaction.{Transaction}
 use Rattle.scan.specs.Handed.{sent_data, received_data}
 use Rattle.scan.specs.Numbers.{is_nack}
 use Rattle.scan.specs.Run.{decoded_by}
-use Rattle.scan.specs.declared.answer.Decoded.{Decoded}
-use Rattle.scan.specs.declared.answer.Decoded.TheVariants.{Done, Refused}
+use Rattle.scan.specs.Decoded.{Decoded}
 use Rattle.udid.specs.Bytes.{udid_at}
 use Rattle.udid.specs.Udids.{same_udid}
 use Rattle.udid.specs.declared.Udid.{Udid}
@@ -46,10 +45,10 @@ is_assign u a t sent = and (is_command assign_code t) (and (eqb t.sent 17) (name
 
 -- an Assign of a to u is complete: answer 0, and the trace is that Assign
 abbrev pub completes : Udid → ℕ → Decoded → List ℕ → Bool
-completes u a (Done t) sent = is_assign u a t sent
-completes u a (Refused w k) sent = false
+completes u a (Ok t) sent = is_assign u a t sent
+completes u a (Err e) sent = false
 
 -- answer 6 at byte 0, 1 or 2
 abbrev pub nobody : Decoded → Bool
-nobody (Done t) = false
-nobody (Refused w b) = and (is_nack w) (ltb b 3)
+nobody (Ok t) = false
+nobody (Err e) = and (is_nack e.why) (ltb e.place 3)

@@ -1,11 +1,10 @@
 -- What a received trace tells of the command that is outstanding. No state of the controller is cited here.
-use Rattle.std.specs.Prelude.{ℕ, Bool, true, false, List, eqb, get_or}
+use Rattle.std.specs.Prelude.{ℕ, Bool, true, false, List, eqb, get_or, Ok, Err}
 use Rattle.lists.specs.Choice.{pick}
 use Rattle.wire.specs.declared.address.Address.{Address}
 use Rattle.trace.specs.declared.transaction.Transaction.{Transaction}
 use Rattle.scan.specs.Numbers.{is_nack}
-use Rattle.scan.specs.declared.answer.Decoded.{Decoded}
-use Rattle.scan.specs.declared.answer.Decoded.TheVariants.{Done, Refused}
+use Rattle.scan.specs.Decoded.{Decoded}
 use Rattle.udid.specs.Bytes.{udid_at}
 use Rattle.udid.specs.declared.Udid.{Udid}
 use Rattle.hearing.specs.Heard.{answer, sent_in, received_in, is_prepare, is_get, is_assign, nobody}
@@ -18,8 +17,8 @@ use Rattle.hearing.specs.declared.told.Told.TheVariants.{Again, Over, GivenUp, R
 
 -- Prepare accepted: send Get UDID. Answer 6: the pass ends, nobody there. Any other: 14
 abbrev pub told_prepare : Decoded → List ℕ → Told
-told_prepare (Done t) sent = pick (is_prepare t sent) Again GivenUp
-told_prepare (Refused w k) sent = pick (is_nack w) Over GivenUp
+told_prepare (Ok t) sent = pick (is_prepare t sent) Again GivenUp
+told_prepare (Err e) sent = pick (is_nack e.why) Over GivenUp
 
 -- a complete trace where the reply is due: another address or command: Get UDID again. A count that is not 17: the pass ends
 abbrev pub told_reply : Transaction → List ℕ → Told
@@ -27,13 +26,13 @@ told_reply t received = pick (is_get t) (pick (eqb t.received 17) (Reply (udid_a
 
 -- Get UDID: answer 6 at byte 0, 1 or 2: the pass ends. A complete reply: told_reply. Any other refusal: Get UDID again
 abbrev pub told_get : Decoded → List ℕ → Told
-told_get (Done t) received = told_reply t received
-told_get (Refused w k) received = pick (nobody (Refused w k)) Over Again
+told_get (Ok t) received = told_reply t received
+told_get (Err e) received = pick (nobody (Err e)) Over Again
 
 -- Assign complete: the target took the address. Any other answer: Get UDID again
 abbrev pub told_assign : Udid → Address → Decoded → List ℕ → Told
-told_assign u a (Done t) sent = pick (is_assign u a.0 t sent) (Took u a) Again
-told_assign u a (Refused w k) sent = Again
+told_assign u a (Ok t) sent = pick (is_assign u a.0 t sent) (Took u a) Again
+told_assign u a (Err e) sent = Again
 
 -- by what was handed out last; where that is an end, no command is outstanding
 abbrev pub tells : Handed → List ℕ → Told

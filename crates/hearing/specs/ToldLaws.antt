@@ -1,13 +1,12 @@
 -- What is sure of each thing that a trace tells.
-use Rattle.std.specs.Prelude.{ℕ, zero, suc, ◌<◌, ◌≡◌, refl, Bool, true, false, List, [], eqb, length, get_or, drop}
+use Rattle.std.specs.Prelude.{ℕ, zero, suc, ◌<◌, ◌≡◌, refl, Bool, true, false, List, [], eqb, length, get_or, drop, Ok, Err}
 use Rattle.std.proofs.Common.{arith}
 use Rattle.lists.specs.Choice.{pick}
 use Rattle.lists.specs.Each.{Bytes}
 use Rattle.trace.specs.declared.transaction.Transaction.{Transaction}
 use Rattle.scan.specs.Handed.{lows, received_length, received_place}
 use Rattle.scan.specs.Numbers.{is_nack}
-use Rattle.scan.specs.declared.answer.Decoded.{Decoded}
-use Rattle.scan.specs.declared.answer.Decoded.TheVariants.{Done, Refused}
+use Rattle.scan.specs.Decoded.{Decoded}
 use Rattle.udid.specs.Bytes.{udid_at}
 use Rattle.udid.proofs.UdidLaws.{fits_at}
 use Rattle.udid.specs.Udids.{Fits}
@@ -53,8 +52,8 @@ either P false x y f g = g refl
 
 module _ (k : Handed) (tr : List ℕ) where
   known_prepare : (d : Decoded) (xs : List ℕ) → Known k tr (told_prepare d xs)
-  known_prepare (Done t) xs = either (Known k tr) (is_prepare t xs) Again GivenUp (λ e. tt) (λ e. tt)
-  known_prepare (Refused w i) xs = either (Known k tr) (is_nack w) Over GivenUp (λ e. tt) (λ e. tt)
+  known_prepare (Ok t) xs = either (Known k tr) (is_prepare t xs) Again GivenUp (λ e. tt) (λ e. tt)
+  known_prepare (Err r) xs = either (Known k tr) (is_nack r.why) Over GivenUp (λ e. tt) (λ e. tt)
 
   known_reply : (t : Transaction) (xs : List ℕ) → Bytes xs → Known k tr (told_reply t xs)
   known_reply t xs h =
@@ -63,13 +62,13 @@ module _ (k : Handed) (tr : List ℕ) where
       (λ e. tt)
 
   known_get : (d : Decoded) (xs : List ℕ) → Bytes xs → Known k tr (told_get d xs)
-  known_get (Done t) xs h = known_reply t xs h
-  known_get (Refused w i) xs h = either (Known k tr) (nobody (Refused w i)) Over Again (λ e. tt) (λ e. tt)
+  known_get (Ok t) xs h = known_reply t xs h
+  known_get (Err r) xs h = either (Known k tr) (nobody (Err r)) Over Again (λ e. tt) (λ e. tt)
 
 known_assign : (u : Udid) (a : Address) (tr : List ℕ) (d : Decoded) → answer block_write tr ≡ d → Known (Send (Assign u a)) tr (told_assign u a d (sent_in block_write tr))
-known_assign u a tr (Done t) e =
+known_assign u a tr (Ok t) e =
     either (Known (Send (Assign u a)) tr) (is_assign u a.0 t (sent_in block_write tr)) (Took u a) Again (λ h. (refl, complete_assign_is_its_trace u a tr t e h)) (λ h. tt)
-known_assign u a tr (Refused w i) e = tt
+known_assign u a tr (Err r) e = tt
 
 pub told_known : (k : Handed) (tr : List ℕ) → Known k tr (tells k tr)
 told_known (Send Prepare) tr = known_prepare (Send Prepare) tr (answer send_byte tr) (sent_in send_byte tr)

@@ -1,6 +1,6 @@
 -- The step held against traces: which traces are taken for the command that is outstanding, and what each of them leads to.
 -- For every trace one of the lines applies, and no line speaks of how the decoder works. specs/OneStepLaws.antt says them of the step itself.
-use Rattle.std.specs.Prelude.{ℕ, ◌*◌, ◌%◌, ◌≤◌, ◌<◌, ◌≡◌, refl, Bool, true, false, List, [], ◌∷◌, ◌++◌, ltb, eqb, length, get_or, drop}
+use Rattle.std.specs.Prelude.{ℕ, ◌*◌, ◌%◌, ◌≤◌, ◌<◌, ◌≡◌, refl, Bool, true, false, List, [], ◌∷◌, ◌++◌, ltb, eqb, length, get_or, drop, Ok, Err}
 use Rattle.std.proofs.Common.{sym, ap, ap₂, ◌∙◌, subst, arith, length-drop, ltb-true, lt-ltb, eqb-true, eq-eqb, ne_eqb}
 use Rattle.std.proofs.lemmas.List.{get_or_at}
 use Rattle.std.proofs.Math.Seq.{split_at}
@@ -19,8 +19,7 @@ use Rattle.scan.specs.Answers.{CutAt, Carries, summary}
 use Rattle.scan.specs.Handed.{sent_data, received_data}
 use Rattle.scan.specs.NumberLaws.{nack_is}
 use Rattle.scan.specs.Numbers.{is_nack}
-use Rattle.scan.specs.declared.answer.Decoded.{Decoded}
-use Rattle.scan.specs.declared.answer.Decoded.TheVariants.{Done, Refused}
+use Rattle.scan.specs.Decoded.{Decoded, refused}
 use Rattle.scan.specs.declared.answer.Refusal.{Refusal}
 use Rattle.scan.specs.declared.answer.Refusal.TheVariants.{NotAcknowledged}
 use Rattle.udid.specs.Bytes.{udid_bytes, udid_at}
@@ -39,23 +38,23 @@ use Rattle.hearing.specs.declared.told.Told.TheVariants.{Again, Over, GivenUp, R
 -- ---- what the decoder says of them
 
 module _ (protocol : ℕ) (m : Message) (v : Valid (shape_of protocol) m) where
-  pub decoded_back : (answer protocol (trace (shape_of protocol) true m) ≡ Done (summary protocol m))
+  pub decoded_back : (answer protocol (trace (shape_of protocol) true m) ≡ Ok (summary protocol m))
       × (sent_in protocol (trace (shape_of protocol) true m) ≡ m.sent)
       × (received_in protocol (trace (shape_of protocol) true m) ≡ m.received)
   decoded_back = step.round_trip protocol (shape_of protocol) (sane protocol) true m v
 
 -- a complete trace is that of a message, with its data
-complete : (protocol : ℕ) (tr : List ℕ) (t : Transaction) → answer protocol tr ≡ Done t → Carries protocol (shape_of protocol) true tr t (sent_in protocol tr) (received_in protocol tr)
+complete : (protocol : ℕ) (tr : List ℕ) (t : Transaction) → answer protocol tr ≡ Ok t → Carries protocol (shape_of protocol) true tr t (sent_in protocol tr) (received_in protocol tr)
 complete protocol tr t e =
     subst (λ (x : Decoded). Carries protocol (shape_of protocol) true tr t (sent_data (shape_of protocol) tr x) (received_data true tr x)) (sym e)
-    ((step.answer_exactly protocol (shape_of protocol) (sane protocol) true tr (Done t)).0 e)
+    ((step.answer_exactly protocol (shape_of protocol) (sane protocol) true tr (Ok t)).0 e)
 
-cut : (protocol : ℕ) (tr : List ℕ) (b : ℕ) → CutAt (shape_of protocol) true tr b → answer protocol tr ≡ Refused NotAcknowledged b
-cut protocol tr b h = (step.answer_exactly protocol (shape_of protocol) (sane protocol) true tr (Refused NotAcknowledged b)).1 (h, refl, refl)
+cut : (protocol : ℕ) (tr : List ℕ) (b : ℕ) → CutAt (shape_of protocol) true tr b → answer protocol tr ≡ refused NotAcknowledged b
+cut protocol tr b h = (step.answer_exactly protocol (shape_of protocol) (sane protocol) true tr (refused NotAcknowledged b)).1 (h, refl, refl)
 
-cut_back : (protocol : ℕ) (tr : List ℕ) (w : Refusal) (b : ℕ) → answer protocol tr ≡ Refused w b → is_nack w ≡ true → CutAt (shape_of protocol) true tr b
+cut_back : (protocol : ℕ) (tr : List ℕ) (w : Refusal) (b : ℕ) → answer protocol tr ≡ refused w b → is_nack w ≡ true → CutAt (shape_of protocol) true tr b
 cut_back protocol tr w b e h =
-    ((step.answer_exactly protocol (shape_of protocol) (sane protocol) true tr (Refused NotAcknowledged b)).0 (e ∙ ap (λ (v : Refusal). Refused v b) (nack_is w h))).0
+    ((step.answer_exactly protocol (shape_of protocol) (sane protocol) true tr (refused NotAcknowledged b)).0 (e ∙ ap (λ (v : Refusal). refused v b) (nack_is w h))).0
 
 -- two messages with the same fields
 message_is : (m n : Message) → m.address ≡ n.address → m.direction ≡ n.direction → m.command ≡ n.command → m.sent ≡ n.sent → m.received ≡ n.received → m ≡ n
@@ -65,7 +64,7 @@ message_is m n a d c s r = λ i. record { address = a i; direction = d i; comman
 
 module _ (tr : List ℕ) where
   -- a complete trace that is Prepare To ARP is its trace
-  prepare_only : (t : Transaction) → answer send_byte tr ≡ Done t → is_prepare t (sent_in send_byte tr) ≡ true → tr ≡ trace_of (Send Prepare) []
+  prepare_only : (t : Transaction) → answer send_byte tr ≡ Ok t → is_prepare t (sent_in send_byte tr) ≡ true → tr ≡ trace_of (Send Prepare) []
   prepare_only t e h =
       let c = complete send_byte tr t e in
       let b = both_true (eqb t.address.0 default_address) (eqb (get_or (sent_in send_byte tr) 0 0) 0x01) h in
@@ -96,23 +95,23 @@ module _ (tr : List ℕ) where
   pub prepare_other : (tr ≡ trace_of (Send Prepare) [] → ⊥) → ((b : ℕ) → CutAt (shape_of send_byte) true tr b → ⊥) → tells (Send Prepare) tr ≡ GivenUp
   prepare_other n k = go (answer send_byte tr) refl
     where
-      done : (t : Transaction) → answer send_byte tr ≡ Done t → (b : Bool) → is_prepare t (sent_in send_byte tr) ≡ b → pick b Again GivenUp ≡ GivenUp
+      done : (t : Transaction) → answer send_byte tr ≡ Ok t → (b : Bool) → is_prepare t (sent_in send_byte tr) ≡ b → pick b Again GivenUp ≡ GivenUp
       done t e true h = absurd (n (prepare_only t e h))
       done t e false h = refl
 
-      nack : (w : Refusal) (b : ℕ) → answer send_byte tr ≡ Refused w b → (p : Bool) → is_nack w ≡ p → pick p Over GivenUp ≡ GivenUp
+      nack : (w : Refusal) (b : ℕ) → answer send_byte tr ≡ refused w b → (p : Bool) → is_nack w ≡ p → pick p Over GivenUp ≡ GivenUp
       nack w b e true g = absurd (k b (cut_back send_byte tr w b e g))
       nack w b e false g = refl
 
       go : (x : Decoded) → answer send_byte tr ≡ x → told_prepare x (sent_in send_byte tr) ≡ GivenUp
-      go (Done t) e = done t e (is_prepare t (sent_in send_byte tr)) refl
-      go (Refused w i) e = nack w i e (is_nack w) refl
+      go (Ok t) e = done t e (is_prepare t (sent_in send_byte tr)) refl
+      go (Err r) e = nack r.why r.place e (is_nack r.why) refl
 
 -- ---- Get UDID
 
 module _ (tr : List ℕ) where
   -- a complete trace that is Get UDID is its trace, with some reply
-  pub complete_get_is_its_trace : (t : Transaction) → answer block_read tr ≡ Done t → is_get t ≡ true → tr ≡ trace_of (Send GetUdid) (received_in block_read tr)
+  pub complete_get_is_its_trace : (t : Transaction) → answer block_read tr ≡ Ok t → is_get t ≡ true → tr ≡ trace_of (Send GetUdid) (received_in block_read tr)
   complete_get_is_its_trace t e h =
       let c = complete block_read tr t e in
       let b = both_true (eqb t.address.0 default_address) (eqb t.command 0x03) h in
@@ -123,7 +122,7 @@ module _ (tr : List ℕ) where
       (message_is c.message (message_of (Send GetUdid) (received_in block_read tr)) a c.valid.direction d (empty_of_length c.message.sent c.valid.sent_length_lem) (sym c.data_received))
 
   -- the data of a complete Block Read are at most 255 bytes
-  pub complete_get_data_fits : (t : Transaction) → answer block_read tr ≡ Done t → Bytes (received_in block_read tr) × (length (received_in block_read tr) ≤ 255)
+  pub complete_get_data_fits : (t : Transaction) → answer block_read tr ≡ Ok t → Bytes (received_in block_read tr) × (length (received_in block_read tr) ≤ 255)
   complete_get_data_fits t e =
       let c = complete block_read tr t e in
       (subst Bytes (sym c.data_received) c.valid.received_bytes, omega (arith, ap length c.data_received, c.valid.counts))
@@ -152,19 +151,19 @@ module _ (tr : List ℕ) where
   pub get_again : ((xs : List ℕ) → Bytes xs → length xs ≤ 255 → tr ≡ trace_of (Send GetUdid) xs → ⊥) → ((b : ℕ) → CutAt (shape_of block_read) true tr b → b < 3 → ⊥) → tells (Send GetUdid) tr ≡ Again
   get_again n k = go (answer block_read tr) refl
     where
-      done : (t : Transaction) → answer block_read tr ≡ Done t → (b : Bool) → is_get t ≡ b
+      done : (t : Transaction) → answer block_read tr ≡ Ok t → (b : Bool) → is_get t ≡ b
           → pick b (pick (eqb t.received 17) (Reply (udid_at (received_in block_read tr) 0) (get_or (received_in block_read tr) 16 0)) Over) Again ≡ Again
       done t e true h = let d = complete_get_data_fits t e in absurd (n (received_in block_read tr) d.0 d.1 (complete_get_is_its_trace t e h))
       done t e false h = refl
 
-      nack : (w : Refusal) (b : ℕ) → answer block_read tr ≡ Refused w b → (p : Bool) → is_nack w ≡ p → (q : Bool) → ltb b 3 ≡ q → pick (and p q) Over Again ≡ Again
+      nack : (w : Refusal) (b : ℕ) → answer block_read tr ≡ refused w b → (p : Bool) → is_nack w ≡ p → (q : Bool) → ltb b 3 ≡ q → pick (and p q) Over Again ≡ Again
       nack w b e true g true h = absurd (k b (cut_back block_read tr w b e g) (ltb-true b 3 h))
       nack w b e true g false h = refl
       nack w b e false g q h = refl
 
       go : (x : Decoded) → answer block_read tr ≡ x → told_get x (received_in block_read tr) ≡ Again
-      go (Done t) e = done t e (is_get t) refl
-      go (Refused w i) e = nack w i e (is_nack w) refl (ltb i 3) refl
+      go (Ok t) e = done t e (is_get t) refl
+      go (Err r) e = nack r.why r.place e (is_nack r.why) refl (ltb r.place 3) refl
 
 -- ---- Assign Address
 
@@ -184,7 +183,7 @@ assign_data_is_assign u a f =
 
 module _ (u : Udid) (a : Address) (tr : List ℕ) where
   -- a complete trace that is the Assign which was sent is its trace
-  pub complete_assign_is_its_trace : (t : Transaction) → answer block_write tr ≡ Done t → is_assign u a.0 t (sent_in block_write tr) ≡ true → tr ≡ trace_of (Send (Assign u a)) []
+  pub complete_assign_is_its_trace : (t : Transaction) → answer block_write tr ≡ Ok t → is_assign u a.0 t (sent_in block_write tr) ≡ true → tr ≡ trace_of (Send (Assign u a)) []
   complete_assign_is_its_trace t e h =
       let c = complete block_write tr t e in
       let xs : List ℕ = sent_in block_write tr in
@@ -213,10 +212,10 @@ module _ (u : Udid) (a : Address) (tr : List ℕ) where
   pub assign_other : (tr ≡ trace_of (Send (Assign u a)) [] → ⊥) → tells (Send (Assign u a)) tr ≡ Again
   assign_other n = go (answer block_write tr) refl
     where
-      done : (t : Transaction) → answer block_write tr ≡ Done t → (b : Bool) → is_assign u a.0 t (sent_in block_write tr) ≡ b → pick b (Took u a) Again ≡ Again
+      done : (t : Transaction) → answer block_write tr ≡ Ok t → (b : Bool) → is_assign u a.0 t (sent_in block_write tr) ≡ b → pick b (Took u a) Again ≡ Again
       done t e true h = absurd (n (complete_assign_is_its_trace t e h))
       done t e false h = refl
 
       go : (x : Decoded) → answer block_write tr ≡ x → told_assign u a x (sent_in block_write tr) ≡ Again
-      go (Done t) e = done t e (is_assign u a.0 t (sent_in block_write tr)) refl
-      go (Refused w k) e = refl
+      go (Ok t) e = done t e (is_assign u a.0 t (sent_in block_write tr)) refl
+      go (Err r) e = refl

@@ -71,8 +71,8 @@ pub(crate) fn is_complete(u: Udid, a: Address, answer: Decoded, sent: &[u8]) -> 
     ensures { result ≡ completes u a.0 answer sent.now }
 {
     match answer {
-        Decoded::Done(t) => is_assign(u, a, t, sent),
-        Decoded::Refused(_, _) => false,
+        Ok(t) => is_assign(u, a, t, sent),
+        Err(_) => false,
     }
 }
 
@@ -81,7 +81,7 @@ pub(crate) fn is_nobody(a: Decoded) -> bool
     ensures { result ≡ nobody a }
 {
     match a {
-        Decoded::Done(_) => false,
-        Decoded::Refused(w, b) => { if is_nack(w) { b < 3 } else { false } }
+        Ok(_) => false,
+        Err(e) => { if is_nack(e.why) { e.place < 3 } else { false } }
     }
 }

@@ -5,7 +5,7 @@ ghost use Rattle.hearing.specs.Told.{told_reply, tells};
 
 use super::heard::{byte_at, is_command, is_complete, is_nobody, is_prepare};
 use commands::command::{Command, GET_UDID, Handed};
-use scan::answer::{Decoded, is_nack};
+use scan::answer::is_nack;
 use trace::transaction::Transaction;
 use udid::Udid;
 use wire::address::Address;
@@ -49,15 +49,15 @@ fn after_prepare(trace: &[u16]) -> Told
     let mut received = [0u8; 255];
     let answer = decode::decode(1, true, trace, &mut sent, &mut received);
     match answer {
-        Decoded::Done(t) => {
+        Ok(t) => {
             if is_prepare(t, &sent) {
                 Told::Again
             } else {
                 Told::GivenUp
             }
         }
-        Decoded::Refused(w, _) => {
-            if is_nack(w) {
+        Err(e) => {
+            if is_nack(e.why) {
                 Told::Over
             } else {
                 Told::GivenUp
@@ -76,7 +76,7 @@ fn after_get(trace: &[u16]) -> Told
     if is_nobody(answer) {
         return Told::Over;
     }
-    let Decoded::Done(t) = answer else {
+    let Ok(t) = answer else {
         return Told::Again;
     };
     reply_in(t, &received)

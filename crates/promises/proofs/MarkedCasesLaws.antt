@@ -1,5 +1,5 @@
 -- The marked cases by themselves: what each run of M8 and M10 comes to, and the pieces of the others.
-use Rattle.std.specs.Prelude.{◌≡◌, refl, Bool, true, false, List, [], ◌∷◌, ◌++◌, ℕ, ◌+◌, ◌*◌, ◌^◌, ◌≤◌, ◌<◌, ltb, length, drop, replicate}
+use Rattle.std.specs.Prelude.{◌≡◌, refl, Bool, true, false, List, [], ◌∷◌, ◌++◌, ℕ, ◌+◌, ◌*◌, ◌^◌, ◌≤◌, ◌<◌, ltb, length, drop, replicate, Ok, Option}
 use Rattle.std.proofs.Common.{ap, ap₂, ◌∙◌, arith, ltb-true}
 use Rattle.lists.specs.AbsurdLaws.{zero_is_one}
 use Rattle.lists.specs.Choice.{pick}
@@ -26,10 +26,9 @@ use Rattle.targets.specs.AdmissionLaws.{admitted_targets}
 use Rattle.targets.specs.First.{first_from}
 use Rattle.targets.specs.Records.{target_at, targets_of, put_target, records_with}
 use Rattle.targets.specs.Refusals.{among_records, checked_list}
-use Rattle.targets.specs.declared.admit.Checked.TheVariants.{Admitted}
 use Rattle.bindings.proofs.BufferLaws.{bytes_there}
+use Rattle.udid.specs.declared.Udid.{Udid}
 use Rattle.bindings.specs.Entries.{entry_bytes, buffer_of, bound_from, bound_set}
-use Rattle.bindings.specs.declared.entry.Entry.{Entry}
 use Rattle.rule.specs.Bus.{World}
 use Rattle.rule.specs.PassEndLaws.{demand_3}
 use Rattle.rule.specs.PassEnd.{pass_end}
@@ -139,7 +138,7 @@ joined f (x ∷ xs) = f x ++ joined f xs
 pub record Comes (m : Run) : Type 0 where
   let_in : m.last < 128
   bytes : Bytes m.records
-  admitted : checked_list (barred_pool m.occupied) m.records ≡ Admitted
+  admitted : checked_list (barred_pool m.occupied) m.records ≡ Ok tt
   number : number_in (command_number (end_of m).now.command) ≡ m.answer.answer
   nowhere : 0 ≡ m.answer.place
   asker : udid_in (command_number (end_of m).now.command) ≡ m.answer.udid
@@ -151,7 +150,7 @@ pub record Comes (m : Run) : Type 0 where
   small : Each (λ (a : ℕ). a < 128) m.places
   shown : joined (λ (a : ℕ). entry_bytes (entry_at (end_of m).now.state.slots a)) m.places ≡ m.buffer
 
-windows_are : (held : ℕ → Entry) (rest as' : List ℕ) → Each (λ (a : ℕ). a < 128) as' → windows (buffer_of held ++ rest) as' ≡ joined (λ (a : ℕ). entry_bytes (held a)) as'
+windows_are : (held : ℕ → Option Udid) (rest as' : List ℕ) → Each (λ (a : ℕ). a < 128) as' → windows (buffer_of held ++ rest) as' ≡ joined (λ (a : ℕ). entry_bytes (held a)) as'
 windows_are held rest [] h = refl
 windows_are held rest (a ∷ as') h = ap₂ (λ (x y : List ℕ). x ++ y) (bytes_there held rest a h.0) (windows_are held rest as' h.1)
 
@@ -159,7 +158,7 @@ pub shows : (m : Run) → Comes m → (b : List ℕ) → 2048 ≤ length b → S
 shows m v b h =
     let e : model_end m.occupied m.last m.records b ≡ ended_end (end_of m) m.records b =
     end_going m.occupied m.last m.records b v.let_in
-    ∙ end_checked_lem m.occupied m.last m.records b Admitted h v.admitted
+    ∙ end_checked_lem m.occupied m.last m.records b (Ok tt) h v.admitted
     ∙ ap (λ (w : World). ended_end w m.records b) (demand_3 m.occupied m.last (targets_of m.records) (admitted_targets (barred_pool m.occupied) m.records v.bytes v.admitted)
     ∙ ap (λ (l : ℕ). pass_end m.occupied l (targets_of m.records)) (last_pick_is m.last v.let_in)) in (
       ap (λ (x : ModelEnd). x.answer) e

@@ -6,7 +6,7 @@ use Rattle.trace.specs.Trace.{Message}
 use Rattle.scan.specs.BytesIn.{bytes_in}
 use Rattle.scan.specs.Fitting.{Whole}
 use Rattle.scan.specs.Numbers.{decode_number}
-use Rattle.scan.specs.declared.answer.Decoded.{Decoded}
+use Rattle.scan.specs.Decoded.{Decoded}
 use Rattle.decode.specs.Outcome.{Entered, Outcome}
 use Rattle.catches.proofs.BurstLaws.{eight_bits_caught}
 use Rattle.catches.specs.Changes.{RightPec, Within, TwoBits}

@@ -1,5 +1,5 @@
 -- THE PROOFS of the page (Demands): one inhabitant of each record, put together from the laws of the crates whose definitions they are about.
-use Rattle.std.specs.Prelude.{◌≡◌, refl, Bool, true, false, List, [], ◌∷◌, ◌++◌, ◌⊎◌, ◌↔◌, ℕ, ◌*◌, ◌/◌, ◌%◌, ◌≤◌, ◌<◌, length, take, drop}
+use Rattle.std.specs.Prelude.{◌≡◌, refl, Bool, true, false, List, [], ◌∷◌, ◌++◌, ◌⊎◌, ◌↔◌, ℕ, ◌*◌, ◌/◌, ◌%◌, ◌≤◌, ◌<◌, length, take, drop, Ok}
 use Rattle.std.proofs.Common.{sym, ap, ◌∙◌, subst, inl, inr, mod-eq_of_lt, arith, take_at}
 use Rattle.std.proofs.Math.Decide.{dec_lt}
 use Rattle.lists.specs.AbsurdLaws.{zero_is_one}
@@ -25,8 +25,7 @@ use Rattle.encode.specs.declared.Encoded.TheVariants.{Written, Forbidden, Output
 use Rattle.scan.specs.Answers.{summary}
 use Rattle.scan.proofs.AnswersLaws.{one_message}
 use Rattle.scan.specs.Numbers.{decode_number}
-use Rattle.scan.specs.declared.answer.Decoded.{Decoded}
-use Rattle.scan.specs.declared.answer.Decoded.TheVariants.{Done}
+use Rattle.scan.specs.Decoded.{Decoded}
 use Rattle.scan.specs.declared.answer.Refusal.TheVariants.{NoSymbol, EndsEarly, Unexpected, NotAcknowledged, PecDiffers, AfterStop, WrongAck, WrongAddress, WrongCount}
 use Rattle.decode.specs.NumberLaws as decode
 use Rattle.decode.specs.Outcome.{Outcome}
@@ -72,10 +71,9 @@ use Rattle.slots.specs.declared.Binding.TheVariants.{Open, Bound, Left}
 use Rattle.arp.specs.declared.state.Controller.{Controller}
 use Rattle.targets.specs.ByteCases.{EvenOrFlag, SameAsEarlier, FixedOnTaken}
 use Rattle.targets.specs.ByteCasesLaws.{given_by_bytes}
-use Rattle.targets.specs.Cases.{LengthIsBad, None}
+use Rattle.targets.specs.Cases.{LengthIsBad, NoneOf}
 use Rattle.targets.specs.RefusalLaws.{given_exactly}
 use Rattle.targets.specs.Refusals.{checked_list}
-use Rattle.targets.specs.declared.admit.Checked.TheVariants.{Admitted}
 use Rattle.bus.specs.BindingsEndLaws.{given_in_records, given_assignable, given_distinct, given_once, bound_exactly, bytes_of_bound, bytes_of_free, bytes_after_kept}
 use Rattle.targets.specs.Records.{targets_of}
 use Rattle.rule.specs.PassHistoryLaws.{pass_is_history}
@@ -241,7 +239,7 @@ demand_2 protocol pec = record { there = there; back = back; one = one }
   where
     there : (m : Message) (before : List ℕ) (r : Encoded) (after : List ℕ) → OfBytes m → Wrote protocol pec m before r after → (n : ℕ) → encode_number r ≡ (0, n)
         → (sent₀ received₀ : List ℕ) (a : Decoded) (sent received : List ℕ) → 255 ≤ length sent₀ → 255 ≤ length received₀ → Outcome protocol pec (take n after) sent₀ received₀ a sent received
-        → (a ≡ Done (summary protocol m)) × (sent ≡ m.sent ++ drop (length m.sent) sent₀) × (received ≡ m.received ++ drop (length m.received) received₀)
+        → (a ≡ Ok (summary protocol m)) × (sent ≡ m.sent ++ drop (length m.sent) sent₀) × (received ≡ m.received ++ drop (length m.received) received₀)
     there m before r after (c, s, v) w n e sent₀ received₀ a sent received hs hr o =
         let k = (encode.encode_0 protocol pec m c s v before r after w n).0 e in
         let x = k.0 in
@@ -251,7 +249,7 @@ demand_2 protocol pec = record { there = there; back = back; one = one }
         (known_to_last protocol (listed_trace protocol pec m x t).0, λ z. quick_plain pec _ t.0 t.1 (t.2 ∙ z), hs, hr) m (subst (TraceOf protocol pec m) (sym f) t)
 
     back : (tr sent₀ received₀ : List ℕ) (a : Decoded) (sent received : List ℕ) → Outcome protocol pec tr sent₀ received₀ a sent received → decode_number a ≡ (0, 0)
-        → (m : Message) × OfBytes m × (a ≡ Done (summary protocol m)) × ((before : List ℕ) (r : Encoded) (after : List ℕ) → length tr ≤ length before
+        → (m : Message) × OfBytes m × (a ≡ Ok (summary protocol m)) × ((before : List ℕ) (r : Encoded) (after : List ℕ) → length tr ≤ length before
         → Wrote protocol pec m before r after → (encode_number r ≡ (0, length tr)) × (take (length tr) after ≡ tr))
     back tr sent₀ received₀ a sent received o e =
         let k = (decode.decode_0 protocol pec tr sent₀ received₀ a sent received o).0 e in
@@ -278,10 +276,10 @@ demand_2 protocol pec = record { there = there; back = back; one = one }
 -- ---- demand 3
 
 -- a list in none of the cases of 9 to 12 is admitted
-pub admitted : (occupied : Pool) (s : List ℕ) → Bytes s → (LengthIsBad s → ⊥) → None (EvenOrFlag s) (length s / 18) → None (SameAsEarlier s) (length s / 18)
-    → None (FixedOnTaken (barred_pool occupied) s) (length s / 18) → checked_list (barred_pool occupied) s ≡ Admitted
+pub admitted : (occupied : Pool) (s : List ℕ) → Bytes s → (LengthIsBad s → ⊥) → NoneOf (EvenOrFlag s) (length s / 18) → NoneOf (SameAsEarlier s) (length s / 18)
+    → NoneOf (FixedOnTaken (barred_pool occupied) s) (length s / 18) → checked_list (barred_pool occupied) s ≡ Ok tt
 admitted occupied s bytes n m k f =
-    sym ((given_exactly (barred_pool occupied) s Admitted).1 ((given_by_bytes (barred_pool occupied) s bytes Admitted).1 (n, m, k, f)))
+    sym ((given_exactly (barred_pool occupied) s (Ok tt)).1 ((given_by_bytes (barred_pool occupied) s bytes (Ok tt)).1 (n, m, k, f)))
 
 pub demand_3 : (occupied : Pool) (last : ℕ) (s b : List ℕ) (bytes : Bytes s) (r : ModelAnswer) (s' b' : List ℕ) (contract : Leaves (model_end occupied last s b) r s' b')
     → Demand3 occupied last s b bytes r s' b' contract

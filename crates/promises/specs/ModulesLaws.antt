@@ -11,7 +11,7 @@ use Rattle.commands.specs.declared.command.Handed.TheVariants.{Send, Wait}
 use Rattle.pool.specs.Start.{barred_pool}
 use Rattle.pool.specs.declared.Pool.{Pool}
 use Rattle.targets.specs.ByteCases.{EvenOrFlag, SameAsEarlier, FixedOnTaken}
-use Rattle.targets.specs.Cases.{LengthIsBad, None}
+use Rattle.targets.specs.Cases.{LengthIsBad, NoneOf}
 use Rattle.targets.specs.Records.{targets_of}
 use Rattle.rule.specs.Acted.{Names}
 use Rattle.rule.specs.Bus.{World, pass}
@@ -94,7 +94,7 @@ names (Send GetUdid) h = tt
 names (Wait e) h = tt
 
 as_model_run : (occupied : Pool) (last : ℕ) (s b : List ℕ) (bytes : Bytes s) (r : ModelAnswer) (s' b' : List ℕ) → Leaves (model_end occupied last s b) r s' b' → last < 128 → 2048 ≤ length b
-    → (LengthIsBad s → ⊥) → None (EvenOrFlag s) (length s / 18) → None (SameAsEarlier s) (length s / 18) → None (FixedOnTaken (barred_pool occupied) s) (length s / 18)
+    → (LengthIsBad s → ⊥) → NoneOf (EvenOrFlag s) (length s / 18) → NoneOf (SameAsEarlier s) (length s / 18) → NoneOf (FixedOnTaken (barred_pool occupied) s) (length s / 18)
     → (ms : List Module) → Each Fitting ms → records_of ms ≡ targets_of s
     → ((pass_on occupied last ms).now ≡ (pass occupied last (targets_of s)).now) × (records_of (pass_on occupied last ms).targets ≡ targets_of s')
 as_model_run occupied last s b bytes r s' b' l small long n m k f ms h e =

@@ -15,9 +15,8 @@ pub use Rattle.scan.specs.Answers.{summary}
 pub use Rattle.misfit.specs.Cases.{IsSwapped, IsMisaddressed, IsMiscounted, IsOther}
 pub use Rattle.scan.specs.Because.{AfterStart}
 pub use Rattle.scan.specs.Fitting.{Member, Fits, Breaks, CutAt, OtherPec, FitsNext, ToHost, Wrong, BitSwapped, CountTooHigh}
+pub use Rattle.scan.specs.Decoded.{Decoded}
 pub use Rattle.scan.specs.Numbers.{decode_number}
-pub use Rattle.scan.specs.declared.answer.Decoded.{Decoded}
-pub use Rattle.scan.specs.declared.answer.Decoded.TheVariants.{Done}
 pub use Rattle.decode.specs.Outcome.{Entered, Outcome}
 -- what the PEC catches
 pub use Rattle.pec.specs.PecDivision.{times_g, polynomial}
@@ -66,7 +65,7 @@ pub use Rattle.arp.specs.declared.state.Controller.{Controller}
 pub use Rattle.arp.specs.declared.state.Stepped.{Stepped}
 -- the model
 pub use Rattle.targets.specs.ByteCases.{EvenOrFlag, SameAsEarlier, FixedOnTaken}
-pub use Rattle.targets.specs.Cases.{LengthIsBad, None, FirstOf}
+pub use Rattle.targets.specs.Cases.{LengthIsBad, NoneOf, FirstOf}
 pub use Rattle.targets.specs.Records.{targets_of}
 pub use Rattle.rule.specs.AllBound.{movable, left_free}
 pub use Rattle.arbitration.specs.Among.{Among}

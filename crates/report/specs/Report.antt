@@ -1,5 +1,5 @@
 -- What a model run answers of the end of its pass, or of a refusal, and what it leaves in the binding buffer.
-use Rattle.std.specs.Prelude.{ℕ, List, [], ◌∷◌, ◌++◌, length, drop, ltb}
+use Rattle.std.specs.Prelude.{ℕ, List, [], ◌∷◌, ◌++◌, length, drop, ltb, Option, Some, None}
 use Rattle.lists.specs.Choice.{pick}
 use Rattle.pool.specs.Free.{used}
 use Rattle.pool.specs.Start.{empty_pool}
@@ -11,8 +11,6 @@ use Rattle.slots.specs.declared.Binding.{Binding}
 use Rattle.slots.specs.declared.Slots.{Slots}
 use Rattle.arp.specs.declared.state.Stepped.{Stepped}
 use Rattle.bindings.specs.Entries.{buffer_of, bound_set}
-use Rattle.bindings.specs.declared.entry.Entry.{Entry}
-use Rattle.bindings.specs.declared.entry.Entry.TheVariants as entry
 use Rattle.bindings.specs.declared.answer.ModelAnswer.{ModelAnswer}
 
 abbrev pub no_udid : Udid
@@ -36,14 +34,14 @@ udid_in (n ∷ ns) = first_of n.1
 -- ---- the bindings
 
 -- an address that two claim holds no identifier
-abbrev pub entry_for : List Udid → Entry
-entry_for [] = entry.Nobody
-entry_for (u ∷ us) = entry.Bound u
+abbrev pub entry_for : List Udid → Option Udid
+entry_for [] = None
+entry_for (u ∷ us) = Some u
 
-abbrev pub entry_of : Binding → Entry
+abbrev pub entry_of : Binding → Option Udid
 entry_of h = entry_for (bound_in h)
 
-abbrev pub entry_at : Slots → ℕ → Entry
+abbrev pub entry_at : Slots → ℕ → Option Udid
 entry_at slots a = entry_of (held_at slots a)
 
 -- ---- the answer

@@ -1,26 +1,20 @@
 // The controller's bindings in the binding buffer, and the set of bound addresses. Rests on crates slots and bindings.
-ghost use Rattle.std.specs.Prelude.{◌≡◌, ◌++◌, ◌≤◌, length, drop};
+ghost use Rattle.std.specs.Prelude.{◌≡◌, ◌++◌, ◌≤◌, length, drop, Some, None};
 ghost use Rattle.bindings.specs.Entries.{buffer_size, buffer_of, bound_set};
 ghost use Rattle.lists.specs.Choice.{pick};
-ghost use Rattle.bindings.specs.declared.entry.Entry.TheVariants.{Nobody, Bound};
 ghost use Rattle.report.specs.Report.{entry_at, with_bindings};
 
 use bindings::buffer::{BUFFER, put_entry};
-use bindings::entry::Entry;
 use pool::Pool;
 use slots::Slots;
 use udid::Udid;
 use wire::address::Address;
 
 // Who is bound at an address with this identifier kept for it: nobody where it is not in the bound set.
-fn entry_of(bound: bool, u: Udid) -> Entry
-    ensures { result ≡ pick bound (Bound u) Nobody }
+fn entry_of(bound: bool, u: Udid) -> Option<Udid>
+    ensures { result ≡ pick bound (Some u) None }
 {
-    if bound {
-        Entry::Bound(u)
-    } else {
-        Entry::Nobody
-    }
+    if bound { Some(u) } else { None }
 }
 
 // The addresses to which somebody is bound.

@@ -1,7 +1,7 @@
 -- Each answer and each number of the decoder is given exactly in its case, and a trace of the encoder is read back whole. This holds for every
 -- shape whose limits make sense: so for every row of the table, and for rows yet to come. Answers has the meaning of each answer, Numbers
 -- its number; how it is computed stands in Run.
-use Rattle.std.specs.Prelude.{◌≡◌, Bool, ◌↔◌, ℕ, suc, ◌+◌, ◌-◌, ◌/◌, ◌<◌, take, get_or}
+use Rattle.std.specs.Prelude.{◌≡◌, Bool, ◌↔◌, ℕ, suc, ◌+◌, ◌-◌, ◌/◌, ◌<◌, take, get_or, Ok, Err}
 use Rattle.std.proofs.Math.Path.{refl, sym, ap}
 use Rattle.std.proofs.Common.{◌∙◌, subst, arith}
 use Rattle.std.proofs.Math.Bool.{true, false}
@@ -12,12 +12,10 @@ use Rattle.trace.specs.declared.transaction.Transaction.{Transaction}
 use Rattle.trace.specs.Trace.{Message, trace, Valid}
 use Rattle.trace.proofs.PecPlaceLaws.{pec_found}
 use Rattle.trace.specs.Sane.{Sane}
-use Rattle.scan.specs.declared.answer.Decoded.{Decoded}
-use Rattle.scan.specs.declared.answer.Decoded.TheVariants.{Done, Refused}
+use Rattle.scan.specs.Decoded.{Decoded, refused}
 use Rattle.scan.specs.declared.answer.Refusal.{Refusal}
 use Rattle.scan.specs.declared.answer.Refusal.TheVariants.{NoSymbol, NotAcknowledged, PecDiffers}
 use Rattle.step.specs.declared.state.Decoder.{Decoder}
-use Rattle.scan.specs.declared.whole.Progress.TheVariants.{Reading, Answered}
 use Rattle.step.specs.State.{fresh}
 use Rattle.step.specs.Fits.{fits}
 use Rattle.scan.specs.Refusal.{why}
@@ -32,7 +30,7 @@ use Rattle.scan.proofs.PlaceLaws.{reads_no_more, nothing_follows}
 use Rattle.scan.proofs.CutLaws.{cut_number}
 use Rattle.scan.proofs.DecideLaws as Decides
 
-same_done : {t u : Transaction} → Done t ≡ Done u → t ≡ u
+same_done : {t u : Transaction} → ◌≡◌ {A = Decoded} (Ok t) (Ok u) → t ≡ u
 same_done e = cc
 
 -- two messages with the same fields and data
@@ -63,11 +61,11 @@ module _ (num : ℕ) (sh : Shape) (hs : Sane sh) (p : Bool) where
 
   -- the encoder's trace of a valid message gives back every field and both lists
   pub round_trip : (t : Message) → Valid sh t
-      → (decoded_by num sh p (trace sh p t) ≡ Done (summary num t))
+      → (decoded_by num sh p (trace sh p t) ≡ Ok (summary num t))
       × (sent_data sh (trace sh p t) (decoded_by num sh p (trace sh p t)) ≡ t.sent)
       × (received_data p (trace sh p t) (decoded_by num sh p (trace sh p t)) ≡ t.received)
   round_trip t v =
-      no_other_answer (trace sh p t) (Done (summary num t)) t.sent t.received
+      no_other_answer (trace sh p t) (Ok (summary num t)) t.sent t.received
       (record { message = t; valid = v; is = refl; fields = refl; data_sent = refl; data_received = refl })
 
   -- two valid messages with the same trace are one
@@ -81,10 +79,10 @@ module _ (num : ℕ) (sh : Shape) (hs : Sane sh) (p : Bool) where
       (sym a.2 ∙ ap (λ (x : List ℕ). received_data p x (decoded_by num sh p x)) e ∙ b.2)
 
   -- a trace answered 0 is the encoder's trace of a valid message, whose fields are answered, and of no other
-  pub done_means : (tr : List ℕ) (t : Transaction) → decoded_by num sh p tr ≡ Done t
+  pub done_means : (tr : List ℕ) (t : Transaction) → decoded_by num sh p tr ≡ Ok t
       → (m : Message) × Valid sh m × (tr ≡ trace sh p m) × (t ≡ summary num m) × ((u : Message) → Valid sh u → tr ≡ trace sh p u → u ≡ m)
   done_means tr t e =
-      let c = (answer_exactly tr (Done t)).0 e in
+      let c = (answer_exactly tr (Ok t)).0 e in
       (c.message, c.valid, c.is, c.fields, λ u v q. one_message u c.message v c.valid (sym q ∙ c.is))
 
   -- by numbers: each is given exactly in its listed case, with what comes with it
@@ -95,8 +93,8 @@ module _ (num : ℕ) (sh : Shape) (hs : Sane sh) (p : Bool) where
     -- a refusal by its number: exactly where its reason holds
     pub refused_exactly : (w : Refusal) (k : ℕ) → (decode_number answer ≡ (refusal_number w, k)) ↔ Because sh p tr w k
     refused_exactly w k = (
-      λ e. ((answer_exactly tr (Refused w k)).0 (refused_of answer w k e)).0,
-      λ h. ap decode_number ((answer_exactly tr (Refused w k)).1 (h, refl, refl)),
+      λ e. ((answer_exactly tr (refused w k)).0 (refused_of answer w k e)).0,
+      λ h. ap decode_number ((answer_exactly tr (refused w k)).1 (h, refl, refl)),
     )
 
     pub number_0 : (decode_number answer ≡ (0, 0)) ↔ ((m : Message) × Valid sh m × (tr ≡ trace sh p m))
@@ -135,7 +133,7 @@ module _ (num : ℕ) (sh : Shape) (hs : Sane sh) (p : Bool) where
         omega (arith, e)
 
   -- the first place that is wrong decides: what follows it does not matter
-  stuck_at : (w : List ℕ) (x : ℕ) (d : Decoder) → run sh p fresh 0 w ≡ Reading d → (Fits sh p (w ++ x ∷ []) → ⊥) → fits sh d x ≡ false
+  stuck_at : (w : List ℕ) (x : ℕ) (d : Decoder) → run sh p fresh 0 w ≡ Ok d → (Fits sh p (w ++ x ∷ []) → ⊥) → fits sh d x ≡ false
   unfolding run
   stuck_at w x d q n = go (fits sh d x) refl
     where
@@ -148,5 +146,5 @@ module _ (num : ℕ) (sh : Shape) (hs : Sane sh) (p : Bool) where
   rest_ignored w xs ys x f n =
       let r = fits_runs sh hs p w f in
       let s = stuck_at w x r.0 r.1 n in
-      let a : (zs : List ℕ) → run sh p fresh 0 (w ++ x ∷ zs) ≡ Answered (why sh r.0 (0 + length w) x) = λ zs. run_append sh p w (x ∷ zs) fresh r.0 0 r.1 ∙ run_stops sh p r.0 _ x zs s in
+      let a : (zs : List ℕ) → run sh p fresh 0 (w ++ x ∷ zs) ≡ Err (why sh r.0 (0 + length w) x) = λ zs. run_append sh p w (x ∷ zs) fresh r.0 0 r.1 ∙ run_stops sh p r.0 _ x zs s in
       ap (concluded num sh (w ++ x ∷ xs)) (a xs) ∙ sym (ap (concluded num sh (w ++ x ∷ ys)) (a ys))

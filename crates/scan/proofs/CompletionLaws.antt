@@ -1,5 +1,5 @@
 -- From every state that the decoder reaches and that is not cut, some symbols lead to the end of a whole trace: zeros, and the least counts.
-use Rattle.std.specs.Prelude.{◌≡◌, Bool, true, false, List, [], ◌∷◌, ◌++◌, ℕ, suc, ◌+◌, ◌≤◌, ◌<◌, ◌%◌, ◌/◌, length, replicate, ltb, eqb}
+use Rattle.std.specs.Prelude.{◌≡◌, Bool, true, false, List, [], ◌∷◌, ◌++◌, ℕ, suc, ◌+◌, ◌≤◌, ◌<◌, ◌%◌, ◌/◌, length, replicate, ltb, eqb, Ok}
 use Rattle.std.proofs.Math.Path.{refl, subst}
 use Rattle.std.proofs.Common.{◌∙◌, arith, eq-eqb}
 use Rattle.std.proofs.lemmas.List.{length-replicate}
@@ -20,7 +20,6 @@ use Rattle.step.specs.declared.state.Slot.{Slot}
 use Rattle.step.specs.declared.state.Slot.TheVariants.{Start, First, Command, Count, Data, Pec, Restart, Second, ReadCount, ReadData, ReadPec, Stop, End}
 use Rattle.step.specs.declared.state.Due.TheVariants.{Nobody, Target, Controller}
 use Rattle.step.specs.declared.state.Decoder.{Decoder}
-use Rattle.scan.specs.declared.whole.Progress.TheVariants.{Reading}
 use Rattle.step.specs.State.{to, state}
 use Rattle.step.specs.Next.{to_read_data, to_read, after_write, to_data, to_sent, after_first}
 use Rattle.step.specs.Fits.{ack_at, first_fits, command_fits, fits_slot}
@@ -76,14 +75,14 @@ zero_fits sh = go sh.tohost
     go false = refl
 
 module _ (sh : Shape) (hs : Sane sh) (p : Bool) where
-  ends_via : (xs : List ℕ) (d m : Decoder) → run sh p d 0 xs ≡ Reading m → Ends sh p m → Ends sh p d
+  ends_via : (xs : List ℕ) (d m : Decoder) → run sh p d 0 xs ≡ Ok m → Ends sh p m → Ends sh p d
   ends_via xs d m q w =
       record { rest = xs ++ w.rest; last = w.last; leads = run_append sh p xs w.rest d m 0 q ∙ run_from sh p w.rest m w.last 0 (0 + length xs) w.leads; slot = w.slot; due = w.due }
 
   -- a byte, and the target's ACK
   byte_step : (g h : Aim) (x z f c m n y e b l : ℕ) (ok : Bool) → x < 256 → fits_slot sh g.slot (state g Nobody z f c m n ok) x ≡ true
       → move_slot sh p g.slot (state g Nobody z f c m n ok) x ≡ state h Target y e b l n ok
-      → run sh p (state g Nobody z f c m n ok) 0 (x ∷ ACK ∷ []) ≡ Reading (state h Nobody y e b l n ok)
+      → run sh p (state g Nobody z f c m n ok) 0 (x ∷ ACK ∷ []) ≡ Ok (state h Nobody y e b l n ok)
   byte_step g h x z f c m n y e b l ok k t q =
       leads_run no_controller sh p (x ∷ ACK ∷ []) _ _ 0
       (leads_byte no_controller sh p g z f c m n ok x (ACK ∷ []) _ k refl t (rw q (target_ack_leads sh p h y e b l n ok)))
@@ -93,9 +92,9 @@ module _ (sh : Shape) (hs : Sane sh) (p : Bool) where
       let r : List ℕ = replicate k 0 in
       let ys : List ℕ = nacked (r ++ in_place p 0) ++ STOP ∷ [] in
       let e : Decoder = state (to End 0) Nobody (pec_from z r) f c m n (pick p (eqb 0 (pec_from z r)) ok) in
-      let q : run sh p (state (to_read_data p (length r)) Nobody z f c m n ok) 0 ys ≡ Reading e =
+      let q : run sh p (state (to_read_data p (length r)) Nobody z f c m n ok) 0 ys ≡ Ok e =
       leads_run no_target sh p ys _ e 0 (received_leads sh p r 0 z f c m n ok (zeros_bytes k) (zero_byte p)) in
-      record { rest = ys; last = e; leads = subst (λ (j : ℕ). run sh p (state (to_read_data p j) Nobody z f c m n ok) 0 ys ≡ Reading e) (length-replicate k 0) q; slot = refl; due = refl }
+      record { rest = ys; last = e; leads = subst (λ (j : ℕ). run sh p (state (to_read_data p j) Nobody z f c m n ok) 0 ys ≡ Ok e) (length-replicate k 0) q; slot = refl; due = refl }
 
   ends_read_count : (k z f c m n : ℕ) (ok : Bool) → m + sh.least ≤ sh.most → Ends sh p (state (to ReadCount k) Nobody z f c m n ok)
   ends_read_count k z f c m n ok h =
@@ -146,10 +145,10 @@ module _ (sh : Shape) (hs : Sane sh) (p : Bool) where
     ends_data k z f c n ok =
         let r : List ℕ = replicate k 0 in
         let e : Decoder = state (after_write sh p) Nobody (pec_from z r) f c m n ok in
-        let q : run sh p (state (to_data sh p (length r)) Nobody z f c m n ok) 0 (acked r) ≡ Reading e =
+        let q : run sh p (state (to_data sh p (length r)) Nobody z f c m n ok) 0 (acked r) ≡ Ok e =
         leads_run no_controller sh p (acked r) _ e 0 (data_leads sh p r z f c m n ok (zeros_bytes k)) in
         ends_via (acked r) (state (to_data sh p k) Nobody z f c m n ok) e
-        (subst (λ (j : ℕ). run sh p (state (to_data sh p j) Nobody z f c m n ok) 0 (acked r) ≡ Reading e) (length-replicate k 0) q) (ends_after (pec_from z r) f c n ok)
+        (subst (λ (j : ℕ). run sh p (state (to_data sh p j) Nobody z f c m n ok) 0 (acked r) ≡ Ok e) (length-replicate k 0) q) (ends_after (pec_from z r) f c n ok)
 
   ends_count : (k z f c m n : ℕ) (ok : Bool) → Ends sh p (state (to Count k) Nobody z f c m n ok)
   ends_count k z f c m n ok =
@@ -200,7 +199,7 @@ module _ (sh : Shape) (hs : Sane sh) (p : Bool) where
   pub acknowledged_ends : (d : Decoder) → Roomy sh d → Ends sh p (at d d.slot Nobody d.left)
   acknowledged_ends d h = ends_slot d.sentcount h.room d.slot d.left d.pec d.first d.command d.readcount d.good h.ahead
 
-  own_step : (d : Decoder) → run sh p (at d d.slot Controller d.left) 0 (ack_at d.slot ∷ []) ≡ Reading (at d d.slot Nobody d.left)
+  own_step : (d : Decoder) → run sh p (at d d.slot Controller d.left) 0 (ack_at d.slot ∷ []) ≡ Ok (at d d.slot Nobody d.left)
   unfolding run
   own_step d = rw (eq-eqb (ack_at d.slot) (ack_at d.slot) refl)
 

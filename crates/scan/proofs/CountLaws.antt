@@ -1,6 +1,6 @@
 -- Where a count is wrong, worked out: each count of the scope's limits may be any byte, so that a wrong one is a count received that comes to
 -- too much together with the count sent. What stands before it is a whole write phase and the address byte for reading.
-use Rattle.std.specs.Prelude.{◌≡◌, Bool, ◌⊎◌, ℕ, suc, ◌+◌, ◌-◌, ◌<◌, ◌%◌, leb, eqb, length, take, get_or}
+use Rattle.std.specs.Prelude.{◌≡◌, Bool, ◌⊎◌, ℕ, suc, ◌+◌, ◌-◌, ◌<◌, ◌%◌, leb, eqb, length, take, get_or, Ok, Err}
 use Rattle.std.proofs.Math.Path.{refl, sym, ap, subst}
 use Rattle.std.proofs.Common.{◌∙◌, ap₂, inl, inr, arith}
 use Rattle.std.proofs.Math.Bool.{true, false}
@@ -31,8 +31,7 @@ use Rattle.misfit.proofs.KindLaws.{count_slot}
 use Rattle.misfit.specs.Kinds.{is_count, kind_of}
 use Rattle.misfit.specs.declared.kind.Kind.TheVariants.{Miscounted}
 use Rattle.scan.specs.declared.answer.Refusal.TheVariants.{WrongCount}
-use Rattle.scan.specs.declared.answer.Decoded.TheVariants.{Refused}
-use Rattle.scan.specs.declared.whole.Progress.TheVariants.{Reading, Answered}
+use Rattle.scan.specs.Decoded.{refused}
 use Rattle.scan.specs.Answers.{Fits, Because}
 use Rattle.scan.specs.Because.{AfterStart}
 use Rattle.scan.proofs.CompletionLaws.{acknowledged_ends}
@@ -143,24 +142,24 @@ module _ (sh : Shape) (p : Bool) where
   due_beyond Halted d x h = h
   due_beyond Cut d x h = h
 
-  run_beyond : (tr : List ℕ) (d e : Decoder) (i : ℕ) → beyond d.slot ≡ true → run sh p d i tr ≡ Reading e → beyond e.slot ≡ true
+  run_beyond : (tr : List ℕ) (d e : Decoder) (i : ℕ) → beyond d.slot ≡ true → run sh p d i tr ≡ Ok e → beyond e.slot ≡ true
   unfolding run
   run_beyond [] d e i h q = subst (λ (u : Decoder). beyond u.slot ≡ true) (same_state q) h
   run_beyond (x ∷ xs) d e i h q = go (fits sh d x) q (λ k. run_beyond xs (move sh p d x) e (suc i) (due_beyond d.due d x h) k)
     where
-      go : (b : Bool) → pick b (run sh p (move sh p d x) (suc i) xs) (Answered (why sh d i x)) ≡ Reading e → (run sh p (move sh p d x) (suc i) xs ≡ Reading e → beyond e.slot ≡ true) → beyond e.slot ≡ true
+      go : (b : Bool) → pick b (run sh p (move sh p d x) (suc i) xs) (Err (why sh d i x)) ≡ Ok e → (run sh p (move sh p d x) (suc i) xs ≡ Ok e → beyond e.slot ≡ true) → beyond e.slot ≡ true
       go true q ih = ih q
       go false q ih = absurd (refused_not_reading q)
 
   -- with no ACK due there, one symbol more is behind it for good
-  count_once : (d e : Decoder) (i x : ℕ) (xs : List ℕ) → d.due ≡ Nobody → reached d.slot ≡ true → run sh p d i (x ∷ xs) ≡ Reading e → beyond e.slot ≡ true
+  count_once : (d e : Decoder) (i x : ℕ) (xs : List ℕ) → d.due ≡ Nobody → reached d.slot ≡ true → run sh p d i (x ∷ xs) ≡ Ok e → beyond e.slot ≡ true
   unfolding run
   count_once d e i x xs a h q = go (fits sh d x) q
     where
       moved : beyond (move sh p d x).slot ≡ true
       moved = subst (λ (u : Due). beyond (move_due sh p u d x).slot ≡ true) (sym a) (slot_beyond d.slot d (x % 256) h)
 
-      go : (b : Bool) → pick b (run sh p (move sh p d x) (suc i) xs) (Answered (why sh d i x)) ≡ Reading e → beyond e.slot ≡ true
+      go : (b : Bool) → pick b (run sh p (move sh p d x) (suc i) xs) (Err (why sh d i x)) ≡ Ok e → beyond e.slot ≡ true
       go true q = run_beyond xs (move sh p d x) e (suc i) moved q
       go false q = absurd (refused_not_reading q)
 
@@ -250,7 +249,7 @@ module _ (sh : Shape) (hs : Sane sh) (limits : Limits sh) (p : Bool) where
       go true e = not_both f (ap (λ (c : Bool). and c (leb x (sh.most - taken))) (le-leb sh.least x (omega (arith, limits.0))) ∙ e)
       go false e = omega (arith, limits.1, leb-false x (sh.most - taken) e)
 
-  module _ (w : List ℕ) (d : Decoder) (q : run sh p fresh 0 w ≡ Reading d) (a : d.due ≡ Nobody) (s : d.slot ≡ ReadCount) where
+  module _ (w : List ℕ) (d : Decoder) (q : run sh p fresh 0 w ≡ Ok d) (a : d.due ≡ Nobody) (s : d.slot ≡ ReadCount) where
     ends : Ends sh p d
     ends = subst (λ (u : Due). Ends sh p (at d d.slot u d.left)) (sym a) (acknowledged_ends sh hs p d (reached_roomy sh hs p w d q))
 
@@ -263,7 +262,7 @@ module _ (sh : Shape) (hs : Sane sh) (limits : Limits sh) (p : Bool) where
         absurd (no_target_part sh p d (turn_state sh p t y) x post a s (turn_nobody p (writes sh) (reads sh) sh.received _ _ _ _ y) (subst (λ (u : Decoder). Leads no_controller sh p u (x ∷ post) (turn_state sh p t y)) m l.2))
     at_turn t y v hy x xs (late mid e r) = go mid e
       where
-        turn : run sh p fresh 0 (by_target sh t (in_place p y)) ≡ Reading (turn_state sh p t y)
+        turn : run sh p fresh 0 (by_target sh t (in_place p y)) ≡ Ok (turn_state sh p t y)
         turn = leads_run no_controller sh p _ _ _ 0 (target_part_leads sh hs p t y v hy)
 
         go : (mid : List ℕ) → w ≡ by_target sh t (in_place p y) ++ mid → (w ≡ by_target sh t (in_place p y)) × (d ≡ turn_state sh p t y)
@@ -281,11 +280,11 @@ module _ (sh : Shape) (hs : Sane sh) (limits : Limits sh) (p : Bool) where
       where
         go : (rest : List ℕ) → ends.rest ≡ rest → TooMuch sh p w x
         go [] e =
-            let z : d ≡ ends.last = same_state (subst (λ (l : List ℕ). run sh p d 0 l ≡ Reading ends.last) e ends.leads) in
+            let z : d ≡ ends.last = same_state (subst (λ (l : List ℕ). run sh p d 0 l ≡ Ok ends.last) e ends.leads) in
             let n : ReadCount ≡ End = sym s ∙ ap (λ (u : Decoder). u.slot) z ∙ ends.slot in
             zero_is_one cc
         go (y ∷ ys) e =
-            let r = ended_is_whole sh hs p (w ++ y ∷ ys) ends.last 0 (run_append sh p w (y ∷ ys) fresh d 0 q ∙ run_from sh p (y ∷ ys) d ends.last 0 _ (subst (λ (l : List ℕ). run sh p d 0 l ≡ Reading ends.last) e ends.leads)) ends.slot ends.due in
+            let r = ended_is_whole sh hs p (w ++ y ∷ ys) ends.last 0 (run_append sh p w (y ∷ ys) fresh d 0 q ∙ run_from sh p (y ∷ ys) d ends.last 0 _ (subst (λ (l : List ℕ). run sh p d 0 l ≡ Ok ends.last) e ends.leads)) ends.slot ends.due in
             let t = at_turn r.message r.pec r.valid r.byte y ys (split_at_symbol _ _ w y ys (sym r.is)) in
             let m : d.sentcount ≡ counted sh.sent r.message.sent = ap (λ (u : Decoder). u.sentcount) t.1 ∙ turn_count p (writes sh) (reads sh) sh.received _ _ _ _ r.pec in
             let c = sent_counted sh.sent r.message.sent x b (subst (λ (n : ℕ). 255 - n < x) m (count_above d.sentcount x f)) in
@@ -319,7 +318,7 @@ module _ (sh : Shape) (hs : Sane sh) (limits : Limits sh) (p : Bool) where
         let c = count_slot sh r.0 x e in
         go r.0 r.1 f c.0 (one_of_two r.0.slot c.1)
       where
-        go : (d : Decoder) → run sh p fresh 0 (take k tr) ≡ Reading d → fits sh d (get_or tr k 0) ≡ false → d.due ≡ Nobody → (d.slot ≡ Count) ⊎ (d.slot ≡ ReadCount) → TooMuch sh p (take k tr) (get_or tr k 0)
+        go : (d : Decoder) → run sh p fresh 0 (take k tr) ≡ Ok d → fits sh d (get_or tr k 0) ≡ false → d.due ≡ Nobody → (d.slot ≡ Count) ⊎ (d.slot ≡ ReadCount) → TooMuch sh p (take k tr) (get_or tr k 0)
         go d q f a (inl s) =
             let g : count_fits sh (least_of sh.received sh.least) (get_or tr k 0) ≡ false = sym (ap (λ (u : Due). fits_due sh u d (get_or tr k 0)) a ∙ ap (λ (u : Slot). fits_slot sh u d (get_or tr k 0)) s) ∙ f in
             absurd (omega (arith, count_above (least_of sh.received sh.least) (get_or tr k 0) g, least_of_le sh.received sh.least, limits.0, h.1.0))
@@ -330,12 +329,12 @@ module _ (sh : Shape) (hs : Sane sh) (limits : Limits sh) (p : Bool) where
     is_wrong_count h l b t =
         let x : ℕ = get_or tr k 0 in
         let d : Decoder = turn_state sh p t.message t.pec in
-        let q : run sh p fresh 0 (take k tr) ≡ Reading d = ap (run sh p fresh 0) t.before ∙ leads_run no_controller sh p _ _ _ 0 (target_part_leads sh hs p t.message t.pec t.valid t.byte) in
+        let q : run sh p fresh 0 (take k tr) ≡ Ok d = ap (run sh p fresh 0) t.before ∙ leads_run no_controller sh p _ _ _ 0 (target_part_leads sh hs p t.message t.pec t.valid t.byte) in
         let a : d.due ≡ Nobody = turn_nobody p (writes sh) (reads sh) sh.received _ _ _ _ t.pec in
         let s : d.slot ≡ ReadCount = turn_slot p (writes sh) sh.received _ _ _ _ t.pec t.both.1 in
         let n = counted_length sh.sent t.message.sent t.both.0 in
         let m : d.sentcount ≡ length t.message.sent = turn_count p (writes sh) (reads sh) sh.received _ _ _ _ t.pec ∙ n in
         let f : fits sh d x ≡ false = at_count d x a s ∙ and_not (leb sh.least x) (leb x (sh.most - d.sentcount)) (lt-leb x (sh.most - d.sentcount) (omega (arith, m, n, t.valid.counts, limits.1, t.sum, b))) in
-        ((answer_exactly 0 sh hs p tr (Refused WrongCount k)).0
+        ((answer_exactly 0 sh hs p tr (refused WrongCount k)).0
         (by_stop 0 sh hs p tr k d true false l q f (le-leb x NACK (omega (arith, b))) (ap₂ over a s)
-        ∙ ap (λ u. Refused (refusal_of u) k) (count_is_wrong d x a s h b))).0
+        ∙ ap (λ u. refused (refusal_of u) k) (count_is_wrong d x a s h b))).0

@@ -1,6 +1,6 @@
 -- Paths of the decoder put together: none, one symbol more, two in a row. A path is a run of the decoder, and has a state at each of its
 -- places.
-use Rattle.std.specs.Prelude.{◌≡◌, Bool, true, ℕ, suc, ◌<◌}
+use Rattle.std.specs.Prelude.{◌≡◌, Bool, true, ℕ, suc, ◌<◌, Ok}
 use Rattle.std.proofs.Math.Path.{refl, ap, subst}
 use Rattle.std.proofs.Common.{sym}
 use mathlib.Core.List.{List, [], ◌∷◌, ◌++◌}
@@ -9,7 +9,6 @@ use Rattle.step.specs.declared.next.Aim.{Aim}
 use Rattle.step.specs.declared.state.Due.{Due}
 use Rattle.step.specs.declared.state.Due.TheVariants.{Nobody}
 use Rattle.step.specs.declared.state.Decoder.{Decoder}
-use Rattle.scan.specs.declared.whole.Progress.TheVariants.{Reading}
 use Rattle.step.specs.State.{state}
 use Rattle.step.specs.Fits.{fits_slot, fits}
 use Rattle.step.specs.Move.{move_slot, move}
@@ -31,9 +30,9 @@ module _ (by : Due → Bool) (sh : Shape) (p : Bool) where
   leads_append [] ys d e f q l = subst (λ (u : Decoder). Leads by sh p u ys f) (sym q) l
   leads_append (x ∷ xs) ys d e f q l = (q.0, q.1, leads_append xs ys (move sh p d x) e f q.2 l)
 
-  pub leads_run : (xs : List ℕ) (d e : Decoder) (i : ℕ) → Leads by sh p d xs e → run sh p d i xs ≡ Reading e
+  pub leads_run : (xs : List ℕ) (d e : Decoder) (i : ℕ) → Leads by sh p d xs e → run sh p d i xs ≡ Ok e
   unfolding run Leads
-  leads_run [] d e i q = ap Reading q
+  leads_run [] d e i q = ap Ok q
   leads_run (x ∷ xs) d e i q = rw q.0 (leads_run xs (move sh p d x) e (suc i) q.2)
 
   -- a path in two parts

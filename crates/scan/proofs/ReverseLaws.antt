@@ -1,6 +1,6 @@
 -- What the decoder reads to the end, the encoder can write: it is the trace of a valid message, with some byte in PEC's place.
 -- By the languages of suffixes: Lang d tr says of what form tr is if it leads from the state d to the end.
-use Rattle.std.specs.Prelude.{◌≡◌, refl, Bool, true, false, List, [], ◌∷◌, ◌++◌, ℕ, suc, ◌+◌, ◌-◌, ◌*◌, ◌≤◌, ◌<◌, ◌%◌, ◌/◌, length, T, ltb, leb, eqb}
+use Rattle.std.specs.Prelude.{◌≡◌, refl, Bool, true, false, List, [], ◌∷◌, ◌++◌, ℕ, suc, ◌+◌, ◌-◌, ◌*◌, ◌≤◌, ◌<◌, ◌%◌, ◌/◌, length, T, ltb, leb, eqb, Ok, Err}
 use Rattle.std.proofs.Common.{sym, ◌∙◌, ap, ap₂, subst, arith, eqb-true, leb-true, ltb-true}
 use Rattle.std.proofs.lemmas.Bool.{eqb-false}
 use Rattle.lists.specs.Choice.{pick, or}
@@ -20,7 +20,6 @@ use Rattle.step.specs.declared.state.Slot.TheVariants.{Start, First, Command, Co
 use Rattle.step.specs.declared.state.Due.{Due}
 use Rattle.step.specs.declared.state.Due.TheVariants.{Nobody, Target, Controller, Halted, Cut}
 use Rattle.step.specs.declared.state.Decoder.{Decoder}
-use Rattle.scan.specs.declared.whole.Progress.TheVariants.{Reading, Answered}
 use Rattle.step.specs.State.{to, fresh}
 use Rattle.step.specs.Next.{after_read, to_read_data, to_read, after_write, to_data, to_sent}
 use Rattle.step.specs.Fits.{ack_at, first_fits, command_fits, count_fits, fits_slot, fits_due, fits}
@@ -280,13 +279,13 @@ module _ (sh : Shape) (hs : Sane sh) (p : Bool) (d : Decoder) (x : ℕ) (xs : Li
   due_back Cut h l = l
 
 -- a trace that leads to the end is in the state's language
-run_in_lang : (sh : Shape) → Sane sh → (p : Bool) (tr : List ℕ) (d e : Decoder) (i : ℕ) → run sh p d i tr ≡ Reading e → e.slot ≡ End → e.due ≡ Nobody → Lang sh p d tr
+run_in_lang : (sh : Shape) → Sane sh → (p : Bool) (tr : List ℕ) (d e : Decoder) (i : ℕ) → run sh p d i tr ≡ Ok e → e.slot ≡ End → e.due ≡ Nobody → Lang sh p d tr
 unfolding run
 run_in_lang sh hs p [] d e i q s g = subst (λ (u : Decoder). Lang sh p u []) (sym (same_state q)) (rw (g, s))
 run_in_lang sh hs p (x ∷ xs) d e i q s g = go (fits sh d x) refl q (λ k. run_in_lang sh hs p xs (move sh p d x) e (suc i) k s g)
   where
-    go : (b : Bool) → fits sh d x ≡ b → pick b (run sh p (move sh p d x) (suc i) xs) (Answered (why sh d i x)) ≡ Reading e
-        → (run sh p (move sh p d x) (suc i) xs ≡ Reading e → Lang sh p (move sh p d x) xs) → Lang sh p d (x ∷ xs)
+    go : (b : Bool) → fits sh d x ≡ b → pick b (run sh p (move sh p d x) (suc i) xs) (Err (why sh d i x)) ≡ Ok e
+        → (run sh p (move sh p d x) (suc i) xs ≡ Ok e → Lang sh p (move sh p d x) xs) → Lang sh p d (x ∷ xs)
     go true h q ih = due_back sh hs p d x xs d.due h (ih q)
     go false h q ih = absurd (refused_not_reading q)
 
@@ -333,7 +332,7 @@ second_is a true r f b q h e =
     ap (λ (n : ℕ). after a true n b q) k
 second_is a false r f b q h e = refl
 
-pub ended_is_whole : (sh : Shape) → Sane sh → (p : Bool) (tr : List ℕ) (e : Decoder) (i : ℕ) → run sh p fresh i tr ≡ Reading e → e.slot ≡ End → e.due ≡ Nobody → Whole sh p tr
+pub ended_is_whole : (sh : Shape) → Sane sh → (p : Bool) (tr : List ℕ) (e : Decoder) (i : ℕ) → run sh p fresh i tr ≡ Ok e → e.slot ≡ End → e.due ≡ Nobody → Whole sh p tr
 ended_is_whole sh hs p tr e i q s g =
     let l = run_in_lang sh hs p tr fresh e i q s g in
     let w = l.then in

@@ -1,5 +1,5 @@
 -- In every state that the decoder reaches, the counts so far leave room for the least that may be received.
-use Rattle.std.specs.Prelude.{◌≡◌, Bool, ℕ, suc, ◌+◌, ◌-◌, ◌≤◌, ◌%◌, eqb}
+use Rattle.std.specs.Prelude.{◌≡◌, Bool, ℕ, suc, ◌+◌, ◌-◌, ◌≤◌, ◌%◌, eqb, Ok, Err}
 use Rattle.std.proofs.Math.Path.{refl, subst}
 use Rattle.std.proofs.Math.Bool.{true, false}
 use mathlib.Core.List.{List, [], ◌∷◌}
@@ -15,7 +15,6 @@ use Rattle.step.specs.declared.state.Slot.TheVariants.{Start, First, Command, Co
 use Rattle.step.specs.declared.state.Due.{Due}
 use Rattle.step.specs.declared.state.Due.TheVariants.{Nobody, Target, Controller, Halted, Cut}
 use Rattle.step.specs.declared.state.Decoder.{Decoder}
-use Rattle.scan.specs.declared.whole.Progress.TheVariants.{Reading, Answered}
 use Rattle.step.specs.State.{to, fresh}
 use Rattle.step.specs.Next.{after_read, to_read_data, to_read, after_write, to_data, to_sent, after_first}
 use Rattle.step.specs.Fits.{fits_slot, fits_due, fits}
@@ -110,15 +109,15 @@ module _ (sh : Shape) (hs : Sane sh) (p : Bool) where
   due_keeps d x Halted h f = record { room = h.room; ahead = h.ahead }
   due_keeps d x Cut h f = record { room = h.room; ahead = h.ahead }
 
-  run_keeps : (tr : List ℕ) (d e : Decoder) (i : ℕ) → Roomy sh d → run sh p d i tr ≡ Reading e → Roomy sh e
+  run_keeps : (tr : List ℕ) (d e : Decoder) (i : ℕ) → Roomy sh d → run sh p d i tr ≡ Ok e → Roomy sh e
   unfolding run
   run_keeps [] d e i h q = subst (Roomy sh) (same_state q) h
   run_keeps (x ∷ xs) d e i h q = go (fits sh d x) refl q (λ g k. run_keeps xs (move sh p d x) e (suc i) g k)
     where
-      go : (b : Bool) → fits sh d x ≡ b → pick b (run sh p (move sh p d x) (suc i) xs) (Answered (why sh d i x)) ≡ Reading e
-          → (Roomy sh (move sh p d x) → run sh p (move sh p d x) (suc i) xs ≡ Reading e → Roomy sh e) → Roomy sh e
+      go : (b : Bool) → fits sh d x ≡ b → pick b (run sh p (move sh p d x) (suc i) xs) (Err (why sh d i x)) ≡ Ok e
+          → (Roomy sh (move sh p d x) → run sh p (move sh p d x) (suc i) xs ≡ Ok e → Roomy sh e) → Roomy sh e
       go true f q ih = ih (due_keeps d x d.due h f) q
       go false f q ih = absurd (refused_not_reading q)
 
-  pub reached_roomy : (tr : List ℕ) (e : Decoder) → run sh p fresh 0 tr ≡ Reading e → Roomy sh e
+  pub reached_roomy : (tr : List ℕ) (e : Decoder) → run sh p fresh 0 tr ≡ Ok e → Roomy sh e
   reached_roomy tr e q = run_keeps tr fresh e 0 (fresh_roomy sh hs) q

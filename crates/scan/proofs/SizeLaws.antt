@@ -1,5 +1,5 @@
 -- The data that any answer of the decoder hands over lie inside the trace, and are at most 255 bytes.
-use Rattle.std.specs.Prelude.{◌≡◌, refl, Bool, true, false, List, [], ◌∷◌, ◌++◌, ℕ, ◌+◌, ◌*◌, ◌≤◌, ◌<◌, length}
+use Rattle.std.specs.Prelude.{◌≡◌, refl, Bool, true, false, List, [], ◌∷◌, ◌++◌, ℕ, ◌+◌, ◌*◌, ◌≤◌, ◌<◌, length, Ok, Err}
 use Rattle.std.proofs.Common.{ap, arith, length-append}
 use Rattle.lists.specs.Choice.{pick}
 use Rattle.wire.specs.Symbols.{STOP}
@@ -11,8 +11,7 @@ use Rattle.trace.specs.Shapes.{some, writes}
 use Rattle.trace.specs.Trace.{Message, laid, acked, nacked, first_byte, by_target, trace_at, pec_of, in_place, LengthOf, counted}
 use Rattle.trace.proofs.LengthLaws.{length_acked, length_nacked, length_place}
 use Rattle.trace.specs.Sane.{Small, Sane}
-use Rattle.scan.specs.declared.answer.Decoded.{Decoded}
-use Rattle.scan.specs.declared.answer.Decoded.TheVariants.{Done, Refused}
+use Rattle.scan.specs.Decoded.{Decoded}
 use Rattle.scan.specs.Run.{decoded_by}
 use Rattle.scan.specs.Handed.{sent_length, received_length, count_places, sent_place}
 use Rattle.scan.specs.Answers.{Carries, Answers}
@@ -54,7 +53,7 @@ module _ (num : ℕ) (sh : Shape) (hs : Sane sh) (p : Bool) (tr : List ℕ) wher
   no_data_sizes : (a : Decoded) → sent_length a ≡ 0 → received_length a ≡ 0 → Sizes sh p tr a
   no_data_sizes a e g = record { sent = λ j h. absurd (omega arith); received = λ j h. absurd (omega arith); sent_small = omega arith; received_small = omega arith }
 
-  done_sizes : (t : Transaction) (s r : List ℕ) → Carries num sh p tr t s r → Sizes sh p tr (Done t)
+  done_sizes : (t : Transaction) (s r : List ℕ) → Carries num sh p tr t s r → Sizes sh p tr (Ok t)
   done_sizes t s r c =
       let m = c.message in
       let v = c.valid in
@@ -70,8 +69,8 @@ module _ (num : ℕ) (sh : Shape) (hs : Sane sh) (p : Bool) (tr : List ℕ) wher
       }
 
   sizes_by_meaning : (a : Decoded) (s r : List ℕ) → Answers num sh p tr a s r → Sizes sh p tr a
-  sizes_by_meaning (Done t) s r h = done_sizes t s r h
-  sizes_by_meaning (Refused w k) s r h = no_data_sizes (Refused w k) refl refl
+  sizes_by_meaning (Ok t) s r h = done_sizes t s r h
+  sizes_by_meaning (Err e) s r h = no_data_sizes (Err e) refl refl
 
   pub sizes_of_answer : Sizes sh p tr (decoded_by num sh p tr)
   sizes_of_answer = sizes_by_meaning (decoded_by num sh p tr) _ _ (answer_holds num sh hs p tr)

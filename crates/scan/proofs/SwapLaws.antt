@@ -1,6 +1,6 @@
 -- Where the controller's bit is swapped, worked out: 17 is given exactly where a whole trace goes on with the controller's ACK or NACK, and the
 -- other of the two stands there.
-use Rattle.std.specs.Prelude.{◌≡◌, Bool, true, false, List, [], ◌∷◌, ◌++◌, ◌⊎◌, ℕ, ◌≤◌, ◌<◌, eqb, length, take, get_or}
+use Rattle.std.specs.Prelude.{◌≡◌, Bool, true, false, List, [], ◌∷◌, ◌++◌, ◌⊎◌, ℕ, ◌≤◌, ◌<◌, eqb, length, take, get_or, Ok}
 use Rattle.std.proofs.Math.Path.{refl, subst}
 use Rattle.std.proofs.Common.{sym, ◌∙◌, ap, inl, inr, arith, eqb-true, ne_eqb, le-leb}
 use Rattle.lists.specs.AbsurdLaws.{zero_is_one}
@@ -23,8 +23,7 @@ use Rattle.misfit.proofs.KindLaws.{no_ack_fits, swapped_due}
 use Rattle.misfit.specs.Kinds.{kind_of}
 use Rattle.misfit.specs.declared.kind.Kind.TheVariants.{Swapped}
 use Rattle.scan.specs.declared.answer.Refusal.TheVariants.{WrongAck}
-use Rattle.scan.specs.declared.answer.Decoded.TheVariants.{Refused}
-use Rattle.scan.specs.declared.whole.Progress.TheVariants.{Reading}
+use Rattle.scan.specs.Decoded.{refused}
 use Rattle.scan.specs.Answers.{Fits, Because}
 use Rattle.scan.proofs.AnswersLaws.{answer_exactly}
 use Rattle.scan.specs.Because.{AfterStart}
@@ -72,7 +71,7 @@ module _ (sh : Shape) (hs : Sane sh) (p : Bool) where
 
   module _ (tr : List ℕ) (k : ℕ) where
     -- the whole trace that goes on with the bit that is due
-    goes_on : (d : Decoder) → run sh p fresh 0 (take k tr) ≡ Reading d → d.due ≡ Controller → k < length tr
+    goes_on : (d : Decoder) → run sh p fresh 0 (take k tr) ≡ Ok d → d.due ≡ Controller → k < length tr
         → ((get_or tr k 0 ≡ 258) × (ack_at d.slot ≡ 259)) ⊎ ((get_or tr k 0 ≡ 259) × (ack_at d.slot ≡ 258)) → SwappedAt sh p tr k
     unfolding run
     goes_on d q a h o = go ends.rest refl
@@ -96,11 +95,11 @@ module _ (sh : Shape) (hs : Sane sh) (p : Bool) where
 
         go : (rest : List ℕ) → ends.rest ≡ rest → SwappedAt sh p tr k
         go [] e =
-            let z : d ≡ ends.last = same_state (subst (λ (l : List ℕ). run sh p d 0 l ≡ Reading ends.last) e ends.leads) in
+            let z : d ≡ ends.last = same_state (subst (λ (l : List ℕ). run sh p d 0 l ≡ Ok ends.last) e ends.leads) in
             let n : Controller ≡ Nobody = sym a ∙ ap (λ (u : Decoder). u.due) z ∙ ends.due in
             zero_is_one cc
         go (y ∷ ys) e =
-            let l = subst (λ (l : List ℕ). run sh p d 0 l ≡ Reading ends.last) e ends.leads in
+            let l = subst (λ (l : List ℕ). run sh p d 0 l ≡ Ok ends.last) e ends.leads in
             let r = ended_is_whole sh hs p (take k tr ++ y ∷ ys) ends.last 0 (run_append sh p (take k tr) (y ∷ ys) fresh d 0 q ∙ run_from sh p (y ∷ ys) d ends.last 0 _ l) ends.slot ends.due in
             at_bit r.message r.pec r.valid r.byte y ys (eqb-true y (ack_at d.slot) (sym (bit_fits d y a) ∙ first_fits sh p d ends.last 0 y ys l)) (split_at_symbol _ _ (take k tr) y ys (sym r.is))
 
@@ -115,7 +114,7 @@ module _ (sh : Shape) (hs : Sane sh) (p : Bool) where
         let a = swapped_due sh r.0 x e in
         goes_on r.0 r.1 a h.0.0.inside (turn r.0 r.1 a h.1)
       where
-        turn : (d : Decoder) → run sh p fresh 0 (take k tr) ≡ Reading d → d.due ≡ Controller → IsSwapped (λ y. Fits sh p (take k tr ++ y ∷ [])) (get_or tr k 0)
+        turn : (d : Decoder) → run sh p fresh 0 (take k tr) ≡ Ok d → d.due ≡ Controller → IsSwapped (λ y. Fits sh p (take k tr ++ y ∷ [])) (get_or tr k 0)
             → ((get_or tr k 0 ≡ 258) × (ack_at d.slot ≡ 259)) ⊎ ((get_or tr k 0 ≡ 259) × (ack_at d.slot ≡ 258))
         turn d q a (inl (x, g)) = inl (x, sym (eqb-true 259 (ack_at d.slot) (sym (bit_fits d 259 a) ∙ (fits_behind sh hs p (take k tr) d q 259).0 g)))
         turn d q a (inr (x, g)) = inr (x, sym (eqb-true 258 (ack_at d.slot) (sym (bit_fits d 258 a) ∙ (fits_behind sh hs p (take k tr) d q 258).0 g)))
@@ -131,14 +130,14 @@ module _ (sh : Shape) (hs : Sane sh) (p : Bool) where
         let z = turn_state sh p t.message t.pec in
         let l = leads_inside no_target sh p t.before t.bit t.after z (end_state sh p t.message t.pec) (subst (λ (l : List ℕ). Leads no_target sh p z l (end_state sh p t.message t.pec)) t.own (controller_part_leads sh hs p t.message t.pec t.valid t.byte)) in
         let d = l.0 in
-        let q : run sh p fresh 0 (take k tr) ≡ Reading d =
+        let q : run sh p fresh 0 (take k tr) ≡ Ok d =
         ap (run sh p fresh 0) t.is ∙ run_append sh p (by_target sh t.message c) t.before fresh z 0 (leads_run no_controller sh p _ _ _ 0 (target_part_leads sh hs p t.message t.pec t.valid t.byte)) ∙ leads_run no_target sh p t.before z d _ l.1 in
         let a = bit_due d t.bit (high t.other) d.due l.2 l.3 in
         let b : t.bit ≡ ack_at d.slot = eqb-true t.bit (ack_at d.slot) (sym (bit_fits d t.bit a) ∙ l.2) in
         let f : fits sh d (get_or tr k 0) ≡ false = bit_fits d (get_or tr k 0) a ∙ ne_eqb (get_or tr k 0) (ack_at d.slot) (λ e. differ t.other (e ∙ sym b)) in
-        ((answer_exactly 0 sh hs p tr (Refused WrongAck k)).0
+        ((answer_exactly 0 sh hs p tr (refused WrongAck k)).0
         (by_stop 0 sh hs p tr k d true false t.inside q f (le-leb (get_or tr k 0) NACK (low t.other)) (ap (λ (u : Due). over u d.slot) a)
-        ∙ ap (λ u. Refused (refusal_of u) k) (swapped_kind d (get_or tr k 0) a (answers t.other)))).0
+        ∙ ap (λ u. refused (refusal_of u) k) (swapped_kind d (get_or tr k 0) a (answers t.other)))).0
       where
         high : {s x : ℕ} → ((s ≡ 258) × (x ≡ 259)) ⊎ ((s ≡ 259) × (x ≡ 258)) → 258 ≤ s
         high (inl (e, g)) = omega (arith, e)

@@ -1,12 +1,12 @@
 -- What the code puts together is what the definitions have: the fields of a transaction, the answer at the end.
 -- What is tested stands apart, so that nothing else is rewritten.
-use Rattle.std.specs.Prelude.{◌≡◌, Bool, List, ℕ, ◌-◌, ◌/◌, length}
+use Rattle.std.specs.Prelude.{◌≡◌, Bool, List, ℕ, ◌-◌, ◌/◌, length, Ok}
 use Rattle.std.proofs.Common.{sym, ap}
 use Rattle.lists.specs.Choice.{pick}
 use Rattle.wire.specs.declared.address.Address.{Address}
 use Rattle.trace.specs.declared.shape.Shape.{Shape}
 use Rattle.trace.specs.declared.transaction.Transaction.{Transaction}
-use Rattle.scan.specs.declared.answer.Decoded.TheVariants.{Done, Refused}
+use Rattle.scan.specs.Decoded.{refused}
 use Rattle.scan.specs.declared.answer.Refusal.TheVariants.{EndsEarly, NotAcknowledged, PecDiffers}
 use Rattle.step.specs.declared.state.Decoder.{Decoder}
 use Rattle.scan.specs.Refusal.{over}
@@ -25,7 +25,7 @@ transaction_is protocol sh d a w s r ea ew es er = made (ap (λ (n : ℕ). recor
 
 -- the answer at the end
 pub finish_is : (protocol : ℕ) (sh : Shape) (d : Decoder) (tr : List ℕ) (b c g : Bool) → is_cut d.due ≡ b → over d.due d.slot ≡ c → d.good ≡ g
-    → pick b (Refused NotAcknowledged (byte_count tr - 1)) (pick c (pick g (Done (transaction protocol sh d)) (Refused PecDiffers (length tr - 3))) (Refused EndsEarly (length tr)))
+    → pick b (refused NotAcknowledged (byte_count tr - 1)) (pick c (pick g (Ok (transaction protocol sh d)) (refused PecDiffers (length tr - 3))) (refused EndsEarly (length tr)))
     ≡ finish protocol sh d tr
 unfolding finish
 finish_is protocol sh d tr b c g e f h = sym (rw (e, f, h))

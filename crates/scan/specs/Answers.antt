@@ -1,12 +1,11 @@
 -- What each answer of the decoder means, held against the scope. Nothing here says how it is computed. 256 is START, 257 STOP, 258 ACK
 -- and 259 NACK, and a number above it no symbol.
-use Rattle.std.specs.Prelude.{◌≡◌, Bool, true, List, [], ◌∷◌, ◌++◌, ◌⊎◌, ℕ, suc, ◌+◌, ◌<◌, length, take}
+use Rattle.std.specs.Prelude.{◌≡◌, Bool, true, List, [], ◌∷◌, ◌++◌, ◌⊎◌, ℕ, suc, ◌+◌, ◌<◌, length, take, Ok, Err}
 use Rattle.lists.specs.Each.{Bytes}
 use Rattle.trace.specs.declared.shape.Shape.{Shape}
 use Rattle.trace.specs.declared.transaction.Transaction.{Transaction}
 use Rattle.trace.specs.Trace.{Message, Valid, in_place, pec_of, by_target, trace_at, trace}
-use Rattle.scan.specs.declared.answer.Decoded.{Decoded}
-use Rattle.scan.specs.declared.answer.Decoded.TheVariants.{Done, Refused}
+use Rattle.scan.specs.Decoded.{Decoded}
 use Rattle.scan.specs.declared.answer.Refusal.{Refusal}
 use Rattle.scan.specs.Because as because
 use Rattle.scan.specs.Because.{Cases}
@@ -80,5 +79,5 @@ Because sh p tr w k = because.Because (shape_cases sh p tr) tr w k
 
 -- a is the answer for the trace tr, with the data s sent and r received; a refusal has none
 abbrev pub Answers : ℕ → Shape → Bool → List ℕ → Decoded → List ℕ → List ℕ → Type 0
-Answers protocol sh p tr (Done t) s r = Carries protocol sh p tr t s r
-Answers protocol sh p tr (Refused w k) s r = Because sh p tr w k × (s ≡ []) × (r ≡ [])
+Answers protocol sh p tr (Ok t) s r = Carries protocol sh p tr t s r
+Answers protocol sh p tr (Err e) s r = Because sh p tr e.why e.place × (s ≡ []) × (r ≡ [])

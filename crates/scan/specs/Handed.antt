@@ -1,19 +1,18 @@
 -- The data that an answer hands over: how many bytes, and where in the trace they stand. Only 0 has any.
-use Rattle.std.specs.Prelude.{Bool, List, [], ◌∷◌, ℕ, zero, suc, ◌+◌, ◌-◌, ◌*◌, ◌%◌, length, get_or, drop}
+use Rattle.std.specs.Prelude.{Bool, List, [], ◌∷◌, ℕ, zero, suc, ◌+◌, ◌-◌, ◌*◌, ◌%◌, length, get_or, drop, Ok, Err}
 use Rattle.lists.specs.Choice.{pick}
 use Rattle.trace.specs.declared.shape.Part.{Part}
 use Rattle.trace.specs.declared.shape.Part.TheVariants.{Nothing, Fixed, Counted}
 use Rattle.trace.specs.declared.shape.Shape.{Shape}
-use Rattle.scan.specs.declared.answer.Decoded.{Decoded}
-use Rattle.scan.specs.declared.answer.Decoded.TheVariants.{Done, Refused}
+use Rattle.scan.specs.Decoded.{Decoded}
 
 abbrev pub sent_length : Decoded → ℕ
-sent_length (Done t) = t.sent
-sent_length (Refused w k) = 0
+sent_length (Ok t) = t.sent
+sent_length (Err e) = 0
 
 abbrev pub received_length : Decoded → ℕ
-received_length (Done t) = t.received
-received_length (Refused w k) = 0
+received_length (Ok t) = t.received
+received_length (Err e) = 0
 
 -- where they begin: sent, behind the first address byte, the command and the count; received, before PEC and STOP
 abbrev pub count_places : Part → ℕ

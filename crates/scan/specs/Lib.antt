@@ -1,3 +1,4 @@
+pub mod Decoded
 pub mod Refusal
 pub mod Run
 pub mod Handed

@@ -1,9 +1,8 @@
 -- Each refusal has a number of its own, and none is 0: a number and its place tell the answer.
-use Rattle.std.specs.Prelude.{◌≡◌, refl, true, List, [], ◌∷◌, ℕ, ◌-◌, ◌≤◌, get_or}
+use Rattle.std.specs.Prelude.{◌≡◌, refl, true, List, [], ◌∷◌, ℕ, ◌-◌, ◌≤◌, get_or, Ok, Err}
 use Rattle.std.proofs.Common.{sym, ap, ◌∙◌, arith, eqb-true}
 use Rattle.trace.specs.declared.transaction.Transaction.{Transaction}
-use Rattle.scan.specs.declared.answer.Decoded.{Decoded}
-use Rattle.scan.specs.declared.answer.Decoded.TheVariants.{Done, Refused}
+use Rattle.scan.specs.Decoded.{Decoded, refused}
 use Rattle.scan.specs.declared.answer.Refusal.{Refusal}
 use Rattle.scan.specs.declared.answer.Refusal.TheVariants.{Forbidden, BufferTooShort, NoSymbol, EndsEarly, Unexpected, NotAcknowledged, PecDiffers, AfterStop, WrongAck, WrongAddress, WrongCount}
 use Rattle.scan.specs.Numbers.{refusal_number, decode_number, is_nack}
@@ -44,11 +43,11 @@ pub nack_is : (w : Refusal) → is_nack w ≡ true → w ≡ NotAcknowledged
 nack_is w e = one_refusal w NotAcknowledged (eqb-true (refusal_number w) 6 e)
 
 -- the answer, from its number
-pub done_of : (a : Decoded) → (decode_number a).0 ≡ 0 → (t : Transaction) × (a ≡ Done t)
-done_of (Done t) e = (t, refl)
-done_of (Refused w k) e = absurd (omega (arith, refusal_is_not_0 w))
+pub done_of : (a : Decoded) → (decode_number a).0 ≡ 0 → (t : Transaction) × (a ≡ Ok t)
+done_of (Ok t) e = (t, refl)
+done_of (Err r) e = absurd (omega (arith, refusal_is_not_0 r.why))
 
-pub refused_of : (a : Decoded) (w : Refusal) (k : ℕ) → decode_number a ≡ (refusal_number w, k) → a ≡ Refused w k
-refused_of (Done t) w k e = absurd (let z : 0 ≡ refusal_number w = ap (λ (q : ℕ × ℕ). q.0) e in omega (arith, refusal_is_not_0 w))
-refused_of (Refused v j) w k e =
-    ap (λ (x : Refusal). Refused x j) (one_refusal v w (ap (λ (q : ℕ × ℕ). q.0) e)) ∙ ap (Refused w) (ap (λ (q : ℕ × ℕ). q.1) e)
+pub refused_of : (a : Decoded) (w : Refusal) (k : ℕ) → decode_number a ≡ (refusal_number w, k) → a ≡ refused w k
+refused_of (Ok t) w k e = absurd (let z : 0 ≡ refusal_number w = ap (λ (q : ℕ × ℕ). q.0) e in omega (arith, refusal_is_not_0 w))
+refused_of (Err r) w k e =
+    ap (λ (x : Refusal). refused x r.place) (one_refusal r.why w (ap (λ (q : ℕ × ℕ). q.0) e)) ∙ ap (refused w) (ap (λ (q : ℕ × ℕ). q.1) e)

@@ -1,7 +1,6 @@
 -- The scope's number of each answer, and the place, length or byte that comes with it; 0 where nothing comes.
-use Rattle.std.specs.Prelude.{Bool, ℕ, eqb}
-use Rattle.scan.specs.declared.answer.Decoded.{Decoded}
-use Rattle.scan.specs.declared.answer.Decoded.TheVariants.{Done, Refused}
+use Rattle.std.specs.Prelude.{Bool, ℕ, eqb, Ok, Err}
+use Rattle.scan.specs.Decoded.{Decoded}
 use Rattle.scan.specs.declared.answer.Refusal.{Refusal}
 use Rattle.scan.specs.declared.answer.Refusal.TheVariants.{Forbidden, BufferTooShort, NoSymbol, EndsEarly, Unexpected, NotAcknowledged, PecDiffers, AfterStop, WrongAck, WrongAddress, WrongCount}
 
@@ -19,8 +18,8 @@ refusal_number WrongAddress = 18
 refusal_number WrongCount = 19
 
 abbrev pub decode_number : Decoded → ℕ × ℕ
-decode_number (Done t) = (0, 0)
-decode_number (Refused w k) = (refusal_number w, k)
+decode_number (Ok t) = (0, 0)
+decode_number (Err e) = (refusal_number e.why, e.place)
 
 -- a byte that the target did not acknowledge
 abbrev pub is_nack : Refusal → Bool

@@ -2,12 +2,12 @@
 use Rattle.std.specs.Prelude.{Bool, true, false, ℕ, leb}
 use Rattle.lists.specs.Choice.{pick}
 use Rattle.wire.specs.Symbols.{NACK}
-use Rattle.scan.specs.declared.answer.Decoded.{Decoded}
+use Rattle.scan.specs.Decoded.{refusal_at}
+use Rattle.scan.specs.declared.answer.Refused.{Refused}
 use Rattle.trace.specs.declared.shape.Shape.{Shape}
 use Rattle.misfit.specs.declared.kind.Kind.{Kind}
 use Rattle.misfit.specs.declared.kind.Kind.TheVariants.{Swapped, Misaddressed, Miscounted, Other}
 use Rattle.misfit.specs.Kinds.{kind_of}
-use Rattle.scan.specs.declared.answer.Decoded.TheVariants.{Refused}
 use Rattle.scan.specs.declared.answer.Refusal.{Refusal}
 use Rattle.scan.specs.declared.answer.Refusal.TheVariants.{NoSymbol, Unexpected, AfterStop, WrongAck, WrongAddress, WrongCount}
 use Rattle.step.specs.declared.state.Slot.{Slot}
@@ -46,6 +46,6 @@ refusal_of Misaddressed = WrongAddress
 refusal_of Miscounted = WrongCount
 refusal_of Other = Unexpected
 
--- the answer for a symbol x at place i that may not stand there: 3, else 8, else 17, 18, 19 or 5
-abbrev pub why : Shape → Decoder → ℕ → ℕ → Decoded
-why sh d i x = pick (leb x NACK) (pick (over d.due d.slot) (Refused AfterStop i) (Refused (refusal_of (kind_of sh d x)) i)) (Refused NoSymbol i)
+-- why a symbol x at place i is refused that may not stand there: 3, else 8, else 17, 18, 19 or 5
+abbrev pub why : Shape → Decoder → ℕ → ℕ → Refused
+why sh d i x = refusal_at (pick (leb x NACK) (pick (over d.due d.slot) AfterStop (refusal_of (kind_of sh d x))) NoSymbol) i

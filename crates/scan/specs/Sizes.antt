@@ -1,7 +1,7 @@
 -- The data that an answer hands over lie inside the trace, and are at most 255 bytes.
 use Rattle.std.specs.Prelude.{Bool, List, ℕ, ◌+◌, ◌*◌, ◌≤◌, ◌<◌, length}
 use Rattle.trace.specs.declared.shape.Shape.{Shape}
-use Rattle.scan.specs.declared.answer.Decoded.{Decoded}
+use Rattle.scan.specs.Decoded.{Decoded}
 use Rattle.scan.specs.Handed.{sent_length, received_length, sent_place, received_place}
 
 pub record Sizes (sh : Shape) (p : Bool) (tr : List ℕ) (a : Decoded) : Type 0 where

@@ -31,14 +31,16 @@ pub enum Refusal {
     WrongCount,
 }
 
+// Why, and where: the symbol's place; the trace's length where it ends early; which byte was not acknowledged, from 0, only bytes
+// counted; 0 where the trace was not read.
 #[derive(Clone, Copy)]
-pub enum Decoded {
-    // The trace is the encoder's trace of this transaction.
-    Done(Transaction),
-    // Why, and where: the symbol's place; the trace's length where it ends early; which byte was not acknowledged, from 0, only bytes
-    // counted; 0 where the trace was not read.
-    Refused(Refusal, usize),
+pub struct Refused {
+    pub why: Refusal,
+    pub place: usize,
 }
+
+// The transaction whose trace by the encoder it is, or the refusal.
+pub type Decoded = Result<Transaction, Refused>;
 
 // The scope's number of a refusal.
 pub fn refusal_number(w: Refusal) -> u8

@@ -3,7 +3,7 @@ ghost use Rattle.std.specs.Prelude.{◌≡◌, ◌≤◌, ltb};
 ghost use Rattle.lists.specs.Choice.{pick};
 ghost use Rattle.scan.specs.Run.{byte_count, data_length, direction_of, transaction, is_cut, finish};
 
-use crate::answer::{Decoded, Refusal};
+use crate::answer::{Decoded, Refusal, Refused};
 use crate::refusal::is_over;
 use step::state::{Decoder, Due};
 use trace::shape::{Part, Shape, has_read, has_write};
@@ -86,14 +86,23 @@ pub(crate) fn finished(protocol: u8, sh: Shape, d: Decoder, tr: &[u16]) -> Decod
 {
     let due = d.due;
     if is_cut(due) {
-        return Decoded::Refused(Refusal::NotAcknowledged, less(count_bytes(tr), 1));
+        return Err(Refused {
+            why: Refusal::NotAcknowledged,
+            place: less(count_bytes(tr), 1),
+        });
     }
     if !is_over(d) {
-        return Decoded::Refused(Refusal::EndsEarly, tr.len());
+        return Err(Refused {
+            why: Refusal::EndsEarly,
+            place: tr.len(),
+        });
     }
     if d.good {
-        Decoded::Done(transaction_of(protocol, sh, d))
+        Ok(transaction_of(protocol, sh, d))
     } else {
-        Decoded::Refused(Refusal::PecDiffers, less(tr.len(), 3))
+        Err(Refused {
+            why: Refusal::PecDiffers,
+            place: less(tr.len(), 3),
+        })
     }
 }

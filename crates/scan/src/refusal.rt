@@ -2,7 +2,7 @@
 ghost use Rattle.std.specs.Prelude.{◌≡◌};
 ghost use Rattle.scan.specs.Refusal.{ended, over, refusal_of, why};
 
-use crate::answer::{Decoded, Refusal};
+use crate::answer::{Refusal, Refused};
 use misfit::kind::{Kind, kind_of};
 use step::state::{Decoder, Due, Slot};
 use trace::shape::Shape;
@@ -55,14 +55,15 @@ fn refusal_of(k: Kind) -> Refusal
     }
 }
 
-pub(crate) fn why_not(sh: Shape, d: Decoder, place: usize, x: u16) -> Decoded
+pub(crate) fn why_not(sh: Shape, d: Decoder, place: usize, x: u16) -> Refused
     ensures { result ≡ why sh d place x }
 {
-    if !is_symbol(x) {
-        return Decoded::Refused(Refusal::NoSymbol, place);
-    }
-    if is_over(d) {
-        return Decoded::Refused(Refusal::AfterStop, place);
-    }
-    Decoded::Refused(refusal_of(kind_of(sh, d, x)), place)
+    let why = if !is_symbol(x) {
+        Refusal::NoSymbol
+    } else if is_over(d) {
+        Refusal::AfterStop
+    } else {
+        refusal_of(kind_of(sh, d, x))
+    };
+    Refused { why, place }
 }

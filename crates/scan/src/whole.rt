@@ -5,7 +5,7 @@ ghost use Rattle.pec.specs.Table.{Remainders};
 ghost use Rattle.step.specs.State.{fresh};
 ghost use Rattle.scan.specs.Run.{run, decoded_by};
 
-use crate::answer::Decoded;
+use crate::answer::{Decoded, Refused};
 use crate::ending::finished;
 use crate::refusal::why_not;
 use pec::table::{add_byte_by, table};
@@ -13,13 +13,6 @@ use step::fits::may_stand;
 use step::moved::moved;
 use step::state::{Decoder, start};
 use trace::shape::Shape;
-
-// How far a trace was read: a refusal is not left again.
-#[derive(Clone, Copy)]
-pub enum Progress {
-    Reading(Decoder),
-    Answered(Decoded),
-}
 
 // The PEC with a symbol's low byte, by the table that is lent.
 fn pec_after(t: &[u8; 256], c: u8, x: u16) -> u8
@@ -30,7 +23,7 @@ fn pec_after(t: &[u8; 256], c: u8, x: u16) -> u8
 }
 
 // The state at the trace's end, or the refusal at the first symbol that may not stand where it does. The table is lent for the whole trace.
-fn read_by(t: &[u8; 256], sh: Shape, pec: bool, tr: &[u16]) -> Progress
+fn read_by(t: &[u8; 256], sh: Shape, pec: bool, tr: &[u16]) -> Result<Decoder, Refused>
     requires { Remainders t.now }
     ensures { result ≡ run sh pec fresh 0 tr.now }
 {
@@ -39,16 +32,16 @@ fn read_by(t: &[u8; 256], sh: Shape, pec: bool, tr: &[u16]) -> Progress
     while i < tr.len() {
         let x = tr[i];
         if !may_stand(sh, d, x) {
-            return Progress::Answered(why_not(sh, d, i, x));
+            return Err(why_not(sh, d, i, x));
         }
         d = moved(sh, pec, d, x, pec_after(t, d.pec, x));
         i += 1;
     }
-    Progress::Reading(d)
+    Ok(d)
 }
 
 // The same with the table of remainders.
-fn read_all(sh: Shape, pec: bool, tr: &[u16]) -> Progress
+fn read_all(sh: Shape, pec: bool, tr: &[u16]) -> Result<Decoder, Refused>
     ensures { result ≡ run sh pec fresh 0 tr.now }
 {
     let t = table();
@@ -59,9 +52,6 @@ fn read_all(sh: Shape, pec: bool, tr: &[u16]) -> Progress
 pub fn decode_by(protocol: u8, sh: Shape, pec: bool, tr: &[u16]) -> Decoded
     ensures { result ≡ decoded_by protocol sh pec tr.now }
 {
-    let g = read_all(sh, pec, tr);
-    match g {
-        Progress::Reading(d) => finished(protocol, sh, d, tr),
-        Progress::Answered(a) => a,
-    }
+    let d = read_all(sh, pec, tr)?;
+    finished(protocol, sh, d, tr)
 }

@@ -1,10 +1,9 @@
 -- What a trace was taken for, in words. It goes by what the trace told the controller; the decoder's answer says why.
-use Rattle.std.specs.Prelude.{ℕ, List, [], ◌++◌, eqb}
+use Rattle.std.specs.Prelude.{ℕ, List, [], ◌++◌, eqb, Ok, Err}
 use Rattle.lists.specs.Choice.{pick}
 use Rattle.text.specs.Chars.{chars}
 use Rattle.writing.specs.Written.{decimal_of}
-use Rattle.scan.specs.declared.answer.Decoded.{Decoded}
-use Rattle.scan.specs.declared.answer.Decoded.TheVariants.{Done, Refused}
+use Rattle.scan.specs.Decoded.{Decoded}
 use Rattle.step_words.specs.Refused.{refusal_text}
 use Rattle.commands.specs.Codes.{send_byte, block_read, block_write}
 use Rattle.commands.specs.declared.command.Command.{Command}
@@ -17,13 +16,13 @@ use Rattle.hearing.specs.declared.told.Told.TheVariants.{Again, Over, GivenUp, R
 
 -- why a trace is not what was due: the decoder's refusal, or that it is another transaction
 abbrev pub because : Decoded → List ℕ
-because (Done t) = chars "another transaction"
-because (Refused w k) = refusal_text w k
+because (Ok t) = chars "another transaction"
+because (Err e) = refusal_text e.why e.place
 
 -- nobody is left: the byte that was not acknowledged, or the count of a reply that is none
 abbrev pub left_text : Decoded → List ℕ
-left_text (Done t) = chars "nobody is left: a count of " ++ decimal_of t.received
-left_text (Refused w k) = chars "nobody is left: " ++ refusal_text w k
+left_text (Ok t) = chars "nobody is left: a count of " ++ decimal_of t.received
+left_text (Err e) = chars "nobody is left: " ++ refusal_text e.why e.place
 
 -- Get UDID is sent again, which the step's number 0 says
 abbrev pub asked_text : ℕ → List ℕ

@@ -6,8 +6,7 @@ use Rattle.std.proofs.Common.{ap, ◌∙◌, eq-eqb, ne_eqb}
 use Rattle.lists.specs.Choice.{pick}
 use Rattle.text.specs.Chars.{chars}
 use Rattle.wire.specs.declared.address.Address.{Address}
-use Rattle.scan.specs.declared.answer.Decoded.{Decoded}
-use Rattle.scan.specs.declared.answer.Decoded.TheVariants.{Refused}
+use Rattle.scan.specs.Decoded.{Decoded, refused}
 use Rattle.scan.specs.declared.answer.Refusal.{Refusal}
 use Rattle.udid.specs.declared.Udid.{Udid}
 use Rattle.commands.specs.Codes.{send_byte, block_read, block_write}
@@ -21,7 +20,7 @@ use Rattle.step_words.specs.Taken.{because, left_text, asked_text, prepare_text,
 
 -- ---- what the functions write
 
-pub left_refused : (d : Decoded) (w : Refusal) (k : ℕ) → d ≡ Refused w k → chars "nobody is left: " ++ because d ≡ left_text d
+pub left_refused : (d : Decoded) (w : Refusal) (k : ℕ) → d ≡ refused w k → chars "nobody is left: " ++ because d ≡ left_text d
 left_refused d w k e = ap (λ (x : Decoded). chars "nobody is left: " ++ because x) e ∙ sym (ap left_text e)
 
 pub asked_at_0 : (n : ℕ) → n ≡ 0 → chars "; asked again" ≡ asked_text n

@@ -15,8 +15,8 @@ fn put_because(out: &mut [u8], at: usize, label: &[u8], d: Decoded) -> usize
 {
     let to = put(out, at, label);
     match d {
-        Decoded::Done(_) => put(out, to, b"another transaction"),
-        Decoded::Refused(w, place) => put_refusal(out, to, w, place),
+        Ok(_) => put(out, to, b"another transaction"),
+        Err(e) => put_refusal(out, to, e.why, e.place),
     }
 }
 
@@ -25,10 +25,10 @@ fn put_left(out: &mut [u8], at: usize, d: Decoded) -> usize
     ensures { Appended out.old at (left_text d) out.new result }
 {
     match d {
-        Decoded::Done(t) => {
+        Ok(t) => {
             put_number(out, at, b"nobody is left: a count of ", t.received as u64)
         }
-        Decoded::Refused(_, _) => put_because(out, at, b"nobody is left: ", d),
+        Err(_) => put_because(out, at, b"nobody is left: ", d),
     }
 }
 

@@ -1,5 +1,5 @@
 -- A list that is not refused is a list of at most 120 targets with different identifiers, whose fixed ones have addresses of their own.
-use Rattle.std.specs.Prelude.{ℕ, ◌*◌, ◌/◌, ◌%◌, ◌≤◌, ◌<◌, ◌≡◌, Bool, List, length}
+use Rattle.std.specs.Prelude.{ℕ, ◌*◌, ◌/◌, ◌%◌, ◌≤◌, ◌<◌, ◌≡◌, Bool, List, length, Ok}
 use Rattle.std.proofs.Math.Path.{refl}
 use Rattle.std.proofs.Common.{sym, subst, arith}
 use Rattle.std.proofs.Math.Bool.{true, false}
@@ -17,7 +17,6 @@ use Rattle.targets.specs.Cases.{LengthIsBad, Given}
 use Rattle.targets.specs.RefusalLaws.{given_exactly}
 use Rattle.targets.specs.IndexLaws.{target_has_record, pairs_from, length_targets, sized_at}
 use Rattle.targets.specs.Admission.{Differ, FixedApart, FixedFree, AdmittedTargets}
-use Rattle.targets.specs.declared.admit.Checked.TheVariants.{Admitted}
 
 -- the list is whole records, 120 at most
 pub good_length_whole : (s : List ℕ) → (LengthIsBad s → ⊥) → (length s ≤ 2160) × (length s ≡ record_count s * 18)
@@ -28,9 +27,9 @@ good_length_whole s n = go (dec_lt 2160 (length s)) (ℕ_discrete (length s % 18
     go (no h) (no e) = absurd (n (inr e))
     go (no h) (yes e) = omega arith
 
-module _ (barred : Pool) (s : List ℕ) (b : Bytes s) (e : checked_list barred s ≡ Admitted) where
-  given : Given barred s Admitted
-  given = (given_exactly barred s Admitted).0 (sym e)
+module _ (barred : Pool) (s : List ℕ) (b : Bytes s) (e : checked_list barred s ≡ Ok tt) where
+  given : Given barred s (Ok tt)
+  given = (given_exactly barred s (Ok tt)).0 (sym e)
 
   -- every record is whole, with its flag 0 or 1 and an odd address byte
   pub admitted_length : (length s ≤ 2160) × (length s ≡ record_count s * 18)

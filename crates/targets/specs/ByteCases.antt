@@ -1,11 +1,11 @@
 -- The cases of the refusals 10, 11 and 12 by the bytes of the list: record i is the 18 bytes from 18 i on. ByteCasesLaws: they are the cases
 -- of Cases, whose definitions are shared with the code.
-use Rattle.std.specs.Prelude.{ℕ, ◌+◌, ◌*◌, ◌/◌, ◌%◌, ◌<◌, ◌≡◌, true, ◌⊎◌, List, length, get_or, take, drop}
+use Rattle.std.specs.Prelude.{ℕ, ◌+◌, ◌*◌, ◌/◌, ◌%◌, ◌<◌, ◌≡◌, true, ◌⊎◌, List, length, get_or, take, drop, Ok, Err}
 use Rattle.pool.specs.Pools.{member}
 use Rattle.pool.specs.declared.Pool.{Pool}
-use Rattle.targets.specs.Cases.{LengthIsBad, None, FirstOf}
-use Rattle.targets.specs.declared.admit.Checked.{Checked}
-use Rattle.targets.specs.declared.admit.Checked.TheVariants.{Admitted, BadLength, Malformed, Repeated, Taken}
+use Rattle.targets.specs.Cases.{LengthIsBad, NoneOf, FirstOf}
+use Rattle.targets.specs.Checked.{Checked}
+use Rattle.targets.specs.declared.admit.ListError.TheVariants.{BadLength, Malformed, Repeated, Taken}
 
 -- 10: byte 16 is even, or byte 17 above 1
 abbrev pub EvenOrFlag : List ℕ → ℕ → Type 0
@@ -29,10 +29,10 @@ FixedOnTaken barred s i = FixedAt s i × ((member barred (address_at s i) ≡ tr
 
 -- what each answer says of the list: each case is looked for over the whole list, and in their order
 abbrev pub GivenByBytes : Pool → List ℕ → Checked → Type 0
-GivenByBytes barred s BadLength = LengthIsBad s
-GivenByBytes barred s (Malformed i) = (LengthIsBad s → ⊥) × FirstOf (EvenOrFlag s) (length s / 18) i
-GivenByBytes barred s (Repeated i) = (LengthIsBad s → ⊥) × None (EvenOrFlag s) (length s / 18) × FirstOf (SameAsEarlier s) (length s / 18) i
-GivenByBytes barred s (Taken i) =
-    (LengthIsBad s → ⊥) × None (EvenOrFlag s) (length s / 18) × None (SameAsEarlier s) (length s / 18) × FirstOf (FixedOnTaken barred s) (length s / 18) i
-GivenByBytes barred s Admitted =
-    (LengthIsBad s → ⊥) × None (EvenOrFlag s) (length s / 18) × None (SameAsEarlier s) (length s / 18) × None (FixedOnTaken barred s) (length s / 18)
+GivenByBytes barred s (Err BadLength) = LengthIsBad s
+GivenByBytes barred s (Err (Malformed i)) = (LengthIsBad s → ⊥) × FirstOf (EvenOrFlag s) (length s / 18) i
+GivenByBytes barred s (Err (Repeated i)) = (LengthIsBad s → ⊥) × NoneOf (EvenOrFlag s) (length s / 18) × FirstOf (SameAsEarlier s) (length s / 18) i
+GivenByBytes barred s (Err (Taken i)) =
+    (LengthIsBad s → ⊥) × NoneOf (EvenOrFlag s) (length s / 18) × NoneOf (SameAsEarlier s) (length s / 18) × FirstOf (FixedOnTaken barred s) (length s / 18) i
+GivenByBytes barred s (Ok tt) =
+    (LengthIsBad s → ⊥) × NoneOf (EvenOrFlag s) (length s / 18) × NoneOf (SameAsEarlier s) (length s / 18) × NoneOf (FixedOnTaken barred s) (length s / 18)

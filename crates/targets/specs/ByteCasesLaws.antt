@@ -1,5 +1,5 @@
 -- The cases of the refusals by the bytes of the list are the cases of Cases.
-use Rattle.std.specs.Prelude.{ℕ, ◌+◌, ◌*◌, ◌/◌, ◌%◌, ◌<◌, ◌≤◌, ◌≡◌, true, ◌⊎◌, ◌↔◌, List, eqb, length, get_or, take, drop}
+use Rattle.std.specs.Prelude.{ℕ, ◌+◌, ◌*◌, ◌/◌, ◌%◌, ◌<◌, ◌≤◌, ◌≡◌, true, ◌⊎◌, ◌↔◌, List, eqb, length, get_or, take, drop, Ok, Err}
 use Rattle.std.proofs.Common.{sym, ap, ◌∙◌, inl, inr, arith, eq-eqb, eqb-true}
 use Rattle.lists.specs.Each.{Bytes}
 use Rattle.pool.specs.Pools.{member}
@@ -7,9 +7,9 @@ use Rattle.pool.specs.declared.Pool.{Pool}
 use Rattle.udid.specs.Udids.{is_fixed}
 use Rattle.targets.specs.Records.{udid_of, address_byte, flag_of}
 use Rattle.targets.specs.ByteCases.{EvenOrFlag, SameAsEarlier, FixedAt, address_at, FixedOnTaken, GivenByBytes}
-use Rattle.targets.specs.Cases.{MalformedAt, RepeatedAt, TakenAt, None, FirstOf, Given}
-use Rattle.targets.specs.declared.admit.Checked.{Checked}
-use Rattle.targets.specs.declared.admit.Checked.TheVariants.{Admitted, BadLength, Malformed, Repeated, Taken}
+use Rattle.targets.specs.Cases.{MalformedAt, RepeatedAt, TakenAt, NoneOf, FirstOf, Given}
+use Rattle.targets.specs.Checked.{Checked}
+use Rattle.targets.specs.declared.admit.ListError.TheVariants.{BadLength, Malformed, Repeated, Taken}
 use Rattle.targets.specs.FieldLaws.{same_udid_bytes, fixed_by_first_byte}
 
 record_place : (i k : ℕ) → i * 18 + k ≡ 18 * i + k
@@ -88,7 +88,7 @@ Same P Q n = (i : ℕ) → i < n → P i ↔ Q i
 turned : {P Q : ℕ → Type 0} (n : ℕ) → Same P Q n → Same Q P n
 turned n e = λ i h. ((e i h).1, (e i h).0)
 
-none_same : {P Q : ℕ → Type 0} (n m : ℕ) → m ≤ n → Same P Q n → None P m → None Q m
+none_same : {P Q : ℕ → Type 0} (n m : ℕ) → m ≤ n → Same P Q n → NoneOf P m → NoneOf Q m
 none_same n m l e h = λ i k q. h i k ((e i (omega arith)).1 q)
 
 first_same : {P Q : ℕ → Type 0} (n i : ℕ) → Same P Q n → FirstOf P n i → FirstOf Q n i
@@ -107,24 +107,24 @@ given_by_bytes barred s b k = go k
     taken : Same (TakenAt barred s) (FixedOnTaken barred s) (length s / 18)
     taken = taken_by_bytes s b barred
 
-    all : {P Q : ℕ → Type 0} → Same P Q (length s / 18) → None P (length s / 18) → None Q (length s / 18)
+    all : {P Q : ℕ → Type 0} → Same P Q (length s / 18) → NoneOf P (length s / 18) → NoneOf Q (length s / 18)
     all e h = none_same (length s / 18) (length s / 18) (omega arith) e h
 
     go : (k : Checked) → Given barred s k ↔ GivenByBytes barred s k
-    go BadLength = (λ h. h, λ h. h)
-    go (Malformed i) = (
+    go (Err BadLength) = (λ h. h, λ h. h)
+    go (Err (Malformed i)) = (
       λ h. (h.0, first_same (length s / 18) i malformed h.1),
       λ h. (h.0, first_same (length s / 18) i (turned (length s / 18) malformed) h.1),
     )
-    go (Repeated i) = (
+    go (Err (Repeated i)) = (
       λ h. (h.0, all malformed h.1, first_same (length s / 18) i repeated h.2),
       λ h. (h.0, all (turned (length s / 18) malformed) h.1, first_same (length s / 18) i (turned (length s / 18) repeated) h.2),
     )
-    go (Taken i) = (
+    go (Err (Taken i)) = (
       λ h. (h.0, all malformed h.1, all repeated h.2, first_same (length s / 18) i taken h.3),
       λ h. (h.0, all (turned (length s / 18) malformed) h.1, all (turned (length s / 18) repeated) h.2, first_same (length s / 18) i (turned (length s / 18) taken) h.3),
     )
-    go Admitted = (
+    go (Ok tt) = (
       λ h. (h.0, all malformed h.1, all repeated h.2, all taken h.3),
       λ h. (h.0, all (turned (length s / 18) malformed) h.1, all (turned (length s / 18) repeated) h.2, all (turned (length s / 18) taken) h.3),
     )

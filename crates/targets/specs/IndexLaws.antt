@@ -7,7 +7,7 @@ use Rattle.udid.proofs.UdidLaws.{fits_at, bytes_back}
 use Rattle.udid.proofs.WindowLaws.{byte_at}
 use Rattle.arbitration.specs.Among.{Among}
 use Rattle.targets.specs.Target.{Target, Sized}
-use Rattle.targets.specs.Records.{address_byte, target_at, targets_from}
+use Rattle.targets.specs.Records.{target_at, targets_from}
 use Rattle.targets.specs.Members.{Pairs}
 use Rattle.targets.specs.Reply.{reply_data}
 

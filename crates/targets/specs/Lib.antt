@@ -1,6 +1,7 @@
 pub mod Target
 pub mod Records
 pub mod First
+pub mod Checked
 pub mod Refusals
 pub mod Winner
 pub mod FirstLaws

@@ -1,6 +1,6 @@
 -- Each answer of the check is given in its listed case, and in no other.
 use Prim.Native.Nat.{ℕ, ◌/◌, ◌%◌, ◌<◌}
-use Rattle.std.specs.Prelude.{◌≡◌, Bool, true, false, ◌↔◌, List, eqb, ltb, length}
+use Rattle.std.specs.Prelude.{◌≡◌, Bool, true, false, ◌↔◌, List, eqb, ltb, length, Ok, Err}
 use Rattle.std.proofs.Math.Path.{refl}
 use Rattle.std.proofs.Common.{sym, ap, ◌∙◌, subst, arith, ltb-true, lt-ltb, le-ltb}
 use Rattle.std.proofs.Math.Decide.{dec_lt}
@@ -15,10 +15,10 @@ use Rattle.targets.specs.First.{first, some}
 use Rattle.targets.specs.FirstLaws.{first_before, first_passes, none_below}
 use Rattle.targets.specs.Records.{udid_of, address_byte, flag_of, record_count}
 use Rattle.targets.specs.Refusals.{is_bad_length, is_malformed, is_same_as, is_repeated, is_fixed_as, is_taken, among_records, checked_list}
-use Rattle.targets.specs.Cases.{LengthIsBad, MalformedAt, RepeatedAt, TakenAt, None, FirstOf, Given}
+use Rattle.targets.specs.Cases.{LengthIsBad, MalformedAt, RepeatedAt, TakenAt, NoneOf, FirstOf, Given}
 use Rattle.targets.specs.Numbers.{Answer, answer_of}
-use Rattle.targets.specs.declared.admit.Checked.{Checked}
-use Rattle.targets.specs.declared.admit.Checked.TheVariants.{Admitted, BadLength, Malformed, Repeated, Taken}
+use Rattle.targets.specs.Checked.{Checked}
+use Rattle.targets.specs.declared.admit.ListError.TheVariants.{BadLength, Malformed, Repeated, Taken}
 
 -- ---- a test and what it is a test of
 
@@ -31,10 +31,10 @@ module _ (test : ℕ → Bool) (P : ℕ → Type 0) (decides : (i : ℕ) → (te
       let l = ltb-true (first test n) n e in
       record { below = l; holds = (decides (first test n)).0 (first_passes test n l); none_before = λ j h. false_then_not j (first_before test n j h) }
 
-  some_none : (n : ℕ) → some test n ≡ false → None P n
+  some_none : (n : ℕ) → some test n ≡ false → NoneOf P n
   some_none n e i h = false_then_not i (none_below test n e i h)
 
-  none_some : (n : ℕ) → None P n → some test n ≡ false
+  none_some : (n : ℕ) → NoneOf P n → some test n ≡ false
   none_some n h = go (dec_lt (first test n) n)
     where
       go : Dec (first test n < n) → some test n ≡ false
@@ -114,8 +114,8 @@ module _ (barred : Pool) (s : List ℕ) where
 
       go : (a : Bool) → is_bad_length (length s) ≡ a → (b : Bool) → some (is_malformed s) n ≡ b → (c : Bool) → some (is_repeated s) n ≡ c → (d : Bool) → some (is_taken barred s) n ≡ d
           → Given barred s
-          (pick a BadLength
-          (pick b (Malformed (first (is_malformed s) n)) (pick c (Repeated (first (is_repeated s) n)) (pick d (Taken (first (is_taken barred s) n)) Admitted))))
+          (pick a (Err BadLength)
+          (pick b (Err (Malformed (first (is_malformed s) n))) (pick c (Err (Repeated (first (is_repeated s) n))) (pick d (Err (Taken (first (is_taken barred s) n))) (Ok tt)))))
       go true e b f c g d h = (bad_length_exactly s).0 e
       go false e true f c g d h = (good_length_not_bad e, some_first (is_malformed s) (MalformedAt s) (malformed_exactly s) n f)
       go false e false f true g d h = (
@@ -139,14 +139,14 @@ module _ (barred : Pool) (s : List ℕ) where
   -- and what is so is what it answers
   pub given_then_checked : (r : Checked) → Given barred s r → r ≡ checked_list barred s
   unfolding checked_list among_records
-  given_then_checked BadLength h = rw ((bad_length_exactly s).1 h)
-  given_then_checked (Malformed i) h =
+  given_then_checked (Err BadLength) h = rw ((bad_length_exactly s).1 h)
+  given_then_checked (Err (Malformed i)) h =
       rw (not_bad_length h.0, first_some (is_malformed s) (MalformedAt s) (malformed_exactly s) (record_count s) i h.1, first_unique (is_malformed s) (MalformedAt s) (malformed_exactly s) (record_count s) i h.1)
-  given_then_checked (Repeated i) h =
+  given_then_checked (Err (Repeated i)) h =
       rw (not_bad_length h.0, none_some (is_malformed s) (MalformedAt s) (malformed_exactly s) (record_count s) h.1, first_some (is_repeated s) (RepeatedAt s) (repeated_exactly s) (record_count s) i h.2, first_unique (is_repeated s) (RepeatedAt s) (repeated_exactly s) (record_count s) i h.2)
-  given_then_checked (Taken i) h =
+  given_then_checked (Err (Taken i)) h =
       rw (not_bad_length h.0, none_some (is_malformed s) (MalformedAt s) (malformed_exactly s) (record_count s) h.1, none_some (is_repeated s) (RepeatedAt s) (repeated_exactly s) (record_count s) h.2, first_some (is_taken barred s) (TakenAt barred s) (taken_exactly barred s) (record_count s) i h.3, first_unique (is_taken barred s) (TakenAt barred s) (taken_exactly barred s) (record_count s) i h.3)
-  given_then_checked Admitted h =
+  given_then_checked (Ok tt) h =
       rw (not_bad_length h.0, none_some (is_malformed s) (MalformedAt s) (malformed_exactly s) (record_count s) h.1, none_some (is_repeated s) (RepeatedAt s) (repeated_exactly s) (record_count s) h.2, none_some (is_taken barred s) (TakenAt barred s) (taken_exactly barred s) (record_count s) h.3)
 
   -- EACH OF 9, 10, 11 AND 12 IS GIVEN EXACTLY IN ITS LISTED CASE, with the first record, and in that order
@@ -156,17 +156,17 @@ module _ (barred : Pool) (s : List ℕ) where
 -- number and value tell the cases apart
 case_of : Answer → Checked
 case_of a =
-    pick (eqb a.number 9) BadLength
-    (pick (eqb a.number 10) (Malformed a.value)
-    (pick (eqb a.number 11) (Repeated a.value) (pick (eqb a.number 12) (Taken a.value) Admitted)))
+    pick (eqb a.number 9) (Err BadLength)
+    (pick (eqb a.number 10) (Err (Malformed a.value))
+    (pick (eqb a.number 11) (Err (Repeated a.value)) (pick (eqb a.number 12) (Err (Taken a.value)) (Ok tt))))
 
 case_back : (r : Checked) → case_of (answer_of r) ≡ r
 unfolding case_of
-case_back Admitted = refl
-case_back BadLength = refl
-case_back (Malformed i) = refl
-case_back (Repeated i) = refl
-case_back (Taken i) = refl
+case_back (Ok tt) = refl
+case_back (Err BadLength) = refl
+case_back (Err (Malformed i)) = refl
+case_back (Err (Repeated i)) = refl
+case_back (Err (Taken i)) = refl
 
 pub answers_tell_apart : (r t : Checked) → answer_of r ≡ answer_of t → r ≡ t
 answers_tell_apart r t e = sym (case_back r) ∙ ap case_of e ∙ case_back t

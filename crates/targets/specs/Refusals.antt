@@ -1,15 +1,15 @@
 -- The check of a target list: the tests of the refusals 9 to 12, and the first record that fails one. Cases says in words of the scope
 -- when each is given, and RefusalLaws that it is given then and only then. `barred` are the addresses on which not even a fixed target may
 -- stand: the reserved and the occupied ones.
-use Rattle.std.specs.Prelude.{ℕ, ◌*◌, ◌/◌, ◌%◌, Bool, List, eqb, ltb, length}
+use Rattle.std.specs.Prelude.{ℕ, ◌*◌, ◌/◌, ◌%◌, Bool, List, eqb, ltb, length, Ok, Err}
 use Rattle.lists.specs.Choice.{pick, or, and, not}
 use Rattle.pool.specs.Pools.{member}
 use Rattle.pool.specs.declared.Pool.{Pool}
 use Rattle.udid.specs.Udids.{same_udid, is_fixed}
 use Rattle.targets.specs.First.{first, some}
 use Rattle.targets.specs.Records.{record_size, most_targets, udid_of, address_byte, flag_of, record_count}
-use Rattle.targets.specs.declared.admit.Checked.{Checked}
-use Rattle.targets.specs.declared.admit.Checked.TheVariants.{Admitted, BadLength, Malformed, Repeated, Taken}
+use Rattle.targets.specs.Checked.{Checked}
+use Rattle.targets.specs.declared.admit.ListError.TheVariants.{BadLength, Malformed, Repeated, Taken}
 
 -- 9: over 2,160 bytes, or no multiple of 18
 abbrev pub is_bad_length : ℕ → Bool
@@ -36,10 +36,10 @@ is_taken barred s i = and (is_fixed (udid_of s i)) (or (member barred (address_b
 -- 10, 11, 12, each over the first n records
 unfoldable pub among_records : Pool → List ℕ → ℕ → Checked
 among_records barred s n =
-    pick (some (is_malformed s) n) (Malformed (first (is_malformed s) n))
-    (pick (some (is_repeated s) n) (Repeated (first (is_repeated s) n))
-    (pick (some (is_taken barred s) n) (Taken (first (is_taken barred s) n)) Admitted))
+    pick (some (is_malformed s) n) (Err (Malformed (first (is_malformed s) n)))
+    (pick (some (is_repeated s) n) (Err (Repeated (first (is_repeated s) n)))
+    (pick (some (is_taken barred s) n) (Err (Taken (first (is_taken barred s) n))) (Ok tt)))
 
 -- 9 comes before them
 unfoldable pub checked_list : Pool → List ℕ → Checked
-checked_list barred s = pick (is_bad_length (length s)) BadLength (among_records barred s (record_count s))
+checked_list barred s = pick (is_bad_length (length s)) (Err BadLength) (among_records barred s (record_count s))

@@ -1,12 +1,10 @@
 -- Who wins on the wire, found over the records one after the other, and what a winner is.
-use Rattle.std.specs.Prelude.{ℕ, zero, suc, ◌≤◌, ◌<◌, ◌≡◌, List, eqb, ltb}
+use Rattle.std.specs.Prelude.{ℕ, zero, suc, ◌≤◌, ◌<◌, ◌≡◌, Option, Some, None, List, eqb, ltb}
 use Rattle.lists.specs.Choice.{pick}
 use Rattle.udid.specs.Udids.{value, is_below}
-use Rattle.targets.specs.Cases.{None}
+use Rattle.targets.specs.Cases.{NoneOf}
 use Rattle.targets.specs.Records.{udid_of, flag_of, target_at, record_count}
 use Rattle.targets.specs.Reply.{reply_bytes, OnWire, silence, shown}
-use Rattle.targets.specs.declared.winner.Winner.{Winner}
-use Rattle.targets.specs.declared.winner.Winner.TheVariants.{At, AllResolved}
 
 -- the better of record i and the best so far, n where there is none yet
 unfoldable pub better_of : List ℕ → ℕ → ℕ → ℕ → ℕ
@@ -23,10 +21,10 @@ abbrev pub least_of : List ℕ → ℕ → ℕ
 least_of s n = best_from s n n 0 n
 
 -- the unresolved record with the least identifier
-abbrev pub winner_among : List ℕ → ℕ → Winner
-winner_among s n = pick (ltb (least_of s n) n) (At (least_of s n)) AllResolved
+abbrev pub winner_among : List ℕ → ℕ → Option ℕ
+winner_among s n = pick (ltb (least_of s n) n) (Some (least_of s n)) None
 
-unfoldable pub winner_of : List ℕ → Winner
+unfoldable pub winner_of : List ℕ → Option ℕ
 winner_of s = winner_among s (record_count s)
 
 -- ---- what the winner is
@@ -41,11 +39,11 @@ pub record Wins (s : List ℕ) (n w : ℕ) : Type 0 where
   pub least : (j : ℕ) → j < n → Unresolved s j → value (udid_of s w) ≤ value (udid_of s j)
   pub earliest : (j : ℕ) → j < w → Unresolved s j → value (udid_of s w) < value (udid_of s j)
 
-abbrev pub Won : List ℕ → Winner → Type 0
-Won s (At w) = Wins s (record_count s) w
-Won s AllResolved = None (Unresolved s) (record_count s)
+abbrev pub Won : List ℕ → Option ℕ → Type 0
+Won s (Some w) = Wins s (record_count s) w
+Won s None = NoneOf (Unresolved s) (record_count s)
 
 -- what stands on the wire: the reply of the winner
-abbrev pub shown_by : List ℕ → Winner → OnWire
-shown_by s AllResolved = silence
-shown_by s (At w) = shown (reply_bytes (target_at s w))
+abbrev pub shown_by : List ℕ → Option ℕ → OnWire
+shown_by s None = silence
+shown_by s (Some w) = shown (reply_bytes (target_at s w))

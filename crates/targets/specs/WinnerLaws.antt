@@ -1,6 +1,6 @@
 -- The winner is the unresolved record with the least identifier, and its reply is what the wire shows.
 use Prim.Native.Nat.{ℕ, zero, suc, ◌+◌, ◌*◌, ◌≤◌, ◌<◌}
-use Rattle.std.specs.Prelude.{◌≡◌, Bool, ◌⊎◌, ◌↔◌, List, ltb}
+use Rattle.std.specs.Prelude.{◌≡◌, Bool, ◌⊎◌, ◌↔◌, Option, Some, None, List, ltb}
 use Rattle.std.proofs.Math.Path.{refl, subst}
 use Rattle.std.proofs.Common.{sym, ap, ◌∙◌, inl, inr}
 use Rattle.std.proofs.Math.Bool.{true, false}
@@ -16,19 +16,17 @@ use Rattle.arbitration.specs.Wire.{sending}
 use Rattle.arbitration.specs.DropOut.{sharing}
 use Rattle.targets.specs.Target.{Target, is_resolved, Sized}
 use Rattle.targets.specs.Records.{udid_of, flag_of, target_at, record_count, targets_of}
-use Rattle.targets.specs.Cases.{RepeatedAt, None}
+use Rattle.targets.specs.Cases.{RepeatedAt, NoneOf}
 use Rattle.targets.specs.Winner.{better_of, best_from, least_of, winner_of, Unresolved, Wins, Won, shown_by}
 use Rattle.targets.specs.Reply.{sends, waiting, on_wire}
 use Rattle.targets.specs.Members.{Least}
 use Rattle.targets.specs.ReplyLaws.{nobody_on_wire, least_on_wire, least_sending}
 use Rattle.targets.specs.IndexLaws.{target_has_record, record_has_target, sized_at}
-use Rattle.targets.specs.declared.winner.Winner.{Winner}
-use Rattle.targets.specs.declared.winner.Winner.TheVariants.{At, AllResolved}
 
 -- ---- the search finds it
 
 abbrev Best : List ℕ → ℕ → ℕ → ℕ → Type 0
-Best s n i best = ((best ≡ n) × None (Unresolved s) i) ⊎ Wins s i best
+Best s n i best = ((best ≡ n) × NoneOf (Unresolved s) i) ⊎ Wins s i best
 
 module _ (s : List ℕ) where
   abbrev Val : ℕ → ℕ
@@ -110,15 +108,15 @@ module _ (s : List ℕ) where
       n : ℕ
       n = record_count s
 
-      go : (w : ℕ) → Best s n n w → Won s (pick (ltb w n) (At w) AllResolved)
+      go : (w : ℕ) → Best s n n w → Won s (pick (ltb w n) (Some w) None)
       go w (inl v) = rw (le-ltb w n (omega (arith, v.0))) v.1
       go w (inr v) = rw (lt-ltb w n v.below) v
 
-  won_unique : (r t : Winner) → Won s r → Won s t → r ≡ t
-  won_unique AllResolved AllResolved h g = refl
-  won_unique AllResolved (At w) h g = absurd (h w g.below g.unresolved)
-  won_unique (At w) AllResolved h g = absurd (g w h.below h.unresolved)
-  won_unique (At w) (At v) h g = ap At (go (dec_lt w v) (dec_lt v w))
+  won_unique : (r t : Option ℕ) → Won s r → Won s t → r ≡ t
+  won_unique None None h g = refl
+  won_unique None (Some w) h g = absurd (h w g.below g.unresolved)
+  won_unique (Some w) None h g = absurd (g w h.below h.unresolved)
+  won_unique (Some w) (Some v) h g = ap Some (go (dec_lt w v) (dec_lt v w))
     where
       go : Dec (w < v) → Dec (v < w) → w ≡ v
       go (yes l) d = absurd (omega (arith, g.earliest w l h.unresolved, h.least v g.below g.unresolved))
@@ -126,12 +124,12 @@ module _ (s : List ℕ) where
       go (no l) (no k) = omega arith
 
   -- THE WINNER IS THE UNRESOLVED RECORD WITH THE LEAST IDENTIFIER, or all are resolved
-  pub winner_exactly : (r : Winner) → (r ≡ winner_of s) ↔ Won s r
+  pub winner_exactly : (r : Option ℕ) → (r ≡ winner_of s) ↔ Won s r
   winner_exactly r = (λ e. subst (Won s) (sym e) won_holds, λ h. won_unique r (winner_of s) h won_holds)
 
 -- ---- what stands on the wire
 
-module _ (s : List ℕ) (b : Bytes s) (differ : None (RepeatedAt s) (record_count s)) where
+module _ (s : List ℕ) (b : Bytes s) (differ : NoneOf (RepeatedAt s) (record_count s)) where
   pub unresolved_by_flag : (i : ℕ) (t : Target) → target_at s i ≡ t → is_resolved t ≡ false → Unresolved s i
   unfolding target_at
   unresolved_by_flag i t e o = eqb-false (flag_of s i) 1 (ap is_resolved e ∙ o)
@@ -170,10 +168,10 @@ module _ (s : List ℕ) (b : Bytes s) (differ : None (RepeatedAt s) (record_coun
   pub winner_on_wire : on_wire (waiting (targets_of s)) ≡ shown_by s (winner_of s)
   winner_on_wire = go (winner_of s) ((winner_exactly s (winner_of s)).0 refl)
     where
-      go : (r : Winner) → Won s r → on_wire (waiting (targets_of s)) ≡ shown_by s r
-      go AllResolved v = nobody_on_wire (targets_of s) (λ t m o. let r = target_has_record s (record_count s) 0 t m in v r.0 (omega (arith, r.2)) (unresolved_by_flag r.0 t r.3 o))
-      go (At w) v = least_on_wire (targets_of s) (target_at s w) (winner_least w v)
+      go : (r : Option ℕ) → Won s r → on_wire (waiting (targets_of s)) ≡ shown_by s r
+      go None v = nobody_on_wire (targets_of s) (λ t m o. let r = target_has_record s (record_count s) 0 t m in v r.0 (omega (arith, r.2)) (unresolved_by_flag r.0 t r.3 o))
+      go (Some w) v = least_on_wire (targets_of s) (target_at s w) (winner_least w v)
 
   -- after n bits those targets still send that share n bits with the winner
-  pub winner_sending : (w : ℕ) → At w ≡ winner_of s → (n : ℕ) → n ≤ 152 → sending n (waiting (targets_of s)) ≡ sharing n (sends (target_at s w)) (waiting (targets_of s))
-  winner_sending w e n h = least_sending (targets_of s) (target_at s w) (winner_least w ((winner_exactly s (At w)).0 e)) n h
+  pub winner_sending : (w : ℕ) → Some w ≡ winner_of s → (n : ℕ) → n ≤ 152 → sending n (waiting (targets_of s)) ≡ sharing n (sends (target_at s w)) (waiting (targets_of s))
+  winner_sending w e n h = least_sending (targets_of s) (target_at s w) (winner_least w ((winner_exactly s (Some w)).0 e)) n h

@@ -3,16 +3,16 @@
 ghost use Rattle.std.specs.Prelude.{◌≡◌, ◌/◌, length};
 ghost use Rattle.pool.specs.Start.{barred_pool};
 ghost use Rattle.targets.specs.Records.{record_size};
+ghost use Rattle.targets.specs.Numbers.{error_number, error_place};
 ghost use Rattle.targets.specs.Refusals.{is_bad_length, among_records, checked_list};
 
 use super::fields::{MOST_TARGETS, RECORD};
 use super::{fields, malformed, same, taken};
 use pool::Pool;
 
-// Admitted, or why not, with the first record that is so.
-#[derive(Clone, Copy)]
-pub enum Checked {
-    Admitted,
+// Why a list is refused, with the first record that is so.
+#[derive(Clone, Copy, PartialEq, Eq)]
+pub enum ListError {
     // no multiple of 18 bytes, or over 2,160
     BadLength,
     // byte 16 even, or byte 17 above 1
@@ -21,6 +21,30 @@ pub enum Checked {
     Repeated(usize),
     // fixed, at a barred address or that of an earlier fixed record
     Taken(usize),
+}
+
+impl ListError {
+    // The scope's number of the refusal.
+    pub fn number(self) -> u32
+        ensures { result ≡ error_number self }
+    {
+        match self {
+            ListError::BadLength => 9,
+            ListError::Malformed(_) => 10,
+            ListError::Repeated(_) => 11,
+            ListError::Taken(_) => 12,
+        }
+    }
+
+    // The record that is refused; 0 where the length is.
+    pub fn place(self) -> usize
+        ensures { result ≡ error_place self }
+    {
+        match self {
+            ListError::BadLength => 0,
+            ListError::Malformed(i) | ListError::Repeated(i) | ListError::Taken(i) => i,
+        }
+    }
 }
 
 fn is_bad_length(n: usize) -> bool
@@ -32,31 +56,31 @@ fn is_bad_length(n: usize) -> bool
     n % RECORD != 0
 }
 
-fn among_records(records: &[u8], barred: Pool) -> Checked
+fn among_records(records: &[u8], barred: Pool) -> Result<(), ListError>
     ensures { result ≡ among_records barred records.now (length records.now / record_size) }
 {
     let n = fields::count(records);
     let bad = malformed::first_malformed(records, n);
     if bad < n {
-        return Checked::Malformed(bad);
+        return Err(ListError::Malformed(bad));
     }
     let again = same::first_repeated(records, n);
     if again < n {
-        return Checked::Repeated(again);
+        return Err(ListError::Repeated(again));
     }
     let clash = taken::first_taken(records, n, barred);
     if clash < n {
-        return Checked::Taken(clash);
+        return Err(ListError::Taken(clash));
     }
-    Checked::Admitted
+    Ok(())
 }
 
 // The check of a target list, where these addresses are occupied. They and the reserved ones are barred.
-pub fn check(records: &[u8], occupied: Pool) -> Checked
+pub fn check(records: &[u8], occupied: Pool) -> Result<(), ListError>
     ensures { result ≡ checked_list (barred_pool occupied) records.now }
 {
     if is_bad_length(records.len()) {
-        return Checked::BadLength;
+        return Err(ListError::BadLength);
     }
     let barred = Pool::barred(occupied);
     among_records(records, barred)

@@ -8,13 +8,6 @@ use super::fields;
 use arbitration::win;
 use udid::Udid;
 
-// The record that wins, or that all are resolved and nobody answers.
-#[derive(Clone, Copy)]
-pub enum Winner {
-    At(usize),
-    AllResolved,
-}
-
 // The best so far (n: none yet), with its identifier.
 #[derive(Clone, Copy)]
 struct Best {
@@ -78,15 +71,11 @@ fn least(records: &[u8], n: usize) -> usize
     best.place
 }
 
-// The unresolved record with the least identifier.
-pub fn find(records: &[u8]) -> Winner
+// The unresolved record with the least identifier; none where all are resolved, so that nobody answers.
+pub fn find(records: &[u8]) -> Option<usize>
     ensures { result ≡ winner_of records.now }
 {
     let n = fields::count(records);
     let w = least(records, n);
-    if w < n {
-        Winner::At(w)
-    } else {
-        Winner::AllResolved
-    }
+    if w < n { Some(w) } else { None }
 }

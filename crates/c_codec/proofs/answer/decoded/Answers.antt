@@ -1,7 +1,7 @@
 use Rattle.c_codec.proofs.answer.decoded.Goals as goal
 
-pub returns-in-Done : goal.returns-in-Done
-returns-in-Done c = rw c.in-Done.is
+pub returns-in-Ok : goal.returns-in-Ok
+returns-in-Ok c = rw c.in-Ok.is
 
-pub returns-in-Refused : goal.returns-in-Refused
-returns-in-Refused c = rw (c.refusal.ensures, c.refusal_number.ensures, c.in-Refused.is)
+pub returns-in-Err : goal.returns-in-Err
+returns-in-Err c = rw (c.refusal.ensures, c.refusal_number.ensures, c.in-Err.is)

@@ -9,4 +9,4 @@ pub returns-in_default : goal.returns-in_default
 returns-in_default c = let s = c.args in let d = c.decode-answer in get_again s.trace.now d.result _ _ d.ensures (sym c.is_nobody.ensures ∙ c.if-is_nobody.false) _ _ c.in_default.is
 
 pub returns : goal.returns
-returns c = let s = c.args in let d = c.decode-answer in c.reply_in.ensures ∙ get_done s.trace.now d.result _ _ d.ensures _ c.in-Done.is
+returns c = let s = c.args in let d = c.decode-answer in c.reply_in.ensures ∙ get_done s.trace.now d.result _ _ d.ensures _ c.in-Ok.is

@@ -1,10 +1,9 @@
-use Rattle.std.proofs.Common.{ℕ, ◌*◌, ◌≡◌, refl, sym, ap, ◌∙◌, Bool, ◌++◌, add-one, arith, drop}
+use Rattle.std.proofs.Common.{ℕ, ◌*◌, ◌≡◌, refl, sym, ap, ◌∙◌, Bool, ◌++◌, add-one, arith, drop, Some, None}
 use Rattle.lists.specs.Choice.{pick}
 use Rattle.udid.specs.declared.Udid.{Udid}
 use Rattle.slots.specs.Slots.{kept_udid}
 use Rattle.bindings.specs.Entries.{put_entry, rows_of}
 use Rattle.bindings.proofs.BufferLaws.{rows_none, rows_more}
-use Rattle.bindings.specs.declared.entry.Entry.TheVariants.{Nobody, Bound}
 use Rattle.report.specs.BoundSetLaws.{entry_by_bound}
 use Rattle.report.specs.Report.{entry_at}
 use Rattle.report.proofs.bindings_of.put_rows.Goals as goal
@@ -42,7 +41,7 @@ loop-a-preserved c =
       omega arith,
       c.put_entry.auto.out ∙ l.invariant.1,
       c.put_entry.ensures
-          ∙ ap (put_entry l.out l.a) (c.entry_of-e.ensures ∙ ap (λ (b : Bool). pick b (Bound x) Nobody) c.has.ensures ∙ sym (entry_by_bound s.args.slots l.a))
+          ∙ ap (put_entry l.out l.a) (c.entry_of-e.ensures ∙ ap (λ (b : Bool). pick b (Some x) None) c.has.ensures ∙ sym (entry_by_bound s.args.slots l.a))
           ∙ rows_more held l.a s.args.out.now l.out s.requires (omega arith) l.invariant.2
           ∙ ap (λ (n : ℕ). rows_of held n ++ drop (n * 16) s.args.out.now) (sym (add-one l.a)),
     )

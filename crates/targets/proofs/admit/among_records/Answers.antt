@@ -1,4 +1,4 @@
-use Rattle.std.proofs.Common.{◌-◌, lt-ltb, le-ltb}
+use Rattle.std.proofs.Common.{lt-ltb, le-ltb}
 use Rattle.targets.specs.Refusals.{among_records}
 use Rattle.targets.proofs.admit.among_records.Goals as goal
 

@@ -1,4 +1,3 @@
-use Rattle.std.proofs.Common.{◌-◌}
 use Rattle.targets.specs.Refusals.{checked_list}
 use Rattle.targets.proofs.admit.check.Goals as goal
 

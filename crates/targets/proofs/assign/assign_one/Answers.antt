@@ -1,4 +1,4 @@
-use Rattle.std.proofs.Common.{ℕ, ◌+◌, ◌*◌, ◌-◌, ◌%◌, ◌≡◌, sym, ◌∙◌, arith, true, false, List, set, length-set}
+use Rattle.std.proofs.Common.{ℕ, ◌+◌, ◌*◌, ◌%◌, ◌≡◌, sym, ◌∙◌, arith, true, false, List, set, length-set}
 use Rattle.udid.specs.Udids.{same_udid}
 use Rattle.udid.specs.declared.Udid.{Udid}
 use Rattle.targets.specs.Records.{udid_of, target_at, put_target}

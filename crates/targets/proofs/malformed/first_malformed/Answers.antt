@@ -1,4 +1,4 @@
-use Rattle.std.proofs.Common.{◌-◌, ◌≡◌, sym, ◌∙◌, arith}
+use Rattle.std.proofs.Common.{◌≡◌, sym, ◌∙◌, arith}
 use Rattle.targets.specs.FirstLaws.{first_start, first_found, first_onward, first_end}
 use Rattle.targets.specs.Refusals.{is_malformed}
 use Rattle.targets.proofs.malformed.first_malformed.Goals as goal

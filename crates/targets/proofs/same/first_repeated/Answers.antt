@@ -1,4 +1,4 @@
-use Rattle.std.proofs.Common.{ℕ, ◌-◌, ◌≡◌, sym, ap, ◌∙◌, arith, lt-ltb, le-ltb, ltb}
+use Rattle.std.proofs.Common.{ℕ, ◌≡◌, sym, ap, ◌∙◌, arith, lt-ltb, le-ltb, ltb}
 use Rattle.targets.specs.FirstLaws.{first_start, first_found, first_onward, first_end}
 use Rattle.targets.specs.Refusals.{is_repeated}
 use Rattle.targets.proofs.same.first_repeated.Goals as goal

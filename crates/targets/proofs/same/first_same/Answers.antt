@@ -1,4 +1,4 @@
-use Rattle.std.proofs.Common.{◌-◌, ◌≡◌, sym, ap, ◌∙◌, arith}
+use Rattle.std.proofs.Common.{◌≡◌, sym, ap, ◌∙◌, arith}
 use Rattle.targets.specs.FirstLaws.{first_start, first_found, first_onward, first_end}
 use Rattle.targets.specs.Refusals.{is_same_as}
 use Rattle.targets.specs.Records.{udid_of}

@@ -1,4 +1,4 @@
-use Rattle.std.proofs.Common.{◌-◌, ◌/◌, ◌≡◌, sym, ap, ◌∙◌, true, false}
+use Rattle.std.proofs.Common.{◌/◌, ◌≡◌, sym, ap, ◌∙◌, true, false}
 use Rattle.targets.specs.Records.{udid_of, address_byte}
 use Rattle.udid.specs.Udids.{is_fixed}
 use Rattle.pool.specs.Pools.{member}

@@ -1,4 +1,4 @@
-use Rattle.std.proofs.Common.{◌-◌, lt-ltb, le-ltb}
+use Rattle.std.proofs.Common.{lt-ltb, le-ltb}
 use Rattle.targets.specs.Winner.{winner_of}
 use Rattle.targets.proofs.winner.find.Goals as goal
 
