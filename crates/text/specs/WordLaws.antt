@@ -1,32 +1,13 @@
--- The search for a character of a kind, turn by turn; texts are the same exactly if all their characters are; a part of a text.
-use Rattle.std.specs.Prelude.{ℕ, suc, not, leb, Option, Some, None, MatchOption, slice_range, ◌⊎◌, cond, ◌&&◌, ◌+◌, ◌-◌, ◌<◌, ◌≤◌, ◌≡◌, refl, Bool, true, false, List, [], ◌∷◌, eqb, length, take, drop, get_or}
-use Rattle.std.proofs.Common.{ap, sym, inl, inr, ◌∙◌, leb-true, leb-false, arith, drop_of_length-le}
-use Rattle.std.proofs.Math.Numerals.{add-one}
-use Rattle.std.proofs.Math.Seq.{drop-cons}
-use borrow.Author.Tests.{eqb-true, le-leb, lt-leb}
+-- The search for a character of a kind, in std's word; texts are the same exactly if all their characters are; a part of a text.
+use Rattle.std.specs.Prelude.{ℕ, suc, not, leb, Option, Some, None, MatchOption, slice_range, ◌⊎◌, cond, ◌+◌, ◌-◌, ◌<◌, ◌≤◌, ◌≡◌, refl, Bool, true, false, List, [], ◌∷◌, length, take, drop}
+use Rattle.std.proofs.Common.{sym, inl, inr, ◌∙◌, leb-true, leb-false, arith}
+use borrow.Author.Tests.{le-leb, lt-leb}
 use denote.Ref.{Bor}
 use Rattle.std.specs.Option.{unwrap_or}
-use Rattle.std.specs.Str.{bytes_eq}
+use Rattle.std.proofs.lemmas.Slice.Eq.{bytes_eq-Decides}
 use Rattle.std.specs.List.{prefix_len}
-use Rattle.lists.specs.Choice.{pick, and}
-use Rattle.lists.specs.ChoiceLaws.{false_not_true}
+use Rattle.lists.specs.Choice.{pick}
 use Rattle.text.specs.Words.{before, part_of, same_text}
-
-module _ (kind : ℕ → Bool) (s : List ℕ) (i : ℕ) where
-  -- a character of the kind ends the search
-  pub before_stops : i < length s → kind (get_or s i 0) ≡ true → before kind (drop i s) ≡ 0
-  unfolding before
-  before_stops h e = rw (drop-cons s i 0 h) (simp e)
-
-  -- any other is counted
-  pub before_counts : i < length s → kind (get_or s i 0) ≡ false → before kind (drop i s) ≡ suc (before kind (drop (i + 1) s))
-  unfolding before
-  before_counts h e = rw (drop-cons s i 0 h, add-one i) (simp e)
-
-  -- and so does the end of the text
-  pub before_ends : length s ≤ i → before kind (drop i s) ≡ 0
-  unfolding before
-  before_ends h = rw (drop_of_length-le s h)
 
 -- how many characters stand before the first of a kind, in std's word
 before_cons : (t : Bool) (m n : ℕ) → m ≡ n → cond (not t) (1 + m) 0 ≡ pick t 0 (suc n)
@@ -38,37 +19,9 @@ unfolding before
 before_prefix kind [] = refl
 before_prefix kind (c ∷ s) = before_cons (kind c) (prefix_len (λ x. not (kind x)) s) (before kind s) (before_prefix kind s)
 
--- the same characters, one test after another
-both_same : (t : Bool) (a b : Bool) → a ≡ b → (t && a) ≡ and t b
-both_same true a b e = e
-both_same false a b e = refl
-
-pub same_bytes : (a b : List ℕ) → bytes_eq a b ≡ same_text a b
-unfolding same_text
-same_bytes [] [] = refl
-same_bytes [] (y ∷ b) = refl
-same_bytes (x ∷ a) [] = refl
-same_bytes (x ∷ a) (y ∷ b) = both_same (eqb x y) (bytes_eq a b) (same_text a b) (same_bytes a b)
-
 -- the same text is the same list
-same_cons : (x y : ℕ) (a b : List ℕ) → (same_text a b ≡ true → a ≡ b) → (t : Bool) → eqb x y ≡ t → and t (same_text a b) ≡ true → ◌≡◌ {A = List ℕ} (x ∷ a) (y ∷ b)
-same_cons x y a b rest true q f = cc (rest f, eqb-true x y q)
-same_cons x y a b rest false q f = false_not_true f
-
 pub same_text_equal : (a b : List ℕ) → same_text a b ≡ true → a ≡ b
-unfolding same_text
-same_text_equal [] [] e = refl
-same_text_equal [] (y ∷ b) e = false_not_true e
-same_text_equal (x ∷ a) [] e = false_not_true e
-same_text_equal (x ∷ a) (y ∷ b) e = same_cons x y a b (same_text_equal a b) (eqb x y) refl e
-
--- texts of different lengths differ
-pub other_lengths_differ : (a b : List ℕ) → (length a ≡ length b → ⊥) → same_text a b ≡ false
-other_lengths_differ a b h = go (same_text a b) refl
-  where
-    go : (t : Bool) → same_text a b ≡ t → t ≡ false
-    go true e = absurd (h (ap length (same_text_equal a b e)))
-    go false e = refl
+same_text_equal a b e = (bytes_eq-Decides a b).0 e
 
 -- a part that lies in the text, and one that does not
 module _ {A : Type 0} (s : List A) (from to : ℕ) where

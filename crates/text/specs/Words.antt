@@ -1,5 +1,6 @@
 -- Words: what separates them, where the next one stands, and when two texts are the same.
-use Rattle.std.specs.Prelude.{ℕ, suc, ◌+◌, ◌-◌, Bool, true, false, List, [], ◌∷◌, eqb, leb, length, take, drop}
+use Rattle.std.specs.Prelude.{ℕ, suc, ◌+◌, ◌-◌, Bool, List, [], ◌∷◌, eqb, leb, length, take, drop}
+use Rattle.std.specs.Str.{bytes_eq}
 use Rattle.lists.specs.Choice.{pick, or, and, not}
 use Rattle.text.specs.declared.word.LineWord.{LineWord}
 
@@ -33,8 +34,6 @@ word_from s at = record { from = start_from s at; to = start_from s at + before 
 unfoldable pub part_of : {A : Type 0} → List A → ℕ → ℕ → List A
 part_of s from to = pick (and (leb from to) (leb to (length s))) (take (to - from) (drop from s)) []
 
-unfoldable pub same_text : List ℕ → List ℕ → Bool
-same_text [] [] = true
-same_text [] (d ∷ ds) = false
-same_text (c ∷ cs) [] = false
-same_text (c ∷ cs) (d ∷ ds) = and (eqb c d) (same_text cs ds)
+-- the same characters
+abbrev pub same_text : List ℕ → List ℕ → Bool
+same_text a b = bytes_eq a b
