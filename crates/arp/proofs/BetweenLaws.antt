@@ -1,6 +1,6 @@
 -- Choices over a run: a first half and an issue are the step, and a report between them may as well come after. A decline ends the pass, and its
 -- target is bound nowhere until the next start.
-use Rattle.std.specs.Prelude.{ℕ, ◌≡◌, Bool, true, false, leb}
+use Rattle.std.specs.Prelude.{ℕ, ◌≡◌, Bool, true, false, leb, Option, Some, None}
 use Rattle.std.proofs.Math.Path.{refl, ap, subst}
 use Rattle.std.proofs.Common.{sym, ◌∙◌}
 use mathlib.Core.List.{List, [], ◌∷◌, ◌++◌}
@@ -8,8 +8,6 @@ use Rattle.lists.specs.AbsurdLaws.{zero_is_one}
 use Rattle.lists.specs.Choice.{pick}
 use Rattle.wire.specs.declared.address.Address.{Address}
 use Rattle.pool.specs.declared.Pool.{Pool}
-use Rattle.pool.specs.declared.free.Free.{Free}
-use Rattle.pool.specs.declared.free.Free.TheVariants.{At, AllUsed}
 use Rattle.udid.specs.declared.Udid.{Udid}
 use Rattle.slots.specs.Slots.{held_at}
 use Rattle.slots.specs.declared.Binding.TheVariants.{Bound}
@@ -18,8 +16,6 @@ use Rattle.hearing.specs.declared.told.Told.{Told}
 use Rattle.hearing.specs.declared.told.Told.TheVariants.{Again, Over, GivenUp, Reply, Took, Unasked}
 use Rattle.picking.specs.Picking.{has_to_pick, chosen}
 use Rattle.commands.specs.Choices.{choice_in}
-use Rattle.commands.specs.declared.choice.Choice.{Choice}
-use Rattle.commands.specs.declared.choice.Choice.TheVariants.{Of, Absent}
 use Rattle.commands.specs.declared.command.Command.TheVariants.{GetUdid, Assign}
 use Rattle.commands.specs.declared.command.End.TheVariants.{Abandoned, Chosen}
 use Rattle.commands.specs.declared.command.Handed.{Handed}
@@ -51,10 +47,10 @@ asked_issued s = go (leb 128 s.gets)
     go true = refl
     go false = refl
 
-waiting_issued : (s : Controller) (u : Udid) (picks : Bool) (f : Free) → (issuing (waiting_with s u picks f).state).state ≡ (issued s u picks f).state
+waiting_issued : (s : Controller) (u : Udid) (picks : Bool) (f : Option Address) → (issuing (waiting_with s u picks f).state).state ≡ (issued s u picks f).state
 unfolding issuing
-waiting_issued s u picks (At a) = refl
-waiting_issued s u picks AllUsed = refl
+waiting_issued s u picks (Some a) = refl
+waiting_issued s u picks None = refl
 
 module _ (s : Controller) (none : Waits s → ⊥) where
   told_issued : (t : Told) → (issuing (decided_on s t).state).state ≡ (changed s t).state
@@ -84,9 +80,9 @@ report_and_issue : (s : Controller) (a : ℕ) → (issuing (reported s a).state)
 unfolding issuing
 report_and_issue s a = ap (λ (k : Handed). (issued_for (reported s a).state (choice_in k)).state) (report_rest s a).last ∙ go (choice_in s.last)
   where
-    go : (c : Choice) → (issued_for (reported s a).state c).state ≡ (reported (issued_for s c).state a).state
-    go (Of u b) = report_and_send s a (Send (Assign u b))
-    go Absent = refl
+    go : (c : Option (Udid × Address)) → (issued_for (reported s a).state c).state ≡ (reported (issued_for s c).state a).state
+    go (Some (u, b)) = report_and_send s a (Send (Assign u b))
+    go None = refl
 
 module _ (occupied : Pool) (last : ℕ) (es : List Event) where
   -- IN ANY RUN a first half and an issue are the step

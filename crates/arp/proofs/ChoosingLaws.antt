@@ -1,11 +1,9 @@
 -- The step in two halves (specs/Choosing.antt): a choice that is issued at once gives the single step, and beside what is handed out the first
 -- half changes what the single step does.
-use Rattle.std.specs.Prelude.{ℕ, Bool, true, false, List, ◌⊎◌, ◌≡◌, refl, leb}
+use Rattle.std.specs.Prelude.{ℕ, Bool, true, false, List, ◌⊎◌, ◌≡◌, refl, leb, Option, Some, None}
 use Rattle.std.proofs.Common.{inl, inr, sym, ap, ◌∙◌}
 use Rattle.lists.specs.Choice.{pick}
 use Rattle.wire.specs.declared.address.Address.{Address}
-use Rattle.pool.specs.declared.free.Free.{Free}
-use Rattle.pool.specs.declared.free.Free.TheVariants.{At, AllUsed}
 use Rattle.udid.specs.declared.Udid.{Udid}
 use Rattle.hearing.specs.Told.{tells}
 use Rattle.hearing.specs.declared.told.Told.{Told}
@@ -23,7 +21,6 @@ use Rattle.picking.specs.Picking.{has_to_pick, chosen}
 use Rattle.arp.specs.History.{By, Step, Choose, heard, one_get}
 use Rattle.arp.specs.Numbers.{is21}
 use Rattle.arp.specs.State.{with_last}
-use Rattle.commands.specs.declared.choice.Choice.TheVariants.{Absent}
 use Rattle.arp.specs.declared.state.Controller.{Controller}
 use Rattle.arp.specs.declared.state.Stepped.{Stepped}
 
@@ -39,10 +36,10 @@ carried_asked s = go (leb 128 s.gets)
 
 -- ---- a choice that is issued
 
-carried_waiting : (s : Controller) (u : Udid) (picks : Bool) (f : Free) → carried_on (waiting_with s u picks f) ≡ issued s u picks f
+carried_waiting : (s : Controller) (u : Udid) (picks : Bool) (f : Option Address) → carried_on (waiting_with s u picks f) ≡ issued s u picks f
 unfolding issuing
-carried_waiting s u picks (At a) = refl
-carried_waiting s u picks AllUsed = refl
+carried_waiting s u picks (Some a) = refl
+carried_waiting s u picks None = refl
 
 carried_told : (s : Controller) (t : Told) → carried_on (decided_on s t) ≡ changed s t
 unfolding decided replied
@@ -63,20 +60,20 @@ halves_are_the_step s tr = carried_told s (tells s.last tr)
 -- r and q are the same, with no choice; or a choice waits in r, and q sends it, from the same state
 abbrev pub Halved : Stepped → Stepped → Type 0
 Halved r q =
-    ((r ≡ q) × (choice_in r.command ≡ Absent))
+    ((r ≡ q) × (choice_in r.command ≡ None))
     ⊎ ((u : Udid) × (a : Address) × (x : Reason) × (r ≡ handed q.state (Wait (Chosen u a x))) × (q ≡ handed q.state (Send (Assign u a))))
 
-asked_has_no_choice : (s : Controller) → choice_in (asked s).command ≡ Absent
+asked_has_no_choice : (s : Controller) → choice_in (asked s).command ≡ None
 unfolding asked
 asked_has_no_choice s = go (leb 128 s.gets)
   where
-    go : (b : Bool) → choice_in (pick b (handed s (Wait Abandoned)) (handed (counted s) (Send GetUdid))).command ≡ Absent
+    go : (b : Bool) → choice_in (pick b (handed s (Wait Abandoned)) (handed (counted s) (Send GetUdid))).command ≡ None
     go true = refl
     go false = refl
 
-waiting_halved : (s : Controller) (u : Udid) (picks : Bool) (f : Free) → Halved (waiting_with s u picks f) (issued s u picks f)
-waiting_halved s u picks (At a) = inr (u, a, reason_for s u picks a.0, refl, refl)
-waiting_halved s u picks AllUsed = inl (refl, refl)
+waiting_halved : (s : Controller) (u : Udid) (picks : Bool) (f : Option Address) → Halved (waiting_with s u picks f) (issued s u picks f)
+waiting_halved s u picks (Some a) = inr (u, a, reason_for s u picks a.0, refl, refl)
+waiting_halved s u picks None = inl (refl, refl)
 
 told_halved : (s : Controller) (t : Told) → Halved (decided_on s t) (changed s t)
 unfolding decided replied
@@ -87,12 +84,12 @@ told_halved s (Reply u b) = waiting_halved (freed s u) u (has_to_pick (freed s u
 told_halved s (Took u a) = inl (refl, asked_has_no_choice (bound s u a.0))
 told_halved s Unasked = inl (refl, refl)
 
-issued_has_no_choice : (s : Controller) (u : Udid) (picks : Bool) (f : Free) → choice_in (issued s u picks f).command ≡ Absent
-issued_has_no_choice s u picks (At a) = refl
-issued_has_no_choice s u picks AllUsed = refl
+issued_has_no_choice : (s : Controller) (u : Udid) (picks : Bool) (f : Option Address) → choice_in (issued s u picks f).command ≡ None
+issued_has_no_choice s u picks (Some a) = refl
+issued_has_no_choice s u picks None = refl
 
 -- the whole step leaves no choice
-told_has_no_choice : (s : Controller) (t : Told) → choice_in (changed s t).command ≡ Absent
+told_has_no_choice : (s : Controller) (t : Told) → choice_in (changed s t).command ≡ None
 unfolding replied
 told_has_no_choice s Again = asked_has_no_choice s
 told_has_no_choice s Over = refl
@@ -116,7 +113,7 @@ module _ (r q : Stepped) where
   sending_of_half : Halved r q → sending r.command ≡ q.command
   sending_of_half (inl (e, n)) = none r.command n ∙ ap (λ (x : Stepped). x.command) e
     where
-      none : (k : Handed) → choice_in k ≡ Absent → sending k ≡ k
+      none : (k : Handed) → choice_in k ≡ None → sending k ≡ k
       none k n = simp n
   sending_of_half (inr (u, a, x, e, f)) = ap (λ (x : Stepped). sending x.command) e ∙ sym (ap (λ (x : Stepped). x.command) f)
 

@@ -1,6 +1,6 @@
 -- Each command that a step hands out is the one that the table of the events, the count of Get UDIDs and the command outstanding give. So the
 -- story of the events alone gives all three.
-use Rattle.std.specs.Prelude.{ℕ, ◌+◌, ◌<◌, ◌≡◌, Bool, true, false, List, [], ◌∷◌, ltb, leb, eqb, get_or, Ok, Err}
+use Rattle.std.specs.Prelude.{ℕ, ◌+◌, ◌<◌, ◌≡◌, Bool, true, false, List, [], ◌∷◌, ltb, leb, eqb, get_or, Option, Some, None, Ok, Err}
 use Rattle.std.proofs.Math.Path.{refl, ap}
 use Rattle.std.proofs.Common.{ap₂, ◌∙◌}
 use Rattle.lists.specs.Choice.{pick, and}
@@ -8,8 +8,6 @@ use Rattle.trace.specs.declared.transaction.Transaction.{Transaction}
 use Rattle.scan.specs.Numbers.{is_nack}
 use Rattle.scan.specs.Decoded.{Decoded}
 use Rattle.pool.specs.declared.Pool.{Pool}
-use Rattle.pool.specs.declared.free.Free.{Free}
-use Rattle.pool.specs.declared.free.Free.TheVariants.{At, AllUsed}
 use Rattle.udid.specs.Bytes.{udid_at}
 use Rattle.udid.specs.declared.Udid.{Udid}
 use Rattle.arp.specs.Choosing.{issued_for, issuing, declined_for, declining}
@@ -38,11 +36,10 @@ use Rattle.commands.specs.declared.command.Command.TheVariants.{Prepare, GetUdid
 use Rattle.commands.specs.declared.command.End.TheVariants.{Ended, Abandoned}
 use Rattle.commands.specs.declared.command.Handed.{Handed}
 use Rattle.commands.specs.declared.command.Handed.TheVariants.{Send, Wait}
-use Rattle.commands.specs.declared.choice.Choice.{Choice}
-use Rattle.commands.specs.declared.choice.Choice.TheVariants.{Of, Absent}
 use Rattle.arp.specs.declared.state.Controller.{Controller}
 use Rattle.hearing.specs.Told.{told_prepare, told_reply, told_get, told_assign, tells}
 use Rattle.hearing.specs.declared.told.Told.TheVariants.{Again, Over, GivenUp, Reply, Took}
+use Rattle.wire.specs.declared.address.Address.{Address}
 
 asked_command : (s : Controller) → (asked s).command ≡ again s.gets
 unfolding asked
@@ -52,9 +49,9 @@ asked_command s = go (leb 128 s.gets)
     go true = refl
     go false = refl
 
-issued_command : (s : Controller) (u : Udid) (picks : Bool) (k : Free) → (issued s u picks k).command ≡ assigning u k
-issued_command s u picks (At a) = refl
-issued_command s u picks AllUsed = refl
+issued_command : (s : Controller) (u : Udid) (picks : Bool) (k : Option Address) → (issued s u picks k).command ≡ assigning u k
+issued_command s u picks (Some a) = refl
+issued_command s u picks None = refl
 
 module _ (s : Controller) where
   prepare_command : (d : Decoded) (xs : List ℕ) → (changed s (told_prepare d xs)).command ≡ next_prepare s.gets d xs
@@ -141,17 +138,17 @@ issued_then_lem : (s : Controller) (k : Handed) → s.last ≡ k → unless21 (i
 unfolding issuing
 issued_then_lem s k e = ap (λ (x : Handed). unless21 (issued_for s (choice_in x)).command k) e ∙ go (choice_in k)
   where
-    go : (c : Choice) → unless21 (issued_for s c).command k ≡ issued_then k c
-    go (Of u a) = refl
-    go Absent = refl
+    go : (c : Option (Udid × Address)) → unless21 (issued_for s c).command k ≡ issued_then k c
+    go (Some (u, a)) = refl
+    go None = refl
 
 declined_then_lem : (s : Controller) (k : Handed) → s.last ≡ k → unless21 (declining s).command k ≡ declined_then k (choice_in k)
 unfolding declining
 declined_then_lem s k e = ap (λ (x : Handed). unless21 (declined_for s (choice_in x)).command k) e ∙ go (choice_in k)
   where
-    go : (c : Choice) → unless21 (declined_for s c).command k ≡ declined_then k c
-    go (Of u a) = refl
-    go Absent = refl
+    go : (c : Option (Udid × Address)) → unless21 (declined_for s c).command k ≡ declined_then k c
+    go (Some (u, a)) = refl
+    go None = refl
 
 -- the table, the count, the command and the last pick of a run
 abbrev pub told : Pool → ℕ → List Event → Story

@@ -1,5 +1,5 @@
 -- What is handed out: the state keeps it, each Get UDID is counted, and only a fixed target is sent an address that is in use.
-use Rattle.std.specs.Prelude.{ℕ, ◌+◌, ◌≡◌, Bool, true, false, List, [], ◌∷◌, ◌⊎◌, ltb, leb}
+use Rattle.std.specs.Prelude.{ℕ, ◌+◌, ◌≡◌, Bool, true, false, List, [], ◌∷◌, ◌⊎◌, ltb, leb, Option, Some, None}
 use Rattle.std.proofs.Math.Path.{refl}
 use Rattle.std.proofs.Common.{sym, ap, ◌∙◌, subst, add-zero, arith}
 use Rattle.std.proofs.Math.Logic.{inl, inr}
@@ -9,8 +9,6 @@ use Rattle.lists.specs.ChoiceLaws.{not_both}
 use Rattle.wire.specs.declared.address.Address.{Address}
 use Rattle.pool.specs.Pools.{member}
 use Rattle.pool.specs.declared.Pool.{Pool}
-use Rattle.pool.specs.declared.free.Free.{Free}
-use Rattle.pool.specs.declared.free.Free.TheVariants.{At, AllUsed}
 use Rattle.udid.specs.Udids.{is_fixed}
 use Rattle.udid.specs.declared.Udid.{Udid}
 use Rattle.arp.proofs.GoneLaws.{report_rest}
@@ -26,8 +24,6 @@ use Rattle.arp.specs.Choosing.{issued_for, issuing, declined_for, declining}
 use Rattle.commands.specs.Choices.{choice_in}
 use Rattle.arp.proofs.ChoosingLaws.{same_but_last, counts_the_same}
 use Rattle.arp.specs.History.{Event, Start, Received, Gone, Issue, Decline, run, one_get, gets_sent}
-use Rattle.commands.specs.declared.choice.Choice.{Choice}
-use Rattle.commands.specs.declared.choice.Choice.TheVariants.{Of, Absent}
 use Rattle.hearing.specs.Told.{tells, no_command}
 use Rattle.commands.specs.declared.command.Command.TheVariants.{GetUdid, Assign}
 use Rattle.commands.specs.declared.command.End.TheVariants.{Ended, NoneFree, Abandoned, NotOutstanding}
@@ -70,9 +66,9 @@ from : (s r : Controller) (x : Stepped) → r.gets ≡ s.gets → Kept r x → K
 from s r x e h = record { last = h.last; gets = h.gets ∙ ap (λ (n : ℕ). n + one_get x.command) e }
 
 module _ (s : Controller) where
-  issued_handed : (u : Udid) (picks : Bool) (k : Free) → Kept s (issued (freed s u) u picks k)
-  issued_handed u picks (At a) = record { last = refl; gets = omega (arith, freed_keeps_gets s u) }
-  issued_handed u picks AllUsed = from s (freed s u) (issued (freed s u) u picks AllUsed) (freed_keeps_gets s u) (plain (freed s u) (Wait (NoneFree u)) refl)
+  issued_handed : (u : Udid) (picks : Bool) (k : Option Address) → Kept s (issued (freed s u) u picks k)
+  issued_handed u picks (Some a) = record { last = refl; gets = omega (arith, freed_keeps_gets s u) }
+  issued_handed u picks None = from s (freed s u) (issued (freed s u) u picks None) (freed_keeps_gets s u) (plain (freed s u) (Wait (NoneFree u)) refl)
 
   -- whatever is told where a command is outstanding is handed out and kept
   told_kept : (t : Told) → (t ≡ Unasked → ⊥) → Kept s (changed s t)
@@ -109,17 +105,17 @@ pub issue_rest : (s : Controller) → Settles s (issuing s).state
 unfolding issuing
 issue_rest s = go (choice_in s.last)
   where
-    go : (c : Choice) → Settles s (issued_for s c).state
-    go (Of u a) = record { occupied = refl; pool = refl; slots = refl; gets = refl; picked = refl }
-    go Absent = record { occupied = refl; pool = refl; slots = refl; gets = refl; picked = refl }
+    go : (c : Option (Udid × Address)) → Settles s (issued_for s c).state
+    go (Some (u, a)) = record { occupied = refl; pool = refl; slots = refl; gets = refl; picked = refl }
+    go None = record { occupied = refl; pool = refl; slots = refl; gets = refl; picked = refl }
 
 pub decline_rest : (s : Controller) → Settles s (declining s).state
 unfolding declining
 decline_rest s = go (choice_in s.last)
   where
-    go : (c : Choice) → Settles s (declined_for s c).state
-    go (Of u a) = record { occupied = refl; pool = refl; slots = refl; gets = refl; picked = refl }
-    go Absent = record { occupied = refl; pool = refl; slots = refl; gets = refl; picked = refl }
+    go : (c : Option (Udid × Address)) → Settles s (declined_for s c).state
+    go (Some (u, a)) = record { occupied = refl; pool = refl; slots = refl; gets = refl; picked = refl }
+    go None = record { occupied = refl; pool = refl; slots = refl; gets = refl; picked = refl }
 
 -- the count in the state is that of the Get UDIDs handed out in this pass
 pub gets_are_sent : (occupied : Pool) (last : ℕ) (es : List Event) → (run occupied last es).gets ≡ gets_sent occupied last es

@@ -1,5 +1,5 @@
 -- Every state that starts, received traces, reports, issues and declines reach is sound, so the invariant of specs/History.antt holds in it; and what a new controller is.
-use Rattle.std.specs.Prelude.{ℕ, ◌<◌, ◌≡◌, Bool, ltb}
+use Rattle.std.specs.Prelude.{ℕ, ◌<◌, ◌≡◌, Bool, ltb, Option, Some, None}
 use Rattle.std.proofs.Common.{inl, inr, sym, ap, ◌∙◌, subst, arith}
 use Rattle.std.proofs.Math.Path.{refl}
 use Rattle.std.proofs.Math.Bool.{true, false}
@@ -17,8 +17,6 @@ use Rattle.pool.specs.Free.{used}
 use Rattle.pool.specs.Pools.{member}
 use Rattle.pool.specs.Start.{starting_pool, barred_pool}
 use Rattle.pool.specs.declared.Pool.{Pool}
-use Rattle.pool.specs.declared.free.Free.{Free}
-use Rattle.pool.specs.declared.free.Free.TheVariants.{At, AllUsed}
 use Rattle.udid.specs.Udids.{Fits, is_fixed}
 use Rattle.udid.specs.declared.Udid.{Udid}
 use Rattle.arp.specs.Choosing.{issued_for, issuing, declined_for, declining}
@@ -46,12 +44,11 @@ use Rattle.slots.specs.declared.Binding.{Binding}
 use Rattle.slots.specs.declared.Binding.TheVariants.{Bound, Claimed}
 use Rattle.arp.specs.declared.gone.Reported.{Reported}
 use Rattle.arp.specs.State.{with_last}
-use Rattle.commands.specs.declared.choice.Choice.{Choice}
-use Rattle.commands.specs.declared.choice.Choice.TheVariants.{Of, Absent}
 use Rattle.arp.specs.declared.state.Controller.{Controller}
 use Rattle.arp.specs.declared.state.Stepped.{Stepped}
 use Rattle.hearing.specs.declared.told.Told.{Told}
 use Rattle.hearing.specs.declared.told.Told.TheVariants.{Again, Over, GivenUp, Reply, Took, Unasked}
+use Rattle.wire.specs.declared.address.Address.{Address}
 
 -- ---- each function of the step keeps the state good
 
@@ -113,11 +110,11 @@ module _ (occupied : Pool) where
       either true a l = l
       either false a l = v.picked
 
-      go : (k : Free) → chosen (freed s u).pool (freed s u).picked u b ≡ k → GoodState occupied (issued (freed s u) u picks k).state
-      go (At a) e =
+      go : (k : Option Address) → chosen (freed s u).pool (freed s u).picked u b ≡ k → GoodState occupied (issued (freed s u) u picks k).state
+      go (Some a) e =
           let c = chosen_small_and_free (freed s u).pool (freed s u).picked u b a h e in
           (record { sound = v.sound; gets = v.gets; occupies = v.occupies; picked = either picks a.0 c.0 }, record { small = c.0; unbound = (sound_freed s u g.sound).1; fits = f; free = c.1 })
-      go AllUsed e = (record { sound = v.sound; gets = v.gets; occupies = v.occupies; picked = v.picked }, tt)
+      go None e = (record { sound = v.sound; gets = v.gets; occupies = v.occupies; picked = v.picked }, tt)
 
   pub step_keeps_good : (s : Controller) (tr : List ℕ) → GoodState occupied s → GoodState occupied (stepped s tr).state
   unfolding stepped
@@ -163,9 +160,9 @@ module _ (occupied : Pool) where
   unfolding declining
   decline_keeps_good s g = go (choice_in s.last)
     where
-      go : (c : Choice) → GoodState occupied (declined_for s c).state
-      go (Of u a) = good_abandoned s g.0
-      go Absent = g
+      go : (c : Option (Udid × Address)) → GoodState occupied (declined_for s c).state
+      go (Some (u, a)) = good_abandoned s g.0
+      go None = g
 
   -- a report changes an address alone, and what is outstanding stays so
   pending_then : (s : Controller) (w : Udid) (a : ℕ) → SoundIn s → held_at s.slots a ≡ Bound w → (k : Handed) → PendingIn s k → PendingIn (left_at s a) k

@@ -1,13 +1,11 @@
 -- 13 is handed out with an identifier exactly at its reply, if with what it was bound to freed there is no address to pick.
-use Rattle.std.specs.Prelude.{ℕ, ◌<◌, ◌≡◌, refl, Bool, true, false, List, [], ◌∷◌, ◌++◌, ◌↔◌, ltb, leb, eqb, get_or, Ok, Err}
+use Rattle.std.specs.Prelude.{ℕ, ◌<◌, ◌≡◌, refl, Bool, true, false, List, [], ◌∷◌, ◌++◌, ◌↔◌, ltb, leb, eqb, get_or, Option, Some, None, Ok, Err}
 use Rattle.std.proofs.Common.{sym, ap, ◌∙◌, subst, arith}
 use Rattle.lists.specs.AbsurdLaws.{zero_is_one}
 use Rattle.lists.specs.Choice.{pick, and}
 use Rattle.scan.specs.Numbers.{is_nack}
 use Rattle.scan.specs.Decoded.{Decoded}
 use Rattle.pool.specs.declared.Pool.{Pool}
-use Rattle.pool.specs.declared.free.Free.{Free}
-use Rattle.pool.specs.declared.free.Free.TheVariants.{At, AllUsed}
 use Rattle.udid.specs.Bytes.{udid_at, udid_bytes}
 use Rattle.udid.specs.Udids.{Fits}
 use Rattle.udid.specs.declared.Udid.{Udid}
@@ -26,6 +24,7 @@ use Rattle.commands.specs.declared.command.End.{End}
 use Rattle.commands.specs.declared.command.End.TheVariants.{Nothing, Ended, NoneFree, Abandoned, NotOutstanding, Chosen}
 use Rattle.commands.specs.declared.command.Handed.{Handed}
 use Rattle.commands.specs.declared.command.Handed.TheVariants.{Send, Wait}
+use Rattle.wire.specs.declared.address.Address.{Address}
 
 module _ (occupied : Pool) (t : Table) (last n : ℕ) (u : Udid) where
   again_none : again n ≡ Wait (NoneFree u) → ⊥
@@ -48,14 +47,14 @@ module _ (occupied : Pool) (t : Table) (last n : ℕ) (u : Udid) where
       go false k = zero_is_one (cc k)
 
   abbrev Unserved : Happened → List ℕ → Type 0
-  Unserved x xs = (x ≡ Replied u) × (given_to (released occupied u t).used last u (get_or xs 16 0) ≡ AllUsed)
+  Unserved x xs = (x ≡ Replied u) × (given_to (released occupied u t).used last u (get_or xs 16 0) ≡ None)
 
   not_reply : (xs : List ℕ) → Unserved Other xs → ⊥
   not_reply xs h = zero_is_one (cc h.0)
 
-  assigning_none : (w : Udid) (f : Free) → assigning w f ≡ Wait (NoneFree u) → (w ≡ u) × (f ≡ AllUsed)
-  assigning_none w (At a) e = zero_is_one (cc e)
-  assigning_none w AllUsed e = (cc e, refl)
+  assigning_none : (w : Udid) (f : Option Address) → assigning w f ≡ Wait (NoneFree u) → (w ≡ u) × (f ≡ None)
+  assigning_none w (Some a) e = zero_is_one (cc e)
+  assigning_none w None e = (cc e, refl)
 
   done_none : (p q : Bool) (w : Udid) (xs : List ℕ)
       → (pick p (pick q (assigning w (given_to (released occupied w t).used last w (get_or xs 16 0))) (Wait Ended)) (again n) ≡ Wait (NoneFree u)) ↔ Unserved (pick p (pick q (Replied w) Other) Other) xs
@@ -108,7 +107,7 @@ pub step_13_by_table : (occupied : Pool) (last : ℕ) (es : List Event) (tr : Li
 step_13_by_table occupied last es tr u = (forth, back_to)
   where
     both : (next_command occupied (table occupied last es) (run occupied last es).picked (gets_sent occupied last es) (handed_out occupied last es) tr ≡ Wait (NoneFree u))
-        ↔ ((read_as (handed_out occupied last es) tr ≡ Replied u) × (given_to (released occupied u (table occupied last es)).used (run occupied last es).picked u (get_or (received_in 9 tr) 16 0) ≡ AllUsed))
+        ↔ ((read_as (handed_out occupied last es) tr ≡ Replied u) × (given_to (released occupied u (table occupied last es)).used (run occupied last es).picked u (get_or (received_in 9 tr) 16 0) ≡ None))
     both = next_none occupied (table occupied last es) (run occupied last es).picked (gets_sent occupied last es) u (handed_out occupied last es) tr
 
     forth : (stepped (run occupied last es) tr).command ≡ Wait (NoneFree u)

@@ -1,5 +1,5 @@
 -- The sentences on a step leave one result: whatever two results agree with is the same for both, and every trace falls under a sentence.
-use Rattle.std.specs.Prelude.{ℕ, zero, suc, ◌/◌, ◌≤◌, ◌<◌, ◌≡◌, refl, Bool, true, false, List, [], ◌∷◌, ◌⊎◌, length, get_or, drop, Ok, Err}
+use Rattle.std.specs.Prelude.{ℕ, zero, suc, ◌/◌, ◌≤◌, ◌<◌, ◌≡◌, refl, Bool, true, false, List, [], ◌∷◌, ◌⊎◌, length, get_or, drop, Option, Some, None, Ok, Err}
 use Rattle.std.proofs.Common.{sym, ap, ap₂, ◌∙◌, subst, inl, inr, arith}
 use Rattle.std.proofs.Math.Decide.{ℕ_discrete, dec_lt}
 use Rattle.lists.specs.AbsurdLaws.{zero_is_one}
@@ -16,8 +16,6 @@ use Rattle.pool.specs.NextFreeLaws.{next_is, next_none}
 use Rattle.pool.specs.Pools.{member}
 use Rattle.pool.specs.Start.{starting_pool, barred_pool}
 use Rattle.pool.specs.declared.Pool.{Pool}
-use Rattle.pool.specs.declared.free.Free.{Free}
-use Rattle.pool.specs.declared.free.Free.TheVariants.{At, AllUsed}
 use Rattle.udid.specs.Bytes.{udid_bytes}
 use Rattle.udid.proofs.UdidLaws.{same_refl}
 use Rattle.udid.specs.declared.Udid.{Udid}
@@ -200,15 +198,15 @@ chooses_both p o last u b k m x y small e h g = go (ℕ_discrete b 0xFF) (dec_lt
     one : {l n : Handed} {i j : ℕ} → (k ≡ l) × (x ≡ i) → (m ≡ n) × (y ≡ j) → l ≡ n → i ≡ j → (k ≡ m) × (x ≡ y)
     one v w q r = (v.0 ∙ q ∙ sym w.0, v.1 ∙ r ∙ sym w.1)
 
-    pick_one : To_pick p → To_pick o → (f : Free) → next_free p last ≡ f → (k ≡ m) × (x ≡ y)
-    pick_one v w (At a) q = one (h.picked v a.0 l) (g.picked w a.0 there) refl refl
+    pick_one : To_pick p → To_pick o → (f : Option Address) → next_free p last ≡ f → (k ≡ m) × (x ≡ y)
+    pick_one v w (Some a) q = one (h.picked v a.0 l) (g.picked w a.0 there) refl refl
       where
         l : Next p last a.0
         l = (next_is p last a.0 small).0 q
 
         there : Next o last a.0
         there = record { small = l.small; free = sym (e a.0) ∙ l.free; nearest = λ c n i. l.nearest c n (e c ∙ i) }
-    pick_one v w AllUsed q = one (h.none_free v ((next_none p last).0 q)) (g.none_free w (λ c l. sym (e c) ∙ (next_none p last).0 q c l)) refl refl
+    pick_one v w None q = one (h.none_free v ((next_none p last).0 q)) (g.none_free w (λ c l. sym (e c) ∙ (next_none p last).0 q c l)) refl refl
 
     go : Dec (b ≡ 0xFF) → Dec (get_or (udid_bytes u) 0 0 < 64) → (t : Bool) → member p (b / 2) ≡ t → (k ≡ m) × (x ≡ y)
     go (yes q) d t z = pick_one (inl q) (inl q) (next_free p last) refl
@@ -226,9 +224,9 @@ replies_alike s u b r q small h g =
 pub chooses_address_or_none : (p : Pool) (last : ℕ) (u : Udid) (b : ℕ) (k : Handed) (m : ℕ) → last < 128 → Chooses p last u b k m → ((a : Address) × (k ≡ Send (Assign u a))) ⊎ (k ≡ Wait (NoneFree u))
 chooses_address_or_none p last u b k m small h = go (ℕ_discrete b 0xFF) (dec_lt (get_or (udid_bytes u) 0 0) 64) (member p (b / 2)) refl
   where
-    pick_one : (b ≡ 0xFF) ⊎ ((64 ≤ get_or (udid_bytes u) 0 0) × (member p (b / 2) ≡ true)) → (f : Free) → next_free p last ≡ f → ((a : Address) × (k ≡ Send (Assign u a))) ⊎ (k ≡ Wait (NoneFree u))
-    pick_one w (At a) q = inl (a, (h.picked w a.0 ((next_is p last a.0 small).0 q)).0)
-    pick_one w AllUsed q = inr (h.none_free w ((next_none p last).0 q)).0
+    pick_one : (b ≡ 0xFF) ⊎ ((64 ≤ get_or (udid_bytes u) 0 0) × (member p (b / 2) ≡ true)) → (f : Option Address) → next_free p last ≡ f → ((a : Address) × (k ≡ Send (Assign u a))) ⊎ (k ≡ Wait (NoneFree u))
+    pick_one w (Some a) q = inl (a, (h.picked w a.0 ((next_is p last a.0 small).0 q)).0)
+    pick_one w None q = inr (h.none_free w ((next_none p last).0 q)).0
 
     go : Dec (b ≡ 0xFF) → Dec (get_or (udid_bytes u) 0 0 < 64) → (t : Bool) → member p (b / 2) ≡ t → ((a : Address) × (k ≡ Send (Assign u a))) ⊎ (k ≡ Wait (NoneFree u))
     go (yes q) d t z = pick_one (inl q) (next_free p last) refl

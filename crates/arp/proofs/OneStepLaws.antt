@@ -1,5 +1,5 @@
 -- The scope's sentences on a step (specs/OneStep.antt) hold of every step, from every state: whatever was done before it.
-use Rattle.std.specs.Prelude.{ℕ, zero, suc, ◌+◌, ◌*◌, ◌/◌, ◌≤◌, ◌<◌, ◌≡◌, Bool, true, false, List, [], ◌∷◌, ◌++◌, ◌⊎◌, ltb, leb, length, get_or, Ok, Err}
+use Rattle.std.specs.Prelude.{ℕ, zero, suc, ◌+◌, ◌*◌, ◌/◌, ◌≤◌, ◌<◌, ◌≡◌, Bool, true, false, List, [], ◌∷◌, ◌++◌, ◌⊎◌, ltb, leb, length, get_or, Option, Some, None, Ok, Err}
 use Rattle.std.proofs.Math.Path.{refl}
 use Rattle.std.proofs.Common.{sym, ap, ap₂, ◌∙◌, subst, inl, inr, arith, length-append, lt-ltb, le-ltb, le-leb}
 use Rattle.std.proofs.Math.Decide.{ℕ_discrete, dec_lt}
@@ -18,8 +18,6 @@ use Rattle.pool.specs.MemberLaws.{has_with_same, has_with_other, has_without_sam
 use Rattle.pool.specs.Pools.{member, without_address}
 use Rattle.pool.specs.Start.{starting_pool, barred_pool}
 use Rattle.pool.specs.declared.Pool.{Pool}
-use Rattle.pool.specs.declared.free.Free.{Free}
-use Rattle.pool.specs.declared.free.Free.TheVariants.{At, AllUsed}
 use Rattle.udid.specs.Bytes.{udid_bytes, udid_at}
 use Rattle.udid.proofs.UdidLaws.{same_refl, length_udid, udid_bytes_lem, udid_back, fixed_first, movable_first}
 use Rattle.udid.specs.Udids.{Fits}
@@ -219,9 +217,9 @@ occupied_freed s u = go (ltb 127 (find_from u s.slots 128 0))
 -- ---- choosing
 
 -- the last pick after a choice
-abbrev then : ℕ → Bool → Free → ℕ
-then last t (At a) = pick t a.0 last
-then last t AllUsed = last
+abbrev then : ℕ → Bool → Option Address → ℕ
+then last t (Some a) = pick t a.0 last
+then last t None = last
 
 module _ (p : Pool) (last : ℕ) (u : Udid) (b : ℕ) (small : last < 128) (f : Fits u) where
   to_pick : (b ≡ 0xFF) ⊎ ((64 ≤ get_or (udid_bytes u) 0 0) × (member p (b / 2) ≡ true)) → has_to_pick p u b ≡ true
@@ -232,44 +230,44 @@ module _ (p : Pool) (last : ℕ) (u : Udid) (b : ℕ) (small : last < 128) (f : 
       go (yes e) = ap (has_to_pick p u) e ∙ ff_picks p u
       go (no n) = movable_picks p u b n ((movable_first u f).1 w.0) ∙ w.1
 
-  picks : has_to_pick p u b ≡ true → (g : Free) → next_free p last ≡ g → (chosen p last u b ≡ g) × (has_to_pick p u b ≡ true)
+  picks : has_to_pick p u b ≡ true → (g : Option Address) → next_free p last ≡ g → (chosen p last u b ≡ g) × (has_to_pick p u b ≡ true)
   picks e g q = (chosen_picked p last u b e ∙ q, e)
 
-  keeps : has_to_pick p u b ≡ false → (chosen p last u b ≡ At (record { 0 = b / 2 })) × (has_to_pick p u b ≡ false)
+  keeps : has_to_pick p u b ≡ false → (chosen p last u b ≡ Some (record { 0 = b / 2 })) × (has_to_pick p u b ≡ false)
   keeps e = (chosen_own p last u b e, e)
 
-  both : (g : Free) (t : Bool) → (chosen p last u b ≡ g) × (has_to_pick p u b ≡ t)
+  both : (g : Option Address) (t : Bool) → (chosen p last u b ≡ g) × (has_to_pick p u b ≡ t)
       → (assigning u (chosen p last u b) ≡ assigning u g) × (then last (has_to_pick p u b) (chosen p last u b) ≡ then last t g)
   both g t e = (ap (assigning u) e.0, ap₂ (then last) e.1 e.0)
 
   chooses : Chooses p last u b (assigning u (chosen p last u b)) (then last (has_to_pick p u b) (chosen p last u b))
   chooses = record {
-    picked = λ w a n. both (At (record { 0 = a })) true (picks (to_pick w) (At (record { 0 = a })) ((next_is p last a small).1 n));
-    none_free = λ w l. both AllUsed true (picks (to_pick w) AllUsed ((next_none p last).1 l));
-    fixed = λ n l. both (At (record { 0 = b / 2 })) false (keeps (fixed_picks_none p u b n ((fixed_first u f).1 l)));
-    own = λ n l m. both (At (record { 0 = b / 2 })) false (keeps (movable_picks p u b n ((movable_first u f).1 l) ∙ m));
+    picked = λ w a n. both (Some (record { 0 = a })) true (picks (to_pick w) (Some (record { 0 = a })) ((next_is p last a small).1 n));
+    none_free = λ w l. both None true (picks (to_pick w) None ((next_none p last).1 l));
+    fixed = λ n l. both (Some (record { 0 = b / 2 })) false (keeps (fixed_picks_none p u b n ((fixed_first u f).1 l)));
+    own = λ n l m. both (Some (record { 0 = b / 2 })) false (keeps (movable_picks p u b n ((movable_first u f).1 l) ∙ m));
   }
 
 module _ (s : Controller) (u : Udid) (b : ℕ) (small : s.picked < 128) (f : Fits u) (size : Sized128 s.slots) where
   freed_small : (freed s u).picked < 128
   freed_small = omega (arith, freed_keeps_picked s u)
 
-  chooses_freed : (k : Free) → chosen (freed s u).pool (freed s u).picked u b ≡ k
+  chooses_freed : (k : Option Address) → chosen (freed s u).pool (freed s u).picked u b ≡ k
       → Chooses (freed s u).pool s.picked u b (assigning u k) (then (freed s u).picked (has_to_pick (freed s u).pool u b) k)
   chooses_freed k e =
       subst (λ (l : ℕ). Chooses (freed s u).pool l u b (assigning u k) (then (freed s u).picked (has_to_pick (freed s u).pool u b) k)) (freed_keeps_picked s u)
-      (subst (λ (x : Free). Chooses (freed s u).pool (freed s u).picked u b (assigning u x) (then (freed s u).picked (has_to_pick (freed s u).pool u b) x)) e
+      (subst (λ (x : Option Address). Chooses (freed s u).pool (freed s u).picked u b (assigning u x) (then (freed s u).picked (has_to_pick (freed s u).pool u b) x)) e
       (chooses (freed s u).pool (freed s u).picked u b freed_small f))
 
-  replies_with : (k : Free) → chosen (freed s u).pool (freed s u).picked u b ≡ k → Replies s u b (issued (freed s u) u (has_to_pick (freed s u).pool u b) k)
-  replies_with (At a) e = record {
+  replies_with : (k : Option Address) → chosen (freed s u).pool (freed s u).picked u b ≡ k → Replies s u b (issued (freed s u) u (has_to_pick (freed s u).pool u b) k)
+  replies_with (Some a) e = record {
     unbinds = record { there = (unbinds s u size).there; out = (unbinds s u size).out; stays = (unbinds s u size).stays; elsewhere = (unbinds s u size).elsewhere };
-    chooses = chooses_freed (At a) e;
+    chooses = chooses_freed (Some a) e;
     hands = record { command = refl; last = refl; gets = freed_keeps_gets s u; occupied = occupied_freed s u };
   }
-  replies_with AllUsed e = record {
+  replies_with None e = record {
     unbinds = record { there = (unbinds s u size).there; out = (unbinds s u size).out; stays = (unbinds s u size).stays; elsewhere = (unbinds s u size).elsewhere };
-    chooses = chooses_freed AllUsed e;
+    chooses = chooses_freed None e;
     hands = hands s (freed s u) (Wait (NoneFree u)) s.gets (freed_keeps_gets s u) (occupied_freed s u);
   }
 

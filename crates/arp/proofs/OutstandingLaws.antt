@@ -1,14 +1,12 @@
 -- The command outstanding: it is the one that was handed out last. A step gives 21 exactly where none is outstanding, as before the first
 -- start, and the state stays as it is then.
-use Rattle.std.specs.Prelude.{ℕ, ◌≡◌, Bool, true, false, List, [], ◌∷◌, ◌↔◌, leb}
+use Rattle.std.specs.Prelude.{ℕ, ◌≡◌, Bool, true, false, List, [], ◌∷◌, ◌↔◌, leb, Option, Some, None}
 use Rattle.std.proofs.Math.Path.{refl}
 use Rattle.std.proofs.Common.{sym, ap, ◌∙◌, subst, arith}
 use Rattle.lists.specs.AbsurdLaws.{zero_is_one}
 use Rattle.lists.specs.Choice.{pick}
 use Rattle.lists.specs.ChoiceLaws.{not_both}
 use Rattle.pool.specs.declared.Pool.{Pool}
-use Rattle.pool.specs.declared.free.Free.{Free}
-use Rattle.pool.specs.declared.free.Free.TheVariants.{At, AllUsed}
 use Rattle.udid.specs.declared.Udid.{Udid}
 use Rattle.arp.specs.Gone.{reported}
 use Rattle.arp.proofs.GoneLaws.{nothing_reported, report_rest}
@@ -23,8 +21,6 @@ use Rattle.arp.specs.Choosing.{decided_on, first_half, issued_for, issuing, decl
 use Rattle.commands.specs.Choices.{choice_in}
 use Rattle.arp.proofs.ChoosingLaws.{refuses_the_same, keeps_the_same}
 use Rattle.arp.specs.History.{By, Step, Choose, Event, Start, Received, Gone, Issue, Decline, NoStart, heard, run}
-use Rattle.commands.specs.declared.choice.Choice.{Choice}
-use Rattle.commands.specs.declared.choice.Choice.TheVariants.{Of, Absent}
 use Rattle.arp.specs.Numbers.{end_number, command_number, is21_end, is21, unless21}
 use Rattle.arp.specs.Replay.{is_bound, handed_out}
 use Rattle.hearing.specs.Told.{tells, no_command}
@@ -38,6 +34,7 @@ use Rattle.arp.specs.declared.state.Controller.{Controller}
 use Rattle.arp.specs.declared.state.Stepped.{Stepped}
 use Rattle.hearing.specs.declared.told.Told.{Told}
 use Rattle.hearing.specs.declared.told.Told.TheVariants.{Again, Over, GivenUp, Reply, Took, Unasked}
+use Rattle.wire.specs.declared.address.Address.{Address}
 
 -- ---- none is outstanding, or what is handed out is kept
 
@@ -99,9 +96,9 @@ asked_not s = go (leb 128 s.gets)
     go true = refl
     go false = refl
 
-issued_not : (s : Controller) (u : Udid) (picks : Bool) (f : Free) → is21 (issued s u picks f).command ≡ false
-issued_not s u picks (At a) = refl
-issued_not s u picks AllUsed = refl
+issued_not : (s : Controller) (u : Udid) (picks : Bool) (f : Option Address) → is21 (issued s u picks f).command ≡ false
+issued_not s u picks (Some a) = refl
+issued_not s u picks None = refl
 
 module _ (s : Controller) where
   told_not : (k : Handed) (tr : List ℕ) → no_command k ≡ false → (t : Told) → Known k tr t → is21 (changed s t).command ≡ false
@@ -168,17 +165,17 @@ latest_issued : (s : Controller) → Latest s (issuing s)
 unfolding issuing
 latest_issued s = go (choice_in s.last)
   where
-    go : (c : Choice) → Latest s (issued_for s c)
-    go (Of u a) = refl
-    go Absent = refl
+    go : (c : Option (Udid × Address)) → Latest s (issued_for s c)
+    go (Some (u, a)) = refl
+    go None = refl
 
 latest_declined : (s : Controller) → Latest s (declining s)
 unfolding declining
 latest_declined s = go (choice_in s.last)
   where
-    go : (c : Choice) → Latest s (declined_for s c)
-    go (Of u a) = refl
-    go Absent = refl
+    go : (c : Option (Udid × Address)) → Latest s (declined_for s c)
+    go (Some (u, a)) = refl
+    go None = refl
 
 -- THE COMMAND OUTSTANDING is the one that was handed out last
 pub last_is_handed_out : (occupied : Pool) (last : ℕ) (es : List Event) → (run occupied last es).last ≡ handed_out occupied last es
@@ -206,13 +203,13 @@ step_21_by_events occupied last es w tr =
 
 -- ---- before the first start
 
-none_to_issue : (s : Controller) → choice_in s.last ≡ Absent → (issuing s).state ≡ s
+none_to_issue : (s : Controller) → choice_in s.last ≡ None → (issuing s).state ≡ s
 unfolding issuing
-none_to_issue s e = ap (λ (c : Choice). (issued_for s c).state) e
+none_to_issue s e = ap (λ (c : Option (Udid × Address)). (issued_for s c).state) e
 
-none_to_decline : (s : Controller) → choice_in s.last ≡ Absent → (declining s).state ≡ s
+none_to_decline : (s : Controller) → choice_in s.last ≡ None → (declining s).state ≡ s
 unfolding declining
-none_to_decline s e = ap (λ (c : Choice). (declined_for s c).state) e
+none_to_decline s e = ap (λ (c : Option (Udid × Address)). (declined_for s c).state) e
 
 unstarted : (occupied : Pool) (last : ℕ) (es : List Event) → NoStart es → run occupied last es ≡ new_controller occupied last
 unfolding run

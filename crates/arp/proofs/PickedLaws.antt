@@ -1,6 +1,6 @@
 -- The last pick after a step: the address of the Assign that it hands out, if that was picked, else what it was before. It is told by the trace
 -- and the command alone (specs/RunPicks.antt).
-use Rattle.std.specs.Prelude.{ℕ, ◌≡◌, Bool, true, false, List, ltb, leb, eqb, length, get_or, Ok, Err}
+use Rattle.std.specs.Prelude.{ℕ, ◌≡◌, Bool, true, false, List, ltb, leb, eqb, length, get_or, Option, Some, None, Ok, Err}
 use Rattle.std.proofs.Math.Path.{refl, ap, ap₂}
 use Rattle.std.proofs.Common.{sym, ◌∙◌, arith}
 use Rattle.std.proofs.Math.ListN.{get_or-append}
@@ -13,8 +13,6 @@ use Rattle.trace.specs.Trace.{acked}
 use Rattle.trace.specs.declared.transaction.Transaction.{Transaction}
 use Rattle.scan.specs.Numbers.{is_nack}
 use Rattle.scan.specs.Decoded.{Decoded}
-use Rattle.pool.specs.declared.free.Free.{Free}
-use Rattle.pool.specs.declared.free.Free.TheVariants.{At, AllUsed}
 use Rattle.udid.specs.Bytes.{udid_at}
 use Rattle.udid.specs.declared.Udid.{Udid}
 use Rattle.commands.specs.Codes.{send_byte, block_write}
@@ -134,10 +132,10 @@ module _ (s : Controller) (u : Udid) (b : ℕ) (tr : List ℕ) (byte : get_or tr
   unfolding replied
   replied_picked = go (chosen (freed s u).pool (freed s u).picked u b) refl
     where
-      go : (k : Free) → chosen (freed s u).pool (freed s u).picked u b ≡ k
+      go : (k : Option Address) → chosen (freed s u).pool (freed s u).picked u b ≡ k
           → (issued (freed s u) u (has_to_pick (freed s u).pool u b) k).state.picked ≡ picked_then s.picked tr (issued (freed s u) u (has_to_pick (freed s u).pool u b) k).command
-      go AllUsed e = freed_keeps_picked s u
-      go (At a) e =
+      go None e = freed_keeps_picked s u
+      go (Some a) e =
           ap₂ (λ (t : Bool) (l : ℕ). pick t a.0 l)
           (picked_by_wire (freed s u).pool (freed s u).picked u b a e ∙ ap (λ (x : ℕ). is_picked x a.0) (sym byte)) (freed_keeps_picked s u)
 

@@ -1,5 +1,5 @@
 -- Each reason is given exactly in its case, and the address is chosen by its rule (specs/Reasons.antt).
-use Rattle.std.specs.Prelude.{ℕ, ◌/◌, ◌<◌, ◌≡◌, refl, Bool, true, false, List, [], ◌∷◌, ◌++◌, ◌↔◌}
+use Rattle.std.specs.Prelude.{ℕ, ◌/◌, ◌<◌, ◌≡◌, refl, Bool, true, false, List, [], ◌∷◌, ◌++◌, ◌↔◌, Option, Some, None}
 use Rattle.std.proofs.Common.{sym, ap, ◌∙◌, subst, inl, inr}
 use Rattle.std.proofs.Math.Decide.{ℕ_discrete}
 use Rattle.lists.specs.AbsurdLaws.{zero_is_one}
@@ -9,7 +9,6 @@ use Rattle.pool.specs.NextFreeLaws.{next_is}
 use Rattle.pool.specs.Pools.{member}
 use Rattle.pool.specs.Start.{barred_pool}
 use Rattle.pool.specs.declared.Pool.{Pool}
-use Rattle.pool.specs.declared.free.Free.TheVariants.{At}
 use Rattle.udid.specs.Bytes.{udid_bytes}
 use Rattle.udid.proofs.UdidLaws.{fixed_first, movable_first}
 use Rattle.udid.specs.Udids.{Fits, is_fixed}
@@ -25,8 +24,6 @@ use Rattle.commands.specs.declared.command.Handed.TheVariants.{Send, Wait}
 use Rattle.commands.specs.declared.command.Reason.{Reason}
 use Rattle.commands.specs.declared.command.Reason.TheVariants.{Fixed, Kept, Picked, Claimed}
 use Rattle.hearing.specs.Told.{tells}
-use Rattle.pool.specs.declared.free.Free.{Free}
-use Rattle.pool.specs.declared.free.Free.TheVariants.{AllUsed}
 use Rattle.arp.specs.Bindings.{freed}
 use Rattle.picking.proofs.ClaimLaws.{barred_makes_claim, held_makes_claim}
 use Rattle.picking.specs.Claims.{is_held, makes_claim}
@@ -98,9 +95,9 @@ module _ (p : Pool) (u : Udid) (b : ℕ) (f : Fits u) where
 
 -- ---- a choice that waits
 
-module _ (s : Controller) (u : Udid) (b : ℕ) (a : Address) (small : s.picked < 128) (f : Fits u) (e : chosen (freed s u).pool (freed s u).picked u b ≡ At a) where
+module _ (s : Controller) (u : Udid) (b : ℕ) (a : Address) (small : s.picked < 128) (f : Fits u) (e : chosen (freed s u).pool (freed s u).picked u b ≡ Some a) where
   abbrev then : Controller
-  then = (waiting_with (freed s u) u (has_to_pick (freed s u).pool u b) (At a)).state
+  then = (waiting_with (freed s u) u (has_to_pick (freed s u).pool u b) (Some a)).state
 
   abbrev p : Pool
   p = (freed s u).pool
@@ -127,10 +124,10 @@ module _ (s : Controller) (u : Udid) (b : ℕ) (a : Address) (small : s.picked <
     own = λ n. address_of (sym (chosen_own p s.picked u b (need_not p u b f n)) ∙ at_picked);
   }
     where
-      at_picked : chosen (freed s u).pool s.picked u b ≡ At a
+      at_picked : chosen (freed s u).pool s.picked u b ≡ Some a
       at_picked = ap (λ (l : ℕ). chosen (freed s u).pool l u b) (sym (freed_keeps_picked s u)) ∙ e
 
-      address_of : At (record { 0 = b / 2 }) ≡ At a → a.0 ≡ b / 2
+      address_of : Some (record { 0 = b / 2 }) ≡ Some a → a.0 ≡ b / 2
       address_of q = let z : record { 0 = b / 2 } ≡ a = cc q in sym (ap (λ (x : Address). x.0) z)
 
 same_choice : {v u : Udid} {a c : Address} {x y : Reason} → Wait (Chosen v a x) ≡ Wait (Chosen u c y) → (v ≡ u) × (a ≡ c) × (x ≡ y)
@@ -145,14 +142,14 @@ decided_reasons : (s : Controller) → s.picked < 128 → (u : Udid) (b : ℕ) �
 unfolding decided
 decided_reasons s small u b f v a x c = go (chosen (freed s u).pool (freed s u).picked u b) refl c
   where
-    go : (k : Free) → chosen (freed s u).pool (freed s u).picked u b ≡ k → (waiting_with (freed s u) u (has_to_pick (freed s u).pool u b) k).command ≡ Wait (Chosen v a x)
+    go : (k : Option Address) → chosen (freed s u).pool (freed s u).picked u b ≡ k → (waiting_with (freed s u) u (has_to_pick (freed s u).pool u b) k).command ≡ Wait (Chosen v a x)
         → (v ≡ u) × Reasons s (waiting_with (freed s u) u (has_to_pick (freed s u).pool u b) k).state u b a.0 x
-    go AllUsed e z = zero_is_one (cc z)
-    go (At c) e z =
+    go None e z = zero_is_one (cc z)
+    go (Some c) e z =
         let w = same_choice z in (
           sym w.0,
-          subst (λ (y : Address). Reasons s (waiting_with (freed s u) u (has_to_pick (freed s u).pool u b) (At c)).state u b y.0 x) w.1
-              (subst (Reasons s (waiting_with (freed s u) u (has_to_pick (freed s u).pool u b) (At c)).state u b c.0) w.2 (reasons_of s u b c small f e)),
+          subst (λ (y : Address). Reasons s (waiting_with (freed s u) u (has_to_pick (freed s u).pool u b) (Some c)).state u b y.0 x) w.1
+              (subst (Reasons s (waiting_with (freed s u) u (has_to_pick (freed s u).pool u b) (Some c)).state u b c.0) w.2 (reasons_of s u b c small f e)),
         )
 
 -- WHY AN ADDRESS IS CHOSEN at a reply of 17 bytes

@@ -1,6 +1,6 @@
 -- The picks of a run are each the first free address after the one before it. So the state's last pick is the address of the latest, and an
 -- address that was picked is not picked again before every other one that stayed free has been picked.
-use Rattle.std.specs.Prelude.{ℕ, ◌<◌, ◌≡◌, Bool, List, [], ◌∷◌, ◌++◌, leb}
+use Rattle.std.specs.Prelude.{ℕ, ◌<◌, ◌≡◌, Bool, List, [], ◌∷◌, ◌++◌, leb, Option, Some, None}
 use Rattle.std.proofs.Math.Path.{refl}
 use Rattle.std.proofs.Common.{sym, ap, ap₂, ◌∙◌, subst}
 use Rattle.std.proofs.Math.Bool.{true, false}
@@ -10,8 +10,6 @@ use Rattle.pool.specs.NextFree.{next_free}
 use Rattle.pool.specs.PickLaws.{picks_on, latest_on, rotation}
 use Rattle.pool.specs.Picks.{Pick, Picks, FreeAtEach, Picked, latest_of}
 use Rattle.pool.specs.declared.Pool.{Pool}
-use Rattle.pool.specs.declared.free.Free.{Free}
-use Rattle.pool.specs.declared.free.Free.TheVariants.{At, AllUsed}
 use Rattle.udid.specs.declared.Udid.{Udid}
 use Rattle.commands.specs.declared.command.Command.TheVariants.{Prepare, GetUdid, Assign}
 use Rattle.commands.specs.declared.command.End.TheVariants.{Abandoned}
@@ -33,6 +31,7 @@ use Rattle.arp.proofs.GoneLaws.{report_rest}
 use Rattle.arp.proofs.PickedLaws.{freed_keeps_picked, told_byte, step_picked}
 use Rattle.arp.specs.RunPicks.{is_picked, pick_in, picks_of, picked_then}
 use Rattle.arp.specs.declared.state.Controller.{Controller}
+use Rattle.wire.specs.declared.address.Address.{Address}
 
 -- ---- a step
 
@@ -62,14 +61,14 @@ module _ (s : Controller) (tr : List ℕ) where
   unfolding replied Picks
   reply_picks u b byte = go (chosen (freed s u).pool (freed s u).picked u b) refl
     where
-      one : (a : ℕ) (t : Bool) → (t ≡ true → next_free (freed s u).pool s.picked ≡ At (record { 0 = a })) → Picks s.picked (pick t (record { pool = (freed s u).pool; at = a } ∷ []) [])
+      one : (a : ℕ) (t : Bool) → (t ≡ true → next_free (freed s u).pool s.picked ≡ Some (record { 0 = a })) → Picks s.picked (pick t (record { pool = (freed s u).pool; at = a } ∷ []) [])
       one a true f = (f refl, tt)
       one a false f = tt
 
-      go : (k : Free) → chosen (freed s u).pool (freed s u).picked u b ≡ k
+      go : (k : Option Address) → chosen (freed s u).pool (freed s u).picked u b ≡ k
           → Picks s.picked (pick_in tr (issued (freed s u) u (has_to_pick (freed s u).pool u b) k).state.pool (issued (freed s u) u (has_to_pick (freed s u).pool u b) k).command)
-      go AllUsed e = tt
-      go (At a) e = one a.0 (is_picked (get_or tr 42 0) a.0) (λ q.
+      go None e = tt
+      go (Some a) e = one a.0 (is_picked (get_or tr 42 0) a.0) (λ q.
           ap (next_free (freed s u).pool) (sym (freed_keeps_picked s u))
           ∙ sym (chosen_picked (freed s u).pool (freed s u).picked u b (picked_by_wire (freed s u).pool (freed s u).picked u b a e ∙ ap (λ (x : ℕ). is_picked x a.0) (sym byte) ∙ q))
           ∙ e)

@@ -1,13 +1,11 @@
 -- A choice that waits is issued or declined; 21, and nothing changes, exactly if none waits. And the first half by what the single step does.
-use Rattle.std.specs.Prelude.{ℕ, ◌≡◌, refl, Bool, true, List, [], ◌∷◌, ◌↔◌, leb}
+use Rattle.std.specs.Prelude.{ℕ, ◌≡◌, refl, Bool, true, List, [], ◌∷◌, ◌↔◌, leb, Option, Some, None}
 use Rattle.std.proofs.Common.{sym, ◌∙◌, inl, inr}
 use Rattle.std.proofs.Math.Path.{ap}
 use Rattle.std.proofs.Math.Bool.{false}
 use Rattle.lists.specs.AbsurdLaws.{zero_is_one}
 use Rattle.lists.specs.Choice.{pick}
 use Rattle.wire.specs.declared.address.Address.{Address}
-use Rattle.pool.specs.declared.free.Free.{Free}
-use Rattle.pool.specs.declared.free.Free.TheVariants.{At, AllUsed}
 use Rattle.udid.specs.declared.Udid.{Udid}
 use Rattle.hearing.specs.Told.{tells, no_command}
 use Rattle.hearing.specs.declared.told.Told.{Told}
@@ -28,19 +26,18 @@ use Rattle.arp.specs.Numbers.{command_number, is21}
 use Rattle.arp.proofs.OutstandingLaws.{is_21_by_number, idle_half}
 use Rattle.arp.specs.State.{with_last}
 use Rattle.arp.specs.Waits.{Waits}
-use Rattle.commands.specs.declared.choice.Choice.TheVariants.{Of, Absent}
 use Rattle.arp.specs.declared.state.Controller.{Controller}
 use Rattle.arp.specs.declared.state.Stepped.{Stepped}
 
 -- ---- where a choice waits
 
-waiting_is : (s : Controller) (u : Udid) (a : Address) (x : Reason) → s.last ≡ Wait (Chosen u a x) → choice_in s.last ≡ Of u a
+waiting_is : (s : Controller) (u : Udid) (a : Address) (x : Reason) → s.last ≡ Wait (Chosen u a x) → choice_in s.last ≡ Some (u, a)
 waiting_is s u a x e = ap choice_in e
 
-none_waits : (s : Controller) → (Waits s → ⊥) → choice_in s.last ≡ Absent
+none_waits : (s : Controller) → (Waits s → ⊥) → choice_in s.last ≡ None
 none_waits s n = go s.last refl
   where
-    go : (k : Handed) → s.last ≡ k → choice_in k ≡ Absent
+    go : (k : Handed) → s.last ≡ k → choice_in k ≡ None
     go (Send k) e = refl
     go (Wait Nothing) e = refl
     go (Wait Ended) e = refl
@@ -102,9 +99,9 @@ asked_sends_none s = go (leb 128 s.gets)
     go true = refl
     go false = refl
 
-waiting_sends_none : (s : Controller) (u : Udid) (picks : Bool) (f : Free) → sends (waiting_with s u picks f).command ≡ false
-waiting_sends_none s u picks (At a) = refl
-waiting_sends_none s u picks AllUsed = refl
+waiting_sends_none : (s : Controller) (u : Udid) (picks : Bool) (f : Option Address) → sends (waiting_with s u picks f).command ≡ false
+waiting_sends_none s u picks (Some a) = refl
+waiting_sends_none s u picks None = refl
 
 half_sends_none : (s : Controller) (t : Told) → sends (decided_on s t).command ≡ false
 unfolding decided
@@ -125,8 +122,8 @@ module _ (s : Controller) (tr : List ℕ) where
   same_choice : {v u : Udid} {a c : Address} {x y : Reason} → Wait (Chosen v a x) ≡ Wait (Chosen u c y) → (v ≡ u) × (a ≡ c) × (x ≡ y)
   same_choice e = (cc e, cc e, cc e)
 
-  no_choice_of : (u : Udid) (a : Address) (x : Reason) (k : Handed) → choice_in k ≡ Absent → k ≡ Wait (Chosen u a x) → ⊥
-  no_choice_of u a x k n e = let z : Of u a ≡ Absent = sym (ap choice_in e) ∙ n in zero_is_one (cc z)
+  no_choice_of : (u : Udid) (a : Address) (x : Reason) (k : Handed) → choice_in k ≡ None → k ≡ Wait (Chosen u a x) → ⊥
+  no_choice_of u a x k n e = let z : Some (u, a) ≡ None = sym (ap choice_in e) ∙ n in zero_is_one (cc z)
 
   -- a choice waits exactly if the single step sends the Assign
   pub chosen_exactly : (u : Udid) (a : Address) → ((stepped s tr).command ≡ Send (Assign u a)) ↔ ((x : Reason) × ((first_half s tr).command ≡ Wait (Chosen u a x)))

@@ -1,6 +1,6 @@
 -- Each step changes what is bound and what the pool has as its event says. So in every state that is reached these are what the table of the
 -- events says (specs/Replay.antt).
-use Rattle.std.specs.Prelude.{ℕ, ◌<◌, ◌≡◌, Bool, true, false, List, [], ◌∷◌, ◌⊎◌, ltb, leb, eqb, get_or, Ok, Err}
+use Rattle.std.specs.Prelude.{ℕ, ◌<◌, ◌≡◌, Bool, true, false, List, [], ◌∷◌, ◌⊎◌, ltb, leb, eqb, get_or, Option, Some, None, Ok, Err}
 use Rattle.std.proofs.Math.Path.{refl, ap, fun_ext}
 use Rattle.std.proofs.Common.{sym, ap₂, ◌∙◌, inl, inr, arith, lt-ltb, le-ltb, eq-eqb, ne_eqb}
 use Rattle.std.proofs.Math.Decide.{ℕ_discrete, dec_lt}
@@ -13,8 +13,6 @@ use Rattle.pool.specs.MemberLaws.{has_with_same, has_with_other, has_without_sam
 use Rattle.pool.specs.Pools.{member, with_address, without_address}
 use Rattle.pool.specs.Start.{starting_pool}
 use Rattle.pool.specs.declared.Pool.{Pool}
-use Rattle.pool.specs.declared.free.Free.{Free}
-use Rattle.pool.specs.declared.free.Free.TheVariants.{At, AllUsed}
 use Rattle.udid.specs.Bytes.{udid_at}
 use Rattle.udid.specs.declared.Udid.{Udid}
 use Rattle.arp.specs.Gone.{left_at, reported}
@@ -52,6 +50,7 @@ use Rattle.slots.specs.declared.Binding.TheVariants.{Open, Bound, Claimed, Left}
 use Rattle.arp.specs.declared.state.Controller.{Controller}
 use Rattle.hearing.specs.Told.{told_prepare, told_reply, told_get, told_assign, tells}
 use Rattle.hearing.specs.declared.told.Told.TheVariants.{Again, Over, GivenUp, Reply, Took}
+use Rattle.wire.specs.declared.address.Address.{Address}
 
 tables : (t r : Table) → ((a : ℕ) → t.held a ≡ r.held a) → ((a : ℕ) → t.used a ≡ r.used a) → t ≡ r
 tables t r h u = ap₂ (λ (x : ℕ → Binding) (y : ℕ → Bool). record { held = x; used = y }) (fun_ext h) (fun_ext u)
@@ -72,9 +71,9 @@ asked_view s = go (leb 128 s.gets)
     go true = refl
     go false = refl
 
-issued_view : (s : Controller) (u : Udid) (picks : Bool) (k : Free) → view (issued s u picks k).state ≡ view s
-issued_view s u picks (At a) = refl
-issued_view s u picks AllUsed = refl
+issued_view : (s : Controller) (u : Udid) (picks : Bool) (k : Option Address) → view (issued s u picks k).state ≡ view s
+issued_view s u picks (Some a) = refl
+issued_view s u picks None = refl
 
 -- ---- an address to which nobody is bound any more
 

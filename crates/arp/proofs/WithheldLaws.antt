@@ -1,6 +1,6 @@
 -- What the first half hands out, by what the single step does: the same, but an Assign waits as a choice, with the reason that the trace and the
 -- addresses give.
-use Rattle.std.specs.Prelude.{ℕ, ◌≡◌, Bool, true, false, List, ltb, leb}
+use Rattle.std.specs.Prelude.{ℕ, ◌≡◌, Bool, true, false, List, ltb, leb, Option, Some, None}
 use Rattle.std.proofs.Math.Path.{refl, sym, ap, ap₂}
 use Rattle.std.proofs.Common.{◌∙◌}
 use Rattle.std.proofs.Math.ListN.{get_or}
@@ -8,8 +8,6 @@ use Rattle.lists.specs.Choice.{pick, or}
 use Rattle.pool.specs.Pools.{member}
 use Rattle.pool.specs.Start.{barred_pool}
 use Rattle.pool.specs.declared.Pool.{Pool}
-use Rattle.pool.specs.declared.free.Free.{Free}
-use Rattle.pool.specs.declared.free.Free.TheVariants.{At, AllUsed}
 use Rattle.udid.specs.Udids.{is_fixed}
 use Rattle.udid.specs.declared.Udid.{Udid}
 use Rattle.slots.specs.Finding.{find_from}
@@ -34,6 +32,7 @@ use Rattle.arp.specs.Replay.{Table, view, is_bound_or_claimed}
 use Rattle.arp.specs.RunPicks.{is_picked}
 use Rattle.arp.specs.Story.{withheld}
 use Rattle.arp.specs.declared.state.Controller.{Controller}
+use Rattle.wire.specs.declared.address.Address.{Address}
 
 is_held_alike : (h : Binding) → is_held h ≡ is_bound_or_claimed h
 is_held_alike Open = refl
@@ -62,11 +61,11 @@ module _ (s : Controller) (tr : List ℕ) where
   unfolding decided replied
   decided_withheld u b byte = go (chosen (freed s u).pool (freed s u).picked u b) refl
     where
-      go : (k : Free) → chosen (freed s u).pool (freed s u).picked u b ≡ k
+      go : (k : Option Address) → chosen (freed s u).pool (freed s u).picked u b ≡ k
           → (waiting_with (freed s u) u (has_to_pick (freed s u).pool u b) k).command
           ≡ withheld s.occupied (view (issued (freed s u) u (has_to_pick (freed s u).pool u b) k).state) tr (issued (freed s u) u (has_to_pick (freed s u).pool u b) k).command
-      go AllUsed e = refl
-      go (At a) e =
+      go None e = refl
+      go (Some a) e =
           ap₂ (λ (t p : Bool). Wait (Chosen u a (reason_of t p (is_fixed u))))
           (ap₂ (λ (o : Pool) (x : Bool). or (member (barred_pool o) a.0) x) (freed_keeps_occupied s u) (is_held_alike (held_at (freed s u).slots a.0)))
           (picked_by_wire (freed s u).pool (freed s u).picked u b a e ∙ ap (λ (x : ℕ). is_picked x a.0) (sym byte))

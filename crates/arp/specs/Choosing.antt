@@ -1,8 +1,6 @@
 -- The step in two halves: an address is chosen, with the reason; then the choice is issued or declined.
-use Rattle.std.specs.Prelude.{ℕ, Bool, List, [], ◌∷◌}
+use Rattle.std.specs.Prelude.{ℕ, Bool, List, [], ◌∷◌, Option, Some, None}
 use Rattle.lists.specs.Choice.{pick}
-use Rattle.pool.specs.declared.free.Free.{Free}
-use Rattle.pool.specs.declared.free.Free.TheVariants.{At, AllUsed}
 use Rattle.udid.specs.Udids.{is_fixed}
 use Rattle.udid.specs.declared.Udid.{Udid}
 use Rattle.slots.specs.Slots.{held_at}
@@ -20,10 +18,9 @@ use Rattle.arp.specs.Controller.{handed, asked, not_outstanding, stepped}
 use Rattle.commands.specs.Choices.{choice_in}
 use Rattle.picking.specs.Picking.{has_to_pick, chosen, reason_of}
 use Rattle.arp.specs.State.{with_picked}
-use Rattle.commands.specs.declared.choice.Choice.{Choice}
-use Rattle.commands.specs.declared.choice.Choice.TheVariants.{Of, Absent}
 use Rattle.arp.specs.declared.state.Controller.{Controller}
 use Rattle.arp.specs.declared.state.Stepped.{Stepped}
+use Rattle.wire.specs.declared.address.Address.{Address}
 
 -- ---- the first half
 
@@ -32,9 +29,9 @@ abbrev pub reason_for : Controller → Udid → Bool → ℕ → Reason
 reason_for s u picks a = reason_of (makes_claim s.occupied (held_at s.slots a) a) picks (is_fixed u)
 
 -- none free: 13 with the UDID that asked. Else the choice waits; if its address was picked it is the last pick from now on
-abbrev pub waiting_with : Controller → Udid → Bool → Free → Stepped
-waiting_with s u picks (At a) = handed (with_picked s (pick picks a.0 s.picked)) (Wait (Chosen u a (reason_for s u picks a.0)))
-waiting_with s u picks AllUsed = handed s (Wait (NoneFree u))
+abbrev pub waiting_with : Controller → Udid → Bool → Option Address → Stepped
+waiting_with s u picks (Some a) = handed (with_picked s (pick picks a.0 s.picked)) (Wait (Chosen u a (reason_for s u picks a.0)))
+waiting_with s u picks None = handed s (Wait (NoneFree u))
 
 -- a reply with a UDID already bound first unbinds it and frees its address; then an address is chosen
 unfoldable pub decided : Controller → Udid → ℕ → Stepped
@@ -56,34 +53,34 @@ first_half s tr = decided_on s (tells s.last tr)
 -- ---- the second half
 
 -- Assign Address goes out; with no choice: 21
-abbrev pub issued_for : Controller → Choice → Stepped
-issued_for s (Of u a) = handed s (Send (Assign u a))
-issued_for s Absent = not_outstanding s
+abbrev pub issued_for : Controller → Option (Udid × Address) → Stepped
+issued_for s (Some (u, a)) = handed s (Send (Assign u a))
+issued_for s None = not_outstanding s
 
 unfoldable pub issuing : Controller → Stepped
 issuing s = issued_for s (choice_in s.last)
 
 -- the pass ends with 14; with no choice: 21
-abbrev pub declined_for : Controller → Choice → Stepped
-declined_for s (Of u a) = handed s (Wait Abandoned)
-declined_for s Absent = not_outstanding s
+abbrev pub declined_for : Controller → Option (Udid × Address) → Stepped
+declined_for s (Some (u, a)) = handed s (Wait Abandoned)
+declined_for s None = not_outstanding s
 
 unfoldable pub declining : Controller → Stepped
 declining s = declined_for s (choice_in s.last)
 
 -- ---- both
 
-abbrev pub carried_for : Stepped → Choice → Stepped
-carried_for r (Of u a) = issuing r.state
-carried_for r Absent = r
+abbrev pub carried_for : Stepped → Option (Udid × Address) → Stepped
+carried_for r (Some (u, a)) = issuing r.state
+carried_for r None = r
 
 -- where the first half has handed out a choice, it is issued
 abbrev pub carried_on : Stepped → Stepped
 carried_on r = carried_for r (choice_in r.command)
 
-abbrev pub sending_for : Handed → Choice → Handed
-sending_for k (Of u a) = Send (Assign u a)
-sending_for k Absent = k
+abbrev pub sending_for : Handed → Option (Udid × Address) → Handed
+sending_for k (Some (u, a)) = Send (Assign u a)
+sending_for k None = k
 
 -- what goes out once the choice is issued
 abbrev pub sending : Handed → Handed

@@ -1,10 +1,8 @@
 -- What the controller does, as the scope says it.
-use Rattle.std.specs.Prelude.{ℕ, ◌+◌, Bool, List, ltb, leb}
+use Rattle.std.specs.Prelude.{ℕ, ◌+◌, Bool, List, ltb, leb, Option, Some, None}
 use Rattle.lists.specs.Choice.{pick}
 use Rattle.pool.specs.Start.{starting_pool}
 use Rattle.pool.specs.declared.Pool.{Pool}
-use Rattle.pool.specs.declared.free.Free.{Free}
-use Rattle.pool.specs.declared.free.Free.TheVariants.{At, AllUsed}
 use Rattle.udid.specs.declared.Udid.{Udid}
 use Rattle.picking.specs.Picking.{has_to_pick, chosen}
 use Rattle.arp.specs.Bindings.{freed, bound}
@@ -19,6 +17,7 @@ use Rattle.arp.specs.declared.state.Controller.{Controller}
 use Rattle.arp.specs.declared.state.Stepped.{Stepped}
 use Rattle.hearing.specs.declared.told.Told.{Told}
 use Rattle.hearing.specs.declared.told.Told.TheVariants.{Again, Over, GivenUp, Reply, Took, Unasked}
+use Rattle.wire.specs.declared.address.Address.{Address}
 
 -- the last pick that a controller is made with: a number above 127 counts as 127, never picked
 unfoldable pub last_pick : ℕ → ℕ
@@ -45,9 +44,9 @@ unfoldable pub asked : Controller → Stepped
 asked s = pick (leb 128 s.gets) (handed s (Wait Abandoned)) (handed (counted s) (Send GetUdid))
 
 -- none free: 13 with the UDID that asked. Then Assign Address; if its address was picked it is the last pick from now on
-abbrev pub issued : Controller → Udid → Bool → Free → Stepped
-issued s u picks (At a) = handed (with_picked s (pick picks a.0 s.picked)) (Send (Assign u a))
-issued s u picks AllUsed = handed s (Wait (NoneFree u))
+abbrev pub issued : Controller → Udid → Bool → Option Address → Stepped
+issued s u picks (Some a) = handed (with_picked s (pick picks a.0 s.picked)) (Send (Assign u a))
+issued s u picks None = handed s (Wait (NoneFree u))
 
 -- a reply with a UDID already bound first unbinds it and frees its address; then an address is chosen
 unfoldable pub replied : Controller → Udid → ℕ → Stepped

@@ -1,15 +1,13 @@
 -- What is bound, claimed and left, and what the pool has, told by the events alone, in the scope's sentences. The table does not cite the
 -- controller's own definitions of freeing, binding or stepping: an event is read from the command that was handed out last and from what
 -- decode answers for the trace (specs/Reading.antt).
-use Rattle.std.specs.Prelude.{ℕ, zero, suc, ◌*◌, ◌/◌, ◌%◌, ◌<◌, ◌≡◌, Bool, true, false, List, [], ◌∷◌, ◌⊎◌, ltb, leb, eqb, get_or, Ok, Err}
+use Rattle.std.specs.Prelude.{ℕ, zero, suc, ◌*◌, ◌/◌, ◌%◌, ◌<◌, ◌≡◌, Bool, true, false, List, [], ◌∷◌, ◌⊎◌, ltb, leb, eqb, get_or, Option, Some, None, Ok, Err}
 use Rattle.lists.specs.Choice.{pick, or, and}
 use Rattle.scan.specs.Numbers.{is_nack}
 use Rattle.scan.specs.Decoded.{Decoded}
 use Rattle.pool.specs.Pools.{member}
 use Rattle.pool.specs.Start.{starting_pool, barred_pool}
 use Rattle.pool.specs.declared.Pool.{Pool}
-use Rattle.pool.specs.declared.free.Free.{Free}
-use Rattle.pool.specs.declared.free.Free.TheVariants.{At, AllUsed}
 use Rattle.udid.specs.Bytes.{udid_at}
 use Rattle.udid.specs.Udids.{same_udid, is_fixed}
 use Rattle.udid.specs.declared.Udid.{Udid}
@@ -26,6 +24,7 @@ use Rattle.commands.specs.declared.command.Handed.TheVariants.{Send, Wait}
 use Rattle.slots.specs.declared.Binding.{Binding}
 use Rattle.slots.specs.declared.Binding.TheVariants.{Open, Bound, Claimed, Left}
 use Rattle.arp.specs.declared.state.Controller.{Controller}
+use Rattle.wire.specs.declared.address.Address.{Address}
 
 -- ---- what happens, and the table that it changes
 
@@ -173,29 +172,29 @@ abbrev pub again : ℕ → Handed
 again n = pick (leb 128 n) (Wait Abandoned) (Send GetUdid)
 
 -- the first address that is not in the pool, of the n from a on, going from 7Fh round to 00h
-unfoldable pub first_free : (ℕ → Bool) → ℕ → ℕ → Free
-first_free used zero a = AllUsed
-first_free used (suc n) a = pick (used (a % 128)) (first_free used n (suc a)) (At (record { 0 = a % 128 }))
+unfoldable pub first_free : (ℕ → Bool) → ℕ → ℕ → Option Address
+first_free used zero a = None
+first_free used (suc n) a = pick (used (a % 128)) (first_free used n (suc a)) (Some (record { 0 = a % 128 }))
 
 -- all the way round after the last pick
-abbrev pub free_after : (ℕ → Bool) → ℕ → Free
+abbrev pub free_after : (ℕ → Bool) → ℕ → Option Address
 free_after used last = first_free used 128 (suc last)
 
 -- FFh: the first free address after the last pick. Else fixed: its own. Else movable: its own if not in the pool, otherwise the first free one
-abbrev pub given_to : (ℕ → Bool) → ℕ → Udid → ℕ → Free
+abbrev pub given_to : (ℕ → Bool) → ℕ → Udid → ℕ → Option Address
 given_to used last u b =
     pick (eqb b 0xFF) (free_after used last)
-    (pick (is_fixed u) (At (record { 0 = b / 2 }))
-    (pick (used (b / 2)) (free_after used last) (At (record { 0 = b / 2 }))))
+    (pick (is_fixed u) (Some (record { 0 = b / 2 }))
+    (pick (used (b / 2)) (free_after used last) (Some (record { 0 = b / 2 }))))
 
 -- no address to pick: the pool is full, and the byte is FFh or the target is movable with its own address in the pool
 abbrev pub NoneToPick : (ℕ → Bool) → Udid → ℕ → Type 0
 NoneToPick used u b = ((c : ℕ) → c < 128 → used c ≡ true) × ((b ≡ 0xFF) ⊎ ((is_fixed u ≡ false) × (used (b / 2) ≡ true)))
 
 -- Assign Address; none free: 13
-abbrev pub assigning : Udid → Free → Handed
-assigning u (At a) = Send (Assign u a)
-assigning u AllUsed = Wait (NoneFree u)
+abbrev pub assigning : Udid → Option Address → Handed
+assigning u (Some a) = Send (Assign u a)
+assigning u None = Wait (NoneFree u)
 
 -- Prepare accepted (answer 0 for Send Byte, protocol 1, to 61h, of the byte 01h): Get UDID. Answer 6: the pass ends. Any other: 14
 abbrev pub next_prepare : ℕ → Decoded → List ℕ → Handed

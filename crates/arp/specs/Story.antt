@@ -1,6 +1,6 @@
 -- The controller by its history: the story of the events alone, in which no state of a controller is cited, and what it says of the state
 -- and of the next step.
-use Rattle.std.specs.Prelude.{ℕ, ◌+◌, ◌<◌, ◌≡◌, true, get_or, List, [], ◌∷◌, ◌++◌, ◌↔◌}
+use Rattle.std.specs.Prelude.{ℕ, ◌+◌, ◌<◌, ◌≡◌, true, get_or, List, [], ◌∷◌, ◌++◌, ◌↔◌, Option, Some, None}
 use Rattle.lists.specs.Choice.{or}
 use Rattle.pool.specs.Pools.{member}
 use Rattle.pool.specs.Start.{barred_pool}
@@ -23,8 +23,7 @@ use Rattle.commands.specs.declared.command.Command.TheVariants.{Prepare, GetUdid
 use Rattle.commands.specs.declared.command.End.TheVariants.{Nothing, Abandoned, Chosen}
 use Rattle.commands.specs.declared.command.Handed.{Handed}
 use Rattle.commands.specs.declared.command.Handed.TheVariants.{Send, Wait}
-use Rattle.commands.specs.declared.choice.Choice.{Choice}
-use Rattle.commands.specs.declared.choice.Choice.TheVariants.{Of, Absent}
+use Rattle.wire.specs.declared.address.Address.{Address}
 
 -- the table, how many Get UDIDs were handed out in this pass, what was handed out last (a choice that waits among it), and the last pick
 pub record Story : Type 0 where
@@ -48,13 +47,13 @@ next_by Step occupied t last n k tr = next_command occupied t last n k tr
 next_by Choose occupied t last n k tr = withheld occupied (after occupied (read_as k tr) t) tr (next_command occupied t last n k tr)
 
 -- with no choice, what was handed out last stays so
-abbrev pub issued_then : Handed → Choice → Handed
-issued_then k (Of u a) = Send (Assign u a)
-issued_then k Absent = k
+abbrev pub issued_then : Handed → Option (Udid × Address) → Handed
+issued_then k (Some (u, a)) = Send (Assign u a)
+issued_then k None = k
 
-abbrev pub declined_then : Handed → Choice → Handed
-declined_then k (Of u a) = Wait Abandoned
-declined_then k Absent = k
+abbrev pub declined_then : Handed → Option (Udid × Address) → Handed
+declined_then k (Some (u, a)) = Wait Abandoned
+declined_then k None = k
 
 -- after one event more
 abbrev pub onward : Pool → Event → Story → Story

@@ -1,8 +1,7 @@
 // The step: what a received trace tells, what that changes, and which address is chosen. Its first half lets the choice wait; the whole step
 // issues it directly. Both go the same way through these functions, by `direct`. Rests on told, bound and issue, and on crate picking.
-ghost use Rattle.std.specs.Prelude.{◌≡◌};
+ghost use Rattle.std.specs.Prelude.{◌≡◌, Some};
 ghost use Rattle.lists.specs.Choice.{pick};
-ghost use Rattle.pool.specs.declared.free.Free.TheVariants.{At};
 ghost use Rattle.commands.specs.declared.command.Command.TheVariants.{Assign};
 ghost use Rattle.commands.specs.declared.command.End.TheVariants.{Chosen};
 ghost use Rattle.commands.specs.declared.command.Handed.TheVariants.{Send, Wait};
@@ -14,7 +13,6 @@ use commands::command::{Command, End, Handed, Reason};
 use hearing::told::{Told, tell};
 use picking::choose::{choose, has_to_pick, pick_after, reason_for};
 use picking::claim::makes_claim;
-use pool::free::Free;
 use udid::Udid;
 use wire::address::Address;
 
@@ -32,7 +30,7 @@ fn choice_for(direct: bool, u: Udid, a: Address, reason: Reason) -> Handed
 impl Controller {
     // This address is chosen for this target. If it was picked it is the last pick from then on, whatever becomes of the choice.
     fn settle(mut self, direct: bool, u: Udid, picks: bool, a: Address) -> Stepped
-        ensures { result ≡ pick direct (issued self u picks (At a)) (waiting_with self u picks (At a)) }
+        ensures { result ≡ pick direct (issued self u picks (Some a)) (waiting_with self u picks (Some a)) }
     {
         let slots = self.slots;
         let taken = makes_claim(self.occupied, slots.held_at(a), a);
@@ -48,7 +46,7 @@ impl Controller {
         let next = self.free(u);
         let pool = next.pool;
         let last = next.picked;
-        let Free::At(a) = choose(pool, last, u, b) else {
+        let Some(a) = choose(pool, last, u, b) else {
             return next.hand(Handed::Wait(End::NoneFree(u)));
         };
         next.settle(direct, u, has_to_pick(pool, u, b), a)

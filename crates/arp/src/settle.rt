@@ -3,7 +3,7 @@ ghost use Rattle.std.specs.Prelude.{◌≡◌};
 ghost use Rattle.arp.specs.Choosing.{issuing, declining};
 
 use super::state::{Controller, Stepped};
-use commands::choice::{Choice, choice_in};
+use commands::choice::choice_in;
 use commands::command::{Command, End, Handed};
 
 impl Controller {
@@ -12,7 +12,7 @@ impl Controller {
         ensures { result ≡ issuing self }
     {
         let last = self.last;
-        let Choice::Of(u, a) = choice_in(last) else {
+        let Some((u, a)) = choice_in(last) else {
             return self.refuse();
         };
         self.hand(Handed::Send(Command::Assign(u, a)))
@@ -25,8 +25,8 @@ impl Controller {
     {
         let last = self.last;
         match choice_in(last) {
-            Choice::Of(_, _) => self.hand(Handed::Wait(End::Abandoned)),
-            Choice::Absent => self.refuse(),
+            Some(_) => self.hand(Handed::Wait(End::Abandoned)),
+            None => self.refuse(),
         }
     }
 }

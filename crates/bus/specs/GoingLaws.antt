@@ -1,5 +1,5 @@
 -- Every command of a pass is the state's own and reaches somebody, and so the code's run over the records is the pass bit by bit.
-use Rattle.std.specs.Prelude.{ℕ, suc, ◌*◌, ◌/◌, ◌<◌, ◌≡◌, refl, Bool, true, false, Option, Some, None, List, [], ◌∷◌, leb, length, drop, Ok, Err}
+use Rattle.std.specs.Prelude.{ℕ, suc, ◌*◌, ◌/◌, ◌<◌, ◌≡◌, refl, Bool, true, false, List, [], ◌∷◌, leb, length, drop, Option, Some, None, Ok, Err}
 use Rattle.std.proofs.Common.{sym, ap, ◌∙◌, subst, arith}
 use Rattle.lists.specs.Choice.{pick}
 use Rattle.lists.specs.ChoiceLaws.{false_not_true}
@@ -8,8 +8,6 @@ use Rattle.wire.specs.declared.address.Address.{Address}
 use Rattle.arbitration.specs.Among.{Among}
 use Rattle.pool.specs.Start.{barred_pool}
 use Rattle.pool.specs.declared.Pool.{Pool}
-use Rattle.pool.specs.declared.free.Free.{Free}
-use Rattle.pool.specs.declared.free.Free.TheVariants.{At, AllUsed}
 use Rattle.scan.specs.Decoded.{Decoded}
 use Rattle.udid.specs.declared.Udid.{Udid}
 use Rattle.targets.specs.AdmissionLaws.{admitted_length}
@@ -63,9 +61,9 @@ fine_asked c ts h = go (leb 128 c.gets)
     go true = (refl, tt)
     go false = (refl, h)
 
-fine_issued : (c : Controller) (t : Target) (picks : Bool) (f : Free) (ts : List Target) → Among t ts → ((a : Address) → f ≡ At a → a.0 < 128) → Fine (issued c t.udid picks f) ts
-fine_issued c t picks (At a) ts m h = (refl, (t, m, refl, h a refl))
-fine_issued c t picks AllUsed ts m h = (refl, tt)
+fine_issued : (c : Controller) (t : Target) (picks : Bool) (f : Option Address) (ts : List Target) → Among t ts → ((a : Address) → f ≡ Some a → a.0 < 128) → Fine (issued c t.udid picks f) ts
+fine_issued c t picks (Some a) ts m h = (refl, (t, m, refl, h a refl))
+fine_issued c t picks None ts m h = (refl, tt)
 
 -- whatever an Assign is told: a Get UDID is due
 fine_assigned : (c : Controller) (u : Udid) (a : Address) (d : Decoded) (sent : List ℕ) (ts : List Target) → 0 < length ts → Fine (changed c (told_assign u a d sent)) ts

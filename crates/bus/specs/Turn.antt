@@ -3,7 +3,7 @@ use Rattle.std.specs.Prelude.{ℕ, ◌+◌, ◌-◌, ◌*◌, ◌<◌, ◌≡◌
 use Rattle.lists.specs.Each.{Bytes}
 use Rattle.wire.specs.Symbols.{START, STOP, ACK, NACK}
 use Rattle.encode.specs.Encode.{Wrote}
-use Rattle.encode.specs.declared.Encoded.{Encoded}
+use Rattle.encode.specs.Encode.{Encoded}
 use Rattle.arbitration.specs.Among.{Among}
 use Rattle.targets.specs.Cases.{RepeatedAt, NoneOf}
 use Rattle.targets.specs.Records.{record_count, targets_of, records_with}

@@ -9,7 +9,6 @@ ghost use Rattle.bus.specs.Turn.{Fit, Reaches, silence, Writes};
 
 use commands::command::{Command, Handed};
 use commands::request::put_command;
-use encode::Encoded;
 use targets::fields::RECORD;
 use targets::{fields, winner};
 use wire::symbol::{ACK, NACK, START, STOP};
@@ -33,12 +32,7 @@ fn put_whole(k: Handed, reply: &[u8], out: &mut [u16]) -> usize
     requires { Writes k reply.now out.old }
     ensures { (result ≡ length (trace_of k reply.now)) × (take result out.new ≡ trace_of k reply.now) }
 {
-    let answer = put_command(k, reply, &mut out[..]);
-    match answer {
-        Encoded::Written(n) => n,
-        Encoded::Forbidden => 0,
-        Encoded::OutputTooShort => 0,
-    }
+    put_command(k, reply, &mut out[..]).unwrap()
 }
 
 // Prepare To ARP: all acknowledge; with no target the first byte gets NACK.

@@ -1,5 +1,5 @@
 -- What the functions on pools answer for C, in numbers.
-use Rattle.std.specs.Prelude.{◌≡◌, refl, Bool, false, ◌⊎◌, ◌↔◌, ℕ, ◌+◌, ◌-◌, ◌/◌, ◌%◌, ◌^◌, ◌≤◌, ◌<◌, eqb}
+use Rattle.std.specs.Prelude.{◌≡◌, refl, Bool, false, ◌⊎◌, ◌↔◌, ℕ, ◌+◌, ◌-◌, ◌/◌, ◌%◌, ◌^◌, ◌≤◌, ◌<◌, eqb, Option, Some, None}
 use Rattle.std.proofs.Common.{sym, ◌∙◌, subst}
 use Rattle.std.proofs.Math.Path.{ap}
 use Rattle.std.proofs.Math.Bool.{true}
@@ -22,8 +22,6 @@ use Rattle.pool.specs.Pools.{member, with_address, without_address, union_of}
 use Rattle.pool.specs.Start.{starting_pool, barred_pool}
 use Rattle.pool.proofs.StartLaws.{member_starting, member_barred}
 use Rattle.pool.specs.declared.Pool.{Pool}
-use Rattle.pool.specs.declared.free.Free.{Free}
-use Rattle.pool.specs.declared.free.Free.TheVariants.{At, AllUsed}
 use Rattle.c_arp.specs.declared.parts.HbPool.{HbPool}
 use Rattle.c_codec.specs.Numbers.{bit, Says}
 use Rattle.c_arp.specs.Parts.{pool_in, told_pool, free_number}
@@ -31,6 +29,7 @@ use Rattle.c_api.specs.PoolParts.{Reserved, Listed, InPool}
 use Rattle.c_codec.specs.NumberLaws.{bit_says}
 use Rattle.wire.proofs.AddressLaws.{reserved_is}
 use Rattle.c_api.specs.AddressCallLaws.{listed_in_numbers}
+use Rattle.wire.specs.declared.address.Address.{Address}
 
 module _ (low high a : ℕ) where
   abbrev p : Pool
@@ -121,12 +120,12 @@ pub hb_pool_lowest_free : (pool : HbPool) (r : ℕ) → r ≡ free_number (lowes
     → ((r < 128) × (InPool pool.low pool.high r → ⊥) × ((a : ℕ) → a < r → InPool pool.low pool.high a)) ⊎ ((r ≡ 128) × ((a : ℕ) → a < 128 → InPool pool.low pool.high a))
 hb_pool_lowest_free pool r e = go (lowest_free (pool_in pool)) refl e
   where
-    go : (f : Free) → lowest_free (pool_in pool) ≡ f → r ≡ free_number f
+    go : (f : Option Address) → lowest_free (pool_in pool) ≡ f → r ≡ free_number f
         → ((r < 128) × (InPool pool.low pool.high r → ⊥) × ((a : ℕ) → a < r → InPool pool.low pool.high a)) ⊎ ((r ≡ 128) × ((a : ℕ) → a < 128 → InPool pool.low pool.high a))
-    go (At a) q h =
+    go (Some a) q h =
         let w : Lowest (pool_in pool) r = subst (Lowest (pool_in pool)) (sym h) ((lowest_is (pool_in pool) a.0).0 q) in
         inl (w.small, (false_is (member (pool_in pool) r) (pool_is pool.low pool.high r)).0 w.free, λ b l. (pool_is pool.low pool.high b).0 (w.below b l))
-    go AllUsed q h = inr (h, λ b l. (pool_is pool.low pool.high b).0 ((none_free (pool_in pool)).0 q b l))
+    go None q h = inr (h, λ b l. (pool_is pool.low pool.high b).0 ((none_free (pool_in pool)).0 q b l))
 
 -- below 128: not in the pool, and of all that are not the one at the least distance after the last; 128: all are
 pub hb_pool_next_free : (pool : HbPool) (last r : ℕ) → last < 128 → r ≡ free_number (next_free (pool_in pool) last)
@@ -137,13 +136,13 @@ hb_pool_next_free pool last r small e = go (next_free (pool_in pool) last) refl 
     free : (a : ℕ) → (member (pool_in pool) a ≡ false) ↔ (InPool pool.low pool.high a → ⊥)
     free a = false_is (member (pool_in pool) a) (pool_is pool.low pool.high a)
 
-    go : (f : Free) → next_free (pool_in pool) last ≡ f → r ≡ free_number f
+    go : (f : Option Address) → next_free (pool_in pool) last ≡ f → r ≡ free_number f
         → ((r < 128) × (InPool pool.low pool.high r → ⊥) × ((a : ℕ) → a < 128 → (InPool pool.low pool.high a → ⊥) → (r + 127 - last) % 128 ≤ (a + 127 - last) % 128))
         ⊎ ((r ≡ 128) × ((a : ℕ) → a < 128 → InPool pool.low pool.high a))
-    go (At a) q h =
+    go (Some a) q h =
         let w : Next (pool_in pool) last r = subst (Next (pool_in pool) last) (sym h) ((next_is (pool_in pool) last a.0 small).0 q) in
         inl (w.small, (free r).0 w.free, λ b l n. w.nearest b l ((free b).1 n))
-    go AllUsed q h = inr (h, λ b l. (pool_is pool.low pool.high b).0 ((next_none (pool_in pool) last).0 q b l))
+    go None q h = inr (h, λ b l. (pool_is pool.low pool.high b).0 ((next_none (pool_in pool) last).0 q b l))
 
 -- from 127 on the last counts as 127
 pub hb_pool_next_above : (pool : HbPool) (last : ℕ) → 127 ≤ last → free_number (next_free (pool_in pool) last) ≡ free_number (next_free (pool_in pool) 127)

@@ -8,7 +8,7 @@ use Rattle.trace.specs.Shapes.{shape_of}
 use Rattle.trace.specs.Table.{TraceOf}
 use Rattle.trace.proofs.TableLaws.{listed_trace, quick_plain}
 use Rattle.trace.specs.Trace.{Message, trace}
-use Rattle.encode.specs.declared.Encoded.TheVariants.{Written}
+use Rattle.std.specs.Prelude.{Ok}
 use Rattle.encode.specs.Encode.{message, encoded, Wrote}
 use Rattle.encode.specs.Listed.{Listed}
 use Rattle.encode.specs.EncodeLaws.{written_exactly, written_valid}
@@ -43,12 +43,12 @@ module _ (protocol pec address direction command : ℕ) (sent received : List �
       → GivesBack address direction command sent received sent₀ received₀ k sent₁ received₁
   trace_gives_back n d =
       let zeros : List ℕ = replicate (length wrote) 0 in
-      let e : encoded protocol (truth pec) asks (length zeros) ≡ Written (length wrote) =
+      let e : encoded protocol (truth pec) asks (length zeros) ≡ Ok (length wrote) =
       (written_exactly protocol (truth pec) asks (length zeros) (length wrote)).1 (n, refl, omega (arith, length-replicate {A = ℕ} (length wrote) 0)) in
-      let w : Wrote protocol (truth pec) asks zeros (Written (length wrote)) (onto wrote zeros) = record { answer = sym e; output = refl } in
+      let w : Wrote protocol (truth pec) asks zeros (Ok (length wrote)) (onto wrote zeros) = record { answer = sym e; output = refl } in
       let f : take (length wrote) (onto wrote zeros) ≡ wrote = take_at wrote (drop (length wrote) zeros) (length wrote) refl in
       let g =
-      (demand_2 protocol (truth pec)).there asks zeros (Written (length wrote)) (onto wrote zeros) (c, bs, br) w (length wrote) refl sent₀ received₀ d.answer sent₁ received₁ hs hr
+      (demand_2 protocol (truth pec)).there asks zeros (Ok (length wrote)) (onto wrote zeros) (c, bs, br) w (length wrote) refl sent₀ received₀ d.answer sent₁ received₁ hs hr
       (subst (λ (l : List ℕ). Outcome protocol (truth pec) l sent₀ received₀ d.answer sent₁ received₁) (sym f) d.outcome) in
       gives_back protocol asks sent₀ received₀ k sent₁ received₁ (d.is_told ∙ ap told_decoded g.0) g.1 g.2
 
@@ -96,7 +96,7 @@ module _ (protocol pec : ℕ) (tr sent₀ received₀ : List ℕ) (h : HbDecoded
       (m, k.1, λ i. record { address = g.address_is i; direction = g.direction_is_lem i; command = g.command_is_lem i; sent = s i; received = r i })
 
   -- the encoder's answer for it, and its trace
-  encodes_again : (room : ℕ) → length tr ≤ room → (encoded protocol (truth pec) handed room ≡ Written (length tr)) × (trace (shape_of protocol) (truth pec) handed ≡ tr)
+  encodes_again : (room : ℕ) → length tr ≤ room → (encoded protocol (truth pec) handed room ≡ Ok (length tr)) × (trace (shape_of protocol) (truth pec) handed ≡ tr)
   encodes_again room l =
       let a = handed_message in
       let m = a.0 in
@@ -113,7 +113,7 @@ module _ (protocol pec : ℕ) (tr sent₀ received₀ : List ℕ) (h : HbDecoded
       → (w.answer ≡ 0) × (w.symbols ≡ length tr) × (take (length tr) after ≡ tr)
   hb_symbols_again before l w after v =
       let a = encodes_again (length before) l in
-      let e : w ≡ told (Written (length tr)) = v.answer ∙ ap told a.0 in
+      let e : w ≡ told (Ok (length tr)) = v.answer ∙ ap told a.0 in
       let z : w.answer ≡ 0 = ap (λ (x : HbWritten). x.answer) e in
       let n : w.symbols ≡ length tr = ap (λ (x : HbWritten). x.symbols) e in
       let f = hb_encode_symbols protocol pec h.address h.direction h.command (take h.sent sent) (take h.received received) before w after v in
@@ -130,7 +130,7 @@ hb_pairs_again protocol pec bytes sent₀ received₀ b h sent received d q befo
     let m : Message = message h.address h.direction h.command (take h.sent sent) (take h.received received) in
     let k : length tr ≡ n = length_symbols n bytes in
     let a = encodes_again protocol pec tr sent₀ received₀ h sent received d q (length before / 2) (omega (arith, k)) in
-    let e : w ≡ told (Written (length tr)) = v.answer ∙ ap told a.0 in
+    let e : w ≡ told (Ok (length tr)) = v.answer ∙ ap told a.0 in
     let z : w.answer ≡ 0 = ap (λ (x : HbWritten). x.answer) e in
     let s : w.symbols ≡ n = ap (λ (x : HbWritten). x.symbols) e ∙ k in
     let o : after ≡ onto (pairs_of tr) before = written.pairs_out protocol (truth pec) m before w after v z ∙ ap (λ (x : List ℕ). onto (pairs_of x) before) a.1 in

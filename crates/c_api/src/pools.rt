@@ -10,7 +10,6 @@ ghost use Rattle.c_arp.specs.Parts.{pool_in, told_pool, free_number};
 use c_arp::parts::{HbPool, addresses, pool_in};
 use c_codec::numbers::as_number;
 use pool::Pool;
-use pool::free::Free;
 use wire::address::Address;
 
 // 1 where the set has the address.
@@ -80,10 +79,9 @@ pub extern "C" fn hb_pool_lowest_free(pool: HbPool) -> u8
     ensures { result ≡ free_number (lowest_free (pool_in pool)) }
 {
     let p = pool_in(pool);
-    let f = p.lowest_free();
-    match f {
-        Free::At(a) => a.0,
-        Free::AllUsed => 128,
+    match p.lowest_free() {
+        Some(a) => a.0,
+        None => 128,
     }
 }
 
@@ -93,9 +91,8 @@ pub extern "C" fn hb_pool_next_free(pool: HbPool, last: u8) -> u8
     ensures { result ≡ free_number (next_free (pool_in pool) last) }
 {
     let p = pool_in(pool);
-    let f = p.next_free(last);
-    match f {
-        Free::At(a) => a.0,
-        Free::AllUsed => 128,
+    match p.next_free(last) {
+        Some(a) => a.0,
+        None => 128,
     }
 }

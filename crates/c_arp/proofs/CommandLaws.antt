@@ -4,13 +4,11 @@ use mathlib.Core.Bool.{Bool, true, false}
 use mathlib.Core.List.{List, [], ◌∷◌}
 use Prim.Native.Nat.{ℕ, ◌≤◌, ◌<◌}
 use native.Mathlib.Omega.{arith}
-use denote.Enum.Declared.{tag_of}
-use types.Run.{OneOf}
 use lib.ListN.{length, take}
 use Rattle.lists.specs.Each.{Bytes}
-use Rattle.encode.specs.contracts.Encoded as declared
-use Rattle.encode.specs.declared.Encoded.{Encoded}
-use Rattle.encode.specs.declared.Encoded.TheVariants.{Written}
+use Rattle.encode.specs.declared.EncodeError.{EncodeError}
+use Rattle.encode.specs.Encode.{Encoded}
+use Rattle.std.specs.Prelude.{Ok, Err}
 use Rattle.encode.specs.Encode.{Wrote}
 use Rattle.commands.specs.RequestLaws.{valid_assign}
 use Rattle.commands.specs.Requests.{protocol_for, message_of}
@@ -48,22 +46,22 @@ module _ (k j : Handed) (same : k ≡ j) (reply : List ℕ) (bytes : Bytes reply
   of_same : (out : List ℕ) (h : HbWritten) (last : List ℕ) → WroteCommand k reply out h last → WroteCommand j reply out h last
   of_same out h last v = subst (λ (x : Handed). WroteCommand x reply out h last) same v
 
-  pub command_refused : (out : List ℕ) → OneOf (1 ∷ 2 ∷ []) (tag_of declared.the_type r) → (h : HbWritten) → h ≡ answer_of 1 0 → WroteCommand j reply out h out
-  command_refused out t h e =
+  pub command_refused : (out : List ℕ) (why : EncodeError) → r ≡ Err why → (h : HbWritten) → h ≡ answer_of 1 0 → WroteCommand j reply out h out
+  command_refused out why t h e =
       of_same out h out
-      (refused_pairs (protocol_for k) true (message_of k reply) (command_byte k reply) (sent_bytes k reply) (received_bytes k reply bytes) buffer long r after w out t h e)
+      (refused_pairs (protocol_for k) true (message_of k reply) (command_byte k reply) (sent_bytes k reply) (received_bytes k reply bytes) buffer long r after w out why t h e)
 
-  pub command_small : (n : ℕ) → r ≡ Written n → n ≤ 525
+  pub command_small : (n : ℕ) → r ≡ Ok n → n ≤ 525
   command_small n e =
       small (protocol_for k) true (message_of k reply) (command_byte k reply) (sent_bytes k reply) (received_bytes k reply bytes) buffer long r after w n e
 
-  pub command_short : (out : List ℕ) (n : ℕ) → r ≡ Written n → (b : Bool) (last : List ℕ) → Put (take n after) out b last → b ≡ false
+  pub command_short : (out : List ℕ) (n : ℕ) → r ≡ Ok n → (b : Bool) (last : List ℕ) → Put (take n after) out b last → b ≡ false
       → (h : HbWritten) → h ≡ answer_of 2 0 → WroteCommand j reply out h last
   command_short out n e b last p f h g =
       of_same out h last
       (short_pairs (protocol_for k) true (message_of k reply) (command_byte k reply) (sent_bytes k reply) (received_bytes k reply bytes) buffer long r after w out n e b last p f h g)
 
-  pub command_done : (out : List ℕ) (n : ℕ) → r ≡ Written n → (b : Bool) (last : List ℕ) → Put (take n after) out b last → b ≡ true
+  pub command_done : (out : List ℕ) (n : ℕ) → r ≡ Ok n → (b : Bool) (last : List ℕ) → Put (take n after) out b last → b ≡ true
       → (h : HbWritten) → h ≡ answer_of 0 n → WroteCommand j reply out h last
   command_done out n e b last p f h g =
       of_same out h last

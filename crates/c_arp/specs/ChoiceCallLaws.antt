@@ -1,6 +1,6 @@
 -- Choosing apart from sending, for C: what a choice is told as, what an issue and a decline at the end of a list are answered, that a 21 changes
 -- nothing, and that a first half with an issue after it, where a choice waits, is the step.
-use Rattle.std.specs.Prelude.{ℕ, ◌<◌, ◌≡◌, refl, List, [], ◌∷◌, ◌++◌, ◌↔◌, ltb, length}
+use Rattle.std.specs.Prelude.{ℕ, ◌<◌, ◌≡◌, refl, List, [], ◌∷◌, ◌++◌, ◌↔◌, ltb, length, Option, Some, None}
 use Rattle.std.proofs.Common.{sym, ◌∙◌, arith}
 use Rattle.std.proofs.Math.Path.{ap}
 use Rattle.std.proofs.Math.Logic.Iff.{trans as iff_trans}
@@ -20,8 +20,6 @@ use Rattle.arp.specs.Replay.{handed_out, answered}
 use Rattle.arp.proofs.SettleLaws.{issue_is, decline_is, none_to_issue, none_to_decline, issue_21, decline_21}
 use Rattle.arp.specs.Waits.{Waits}
 use Rattle.commands.specs.Choices.{choice_in}
-use Rattle.commands.specs.declared.choice.Choice.{Choice}
-use Rattle.commands.specs.declared.choice.Choice.TheVariants.{Of, Absent}
 use Rattle.arp.specs.declared.state.Controller.{Controller}
 use Rattle.arp.specs.declared.state.Stepped.{Stepped}
 use Rattle.commands.specs.declared.command.Command.TheVariants.{Prepare, GetUdid, Assign}
@@ -46,7 +44,7 @@ use Rattle.c_arp.specs.TraceLists.{Listed, list_bytes, Cut}
 
 -- ---- the kind of a choice
 
-kind_of_choice : (k : Handed) (u : Udid) (a : Address) → choice_in k ≡ Of u a → (gets picked : ℕ) → (told_command k gets picked).kind ≡ 8
+kind_of_choice : (k : Handed) (u : Udid) (a : Address) → choice_in k ≡ Some (u, a) → (gets picked : ℕ) → (told_command k gets picked).kind ≡ 8
 kind_of_choice (Send c) u a e gets picked = zero_is_one (cc e)
 kind_of_choice (Wait Nothing) u a e gets picked = zero_is_one (cc e)
 kind_of_choice (Wait Ended) u a e gets picked = zero_is_one (cc e)
@@ -232,7 +230,7 @@ module _ (given : HbPool) (last : ℕ) (es : List Event) (rest : List ℕ) (v : 
     half_kind = ap (λ (x : HbCommand). x.kind) half_told
 
     -- carried on, it is the step
-    carried : (c : Choice) → choice_in half.command ≡ c → carried_for half c ≡ stepped before.state tr
+    carried : (c : Option (Udid × Address)) → choice_in half.command ≡ c → carried_for half c ≡ stepped before.state tr
     carried c q = ap (carried_for half) (sym q) ∙ halves_are_the_step before.state tr
 
     step_is : stepped before.state tr ≡ pass_over (pool_in given) last by_step
@@ -241,14 +239,14 @@ module _ (given : HbPool) (last : ℕ) (es : List Event) (rest : List ℕ) (v : 
     issued_is_step : k.kind ≡ 8 → pass_over (pool_in given) last by_halves ≡ pass_over (pool_in given) last by_step
     issued_is_step q =
         let w = kind_8 half.command half.state.gets half.state.picked (sym half_kind ∙ q) in
-        pass_two (Received Choose tr) Issue rest₂ (short, tt) cut₂ ∙ carried (Of w.0 w.1) (ap choice_in w.3) ∙ step_is
+        pass_two (Received Choose tr) Issue rest₂ (short, tt) cut₂ ∙ carried (Some (w.0, w.1)) (ap choice_in w.3) ∙ step_is
 
     half_is_step : (k.kind ≡ 8 → ⊥) → pass_over (pool_in given) last by_half ≡ pass_over (pool_in given) last by_step
     half_is_step n = go (choice_in half.command) refl
       where
-        go : (c : Choice) → choice_in half.command ≡ c → pass_over (pool_in given) last by_half ≡ pass_over (pool_in given) last by_step
-        go (Of u a) q = absurd (n (half_kind ∙ kind_of_choice half.command u a q half.state.gets half.state.picked))
-        go Absent q = pass_one (Received Choose tr) rest₁ (short, tt) cut₁ ∙ carried Absent q ∙ step_is
+        go : (c : Option (Udid × Address)) → choice_in half.command ≡ c → pass_over (pool_in given) last by_half ≡ pass_over (pool_in given) last by_step
+        go (Some (u, a)) q = absurd (n (half_kind ∙ kind_of_choice half.command u a q half.state.gets half.state.picked))
+        go None q = pass_one (Received Choose tr) rest₁ (short, tt) cut₁ ∙ carried None q ∙ step_is
 
     -- CHOOSING AND NEVER DECLINING IS THE STEP. Where hb_pass answers a first half with a choice, an issue after it gives what the step gives, to hb_pass and
     -- to every lookup

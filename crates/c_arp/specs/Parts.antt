@@ -1,11 +1,10 @@
 -- Identifiers and sets of addresses as structs for C, there and back.
-use Rattle.std.specs.Prelude.{ℕ}
+use Rattle.std.specs.Prelude.{ℕ, Option, Some, None}
 use Rattle.pool.specs.declared.Pool.{Pool}
-use Rattle.pool.specs.declared.free.Free.{Free}
-use Rattle.pool.specs.declared.free.Free.TheVariants.{At, AllUsed}
 use Rattle.udid.specs.declared.Udid.{Udid}
 use Rattle.c_arp.specs.declared.parts.HbUdid.{HbUdid}
 use Rattle.c_arp.specs.declared.parts.HbPool.{HbPool}
+use Rattle.wire.specs.declared.address.Address.{Address}
 
 -- what C gave
 abbrev pub udid_in : HbUdid → Udid
@@ -22,6 +21,6 @@ abbrev pub told_pool : Pool → HbPool
 told_pool p = record { low = p.low; high = p.high }
 
 -- a free address, or 128 where all are used
-abbrev pub free_number : Free → ℕ
-free_number (At a) = a.0
-free_number AllUsed = 128
+abbrev pub free_number : Option Address → ℕ
+free_number (Some a) = a.0
+free_number None = 128

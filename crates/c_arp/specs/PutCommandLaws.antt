@@ -11,8 +11,9 @@ use Rattle.trace.specs.Trace.{trace}
 use Rattle.wire.specs.declared.address.Address.{Address}
 use Rattle.encode.specs.Encode.{encoded, symbols_of}
 use Rattle.encode.specs.EncodeLaws.{forbidden_exactly}
-use Rattle.encode.specs.declared.Encoded.{Encoded}
-use Rattle.encode.specs.declared.Encoded.TheVariants.{Forbidden}
+use Rattle.encode.specs.Encode.{Encoded}
+use Rattle.std.specs.Prelude.{Err}
+use Rattle.encode.specs.declared.EncodeError.TheVariants.{Forbidden}
 use Rattle.udid.specs.declared.Udid.{Udid}
 use Rattle.commands.specs.SendingLaws.{listed_exactly}
 use Rattle.commands.specs.Sending.{Unsendable}
@@ -60,7 +61,7 @@ module _ (kind : ℕ) (u : Udid) (a : Address) (reply before : List ℕ) (h : Hb
   abbrev answered : Encoded
   answered = encoded (protocol_for (command_of kind u a)) true (message_of (command_of kind u a) reply) (length before / 2)
 
-  forbidden : h.answer ≡ 1 → answered ≡ Forbidden
+  forbidden : h.answer ≡ 1 → answered ≡ Err Forbidden
   forbidden e = is_forbidden answered (ap (λ (x : HbWritten). x.answer) (sym w.answer) ∙ e)
 
   -- HB_PUT_COMMAND ANSWERS 1 EXACTLY for a kind above 2, a reply of more than 255 bytes and an Assign of a number above 127

@@ -10,7 +10,6 @@ use crate::parts::{HbUdid, identifier, udid_in};
 use c_codec::codec::{HbWritten, written};
 use commands::command::{Command, End, Handed, Reason};
 use commands::request::put_command;
-use encode::Encoded;
 use pairs::put_pairs;
 use udid::Udid;
 use wire::address::Address;
@@ -137,7 +136,7 @@ pub fn put_command_pairs(
     let k = command_of(kind, udid_in(u), Address(address));
     let mut buf = [0u16; 525];
     let r = put_command(k, reply, &mut buf);
-    let Encoded::Written(n) = r else {
+    let Ok(n) = r else {
         return written(1, 0);
     };
     if put_pairs(out, &buf[..n]) {

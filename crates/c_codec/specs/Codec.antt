@@ -3,7 +3,7 @@ use Rattle.std.specs.Prelude.{◌≡◌, Bool, List, ℕ, ◌/◌, length, Ok, E
 use Rattle.lists.specs.Onto.{onto}
 use Rattle.trace.specs.Shapes.{shape_of}
 use Rattle.trace.specs.Trace.{Message, trace}
-use Rattle.encode.specs.declared.Encoded.{Encoded}
+use Rattle.encode.specs.Encode.{Encoded}
 use Rattle.encode.specs.Encode.{encode_number, encoded, symbols_of}
 use Rattle.scan.specs.Numbers.{refusal_number}
 use Rattle.scan.specs.Decoded.{Decoded}

@@ -8,8 +8,9 @@ use Rattle.lists.specs.Onto.{onto}
 use Rattle.lists.specs.OntoLaws.{length_onto}
 use Rattle.trace.specs.Shapes.{shape_of}
 use Rattle.trace.specs.Trace.{Message, trace}
-use Rattle.encode.specs.declared.Encoded.{Encoded}
-use Rattle.encode.specs.declared.Encoded.TheVariants.{Written, Forbidden, OutputTooShort}
+use Rattle.encode.specs.Encode.{Encoded}
+use Rattle.std.specs.Prelude.{Ok, Err}
+use Rattle.encode.specs.declared.EncodeError.TheVariants.{Forbidden, OutputTooShort}
 use Rattle.encode.specs.Encode.{encoded, symbols_of}
 use Rattle.encode.specs.Listed.{Listed}
 use Rattle.encode.specs.EncodeLaws.{forbidden_exactly, too_short_exactly, written_exactly}
@@ -19,25 +20,25 @@ use Rattle.pairs.specs.PairLaws.{pair_at, length_pairs}
 use Rattle.c_codec.specs.Codec.{told, WrotePairs, WroteSymbols}
 
 -- the case of each number
-is_written : (r : Encoded) → (told r).answer ≡ 0 → r ≡ Written (told r).symbols
-is_written (Written n) e = refl
-is_written Forbidden e = absurd (omega arith)
-is_written OutputTooShort e = absurd (omega arith)
+is_written : (r : Encoded) → (told r).answer ≡ 0 → r ≡ Ok (told r).symbols
+is_written (Ok n) e = refl
+is_written (Err Forbidden) e = absurd (omega arith)
+is_written (Err OutputTooShort) e = absurd (omega arith)
 
-pub is_forbidden : (r : Encoded) → (told r).answer ≡ 1 → r ≡ Forbidden
-is_forbidden (Written n) e = absurd (omega arith)
-is_forbidden Forbidden e = refl
-is_forbidden OutputTooShort e = absurd (omega arith)
+pub is_forbidden : (r : Encoded) → (told r).answer ≡ 1 → r ≡ Err Forbidden
+is_forbidden (Ok n) e = absurd (omega arith)
+is_forbidden (Err Forbidden) e = refl
+is_forbidden (Err OutputTooShort) e = absurd (omega arith)
 
-is_short_lem : (r : Encoded) → (told r).answer ≡ 2 → r ≡ OutputTooShort
-is_short_lem (Written n) e = absurd (omega arith)
-is_short_lem Forbidden e = absurd (omega arith)
-is_short_lem OutputTooShort e = refl
+is_short_lem : (r : Encoded) → (told r).answer ≡ 2 → r ≡ Err OutputTooShort
+is_short_lem (Ok n) e = absurd (omega arith)
+is_short_lem (Err Forbidden) e = absurd (omega arith)
+is_short_lem (Err OutputTooShort) e = refl
 
 no_symbols : (r : Encoded) (tr : List ℕ) → ((told r).answer ≡ 0 → ⊥) → ((told r).symbols ≡ 0) × (symbols_of r tr ≡ [])
-no_symbols (Written n) tr z = absurd (z refl)
-no_symbols Forbidden tr z = (refl, refl)
-no_symbols OutputTooShort tr z = (refl, refl)
+no_symbols (Ok n) tr z = absurd (z refl)
+no_symbols (Err Forbidden) tr z = (refl, refl)
+no_symbols (Err OutputTooShort) tr z = (refl, refl)
 
 module _ (protocol : ℕ) (pec : Bool) (t : Message) (room : ℕ) (h : HbWritten) (e : h ≡ told (encoded protocol pec t room)) where
   answer_is : h.answer ≡ (told (encoded protocol pec t room)).answer
@@ -59,10 +60,10 @@ module _ (protocol : ℕ) (pec : Bool) (t : Message) (room : ℕ) (h : HbWritten
       (λ q. f.0 (is_short_lem (encoded protocol pec t room) (sym answer_is ∙ q)), λ l. answer_is ∙ ap (λ (x : Encoded). (told x).answer) (f.1 l))
 
   -- with 0 the symbols are those of the trace
-  pub is_trace : h.answer ≡ 0 → encoded protocol pec t room ≡ Written (length (trace (shape_of protocol) pec t))
+  pub is_trace : h.answer ≡ 0 → encoded protocol pec t room ≡ Ok (length (trace (shape_of protocol) pec t))
   is_trace q =
       let w = is_written (encoded protocol pec t room) (sym answer_is ∙ q) in
-      w ∙ ap Written ((written_exactly protocol pec t room (told (encoded protocol pec t room)).symbols).0 w).1
+      w ∙ ap Ok ((written_exactly protocol pec t room (told (encoded protocol pec t room)).symbols).0 w).1
 
   pub written_length : h.answer ≡ 0 → h.symbols ≡ length (trace (shape_of protocol) pec t)
   written_length q = symbols_is ∙ ap (λ (x : Encoded). (told x).symbols) (is_trace q)

@@ -6,7 +6,6 @@ ghost use Rattle.pairs.specs.Pairs.{symbols_in};
 ghost use Rattle.c_codec.specs.Codec.{answer_of, WrotePairs, ReadSymbols};
 
 use crate::answer::{HbDecoded, decoded};
-use encode::Encoded;
 use pairs::{get_pairs, put_pairs};
 use wire::address::Address;
 
@@ -49,7 +48,7 @@ pub fn encode_pairs(
         received,
         &mut buf,
     );
-    let Encoded::Written(n) = r else {
+    let Ok(n) = r else {
         return written(1, 0);
     };
     if put_pairs(out, &buf[..n]) {

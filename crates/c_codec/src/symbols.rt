@@ -4,8 +4,8 @@ ghost use Rattle.c_codec.specs.Numbers.{truth};
 ghost use Rattle.c_codec.specs.Codec.{WroteSymbols, ReadSymbols};
 
 use crate::answer::{HbDecoded, decoded};
-use crate::codec::HbWritten;
-use encode::Encoded;
+use crate::codec::{HbWritten, written};
+use encode::EncodeError;
 use wire::address::Address;
 
 // The encoder.
@@ -32,18 +32,9 @@ pub fn encode_symbols(
         out,
     );
     match r {
-        Encoded::Written(n) => HbWritten {
-            answer: 0,
-            symbols: n as u32,
-        },
-        Encoded::Forbidden => HbWritten {
-            answer: 1,
-            symbols: 0,
-        },
-        Encoded::OutputTooShort => HbWritten {
-            answer: 2,
-            symbols: 0,
-        },
+        Ok(n) => written(0, n as u32),
+        Err(EncodeError::Forbidden) => written(1, 0),
+        Err(EncodeError::OutputTooShort) => written(2, 0),
     }
 }
 

@@ -1,6 +1,6 @@
 -- A module as a struct for C, there and back, and what each call hands back.
-use Rattle.module.specs.declared.resume.Resumed.{Resumed}
-use Rattle.module.specs.declared.resume.Resumed.TheVariants.{Ready, Malformed, NoHome}
+use Rattle.std.specs.Prelude.{Result, Ok, Err, is_some, unwrap_or}
+use Rattle.module.specs.declared.resume.RecordError.{RecordError}
 use Rattle.module.specs.declared.state.Lasting.{Lasting}
 use Rattle.module.specs.declared.state.Module.{Module}
 use Rattle.module.specs.declared.state.Heard.{Heard}
@@ -40,14 +40,14 @@ told_module m = record {
 abbrev pub told_heard : Heard → HbHeard
 told_heard h = record { after = told_module h.after; ack = bit h.ack }
 
+-- FFh, which holds nothing down, stands for no byte
 abbrev pub told_supplied : Supplied → HbSupplied
-told_supplied s = record { after = told_module s.after; drives = bit s.drives; byte = s.byte }
+told_supplied s = record { after = told_module s.after; drives = bit (is_some s.byte); byte = unwrap_or s.byte 0xFF }
 
 -- a refusal has no module: every part of it is 0
 abbrev pub no_module : HbModule
 no_module = record { udid = record { high = 0; low = 0 }; fresh = 0; home = 0; valid = 0; address = 0; resolved = 0; phase = 0; place = 0; pec = 0; given = 0 }
 
-abbrev pub told_resumed : Resumed → HbResumed
-told_resumed (Ready m) = record { after = told_module m; answer = resumed_number (Ready m) }
-told_resumed Malformed = record { after = no_module; answer = resumed_number Malformed }
-told_resumed NoHome = record { after = no_module; answer = resumed_number NoHome }
+abbrev pub told_resumed : Result Module RecordError → HbResumed
+told_resumed (Ok m) = record { after = told_module m; answer = resumed_number (Ok m) }
+told_resumed (Err e) = record { after = no_module; answer = resumed_number (Err e) }

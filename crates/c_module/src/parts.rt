@@ -6,7 +6,7 @@ ghost use Rattle.c_module.specs.Modules.{lasting_in, module_in, told_module, tol
 use crate::phases::{phase_in, phase_number};
 use c_arp::parts::{HbUdid, identifier, udid_in};
 use c_codec::numbers::as_number;
-use module::resume::Resumed;
+use module::resume::RecordError;
 use module::state::{Heard, Lasting, Module, Supplied};
 
 // A module between two events on the bus. The parts up to resolved outlast a packet.
@@ -117,15 +117,15 @@ pub(crate) fn told_heard(h: Heard) -> HbHeard
     }
 }
 
-// The answer to a byte asked for, for C.
+// The answer to a byte asked for, for C. Where there is none, FFh stands for it, which holds nothing down.
 pub(crate) fn told_supplied(s: Supplied) -> HbSupplied
     ensures { result ≡ told_supplied s }
 {
     let m = s.after;
     HbSupplied {
         after: told_module(m),
-        drives: as_number(s.drives) as u32,
-        byte: s.byte as u32,
+        drives: as_number(s.byte.is_some()) as u32,
+        byte: s.byte.unwrap_or(0xFF) as u32,
     }
 }
 
@@ -148,19 +148,19 @@ fn no_module() -> HbModule
 }
 
 // A module from a record, or why there is none, for C.
-pub(crate) fn told_resumed(r: Resumed) -> HbResumed
+pub(crate) fn told_resumed(r: Result<Module, RecordError>) -> HbResumed
     ensures { result ≡ told_resumed r }
 {
     match r {
-        Resumed::Ready(m) => HbResumed {
+        Ok(m) => HbResumed {
             after: told_module(m),
             answer: 0,
         },
-        Resumed::Malformed => HbResumed {
+        Err(RecordError::Malformed) => HbResumed {
             after: no_module(),
             answer: 10,
         },
-        Resumed::NoHome => HbResumed {
+        Err(RecordError::NoHome) => HbResumed {
             after: no_module(),
             answer: 12,
         },

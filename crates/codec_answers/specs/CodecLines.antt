@@ -4,8 +4,9 @@ use Rattle.text.specs.Chars.{chars}
 use Rattle.writing.specs.Written.{decimal_of, pair_of}
 use Rattle.requests.specs.declared.expected.Expected.{Expected}
 use Rattle.requests.specs.declared.expected.Expected.TheVariants.{Verb, Byte, Symbol, Protocol, Pec, Sent, Received, Udid, End, Targets, OddByte, Flag, Fresh, Event, Module, Line}
-use Rattle.encode.specs.declared.Encoded.{Encoded}
-use Rattle.encode.specs.declared.Encoded.TheVariants.{Written, Forbidden, OutputTooShort}
+use Rattle.encode.specs.Encode.{Encoded}
+use Rattle.std.specs.Prelude.{Ok, Err}
+use Rattle.encode.specs.declared.EncodeError.TheVariants.{Forbidden, OutputTooShort}
 use Rattle.pieces.specs.Pieces.{newline, front, symbols_text}
 
 -- ---- what is no request
@@ -44,6 +45,6 @@ abbrev pub trace_text : List ℕ → List ℕ
 trace_text s = (chars "0 trace" ++ symbols_text s) ++ newline
 
 abbrev pub encoded_text : Encoded → List ℕ → List ℕ
-encoded_text (Written n) trace = trace_text (front n trace)
-encoded_text Forbidden trace = chars "1\n"
-encoded_text OutputTooShort trace = chars "2\n"
+encoded_text (Ok n) trace = trace_text (front n trace)
+encoded_text (Err Forbidden) trace = chars "1\n"
+encoded_text (Err OutputTooShort) trace = chars "2\n"

@@ -3,7 +3,7 @@ ghost use Rattle.std.specs.Prelude.{◌++◌};
 ghost use Rattle.writing.specs.Written.{Appended};
 ghost use Rattle.codec_answers.specs.CodecLines.{pec_text, trace_text, encoded_text};
 
-use encode::Encoded;
+use encode::EncodeError;
 use pieces::list::{put_symbols, symbols_part};
 use pieces::piece::{hex_line, put_line};
 use writing::write::put;
@@ -25,12 +25,12 @@ fn put_trace(out: &mut [u8], at: usize, s: &[u16]) -> usize
 }
 
 // What the encoder answered: the trace that stands at the front of a buffer, or the number of a refusal.
-pub fn put_encoded(out: &mut [u8], at: usize, e: Encoded, trace: &[u16]) -> usize
+pub fn put_encoded(out: &mut [u8], at: usize, e: Result<usize, EncodeError>, trace: &[u16]) -> usize
     ensures { Appended out.old at (encoded_text e trace.now) out.new result }
 {
     match e {
-        Encoded::Written(n) => put_trace(out, at, symbols_part(trace, 0, n)),
-        Encoded::Forbidden => put_line(out, at, b"1"),
-        Encoded::OutputTooShort => put_line(out, at, b"2"),
+        Ok(n) => put_trace(out, at, symbols_part(trace, 0, n)),
+        Err(EncodeError::Forbidden) => put_line(out, at, b"1"),
+        Err(EncodeError::OutputTooShort) => put_line(out, at, b"2"),
     }
 }

@@ -9,8 +9,9 @@ use lib.Seq.{set_at}
 use borrow.Author.Tests.{lt-ltb, le-ltb}
 use Rattle.lists.specs.Choice.{pick}
 use Rattle.encode.specs.Encode.{message, refused_by, encoded_by, Wrote}
-use Rattle.encode.specs.declared.Encoded.{Encoded}
-use Rattle.encode.specs.declared.Encoded.TheVariants.{Forbidden}
+use Rattle.encode.specs.Encode.{Encoded}
+use Rattle.std.specs.Prelude.{Err}
+use Rattle.encode.specs.declared.EncodeError.TheVariants.{Forbidden}
 use Rattle.udid.specs.Bytes.{udid_bytes, put_at}
 use Rattle.udid.proofs.UdidLaws.{length_udid}
 use Rattle.udid.proofs.WindowLaws.{put_fits}
@@ -45,14 +46,14 @@ pub wrote_same_command : (k j : Handed) (reply before : List ℕ) (r : Encoded) 
 wrote_same_command k j reply before r after e = subst (λ (x : Handed). Wrote (protocol_for x) true (message_of x reply) before r after) (sym e)
 
 -- 255 is refused, and nothing is written
-nothing_written : (k : Handed) (reply before : List ℕ) → protocol_for k ≡ 255 → Wrote (protocol_for k) true (message_of k reply) before Forbidden before
+nothing_written : (k : Handed) (reply before : List ℕ) → protocol_for k ≡ 255 → Wrote (protocol_for k) true (message_of k reply) before (Err Forbidden) before
 unfolding encoded_by refused_by
 nothing_written k reply before e = record { answer = rw e; output = refl }
 
 -- an Assign of a number above 127 is refused
-pub no_address_refused : (u : Udid) (a : Address) (before : List ℕ) → 127 < a.0 → Wrote (protocol_for (Send (Assign u a))) true (message_of (Send (Assign u a)) []) before Forbidden before
+pub no_address_refused : (u : Udid) (a : Address) (before : List ℕ) → 127 < a.0 → Wrote (protocol_for (Send (Assign u a))) true (message_of (Send (Assign u a)) []) before (Err Forbidden) before
 no_address_refused u a before h = nothing_written (Send (Assign u a)) [] before (ap (λ (b : Bool). pick b 255 block_write) (lt-ltb 127 a.0 h))
 
 -- an end is refused
-pub end_refused : (k : Handed) (e : End) (reply before : List ℕ) → k ≡ Wait e → Wrote (protocol_for k) true (message_of k reply) before Forbidden before
+pub end_refused : (k : Handed) (e : End) (reply before : List ℕ) → k ≡ Wait e → Wrote (protocol_for k) true (message_of k reply) before (Err Forbidden) before
 end_refused k e reply before q = nothing_written k reply before (ap protocol_for q)

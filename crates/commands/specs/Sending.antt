@@ -2,8 +2,8 @@
 use Rattle.std.specs.Prelude.{ℕ, ◌*◌, ◌≤◌, ◌<◌, ◌≡◌, List, ◌++◌, length, get_or, drop}
 use Rattle.lists.specs.Onto.{onto}
 use Rattle.encode.specs.Encode.{encode_number}
-use Rattle.encode.specs.declared.Encoded.{Encoded}
-use Rattle.encode.specs.declared.Encoded.TheVariants.{Written}
+use Rattle.encode.specs.Encode.{Encoded}
+use Rattle.std.specs.Prelude.{Ok}
 use Rattle.udid.specs.Bytes.{udid_bytes}
 use Rattle.udid.specs.declared.Udid.{Udid}
 use Rattle.commands.specs.CommandTraces.{assign_trace}
@@ -14,7 +14,7 @@ use Rattle.commands.specs.declared.command.Handed.TheVariants.{Send, Wait}
 
 -- what was written is the trace of the command
 abbrev pub Sent : Handed → List ℕ → List ℕ → Encoded → List ℕ → Type 0
-Sent k reply before r after = (r ≡ Written (length (trace_of k reply))) × (after ≡ onto (trace_of k reply) before)
+Sent k reply before r after = (r ≡ Ok (length (trace_of k reply))) × (after ≡ onto (trace_of k reply) before)
 
 -- what is not sent: a reply of more than 255 bytes, an Assign of a number above 127, and what is no command
 abbrev pub Unsendable : Handed → List ℕ → Type 0

@@ -19,8 +19,8 @@ use Rattle.trace.proofs.LengthLaws.{length_acked}
 use Rattle.encode.specs.Encode.{symbols_of, Wrote, encode_number}
 use Rattle.encode.specs.EncodeLaws.{written_valid, one_outcome, answer_1, answer_2, refusal_untouched}
 use Rattle.encode.specs.Listed.{Listed, unknown_protocol, address_above_127, direction_above_1, quick_with_pec, lacking_command, lacking_direction, forbidden_length}
-use Rattle.encode.specs.declared.Encoded.{Encoded}
-use Rattle.encode.specs.declared.Encoded.TheVariants.{Written}
+use Rattle.encode.specs.Encode.{Encoded}
+use Rattle.std.specs.Prelude.{Ok}
 use Rattle.udid.specs.Bytes.{udid_bytes}
 use Rattle.udid.proofs.UdidLaws.{length_udid}
 use Rattle.udid.specs.declared.Udid.{Udid}
@@ -38,7 +38,7 @@ use Rattle.commands.specs.declared.command.Handed.TheVariants.{Send, Wait}
 module _ (k : Handed) (reply before : List ℕ) (r : Encoded) (after : List ℕ) (w : Wrote (protocol_of k) true (message_of k reply) before r after) (room : length (trace_of k reply) ≤ length before) where
   written : protocol_of k < protocols → (protocol_of k ≡ 0 → true ≡ false) → (message_of k reply).command < 256 → Valid (shape_of (protocol_of k)) (message_of k reply) → Sent k reply before r after
   written h z c v =
-      let e : r ≡ Written (length (trace_of k reply))
+      let e : r ≡ Ok (length (trace_of k reply))
       = w.answer ∙ (written_valid (protocol_of k) true (message_of k reply) (length before) (length (trace_of k reply)) c v.sent_bytes v.received_bytes).1 (h, z, v, refl, room) in
       (e, w.output ∙ ap (λ (x : Encoded). onto (symbols_of x (trace_of k reply)) before) e)
 

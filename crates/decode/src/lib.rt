@@ -13,6 +13,7 @@ use crate::received::{received_length, received_place};
 use crate::sent::{sent_length, sent_place};
 use scan::answer::{Decoded, Refusal, Refused};
 use scan::whole::decode_by;
+use step::next::Rules;
 use trace::protocol::{is_forbidden, shape_of};
 use trace::shape::Shape;
 
@@ -87,7 +88,7 @@ fn decode_into(
             place: 0,
         });
     }
-    let a = decode_by(number, sh, pec, trace);
+    let a = decode_by(number, Rules { shape: sh, pec }, trace);
     put_sent(sh, a, trace, sent);
     put_received(pec, a, trace, received);
     a

@@ -8,7 +8,7 @@ use arp::start::NEVER_PICKED;
 use arp::state::{Controller, Stepped};
 use commands::command::{Command, Handed};
 use commands::request::put_command;
-use encode::Encoded;
+use encode::EncodeError;
 use pool::Pool;
 use std::io;
 use udid::Udid;
@@ -72,13 +72,13 @@ fn reply_data() -> [u8; 17]
 }
 
 // How many symbols were written; none where there was no room.
-fn symbols(e: Encoded) -> usize
+fn symbols(e: Result<usize, EncodeError>) -> usize
     ensures { result ≤ 64 }
 {
-    let Encoded::Written(n) = e else {
-        return 0;
-    };
-    if n <= 64 { n } else { 0 }
+    match e {
+        Ok(n) if n <= 64 => n,
+        _ => 0,
+    }
 }
 
 // README.md shows the lines from here ..

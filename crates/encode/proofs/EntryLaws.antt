@@ -19,8 +19,9 @@ use Rattle.trace.proofs.LengthLaws.{trace_length_lem}
 use Rattle.trace.proofs.RoomLaws.{room_by_lem, some_length, some_room}
 use Rattle.trace.proofs.ShapeLaws.{sane}
 use Rattle.trace.proofs.ValidLaws.{allowed_valid}
-use Rattle.encode.specs.declared.Encoded.{Encoded}
-use Rattle.encode.specs.declared.Encoded.TheVariants.{Written, Forbidden, OutputTooShort}
+use Rattle.encode.specs.Encode.{Encoded}
+use Rattle.std.specs.Prelude.{Ok, Err}
+use Rattle.encode.specs.declared.EncodeError.TheVariants.{Forbidden, OutputTooShort}
 use Rattle.encode.specs.Encode.{refused_by, encoded_by, WroteBy, Wrote}
 use Rattle.encode.specs.Pieces.{fields_fit, Ready}
 
@@ -64,7 +65,7 @@ module _ (sh : Shape) (barred pec : Bool) (t : Message) where
           absurd (omega (arith, z, room_by_lem sh barred pec (length t.sent) (length t.received) false true eb eh, some_length sh barred pec (length t.sent) (length t.received)))
 
   -- a refusal leaves the output as it was
-  pub refused_wrote : (l : List ℕ) → refused_by sh barred t ≡ true → WroteBy sh barred pec t l Forbidden l
+  pub refused_wrote : (l : List ℕ) → refused_by sh barred t ≡ true → WroteBy sh barred pec t l (Err Forbidden) l
   unfolding encoded_by
   refused_wrote l e = record { answer = rw e; output = refl }
 
@@ -83,15 +84,15 @@ module _ (sh : Shape) (barred pec : Bool) (t : Message) where
       length_is : n ≡ length (trace sh pec t)
       length_is = en ∙ given.2 ∙ sym (trace_length_lem sh pec t)
 
-      pub short_wrote : (l : List ℕ) → length l < n → WroteBy sh barred pec t l OutputTooShort l
+      pub short_wrote : (l : List ℕ) → length l < n → WroteBy sh barred pec t l (Err OutputTooShort) l
       unfolding encoded_by
       short_wrote l h = record { answer = rw (not_refused, lt-ltb (length l) (length (trace sh pec t)) (omega (arith, length_is))); output = refl }
 
-      pub done_wrote : (l x : List ℕ) → n ≤ length l → x ≡ onto (trace sh pec t) l → WroteBy sh barred pec t l (Written n) x
+      pub done_wrote : (l x : List ℕ) → n ≤ length l → x ≡ onto (trace sh pec t) l → WroteBy sh barred pec t l (Ok n) x
       unfolding encoded_by
       done_wrote l x h e =
           record {
-            answer = ap Written length_is ∙ sym (rw (not_refused, le-ltb (length l) (length (trace sh pec t)) (omega (arith, length_is))));
+            answer = ap Ok length_is ∙ sym (rw (not_refused, le-ltb (length l) (length (trace sh pec t)) (omega (arith, length_is))));
             output = e;
           }
 

@@ -11,8 +11,9 @@ use Rattle.trace.specs.declared.shape.Shape.{Shape}
 use Rattle.trace.specs.Trace.{Message, trace, Valid}
 use Rattle.trace.specs.Allowed.{allowed}
 use Rattle.trace.proofs.ValidLaws.{allowed_valid, valid_allowed}
-use Rattle.encode.specs.declared.Encoded.{Encoded}
-use Rattle.encode.specs.declared.Encoded.TheVariants.{Written, Forbidden, OutputTooShort}
+use Rattle.encode.specs.Encode.{Encoded}
+use Rattle.std.specs.Prelude.{Ok, Err}
+use Rattle.encode.specs.declared.EncodeError.TheVariants.{Forbidden, OutputTooShort}
 use Rattle.encode.specs.Encode.{encode_number, refused_by, encoded_by, symbols_of, WroteBy}
 
 -- ---- the answer
@@ -21,36 +22,36 @@ module _ (sh : Shape) (barred pec : Bool) (t : Message) (room : ℕ) where
   abbrev symbols : ℕ
   symbols = length (trace sh pec t)
 
-  by_tests : (b s : Bool) → refused_by sh barred t ≡ b → ltb room symbols ≡ s → encoded_by sh barred pec t room ≡ pick b Forbidden (pick s OutputTooShort (Written symbols))
+  by_tests : (b s : Bool) → refused_by sh barred t ≡ b → ltb room symbols ≡ s → encoded_by sh barred pec t room ≡ pick b (Err Forbidden) (pick s (Err OutputTooShort) (Ok symbols))
   unfolding encoded_by
   by_tests b s e f = rw (e, f)
 
   -- 1: exactly where a test of refusal 1 fails
-  pub forbidden_exactly : (encoded_by sh barred pec t room ≡ Forbidden) ↔ (refused_by sh barred t ≡ true)
+  pub forbidden_exactly : (encoded_by sh barred pec t room ≡ Err Forbidden) ↔ (refused_by sh barred t ≡ true)
   forbidden_exactly = (λ e. go e (refused_by sh barred t) refl _ refl, λ e. by_tests true _ e refl)
     where
-      go : encoded_by sh barred pec t room ≡ Forbidden → (b : Bool) → refused_by sh barred t ≡ b → (s : Bool) → ltb room symbols ≡ s → refused_by sh barred t ≡ true
+      go : encoded_by sh barred pec t room ≡ Err Forbidden → (b : Bool) → refused_by sh barred t ≡ b → (s : Bool) → ltb room symbols ≡ s → refused_by sh barred t ≡ true
       go e true eb s es = eb
       go e false eb true es = let f = by_tests false true eb es in zero_is_one cc
       go e false eb false es = let f = by_tests false false eb es in zero_is_one cc
 
   -- 2: none fails, and the room is shorter than the trace
-  pub too_short_exactly : (encoded_by sh barred pec t room ≡ OutputTooShort) ↔ ((refused_by sh barred t ≡ false) × (room < symbols))
+  pub too_short_exactly : (encoded_by sh barred pec t room ≡ Err OutputTooShort) ↔ ((refused_by sh barred t ≡ false) × (room < symbols))
   too_short_exactly = (λ e. go e (refused_by sh barred t) refl _ refl, λ h. by_tests false true h.0 (lt-ltb room symbols h.1))
     where
-      go : encoded_by sh barred pec t room ≡ OutputTooShort → (b : Bool) → refused_by sh barred t ≡ b → (s : Bool) → ltb room symbols ≡ s → (refused_by sh barred t ≡ false) × (room < symbols)
+      go : encoded_by sh barred pec t room ≡ Err OutputTooShort → (b : Bool) → refused_by sh barred t ≡ b → (s : Bool) → ltb room symbols ≡ s → (refused_by sh barred t ≡ false) × (room < symbols)
       go e true eb s es = let f = by_tests true s eb es in zero_is_one cc
       go e false eb true es = (eb, ltb-true room symbols es)
       go e false eb false es = let f = by_tests false false eb es in zero_is_one cc
 
   -- 0 with n: none fails, n is the length of the trace, and there is room for it
-  pub written_exactly : (n : ℕ) → (encoded_by sh barred pec t room ≡ Written n) ↔ ((refused_by sh barred t ≡ false) × (n ≡ symbols) × (n ≤ room))
+  pub written_exactly : (n : ℕ) → (encoded_by sh barred pec t room ≡ Ok n) ↔ ((refused_by sh barred t ≡ false) × (n ≡ symbols) × (n ≤ room))
   written_exactly n = (
     λ e. go e (refused_by sh barred t) refl _ refl,
-    λ h. by_tests false false h.0 (le-ltb room symbols (omega (arith, h.1, h.2))) ∙ ap Written (sym h.1),
+    λ h. by_tests false false h.0 (le-ltb room symbols (omega (arith, h.1, h.2))) ∙ ap Ok (sym h.1),
   )
     where
-      go : encoded_by sh barred pec t room ≡ Written n → (b : Bool) → refused_by sh barred t ≡ b → (s : Bool) → ltb room symbols ≡ s → (refused_by sh barred t ≡ false) × (n ≡ symbols) × (n ≤ room)
+      go : encoded_by sh barred pec t room ≡ Ok n → (b : Bool) → refused_by sh barred t ≡ b → (s : Bool) → ltb room symbols ≡ s → (refused_by sh barred t ≡ false) × (n ≡ symbols) × (n ≤ room)
       go e true eb s es = let f = by_tests true s eb es in zero_is_one cc
       go e false eb true es = let f = by_tests false true eb es in zero_is_one cc
       go e false eb false es =
@@ -76,7 +77,7 @@ taken_exactly sh barred t c s r = (
 -- ---- the output
 
 -- what is written: the trace at the front, and behind it what was there
-pub front_is_trace : (sh : Shape) (barred pec : Bool) (t : Message) (before : List ℕ) (n : ℕ) (after : List ℕ) → WroteBy sh barred pec t before (Written n) after
+pub front_is_trace : (sh : Shape) (barred pec : Bool) (t : Message) (before : List ℕ) (n : ℕ) (after : List ℕ) → WroteBy sh barred pec t before (Ok n) after
     → (take n after ≡ trace sh pec t) × (drop n after ≡ drop n before)
 front_is_trace sh barred pec t before n after w =
     let tr : List ℕ = trace sh pec t in
@@ -88,9 +89,9 @@ front_is_trace sh barred pec t before n after w =
 -- a refusal changes no element
 pub refusal_untouched : (sh : Shape) (barred pec : Bool) (t : Message) (before : List ℕ) (r : Encoded) (after : List ℕ) → WroteBy sh barred pec t before r after
     → ((encode_number r).0 ≡ 0 → ⊥) → after ≡ before
-refusal_untouched sh barred pec t before (Written n) after w z = absurd (z refl)
-refusal_untouched sh barred pec t before Forbidden after w z = w.output
-refusal_untouched sh barred pec t before OutputTooShort after w z = w.output
+refusal_untouched sh barred pec t before (Ok n) after w z = absurd (z refl)
+refusal_untouched sh barred pec t before (Err Forbidden) after w z = w.output
+refusal_untouched sh barred pec t before (Err OutputTooShort) after w z = w.output
 
 -- two outcomes that keep the promise for the same inputs are equal
 pub one_outcome : (sh : Shape) (barred pec : Bool) (t : Message) (before : List ℕ) (r r' : Encoded) (after after' : List ℕ) → WroteBy sh barred pec t before r after

@@ -11,8 +11,9 @@ use Rattle.encode.specs.Encode.{encode_number, refused, Wrote}
 use Rattle.encode.specs.EncodeLaws.{unlisted_valid, answer_0, answer_1, answer_2}
 use Rattle.encode.specs.Listed.{Listed}
 use Rattle.encode.specs.ListedLaws.{refused_listed, listed_refused}
-use Rattle.encode.specs.declared.Encoded.{Encoded}
-use Rattle.encode.specs.declared.Encoded.TheVariants.{Written, Forbidden, OutputTooShort}
+use Rattle.encode.specs.Encode.{Encoded}
+use Rattle.std.specs.Prelude.{Ok, Err}
+use Rattle.encode.specs.declared.EncodeError.TheVariants.{Forbidden, OutputTooShort}
 
 -- whether a case is listed is decided by the tests
 not_unlisted : (protocol : ℕ) (pec : Bool) (t : Message) → ((Listed protocol pec t → ⊥) → ⊥) → Listed protocol pec t
@@ -64,7 +65,7 @@ module _ (protocol : ℕ) (pec : Bool) (t : Message) (command : t.command < 256)
   -- with 0 the trace stands at the front of the output, and the rest is as it was
   pub encode_writes : (before : List ℕ) (r : Encoded) (after : List ℕ) → Wrote protocol pec t before r after → (encode_number r).0 ≡ 0
       → (x : List ℕ) → TraceOf protocol pec t x → after ≡ x ++ drop (length x) before
-  encode_writes before (Written n) after w e x l =
+  encode_writes before (Ok n) after w e x l =
       w.output ∙ ap (λ (y : List ℕ). y ++ drop (length y) before) (sym (listed_trace protocol pec t x l).2)
-  encode_writes before Forbidden after w e x l = absurd (omega (arith, e))
-  encode_writes before OutputTooShort after w e x l = absurd (omega (arith, e))
+  encode_writes before (Err Forbidden) after w e x l = absurd (omega (arith, e))
+  encode_writes before (Err OutputTooShort) after w e x l = absurd (omega (arith, e))

@@ -20,10 +20,9 @@ mod read;
 mod trace_pec;
 mod write;
 
-// What the encoder answers: done, with the length of the trace that it wrote; 1; 2.
-#[derive(Clone, Copy)]
-pub enum Encoded {
-    Written(usize),
+// Why the encoder refuses: 1; 2. Else it answers the length of the trace that it wrote.
+#[derive(Clone, Copy, PartialEq, Eq)]
+pub enum EncodeError {
     Forbidden,
     OutputTooShort,
 }
@@ -75,23 +74,23 @@ fn encode_by(
     sent: &[u8],
     received: &[u8],
     out: &mut [u16],
-) -> Encoded
+) -> Result<usize, EncodeError>
     requires { Sane sh }
     ensures { WroteBy sh forbidden pec (message address.0 direction command sent.now received.now) out.old result out.new }
 {
     // No trace is of length 0: that answer is a protocol, a PEC or a length that is refused.
     let n = room_by(sh, forbidden, pec, sent.len(), received.len());
     if n == 0 {
-        return Encoded::Forbidden;
+        return Err(EncodeError::Forbidden);
     }
     if !fields_fit(sh, address, direction, command) {
-        return Encoded::Forbidden;
+        return Err(EncodeError::Forbidden);
     }
     if out.len() < n {
-        return Encoded::OutputTooShort;
+        return Err(EncodeError::OutputTooShort);
     }
     put_trace(out, sh, pec, address, direction, command, sent, received);
-    Encoded::Written(n)
+    Ok(n)
 }
 
 // The trace of a message of a protocol of the table.
@@ -104,7 +103,7 @@ pub fn encode(
     sent: &[u8],
     received: &[u8],
     out: &mut [u16],
-) -> Encoded
+) -> Result<usize, EncodeError>
     ensures { Wrote protocol pec (message address.0 direction command sent.now received.now) out.old result out.new }
 {
     let sh = shape_of(protocol);

@@ -1,6 +1,6 @@
 -- The modules when the read address of a Get UDID has come: those with AR clear reply, and on the wire stands what stands there when their
 -- records answer together.
-use Rattle.std.specs.Prelude.{ℕ, suc, ◌≡◌, refl, Bool, true, false, List, [], ◌∷◌, ◌++◌, map, eqb}
+use Rattle.std.specs.Prelude.{ℕ, suc, ◌≡◌, refl, Bool, true, false, List, [], ◌∷◌, ◌++◌, map, eqb, is_some, unwrap_or}
 use Rattle.std.proofs.Common.{sym, ap, ap₂, ◌∙◌, append_assoc}
 use Rattle.lists.specs.Choice.{pick, or, not}
 use Rattle.lists.specs.ChoiceLaws.{false_not_true, not_both}
@@ -45,14 +45,14 @@ answering_talks (m ∷ ms) = (go m.own.resolved, answering_talks ms)
     go true = quiet m.own
     go false = speaks {n = 19} m.own (asked_pec 0x03) 0 refl
 
-reply_first : (o : Lasting) (c : ℕ) → (supplies (at o Reply 0 c 0)).byte ≡ 17
+reply_first : (o : Lasting) (c : ℕ) → unwrap_or (supplies (at o Reply 0 c 0)).byte 0xFF ≡ 17
 unfolding supplies reply_byte
 reply_first o c = refl
 
-pub answering_drives : (m : Module) → (supplies (answering m)).drives ≡ not m.own.resolved
+pub answering_drives : (m : Module) → is_some (supplies (answering m)).byte ≡ not m.own.resolved
 answering_drives m = go m.own.resolved
   where
-    go : (b : Bool) → (supplies (replying b m.own)).drives ≡ not b
+    go : (b : Bool) → is_some (supplies (replying b m.own)).byte ≡ not b
     go true = silent_drives m.own
     go false = reply_drives m.own 0 (asked_pec 0x03)
 
@@ -76,8 +76,8 @@ answering_says : (ms : List Module) → Each (Says (bits 8 17)) (map asked (map 
 answering_says [] = tt
 answering_says (m ∷ ms) = (go m.own.resolved, answering_says ms)
   where
-    go : (b : Bool) → (supplies (replying b m.own)).drives ≡ true
-        → bits 8 (supplies (replying b m.own)).byte ≡ bits 8 17
+    go : (b : Bool) → is_some (supplies (replying b m.own)).byte ≡ true
+        → bits 8 (unwrap_or (supplies (replying b m.own)).byte 0xFF) ≡ bits 8 17
     go true e = not_both (silent_drives m.own) e
     go false e = ap (bits 8) (reply_first m.own (asked_pec 0x03))
 
@@ -107,7 +107,7 @@ wires_same [] = refl
 wires_same (m ∷ ms) = go m.own.resolved (wires_same ms)
   where
     go : (b : Bool) → wires 19 (map answering ms) ≡ waiting (records_of ms)
-        → pick (supplies (replying b m.own)).drives
+        → pick (is_some (supplies (replying b m.own)).byte)
         (byte_bits (says 19 (replying b m.own)) ∷ wires 19 (map answering ms)) (wires 19 (map answering ms))
         ≡ pick (eqb (pick b 1 0) 1) (waiting (records_of ms)) (sends (record_of m) ∷ waiting (records_of ms))
     go true r = rw (silent_drives m.own) r

@@ -1,7 +1,7 @@
 -- A command of the controller on a bus of modules. START, each byte and STOP are given to every module; an ACK stands where one module gives
 -- it; a byte read is eight bits: whoever still sends gives one bit, a zero beats a one, and who gives a one and sees a zero is told so there
 -- and then.
-use Rattle.std.specs.Prelude.{ℕ, zero, suc, Bool, true, false, List, [], ◌∷◌, ◌++◌, map, eqb}
+use Rattle.std.specs.Prelude.{ℕ, zero, suc, Bool, true, false, List, [], ◌∷◌, ◌++◌, map, eqb, is_some, unwrap_or}
 use Rattle.lists.specs.Choice.{pick, or, and, not}
 use Rattle.wire.specs.Symbols.{START, STOP, ACK, NACK}
 use Rattle.trace.specs.Trace.{nacked}
@@ -65,7 +65,7 @@ pub record Sender : Type 0 where
   pub left : List Bool
 
 abbrev pub asked : Module → Sender
-asked m = record { who = (supplies m).after; sends = (supplies m).drives; left = bits 8 (supplies m).byte }
+asked m = record { who = (supplies m).after; sends = is_some (supplies m).byte; left = bits 8 (unwrap_or (supplies m).byte 0xFF) }
 
 -- the wire is one where nobody gives a zero
 unfoldable pub line : List Sender → Bool

@@ -1,8 +1,6 @@
 -- The identifier that the controller names is a number of 128 bits, whatever trace it took.
-use Rattle.std.specs.Prelude.{Bool, true, false, List, leb, ℕ}
+use Rattle.std.specs.Prelude.{Bool, true, false, List, leb, ℕ, Option, Some, None}
 use Rattle.lists.specs.Choice.{pick}
-use Rattle.pool.specs.declared.free.Free.{Free}
-use Rattle.pool.specs.declared.free.Free.TheVariants.{At, AllUsed}
 use Rattle.udid.specs.Udids.{Fits}
 use Rattle.udid.specs.declared.Udid.{Udid}
 use Rattle.commands.specs.declared.command.Command.TheVariants.{GetUdid}
@@ -17,6 +15,7 @@ use Rattle.arp.specs.Controller.{handed, asked, counted, issued, replied, change
 use Rattle.picking.specs.Picking.{has_to_pick, chosen}
 use Rattle.arp.specs.declared.state.Controller.{Controller}
 use Rattle.rule.specs.Acted.{Names}
+use Rattle.wire.specs.declared.address.Address.{Address}
 
 asked_names : (s : Controller) → Names (asked s).command
 unfolding asked
@@ -26,9 +25,9 @@ asked_names s = go (leb 128 s.gets)
     go true = tt
     go false = tt
 
-issued_names : (s : Controller) (u : Udid) (picks : Bool) (f : Free) → Fits u → Names (issued s u picks f).command
-issued_names s u picks (At a) h = h
-issued_names s u picks AllUsed h = tt
+issued_names : (s : Controller) (u : Udid) (picks : Bool) (f : Option Address) → Fits u → Names (issued s u picks f).command
+issued_names s u picks (Some a) h = h
+issued_names s u picks None h = tt
 
 replied_names : (s : Controller) (u : Udid) (b : ℕ) → Fits u → Names (replied s u b).command
 unfolding replied

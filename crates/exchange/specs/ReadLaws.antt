@@ -1,5 +1,5 @@
 -- Bytes read byte by byte, eight bits each, are the bytes of the wire on which all that each module has to say stands at once.
-use Rattle.std.specs.Prelude.{ℕ, zero, suc, ◌+◌, ◌*◌, ◌≡◌, refl, Bool, true, false, List, [], ◌∷◌, ◌++◌, map, length, ltb}
+use Rattle.std.specs.Prelude.{ℕ, zero, suc, ◌+◌, ◌*◌, ◌≡◌, refl, Bool, true, false, List, [], ◌∷◌, ◌++◌, map, length, ltb, is_some, unwrap_or}
 use Rattle.std.proofs.Common.{sym, ap, ap₂, subst, ◌∙◌, arith, zero-add, suc-add, take_at, drop_at, lt-ltb}
 use Rattle.lists.specs.Choice.{pick, and, not}
 use Rattle.lists.specs.ChoiceLaws.{false_not_true}
@@ -100,9 +100,9 @@ pub data Talks : ℕ → Module → Type 0 where
 -- a sender whose module goes on to say n bytes, or none
 pub record Ready (n : ℕ) (s : Sender) : Type 0 where
   pub talks : Talks n s.who
-  pub same : s.sends ≡ (supplies s.who).drives
+  pub same : s.sends ≡ is_some (supplies s.who).byte
 
-pub silent_drives : (o : Lasting) → (supplies (silent_in o)).drives ≡ false
+pub silent_drives : (o : Lasting) → is_some (supplies (silent_in o)).byte ≡ false
 unfolding supplies
 silent_drives o = refl
 
@@ -110,7 +110,7 @@ silent_after : (o : Lasting) → (supplies (silent_in o)).after ≡ silent_in o
 unfolding supplies
 silent_after o = refl
 
-pub reply_drives : (o : Lasting) (k c : ℕ) → (supplies (at o Reply k c 0)).drives ≡ true
+pub reply_drives : (o : Lasting) (k c : ℕ) → is_some (supplies (at o Reply k c 0)).byte ≡ true
 unfolding supplies
 reply_drives o k c = refl
 
@@ -129,12 +129,12 @@ talks_on n m (speaks o c k e) = subst (Talks n) (sym (reply_after o k c)) (go (l
 asked_ready : (n : ℕ) (m : Module) → Talks (suc (suc n)) m → Ready (suc n) (asked m)
 asked_ready n m h = record { talks = talks_on (suc n) m h; same = go m h }
   where
-    go : (m : Module) → Talks (suc (suc n)) m → (supplies m).drives ≡ (supplies (supplies m).after).drives
-    go m (quiet o) = ap (λ (x : Module). (supplies x).drives) (sym (silent_after o))
+    go : (m : Module) → Talks (suc (suc n)) m → is_some (supplies m).byte ≡ is_some (supplies (supplies m).after).byte
+    go m (quiet o) = ap (λ (x : Module). is_some (supplies x).byte) (sym (silent_after o))
     go m (speaks o c k e) =
         reply_drives o k c
         ∙ sym (reply_drives o (k + 1) (pec_step c (reply_byte o c k)))
-        ∙ ap (λ (x : Module). (supplies x).drives)
+        ∙ ap (λ (x : Module). is_some (supplies x).byte)
         (sym (reply_after o k c ∙ ap (λ (b : Bool). pick b (at o Reply (k + 1) (pec_step c (reply_byte o c k)) 0) (silent_in o)) (lt-ltb k 18 (omega arith))))
 
 sees_ready : (n : ℕ) (w : Bool) (s : Sender) → Ready n s → Ready n (sees w s)
@@ -153,19 +153,19 @@ after_ready (suc j) n ss h = after_ready j n (map (sees (line ss)) ss) (each_mad
 
 unfoldable pub wires : ℕ → List Module → List (List Bool)
 wires n [] = []
-wires n (m ∷ ms) = pick (supplies m).drives (byte_bits (says n m) ∷ wires n ms) (wires n ms)
+wires n (m ∷ ms) = pick (is_some (supplies m).byte) (byte_bits (says n m) ∷ wires n ms) (wires n ms)
 
-pub says_next : (n : ℕ) (m : Module) → (supplies m).drives ≡ true → says (suc n) m ≡ (supplies m).byte ∷ says n (supplies m).after
+pub says_next : (n : ℕ) (m : Module) → is_some (supplies m).byte ≡ true → says (suc n) m ≡ unwrap_or (supplies m).byte 0xFF ∷ says n (supplies m).after
 unfolding says
 says_next n m e = rw e
 
 asked_fulls : (n : ℕ) (ms : List Module) → fulls n (map asked ms) ≡ wires (suc n) ms
 unfolding fulls wires
 asked_fulls n [] = refl
-asked_fulls n (m ∷ ms) = go (supplies m).drives refl (asked_fulls n ms)
+asked_fulls n (m ∷ ms) = go (is_some (supplies m).byte) refl (asked_fulls n ms)
   where
-    go : (b : Bool) → (supplies m).drives ≡ b → fulls n (map asked ms) ≡ wires (suc n) ms
-        → pick b ((bits 8 (supplies m).byte ++ byte_bits (says n (supplies m).after)) ∷ fulls n (map asked ms)) (fulls n (map asked ms))
+    go : (b : Bool) → is_some (supplies m).byte ≡ b → fulls n (map asked ms) ≡ wires (suc n) ms
+        → pick b ((bits 8 (unwrap_or (supplies m).byte 0xFF) ++ byte_bits (says n (supplies m).after)) ∷ fulls n (map asked ms)) (fulls n (map asked ms))
         ≡ pick b (byte_bits (says (suc n) m) ∷ wires (suc n) ms) (wires (suc n) ms)
     go true e r = ap₂ ◌∷◌ (ap byte_bits (sym (says_next n m e))) r
     go false e r = r
@@ -186,7 +186,7 @@ ready_wires n (s ∷ ss) h g =
 
 pub asked_has : (ms : List Module) → Each (Has 8) (map asked ms)
 asked_has [] = tt
-asked_has (m ∷ ms) = (λ e. length_bits 8 (supplies m).byte, asked_has ms)
+asked_has (m ∷ ms) = (λ e. length_bits 8 (unwrap_or (supplies m).byte 0xFF), asked_has ms)
 
 pub asked_all_lem : (n : ℕ) (ms : List Module) → Each (Talks (suc (suc n))) ms → Each (Ready (suc n)) (map asked ms)
 asked_all_lem n ms h = each_made (Ready (suc n)) asked (asked_ready n) ms h

@@ -1,5 +1,5 @@
 -- Where one module with AR clear is on the bus, somebody still sends after the identifier.
-use Rattle.std.specs.Prelude.{ℕ, zero, suc, ◌+◌, ◌≡◌, refl, Bool, true, false, List, [], ◌∷◌, map}
+use Rattle.std.specs.Prelude.{ℕ, zero, suc, ◌+◌, ◌≡◌, refl, Bool, true, false, List, [], ◌∷◌, map, is_some}
 use Rattle.std.proofs.Common.{sym, ap, ap₂, subst, ◌∙◌, inl, inr, arith}
 use Rattle.lists.specs.Choice.{pick, or, and, not}
 use Rattle.lists.specs.ChoiceLaws.{false_not_true, not_both, or_last}
@@ -78,18 +78,18 @@ answers : (ms : List Module) (m : Module) → Among m ms → m.own.resolved ≡ 
 unfolding some
 answers [] m x'' r = elim x'' [ ]
 answers (x ∷ ms) m (inl e) r = rw (answering_drives x ∙ ap not (ap (λ (z : Module). z.own.resolved) e ∙ r))
-answers (x ∷ ms) m (inr i) r = rw (answers ms m i r) (or_last (supplies (answering x)).drives)
+answers (x ∷ ms) m (inr i) r = rw (answers ms m i r) (or_last (is_some (supplies (answering x)).byte))
 
-sends_still : (k : ℕ) (m : Module) → Talks k m → (supplies m).drives ≡ true → StillSends m
+sends_still : (k : ℕ) (m : Module) → Talks k m → is_some (supplies m).byte ≡ true → StillSends m
 sends_still k m (quiet o) e = not_both (silent_drives o) e
 sends_still k m (speaks o c j p) e = refl
 
 found : (k : ℕ) (ms : List Module) → Each (Talks k) ms → some (map asked ms) ≡ true → (n : Module) × Among n ms × StillSends n
 unfolding some
 found k [] h e = false_not_true e
-found k (m ∷ ms) h e = go (supplies m).drives refl e (λ r. found k ms h.1 r)
+found k (m ∷ ms) h e = go (is_some (supplies m).byte) refl e (λ r. found k ms h.1 r)
   where
-    go : (b : Bool) → (supplies m).drives ≡ b → or b (some (map asked ms)) ≡ true → (some (map asked ms) ≡ true → (n : Module) × Among n ms × StillSends n)
+    go : (b : Bool) → is_some (supplies m).byte ≡ b → or b (some (map asked ms)) ≡ true → (some (map asked ms) ≡ true → (n : Module) × Among n ms × StillSends n)
         → (n : Module) × Among n (m ∷ ms) × StillSends n
     go true q r f = (m, inl refl, sends_still k m h.0 q)
     go false q r f = let n = f r in (n.0, inr n.1, n.2)

@@ -1,6 +1,6 @@
 -- Who still sends after the identifier has the identifier that stands on the wire: two modules with different ones never both think that they
 -- have won.
-use Rattle.std.specs.Prelude.{ℕ, zero, suc, ◌+◌, ◌%◌, ◌≡◌, refl, Bool, true, false, length}
+use Rattle.std.specs.Prelude.{ℕ, zero, suc, ◌+◌, ◌%◌, ◌≡◌, refl, Bool, true, false, length, is_some, unwrap_or}
 use Rattle.std.proofs.Math.Path.{sym, subst}
 use Rattle.std.proofs.Common.{ap, ap₂, ◌∙◌, inl, inr, mod-eq_of_lt, arith}
 use mathlib.Core.List.{List, [], ◌∷◌, map}
@@ -93,7 +93,7 @@ sent_bits (suc j) ss h =
 
 -- m said the byte that stood on the wire, and goes on as m'
 abbrev SaidOne : ℕ → Module → Module → Type 0
-SaidOne b m m' = (supplies m').drives ≡ true → ((supplies m).drives ≡ true) × (((supplies m).byte % 256 ≡ b) × (m' ≡ (supplies m).after))
+SaidOne b m m' = is_some (supplies m').byte ≡ true → (is_some (supplies m).byte ≡ true) × ((unwrap_or (supplies m).byte 0xFF % 256 ≡ b) × (m' ≡ (supplies m).after))
 
 said_bits : (n : ℕ) (l : List Bool) (ms : List Module) (ts : List Sender) → Both (Sent l) (map asked ms) ts → Each (Ready n) ts
     → Both (SaidOne (number_of l)) ms (map (λ (s : Sender). s.who) ts)
@@ -101,7 +101,7 @@ said_bits n l [] (t ∷ ts) b r = elim b [ ]
 said_bits n l (m ∷ ms) [] b r = elim b [ ]
 said_bits n l [] [] b r = tt
 said_bits n l (m ∷ ms) (t ∷ ts) b r = (
-  λ e. let q = b.0 (r.0.same ∙ e) in (q.0, (sym (number_bits 8 (supplies m).byte) ∙ ap number_of q.1.0, q.1.1)),
+  λ e. let q = b.0 (r.0.same ∙ e) in (q.0, (sym (number_bits 8 (unwrap_or (supplies m).byte 0xFF)) ∙ ap number_of q.1.0, q.1.1)),
   said_bits n l ms ts b.1 r.1,
 )
 
@@ -115,7 +115,7 @@ low bs = map (λ (b : ℕ). b % 256) bs
 
 -- m said the bytes that stood on the wire, and goes on as m', which is the same module
 abbrev Said : ℕ → List ℕ → Module → Module → Type 0
-Said n bs m m' = (supplies m').drives ≡ true → ((supplies m).drives ≡ true) × ((low (says n m) ≡ bs) × (m'.own ≡ m.own))
+Said n bs m m' = is_some (supplies m').byte ≡ true → (is_some (supplies m).byte ≡ true) × ((low (says n m) ≡ bs) × (m'.own ≡ m.own))
 
 said_more : (n b : ℕ) (bs : List ℕ) (ms ns os : List Module) → Both (SaidOne b) ms ns → Both (Said n bs) ns os → Both (Said (suc n) (b ∷ bs)) ms os
 said_more n b bs [] [] (m2 ∷ os) p q = elim q [ ]
@@ -163,10 +163,10 @@ low_same [] h = refl
 low_same (b ∷ bs) h = ap₂ ◌∷◌ (mod-eq_of_lt h.0) (low_same bs h.1)
 
 -- one that answered, and drives the wire, said its identifier
-answering_said : (m : Module) → (supplies (answering m)).drives ≡ true → low (says 17 (answering m)) ≡ 17 ∷ udid_bytes m.own.udid
+answering_said : (m : Module) → is_some (supplies (answering m)).byte ≡ true → low (says 17 (answering m)) ≡ 17 ∷ udid_bytes m.own.udid
 answering_said m = go m.own.resolved
   where
-    go : (t : Bool) → (supplies (replying t m.own)).drives ≡ true
+    go : (t : Bool) → is_some (supplies (replying t m.own)).byte ≡ true
         → low (says 17 (replying t m.own)) ≡ 17 ∷ udid_bytes m.own.udid
     go true e = not_both (silent_drives m.own) e
     go false e = ap low (says_identifier m.own (asked_pec 0x03)) ∙ ap (◌∷◌ 17) (low_same (udid_bytes m.own.udid) (udid_bytes_lem m.own.udid))
@@ -178,9 +178,9 @@ answering_own m = go m.own.resolved
     go true = refl
     go false = refl
 
-drives_still : (m : Module) → StillSends m → (supplies m).drives ≡ true
+drives_still : (m : Module) → StillSends m → is_some (supplies m).byte ≡ true
 unfolding supplies
-drives_still m e = ap (λ (p : Phase). (supplied_in p m).drives) e
+drives_still m e = ap (λ (p : Phase). is_some (supplied_in p m).byte) e
 
 -- it is one of those that were there, and its identifier stood on the wire
 Winner : List ℕ → List Module → Module → Type 0

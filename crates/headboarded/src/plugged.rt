@@ -1,7 +1,6 @@
 // The requests of a module at its own end of the bus: module, and m with what happens to it.
 use crate::shelf::{Plugged, Shelf, Turn};
 use codec_answers::unclear::put_unclear;
-use module::resume::Resumed;
 use module::state::Module;
 use module_answers::heard::put_heard;
 use module_answers::line::{put_lost, put_made, put_start, put_state, put_stop, put_supplied};
@@ -32,11 +31,9 @@ fn refused(s: Shelf, e: Expected, place: usize, out: &mut [u8], at: usize) -> Tu
 // A module in place of any other. There is one of whatever record a line asks for (module_answers, asked_is_ready).
 pub(crate) fn resume(s: Shelf, t: Record, fresh: u32, out: &mut [u8], at: usize) -> Turn {
     let u = t.udid;
-    let r = Module::of_record(u, WireByte(t.byte), t.flag, fresh);
-    match r {
-        Resumed::Ready(m) => with_module(s, m, put_made(out, at)),
-        Resumed::Malformed => refused(s, Expected::OddByte, 0, out, at),
-        Resumed::NoHome => refused(s, Expected::OddByte, 0, out, at),
+    match Module::of_record(u, WireByte(t.byte), t.flag, fresh) {
+        Ok(m) => with_module(s, m, put_made(out, at)),
+        Err(_) => refused(s, Expected::OddByte, 0, out, at),
     }
 }
 

@@ -1,6 +1,6 @@
 -- What the step's functions cite: the decoder's answer on buffers of zeros, and each case of an answer in turn.
 use Prim.Native.Nat.{ℕ, zero, suc, ◌+◌, ◌-◌, ◌<◌}
-use mathlib.Core.Path.{◌≡◌, refl, sym, ap, ap₂, ◌∙◌}
+use mathlib.Core.Path.{◌≡◌, refl, sym, ap, ap₂, subst, ◌∙◌}
 use mathlib.Core.Bool.{Bool, true, false}
 use mathlib.Core.List.{List, ◌∷◌}
 use native.Mathlib.Decide.{dec_lt}
@@ -23,9 +23,10 @@ use Rattle.trace.specs.declared.transaction.Transaction.{Transaction}
 use Rattle.udid.specs.Bytes.{number, bytes_from, udid_at}
 use Rattle.udid.specs.declared.Udid.{Udid}
 use Rattle.wire.specs.declared.address.Address.{Address}
-use Rattle.hearing.specs.Told.{told_prepare, told_reply, told_get, told_assign, tells}
-use Rattle.hearing.specs.Heard.{answer, is_prepare, is_get, is_assign, completes, nobody}
+use Rattle.hearing.specs.Told.{protocol_of, told_prepare, told_get, told_assign, told_by, tells}
+use Rattle.hearing.specs.Heard.{answer, sent_in, received_in, is_get}
 use Rattle.commands.specs.Codes.{send_byte, block_read, block_write}
+use Rattle.commands.specs.declared.command.Command.{Command}
 use Rattle.commands.specs.declared.command.Command.TheVariants.{Prepare, GetUdid, Assign}
 use Rattle.commands.specs.declared.command.Handed.TheVariants.{Send}
 use Rattle.hearing.specs.declared.told.Told.TheVariants.{Again, Over, GivenUp, Reply, Took}
@@ -64,116 +65,44 @@ onto_udid : (xs : List ℕ) → udid_at (onto xs zeros) 0 ≡ udid_at xs 0
 unfolding udid_at
 onto_udid xs = λ i. record { high = number (window xs 0 8 i); low = number (window xs (0 + 8) 8 i) }
 
--- ---- the decoder's answer
+-- ---- what is told by the answer and two such buffers is told by the data alone
 
-pub nobody_by_nack : (a : Decoded) (w : Refusal) (b : ℕ) (q : Bool) → a ≡ refused w b → is_nack w ≡ q → and q (ltb b 3) ≡ nobody a
-nobody_by_nack a w b q e h = sym (ap nobody e ∙ ap (λ (x : Bool). and x (ltb b 3)) h)
+prepare_on : (a : Decoded) (xs : List ℕ) → told_prepare a (onto xs zeros) ≡ told_prepare a xs
+prepare_on (Ok t) xs = rw (onto_at xs 0)
+prepare_on (Err e) xs = refl
 
--- ---- Prepare To ARP
+get_on : (a : Decoded) (xs : List ℕ) → told_get a (onto xs zeros) ≡ told_get a xs
+get_on (Ok t) xs = ap₂ (λ (u : Udid) (b : ℕ). pick (is_get t) (pick (eqb t.received 17) (Reply u b) Over) Again) (onto_udid xs) (onto_at xs 16)
+get_on (Err e) xs = refl
 
-module _ (tr : List ℕ) (a : Decoded) (sent received : List ℕ) (o : Outcome send_byte true tr zeros zeros a sent received) where
-  heard_1 : a ≡ answer send_byte tr
-  unfolding answered_by
-  heard_1 = o.answer
+assign_on : (u : Udid) (n : Address) (a : Decoded) (xs : List ℕ) → told_assign u n a (onto xs zeros) ≡ told_assign u n a xs
+assign_on u n (Ok t) xs = rw (onto_udid xs, onto_at xs 16)
+assign_on u n (Err e) xs = refl
 
-  is_prepare_lem : (t : Transaction) → is_prepare t sent ≡ is_prepare t (sent_data (shape_of send_byte) tr a)
-  is_prepare_lem t = rw (o.data_sent, onto_at (sent_data (shape_of send_byte) tr a) 0)
+told_on : (k : Command) (a : Decoded) (xs ys : List ℕ) → told_by k a (onto xs zeros) (onto ys zeros) ≡ told_by k a xs ys
+told_on Prepare a xs ys = prepare_on a xs
+told_on GetUdid a xs ys = get_on a ys
+told_on (Assign u n) a xs ys = assign_on u n a xs
 
-  by_prepare : told_prepare a (sent_data (shape_of send_byte) tr a) ≡ tells (Send Prepare) tr
-  by_prepare = ap (λ (x : Decoded). told_prepare x (sent_data (shape_of send_byte) tr x)) heard_1
+-- ---- and so by the trace
 
-  by_refusal : (w : Refusal) (k : ℕ) → a ≡ refused w k → pick (is_nack w) Over GivenUp ≡ tells (Send Prepare) tr
-  by_refusal w k e = sym (ap (λ (x : Decoded). told_prepare x (sent_data (shape_of send_byte) tr a)) e) ∙ by_prepare
+heard : (k : Command) (tr : List ℕ) (a : Decoded) (sent received : List ℕ) → Outcome (protocol_of k) true tr zeros zeros a sent received → a ≡ answer (protocol_of k) tr
+unfolding answered_by
+heard Prepare tr a sent received o = o.answer
+heard GetUdid tr a sent received o = o.answer
+heard (Assign u n) tr a sent received o = o.answer
 
-  pub prepare_nack : (w : Refusal) (k : ℕ) → a ≡ refused w k → is_nack w ≡ true → Over ≡ tells (Send Prepare) tr
-  prepare_nack w k e h = sym (ap (λ (b : Bool). pick b Over GivenUp) h) ∙ by_refusal w k e
+told_in : (k : Command) (tr : List ℕ) → told_by k (answer (protocol_of k) tr) (sent_in (protocol_of k) tr) (received_in (protocol_of k) tr) ≡ tells (Send k) tr
+told_in Prepare tr = refl
+told_in GetUdid tr = refl
+told_in (Assign u n) tr = refl
 
-  pub prepare_other : (w : Refusal) (k : ℕ) → a ≡ refused w k → is_nack w ≡ false → GivenUp ≡ tells (Send Prepare) tr
-  prepare_other w k e h = sym (ap (λ (b : Bool). pick b Over GivenUp) h) ∙ by_refusal w k e
+told_at : (k : Command) (tr : List ℕ) (a : Decoded) (sent received : List ℕ) → Outcome (protocol_of k) true tr zeros zeros a sent received → told_by k a sent received ≡ tells (Send k) tr
+told_at k tr a sent received o =
+    ap₂ (λ (x y : List ℕ). told_by k a x y) o.data_sent o.data_received
+    ∙ told_on k a (sent_data (shape_of (protocol_of k)) tr a) (received_data true tr a)
+    ∙ ap (λ (x : Decoded). told_by k x (sent_data (shape_of (protocol_of k)) tr x) (received_data true tr x)) (heard k tr a sent received o)
+    ∙ told_in k tr
 
-  prepare_done : (t : Transaction) → a ≡ Ok t → pick (is_prepare t sent) Again GivenUp ≡ tells (Send Prepare) tr
-  prepare_done t e = ap (λ (b : Bool). pick b Again GivenUp) (is_prepare_lem t) ∙ sym (ap (λ (x : Decoded). told_prepare x (sent_data (shape_of send_byte) tr a)) e) ∙ by_prepare
-
-  pub prepare_accepted : (t : Transaction) → a ≡ Ok t → is_prepare t sent ≡ true → Again ≡ tells (Send Prepare) tr
-  prepare_accepted t e h = sym (ap (λ (b : Bool). pick b Again GivenUp) h) ∙ prepare_done t e
-
-  pub prepare_another : (t : Transaction) → a ≡ Ok t → is_prepare t sent ≡ false → GivenUp ≡ tells (Send Prepare) tr
-  prepare_another t e h = sym (ap (λ (b : Bool). pick b Again GivenUp) h) ∙ prepare_done t e
-
--- ---- Get UDID
-
-on_reply : (t : Transaction) (xs : List ℕ) → told_reply t (onto xs zeros) ≡ told_reply t xs
-on_reply t xs = ap₂ (λ (u : Udid) (b : ℕ). pick (is_get t) (pick (eqb t.received 17) (Reply u b) Over) Again) (onto_udid xs) (onto_at xs 16)
-
-module _ (tr : List ℕ) (a : Decoded) (sent received : List ℕ) (o : Outcome block_read true tr zeros zeros a sent received) where
-  heard_9 : a ≡ answer block_read tr
-  unfolding answered_by
-  heard_9 = o.answer
-
-  by_get : told_get a (received_data true tr a) ≡ tells (Send GetUdid) tr
-  by_get = ap (λ (x : Decoded). told_get x (received_data true tr x)) heard_9
-
-  pub get_nobody : nobody a ≡ true → Over ≡ tells (Send GetUdid) tr
-  get_nobody e = go a e ∙ by_get
-    where
-      go : (x : Decoded) → nobody x ≡ true → Over ≡ told_get x (received_data true tr a)
-      go (Ok t) k = zero_is_one (cc k)
-      go (Err e) k = rw k
-
-  pub get_again : nobody a ≡ false → (w : Refusal) (k : ℕ) → a ≡ refused w k → Again ≡ tells (Send GetUdid) tr
-  get_again e w k h =
-      sym (ap (λ (b : Bool). pick b Over Again) (sym (ap nobody h) ∙ e))
-      ∙ sym (ap (λ (x : Decoded). told_get x (received_data true tr a)) h) ∙ by_get
-
-  pub get_done : (t : Transaction) → a ≡ Ok t → told_reply t received ≡ tells (Send GetUdid) tr
-  get_done t e =
-      ap (told_reply t) o.data_received
-      ∙ on_reply t (received_data true tr a)
-      ∙ sym (ap (λ (x : Decoded). told_get x (received_data true tr a)) e)
-      ∙ by_get
-
--- a complete trace where a reply is due
-module _ (t : Transaction) (xs : List ℕ) where
-  pub reply_other : is_get t ≡ false → Again ≡ told_reply t xs
-  reply_other e = rw e
-
-  pub reply_count : is_get t ≡ true → (t.received ≡ 17 → ⊥) → Over ≡ told_reply t xs
-  reply_count e n = rw (e, ne_eqb t.received 17 n)
-
-  pub reply_whole : is_get t ≡ true → t.received ≡ 17 → (u : Udid) (b : ℕ) → u ≡ udid_at xs 0 → b ≡ get_or xs 16 0 → Reply u b ≡ told_reply t xs
-  reply_whole e n u b p q = rw (e, eq-eqb t.received 17 n) (ap₂ Reply p q)
-
--- ---- Assign Address
-
--- taken where the Assign is complete, and nothing new otherwise
-on_assign : (u : Udid) (n : Address) (a : Decoded) (sent : List ℕ) → pick (completes u n.0 a sent) (Took u n) Again ≡ told_assign u n a sent
-on_assign u n (Ok t) sent = refl
-on_assign u n (Err e) sent = refl
-
-module _ (u : Udid) (n : Address) (tr : List ℕ) (a : Decoded) (sent received : List ℕ) (o : Outcome block_write true tr zeros zeros a sent received) where
-  heard_8 : a ≡ answer block_write tr
-  unfolding answered_by
-  heard_8 = o.answer
-
-  by_assign : told_assign u n a (sent_data (shape_of block_write) tr a) ≡ tells (Send (Assign u n)) tr
-  by_assign = ap (λ (x : Decoded). told_assign u n x (sent_data (shape_of block_write) tr x)) heard_8
-
-  is_assign_lem : (t : Transaction) → is_assign u n.0 t sent ≡ is_assign u n.0 t (sent_data (shape_of block_write) tr a)
-  is_assign_lem t = rw (o.data_sent, onto_udid (sent_data (shape_of block_write) tr a), onto_at (sent_data (shape_of block_write) tr a) 16)
-
-  complete_is : completes u n.0 a sent ≡ completes u n.0 a (sent_data (shape_of block_write) tr a)
-  complete_is = go a is_assign_lem
-    where
-      go : (x : Decoded) → ((t : Transaction) → is_assign u n.0 t sent ≡ is_assign u n.0 t (sent_data (shape_of block_write) tr a))
-          → completes u n.0 x sent ≡ completes u n.0 x (sent_data (shape_of block_write) tr a)
-      go (Ok t) h = h t
-      go (Err e) h = refl
-
-  assign_by : pick (completes u n.0 a sent) (Took u n) Again ≡ tells (Send (Assign u n)) tr
-  assign_by = ap (λ (b : Bool). pick b (Took u n) Again) complete_is ∙ on_assign u n a (sent_data (shape_of block_write) tr a) ∙ by_assign
-
-  pub assign_complete : completes u n.0 a sent ≡ true → Took u n ≡ tells (Send (Assign u n)) tr
-  assign_complete h = sym (ap (λ (b : Bool). pick b (Took u n) Again) h) ∙ assign_by
-
-  pub assign_again : completes u n.0 a sent ≡ false → Again ≡ tells (Send (Assign u n)) tr
-  assign_again h = sym (ap (λ (b : Bool). pick b (Took u n) Again) h) ∙ assign_by
+pub told_is : (k : Command) (tr : List ℕ) (p : ℕ) (a : Decoded) (sent received : List ℕ) → p ≡ protocol_of k → Outcome p true tr zeros zeros a sent received → told_by k a sent received ≡ tells (Send k) tr
+told_is k tr p a sent received e o = told_at k tr a sent received (subst (λ (n : ℕ). Outcome n true tr zeros zeros a sent received) e o)

@@ -9,6 +9,7 @@ use Rattle.udid.specs.Bytes.{udid_at}
 use Rattle.udid.specs.declared.Udid.{Udid}
 use Rattle.hearing.specs.Heard.{answer, sent_in, received_in, is_prepare, is_get, is_assign, nobody}
 use Rattle.commands.specs.Codes.{send_byte, block_read, block_write}
+use Rattle.commands.specs.declared.command.Command.{Command}
 use Rattle.commands.specs.declared.command.Command.TheVariants.{Prepare, GetUdid, Assign}
 use Rattle.commands.specs.declared.command.Handed.{Handed}
 use Rattle.commands.specs.declared.command.Handed.TheVariants.{Send, Wait}
@@ -33,6 +34,18 @@ told_get (Err e) received = pick (nobody (Err e)) Over Again
 abbrev pub told_assign : Udid → Address → Decoded → List ℕ → Told
 told_assign u a (Ok t) sent = pick (is_assign u a.0 t sent) (Took u a) Again
 told_assign u a (Err e) sent = Again
+
+-- the protocol of a command
+abbrev pub protocol_of : Command → ℕ
+protocol_of Prepare = send_byte
+protocol_of GetUdid = block_read
+protocol_of (Assign u a) = block_write
+
+-- by the command, the answer, and the data that came with it
+abbrev pub told_by : Command → Decoded → List ℕ → List ℕ → Told
+told_by Prepare d sent received = told_prepare d sent
+told_by GetUdid d sent received = told_get d received
+told_by (Assign u a) d sent received = told_assign u a d sent
 
 -- by what was handed out last; where that is an end, no command is outstanding
 abbrev pub tells : Handed → List ℕ → Told

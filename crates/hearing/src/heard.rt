@@ -12,58 +12,35 @@ use wire::address::Address;
 pub(crate) fn byte_at(s: &[u8], i: usize) -> u8
     ensures { result ≡ get_or s.now i 0 }
 {
-    if i < s.len() { s[i] } else { 0 }
+    s.get(i).copied().unwrap_or(0)
 }
 
 // A command with this code, to the default address.
 pub(crate) fn is_command(t: Transaction, code: u8) -> bool
     ensures { result ≡ is_command code t }
 {
-    let a = t.address;
-    if a.is_default() {
-        t.command == code
-    } else {
-        false
-    }
+    t.address.is_default() && t.command == code
 }
 
 // Prepare To ARP: the byte 01h to the default address.
 pub(crate) fn is_prepare(t: Transaction, sent: &[u8]) -> bool
     ensures { result ≡ is_prepare t sent.now }
 {
-    let a = t.address;
-    if a.is_default() {
-        byte_at(sent, 0) == PREPARE_TO_ARP
-    } else {
-        false
-    }
+    t.address.is_default() && byte_at(sent, 0) == PREPARE_TO_ARP
 }
 
 // The data of Assign Address name this identifier, and this address for writing.
 fn names_both(u: Udid, a: Address, sent: &[u8]) -> bool
     ensures { result ≡ names u a.0 sent.now }
 {
-    let v = Udid::from_bytes(sent, 0);
-    if v.is_same(u) {
-        let w = a.for_write();
-        byte_at(sent, 16) == w.0
-    } else {
-        false
-    }
+    Udid::from_bytes(sent, 0).is_same(u) && byte_at(sent, 16) == a.for_write().0
 }
 
 // Assign Address of this address to this target: command 04h with 17 bytes.
 pub(crate) fn is_assign(u: Udid, a: Address, t: Transaction, sent: &[u8]) -> bool
     ensures { result ≡ is_assign u a.0 t sent.now }
 {
-    if !is_command(t, ASSIGN_ADDRESS) {
-        return false;
-    }
-    if t.sent == 17 {
-        names_both(u, a, sent)
-    } else {
-        false
-    }
+    is_command(t, ASSIGN_ADDRESS) && t.sent == 17 && names_both(u, a, sent)
 }
 
 // The Assign that was sent is complete: every byte was acknowledged, and the trace is that Assign.
@@ -80,8 +57,5 @@ pub(crate) fn is_complete(u: Udid, a: Address, answer: Decoded, sent: &[u8]) -> 
 pub(crate) fn is_nobody(a: Decoded) -> bool
     ensures { result ≡ nobody a }
 {
-    match a {
-        Ok(_) => false,
-        Err(e) => { if is_nack(e.why) { e.place < 3 } else { false } }
-    }
+    matches!(a, Err(e) if is_nack(e.why) && e.place < 3)
 }

@@ -1,11 +1,11 @@
 // What a received trace tells of the command that is outstanding. Nothing here knows the controller's state. Rests on decode for the trace
 // and on heard for whether it is the command sent.
 ghost use Rattle.std.specs.Prelude.{◌≡◌};
-ghost use Rattle.hearing.specs.Told.{told_reply, tells};
+ghost use Rattle.hearing.specs.Told.{protocol_of, told_prepare, told_reply, told_get, told_assign, told_by, tells};
 
 use super::heard::{byte_at, is_command, is_complete, is_nobody, is_prepare};
 use commands::command::{Command, GET_UDID, Handed};
-use scan::answer::is_nack;
+use scan::answer::{Decoded, is_nack};
 use trace::transaction::Transaction;
 use udid::Udid;
 use wire::address::Address;
@@ -31,80 +31,77 @@ fn reply_in(t: Transaction, received: &[u8]) -> Told
     ensures { result ≡ told_reply t received.now }
 {
     if !is_command(t, GET_UDID) {
-        return Told::Again;
+        Told::Again
+    } else if t.received != 17 {
+        Told::Over
+    } else {
+        Told::Reply(Udid::from_bytes(received, 0), byte_at(received, 16))
     }
-    if t.received != 17 {
-        return Told::Over;
-    }
-    let u = Udid::from_bytes(received, 0);
-    let b = byte_at(received, 16);
-    Told::Reply(u, b)
 }
 
 // Prepare To ARP is outstanding.
-fn after_prepare(trace: &[u16]) -> Told
-    ensures { result ≡ tells (Handed.Send Command.Prepare) trace.now }
+fn after_prepare(answer: Decoded, sent: &[u8]) -> Told
+    ensures { result ≡ told_prepare answer sent.now }
 {
-    let mut sent = [0u8; 255];
-    let mut received = [0u8; 255];
-    let answer = decode::decode(1, true, trace, &mut sent, &mut received);
     match answer {
-        Ok(t) => {
-            if is_prepare(t, &sent) {
-                Told::Again
-            } else {
-                Told::GivenUp
-            }
-        }
-        Err(e) => {
-            if is_nack(e.why) {
-                Told::Over
-            } else {
-                Told::GivenUp
-            }
-        }
+        Ok(t) if is_prepare(t, sent) => Told::Again,
+        Err(e) if is_nack(e.why) => Told::Over,
+        _ => Told::GivenUp,
     }
 }
 
 // Get UDID is outstanding.
-fn after_get(trace: &[u16]) -> Told
-    ensures { result ≡ tells (Handed.Send Command.GetUdid) trace.now }
+fn after_get(answer: Decoded, received: &[u8]) -> Told
+    ensures { result ≡ told_get answer received.now }
 {
-    let mut sent = [0u8; 255];
-    let mut received = [0u8; 255];
-    let answer = decode::decode(9, true, trace, &mut sent, &mut received);
-    if is_nobody(answer) {
-        return Told::Over;
+    match answer {
+        Ok(t) => reply_in(t, received),
+        Err(_) if is_nobody(answer) => Told::Over,
+        Err(_) => Told::Again,
     }
-    let Ok(t) = answer else {
-        return Told::Again;
-    };
-    reply_in(t, &received)
 }
 
 // Assign Address is outstanding.
-fn after_assign(u: Udid, a: Address, trace: &[u16]) -> Told
-    ensures { result ≡ tells (Handed.Send (Command.Assign u a)) trace.now }
+fn after_assign(u: Udid, a: Address, answer: Decoded, sent: &[u8]) -> Told
+    ensures { result ≡ told_assign u a answer sent.now }
 {
-    let mut sent = [0u8; 255];
-    let mut received = [0u8; 255];
-    let answer = decode::decode(8, true, trace, &mut sent, &mut received);
-    if is_complete(u, a, answer, &sent) {
+    if is_complete(u, a, answer, sent) {
         Told::Took(u, a)
     } else {
         Told::Again
     }
 }
 
+// The protocol of a command.
+fn protocol_of(k: Command) -> u8
+    ensures { result ≡ protocol_of k }
+{
+    match k {
+        Command::Prepare => 1,
+        Command::GetUdid => 9,
+        Command::Assign(_, _) => 8,
+    }
+}
+
 // By the command that is outstanding.
+fn after_answer(k: Command, answer: Decoded, sent: &[u8], received: &[u8]) -> Told
+    ensures { result ≡ told_by k answer sent.now received.now }
+{
+    match k {
+        Command::Prepare => after_prepare(answer, sent),
+        Command::GetUdid => after_get(answer, received),
+        Command::Assign(u, a) => after_assign(u, a, answer, sent),
+    }
+}
+
+// The trace is decoded for that command, with PEC.
 fn after(k: Command, trace: &[u16]) -> Told
     ensures { result ≡ tells (Handed.Send k) trace.now }
 {
-    match k {
-        Command::Prepare => after_prepare(trace),
-        Command::GetUdid => after_get(trace),
-        Command::Assign(u, a) => after_assign(u, a, trace),
-    }
+    let mut sent = [0u8; 255];
+    let mut received = [0u8; 255];
+    let answer = decode::decode(protocol_of(k), true, trace, &mut sent, &mut received);
+    after_answer(k, answer, &sent, &received)
 }
 
 // What the trace tells, by what was handed out last.

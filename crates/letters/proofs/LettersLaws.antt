@@ -7,7 +7,7 @@ use Rattle.lists.specs.AllLaws.{at_below}
 use Rattle.lists.specs.Choice.{pick, and}
 use Rattle.text.specs.Chars.{chars}
 use Rattle.text.specs.Words.{part_of}
-use Rattle.encode.specs.declared.Encoded.TheVariants.{Written}
+use Rattle.std.specs.Prelude.{Ok}
 use Rattle.writing.specs.Written.{decimal_of}
 use Rattle.pieces.specs.Pieces.{texts, below}
 use Rattle.letters.specs.Letters.{capital, capitals, sign_text, letter_text, letters_text, encoded_letters}
@@ -62,7 +62,7 @@ pub prepare_in_letters : letters_text prepare ≡ chars " S C2 A 01 A C0 A P"
 unfolding below texts letter_text sign_text
 prepare_in_letters = refl
 
-pub prepare_encoded : encoded_letters (Written 8) prepare ≡ chars "0 trace S C2 A 01 A C0 A P\n"
+pub prepare_encoded : encoded_letters (Ok 8) prepare ≡ chars "0 trace S C2 A 01 A C0 A P\n"
 unfolding below texts part_of letter_text sign_text
 prepare_encoded = refl
 

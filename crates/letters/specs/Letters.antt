@@ -2,8 +2,9 @@
 use Rattle.std.specs.Prelude.{ℕ, ◌+◌, ◌/◌, ◌%◌, List, [], ◌∷◌, ◌++◌, ltb, eqb, length, get_or}
 use Rattle.lists.specs.Choice.{pick}
 use Rattle.wire.specs.Symbols.{START, STOP, ACK, NACK}
-use Rattle.encode.specs.declared.Encoded.{Encoded}
-use Rattle.encode.specs.declared.Encoded.TheVariants.{Written, Forbidden, OutputTooShort}
+use Rattle.encode.specs.Encode.{Encoded}
+use Rattle.std.specs.Prelude.{Ok, Err}
+use Rattle.encode.specs.declared.EncodeError.TheVariants.{Forbidden, OutputTooShort}
 use Rattle.text.specs.Chars.{chars}
 use Rattle.writing.specs.Written.{decimal_of}
 use Rattle.pieces.specs.Pieces.{newline, front, below}
@@ -35,6 +36,6 @@ abbrev pub trace_letters : List ℕ → List ℕ
 trace_letters s = (chars "0 trace" ++ letters_text s) ++ newline
 
 abbrev pub encoded_letters : Encoded → List ℕ → List ℕ
-encoded_letters (Written n) trace = trace_letters (front n trace)
-encoded_letters Forbidden trace = chars "1\n"
-encoded_letters OutputTooShort trace = chars "2\n"
+encoded_letters (Ok n) trace = trace_letters (front n trace)
+encoded_letters (Err Forbidden) trace = chars "1\n"
+encoded_letters (Err OutputTooShort) trace = chars "2\n"

@@ -4,7 +4,7 @@ use Rattle.lists.specs.Choice.{pick, or}
 use Rattle.wire.specs.Symbols.{ACK, NACK}
 use Rattle.trace.specs.declared.shape.Shape.{Shape}
 use Rattle.step.specs.declared.state.Slot.{Slot}
-use Rattle.step.specs.declared.state.Slot.TheVariants.{Start, First, Command, Count, Data, Pec, Restart, Second, ReadCount, ReadData, ReadPec, Stop, End}
+use Rattle.step.specs.declared.state.Slot.TheVariants.{First, Count, Second, ReadCount}
 use Rattle.step.specs.declared.state.Due.{Due}
 use Rattle.step.specs.declared.state.Due.TheVariants.{Nobody, Target, Controller, Halted, Cut}
 use Rattle.step.specs.declared.state.Decoder.{Decoder}
@@ -14,32 +14,12 @@ use Rattle.misfit.specs.declared.kind.Kind.TheVariants.{Swapped, Misaddressed, M
 abbrev pub is_address : Slot → Bool
 is_address First = true
 is_address Second = true
-is_address Start = false
-is_address Command = false
-is_address Count = false
-is_address Data = false
-is_address Pec = false
-is_address Restart = false
-is_address ReadCount = false
-is_address ReadData = false
-is_address ReadPec = false
-is_address Stop = false
-is_address End = false
+is_address s = false
 
 abbrev pub is_count : Slot → Bool
 is_count Count = true
 is_count ReadCount = true
-is_count Start = false
-is_count First = false
-is_count Command = false
-is_count Data = false
-is_count Pec = false
-is_count Restart = false
-is_count Second = false
-is_count ReadData = false
-is_count ReadPec = false
-is_count Stop = false
-is_count End = false
+is_count s = false
 
 -- a byte; host where the protocol goes to the host alone
 abbrev pub kind_of_byte : Bool → Slot → Kind

@@ -1,5 +1,5 @@
 -- In the middle of a reply, between two STARTs, and where there is nothing to say: what a module is then, whatever came before.
-use Rattle.std.specs.Prelude.{ℕ, ◌+◌, ◌≡◌, refl, Bool, true, false, ltb}
+use Rattle.std.specs.Prelude.{ℕ, ◌+◌, ◌≡◌, refl, Bool, true, false, ltb, is_some, unwrap_or}
 use Rattle.lists.specs.Choice.{pick}
 use Rattle.lists.specs.ChoiceLaws.{false_not_true, not_both}
 use Rattle.pec.specs.Pec.{pec_step}
@@ -12,11 +12,11 @@ use Rattle.module.specs.Receive.{started_in, starts, received_in, receives}
 use Rattle.module.specs.Supply.{reply_byte, supplied_in, supplies}
 
 -- ASKED FOR A BYTE WITH NONE TO SAY: it stays as it was
-pub nothing_moved : (m : Module) → (supplies m).drives ≡ false → ((supplies m).after ≡ m) × ((supplies m).byte ≡ 0xFF)
+pub nothing_moved : (m : Module) → is_some (supplies m).byte ≡ false → ((supplies m).after ≡ m) × (unwrap_or (supplies m).byte 0xFF ≡ 0xFF)
 unfolding supplies
 nothing_moved m = go m.phase m
   where
-    go : (ph : Phase) (m : Module) → (supplied_in ph m).drives ≡ false → ((supplied_in ph m).after ≡ m) × ((supplied_in ph m).byte ≡ 0xFF)
+    go : (ph : Phase) (m : Module) → is_some (supplied_in ph m).byte ≡ false → ((supplied_in ph m).after ≡ m) × (unwrap_or (supplied_in ph m).byte 0xFF ≡ 0xFF)
     go Reply m e = not_both e refl
     go Silent m e = (refl, refl)
     go First m e = (refl, refl)
@@ -33,19 +33,19 @@ nothing_moved m = go m.phase m
     go AssignPec m e = (refl, refl)
 
 -- a byte behind it, the reply goes on or has ended
-goes_on : (t : Bool) (o : Lasting) (k c : ℕ) → (supplies (pick t (at o Reply k c 0) (silent_in o))).drives ≡ false → pick t (at o Reply k c 0) (silent_in o) ≡ silent_in o
+goes_on : (t : Bool) (o : Lasting) (k c : ℕ) → is_some (supplies (pick t (at o Reply k c 0) (silent_in o))).byte ≡ false → pick t (at o Reply k c 0) (silent_in o) ≡ silent_in o
 unfolding supplies
 goes_on true o k c e = not_both e refl
 goes_on false o k c e = refl
 
 -- WITH A BYTE TO SAY: a START begins a new packet, every byte gets NACK, and after the last byte it is silent
-pub replying : (m : Module) → (supplies m).drives ≡ true
-    → (starts m ≡ starts (silent_in m.own)) × ((b : ℕ) → (receives m b).ack ≡ false) × ((supplies (supplies m).after).drives ≡ false → (supplies m).after ≡ silent_in m.own)
+pub replying : (m : Module) → is_some (supplies m).byte ≡ true
+    → (starts m ≡ starts (silent_in m.own)) × ((b : ℕ) → (receives m b).ack ≡ false) × (is_some (supplies (supplies m).after).byte ≡ false → (supplies m).after ≡ silent_in m.own)
 unfolding supplies starts receives
 replying m = go m.phase m
   where
-    go : (ph : Phase) (m : Module) → (supplied_in ph m).drives ≡ true
-        → (started_in ph m.own m.pec ≡ at m.own First 0 0 0) × ((b : ℕ) → (received_in ph m b).ack ≡ false) × ((supplies (supplied_in ph m).after).drives ≡ false → (supplied_in ph m).after ≡ silent_in m.own)
+    go : (ph : Phase) (m : Module) → is_some (supplied_in ph m).byte ≡ true
+        → (started_in ph m.own m.pec ≡ at m.own First 0 0 0) × ((b : ℕ) → (received_in ph m b).ack ≡ false) × (is_some (supplies (supplied_in ph m).after).byte ≡ false → (supplied_in ph m).after ≡ silent_in m.own)
     go Reply m e = (refl, λ b. refl, goes_on (ltb m.place 18) m.own (m.place + 1) (pec_step m.pec (reply_byte m.own m.pec m.place)))
     go Silent m e = false_not_true e
     go First m e = false_not_true e

@@ -1,6 +1,6 @@
 -- Reset and power on, kind by kind.
 use Prim.Native.Nat.{ℕ, zero, suc, ◌+◌, ◌*◌, ◌/◌, ◌%◌, ◌^◌, ◌<◌, ◌≤◌}
-use Rattle.std.specs.Prelude.{◌≡◌, Bool, true, ◌++◌, eqb, take}
+use Rattle.std.specs.Prelude.{◌≡◌, Bool, true, ◌++◌, take}
 use Rattle.std.proofs.Math.Path.{refl, ap}
 use Rattle.std.proofs.Common.{sym, ◌∙◌, arith}
 use Rattle.std.proofs.Math.Bool.{false}
@@ -8,12 +8,14 @@ use Rattle.std.proofs.Math.Dec.{ltb}
 use borrow.Author.Tests.{lt-ltb, le-ltb}
 use Rattle.lists.specs.Choice.{pick}
 use Rattle.udid.specs.Bytes.{bytes_of, udid_bytes}
-use Rattle.udid.specs.Udids.{Fits, top_bits}
+use Rattle.udid.specs.Udids.{Fits, top_bits, kind_of_bits}
 use Rattle.udid.proofs.UdidLaws.{top_of_first}
 use Rattle.udid.specs.declared.Udid.{Udid}
+use Rattle.udid.specs.declared.kind.AddressKind.{AddressKind}
+use Rattle.udid.specs.declared.kind.AddressKind.TheVariants.{Fixed, Persistent, Volatile, Random}
 use Rattle.module.specs.declared.state.Lasting.{Lasting}
 use Rattle.module.specs.State.{silent_in}
-use Rattle.module.specs.Reset.{having, prepared, at_home, renewed, reset_kind, reset, stored, powered}
+use Rattle.module.specs.Reset.{having, at_home, renewed, reset_as, reset_kind, reset, stored, powered}
 use Rattle.module.specs.Packets.{kind_of, Resets, PowersOn}
 
 -- ---- the last four bytes of an identifier
@@ -96,14 +98,13 @@ module _ (u : Udid) (a f : ℕ) (w : Fits u) (g : f < 2 ^ 32) where
   powered_own = refl
 
   rests : (k : ℕ) → ((reset_kind k before).resolved ≡ false) × (((reset_kind k before).home ≡ a) × ((reset_kind k before).fresh ≡ f))
-  rests k = go (eqb k 0) (eqb k 1) (eqb k 2)
+  rests k = go (kind_of_bits k)
     where
-      go : (p q r : Bool) → let x = pick {A = Lasting} p (at_home before) (pick q (prepared before) (pick r (having before u false 0 false) (having before (renewed u f) false 0 false))) in
-          (x.resolved ≡ false) × ((x.home ≡ a) × (x.fresh ≡ f))
-      go true q r = (refl, (refl, refl))
-      go false true r = (refl, (refl, refl))
-      go false false true = (refl, (refl, refl))
-      go false false false = (refl, (refl, refl))
+      go : (p : AddressKind) → let x = reset_as p before in (x.resolved ≡ false) × ((x.home ≡ a) × (x.fresh ≡ f))
+      go Fixed = (refl, (refl, refl))
+      go Persistent = (refl, (refl, refl))
+      go Volatile = (refl, (refl, refl))
+      go Random = (refl, (refl, refl))
 
   kind : top_bits u ≡ kind_of u
   kind = top_of_first u w

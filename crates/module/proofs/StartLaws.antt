@@ -1,5 +1,5 @@
 -- WHAT A START BEGINS: a new packet, whatever came before it, unless C3h follows. And C3h is answered right after a Get UDID alone.
-use Rattle.std.specs.Prelude.{ℕ, zero, suc, ◌+◌, ◌*◌, ◌/◌, ◌%◌, ◌≤◌, ◌≡◌, refl, Bool, true, false, ◌⊎◌, ◌↔◌, List, [], ◌∷◌, ltb, eqb, length, get_or}
+use Rattle.std.specs.Prelude.{ℕ, zero, suc, ◌+◌, ◌*◌, ◌/◌, ◌%◌, ◌≤◌, ◌≡◌, refl, Bool, true, false, ◌⊎◌, ◌↔◌, List, [], ◌∷◌, ltb, eqb, length, get_or, is_some, unwrap_or}
 use Rattle.std.proofs.Common.{sym, ap, subst, ◌∙◌, inl, inr, arith, eqb-true, eq-eqb, ne_eqb, le-leb}
 use Rattle.std.proofs.lemmas.Bool.{eqb-false}
 use Rattle.lists.specs.Choice.{pick}
@@ -15,7 +15,7 @@ use Rattle.module.specs.declared.state.Supplied.{Supplied}
 use Rattle.module.specs.State.{at, silent_in, taken, refused}
 use Rattle.module.specs.Reset.{prepared, assigned, reset}
 use Rattle.module.specs.Receive.{for_write, for_read, started_in, starts, is_own, at_first, at_directed, received_in, receives}
-use Rattle.module.specs.Supply.{supplied_in, supplies}
+use Rattle.module.specs.Supply.{unsaid, supplied_in, supplies}
 use Rattle.module.specs.Obeys.{heard_all}
 use Rattle.module.proofs.ObeysLaws.{heard_cons, silent_stays, own_true}
 use Rattle.module.specs.Acknowledges.{acked, get_order}
@@ -118,11 +118,11 @@ pub record Plain (m : Module) : Type 0 where
   pub anew : starts m ≡ starts (silent_in m.own)
   pub mute : (n : ℕ) → says n m ≡ []
 
-mute_in : (ph : Phase) (m : Module) → m.phase ≡ ph → (ph ≡ Reply → ⊥) → supplies m ≡ record { after = m; drives = false; byte = 0xFF }
+mute_in : (ph : Phase) (m : Module) → m.phase ≡ ph → (ph ≡ Reply → ⊥) → supplies m ≡ unsaid m
 unfolding supplies
 mute_in ph m e n = ap (λ (p : Phase). supplied_in p m) e ∙ go ph n
   where
-    go : (p : Phase) → (p ≡ Reply → ⊥) → supplied_in p m ≡ record { after = m; drives = false; byte = 0xFF }
+    go : (p : Phase) → (p ≡ Reply → ⊥) → supplied_in p m ≡ unsaid m
     go Reply n = absurd (n refl)
     go Silent n = refl
     go First n = refl
@@ -138,10 +138,10 @@ mute_in ph m e n = ap (λ (p : Phase). supplied_in p m) e ∙ go ph n
     go ResetPec n = refl
     go AssignPec n = refl
 
-mute_says : (m : Module) → supplies m ≡ record { after = m; drives = false; byte = 0xFF } → (n : ℕ) → says n m ≡ []
+mute_says : (m : Module) → supplies m ≡ unsaid m → (n : ℕ) → says n m ≡ []
 unfolding says
 mute_says m e zero = refl
-mute_says m e (suc n) = ap (λ (s : Supplied). pick s.drives (s.byte ∷ says n s.after) (says n s.after)) e ∙ mute_says m e n
+mute_says m e (suc n) = ap (λ (s : Supplied). pick (is_some s.byte) (unwrap_or s.byte 0xFF ∷ says n s.after) (says n s.after)) e ∙ mute_says m e n
 
 begin_new : (m : Module) (ph : Phase) → m.phase ≡ ph → started_in ph m.own m.pec ≡ at m.own First 0 0 0 → starts m ≡ starts (silent_in m.own)
 unfolding starts
@@ -467,11 +467,11 @@ read_any m (b ∷ bs) = go (eqb b for_read) refl
 
 -- ---- one that has a byte to send is in its reply
 
-pub sending : (m : Module) → (supplies m).drives ≡ true → m.phase ≡ Reply
+pub sending : (m : Module) → is_some (supplies m).byte ≡ true → m.phase ≡ Reply
 unfolding supplies
 sending m = go m.phase
   where
-    go : (ph : Phase) → (supplied_in ph m).drives ≡ true → ph ≡ Reply
+    go : (ph : Phase) → is_some (supplied_in ph m).byte ≡ true → ph ≡ Reply
     go Reply e = refl
     go Silent e = false_not_true e
     go First e = false_not_true e

@@ -1,5 +1,5 @@
 -- What a module supplies: its reply to Get UDID, whole, and nothing after it; nothing while it is silent.
-use Rattle.std.specs.Prelude.{ℕ, zero, suc, ◌+◌, ◌%◌, ◌≤◌, ◌≡◌, refl, Bool, true, false, [], ◌∷◌, ◌++◌, ltb}
+use Rattle.std.specs.Prelude.{ℕ, zero, suc, ◌+◌, ◌%◌, ◌≤◌, ◌≡◌, refl, Bool, true, false, [], ◌∷◌, ◌++◌, ltb, is_some, unwrap_or}
 use Rattle.std.proofs.Common.{ap, ap₂, ◌∙◌, append-nil, zero-add, suc-add, arith, ltb-true, ltb-false, eq-eqb, ne_eqb}
 use Rattle.lists.specs.Choice.{pick}
 use Rattle.pec.specs.Pec.{pec_step, pec_from}
@@ -45,12 +45,12 @@ reply_ends o c = refl
 says_add : (k n : ℕ) (m : Module) → says (k + n) m ≡ says k m ++ says n (after_asking k m)
 unfolding says after_asking
 says_add zero n m = rw zero-add
-says_add (suc k) n m = rw suc-add (go (supplies m).drives (says_add k n (supplies m).after))
+says_add (suc k) n m = rw suc-add (go (is_some (supplies m).byte) (says_add k n (supplies m).after))
   where
     go : (t : Bool) → says (k + n) (supplies m).after ≡ says k (supplies m).after ++ says n (after_asking k (supplies m).after)
-        → pick t ((supplies m).byte ∷ says (k + n) (supplies m).after) (says (k + n) (supplies m).after)
-        ≡ pick t ((supplies m).byte ∷ says k (supplies m).after) (says k (supplies m).after) ++ says n (after_asking k (supplies m).after)
-    go true e = ap (◌∷◌ (supplies m).byte) e
+        → pick t (unwrap_or (supplies m).byte 0xFF ∷ says (k + n) (supplies m).after) (says (k + n) (supplies m).after)
+        ≡ pick t (unwrap_or (supplies m).byte 0xFF ∷ says k (supplies m).after) (says k (supplies m).after) ++ says n (after_asking k (supplies m).after)
+    go true e = ap (◌∷◌ (unwrap_or (supplies m).byte 0xFF)) e
     go false e = e
 
 -- and nothing after it

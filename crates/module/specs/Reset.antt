@@ -1,8 +1,10 @@
 -- What the commands do to what outlasts a packet: 6.6.3.2, 6.6.3.3, 6.6.3.5, 6.6.3.7, and Table 9 for power on.
-use Rattle.std.specs.Prelude.{ℕ, ◌+◌, ◌*◌, ◌/◌, ◌^◌, Bool, true, false, ltb, eqb}
+use Rattle.std.specs.Prelude.{ℕ, ◌+◌, ◌*◌, ◌/◌, ◌^◌, Bool, true, false, ltb}
 use Rattle.lists.specs.Choice.{pick}
 use Rattle.udid.specs.declared.Udid.{Udid}
-use Rattle.udid.specs.Udids.{top_bits}
+use Rattle.udid.specs.Udids.{top_bits, kind_of_bits}
+use Rattle.udid.specs.declared.kind.AddressKind.{AddressKind}
+use Rattle.udid.specs.declared.kind.AddressKind.TheVariants.{Fixed, Persistent, Volatile, Random}
 use Rattle.module.specs.declared.state.Lasting.{Lasting}
 use Rattle.module.specs.declared.state.Module.{Module}
 use Rattle.module.specs.State.{silent_in}
@@ -27,13 +29,20 @@ renewed u f = record { high = u.high; low = u.low / 2 ^ 32 * 2 ^ 32 + f }
 abbrev pub at_home : Lasting → Lasting
 at_home o = having o o.udid (ltb o.home 128) (pick (ltb o.home 128) o.home 0) false
 
+-- no address
+abbrev pub without_address : Lasting → Lasting
+without_address o = having o o.udid false 0 false
+
 -- Reset Device: AR clear in all. Fixed (00): AV set, the default address. Persistent (01): no change of address and AV. Neither (10): AV
 -- clear. Random (11): AV clear, new random bytes
+abbrev pub reset_as : AddressKind → Lasting → Lasting
+reset_as Fixed o = at_home o
+reset_as Persistent o = prepared o
+reset_as Volatile o = without_address o
+reset_as Random o = having o (renewed o.udid o.fresh) false 0 false
+
 abbrev pub reset_kind : ℕ → Lasting → Lasting
-reset_kind k o =
-    pick (eqb k 0) (at_home o)
-    (pick (eqb k 1) (prepared o)
-    (pick (eqb k 2) (having o o.udid false 0 false) (having o (renewed o.udid o.fresh) false 0 false)))
+reset_kind k o = reset_as (kind_of_bits k) o
 
 unfoldable pub reset : Lasting → Lasting
 reset o = reset_kind (top_bits o.udid) o

@@ -1,11 +1,11 @@
 -- A module from a record of the model, in the middle of its life: the identifier, the address byte, the resolved flag.
-use Rattle.std.specs.Prelude.{ℕ, ◌/◌, ◌%◌, ◌≡◌, Bool, true, ◌↔◌, ltb, eqb}
+use Rattle.std.specs.Prelude.{ℕ, ◌/◌, ◌%◌, ◌≡◌, Bool, true, ◌↔◌, Result, Ok, Err, ltb, eqb}
 use Rattle.lists.specs.Choice.{pick, or, and, not}
 use Rattle.udid.specs.declared.Udid.{Udid}
 use Rattle.udid.specs.Udids.{is_fixed}
 use Rattle.module.specs.declared.state.Lasting.{Lasting}
-use Rattle.module.specs.declared.resume.Resumed.{Resumed}
-use Rattle.module.specs.declared.resume.Resumed.TheVariants.{Ready, Malformed, NoHome}
+use Rattle.module.specs.declared.resume.RecordError.{RecordError}
+use Rattle.module.specs.declared.resume.RecordError.TheVariants.{Malformed, NoHome}
 use Rattle.module.specs.declared.state.Module.{Module}
 use Rattle.module.specs.State.{silent_in}
 use Rattle.module.specs.Supply.{address_byte}
@@ -29,14 +29,15 @@ recorded u b g f = record {
   fresh = f;
 }
 
-unfoldable pub resumed : Udid → ℕ → ℕ → ℕ → Resumed
-resumed u b g f = pick (is_malformed b g) Malformed (pick (lacks_home u b) NoHome (Ready (silent_in (recorded u b g f))))
+-- the module of a record, or why there is none
+unfoldable pub resumed : Udid → ℕ → ℕ → ℕ → Result Module RecordError
+resumed u b g f = pick (is_malformed b g) (Err Malformed) (pick (lacks_home u b) (Err NoHome) (Ok (silent_in (recorded u b g f))))
 
 -- the numbers of the answers: as for a list of targets, where a fixed one with FFh counts as 7Fh, which is reserved
-abbrev pub resumed_number : Resumed → ℕ
-resumed_number (Ready m) = 0
-resumed_number Malformed = 10
-resumed_number NoHome = 12
+abbrev pub resumed_number : Result Module RecordError → ℕ
+resumed_number (Ok m) = 0
+resumed_number (Err Malformed) = 10
+resumed_number (Err NoHome) = 12
 
 -- WHAT THE MODULE OF A RECORD IS: as after STOP, with the record's identifier, address byte and flag; FFh is for AV clear, and then the address is 0; any other byte has the
 -- address in its upper seven bits, and a fixed one is fixed there

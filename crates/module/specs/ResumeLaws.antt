@@ -1,5 +1,5 @@
 -- A module from a record: each number if and only if its case, and that the module is as the record says.
-use Rattle.std.specs.Prelude.{ℕ, ◌+◌, ◌*◌, ◌/◌, ◌%◌, ◌≤◌, ◌<◌, ◌≡◌, refl, Bool, true, false, ◌⊎◌, ◌↔◌, ltb, eqb, get_or}
+use Rattle.std.specs.Prelude.{ℕ, ◌+◌, ◌*◌, ◌/◌, ◌%◌, ◌≤◌, ◌<◌, ◌≡◌, refl, Bool, true, false, ◌⊎◌, ◌↔◌, Result, Ok, Err, ltb, eqb, get_or}
 use Rattle.std.proofs.Common.{sym, ap, ◌∙◌, inl, inr, arith, eqb-true, eq-eqb, ne_eqb, ltb-false}
 use Rattle.std.proofs.Math.Logic.Iff.{trans as iff_trans}
 use Rattle.std.proofs.lemmas.Bool.{eqb-false}
@@ -10,8 +10,8 @@ use Rattle.udid.specs.Bytes.{udid_bytes}
 use Rattle.udid.specs.Udids.{Fits, is_fixed}
 use Rattle.udid.proofs.UdidLaws.{fixed_first}
 use Rattle.udid.specs.declared.Udid.{Udid}
-use Rattle.module.specs.declared.resume.Resumed.{Resumed}
-use Rattle.module.specs.declared.resume.Resumed.TheVariants.{Ready, Malformed, NoHome}
+use Rattle.module.specs.declared.resume.RecordError.{RecordError}
+use Rattle.module.specs.declared.resume.RecordError.TheVariants.{Malformed, NoHome}
 use Rattle.module.specs.declared.state.Lasting.{Lasting}
 use Rattle.module.specs.declared.state.Module.{Module}
 use Rattle.module.specs.State.{silent_in}
@@ -20,8 +20,8 @@ use Rattle.module.specs.Resume.{is_malformed, lacks_home, recorded, resumed, res
 
 -- ---- the numbers of a choice
 
-abbrev chosen : Bool → Bool → Module → Resumed
-chosen x y m = pick x Malformed (pick y NoHome (Ready m))
+abbrev chosen : Bool → Bool → Module → Result Module RecordError
+chosen x y m = pick x (Err Malformed) (pick y (Err NoHome) (Ok m))
 
 ten : (x y : Bool) (m : Module) → (resumed_number (chosen x y m) ≡ 10) ↔ (x ≡ true)
 ten true y m = (λ e. refl, λ e. refl)
@@ -72,7 +72,7 @@ module _ (u : Udid) (b g f : ℕ) (w : Fits u) where
 
 -- ---- THE MODULE IS AS THE RECORD SAYS
 
-ready_tests : (x y : Bool) (n m : Module) → chosen x y n ≡ Ready m → (x ≡ false) × ((y ≡ false) × (m ≡ n))
+ready_tests : (x y : Bool) (n m : Module) → chosen x y n ≡ Ok m → (x ≡ false) × ((y ≡ false) × (m ≡ n))
 ready_tests true y n m e = absurd (let z : ◌≡◌ {A = ℕ} 10 0 = ap resumed_number e in omega arith)
 ready_tests false true n m e = absurd (let z : ◌≡◌ {A = ℕ} 12 0 = ap resumed_number e in omega arith)
 ready_tests false false n m e = (refl, (refl, let z : m ≡ n = cc e in z))
@@ -102,7 +102,7 @@ not_true_is : (t : Bool) → (not t ≡ true) ↔ (t ≡ false)
 not_true_is true = (λ e. false_not_true e, λ e. not_both e refl)
 not_true_is false = (λ e. refl, λ e. refl)
 
-pub as_recorded : (u : Udid) (b g f : ℕ) → Fits u → b < 256 → (m : Module) → resumed u b g f ≡ Ready m → AsRecorded u b g f m
+pub as_recorded : (u : Udid) (b g f : ℕ) → Fits u → b < 256 → (m : Module) → resumed u b g f ≡ Ok m → AsRecorded u b g f m
 unfolding resumed
 as_recorded u b g f w l m e =
     let t = ready_tests (is_malformed b g) (lacks_home u b) (silent_in (recorded u b g f)) m e in

@@ -1,5 +1,5 @@
 -- What a module says: the bytes that it supplies when it is asked for some, and its reply to Get UDID.
-use Rattle.std.specs.Prelude.{ℕ, zero, suc, List, [], ◌∷◌, ◌++◌}
+use Rattle.std.specs.Prelude.{ℕ, zero, suc, List, [], ◌∷◌, ◌++◌, is_some, unwrap_or}
 use Rattle.lists.specs.Choice.{pick}
 use Rattle.pec.specs.Pec.{pec_from, pec_of}
 use Rattle.udid.specs.Bytes.{udid_bytes}
@@ -12,7 +12,7 @@ use Rattle.module.specs.Obeys.{heard_all}
 -- asked for n bytes: those that it supplies, and the module after them
 unfoldable pub says : ℕ → Module → List ℕ
 says zero m = []
-says (suc n) m = pick (supplies m).drives ((supplies m).byte ∷ says n (supplies m).after) (says n (supplies m).after)
+says (suc n) m = pick (is_some (supplies m).byte) (unwrap_or (supplies m).byte 0xFF ∷ says n (supplies m).after) (says n (supplies m).after)
 
 unfoldable pub after_asking : ℕ → Module → Module
 after_asking zero m = m

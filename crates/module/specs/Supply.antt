@@ -1,5 +1,5 @@
 -- A byte that the module supplies: steps 22 to 25, and 29.
-use Rattle.std.specs.Prelude.{ℕ, ◌+◌, ◌-◌, ◌*◌, ◌%◌, true, false, ltb, eqb, get_or}
+use Rattle.std.specs.Prelude.{ℕ, ◌+◌, ◌-◌, ◌*◌, ◌%◌, Some, None, ltb, eqb, get_or}
 use Rattle.lists.specs.Choice.{pick}
 use Rattle.pec.specs.Pec.{pec_step}
 use Rattle.udid.specs.Bytes.{udid_bytes}
@@ -24,11 +24,11 @@ abbrev pub after_byte : Lasting → ℕ → ℕ → ℕ → Module
 after_byte o c k b = pick (ltb k 18) (at o Reply (k + 1) (pec_step c b) 0) (silent_in o)
 
 abbrev pub said : Module → ℕ → Supplied
-said m b = record { after = m; drives = true; byte = b }
+said m b = record { after = m; byte = Some b }
 
--- FFh holds nothing down
+-- it holds nothing down, as FFh would not
 abbrev pub unsaid : Module → Supplied
-unsaid m = record { after = m; drives = false; byte = 0xFF }
+unsaid m = record { after = m; byte = None }
 
 abbrev pub supplied_at : Lasting → ℕ → ℕ → Supplied
 supplied_at o c k = said (after_byte o c k (reply_byte o c k)) (reply_byte o c k)

@@ -3,30 +3,31 @@ ghost use Rattle.std.specs.Prelude.{◌≡◌};
 ghost use Rattle.module.specs.Receive.{at_count, at_identifier};
 
 use crate::byte::byte_of;
-use crate::state::{Heard, Lasting, Phase, refuse, take};
+use crate::incoming::Incoming;
+use crate::state::{Heard, Phase, take};
 
-// The count is 17.
-pub(crate) fn count(own: Lasting, pec: u8, b: u8) -> Heard
-    ensures { result ≡ at_count own pec b }
-{
-    if b == 17 {
-        take(own, Phase::Identifier, 0, pec, 0)
-    } else {
-        refuse(own)
+impl Incoming {
+    // The count is 17.
+    pub(crate) fn count(self) -> Heard
+        ensures { result ≡ at_count self.own self.pec self.byte }
+    {
+        if self.byte == 17 {
+            self.take(Phase::Identifier)
+        } else {
+            self.refuse()
+        }
     }
-}
 
-// A byte of the identifier is the one that the module has at that place.
-pub(crate) fn identifier(own: Lasting, place: u8, pec: u8, b: u8) -> Heard
-    ensures { result ≡ at_identifier own place pec b }
-{
-    let u = own.udid;
-    if b != byte_of(u, place) {
-        return refuse(own);
-    }
-    if place < 15 {
-        take(own, Phase::Identifier, place + 1, pec, 0)
-    } else {
-        take(own, Phase::Given, 0, pec, 0)
+    // A byte of the identifier is the one that the module has at that place.
+    pub(crate) fn identifier(self, place: u8) -> Heard
+        ensures { result ≡ at_identifier self.own place self.pec self.byte }
+    {
+        if self.byte != byte_of(self.own.udid, place) {
+            self.refuse()
+        } else if place < 15 {
+            take(self.own, Phase::Identifier, place + 1, self.pec, 0)
+        } else {
+            self.take(Phase::Given)
+        }
     }
 }

@@ -6,6 +6,7 @@ pub mod byte;
 mod command;
 mod effect;
 mod identifier;
+mod incoming;
 pub mod power;
 pub mod receive;
 mod reset;

@@ -11,30 +11,21 @@ use wire::address::Address;
 fn store(udid: Udid, address: u8, fresh: u32) -> Lasting
     ensures { result ≡ stored udid address fresh }
 {
-    if address < 128 {
-        Lasting {
-            udid,
-            valid: true,
-            address,
-            resolved: false,
-            home: address,
-            fresh,
-        }
-    } else {
-        Lasting {
-            udid,
-            valid: false,
-            address: 0,
-            resolved: false,
-            home: address,
-            fresh,
-        }
+    let valid = address < 128;
+    Lasting {
+        udid,
+        valid,
+        address: if valid { address } else { 0 },
+        resolved: false,
+        home: address,
+        fresh,
     }
 }
 
 impl Module {
     // The address is that of non-volatile memory, or the one that it is fixed at; a number above 127 is none. A random module takes the
     // fresh bytes into its identifier, and keeps them for its next reset too.
+    #[tactic(auto, unfolding(crate::specs::Reset::powered))]
     pub fn power_on(udid: Udid, address: Address, fresh: u32) -> Module
         ensures { result ≡ powered udid address.0 fresh }
     {
@@ -45,16 +36,9 @@ impl Module {
     pub fn refresh(self, fresh: u32) -> Module
         ensures { result ≡ refreshed self fresh }
     {
-        let own = self.own;
-        let phase = self.phase;
-        let mut other = own;
-        other.fresh = fresh;
         Module {
-            own: other,
-            phase,
-            place: self.place,
-            pec: self.pec,
-            given: self.given,
+            own: Lasting { fresh, ..self.own },
+            ..self
         }
     }
 }

@@ -2,34 +2,37 @@
 ghost use Rattle.std.specs.Prelude.{◌≡◌};
 ghost use Rattle.module.specs.Receive.{receives};
 
-use crate::command::{again, command, first};
-use crate::effect::{assign_pec, prepare_pec, reset_pec};
-use crate::identifier::{count, identifier};
+use crate::command::first;
+use crate::effect::check_pec;
+use crate::incoming::Incoming;
+use crate::reset::{assign, prepare, reset_device};
 use crate::state::{Heard, Module, Phase, refuse, take};
 use pec::add_byte;
 
 impl Module {
     // A byte was received: ACK where it fits what is due, else NACK, and silence up to the next START.
+    #[tactic(auto, unfolding(crate::specs::Receive::receives))]
     pub fn receive(self, b: u8) -> Heard
         ensures { result ≡ receives self b }
     {
         let own = self.own;
-        let phase = self.phase;
-        match phase {
-            Phase::Silent => refuse(own),
+        let incoming = Incoming {
+            own,
+            pec: add_byte(self.pec, b),
+            byte: b,
+        };
+        match self.phase {
+            Phase::Silent | Phase::Asked | Phase::Called | Phase::Reply => refuse(own),
             Phase::First => first(own, b),
-            Phase::Command => command(own, add_byte(self.pec, b), b),
-            Phase::Asked => refuse(own),
-            Phase::Called => refuse(own),
-            Phase::AskedAgain => again(own.resolved, own, add_byte(self.pec, b), b),
-            Phase::CalledAgain => again(false, own, add_byte(self.pec, b), b),
-            Phase::Count => count(own, add_byte(self.pec, b), b),
-            Phase::Identifier => identifier(own, self.place, add_byte(self.pec, b), b),
-            Phase::Given => take(own, Phase::AssignPec, 0, add_byte(self.pec, b), b / 2),
-            Phase::PreparePec => prepare_pec(own, self.pec, b),
-            Phase::ResetPec => reset_pec(own, self.pec, b),
-            Phase::AssignPec => assign_pec(own, self.given, self.pec, b),
-            Phase::Reply => refuse(own),
+            Phase::Command => incoming.command(),
+            Phase::AskedAgain => incoming.again(own.resolved),
+            Phase::CalledAgain => incoming.again(false),
+            Phase::Count => incoming.count(),
+            Phase::Identifier => incoming.identifier(self.place),
+            Phase::Given => take(own, Phase::AssignPec, 0, incoming.pec, b / 2),
+            Phase::PreparePec => check_pec(prepare(own), own, self.pec, b),
+            Phase::ResetPec => check_pec(reset_device(own), own, self.pec, b),
+            Phase::AssignPec => check_pec(assign(own, self.given), own, self.pec, b),
         }
     }
 }

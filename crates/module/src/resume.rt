@@ -6,10 +6,9 @@ use crate::state::{Lasting, Module, silent_in};
 use udid::Udid;
 use wire::address::WireByte;
 
-// What a record gives: the module, as after STOP, or why there is none.
-#[derive(Clone, Copy)]
-pub enum Resumed {
-    Ready(Module),
+// Why there is no module of a record.
+#[derive(Clone, Copy, PartialEq, Eq)]
+pub enum RecordError {
     // The address byte is even, or the flag is above 1.
     Malformed,
     // It is fixed, and FFh is no address.
@@ -20,20 +19,14 @@ pub enum Resumed {
 fn is_malformed(byte: u8, flag: u8) -> bool
     ensures { result ≡ is_malformed byte flag }
 {
-    if byte % 2 == 0 {
-        return true;
-    }
-    flag > 1
+    byte % 2 == 0 || flag > 1
 }
 
 // It is fixed, and has no address to be fixed at.
 fn lacks_home(udid: Udid, byte: u8) -> bool
     ensures { result ≡ lacks_home udid byte }
 {
-    if !udid.is_fixed() {
-        return false;
-    }
-    byte == 0xFF
+    udid.is_fixed() && byte == 0xFF
 }
 
 // FFh is for Address Valid clear; any other byte has the address in its upper seven bits. A fixed one is fixed there.
@@ -61,18 +54,24 @@ fn own_of(udid: Udid, byte: u8, flag: u8, fresh: u32) -> Lasting
 }
 
 impl Module {
-    // The identifier, the address byte and the resolved flag of a record. The fresh bytes are those that a random module takes at its next
-    // reset.
-    pub fn of_record(udid: Udid, byte: WireByte, flag: u8, fresh: u32) -> Resumed
+    // The module of a record, as after STOP, or why there is none: the identifier, the address byte and the resolved flag. The fresh bytes
+    // are those that a random module takes at its next reset.
+    #[tactic(auto, unfolding(crate::specs::Resume::resumed))]
+    pub fn of_record(
+        udid: Udid,
+        byte: WireByte,
+        flag: u8,
+        fresh: u32,
+    ) -> Result<Module, RecordError>
         ensures { result ≡ resumed udid byte.0 flag fresh }
     {
         let b = byte.0;
         if is_malformed(b, flag) {
-            return Resumed::Malformed;
+            return Err(RecordError::Malformed);
         }
         if lacks_home(udid, b) {
-            return Resumed::NoHome;
+            return Err(RecordError::NoHome);
         }
-        Resumed::Ready(silent_in(own_of(udid, b, flag, fresh)))
+        Ok(silent_in(own_of(udid, b, flag, fresh)))
     }
 }

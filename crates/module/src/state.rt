@@ -5,7 +5,7 @@ ghost use Rattle.module.specs.State.{at, silent_in, taken, refused};
 use udid::Udid;
 
 // What is due next. Each byte that does not fit leads to Silent.
-#[derive(Clone, Copy)]
+#[derive(Clone, Copy, PartialEq, Eq)]
 pub enum Phase {
     // NACK for every byte, and nothing to say, until a START.
     Silent,
@@ -37,6 +37,8 @@ pub enum Phase {
 pub struct Lasting {
     pub udid: Udid,
     // The flag Address Valid, and the address; 0 where the flag is clear.
+    // Kept: two fields, and no Option<Address>. C's struct has both, and hb_module_start and the others hand back an address that
+    // C gave with the flag clear (told_parts, refresh of Modules).
     pub valid: bool,
     pub address: u8,
     // The flag Address Resolved.
@@ -67,12 +69,11 @@ pub struct Heard {
     pub ack: bool,
 }
 
-// A byte was asked for: the module after it, whether it has something to say, and what; FFh, which holds nothing down, where it has not.
+// A byte was asked for: the module after it, and the byte, if it has one to say. Where it has none, it holds nothing down.
 #[derive(Clone, Copy)]
 pub struct Supplied {
     pub after: Module,
-    pub drives: bool,
-    pub byte: u8,
+    pub byte: Option<u8>,
 }
 
 // In a phase of a packet.

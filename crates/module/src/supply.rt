@@ -1,12 +1,13 @@
 // A byte asked for: the reply to Get UDID, byte after byte, steps 22 to 25 and 29.
 ghost use Rattle.std.specs.Prelude.{◌≡◌};
-ghost use Rattle.module.specs.Supply.{address_byte, reply_byte, after_byte, supplied_at, unsaid, supplies};
+ghost use Rattle.module.specs.Supply.{address_byte, reply_byte, after_byte, supplied_at, supplies};
 
 use crate::byte::byte_of;
 use crate::state::{Lasting, Module, Phase, Supplied, module_at, silent_in};
 use pec::add_byte;
 
 // The device address byte: FFh where AV is clear.
+#[tactic(auto, unfolding(crate::specs::Supply::address_byte))]
 pub fn address_byte(own: Lasting) -> u8
     ensures { result ≡ address_byte own }
 {
@@ -18,20 +19,16 @@ pub fn address_byte(own: Lasting) -> u8
 }
 
 // Byte k of the reply: the count, the identifier, the address byte, PEC.
+#[tactic(auto, unfolding(crate::specs::Supply::reply_byte))]
 fn reply_byte(own: Lasting, pec: u8, k: u8) -> u8
     ensures { result ≡ reply_byte own pec k }
 {
-    let u = own.udid;
-    if k == 0 {
-        return 17;
+    match k {
+        0 => 17,
+        1..=16 => byte_of(own.udid, k - 1),
+        17 => address_byte(own),
+        _ => pec,
     }
-    if k < 17 {
-        return byte_of(u, k - 1);
-    }
-    if k == 17 {
-        return address_byte(own);
-    }
-    pec
 }
 
 // After byte k, which was b.
@@ -52,32 +49,22 @@ fn supply_at(own: Lasting, pec: u8, k: u8) -> Supplied
     let b = reply_byte(own, pec, k);
     Supplied {
         after: after_byte(own, pec, k, b),
-        drives: true,
-        byte: b,
-    }
-}
-
-// It has no byte to send, and stays as it is.
-fn nothing(m: Module) -> Supplied
-    ensures { result ≡ unsaid m }
-{
-    Supplied {
-        after: m,
-        drives: false,
-        byte: 0xFF,
+        byte: Some(b),
     }
 }
 
 impl Module {
-    // A byte is asked for: the next one of its reply, or none.
+    // A byte is asked for: the next one of its reply, or none, and it stays as it is.
+    #[tactic(auto, unfolding(crate::specs::Supply::supplies))]
     pub fn supply(self) -> Supplied
         ensures { result ≡ supplies self }
     {
-        let own = self.own;
-        let phase = self.phase;
-        match phase {
-            Phase::Reply => supply_at(own, self.pec, self.place),
-            _ => nothing(self),
+        match self.phase {
+            Phase::Reply => supply_at(self.own, self.pec, self.place),
+            _ => Supplied {
+                after: self,
+                byte: None,
+            },
         }
     }
 }

@@ -1,5 +1,5 @@
 -- What is printed for a module at its own end of the bus: a line each.
-use Rattle.std.specs.Prelude.{ℕ, List, ◌++◌}
+use Rattle.std.specs.Prelude.{ℕ, List, ◌++◌, is_some, unwrap_or}
 use Rattle.lists.specs.Choice.{pick}
 use Rattle.text.specs.Chars.{chars}
 use Rattle.writing.specs.Written.{decimal_of, pair_of}
@@ -22,7 +22,7 @@ stop_text = chars "0 stop\n"
 
 -- the next byte of a read, or none
 abbrev pub supplied_text : Supplied → List ℕ
-supplied_text s = pick s.drives ((chars "0 byte 0x" ++ pair_of s.byte) ++ newline) (chars "0 released\n")
+supplied_text s = pick (is_some s.byte) ((chars "0 byte 0x" ++ pair_of (unwrap_or s.byte 0xFF)) ++ newline) (chars "0 released\n")
 
 -- the identifier, the address byte, and Address Resolved
 abbrev pub state_text : Lasting → List ℕ

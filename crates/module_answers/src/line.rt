@@ -40,10 +40,10 @@ pub fn put_stop(out: &mut [u8], at: usize) -> usize
 pub fn put_supplied(out: &mut [u8], at: usize, s: Supplied) -> usize
     ensures { Appended out.old at (supplied_text s) out.new result }
 {
-    if s.drives {
-        return hex_line(out, at, b"0 byte 0x", s.byte);
+    match s.byte {
+        Some(byte) => hex_line(out, at, b"0 byte 0x", byte),
+        None => put_line(out, at, b"0 released"),
     }
-    put_line(out, at, b"0 released")
 }
 
 // A flag as a number.

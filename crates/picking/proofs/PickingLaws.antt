@@ -1,5 +1,5 @@
 -- Which address is chosen for a target, case by case; that it has seven bits and is free for a movable one; and why it is chosen.
-use Rattle.std.specs.Prelude.{ℕ, ◌/◌, ◌<◌, ◌≡◌, refl, Bool, true, false, ◌↔◌}
+use Rattle.std.specs.Prelude.{ℕ, ◌/◌, ◌<◌, ◌≡◌, refl, Bool, true, false, ◌↔◌, Some}
 use Rattle.std.proofs.Common.{sym, ap, ◌∙◌, arith, ne_eqb}
 use Rattle.lists.specs.AbsurdLaws.{zero_is_one}
 use Rattle.wire.specs.declared.address.Address.{Address}
@@ -7,7 +7,6 @@ use Rattle.pool.specs.NextFree.{next_free}
 use Rattle.pool.specs.NextFreeLaws.{next_free_lem}
 use Rattle.pool.specs.Pools.{member}
 use Rattle.pool.specs.declared.Pool.{Pool}
-use Rattle.pool.specs.declared.free.Free.TheVariants.{At}
 use Rattle.udid.specs.Udids.{is_fixed}
 use Rattle.udid.specs.declared.Udid.{Udid}
 use Rattle.commands.specs.declared.command.Reason.TheVariants.{Fixed, Kept, Picked, Claimed}
@@ -35,11 +34,11 @@ pub chosen_picked : (p : Pool) (last : ℕ) (u : Udid) (b : ℕ) → has_to_pick
 unfolding chosen
 chosen_picked p last u b e = rw e
 
-pub chosen_own : (p : Pool) (last : ℕ) (u : Udid) (b : ℕ) → has_to_pick p u b ≡ false → chosen p last u b ≡ At (record { 0 = b / 2 })
+pub chosen_own : (p : Pool) (last : ℕ) (u : Udid) (b : ℕ) → has_to_pick p u b ≡ false → chosen p last u b ≡ Some (record { 0 = b / 2 })
 unfolding chosen
 chosen_own p last u b e = rw e
 
-pub own_is : (b : ℕ) (a : Address) → At (own_address b) ≡ At a → b / 2 ≡ a.0
+pub own_is : (b : ℕ) (a : Address) → Some (own_address b) ≡ Some a → b / 2 ≡ a.0
 own_is b a k = let q : own_address b ≡ a = cc k in ap (λ (x : Address). x.0) q
 
 -- where one has to be picked for a byte that names an address, the target is movable and that address is in the pool
@@ -51,7 +50,7 @@ picks_is_taken p u b n e = go (is_fixed u) refl
     go false f = (f, sym (movable_picks p u b n f) ∙ e)
 
 -- what is chosen has seven bits, and for a movable target it is free
-pub chosen_small_and_free : (p : Pool) (last : ℕ) (u : Udid) (b : ℕ) (a : Address) → b < 256 → chosen p last u b ≡ At a → (a.0 < 128) × (is_fixed u ≡ false → member p a.0 ≡ false)
+pub chosen_small_and_free : (p : Pool) (last : ℕ) (u : Udid) (b : ℕ) (a : Address) → b < 256 → chosen p last u b ≡ Some a → (a.0 < 128) × (is_fixed u ≡ false → member p a.0 ≡ false)
 chosen_small_and_free p last u b a h e = go (has_to_pick p u b) refl
   where
     free : (b / 2 ≡ a.0) → has_to_pick p u b ≡ false → is_fixed u ≡ false → member p a.0 ≡ false

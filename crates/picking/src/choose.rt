@@ -5,7 +5,6 @@ ghost use Rattle.picking.specs.Picking.{reason_of, has_to_pick, chosen};
 
 use commands::command::Reason;
 use pool::Pool;
-use pool::free::Free;
 use udid::Udid;
 use wire::address::{Address, WireByte};
 
@@ -24,13 +23,13 @@ pub fn has_to_pick(pool: Pool, u: Udid, b: u8) -> bool
 }
 
 // The address for such a target: where one has to be picked, the first free one after the last pick; else the target's own.
-pub fn choose(pool: Pool, last: u8, u: Udid, b: u8) -> Free
+pub fn choose(pool: Pool, last: u8, u: Udid, b: u8) -> Option<Address>
     ensures { result ≡ chosen pool last u b }
 {
     if has_to_pick(pool, u, b) {
         return pool.next_free(last);
     }
-    Free::At(Address::from_wire(WireByte(b)))
+    Some(Address::from_wire(WireByte(b)))
 }
 
 // The last pick after the address a was chosen: a itself if it was picked, else what it was.

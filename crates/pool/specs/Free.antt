@@ -1,23 +1,21 @@
 -- How many addresses are in use, and the lowest that is free.
-use Rattle.std.specs.Prelude.{ℕ, zero, suc, ◌<◌, ◌≡◌, true, false}
+use Rattle.std.specs.Prelude.{ℕ, zero, suc, ◌<◌, ◌≡◌, true, false, Option, Some, None}
 use Rattle.lists.specs.Choice.{pick}
 use Rattle.wire.specs.declared.address.Address.{Address}
 use Rattle.pool.specs.Counts.{count}
 use Rattle.pool.specs.Pools.{member}
 use Rattle.pool.specs.declared.Pool.{Pool}
-use Rattle.pool.specs.declared.free.Free.{Free}
-use Rattle.pool.specs.declared.free.Free.TheVariants.{At, AllUsed}
 
 -- of the 128 addresses, those in use, counted
 unfoldable pub used : Pool → ℕ
 used p = count (member p) 128
 
 -- the first free one of the n addresses from a on
-unfoldable pub free_from : Pool → ℕ → ℕ → Free
-free_from p zero a = AllUsed
-free_from p (suc n) a = pick (member p a) (free_from p n (suc a)) (At (record { 0 = a }))
+unfoldable pub free_from : Pool → ℕ → ℕ → Option Address
+free_from p zero a = None
+free_from p (suc n) a = pick (member p a) (free_from p n (suc a)) (Some (record { 0 = a }))
 
-abbrev pub lowest_free : Pool → Free
+abbrev pub lowest_free : Pool → Option Address
 lowest_free p = free_from p 128 0
 
 -- a is free, and all below it are in use

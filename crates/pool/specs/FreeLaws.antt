@@ -1,6 +1,6 @@
 -- The count of the addresses in use is that of the ones of both halves, and follows each address more or fewer. The lowest free address is
 -- answered exactly if it is the lowest that is free, and none exactly if all 128 are in use.
-use Rattle.std.specs.Prelude.{ℕ, zero, suc, ◌+◌, ◌<◌, ◌≤◌, ◌≡◌, refl, Bool, true, false, ◌↔◌, length}
+use Rattle.std.specs.Prelude.{ℕ, zero, suc, ◌+◌, ◌<◌, ◌≤◌, ◌≡◌, refl, Bool, true, false, ◌↔◌, length, Some, None}
 use Rattle.std.proofs.Common.{sym, ap, ap₂, ◌∙◌, arith, zero-add}
 use Rattle.std.proofs.Math.Decide.{ℕ_discrete}
 use Rattle.std.specs.Int.Count.{ones}
@@ -15,7 +15,6 @@ use Rattle.pool.specs.Free.{used, free_from, lowest_free, Lowest, address}
 use Rattle.pool.specs.MemberLaws.{member_low, member_high, has_with_same, has_with_other, has_without_same, has_without_other}
 use Rattle.pool.specs.Pools.{Fits, member, with_address, without_address}
 use Rattle.pool.specs.declared.Pool.{Pool}
-use Rattle.pool.specs.declared.free.Free.TheVariants.{At, AllUsed}
 
 -- ---- how many
 
@@ -59,15 +58,15 @@ used_without p a h e = sym (count_more (member (without_address p a)) (member p)
 
 -- ---- the lowest that is free
 
-pub from_free : (p : Pool) (n a b : ℕ) → free_from p n a ≡ At (address b) → (member p b ≡ false) × (a ≤ b) × (b < a + n) × ((j : ℕ) → a ≤ j → j < b → member p j ≡ true)
+pub from_free : (p : Pool) (n a b : ℕ) → free_from p n a ≡ Some (address b) → (member p b ≡ false) × (a ≤ b) × (b < a + n) × ((j : ℕ) → a ≤ j → j < b → member p j ≡ true)
 unfolding free_from
 from_free p zero a b e = zero_is_one cc
 from_free p (suc n) a b e = go (λ q. from_free p n (suc a) b q) (member p a) refl
   where
-    go : (free_from p n (suc a) ≡ At (address b) → (member p b ≡ false) × (suc a ≤ b) × (b < suc a + n) × ((j : ℕ) → suc a ≤ j → j < b → member p j ≡ true))
+    go : (free_from p n (suc a) ≡ Some (address b) → (member p b ≡ false) × (suc a ≤ b) × (b < suc a + n) × ((j : ℕ) → suc a ≤ j → j < b → member p j ≡ true))
         → (t : Bool) → member p a ≡ t → (member p b ≡ false) × (a ≤ b) × (b < a + suc n) × ((j : ℕ) → a ≤ j → j < b → member p j ≡ true)
     go ih true h =
-        let q : free_from p n (suc a) ≡ At (address b) = simp h at e in
+        let q : free_from p n (suc a) ≡ Some (address b) = simp h at e in
         let r = ih q in
         (r.0, omega arith, omega arith, λ j l k. first j l k (ℕ_discrete a j) r.3)
       where
@@ -75,52 +74,52 @@ from_free p (suc n) a b e = go (λ q. from_free p n (suc a) b q) (member p a) re
         first j l k (yes d) m = ap (member p) (sym d) ∙ h
         first j l k (no d) m = m j (omega arith) k
     go ih false h =
-        let q : At (address a) ≡ At (address b) = simp h at e in
+        let q : Some (address a) ≡ Some (address b) = simp h at e in
         let k : address a ≡ address b = cc in
         let m : a ≡ b = ap (λ (x : Address). x.0) k in
         (ap (member p) (sym m) ∙ h, omega arith, omega arith, λ j l o. absurd (omega arith))
 
-pub from_full : (p : Pool) (n a j : ℕ) → free_from p n a ≡ AllUsed → a ≤ j → j < a + n → member p j ≡ true
+pub from_full : (p : Pool) (n a j : ℕ) → free_from p n a ≡ None → a ≤ j → j < a + n → member p j ≡ true
 unfolding free_from
 from_full p zero a j e l h = absurd (omega arith)
 from_full p (suc n) a j e l h = go (λ q m k. from_full p n (suc a) j q m k) (member p a) refl (ℕ_discrete a j)
   where
-    go : (free_from p n (suc a) ≡ AllUsed → suc a ≤ j → j < suc a + n → member p j ≡ true) → (t : Bool) → member p a ≡ t → Dec (a ≡ j) → member p j ≡ true
+    go : (free_from p n (suc a) ≡ None → suc a ≤ j → j < suc a + n → member p j ≡ true) → (t : Bool) → member p a ≡ t → Dec (a ≡ j) → member p j ≡ true
     go ih true k (yes d) = ap (member p) (sym d) ∙ k
-    go ih true k (no d) = let q : free_from p n (suc a) ≡ AllUsed = simp k at e in ih q (omega arith) (omega arith)
-    go ih false k d = let q : At (address a) ≡ AllUsed = simp k at e in zero_is_one cc
+    go ih true k (no d) = let q : free_from p n (suc a) ≡ None = simp k at e in ih q (omega arith) (omega arith)
+    go ih false k d = let q : Some (address a) ≡ None = simp k at e in zero_is_one cc
 
 -- either all n from a on are in use, or one of them is found
-pub from_cases : (p : Pool) (n a b : ℕ) → a ≤ b → b < a + n → member p b ≡ false → ((j : ℕ) → a ≤ j → j < b → member p j ≡ true) → free_from p n a ≡ At (address b)
+pub from_cases : (p : Pool) (n a b : ℕ) → a ≤ b → b < a + n → member p b ≡ false → ((j : ℕ) → a ≤ j → j < b → member p j ≡ true) → free_from p n a ≡ Some (address b)
 unfolding free_from
 from_cases p zero a b l h e m = absurd (omega arith)
 from_cases p (suc n) a b l h e m = go (ℕ_discrete a b) (λ k. from_cases p n (suc a) b k (omega arith) e (λ j o q. m j (omega arith) q))
   where
-    go : Dec (a ≡ b) → (suc a ≤ b → free_from p n (suc a) ≡ At (address b)) → pick (member p a) (free_from p n (suc a)) (At (address a)) ≡ At (address b)
+    go : Dec (a ≡ b) → (suc a ≤ b → free_from p n (suc a) ≡ Some (address b)) → pick (member p a) (free_from p n (suc a)) (Some (address a)) ≡ Some (address b)
     go (yes d) ih = let z : member p a ≡ false = ap (member p) d ∙ e in rw (z, d)
     go (no d) ih = let z : member p a ≡ true = m a (omega arith) (omega arith) in rw z (ih (omega arith))
 
-pub from_all : (p : Pool) (n a : ℕ) → ((j : ℕ) → a ≤ j → j < a + n → member p j ≡ true) → free_from p n a ≡ AllUsed
+pub from_all : (p : Pool) (n a : ℕ) → ((j : ℕ) → a ≤ j → j < a + n → member p j ≡ true) → free_from p n a ≡ None
 unfolding free_from
 from_all p zero a m = refl
 from_all p (suc n) a m = let z : member p a ≡ true = m a (omega arith) (omega arith) in rw z (from_all p n (suc a) (λ j l h. m j (omega arith) (omega arith)))
 
 -- an address is answered if and only if it is the lowest that is free
-pub lowest_is : (p : Pool) (a : ℕ) → (lowest_free p ≡ At (address a)) ↔ Lowest p a
+pub lowest_is : (p : Pool) (a : ℕ) → (lowest_free p ≡ Some (address a)) ↔ Lowest p a
 lowest_is p a = (
   λ e. (let r = from_free p 128 0 a e in record { small = omega arith; free = r.0; below = λ b h. r.3 b (omega arith) h }),
   λ w. from_cases p 128 0 a (omega arith) (omega (arith, w.small)) w.free (λ j l h. w.below j h),
 )
 
 -- none is answered if and only if all 128 are in use
-pub none_free : (p : Pool) → (lowest_free p ≡ AllUsed) ↔ ((b : ℕ) → b < 128 → member p b ≡ true)
+pub none_free : (p : Pool) → (lowest_free p ≡ None) ↔ ((b : ℕ) → b < 128 → member p b ≡ true)
 none_free p = (
   λ e b h. from_full p 128 0 b e (omega arith) (omega arith),
   λ m. from_all p 128 0 (λ j l h. m j (omega arith)),
 )
 
 -- and that is where 128 are counted
-pub full_count : (p : Pool) → (lowest_free p ≡ AllUsed) ↔ (used p ≡ 128)
+pub full_count : (p : Pool) → (lowest_free p ≡ None) ↔ (used p ≡ 128)
 unfolding used
 full_count p = (λ e. count_all (member p) 128 ((none_free p).0 e), λ e. (none_free p).1 (λ b h. go b h e (member p b) refl))
   where

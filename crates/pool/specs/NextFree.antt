@@ -1,19 +1,14 @@
 -- The first free address after the last one picked, going from 7Fh round to 00h.
-use Rattle.std.specs.Prelude.{ℕ, suc, ◌+◌, ◌-◌, ◌%◌, ◌<◌, ◌≤◌, ◌≡◌, false}
+use Rattle.std.specs.Prelude.{ℕ, suc, ◌+◌, ◌-◌, ◌%◌, ◌<◌, ◌≤◌, ◌≡◌, false, Option}
+use Rattle.std.specs.Option.{option_or}
 use Rattle.pool.specs.Free.{free_from, lowest_free}
 use Rattle.pool.specs.Pools.{member}
 use Rattle.pool.specs.declared.Pool.{Pool}
-use Rattle.pool.specs.declared.free.Free.{Free}
-use Rattle.pool.specs.declared.free.Free.TheVariants.{At, AllUsed}
-
--- the first answer if it has an address, else the second
-abbrev pub or_else : Free → Free → Free
-or_else (At a) g = At a
-or_else AllUsed g = g
+use Rattle.wire.specs.declared.address.Address.{Address}
 
 -- the first free one of those above last, up to 7Fh; else the lowest of all. After 127, and after any number above it, it is the lowest
-unfoldable pub next_free : Pool → ℕ → Free
-next_free p last = or_else (free_from p (127 - last) (suc last)) (lowest_free p)
+unfoldable pub next_free : Pool → ℕ → Option Address
+next_free p last = option_or (free_from p (127 - last) (suc last)) (lowest_free p)
 
 -- a is free, and of all free addresses it has the least distance from l on round the circle: 0 is the one after l, 127 is l itself
 pub record Next (p : Pool) (l a : ℕ) : Type 0 where

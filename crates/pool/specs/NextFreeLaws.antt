@@ -1,6 +1,6 @@
 -- The first free address after the last one picked: what the answer means, by how far an address lies after it on the circle of the 128.
 use Prim.Native.Nat.{ℕ, suc, ◌+◌, ◌-◌, ◌%◌, ◌<◌, ◌≤◌}
-use Rattle.std.specs.Prelude.{◌≡◌, Bool, true, ◌↔◌}
+use Rattle.std.specs.Prelude.{◌≡◌, Bool, true, ◌↔◌, Option, Some, None}
 use Rattle.std.proofs.Math.Path.{refl, ap}
 use Rattle.std.proofs.Common.{sym, ◌∙◌}
 use Rattle.std.proofs.Math.Bool.{false}
@@ -8,11 +8,11 @@ use Rattle.std.proofs.Math.Decide.{dec_lt}
 use native.Mathlib.Omega.{arith}
 use Rattle.pool.specs.Free.{used, free_from, lowest_free, Lowest, address}
 use Rattle.pool.specs.FreeLaws.{from_free, from_full, from_cases, from_all, lowest_is, none_free, full_count}
-use Rattle.pool.specs.NextFree.{or_else, next_free, Next}
+use Rattle.pool.specs.NextFree.{next_free, Next}
+use Rattle.std.specs.Option.{option_or}
 use Rattle.pool.specs.Pools.{member}
 use Rattle.pool.specs.declared.Pool.{Pool}
-use Rattle.pool.specs.declared.free.Free.{Free}
-use Rattle.pool.specs.declared.free.Free.TheVariants.{At, AllUsed}
+use Rattle.wire.specs.declared.address.Address.{Address}
 
 -- ---- the distances
 
@@ -64,12 +64,12 @@ both t e n = absurd (let z : ◌≡◌ {A = ℕ} 0 1 = cc (e, n) in omega arith)
 
 -- above l, or else the lowest
 module _ (p : Pool) (l a : ℕ) (h : l < 128) where
-  to : next_free p l ≡ At (address a) → Next p l a
+  to : next_free p l ≡ Some (address a) → Next p l a
   unfolding next_free
   to e = go (free_from p (127 - l) (suc l)) refl e
     where
-      go : (f : Free) → free_from p (127 - l) (suc l) ≡ f → or_else f (lowest_free p) ≡ At (address a) → Next p l a
-      go (At b) q r =
+      go : (f : Option Address) → free_from p (127 - l) (suc l) ≡ f → option_or f (lowest_free p) ≡ Some (address a) → Next p l a
+      go (Some b) q r =
           let s = from_free p (127 - l) (suc l) a (q ∙ r) in
           let k : a < 128 = omega (arith, s.2, s.1) in
           record {
@@ -81,7 +81,7 @@ module _ (p : Pool) (l a : ℕ) (h : l < 128) where
           near : (b : ℕ) → member p b ≡ false → b < a → Dec (l < b) → ((j : ℕ) → suc l ≤ j → j < a → member p j ≡ true) → b ≤ l
           near b n o (yes t) w = both _ (w b (omega arith) o) n
           near b n o (no t) w = omega arith
-      go AllUsed q r =
+      go None q r =
           let w = (lowest_is p a).0 r in
           record {
             small = w.small;
@@ -97,21 +97,21 @@ module _ (p : Pool) (l a : ℕ) (h : l < 128) where
           high b m n (yes t) = both _ (from_full p (127 - l) (suc l) b q (omega arith) (omega arith)) n
           high b m n (no t) = omega arith
 
-  from : Next p l a → next_free p l ≡ At (address a)
+  from : Next p l a → next_free p l ≡ Some (address a)
   unfolding next_free
   from w = go (dec_lt l a)
     where
-      go : Dec (l < a) → next_free p l ≡ At (address a)
+      go : Dec (l < a) → next_free p l ≡ Some (address a)
       go (yes t) =
-          let e : free_from p (127 - l) (suc l) ≡ At (address a) =
+          let e : free_from p (127 - l) (suc l) ≡ Some (address a) =
           from_cases p (127 - l) (suc l) a (omega arith) (omega (arith, w.small)) w.free
           (λ j m o. used_unless _ (λ n. ahead_back l a j w.small (omega arith) o (w.nearest j (omega (arith, w.small)) n))) in
-          ap (λ (f : Free). or_else f (lowest_free p)) e
+          ap (λ (f : Option Address). option_or f (lowest_free p)) e
       go (no t) =
-          let e : free_from p (127 - l) (suc l) ≡ AllUsed =
+          let e : free_from p (127 - l) (suc l) ≡ None =
           from_all p (127 - l) (suc l)
           (λ j m o. used_unless _ (λ n. behind_ahead l a j h (omega arith) (omega arith) (omega arith) (w.nearest j (omega arith) n))) in
-          ap (λ (f : Free). or_else f (lowest_free p)) e
+          ap (λ (f : Option Address). option_or f (lowest_free p)) e
           ∙ (lowest_is p a).1
           (record {
             small = w.small;
@@ -120,7 +120,7 @@ module _ (p : Pool) (l a : ℕ) (h : l < 128) where
           })
 
 -- an address is answered if and only if it is free and no free address lies nearer after the last one
-pub next_is : (p : Pool) (l a : ℕ) → l < 128 → (next_free p l ≡ At (address a)) ↔ Next p l a
+pub next_is : (p : Pool) (l a : ℕ) → l < 128 → (next_free p l ≡ Some (address a)) ↔ Next p l a
 next_is p l a h = (to p l a h, from p l a h)
 
 -- after 127, and after any number above it, it is the lowest that is free
@@ -129,28 +129,28 @@ unfolding next_free free_from
 next_above p l h = let e : 127 - l ≡ 0 = omega arith in rw e
 
 -- none is answered if and only if none of the 128 is free
-pub next_none : (p : Pool) (l : ℕ) → (next_free p l ≡ AllUsed) ↔ ((b : ℕ) → b < 128 → member p b ≡ true)
+pub next_none : (p : Pool) (l : ℕ) → (next_free p l ≡ None) ↔ ((b : ℕ) → b < 128 → member p b ≡ true)
 unfolding next_free
 next_none p l = (λ e. go (free_from p (127 - l) (suc l)) e, λ m. back m)
   where
-    go : (f : Free) → or_else f (lowest_free p) ≡ AllUsed → (b : ℕ) → b < 128 → member p b ≡ true
-    go (At a) e = absurd (let z : ◌≡◌ {A = ℕ} 0 1 = cc in omega arith)
-    go AllUsed e = (none_free p).0 e
+    go : (f : Option Address) → option_or f (lowest_free p) ≡ None → (b : ℕ) → b < 128 → member p b ≡ true
+    go (Some a) e = absurd (let z : ◌≡◌ {A = ℕ} 0 1 = cc in omega arith)
+    go None e = (none_free p).0 e
 
-    back : ((b : ℕ) → b < 128 → member p b ≡ true) → next_free p l ≡ AllUsed
+    back : ((b : ℕ) → b < 128 → member p b ≡ true) → next_free p l ≡ None
     back m =
-        let e : free_from p (127 - l) (suc l) ≡ AllUsed = from_all p (127 - l) (suc l) (λ j s t. m j (omega arith)) in
-        ap (λ (f : Free). or_else f (lowest_free p)) e ∙ (none_free p).1 m
+        let e : free_from p (127 - l) (suc l) ≡ None = from_all p (127 - l) (suc l) (λ j s t. m j (omega arith)) in
+        ap (λ (f : Option Address). option_or f (lowest_free p)) e ∙ (none_free p).1 m
 
 -- and that is where 128 are counted
-pub next_full : (p : Pool) (l : ℕ) → (next_free p l ≡ AllUsed) ↔ (used p ≡ 128)
+pub next_full : (p : Pool) (l : ℕ) → (next_free p l ≡ None) ↔ (used p ≡ 128)
 next_full p l = (
   λ e. (full_count p).0 ((none_free p).1 ((next_none p l).0 e)),
   λ e. (next_none p l).1 ((none_free p).0 ((full_count p).1 e)),
 )
 
 -- an answered address is below 128 and free, whatever the last one
-pub next_free_lem : (p : Pool) (l a : ℕ) → next_free p l ≡ At (address a) → (a < 128) × (member p a ≡ false)
+pub next_free_lem : (p : Pool) (l a : ℕ) → next_free p l ≡ Some (address a) → (a < 128) × (member p a ≡ false)
 next_free_lem p l a e = go (dec_lt l 128)
   where
     go : Dec (l < 128) → (a < 128) × (member p a ≡ false)
@@ -158,7 +158,7 @@ next_free_lem p l a e = go (dec_lt l 128)
     go (no h) = let w = (lowest_is p a).0 (sym (next_above p l (omega arith)) ∙ e) in (w.small, w.free)
 
 -- the last one itself is answered only if no other is free
-pub again_only_if : (p : Pool) (l : ℕ) → next_free p l ≡ At (address l) → (b : ℕ) → b < 128 → (b ≡ l → ⊥) → member p b ≡ true
+pub again_only_if : (p : Pool) (l : ℕ) → next_free p l ≡ Some (address l) → (b : ℕ) → b < 128 → (b ≡ l → ⊥) → member p b ≡ true
 again_only_if p l e b h n =
     let k : l < 128 = (next_free_lem p l l e).0 in
     used_unless _ (λ f. last l b k h n (((next_is p l l k).0 e).nearest b h f))

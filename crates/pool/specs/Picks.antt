@@ -1,9 +1,8 @@
 -- A run of picks: each from a pool of its own, and after the one before it.
-use Rattle.std.specs.Prelude.{ℕ, ◌≡◌, false, List, [], ◌∷◌, ◌⊎◌}
+use Rattle.std.specs.Prelude.{ℕ, ◌≡◌, false, List, [], ◌∷◌, ◌⊎◌, Some}
 use Rattle.pool.specs.NextFree.{next_free}
 use Rattle.pool.specs.Pools.{member}
 use Rattle.pool.specs.declared.Pool.{Pool}
-use Rattle.pool.specs.declared.free.Free.TheVariants.{At}
 
 -- the pool that was picked from, and the address that was picked
 pub record Pick : Type 0 where
@@ -13,7 +12,7 @@ pub record Pick : Type 0 where
 -- each address is the next free one of its pool, the first after last, and each other after the one before it
 unfoldable pub Picks : ℕ → List Pick → Type 0
 Picks last [] = Unit
-Picks last (x ∷ xs) = (next_free x.pool last ≡ At (record { 0 = x.at })) × Picks x.at xs
+Picks last (x ∷ xs) = (next_free x.pool last ≡ Some (record { 0 = x.at })) × Picks x.at xs
 
 -- b was free at each of these picks
 unfoldable pub FreeAtEach : ℕ → List Pick → Type 0

@@ -7,13 +7,6 @@ ghost use Rattle.pool.specs.NextFree.{next_free};
 use super::{Pool, bit};
 use wire::address::Address;
 
-// A free address, or that all 128 are in use.
-#[derive(Clone, Copy)]
-pub enum Free {
-    At(Address),
-    AllUsed,
-}
-
 impl Pool {
     // How many addresses are in use: the ones of both halves.
     pub fn used(self) -> u32
@@ -22,53 +15,49 @@ impl Pool {
         u64::count_ones(self.low) + u64::count_ones(self.high)
     }
 
-    // The lowest address that is free.
-    pub fn lowest_free(self) -> Free
+    // The lowest address that is free, or none where all 128 are in use.
+    pub fn lowest_free(self) -> Option<Address>
         ensures { result ≡ lowest_free self }
     {
         self.free_from(0)
     }
 
     // The first free address after the last one picked, going from 7Fh round to 00h. After 127, and after any number above, the lowest.
-    pub fn next_free(self, last: u8) -> Free
+    pub fn next_free(self, last: u8) -> Option<Address>
         ensures { result ≡ next_free self last }
     {
         if last >= 127 {
             return self.lowest_free();
         }
-        let above = self.free_from(last + 1);
-        match above {
-            Free::At(a) => Free::At(a),
-            Free::AllUsed => self.free_from(0),
-        }
+        self.free_from(last + 1).or(self.free_from(0))
     }
 
     // The lowest free address of those from n on.
-    fn free_from(self, n: u8) -> Free
+    fn free_from(self, n: u8) -> Option<Address>
         ensures { result ≡ free_from self (128 - n) n }
     {
         if n < 64 {
             let k = bit::zero_from(self.low, n);
             if k < 64 {
-                return Free::At(Address(k));
+                return Some(Address(k));
             }
             return self.high_free_from(0);
         }
         if n < 128 {
             return self.high_free_from(n - 64);
         }
-        Free::AllUsed
+        None
     }
 
     // The lowest free address of those from 64 + n on.
-    fn high_free_from(self, n: u8) -> Free
+    fn high_free_from(self, n: u8) -> Option<Address>
         requires { n < 64 }
         ensures { result ≡ free_from self (64 - n) (64 + n) }
     {
         let k = bit::zero_from(self.high, n);
         if k < 64 {
-            return Free::At(Address(64 + k));
+            return Some(Address(64 + k));
         }
-        Free::AllUsed
+        None
     }
 }

@@ -9,7 +9,7 @@ use Rattle.trace.specs.Rows.{message}
 use Rattle.trace.specs.declared.shape.Shape.{Shape}
 use Rattle.trace.specs.Trace.{Message}
 use Rattle.encode.specs.Encode.{encode_number, refused_by, encoded_by, encoded, Wrote}
-use Rattle.encode.specs.declared.Encoded.{Encoded}
+use Rattle.encode.specs.Encode.{Encoded}
 use Rattle.scan.specs.Numbers.{decode_number}
 use Rattle.scan.specs.Run.{run, finish, decoded_by}
 use Rattle.pool.specs.Counts.{count}

@@ -2,22 +2,22 @@
 -- ≡ is 'equal', ↔ 'if and only if', × 'and', ⊎ 'or', P → ⊥ 'not P', (x : A) × P 'there is an x with P'; get_or l i 0 is number i of the list l.
 -- A parameter such as (contract : Wrote ..) is what a function's `ensures` says, word for word. It need not be believed: the code meets it.
 -- CONTRACTS: Leaves, Outcome, Wrote, declining, first_half, issuing, looked_up, loses, message_of, model_end, new_controller, next_free, powered, protocol_for, receives, refreshed, reported, resumed, silent_in, started, starts, stepped, stops, supplies, trace_of.
--- BELIEVED: 1157 lines, without imports, comments and blanks. Crate/file, then the lines of each definition; src is a type of the code. tests/programs/believed.rs counts them.
+-- BELIEVED: 1149 lines, without imports, comments and blanks. Crate/file, then the lines of each definition; src is a type of the code. tests/programs/believed.rs counts them.
 -- lists/Choice: and 3, not 3, or 3, pick 3; lists/Each: Any 3, Bytes 3, Each 3; lists/Passing: passing 3; wire/AddressTable: Bit 4, Covers 2, covers 3, lets 4, table17 25; wire/Addresses: is_from_to 2, is_listed 2,
 -- is_preassigned 2, is_reserved 2; wire/Symbols: ACK 2, NACK 2, START 2, STOP 2; wire/src: Address 1; pec/Pec: bit_step 2, pec_from 3, pec_of 2, pec_step 2; pec/PecDivision: polynomial 2, polynomial_from 3, times_g 2;
 -- catches/Changes: Came 5, FirstAndLast 2, Flipped 2, RightPec 2, TwoBits 5, Within 7, bit_of 2, how_many 2, is_flipped 2, power 2; trace/Rows: message 2; trace/Table: InTable 2, Line 6, Row 22, TraceOf 2, last_protocol 2,
--- line 2, symbols 2; trace/Trace: Message 6, ack_of 3, acked 3, in_place 2, nacked 3; trace/src: Transaction 8; encode/Encode: encode_number 4; encode/src: Encoded 5; misfit/Cases: IsMisaddressed 2, IsMiscounted 2, IsOther 2,
--- IsSwapped 2; scan/Answers: summary 3; scan/Because: AfterStart 2; scan/BytesIn: bytes_in 3; scan/Decoded: Decoded 2; scan/Fitting: BitSwapped 4, Breaks 4, CountTooHigh 4, CutAt 9, Fits 2, FitsNext 2, Member 2, OtherPec 3,
--- ToHost 2, Whole 2, Wrong 2; scan/Numbers: decode_number 3, refusal_number 12; scan/src: Refusal 13, Refused 4; decode/Outcome: Entered 2; garbled/Places: Changed 3, MayDiffer 3, sent_from 2; pool/Counts: count 3, one 2;
--- pool/Digits: digit 2, plus 2; pool/Free: used 2; pool/NextFree: Next 4; pool/Picks: FreeAtEach 3, Pick 3, Picked 3, Picks 3, latest_of 3; pool/Pools: member 2, union_of 2, with_address 4; pool/Start: barred_pool 2,
--- empty_pool 2, listed_pool 2, reserved_pool 2, starting_pool 2; pool/src: Free 4, Pool 4; udid/Bytes: bytes_from 3, bytes_of 3, number 2, number_from 3, udid_at 2, udid_bytes 2; udid/Udids: Fits 3, is_fixed 2, same_udid 2,
--- value 2; udid/src: Udid 4; slots/Slots: held_at 2; slots/src: Binding 6, Slots 7; module/Acknowledges: acked 3, get_order 2; module/Obeys: assign_order 2, directed_reset 2, heard_all 3, packet 2, prepare_order 2, reset_order 2;
+-- line 2, symbols 2; trace/Trace: Message 6, ack_of 3, acked 3, in_place 2, nacked 3; trace/src: Transaction 8; encode/Encode: Encoded 2, encode_number 4; encode/src: EncodeError 4; misfit/Cases: IsMisaddressed 2, IsMiscounted 2,
+-- IsOther 2, IsSwapped 2; scan/Answers: summary 3; scan/Because: AfterStart 2; scan/BytesIn: bytes_in 3; scan/Decoded: Decoded 2; scan/Fitting: BitSwapped 4, Breaks 4, CountTooHigh 4, CutAt 9, Fits 2, FitsNext 2, Member 2,
+-- OtherPec 3, ToHost 2, Whole 2, Wrong 2; scan/Numbers: decode_number 3, refusal_number 12; scan/src: Refusal 13, Refused 4; decode/Outcome: Entered 2; garbled/Places: Changed 3, MayDiffer 3, sent_from 2; pool/Counts: count 3,
+-- one 2; pool/Digits: digit 2, plus 2; pool/Free: used 2; pool/NextFree: Next 4; pool/Picks: FreeAtEach 3, Pick 3, Picked 3, Picks 3, latest_of 3; pool/Pools: member 2, union_of 2, with_address 4; pool/Start: barred_pool 2,
+-- empty_pool 2, listed_pool 2, reserved_pool 2, starting_pool 2; pool/src: Pool 4; udid/Bytes: bytes_from 3, bytes_of 3, number 2, number_from 3, udid_at 2, udid_bytes 2; udid/Udids: Fits 3, is_fixed 2, same_udid 2, value 2;
+-- udid/src: Udid 4; slots/Slots: held_at 2; slots/src: Binding 6, Slots 7; module/Acknowledges: acked 3, get_order 2; module/Obeys: assign_order 2, directed_reset 2, heard_all 3, packet 2, prepare_order 2, reset_order 2;
 -- module/Packets: Begins 2, Known 7, PecDue 6, PowersOn 7, Reachable 2, Resets 7, kind_of 2; module/Receive: for_read 2, for_write 2; module/Reset: having 2; module/Resume: AsRecorded 9, resumed_number 4;
--- module/Says: after_asking 3, asked 2, reply_to 2, says 3, sent 2; module/Supply: address_byte 2; module/src: Lasting 8, Module 7, Resumed 5; commands/Choices: choice_in 3, in_end 7; commands/CommandTraces: ReplyOf 2,
--- assign_trace 2, prepare_trace 2, reply_trace 3; commands/SameTrace: same 5; commands/src: Choice 4, Command 5, End 8, Handed 4, Reason 6; arp/Account: bind_in 5, binds 7, known_in 2, removals 7, remove_in 2, replies_from 5,
--- unbind_in 5, unbindings 7; arp/Choosing: carried_for 3, carried_on 2, halves_over 3, sending 2, sending_for 3, steps_over 3; arp/History: By 3, Event 6, NoStart 7, heard 3, run 7; arp/Numbers: command_number 3, end_number 7,
--- is21 3, is21_end 7, lookup_number 6, unless21 2; arp/OneStep: Asks 3, Binds 8, BoundAt 3, Chooses 5, Continues 2, EndsWith 2, Hands 5, Keeps 4, Removes 5, Replies 4, Rest 5, Same 2, Unbinds 5; arp/Reasons: Contested 2,
--- MustPick 2, Reasons 7; arp/Replay: Table 3, handed_out 7, is_bound 5, view 2; arp/RunPicks: is_picked 2, pick_in 5, picks_of 8; arp/SinceStart: BoundSince 9, Completes 2, LeftSince 7, Removed 2, RepliedBy 2, Untaken 3;
+-- module/Says: after_asking 3, asked 2, reply_to 2, says 3, sent 2; module/Supply: address_byte 2; module/src: Lasting 8, Module 7, RecordError 4; commands/Choices: choice_in 3, in_end 7; commands/CommandTraces: ReplyOf 2,
+-- assign_trace 2, prepare_trace 2, reply_trace 3; commands/SameTrace: same 5; commands/src: Command 5, End 8, Handed 4, Reason 6; arp/Account: bind_in 5, binds 7, known_in 2, removals 7, remove_in 2, replies_from 5, unbind_in 5,
+-- unbindings 7; arp/Choosing: carried_for 3, carried_on 2, halves_over 3, sending 2, sending_for 3, steps_over 3; arp/History: By 3, Event 6, NoStart 7, heard 3, run 7; arp/Numbers: command_number 3, end_number 7, is21 3,
+-- is21_end 7, lookup_number 6, unless21 2; arp/OneStep: Asks 3, Binds 8, BoundAt 3, Chooses 5, Continues 2, EndsWith 2, Hands 5, Keeps 4, Removes 5, Replies 4, Rest 5, Same 2, Unbinds 5; arp/Reasons: Contested 2, MustPick 2,
+-- Reasons 7; arp/Replay: Table 3, handed_out 7, is_bound 5, view 2; arp/RunPicks: is_picked 2, pick_in 5, picks_of 8; arp/SinceStart: BoundSince 9, Completes 2, LeftSince 7, Removed 2, RepliedBy 2, Untaken 3;
 -- arp/State: with_last 2; arp/Waits: Waits 2; arp/src: Controller 8, Found 7, Reported 4, Stepped 4; arbitration/Among: Among 3; arbitration/Bits: bits 3, byte_bits 3, bytes_read 3, number_of 3; arbitration/Wire: heard 3,
 -- later 3, level 3, next 3, staying 3; targets/ByteCases: EvenOrFlag 2, FixedAt 2, FixedOnTaken 2, SameAsEarlier 2, address_at 2; targets/Cases: FirstOf 4, LengthIsBad 2, NoneOf 2; targets/Records: address_byte 2, flag_of 2,
 -- record_count 2, target_at 2, targets_from 3, targets_of 2, udid_of 2; targets/Reply: OnWire 3, covered_bytes 2, on_wire 3, reply_bytes 2, reply_data 2, reply_pec 2, sends 2, waiting 3; targets/Target: Target 4, is_resolved 2,
@@ -28,15 +28,15 @@
 -- Left 3, Sender 4, after 3, after_byte 2, after_bytes 3, any_ack 3, asked 2, block_length 2, byte_on 2, bytes_on 3, exchange 2, hearing 2, line 3, put 2, reading 5, record_of 2, records_of 2, rest 5, seen 3, sees 5, stop_all 2,
 -- walk 6; exchange/Pass: Bench 2, gets_on 2, pass_on 2, run_on 3, stands_on 2, took_on 3, traces_on 3, turn_on 2; exchange/Sending: asked_all 2, started_again 2; bus/Run: ModelEnd 4; promises/MarkedWords: Shows 2, holding 2,
 -- identifier 2, windows 3.
-use Rattle.std.specs.Prelude.{◌≡◌, Bool, true, false, List, [], ◌∷◌, ◌++◌, ◌⊎◌, ◌↔◌, ℕ, suc, ◌+◌, ◌-◌, ◌*◌, ◌/◌, ◌%◌, ◌^◌, ◌≤◌, ◌<◌, length, take, drop, get_or, replicate, Ok}
+use Rattle.std.specs.Prelude.{◌≡◌, Bool, true, false, List, [], ◌∷◌, ◌++◌, ◌⊎◌, ◌↔◌, ℕ, suc, ◌+◌, ◌-◌, ◌*◌, ◌/◌, ◌%◌, ◌^◌, ◌≤◌, ◌<◌, length, take, drop, get_or, replicate, Some, None, Ok, is_some, unwrap_or}
 use Rattle.std.specs.Int.Bits.{bit_xor}
 use Rattle.promises.specs.Words.{Each, Any, Bytes, is_reserved, is_preassigned, is_listed, table17, Covers, pec_of, Address, last_protocol, TraceOf, Message, message, encode_number, Wrote, Encoded}
 use Rattle.promises.specs.Words.{summary, Member, Fits, Breaks, Wrong, AfterStart, FitsNext, ToHost, IsSwapped, IsMisaddressed, IsMiscounted, IsOther, BitSwapped, CountTooHigh, CutAt, OtherPec, decode_number, Decoded, Entered, Outcome}
 use Rattle.promises.specs.Words.{member, empty_pool, starting_pool, barred_pool, Pool, udid_bytes, In128, Udid, held_at, prepare_trace, reply_trace, assign_trace, new_controller, started, stepped, reported, By, Event, Received, NoStart, run, looked_up, command_number, lookup_number}
 use Rattle.promises.specs.Words.{used, count, not, Completes, BoundSince, LeftSince, binds, unbindings, removals, known_in, handed_out, Removes, Rest, Reported, Left}
 use Rattle.promises.specs.Words.{Asks, Binds, Continues, EndsWith, Replies, protocol_for, message_of, trace_of, Handed, Send, Wait, Nothing, Prepare, GetUdid, Assign, Ended, Abandoned, NotOutstanding, Open, Bound, Claimed, Controller, Stepped}
-use Rattle.promises.specs.Words.{EvenOrFlag, SameAsEarlier, FixedOnTaken, LengthIsBad, NoneOf, FirstOf, targets_of, movable, left_free, pass, Given, Ending, served, none_free, Distinct, ruled, RecordOf, OnePerUdid, gets_on_bus, history_on_bus, model_number, Leaves, model_end, ModelAnswer, next_free, Next, At, AllUsed, Pick, Picks, latest_of, picks_of, FreeAtEach, Picked, identifier, holding, Shows}
-use Rattle.promises.specs.Words.{Module, silent_in, starts, stops, loses, receives, supplies, powered, refreshed, resumed, resumed_number, Ready, AsRecorded, having, heard_all, acked, prepare_order, reset_order, directed_reset, assign_order, get_order, Begins, Reachable, Known, Resets, PowersOn, PecDue, says, after_asking, asked, reply_to}
+use Rattle.promises.specs.Words.{EvenOrFlag, SameAsEarlier, FixedOnTaken, LengthIsBad, FirstOf, targets_of, movable, left_free, pass, Given, Ending, served, none_free, Distinct, ruled, RecordOf, OnePerUdid, gets_on_bus, history_on_bus, model_number, Leaves, model_end, ModelAnswer, next_free, Next, Pick, Picks, latest_of, picks_of, FreeAtEach, Picked, identifier, holding, Shows, NoneOf}
+use Rattle.promises.specs.Words.{Module, silent_in, starts, stops, loses, receives, supplies, powered, refreshed, resumed, resumed_number, AsRecorded, having, heard_all, acked, prepare_order, reset_order, directed_reset, assign_order, get_order, Begins, Reachable, Known, Resets, PowersOn, PecDue, says, after_asking, asked, reply_to}
 use Rattle.promises.specs.Words.{first_half, issuing, declining, steps_over, halves_over, run_by_halves, Step, Choose, Gone, Issue, Decline, Chosen, Reason, ByTwo, Reasons, Waits, with_last}
 use Rattle.promises.specs.Words.{times_g, polynomial, bytes_in, Whole, RightPec, Came, Within, TwoBits, FirstAndLast, how_many, MayDiffer, Changed, sent_from}
 use Rattle.promises.specs.Words.{on_bus, effect, map_targets, Among, beginning_over, run_over, model_bus, exchange, records_of, Fitting, after_bytes, asked_all, run_on, pass_on, gets_on}
@@ -381,10 +381,10 @@ pub record Choosing : Type 0 where
 pub record Picking : Type 0 where
   -- the pick from the pool p after l: the free address at the least distance (a + 127 − l) mod 128; none exactly if all 128 are used; after 127 the lowest; l itself
   -- only if no other is free
-  pub pick : (p : Pool) (l a : ℕ) → l < 128 → (next_free p l ≡ At (record { 0 = a })) ↔ Next p l a
-  pub none : (p : Pool) (l : ℕ) → (next_free p l ≡ AllUsed) ↔ ((a : ℕ) → a < 128 → member p a ≡ true)
-  pub first : (p : Pool) (a : ℕ) → (next_free p 127 ≡ At (record { 0 = a })) ↔ ((a < 128) × (member p a ≡ false) × ((b : ℕ) → b < a → member p b ≡ true))
-  pub again : (p : Pool) (l : ℕ) → next_free p l ≡ At (record { 0 = l }) → (b : ℕ) → b < 128 → (b ≡ l → ⊥) → member p b ≡ true
+  pub pick : (p : Pool) (l a : ℕ) → l < 128 → (next_free p l ≡ Some (record { 0 = a })) ↔ Next p l a
+  pub none : (p : Pool) (l : ℕ) → (next_free p l ≡ None) ↔ ((a : ℕ) → a < 128 → member p a ≡ true)
+  pub first : (p : Pool) (a : ℕ) → (next_free p 127 ≡ Some (record { 0 = a })) ↔ ((a < 128) × (member p a ≡ false) × ((b : ℕ) → b < a → member p b ≡ true))
+  pub again : (p : Pool) (l : ℕ) → next_free p l ≡ Some (record { 0 = l }) → (b : ℕ) → b < 128 → (b ≡ l → ⊥) → member p b ≡ true
   -- picks_of has the picks of a controller over any of these events, a pick with its choice, told by the traces and the commands handed out, each with its pool. Each is the pick after the one
   -- before it, and the first is the pick after what the controller was made with. The state's last pick is the latest of them; with none, what the controller was made with
   pub each : (occupied : Pool) (last : ℕ) (es : List Event) → Picks (new_controller occupied last).picked (picks_of occupied last es)
@@ -424,13 +424,13 @@ pub record Listens (m : Module) (fits : In128 m.own.udid) (four : m.own.fresh < 
   pub directed : Reachable m.own → let k = 2 * m.own.address + 1 in (n : ℕ) → (says (19 + n) (asked m k) ≡ reply_to m.own k) × (after_asking (19 + n) (asked m k) ≡ silent_in m.own)
   pub nothing_else : (bs : List ℕ) (n : ℕ) → (bs ≡ 0xC3 ∷ [] → (receives (starts m) 0xC3).ack ≡ false) → says n (heard_all (starts m) bs) ≡ []
   -- asked for a byte where it has none, it stays as it was. In a reply no byte gets ACK, and after its last byte it is silent. A START then, or right after a START, begins a new packet, before C3h too
-  pub released : (supplies m).drives ≡ false → ((supplies m).after ≡ m) × ((supplies m).byte ≡ 0xFF)
-  pub replying : (supplies m).drives ≡ true → (starts m ≡ starts (silent_in m.own)) × ((b : ℕ) → (receives m b).ack ≡ false)
-      × ((supplies (supplies m).after).drives ≡ false → (supplies m).after ≡ silent_in m.own)
+  pub released : is_some (supplies m).byte ≡ false → ((supplies m).after ≡ m) × (unwrap_or (supplies m).byte 0xFF ≡ 0xFF)
+  pub replying : is_some (supplies m).byte ≡ true → (starts m ≡ starts (silent_in m.own)) × ((b : ℕ) → (receives m b).ack ≡ false)
+      × (is_some (supplies (supplies m).after).byte ≡ false → (supplies m).after ≡ silent_in m.own)
   pub twice : starts (starts m) ≡ starts (silent_in m.own)
   -- LOST, STOPPED OR AFTER A NACK, up to the next START: no byte gets ACK, and no bit is driven
   pub told : (loses m ≡ silent_in m.own) × (stops m ≡ silent_in m.own)
-  pub silent : (b : ℕ) → ((receives (silent_in m.own) b).ack ≡ false) × ((receives (silent_in m.own) b).after ≡ silent_in m.own) × ((supplies (silent_in m.own)).drives ≡ false)
+  pub silent : (b : ℕ) → ((receives (silent_in m.own) b).ack ≡ false) × ((receives (silent_in m.own) b).after ≡ silent_in m.own) × (is_some (supplies (silent_in m.own)).byte ≡ false)
 
 pub record Modules : Type 0 where
   pub listens : (m : Module) (fits : In128 m.own.udid) (four : m.own.fresh < 2 ^ 32) → Listens m fits four
@@ -442,7 +442,7 @@ pub record Modules : Type 0 where
   pub resume_0 : (u : Udid) (b g f : ℕ) → In128 u → (resumed_number (resumed u b g f) ≡ 0) ↔ ((((b % 2 ≡ 0) ⊎ (1 < g)) → ⊥) × (((get_or (udid_bytes u) 0 0 < 64) × (b ≡ 0xFF)) → ⊥))
   pub resume_10 : (u : Udid) (b g f : ℕ) → In128 u → (resumed_number (resumed u b g f) ≡ 10) ↔ ((b % 2 ≡ 0) ⊎ (1 < g))
   pub resume_12 : (u : Udid) (b g f : ℕ) → In128 u → (resumed_number (resumed u b g f) ≡ 12) ↔ ((((b % 2 ≡ 0) ⊎ (1 < g)) → ⊥) × ((get_or (udid_bytes u) 0 0 < 64) × (b ≡ 0xFF)))
-  pub recorded : (u : Udid) (b g f : ℕ) → In128 u → b < 256 → (m : Module) → resumed u b g f ≡ Ready m → AsRecorded u b g f m
+  pub recorded : (u : Udid) (b g f : ℕ) → In128 u → b < 256 → (m : Module) → resumed u b g f ≡ Ok m → AsRecorded u b g f m
 
 -- A BUS OF MODULES, bit by bit: START, each byte and STOP are given to every module, an ACK stands where one or more give it, a zero beats a one, and who gives a one and sees a zero is told
 -- there and then. records_of ms are their records: the identifier, twice the address plus 1 or FFh where AV is clear, AR
@@ -460,7 +460,7 @@ pub record ModuleBus : Type 0 where
       → (LengthIsBad s → ⊥) → NoneOf (EvenOrFlag s) (length s / 18) → NoneOf (SameAsEarlier s) (length s / 18) → NoneOf (FixedOnTaken (barred_pool occupied) s) (length s / 18)
       → (ms : List Module) → Each Fitting ms → records_of ms ≡ targets_of s → ((pass_on occupied last ms).now ≡ (pass occupied last (targets_of s)).now) × (records_of (pass_on occupied last ms).targets ≡ targets_of s')
   -- of modules that answer a Get UDID together, any two that still have a byte to send after the identifier have the same identifier
-  pub never_two : (ms : List Module) → Each Fitting ms → (m n : Module) → Among m (after_bytes 17 (asked_all ms)) → Among n (after_bytes 17 (asked_all ms)) → (supplies m).drives ≡ true → (supplies n).drives ≡ true
+  pub never_two : (ms : List Module) → Each Fitting ms → (m n : Module) → Among m (after_bytes 17 (asked_all ms)) → Among n (after_bytes 17 (asked_all ms)) → is_some (supplies m).byte ≡ true → is_some (supplies n).byte ≡ true
       → m.own.udid ≡ n.own.udid
 
 -- ---- THE MARKED CASES, whatever binding buffer of at least 2,048 bytes is lent

@@ -20,8 +20,9 @@ use Rattle.encode.specs.Encode.{encode_number, Wrote}
 use Rattle.encode.specs.EncodeLaws.{answer_0, answer_1, answer_2, refusal_untouched}
 use Rattle.encode.specs.NumberLaws as encode
 use Rattle.encode.specs.Listed.{Listed}
-use Rattle.encode.specs.declared.Encoded.{Encoded}
-use Rattle.encode.specs.declared.Encoded.TheVariants.{Written, Forbidden, OutputTooShort}
+use Rattle.encode.specs.Encode.{Encoded}
+use Rattle.std.specs.Prelude.{Ok, Err}
+use Rattle.encode.specs.declared.EncodeError.TheVariants.{Forbidden, OutputTooShort}
 use Rattle.scan.specs.Answers.{summary}
 use Rattle.scan.proofs.AnswersLaws.{one_message}
 use Rattle.scan.specs.Numbers.{decode_number}
@@ -126,9 +127,9 @@ decodes protocol pec tr sent₀ received₀ a sent received o = record {
 -- what put_command writes for a command whose trace is tr, and which is refused in the case Bad
 written_trace : (protocol : ℕ) (pec : Bool) (t : Message) (before : List ℕ) (r : Encoded) (after : List ℕ) → Wrote protocol pec t before r after → (encode_number r).0 ≡ 0
     → after ≡ trace (shape_of protocol) pec t ++ drop (length (trace (shape_of protocol) pec t)) before
-written_trace protocol pec t before (Written n) after w e = w.output
-written_trace protocol pec t before Forbidden after w e = absurd (omega (arith, e))
-written_trace protocol pec t before OutputTooShort after w e = absurd (omega (arith, e))
+written_trace protocol pec t before (Ok n) after w e = w.output
+written_trace protocol pec t before (Err Forbidden) after w e = absurd (omega (arith, e))
+written_trace protocol pec t before (Err OutputTooShort) after w e = absurd (omega (arith, e))
 
 module _ (k : Handed) (reply tr before : List ℕ) (r : Encoded) (after : List ℕ) (Bad : Type 0) (w : Wrote (protocol_for k) true (message_of k reply) before r after)
     (one : (encode_number r ≡ (1, 0)) ↔ Bad) (same : (Bad → ⊥) → trace (shape_of (protocol_for k)) true (message_of k reply) ≡ tr) where

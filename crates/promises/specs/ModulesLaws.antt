@@ -1,5 +1,5 @@
 -- THE PROOFS of the page on the module's end of the bus: one inhabitant of each of its records.
-use Rattle.std.specs.Prelude.{◌≡◌, refl, false, List, ℕ, ◌/◌, ◌^◌, ◌≤◌, ◌<◌, length}
+use Rattle.std.specs.Prelude.{◌≡◌, refl, false, List, ℕ, ◌/◌, ◌^◌, ◌≤◌, ◌<◌, length, is_some}
 use Rattle.std.proofs.Common.{sym, ap, subst, ◌∙◌}
 use Rattle.lists.specs.Each.{Each, Bytes}
 use Rattle.wire.specs.declared.address.Address.{Address}
@@ -43,7 +43,7 @@ use Rattle.promises.specs.DemandsLaws.{demand_3}
 
 -- ---- one module
 
-silent_mute : (m : Module) → (supplies (silent_in m.own)).drives ≡ false
+silent_mute : (m : Module) → is_some (supplies (silent_in m.own)).byte ≡ false
 unfolding supplies
 silent_mute m = refl
 

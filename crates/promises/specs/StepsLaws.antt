@@ -1,6 +1,6 @@
 -- A step of the controller is as the sentences of the page say (Steps). For every trace one of them speaks, and they leave one result. The
 -- numbers 0, 13, 14 and 21 of a step are given exactly in their cases (StepNumbers).
-use Rattle.std.specs.Prelude.{ℕ, ◌*◌, ◌/◌, ◌≤◌, ◌<◌, ◌≡◌, refl, Bool, true, false, List, [], ◌∷◌, ◌++◌, ◌⊎◌, ◌↔◌, length, get_or}
+use Rattle.std.specs.Prelude.{ℕ, ◌*◌, ◌/◌, ◌≤◌, ◌<◌, ◌≡◌, refl, Bool, true, false, List, [], ◌∷◌, ◌++◌, ◌⊎◌, ◌↔◌, length, get_or, Option, Some, None}
 use Rattle.std.proofs.Common.{sym, ap, ◌∙◌, subst, inl, inr, arith}
 use Rattle.std.proofs.Math.Decide.{ℕ_discrete, dec_lt}
 use Rattle.lists.specs.ChoiceLaws.{false_not_true}
@@ -13,8 +13,6 @@ use Rattle.pool.specs.NextFree.{next_free}
 use Rattle.pool.specs.NextFreeLaws.{next_is, next_none}
 use Rattle.pool.specs.Pools.{member}
 use Rattle.pool.specs.declared.Pool.{Pool}
-use Rattle.pool.specs.declared.free.Free.{Free}
-use Rattle.pool.specs.declared.free.Free.TheVariants.{At, AllUsed}
 use Rattle.udid.specs.Bytes.{udid_bytes, udid_at}
 use Rattle.udid.specs.Udids.{Fits}
 use Rattle.udid.specs.declared.Udid.{Udid}
@@ -94,7 +92,7 @@ data Case (s : Controller) (tr : List ℕ) : Type 0 where
   Again : s.last ≡ Send GetUdid → NoReply tr → (NobodyLeft tr → ⊥) → Case s tr
   Whole : (u : Udid) (a : Address) → s.last ≡ Send (Assign u a) → Fits u → a.0 < 128 → tr ≡ assign_trace (udid_bytes u) (2 * a.0) → Case s tr
   Other : (u : Udid) (a : Address) → s.last ≡ Send (Assign u a) → (a.0 < 128 → tr ≡ assign_trace (udid_bytes u) (2 * a.0) → ⊥) → Case s tr
-  None : Idle s → Case s tr
+  Unprompted : Idle s → Case s tr
 
 -- the identifier of an outstanding Assign has 128 bits
 abbrev FitsLast : Controller → Type 0
@@ -128,7 +126,7 @@ every_case s tr f = go s.last refl
     assign u a e (yes l) (no t) = Other u a e (λ k. t)
 
     idle : (k : Handed) → s.last ≡ k → (k ≡ Send Prepare → ⊥) → (k ≡ Send GetUdid → ⊥) → ((u : Udid) (a : Address) → k ≡ Send (Assign u a) → ⊥) → Case s tr
-    idle k e p g a = None (λ q. p (sym e ∙ q), λ q. g (sym e ∙ q), λ u x q. a u x (sym e ∙ q))
+    idle k e p g a = Unprompted (λ q. p (sym e ∙ q), λ q. g (sym e ∙ q), λ u x q. a u x (sym e ∙ q))
 
     go : (k : Handed) → s.last ≡ k → Case s tr
     go (Send Prepare) e = prepare e (same_trace_or_not tr prepare_trace) (six_or_not 1 tr refl)
@@ -164,7 +162,7 @@ one_step s tr r q f small h g = go (every_case s tr f)
     go (Again e n m) = continues_alike s r q (h.get_again e n m) (g.get_again e n m)
     go (Whole u a e k l t) = binds_alike u a.0 s r q (h.assign_whole u a e k l t) (g.assign_whole u a e k l t)
     go (Other u a e n) = continues_alike s r q (h.assign_other u a e n) (g.assign_other u a e n)
-    go (None i) = idle_both s tr r q (h.none_outstanding i) (g.none_outstanding i)
+    go (Unprompted i) = idle_both s tr r q (h.none_outstanding i) (g.none_outstanding i)
 
 -- ---- the numbers of a step, each exactly in its case
 
@@ -186,10 +184,10 @@ none_chosen p last u b k m small c e = go (ℕ_discrete b 0xFF) (dec_lt (get_or 
     assigned : (a : Address) → k ≡ Send (Assign u a) → ⊥
     assigned a q = let z : ◌≡◌ {A = ℕ} 99 13 = ap (λ (x : Handed). tag (command_number x)) (sym q ∙ e) in omega arith
 
-    picked : (b ≡ 0xFF) ⊎ ((64 ≤ get_or (udid_bytes u) 0 0) × (member p (b / 2) ≡ true)) → (f : Free) → next_free p last ≡ f
+    picked : (b ≡ 0xFF) ⊎ ((64 ≤ get_or (udid_bytes u) 0 0) × (member p (b / 2) ≡ true)) → (f : Option Address) → next_free p last ≡ f
         → ((b ≡ 0xFF) ⊎ ((64 ≤ get_or (udid_bytes u) 0 0) × (member p (b / 2) ≡ true))) × ((a : ℕ) → a < 128 → member p a ≡ true)
-    picked w (At a) q = absurd (assigned _ (c.picked w a.0 ((next_is p last a.0 small).0 q)).0)
-    picked w AllUsed q = (w, (next_none p last).0 q)
+    picked w (Some a) q = absurd (assigned _ (c.picked w a.0 ((next_is p last a.0 small).0 q)).0)
+    picked w None q = (w, (next_none p last).0 q)
 
     go : Dec (b ≡ 0xFF) → Dec (get_or (udid_bytes u) 0 0 < 64) → (t : Bool) → member p (b / 2) ≡ t
         → ((b ≡ 0xFF) ⊎ ((64 ≤ get_or (udid_bytes u) 0 0) × (member p (b / 2) ≡ true))) × ((a : ℕ) → a < 128 → member p a ≡ true)
@@ -252,7 +250,7 @@ module _ (s : Controller) (tr : List ℕ) (f : FitsLast s) (small : s.picked < 1
       there q (Again e n m) = absurd (asks_not 0 [] (omega arith) (λ z. omega (arith, z)) (h.get_again e n m).0 q)
       there q (Whole u a e k l t) = absurd (asks_not 0 [] (omega arith) (λ z. omega (arith, z)) (h.assign_whole u a e k l t).0 q)
       there q (Other u a e n) = absurd (asks_not 0 [] (omega arith) (λ z. omega (arith, z)) (h.assign_other u a e n).0 q)
-      there q (None i) = absurd (apart (Wait NotOutstanding) 0 [] (h.none_outstanding i).1 (λ z. omega (arith, z)) q)
+      there q (Unprompted i) = absurd (apart (Wait NotOutstanding) 0 [] (h.none_outstanding i).1 (λ z. omega (arith, z)) q)
 
       back : EndDue → command_number r.command ≡ (0, []) ∷ []
       back (inl (e, (b, w))) = ap command_number (h.prepare_nobody e b w).0.command
@@ -299,7 +297,7 @@ module _ (s : Controller) (tr : List ℕ) (f : FitsLast s) (small : s.picked < 1
       there q (Again e n m) = absurd (asks_not 13 _ (omega arith) (λ z. omega (arith, z)) (h.get_again e n m).0 q)
       there q (Whole v a e k l t) = absurd (asks_not 13 _ (omega arith) (λ z. omega (arith, z)) (h.assign_whole v a e k l t).0 q)
       there q (Other v a e n) = absurd (asks_not 13 _ (omega arith) (λ z. omega (arith, z)) (h.assign_other v a e n).0 q)
-      there q (None i) = absurd (apart (Wait NotOutstanding) 13 _ (h.none_outstanding i).1 (λ z. omega (arith, z)) q)
+      there q (Unprompted i) = absurd (apart (Wait NotOutstanding) 13 _ (h.none_outstanding i).1 (λ z. omega (arith, z)) q)
 
       back : NoneDue u → command_number r.command ≡ (13, u ∷ []) ∷ []
       back (e, (b, k, l, t, w, a)) = ap command_number ((h.get_reply e u b k l t).chooses.none_free w a).0
@@ -325,7 +323,7 @@ module _ (s : Controller) (tr : List ℕ) (f : FitsLast s) (small : s.picked < 1
       there q (Again e n m) = inr (asks_14 (h.get_again e n m).0 q, inr (inl (e, n, m)))
       there q (Whole u a e k l t) = inr (asks_14 (h.assign_whole u a e k l t).0 q, inr (inr (u, a, e)))
       there q (Other u a e n) = inr (asks_14 (h.assign_other u a e n).0 q, inr (inr (u, a, e)))
-      there q (None i) = absurd (apart (Wait NotOutstanding) 14 [] (h.none_outstanding i).1 (λ z. omega (arith, z)) q)
+      there q (Unprompted i) = absurd (apart (Wait NotOutstanding) 14 [] (h.none_outstanding i).1 (λ z. omega (arith, z)) q)
 
       limit : Asks s r → 128 ≤ s.gets → command_number r.command ≡ (14, []) ∷ []
       limit a l = ap command_number (a.limit l).command
@@ -355,7 +353,7 @@ module _ (s : Controller) (tr : List ℕ) (f : FitsLast s) (small : s.picked < 1
       there q (Again e n m) = absurd (asks_not 21 [] (omega arith) (λ z. omega (arith, z)) (h.get_again e n m).0 q)
       there q (Whole u a e k l t) = absurd (asks_not 21 [] (omega arith) (λ z. omega (arith, z)) (h.assign_whole u a e k l t).0 q)
       there q (Other u a e n) = absurd (asks_not 21 [] (omega arith) (λ z. omega (arith, z)) (h.assign_other u a e n).0 q)
-      there q (None i) = i
+      there q (Unprompted i) = i
 
   pub each_number_exactly : StepNumbers s tr r
   each_number_exactly = record { step_0 = ends_exactly; step_13 = none_exactly; step_14 = abandons_exactly; step_21 = refuses_exactly }
@@ -385,4 +383,4 @@ module _ (s : Controller) (tr : List ℕ) (f : FitsLast s) (small : s.picked < 1
       go (Again e n m) = absurd (asks_none (h.get_again e n m).0)
       go (Whole v c e k l t) = absurd (asks_none (h.assign_whole v c e k l t).0)
       go (Other v c e n) = absurd (asks_none (h.assign_other v c e n).0)
-      go (None i) = absurd (no_assign (Wait NotOutstanding) (h.none_outstanding i).1 refl)
+      go (Unprompted i) = absurd (no_assign (Wait NotOutstanding) (h.none_outstanding i).1 refl)

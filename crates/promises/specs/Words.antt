@@ -10,7 +10,7 @@ pub use Rattle.trace.specs.Rows.{message}
 pub use Rattle.trace.specs.Table.{last_protocol, TraceOf}
 pub use Rattle.trace.specs.Trace.{Message}
 pub use Rattle.encode.specs.Encode.{encode_number, Wrote}
-pub use Rattle.encode.specs.declared.Encoded.{Encoded}
+pub use Rattle.encode.specs.Encode.{Encoded}
 pub use Rattle.scan.specs.Answers.{summary}
 pub use Rattle.misfit.specs.Cases.{IsSwapped, IsMisaddressed, IsMiscounted, IsOther}
 pub use Rattle.scan.specs.Because.{AfterStart}
@@ -32,7 +32,6 @@ pub use Rattle.pool.specs.Free.{used}
 pub use Rattle.pool.specs.Pools.{member}
 pub use Rattle.pool.specs.Start.{empty_pool, starting_pool, barred_pool}
 pub use Rattle.pool.specs.declared.Pool.{Pool}
-pub use Rattle.pool.specs.declared.free.Free.TheVariants.{At, AllUsed}
 pub use Rattle.udid.specs.Bytes.{udid_bytes}
 pub use Rattle.udid.specs.Udids.{Fits as In128}
 pub use Rattle.udid.specs.declared.Udid.{Udid}
@@ -82,7 +81,6 @@ pub use Rattle.report.specs.Report.{model_number}
 pub use Rattle.bus.specs.Run.{Leaves, model_end}
 pub use Rattle.bindings.specs.declared.answer.ModelAnswer.{ModelAnswer}
 -- the module's end
-pub use Rattle.module.specs.declared.resume.Resumed.TheVariants.{Ready}
 pub use Rattle.module.specs.declared.state.Lasting.{Lasting}
 pub use Rattle.module.specs.declared.state.Module.{Module}
 pub use Rattle.module.specs.State.{silent_in}

@@ -1,5 +1,5 @@
 -- When all targets are bound: if and only if the movable ones do not outnumber the addresses that the fixed ones leave free.
-use Rattle.std.specs.Prelude.{ℕ, suc, ◌+◌, ◌/◌, ◌≤◌, ◌<◌, ◌≡◌, refl, Bool, true, false, ◌↔◌, List, [], ◌∷◌, eqb, ltb, length}
+use Rattle.std.specs.Prelude.{ℕ, suc, ◌+◌, ◌/◌, ◌≤◌, ◌<◌, ◌≡◌, refl, Bool, true, false, ◌↔◌, List, [], ◌∷◌, eqb, ltb, length, Option, Some, None}
 use Rattle.std.proofs.Common.{sym, ap, ◌∙◌, inl, inr, arith}
 use Rattle.lists.specs.AbsurdLaws.{zero_is_one}
 use Rattle.lists.specs.Choice.{pick, or, and}
@@ -11,8 +11,6 @@ use Rattle.pool.specs.Pools.{member, with_address}
 use Rattle.pool.specs.MemberLaws.{member_with}
 use Rattle.pool.specs.Start.{starting_pool, barred_pool}
 use Rattle.pool.specs.declared.Pool.{Pool}
-use Rattle.pool.specs.declared.free.Free.{Free}
-use Rattle.pool.specs.declared.free.Free.TheVariants.{At, AllUsed}
 use Rattle.udid.specs.Udids.{is_fixed, value}
 use Rattle.arbitration.specs.Among.{Among}
 use Rattle.targets.specs.Target.{Target}
@@ -36,7 +34,7 @@ module _ (p shut : Pool) (last : ℕ) (t : Target) (rest : List Target) (v : Rea
   movable_rest : is_fixed t.udid ≡ false → (q : Pool) → with_fixed q rest ≡ q
   movable_rest f q = none_fixed rest q (λ x m. movable_after t x (v.sized t (inl refl)) (v.sized x (inr m)) (v.apart.0 x m).lower f)
 
-  as_many_after : (a : Address) → plain_choice p last t ≡ At a
+  as_many_after : (a : Address) → plain_choice p last t ≡ Some a
       → used (with_fixed p (t ∷ rest)) + movable (t ∷ rest) ≡ used (with_fixed (with_address p a.0) rest) + movable rest
   as_many_after a e = go (is_fixed t.udid) refl
     where
@@ -49,7 +47,7 @@ module _ (p shut : Pool) (last : ℕ) (t : Target) (rest : List Target) (v : Rea
           omega (arith, n, ap used (movable_rest f p), ap used (movable_rest f (with_address p a.0)))
 
   -- nothing is chosen only where these are more than 128
-  no_room : plain_choice p last t ≡ AllUsed → 128 < used (with_fixed p (t ∷ rest)) + movable (t ∷ rest)
+  no_room : plain_choice p last t ≡ None → 128 < used (with_fixed p (t ∷ rest)) + movable (t ∷ rest)
   no_room e = let c = choice_none p last t e in rw c.0 (omega (arith, c.1, ap used (movable_rest c.0 p)))
 
 -- all are served if and only if the addresses used, with those of the fixed targets, and the movable targets are no more than 128 together;
@@ -60,12 +58,12 @@ room_serves_all [] p shut last v h = (refl, refl)
 room_serves_all (t ∷ rest) p shut last v h =
     go (plain_choice p last t) refl (λ a e l. room_serves_all rest (with_address p a.0) (with_address shut a.0) (pick_after p last t a.0) (ready_next p shut last t rest a v e) l)
   where
-    go : (c : Free) → plain_choice p last t ≡ c
-        → ((a : Address) → plain_choice p last t ≡ At a → used (with_fixed (with_address p a.0) rest) + movable rest ≤ 128
+    go : (c : Option Address) → plain_choice p last t ≡ c
+        → ((a : Address) → plain_choice p last t ≡ Some a → used (with_fixed (with_address p a.0) rest) + movable rest ≤ 128
         → ((rule rest (with_address p a.0) (pick_after p last t a.0)).ending ≡ served) × (length (rule rest (with_address p a.0) (pick_after p last t a.0)).given ≡ length rest))
         → ((next (λ q l. rule rest q l) t p last c).ending ≡ served) × (length (next (λ q l. rule rest q l) t p last c).given ≡ suc (length rest))
-    go AllUsed e ih = absurd (omega (arith, h, no_room p shut last t rest v e))
-    go (At a) e ih =
+    go None e ih = absurd (omega (arith, h, no_room p shut last t rest v e))
+    go (Some a) e ih =
         let r = ih a e (omega (arith, h, as_many_after p shut last t rest v a e)) in
         (r.0, ap suc r.1)
 
@@ -74,11 +72,11 @@ served_has_room [] p shut last v h = omega (arith, used_le p)
 served_has_room (t ∷ rest) p shut last v h =
     go (plain_choice p last t) refl h (λ a e l. served_has_room rest (with_address p a.0) (with_address shut a.0) (pick_after p last t a.0) (ready_next p shut last t rest a v e) l)
   where
-    go : (c : Free) → plain_choice p last t ≡ c → (next (λ q l. rule rest q l) t p last c).ending ≡ served
-        → ((a : Address) → plain_choice p last t ≡ At a → (rule rest (with_address p a.0) (pick_after p last t a.0)).ending ≡ served → used (with_fixed (with_address p a.0) rest) + movable rest ≤ 128)
+    go : (c : Option Address) → plain_choice p last t ≡ c → (next (λ q l. rule rest q l) t p last c).ending ≡ served
+        → ((a : Address) → plain_choice p last t ≡ Some a → (rule rest (with_address p a.0) (pick_after p last t a.0)).ending ≡ served → used (with_fixed (with_address p a.0) rest) + movable rest ≤ 128)
         → used (with_fixed p (t ∷ rest)) + movable (t ∷ rest) ≤ 128
-    go AllUsed e k ih = zero_is_one (cc k)
-    go (At a) e k ih = omega (arith, as_many_after p shut last t rest v a e, ih a e k)
+    go None e k ih = zero_is_one (cc k)
+    go (Some a) e k ih = omega (arith, as_many_after p shut last t rest v a e, ih a e k)
 
 -- ---- the order does not matter
 

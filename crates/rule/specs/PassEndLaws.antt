@@ -1,6 +1,6 @@
 -- THE THIRD DEMAND: a pass of the controller's steps over the bus bit by bit ends as the plain rule says.
 use Prim.Native.Nat.{ℕ, suc, ◌+◌, ◌*◌, ◌-◌, ◌<◌}
-use Rattle.std.specs.Prelude.{◌≡◌, Bool, true, false, ◌⊎◌, ltb, length}
+use Rattle.std.specs.Prelude.{◌≡◌, Bool, true, false, ◌⊎◌, ltb, length, Option, Some, None}
 use Rattle.std.proofs.Math.Path.{refl, ap, ap₂}
 use Rattle.std.proofs.Common.{sym, ◌∙◌, subst, inl, inr, suc-add, add-suc, zero-add, arith}
 use mathlib.Core.List.{List, [], ◌∷◌}
@@ -14,8 +14,6 @@ use Rattle.pool.specs.Pools.{member, with_address}
 use Rattle.pool.specs.Start.{starting_pool, barred_pool}
 use Rattle.pool.proofs.StartLaws.{member_barred, barred_starting}
 use Rattle.pool.specs.declared.Pool.{Pool}
-use Rattle.pool.specs.declared.free.Free.{Free}
-use Rattle.pool.specs.declared.free.Free.TheVariants.{At, AllUsed}
 use Rattle.udid.specs.Udids.{value}
 use Rattle.udid.specs.declared.Udid.{Udid}
 use Rattle.arbitration.specs.Among.{Among}
@@ -56,12 +54,12 @@ plain_outcome [] p last s k ts = ap (λ (n : ℕ). record { pool = p; slots = s;
 plain_outcome (t ∷ rest) p last s k ts =
     go (plain_choice p last t) (λ a. plain_outcome rest (with_address p a.0) (pick_after p last t a.0) (with_binding s a.0 (Bound t.udid)) (suc k) (resolve t.udid a.0 ts))
   where
-    go : (c : Free)
+    go : (c : Option Address)
         → ((a : Address) → plain rest (with_address p a.0) (pick_after p last t a.0) (with_binding s a.0 (Bound t.udid)) (suc k) (resolve t.udid a.0 ts)
         ≡ outcome (rule rest (with_address p a.0) (pick_after p last t a.0)) (with_address p a.0) (with_binding s a.0 (Bound t.udid)) (suc k) (resolve t.udid a.0 ts))
         → serve (λ p' l' s' k' ts'. plain rest p' l' s' k' ts') t p last s k ts c ≡ outcome (next (λ q l. rule rest q l) t p last c) p s k ts
-    go AllUsed ih = ap (λ (n : ℕ). record { pool = p; slots = s; bound = n; targets = ts; ending = none_free t.udid; picked = last }) (sym (zero-add k))
-    go (At a) ih = ih a ∙ simp (add-suc, suc-add)
+    go None ih = ap (λ (n : ℕ). record { pool = p; slots = s; bound = n; targets = ts; ending = none_free t.udid; picked = last }) (sym (zero-add k))
+    go (Some a) ih = ih a ∙ simp (add-suc, suc-add)
 
 -- ---- clearing the flags changes nothing that the rule looks at
 
@@ -89,12 +87,12 @@ plain_cleared (t ∷ rest) p last s k ts =
     ap (serve (λ p' l' s' k' ts'. plain (cleared rest) p' l' s' k' ts') (prepared t) p last s k ts) (choice_cleared p last t)
     ∙ go (plain_choice p last t) (λ a. plain_cleared rest (with_address p a.0) (pick_after p last t a.0) (with_binding s a.0 (Bound t.udid)) (suc k) (resolve t.udid a.0 ts))
   where
-    go : (c : Free)
+    go : (c : Option Address)
         → ((a : Address) → plain (cleared rest) (with_address p a.0) (pick_after p last t a.0) (with_binding s a.0 (Bound t.udid)) (suc k) (resolve t.udid a.0 ts)
         ≡ plain rest (with_address p a.0) (pick_after p last t a.0) (with_binding s a.0 (Bound t.udid)) (suc k) (resolve t.udid a.0 ts))
         → serve (λ p' l' s' k' ts'. plain (cleared rest) p' l' s' k' ts') (prepared t) p last s k ts c ≡ serve (λ p' l' s' k' ts'. plain rest p' l' s' k' ts') t p last s k ts c
-    go AllUsed ih = refl
-    go (At a) ih = ih a
+    go None ih = refl
+    go (Some a) ih = ih a
 
 -- ---- clearing the flags leaves what is admitted
 

@@ -1,13 +1,11 @@
 -- THE PLAIN RULE: the targets in ascending order of their identifiers, each served in turn, until one cannot be.
-use Rattle.std.specs.Prelude.{ℕ, ◌/◌, ◌<◌, ◌≡◌, Bool, false, List, [], ◌∷◌, ltb}
+use Rattle.std.specs.Prelude.{ℕ, ◌/◌, ◌<◌, ◌≡◌, Bool, false, List, [], ◌∷◌, ltb, Option, Some, None}
 use Rattle.lists.specs.Choice.{pick}
 use Rattle.lists.specs.Each.{Each}
 use Rattle.wire.specs.declared.address.Address.{Address}
 use Rattle.pool.specs.NextFree.{next_free}
 use Rattle.pool.specs.Pools.{member, with_address}
 use Rattle.pool.specs.declared.Pool.{Pool}
-use Rattle.pool.specs.declared.free.Free.{Free}
-use Rattle.pool.specs.declared.free.Free.TheVariants.{At, AllUsed}
 use Rattle.udid.specs.Udids.{is_fixed, value}
 use Rattle.udid.specs.declared.Udid.{Udid}
 use Rattle.targets.specs.Target.{Target}
@@ -34,8 +32,8 @@ unfoldable pub is_picked_for : Pool → Target → Bool
 is_picked_for p t = pick (is_fixed t.udid) false (member p (t.address_byte / 2))
 
 -- picked is the first free address after the last pick, going from 7Fh round to 00h
-unfoldable pub plain_choice : Pool → ℕ → Target → Free
-plain_choice p last t = pick (is_picked_for p t) (next_free p last) (At (held t))
+unfoldable pub plain_choice : Pool → ℕ → Target → Option Address
+plain_choice p last t = pick (is_picked_for p t) (next_free p last) (Some (held t))
 
 -- the last pick once a target has the address a: a if it was picked, else as it was
 abbrev pub pick_after : Pool → ℕ → Target → ℕ → ℕ
@@ -58,9 +56,9 @@ pub record Ruled : Type 0 where
   pub picked : ℕ
 
 -- none free: the end; else this one at its address, and then the others
-abbrev pub next : (Pool → ℕ → Ruled) → Target → Pool → ℕ → Free → Ruled
-next others t p last AllUsed = record { given = []; ending = none_free t.udid; picked = last }
-next others t p last (At a) =
+abbrev pub next : (Pool → ℕ → Ruled) → Target → Pool → ℕ → Option Address → Ruled
+next others t p last None = record { given = []; ending = none_free t.udid; picked = last }
+next others t p last (Some a) =
     let q = others (with_address p a.0) (pick_after p last t a.0) in
     record { given = record { who = t; address = a.0 } ∷ q.given; ending = q.ending; picked = q.picked }
 

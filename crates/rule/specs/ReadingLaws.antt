@@ -1,5 +1,5 @@
 -- How the end of a pass reads: who is bound where, how many, and what each target ends with.
-use Rattle.std.specs.Prelude.{ℕ, zero, suc, ◌+◌, ◌<◌, ◌≡◌, refl, Bool, true, false, ◌⊎◌, List, [], ◌∷◌, length}
+use Rattle.std.specs.Prelude.{ℕ, zero, suc, ◌+◌, ◌<◌, ◌≡◌, refl, Bool, true, false, ◌⊎◌, List, [], ◌∷◌, length, Option, Some, None}
 use Rattle.std.proofs.Common.{sym, ap, ap₂, ◌∙◌, inl, inr, zero-add, arith}
 use Rattle.std.proofs.Math.Decide.{ℕ_discrete}
 use Rattle.lists.specs.AbsurdLaws.{zero_is_one}
@@ -10,8 +10,6 @@ use Rattle.pool.specs.CountLaws.{count_more, count_cong}
 use Rattle.pool.specs.Pools.{with_address}
 use Rattle.pool.specs.Start.{starting_pool, barred_pool}
 use Rattle.pool.specs.declared.Pool.{Pool}
-use Rattle.pool.specs.declared.free.Free.{Free}
-use Rattle.pool.specs.declared.free.Free.TheVariants.{At, AllUsed}
 use Rattle.udid.specs.Udids.{same_udid, value}
 use Rattle.udid.proofs.UdidLaws.{same_refl, same_equal, other_udid}
 use Rattle.udid.specs.declared.Udid.{Udid}
@@ -206,9 +204,9 @@ rule_serves_once : (rest : List Target) (p : Pool) (last : ℕ) → Pairs Lower 
 rule_serves_once [] p last l = tt
 rule_serves_once (t ∷ rest) p last l = go (plain_choice p last t) (λ a. rule_serves_once rest (with_address p a.0) (pick_after p last t a.0) l.1)
   where
-    go : (c : Free) → ((a : Address) → OnePerUdid (rule rest (with_address p a.0) (pick_after p last t a.0)).given) → OnePerUdid (next (λ q l. rule rest q l) t p last c).given
-    go AllUsed ih = tt
-    go (At a) ih = (lower_other t rest (rule rest (with_address p a.0) (pick_after p last t a.0)).given l.0 (rule_serves_these rest (with_address p a.0) (pick_after p last t a.0)), ih a)
+    go : (c : Option Address) → ((a : Address) → OnePerUdid (rule rest (with_address p a.0) (pick_after p last t a.0)).given) → OnePerUdid (next (λ q l. rule rest q l) t p last c).given
+    go None ih = tt
+    go (Some a) ih = (lower_other t rest (rule rest (with_address p a.0) (pick_after p last t a.0)).given l.0 (rule_serves_these rest (with_address p a.0) (pick_after p last t a.0)), ih a)
 
 each_equal : (hs : List Given) (u v : Udid) → u ≡ v → Each (λ (h : Given). same_udid u h.who.udid ≡ false) hs → Each (λ (h : Given). same_udid v h.who.udid ≡ false) hs
 each_equal [] u v e a = tt

@@ -1,5 +1,5 @@
 -- The plain rule: its choice, what it needs of the targets, and what its bindings are.
-use Rattle.std.specs.Prelude.{ℕ, suc, ◌+◌, ◌*◌, ◌/◌, ◌^◌, ◌≤◌, ◌<◌, ◌≡◌, refl, Bool, true, false, List, [], ◌∷◌, length}
+use Rattle.std.specs.Prelude.{ℕ, suc, ◌+◌, ◌*◌, ◌/◌, ◌^◌, ◌≤◌, ◌<◌, ◌≡◌, refl, Bool, true, false, List, [], ◌∷◌, length, Option, Some, None}
 use Rattle.std.proofs.Common.{sym, ap, ◌∙◌, inl, inr, arith, ne_eqb}
 use Rattle.std.proofs.Math.Decide.{ℕ_discrete}
 use Rattle.std.proofs.lemmas.Bool.{eqb-false}
@@ -15,8 +15,6 @@ use Rattle.pool.specs.NextFreeLaws.{next_free_lem, next_full}
 use Rattle.pool.specs.Pools.{member, with_address}
 use Rattle.pool.specs.MemberLaws.{has_with_same, has_with_other, outside, with_keeps, within_with}
 use Rattle.pool.specs.declared.Pool.{Pool}
-use Rattle.pool.specs.declared.free.Free.{Free}
-use Rattle.pool.specs.declared.free.Free.TheVariants.{At, AllUsed}
 use Rattle.udid.proofs.UdidLaws.{fixed_is}
 use Rattle.udid.specs.Udids.{top_bits, is_fixed, value}
 use Rattle.arbitration.specs.Among.{Among}
@@ -42,9 +40,9 @@ controller_picks_as_rule p t h n = go (ℕ_discrete t.address_byte 255) (is_fixe
 pub controller_chooses_as_rule : (p : Pool) (last : ℕ) (t : Target) → member p 127 ≡ true → (is_fixed t.udid ≡ true → t.address_byte ≡ 255 → ⊥)
     → chosen p last t.udid t.address_byte ≡ plain_choice p last t
 unfolding chosen plain_choice
-controller_chooses_as_rule p last t h n = ap (λ (b : Bool). pick b (next_free p last) (At (held t))) (controller_picks_as_rule p t h n)
+controller_chooses_as_rule p last t h n = ap (λ (b : Bool). pick b (next_free p last) (Some (held t))) (controller_picks_as_rule p t h n)
 
-address_inj : (a b : Address) → At a ≡ At b → a ≡ b
+address_inj : (a b : Address) → Some a ≡ Some b → a ≡ b
 address_inj a b e = cc e
 
 fixed_not_picked : (p : Pool) (t : Target) → is_fixed t.udid ≡ true → is_picked_for p t ≡ false
@@ -60,15 +58,15 @@ choice_picked : (p : Pool) (last : ℕ) (t : Target) → is_picked_for p t ≡ t
 unfolding plain_choice
 choice_picked p last t e = rw e
 
-choice_held : (p : Pool) (last : ℕ) (t : Target) → is_picked_for p t ≡ false → plain_choice p last t ≡ At (held t)
+choice_held : (p : Pool) (last : ℕ) (t : Target) → is_picked_for p t ≡ false → plain_choice p last t ≡ Some (held t)
 unfolding plain_choice
 choice_held p last t e = rw e
 
 -- a fixed target is given its own
-pub fixed_choice_own : (p : Pool) (last : ℕ) (t : Target) (a : Address) → is_fixed t.udid ≡ true → plain_choice p last t ≡ At a → a.0 ≡ t.address_byte / 2
+pub fixed_choice_own : (p : Pool) (last : ℕ) (t : Target) (a : Address) → is_fixed t.udid ≡ true → plain_choice p last t ≡ Some a → a.0 ≡ t.address_byte / 2
 fixed_choice_own p last t a f e = sym (ap (λ (x : Address). x.0) (address_inj (held t) a (sym (choice_held p last t (fixed_not_picked p t f)) ∙ e)))
 
-choice_below : (p : Pool) (last : ℕ) (t : Target) (a : Address) → t.address_byte < 256 → plain_choice p last t ≡ At a → a.0 < 128
+choice_below : (p : Pool) (last : ℕ) (t : Target) (a : Address) → t.address_byte < 256 → plain_choice p last t ≡ Some a → a.0 < 128
 choice_below p last t a z e = go (is_picked_for p t) refl
   where
     go : (b : Bool) → is_picked_for p t ≡ b → a.0 < 128
@@ -78,7 +76,7 @@ choice_below p last t a z e = go (is_picked_for p t) refl
         omega arith
 
 -- a movable target is given a free one
-pub movable_choice_free : (p : Pool) (last : ℕ) (t : Target) (a : Address) → is_fixed t.udid ≡ false → plain_choice p last t ≡ At a → member p a.0 ≡ false
+pub movable_choice_free : (p : Pool) (last : ℕ) (t : Target) (a : Address) → is_fixed t.udid ≡ false → plain_choice p last t ≡ Some a → member p a.0 ≡ false
 movable_choice_free p last t a f e = go (is_picked_for p t) refl
   where
     go : (b : Bool) → is_picked_for p t ≡ b → member p a.0 ≡ false
@@ -90,7 +88,7 @@ movable_choice_free p last t a f e = go (is_picked_for p t) refl
 -- ---- what the rule needs of the targets that are left
 
 -- the address chosen is not shut
-pub ready_choice_free : (p shut : Pool) (last : ℕ) (r : Target) (rest : List Target) (a : Address) → Ready p shut (r ∷ rest) → plain_choice p last r ≡ At a
+pub ready_choice_free : (p shut : Pool) (last : ℕ) (r : Target) (rest : List Target) (a : Address) → Ready p shut (r ∷ rest) → plain_choice p last r ≡ Some a
     → (a.0 < 128) × (member shut a.0 ≡ false)
 ready_choice_free p shut last r rest a v e = (choice_below p last r a (v.sized r (inl refl)).address_byte e, go (is_fixed r.udid) refl)
   where
@@ -122,7 +120,7 @@ movable_after r t zr zt h e = go (is_fixed t.udid) refl
         let l : r.udid.high ≤ t.udid.high = high_le r.udid.high r.udid.low t.udid.high t.udid.low zt.udid.low h in
         absurd (eqb-false (top_bits r.udid) 0 e (top_le r.udid.high t.udid.high l a))
 
-pub ready_next : (p shut : Pool) (last : ℕ) (r : Target) (rest : List Target) (a : Address) → Ready p shut (r ∷ rest) → plain_choice p last r ≡ At a
+pub ready_next : (p shut : Pool) (last : ℕ) (r : Target) (rest : List Target) (a : Address) → Ready p shut (r ∷ rest) → plain_choice p last r ≡ Some a
     → Ready (with_address p a.0) (with_address shut a.0) rest
 ready_next p shut last r rest a v e = record {
   apart = v.apart.1;
@@ -152,11 +150,11 @@ rule_gives_free [] p shut last v = (tt, tt)
 rule_gives_free (t ∷ rest) p shut last v =
     go (plain_choice p last t) refl (λ a e. rule_gives_free rest (with_address p a.0) (with_address shut a.0) (pick_after p last t a.0) (ready_next p shut last t rest a v e))
   where
-    go : (c : Free) → plain_choice p last t ≡ c
-        → ((a : Address) → plain_choice p last t ≡ At a → Each (FreeIn (with_address shut a.0)) (rule rest (with_address p a.0) (pick_after p last t a.0)).given × Distinct (rule rest (with_address p a.0) (pick_after p last t a.0)).given)
+    go : (c : Option Address) → plain_choice p last t ≡ c
+        → ((a : Address) → plain_choice p last t ≡ Some a → Each (FreeIn (with_address shut a.0)) (rule rest (with_address p a.0) (pick_after p last t a.0)).given × Distinct (rule rest (with_address p a.0) (pick_after p last t a.0)).given)
         → Each (FreeIn shut) (next (λ q l. rule rest q l) t p last c).given × Distinct (next (λ q l. rule rest q l) t p last c).given
-    go AllUsed e ih = (tt, tt)
-    go (At a) e ih =
+    go None e ih = (tt, tt)
+    go (Some a) e ih =
         let f = ready_choice_free p shut last t rest a v e in
         let r = ih a e in (
           (f, each_map (rule rest (with_address p a.0) (pick_after p last t a.0)).given (λ g x. (free_before shut a.0 f.0 g x).0) r.0),
@@ -168,11 +166,11 @@ pub rule_gives_movable_free : (rest : List Target) (p : Pool) (last : ℕ) → E
 rule_gives_movable_free [] p last = tt
 rule_gives_movable_free (t ∷ rest) p last = go (plain_choice p last t) refl (λ a. rule_gives_movable_free rest (with_address p a.0) (pick_after p last t a.0))
   where
-    go : (c : Free) → plain_choice p last t ≡ c
+    go : (c : Option Address) → plain_choice p last t ≡ c
         → ((a : Address) → Each (MovableFreeIn (with_address p a.0)) (rule rest (with_address p a.0) (pick_after p last t a.0)).given)
         → Each (MovableFreeIn p) (next (λ q l. rule rest q l) t p last c).given
-    go AllUsed e ih = tt
-    go (At a) e ih = (
+    go None e ih = tt
+    go (Some a) e ih = (
       λ f. movable_choice_free p last t a f e,
       each_map (rule rest (with_address p a.0) (pick_after p last t a.0)).given (λ g h f. outside p (with_address p a.0) g.address (with_keeps p a.0 g.address) (h f)) (ih a),
     )
@@ -180,10 +178,10 @@ rule_gives_movable_free (t ∷ rest) p last = go (plain_choice p last t) refl (�
 -- ---- when all are served
 
 -- the choice is empty-handed only for a movable target, where all addresses are used
-pub choice_none : (p : Pool) (last : ℕ) (t : Target) → plain_choice p last t ≡ AllUsed → (is_fixed t.udid ≡ false) × (used p ≡ 128)
+pub choice_none : (p : Pool) (last : ℕ) (t : Target) → plain_choice p last t ≡ None → (is_fixed t.udid ≡ false) × (used p ≡ 128)
 choice_none p last t e = go (is_picked_for p t) refl
   where
-    never_at : {A : Type 0} → At (held t) ≡ AllUsed → A
+    never_at : {A : Type 0} → Some (held t) ≡ None → A
     never_at q = zero_is_one (cc q)
 
     movable : is_picked_for p t ≡ true → (b : Bool) → is_fixed t.udid ≡ b → is_fixed t.udid ≡ false
@@ -199,11 +197,11 @@ pub all_given_served : (rest : List Target) (p : Pool) (last : ℕ) → length (
 all_given_served [] p last e = refl
 all_given_served (t ∷ rest) p last e = go (plain_choice p last t) e (λ a k. all_given_served rest (with_address p a.0) (pick_after p last t a.0) k)
   where
-    go : (c : Free) → length (next (λ q l. rule rest q l) t p last c).given ≡ suc (length rest)
+    go : (c : Option Address) → length (next (λ q l. rule rest q l) t p last c).given ≡ suc (length rest)
         → ((a : Address) → length (rule rest (with_address p a.0) (pick_after p last t a.0)).given ≡ length rest → (rule rest (with_address p a.0) (pick_after p last t a.0)).ending ≡ served)
         → (next (λ q l. rule rest q l) t p last c).ending ≡ served
-    go AllUsed k ih = absurd (omega arith)
-    go (At a) k ih = ih a (omega arith)
+    go None k ih = absurd (omega arith)
+    go (Some a) k ih = ih a (omega arith)
 
 -- ---- whom it serves
 
@@ -216,7 +214,7 @@ pub rule_serves_these : (rest : List Target) (p : Pool) (last : ℕ) → Each (�
 rule_serves_these [] p last = tt
 rule_serves_these (t ∷ rest) p last = go (plain_choice p last t) (λ a. rule_serves_these rest (with_address p a.0) (pick_after p last t a.0))
   where
-    go : (c : Free) → ((a : Address) → Each (λ (g : Given). Among g.who rest) (rule rest (with_address p a.0) (pick_after p last t a.0)).given)
+    go : (c : Option Address) → ((a : Address) → Each (λ (g : Given). Among g.who rest) (rule rest (with_address p a.0) (pick_after p last t a.0)).given)
         → Each (λ (g : Given). Among g.who (t ∷ rest)) (next (λ q l. rule rest q l) t p last c).given
-    go AllUsed ih = tt
-    go (At a) ih = (inl refl, among_later t rest (rule rest (with_address p a.0) (pick_after p last t a.0)).given (ih a))
+    go None ih = tt
+    go (Some a) ih = (inl refl, among_later t rest (rule rest (with_address p a.0) (pick_after p last t a.0)).given (ih a))

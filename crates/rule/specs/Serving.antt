@@ -1,9 +1,7 @@
 -- A pass from a Get UDID on: the plain rule with all that it changes carried along, and what holds whenever Get UDID is out.
-use Rattle.std.specs.Prelude.{ℕ, suc, ◌+◌, ◌<◌, ◌≡◌, true, false, List, [], ◌∷◌, length}
+use Rattle.std.specs.Prelude.{ℕ, suc, ◌+◌, ◌<◌, ◌≡◌, true, false, List, [], ◌∷◌, length, Option, Some, None}
 use Rattle.pool.specs.Pools.{member, with_address}
 use Rattle.pool.specs.declared.Pool.{Pool}
-use Rattle.pool.specs.declared.free.Free.{Free}
-use Rattle.pool.specs.declared.free.Free.TheVariants.{At, AllUsed}
 use Rattle.udid.specs.Udids.{Fits}
 use Rattle.udid.specs.declared.Udid.{Udid}
 use Rattle.arbitration.specs.Among.{Among}
@@ -20,13 +18,14 @@ use Rattle.rule.specs.Bus.{World}
 use Rattle.rule.specs.PassEnd.{Outcome, out}
 use Rattle.rule.specs.PlainRule.{served, none_free, plain_choice, pick_after}
 use Rattle.rule.specs.Ready.{Ready}
+use Rattle.wire.specs.declared.address.Address.{Address}
 
 -- ---- the plain rule with all that it changes carried along
 
 -- one target served, and then the others; or the end
-abbrev pub serve : (Pool → ℕ → Slots → ℕ → List Target → Outcome) → Target → Pool → ℕ → Slots → ℕ → List Target → Free → Outcome
-serve next t p last s k ts AllUsed = record { pool = p; slots = s; bound = k; targets = ts; ending = none_free t.udid; picked = last }
-serve next t p last s k ts (At a) = next (with_address p a.0) (pick_after p last t a.0) (with_binding s a.0 (Bound t.udid)) (suc k) (resolve t.udid a.0 ts)
+abbrev pub serve : (Pool → ℕ → Slots → ℕ → List Target → Outcome) → Target → Pool → ℕ → Slots → ℕ → List Target → Option Address → Outcome
+serve next t p last s k ts None = record { pool = p; slots = s; bound = k; targets = ts; ending = none_free t.udid; picked = last }
+serve next t p last s k ts (Some a) = next (with_address p a.0) (pick_after p last t a.0) (with_binding s a.0 (Bound t.udid)) (suc k) (resolve t.udid a.0 ts)
 
 -- the targets to serve, in ascending order; the pool, the last pick, the bindings, how many are bound, and all targets
 abbrev pub plain : List Target → Pool → ℕ → Slots → ℕ → List Target → Outcome

@@ -1,5 +1,5 @@
 -- From a Get UDID on, the pass serves the unresolved targets in ascending order, and ends as the plain rule says.
-use Rattle.std.specs.Prelude.{ℕ, suc, ◌<◌, ◌≡◌, refl, Bool, true, false, ◌⊎◌, List, [], ◌∷◌, length}
+use Rattle.std.specs.Prelude.{ℕ, suc, ◌<◌, ◌≡◌, refl, Bool, true, false, ◌⊎◌, List, [], ◌∷◌, length, Option, Some, None}
 use Rattle.std.proofs.Common.{sym, ap, ap₂, ◌∙◌, subst, inl, inr, add-one, arith}
 use Rattle.std.proofs.Math.Decide.{ℕ_discrete}
 use Rattle.wire.specs.declared.address.Address.{Address}
@@ -7,8 +7,6 @@ use Rattle.lists.specs.ChoiceLaws.{not_both}
 use Rattle.pool.specs.Pools.{member, with_address}
 use Rattle.pool.specs.MemberLaws.{has_with_same, has_with_other}
 use Rattle.pool.specs.declared.Pool.{Pool}
-use Rattle.pool.specs.declared.free.Free.{Free}
-use Rattle.pool.specs.declared.free.Free.TheVariants.{At, AllUsed}
 use Rattle.udid.specs.Udids.{Fits, same_udid, is_fixed, value}
 use Rattle.udid.proofs.UdidLaws.{other_udid}
 use Rattle.udid.specs.declared.Udid.{Udid}
@@ -65,7 +63,7 @@ taken_not occupied p shut s k ts rest v a n = go (makes_claim occupied (held_at 
     go false e = e
     go true e = not_both n (v.taken_shut a e)
 
-inv_next : (occupied p shut : Pool) (last : ℕ) (s : Slots) (k : ℕ) (ts rest : List Target) (r : Target) (a : Address) → Inv occupied p shut s k ts (r ∷ rest) → plain_choice p last r ≡ At a
+inv_next : (occupied p shut : Pool) (last : ℕ) (s : Slots) (k : ℕ) (ts rest : List Target) (r : Target) (a : Address) → Inv occupied p shut s k ts (r ∷ rest) → plain_choice p last r ≡ Some a
     → Inv occupied (with_address p a.0) (with_address shut a.0) (with_binding s a.0 (Bound r.udid)) (suc k) (resolve r.udid a.0 ts) rest
 inv_next occupied p shut last s k ts rest r a v e =
     let free = ready_choice_free p shut last r rest a v.ready e in record {
@@ -143,14 +141,14 @@ run_serves_rest last b p shut s k ts (r ∷ rest) v =
         some : is_fixed r.udid ≡ true → r.address_byte ≡ 255 → ⊥
         some = ready_fixed_some p shut (r ∷ rest) v.ready r (inl refl)
 
-    go : (c : Free) → plain_choice p last r ≡ c
-        → ((a : Address) → plain_choice p last r ≡ At a
+    go : (c : Option Address) → plain_choice p last r ≡ c
+        → ((a : Address) → plain_choice p last r ≡ Some a
         → run (turns rest) (asking (pick_after p last r a.0) b (with_address p a.0) (with_binding s a.0 (Bound r.udid)) (suc (suc k)) (resolve r.udid a.0 ts))
         ≡ ended b (plain rest (with_address p a.0) (pick_after p last r a.0) (with_binding s a.0 (Bound r.udid)) (suc k) (resolve r.udid a.0 ts)))
         → run (suc (turns rest)) (record { now = issued (state_of last b p s (suc k) (Send GetUdid)) r.udid (is_picked_for p r) (plain_choice p last r); targets = ts })
         ≡ ended b (serve (λ p' l' s' k' ts'. plain rest p' l' s' k' ts') r p last s k ts (plain_choice p last r))
-    go AllUsed e ih = rw e (ended_run_stays (suc (turns rest)) last b p s (suc k) (none_free r.udid) ts)
-    go (At a) e ih =
+    go None e ih = rw e (ended_run_stays (suc (turns rest)) last b p s (suc k) (none_free r.udid) ts)
+    go (Some a) e ih =
         let f = ready_choice_free p shut last r rest a v.ready e in
         rw e
         (ap (run (turns rest)) (turn_takes (out (pick_after p last r a.0) b p s (suc k) (Send (Assign r.udid a))) ts (Send (Assign r.udid a)) refl)

@@ -1,6 +1,7 @@
 -- The bytes of a trace, one number at a time and in two parts; the decoder's count is how many they are.
-use Rattle.std.specs.Prelude.{◌≡◌, refl, Bool, true, false, List, [], ◌∷◌, ◌++◌, ℕ, ◌+◌, ◌≤◌, ◌<◌, ltb, length}
+use Rattle.std.specs.Prelude.{◌≡◌, refl, Bool, true, false, List, [], ◌∷◌, ◌++◌, ℕ, ◌+◌, ◌≤◌, ◌<◌, ltb, length, count_by, cond}
 use Rattle.std.proofs.Common.{ap, arith, lt-ltb, le-ltb}
+use Rattle.std.proofs.lemmas.List.Recursion.{is_count_by}
 use Rattle.lists.specs.Choice.{pick}
 use Rattle.lists.specs.Each.{Bytes}
 use Rattle.trace.specs.Trace.{acked}
@@ -28,6 +29,14 @@ bytes_acked [] h = refl
 bytes_acked (b ∷ bs) h = rw (lt-ltb b 256 h.0) (ap (λ (l : List ℕ). b ∷ l) (bytes_acked bs h.1))
 
 -- the decoder's count
+pub byte_counted : (l : List ℕ) → byte_count l ≡ count_by (λ x. ltb x 256) l
+unfolding byte_count
+byte_counted = is_count_by byte_count (λ x. ltb x 256) refl (λ x l. go (ltb x 256) l)
+  where
+    go : (b : Bool) (l : List ℕ) → pick b 1 0 + byte_count l ≡ cond b (1 + byte_count l) (byte_count l)
+    go true l = refl
+    go false l = omega arith
+
 pub byte_count_is : (l : List ℕ) → byte_count l ≡ length (bytes_in l)
 unfolding byte_count
 byte_count_is [] = refl

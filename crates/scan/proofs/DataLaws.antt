@@ -15,7 +15,7 @@ use Rattle.trace.specs.Sane.{Sane}
 use Rattle.scan.specs.Run.{data_length, transaction}
 use Rattle.scan.specs.Handed.{count_places, sent_place, received_place, lows}
 use Rattle.scan.specs.Answers.{summary}
-use Rattle.step.specs.FirstByteLaws.{low_of_byte}
+use Rattle.std.proofs.Math.Nat.{mod-eq_of_lt}
 use Rattle.scan.specs.EndState.{end_state}
 use Rattle.scan.proofs.ForwardLaws.{half_is_address}
 use Rattle.scan.specs.JoinedLaws.{trace_joined}
@@ -26,11 +26,11 @@ length_lows (suc n) l = ap suc (length_lows n (drop 2 l))
 
 lows_acked : (s on : List ℕ) → Bytes s → lows (length s) (acked s ++ on) ≡ s
 lows_acked [] on h = refl
-lows_acked (x ∷ s) on h = rw (lows_acked s on h.1, low_of_byte x h.0)
+lows_acked (x ∷ s) on h = rw (lows_acked s on h.1, mod-eq_of_lt h.0)
 
 lows_nacked : (r q on : List ℕ) → Bytes r → lows (length r) (nacked (r ++ q) ++ on) ≡ r
 lows_nacked [] q on h = refl
-lows_nacked (x ∷ r) q on h = rw (lows_nacked r q on h.1, low_of_byte x h.0)
+lows_nacked (x ∷ r) q on h = rw (lows_nacked r q on h.1, mod-eq_of_lt h.0)
 
 -- the data sent
 pub sent_is_lem : (sh : Shape) (t : Message) (q : List ℕ) → Bytes t.sent → lows (length t.sent) (drop (sent_place sh) (trace_at sh t q)) ≡ t.sent

@@ -14,7 +14,7 @@ use Rattle.step.specs.Fits.{fits_slot, fits}
 use Rattle.step.specs.Move.{move_slot, move}
 use Rattle.scan.specs.Run.{run}
 use Rattle.scan.specs.Leads.{Leads}
-use Rattle.step.specs.FirstByteLaws.{low_of_byte}
+use Rattle.std.proofs.Math.Nat.{mod-eq_of_lt}
 
 module _ (by : Due → Bool) (sh : Shape) (p : Bool) where
   pub leads_nil : (d : Decoder) → Leads by sh p d [] d
@@ -56,4 +56,4 @@ module _ (by : Due → Bool) (sh : Shape) (p : Bool) where
       → Leads by sh p (state g Nobody z f c m n ok) (x ∷ xs) e
   unfolding Leads
   leads_byte g z f c m n ok x xs e h b t l =
-      (t, b, subst (λ (k : ℕ). Leads by sh p (move_slot sh p g.slot (state g Nobody z f c m n ok) k) xs e) (sym (low_of_byte x h)) l)
+      (t, b, subst (λ (k : ℕ). Leads by sh p (move_slot sh p g.slot (state g Nobody z f c m n ok) k) xs e) (sym (mod-eq_of_lt h)) l)

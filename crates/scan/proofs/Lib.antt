@@ -18,6 +18,5 @@ pub mod RoomyLaws
 pub mod RunLaws
 pub mod SizeLaws
 pub mod SwapLaws
-pub mod TestLaws
 pub mod WrongCasesLaws
 pub mod WrongLaws

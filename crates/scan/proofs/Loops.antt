@@ -6,15 +6,13 @@ use Prim.Native.Nat.{ℕ, suc, ◌+◌, ◌≤◌, ◌<◌}
 use native.Mathlib.Numerals.{add-one}
 use lib.ListN.{length, drop, get_or, drop_of_length-le}
 use lib.Seq.{drop-cons}
-use lib.Dec.{ltb}
-use Rattle.lists.specs.Choice.{pick}
 use Rattle.trace.specs.declared.shape.Shape.{Shape}
 use Rattle.step.specs.declared.state.Decoder.{Decoder}
 use Rattle.std.specs.Prelude.{Ok, Err}
 use Rattle.step.specs.Fits.{fits}
 use Rattle.step.specs.Move.{move}
 use Rattle.scan.specs.Refusal.{why}
-use Rattle.scan.specs.Run.{run, byte_count}
+use Rattle.scan.specs.Run.{run}
 use Rattle.scan.proofs.RunLaws.{run_fits, run_stops}
 
 module _ (sh : Shape) (p : Bool) (s : List ℕ) (d : Decoder) (i : ℕ) where
@@ -27,12 +25,3 @@ module _ (sh : Shape) (p : Bool) (s : List ℕ) (d : Decoder) (i : ℕ) where
   pub read_end : length s ≤ i → run sh p d i (drop i s) ≡ Ok d
   unfolding run
   read_end h = rw drop_of_length-le
-
--- the count of bytes
-pub count_turn : (s : List ℕ) (i : ℕ) → i < length s → byte_count (drop i s) ≡ pick (ltb (get_or s i 0) 256) 1 0 + byte_count (drop (i + 1) s)
-unfolding byte_count
-count_turn s i h = rw (add-one, drop-cons s i 0)
-
-pub count_end : (s : List ℕ) (i : ℕ) → length s ≤ i → byte_count (drop i s) ≡ 0
-unfolding byte_count
-count_end s i h = rw drop_of_length-le

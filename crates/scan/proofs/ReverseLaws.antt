@@ -27,7 +27,7 @@ use Rattle.step.specs.Move.{move_slot, move_due, move}
 use Rattle.scan.specs.Refusal.{why}
 use Rattle.scan.specs.Run.{run, direction_of}
 use Rattle.scan.specs.Answers.{Whole}
-use Rattle.step.specs.FirstByteLaws.{low_of_byte}
+use Rattle.std.proofs.Math.Nat.{mod-eq_of_lt}
 use Rattle.scan.specs.Joined.{after, joined}
 use Rattle.scan.specs.JoinedLaws.{trace_joined}
 use Rattle.scan.proofs.RunLaws.{refused_not_reading, same_state}
@@ -215,16 +215,16 @@ count_back sh k x h = let b = both_true (leb sh.least x) _ h in (leb-true sh.lea
 -- where a symbol fits at its slot, the low byte that is taken is the symbol
 pub slot_low : (sh : Shape) → Sane sh → (p : Bool) (s : Slot) (d : Decoder) (x : ℕ) → fits_slot sh s d x ≡ true → move_slot sh p s d (x % 256) ≡ move_slot sh p s d x
 slot_low sh hs p Start d x h = refl
-slot_low sh hs p First d x h = ap (move_slot sh p First d) (low_of_byte x (byte_back (both_true (ltb x 256) _ h).0))
-slot_low sh hs p Command d x h = ap (move_slot sh p Command d) (low_of_byte x (byte_back (both_true (ltb x 256) _ h).0))
-slot_low sh hs p Count d x h = let b = count_back sh _ x h in ap (move_slot sh p Count d) (low_of_byte x (omega (arith, b.1, hs.most_byte)))
-slot_low sh hs p Data d x h = ap (move_slot sh p Data d) (low_of_byte x (byte_back h))
-slot_low sh hs p Pec d x h = ap (move_slot sh p Pec d) (low_of_byte x (byte_back h))
+slot_low sh hs p First d x h = ap (move_slot sh p First d) (mod-eq_of_lt (byte_back (both_true (ltb x 256) _ h).0))
+slot_low sh hs p Command d x h = ap (move_slot sh p Command d) (mod-eq_of_lt (byte_back (both_true (ltb x 256) _ h).0))
+slot_low sh hs p Count d x h = let b = count_back sh _ x h in ap (move_slot sh p Count d) (mod-eq_of_lt (omega (arith, b.1, hs.most_byte)))
+slot_low sh hs p Data d x h = ap (move_slot sh p Data d) (mod-eq_of_lt (byte_back h))
+slot_low sh hs p Pec d x h = ap (move_slot sh p Pec d) (mod-eq_of_lt (byte_back h))
 slot_low sh hs p Restart d x h = refl
 slot_low sh hs p Second d x h = let l = eqb-true x ((d.first + 1) % 256) h in ap (move_slot sh p Second d) (omega arith)
-slot_low sh hs p ReadCount d x h = let b = count_back sh _ x h in ap (move_slot sh p ReadCount d) (low_of_byte x (omega (arith, b.1, hs.most_byte)))
-slot_low sh hs p ReadData d x h = ap (move_slot sh p ReadData d) (low_of_byte x (byte_back h))
-slot_low sh hs p ReadPec d x h = ap (move_slot sh p ReadPec d) (low_of_byte x (byte_back h))
+slot_low sh hs p ReadCount d x h = let b = count_back sh _ x h in ap (move_slot sh p ReadCount d) (mod-eq_of_lt (omega (arith, b.1, hs.most_byte)))
+slot_low sh hs p ReadData d x h = ap (move_slot sh p ReadData d) (mod-eq_of_lt (byte_back h))
+slot_low sh hs p ReadPec d x h = ap (move_slot sh p ReadPec d) (mod-eq_of_lt (byte_back h))
 slot_low sh hs p Stop d x h = refl
 slot_low sh hs p End d x h = refl
 

@@ -5,7 +5,7 @@ ghost use Rattle.scan.specs.Numbers.{refusal_number, is_nack};
 use trace::transaction::Transaction;
 
 // Why a trace, or a call, is refused.
-#[derive(Clone, Copy)]
+#[derive(Clone, Copy, PartialEq, Eq)]
 pub enum Refusal {
     // No such protocol, or a PEC where none may be used.
     Forbidden,
@@ -33,7 +33,7 @@ pub enum Refusal {
 
 // Why, and where: the symbol's place; the trace's length where it ends early; which byte was not acknowledged, from 0, only bytes
 // counted; 0 where the trace was not read.
-#[derive(Clone, Copy)]
+#[derive(Clone, Copy, PartialEq, Eq)]
 pub struct Refused {
     pub why: Refusal,
     pub place: usize,
@@ -65,5 +65,5 @@ pub fn refusal_number(w: Refusal) -> u8
 pub fn is_nack(w: Refusal) -> bool
     ensures { result ≡ is_nack w }
 {
-    refusal_number(w) == refusal_number(Refusal::NotAcknowledged)
+    w == Refusal::NotAcknowledged
 }

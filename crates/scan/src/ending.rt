@@ -1,7 +1,6 @@
 // The answer when the whole trace is read and nothing in it was refused.
-ghost use Rattle.std.specs.Prelude.{◌≡◌, ◌≤◌, ltb};
-ghost use Rattle.lists.specs.Choice.{pick};
-ghost use Rattle.scan.specs.Run.{byte_count, data_length, direction_of, transaction, is_cut, finish};
+ghost use Rattle.std.specs.Prelude.{◌≡◌};
+ghost use Rattle.scan.specs.Run.{byte_count, data_length, direction_of, transaction, finish};
 
 use crate::answer::{Decoded, Refusal, Refused};
 use crate::refusal::is_over;
@@ -9,26 +8,12 @@ use step::state::{Decoder, Due};
 use trace::shape::{Part, Shape, has_read, has_write};
 use trace::transaction::Transaction;
 use wire::address::{Address, WireByte};
-use wire::number::less;
 use wire::symbol::is_byte;
-
-// 1 for a byte, 0 for any other symbol.
-fn byte_bit(x: u16) -> usize
-    ensures { (result ≡ pick (ltb x 256) 1 0) × (result ≤ 1) }
-{
-    if is_byte(x) { 1 } else { 0 }
-}
 
 fn count_bytes(tr: &[u16]) -> usize
     ensures { result ≡ byte_count tr.now }
 {
-    let mut n: usize = 0;
-    let mut i: usize = 0;
-    while i < tr.len() {
-        n += byte_bit(tr[i]);
-        i += 1;
-    }
-    n
+    tr.iter().filter(|x| is_byte(**x)).count()
 }
 
 // The length of a part's data, whose count was m.
@@ -46,37 +31,23 @@ fn data_length(part: Part, m: u8) -> usize
 fn direction_of(sh: Shape, first: u8) -> u8
     ensures { result ≡ direction_of sh first }
 {
-    if has_write(sh) {
-        return 0;
+    if has_write(sh) || has_read(sh) {
+        0
+    } else {
+        first % 2
     }
-    if has_read(sh) { 0 } else { first % 2 }
 }
 
 fn transaction_of(protocol: u8, sh: Shape, d: Decoder) -> Transaction
     ensures { result ≡ transaction protocol sh d }
 {
-    let sent = sh.sent;
-    let received = sh.received;
-    let address = Address::from_wire(WireByte(d.first));
     Transaction {
         protocol,
-        address,
+        address: Address::from_wire(WireByte(d.first)),
         direction: direction_of(sh, d.first),
         command: d.command,
-        sent: data_length(sent, d.sentcount),
-        received: data_length(received, d.readcount),
-    }
-}
-
-fn is_cut(due: Due) -> bool
-    ensures { result ≡ is_cut due }
-{
-    match due {
-        Due::Cut => true,
-        Due::Nobody => false,
-        Due::Target => false,
-        Due::Controller => false,
-        Due::Halted => false,
+        sent: data_length(sh.sent, d.sentcount),
+        received: data_length(sh.received, d.readcount),
     }
 }
 
@@ -84,11 +55,10 @@ fn is_cut(due: Due) -> bool
 pub(crate) fn finished(protocol: u8, sh: Shape, d: Decoder, tr: &[u16]) -> Decoded
     ensures { result ≡ finish protocol sh d tr.now }
 {
-    let due = d.due;
-    if is_cut(due) {
+    if d.due == Due::Cut {
         return Err(Refused {
             why: Refusal::NotAcknowledged,
-            place: less(count_bytes(tr), 1),
+            place: count_bytes(tr).saturating_sub(1),
         });
     }
     if !is_over(d) {
@@ -102,7 +72,7 @@ pub(crate) fn finished(protocol: u8, sh: Shape, d: Decoder, tr: &[u16]) -> Decod
     } else {
         Err(Refused {
             why: Refusal::PecDiffers,
-            place: less(tr.len(), 3),
+            place: tr.len().saturating_sub(3),
         })
     }
 }

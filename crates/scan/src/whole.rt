@@ -9,10 +9,8 @@ use crate::answer::{Decoded, Refused};
 use crate::ending::finished;
 use crate::refusal::why_not;
 use pec::table::{add_byte_by, table};
-use step::fits::may_stand;
-use step::moved::moved;
+use step::next::Rules;
 use step::state::{Decoder, start};
-use trace::shape::Shape;
 
 // The PEC with a symbol's low byte, by the table that is lent.
 fn pec_after(t: &[u8; 256], c: u8, x: u16) -> u8
@@ -23,35 +21,24 @@ fn pec_after(t: &[u8; 256], c: u8, x: u16) -> u8
 }
 
 // The state at the trace's end, or the refusal at the first symbol that may not stand where it does. The table is lent for the whole trace.
-fn read_by(t: &[u8; 256], sh: Shape, pec: bool, tr: &[u16]) -> Result<Decoder, Refused>
+fn read_by(t: &[u8; 256], rules: Rules, tr: &[u16]) -> Result<Decoder, Refused>
     requires { Remainders t.now }
-    ensures { result ≡ run sh pec fresh 0 tr.now }
+    ensures { result ≡ run rules.shape rules.pec fresh 0 tr.now }
 {
     let mut d = start();
-    let mut i: usize = 0;
-    while i < tr.len() {
-        let x = tr[i];
-        if !may_stand(sh, d, x) {
-            return Err(why_not(sh, d, i, x));
+    for (place, &x) in tr.iter().enumerate() {
+        if !d.may_stand(rules.shape, x) {
+            return Err(why_not(rules.shape, d, place, x));
         }
-        d = moved(sh, pec, d, x, pec_after(t, d.pec, x));
-        i += 1;
+        d = d.moved(rules, x, pec_after(t, d.pec, x));
     }
     Ok(d)
 }
 
-// The same with the table of remainders.
-fn read_all(sh: Shape, pec: bool, tr: &[u16]) -> Result<Decoder, Refused>
-    ensures { result ≡ run sh pec fresh 0 tr.now }
-{
-    let t = table();
-    read_by(&t, sh, pec, tr)
-}
-
 // The answer for a trace of a shape, which is that of the protocol.
-pub fn decode_by(protocol: u8, sh: Shape, pec: bool, tr: &[u16]) -> Decoded
-    ensures { result ≡ decoded_by protocol sh pec tr.now }
+pub fn decode_by(protocol: u8, rules: Rules, tr: &[u16]) -> Decoded
+    ensures { result ≡ decoded_by protocol rules.shape rules.pec tr.now }
 {
-    let d = read_all(sh, pec, tr)?;
-    finished(protocol, sh, d, tr)
+    let d = read_by(&table(), rules, tr)?;
+    finished(protocol, rules.shape, d, tr)
 }

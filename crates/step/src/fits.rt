@@ -1,5 +1,5 @@
 // May the symbol stand here: the first of the step's three functions.
-ghost use Rattle.std.specs.Prelude.{◌≡◌, ◌-◌};
+ghost use Rattle.std.specs.Prelude.{◌≡◌};
 ghost use Rattle.step.specs.Fits.{ack_at, way_fits, first_fits, command_fits, count_fits, fits_slot, fits};
 
 use crate::state::{Decoder, Due, Slot};
@@ -14,18 +14,7 @@ fn ack_at(slot: Slot) -> u16
 {
     match slot {
         Slot::Stop => NACK,
-        Slot::Start => ACK,
-        Slot::First => ACK,
-        Slot::Command => ACK,
-        Slot::Count => ACK,
-        Slot::Data => ACK,
-        Slot::Pec => ACK,
-        Slot::Restart => ACK,
-        Slot::Second => ACK,
-        Slot::ReadCount => ACK,
-        Slot::ReadData => ACK,
-        Slot::ReadPec => ACK,
-        Slot::End => ACK,
+        _ => ACK,
     }
 }
 
@@ -36,84 +25,58 @@ fn way_fits(sh: Shape, w: WireByte) -> bool
     if has_write(sh) {
         return !w.is_read();
     }
-    if has_read(sh) {
-        return w.is_read();
-    }
-    true
+    !has_read(sh) || w.is_read()
 }
 
 // The first address byte.
 fn first_fits(sh: Shape, x: u16) -> bool
     ensures { result ≡ first_fits sh x }
 {
-    if !is_byte(x) {
-        return false;
-    }
     let w = WireByte((x % 256) as u8);
-    if !address_fits(sh, Address::from_wire(w)) {
-        return false;
-    }
-    way_fits(sh, w)
+    is_byte(x) && address_fits(sh, Address::from_wire(w)) && way_fits(sh, w)
 }
 
 fn command_fits(sh: Shape, x: u16) -> bool
     ensures { result ≡ command_fits sh x }
 {
-    if !is_byte(x) {
-        return false;
-    }
-    sender_fits(sh, x)
-}
-
-fn less(a: u8, b: u8) -> u8
-    ensures { result ≡ a - b }
-{
-    if a < b { 0 } else { a - b }
+    is_byte(x) && sender_fits(sh, x)
 }
 
 // A count, where so many of the most that the shape allows are taken.
 fn count_fits(sh: Shape, taken: u8, x: u16) -> bool
     ensures { result ≡ count_fits sh taken x }
 {
-    if x < sh.least as u16 {
-        return false;
-    }
-    x <= less(sh.most, taken) as u16
+    sh.least as u16 <= x && x <= sh.most.saturating_sub(taken) as u16
 }
 
 // The symbol may stand at the slot.
-fn fits_slot(sh: Shape, slot: Slot, d: Decoder, x: u16) -> bool
-    ensures { result ≡ fits_slot sh slot d x }
+fn fits_slot(sh: Shape, d: Decoder, x: u16) -> bool
+    ensures { result ≡ fits_slot sh d.slot d x }
 {
-    let received = sh.received;
-    match slot {
-        Slot::Start => x == START,
+    match d.slot {
+        Slot::Start | Slot::Restart => x == START,
         Slot::First => first_fits(sh, x),
         Slot::Command => command_fits(sh, x),
-        Slot::Count => count_fits(sh, least_of(received, sh.least), x),
-        Slot::Data => is_byte(x),
-        Slot::Pec => is_byte(x),
-        Slot::Restart => x == START,
+        Slot::Count => count_fits(sh, least_of(sh.received, sh.least), x),
+        Slot::Data | Slot::Pec | Slot::ReadData | Slot::ReadPec => is_byte(x),
         Slot::Second => x == (d.first as u16 + 1) % 256,
         Slot::ReadCount => count_fits(sh, d.sentcount, x),
-        Slot::ReadData => is_byte(x),
-        Slot::ReadPec => is_byte(x),
         Slot::Stop => x == STOP,
         Slot::End => false,
     }
 }
 
-// The symbol may stand next.
-pub fn may_stand(sh: Shape, d: Decoder, x: u16) -> bool
-    ensures { result ≡ fits sh d x }
-{
-    let due = d.due;
-    let slot = d.slot;
-    match due {
-        Due::Nobody => fits_slot(sh, slot, d, x),
-        Due::Target => { if x == ACK { true } else { x == NACK } }
-        Due::Controller => x == ack_at(slot),
-        Due::Halted => x == STOP,
-        Due::Cut => false,
+impl Decoder {
+    // The symbol may stand next.
+    pub fn may_stand(self, sh: Shape, x: u16) -> bool
+        ensures { result ≡ fits sh self x }
+    {
+        match self.due {
+            Due::Nobody => fits_slot(sh, self, x),
+            Due::Target => matches!(x, ACK | NACK),
+            Due::Controller => x == ack_at(self.slot),
+            Due::Halted => x == STOP,
+            Due::Cut => false,
+        }
     }
 }

@@ -1,10 +1,17 @@
-// Where a byte leads: the slot after it, by the shape and by what is left.
+// Where a byte leads: the slot after it, by the rules of the trace and by what is left.
 ghost use Rattle.std.specs.Prelude.{◌≡◌};
 ghost use Rattle.step.specs.State.{to};
 ghost use Rattle.step.specs.Next.{after_read, to_read_data, to_read, after_write, to_data, to_sent, after_first};
 
 use crate::state::Slot;
 use trace::shape::{Part, Shape, has_read, has_write};
+
+// What a trace is read by: its shape, and whether a PEC ends it.
+#[derive(Clone, Copy)]
+pub struct Rules {
+    pub shape: Shape,
+    pub pec: bool,
+}
 
 // The slot, and the data bytes that follow the next one there.
 #[derive(Clone, Copy)]
@@ -20,90 +27,90 @@ fn aim_at(slot: Slot) -> Aim
     Aim { slot, left: 0 }
 }
 
-// Behind the last data byte received.
-pub(crate) fn after_read(pec: bool) -> Aim
-    ensures { result ≡ after_read pec }
-{
-    if pec {
-        aim_at(Slot::ReadPec)
-    } else {
-        aim_at(Slot::Stop)
-    }
-}
-
-// To k bytes of data received.
-pub(crate) fn to_read_data(pec: bool, k: u8) -> Aim
-    ensures { result ≡ to_read_data pec k }
-{
-    if k == 0 {
-        return after_read(pec);
-    }
-    Aim {
-        slot: Slot::ReadData,
-        left: k - 1,
-    }
-}
-
-// To the part received.
-pub(crate) fn to_read(part: Part, pec: bool) -> Aim
-    ensures { result ≡ to_read part pec }
-{
-    match part {
-        Part::Nothing => after_read(pec),
-        Part::Fixed(k) => to_read_data(pec, k),
-        Part::Counted => aim_at(Slot::ReadCount),
-    }
-}
-
-// Behind the last data byte sent.
-pub(crate) fn after_write(sh: Shape, pec: bool) -> Aim
-    ensures { result ≡ after_write sh pec }
-{
-    let part = sh.received;
-    if has_read(sh) {
-        if has_write(sh) {
-            return aim_at(Slot::Restart);
+impl Rules {
+    // Behind the last data byte received.
+    fn after_read(self) -> Aim
+        ensures { result ≡ after_read self.pec }
+    {
+        if self.pec {
+            aim_at(Slot::ReadPec)
+        } else {
+            aim_at(Slot::Stop)
         }
-        return to_read(part, pec);
     }
-    if pec {
-        aim_at(Slot::Pec)
-    } else {
-        aim_at(Slot::Stop)
-    }
-}
 
-// To k bytes of data sent.
-pub(crate) fn to_data(sh: Shape, pec: bool, k: u8) -> Aim
-    ensures { result ≡ to_data sh pec k }
-{
-    if k == 0 {
-        return after_write(sh, pec);
+    // To k bytes of data received.
+    pub(crate) fn to_read_data(self, k: u8) -> Aim
+        ensures { result ≡ to_read_data self.pec k }
+    {
+        if k == 0 {
+            return self.after_read();
+        }
+        Aim {
+            slot: Slot::ReadData,
+            left: k - 1,
+        }
     }
-    Aim {
-        slot: Slot::Data,
-        left: k - 1,
-    }
-}
 
-// To a part sent.
-pub(crate) fn to_sent(sh: Shape, pec: bool, part: Part) -> Aim
-    ensures { result ≡ to_sent sh pec part }
-{
-    match part {
-        Part::Nothing => after_write(sh, pec),
-        Part::Fixed(k) => to_data(sh, pec, k),
-        Part::Counted => aim_at(Slot::Count),
+    // To the part received.
+    pub(crate) fn to_read(self) -> Aim
+        ensures { result ≡ to_read self.shape.received self.pec }
+    {
+        match self.shape.received {
+            Part::Nothing => self.after_read(),
+            Part::Fixed(k) => self.to_read_data(k),
+            Part::Counted => aim_at(Slot::ReadCount),
+        }
     }
-}
 
-// Behind the first address byte.
-pub(crate) fn after_first(sh: Shape, pec: bool) -> Aim
-    ensures { result ≡ after_first sh pec }
-{
-    let part = sh.sent;
-    if sh.command {
-        return aim_at(Slot::Command);
+    // Behind the last data byte sent.
+    fn after_write(self) -> Aim
+        ensures { result ≡ after_write self.shape self.pec }
+    {
+        if has_read(self.shape) {
+            if has_write(self.shape) {
+                return aim_at(Slot::Restart);
+            }
+            return self.to_read();
+        }
+        if self.pec {
+            aim_at(Slot::Pec)
+        } else {
+            aim_at(Slot::Stop)
+        }
     }
-    to_sent(sh, pec, part)
+
+    // To k bytes of data sent.
+    pub(crate) fn to_data(self, k: u8) -> Aim
+        ensures { result ≡ to_data self.shape self.pec k }
+    {
+        if k == 0 {
+            return self.after_write();
+        }
+        Aim {
+            slot: Slot::Data,
+            left: k - 1,
+        }
+    }
+
+    // To the part sent.
+    pub(crate) fn to_sent(self) -> Aim
+        ensures { result ≡ to_sent self.shape self.pec self.shape.sent }
+    {
+        match self.shape.sent {
+            Part::Nothing => self.after_write(),
+            Part::Fixed(k) => self.to_data(k),
+            Part::Counted => aim_at(Slot::Count),
+        }
+    }
+
+    // Behind the first address byte.
+    pub(crate) fn after_first(self) -> Aim
+        ensures { result ≡ after_first self.shape self.pec }
+    {
+        if self.shape.command {
+            return aim_at(Slot::Command);
+        }
+        self.to_sent()
+    }
 }

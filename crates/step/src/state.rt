@@ -3,7 +3,7 @@ ghost use Rattle.std.specs.Prelude.{◌≡◌};
 ghost use Rattle.step.specs.State.{fresh};
 
 // What stands at the next place that is no ACK. Second is the address byte of the read phase.
-#[derive(Clone, Copy)]
+#[derive(Clone, Copy, PartialEq, Eq)]
 pub enum Slot {
     Start,
     First,
@@ -22,7 +22,7 @@ pub enum Slot {
 
 // What is due before it: nobody's ACK, the target's ACK, the controller's ACK or NACK.
 // Halted: the target gave NACK, so STOP is due. Cut: that STOP has come.
-#[derive(Clone, Copy)]
+#[derive(Clone, Copy, PartialEq, Eq)]
 pub enum Due {
     Nobody,
     Target,

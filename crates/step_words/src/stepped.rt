@@ -12,6 +12,7 @@ use hearing::told::tell;
 use meanings::worded::{number_of, put_headed, put_rest};
 use scan::answer::Decoded;
 use scan::whole::decode_by;
+use step::next::Rules;
 use trace::protocol::{BLOCK_READ, BLOCK_WRITE, SEND_BYTE, shape_of};
 use writing::write::put;
 
@@ -19,8 +20,8 @@ use writing::write::put;
 fn decoded_as(protocol: u8, tr: &[u16]) -> Decoded
     ensures { result ≡ answer protocol tr.now }
 {
-    let sh = shape_of(protocol);
-    decode_by(protocol, sh, true, tr)
+    let shape = shape_of(protocol);
+    decode_by(protocol, Rules { shape, pec: true }, tr)
 }
 
 // What the trace was taken for, by the command that was outstanding and the number of the step's answer.

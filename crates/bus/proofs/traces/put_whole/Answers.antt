@@ -1,11 +1,9 @@
-use Rattle.bus.proofs.Laws.{sent_front, sent_allowed, sent_roomy}
+use Rattle.std.proofs.Common.{sym}
+use Rattle.bus.proofs.Laws.{sent_front}
 use Rattle.bus.proofs.traces.put_whole.Goals as goal
 
-pub returns-in-Written : goal.returns-in-Written
-returns-in-Written c = sent_front c.args.k c.args.reply.now c.args.out.now c.put_command-answer.result _ _ (c.requires c.put_command-answer.result _ c.put_command-answer.ensures) c.in-Written.is
+pub unwrap-requires : goal.unwrap-requires
+unwrap-requires c = rw (c.requires c.put_command.result _ c.put_command.ensures).0
 
-pub returns-in-Forbidden : goal.returns-in-Forbidden
-returns-in-Forbidden c = absurd (sent_allowed c.args.k c.args.reply.now c.args.out.now c.put_command-answer.result _ (c.requires c.put_command-answer.result _ c.put_command-answer.ensures) c.in-Forbidden.is)
-
-pub returns-in-OutputTooShort : goal.returns-in-OutputTooShort
-returns-in-OutputTooShort c = absurd (sent_roomy c.args.k c.args.reply.now c.args.out.now c.put_command-answer.result _ (c.requires c.put_command-answer.result _ c.put_command-answer.ensures) c.in-OutputTooShort.is)
+pub returns : goal.returns
+returns c = sent_front c.args.k c.args.reply.now c.args.out.now c.put_command.result _ _ (c.requires c.put_command.result _ c.put_command.ensures) c.unwrap.ensures

@@ -3,8 +3,8 @@ use Rattle.pool.specs.Free.{lowest_free}
 use Rattle.c_arp.specs.Parts.{free_number}
 use Rattle.c_api.proofs.pools.hb_pool_lowest_free.Goals as goal
 
-pub returns-in-At : goal.returns-in-At
-returns-in-At c = ap free_number (sym c.in-At.is ∙ c.lowest_free-f.ensures ∙ ap lowest_free c.pool_in-p.ensures)
+pub returns-in-Some : goal.returns-in-Some
+returns-in-Some c = ap free_number (sym c.in-Some.is ∙ c.lowest_free.ensures ∙ ap lowest_free c.pool_in-p.ensures)
 
-pub returns-in-AllUsed : goal.returns-in-AllUsed
-returns-in-AllUsed c = ap free_number (sym c.in-AllUsed.is ∙ c.lowest_free-f.ensures ∙ ap lowest_free c.pool_in-p.ensures)
+pub returns-in-None : goal.returns-in-None
+returns-in-None c = ap free_number (sym c.in-None.is ∙ c.lowest_free.ensures ∙ ap lowest_free c.pool_in-p.ensures)

@@ -1,44 +1,16 @@
-use Rattle.std.proofs.Common.{sym, ap, ◌<◌, arith}
+use Rattle.std.proofs.Common.{◌<◌, arith}
 use Rattle.trace.specs.Trace.{Message}
 use Rattle.encode.specs.Encode.{message}
 use Rattle.lists.specs.EachLaws.{all_bytes}
 use Rattle.c_codec.specs.Numbers.{truth}
-use Rattle.c_codec.specs.Codec.{told}
-use Rattle.c_codec.proofs.CodecLaws.{small_symbols, wrote_symbols}
+use Rattle.c_codec.proofs.CodecLaws.{small_symbols}
 use Rattle.c_codec.proofs.symbols.encode_symbols.Goals as goal
 
-pub overflow_cast-result : goal.overflow_cast-result
-overflow_cast-result c =
+pub overflow_cast-n : goal.overflow_cast-n
+overflow_cast-n c =
     let a = c.args in
     let t : Message = message a.address a.direction a.command a.sent.now a.received.now in
     let cb : a.command < 256 = omega arith in
     let sb = all_bytes a.sent.now (λ i. (c.shared_slice_known-1.given i).fits) in
     let rb = all_bytes a.received.now (λ i. (c.shared_slice_known-2-1.given i).fits) in
-    omega (arith, small_symbols a.protocol (truth a.pec) t cb sb rb _ _ _ c.encode-r.ensures _ c.in-Written.is)
-
-pub returns-in-Written : goal.returns-in-Written
-returns-in-Written c =
-    let a = c.args in
-    let t : Message = message a.address a.direction a.command a.sent.now a.received.now in
-    let cb : a.command < 256 = omega arith in
-    let sb = all_bytes a.sent.now (λ i. (c.shared_slice_known-1.given i).fits) in
-    let rb = all_bytes a.received.now (λ i. (c.shared_slice_known-2-1.given i).fits) in
-    wrote_symbols a.protocol (truth a.pec) t cb sb rb _ _ _ c.encode-r.ensures _ (ap told (sym c.in-Written.is))
-
-pub returns-in-Forbidden : goal.returns-in-Forbidden
-returns-in-Forbidden c =
-    let a = c.args in
-    let t : Message = message a.address a.direction a.command a.sent.now a.received.now in
-    let cb : a.command < 256 = omega arith in
-    let sb = all_bytes a.sent.now (λ i. (c.shared_slice_known-1.given i).fits) in
-    let rb = all_bytes a.received.now (λ i. (c.shared_slice_known-2-1.given i).fits) in
-    wrote_symbols a.protocol (truth a.pec) t cb sb rb _ _ _ c.encode-r.ensures _ (ap told (sym c.in-Forbidden.is))
-
-pub returns-in-OutputTooShort : goal.returns-in-OutputTooShort
-returns-in-OutputTooShort c =
-    let a = c.args in
-    let t : Message = message a.address a.direction a.command a.sent.now a.received.now in
-    let cb : a.command < 256 = omega arith in
-    let sb = all_bytes a.sent.now (λ i. (c.shared_slice_known-1.given i).fits) in
-    let rb = all_bytes a.received.now (λ i. (c.shared_slice_known-2-1.given i).fits) in
-    wrote_symbols a.protocol (truth a.pec) t cb sb rb _ _ _ c.encode-r.ensures _ (ap told (sym c.in-OutputTooShort.is))
+    omega (arith, small_symbols a.protocol (truth a.pec) t cb sb rb _ _ _ c.encode-r.ensures _ c.in-Ok.is)

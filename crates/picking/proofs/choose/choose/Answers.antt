@@ -1,5 +1,5 @@
+use Rattle.std.specs.Prelude.{Some}
 use Rattle.std.proofs.Common.{ℕ, sym, ap, ◌∙◌}
-use Rattle.pool.specs.declared.free.Free.TheVariants.{At}
 use Rattle.picking.proofs.PickingLaws.{chosen_picked, chosen_own}
 use Rattle.picking.proofs.choose.choose.Goals as goal
 
@@ -11,4 +11,4 @@ returns-then-has_to_pick c =
 pub returns : goal.returns
 returns c =
     let a = c.args in
-    ap (λ (x : ℕ). At (record { 0 = x })) c.from_wire.ensures ∙ sym (chosen_own a.pool a.last a.u a.b (sym c.has_to_pick.ensures ∙ c.if-has_to_pick.false))
+    ap (λ (x : ℕ). Some (record { 0 = x })) c.from_wire.ensures ∙ sym (chosen_own a.pool a.last a.u a.b (sym c.has_to_pick.ensures ∙ c.if-has_to_pick.false))

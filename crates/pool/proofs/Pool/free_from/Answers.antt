@@ -1,8 +1,8 @@
+use Rattle.std.specs.Prelude.{None}
 use Rattle.std.proofs.Common.{ℕ, ◌+◌, ◌-◌, ◌≤◌, ◌≡◌, sym, ◌∙◌, arith}
 use Rattle.pool.specs.Free.{free_from}
 use Rattle.pool.specs.HalfSearchLaws.{low_found, low_full}
 use Rattle.pool.specs.declared.Pool.{Pool}
-use Rattle.pool.specs.declared.free.Free.TheVariants.{AllUsed}
 use Rattle.pool.proofs.Pool.free_from.Goals as goal
 
 in_high : (p : Pool) (n : ℕ) → 64 ≤ n → free_from p (64 - (n - 64)) (64 + (n - 64)) ≡ free_from p (128 - n) n
@@ -11,7 +11,7 @@ in_high p n h =
     let f : 64 + (n - 64) ≡ n = omega arith in
     rw (e, f)
 
-past : (p : Pool) (n : ℕ) → 128 ≤ n → free_from p (128 - n) n ≡ AllUsed
+past : (p : Pool) (n : ℕ) → 128 ≤ n → free_from p (128 - n) n ≡ None
 unfolding free_from
 past p n h = let e : 128 - n ≡ 0 = omega arith in rw e
 

@@ -1,23 +1,19 @@
-use Rattle.std.proofs.Common.{true, false, refl, sym, ◌∙◌}
-use Rattle.scan.proofs.TestLaws.{finish_is}
+use Rattle.std.proofs.Common.{rules}
+use Rattle.scan.specs.Run.{finish}
 use Rattle.scan.proofs.ending.finished.Goals as goal
 
-pub returns-then-is_cut : goal.returns-then-is_cut
-returns-then-is_cut c =
-    let a = c.args in
-    rw (c.less.ensures, c.count_bytes.ensures) (finish_is a.protocol a.sh a.d a.tr.now true _ _ (sym c.is_cut.ensures ∙ c.if-is_cut.true) (refl) (refl))
+pub returns-then-eq : goal.returns-then-eq
+unfolding finish
+returns-then-eq c = search rules
 
 pub returns-then-not-is_over : goal.returns-then-not-is_over
-returns-then-not-is_over c =
-    let a = c.args in
-    finish_is a.protocol a.sh a.d a.tr.now false false _ (sym c.is_cut.ensures ∙ c.if-is_cut.false) (sym c.is_over.ensures ∙ c.if-not-is_over.true) (refl)
+unfolding finish
+returns-then-not-is_over c = search rules
 
 pub returns-then-d : goal.returns-then-d
-returns-then-d c =
-    let a = c.args in
-    rw c.transaction_of.ensures (finish_is a.protocol a.sh a.d a.tr.now false true true (sym c.is_cut.ensures ∙ c.if-is_cut.false) (sym c.is_over.ensures ∙ c.if-not-is_over.false) c.if-d.true)
+unfolding finish
+returns-then-d c = search rules
 
 pub returns-else-d : goal.returns-else-d
-returns-else-d c =
-    let a = c.args in
-    rw c.less-else-d.ensures (finish_is a.protocol a.sh a.d a.tr.now false true false (sym c.is_cut.ensures ∙ c.if-is_cut.false) (sym c.is_over.ensures ∙ c.if-not-is_over.false) c.if-d.false)
+unfolding finish
+returns-else-d c = search rules

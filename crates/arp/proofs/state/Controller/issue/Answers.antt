@@ -8,4 +8,4 @@ returns-in_default c = c.refuse.ensures ∙ sym (ap (issued_for c.args.self) (sy
 
 pub returns : goal.returns
 unfolding issuing
-returns c = c.hand.ensures ∙ sym (ap (issued_for c.args.self) (sym c.choice_in.ensures ∙ c.in-Of.is))
+returns c = c.hand.ensures ∙ sym (ap (issued_for c.args.self) (sym c.choice_in.ensures ∙ c.in-Some.is))

@@ -14,4 +14,4 @@ returns c =
     let n = c.free-next in
     let k = c.choose in
     let t = c.has_to_pick in
-    reply_at s.direct s.self s.u s.b n.result k.result _ n.ensures k.ensures _ t.result c.in-At.is t.ensures c.settle.ensures
+    reply_at s.direct s.self s.u s.b n.result k.result _ n.ensures k.ensures _ t.result c.in-Some.is t.ensures c.settle.ensures

@@ -1,4 +1,0 @@
-use Rattle.step.proofs.moved.read_count_read.Goals as goal
-
-pub returns : goal.returns
-returns c = rw c.byte_read-e.ensures
