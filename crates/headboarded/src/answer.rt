@@ -15,10 +15,12 @@ fn said(s: Shelf, at: usize) -> Turn {
 
 // Answers a line, which has no comment any more. A line of no word gets no answer.
 pub(crate) fn answer(s: Shelf, text: &[u8], records: &mut [u8], out: &mut [u8], at: usize) -> Turn {
-    let q = read_request(text);
+    let q = match read_request(text) {
+        Ok(q) => q,
+        Err(u) => return said(s, put_unclear(out, at, u.expected, u.place)),
+    };
     match q {
         Request::Nothing => said(s, at),
-        Request::Unclear(e, place) => said(s, put_unclear(out, at, e, place)),
         Request::Pec(from) => said(s, pec(text, from, out, at)),
         Request::Encode(h, f, sent, received) => {
             said(s, encode(h, f, sent, received, text, out, at))
