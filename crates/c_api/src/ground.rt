@@ -5,7 +5,6 @@ ghost use Rattle.pec.specs.Pec.{pec_step, pec_from, pec_of};
 ghost use Rattle.trace.specs.Lengths.{room_for};
 ghost use Rattle.c_codec.specs.Numbers.{truth, bit};
 
-use c_codec::numbers::as_number;
 use wire::address::{Address, WireByte};
 
 // The packet error code after one byte more.
@@ -37,8 +36,7 @@ pub extern "C" fn hb_pec(s: &[u8]) -> u8
 pub extern "C" fn hb_wire_for_write(address: u8) -> u8
     ensures { result ≡ 2 * (address % 128) }
 {
-    let w = Address(address).for_write();
-    w.0
+    Address(address).for_write().0
 }
 
 // The byte on the wire that asks the address for a read.
@@ -46,8 +44,7 @@ pub extern "C" fn hb_wire_for_write(address: u8) -> u8
 pub extern "C" fn hb_wire_for_read(address: u8) -> u8
     ensures { result ≡ 2 * (address % 128) + 1 }
 {
-    let w = Address(address).for_read();
-    w.0
+    Address(address).for_read().0
 }
 
 // The address that a byte on the wire carries.
@@ -55,8 +52,7 @@ pub extern "C" fn hb_wire_for_read(address: u8) -> u8
 pub extern "C" fn hb_address_from_wire(byte: u8) -> u8
     ensures { result ≡ byte / 2 }
 {
-    let a = Address::from_wire(WireByte(byte));
-    a.0
+    Address::from_wire(WireByte(byte)).0
 }
 
 // 1 for a byte that asks for a read.
@@ -64,7 +60,7 @@ pub extern "C" fn hb_address_from_wire(byte: u8) -> u8
 pub extern "C" fn hb_wire_is_read(byte: u8) -> u8
     ensures { result ≡ bit (eqb (byte % 2) 1) }
 {
-    as_number(WireByte(byte).is_read())
+    u8::from(WireByte(byte).is_read())
 }
 
 // 1 for a number of seven bits.
@@ -72,7 +68,7 @@ pub extern "C" fn hb_wire_is_read(byte: u8) -> u8
 pub extern "C" fn hb_is_seven_bit(address: u8) -> u8
     ensures { result ≡ bit (ltb address 128) }
 {
-    as_number(Address(address).is_seven_bit())
+    u8::from(Address(address).is_seven_bit())
 }
 
 // 1 for the default address.
@@ -80,7 +76,7 @@ pub extern "C" fn hb_is_seven_bit(address: u8) -> u8
 pub extern "C" fn hb_is_default(address: u8) -> u8
     ensures { result ≡ bit (eqb address 0x61) }
 {
-    as_number(Address(address).is_default())
+    u8::from(Address(address).is_default())
 }
 
 // 1 for the host's address.
@@ -88,7 +84,7 @@ pub extern "C" fn hb_is_default(address: u8) -> u8
 pub extern "C" fn hb_is_host(address: u8) -> u8
     ensures { result ≡ bit (eqb address 0x08) }
 {
-    as_number(Address(address).is_host())
+    u8::from(Address(address).is_host())
 }
 
 // 1 for the alert response address.
@@ -96,7 +92,7 @@ pub extern "C" fn hb_is_host(address: u8) -> u8
 pub extern "C" fn hb_is_alert_response(address: u8) -> u8
     ensures { result ≡ bit (eqb address 0x0C) }
 {
-    as_number(Address(address).is_alert_response())
+    u8::from(Address(address).is_alert_response())
 }
 
 // 1 for an address on which no target may stand, not even a fixed one.
@@ -104,7 +100,7 @@ pub extern "C" fn hb_is_alert_response(address: u8) -> u8
 pub extern "C" fn hb_is_reserved(address: u8) -> u8
     ensures { result ≡ bit (is_reserved address) }
 {
-    as_number(Address(address).is_reserved())
+    u8::from(Address(address).is_reserved())
 }
 
 // 1 for an address on a row of Table 17: it is never picked, and never kept by a movable target.
@@ -112,7 +108,7 @@ pub extern "C" fn hb_is_reserved(address: u8) -> u8
 pub extern "C" fn hb_is_listed(address: u8) -> u8
     ensures { result ≡ bit (is_listed address) }
 {
-    as_number(Address(address).is_listed())
+    u8::from(Address(address).is_listed())
 }
 
 // The room in symbols that the encoder needs for so many bytes sent and received; 0 where it refuses the protocol, the PEC or a length.

@@ -7,8 +7,7 @@ ghost use Rattle.pool.specs.Start.{starting_pool, barred_pool};
 ghost use Rattle.c_codec.specs.Numbers.{bit};
 ghost use Rattle.c_arp.specs.Parts.{pool_in, told_pool, free_number};
 
-use c_arp::parts::{HbPool, addresses, pool_in};
-use c_codec::numbers::as_number;
+use c_arp::parts::HbPool;
 use pool::Pool;
 use wire::address::Address;
 
@@ -17,8 +16,7 @@ use wire::address::Address;
 pub extern "C" fn hb_pool_has(pool: HbPool, address: u8) -> u8
     ensures { result ≡ bit (member (pool_in pool) address) }
 {
-    let p = pool_in(pool);
-    as_number(p.has(Address(address)))
+    u8::from(Pool::from(pool).has(Address(address)))
 }
 
 // The set and the address.
@@ -26,8 +24,7 @@ pub extern "C" fn hb_pool_has(pool: HbPool, address: u8) -> u8
 pub extern "C" fn hb_pool_with(pool: HbPool, address: u8) -> HbPool
     ensures { result ≡ told_pool (with_address (pool_in pool) address) }
 {
-    let p = pool_in(pool);
-    addresses(p.with(Address(address)))
+    Pool::from(pool).with(Address(address)).into()
 }
 
 // The set without the address.
@@ -35,8 +32,7 @@ pub extern "C" fn hb_pool_with(pool: HbPool, address: u8) -> HbPool
 pub extern "C" fn hb_pool_without(pool: HbPool, address: u8) -> HbPool
     ensures { result ≡ told_pool (without_address (pool_in pool) address) }
 {
-    let p = pool_in(pool);
-    addresses(p.without(Address(address)))
+    Pool::from(pool).without(Address(address)).into()
 }
 
 // The addresses of either set.
@@ -44,8 +40,7 @@ pub extern "C" fn hb_pool_without(pool: HbPool, address: u8) -> HbPool
 pub extern "C" fn hb_pool_union(one: HbPool, other: HbPool) -> HbPool
     ensures { result ≡ told_pool (union_of (pool_in one) (pool_in other)) }
 {
-    let p = pool_in(one);
-    addresses(p.union(pool_in(other)))
+    Pool::from(one).union(other.into()).into()
 }
 
 // The starting pool: the listed addresses and these.
@@ -53,7 +48,7 @@ pub extern "C" fn hb_pool_union(one: HbPool, other: HbPool) -> HbPool
 pub extern "C" fn hb_pool_starting(occupied: HbPool) -> HbPool
     ensures { result ≡ told_pool (starting_pool (pool_in occupied)) }
 {
-    addresses(Pool::starting(pool_in(occupied)))
+    Pool::starting(occupied.into()).into()
 }
 
 // The barred addresses: the reserved ones and these.
@@ -61,7 +56,7 @@ pub extern "C" fn hb_pool_starting(occupied: HbPool) -> HbPool
 pub extern "C" fn hb_pool_barred(occupied: HbPool) -> HbPool
     ensures { result ≡ told_pool (barred_pool (pool_in occupied)) }
 {
-    addresses(Pool::barred(pool_in(occupied)))
+    Pool::barred(occupied.into()).into()
 }
 
 // How many addresses the set has.
@@ -69,20 +64,18 @@ pub extern "C" fn hb_pool_barred(occupied: HbPool) -> HbPool
 pub extern "C" fn hb_pool_used(pool: HbPool) -> u32
     ensures { result ≡ used (pool_in pool) }
 {
-    let p = pool_in(pool);
-    p.used()
+    Pool::from(pool).used()
 }
+
+// Kept: C has no Option, and headboarded.h promises 128, which is no address.
+const NONE_FREE: u8 = 128;
 
 // The lowest address that the set does not have, or 128.
 #[unsafe(no_mangle)]
 pub extern "C" fn hb_pool_lowest_free(pool: HbPool) -> u8
     ensures { result ≡ free_number (lowest_free (pool_in pool)) }
 {
-    let p = pool_in(pool);
-    match p.lowest_free() {
-        Some(a) => a.0,
-        None => 128,
-    }
+    Pool::from(pool).lowest_free().map_or(NONE_FREE, |a| a.0)
 }
 
 // The first address after the last one, going from 7Fh round to 00h, that the set does not have, or 128.
@@ -90,9 +83,5 @@ pub extern "C" fn hb_pool_lowest_free(pool: HbPool) -> u8
 pub extern "C" fn hb_pool_next_free(pool: HbPool, last: u8) -> u8
     ensures { result ≡ free_number (next_free (pool_in pool) last) }
 {
-    let p = pool_in(pool);
-    match p.next_free(last) {
-        Some(a) => a.0,
-        None => 128,
-    }
+    Pool::from(pool).next_free(last).map_or(NONE_FREE, |a| a.0)
 }

@@ -5,8 +5,7 @@ ghost use Rattle.udid.specs.Bytes.{udid_at, udid_bytes, put_at};
 ghost use Rattle.c_codec.specs.Numbers.{bit};
 ghost use Rattle.c_arp.specs.Parts.{udid_in, told_udid};
 
-use c_arp::parts::{HbUdid, identifier, udid_in};
-use c_codec::numbers::as_number;
+use c_arp::parts::HbUdid;
 use udid::Udid;
 
 // The identifier whose bytes stand from a place on; a byte that is not there counts as zero.
@@ -14,7 +13,7 @@ use udid::Udid;
 pub extern "C" fn hb_udid_from_bytes(s: &[u8], at: usize) -> HbUdid
     ensures { result ≡ told_udid (udid_at s.now at) }
 {
-    identifier(Udid::from_bytes(s, at))
+    Udid::from_bytes(s, at).into()
 }
 
 // The 16 bytes from a place on. A buffer that ends before them stays as it is.
@@ -22,8 +21,7 @@ pub extern "C" fn hb_udid_from_bytes(s: &[u8], at: usize) -> HbUdid
 pub extern "C" fn hb_udid_put_bytes(udid: HbUdid, out: &mut [u8], at: usize)
     ensures { out.new ≡ put_at out.old at (udid_bytes (udid_in udid)) }
 {
-    let u = udid_in(udid);
-    u.put_bytes(out, at);
+    Udid::from(udid).put_bytes(out, at);
 }
 
 // 1 where both are the same.
@@ -31,8 +29,7 @@ pub extern "C" fn hb_udid_put_bytes(udid: HbUdid, out: &mut [u8], at: usize)
 pub extern "C" fn hb_udid_is_same(one: HbUdid, other: HbUdid) -> u8
     ensures { result ≡ bit (same_udid (udid_in one) (udid_in other)) }
 {
-    let u = udid_in(one);
-    as_number(u.is_same(udid_in(other)))
+    u8::from(Udid::from(one).is_same(other.into()))
 }
 
 // 1 where the first comes before the second: the one that wins on the wire.
@@ -40,8 +37,7 @@ pub extern "C" fn hb_udid_is_same(one: HbUdid, other: HbUdid) -> u8
 pub extern "C" fn hb_udid_is_below(one: HbUdid, other: HbUdid) -> u8
     ensures { result ≡ bit (is_below (udid_in one) (udid_in other)) }
 {
-    let u = udid_in(one);
-    as_number(u.is_below(udid_in(other)))
+    u8::from(Udid::from(one).is_below(other.into()))
 }
 
 // 1 for the identifier of a target whose address is fixed.
@@ -49,6 +45,5 @@ pub extern "C" fn hb_udid_is_below(one: HbUdid, other: HbUdid) -> u8
 pub extern "C" fn hb_udid_is_fixed(udid: HbUdid) -> u8
     ensures { result ≡ bit (is_fixed (udid_in udid)) }
 {
-    let u = udid_in(udid);
-    as_number(u.is_fixed())
+    u8::from(Udid::from(udid).is_fixed())
 }

@@ -1,5 +1,5 @@
 -- A pass of the controller over a list of traces, issues, declines and reports given as bytes, and the lookup after it.
-use Rattle.std.specs.Prelude.{ℕ, zero, suc, ◌+◌, ◌*◌, Bool, List, [], ◌∷◌, ltb, leb, eqb, length, drop, get_or}
+use Rattle.std.specs.Prelude.{ℕ, zero, suc, ◌≡◌, ◌+◌, ◌*◌, ◌/◌, Bool, true, List, [], ◌∷◌, ltb, leb, eqb, length, drop, get_or}
 use Rattle.lists.specs.Choice.{pick, and}
 use Rattle.pool.specs.declared.Pool.{Pool}
 use Rattle.udid.specs.declared.Udid.{Udid}
@@ -13,6 +13,8 @@ use Rattle.arp.specs.declared.lookup.Found.{Found}
 use Rattle.arp.specs.declared.state.Stepped.{Stepped}
 use Rattle.report.specs.Report.{first_of, no_udid}
 use Rattle.c_arp.specs.Commands.{said_of, told_command}
+use Rattle.c_arp.specs.declared.entry.Entry.{Entry}
+use Rattle.c_arp.specs.declared.entry.Entry.TheVariants as entry
 use Rattle.c_arp.specs.declared.entry.Head.{Head}
 use Rattle.c_arp.specs.declared.entry.Head.TheVariants as head
 use Rattle.c_arp.specs.declared.kinds.HbCommand.{HbCommand}
@@ -98,13 +100,19 @@ refused_pass = said_of 6 1 no_udid 0 0 0
 unfoldable pub pass_command : Pool → ℕ → List ℕ → HbCommand
 pass_command occupied last l = pick (ltb 127 last) refused_pass (told_pass (pass_over occupied last l))
 
--- for the code: the bytes of the first entry, or 0 where there is no whole one
-abbrev pub whole_size : List ℕ → ℕ
-whole_size l = pick (is_whole l) (size_of l) 0
+-- for the code: an entry as it is read, with the bytes of its trace
+abbrev pub event_of : Entry → Event
+event_of (entry.Step t) = Received Step (symbols_in (length t.now / 2) t.now)
+event_of (entry.Choose t) = Received Choose (symbols_in (length t.now / 2) t.now)
+event_of (entry.Gone a) = Gone a
+event_of entry.Issue = Issue
+event_of entry.Decline = Decline
 
--- for the code: what the second pair says, or 0 where the bytes end before it
-abbrev pub second_in : List ℕ → ℕ
-second_in l = pick (ltb (length l) 4) 0 (said (drop 2 l))
+-- for the code: the bytes begin with a whole entry, which is this one, and these follow it
+pub record Begins (l : List ℕ) (e : Event) (rest : List ℕ) : Type 0 where
+  pub whole : is_whole l ≡ true
+  pub entry : e ≡ entry_of l
+  pub rest_is : rest ≡ drop (size_of l) l
 
 -- the lookup's answer
 abbrev pub found_of : ℕ → Udid → HbFound

@@ -3,9 +3,9 @@ ghost use Rattle.std.specs.Prelude.{◌≡◌};
 ghost use Rattle.pool.specs.Start.{barred_pool};
 ghost use Rattle.targets.specs.Refusals.{checked_list};
 ghost use Rattle.c_arp.specs.Parts.{pool_in};
-ghost use Rattle.c_arp.specs.Check.{checked_of, told_checked};
+ghost use Rattle.c_arp.specs.Check.{told_checked};
 
-use crate::parts::{HbPool, pool_in};
+use crate::parts::HbPool;
 use targets::admit;
 use targets::admit::ListError;
 
@@ -17,18 +17,20 @@ pub struct HbChecked {
     pub place: usize,
 }
 
-fn checked(answer: u32, place: usize) -> HbChecked
-    ensures { result ≡ checked_of answer place }
-{
-    HbChecked { answer, place }
-}
+impl From<Result<(), ListError>> for HbChecked {
+    ghost from_gives = { λ c h. h ≡ told_checked c };
 
-fn told_checked(c: Result<(), ListError>) -> HbChecked
-    ensures { result ≡ told_checked c }
-{
-    match c {
-        Ok(()) => checked(0, 0),
-        Err(e) => checked(e.number(), e.place()),
+    fn from(c: Result<(), ListError>) -> HbChecked {
+        match c {
+            Ok(()) => HbChecked {
+                answer: 0,
+                place: 0,
+            },
+            Err(e) => HbChecked {
+                answer: e.number(),
+                place: e.place(),
+            },
+        }
     }
 }
 
@@ -36,5 +38,5 @@ fn told_checked(c: Result<(), ListError>) -> HbChecked
 pub fn check_targets(occupied: HbPool, records: &[u8]) -> HbChecked
     ensures { result ≡ told_checked (checked_list (barred_pool (pool_in occupied)) records.now) }
 {
-    told_checked(admit::check(records, pool_in(occupied)))
+    admit::check(records, occupied.into()).into()
 }

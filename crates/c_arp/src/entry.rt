@@ -6,8 +6,8 @@
 //   FFFFh          a report that a module is gone: an address follows
 //
 // So a trace has 65,531 symbols at most. After FFFEh a greater number begins no entry.
-ghost use Rattle.std.specs.Prelude.{◌≡◌, ◌+◌, ◌≤◌, length, drop};
-ghost use Rattle.c_arp.specs.Pass.{said, head_of, half_size, size_for, second_in, whole_size};
+ghost use Rattle.std.specs.Prelude.{false, ◌≡◌, ◌*◌, ◌≤◌, ◌<◌, length, take, drop, MatchOption};
+ghost use Rattle.c_arp.specs.Pass.{said, head_of, is_whole, event_of, Begins};
 
 // What an entry is, by its first pair.
 #[derive(Clone, Copy)]
@@ -25,80 +25,68 @@ pub enum Head {
 }
 
 // What an entry is that begins with this pair.
-pub(crate) fn head_of(first: u16) -> Head
-    ensures { result ≡ head_of first }
-{
-    if first == 65535 {
-        return Head::Gone;
-    }
-    if first == 65534 {
-        return Head::Choose;
-    }
-    if first == 65533 {
-        return Head::Issue;
-    }
-    if first == 65532 {
-        return Head::Decline;
-    }
-    Head::Count
-}
+impl From<u16> for Head {
+    ghost from_gives = { λ n h. h ≡ head_of n };
 
-// The number that the pair at a place says.
-pub(crate) fn pair_at(bytes: &[u8], at: usize) -> u16
-    requires { at + 2 ≤ length bytes.now }
-    ensures { result ≡ said (drop at bytes.now) }
-{
-    let low = bytes[at] as u16;
-    let high = bytes[at + 1] as u16;
-    low + 256 * high
-}
-
-// The number that the second pair of the entry at a place says; 0 where the bytes end before it.
-fn second_at(bytes: &[u8], at: usize) -> u16
-    requires { at ≤ length bytes.now }
-    ensures { result ≡ second_in (drop at bytes.now) }
-{
-    if bytes.len() - at < 4 {
-        return 0;
-    }
-    pair_at(bytes, at + 2)
-}
-
-// How many bytes an entry for the first half of a step takes, with this count; 0 where no trace has so many symbols.
-fn half_size(count: u16) -> usize
-    ensures { result ≡ half_size count }
-{
-    if count > 65531 {
-        return 0;
-    }
-    4 + 2 * (count as usize)
-}
-
-// How many bytes an entry takes that begins with these two pairs; 0 where none does.
-fn entry_size(first: u16, second: u16) -> usize
-    ensures { result ≡ size_for first second }
-{
-    match head_of(first) {
-        Head::Count => 2 + 2 * (first as usize),
-        Head::Gone => 4,
-        Head::Choose => half_size(second),
-        Head::Issue => 2,
-        Head::Decline => 2,
+    fn from(first: u16) -> Head {
+        match first {
+            0xffff => Head::Gone,
+            0xfffe => Head::Choose,
+            0xfffd => Head::Issue,
+            0xfffc => Head::Decline,
+            _ => Head::Count,
+        }
     }
 }
 
-// How many bytes the entry at a place takes; 0 where no whole entry is left.
-pub(crate) fn size_at(bytes: &[u8], at: usize) -> usize
-    requires { at ≤ length bytes.now }
-    ensures { result ≡ whole_size (drop at bytes.now) }
+// An entry, with the bytes of its trace or the address that it names.
+#[derive(Clone, Copy)]
+pub(crate) enum Entry<'a> {
+    Step(&'a [u8]),
+    Choose(&'a [u8]),
+    Gone(u16),
+    Issue,
+    Decline,
+}
+
+// The number that the first pair says, and what follows it.
+fn pair(bytes: &[u8]) -> Option<(u16, &[u8])>
+    ensures { MatchOption result (length bytes.now < 2) (λ p. (2 ≤ length bytes.now) × (p.0 ≡ said bytes.now) × (p.1.now ≡ drop 2 bytes.now)) }
 {
-    let left = bytes.len() - at;
-    if left < 2 {
-        return 0;
+    let (pair, rest) = bytes.split_at_checked(2)?;
+    Some((u16::from_le_bytes([pair[0], pair[1]]), rest))
+}
+
+// The bytes of so many symbols, and what follows them.
+fn trace(bytes: &[u8], count: u16) -> Option<(&[u8], &[u8])>
+    ensures { MatchOption result (length bytes.now < 2 * count) (λ p. (2 * count ≤ length bytes.now) × (p.0.now ≡ take (2 * count) bytes.now) × (p.1.now ≡ drop (2 * count) bytes.now)) }
+{
+    bytes.split_at_checked(2 * usize::from(count))
+}
+
+// The entry that the bytes begin with, and what follows it; none where no whole entry is left.
+pub(crate) fn next_entry(bytes: &[u8]) -> Option<(Entry<'_>, &[u8])>
+    ensures { MatchOption result (is_whole bytes.now ≡ false) (λ p. Begins bytes.now (event_of p.0) p.1.now) }
+{
+    let (first, rest) = pair(bytes)?;
+    match Head::from(first) {
+        Head::Count => {
+            let (symbols, rest) = trace(rest, first)?;
+            Some((Entry::Step(symbols), rest))
+        }
+        Head::Gone => {
+            let (address, rest) = pair(rest)?;
+            Some((Entry::Gone(address), rest))
+        }
+        Head::Choose => {
+            let (count, rest) = pair(rest)?;
+            if count > 65531 {
+                return None;
+            }
+            let (symbols, rest) = trace(rest, count)?;
+            Some((Entry::Choose(symbols), rest))
+        }
+        Head::Issue => Some((Entry::Issue, rest)),
+        Head::Decline => Some((Entry::Decline, rest)),
     }
-    let size = entry_size(pair_at(bytes, at), second_at(bytes, at));
-    if left < size {
-        return 0;
-    }
-    size
 }

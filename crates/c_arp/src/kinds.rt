@@ -4,9 +4,12 @@ ghost use Rattle.std.specs.Prelude.{◌≡◌, true};
 ghost use Rattle.commands.specs.Requests.{protocol_for, message_of};
 ghost use Rattle.c_arp.specs.Parts.{udid_in};
 ghost use Rattle.c_codec.specs.Codec.{WrotePairs};
-ghost use Rattle.c_arp.specs.Commands.{command_of, said_of, reason_number, choice_of, told_end, told_command};
+ghost use Rattle.report.specs.Report.{no_udid};
+ghost use Rattle.c_arp.specs.Commands.{command_of, said_of, reason_number, told_end};
+ghost use Rattle.c_arp.specs.Pass.{told_pass};
 
-use crate::parts::{HbUdid, identifier, udid_in};
+use crate::parts::HbUdid;
+use arp::state::Stepped;
 use c_codec::codec::{HbWritten, written};
 use commands::command::{Command, End, Handed, Reason};
 use commands::request::put_command;
@@ -18,16 +21,12 @@ use wire::address::Address;
 fn command_of(kind: u8, u: Udid, a: Address) -> Handed
     ensures { result ≡ command_of kind u a }
 {
-    if kind == 0 {
-        return Handed::Send(Command::Prepare);
+    match kind {
+        0 => Handed::Send(Command::Prepare),
+        1 => Handed::Send(Command::GetUdid),
+        2 => Handed::Send(Command::Assign(u, a)),
+        _ => Handed::Wait(End::Nothing),
     }
-    if kind == 1 {
-        return Handed::Send(Command::GetUdid);
-    }
-    if kind == 2 {
-        return Handed::Send(Command::Assign(u, a));
-    }
-    Handed::Wait(End::Nothing)
 }
 
 // What the controller handed out: the kind, the scope's number of an end, the identifier and the address of an Assign or of a choice, or
@@ -45,19 +44,16 @@ pub struct HbCommand {
     pub udid: HbUdid,
 }
 
-pub(crate) fn said(kind: u32, answer: u32, u: Udid, a: Address, gets: u32, picked: u8) -> HbCommand
-    ensures { result ≡ said_of kind answer u a.0 gets picked }
-{
-    HbCommand {
-        kind: kind,
-        answer: answer,
-        address: a.0 as u32,
-        gets: gets,
-        picked: picked as u32,
-        reason: 0,
-        udid: identifier(u),
-    }
-}
+// With 6 all is 0 but the kind and the answer.
+pub(crate) const NOT_OUTSTANDING: HbCommand = HbCommand {
+    kind: 6,
+    answer: 21,
+    address: 0,
+    gets: 0,
+    picked: 0,
+    reason: 0,
+    udid: HbUdid { high: 0, low: 0 },
+};
 
 // Why an address was chosen, as a number: 1 fixed, 2 kept, 3 picked, 4 claimed by two.
 fn reason_number(why: Reason) -> u32
@@ -71,54 +67,61 @@ fn reason_number(why: Reason) -> u32
     }
 }
 
-// A choice that waits: this address for this target, and why.
-fn told_choice(u: Udid, a: Address, why: Reason, gets: u32, picked: u8) -> HbCommand
-    ensures { result ≡ choice_of u a.0 why gets picked }
+// Why nothing is to be sent, as a struct; rest has what is told with every end.
+fn told_end(e: End, rest: HbCommand) -> HbCommand
+    requires { rest ≡ said_of 0 0 no_udid 0 rest.gets rest.picked }
+    ensures { result ≡ told_end e rest.gets rest.picked }
 {
-    HbCommand {
-        kind: 8,
-        answer: 0,
-        address: a.0 as u32,
-        gets: gets,
-        picked: picked as u32,
-        reason: reason_number(why),
-        udid: identifier(u),
-    }
-}
-
-// Why nothing is to be sent, the Get UDIDs so far and the last pick, as a struct.
-fn told_end(e: End, gets: u32, picked: u8) -> HbCommand
-    ensures { result ≡ told_end e gets picked }
-{
-    let none = Udid { high: 0, low: 0 };
     match e {
-        End::Ended => said(3, 0, none, Address(0), gets, picked),
-        End::NoneFree(u) => said(4, 13, u, Address(0), gets, picked),
-        End::Abandoned => said(5, 14, none, Address(0), gets, picked),
-        End::NotOutstanding => said(6, 21, none, Address(0), 0, 0),
-        End::Nothing => said(7, 0, none, Address(0), gets, picked),
-        End::Chosen(u, a, why) => told_choice(u, a, why, gets, picked),
+        End::Ended => HbCommand { kind: 3, ..rest },
+        End::NoneFree(u) => HbCommand {
+            kind: 4,
+            answer: 13,
+            udid: u.into(),
+            ..rest
+        },
+        End::Abandoned => HbCommand {
+            kind: 5,
+            answer: 14,
+            ..rest
+        },
+        End::NotOutstanding => NOT_OUTSTANDING,
+        End::Nothing => HbCommand { kind: 7, ..rest },
+        End::Chosen(u, a, why) => HbCommand {
+            kind: 8,
+            address: u32::from(a.0),
+            reason: reason_number(why),
+            udid: u.into(),
+            ..rest
+        },
     }
 }
 
-fn told_sent(k: Command, gets: u32, picked: u8) -> HbCommand
-    ensures { result ≡ told_command (Handed.Send k) gets picked }
-{
-    let none = Udid { high: 0, low: 0 };
-    match k {
-        Command::Prepare => said(0, 0, none, Address(0), gets, picked),
-        Command::GetUdid => said(1, 0, none, Address(0), gets, picked),
-        Command::Assign(u, a) => said(2, 0, u, a, gets, picked),
-    }
-}
+// What was handed out last, the Get UDIDs so far and the last pick.
+impl From<Stepped> for HbCommand {
+    ghost from_gives = { λ st h. h ≡ told_pass st };
 
-// What was handed out, the Get UDIDs so far and the last pick, as a struct.
-pub fn told_command(k: Handed, gets: u32, picked: u8) -> HbCommand
-    ensures { result ≡ told_command k gets picked }
-{
-    match k {
-        Handed::Send(c) => told_sent(c, gets, picked),
-        Handed::Wait(e) => told_end(e, gets, picked),
+    fn from(st: Stepped) -> HbCommand {
+        let rest = HbCommand {
+            kind: 0,
+            answer: 0,
+            address: 0,
+            gets: st.state.gets,
+            picked: u32::from(st.state.picked),
+            reason: 0,
+            udid: HbUdid { high: 0, low: 0 },
+        };
+        match st.command {
+            Handed::Send(Command::Prepare) => rest,
+            Handed::Send(Command::GetUdid) => HbCommand { kind: 1, ..rest },
+            Handed::Send(Command::Assign(u, a)) => HbCommand {
+                kind: 2,
+                address: u32::from(a.0),
+                udid: u.into(),
+                ..rest
+            },
+            Handed::Wait(e) => told_end(e, rest),
+        }
     }
 }
 
@@ -133,7 +136,7 @@ pub fn put_command_pairs(
 ) -> HbWritten
     ensures { WrotePairs (protocol_for (command_of kind (udid_in u) (record { 0 = address }))) true (message_of (command_of kind (udid_in u) (record { 0 = address })) reply.now) out.old result out.new }
 {
-    let k = command_of(kind, udid_in(u), Address(address));
+    let k = command_of(kind, u.into(), Address(address));
     let mut buf = [0u16; 525];
     let r = put_command(k, reply, &mut buf);
     let Ok(n) = r else {

@@ -22,41 +22,41 @@ pub struct HbPool {
 }
 
 // An identifier for C.
-pub fn identifier(u: Udid) -> HbUdid
-    ensures { result ≡ told_udid u }
-{
-    HbUdid {
-        high: u.high,
-        low: u.low,
+impl From<Udid> for HbUdid {
+    ghost from_gives = { λ u h. h ≡ told_udid u };
+
+    fn from(u: Udid) -> HbUdid {
+        let Udid { high, low } = u;
+        HbUdid { high, low }
     }
 }
 
 // A set of addresses for C.
-pub fn addresses(p: Pool) -> HbPool
-    ensures { result ≡ told_pool p }
-{
-    HbPool {
-        low: p.low,
-        high: p.high,
+impl From<Pool> for HbPool {
+    ghost from_gives = { λ p h. h ≡ told_pool p };
+
+    fn from(p: Pool) -> HbPool {
+        let Pool { low, high } = p;
+        HbPool { low, high }
     }
 }
 
 // The identifier that C gave.
-pub fn udid_in(u: HbUdid) -> Udid
-    ensures { result ≡ udid_in u }
-{
-    Udid {
-        high: u.high,
-        low: u.low,
+impl From<HbUdid> for Udid {
+    ghost from_gives = { λ h u. u ≡ udid_in h };
+
+    fn from(h: HbUdid) -> Udid {
+        let HbUdid { high, low } = h;
+        Udid { high, low }
     }
 }
 
 // The set of addresses that C gave.
-pub fn pool_in(p: HbPool) -> Pool
-    ensures { result ≡ pool_in p }
-{
-    Pool {
-        low: p.low,
-        high: p.high,
+impl From<HbPool> for Pool {
+    ghost from_gives = { λ h p. p ≡ pool_in h };
+
+    fn from(h: HbPool) -> Pool {
+        let HbPool { low, high } = h;
+        Pool { low, high }
     }
 }

@@ -3,41 +3,27 @@
 // that a module is gone; `entry` has how they stand in bytes.
 // A report changes the state, and what was answered last stays.
 // The list ends where no whole entry is left.
-ghost use Rattle.std.specs.Prelude.{◌≡◌, ◌/◌, ◌≤◌, length};
-ghost use Rattle.arp.specs.Choosing.{first_half};
-ghost use Rattle.arp.specs.Controller.{stepped};
+ghost use Rattle.std.specs.Prelude.{◌≡◌, ◌/◌, length, ltb};
 ghost use Rattle.arp.specs.History.{Gone};
-ghost use Rattle.arp.specs.Lookup.{looked_up};
+ghost use Rattle.lists.specs.Choice.{pick};
 ghost use Rattle.pairs.specs.Pairs.{symbols_in};
 ghost use Rattle.c_arp.specs.Parts.{pool_in};
-ghost use Rattle.c_arp.specs.Pass.{size_of, entry_of, after_event, pass_over, told_pass, pass_command, found_of, told_found, pass_found};
+ghost use Rattle.c_arp.specs.Pass.{event_of, after_event, pass_over, pass_command, told_found, pass_found};
 
-use crate::entry::{Head, head_of, pair_at, size_at};
-use crate::kinds::{HbCommand, said, told_command};
-use crate::parts::{HbPool, HbUdid, identifier, pool_in};
+use crate::entry::{Entry, next_entry};
+use crate::kinds::{HbCommand, NOT_OUTSTANDING};
+use crate::parts::{HbPool, HbUdid};
 use arp::lookup::Found;
 use arp::state::{Controller, Stepped};
 use pairs::get_pairs;
-use pool::Pool;
-use udid::Udid;
 use wire::address::Address;
 
-// The step for the trace whose pairs these bytes are. No trace that fits has more than 525 symbols, so the first 526 decide.
-fn step_on(state: Controller, bytes: &[u8]) -> Stepped
-    ensures { result ≡ stepped state (symbols_in (length bytes.now / 2) bytes.now) }
+// The symbols whose pairs these bytes are, as many as the buffer has room for.
+fn symbols_of<'a>(buf: &'a mut [u16], bytes: &[u8]) -> &'a [u16]
+    ensures { result.now ≡ symbols_in (pick (ltb (length bytes.now / 2) (length buf.old)) (length bytes.now / 2) (length buf.old)) bytes.now }
 {
-    let mut buf = [0u16; 526];
-    let n = get_pairs(&mut buf, bytes);
-    state.step(&buf[..n])
-}
-
-// The same for its first half.
-fn choose_on(state: Controller, bytes: &[u8]) -> Stepped
-    ensures { result ≡ first_half state (symbols_in (length bytes.now / 2) bytes.now) }
-{
-    let mut buf = [0u16; 526];
-    let n = get_pairs(&mut buf, bytes);
-    state.choose(&buf[..n])
+    let n = get_pairs(buf, bytes);
+    &buf[..n]
 }
 
 // The report that the module at an address is gone. The pair can say more than 127: no target is bound there, and nothing changes.
@@ -47,69 +33,55 @@ fn report_on(st: Stepped, address: u16) -> Stepped
     if address > 127 {
         return st;
     }
-    let state = st.state;
-    let command = st.command;
-    let reported = state.report_gone(Address(address as u8));
-    let then = reported.state;
+    let reported = st.state.report_gone(Address(address as u8));
     Stepped {
-        state: then,
-        command: command,
+        state: reported.state,
+        ..st
     }
 }
 
-// The entry that these bytes are, whole.
-fn take_entry(st: Stepped, bytes: &[u8]) -> Stepped
-    requires { (2 ≤ length bytes.now) × (length bytes.now ≡ size_of bytes.now) }
-    ensures { result ≡ after_event st (entry_of bytes.now) }
+// What an entry leaves. No trace that fits has more than 525 symbols, so the first 526 of a trace decide.
+fn take_entry(st: Stepped, entry: Entry) -> Stepped
+    ensures { result ≡ after_event st (event_of entry.entry) }
 {
-    let state = st.state;
-    match head_of(pair_at(bytes, 0)) {
-        Head::Count => step_on(state, &bytes[2..]),
-        Head::Gone => report_on(st, pair_at(bytes, 2)),
-        Head::Choose => choose_on(state, &bytes[4..]),
-        Head::Issue => state.issue(),
-        Head::Decline => state.decline(),
+    let mut buf = [0u16; 526];
+    match entry {
+        Entry::Step(trace) => st.state.step(symbols_of(&mut buf, trace)),
+        Entry::Choose(trace) => st.state.choose(symbols_of(&mut buf, trace)),
+        Entry::Gone(address) => report_on(st, address),
+        Entry::Issue => st.state.issue(),
+        Entry::Decline => st.state.decline(),
     }
 }
 
-// The whole pass.
-fn run_pass(occupied: Pool, last: u8, bytes: &[u8]) -> Stepped
-    ensures { result ≡ pass_over occupied last bytes.now }
+// The whole pass; none where the last pick that is given is above 127.
+fn run_pass(occupied: HbPool, last: u8, bytes: &[u8]) -> Option<Stepped>
+    ensures { result ≡ pick (ltb 127 last) None (Some (pass_over (pool_in occupied) last bytes.now)) }
 {
-    let c = Controller::new(occupied, last);
-    let mut st = c.start();
-    let mut at: usize = 0;
-    while at < bytes.len() {
-        let size = size_at(bytes, at);
-        if size == 0 {
-            return st;
-        }
-        let to = at + size;
-        st = take_entry(st, &bytes[at..to]);
-        at = to;
+    if last > 127 {
+        return None;
     }
-    st
+    let mut st = Controller::new(occupied.into(), last).start();
+    let mut rest = bytes;
+    while let Some((entry, after)) = next_entry(rest) {
+        st = take_entry(st, entry);
+        rest = after;
+    }
+    Some(st)
 }
 
-// What was answered last, by the start or by an entry that is no report: with no such entry, Prepare To ARP.
-fn command_after(occupied: HbPool, last: u8, entries: &[u8]) -> HbCommand
-    ensures { result ≡ told_pass (pass_over (pool_in occupied) last entries.now) }
-{
-    let st = run_pass(pool_in(occupied), last, entries);
-    let state = st.state;
-    let k = st.command;
-    told_command(k, state.gets, state.picked)
-}
-
-// The same, and 1 where the last pick that is given is above 127.
+// What was answered last, by the start or by an entry that is no report: with no such entry, Prepare To ARP. 1 where the last pick that
+// is given is above 127.
 pub fn pass_command(occupied: HbPool, last: u8, entries: &[u8]) -> HbCommand
     ensures { result ≡ pass_command (pool_in occupied) last entries.now }
 {
-    if last > 127 {
-        let none = Udid { high: 0, low: 0 };
-        return said(6, 1, none, Address(0), 0, 0);
+    match run_pass(occupied, last, entries) {
+        Some(st) => st.into(),
+        None => HbCommand {
+            answer: 1,
+            ..NOT_OUTSTANDING
+        },
     }
-    command_after(occupied, last, entries)
 }
 
 // The scope's number, and with 0 the identifier that is bound at the address.
@@ -120,43 +92,30 @@ pub struct HbFound {
     pub udid: HbUdid,
 }
 
-fn found(answer: u32, u: Udid) -> HbFound
-    ensures { result ≡ found_of answer u }
-{
-    HbFound {
-        answer: answer,
-        udid: identifier(u),
+impl From<Found> for HbFound {
+    ghost from_gives = { λ f h. h ≡ told_found f };
+
+    fn from(f: Found) -> HbFound {
+        let udid = HbUdid { high: 0, low: 0 };
+        match f {
+            Found::Bound(u) => HbFound {
+                answer: 0,
+                udid: u.into(),
+            },
+            Found::Nobody => HbFound { answer: 15, udid },
+            Found::Two => HbFound { answer: 16, udid },
+            Found::Left => HbFound { answer: 20, udid },
+            Found::NoAddress => HbFound { answer: 1, udid },
+        }
     }
 }
 
-fn told_found(f: Found) -> HbFound
-    ensures { result ≡ told_found f }
-{
-    let none = Udid { high: 0, low: 0 };
-    match f {
-        Found::Bound(u) => found(0, u),
-        Found::Nobody => found(15, none),
-        Found::Two => found(16, none),
-        Found::Left => found(20, none),
-        Found::NoAddress => found(1, none),
-    }
-}
-
-// Who is bound at an address after such a pass.
-fn found_after(occupied: HbPool, last: u8, entries: &[u8], address: u8) -> HbFound
-    ensures { result ≡ told_found (looked_up (pass_over (pool_in occupied) last entries.now).state address) }
-{
-    let st = run_pass(pool_in(occupied), last, entries);
-    let state = st.state;
-    told_found(state.lookup(Address(address)))
-}
-
-// The same, and 1 where the last pick that is given is above 127.
+// Who is bound at an address after such a pass. 1 where the last pick that is given is above 127, too.
 pub fn pass_lookup(occupied: HbPool, last: u8, entries: &[u8], address: u8) -> HbFound
     ensures { result ≡ pass_found (pool_in occupied) last entries.now address }
 {
-    if last > 127 {
-        return found(1, Udid { high: 0, low: 0 });
+    match run_pass(occupied, last, entries) {
+        Some(st) => st.state.lookup(Address(address)).into(),
+        None => Found::NoAddress.into(),
     }
-    found_after(occupied, last, entries, address)
 }

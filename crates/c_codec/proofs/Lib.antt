@@ -1,3 +1,2 @@
 pub mod CodecLaws
-pub mod LastLaws
 pub mod ReadLaws

@@ -1,5 +1,6 @@
 -- What a truth value says where it crosses as a number.
 use Rattle.std.specs.Prelude.{◌≡◌, refl, Bool, true, false, ◌↔◌, ℕ, eqb}
+use Rattle.std.specs.Int.{from_bool}
 use Rattle.std.proofs.Common.{arith}
 use Rattle.lists.specs.ChoiceLaws.{false_not_true}
 use Rattle.lists.specs.TestLaws.{eqb_is, not_is}
@@ -14,6 +15,11 @@ true_is_1 = refl
 
 pub false_is_0 : bit false ≡ 0
 false_is_0 = refl
+
+-- the number that the library makes of a truth value is this one
+pub bit_from : (b : Bool) → from_bool b ≡ bit b
+bit_from true = refl
+bit_from false = refl
 
 -- handed back
 pub bit_says : {P : Type 0} (b : Bool) → (b ≡ true) ↔ P → (r : ℕ) → r ≡ bit b → Says r P

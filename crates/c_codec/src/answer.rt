@@ -1,6 +1,6 @@
 // The decoder's answer as a struct of numbers.
 ghost use Rattle.std.specs.Prelude.{◌≡◌};
-ghost use Rattle.c_codec.specs.Codec.{refusal_of, told_decoded};
+ghost use Rattle.c_codec.specs.Codec.{told_decoded};
 
 use scan::answer::{Decoded, refusal_number};
 
@@ -17,37 +17,36 @@ pub struct HbDecoded {
     pub received: usize,
 }
 
-fn refusal(answer: u32, value: usize) -> HbDecoded
-    ensures { result ≡ refusal_of answer value }
-{
-    HbDecoded {
-        answer,
-        address: 0,
-        direction: 0,
-        command: 0,
-        value,
-        sent: 0,
-        received: 0,
-    }
-}
+// An answer that lacks everything.
+const NOTHING: HbDecoded = HbDecoded {
+    answer: 0,
+    address: 0,
+    direction: 0,
+    command: 0,
+    value: 0,
+    sent: 0,
+    received: 0,
+};
 
 // The decoder's answer in these numbers.
-pub fn decoded(a: Decoded) -> HbDecoded
-    ensures { result ≡ told_decoded a }
-{
-    match a {
-        Ok(t) => {
-            let address = t.address;
-            HbDecoded {
-                answer: 0,
-                address: address.0 as u32,
-                direction: t.direction as u32,
-                command: t.command as u32,
-                value: 0,
+impl From<Decoded> for HbDecoded {
+    ghost from_gives = { λ a h. h ≡ told_decoded a };
+
+    fn from(a: Decoded) -> HbDecoded {
+        match a {
+            Ok(t) => HbDecoded {
+                address: u32::from(t.address.0),
+                direction: u32::from(t.direction),
+                command: u32::from(t.command),
                 sent: t.sent,
                 received: t.received,
-            }
+                ..NOTHING
+            },
+            Err(e) => HbDecoded {
+                answer: u32::from(refusal_number(e.why)),
+                value: e.place,
+                ..NOTHING
+            },
         }
-        Err(e) => refusal(refusal_number(e.why) as u32, e.place),
     }
 }

@@ -5,7 +5,7 @@ ghost use Rattle.c_codec.specs.Numbers.{truth};
 ghost use Rattle.pairs.specs.Pairs.{symbols_in};
 ghost use Rattle.c_codec.specs.Codec.{answer_of, WrotePairs, ReadSymbols};
 
-use crate::answer::{HbDecoded, decoded};
+use crate::answer::HbDecoded;
 use pairs::{get_pairs, put_pairs};
 use wire::address::Address;
 
@@ -69,5 +69,5 @@ pub fn decode_pairs(
 {
     let mut buf = [0u16; 526];
     let n = get_pairs(&mut buf, trace);
-    decoded(decode::decode(protocol, pec != 0, &buf[..n], sent, received))
+    decode::decode(protocol, pec != 0, &buf[..n], sent, received).into()
 }

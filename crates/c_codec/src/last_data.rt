@@ -1,6 +1,5 @@
 // The last data phase of a transaction. A part of a buffer cannot be handed back to C, so its bytes are copied out.
-ghost use Rattle.std.specs.Prelude.{◌≡◌, ◌≤◌, length};
-ghost use Rattle.lists.specs.Onto.{onto};
+ghost use Rattle.std.specs.Prelude.{◌≡◌};
 ghost use Rattle.c_codec.specs.LastData.{part_of, phase_of, Copied};
 
 use last::last_data;
@@ -21,18 +20,6 @@ fn part(answer: u32, length: usize) -> HbPart
     HbPart { answer, length }
 }
 
-// Bytes to the front of a buffer.
-fn copy(out: &mut [u8], bytes: &[u8])
-    requires { length bytes.now ≤ length out.old }
-    ensures { out.new ≡ onto bytes.now out.old }
-{
-    let mut i: usize = 0;
-    while i < bytes.len() {
-        out[i] = bytes[i];
-        i += 1;
-    }
-}
-
 // The last data phase, to the front of a buffer. m and n are the lengths that the transaction has sent and received.
 pub fn put_last_data<'a>(
     protocol: u8,
@@ -45,7 +32,7 @@ pub fn put_last_data<'a>(
     ensures { Copied (phase_of protocol m n sent.now received.now) out.old result out.new }
 {
     let t = Transaction {
-        protocol: protocol,
+        protocol,
         address: Address(0),
         direction: 0,
         command: 0,
@@ -56,6 +43,6 @@ pub fn put_last_data<'a>(
     if out.len() < d.len() {
         return part(2, 0);
     }
-    copy(out, d);
+    out[..d.len()].copy_from_slice(d);
     part(0, d.len())
 }

@@ -5,5 +5,4 @@
 pub mod answer;
 pub mod codec;
 pub mod last_data;
-pub mod numbers;
 pub mod symbols;

@@ -3,7 +3,7 @@ ghost use Rattle.encode.specs.Encode.{message};
 ghost use Rattle.c_codec.specs.Numbers.{truth};
 ghost use Rattle.c_codec.specs.Codec.{WroteSymbols, ReadSymbols};
 
-use crate::answer::{HbDecoded, decoded};
+use crate::answer::HbDecoded;
 use crate::codec::{HbWritten, written};
 use encode::EncodeError;
 use wire::address::Address;
@@ -48,5 +48,5 @@ pub fn decode_symbols(
 ) -> HbDecoded
     ensures { ReadSymbols protocol (truth pec) trace.now sent.old received.old result sent.new received.new }
 {
-    decoded(decode::decode(protocol, pec != 0, trace, sent, received))
+    decode::decode(protocol, pec != 0, trace, sent, received).into()
 }

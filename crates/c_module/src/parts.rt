@@ -1,11 +1,9 @@
 // A module, and what it answers, as structs of numbers, to C and from C.
 ghost use Rattle.std.specs.Prelude.{◌≡◌};
-ghost use Rattle.c_codec.specs.Numbers.{truth};
-ghost use Rattle.c_module.specs.Modules.{lasting_in, module_in, told_module, told_heard, told_supplied, no_module, told_resumed};
+ghost use Rattle.c_module.specs.Modules.{module_in, told_module, told_heard, told_supplied, told_resumed};
 
 use crate::phases::{phase_in, phase_number};
-use c_arp::parts::{HbUdid, identifier, udid_in};
-use c_codec::numbers::as_number;
+use c_arp::parts::HbUdid;
 use module::resume::RecordError;
 use module::state::{Heard, Lasting, Module, Supplied};
 
@@ -50,119 +48,105 @@ pub struct HbResumed {
     pub answer: u32,
 }
 
-// Any number but 0 is true.
-fn is_true(n: u8) -> bool
-    ensures { result ≡ truth n }
-{
-    n != 0
-}
+// The module that C gave. Any number but 0 is true.
+impl From<HbModule> for Module {
+    ghost from_gives = { λ h m. m ≡ module_in h };
 
-// What outlasts a packet, of the module that C gave.
-fn lasting_in(h: HbModule) -> Lasting
-    ensures { result ≡ lasting_in h }
-{
-    let u = h.udid;
-    Lasting {
-        udid: udid_in(u),
-        valid: is_true(h.valid),
-        address: h.address,
-        resolved: is_true(h.resolved),
-        home: h.home,
-        fresh: h.fresh,
-    }
-}
-
-// The module that C gave.
-pub(crate) fn module_in(h: HbModule) -> Module
-    ensures { result ≡ module_in h }
-{
-    Module {
-        own: lasting_in(h),
-        phase: phase_in(h.phase),
-        place: h.place,
-        pec: h.pec,
-        given: h.given,
+    fn from(h: HbModule) -> Module {
+        Module {
+            own: Lasting {
+                udid: h.udid.into(),
+                valid: h.valid != 0,
+                address: h.address,
+                resolved: h.resolved != 0,
+                home: h.home,
+                fresh: h.fresh,
+            },
+            phase: phase_in(h.phase),
+            place: h.place,
+            pec: h.pec,
+            given: h.given,
+        }
     }
 }
 
 // A module for C.
-pub(crate) fn told_module(m: Module) -> HbModule
-    ensures { result ≡ told_module m }
-{
-    let own = m.own;
-    let u = own.udid;
-    let p = m.phase;
-    HbModule {
-        udid: identifier(u),
-        fresh: own.fresh,
-        home: own.home,
-        valid: as_number(own.valid),
-        address: own.address,
-        resolved: as_number(own.resolved),
-        phase: phase_number(p),
-        place: m.place,
-        pec: m.pec,
-        given: m.given,
+impl From<Module> for HbModule {
+    ghost from_gives = { λ m h. h ≡ told_module m };
+
+    fn from(m: Module) -> HbModule {
+        HbModule {
+            udid: m.own.udid.into(),
+            fresh: m.own.fresh,
+            home: m.own.home,
+            valid: u8::from(m.own.valid),
+            address: m.own.address,
+            resolved: u8::from(m.own.resolved),
+            phase: phase_number(m.phase),
+            place: m.place,
+            pec: m.pec,
+            given: m.given,
+        }
     }
 }
 
 // The answer to a byte received, for C.
-pub(crate) fn told_heard(h: Heard) -> HbHeard
-    ensures { result ≡ told_heard h }
-{
-    let m = h.after;
-    HbHeard {
-        after: told_module(m),
-        ack: as_number(h.ack) as u32,
+impl From<Heard> for HbHeard {
+    ghost from_gives = { λ a h. h ≡ told_heard a };
+
+    fn from(a: Heard) -> HbHeard {
+        HbHeard {
+            after: a.after.into(),
+            ack: u32::from(a.ack),
+        }
     }
 }
 
 // The answer to a byte asked for, for C. Where there is none, FFh stands for it, which holds nothing down.
-pub(crate) fn told_supplied(s: Supplied) -> HbSupplied
-    ensures { result ≡ told_supplied s }
-{
-    let m = s.after;
-    HbSupplied {
-        after: told_module(m),
-        drives: as_number(s.byte.is_some()) as u32,
-        byte: s.byte.unwrap_or(0xFF) as u32,
+impl From<Supplied> for HbSupplied {
+    ghost from_gives = { λ s h. h ≡ told_supplied s };
+
+    fn from(s: Supplied) -> HbSupplied {
+        HbSupplied {
+            after: s.after.into(),
+            drives: u32::from(s.byte.is_some()),
+            byte: u32::from(s.byte.unwrap_or(0xFF)),
+        }
     }
 }
 
 // A refusal has no module: every part of it is 0.
-fn no_module() -> HbModule
-    ensures { result ≡ no_module }
-{
-    HbModule {
-        udid: HbUdid { high: 0, low: 0 },
-        fresh: 0,
-        home: 0,
-        valid: 0,
-        address: 0,
-        resolved: 0,
-        phase: 0,
-        place: 0,
-        pec: 0,
-        given: 0,
-    }
-}
+const NO_MODULE: HbModule = HbModule {
+    udid: HbUdid { high: 0, low: 0 },
+    fresh: 0,
+    home: 0,
+    valid: 0,
+    address: 0,
+    resolved: 0,
+    phase: 0,
+    place: 0,
+    pec: 0,
+    given: 0,
+};
 
 // A module from a record, or why there is none, for C.
-pub(crate) fn told_resumed(r: Result<Module, RecordError>) -> HbResumed
-    ensures { result ≡ told_resumed r }
-{
-    match r {
-        Ok(m) => HbResumed {
-            after: told_module(m),
-            answer: 0,
-        },
-        Err(RecordError::Malformed) => HbResumed {
-            after: no_module(),
-            answer: 10,
-        },
-        Err(RecordError::NoHome) => HbResumed {
-            after: no_module(),
-            answer: 12,
-        },
+impl From<Result<Module, RecordError>> for HbResumed {
+    ghost from_gives = { λ r h. h ≡ told_resumed r };
+
+    fn from(r: Result<Module, RecordError>) -> HbResumed {
+        match r {
+            Ok(m) => HbResumed {
+                after: m.into(),
+                answer: 0,
+            },
+            Err(RecordError::Malformed) => HbResumed {
+                after: NO_MODULE,
+                answer: 10,
+            },
+            Err(RecordError::NoHome) => HbResumed {
+                after: NO_MODULE,
+                answer: 12,
+            },
+        }
     }
 }

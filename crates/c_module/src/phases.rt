@@ -4,50 +4,28 @@ ghost use Rattle.c_module.specs.Phases.{phase_in, phase_number};
 
 use module::state::Phase;
 
+// Kept: From cannot stand here, where neither Phase nor the number is a type of this crate; C names the numbers.
+
 // The phase of a number; every number above 13 is silent.
 pub(crate) fn phase_in(n: u8) -> Phase
     ensures { result ≡ phase_in n }
 {
-    if n == 1 {
-        return Phase::First;
+    match n {
+        1 => Phase::First,
+        2 => Phase::Command,
+        3 => Phase::Asked,
+        4 => Phase::Called,
+        5 => Phase::AskedAgain,
+        6 => Phase::CalledAgain,
+        7 => Phase::Count,
+        8 => Phase::Identifier,
+        9 => Phase::Given,
+        10 => Phase::PreparePec,
+        11 => Phase::ResetPec,
+        12 => Phase::AssignPec,
+        13 => Phase::Reply,
+        _ => Phase::Silent,
     }
-    if n == 2 {
-        return Phase::Command;
-    }
-    if n == 3 {
-        return Phase::Asked;
-    }
-    if n == 4 {
-        return Phase::Called;
-    }
-    if n == 5 {
-        return Phase::AskedAgain;
-    }
-    if n == 6 {
-        return Phase::CalledAgain;
-    }
-    if n == 7 {
-        return Phase::Count;
-    }
-    if n == 8 {
-        return Phase::Identifier;
-    }
-    if n == 9 {
-        return Phase::Given;
-    }
-    if n == 10 {
-        return Phase::PreparePec;
-    }
-    if n == 11 {
-        return Phase::ResetPec;
-    }
-    if n == 12 {
-        return Phase::AssignPec;
-    }
-    if n == 13 {
-        return Phase::Reply;
-    }
-    Phase::Silent
 }
 
 // The number of a phase.

@@ -6,59 +6,33 @@
 ghost use Rattle.std.specs.Prelude.{◌≡◌, ℕ, ◌+◌, ◌*◌, ◌≤◌, ◌<◌, length, drop};
 ghost use Rattle.lists.specs.Onto.{onto};
 ghost use Rattle.trace.specs.Sane.{Sane};
-ghost use Rattle.scan.specs.Handed.{lows, sent_length, sent_place, sent_data, received_length, received_place, received_data};
+ghost use Rattle.scan.specs.Handed.{lows};
 ghost use Rattle.decode.specs.Outcome.{short, OutcomeBy, Outcome};
 
-use crate::received::{received_length, received_place};
-use crate::sent::{sent_length, sent_place};
+use crate::place::{received_place, sent_place};
 use scan::answer::{Decoded, Refusal, Refused};
 use scan::whole::decode_by;
 use step::next::Rules;
 use trace::protocol::{is_forbidden, shape_of};
 use trace::shape::Shape;
 
-mod received;
-mod sent;
+mod place;
 
 // Every second symbol from a place on, n of them, as bytes, to the front of a buffer.
 fn copy_data(buf: &mut [u8], tr: &[u16], from: usize, n: usize)
     requires { (n ≤ length buf.old) × ((j : ℕ) → j < n → from + 2 * j < length tr.now) }
     ensures { buf.new ≡ onto (lows n (drop from tr.now)) buf.old }
 {
-    let mut j: usize = 0;
-    let mut at: usize = from;
-    while j < n {
-        buf[j] = (tr[at] % 256) as u8;
-        at += 2;
-        j += 1;
+    for j in 0..n {
+        buf[j] = (tr[from + 2 * j] % 256) as u8;
     }
-}
-
-// The data sent of an answer, to the front of a buffer.
-fn put_sent(sh: Shape, a: Decoded, tr: &[u16], buf: &mut [u8])
-    requires { (sent_length a ≤ length buf.old) × ((j : ℕ) → j < sent_length a → sent_place sh + 2 * j < length tr.now) }
-    ensures { buf.new ≡ onto (sent_data sh tr.now a) buf.old }
-{
-    let n = sent_length(a);
-    let at = sent_place(sh);
-    copy_data(buf, tr, at, n);
-}
-
-// The data received of an answer, to the front of a buffer.
-fn put_received(pec: bool, a: Decoded, tr: &[u16], buf: &mut [u8])
-    requires { (received_length a ≤ length buf.old) × ((j : ℕ) → j < received_length a → received_place pec (received_length a) (length tr.now) + 2 * j < length tr.now) }
-    ensures { buf.new ≡ onto (received_data pec tr.now a) buf.old }
-{
-    let n = received_length(a);
-    let at = received_place(pec, n, tr.len());
-    copy_data(buf, tr, at, n);
 }
 
 // 2: a buffer of under 255 bytes.
 fn is_short(s: usize, r: usize) -> bool
     ensures { result ≡ short s r }
 {
-    if s < 255 { true } else { r < 255 }
+    s < 255 || r < 255
 }
 
 // The answer for a trace of a shape. On 0 the data sent stand at the front of one buffer and the data received at the front of the other,
@@ -88,10 +62,15 @@ fn decode_into(
             place: 0,
         });
     }
-    let a = decode_by(number, Rules { shape: sh, pec }, trace);
-    put_sent(sh, a, trace, sent);
-    put_received(pec, a, trace, received);
-    a
+    let t = decode_by(number, Rules { shape: sh, pec }, trace)?;
+    copy_data(sent, trace, sent_place(sh), t.sent);
+    copy_data(
+        received,
+        trace,
+        received_place(pec, t.received, trace.len()),
+        t.received,
+    );
+    Ok(t)
 }
 
 // The answer for a trace of a protocol of the table.

@@ -1,32 +1,22 @@
 -- Which buffer holds the last data phase, which part of it that is, and where the part begins.
-use Rattle.std.specs.Prelude.{◌≡◌, Bool, true, false, List, ℕ, ◌≤◌, ◌<◌, length, take, ltb, leb}
+use Rattle.std.specs.Prelude.{◌≡◌, Bool, List, [], ℕ, ◌≤◌, ◌<◌, length, take, ltb, leb}
 use Rattle.lists.specs.Choice.{pick, and}
 use Rattle.trace.specs.declared.transaction.Transaction.{Transaction}
 use Rattle.trace.specs.Shapes.{protocols, reads, shape_of}
 use Rattle.trace.specs.Allowed.{lengths_fit}
 use Rattle.trace.specs.DataFits.{DataFits}
-use Rattle.last.specs.declared.Chosen.{Chosen}
 
 -- the protocol is known, both lengths belong to it, and buffers of s and r bytes have them
-unfoldable pub belongs : Transaction → ℕ → ℕ → Bool
+abbrev pub belongs : Transaction → ℕ → ℕ → Bool
 belongs t s r =
     and (ltb t.protocol protocols) (and (lengths_fit (shape_of t.protocol) t.sent t.received) (and (leb t.sent s) (leb t.received r)))
 
-abbrev pub part : Bool → ℕ → Chosen
-part b n = record { received = b; len = n }
-
-unfoldable pub chosen : Transaction → ℕ → ℕ → Chosen
-chosen t s r = pick (belongs t s r) (pick (reads (shape_of t.protocol)) (part true t.received) (part false t.sent)) (part false 0)
-
-abbrev taken : Chosen → List ℕ → List ℕ → List ℕ
-taken c s r = take c.len (pick c.received r s)
-
 -- the bytes, and where they begin: s and r are the buffers, p and q where those begin
 abbrev pub last_data : Transaction → List ℕ → List ℕ → List ℕ
-last_data t s r = taken (chosen t (length s) (length r)) s r
+last_data t s r = pick (belongs t (length s) (length r)) (pick (reads (shape_of t.protocol)) (take t.received r) (take t.sent s)) []
 
 abbrev pub last_place : Transaction → ℕ → ℕ → ℕ × ℕ → ℕ × ℕ → ℕ × ℕ
-last_place t s r p q = pick (chosen t s r).received q p
+last_place t s r p q = pick (belongs t s r) (pick (reads (shape_of t.protocol)) q p) p
 
 -- the last data phase of a protocol is data received
 abbrev pub receives : ℕ → Bool

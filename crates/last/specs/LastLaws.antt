@@ -9,11 +9,10 @@ use Rattle.trace.specs.declared.transaction.Transaction.{Transaction}
 use Rattle.trace.specs.Shapes.{protocols, reads, shape_of}
 use Rattle.trace.specs.Allowed.{lengths_fit}
 use Rattle.trace.proofs.DataFitsLaws.{listed_lengths_fit, fitting_lengths_listed}
-use Rattle.last.specs.Last.{belongs, chosen, last_data, last_place, Whole, Gives}
+use Rattle.last.specs.Last.{belongs, last_data, last_place, Whole, Gives}
 
 -- the tests pass exactly for a whole transaction
 pub belongs_exactly : (t : Transaction) (s r : ℕ) → (belongs t s r ≡ true) ↔ Whole t s r
-unfolding belongs
 belongs_exactly t s r = (
   λ h. (
       let a = both_true (ltb t.protocol protocols) _ h in
@@ -27,16 +26,13 @@ belongs_exactly t s r = (
 module _ (t : Transaction) (s r : List ℕ) (p q : ℕ × ℕ) where
   -- where it is whole: the front of the buffer of its last data phase
   pub gives_received : Whole t (length s) (length r) → reads (shape_of t.protocol) ≡ true → Gives t s r p q (take t.received r) q
-  unfolding chosen
   gives_received w e = let h = (belongs_exactly t (length s) (length r)).1 w in (rw (h, e), rw (h, e))
 
   pub gives_sent : Whole t (length s) (length r) → reads (shape_of t.protocol) ≡ false → Gives t s r p q (take t.sent s) p
-  unfolding chosen
   gives_sent w e = let h = (belongs_exactly t (length s) (length r)).1 w in (rw (h, e), rw (h, e))
 
   -- anything else: the empty part at the front of the sent buffer
   pub gives_empty : (Whole t (length s) (length r) → ⊥) → Gives t s r p q [] p
-  unfolding chosen
   gives_empty n = go (belongs t (length s) (length r)) refl
     where
       go : (b : Bool) → belongs t (length s) (length r) ≡ b → Gives t s r p q [] p

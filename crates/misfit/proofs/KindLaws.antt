@@ -154,12 +154,10 @@ module _ (sh : Shape) (hs : Sane sh) (d : Decoder) where
 
     pub kind_means : fits sh d x ≡ false → (y : ℕ) → fits sh d y ≡ true
         → Means (λ y. fits sh d y ≡ true) (address_next d.due d.slot ≡ true) (sh.tohost ≡ true) x (kind_of sh d x)
-    unfolding kind_of
     kind_means f y g = due_means d.due f y g
 
 -- a byte that is a wrong count stands where a count does, with no ACK due
 pub count_slot : (sh : Shape) (d : Decoder) (x : ℕ) → kind_of sh d x ≡ Miscounted → (d.due ≡ Nobody) × (is_count d.slot ≡ true)
-unfolding kind_of
 count_slot sh d x e = by_due d.due refl e
   where
     by_slot : (b h a c : Bool) → is_count d.slot ≡ c → pick b (pick h Other (pick a Misaddressed (pick c Miscounted Other))) Other ≡ Miscounted → is_count d.slot ≡ true
@@ -182,7 +180,6 @@ count_slot sh d x e = by_due d.due refl e
 
 -- an ACK or a NACK is told to be swapped only where the controller's bit is due
 pub swapped_due : (sh : Shape) (d : Decoder) (x : ℕ) → kind_of sh d x ≡ Swapped → d.due ≡ Controller
-unfolding kind_of
 swapped_due sh d x e = by_due d.due refl e
   where
     no_byte : (b h a c : Bool) → pick b (pick h Other (pick a Misaddressed (pick c Miscounted Other))) Other ≡ Swapped → ⊥

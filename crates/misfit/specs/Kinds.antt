@@ -43,7 +43,7 @@ kind_due host Target s x = Other
 kind_due host Halted s x = Other
 kind_due host Cut s x = Other
 
-unfoldable pub kind_of : Shape → Decoder → ℕ → Kind
+abbrev pub kind_of : Shape → Decoder → ℕ → Kind
 kind_of sh d x = kind_due sh.tohost d.due d.slot x
 
 -- an address byte is next

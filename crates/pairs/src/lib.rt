@@ -11,12 +11,10 @@ fn write_pairs(out: &mut [u8], symbols: &[u16])
     requires { 2 * length symbols.now ≤ length out.old }
     ensures { out.new ≡ onto (pairs_of symbols.now) out.old }
 {
-    let mut i: usize = 0;
-    while i < symbols.len() {
-        let x = symbols[i];
-        out[2 * i] = (x % 256) as u8;
-        out[2 * i + 1] = (x / 256) as u8;
-        i += 1;
+    for (i, x) in symbols.iter().enumerate() {
+        let [low, high] = x.to_le_bytes();
+        out[2 * i] = low;
+        out[2 * i + 1] = high;
     }
 }
 
@@ -25,20 +23,9 @@ fn read_pairs(symbols: &mut [u16], bytes: &[u8], n: usize)
     requires { (n ≤ length symbols.old) × (2 * n ≤ length bytes.now) }
     ensures { symbols.new ≡ onto (symbols_in n bytes.now) symbols.old }
 {
-    let mut i: usize = 0;
-    while i < n {
-        let low = bytes[2 * i] as u16;
-        let high = bytes[2 * i + 1] as u16;
-        symbols[i] = low + 256 * high;
-        i += 1;
+    for i in 0..n {
+        symbols[i] = u16::from_le_bytes([bytes[2 * i], bytes[2 * i + 1]]);
     }
-}
-
-// The smaller of two numbers.
-fn smaller(a: usize, b: usize) -> usize
-    ensures { (result ≡ pick (ltb a b) a b) × (result ≤ a) × (result ≤ b) }
-{
-    if a < b { a } else { b }
 }
 
 // The pairs of symbols, to the front of a buffer. False where it has no room for them, and then it stays as it is.
@@ -56,7 +43,7 @@ pub fn put_pairs(out: &mut [u8], symbols: &[u16]) -> bool
 pub fn get_pairs(symbols: &mut [u16], bytes: &[u8]) -> usize
     ensures { Got bytes.now symbols.old result symbols.new }
 {
-    let n = smaller(bytes.len() / 2, symbols.len());
+    let n = symbols.len().min(bytes.len() / 2);
     read_pairs(symbols, bytes, n);
     n
 }

@@ -303,7 +303,6 @@ module _ (sh : Shape) (hs : Sane sh) (limits : Limits sh) (p : Bool) where
   at_count d x a s = ap (λ (u : Due). fits_due sh u d x) a ∙ ap (λ (u : Slot). fits_slot sh u d x) s
 
   count_is_wrong : (d : Decoder) (x : ℕ) → d.due ≡ Nobody → d.slot ≡ ReadCount → sh.tohost ≡ false → x < 256 → kind_of sh d x ≡ Miscounted
-  unfolding kind_of
   count_is_wrong d x a s h b = rw (a, s, h, lt-ltb x 256 b)
 
   module _ (tr : List ℕ) (k : ℕ) where

@@ -121,7 +121,6 @@ module _ (sh : Shape) (hs : Sane sh) (p : Bool) where
 
     -- and nowhere else
     swapped_kind : (d : Decoder) (x : ℕ) → d.due ≡ Controller → or (eqb x 258) (eqb x 259) ≡ true → kind_of sh d x ≡ Swapped
-    unfolding kind_of
     swapped_kind d x a e = rw (a, e)
 
     pub is_wrong_ack : SwappedAt sh p tr k → Because sh p tr WrongAck k

@@ -1,14 +1,12 @@
-use Rattle.std.proofs.Common.{sym, ◌∙◌, arith}
-use Rattle.c_arp.specs.Parts.{pool_in}
-use Rattle.c_arp.specs.PassCallLaws.{command_forbidden, command_told}
+use Rattle.std.proofs.Common.{sym, ◌∙◌, ap}
+use Rattle.c_arp.specs.Pass.{pass_command, told_pass}
+use Rattle.c_arp.proofs.PassLaws.{pass_done, pass_refused}
 use Rattle.c_arp.proofs.pass.pass_command.Goals as goal
 
-pub returns-then-last-gt127 : goal.returns-then-last-gt127
-returns-then-last-gt127 c =
-    let a = c.args in
-    c.said.ensures ∙ sym (command_forbidden (pool_in a.occupied) a.last a.entries.now c.if-last-gt127.true)
+pub returns-in-Some : goal.returns-in-Some
+unfolding pass_command
+returns-in-Some c = let p = pass_done _ _ _ _ c.run_pass.ensures c.in-Some.is in rw p.0 (c.into.ensures ∙ ap told_pass (sym p.1))
 
-pub returns : goal.returns
-returns c =
-    let a = c.args in
-    c.command_after.ensures ∙ sym (command_told (pool_in a.occupied) a.last a.entries.now (omega (arith, c.if-last-gt127.false)))
+pub returns-in-None : goal.returns-in-None
+unfolding pass_command
+returns-in-None c = rw (pass_refused _ _ _ c.run_pass.ensures c.in-None.is)

@@ -1,14 +1,16 @@
-use Rattle.std.proofs.Common.{sym, ◌∙◌, arith}
-use Rattle.c_arp.specs.Parts.{pool_in}
-use Rattle.c_arp.specs.PassCallLaws.{found_forbidden, found_told}
+use Rattle.std.proofs.Common.{sym, ◌∙◌, ap}
+use Rattle.arp.specs.Lookup.{looked_up}
+use Rattle.arp.specs.declared.state.Stepped.{Stepped}
+use Rattle.c_arp.specs.Pass.{pass_found, told_found}
+use Rattle.c_arp.proofs.PassLaws.{pass_done, pass_refused}
 use Rattle.c_arp.proofs.pass.pass_lookup.Goals as goal
 
-pub returns-then-last-gt127 : goal.returns-then-last-gt127
-returns-then-last-gt127 c =
-    let a = c.args in
-    c.found.ensures ∙ sym (found_forbidden (pool_in a.occupied) a.last a.entries.now a.address c.if-last-gt127.true)
+pub returns-in-Some : goal.returns-in-Some
+unfolding pass_found
+returns-in-Some c =
+    let p = pass_done _ _ _ _ c.run_pass.ensures c.in-Some.is in
+    rw p.0 (c.into.ensures ∙ ap told_found (c.lookup.ensures ∙ ap (λ (s : Stepped). looked_up s.state c.args.address) (sym p.1)))
 
-pub returns : goal.returns
-returns c =
-    let a = c.args in
-    c.found_after.ensures ∙ sym (found_told (pool_in a.occupied) a.last a.entries.now a.address (omega (arith, c.if-last-gt127.false)))
+pub returns-in-None : goal.returns-in-None
+unfolding pass_found
+returns-in-None c = rw (pass_refused _ _ _ c.run_pass.ensures c.in-None.is) c.into-in-None.ensures

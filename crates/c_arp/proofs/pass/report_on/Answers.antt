@@ -1,8 +1,5 @@
-use Rattle.c_arp.proofs.PassLaws.{reported_nowhere, reported_there}
+use Rattle.c_arp.proofs.PassLaws.{reported_nowhere}
 use Rattle.c_arp.proofs.pass.report_on.Goals as goal
 
 pub returns-then-address-gt127 : goal.returns-then-address-gt127
 returns-then-address-gt127 c = reported_nowhere _ _ c.if-address-gt127.true
-
-pub returns : goal.returns
-returns c = reported_there _ _ _ c.report_gone-reported.ensures

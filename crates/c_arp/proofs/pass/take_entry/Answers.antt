@@ -1,26 +1,16 @@
-use Rattle.c_arp.proofs.PassLaws.{room_for_address, room_for_count, entry_step, entry_half, entry_report, entry_issue, entry_decline}
+use Rattle.std.proofs.Common.{refl, ap, ◌∙◌}
+use Rattle.arp.specs.Choosing.{first_half}
+use Rattle.arp.specs.Controller.{stepped}
+use Rattle.arp.specs.History.{Step, Choose}
+use Rattle.c_arp.proofs.PassLaws.{heard_on_front}
 use Rattle.c_arp.proofs.pass.take_entry.Goals as goal
 
-pub pair_at-requires-in-Gone : goal.pair_at-requires-in-Gone
-pair_at-requires-in-Gone c = room_for_address c.args.bytes.now _ _ c.pair_at.ensures c.head_of.ensures c.requires.1 c.in-Gone.is
-
-pub slice_bounds-choose_on-count : goal.slice_bounds-choose_on-count
-slice_bounds-choose_on-count c = room_for_count c.args.bytes.now _ _ c.pair_at.ensures c.head_of.ensures c.requires.0 c.requires.1 c.in-Choose.is
-
-pub slice_bounds-choose_on-start : goal.slice_bounds-choose_on-start
-slice_bounds-choose_on-start c = room_for_count c.args.bytes.now _ _ c.pair_at.ensures c.head_of.ensures c.requires.0 c.requires.1 c.in-Choose.is
-
-pub returns-in-Count : goal.returns-in-Count
-returns-in-Count c = entry_step c.args.bytes.now _ _ c.pair_at.ensures c.head_of.ensures c.args.st _ c.requires.1 c.in-Count.is c.step_on.ensures
-
-pub returns-in-Gone : goal.returns-in-Gone
-returns-in-Gone c = entry_report c.args.bytes.now _ _ c.pair_at.ensures c.head_of.ensures c.args.st _ _ c.in-Gone.is c.pair_at-in-Gone.ensures c.report_on.ensures
+pub returns-in-Step : goal.returns-in-Step
+returns-in-Step c =
+    let s = c.args.st.state in
+    rw c.in-Step.is (c.step.ensures ∙ ap (stepped s) c.symbols_of.ensures ∙ heard_on_front Step s c.in-Step.trace.now 526 refl)
 
 pub returns-in-Choose : goal.returns-in-Choose
-returns-in-Choose c = entry_half c.args.bytes.now _ _ c.pair_at.ensures c.head_of.ensures c.args.st _ c.requires.0 c.requires.1 c.in-Choose.is c.choose_on.ensures
-
-pub returns-in-Issue : goal.returns-in-Issue
-returns-in-Issue c = entry_issue c.args.bytes.now _ _ c.pair_at.ensures c.head_of.ensures c.args.st _ c.in-Issue.is c.issue.ensures
-
-pub returns-in-Decline : goal.returns-in-Decline
-returns-in-Decline c = entry_decline c.args.bytes.now _ _ c.pair_at.ensures c.head_of.ensures c.args.st _ c.in-Decline.is c.decline.ensures
+returns-in-Choose c =
+    let s = c.args.st.state in
+    rw c.in-Choose.is (c.choose.ensures ∙ ap (first_half s) c.symbols_of-in-Choose.ensures ∙ heard_on_front Choose s c.in-Choose.trace.now 526 refl)

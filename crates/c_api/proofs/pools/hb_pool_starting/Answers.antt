@@ -1,7 +1,0 @@
-use Rattle.std.proofs.Common.{ap, ◌∙◌}
-use Rattle.pool.specs.Start.{starting_pool}
-use Rattle.c_arp.specs.Parts.{told_pool}
-use Rattle.c_api.proofs.pools.hb_pool_starting.Goals as goal
-
-pub returns : goal.returns
-returns c = c.addresses.ensures ∙ ap told_pool (c.starting.ensures ∙ ap starting_pool c.pool_in.ensures)

@@ -1,4 +1,0 @@
-use Rattle.c_arp.proofs.pass.found.Goals as goal
-
-pub returns : goal.returns
-returns c = rw c.identifier.ensures

@@ -1,5 +1,0 @@
-use Rattle.decode.proofs.Copies.{received_place_is}
-use Rattle.decode.proofs.received.received_place.Goals as goal
-
-pub returns : goal.returns
-returns c = rw (c.less-3.ensures, c.less-2.ensures, c.less.ensures, c.end_places.ensures) (received_place_is c.args.pec c.args.n c.args.len)
