@@ -5,8 +5,8 @@ ghost use Rattle.codec_answers.specs.CodecLines.{pec_text, trace_text, encoded_t
 
 use encode::EncodeError;
 use pieces::list::put_symbols;
-use text::word::part;
 use pieces::piece::{hex_line, put_line};
+use text::word::part;
 use writing::page::Page;
 
 // A packet error code.

@@ -5,8 +5,8 @@ ghost use Rattle.letters.specs.Letters.{trace_letters, encoded_letters};
 
 use crate::letter::put_letters;
 use encode::EncodeError;
-use text::word::part;
 use pieces::piece::put_line;
+use text::word::part;
 use writing::page::Page;
 
 // A trace.

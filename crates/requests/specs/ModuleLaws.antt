@@ -92,6 +92,7 @@ byte_fits u line at b = go (due expected.Byte (byte_at line at))
     choose : (w : Word ℕ) (t : Bool) → is_module_byte u w.value ≡ t → ◌≡◌ {A = Result (Word ℕ) Unclear} (pick t (Ok w) (unclear expected.OddByte w.from)) (Ok b) → is_module_byte u b.value ≡ true
     choose w true e h = let k : w ≡ b = cc in ap (λ (x : Word ℕ). is_module_byte u x.value) (sym k) ∙ e
     choose w false e h = cc
+
     go : (r : Result (Word ℕ) Unclear)
         → ◌≡◌ {A = Result (Word ℕ) Unclear} (after r (λ (w : Word ℕ). pick (is_module_byte u w.value) (Ok w) (unclear expected.OddByte w.from))) (Ok b) → is_module_byte u b.value ≡ true
     go (Ok w) h = choose w (is_module_byte u w.value) refl h
@@ -104,6 +105,7 @@ flag_fits line at f = go (due expected.Byte (byte_at line at))
     choose : (w : Word ℕ) (t : Bool) → ltb 1 w.value ≡ t → ◌≡◌ {A = Result (Word ℕ) Unclear} (pick t (unclear expected.Flag w.from) (Ok w)) (Ok f) → ltb 1 f.value ≡ false
     choose w true e h = cc
     choose w false e h = let k : w ≡ f = cc in ap (λ (x : Word ℕ). ltb 1 x.value) (sym k) ∙ e
+
     go : (r : Result (Word ℕ) Unclear)
         → ◌≡◌ {A = Result (Word ℕ) Unclear} (after r (λ (w : Word ℕ). pick (ltb 1 w.value) (unclear expected.Flag w.from) (Ok w))) (Ok f) → ltb 1 f.value ≡ false
     go (Ok w) h = choose w (ltb 1 w.value) refl h

@@ -13,7 +13,12 @@ use words::word::{MarkWord, mark_word};
 pub(crate) fn pec(line: &[u8], from: usize) -> Result<Request, Unclear>
     ensures { result ≡ pec_request line.now from }
 {
-    to_end(Request::Pec(from), line, Expected::Byte, bytes_end(line, from))
+    to_end(
+        Request::Pec(from),
+        line,
+        Expected::Byte,
+        bytes_end(line, from),
+    )
 }
 
 // w B..., as far as they go: where they begin, and the place after them. At the end of the line the list is empty; any other word than w
@@ -65,5 +70,10 @@ pub(crate) fn decode(line: &[u8], from: usize) -> Result<Request, Unclear>
     ensures { result ≡ decode_request line.now from }
 {
     let h = head(line, from)?;
-    to_end(Request::Decode(h.value, h.to), line, Expected::Symbol, symbols_end(line, h.to))
+    to_end(
+        Request::Decode(h.value, h.to),
+        line,
+        Expected::Symbol,
+        symbols_end(line, h.to),
+    )
 }

@@ -37,7 +37,12 @@ pub(crate) fn symbols_end(line: &[u8], from: usize) -> usize
 }
 
 // What was read, where the list after it reaches to the end of the line.
-pub(crate) fn to_end<T: Copy>(read: T, line: &[u8], expected: Expected, end: usize) -> Result<T, Unclear>
+pub(crate) fn to_end<T: Copy>(
+    read: T,
+    line: &[u8],
+    expected: Expected,
+    end: usize,
+) -> Result<T, Unclear>
     ensures { result ≡ to_end read line.now expected end }
 {
     if end < line.len() {

@@ -29,7 +29,12 @@ pub(crate) fn ending<T: Copy>(read: T, line: &[u8], from: usize) -> Result<T, Un
 pub(crate) fn occupied(line: &[u8], from: usize) -> Result<Request, Unclear>
     ensures { result ≡ occupied_request line.now from }
 {
-    to_end(Request::Occupied(from), line, Expected::Byte, bytes_end(line, from))
+    to_end(
+        Request::Occupied(from),
+        line,
+        Expected::Byte,
+        bytes_end(line, from),
+    )
 }
 
 // LAST, a byte; where no word is left, never picked.
@@ -68,7 +73,12 @@ pub(crate) fn run(line: &[u8], from: usize) -> Result<Request, Unclear>
 pub(crate) fn step(line: &[u8], from: usize) -> Result<Request, Unclear>
     ensures { result ≡ step_request line.now from }
 {
-    to_end(Request::Step(from), line, Expected::Symbol, symbols_end(line, from))
+    to_end(
+        Request::Step(from),
+        line,
+        Expected::Symbol,
+        symbols_end(line, from),
+    )
 }
 
 // choose SYMBOL...
@@ -76,7 +86,12 @@ pub(crate) fn step(line: &[u8], from: usize) -> Result<Request, Unclear>
 pub(crate) fn choose(line: &[u8], from: usize) -> Result<Request, Unclear>
     ensures { result ≡ choose_request line.now from }
 {
-    to_end(Request::Choose(from), line, Expected::Symbol, symbols_end(line, from))
+    to_end(
+        Request::Choose(from),
+        line,
+        Expected::Symbol,
+        symbols_end(line, from),
+    )
 }
 
 // lookup A

@@ -11,7 +11,7 @@ use Rattle.text.proofs.word.comment.Goals as goal
 pub returns : goal.returns
 returns c =
     let e : c.count.result ≡ prefix_len (λ (x : ℕ). not (hash x)) c.args.s.now =
-        count_from_yields_List c.take_while.result _ c.count.ensures.ran
-        (YieldsList-from_take_while _ (λ (x : ℕ). not (hash x)) (YieldsList-from_slice c.args.s.now cc) c.take_while.ensures.closure c.take_while.ensures.done (λ x b q k. search (rules, tests)))
-        ∙ length-prefix_len (λ (x : ℕ). not (hash x)) c.args.s.now in
+    count_from_yields_List c.take_while.result _ c.count.ensures.ran
+    (YieldsList-from_take_while _ (λ (x : ℕ). not (hash x)) (YieldsList-from_slice c.args.s.now cc) c.take_while.ensures.closure c.take_while.ensures.done (λ x b q k. search (rules, tests)))
+    ∙ length-prefix_len (λ (x : ℕ). not (hash x)) c.args.s.now in
     e ∙ before_prefix hash c.args.s.now

@@ -11,7 +11,7 @@ use Rattle.text.proofs.word.word_end.Goals as goal
 pub returns : goal.returns
 returns c =
     let e : c.count.result ≡ prefix_len (λ (x : ℕ). not (blank x)) c.rest_of.result.now =
-        count_from_yields_List c.take_while.result _ c.count.ensures.ran
-        (YieldsList-from_take_while _ (λ (x : ℕ). not (blank x)) (YieldsList-from_slice c.rest_of.result.now cc) c.take_while.ensures.closure c.take_while.ensures.done (λ x b q k. search (rules, tests)))
-        ∙ length-prefix_len (λ (x : ℕ). not (blank x)) c.rest_of.result.now in
+    count_from_yields_List c.take_while.result _ c.count.ensures.ran
+    (YieldsList-from_take_while _ (λ (x : ℕ). not (blank x)) (YieldsList-from_slice c.rest_of.result.now cc) c.take_while.ensures.closure c.take_while.ensures.done (λ x b q k. search (rules, tests)))
+    ∙ length-prefix_len (λ (x : ℕ). not (blank x)) c.rest_of.result.now in
     rw (e, c.rest_of.ensures, before_prefix blank (drop c.args.at c.args.s.now))
