@@ -37,21 +37,21 @@ fn trace_length(sh: Shape, pec: bool, m: usize, n: usize) -> usize
     4 + 2 * (b + k + m) + read_length(sh, n) + 2 * one_if(pec)
 }
 
-// The room that the encoder needs for a message of a shape, in symbols; 0 where it is forbidden, or a length is refused.
+// The room that the encoder needs for a message of a shape, in symbols; none where it is forbidden, or a length is refused.
 #[tactic(auto, unfolding(crate::specs::Lengths::room_by))]
-pub fn room_by(sh: Shape, forbidden: bool, pec: bool, m: usize, n: usize) -> usize
+pub fn room_by(sh: Shape, forbidden: bool, pec: bool, m: usize, n: usize) -> Option<usize>
     ensures { result ≡ room_by sh forbidden pec m n }
 {
     if !forbidden && lengths_fit(sh, m, n) {
-        trace_length(sh, pec, m, n)
+        Some(trace_length(sh, pec, m, n))
     } else {
-        0
+        None
     }
 }
 
-// The same for a protocol of the table; 0 where the encoder refuses the protocol, the PEC or a length.
+// The same for a protocol of the table, as C gets it: 0 where the encoder refuses the protocol, the PEC or a length.
 pub fn room_for(protocol: u8, pec: bool, m: usize, n: usize) -> usize
     ensures { result ≡ room_for protocol pec m n }
 {
-    room_by(shape_of(protocol), is_forbidden(protocol, pec), pec, m, n)
+    room_by(shape_of(protocol), is_forbidden(protocol, pec), pec, m, n).unwrap_or(0)
 }

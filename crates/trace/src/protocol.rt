@@ -5,6 +5,8 @@ ghost use Rattle.trace.specs.Shapes.{row as row_of};
 
 use crate::shape::{Part, Shape};
 
+// Kept: numbers, not an enum. Every entry takes any u8 and refuses those that are no protocol (`forbidden_cases`), so an enum would only
+// stand between two matches.
 pub const QUICK: u8 = 0;
 
 pub const SEND_BYTE: u8 = 1;
