@@ -91,11 +91,11 @@ fn put_refusal(page: &mut Page, a: ModelAnswer)
     }
 }
 
-// The numbers of refusals are 1 to 12.
+// The numbers of refusals are 1 to 12. Kept as numbers here, and 13 and 10 above: they are the scope's, and ModelAnswer is what C gets (hb_model).
 fn is_refusal(n: u32) -> bool
     ensures { result ≡ is_refusal n }
 {
-    1 <= n && n <= 12
+    matches!(n, 1..=12)
 }
 
 // What a run answered, with the binding buffer and the records that it left.

@@ -57,12 +57,6 @@ module _ (answer : List ℕ) (k : ℕ) (e : k ≡ 0 + before feed (drop 0 answer
       ∙ take_all (length answer - k) (drop k answer) (omega (arith, length-drop k answer))
       ∙ ap (λ (n : ℕ). drop n answer) end_is
 
--- the number of the first word
-pub number_is : (line : List ℕ) (w : LineWord) (p : List ℕ) (n : Result ℕ NumberError) (v : ℕ) → w ≡ word_from line 0 → p ≡ part_of line w.from w.to → n ≡ number_of p
-    → v ≡ or_zero n → v ≡ number_in line
-unfolding number_in
-number_is line w p n v e f g h = h ∙ ap or_zero (g ∙ ap number_of (f ∙ ap (λ (x : LineWord). part_of line x.from x.to) e))
-
 -- ---- what is changed, and what is not
 
 -- the words stand between the first line and the rest, and without them that is the answer

@@ -7,24 +7,6 @@ use Rattle.udid.proofs.UdidLaws.{length_udid}
 use Rattle.pieces.specs.Pieces.{texts, below}
 use Rattle.writing.specs.PageLaws.{pages}
 
-texts_on : (f : ℕ → List ℕ) (i k m : ℕ) → k ≡ suc m → texts f i k ≡ f i ++ texts f (i + 1) m
-unfolding texts
-texts_on f i k m e = rw (e, add-one i)
-
--- the text of a number, and of those after it
-pub below_on : (f : ℕ → List ℕ) (i n : ℕ) → i < n → below f i n ≡ f i ++ below f (i + 1) n
-unfolding below
-below_on f i n h = texts_on f i (n - i) (n - (i + 1)) (omega arith)
-
-texts_over : (f : ℕ → List ℕ) (i k : ℕ) → k ≡ 0 → texts f i k ≡ []
-unfolding texts
-texts_over f i k e = rw e
-
--- no number is left
-pub below_over : (f : ℕ → List ℕ) (i n : ℕ) → n ≤ i → below f i n ≡ []
-unfolding below
-below_over f i n h = texts_over f i (n - i) (omega arith)
-
 -- the bytes of an identifier in a buffer of 16
 pub whole : (l : List ℕ) (u : Udid) → length l ≡ 16 → put_at l 0 (udid_bytes u) ≡ udid_bytes u
 unfolding put_at

@@ -4,7 +4,7 @@ use Rattle.std.proofs.Common.{refl, sym, ap, ◌∙◌, add-one, mod-eq_of_lt, a
 use Rattle.std.proofs.Math.Seq.{take-suc}
 use lib.Seq.{set_out}
 use Rattle.writing.specs.declared.page.Page.{Page}
-use Rattle.writing.specs.Written.{following, after, written, glyph, decimal_of, pair_of, pairs_of}
+use Rattle.writing.specs.Written.{following, after, written, glyph, decimal_of, pair_of, pairs_of, Appended}
 use Rattle.writing.specs.WrittenLaws.{after_append, written_append, length_written, after_one, written_one}
 use Rattle.writing.specs.declared.page.Case.{Case}
 use Rattle.writing.specs.Pages.{with_text, glyph_in}
@@ -13,6 +13,11 @@ use Rattle.writing.specs.Pages.{with_text, glyph_in}
 same : (p : Page) {l l' : List ℕ} {n n' : ℕ} → l ≡ l' → n ≡ n'
     → record p { out = record p.out { now = l }; at = n } ≡ record p { out = record p.out { now = l' }; at = n' }
 same p e f = rw (e, f) refl
+
+-- it is the text written from the page's place on
+pub appended : (p : Page) (xs : List ℕ) → Appended p.out.now p.at xs (with_text p xs).out.now (with_text p xs).at
+unfolding with_text
+appended p xs = record { place = refl; text = refl }
 
 -- one text after another
 pub text_on : (p : Page) (xs ys : List ℕ) → with_text (with_text p xs) ys ≡ with_text p (xs ++ ys)

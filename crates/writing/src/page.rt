@@ -59,7 +59,7 @@ impl Page<'_> {
         }
     }
 
-    // A number in decimal, with no zeros before it.
+    // A number in decimal, with no zeros before it. Kept: not by write!, whose contract says what is written only where all of it has room.
     pub fn put_decimal(&mut self, n: u64)
         ensures { self.new ≡ with_text self.old (decimal_of n) }
     {
