@@ -91,7 +91,8 @@ fn put_refusal(page: &mut Page, a: ModelAnswer)
     }
 }
 
-// The numbers of refusals are 1 to 12. Kept as numbers here, and 13 and 10 above: they are the scope's, and ModelAnswer is what C gets (hb_model).
+// The numbers of refusals are 1 to 12.
+// Kept: numbers here, and 13 and 10 above, for they are the scope's, and C gets what stands in ModelAnswer (hb_model).
 fn is_refusal(n: u32) -> bool
     ensures { result ≡ is_refusal n }
 {

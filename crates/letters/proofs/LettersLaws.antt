@@ -1,16 +1,15 @@
 -- What each symbol's text says: read as letters and digits, it is that symbol. Prepare To ARP as an example.
-use Rattle.std.specs.Prelude.{ℕ, ◌+◌, ◌*◌, ◌-◌, ◌/◌, ◌%◌, ◌<◌, ◌≡◌, refl, Bool, true, false, List, [], ◌∷◌, ltb, leb, eqb}
-use Rattle.std.proofs.Common.{sym, ◌∙◌, mod-eq_of_lt, arith}
+use Rattle.std.specs.Prelude.{ℕ, ◌+◌, ◌*◌, ◌-◌, ◌<◌, ◌≡◌, refl, Bool, List, [], ◌∷◌, leb, eqb}
+use Rattle.std.proofs.Common.{sym, ◌∙◌}
 use Rattle.std.proofs.Math.Path.{ap}
-use borrow.Author.Tests.{eqb-true, eq-eqb, ne_eqb, ltb-true}
+use borrow.Author.Tests.{eqb-true}
 use Rattle.lists.specs.AllLaws.{at_below}
 use Rattle.lists.specs.Choice.{pick, and}
 use Rattle.text.specs.Chars.{chars}
 use Rattle.text.specs.Words.{part_of}
 use Rattle.std.specs.Prelude.{Ok}
-use Rattle.writing.specs.Written.{decimal_of}
 use Rattle.pieces.specs.Pieces.{texts, below}
-use Rattle.letters.specs.Letters.{capitals, sign_text, letter_text, letters_text, encoded_letters}
+use Rattle.letters.specs.Letters.{sign_text, letter_text, letters_text, encoded_letters}
 
 -- ---- a reader of its own: a digit, `0` to `9` or `A` to `F`, else 256; a letter; two digits
 unfoldable pub digit_read : ℕ → ℕ

@@ -1,5 +1,5 @@
 -- Symbols as letters: S, P, A and N, a byte as two upper-case hexadecimal digits, and a number that is no symbol in decimal.
-use Rattle.std.specs.Prelude.{ℕ, ◌+◌, ◌/◌, ◌%◌, List, [], ◌∷◌, ◌++◌, ltb, eqb, length, get_or}
+use Rattle.std.specs.Prelude.{ℕ, ◌/◌, ◌%◌, List, [], ◌∷◌, ◌++◌, ltb, eqb, length, get_or}
 use Rattle.lists.specs.Choice.{pick}
 use Rattle.wire.specs.Symbols.{START, STOP, ACK, NACK}
 use Rattle.encode.specs.Encode.{Encoded}

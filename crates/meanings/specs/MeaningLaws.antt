@@ -1,10 +1,9 @@
 -- Different numbers have different words. Which numbers have words.
-use Rattle.std.specs.Prelude.{ℕ, zero, suc, ◌≤◌, ◌<◌, ◌≡◌, refl, Bool, true, false, List, [], ◌∷◌, ◌++◌, ltb, length, get_or}
-use Rattle.std.proofs.Common.{sym, ap, ◌∙◌, arith, lt-ltb, le-ltb, eq-eqb}
+use Rattle.std.specs.Prelude.{ℕ, zero, suc, ◌≤◌, ◌<◌, ◌≡◌, refl, Bool, true, false, List, [], ◌∷◌, length, get_or}
+use Rattle.std.proofs.Common.{sym, ap, ◌∙◌, arith, le-ltb, eq-eqb}
 use Rattle.std.proofs.Math.ListN.{get_or-eq_default}
 use Rattle.lists.specs.Choice.{and, not}
 use Rattle.lists.specs.ChoiceLaws.{both_true, false_not_true}
-use Rattle.text.specs.Chars.{chars}
 use Rattle.text.specs.Words.{same_text}
 use Rattle.meanings.specs.Meanings.{meanings, meaning, has_words, noted}
 

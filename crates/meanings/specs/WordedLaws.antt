@@ -1,6 +1,6 @@
 -- An answer with words: the words are put in at the end of its first line, and all else stays as it is.
 use Prim.Native.Nat.{ℕ, suc, ◌+◌, ◌-◌, ◌≤◌, zero-le}
-use Rattle.std.specs.Prelude.{◌≡◌, Result, refl, Bool, true, false, List, [], ◌∷◌, ◌++◌, eqb, get_or}
+use Rattle.std.specs.Prelude.{◌≡◌, refl, Bool, true, false, List, [], ◌∷◌, ◌++◌, eqb, get_or}
 use Rattle.std.proofs.Math.Path.{sym, ap}
 use Rattle.std.proofs.Common.{◌∙◌, append-nil, arith, take-append-drop, length-append, eqb-true}
 use Rattle.std.proofs.Math.ListN.{length, take, drop, length-drop}
@@ -10,12 +10,10 @@ use Rattle.lists.specs.Choice.{pick}
 use Rattle.text.specs.Chars.{chars}
 use Rattle.text.specs.Words.{feed, before, start_from, word_from, part_of}
 use Rattle.text.specs.WordLaws.{part_in}
-use Rattle.text.specs.declared.word.LineWord.{LineWord}
 use Rattle.digits.specs.Numbers.{digit_of, are_digits, value_from, digits_of, is_hex, number_of}
-use Rattle.digits.specs.declared.number.NumberError.{NumberError}
 use Rattle.meanings.specs.Meanings.{meanings, meaning, has_words, noted}
 use Rattle.meanings.specs.MeaningLaws.{words_none}
-use Rattle.meanings.specs.Worded.{first_line, rest, or_zero, number_in, number, headed, worded}
+use Rattle.meanings.specs.Worded.{first_line, rest, number_in, number, headed, worded}
 
 -- ---- what the functions read
 

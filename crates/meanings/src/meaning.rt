@@ -1,5 +1,6 @@
 // What each of the scope's numbers means, in a few words.
 #![tactic(auto, using(writing::specs::PageLaws::pages), unfolding(crate::specs::Meanings::meanings, crate::specs::Meanings::meaning, crate::specs::Meanings::has_words, crate::specs::Meanings::noted))]
+
 ghost use Rattle.std.specs.Prelude.{◌≡◌};
 ghost use Rattle.writing.specs.Pages.{with_text};
 ghost use Rattle.meanings.specs.Meanings.{meaning, has_words, noted};

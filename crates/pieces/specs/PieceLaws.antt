@@ -1,6 +1,6 @@
 -- Texts one after another, and the bytes of an identifier.
-use Rattle.std.specs.Prelude.{ℕ, zero, suc, ◌+◌, ◌-◌, ◌<◌, ◌≤◌, ◌≡◌, List, [], ◌++◌, length}
-use Rattle.std.proofs.Common.{refl, sym, ap, ◌∙◌, append-nil, zero-add, append_assoc, add-one, arith, drop_of_length-le}
+use Rattle.std.specs.Prelude.{ℕ, zero, suc, ◌+◌, ◌-◌, ◌≡◌, List, [], ◌++◌, length}
+use Rattle.std.proofs.Common.{refl, sym, ap, ◌∙◌, append-nil, zero-add, append_assoc, arith, drop_of_length-le}
 use Rattle.udid.specs.declared.Udid.{Udid}
 use Rattle.udid.specs.Bytes.{udid_bytes, put_at}
 use Rattle.udid.proofs.UdidLaws.{length_udid}

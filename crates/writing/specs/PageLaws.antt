@@ -1,10 +1,10 @@
 -- What is added to a page piece after piece is added at once.
-use Rattle.std.specs.Prelude.{ℕ, suc, ◌+◌, ◌/◌, ◌%◌, ◌<◌, ◌≤◌, ◌≡◌, List, [], ◌∷◌, ◌++◌, ltb, length, take, get_or, slice_set}
+use Rattle.std.specs.Prelude.{ℕ, ◌+◌, ◌/◌, ◌%◌, ◌<◌, ◌≤◌, ◌≡◌, List, [], ◌∷◌, ◌++◌, length, take, get_or, slice_set}
 use Rattle.std.proofs.Common.{refl, sym, ap, ◌∙◌, add-one, mod-eq_of_lt, arith, lt-ltb, le-ltb, append-nil}
 use Rattle.std.proofs.Math.Seq.{take-suc}
 use lib.Seq.{set_out}
 use Rattle.writing.specs.declared.page.Page.{Page}
-use Rattle.writing.specs.Written.{following, after, written, glyph, decimal_of, pair_of, pairs_of, Appended}
+use Rattle.writing.specs.Written.{after, written, pair_of, pairs_of, Appended}
 use Rattle.writing.specs.WrittenLaws.{after_append, written_append, length_written, after_one, written_one}
 use Rattle.writing.specs.declared.page.Case.{Case}
 use Rattle.writing.specs.Pages.{with_text, glyph_in}

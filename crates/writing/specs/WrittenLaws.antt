@@ -1,8 +1,8 @@
 -- Text written piece after piece is the text written at once; the digits of a number come one after the other, the last one last.
-use Rattle.std.specs.Prelude.{ℕ, zero, suc, ◌+◌, ◌/◌, ◌%◌, ◌<◌, ◌≤◌, ◌≡◌, refl, Bool, true, false, List, [], ◌∷◌, ◌++◌, ltb, length, drop, get_or, set}
-use Rattle.std.proofs.Common.{sym, ap, subst, ◌∙◌, append-nil, add-one, mod-eq_of_lt, arith, length-set, drop_of_length-le, drop-cons, lt-ltb, le-ltb, ltb-true, ltb-false}
+use Rattle.std.specs.Prelude.{ℕ, zero, suc, ◌+◌, ◌/◌, ◌%◌, ◌<◌, ◌≤◌, ◌≡◌, refl, Bool, true, false, List, [], ◌∷◌, ◌++◌, ltb, length, set}
+use Rattle.std.proofs.Common.{sym, ap, subst, ◌∙◌, mod-eq_of_lt, arith, length-set, lt-ltb, le-ltb, ltb-true, ltb-false}
 use Rattle.lists.specs.Choice.{pick}
-use Rattle.writing.specs.Written.{following, after, written, glyph, decimal, decimal_of, pair_of, pairs_of, Appended, Came}
+use Rattle.writing.specs.Written.{following, after, written, glyph, decimal, decimal_of, Appended, Came}
 
 -- ---- one piece after another
 
