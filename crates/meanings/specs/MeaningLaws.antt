@@ -20,7 +20,6 @@ all_differ (t ∷ ts) = and (none_is t ts) (all_differ ts)
 
 -- a text is the same as itself
 same_refl : (s : List ℕ) → same_text s s ≡ true
-unfolding same_text
 same_refl [] = refl
 same_refl (c ∷ cs) = rw (eq-eqb c c refl) (same_refl cs)
 
@@ -41,7 +40,7 @@ same_place (t ∷ ts) (suc i) zero e h g q = absurd (none_is_lem t ts i (both_tr
 same_place (t ∷ ts) (suc i) (suc j) e h g q = ap suc (same_place ts i j (both_true (none_is t ts) (all_differ ts) e).1 (omega arith) (omega arith) q)
 
 meanings_differ : all_differ meanings ≡ true
-unfolding meanings all_differ none_is same_text
+unfolding meanings all_differ none_is
 meanings_differ = refl
 
 -- also from those of 0, which are none
