@@ -19,13 +19,10 @@ fn is_zero(n: u64, k: u32) -> bool
 pub fn beats(a: Udid, b: Udid) -> bool
     ensures { result ≡ is_below a b }
 {
-    let k = leave::drop_out(a, b);
-    if k > 127 {
-        return false;
-    }
-    if k < 64 {
-        is_zero(a.high, 63 - k)
-    } else {
-        is_zero(a.low, 127 - k)
+    // Kept: not `a < b`, which promises the same. This is what the wire does, bit by bit, and what the edits of this crate get wrong.
+    match leave::drop_out(a, b) {
+        k @ 0..=63 => is_zero(a.high, 63 - k),
+        k @ 64..=127 => is_zero(a.low, 127 - k),
+        _ => false,
     }
 }

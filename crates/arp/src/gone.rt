@@ -18,18 +18,13 @@ pub struct Reported {
 fn is_bound_target(found: Found) -> bool
     ensures { result ≡ is_bound_target found }
 {
-    match found {
-        Found::Bound(_) => true,
-        Found::Nobody => false,
-        Found::Two => false,
-        Found::Left => false,
-        Found::NoAddress => false,
-    }
+    matches!(found, Found::Bound(_))
 }
 
 impl Controller {
     // The module at the address is gone: its target is unbound, and the address is left until it is bound again or a pass starts. Where
     // no target is bound nothing changes. It may be reported at any time; a command that is outstanding stays so.
+    #[tactic(auto, unfolding(crate::specs::Gone::reported))]
     pub fn report_gone(self, a: Address) -> Reported
         ensures { result ≡ reported self a.0 }
     {
@@ -39,9 +34,6 @@ impl Controller {
         } else {
             self
         };
-        Reported {
-            state: state,
-            found: found,
-        }
+        Reported { state, found }
     }
 }

@@ -10,19 +10,8 @@ impl Controller {
     pub(crate) fn hand(self, k: Handed) -> Stepped
         ensures { result ≡ handed self k }
     {
-        let occupied = self.occupied;
-        let pool = self.pool;
-        let slots = self.slots;
-        let state = Controller {
-            occupied: occupied,
-            pool: pool,
-            slots: slots,
-            gets: self.gets,
-            last: k,
-            picked: self.picked,
-        };
         Stepped {
-            state: state,
+            state: Controller { last: k, ..self },
             command: k,
         }
     }
@@ -38,13 +27,17 @@ impl Controller {
     }
 
     // Get UDID, or the end where it would be the 129th of the pass.
-    pub(crate) fn ask(mut self) -> Stepped
+    #[tactic(auto, unfolding(crate::specs::Controller::asked))]
+    pub(crate) fn ask(self) -> Stepped
         ensures { result ≡ asked self }
     {
         if self.gets >= 128 {
             return self.hand(Handed::Wait(End::Abandoned));
         }
-        self.gets = self.gets + 1;
-        self.hand(Handed::Send(Command::GetUdid))
+        let counted = Controller {
+            gets: self.gets + 1,
+            ..self
+        };
+        counted.hand(Handed::Send(Command::GetUdid))
     }
 }

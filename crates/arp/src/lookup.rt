@@ -28,8 +28,7 @@ impl Controller {
         if a.0 > 127 {
             return Found::NoAddress;
         }
-        let slots = self.slots;
-        match slots.held_at(a) {
+        match self.slots.held_at(a) {
             Binding::Open => Found::Nobody,
             Binding::Bound(u) => Found::Bound(u),
             Binding::Claimed => Found::Two,

@@ -8,11 +8,11 @@ use commands::command::{Command, End, Handed};
 
 impl Controller {
     // Assign Address goes out for the choice that waits. With none it is 21, and nothing changes.
+    #[tactic(auto, unfolding(crate::specs::Choosing::issuing))]
     pub fn issue(self) -> Stepped
         ensures { result ≡ issuing self }
     {
-        let last = self.last;
-        let Some((u, a)) = choice_in(last) else {
+        let Some((u, a)) = choice_in(self.last) else {
             return self.refuse();
         };
         self.hand(Handed::Send(Command::Assign(u, a)))
@@ -20,11 +20,11 @@ impl Controller {
 
     // The choice that waits is declined: its target is left unbound, and the pass ends with 14, since the same target would win again.
     // With none it is 21, and nothing changes.
+    #[tactic(auto, unfolding(crate::specs::Choosing::declining))]
     pub fn decline(self) -> Stepped
         ensures { result ≡ declining self }
     {
-        let last = self.last;
-        match choice_in(last) {
+        match choice_in(self.last) {
             Some(_) => self.hand(Handed::Wait(End::Abandoned)),
             None => self.refuse(),
         }

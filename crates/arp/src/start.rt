@@ -8,9 +8,11 @@ use pool::Pool;
 use slots::Slots;
 
 // The last pick of a controller that has picked no address yet.
+// Kept: a number, and no Option. C gives the last pick and reads it back, 127 for none (hb_controller_new, last_pick).
 pub const NEVER_PICKED: u8 = 127;
 
 // The last pick that a controller is made with. A number above 127 is no address, and counts as never picked.
+#[tactic(auto, unfolding(crate::specs::Controller::last_pick))]
 fn last_pick(last: u8) -> u8
     ensures { result ≡ last_pick last }
 {
@@ -23,10 +25,9 @@ impl Controller {
     pub fn new(occupied: Pool, last: u8) -> Controller
         ensures { result ≡ new_controller occupied last }
     {
-        let starting = Pool::starting(occupied);
         Controller {
-            occupied: occupied,
-            pool: starting,
+            occupied,
+            pool: Pool::starting(occupied),
             slots: Slots::none(),
             gets: 0,
             last: Handed::Wait(End::Nothing),
@@ -36,14 +37,16 @@ impl Controller {
 
     // A pass begins, at any time: nothing is bound, claimed or left, the pool is the starting pool, and Prepare To ARP goes out. The last
     // pick stays.
-    pub fn start(mut self) -> Stepped
+    pub fn start(self) -> Stepped
         ensures { result ≡ started self }
     {
-        let starting = Pool::starting(self.occupied);
-        let none = Slots::none();
-        self.pool = starting;
-        self.slots = none;
-        self.gets = 0;
-        self.hand(Handed::Send(Command::Prepare))
+        let slots = Slots::none();
+        let next = Controller {
+            pool: Pool::starting(self.occupied),
+            slots,
+            gets: 0,
+            ..self
+        };
+        next.hand(Handed::Send(Command::Prepare))
     }
 }

@@ -3,6 +3,7 @@ pub mod Sizes
 pub mod Turn
 pub mod Going
 pub mod Run
+pub mod Refused
 pub mod RecordsBusLaws
 pub mod TurnLaws
 pub mod GoingLaws

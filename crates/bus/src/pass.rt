@@ -20,20 +20,15 @@ const MOST_COMMANDS: u32 = 300;
 fn is_sent(k: Handed) -> bool
     ensures { result ≡ is_sent k }
 {
-    match k {
-        Handed::Send(_) => true,
-        Handed::Wait(_) => false,
-    }
+    matches!(k, Handed::Send(_))
 }
 
 pub(crate) fn run_pass(occupied: Pool, last: u8, records: &mut [u8]) -> Stepped
     requires { checked_list (barred_pool occupied) records.old ≡ Ok tt }
     ensures { Matches (pass occupied last (targets_of records.old)) result records.old records.new }
 {
-    let c = Controller::new(occupied, last);
-    let mut st = c.start();
-    let mut i: u32 = 0;
-    while i < MOST_COMMANDS {
+    let mut st = Controller::new(occupied, last).start();
+    for _ in 0..MOST_COMMANDS {
         let k = st.command;
         if !is_sent(k) {
             return st;
@@ -41,7 +36,6 @@ pub(crate) fn run_pass(occupied: Pool, last: u8, records: &mut [u8]) -> Stepped
         let mut out = [0u16; TRACE_ROOM];
         let n = send(k, &mut records[..], &mut out[..]);
         st = st.state.step(&out[..n]);
-        i += 1;
     }
     st
 }

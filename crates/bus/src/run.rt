@@ -5,7 +5,9 @@ ghost use Rattle.targets.specs.Records.{targets_of};
 ghost use Rattle.targets.specs.Refusals.{checked_list};
 ghost use Rattle.bindings.specs.Entries.{buffer_size};
 ghost use Rattle.rule.specs.Bus.{pass};
-ghost use Rattle.bus.specs.Run.{Leaves, ended_end, run_end, model_end};
+ghost use Rattle.bus.specs.Run.{Leaves, ended_end, model_end};
+ghost use Rattle.bus.specs.Refused.{error_number, error_place, answer_in};
+ghost use Rattle.bus.specs.declared.run.ModelError.TheVariants.{Targets};
 
 use super::pass::run_pass;
 use bindings::answer::ModelAnswer;
@@ -14,6 +16,48 @@ use pool::Pool;
 use report::answer::{refused, report};
 use report::bindings_of::put_bindings;
 use targets::admit;
+use targets::admit::ListError;
+
+// Why a run is refused.
+#[derive(Clone, Copy)]
+enum ModelError {
+    // above 127
+    LastPick,
+    // fewer than 2,048 bytes
+    ShortBuffer,
+    Targets(ListError),
+}
+
+impl ModelError {
+    // The scope's number of the refusal.
+    fn number(self) -> u32
+        ensures { result ≡ error_number self }
+    {
+        match self {
+            ModelError::LastPick => 1,
+            ModelError::ShortBuffer => 2,
+            ModelError::Targets(e) => e.number(),
+        }
+    }
+
+    // The record that is refused; 0 where none is.
+    fn place(self) -> usize
+        ensures { result ≡ error_place self }
+    {
+        match self {
+            ModelError::LastPick | ModelError::ShortBuffer => 0,
+            ModelError::Targets(e) => e.place(),
+        }
+    }
+}
+
+impl From<ListError> for ModelError {
+    ghost from_gives = { λ e r. r ≡ Targets e };
+
+    fn from(e: ListError) -> ModelError {
+        ModelError::Targets(e)
+    }
+}
 
 // A list that is not refused.
 fn run_admitted(occupied: Pool, last: u8, records: &mut [u8], bindings: &mut [u8]) -> ModelAnswer
@@ -27,17 +71,23 @@ fn run_admitted(occupied: Pool, last: u8, records: &mut [u8], bindings: &mut [u8
     report(end)
 }
 
-// With a last pick that is let in.
-fn run_from(occupied: Pool, last: u8, records: &mut [u8], bindings: &mut [u8]) -> ModelAnswer
-    ensures { Leaves (run_end occupied last records.old bindings.old) result records.new bindings.new }
+// Or why not.
+fn try_model(
+    occupied: Pool,
+    last: u8,
+    records: &mut [u8],
+    bindings: &mut [u8],
+) -> Result<ModelAnswer, ModelError>
+    ensures { Leaves (model_end occupied last records.old bindings.old) (answer_in result) records.new bindings.new }
 {
+    if last > 127 {
+        return Err(ModelError::LastPick);
+    }
     if bindings.len() < BUFFER {
-        return refused(2, 0);
+        return Err(ModelError::ShortBuffer);
     }
-    match admit::check(&records[..], occupied) {
-        Err(e) => refused(e.number(), e.place()),
-        Ok(()) => run_admitted(occupied, last, &mut records[..], &mut bindings[..]),
-    }
+    admit::check(&records[..], occupied)?;
+    Ok(run_admitted(occupied, last, &mut records[..], &mut bindings[..]))
 }
 
 // The last pick is given, 127 if none ever was, and above 127 is refused; the answer has what it is then. The records take each target's
@@ -45,8 +95,8 @@ fn run_from(occupied: Pool, last: u8, records: &mut [u8], bindings: &mut [u8]) -
 pub fn run_model(occupied: Pool, last: u8, records: &mut [u8], bindings: &mut [u8]) -> ModelAnswer
     ensures { Leaves (model_end occupied last records.old bindings.old) result records.new bindings.new }
 {
-    if last > 127 {
-        return refused(1, 0);
+    match try_model(occupied, last, &mut records[..], &mut bindings[..]) {
+        Ok(answer) => answer,
+        Err(e) => refused(e.number(), e.place()),
     }
-    run_from(occupied, last, &mut records[..], &mut bindings[..])
 }

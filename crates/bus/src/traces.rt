@@ -35,17 +35,23 @@ fn put_whole(k: Handed, reply: &[u8], out: &mut [u16]) -> usize
     put_command(k, reply, &mut out[..]).unwrap()
 }
 
+// These symbols at the front.
+fn put_front(symbols: &[u16], out: &mut [u16]) -> usize
+    requires { length symbols.now ≤ length out.old }
+    ensures { (result ≡ length symbols.now) × (take result out.new ≡ symbols.now) }
+{
+    let n = symbols.len();
+    out[..n].copy_from_slice(symbols);
+    n
+}
+
 // Prepare To ARP: all acknowledge; with no target the first byte gets NACK.
 fn put_prepare(records: &[u8], out: &mut [u16]) -> usize
     requires { trace_room ≤ length out.old }
     ensures { (result ≤ trace_room) × (take result out.new ≡ on_bus (Handed.Send Command.Prepare) (targets_of records.now)) }
 {
     if fields::count(records) == 0 {
-        out[0] = START;
-        out[1] = DEFAULT_WRITE;
-        out[2] = NACK;
-        out[3] = STOP;
-        return 4;
+        return put_front(&[START, DEFAULT_WRITE, NACK, STOP], &mut out[..]);
     }
     put_whole(Handed::Send(Command::Prepare), &records[..0], &mut out[..])
 }
@@ -55,16 +61,18 @@ fn put_silence(out: &mut [u16]) -> usize
     requires { trace_room ≤ length out.old }
     ensures { (result ≡ 9) × (take 9 out.new ≡ silence) }
 {
-    out[0] = START;
-    out[1] = DEFAULT_WRITE;
-    out[2] = ACK;
-    out[3] = GET_UDID;
-    out[4] = ACK;
-    out[5] = START;
-    out[6] = DEFAULT_READ;
-    out[7] = NACK;
-    out[8] = STOP;
-    9
+    let symbols = [
+        START,
+        DEFAULT_WRITE,
+        ACK,
+        GET_UDID,
+        ACK,
+        START,
+        DEFAULT_READ,
+        NACK,
+        STOP,
+    ];
+    put_front(&symbols, &mut out[..])
 }
 
 // Get UDID: the reply of the target that wins on the wire.

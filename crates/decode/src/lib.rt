@@ -19,6 +19,7 @@ use trace::shape::Shape;
 mod place;
 
 // Every second symbol from a place on, n of them, as bytes, to the front of a buffer.
+// Kept: by index, as the place may lie past the trace where n is 0, so that a slice from there would need a test of its own.
 fn copy_data(buf: &mut [u8], tr: &[u16], from: usize, n: usize)
     requires { (n ≤ length buf.old) × ((j : ℕ) → j < n → from + 2 * j < length tr.now) }
     ensures { buf.new ≡ onto (lows n (drop from tr.now)) buf.old }

@@ -2,48 +2,43 @@
 ghost use Rattle.std.specs.Prelude.{◌≡◌};
 ghost use Rattle.lists.specs.Choice.{pick};
 ghost use Rattle.pec.specs.Pec.{pec_from, pec_of};
-ghost use Rattle.pec.specs.Table.{Remainders};
 ghost use Rattle.trace.specs.Trace.{in_place};
 ghost use Rattle.encode.specs.Pieces.{part_bytes, write_bytes, bytes_after, pec_of_phases};
 
 use crate::bytes::count_of;
-use pec::table::{add_byte_by, add_bytes_by, table};
+use pec::table::Table;
 use trace::shape::{Part, Shape, has_read, has_write, is_counted};
 use wire::address::WireByte;
 
 // One byte more, where there is one.
-fn add_byte_if(t: &[u8; 256], c: u8, there: bool, b: u8) -> u8
-    requires { Remainders t.now }
+fn add_byte_if(t: &Table, c: u8, there: bool, b: u8) -> u8
     ensures { result ≡ pec_from c (in_place there b) }
 {
-    if there { add_byte_by(t, c, b) } else { c }
+    if there { t.add_byte(c, b) } else { c }
 }
 
 // A part of a message: its count, where it is counted, and its data.
-fn add_part(t: &[u8; 256], c: u8, a: Part, s: &[u8]) -> u8
-    requires { Remainders t.now }
+fn add_part(t: &Table, c: u8, a: Part, s: &[u8]) -> u8
     ensures { result ≡ pec_from c (part_bytes a s.now) }
 {
-    add_bytes_by(t, add_byte_if(t, c, is_counted(a), count_of(s)), s)
+    t.add_bytes(add_byte_if(t, c, is_counted(a), count_of(s)), s)
 }
 
 // The write phase.
-fn write_pec(t: &[u8; 256], sh: Shape, first: WireByte, command: u8, sent: &[u8]) -> u8
-    requires { Remainders t.now }
+fn write_pec(t: &Table, sh: Shape, first: WireByte, command: u8, sent: &[u8]) -> u8
     ensures { result ≡ pec_of (write_bytes sh first.0 command sent.now) }
 {
     let a = sh.sent;
     add_part(
         t,
-        add_byte_if(t, add_byte_by(t, 0, first.0), sh.command, command),
+        add_byte_if(t, t.add_byte(0, first.0), sh.command, command),
         a,
         sent,
     )
 }
 
 // The read phase after it, where there is one.
-fn read_pec(t: &[u8; 256], c: u8, sh: Shape, second: WireByte, received: &[u8]) -> u8
-    requires { Remainders t.now }
+fn read_pec(t: &Table, c: u8, sh: Shape, second: WireByte, received: &[u8]) -> u8
     ensures { result ≡ pec_from c (bytes_after sh second.0 received.now) }
 {
     let a = sh.received;
@@ -68,7 +63,7 @@ pub(crate) fn pec_of(
     if !pec {
         return 0;
     }
-    let t = table();
+    let t = Table::new();
     let c = write_pec(&t, sh, first, command, sent);
     read_pec(&t, c, sh, second, received)
 }

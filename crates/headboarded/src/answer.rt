@@ -1,42 +1,35 @@
 // A request is answered: by the libraries, and in the words of codec_answers, answers, lookups and module_answers.
 use crate::codec::{decode, encode, pec};
-use crate::pass::{choose, decline, gone, issue, lookup, start, step, table, told};
+use crate::pass::{choose, decline, gone, issue, lookup, start, step, table};
 use crate::plugged::{event, resume};
 use crate::run::run;
 use crate::setup::{clear, occupied, target};
-use crate::shelf::{Shelf, Turn};
+use crate::shelf::Shelf;
 use codec_answers::unclear::put_unclear;
 use requests::request::{Request, read_request};
-
-// The shelf stays as it is.
-fn said(s: Shelf, at: usize) -> Turn {
-    Turn { shelf: s, at }
-}
+use writing::page::Page;
 
 // Answers a line, which has no comment any more. A line of no word gets no answer.
-pub(crate) fn answer(s: Shelf, text: &[u8], records: &mut [u8], out: &mut [u8], at: usize) -> Turn {
-    let q = read_request(text);
-    match q {
-        Request::Nothing => said(s, at),
-        Request::Unclear(e, place) => said(s, put_unclear(out, at, e, place)),
-        Request::Pec(from) => said(s, pec(text, from, out, at)),
-        Request::Encode(h, f, sent, received) => {
-            said(s, encode(h, f, sent, received, text, out, at))
-        }
-        Request::Decode(h, from) => said(s, decode(h, from, text, out, at)),
-        Request::Occupied(from) => occupied(s, from, text, out, at),
-        Request::Target(t, place) => target(s, t, place, records, out, at),
-        Request::Clear => clear(out, at),
-        Request::Run(last) => said(s, run(s, last, records, out, at)),
-        Request::Start => told(s, start(s), out, at),
-        Request::Step(from) => told(s, step(s, from, text), out, at),
-        Request::Lookup(a) => said(s, lookup(s, a, out, at)),
-        Request::Gone(a) => gone(s, a, out, at),
-        Request::Grid => said(s, table(s, out, at)),
-        Request::Module(t, fresh) => resume(s, t, fresh, out, at),
-        Request::Event(e, place) => event(s, e, place, text, out, at),
-        Request::Choose(from) => told(s, choose(s, from, text), out, at),
-        Request::Issue => told(s, issue(s), out, at),
-        Request::Decline => told(s, decline(s), out, at),
+pub(crate) fn answer(page: &mut Page, shelf: &mut Shelf, text: &[u8], records: &mut [u8]) {
+    match read_request(text) {
+        Request::Nothing => {}
+        Request::Unclear(e, place) => put_unclear(page, e, place),
+        Request::Pec(from) => pec(page, text, from),
+        Request::Encode(h, f, sent, received) => encode(page, h, f, text, sent, received),
+        Request::Decode(h, from) => decode(page, h, text, from),
+        Request::Occupied(from) => occupied(page, shelf, text, from),
+        Request::Target(t, place) => target(page, shelf, t, place, records),
+        Request::Clear => clear(page, shelf),
+        Request::Run(last) => run(page, shelf, last, records),
+        Request::Start => start(page, shelf),
+        Request::Step(from) => step(page, shelf, text, from),
+        Request::Lookup(a) => lookup(page, shelf, a),
+        Request::Gone(a) => gone(page, shelf, a),
+        Request::Grid => table(page, shelf),
+        Request::Module(t, fresh) => resume(page, shelf, t, fresh),
+        Request::Event(e, place) => event(page, shelf, e, place, text),
+        Request::Choose(from) => choose(page, shelf, text, from),
+        Request::Issue => issue(page, shelf),
+        Request::Decline => decline(page, shelf),
     }
 }

@@ -4,16 +4,17 @@ use codec_answers::decoded::put_decoded;
 use requests::list::{read_bytes, read_symbols};
 use requests::request::{Fields, Head};
 use wire::address::Address;
+use writing::page::Page;
 
 // The packet error code of the bytes from a place on.
-pub(crate) fn pec(text: &[u8], from: usize, out: &mut [u8], at: usize) -> usize {
+pub(crate) fn pec(page: &mut Page, text: &[u8], from: usize) {
     let mut bytes = [0u8; 8192];
     let n = read_bytes(text, from, &mut bytes);
-    put_pec(out, at, pec::of_bytes(&bytes[..n]))
+    put_pec(page, pec::of_bytes(&bytes[..n]));
 }
 
 // The trace of a transaction.
-fn encoded(h: Head, f: Fields, sent: &[u8], received: &[u8], out: &mut [u8], at: usize) -> usize {
+fn encoded(page: &mut Page, h: Head, f: Fields, sent: &[u8], received: &[u8]) {
     let mut trace = [0u16; 525];
     let e = encode::encode(
         h.protocol,
@@ -25,37 +26,36 @@ fn encoded(h: Head, f: Fields, sent: &[u8], received: &[u8], out: &mut [u8], at:
         received,
         &mut trace,
     );
-    put_encoded(out, at, e, &trace)
+    put_encoded(page, e, &trace);
 }
 
 // The bytes to be sent and to be received stand from two places on.
 pub(crate) fn encode(
+    page: &mut Page,
     h: Head,
     f: Fields,
+    text: &[u8],
     sent: usize,
     received: usize,
-    text: &[u8],
-    out: &mut [u8],
-    at: usize,
-) -> usize {
+) {
     let mut first = [0u8; 8192];
     let m = read_bytes(text, sent, &mut first);
     let mut second = [0u8; 8192];
     let n = read_bytes(text, received, &mut second);
-    encoded(h, f, &first[..m], &second[..n], out, at)
+    encoded(page, h, f, &first[..m], &second[..n]);
 }
 
 // What a trace says.
-fn decoded(h: Head, trace: &[u16], out: &mut [u8], at: usize) -> usize {
+fn decoded(page: &mut Page, h: Head, trace: &[u16]) {
     let mut sent = [0u8; 255];
     let mut received = [0u8; 255];
     let d = decode::decode(h.protocol, h.pec, trace, &mut sent, &mut received);
-    put_decoded(out, at, d, &sent, &received)
+    put_decoded(page, d, &sent, &received);
 }
 
 // What the symbols from a place on say.
-pub(crate) fn decode(h: Head, from: usize, text: &[u8], out: &mut [u8], at: usize) -> usize {
+pub(crate) fn decode(page: &mut Page, h: Head, text: &[u8], from: usize) {
     let mut trace = [0u16; 8192];
     let n = read_symbols(text, from, &mut trace);
-    decoded(h, &trace[..n], out, at)
+    decoded(page, h, &trace[..n]);
 }

@@ -16,10 +16,11 @@ mod setup;
 mod shelf;
 
 use help::argument;
-use line::{end_last, lines, new_session};
+use line::{Session, end_last, lines};
 use std::env::FillError;
 use std::io::{self, Read, Write};
 use std::rt::Env;
+use writing::page::Page;
 
 // Reads what there is, a line that was typed or a part of a file, and answers its lines, up to the end of the input, where the last line may
 // lack its line feed. A proved loop has to end, and nothing says that an input does: the turns are counted up to a number that no run
@@ -27,18 +28,18 @@ use std::rt::Env;
 fn talk(
     input: &mut impl Read,
     output: &mut impl Write,
+    page: &mut Page,
     line: &mut [u8],
     records: &mut [u8],
-    out: &mut [u8],
 ) -> io::Result<()> {
-    let mut s = new_session();
+    let mut s = Session::new();
     let mut buffer = [0u8; 65536];
     for _ in 0..u64::MAX {
         let n = input.read(&mut buffer)?;
         if n == 0 {
-            return end_last(output, s, line, records, out);
+            return end_last(output, page, &mut s, line, records);
         }
-        s = lines(output, s, &buffer[..n], line, records, out)?;
+        lines(output, page, &mut s, &buffer[..n], line, records)?;
     }
     Ok(())
 }
@@ -48,7 +49,11 @@ fn console(input: &mut impl Read, output: &mut impl Write) -> io::Result<()> {
     let mut line = [0u8; 16384];
     let mut records = [0u8; 2160];
     let mut out = [0u8; 65536];
-    talk(input, output, &mut line, &mut records, &mut out)
+    let mut page = Page {
+        out: &mut out,
+        at: 0,
+    };
+    talk(input, output, &mut page, &mut line, &mut records)
 }
 
 // A read or a write that fails ends the run with its error. An argument that has no room in the buffer is none that is known.

@@ -1,86 +1,66 @@
 // The requests to the controller: start, step, choose, issue, decline, lookup, gone and grid.
-use crate::shelf::{Shelf, Turn};
+use crate::shelf::Shelf;
 use answers::command::put_command;
 use arp::state::{Controller, Stepped};
 use lookups::found::{put_found, put_gone};
 use lookups::grid::put_grid;
 use requests::list::read_symbols;
 use wire::address::Address;
+use writing::page::Page;
+
+// What a step left is kept, and what it handed out is told.
+fn told(page: &mut Page, shelf: &mut Shelf, next: Stepped) {
+    shelf.controller = next.state;
+    put_command(page, next.command);
+}
 
 // A controller with the addresses that are occupied now begins a pass. Its last pick is that of the controller before it.
-pub(crate) fn start(s: Shelf) -> Stepped {
-    let occupied = s.occupied;
-    let before = s.controller;
-    let c = Controller::new(occupied, before.picked);
-    c.start()
+pub(crate) fn start(page: &mut Page, shelf: &mut Shelf) {
+    let c = Controller::new(shelf.occupied, shelf.controller.picked);
+    told(page, shelf, c.start());
 }
 
 // The controller hears the symbols from a place on.
-pub(crate) fn step(s: Shelf, from: usize, text: &[u8]) -> Stepped {
+pub(crate) fn step(page: &mut Page, shelf: &mut Shelf, text: &[u8], from: usize) {
     let mut trace = [0u16; 8192];
     let n = read_symbols(text, from, &mut trace);
-    let c = s.controller;
-    c.step(&trace[..n])
+    let next = shelf.controller.step(&trace[..n]);
+    told(page, shelf, next);
 }
 
 // The same, but an address that the controller chooses waits.
-pub(crate) fn choose(s: Shelf, from: usize, text: &[u8]) -> Stepped {
+pub(crate) fn choose(page: &mut Page, shelf: &mut Shelf, text: &[u8], from: usize) {
     let mut trace = [0u16; 8192];
     let n = read_symbols(text, from, &mut trace);
-    let c = s.controller;
-    c.choose(&trace[..n])
+    let next = shelf.controller.choose(&trace[..n]);
+    told(page, shelf, next);
 }
 
 // The choice that waits is sent.
-pub(crate) fn issue(s: Shelf) -> Stepped {
-    let c = s.controller;
-    c.issue()
+pub(crate) fn issue(page: &mut Page, shelf: &mut Shelf) {
+    let next = shelf.controller.issue();
+    told(page, shelf, next);
 }
 
 // The choice that waits is dropped, and the pass with it.
-pub(crate) fn decline(s: Shelf) -> Stepped {
-    let c = s.controller;
-    c.decline()
-}
-
-// The shelf with another state of its controller.
-fn with_state(s: Shelf, controller: Controller) -> Shelf {
-    let occupied = s.occupied;
-    let plugged = s.plugged;
-    Shelf {
-        occupied,
-        count: s.count,
-        controller,
-        plugged,
-    }
-}
-
-// The shelf with what a step left, and what it handed out.
-pub(crate) fn told(s: Shelf, next: Stepped, out: &mut [u8], at: usize) -> Turn {
-    let command = next.command;
-    let shelf = with_state(s, next.state);
-    let after = put_command(out, at, command);
-    Turn { shelf, at: after }
+pub(crate) fn decline(page: &mut Page, shelf: &mut Shelf) {
+    let next = shelf.controller.decline();
+    told(page, shelf, next);
 }
 
 // Who is bound at an address.
-pub(crate) fn lookup(s: Shelf, a: u8, out: &mut [u8], at: usize) -> usize {
-    let c = s.controller;
-    put_found(out, at, c.lookup(Address(a)))
+pub(crate) fn lookup(page: &mut Page, shelf: &Shelf, a: u8) {
+    put_found(page, shelf.controller.lookup(Address(a)));
 }
 
-// The module at an address is gone: the shelf with what the report left, and its answer.
-pub(crate) fn gone(s: Shelf, a: u8, out: &mut [u8], at: usize) -> Turn {
-    let c = s.controller;
-    let r = c.report_gone(Address(a));
-    let found = r.found;
-    let shelf = with_state(s, r.state);
-    let after = put_gone(out, at, found);
-    Turn { shelf, at: after }
+// The module at an address is gone: what the report left is kept, and it is answered.
+pub(crate) fn gone(page: &mut Page, shelf: &mut Shelf, a: u8) {
+    let r = shelf.controller.report_gone(Address(a));
+    shelf.controller = r.state;
+    put_gone(page, r.found);
 }
 
 // The controller's table.
-pub(crate) fn table(s: Shelf, out: &mut [u8], at: usize) -> usize {
-    let c = s.controller;
-    put_grid(out, at, c)
+pub(crate) fn table(page: &mut Page, shelf: &Shelf) {
+    put_grid(page, shelf.controller);
 }

@@ -1,5 +1,5 @@
 // The requests of a module at its own end of the bus: module, and m with what happens to it.
-use crate::shelf::{Plugged, Shelf, Turn};
+use crate::shelf::Shelf;
 use codec_answers::unclear::put_unclear;
 use module::state::Module;
 use module_answers::heard::put_heard;
@@ -8,79 +8,61 @@ use requests::expected::Expected;
 use requests::list::read_bytes;
 use requests::request::{ModuleEvent, Record};
 use wire::address::WireByte;
-
-// The shelf with this module, and the place after the answer.
-fn with_module(s: Shelf, m: Module, at: usize) -> Turn {
-    let occupied = s.occupied;
-    let controller = s.controller;
-    let shelf = Shelf {
-        occupied,
-        count: s.count,
-        controller,
-        plugged: Plugged::One(m),
-    };
-    Turn { shelf, at }
-}
-
-// The shelf stays as it is, and there was no request.
-fn refused(s: Shelf, e: Expected, place: usize, out: &mut [u8], at: usize) -> Turn {
-    let next = put_unclear(out, at, e, place);
-    Turn { shelf: s, at: next }
-}
+use writing::page::Page;
 
 // A module in place of any other. There is one of whatever record a line asks for (module_answers, asked_is_ready).
-pub(crate) fn resume(s: Shelf, t: Record, fresh: u32, out: &mut [u8], at: usize) -> Turn {
-    let u = t.udid;
-    match Module::of_record(u, WireByte(t.byte), t.flag, fresh) {
-        Ok(m) => with_module(s, m, put_made(out, at)),
-        Err(_) => refused(s, Expected::OddByte, 0, out, at),
+pub(crate) fn resume(page: &mut Page, shelf: &mut Shelf, t: Record, fresh: u32) {
+    match Module::of_record(t.udid, WireByte(t.byte), t.flag, fresh) {
+        Ok(m) => {
+            shelf.plugged = Some(m);
+            put_made(page);
+        }
+        Err(_) => put_unclear(page, Expected::OddByte, 0),
     }
 }
 
-// The module receives these bytes.
-fn heard(s: Shelf, m: Module, bytes: &[u8], out: &mut [u8], at: usize) -> Turn {
-    let h = put_heard(m, bytes, out, at);
-    with_module(s, h.after, h.at)
-}
-
-// The bytes stand from a place on.
-fn receive(s: Shelf, m: Module, from: usize, text: &[u8], out: &mut [u8], at: usize) -> Turn {
+// The module receives the bytes that stand from a place on.
+fn receive(page: &mut Page, m: Module, text: &[u8], from: usize) -> Module {
     let mut bytes = [0u8; 8192];
     let n = read_bytes(text, from, &mut bytes);
-    heard(s, m, &bytes[..n], out, at)
+    put_heard(page, m, &bytes[..n])
 }
 
 // The next byte of a read.
-fn supply(s: Shelf, m: Module, out: &mut [u8], at: usize) -> Turn {
+fn supply(page: &mut Page, m: Module) -> Module {
     let b = m.supply();
-    let next = put_supplied(out, at, b);
-    with_module(s, b.after, next)
+    put_supplied(page, b);
+    b.after
 }
 
-// Something happens to the module.
-fn happens(s: Shelf, m: Module, e: ModuleEvent, text: &[u8], out: &mut [u8], at: usize) -> Turn {
+// The module after what happens to it, which is answered.
+fn happens(page: &mut Page, m: Module, e: ModuleEvent, text: &[u8]) -> Module {
     match e {
-        ModuleEvent::Start => with_module(s, m.start(), put_start(out, at)),
-        ModuleEvent::Bytes(from) => receive(s, m, from, text, out, at),
-        ModuleEvent::Supply => supply(s, m, out, at),
-        ModuleEvent::Lost => with_module(s, m.lost(), put_lost(out, at)),
-        ModuleEvent::Stop => with_module(s, m.stop(), put_stop(out, at)),
-        ModuleEvent::State => with_module(s, m, put_state(out, at, m.own)),
+        ModuleEvent::Start => {
+            put_start(page);
+            m.start()
+        }
+        ModuleEvent::Bytes(from) => receive(page, m, text, from),
+        ModuleEvent::Supply => supply(page, m),
+        ModuleEvent::Lost => {
+            put_lost(page);
+            m.lost()
+        }
+        ModuleEvent::Stop => {
+            put_stop(page);
+            m.stop()
+        }
+        ModuleEvent::State => {
+            put_state(page, m.own);
+            m
+        }
     }
 }
 
 // The same, where there is a module. The place is that of the verb.
-pub(crate) fn event(
-    s: Shelf,
-    e: ModuleEvent,
-    place: usize,
-    text: &[u8],
-    out: &mut [u8],
-    at: usize,
-) -> Turn {
-    let p = s.plugged;
-    match p {
-        Plugged::Nobody => refused(s, Expected::Module, place, out, at),
-        Plugged::One(m) => happens(s, m, e, text, out, at),
+pub(crate) fn event(page: &mut Page, shelf: &mut Shelf, e: ModuleEvent, place: usize, text: &[u8]) {
+    match shelf.plugged {
+        Some(m) => shelf.plugged = Some(happens(page, m, e, text)),
+        None => put_unclear(page, Expected::Module, place),
     }
 }

@@ -6,21 +6,21 @@ use bus::run::run_model;
 use codec_answers::unclear::put_unclear;
 use pool::Pool;
 use requests::expected::Expected;
+use writing::page::Page;
 
 // The run over records, which changes them.
-fn run_records(occupied: Pool, last: u8, records: &mut [u8], out: &mut [u8], at: usize) -> usize {
+fn run_records(page: &mut Page, occupied: Pool, last: u8, records: &mut [u8]) {
     let mut bindings = [0u8; 2048];
     let a = run_model(occupied, last, records, &mut bindings);
-    put_run(out, at, a, &bindings, records)
+    put_run(page, a, &bindings, records);
 }
 
 // The run over the records that there are.
-pub(crate) fn run(s: Shelf, last: u8, records: &mut [u8], out: &mut [u8], at: usize) -> usize {
-    let n = s.count;
+pub(crate) fn run(page: &mut Page, shelf: &Shelf, last: u8, records: &mut [u8]) {
+    let n = shelf.count;
     if n > records.len() / 18 {
-        return put_unclear(out, at, Expected::Targets, 0);
+        return put_unclear(page, Expected::Targets, 0);
     }
     let end = 18 * n;
-    let occupied = s.occupied;
-    run_records(occupied, last, &mut records[..end], out, at)
+    run_records(page, shelf.occupied, last, &mut records[..end]);
 }

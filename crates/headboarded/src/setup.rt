@@ -1,102 +1,53 @@
 // The requests that set the shelf up: occupied, target and clear.
-use crate::shelf::{Shelf, Turn, new_shelf};
+use crate::shelf::Shelf;
 use answers::shelf::{put_clear, put_no_address, put_occupied, put_target};
 use codec_answers::unclear::put_unclear;
-use pool::Pool;
 use requests::expected::Expected;
 use requests::list::read_bytes;
 use requests::request::Record;
 use wire::address::Address;
+use writing::page::Page;
 
-// All are addresses.
-fn are_addresses(s: &[u8]) -> bool {
-    for a in s {
-        if *a > 127 {
-            return false;
-        }
+// These addresses are occupied too, where all are addresses; and how many are now.
+fn occupy(page: &mut Page, shelf: &mut Shelf, addresses: &[u8]) {
+    if addresses.iter().any(|a| *a > 127) {
+        return put_no_address(page);
     }
-    true
-}
-
-// The pool with these too.
-fn with_all(p: Pool, s: &[u8]) -> Pool {
-    let mut now = p;
-    for a in s {
-        now = now.with(Address(*a));
+    for a in addresses {
+        shelf.occupied = shelf.occupied.with(Address(*a));
     }
-    now
-}
-
-// The shelf with these addresses occupied too, where all are addresses; and how many are now.
-fn occupy(s: Shelf, addresses: &[u8], out: &mut [u8], at: usize) -> Turn {
-    if !are_addresses(addresses) {
-        let next = put_no_address(out, at);
-        return Turn { shelf: s, at: next };
-    }
-    let occupied = with_all(s.occupied, addresses);
-    let controller = s.controller;
-    let plugged = s.plugged;
-    let next = put_occupied(out, at, occupied.used());
-    let shelf = Shelf {
-        occupied,
-        count: s.count,
-        controller,
-        plugged,
-    };
-    Turn { shelf, at: next }
+    put_occupied(page, shelf.occupied.used());
 }
 
 // The addresses stand from a place on.
-pub(crate) fn occupied(s: Shelf, from: usize, text: &[u8], out: &mut [u8], at: usize) -> Turn {
+pub(crate) fn occupied(page: &mut Page, shelf: &mut Shelf, text: &[u8], from: usize) {
     let mut bytes = [0u8; 8192];
     let n = read_bytes(text, from, &mut bytes);
-    occupy(s, &bytes[..n], out, at)
+    occupy(page, shelf, &bytes[..n]);
 }
 
-// A record after n others: the identifier, the address byte, the flag. Answers how many there are then: no more where there is no room.
-fn put_record(t: Record, records: &mut [u8], n: usize) -> usize {
-    if n >= records.len() / 18 {
-        return n;
-    }
-    let u = t.udid;
-    let at = 18 * n;
-    u.put_bytes(records, at);
-    records[at + 16] = t.byte;
-    records[at + 17] = t.flag;
-    n + 1
-}
-
-// Another target.
+// Another target, where there is room for its record: the identifier, the address byte, the flag.
 pub(crate) fn target(
-    s: Shelf,
+    page: &mut Page,
+    shelf: &mut Shelf,
     t: Record,
     place: usize,
     records: &mut [u8],
-    out: &mut [u8],
-    at: usize,
-) -> Turn {
-    let n = s.count;
-    let count = put_record(t, records, n);
-    if count == n {
-        let next = put_unclear(out, at, Expected::Targets, place);
-        return Turn { shelf: s, at: next };
+) {
+    let n = shelf.count;
+    if n >= records.len() / 18 {
+        return put_unclear(page, Expected::Targets, place);
     }
-    let occupied = s.occupied;
-    let controller = s.controller;
-    let plugged = s.plugged;
-    let shelf = Shelf {
-        occupied,
-        count,
-        controller,
-        plugged,
-    };
-    let next = put_target(out, at, n);
-    Turn { shelf, at: next }
+    let at = 18 * n;
+    t.udid.put_bytes(records, at);
+    records[at + 16] = t.byte;
+    records[at + 17] = t.flag;
+    shelf.count = n + 1;
+    put_target(page, n);
 }
 
 // All is as new.
-pub(crate) fn clear(out: &mut [u8], at: usize) -> Turn {
-    let shelf = new_shelf();
-    let next = put_clear(out, at);
-    Turn { shelf, at: next }
+pub(crate) fn clear(page: &mut Page, shelf: &mut Shelf) {
+    *shelf = Shelf::new();
+    put_clear(page);
 }

@@ -1,7 +1,7 @@
 // The controller's table, in the layout of i2cdetect: 8 rows of 16 addresses. -- is free, UU was in use when the pass began (listed or
 // occupied), XX is claimed by two, LL is left by a module that is gone, and an address stands where a target is bound.
 ghost use Rattle.std.specs.Prelude.{◌≡◌, ◌++◌};
-ghost use Rattle.writing.specs.Written.{Appended};
+ghost use Rattle.writing.specs.Pages.{with_text};
 ghost use Rattle.lookups.specs.Grids.{free_of, cell_of, cell_text, cells_text, row_text, rows_text, grid_text};
 
 use arp::lookup::Found;
@@ -9,7 +9,7 @@ use arp::state::Controller;
 use pieces::piece::put_hex;
 use pool::Pool;
 use wire::address::Address;
-use writing::write::put;
+use writing::page::Page;
 
 // What the table shows at an address.
 #[derive(Clone, Copy)]
@@ -30,84 +30,71 @@ pub(crate) enum Cell {
 fn free_cell(occupied: Pool, a: Address) -> Cell
     ensures { result ≡ free_of occupied a.0 }
 {
-    let starting = Pool::starting(occupied);
-    if starting.has(a) {
-        return Cell::InUse;
+    if Pool::starting(occupied).has(a) {
+        Cell::InUse
+    } else {
+        Cell::Free
     }
-    Cell::Free
 }
 
+#[tactic(auto, using(pieces::specs::PieceLaws::pieces), unfolding(crate::specs::Grids::cell_of))]
 fn cell_of(c: Controller, a: Address) -> Cell
     ensures { result ≡ cell_of c a.0 }
 {
-    let occupied = c.occupied;
-    let f = c.lookup(a);
-    match f {
+    match c.lookup(a) {
         Found::Bound(_) => Cell::Bound,
-        Found::Nobody => free_cell(occupied, a),
         Found::Two => Cell::Claimed,
         Found::Left => Cell::Left,
-        Found::NoAddress => free_cell(occupied, a),
+        Found::Nobody | Found::NoAddress => free_cell(c.occupied, a),
     }
 }
 
 // One address, after a blank.
-fn put_cell(out: &mut [u8], at: usize, cell: Cell, a: u8) -> usize
-    ensures { Appended out.old at (cell_text cell a) out.new result }
+fn put_cell(page: &mut Page, cell: Cell, a: u8)
+    ensures { page.new ≡ with_text page.old (cell_text cell a) }
 {
     match cell {
-        Cell::Free => put(out, at, b" --"),
-        Cell::InUse => put(out, at, b" UU"),
-        Cell::Claimed => put(out, at, b" XX"),
-        Cell::Left => put(out, at, b" LL"),
-        Cell::Bound => put_hex(out, at, b" ", a),
+        Cell::Free => page.put(b" --"),
+        Cell::InUse => page.put(b" UU"),
+        Cell::Claimed => page.put(b" XX"),
+        Cell::Left => page.put(b" LL"),
+        Cell::Bound => put_hex(page, b" ", a),
     }
 }
 
 // The 16 addresses from this one on, below 128.
-fn put_cells(c: Controller, first: u8, out: &mut [u8], at: usize) -> usize
-    ensures { Appended out.old at (cells_text c first) out.new result }
+fn put_cells(page: &mut Page, c: Controller, first: u8)
+    ensures { page.new ≡ with_text page.old (cells_text c first) }
 {
-    let mut to = at;
-    let mut k: u8 = 0;
-    while k < 16 {
+    for k in 0..16 {
         let a = first % 128 + k;
-        to = put_cell(out, to, cell_of(c, Address(a)), a);
-        k += 1;
+        put_cell(page, cell_of(c, Address(a)), a);
     }
-    to
 }
 
 // A row: its first address, and the 16 of it.
-fn put_row(c: Controller, first: u8, out: &mut [u8], at: usize) -> usize
-    ensures { Appended out.old at (row_text c first) out.new result }
+fn put_row(page: &mut Page, c: Controller, first: u8)
+    ensures { page.new ≡ with_text page.old (row_text c first) }
 {
-    let a = put_hex(out, at, b"", first);
-    let b = put(out, a, b":");
-    let d = put_cells(c, first, out, b);
-    put(out, d, b"\n")
+    put_hex(page, b"", first);
+    page.put(b":");
+    put_cells(page, c, first);
+    page.put(b"\n");
 }
 
-fn put_rows(c: Controller, out: &mut [u8], at: usize) -> usize
-    ensures { Appended out.old at (rows_text c) out.new result }
+fn put_rows(page: &mut Page, c: Controller)
+    ensures { page.new ≡ with_text page.old (rows_text c) }
 {
-    let mut to = at;
-    let mut row: u8 = 0;
-    while row < 8 {
-        to = put_row(c, 16 * row, out, to);
-        row += 1;
+    for row in 0..8 {
+        put_row(page, c, 16 * row);
     }
-    to
 }
 
 // The whole table.
-pub fn put_grid(out: &mut [u8], at: usize, c: Controller) -> usize
-    ensures { Appended out.old at (grid_text c) out.new result }
+#[tactic(auto, using(pieces::specs::PieceLaws::pieces), unfolding(crate::specs::Grids::grid_text))]
+pub fn put_grid(page: &mut Page, c: Controller)
+    ensures { page.new ≡ with_text page.old (grid_text c) }
 {
-    let to = put(
-        out,
-        at,
-        b"0 grid\n     0  1  2  3  4  5  6  7  8  9  a  b  c  d  e  f\n",
-    );
-    put_rows(c, out, to)
+    page.put(b"0 grid\n     0  1  2  3  4  5  6  7  8  9  a  b  c  d  e  f\n");
+    put_rows(page, c);
 }

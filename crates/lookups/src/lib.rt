@@ -1,5 +1,5 @@
 // What the console prints for what a controller knows of its addresses: one of them, or all. Rests on pieces and arp.
-#![tactic(auto)]
+#![tactic(auto, using(pieces::specs::PieceLaws::pieces))]
 
 pub mod found;
 pub mod grid;

@@ -1,12 +1,13 @@
 // An answer with words. Its first line is what stands before its first line feed; the number is what that line's first word says.
+#![tactic(auto, using(writing::specs::PageLaws::pages), unfolding(crate::specs::Worded::first_line, crate::specs::Worded::rest, crate::specs::Worded::number_in, crate::specs::Worded::number, crate::specs::Worded::headed, crate::specs::Worded::worded))]
 ghost use Rattle.std.specs.Prelude.{◌≡◌};
-ghost use Rattle.writing.specs.Written.{Appended};
+ghost use Rattle.writing.specs.Pages.{with_text};
 ghost use Rattle.meanings.specs.Worded.{first_line, rest, number_in, number, headed, worded};
 
 use crate::meaning::put_noted;
 use digits::number::read_number;
 use text::word::{line_end, next_word, part};
-use writing::write::put;
+use writing::page::Page;
 
 // The first line of an answer, without its line feed.
 fn first_line(answer: &[u8]) -> &[u8]
@@ -38,24 +39,24 @@ pub fn number_of(answer: &[u8]) -> u64
 }
 
 // The first line with the words of its number, without its line feed.
-pub fn put_headed(out: &mut [u8], at: usize, answer: &[u8]) -> usize
-    ensures { Appended out.old at (headed answer.now) out.new result }
+pub fn put_headed(page: &mut Page, answer: &[u8])
+    ensures { page.new ≡ with_text page.old (headed answer.now) }
 {
-    let to = put(out, at, first_line(answer));
-    put_noted(out, to, number_of(answer))
+    page.put(first_line(answer));
+    put_noted(page, number_of(answer));
 }
 
 // What stands after the first line.
-pub fn put_rest(out: &mut [u8], at: usize, answer: &[u8]) -> usize
-    ensures { Appended out.old at (rest answer.now) out.new result }
+pub fn put_rest(page: &mut Page, answer: &[u8])
+    ensures { page.new ≡ with_text page.old (rest answer.now) }
 {
-    put(out, at, rest_of(answer))
+    page.put(rest_of(answer));
 }
 
 // An answer with words.
-pub fn put_worded(out: &mut [u8], at: usize, answer: &[u8]) -> usize
-    ensures { Appended out.old at (worded answer.now) out.new result }
+pub fn put_worded(page: &mut Page, answer: &[u8])
+    ensures { page.new ≡ with_text page.old (worded answer.now) }
 {
-    let to = put_headed(out, at, answer);
-    put_rest(out, to, answer)
+    put_headed(page, answer);
+    put_rest(page, answer);
 }

@@ -8,7 +8,7 @@ use udid::Udid;
 fn half_byte(n: u64, k: u8) -> u8
     ensures { result ≡ get_or (bytes_of 8 n) (k % 8) 0 }
 {
-    ((n >> (56 - 8 * (k % 8))) % 256) as u8
+    n.to_be_bytes()[(k % 8) as usize]
 }
 
 // Byte k of an identifier on the wire, highest first.

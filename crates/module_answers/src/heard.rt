@@ -1,52 +1,44 @@
 // The bytes that a module receives, one after another, and whether it acknowledges each.
 ghost use Rattle.std.specs.Prelude.{◌≡◌};
-ghost use Rattle.writing.specs.Written.{Appended};
+ghost use Rattle.writing.specs.Pages.{with_text};
 ghost use Rattle.module.specs.Obeys.{heard_all};
 ghost use Rattle.module_answers.specs.Hearings.{ack_text, acks_text, heard_text};
 
 use module::state::Module;
-use writing::write::put;
-
-// The module after the bytes, and the place after the answer.
-#[derive(Clone, Copy)]
-pub struct Answered {
-    pub after: Module,
-    pub at: usize,
-}
+use writing::page::Page;
 
 // ack or nack, after a blank.
-fn put_ack(out: &mut [u8], at: usize, ack: bool) -> usize
-    ensures { Appended out.old at (ack_text ack) out.new result }
+fn put_ack(page: &mut Page, ack: bool)
+    ensures { page.new ≡ with_text page.old (ack_text ack) }
 {
     if ack {
-        return put(out, at, b" ack");
+        page.put(b" ack");
+    } else {
+        page.put(b" nack");
     }
-    put(out, at, b" nack")
 }
 
-// A word for each byte.
-fn put_acks(m: Module, s: &[u8], out: &mut [u8], at: usize) -> Answered
-    ensures { (result.after ≡ heard_all m s.now) × Appended out.old at (acks_text m s.now) out.new result.at }
+// A word for each byte. Answers the module after them.
+fn put_acks(page: &mut Page, m: Module, s: &[u8]) -> Module
+    ensures after { result ≡ heard_all m s.now }
+    ensures text { page.new ≡ with_text page.old (acks_text m s.now) }
 {
     let mut after = m;
-    let mut to = at;
-    let mut i: usize = 0;
-    while i < s.len() {
-        let h = after.receive(s[i]);
-        i += 1;
-        to = put_ack(out, to, h.ack);
+    for b in s {
+        let h = after.receive(*b);
+        put_ack(page, h.ack);
         after = h.after;
     }
-    Answered { after, at: to }
+    after
 }
 
-// The bytes of a slice, in order.
-pub fn put_heard(m: Module, s: &[u8], out: &mut [u8], at: usize) -> Answered
-    ensures { (result.after ≡ heard_all m s.now) × Appended out.old at (heard_text m s.now) out.new result.at }
+// The bytes of a slice, in order. Answers the module after them.
+pub fn put_heard(page: &mut Page, m: Module, s: &[u8]) -> Module
+    ensures after { result ≡ heard_all m s.now }
+    ensures text { page.new ≡ with_text page.old (heard_text m s.now) }
 {
-    let a = put(out, at, b"0");
-    let r = put_acks(m, s, out, a);
-    let after = r.after;
-    let b = put(out, r.at, b"\n");
-    Answered { after, at: b }
+    page.put(b"0");
+    let after = put_acks(page, m, s);
+    page.put(b"\n");
+    after
 }

@@ -9,6 +9,8 @@ ghost use Rattle.pec.specs.Fold.{folded as foldedBack};
 mod remainders;
 pub mod table;
 
+use table::Table;
+
 // n times x^8, folded back: x^8 leaves x^2+x+1, so it is n times that, where bits are added without carries.
 fn folded(n: u16) -> u16
     requires { n < 256 }
@@ -31,8 +33,7 @@ pub fn add_byte(c: u8, b: u8) -> u8
 pub fn add_bytes(c: u8, s: &[u8]) -> u8
     ensures { result ≡ pec_from c s.now }
 {
-    let t = table::table();
-    table::add_bytes_by(&t, c, s)
+    Table::new().add_bytes(c, s)
 }
 
 // The PEC of bytes, from the first on.

@@ -1,6 +1,6 @@
-// Pieces of what the console prints: labels with numbers, identifiers, lists. Each function writes its text into a lent buffer from a place
-// on, as crate writing does, and answers the place after it. Rests on crates writing and udid.
-#![tactic(auto)]
+// Pieces of what the console prints: labels with numbers, identifiers, lists. Each function adds its text to a page of crate writing.
+// Rests on crates writing and udid.
+#![tactic(auto, using(crate::specs::PieceLaws::pieces))]
 
 pub mod list;
 pub mod piece;

@@ -23,9 +23,8 @@ use Rattle.udid.specs.Bytes.{number_from, bytes_of, bytes_from, udid_bytes, udid
 use Rattle.slots.specs.Slots.{held_at, with_binding, no_bindings}
 use Rattle.arp.specs.Numbers.{command_number}
 use Rattle.targets.specs.AdmissionLaws.{admitted_targets}
-use Rattle.targets.specs.First.{first_from}
 use Rattle.targets.specs.Records.{target_at, targets_of, put_target, records_with}
-use Rattle.targets.specs.Refusals.{among_records, checked_list}
+use Rattle.targets.specs.Refusals.{checked_list}
 use Rattle.bindings.proofs.BufferLaws.{bytes_there}
 use Rattle.udid.specs.declared.Udid.{Udid}
 use Rattle.bindings.specs.Entries.{entry_bytes, buffer_of, bound_from, bound_set}
@@ -169,7 +168,7 @@ shows m v b h =
     )
 
 pub comes_8 : Comes run8
-unfolding among_records checked_list first_from starting_pool barred_pool union_of listed_pool reserved_pool member digit with_address plus free_from next_free is_picked_for number_from bytes_from bytes_of udid_at udid_bytes target_at plain_choice put_target bound_from used count held_at with_binding no_bindings
+unfolding checked_list starting_pool barred_pool union_of listed_pool reserved_pool member digit with_address plus free_from next_free is_picked_for number_from bytes_from bytes_of udid_at udid_bytes target_at plain_choice put_target bound_from used count held_at with_binding no_bindings
 comes_8 = record {
   let_in = omega arith;
   bytes = computed run8.records refl;
@@ -187,7 +186,7 @@ comes_8 = record {
 }
 
 pub comes_9 : Comes run9
-unfolding among_records checked_list first_from starting_pool barred_pool union_of listed_pool reserved_pool member digit with_address plus free_from next_free is_picked_for number_from bytes_from bytes_of udid_at udid_bytes target_at plain_choice put_target bound_from used count held_at with_binding no_bindings
+unfolding checked_list starting_pool barred_pool union_of listed_pool reserved_pool member digit with_address plus free_from next_free is_picked_for number_from bytes_from bytes_of udid_at udid_bytes target_at plain_choice put_target bound_from used count held_at with_binding no_bindings
 comes_9 = record {
   let_in = omega arith;
   bytes = computed run9.records refl;
@@ -205,7 +204,7 @@ comes_9 = record {
 }
 
 pub comes_10 : Comes run10
-unfolding among_records checked_list first_from starting_pool barred_pool union_of listed_pool reserved_pool member digit with_address plus free_from next_free is_picked_for number_from bytes_from bytes_of udid_at udid_bytes target_at plain_choice put_target bound_from used count held_at with_binding no_bindings
+unfolding checked_list starting_pool barred_pool union_of listed_pool reserved_pool member digit with_address plus free_from next_free is_picked_for number_from bytes_from bytes_of udid_at udid_bytes target_at plain_choice put_target bound_from used count held_at with_binding no_bindings
 comes_10 = record {
   let_in = omega arith;
   bytes = computed run10.records refl;
@@ -223,7 +222,7 @@ comes_10 = record {
 }
 
 pub comes_vacated : Comes run_vacated
-unfolding among_records checked_list first_from starting_pool barred_pool union_of listed_pool reserved_pool member digit with_address plus free_from next_free is_picked_for number_from bytes_from bytes_of udid_at udid_bytes target_at plain_choice put_target bound_from used count held_at with_binding no_bindings
+unfolding checked_list starting_pool barred_pool union_of listed_pool reserved_pool member digit with_address plus free_from next_free is_picked_for number_from bytes_from bytes_of udid_at udid_bytes target_at plain_choice put_target bound_from used count held_at with_binding no_bindings
 comes_vacated = record {
   let_in = omega arith;
   bytes = computed run_vacated.records refl;
@@ -241,7 +240,7 @@ comes_vacated = record {
 }
 
 pub comes_round : Comes run_round
-unfolding among_records checked_list first_from starting_pool barred_pool union_of listed_pool reserved_pool member digit with_address plus free_from next_free is_picked_for number_from bytes_from bytes_of udid_at udid_bytes target_at plain_choice put_target bound_from used count held_at with_binding no_bindings
+unfolding checked_list starting_pool barred_pool union_of listed_pool reserved_pool member digit with_address plus free_from next_free is_picked_for number_from bytes_from bytes_of udid_at udid_bytes target_at plain_choice put_target bound_from used count held_at with_binding no_bindings
 comes_round = record {
   let_in = omega arith;
   bytes = computed run_round.records refl;

@@ -43,6 +43,7 @@ pub struct Refused {
 pub type Decoded = Result<Transaction, Refused>;
 
 // The scope's number of a refusal.
+// Kept: no `From<Refusal> for u8`, as C and the console would then read `u32::from(u8::from(w))`; the documents name this function.
 pub fn refusal_number(w: Refusal) -> u8
     ensures { result ≡ refusal_number w }
 {

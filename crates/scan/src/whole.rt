@@ -1,28 +1,25 @@
 // The fold of the step over a whole trace, and its answer.
 ghost use Rattle.std.specs.Prelude.{◌≡◌, ◌%◌};
 ghost use Rattle.pec.specs.Pec.{pec_step};
-ghost use Rattle.pec.specs.Table.{Remainders};
 ghost use Rattle.step.specs.State.{fresh};
 ghost use Rattle.scan.specs.Run.{run, decoded_by};
 
 use crate::answer::{Decoded, Refused};
 use crate::ending::finished;
 use crate::refusal::why_not;
-use pec::table::{add_byte_by, table};
+use pec::table::Table;
 use step::next::Rules;
 use step::state::{Decoder, start};
 
 // The PEC with a symbol's low byte, by the table that is lent.
-fn pec_after(t: &[u8; 256], c: u8, x: u16) -> u8
-    requires { Remainders t.now }
+fn pec_after(t: &Table, c: u8, x: u16) -> u8
     ensures { result ≡ pec_step c (x % 256) }
 {
-    add_byte_by(t, c, (x % 256) as u8)
+    t.add_byte(c, (x % 256) as u8)
 }
 
 // The state at the trace's end, or the refusal at the first symbol that may not stand where it does. The table is lent for the whole trace.
-fn read_by(t: &[u8; 256], rules: Rules, tr: &[u16]) -> Result<Decoder, Refused>
-    requires { Remainders t.now }
+fn read_by(t: &Table, rules: Rules, tr: &[u16]) -> Result<Decoder, Refused>
     ensures { result ≡ run rules.shape rules.pec fresh 0 tr.now }
 {
     let mut d = start();
@@ -39,6 +36,6 @@ fn read_by(t: &[u8; 256], rules: Rules, tr: &[u16]) -> Result<Decoder, Refused>
 pub fn decode_by(protocol: u8, rules: Rules, tr: &[u16]) -> Decoded
     ensures { result ≡ decoded_by protocol rules.shape rules.pec tr.now }
 {
-    let d = read_by(&table(), rules, tr)?;
+    let d = read_by(&Table::new(), rules, tr)?;
     finished(protocol, rules.shape, d, tr)
 }

@@ -1,6 +1,6 @@
 // The line of a step, with what its trace was taken for.
 ghost use Rattle.std.specs.Prelude.{◌≡◌};
-ghost use Rattle.writing.specs.Written.{Appended};
+ghost use Rattle.writing.specs.Pages.{with_text};
 ghost use Rattle.hearing.specs.Heard.{answer};
 ghost use Rattle.hearing.specs.Told.{tells};
 ghost use Rattle.step_words.specs.Taken.{taken_for};
@@ -14,7 +14,7 @@ use scan::answer::Decoded;
 use scan::whole::decode_by;
 use step::next::Rules;
 use trace::protocol::{BLOCK_READ, BLOCK_WRITE, SEND_BYTE, shape_of};
-use writing::write::put;
+use writing::page::Page;
 
 // What a trace decodes to as a protocol, with PEC.
 fn decoded_as(protocol: u8, tr: &[u16]) -> Decoded
@@ -25,45 +25,48 @@ fn decoded_as(protocol: u8, tr: &[u16]) -> Decoded
 }
 
 // What the trace was taken for, by the command that was outstanding and the number of the step's answer.
-fn put_taken(out: &mut [u8], at: usize, n: u64, k: Command, tr: &[u16]) -> usize
-    ensures { Appended out.old at (taken_for n k tr.now) out.new result }
+#[tactic(auto, using(pieces::specs::PieceLaws::pieces), unfolding(crate::specs::Taken::taken_for))]
+fn put_taken(page: &mut Page, n: u64, k: Command, tr: &[u16])
+    ensures { page.new ≡ with_text page.old (taken_for n k tr.now) }
 {
     let told = tell(Handed::Send(k), tr);
     match k {
-        Command::Prepare => put_prepare(out, at, told, decoded_as(SEND_BYTE, tr)),
-        Command::GetUdid => put_get(out, at, n, told, decoded_as(BLOCK_READ, tr)),
-        Command::Assign(_, _) => put_assign(out, at, n, told, decoded_as(BLOCK_WRITE, tr)),
+        Command::Prepare => put_prepare(page, told, decoded_as(SEND_BYTE, tr)),
+        Command::GetUdid => put_get(page, n, told, decoded_as(BLOCK_READ, tr)),
+        Command::Assign(_, _) => put_assign(page, n, told, decoded_as(BLOCK_WRITE, tr)),
     }
 }
 
 // What stands before it: a colon where the line has no words yet, which is at 0, and a semicolon where it has.
-fn put_mark(out: &mut [u8], at: usize, n: u64) -> usize
-    ensures { Appended out.old at (mark_text n) out.new result }
+fn put_mark(page: &mut Page, n: u64)
+    ensures { page.new ≡ with_text page.old (mark_text n) }
 {
     if n == 0 {
-        return put(out, at, b": ");
+        page.put(b": ");
+    } else {
+        page.put(b"; ");
     }
-    put(out, at, b"; ")
 }
 
 // What is added to the line: nothing where no command was outstanding.
-fn put_added(out: &mut [u8], at: usize, n: u64, last: Handed, tr: &[u16]) -> usize
-    ensures { Appended out.old at (added_text n last tr.now) out.new result }
+fn put_added(page: &mut Page, n: u64, last: Handed, tr: &[u16])
+    ensures { page.new ≡ with_text page.old (added_text n last tr.now) }
 {
     match last {
         Handed::Send(k) => {
-            let to = put_mark(out, at, n);
-            put_taken(out, to, n, k, tr)
+            put_mark(page, n);
+            put_taken(page, n, k, tr);
         }
-        Handed::Wait(_) => at,
+        Handed::Wait(_) => {}
     }
 }
 
 // The answer of a step in words: what was outstanding before it, and its trace.
-pub fn put_stepped(out: &mut [u8], at: usize, answer: &[u8], last: Handed, tr: &[u16]) -> usize
-    ensures { Appended out.old at (stepped_text answer.now last tr.now) out.new result }
+#[tactic(auto, using(pieces::specs::PieceLaws::pieces), unfolding(crate::specs::Stepped::stepped_text))]
+pub fn put_stepped(page: &mut Page, answer: &[u8], last: Handed, tr: &[u16])
+    ensures { page.new ≡ with_text page.old (stepped_text answer.now last tr.now) }
 {
-    let a = put_headed(out, at, answer);
-    let b = put_added(out, a, number_of(answer), last, tr);
-    put_rest(out, b, answer)
+    put_headed(page, answer);
+    put_added(page, number_of(answer), last, tr);
+    put_rest(page, answer);
 }

@@ -1,16 +1,11 @@
 -- The first number that passes a test.
-use Rattle.std.specs.Prelude.{ℕ, zero, suc, Bool, ltb}
-use Rattle.lists.specs.Choice.{pick}
+use Rattle.std.specs.Prelude.{ℕ, Bool, Option}
+use Rattle.std.specs.List.{find, list_any, range_with_len}
 
--- the first of the n numbers from i on that passes; where none does, the number after them
-unfoldable pub first_from : (ℕ → Bool) → ℕ → ℕ → ℕ
-first_from test zero i = i
-first_from test (suc n) i = pick (test i) i (first_from test n (suc i))
-
--- the first number below n that passes, or n
-abbrev pub first : (ℕ → Bool) → ℕ → ℕ
-first test n = first_from test n 0
+-- the first number below n that passes, if one does
+abbrev pub first : (ℕ → Bool) → ℕ → Option ℕ
+first test n = find test (range_with_len 0 n)
 
 -- some number below n passes
 abbrev pub some : (ℕ → Bool) → ℕ → Bool
-some test n = ltb (first test n) n
+some test n = list_any test (range_with_len 0 n)

@@ -1,79 +1,48 @@
--- The first number that passes a test: how a loop finds it, and what it says.
-use Rattle.std.specs.Prelude.{ℕ, zero, suc, ◌+◌, ◌-◌, ◌≤◌, ◌<◌, ◌≡◌, refl, Bool, true, false}
-use Rattle.std.proofs.Common.{sym, ap, ◌∙◌, add-one, arith, ltb-false}
+-- The first number that passes a test: what it says of the numbers.
+use Rattle.std.specs.Prelude.{ℕ, zero, suc, ◌+◌, ◌≤◌, ◌<◌, ◌≡◌, refl, Bool, true, false, cond, ◌||◌, Option, Some, None, is_some, List, [], ◌∷◌, ◌↔◌}
+use Rattle.std.specs.List.{find, list_any, range_with_len}
+use Rattle.std.proofs.Common.{sym, ap, ◌∙◌, arith}
 use Rattle.std.proofs.Math.Decide.{ℕ_discrete}
-use Rattle.std.proofs.Math.Nat.{sub-zero}
-use Rattle.lists.specs.Choice.{pick}
-use Rattle.targets.specs.First.{first_from, first, some}
+use Rattle.lists.specs.ChoiceLaws.{not_both}
+use Rattle.targets.specs.First.{first, some}
 
--- ---- for a loop: at the start, found, one further, at the end
+-- of the n numbers from a on none passes, or i is the first that does
+abbrev pub Found : (ℕ → Bool) → ℕ → ℕ → Option ℕ → Type 0
+Found test a n None = (j : ℕ) → a ≤ j → j < a + n → test j ≡ false
+Found test a n (Some i) = (a ≤ i) × (i < a + n) × (test i ≡ true) × ((j : ℕ) → a ≤ j → j < i → test j ≡ false)
 
-pub first_start : (p : ℕ → Bool) (n : ℕ) → first p n ≡ first_from p (n - 0) 0
-first_start p n = simp sub-zero
-
-pub first_found : (p : ℕ → Bool) (n i : ℕ) → i < n → p i ≡ true → first_from p (n - i) i ≡ i
-unfolding first_from
-first_found p n i h e = let m : n - i ≡ suc (n - (i + 1)) = omega arith in rw m (simp e)
-
-pub first_onward : (p : ℕ → Bool) (n i : ℕ) → i < n → p i ≡ false → first_from p (n - i) i ≡ first_from p (n - (i + 1)) (i + 1)
-unfolding first_from
-first_onward p n i h e = let m : n - i ≡ suc (n - (i + 1)) = omega arith in rw (m, add-one i) (simp e)
-
-pub first_end : (p : ℕ → Bool) (n i : ℕ) → i ≡ n → first_from p (n - i) i ≡ n
-unfolding first_from
-first_end p n i e = let m : n - i ≡ 0 = omega arith in rw m e
-
--- ---- what it says
-
-from_ge : (p : ℕ → Bool) (n i : ℕ) → i ≤ first_from p n i
-unfolding first_from
-from_ge p zero i = omega arith
-from_ge p (suc n) i = go (p i) (from_ge p n (suc i))
+pub found : (test : ℕ → Bool) (n a : ℕ) → Found test a n (find test (range_with_len a n))
+found test zero a = λ j h l. absurd (omega arith)
+found test (suc n) a = go (test a) refl (find test (range_with_len (a + 1) n)) (found test n (a + 1))
   where
-    go : (b : Bool) → suc i ≤ first_from p n (suc i) → i ≤ pick b i (first_from p n (suc i))
-    go true h = omega arith
-    go false h = omega arith
+    later : test a ≡ false → (j : ℕ) → a ≤ j → Dec (a ≡ j) → (a + 1 ≤ j → test j ≡ false) → test j ≡ false
+    later e j h (yes q) k = ap test (sym q) ∙ e
+    later e j h (no q) k = k (omega arith)
 
--- those before it do not pass
-from_before : (p : ℕ → Bool) (n i j : ℕ) → i ≤ j → j < first_from p n i → p j ≡ false
-unfolding first_from
-from_before p zero i j a h = absurd (omega arith)
-from_before p (suc n) i j a h = go (p i) refl (ℕ_discrete i j) (λ b k. from_before p n (suc i) j b k) h
+    go : (b : Bool) → test a ≡ b → (r : Option ℕ) → Found test (a + 1) n r → Found test a (suc n) (cond b (Some a) r)
+    go true e r f = (omega arith, omega arith, e, λ j h l. absurd (omega arith))
+    go false e None f = λ j h l. later e j h (ℕ_discrete a j) (λ k. f j k (omega arith))
+    go false e (Some i) f = (omega (arith, f.0), omega (arith, f.1), f.2, λ j h l. later e j h (ℕ_discrete a j) (λ k. f.3 j k l))
+
+any_found : (test : ℕ → Bool) (xs : List ℕ) → list_any test xs ≡ is_some (find test xs)
+any_found test [] = refl
+any_found test (x ∷ xs) = go (test x) (any_found test xs)
   where
-    go : (b : Bool) → p i ≡ b → Dec (i ≡ j) → (suc i ≤ j → j < first_from p n (suc i) → p j ≡ false) → j < pick b i (first_from p n (suc i)) → p j ≡ false
-    go true e d ih k = absurd (omega arith)
-    go false e (yes q) ih k = ap p (sym q) ∙ e
-    go false e (no q) ih k = ih (omega arith) k
+    go : (b : Bool) → list_any test xs ≡ is_some (find test xs) → (b || list_any test xs) ≡ is_some (cond b (Some x) (find test xs))
+    go true h = refl
+    go false h = h
 
--- it passes
-from_passes : (p : ℕ → Bool) (n i : ℕ) → first_from p n i < i + n → p (first_from p n i) ≡ true
-unfolding first_from
-from_passes p zero i h = absurd (omega arith)
-from_passes p (suc n) i h = go (p i) refl (λ k. from_passes p n (suc i) k) h
+-- some number below n passes
+pub some_exactly : (test : ℕ → Bool) (n : ℕ) → (some test n ≡ true) ↔ ((j : ℕ) × (j < n) × (test j ≡ true))
+some_exactly test n = (
+  λ e. there (first test n) (found test n 0) (sym (any_found test (range_with_len 0 n)) ∙ e),
+  λ h. any_found test (range_with_len 0 n) ∙ back (first test n) (found test n 0) h,
+)
   where
-    go : (b : Bool) → p i ≡ b → (first_from p n (suc i) < suc i + n → p (first_from p n (suc i)) ≡ true)
-        → pick b i (first_from p n (suc i)) < i + suc n → p (pick b i (first_from p n (suc i))) ≡ true
-    go true e ih k = e
-    go false e ih k = ih (omega arith)
+    there : (r : Option ℕ) → Found test 0 n r → is_some r ≡ true → (j : ℕ) × (j < n) × (test j ≡ true)
+    there None f e = not_both refl e
+    there (Some i) f e = (i, omega (arith, f.1), f.2)
 
-from_le : (p : ℕ → Bool) (n i : ℕ) → first_from p n i ≤ i + n
-unfolding first_from
-from_le p zero i = omega arith
-from_le p (suc n) i = go (p i) (from_le p n (suc i))
-  where
-    go : (b : Bool) → first_from p n (suc i) ≤ suc i + n → pick b i (first_from p n (suc i)) ≤ i + suc n
-    go true h = omega arith
-    go false h = omega arith
-
-pub first_le : (p : ℕ → Bool) (n : ℕ) → first p n ≤ n
-first_le p n = omega (arith, from_le p n 0)
-
-pub first_before : (p : ℕ → Bool) (n j : ℕ) → j < first p n → p j ≡ false
-first_before p n j h = from_before p n 0 j (omega arith) h
-
-pub first_passes : (p : ℕ → Bool) (n : ℕ) → first p n < n → p (first p n) ≡ true
-first_passes p n h = from_passes p n 0 (omega arith)
-
--- where none below n passes
-pub none_below : (p : ℕ → Bool) (n : ℕ) → some p n ≡ false → (j : ℕ) → j < n → p j ≡ false
-none_below p n e j h = first_before p n j (omega (arith, ltb-false (first p n) n e))
+    back : (r : Option ℕ) → Found test 0 n r → (j : ℕ) × (j < n) × (test j ≡ true) → is_some r ≡ true
+    back None f h = not_both (f h.0 (omega arith) (omega (arith, h.1))) h.2
+    back (Some i) f h = refl

@@ -1,20 +1,19 @@
 -- Each answer of the check is given in its listed case, and in no other.
 use Prim.Native.Nat.{ℕ, ◌/◌, ◌%◌, ◌<◌}
-use Rattle.std.specs.Prelude.{◌≡◌, Bool, true, false, ◌↔◌, List, eqb, ltb, length, Ok, Err}
+use Rattle.std.specs.Prelude.{◌≡◌, Bool, true, false, ◌↔◌, Option, Some, None, List, eqb, ltb, length, Ok, Err}
 use Rattle.std.proofs.Math.Path.{refl}
-use Rattle.std.proofs.Common.{sym, ap, ◌∙◌, subst, arith, ltb-true, lt-ltb, le-ltb}
+use Rattle.std.proofs.Common.{sym, ap, ◌∙◌, subst, arith}
 use Rattle.std.proofs.Math.Decide.{dec_lt}
 use Rattle.lists.specs.Choice.{pick, or, not}
-use Rattle.lists.specs.ChoiceLaws.{not_both}
 use Rattle.lists.specs.TestLaws.{eqb_is, ltb_is, or_is, and_is, not_is, false_is}
 use Rattle.pool.specs.Pools.{member}
 use Rattle.pool.specs.declared.Pool.{Pool}
 use Rattle.udid.specs.Udids.{is_fixed}
 use Rattle.udid.proofs.UdidLaws.{same_is}
 use Rattle.targets.specs.First.{first, some}
-use Rattle.targets.specs.FirstLaws.{first_before, first_passes, none_below}
+use Rattle.targets.specs.FirstLaws.{Found, found, some_exactly}
 use Rattle.targets.specs.Records.{udid_of, address_byte, flag_of, record_count}
-use Rattle.targets.specs.Refusals.{is_bad_length, is_malformed, is_same_as, is_repeated, is_fixed_as, is_taken, among_records, checked_list}
+use Rattle.targets.specs.Refusals.{is_bad_length, is_malformed, is_same_as, is_repeated, is_fixed_as, is_taken, checked_list, refused_by}
 use Rattle.targets.specs.Cases.{LengthIsBad, MalformedAt, RepeatedAt, TakenAt, NoneOf, FirstOf, Given}
 use Rattle.targets.specs.Numbers.{Answer, answer_of}
 use Rattle.targets.specs.Checked.{Checked}
@@ -22,37 +21,35 @@ use Rattle.targets.specs.declared.admit.ListError.TheVariants.{BadLength, Malfor
 
 -- ---- a test and what it is a test of
 
+-- of the first n records none is so, or i is the first that is
+abbrev FirstIs : (ℕ → Type 0) → ℕ → Option ℕ → Type 0
+FirstIs P n None = NoneOf P n
+FirstIs P n (Some i) = FirstOf P n i
+
+one_first : (P : ℕ → Type 0) (n : ℕ) (r t : Option ℕ) → FirstIs P n r → FirstIs P n t → r ≡ t
+one_first P n None None h g = refl
+one_first P n None (Some i) h g = absurd (h i g.below g.holds)
+one_first P n (Some i) None h g = absurd (g i h.below h.holds)
+one_first P n (Some i) (Some j) h g = ap Some (go (dec_lt i j) (dec_lt j i))
+  where
+    go : Dec (i < j) → Dec (j < i) → i ≡ j
+    go (yes l) d = absurd (g.none_before i l h.holds)
+    go (no l) (yes k) = absurd (h.none_before j k g.holds)
+    go (no l) (no k) = omega arith
+
 module _ (test : ℕ → Bool) (P : ℕ → Type 0) (decides : (i : ℕ) → (test i ≡ true) ↔ P i) where
   false_then_not : (i : ℕ) → test i ≡ false → P i → ⊥
   false_then_not i e h = (false_is (test i) (decides i)).0 e h
 
-  some_first : (n : ℕ) → some test n ≡ true → FirstOf P n (first test n)
-  some_first n e =
-      let l = ltb-true (first test n) n e in
-      record { below = l; holds = (decides (first test n)).0 (first_passes test n l); none_before = λ j h. false_then_not j (first_before test n j h) }
-
-  some_none : (n : ℕ) → some test n ≡ false → NoneOf P n
-  some_none n e i h = false_then_not i (none_below test n e i h)
-
-  none_some : (n : ℕ) → NoneOf P n → some test n ≡ false
-  none_some n h = go (dec_lt (first test n) n)
+  first_is : (n : ℕ) → FirstIs P n (first test n)
+  first_is n = go (first test n) (found test n 0)
     where
-      go : Dec (first test n < n) → some test n ≡ false
-      go (yes l) = absurd (h (first test n) l ((decides (first test n)).0 (first_passes test n l)))
-      go (no l) = le-ltb (first test n) n (omega arith)
+      go : (r : Option ℕ) → Found test 0 n r → FirstIs P n r
+      go None f = λ j l. false_then_not j (f j (omega arith) (omega arith))
+      go (Some i) f = record { below = omega (arith, f.1); holds = (decides i).0 f.2; none_before = λ j l. false_then_not j (f.3 j (omega arith) l) }
 
-  first_unique : (n i : ℕ) → FirstOf P n i → first test n ≡ i
-  first_unique n i h = go (dec_lt (first test n) i) (dec_lt i (first test n))
-    where
-      go : Dec (first test n < i) → Dec (i < first test n) → first test n ≡ i
-      go (yes l) d =
-          let k : i < n = h.below in
-          absurd (h.none_before (first test n) l ((decides (first test n)).0 (first_passes test n (omega arith))))
-      go (no l) (yes k) = not_both (first_before test n i k) ((decides i).1 h.holds)
-      go (no l) (no k) = omega arith
-
-  first_some : (n i : ℕ) → FirstOf P n i → some test n ≡ true
-  first_some n i h = lt-ltb (first test n) n (omega (arith, first_unique n i h, h.below))
+  first_exactly : (n : ℕ) (r : Option ℕ) → FirstIs P n r → first test n ≡ r
+  first_exactly n r h = one_first P n (first test n) r (first_is n) h
 
 -- ---- the four tests
 
@@ -61,17 +58,6 @@ bad_length_exactly s = or_is (ltb 2160 (length s)) (not (eqb (length s % 18) 0))
 
 malformed_exactly : (s : List ℕ) (i : ℕ) → (is_malformed s i ≡ true) ↔ MalformedAt s i
 malformed_exactly s i = or_is (eqb (address_byte s i % 2) 0) (ltb 1 (flag_of s i)) (eqb_is (address_byte s i % 2) 0) (ltb_is 1 (flag_of s i))
-
--- some number below n passes a test
-some_exactly : (test : ℕ → Bool) (n : ℕ) → (some test n ≡ true) ↔ ((j : ℕ) × (j < n) × (test j ≡ true))
-some_exactly test n = (
-  λ e. let l = ltb-true (first test n) n e in (first test n, l, first_passes test n l),
-  λ h. go (some test n) refl h,
-)
-  where
-    go : (t : Bool) → some test n ≡ t → (j : ℕ) × (j < n) × (test j ≡ true) → some test n ≡ true
-    go true e h = e
-    go false e h = not_both (none_below test n e h.0 h.1) h.2
 
 repeated_exactly : (s : List ℕ) (i : ℕ) → (is_repeated s i ≡ true) ↔ RepeatedAt s i
 repeated_exactly s i = (
@@ -104,50 +90,49 @@ module _ (barred : Pool) (s : List ℕ) where
   not_bad_length : (LengthIsBad s → ⊥) → is_bad_length (length s) ≡ false
   not_bad_length n = (false_is (is_bad_length (length s)) (bad_length_exactly s)).1 n
 
+  malformed_is : (r : Option ℕ) → FirstIs (MalformedAt s) (record_count s) r → first (is_malformed s) (record_count s) ≡ r
+  malformed_is r h = first_exactly (is_malformed s) (MalformedAt s) (malformed_exactly s) (record_count s) r h
+
+  repeated_is : (r : Option ℕ) → FirstIs (RepeatedAt s) (record_count s) r → first (is_repeated s) (record_count s) ≡ r
+  repeated_is r h = first_exactly (is_repeated s) (RepeatedAt s) (repeated_exactly s) (record_count s) r h
+
+  taken_is : (r : Option ℕ) → FirstIs (TakenAt barred s) (record_count s) r → first (is_taken barred s) (record_count s) ≡ r
+  taken_is r h = first_exactly (is_taken barred s) (TakenAt barred s) (taken_exactly barred s) (record_count s) r h
+
   -- what the check answers is so
   pub checked_then_given : Given barred s (checked_list barred s)
-  unfolding checked_list among_records
-  checked_then_given = go (is_bad_length (length s)) refl (some (is_malformed s) n) refl (some (is_repeated s) n) refl (some (is_taken barred s) n) refl
+  unfolding checked_list
+  checked_then_given =
+      go (is_bad_length (length s)) refl (first (is_malformed s) n) (first (is_repeated s) n) (first (is_taken barred s) n)
+      (first_is (is_malformed s) (MalformedAt s) (malformed_exactly s) n) (first_is (is_repeated s) (RepeatedAt s) (repeated_exactly s) n) (first_is (is_taken barred s) (TakenAt barred s) (taken_exactly barred s) n)
     where
       n : ℕ
       n = record_count s
 
-      go : (a : Bool) → is_bad_length (length s) ≡ a → (b : Bool) → some (is_malformed s) n ≡ b → (c : Bool) → some (is_repeated s) n ≡ c → (d : Bool) → some (is_taken barred s) n ≡ d
-          → Given barred s
-          (pick a (Err BadLength)
-          (pick b (Err (Malformed (first (is_malformed s) n))) (pick c (Err (Repeated (first (is_repeated s) n))) (pick d (Err (Taken (first (is_taken barred s) n))) (Ok tt)))))
-      go true e b f c g d h = (bad_length_exactly s).0 e
-      go false e true f c g d h = (good_length_not_bad e, some_first (is_malformed s) (MalformedAt s) (malformed_exactly s) n f)
-      go false e false f true g d h = (
-        good_length_not_bad e,
-        some_none (is_malformed s) (MalformedAt s) (malformed_exactly s) n f,
-        some_first (is_repeated s) (RepeatedAt s) (repeated_exactly s) n g,
-      )
-      go false e false f false g true h = (
-        good_length_not_bad e,
-        some_none (is_malformed s) (MalformedAt s) (malformed_exactly s) n f,
-        some_none (is_repeated s) (RepeatedAt s) (repeated_exactly s) n g,
-        some_first (is_taken barred s) (TakenAt barred s) (taken_exactly barred s) n h,
-      )
-      go false e false f false g false h = (
-        good_length_not_bad e,
-        some_none (is_malformed s) (MalformedAt s) (malformed_exactly s) n f,
-        some_none (is_repeated s) (RepeatedAt s) (repeated_exactly s) n g,
-        some_none (is_taken barred s) (TakenAt barred s) (taken_exactly barred s) n h,
-      )
+      go : (a : Bool) → is_bad_length (length s) ≡ a → (b c d : Option ℕ) → FirstIs (MalformedAt s) n b → FirstIs (RepeatedAt s) n c → FirstIs (TakenAt barred s) n d
+          → Given barred s (pick a (Err BadLength) (refused_by b Malformed (refused_by c Repeated (refused_by d Taken (Ok tt)))))
+      go true e b c d f g h = (bad_length_exactly s).0 e
+      go false e (Some i) c d f g h = (good_length_not_bad e, f)
+      go false e None (Some i) d f g h = (good_length_not_bad e, f, g)
+      go false e None None (Some i) f g h = (good_length_not_bad e, f, g, h)
+      go false e None None None f g h = (good_length_not_bad e, f, g, h)
 
   -- and what is so is what it answers
+  checked_as : (a : Bool) (b c d : Option ℕ) → is_bad_length (length s) ≡ a → first (is_malformed s) (record_count s) ≡ b → first (is_repeated s) (record_count s) ≡ c → first (is_taken barred s) (record_count s) ≡ d
+      → pick a (Err BadLength) (refused_by b Malformed (refused_by c Repeated (refused_by d Taken (Ok tt)))) ≡ checked_list barred s
+  unfolding checked_list
+  checked_as a b c d p q r t =
+      ap (λ (x : Bool). pick x (Err BadLength) (refused_by b Malformed (refused_by c Repeated (refused_by d Taken (Ok tt))))) (sym p)
+      ∙ ap (λ (x : Option ℕ). pick (is_bad_length (length s)) (Err BadLength) (refused_by x Malformed (refused_by c Repeated (refused_by d Taken (Ok tt))))) (sym q)
+      ∙ ap (λ (x : Option ℕ). pick (is_bad_length (length s)) (Err BadLength) (refused_by (first (is_malformed s) (record_count s)) Malformed (refused_by x Repeated (refused_by d Taken (Ok tt))))) (sym r)
+      ∙ ap (λ (x : Option ℕ). pick (is_bad_length (length s)) (Err BadLength) (refused_by (first (is_malformed s) (record_count s)) Malformed (refused_by (first (is_repeated s) (record_count s)) Repeated (refused_by x Taken (Ok tt))))) (sym t)
+
   pub given_then_checked : (r : Checked) → Given barred s r → r ≡ checked_list barred s
-  unfolding checked_list among_records
-  given_then_checked (Err BadLength) h = rw ((bad_length_exactly s).1 h)
-  given_then_checked (Err (Malformed i)) h =
-      rw (not_bad_length h.0, first_some (is_malformed s) (MalformedAt s) (malformed_exactly s) (record_count s) i h.1, first_unique (is_malformed s) (MalformedAt s) (malformed_exactly s) (record_count s) i h.1)
-  given_then_checked (Err (Repeated i)) h =
-      rw (not_bad_length h.0, none_some (is_malformed s) (MalformedAt s) (malformed_exactly s) (record_count s) h.1, first_some (is_repeated s) (RepeatedAt s) (repeated_exactly s) (record_count s) i h.2, first_unique (is_repeated s) (RepeatedAt s) (repeated_exactly s) (record_count s) i h.2)
-  given_then_checked (Err (Taken i)) h =
-      rw (not_bad_length h.0, none_some (is_malformed s) (MalformedAt s) (malformed_exactly s) (record_count s) h.1, none_some (is_repeated s) (RepeatedAt s) (repeated_exactly s) (record_count s) h.2, first_some (is_taken barred s) (TakenAt barred s) (taken_exactly barred s) (record_count s) i h.3, first_unique (is_taken barred s) (TakenAt barred s) (taken_exactly barred s) (record_count s) i h.3)
-  given_then_checked (Ok tt) h =
-      rw (not_bad_length h.0, none_some (is_malformed s) (MalformedAt s) (malformed_exactly s) (record_count s) h.1, none_some (is_repeated s) (RepeatedAt s) (repeated_exactly s) (record_count s) h.2, none_some (is_taken barred s) (TakenAt barred s) (taken_exactly barred s) (record_count s) h.3)
+  given_then_checked (Err BadLength) h = checked_as true _ _ _ ((bad_length_exactly s).1 h) refl refl refl
+  given_then_checked (Err (Malformed i)) h = checked_as false (Some i) _ _ (not_bad_length h.0) (malformed_is (Some i) h.1) refl refl
+  given_then_checked (Err (Repeated i)) h = checked_as false None (Some i) _ (not_bad_length h.0) (malformed_is None h.1) (repeated_is (Some i) h.2) refl
+  given_then_checked (Err (Taken i)) h = checked_as false None None (Some i) (not_bad_length h.0) (malformed_is None h.1) (repeated_is None h.2) (taken_is (Some i) h.3)
+  given_then_checked (Ok tt) h = checked_as false None None None (not_bad_length h.0) (malformed_is None h.1) (repeated_is None h.2) (taken_is None h.3)
 
   -- EACH OF 9, 10, 11 AND 12 IS GIVEN EXACTLY IN ITS LISTED CASE, with the first record, and in that order
   pub given_exactly : (r : Checked) → (r ≡ checked_list barred s) ↔ Given barred s r

@@ -1,31 +1,28 @@
 -- Who wins on the wire, found over the records one after the other, and what a winner is.
-use Rattle.std.specs.Prelude.{ℕ, zero, suc, ◌≤◌, ◌<◌, ◌≡◌, Option, Some, None, List, eqb, ltb}
+use Rattle.std.specs.Prelude.{ℕ, zero, suc, ◌≤◌, ◌<◌, ◌≡◌, Bool, true, false, Option, Some, None, List, eqb}
 use Rattle.lists.specs.Choice.{pick}
 use Rattle.udid.specs.Udids.{value, is_below}
 use Rattle.targets.specs.Cases.{NoneOf}
 use Rattle.targets.specs.Records.{udid_of, flag_of, target_at, record_count}
 use Rattle.targets.specs.Reply.{reply_bytes, OnWire, silence, shown}
 
--- the better of record i and the best so far, n where there is none yet
-unfoldable pub better_of : List ℕ → ℕ → ℕ → ℕ → ℕ
-better_of s n i best =
-    pick (eqb (flag_of s i) 1) best
-    (pick (ltb best n) (pick (is_below (udid_of s i) (udid_of s best)) i best) i)
+-- record i comes before the best so far; where there is none yet, it does
+abbrev pub is_before : List ℕ → ℕ → Option ℕ → Bool
+is_before s i None = true
+is_before s i (Some b) = is_below (udid_of s i) (udid_of s b)
 
--- the best of the k records from i on and the best so far
-unfoldable pub best_from : List ℕ → ℕ → ℕ → ℕ → ℕ → ℕ
-best_from s n zero i best = best
-best_from s n (suc k) i best = best_from s n k (suc i) (better_of s n i best)
+-- it answers, and comes before it
+unfoldable pub is_better : List ℕ → ℕ → Option ℕ → Bool
+is_better s i best = pick (eqb (flag_of s i) 1) false (is_before s i best)
 
-abbrev pub least_of : List ℕ → ℕ → ℕ
-least_of s n = best_from s n n 0 n
+-- the best of the first n records
+unfoldable pub least_of : List ℕ → ℕ → Option ℕ
+least_of s zero = None
+least_of s (suc n) = pick (is_better s n (least_of s n)) (Some n) (least_of s n)
 
 -- the unresolved record with the least identifier
-abbrev pub winner_among : List ℕ → ℕ → Option ℕ
-winner_among s n = pick (ltb (least_of s n) n) (Some (least_of s n)) None
-
 unfoldable pub winner_of : List ℕ → Option ℕ
-winner_of s = winner_among s (record_count s)
+winner_of s = least_of s (record_count s)
 
 -- ---- what the winner is
 
@@ -39,9 +36,13 @@ pub record Wins (s : List ℕ) (n w : ℕ) : Type 0 where
   pub least : (j : ℕ) → j < n → Unresolved s j → value (udid_of s w) ≤ value (udid_of s j)
   pub earliest : (j : ℕ) → j < w → Unresolved s j → value (udid_of s w) < value (udid_of s j)
 
+-- of the first n records: the winner, or that none is unresolved
+abbrev pub WonOf : List ℕ → ℕ → Option ℕ → Type 0
+WonOf s n None = NoneOf (Unresolved s) n
+WonOf s n (Some w) = Wins s n w
+
 abbrev pub Won : List ℕ → Option ℕ → Type 0
-Won s (Some w) = Wins s (record_count s) w
-Won s None = NoneOf (Unresolved s) (record_count s)
+Won s r = WonOf s (record_count s) r
 
 -- what stands on the wire: the reply of the winner
 abbrev pub shown_by : List ℕ → Option ℕ → OnWire

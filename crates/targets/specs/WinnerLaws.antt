@@ -1,13 +1,13 @@
 -- The winner is the unresolved record with the least identifier, and its reply is what the wire shows.
-use Prim.Native.Nat.{ℕ, zero, suc, ◌+◌, ◌*◌, ◌≤◌, ◌<◌}
-use Rattle.std.specs.Prelude.{◌≡◌, Bool, ◌⊎◌, ◌↔◌, Option, Some, None, List, ltb}
+use Prim.Native.Nat.{ℕ, zero, suc, ◌*◌, ◌≤◌, ◌<◌}
+use Rattle.std.specs.Prelude.{◌≡◌, Bool, ◌⊎◌, ◌↔◌, Option, Some, None, List}
 use Rattle.std.proofs.Math.Path.{refl, subst}
 use Rattle.std.proofs.Common.{sym, ap, ◌∙◌, inl, inr}
 use Rattle.std.proofs.Math.Bool.{true, false}
 use Rattle.std.proofs.Math.Decide.{ℕ_discrete, dec_lt}
 use native.Mathlib.Omega.{arith}
 use Rattle.std.proofs.Math.Dec.{eqb}
-use borrow.Author.Tests.{ltb-true, ltb-false, lt-ltb, le-ltb, eqb-true, eqb-false, ne_eqb}
+use borrow.Author.Tests.{ltb-true, ltb-false, eqb-true, eqb-false, ne_eqb}
 use Rattle.lists.specs.Choice.{pick}
 use Rattle.lists.specs.Each.{Bytes}
 use Rattle.udid.specs.Udids.{value, is_below}
@@ -17,16 +17,13 @@ use Rattle.arbitration.specs.DropOut.{sharing}
 use Rattle.targets.specs.Target.{Target, is_resolved, Sized}
 use Rattle.targets.specs.Records.{udid_of, flag_of, target_at, record_count, targets_of}
 use Rattle.targets.specs.Cases.{RepeatedAt, NoneOf}
-use Rattle.targets.specs.Winner.{better_of, best_from, least_of, winner_of, Unresolved, Wins, Won, shown_by}
+use Rattle.targets.specs.Winner.{is_before, is_better, least_of, winner_of, Unresolved, Wins, WonOf, Won, shown_by}
 use Rattle.targets.specs.Reply.{sends, waiting, on_wire}
 use Rattle.targets.specs.Members.{Least}
 use Rattle.targets.specs.ReplyLaws.{nobody_on_wire, least_on_wire, least_sending}
 use Rattle.targets.specs.IndexLaws.{target_has_record, record_has_target, sized_at}
 
 -- ---- the search finds it
-
-abbrev Best : List ℕ → ℕ → ℕ → ℕ → Type 0
-Best s n i best = ((best ≡ n) × NoneOf (Unresolved s) i) ⊎ Wins s i best
 
 module _ (s : List ℕ) where
   abbrev Val : ℕ → ℕ
@@ -41,76 +38,65 @@ module _ (s : List ℕ) where
       at (no q) = inl (omega arith)
 
   -- record i is resolved: what held of the others holds
-  resolved_skipped : (i best n : ℕ) → flag_of s i ≡ 1 → Best s n i best → Best s n (suc i) best
-  resolved_skipped i best n e (inl w) = inl (w.0, λ j l u. at j u (below_or_last i j l))
+  resolved_skipped : (i : ℕ) (best : Option ℕ) → flag_of s i ≡ 1 → WonOf s i best → WonOf s (suc i) best
+  resolved_skipped i None e w = λ j l u. at j u (below_or_last i j l)
     where
       at : (j : ℕ) → Unresolved s j → (j ≡ i) ⊎ (j < i) → ⊥
       at j u (inl q) = u (ap (flag_of s) q ∙ e)
-      at j u (inr q) = w.1 j q u
-  resolved_skipped i best n e (inr w) = inr (record {
+      at j u (inr q) = w j q u
+  resolved_skipped i (Some best) e w = record {
     below = omega (arith, w.below);
     unresolved = w.unresolved;
     least = λ j l u. at j u (below_or_last i j l);
     earliest = w.earliest;
-  })
+  }
     where
       at : (j : ℕ) → Unresolved s j → (j ≡ i) ⊎ (j < i) → Val best ≤ Val j
       at j u (inl q) = absurd (u (ap (flag_of s) q ∙ e))
       at j u (inr q) = w.least j q u
 
   -- record i is lower than all unresolved ones before it
-  first_is_best : (i n : ℕ) → Unresolved s i → ((j : ℕ) → j < i → Unresolved s j → Val i < Val j) → Best s n (suc i) i
-  first_is_best i n e h = inr (record { below = omega arith; unresolved = e; least = λ j l u. at j u (below_or_last i j l); earliest = h })
+  first_is_best : (i : ℕ) → Unresolved s i → ((j : ℕ) → j < i → Unresolved s j → Val i < Val j) → Wins s (suc i) i
+  first_is_best i e h = record { below = omega arith; unresolved = e; least = λ j l u. at j u (below_or_last i j l); earliest = h }
     where
       at : (j : ℕ) → Unresolved s j → (j ≡ i) ⊎ (j < i) → Val i ≤ Val j
       at j u (inl q) = omega (arith, ap Val q)
       at j u (inr q) = omega (arith, h j q u)
 
   -- record i is not lower than the best
-  best_remains : (i best n : ℕ) → Val best ≤ Val i → Wins s i best → Best s n (suc i) best
-  best_remains i best n h w = inr (record {
+  best_remains : (i best : ℕ) → Val best ≤ Val i → Wins s i best → Wins s (suc i) best
+  best_remains i best h w = record {
     below = omega (arith, w.below);
     unresolved = w.unresolved;
     least = λ j l u. at j u (below_or_last i j l);
     earliest = w.earliest;
-  })
+  }
     where
       at : (j : ℕ) → Unresolved s j → (j ≡ i) ⊎ (j < i) → Val best ≤ Val j
       at j u (inl q) = omega (arith, ap Val q)
       at j u (inr q) = w.least j q u
 
-  better_best : (n i best : ℕ) → i < n → Best s n i best → Best s n (suc i) (better_of s n i best)
-  unfolding better_of
-  better_best n i best h v = go (eqb (flag_of s i) 1) refl v
+  better_best : (i : ℕ) (best : Option ℕ) → WonOf s i best → WonOf s (suc i) (pick (is_better s i best) (Some i) best)
+  unfolding is_better
+  better_best i best v = go (eqb (flag_of s i) 1) refl best v
     where
-      go : (t : Bool) → eqb (flag_of s i) 1 ≡ t → Best s n i best → Best s n (suc i) (pick t best (pick (ltb best n) (pick (is_below (udid_of s i) (udid_of s best)) i best) i))
-      go true e w = resolved_skipped i best n (eqb-true (flag_of s i) 1 e) w
-      go false e (inl w) =
-          rw (le-ltb best n (omega (arith, w.0))) (first_is_best i n (eqb-false (flag_of s i) 1 e) (λ j l u. absurd (w.1 j l u)))
-      go false e (inr w) = rw (lt-ltb best n (omega (arith, w.below))) (at (is_below (udid_of s i) (udid_of s best)) refl)
+      go : (t : Bool) → eqb (flag_of s i) 1 ≡ t → (o : Option ℕ) → WonOf s i o → WonOf s (suc i) (pick (pick t false (is_before s i o)) (Some i) o)
+      go true e o w = resolved_skipped i o (eqb-true (flag_of s i) 1 e) w
+      go false e None w = first_is_best i (eqb-false (flag_of s i) 1 e) (λ j l u. absurd (w j l u))
+      go false e (Some b) w = at (is_below (udid_of s i) (udid_of s b)) refl
         where
-          at : (t : Bool) → is_below (udid_of s i) (udid_of s best) ≡ t → Best s n (suc i) (pick t i best)
-          at true f = first_is_best i n (eqb-false (flag_of s i) 1 e) (λ j l u. omega (arith, ltb-true (Val i) (Val best) f, w.least j l u))
-          at false f = best_remains i best n (ltb-false (Val i) (Val best) f) w
+          at : (t : Bool) → is_below (udid_of s i) (udid_of s b) ≡ t → WonOf s (suc i) (pick t (Some i) (Some b))
+          at true f = first_is_best i (eqb-false (flag_of s i) 1 e) (λ j l u. omega (arith, ltb-true (Val i) (Val b) f, w.least j l u))
+          at false f = best_remains i b (ltb-false (Val i) (Val b) f) w
 
-  from_best : (n k i best : ℕ) → i + k ≡ n → Best s n i best → Best s n n (best_from s n k i best)
-  unfolding best_from
-  from_best n zero i best e v = let q : i ≡ n = omega arith in subst (λ (x : ℕ). Best s n x best) q v
-  from_best n (suc k) i best e v = from_best n k (suc i) (better_of s n i best) (omega arith) (better_best n i best (omega arith) v)
-
-  least_best : (n : ℕ) → Best s n n (least_of s n)
-  least_best n = from_best n n 0 n (omega arith) (inl (refl, λ j l. absurd (omega arith)))
+  least_best : (n : ℕ) → WonOf s n (least_of s n)
+  unfolding least_of
+  least_best zero = λ j l. absurd (omega arith)
+  least_best (suc n) = better_best n (least_of s n) (least_best n)
 
   won_holds : Won s (winner_of s)
   unfolding winner_of
-  won_holds = go (least_of s n) (least_best n)
-    where
-      n : ℕ
-      n = record_count s
-
-      go : (w : ℕ) → Best s n n w → Won s (pick (ltb w n) (Some w) None)
-      go w (inl v) = rw (le-ltb w n (omega (arith, v.0))) v.1
-      go w (inr v) = rw (lt-ltb w n v.below) v
+  won_holds = least_best (record_count s)
 
   won_unique : (r t : Option ℕ) → Won s r → Won s t → r ≡ t
   won_unique None None h g = refl

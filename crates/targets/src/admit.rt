@@ -6,8 +6,11 @@ ghost use Rattle.targets.specs.Records.{record_size};
 ghost use Rattle.targets.specs.Numbers.{error_number, error_place};
 ghost use Rattle.targets.specs.Refusals.{is_bad_length, among_records, checked_list};
 
+use super::fields;
 use super::fields::{MOST_TARGETS, RECORD};
-use super::{fields, malformed, same, taken};
+use super::malformed::first_malformed;
+use super::same::first_repeated;
+use super::taken::first_taken;
 use pool::Pool;
 
 // Why a list is refused, with the first record that is so.
@@ -60,17 +63,14 @@ fn among_records(records: &[u8], barred: Pool) -> Result<(), ListError>
     ensures { result ≡ among_records barred records.now (length records.now / record_size) }
 {
     let n = fields::count(records);
-    let bad = malformed::first_malformed(records, n);
-    if bad < n {
-        return Err(ListError::Malformed(bad));
+    if let Some(i) = first_malformed(records, n) {
+        return Err(ListError::Malformed(i));
     }
-    let again = same::first_repeated(records, n);
-    if again < n {
-        return Err(ListError::Repeated(again));
+    if let Some(i) = first_repeated(records, n) {
+        return Err(ListError::Repeated(i));
     }
-    let clash = taken::first_taken(records, n, barred);
-    if clash < n {
-        return Err(ListError::Taken(clash));
+    if let Some(i) = first_taken(records, n, barred) {
+        return Err(ListError::Taken(i));
     }
     Ok(())
 }

@@ -27,10 +27,7 @@ pub fn assign(records: &mut [u8], u: Udid, a: Address)
     if a.0 > 127 {
         return;
     }
-    let n = records.len() / RECORD;
-    let mut i: usize = 0;
-    while i < n {
+    for i in 0..records.len() / RECORD {
         assign_one(&mut records[..], i, u, a);
-        i += 1;
     }
 }

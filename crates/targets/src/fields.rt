@@ -25,80 +25,87 @@ pub fn count(records: &[u8]) -> usize
     records.len() / RECORD
 }
 
-// Byte k after the start of record i, where the list may end before it.
-fn far_byte(records: &[u8], i: usize, k: usize) -> u8
-    ensures { result ≡ get_or records.now (i * record_size + k) 0 }
-{
-    if i > records.len() / RECORD {
-        return 0;
-    }
-    let at = i * RECORD;
-    if k >= records.len() - at {
-        return 0;
-    }
-    records[at + k]
+// Record i of a list.
+#[derive(Clone, Copy)]
+pub struct Record<'a> {
+    pub records: &'a [u8],
+    pub i: usize,
 }
 
-// Byte k of record i. Of a whole record one test is enough.
-fn byte(records: &[u8], i: usize, k: usize) -> u8
-    ensures { result ≡ get_or records.now (i * record_size + k) 0 }
-{
-    if k < RECORD {
-        if i < records.len() / RECORD {
-            return records[i * RECORD + k];
+impl<'a> Record<'a> {
+    // Byte k after its start, where the list may end before it.
+    fn far_byte(self, k: usize) -> u8
+        ensures { result ≡ get_or self.entry.records.now (self.entry.i * record_size + k) 0 }
+    {
+        if self.i > self.records.len() / RECORD {
+            return 0;
         }
+        let at = self.i * RECORD;
+        if k >= self.records.len() - at {
+            return 0;
+        }
+        self.records[at + k]
     }
-    far_byte(records, i, k)
-}
 
-// The identifier of record i.
-pub fn udid_of(records: &[u8], i: usize) -> Udid
-    ensures { result ≡ udid_of records.now i }
-{
-    if i > records.len() / RECORD {
-        return Udid { high: 0, low: 0 };
+    // Byte k of it. Of a whole record one test is enough.
+    fn byte(self, k: usize) -> u8
+        ensures { result ≡ get_or self.entry.records.now (self.entry.i * record_size + k) 0 }
+    {
+        if k < RECORD && self.i < self.records.len() / RECORD {
+            return self.records[self.i * RECORD + k];
+        }
+        self.far_byte(k)
     }
-    Udid::from_bytes(records, i * RECORD)
-}
 
-// The high half of it.
-pub fn high_of(records: &[u8], i: usize) -> u64
-    ensures { result ≡ (udid_of records.now i).high }
-{
-    if i > records.len() / RECORD {
-        return 0;
+    // Its identifier.
+    pub fn udid(self) -> Udid
+        ensures { result ≡ udid_of self.entry.records.now self.entry.i }
+    {
+        if self.i > self.records.len() / RECORD {
+            return Udid { high: 0, low: 0 };
+        }
+        Udid::from_bytes(self.records, self.i * RECORD)
     }
-    Udid::high_at(records, i * RECORD)
-}
 
-// It is this one.
-pub fn is_of(records: &[u8], i: usize, u: Udid) -> bool
-    ensures { result ≡ same_udid (udid_of records.now i) u }
-{
-    if i > records.len() / RECORD {
-        let none = Udid { high: 0, low: 0 };
-        return none.is_same(u);
+    // The high half of it.
+    pub fn high(self) -> u64
+        ensures { result ≡ (udid_of self.entry.records.now self.entry.i).high }
+    {
+        if self.i > self.records.len() / RECORD {
+            return 0;
+        }
+        Udid::high_at(self.records, self.i * RECORD)
     }
-    u.stands_at(records, i * RECORD)
-}
 
-// Its device address byte: the address in the upper seven bits, FFh for none.
-pub fn address_byte(records: &[u8], i: usize) -> u8
-    ensures { result ≡ address_byte records.now i }
-{
-    byte(records, i, ADDRESS_AT)
-}
+    // It is this one.
+    pub fn is_of(self, u: Udid) -> bool
+        ensures { result ≡ same_udid (udid_of self.entry.records.now self.entry.i) u }
+    {
+        if self.i > self.records.len() / RECORD {
+            let none = Udid { high: 0, low: 0 };
+            return none.is_same(u);
+        }
+        u.stands_at(self.records, self.i * RECORD)
+    }
 
-// The address in that byte: FFh counts as 7Fh.
-pub fn address_of(records: &[u8], i: usize) -> Address
-    ensures { result.0 ≡ address_byte records.now i / 2 }
-{
-    Address::from_wire(WireByte(address_byte(records, i)))
-}
+    // Its device address byte: the address in the upper seven bits, FFh for none.
+    pub fn address_byte(self) -> u8
+        ensures { result ≡ address_byte self.entry.records.now self.entry.i }
+    {
+        self.byte(ADDRESS_AT)
+    }
 
-// Its resolved flag: 1 where its address is resolved.
-pub fn flag_of(records: &[u8], i: usize) -> u8
-    ensures { result ≡ flag_of records.now i }
-{
-    byte(records, i, FLAG_AT)
+    // The address in that byte: FFh counts as 7Fh.
+    pub fn address(self) -> Address
+        ensures { result.0 ≡ address_byte self.entry.records.now self.entry.i / 2 }
+    {
+        Address::from_wire(WireByte(self.address_byte()))
+    }
+
+    // Its resolved flag: 1 where its address is resolved.
+    pub fn flag(self) -> u8
+        ensures { result ≡ flag_of self.entry.records.now self.entry.i }
+    {
+        self.byte(FLAG_AT)
+    }
 }

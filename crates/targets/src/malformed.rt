@@ -3,27 +3,17 @@ ghost use Rattle.std.specs.Prelude.{◌≡◌};
 ghost use Rattle.targets.specs.First.{first};
 ghost use Rattle.targets.specs.Refusals.{is_malformed};
 
-use super::fields;
+use super::fields::Record;
 
-fn is_malformed(records: &[u8], i: usize) -> bool
-    ensures { result ≡ is_malformed records.now i }
+fn is_malformed(r: Record<'_>) -> bool
+    ensures { result ≡ is_malformed r.entry.records.now r.entry.i }
 {
-    if fields::address_byte(records, i) % 2 == 0 {
-        return true;
-    }
-    fields::flag_of(records, i) > 1
+    r.address_byte() % 2 == 0 || r.flag() > 1
 }
 
-// The first such record below n, or n.
-pub(crate) fn first_malformed(records: &[u8], n: usize) -> usize
+// The first such record below n.
+pub(crate) fn first_malformed(records: &[u8], n: usize) -> Option<usize>
     ensures { result ≡ first (is_malformed records.now) n }
 {
-    let mut i: usize = 0;
-    while i < n {
-        if is_malformed(records, i) {
-            return i;
-        }
-        i += 1;
-    }
-    n
+    (0..n).find(|&i| is_malformed(Record { records, i }))
 }

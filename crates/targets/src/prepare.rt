@@ -9,10 +9,7 @@ use super::fields::{FLAG_AT, RECORD};
 pub fn prepare(records: &mut [u8])
     ensures { records.new ≡ records_with (cleared (targets_of records.old)) records.old }
 {
-    let n = records.len() / RECORD;
-    let mut i: usize = 0;
-    while i < n {
+    for i in 0..records.len() / RECORD {
         records[i * RECORD + FLAG_AT] = 0;
-        i += 1;
     }
 }

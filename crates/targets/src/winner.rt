@@ -1,14 +1,15 @@
 // Which target's reply to Get UDID stands on the wire: of the unresolved ones that answer together, the one against which all others
 // drop out. Rests on fields and arbitration; that its reply is what the wire shows bit by bit is in specs/WinnerLaws.
-ghost use Rattle.std.specs.Prelude.{◌≡◌, ◌≤◌};
-ghost use Rattle.targets.specs.Winner.{least_of, winner_of};
-ghost use Rattle.targets.specs.Search.{is_better, Holds, Onward};
+ghost use Rattle.std.specs.Prelude.{◌≡◌};
+ghost use Rattle.targets.specs.Winner.{is_better, least_of, winner_of};
+ghost use Rattle.targets.specs.Search.{place_of, Holds};
 
 use super::fields;
+use super::fields::Record;
 use arbitration::win;
 use udid::Udid;
 
-// The best so far (n: none yet), with its identifier.
+// The best so far, with its identifier.
 #[derive(Clone, Copy)]
 struct Best {
     place: usize,
@@ -16,66 +17,35 @@ struct Best {
 }
 
 // Record i answers, and beats the best so far. Mostly the high halves tell that it does not.
-fn is_better(records: &[u8], n: usize, i: usize, best: Best) -> bool
-    requires { Holds records.now n best }
-    ensures { result ≡ is_better records.now n i best.place }
+fn is_better(records: &[u8], i: usize, best: Option<Best>) -> bool
+    requires { Holds records.now best }
+    ensures { result ≡ is_better records.now i (place_of best) }
 {
-    if fields::flag_of(records, i) == 1 {
+    let r = Record { records, i };
+    if r.flag() == 1 {
         return false;
     }
-    if best.place >= n {
-        return true;
-    }
-    let held = best.udid;
-    if fields::high_of(records, i) > held.high {
-        return false;
-    }
-    let u = fields::udid_of(records, i);
-    win::beats(u, held)
+    let Some(held) = best else { return true };
+    r.high() <= held.udid.high && win::beats(r.udid(), held.udid)
 }
 
-// The first record from a place on that is better than the best so far, or n.
-fn next_better(records: &[u8], n: usize, from: usize, best: Best) -> usize
-    requires { (from ≤ n) × Holds records.now n best }
-    ensures { Onward records.now n from best.place result }
+// The best of the first n records.
+fn least(records: &[u8], n: usize) -> Option<Best>
+    ensures { place_of result ≡ least_of records.now n }
 {
-    let mut i = from;
-    while i < n {
-        if is_better(records, n, i, best) {
-            return i;
+    let mut best = None;
+    for i in 0..n {
+        if is_better(records, i, best) {
+            let udid = Record { records, i }.udid();
+            best = Some(Best { place: i, udid });
         }
-        i += 1;
     }
-    n
-}
-
-// The best of the first n records, or n.
-fn least(records: &[u8], n: usize) -> usize
-    ensures { result ≡ least_of records.now n }
-{
-    let none = Udid { high: 0, low: 0 };
-    let mut best = Best {
-        place: n,
-        udid: none,
-    };
-    let mut i: usize = 0;
-    while i < n {
-        let j = next_better(records, n, i, best);
-        if j >= n {
-            return best.place;
-        }
-        let u = fields::udid_of(records, j);
-        best = Best { place: j, udid: u };
-        i = j + 1;
-    }
-    best.place
+    best
 }
 
 // The unresolved record with the least identifier; none where all are resolved, so that nobody answers.
 pub fn find(records: &[u8]) -> Option<usize>
     ensures { result ≡ winner_of records.now }
 {
-    let n = fields::count(records);
-    let w = least(records, n);
-    if w < n { Some(w) } else { None }
+    least(records, fields::count(records)).map(|b| b.place)
 }

@@ -1,24 +1,14 @@
 // A 7-bit address and the byte that carries it on the wire: two kinds, converted only here.
 ghost use Rattle.std.specs.Prelude.{◌≡◌, ◌+◌, ◌*◌, ◌/◌, ◌%◌, ltb, eqb};
-ghost use Rattle.wire.specs.Addresses.{is_from_to, is_reserved, is_preassigned, is_listed};
+ghost use Rattle.wire.specs.Addresses.{is_reserved, is_preassigned, is_listed};
 
 // An address. A number above 127 is no address: whoever is to send to one, or to look one up, refuses it.
-#[derive(Clone, Copy)]
+#[derive(Clone, Copy, PartialEq, Eq)]
 pub struct Address(pub u8);
 
 // The byte on the wire: twice the address, plus 1 for a read.
-#[derive(Clone, Copy)]
+#[derive(Clone, Copy, PartialEq, Eq)]
 pub struct WireByte(pub u8);
-
-// The number is one of those from low to high.
-fn is_from_to(a: u8, low: u8, high: u8) -> bool
-    ensures { result ≡ is_from_to a low high }
-{
-    if a < low {
-        return false;
-    }
-    a <= high
-}
 
 impl Address {
     pub const DEFAULT: Address = Address(0x61);
@@ -46,6 +36,7 @@ impl Address {
         Address::ALERT_RESPONSE
     }
 
+    // Kept: no `From`, which would hide at the call that the direction is dropped.
     // The address that a wire byte carries, for whichever direction. It is always below 128.
     pub fn from_wire(w: WireByte) -> Address
         ensures { result.0 ≡ w.0 / 2 }
@@ -77,22 +68,19 @@ impl Address {
     pub fn is_default(self) -> bool
         ensures { result ≡ eqb self.0 0x61 }
     {
-        let named = Address::DEFAULT;
-        self.0 == named.0
+        self == Address::DEFAULT
     }
 
     pub fn is_host(self) -> bool
         ensures { result ≡ eqb self.0 0x08 }
     {
-        let named = Address::HOST;
-        self.0 == named.0
+        self == Address::HOST
     }
 
     pub fn is_alert_response(self) -> bool
         ensures { result ≡ eqb self.0 0x0C }
     {
-        let named = Address::ALERT_RESPONSE;
-        self.0 == named.0
+        self == Address::ALERT_RESPONSE
     }
 
     // One of the 21 on which no target may stand, not even a fixed one: 00h to 08h, 0Ch, 28h, 37h, 61h, 78h to 7Fh.
@@ -100,26 +88,7 @@ impl Address {
     pub fn is_reserved(self) -> bool
         ensures { result ≡ is_reserved self.0 }
     {
-        let a = self.0;
-        if a <= 0x08 {
-            return true;
-        }
-        if a == 0x0C {
-            return true;
-        }
-        if a == 0x28 {
-            return true;
-        }
-        if a == 0x37 {
-            return true;
-        }
-        if a == 0x61 {
-            return true;
-        }
-        if a < 0x78 {
-            return false;
-        }
-        a <= 0x7F
+        matches!(self.0, 0..=0x08 | 0x0C | 0x28 | 0x37 | 0x61 | 0x78..=0x7F)
     }
 
     // One of the other 14 of Table 17: 09h to 0Bh, 2Ch, 2Dh, 40h to 44h, 48h to 4Bh. A fixed target may stand there.
@@ -127,17 +96,7 @@ impl Address {
     pub fn is_preassigned(self) -> bool
         ensures { result ≡ is_preassigned self.0 }
     {
-        let a = self.0;
-        if is_from_to(a, 0x09, 0x0B) {
-            return true;
-        }
-        if is_from_to(a, 0x2C, 0x2D) {
-            return true;
-        }
-        if is_from_to(a, 0x40, 0x44) {
-            return true;
-        }
-        is_from_to(a, 0x48, 0x4B)
+        matches!(self.0, 0x09..=0x0B | 0x2C..=0x2D | 0x40..=0x44 | 0x48..=0x4B)
     }
 
     // On a row of Table 17, one of 35: never picked, and never kept by a movable target.
@@ -145,10 +104,7 @@ impl Address {
     pub fn is_listed(self) -> bool
         ensures { result ≡ is_listed self.0 }
     {
-        if self.is_reserved() {
-            return true;
-        }
-        self.is_preassigned()
+        self.is_reserved() || self.is_preassigned()
     }
 }
 

@@ -2,6 +2,5 @@
 #![tactic(auto)]
 
 pub mod address;
-pub mod number;
 pub mod symbol;
 pub mod word;

@@ -23,6 +23,7 @@ pub fn is_symbol(x: u16) -> bool
     x <= NACK
 }
 
+// Kept: no code here calls these four, but their contracts say which numbers the constants are (docs/PROMISES.md).
 pub fn is_start(x: u16) -> bool
     ensures { result ≡ eqb x 256 }
 {

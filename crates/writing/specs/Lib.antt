@@ -1,2 +1,4 @@
 pub mod Written
 pub mod WrittenLaws
+pub mod Pages
+pub mod PageLaws

@@ -1,5 +1,5 @@
-use Rattle.writing.specs.WrittenLaws.{appended_on}
+use Rattle.writing.specs.PageLaws.{then_text}
 use Rattle.answers.proofs.command.put_assign.Goals as goal
 
 pub returns : goal.returns
-returns c = appended_on c.put_udid-to.ensures c.hex_line.ensures
+returns c = then_text c.args.page.now _ _ _ _ c.put_udid.ensures c.hex_line.ensures

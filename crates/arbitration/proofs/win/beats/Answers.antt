@@ -1,21 +1,23 @@
-use Rattle.std.proofs.Common.{◌∙◌, rules, lt-ltb, le-ltb}
+use Rattle.std.proofs.Common.{◌<◌, ◌≤◌, ◌∙◌, arith, rules, lt-ltb, le-ltb}
 use Rattle.arbitration.proofs.WinLaws.{drop_out_test_below}
 use Rattle.arbitration.proofs.win.beats.Goals as goal
 
-pub returns-then-k-gt127 : goal.returns-then-k-gt127
-returns-then-k-gt127 c =
+pub returns-in-0-to-63 : goal.returns-in-0-to-63
+returns-in-0-to-63 c =
     let s = c.args in
-    let e = c.drop_out-k.ensures in
-    simp (← e, lt-ltb _ _ c.if-k-gt127.true) at (drop_out_test_below s.a s.b (record { high = search rules; low = search rules }) (record { high = search rules; low = search rules }))
+    let h : c.drop_out.result < 64 = omega arith in
+    let l : c.drop_out.result ≤ 127 = omega arith in
+    c.is_zero.ensures ∙ (simp (← c.drop_out.ensures, le-ltb _ _ l, lt-ltb _ _ h) at (drop_out_test_below s.a s.b (record { high = search rules; low = search rules }) (record { high = search rules; low = search rules })))
 
-pub returns-then-k-lt64 : goal.returns-then-k-lt64
-returns-then-k-lt64 c =
+pub returns-in-64-to-127 : goal.returns-in-64-to-127
+returns-in-64-to-127 c =
     let s = c.args in
-    let e = c.drop_out-k.ensures in
-    c.is_zero.ensures ∙ (simp (← e, le-ltb _ _ c.if-k-gt127.false, lt-ltb _ _ c.if-k-lt64.true) at (drop_out_test_below s.a s.b (record { high = search rules; low = search rules }) (record { high = search rules; low = search rules })))
+    let h : 64 ≤ c.drop_out.result = omega arith in
+    let l : c.drop_out.result ≤ 127 = omega arith in
+    c.is_zero-in-64-to-127.ensures ∙ (simp (← c.drop_out.ensures, le-ltb _ _ l, le-ltb _ _ h) at (drop_out_test_below s.a s.b (record { high = search rules; low = search rules }) (record { high = search rules; low = search rules })))
 
-pub returns-else-k-lt64 : goal.returns-else-k-lt64
-returns-else-k-lt64 c =
+pub returns-in_default : goal.returns-in_default
+returns-in_default c =
     let s = c.args in
-    let e = c.drop_out-k.ensures in
-    c.is_zero-else-k-lt64.ensures ∙ (simp (← e, le-ltb _ _ c.if-k-gt127.false, le-ltb _ _ c.if-k-lt64.false) at (drop_out_test_below s.a s.b (record { high = search rules; low = search rules }) (record { high = search rules; low = search rules })))
+    let l : 127 < c.drop_out.result = omega arith in
+    simp (← c.drop_out.ensures, lt-ltb _ _ l) at (drop_out_test_below s.a s.b (record { high = search rules; low = search rules }) (record { high = search rules; low = search rules }))

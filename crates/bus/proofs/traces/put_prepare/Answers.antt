@@ -1,20 +1,10 @@
-use Rattle.std.proofs.Common.{sym, ◌∙◌, [], arith, length-set}
+use Rattle.std.proofs.Common.{sym, ◌∙◌, [], arith}
 use Rattle.commands.specs.SendingLaws.{prepare_sent}
 use Rattle.bus.specs.TurnLaws.{prepare_nobody, prepare_all, prepare_length}
-use Rattle.bus.proofs.Laws.{four_stored}
 use Rattle.bus.proofs.traces.put_prepare.Goals as goal
 
-pub bounds-out-1 : goal.bounds-out-1
-bounds-out-1 c = simp length-set (omega (arith, c.requires))
-
-pub bounds-out-2 : goal.bounds-out-2
-bounds-out-2 c = simp length-set (omega (arith, c.requires))
-
-pub bounds-out-3 : goal.bounds-out-3
-bounds-out-3 c = simp length-set (omega (arith, c.requires))
-
 pub returns-then-count-eq0 : goal.returns-then-count-eq0
-returns-then-count-eq0 c = (omega arith, four_stored c.args.out.now (omega (arith, c.requires)) ∙ sym (prepare_nobody c.args.records.now (sym c.count.ensures ∙ c.if-count-eq0.true)))
+returns-then-count-eq0 c = (omega (arith, c.put_front.ensures.0), c.put_front.ensures.1 ∙ sym (prepare_nobody c.args.records.now (sym c.count.ensures ∙ c.if-count-eq0.true)))
 
 pub put_whole-requires : goal.put_whole-requires
 put_whole-requires c = λ r after w. prepare_sent [] c.args.out.now r after w (omega (arith, prepare_length, c.requires))

@@ -7,12 +7,6 @@ use Rattle.encode.proofs.trace_pec.pec_of.Goals as goal
 pub returns-then-not-pec : goal.returns-then-not-pec
 returns-then-not-pec c = rw (not-true c.args.pec c.if-not-pec.true-raw)
 
-pub write_pec-c-requires : goal.write_pec-c-requires
-write_pec-c-requires c = c.table-t.ensures
-
-pub read_pec-requires : goal.read_pec-requires
-read_pec-requires c = c.table-t.ensures
-
 pub returns : goal.returns
 returns c =
     let a = c.args in

@@ -4,5 +4,5 @@ use Rattle.headboarded.proofs.plugged.receive.Goals as goal
 pub slice_bounds-bytes-end : goal.slice_bounds-bytes-end
 slice_bounds-bytes-end c = inside c.read_bytes-n.ensures
 
-pub slice_bounds-heard-end : goal.slice_bounds-heard-end
-slice_bounds-heard-end c = front c.read_bytes-n.ensures
+pub slice_bounds-put_heard-end : goal.slice_bounds-put_heard-end
+slice_bounds-put_heard-end c = front c.read_bytes-n.ensures

@@ -1,6 +1,6 @@
-use Rattle.std.proofs.Common.{◌%◌, arith, sym}
-use Rattle.module.specs.ByteAt.{half_at}
+use Rattle.std.proofs.Common.{ℕ, ◌%◌, List, ap, ◌∙◌, get_or}
+use Rattle.module.specs.ByteAt.{be_bytes}
 use Rattle.module.proofs.byte.half_byte.Goals as goal
 
 pub returns : goal.returns
-returns c = sym (half_at c.args.n (c.args.k % 8) (omega arith))
+returns c = ap (λ (l : List ℕ). get_or l (c.args.k % 8) 0) (c.to_be_bytes.ensures ∙ be_bytes c.args.n)

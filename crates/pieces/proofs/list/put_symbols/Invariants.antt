@@ -1,10 +1,7 @@
-use Rattle.std.proofs.Common.{◌-◌, length}
+use Rattle.std.proofs.Common.{◌≡◌}
 use Rattle.pieces.specs.Pieces.{below, symbol_text}
-use Rattle.writing.specs.Written.{Came}
+use Rattle.writing.specs.Pages.{with_text}
 use Rattle.pieces.proofs.list.put_symbols.Given as goal
 
-abbrev pub invariant-loop-i : goal.invariant-loop-i
-invariant-loop-i l = Came l.fn.out l.at (below (symbol_text l.s) 0 (length l.s)) l.out l.to (below (symbol_text l.s) l.i (length l.s))
-
-abbrev pub decreases-loop-i : goal.decreases-loop-i
-decreases-loop-i l = length l.s - l.i
+abbrev pub invariant-loop-x : goal.invariant-loop-x
+invariant-loop-x l = l.page ≡ with_text l.initial.page (below (symbol_text l.s) 0 l.x-index)

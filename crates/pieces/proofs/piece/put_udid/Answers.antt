@@ -1,8 +1,8 @@
-use Rattle.std.proofs.Common.{ap, ◌∙◌, refl}
+use Rattle.std.proofs.Common.{◌≡◌, ◌∙◌, arith, refl}
+use Rattle.udid.specs.Bytes.{udid_bytes}
+use Rattle.writing.specs.PageLaws.{pages}
 use Rattle.pieces.specs.PieceLaws.{whole}
-use Rattle.writing.specs.Written.{pairs_of}
-use Rattle.writing.specs.WrittenLaws.{appended_on, appended_as}
 use Rattle.pieces.proofs.piece.put_udid.Goals as goal
 
 pub returns : goal.returns
-returns c = appended_on c.put-to.ensures (appended_as (ap pairs_of (c.put_bytes.ensures ∙ whole _ c.args.u refl)) c.put_pairs.ensures)
+returns c = let e : c.put_bytes.new.out ≡ udid_bytes c.args.u = c.put_bytes.ensures ∙ whole _ c.args.u refl in grind (arith, pages, e)

@@ -18,33 +18,26 @@ pub returns-then-a-gt127 : goal.returns-then-a-gt127
 returns-then-a-gt127 c = sym (assigned_above _ _ _ c.if-a-gt127.true)
 
 pub loop-i-init : goal.loop-i-init
-loop-i-init c = (omega arith, refl, simp sub-zero)
+loop-i-init c = (refl, simp sub-zero)
 
 pub assign_one-requires : goal.assign_one-requires
-assign_one-requires c = omega (arith, c.loop-i.invariant.1, c.loop-i-test.true)
-
-pub overflow_add-i : goal.overflow_add-i
-overflow_add-i c = omega arith
-
-pub loop-i-smaller : goal.loop-i-smaller
-loop-i-smaller c = omega arith
+assign_one-requires c = omega (arith, c.loop-i.invariant.0, c.loop-i-test.true)
 
 pub loop-i-preserved : goal.loop-i-preserved
 loop-i-preserved c = let l = c.loop-i in
     let s = c.args in
     let e = c.assign_one.ensures in (
-      omega arith,
-      ap length e ∙ length_put l.i _ l.records ∙ l.invariant.1,
-      l.invariant.2 ∙ onward s.u s.a.0 l.records (length s.records.now / 18) l.i c.loop-i-test.true
+      ap length e ∙ length_put l.i _ l.records ∙ l.invariant.0,
+      l.invariant.1 ∙ onward s.u s.a.0 l.records (length s.records.now / 18) l.i c.loop-i-test.true
           ∙ ap (λ (x : List ℕ). put_from (resolve s.u s.a.0 (targets_from x (length s.records.now / 18 - (l.i + 1)) (l.i + 1))) (l.i + 1) x) (sym e),
     )
 
 pub shape_of-records : goal.shape_of-records
-shape_of-records c = c.loop-i.invariant.1
+shape_of-records c = c.loop-i.invariant.0
 
 pub returns : goal.returns
 returns c = let s = c.args in
     let z : (length s.records.now / 18) - c.loop-i.i ≡ 0 = omega arith in
     sym (assigned_below s.u s.a.0 s.records.now c.if-a-gt127.false
-    ∙ c.loop-i.invariant.2
+    ∙ c.loop-i.invariant.1
     ∙ ap (λ (x : ℕ). put_from (resolve s.u s.a.0 (targets_from c.loop-i.records x c.loop-i.i)) c.loop-i.i c.loop-i.records) z)

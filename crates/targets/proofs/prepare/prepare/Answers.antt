@@ -13,28 +13,13 @@ onward s n i h =
     (change_one_more prepared (n - suc i) i s ∙ ap (λ (x : List ℕ). put_from (cleared (targets_from x (n - suc i) (suc i))) (suc i) x) (put_prepared i s))
 
 pub loop-i-init : goal.loop-i-init
-loop-i-init c = (omega arith, refl, simp sub-zero)
-
-pub overflow_mul-records : goal.overflow_mul-records
-overflow_mul-records c = omega arith
-
-pub overflow_add-records : goal.overflow_add-records
-overflow_add-records c = omega arith
-
-pub bounds-records-i : goal.bounds-records-i
-bounds-records-i c = omega (arith, c.loop-i.invariant.1)
-
-pub overflow_add-i : goal.overflow_add-i
-overflow_add-i c = omega arith
-
-pub loop-i-smaller : goal.loop-i-smaller
-loop-i-smaller c = omega arith
+loop-i-init c = (refl, simp sub-zero)
 
 pub loop-i-preserved : goal.loop-i-preserved
-loop-i-preserved c = (omega arith, length-set c.loop-i.records _ _ ∙ c.loop-i.invariant.1, c.loop-i.invariant.2 ∙ onward c.loop-i.records (length c.args.records.now / 18) c.loop-i.i c.loop-i-test.true)
+loop-i-preserved c = (length-set c.loop-i.records _ _ ∙ c.loop-i.invariant.0, c.loop-i.invariant.1 ∙ onward c.loop-i.records (length c.args.records.now / 18) c.loop-i.i c.loop-i-test.true)
 
 pub shape_of-records : goal.shape_of-records
-shape_of-records c = c.loop-i.invariant.1
+shape_of-records c = c.loop-i.invariant.0
 
 pub returns : goal.returns
-returns c = let z : (length c.args.records.now / 18) - c.loop-i.i ≡ 0 = omega arith in sym (c.loop-i.invariant.2 ∙ ap (λ (x : ℕ). put_from (cleared (targets_from c.loop-i.records x c.loop-i.i)) c.loop-i.i c.loop-i.records) z)
+returns c = let z : (length c.args.records.now / 18) - c.loop-i.i ≡ 0 = omega arith in sym (c.loop-i.invariant.1 ∙ ap (λ (x : ℕ). put_from (cleared (targets_from c.loop-i.records x c.loop-i.i)) c.loop-i.i c.loop-i.records) z)

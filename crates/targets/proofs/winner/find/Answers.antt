@@ -1,11 +1,10 @@
-use Rattle.std.proofs.Common.{lt-ltb, le-ltb}
-use Rattle.targets.specs.Winner.{winner_of}
+use Rattle.std.proofs.Common.{◌≡◌, ap, ◌∙◌, rules}
+use Rattle.targets.specs.Search.{place_of}
+use Rattle.targets.specs.Winner.{least_of, winner_of}
 use Rattle.targets.proofs.winner.find.Goals as goal
 
-pub returns-then-w-n : goal.returns-then-w-n
+pub returns : goal.returns
 unfolding winner_of
-returns-then-w-n c = simp (← c.count-n.ensures, ← c.least-w.ensures, lt-ltb _ _ c.if-w-n.true)
-
-pub returns-else-w-n : goal.returns-else-w-n
-unfolding winner_of
-returns-else-w-n c = simp (← c.count-n.ensures, ← c.least-w.ensures, le-ltb _ _ c.if-w-n.false)
+returns c =
+    let e : c.map.result ≡ place_of c.least.result = search rules in
+    e ∙ c.least.ensures ∙ ap (least_of c.args.records.now) c.count.ensures

@@ -1,44 +1,33 @@
-use Rattle.std.proofs.Common.{ℕ, ◌+◌, ◌-◌, ◌<◌, ◌≡◌, sym, ap, ◌∙◌, List, arith}
-use native.Mathlib.Nat.{sub-zero}
+use Rattle.std.proofs.Common.{ℕ, ◌+◌, ◌≡◌, refl, sym, ap, ◌∙◌, subst, add-one, true, false, Option, Some, List}
 use Rattle.udid.specs.declared.Udid.{Udid}
 use Rattle.targets.specs.Records.{udid_of}
-use Rattle.targets.specs.Winner.{best_from}
-use Rattle.targets.specs.Search.{Holds}
-use Rattle.targets.specs.SearchLaws.{onward, at_end}
+use Rattle.targets.specs.Search.{place_of, Holds}
+use Rattle.targets.specs.Winner.{is_better, least_of}
 use Rattle.targets.specs.declared.winner.Best.{Best}
 use Rattle.targets.proofs.winner.least.Goals as goal
+use Rattle.targets.proofs.winner.least.Goals.{then-is_better, else-is_better}
 
-none_yet : (s : List ℕ) (n : ℕ) (u : Udid) → Holds s n (record { place = n; udid = u })
-unfolding Holds
-none_yet s n u l = absurd (omega arith)
+abbrev Kept : List ℕ → ℕ → Option Best → Type 0
+Kept s i o = (place_of o ≡ least_of s i) × Holds s o
 
-holding : (s : List ℕ) (n : ℕ) (b : Best) → b.udid ≡ udid_of s b.place → Holds s n b
-unfolding Holds
-holding s n b e l = e
+taken : (s : List ℕ) (i : ℕ) (b o : Option Best) (u : Udid) → Kept s i b → is_better s i (place_of b) ≡ true → u ≡ udid_of s i → o ≡ Some (record { place = i; udid = u }) → Kept s (i + 1) o
+unfolding least_of
+taken s i b o u k t e f =
+    let q : is_better s i (least_of s i) ≡ true = ap (is_better s i) (sym k.0) ∙ t in
+    subst (Kept s (i + 1)) (sym f) (rw (add-one i, q), e)
+
+passed : (s : List ℕ) (i : ℕ) (b o : Option Best) → Kept s i b → is_better s i (place_of b) ≡ false → o ≡ b → Kept s (i + 1) o
+unfolding least_of
+passed s i b o k t f =
+    let q : is_better s i (least_of s i) ≡ false = ap (is_better s i) (sym k.0) ∙ t in
+    subst (Kept s (i + 1)) (sym f) (rw (add-one i, q) k.0, k.1)
 
 pub loop-i-init : goal.loop-i-init
-loop-i-init c = (omega arith, simp sub-zero, none_yet c.args.records.now c.args.n _)
-
-pub next_better-j-requires : goal.next_better-j-requires
-next_better-j-requires c = (c.loop-i.invariant.0, c.loop-i.invariant.2)
-
-pub returns-then-j-n : goal.returns-then-j-n
-returns-then-j-n c = sym (c.loop-i.invariant.1 ∙ c.next_better-j.ensures.same ∙ at_end c.args.records.now c.args.n c.next_better-j.result c.loop-i.best.place (omega arith))
-
-pub overflow_add-i : goal.overflow_add-i
-overflow_add-i c = omega arith
-
-pub loop-i-smaller : goal.loop-i-smaller
-loop-i-smaller c = let a = c.next_better-j.ensures.after in omega arith
+unfolding least_of
+loop-i-init c = (refl, tt)
 
 pub loop-i-preserved : goal.loop-i-preserved
-loop-i-preserved c =
-    let l : c.next_better-j.result < c.args.n = omega arith in (
-      omega arith,
-      c.loop-i.invariant.1 ∙ c.next_better-j.ensures.same ∙ onward c.args.records.now c.args.n c.next_better-j.result c.loop-i.best.place l
-          ∙ ap (best_from c.args.records.now c.args.n (c.args.n - (c.next_better-j.result + 1)) (c.next_better-j.result + 1)) (c.next_better-j.ensures.better l),
-      holding c.args.records.now c.args.n _ c.udid_of-u.ensures,
-    )
-
-pub returns : goal.returns
-returns c = sym (c.loop-i.invariant.1 ∙ at_end c.args.records.now c.args.n c.loop-i.i c.loop-i.best.place (omega arith))
+loop-i-preserved c = elim c.if-is_better.branch [
+  | then-is_better w ↦ taken c.args.records.now c.loop-i.i c.loop-i.best _ _ c.loop-i.invariant (sym c.is_better.ensures ∙ w.if-is_better.true) w.udid-udid.ensures w.best-is
+  | else-is_better w ↦ passed c.args.records.now c.loop-i.i c.loop-i.best _ c.loop-i.invariant (sym c.is_better.ensures ∙ w.if-is_better.false) w.best-is
+]

@@ -1,5 +1,0 @@
-use Rattle.writing.specs.WrittenLaws.{appended_on}
-use Rattle.codec_answers.proofs.codec.put_trace.Goals as goal
-
-pub returns : goal.returns
-returns c = appended_on (appended_on c.put-a.ensures c.put_symbols-b.ensures) c.put.ensures

@@ -1,5 +1,0 @@
-use Rattle.writing.specs.WrittenLaws.{appended_on}
-use Rattle.pieces.proofs.piece.udid_line.Goals as goal
-
-pub returns : goal.returns
-returns c = appended_on c.put_udid-to.ensures c.put.ensures
