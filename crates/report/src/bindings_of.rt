@@ -1,7 +1,6 @@
 // The controller's bindings in the binding buffer, and the set of bound addresses. Rests on crates slots and bindings.
-ghost use Rattle.std.specs.Prelude.{◌≡◌, ◌++◌, ◌≤◌, length, drop, Some, None};
+ghost use Rattle.std.specs.Prelude.{◌≡◌, ◌++◌, ◌≤◌, length, drop};
 ghost use Rattle.bindings.specs.Entries.{buffer_size, buffer_of, bound_set};
-ghost use Rattle.lists.specs.Choice.{pick};
 ghost use Rattle.report.specs.Report.{entry_at, with_bindings};
 
 use bindings::buffer::{BUFFER, put_entry};
@@ -9,13 +8,6 @@ use pool::Pool;
 use slots::Slots;
 use udid::Udid;
 use wire::address::Address;
-
-// Who is bound at an address with this identifier kept for it: nobody where it is not in the bound set.
-fn entry_of(bound: bool, u: Udid) -> Option<Udid>
-    ensures { result ≡ pick bound (Some u) None }
-{
-    if bound { Some(u) } else { None }
-}
 
 // The addresses to which somebody is bound.
 pub fn bound_set(slots: Slots) -> Pool
@@ -29,17 +21,14 @@ fn put_rows(out: &mut [u8], slots: Slots)
     requires { buffer_size ≤ length out.old }
     ensures { out.new ≡ buffer_of (entry_at slots) ++ drop buffer_size out.old }
 {
-    let bound = slots.bound;
-    let mut a: u8 = 0;
-    while a < 128 {
+    for a in 0..128u8 {
         let at = a as usize;
         let u = Udid {
             high: slots.high[at],
             low: slots.low[at],
         };
-        let e = entry_of(bound.has(Address(a)), u);
+        let e = slots.bound.has(Address(a)).then_some(u);
         put_entry(&mut out[..], Address(a), e);
-        a += 1;
     }
 }
 
