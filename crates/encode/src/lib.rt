@@ -31,13 +31,7 @@ pub enum EncodeError {
 fn fields_fit(sh: Shape, address: Address, direction: u8, command: u8) -> bool
     ensures { result ≡ fields_fit sh address.0 direction command }
 {
-    if !address_fits(sh, address) {
-        return false;
-    }
-    if !direction_fits(sh, direction) {
-        return false;
-    }
-    command_fits(sh, command)
+    address_fits(sh, address) && direction_fits(sh, direction) && command_fits(sh, command)
 }
 
 // The whole trace of a valid message, where there is room for it.

@@ -78,9 +78,5 @@ pub fn shape_of(protocol: u8) -> Shape
 pub fn is_forbidden(protocol: u8, pec: bool) -> bool
     ensures { result ≡ forbidden protocol pec }
 {
-    if protocol >= PROTOCOLS {
-        return true;
-    }
-    let sh = shape_of(protocol);
-    if pec { !sh.checked } else { false }
+    protocol >= PROTOCOLS || pec && !shape_of(protocol).checked
 }
