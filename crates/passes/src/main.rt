@@ -41,7 +41,7 @@ fn read_controller(input: &mut impl Read) -> io::Result<Stepped> {
 }
 
 // The controller goes on to what a call of it left; the command is written.
-fn go_on(output: &mut impl Write, st: &mut Stepped, next: Stepped) -> io::Result<()> {
+fn go_on(output: &mut impl Write, next: Stepped, st: &mut Stepped) -> io::Result<()> {
     *st = next;
     write_command(output, next.command)
 }
@@ -62,19 +62,19 @@ fn run(input: &mut impl Read, output: &mut impl Write) -> io::Result<()> {
     for _ in 0..u64::MAX {
         match read_byte(input)? {
             0 => st = read_controller(input)?,
-            1 => go_on(output, &mut st, st.state.start())?,
+            1 => go_on(output, st.state.start(), &mut st)?,
             2 => {
                 let n = read_trace(input, &mut trace)?;
-                go_on(output, &mut st, st.state.step(&trace[..n]))?;
+                go_on(output, st.state.step(&trace[..n]), &mut st)?;
             }
             3 => write_finds(output, st.state)?,
             4 => report(input, output, &mut st)?,
             5 => {
                 let n = read_trace(input, &mut trace)?;
-                go_on(output, &mut st, st.state.choose(&trace[..n]))?;
+                go_on(output, st.state.choose(&trace[..n]), &mut st)?;
             }
-            6 => go_on(output, &mut st, st.state.issue())?,
-            7 => go_on(output, &mut st, st.state.decline())?,
+            6 => go_on(output, st.state.issue(), &mut st)?,
+            7 => go_on(output, st.state.decline(), &mut st)?,
             _ => return Ok(()),
         }
     }
