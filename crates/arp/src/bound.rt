@@ -9,26 +9,26 @@ use slots::Binding;
 use udid::Udid;
 use wire::address::Address;
 
+// Kept: the state is changed in its place, field by field. A new Controller with ..self copies its 2 KB some four times more in a step, and
+// bench/step.sh misses its bar of 3,500 instructions.
 impl Controller {
     // The state where nobody is bound to the address any more, and it is known for this. It is out of the pool then, unless the starting
     // pool has it.
-    pub(crate) fn vacate(self, a: Address, held: Binding) -> Controller
+    pub(crate) fn vacate(mut self, a: Address, held: Binding) -> Controller
         ensures { result ≡ vacated self a.0 held }
     {
-        let slots = self.slots.put(a, held);
-        if Pool::starting(self.occupied).has(a) {
-            Controller { slots, ..self }
-        } else {
-            Controller {
-                slots,
-                pool: self.pool.without(a),
-                ..self
-            }
+        let starting = Pool::starting(self.occupied);
+        let pool = self.pool;
+        let slots = self.slots;
+        self.slots = slots.put(a, held);
+        if starting.has(a) {
+            return self;
         }
+        self.pool = pool.without(a);
+        self
     }
 
     // The state with the target unbound and its address vacated; as it is where the target is not bound.
-    #[tactic(auto, unfolding(crate::specs::Bindings::freed))]
     pub(crate) fn free(self, u: Udid) -> Controller
         ensures { result ≡ freed self u }
     {
@@ -39,18 +39,17 @@ impl Controller {
     }
 
     // The state with the target bound to the address, or the address claimed by two; the address is in the pool then.
-    #[tactic(auto, unfolding(crate::specs::Bindings::bound))]
-    pub(crate) fn bind(self, u: Udid, a: Address) -> Controller
+    pub(crate) fn bind(mut self, u: Udid, a: Address) -> Controller
         ensures { result ≡ bound self u a.0 }
     {
         if a.0 > 127 {
             return self;
         }
-        let taken = makes_claim(self.occupied, self.slots.held_at(a), a);
-        Controller {
-            slots: self.slots.put(a, binding_for(taken, u)),
-            pool: self.pool.with(a),
-            ..self
-        }
+        let slots = self.slots;
+        let taken = makes_claim(self.occupied, slots.held_at(a), a);
+        let pool = self.pool;
+        self.slots = slots.put(a, binding_for(taken, u));
+        self.pool = pool.with(a);
+        self
     }
 }

@@ -27,17 +27,14 @@ impl Controller {
     }
 
     // Get UDID, or the end where it would be the 129th of the pass.
-    #[tactic(auto, unfolding(crate::specs::Controller::asked))]
-    pub(crate) fn ask(self) -> Stepped
+    // Kept: the count changes in its place, as in bound.rt.
+    pub(crate) fn ask(mut self) -> Stepped
         ensures { result ≡ asked self }
     {
         if self.gets >= 128 {
             return self.hand(Handed::Wait(End::Abandoned));
         }
-        let counted = Controller {
-            gets: self.gets + 1,
-            ..self
-        };
-        counted.hand(Handed::Send(Command::GetUdid))
+        self.gets = self.gets + 1;
+        self.hand(Handed::Send(Command::GetUdid))
     }
 }

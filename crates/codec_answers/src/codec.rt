@@ -4,8 +4,9 @@ ghost use Rattle.writing.specs.Pages.{with_text};
 ghost use Rattle.codec_answers.specs.CodecLines.{pec_text, trace_text, encoded_text};
 
 use encode::EncodeError;
-use pieces::list::{put_symbols, symbols_part};
+use pieces::list::put_symbols;
 use pieces::piece::{hex_line, put_line};
+use text::word::part;
 use writing::page::Page;
 
 // A packet error code.
@@ -29,7 +30,7 @@ pub fn put_encoded(page: &mut Page, e: Result<usize, EncodeError>, trace: &[u16]
     ensures { page.new ≡ with_text page.old (encoded_text e trace.now) }
 {
     match e {
-        Ok(n) => put_trace(page, symbols_part(trace, 0, n)),
+        Ok(n) => put_trace(page, part(trace, 0, n)),
         Err(EncodeError::Forbidden) => put_line(page, b"1"),
         Err(EncodeError::OutputTooShort) => put_line(page, b"2"),
     }

@@ -74,7 +74,8 @@ fn decode_into(
     Ok(t)
 }
 
-// The answer for a trace of a protocol of the table.
+// The answer for a trace of a protocol of the table. It stays a call of its own, which bench/step.sh counts.
+#[inline(never)]
 pub fn decode(
     protocol: u8,
     pec: bool,

@@ -11,9 +11,12 @@ use writing::page::Page;
 
 // Answers a line, which has no comment any more. A line of no word gets no answer.
 pub(crate) fn answer(page: &mut Page, shelf: &mut Shelf, text: &[u8], records: &mut [u8]) {
-    match read_request(text) {
+    let asked = match read_request(text) {
+        Ok(asked) => asked,
+        Err(u) => return put_unclear(page, u.expected, u.place),
+    };
+    match asked {
         Request::Nothing => {}
-        Request::Unclear(e, place) => put_unclear(page, e, place),
         Request::Pec(from) => pec(page, text, from),
         Request::Encode(h, f, sent, received) => encode(page, h, f, text, sent, received),
         Request::Decode(h, from) => decode(page, h, text, from),

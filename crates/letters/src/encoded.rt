@@ -5,8 +5,8 @@ ghost use Rattle.letters.specs.Letters.{trace_letters, encoded_letters};
 
 use crate::letter::put_letters;
 use encode::EncodeError;
-use pieces::list::symbols_part;
 use pieces::piece::put_line;
+use text::word::part;
 use writing::page::Page;
 
 // A trace.
@@ -23,7 +23,7 @@ pub fn put_encoded_letters(page: &mut Page, e: Result<usize, EncodeError>, trace
     ensures { page.new ≡ with_text page.old (encoded_letters e trace.now) }
 {
     match e {
-        Ok(n) => put_trace(page, symbols_part(trace, 0, n)),
+        Ok(n) => put_trace(page, part(trace, 0, n)),
         Err(EncodeError::Forbidden) => put_line(page, b"1"),
         Err(EncodeError::OutputTooShort) => put_line(page, b"2"),
     }

@@ -1,12 +1,13 @@
 // What each of the scope's numbers means, in a few words.
 #![tactic(auto, using(writing::specs::PageLaws::pages), unfolding(crate::specs::Meanings::meanings, crate::specs::Meanings::meaning, crate::specs::Meanings::has_words, crate::specs::Meanings::noted))]
+
 ghost use Rattle.std.specs.Prelude.{◌≡◌};
 ghost use Rattle.writing.specs.Pages.{with_text};
 ghost use Rattle.meanings.specs.Meanings.{meaning, has_words, noted};
 
 use writing::page::Page;
 
-// The words of a number. 0 has none, and no number above 21 has.
+// The words of a number. 0 has none, and no number above 21 has. Kept: a match on numbers, for the number comes as text (number_of).
 pub fn put_meaning(page: &mut Page, n: u64)
     ensures { page.new ≡ with_text page.old (meaning n) }
 {

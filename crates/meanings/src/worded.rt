@@ -1,5 +1,6 @@
 // An answer with words. Its first line is what stands before its first line feed; the number is what that line's first word says.
 #![tactic(auto, using(writing::specs::PageLaws::pages), unfolding(crate::specs::Worded::first_line, crate::specs::Worded::rest, crate::specs::Worded::number_in, crate::specs::Worded::number, crate::specs::Worded::headed, crate::specs::Worded::worded))]
+
 ghost use Rattle.std.specs.Prelude.{◌≡◌};
 ghost use Rattle.writing.specs.Pages.{with_text};
 ghost use Rattle.meanings.specs.Worded.{first_line, rest, number_in, number, headed, worded};

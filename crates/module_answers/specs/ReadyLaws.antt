@@ -24,6 +24,6 @@ is_ready t f e =
     ready_by (eqb (t.byte % 2) 0) (and (is_fixed t.udid) (eqb t.byte 0xFF)) (ltb 1 t.flag) (Ok (silent_in (recorded t.udid t.byte t.flag f))) e
 
 -- the module of the record, with these bytes for its next reset
-pub asked_is_ready : (line : List ℕ) (t : Record) (f : ℕ) → request_of line ≡ Module t f
+pub asked_is_ready : (line : List ℕ) (t : Record) (f : ℕ) → request_of line ≡ Ok (Module t f)
     → resumed t.udid t.byte t.flag f ≡ Ok (silent_in (recorded t.udid t.byte t.flag f))
 asked_is_ready line t f e = is_ready t f (module_asked line t f e)

@@ -6,31 +6,27 @@ ghost use Rattle.names.specs.Names.{place_in, protocol_named};
 
 use text::word::{next_word, part, same};
 
-// What is answered for a word that is no protocol's name.
-pub const NO_PROTOCOL: u8 = 255;
-
-// Which word of a text the word is, from 0; 255 where it is none of the first 255.
-fn place_in(names: &[u8], s: &[u8]) -> u8
+// Which word of a text the word is, from 0, where it is one of the first 255.
+fn place_in(names: &[u8], s: &[u8]) -> Option<u8>
     ensures { result ≡ place_in 255 names.now s.now 0 0 }
 {
-    let mut at: usize = 0;
-    let mut k: u8 = 0;
-    while k < NO_PROTOCOL {
+    let mut at = 0;
+    for k in 0..255 {
         let w = next_word(names, at);
         if w.from >= names.len() {
-            return NO_PROTOCOL;
+            return None;
         }
         if same(part(names, w.from, w.to), s) {
-            return k;
+            return Some(k);
         }
         at = w.to;
-        k += 1;
     }
-    NO_PROTOCOL
+    None
 }
 
 // The number of the protocol of a name.
-pub fn protocol_named(s: &[u8]) -> u8
+// Kept: the names are one text and no array, since the theorem `as_many_as_rows` counts its words.
+pub fn protocol_named(s: &[u8]) -> Option<u8>
     ensures { result ≡ protocol_named s.now }
 {
     place_in(

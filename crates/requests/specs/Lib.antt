@@ -1,6 +1,6 @@
+pub mod Clear
 pub mod Lists
 pub mod Requests
-pub mod RequestLaws
 pub mod ListLaws
 pub mod RunLaws
 pub mod GoneLaws

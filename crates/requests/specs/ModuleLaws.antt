@@ -1,250 +1,199 @@
 -- A line that asks for a module has a record of which there is one: no other is let in. And lines of module and m, in letters.
-use Rattle.std.specs.Prelude.{ℕ, ◌%◌, ◌^◌, ◌≡◌, refl, Bool, true, false, List, ltb, leb, length}
+use Rattle.std.specs.Prelude.{ℕ, ◌≡◌, refl, Bool, true, false, List, Option, Some, None, Result, Ok, Err, ltb, leb, length}
 use Rattle.std.proofs.Common.{sym, ap, ◌∙◌}
 use Rattle.lists.specs.Choice.{pick, and, not}
 use Rattle.udid.specs.declared.Udid.{Udid}
 use Rattle.text.specs.Chars.{chars}
-use Rattle.text.specs.Words.{before, start_from, word_from, part_of, same_text}
+use Rattle.text.specs.Words.{before, start_from, word_from, part_of}
 use Rattle.text.specs.declared.word.LineWord.{LineWord}
 use Rattle.digits.specs.Numbers.{digit_of, are_digits, value_from, digits_of, is_hex, number_of, halves_of, quarter_of}
-use Rattle.words.specs.Said.{word_in, byte_at, udid_at, fresh_at, mark_at, rest_at}
-use Rattle.words.specs.Verbs.{module_verb, pass_verb, verb_of}
+use Rattle.words.specs.Said.{word_in, number_at, byte_at, udid_at, fresh_at, rest_at}
+use Rattle.words.specs.Verbs.{verb_of, codec_verb, shelf_verb, pass_verb, module_verb, choice_verb}
 use Rattle.words.specs.Events.{event_of}
 use Rattle.words.specs.declared.verb.Verb.{Verb}
 use Rattle.words.specs.declared.verb.Verb.TheVariants as verb
 use Rattle.words.specs.declared.event.Event.{Event as EventWord}
-use Rattle.words.specs.declared.event.Event.TheVariants as event
-use Rattle.words.specs.declared.word.ByteWord.{ByteWord}
-use Rattle.words.specs.declared.word.ByteWord.TheVariants.{Byte, NoByte}
-use Rattle.words.specs.declared.word.UdidWord.{UdidWord}
-use Rattle.words.specs.declared.word.UdidWord.TheVariants.{Identifier, NoIdentifier}
-use Rattle.words.specs.declared.word.FreshWord.{FreshWord}
-use Rattle.words.specs.declared.word.FreshWord.TheVariants.{Fresh, NoFresh}
-use Rattle.words.specs.declared.word.MarkWord.{MarkWord}
-use Rattle.words.specs.declared.word.MarkWord.TheVariants.{Mark, Over, Another}
-use Rattle.words.specs.declared.word.Rest.{Rest}
-use Rattle.words.specs.declared.word.Rest.TheVariants as left
-use Rattle.requests.specs.Lists.{bytes_end, symbols_end}
-use Rattle.requests.specs.Requests.{bytes_to, symbols_to, ended_by, ended, byte_on, pec_request, head_at, fields_at, received_is, encode_received, sent_is, encode_sent, fields_on, encode_fields, encode_on, encode_request, decode_trace, decode_on, decode_request, last_at, run_request, occupied_request, step_request, choose_request, lookup_request, gone_request, byte_is, target_flag, target_byte, udid_is, target_request, is_random, fresh_is, module_fresh, fourth_is, fresh_on, flag_on, module_flag_is, module_flag, is_module_byte, byte_in, module_byte_is, module_byte, module_is, module_request, event_in, event_request, request_in, request_of}
+use Rattle.words.specs.declared.word.Word.{Word}
+use Rattle.requests.specs.Clear.{unclear, due, after}
+use Rattle.requests.specs.Lists.{numbers_end, bytes_end, symbols_end}
+use Rattle.requests.specs.Requests.{Asked, to_end, ended_by, ended, lone_byte, pec_request, head_at, fields_at, sent_at, received_at, encode_request, decode_request, last_at, run_request, occupied_request, step_request, choose_request, lookup_request, gone_request, target_request, fresh_given, fresh_on, module_flag, is_module_byte, module_byte, module_request, event_in, event_is, event_request, request_in, request_is, request_of}
+use Rattle.requests.specs.declared.expected.Expected.{Expected}
 use Rattle.requests.specs.declared.expected.Expected.TheVariants as expected
-use Rattle.requests.specs.declared.head.HeadWords.{HeadWords}
-use Rattle.requests.specs.declared.head.HeadWords.TheVariants.{HeadIs, NoHead}
-use Rattle.requests.specs.declared.head.FieldWords.{FieldWords}
-use Rattle.requests.specs.declared.head.FieldWords.TheVariants.{FieldsAre, NoFields}
-use Rattle.requests.specs.declared.request.Head.{Head}
-use Rattle.requests.specs.declared.request.Fields.{Fields}
+use Rattle.requests.specs.declared.expected.Unclear.{Unclear}
 use Rattle.requests.specs.declared.request.Record.{Record}
+use Rattle.requests.specs.declared.request.ModuleEvent.{ModuleEvent}
 use Rattle.requests.specs.declared.request.ModuleEvent.TheVariants as happens
 use Rattle.requests.specs.declared.request.Request.{Request}
-use Rattle.requests.specs.declared.request.Request.TheVariants.{Nothing, Unclear, Pec, Encode, Decode, Occupied, Target, Clear, Run, Start, Step, Lookup, Gone, Grid, Module, Event, Choose, Issue, Decline}
+use Rattle.requests.specs.declared.request.Request.TheVariants.{Nothing, Pec, Encode, Decode, Occupied, Target, Clear, Run, Start, Step, Lookup, Gone, Grid, Module, Event, Choose, Issue, Decline}
 
 -- a module's record: a byte that a module of that kind can have, and a flag of 0 or 1
 abbrev pub is_module : Record → Bool
 is_module t = and (is_module_byte t.udid t.byte) (not (ltb 1 t.flag))
 
-abbrev fits : Request → Bool
-fits (Module t f) = is_module t
-fits Nothing = true
-fits (Unclear e p) = true
-fits (Pec p) = true
-fits (Encode h f s r) = true
-fits (Decode h p) = true
-fits (Occupied p) = true
-fits (Target t p) = true
-fits Clear = true
-fits (Run b) = true
-fits Start = true
-fits (Step p) = true
-fits (Lookup b) = true
-fits (Gone b) = true
-fits Grid = true
-fits (Event e p) = true
-fits (Choose p) = true
-fits Issue = true
-fits Decline = true
+abbrev fits_one : Request → Bool
+fits_one (Module t f) = is_module t
+fits_one Nothing = true
+fits_one (Pec p) = true
+fits_one (Encode h f s r) = true
+fits_one (Decode h p) = true
+fits_one (Occupied p) = true
+fits_one (Target t p) = true
+fits_one Clear = true
+fits_one (Run b) = true
+fits_one Start = true
+fits_one (Step p) = true
+fits_one (Lookup b) = true
+fits_one (Gone b) = true
+fits_one Grid = true
+fits_one (Event e p) = true
+fits_one (Choose p) = true
+fits_one Issue = true
+fits_one Decline = true
+
+abbrev fits : Asked → Bool
+fits (Ok q) = fits_one q
+fits (Err u) = true
 
 -- ---- what most requests end with
 
-fits_pick : (b : Bool) (x y : Request) → fits x ≡ true → fits y ≡ true → fits (pick b x y) ≡ true
-fits_pick true x y e f = e
-fits_pick false x y e f = f
+-- what follows what is clear: it fits where it does after everything that was read
+fits_after : {A : Type 0} (r : Result A Unclear) (k : A → Asked) → ((a : A) → r ≡ Ok a → fits (k a) ≡ true) → fits (after r k) ≡ true
+fits_after (Ok a) k h = h a refl
+fits_after (Err u) k h = refl
 
-fits_rest : (q : Request) (r : Rest) → fits q ≡ true → fits (ended_by q r) ≡ true
-fits_rest q left.Nothing e = e
-fits_rest q (left.Word p) e = refl
+fits_to_end : (q : Request) (line : List ℕ) (e : Expected) (end : ℕ) → fits_one q ≡ true → fits (to_end q line e end) ≡ true
+fits_to_end q line e end h = go (ltb end (length line))
+  where
+    go : (t : Bool) → fits (pick t (unclear e end) (Ok q)) ≡ true
+    go true = refl
+    go false = h
 
-fits_ended : (q : Request) (line : List ℕ) (at : ℕ) → fits q ≡ true → fits (ended q line at) ≡ true
+fits_rest : (q : Request) (r : Option ℕ) → fits_one q ≡ true → fits (ended_by q r) ≡ true
+fits_rest q None e = e
+fits_rest q (Some p) e = refl
+
+fits_ended : (q : Request) (line : List ℕ) (at : ℕ) → fits_one q ≡ true → fits (ended q line at) ≡ true
 unfolding ended
 fits_ended q line at e = fits_rest q (rest_at line at) e
 
-fits_byte : (q : ℕ → Request) (line : List ℕ) (w : ByteWord) → ((b : ℕ) → fits (q b) ≡ true) → fits (byte_on q line w) ≡ true
-fits_byte q line (Byte b next) e = fits_ended (q b) line next (e b)
-fits_byte q line (NoByte p) e = refl
+-- ---- m
 
-fits_bytes : (line : List ℕ) (at : ℕ) (q : Request) → fits q ≡ true → fits (bytes_to line at q) ≡ true
-fits_bytes line at q e = fits_pick (ltb (bytes_end (length line) line at) (length line)) (Unclear expected.Byte (bytes_end (length line) line at)) q refl e
-
-fits_symbols : (line : List ℕ) (at : ℕ) (q : Request) → fits q ≡ true → fits (symbols_to line at q) ≡ true
-fits_symbols line at q e = fits_pick (ltb (symbols_end (length line) line at) (length line)) (Unclear expected.Symbol (symbols_end (length line) line at)) q refl e
-
--- ---- the requests of the codec
-
-fits_received : (h : Head) (f : Fields) (sent : ℕ) (line : List ℕ) (m : MarkWord) → fits (received_is h f sent line m) ≡ true
-fits_received h f sent line (Mark next) = fits_bytes line next (Encode h f sent next) refl
-fits_received h f sent line (Over p) = refl
-fits_received h f sent line (Another p) = refl
-
-fits_sent : (h : Head) (f : Fields) (line : List ℕ) (m : MarkWord) → fits (sent_is h f line m) ≡ true
-unfolding encode_received
-fits_sent h f line (Mark next) = fits_received h f next line (mark_at line (bytes_end (length line) line next) (chars "r"))
-fits_sent h f line (Over p) = fits_received h f p line (mark_at line p (chars "r"))
-fits_sent h f line (Another p) = refl
-
-fits_fields : (h : Head) (line : List ℕ) (w : FieldWords) → fits (fields_on h line w) ≡ true
-unfolding encode_sent
-fits_fields h line (FieldsAre f next) = fits_sent h f line (mark_at line next (chars "w"))
-fits_fields h line (NoFields p) = refl
-
-fits_encode : (line : List ℕ) (w : HeadWords) → fits (encode_on line w) ≡ true
-unfolding encode_fields
-fits_encode line (HeadIs h next) = fits_fields h line (fields_at line next)
-fits_encode line (NoHead e p) = refl
-
-fits_decode : (line : List ℕ) (w : HeadWords) → fits (decode_on line w) ≡ true
-unfolding decode_trace
-fits_decode line (HeadIs h next) = fits_symbols line next (Decode h next) refl
-fits_decode line (NoHead e p) = refl
-
--- ---- target, and m
-
-fits_target_byte : (u : Udid) (place : ℕ) (line : List ℕ) (w : ByteWord) → fits (byte_is u place line w) ≡ true
-unfolding target_flag
-fits_target_byte u place line (Byte b next) =
-    fits_byte (λ (f : ℕ). Target (record { udid = u; byte = b; flag = f }) place) line (byte_at line next) (λ f. refl)
-fits_target_byte u place line (NoByte p) = refl
-
-fits_target : (line : List ℕ) (w : UdidWord) → fits (udid_is line w) ≡ true
-unfolding target_byte
-fits_target line (Identifier u place next) = fits_target_byte u place line (byte_at line next)
-fits_target line (NoIdentifier p) = refl
-
-fits_event : (e : EventWord) (line : List ℕ) (place : ℕ) (w : LineWord) → fits (event_in e line place w) ≡ true
-fits_event event.Start line place w = fits_ended (Event happens.Start place) line w.to refl
-fits_event event.Byte line place w = fits_bytes line w.to (Event (happens.Bytes w.to) place) refl
-fits_event event.Supply line place w = fits_ended (Event happens.Supply place) line w.to refl
-fits_event event.Lost line place w = fits_ended (Event happens.Lost place) line w.to refl
-fits_event event.Stop line place w = fits_ended (Event happens.Stop place) line w.to refl
-fits_event event.State line place w = fits_ended (Event happens.State place) line w.to refl
-fits_event event.Other line place w = refl
+fits_event : (e : Option EventWord) (line : List ℕ) (place : ℕ) (w : LineWord) → fits (event_is e line place w) ≡ true
+fits_event (Some e) line place w = fits_after (event_in e line w.to) (λ (what : ModuleEvent). Ok (Event what place)) (λ what h. refl)
+fits_event None line place w = refl
 
 -- ---- module
 
-fits_fresh : (t : Record) (line : List ℕ) (w : FreshWord) → is_module t ≡ true → fits (fresh_is t line w) ≡ true
-fits_fresh t line (Fresh f next) e = fits_ended (Module t f) line next e
-fits_fresh t line (NoFresh p) e = refl
-
-fits_fourth : (t : Record) (line : List ℕ) (at : ℕ) (r : Rest) → is_module t ≡ true → fits (fourth_is t line at r) ≡ true
-unfolding module_fresh
-fits_fourth t line at left.Nothing e = e
-fits_fourth t line at (left.Word p) e = fits_fresh t line (fresh_at line at) e
-
-fits_on : (t : Record) (line : List ℕ) (at : ℕ) → is_module t ≡ true → fits (fresh_on t line at) ≡ true
-unfolding fresh_on
-fits_on t line at e =
-    fits_pick (is_random t.udid) (fourth_is t line at (rest_at line at)) (ended (Module t (t.udid.low % 2 ^ 32)) line at)
-    (fits_fourth t line at (rest_at line at) e)
-    (fits_ended (Module t (t.udid.low % 2 ^ 32)) line at e)
-
-fits_flag : (u : Udid) (b f : ℕ) (line : List ℕ) (at next : ℕ) → is_module_byte u b ≡ true → fits (flag_on u b f line at next) ≡ true
-unfolding flag_on
-fits_flag u b f line at next e = go (ltb 1 f) refl
-  where
-    go : (t : Bool) → ltb 1 f ≡ t → fits (pick t (Unclear expected.Flag (word_from line at).from) (fresh_on (record { udid = u; byte = b; flag = f }) line next)) ≡ true
-    go true g = refl
-    go false g = fits_on (record { udid = u; byte = b; flag = f }) line next (rw (e, g))
-
-fits_flag_word : (u : Udid) (b : ℕ) (line : List ℕ) (at : ℕ) (w : ByteWord) → is_module_byte u b ≡ true → fits (module_flag_is u b line at w) ≡ true
-fits_flag_word u b line at (Byte f next) e = fits_flag u b f line at next e
-fits_flag_word u b line at (NoByte p) e = refl
-
-fits_byte_in : (u : Udid) (b : ℕ) (line : List ℕ) (at next : ℕ) → fits (byte_in u b line at next) ≡ true
-unfolding byte_in module_flag
-fits_byte_in u b line at next = go (is_module_byte u b) refl
-  where
-    go : (t : Bool) → is_module_byte u b ≡ t → fits (pick t (module_flag u b line next) (Unclear expected.OddByte (word_from line at).from)) ≡ true
-    go true g = fits_flag_word u b line next (byte_at line next) g
-    go false g = refl
-
-fits_byte_word : (u : Udid) (line : List ℕ) (at : ℕ) (w : ByteWord) → fits (module_byte_is u line at w) ≡ true
-fits_byte_word u line at (Byte b next) = fits_byte_in u b line at next
-fits_byte_word u line at (NoByte p) = refl
-
-fits_module : (line : List ℕ) (w : UdidWord) → fits (module_is line w) ≡ true
+-- a byte that was read is one that a module can have, and a flag is 0 or 1
+byte_fits : (u : Udid) (line : List ℕ) (at : ℕ) (b : Word ℕ) → module_byte u line at ≡ Ok b → is_module_byte u b.value ≡ true
 unfolding module_byte
-fits_module line (Identifier u place next) = fits_byte_word u line next (byte_at line next)
-fits_module line (NoIdentifier p) = refl
+byte_fits u line at b = go (due expected.Byte (byte_at line at))
+  where
+    choose : (w : Word ℕ) (t : Bool) → is_module_byte u w.value ≡ t → ◌≡◌ {A = Result (Word ℕ) Unclear} (pick t (Ok w) (unclear expected.OddByte w.from)) (Ok b) → is_module_byte u b.value ≡ true
+    choose w true e h = let k : w ≡ b = cc in ap (λ (x : Word ℕ). is_module_byte u x.value) (sym k) ∙ e
+    choose w false e h = cc
+
+    go : (r : Result (Word ℕ) Unclear)
+        → ◌≡◌ {A = Result (Word ℕ) Unclear} (after r (λ (w : Word ℕ). pick (is_module_byte u w.value) (Ok w) (unclear expected.OddByte w.from))) (Ok b) → is_module_byte u b.value ≡ true
+    go (Ok w) h = choose w (is_module_byte u w.value) refl h
+    go (Err x) h = cc
+
+flag_fits : (line : List ℕ) (at : ℕ) (f : Word ℕ) → module_flag line at ≡ Ok f → ltb 1 f.value ≡ false
+unfolding module_flag
+flag_fits line at f = go (due expected.Byte (byte_at line at))
+  where
+    choose : (w : Word ℕ) (t : Bool) → ltb 1 w.value ≡ t → ◌≡◌ {A = Result (Word ℕ) Unclear} (pick t (unclear expected.Flag w.from) (Ok w)) (Ok f) → ltb 1 f.value ≡ false
+    choose w true e h = cc
+    choose w false e h = let k : w ≡ f = cc in ap (λ (x : Word ℕ). ltb 1 x.value) (sym k) ∙ e
+
+    go : (r : Result (Word ℕ) Unclear)
+        → ◌≡◌ {A = Result (Word ℕ) Unclear} (after r (λ (w : Word ℕ). pick (ltb 1 w.value) (unclear expected.Flag w.from) (Ok w))) (Ok f) → ltb 1 f.value ≡ false
+    go (Ok w) h = choose w (ltb 1 w.value) refl h
+    go (Err x) h = cc
+
+fits_module : (line : List ℕ) (at : ℕ) → fits (module_request line at) ≡ true
+unfolding module_request
+fits_module line at =
+    fits_after (due expected.Udid (udid_at line at)) _ (λ u g.
+    fits_after (module_byte u.value line u.to) _ (λ b h.
+    fits_after (module_flag line b.to) _ (λ f k.
+    fits_after (fresh_on u.value line f.to) _ (λ last l. rw (byte_fits u.value line u.to b h, flag_fits line b.to f k)))))
 
 -- ---- a line
 
 fits_in : (v : Verb) (line : List ℕ) (place at : ℕ) → fits (request_in v line place at) ≡ true
-unfolding pec_request encode_request decode_request occupied_request target_request run_request step_request choose_request lookup_request gone_request module_request event_request
-fits_in verb.Pec line place at = fits_bytes line at (Pec at) refl
-fits_in verb.Encode line place at = fits_encode line (head_at line at)
-fits_in verb.Decode line place at = fits_decode line (head_at line at)
-fits_in verb.Occupied line place at = fits_bytes line at (Occupied at) refl
-fits_in verb.Target line place at = fits_target line (udid_at line at)
+unfolding pec_request encode_request decode_request occupied_request target_request run_request step_request choose_request lookup_request gone_request event_request
+fits_in verb.Pec line place at = fits_to_end (Pec at) line expected.Byte (bytes_end (length line) line at) refl
+fits_in verb.Encode line place at =
+    fits_after (head_at line at) _ (λ h a.
+    fits_after (fields_at line h.to) _ (λ f b.
+    fits_after (sent_at line f.to) _ (λ s c.
+    fits_after (received_at line s.1) _ (λ r d. refl))))
+fits_in verb.Decode line place at =
+    fits_after (head_at line at) _ (λ h a. fits_to_end (Decode h.value h.to) line expected.Symbol (symbols_end (length line) line h.to) refl)
+fits_in verb.Occupied line place at = fits_to_end (Occupied at) line expected.Byte (bytes_end (length line) line at) refl
+fits_in verb.Target line place at =
+    fits_after (due expected.Udid (udid_at line at)) _ (λ u a.
+    fits_after (due expected.Byte (byte_at line u.to)) _ (λ b c.
+    fits_after (due expected.Byte (byte_at line b.to)) _ (λ f d.
+    fits_ended (Target (record { udid = u.value; byte = b.value; flag = f.value }) u.from) line f.to refl)))
 fits_in verb.Clear line place at = fits_ended Clear line at refl
-fits_in verb.Run line place at = fits_byte Run line (last_at line at) (λ b. refl)
+fits_in verb.Run line place at = fits_after (lone_byte line (last_at line at)) _ (λ b h. refl)
 fits_in verb.Start line place at = fits_ended Start line at refl
-fits_in verb.Step line place at = fits_symbols line at (Step at) refl
-fits_in verb.Lookup line place at = fits_byte Lookup line (byte_at line at) (λ b. refl)
-fits_in verb.Gone line place at = fits_byte Gone line (byte_at line at) (λ b. refl)
+fits_in verb.Step line place at = fits_to_end (Step at) line expected.Symbol (symbols_end (length line) line at) refl
+fits_in verb.Lookup line place at = fits_after (lone_byte line (byte_at line at)) _ (λ b h. refl)
+fits_in verb.Gone line place at = fits_after (lone_byte line (byte_at line at)) _ (λ b h. refl)
 fits_in verb.Grid line place at = fits_ended Grid line at refl
-fits_in verb.Module line place at = fits_module line (udid_at line at)
+fits_in verb.Module line place at = fits_module line at
 fits_in verb.M line place at = fits_event (event_of (word_in line (word_from line at))) line place (word_from line at)
-fits_in verb.Choose line place at = fits_symbols line at (Choose at) refl
+fits_in verb.Choose line place at = fits_to_end (Choose at) line expected.Symbol (symbols_end (length line) line at) refl
 fits_in verb.Issue line place at = fits_ended Issue line at refl
 fits_in verb.Decline line place at = fits_ended Decline line at refl
-fits_in verb.Other line place at = refl
+
+fits_verb : (v : Option Verb) (line : List ℕ) (place at : ℕ) → fits (request_is v line place at) ≡ true
+fits_verb (Some v) line place at = fits_in v line place at
+fits_verb None line place at = refl
 
 fits_line : (line : List ℕ) → fits (request_of line) ≡ true
 unfolding request_of
-fits_line line =
-    fits_pick (leb (word_from line 0).to (word_from line 0).from) Nothing (request_in (verb_of (word_in line (word_from line 0))) line (word_from line 0).from (word_from line 0).to)
-    refl
-    (fits_in (verb_of (word_in line (word_from line 0))) line (word_from line 0).from (word_from line 0).to)
+fits_line line = go (leb (word_from line 0).to (word_from line 0).from)
+  where
+    go : (t : Bool)
+        → fits (pick t (Ok Nothing) (request_is (verb_of (word_in line (word_from line 0))) line (word_from line 0).from (word_from line 0).to)) ≡ true
+    go true = refl
+    go false = fits_verb (verb_of (word_in line (word_from line 0))) line (word_from line 0).from (word_from line 0).to
 
 -- whatever a line is: where it asks for a module, there is one
-pub module_asked : (line : List ℕ) (t : Record) (f : ℕ) → request_of line ≡ Module t f → is_module t ≡ true
+pub module_asked : (line : List ℕ) (t : Record) (f : ℕ) → request_of line ≡ Ok (Module t f) → is_module t ≡ true
 module_asked line t f e = sym (ap fits e) ∙ fits_line line
 
 -- ---- in letters
 
-pub m_start : request_of (chars " m start") ≡ Event happens.Start 1
-unfolding request_of event_request event_of ended rest_at verb_of pass_verb module_verb same_text part_of word_from start_from before
+pub m_start : request_of (chars " m start") ≡ Ok (Event happens.Start 1)
+unfolding request_of verb_of codec_verb shelf_verb pass_verb module_verb choice_verb event_request event_of ended rest_at part_of word_from start_from before
 m_start = refl
 
-pub m_bytes : request_of (chars "m byte 0xc2 3") ≡ Event (happens.Bytes 6) 0
-unfolding request_of event_request event_of bytes_end byte_at verb_of pass_verb module_verb same_text part_of word_from start_from before number_of is_hex digits_of value_from are_digits digit_of
+pub m_bytes : request_of (chars "m byte 0xc2 3") ≡ Ok (Event (happens.Bytes 6) 0)
+unfolding request_of verb_of codec_verb shelf_verb pass_verb module_verb choice_verb event_request event_of numbers_end number_at part_of word_from start_from before number_of is_hex digits_of value_from are_digits digit_of
 m_bytes = refl
 
-pub m_alone : request_of (chars "m") ≡ Unclear expected.Event 1
-unfolding request_of event_request event_of verb_of pass_verb module_verb same_text part_of word_from start_from before
+pub m_alone : request_of (chars "m") ≡ unclear expected.Event 1
+unfolding request_of verb_of codec_verb shelf_verb pass_verb module_verb choice_verb event_request event_of part_of word_from start_from before
 m_alone = refl
 
 -- a random module with a fourth word
 pub module_fresh_lem : request_of (chars "module c0000000000000000000000000000001 0x43 1 89abCDEF")
-    ≡ Module (record { udid = record { high = 0xC000000000000000; low = 1 }; byte = 0x43; flag = 1 }) 0x89ABCDEF
-unfolding request_of module_request module_byte byte_in is_module_byte module_flag flag_on fresh_on module_fresh ended rest_at udid_at fresh_at byte_at verb_of pass_verb module_verb same_text part_of word_from start_from before number_of is_hex digits_of halves_of quarter_of value_from are_digits digit_of
+    ≡ Ok (Module (record { udid = record { high = 0xC000000000000000; low = 1 }; byte = 0x43; flag = 1 }) 0x89ABCDEF)
+unfolding request_of verb_of codec_verb shelf_verb pass_verb module_verb choice_verb module_request module_byte is_module_byte module_flag fresh_on fresh_given ended rest_at udid_at fresh_at number_at part_of word_from start_from before number_of is_hex digits_of halves_of quarter_of value_from are_digits digit_of
 module_fresh_lem = refl
 
 -- without it the last bytes stay
 pub module_stays : request_of (chars "module c0000000000000000000000087654321 0xff 0")
-    ≡ Module (record { udid = record { high = 0xC000000000000000; low = 0x87654321 }; byte = 0xFF; flag = 0 }) 0x87654321
-unfolding request_of module_request module_byte byte_in is_module_byte module_flag flag_on fresh_on module_fresh ended rest_at udid_at fresh_at byte_at verb_of pass_verb module_verb same_text part_of word_from start_from before number_of is_hex digits_of halves_of quarter_of value_from are_digits digit_of
+    ≡ Ok (Module (record { udid = record { high = 0xC000000000000000; low = 0x87654321 }; byte = 0xFF; flag = 0 }) 0x87654321)
+unfolding request_of verb_of codec_verb shelf_verb pass_verb module_verb choice_verb module_request module_byte is_module_byte module_flag fresh_on fresh_given ended rest_at udid_at fresh_at number_at part_of word_from start_from before number_of is_hex digits_of halves_of quarter_of value_from are_digits digit_of
 module_stays = refl
 
 -- a fixed module has an address
-pub module_fixed : request_of (chars "module 00000000000000000000000000000000 0xff 0") ≡ Unclear expected.OddByte 40
-unfolding request_of module_request module_byte byte_in is_module_byte module_flag flag_on fresh_on module_fresh ended rest_at udid_at fresh_at byte_at verb_of pass_verb module_verb same_text part_of word_from start_from before number_of is_hex digits_of halves_of quarter_of value_from are_digits digit_of
+pub module_fixed : request_of (chars "module 00000000000000000000000000000000 0xff 0") ≡ unclear expected.OddByte 40
+unfolding request_of verb_of codec_verb shelf_verb pass_verb module_verb choice_verb module_request module_byte is_module_byte module_flag fresh_on fresh_given ended rest_at udid_at fresh_at number_at part_of word_from start_from before number_of is_hex digits_of halves_of quarter_of value_from are_digits digit_of
 module_fixed = refl

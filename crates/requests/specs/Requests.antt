@@ -1,5 +1,5 @@
 -- What a line means: a request with its values, or what was expected at which place.
-use Rattle.std.specs.Prelude.{ℕ, ◌%◌, ◌^◌, Bool, true, false, List, eqb, ltb, leb, length}
+use Rattle.std.specs.Prelude.{ℕ, ◌%◌, ◌^◌, Bool, List, eqb, ltb, leb, length, Option, Some, None, Result, Ok}
 use Rattle.lists.specs.Choice.{pick, and, not}
 use Rattle.udid.specs.declared.Udid.{Udid}
 use Rattle.udid.specs.Udids.{top_bits, is_fixed}
@@ -9,194 +9,145 @@ use Rattle.text.specs.declared.word.LineWord.{LineWord}
 use Rattle.words.specs.Verbs.{verb_of}
 use Rattle.words.specs.Events.{event_of}
 use Rattle.words.specs.Said.{word_in, byte_at, udid_at, fresh_at, protocol_at, pec_at, mark_at, rest_at}
+use Rattle.requests.specs.Clear.{unclear, due, after}
 use Rattle.requests.specs.Lists.{bytes_end, symbols_end}
+use Rattle.requests.specs.declared.expected.Expected.{Expected}
 use Rattle.requests.specs.declared.expected.Expected.TheVariants as expected
+use Rattle.requests.specs.declared.expected.Unclear.{Unclear}
 use Rattle.words.specs.declared.verb.Verb.{Verb}
 use Rattle.words.specs.declared.verb.Verb.TheVariants as verb
 use Rattle.words.specs.declared.event.Event.{Event as EventWord}
 use Rattle.words.specs.declared.event.Event.TheVariants as event
-use Rattle.words.specs.declared.word.ByteWord.{ByteWord}
-use Rattle.words.specs.declared.word.ByteWord.TheVariants.{Byte, NoByte}
-use Rattle.words.specs.declared.word.UdidWord.{UdidWord}
-use Rattle.words.specs.declared.word.UdidWord.TheVariants.{Identifier, NoIdentifier}
-use Rattle.words.specs.declared.word.FreshWord.{FreshWord}
-use Rattle.words.specs.declared.word.FreshWord.TheVariants.{Fresh, NoFresh}
-use Rattle.words.specs.declared.word.PecWord.{PecWord}
-use Rattle.words.specs.declared.word.PecWord.TheVariants.{With, Without, Neither}
+use Rattle.words.specs.declared.word.Word.{Word}
 use Rattle.words.specs.declared.word.MarkWord.{MarkWord}
 use Rattle.words.specs.declared.word.MarkWord.TheVariants.{Mark, Over, Another}
-use Rattle.words.specs.declared.word.Rest.{Rest}
-use Rattle.words.specs.declared.word.Rest.TheVariants as left
-use Rattle.requests.specs.declared.head.HeadWords.{HeadWords}
-use Rattle.requests.specs.declared.head.HeadWords.TheVariants.{HeadIs, NoHead}
-use Rattle.requests.specs.declared.head.FieldWords.{FieldWords}
-use Rattle.requests.specs.declared.head.FieldWords.TheVariants.{FieldsAre, NoFields}
-use Rattle.requests.specs.declared.other.OneByte.{OneByte}
-use Rattle.requests.specs.declared.other.OneByte.TheVariants as one
 use Rattle.requests.specs.declared.request.Head.{Head}
 use Rattle.requests.specs.declared.request.Fields.{Fields}
-use Rattle.requests.specs.declared.request.Record.{Record}
+use Rattle.requests.specs.declared.request.ModuleEvent.{ModuleEvent}
 use Rattle.requests.specs.declared.request.ModuleEvent.TheVariants as happens
 use Rattle.requests.specs.declared.request.Request.{Request}
-use Rattle.requests.specs.declared.request.Request.TheVariants.{Nothing, Unclear, Pec, Encode, Decode, Occupied, Target, Clear, Run, Start, Step, Lookup, Gone, Grid, Module, Event, Choose, Issue, Decline}
+use Rattle.requests.specs.declared.request.Request.TheVariants.{Nothing, Pec, Encode, Decode, Occupied, Target, Clear, Run, Start, Step, Lookup, Gone, Grid, Module, Event, Choose, Issue, Decline}
 
--- a request whose list of bytes, or of symbols, reaches to the end of the line
-abbrev pub bytes_to : List ℕ → ℕ → Request → Request
-bytes_to line at q = pick (ltb (bytes_end (length line) line at) (length line)) (Unclear expected.Byte (bytes_end (length line) line at)) q
+-- a request, or what was expected at which place
+abbrev pub Asked : Type 0
+Asked = Result Request Unclear
 
-abbrev pub symbols_to : List ℕ → ℕ → Request → Request
-symbols_to line at q = pick (ltb (symbols_end (length line) line at) (length line)) (Unclear expected.Symbol (symbols_end (length line) line at)) q
+-- what was read before a list that ends at a place, where that is the end of the line
+abbrev pub to_end : {A : Type 0} → A → List ℕ → Expected → ℕ → Result A Unclear
+to_end q line e end = pick (ltb end (length line)) (unclear e end) (Ok q)
 
--- a request after which no word is left
-abbrev pub ended_by : Request → Rest → Request
-ended_by q left.Nothing = q
-ended_by q (left.Word place) = Unclear expected.End place
+-- before a list of bytes, or of symbols
+abbrev pub bytes_to : {A : Type 0} → List ℕ → ℕ → A → Result A Unclear
+bytes_to line at q = to_end q line expected.Byte (bytes_end (length line) line at)
 
-unfoldable pub ended : Request → List ℕ → ℕ → Request
+abbrev pub symbols_to : {A : Type 0} → List ℕ → ℕ → A → Result A Unclear
+symbols_to line at q = to_end q line expected.Symbol (symbols_end (length line) line at)
+
+-- what was read, after which no word is left
+abbrev pub ended_by : {A : Type 0} → A → Option ℕ → Result A Unclear
+ended_by q None = Ok q
+ended_by q (Some at) = unclear expected.End at
+
+unfoldable pub ended : {A : Type 0} → A → List ℕ → ℕ → Result A Unclear
 ended q line at = ended_by q (rest_at line at)
 
--- a request of a byte, after whose word no word is left
-abbrev pub byte_on : (ℕ → Request) → List ℕ → ByteWord → Request
-byte_on q line (Byte b next) = ended (q b) line next
-byte_on q line (NoByte place) = Unclear expected.Byte place
-
--- the requests of one byte
-abbrev pub of_byte : OneByte → ℕ → Request
-of_byte one.Run = Run
-of_byte one.Lookup = Lookup
-of_byte one.Gone = Gone
+-- a byte, after whose word no word is left
+abbrev pub lone_byte : List ℕ → Result (Word ℕ) ℕ → Result ℕ Unclear
+lone_byte line w = after (due expected.Byte w) (λ (b : Word ℕ). ended b.value line b.to)
 
 -- ---- pec B...
 
-unfoldable pub pec_request : List ℕ → ℕ → Request
+unfoldable pub pec_request : List ℕ → ℕ → Asked
 pec_request line at = bytes_to line at (Pec at)
 
 -- ---- P p|-
 
-abbrev pub pec_is : ℕ → PecWord → HeadWords
-pec_is p (With next) = HeadIs (record { protocol = p; pec = true }) next
-pec_is p (Without next) = HeadIs (record { protocol = p; pec = false }) next
-pec_is p (Neither place) = NoHead expected.Pec place
-
-abbrev pub protocol_is : List ℕ → ByteWord → HeadWords
-protocol_is line (Byte p at) = pec_is p (pec_at line at)
-protocol_is line (NoByte place) = NoHead expected.Protocol place
-
-unfoldable pub head_at : List ℕ → ℕ → HeadWords
-head_at line at = protocol_is line (protocol_at line at)
+unfoldable pub head_at : List ℕ → ℕ → Result (Word Head) Unclear
+head_at line at =
+    after (due expected.Protocol (protocol_at line at)) (λ (p : Word ℕ).
+    after (due expected.Pec (pec_at line p.to)) (λ (c : Word Bool).
+    Ok (record { value = record { protocol = p.value; pec = c.value }; from = p.from; to = c.to })))
 
 -- ---- ADDRESS DIRECTION COMMAND
 
-abbrev pub command_is : ℕ → ℕ → ByteWord → FieldWords
-command_is a d (Byte c next) = FieldsAre (record { address = a; direction = d; command = c }) next
-command_is a d (NoByte place) = NoFields place
-
-abbrev pub direction_is : List ℕ → ℕ → ByteWord → FieldWords
-direction_is line a (Byte d next) = command_is a d (byte_at line next)
-direction_is line a (NoByte place) = NoFields place
-
-unfoldable pub rest_of_fields : List ℕ → ℕ → ℕ → FieldWords
-rest_of_fields line a at = direction_is line a (byte_at line at)
-
-abbrev pub address_is : List ℕ → ByteWord → FieldWords
-address_is line (Byte a next) = rest_of_fields line a next
-address_is line (NoByte place) = NoFields place
-
-unfoldable pub fields_at : List ℕ → ℕ → FieldWords
-fields_at line at = address_is line (byte_at line at)
+unfoldable pub fields_at : List ℕ → ℕ → Result (Word Fields) Unclear
+fields_at line at =
+    after (due expected.Byte (byte_at line at)) (λ (a : Word ℕ).
+    after (due expected.Byte (byte_at line a.to)) (λ (d : Word ℕ).
+    after (due expected.Byte (byte_at line d.to)) (λ (c : Word ℕ).
+    Ok (record { value = record { address = a.value; direction = d.value; command = c.value }; from = a.from; to = c.to }))))
 
 -- ---- encode P p|- ADDRESS DIRECTION COMMAND w B... r B...; a list that is missing at the end of the line is empty
 
-abbrev pub received_is : Head → Fields → ℕ → List ℕ → MarkWord → Request
-received_is h f sent line (Mark next) = bytes_to line next (Encode h f sent next)
-received_is h f sent line (Over place) = Encode h f sent place
-received_is h f sent line (Another place) = Unclear expected.Received place
+-- where the bytes that are sent begin, and the place after them
+abbrev pub sent_is : List ℕ → MarkWord → Result (ℕ × ℕ) Unclear
+sent_is line (Mark next) = Ok (next, bytes_end (length line) line next)
+sent_is line (Over place) = Ok (place, place)
+sent_is line (Another place) = unclear expected.Sent place
 
-unfoldable pub encode_received : Head → Fields → ℕ → List ℕ → ℕ → Request
-encode_received h f sent line at = received_is h f sent line (mark_at line at (chars "r"))
+unfoldable pub sent_at : List ℕ → ℕ → Result (ℕ × ℕ) Unclear
+sent_at line at = sent_is line (mark_at line at (chars "w"))
 
-abbrev pub sent_is : Head → Fields → List ℕ → MarkWord → Request
-sent_is h f line (Mark next) = encode_received h f next line (bytes_end (length line) line next)
-sent_is h f line (Over place) = encode_received h f place line place
-sent_is h f line (Another place) = Unclear expected.Sent place
+-- where those that are received begin, which reach to the end of the line
+abbrev pub received_is : List ℕ → MarkWord → Result ℕ Unclear
+received_is line (Mark next) = bytes_to line next next
+received_is line (Over place) = Ok place
+received_is line (Another place) = unclear expected.Received place
 
-unfoldable pub encode_sent : Head → Fields → List ℕ → ℕ → Request
-encode_sent h f line at = sent_is h f line (mark_at line at (chars "w"))
+unfoldable pub received_at : List ℕ → ℕ → Result ℕ Unclear
+received_at line at = received_is line (mark_at line at (chars "r"))
 
-abbrev pub fields_on : Head → List ℕ → FieldWords → Request
-fields_on h line (FieldsAre f next) = encode_sent h f line next
-fields_on h line (NoFields place) = Unclear expected.Byte place
-
-unfoldable pub encode_fields : Head → List ℕ → ℕ → Request
-encode_fields h line at = fields_on h line (fields_at line at)
-
-abbrev pub encode_on : List ℕ → HeadWords → Request
-encode_on line (HeadIs h next) = encode_fields h line next
-encode_on line (NoHead e place) = Unclear e place
-
-unfoldable pub encode_request : List ℕ → ℕ → Request
-encode_request line at = encode_on line (head_at line at)
+unfoldable pub encode_request : List ℕ → ℕ → Asked
+encode_request line at =
+    after (head_at line at) (λ (h : Word Head).
+    after (fields_at line h.to) (λ (f : Word Fields).
+    after (sent_at line f.to) (λ (s : ℕ × ℕ).
+    after (received_at line s.1) (λ (r : ℕ).
+    Ok (Encode h.value f.value s.0 r)))))
 
 -- ---- decode P p|- SYMBOL...
 
-unfoldable pub decode_trace : Head → List ℕ → ℕ → Request
-decode_trace h line at = symbols_to line at (Decode h at)
-
-abbrev pub decode_on : List ℕ → HeadWords → Request
-decode_on line (HeadIs h next) = decode_trace h line next
-decode_on line (NoHead e place) = Unclear e place
-
-unfoldable pub decode_request : List ℕ → ℕ → Request
-decode_request line at = decode_on line (head_at line at)
+unfoldable pub decode_request : List ℕ → ℕ → Asked
+decode_request line at = after (head_at line at) (λ (h : Word Head). symbols_to line h.to (Decode h.value h.to))
 
 -- ---- run, or run LAST
 
 -- the last pick that a run begins with: a byte, and 127, never picked, where no word is left
-abbrev pub last_is : List ℕ → ℕ → Rest → ByteWord
-last_is line at left.Nothing = Byte 127 at
-last_is line at (left.Word place) = byte_at line at
+abbrev pub last_is : List ℕ → ℕ → Option ℕ → Result (Word ℕ) ℕ
+last_is line at None = Ok (record { value = 127; from = at; to = at })
+last_is line at (Some place) = byte_at line at
 
-unfoldable pub last_at : List ℕ → ℕ → ByteWord
+unfoldable pub last_at : List ℕ → ℕ → Result (Word ℕ) ℕ
 last_at line at = last_is line at (rest_at line at)
 
-unfoldable pub run_request : List ℕ → ℕ → Request
-run_request line at = byte_on Run line (last_at line at)
+unfoldable pub run_request : List ℕ → ℕ → Asked
+run_request line at = after (lone_byte line (last_at line at)) (λ (b : ℕ). Ok (Run b))
 
 -- ---- occupied A..., step SYMBOL..., choose SYMBOL..., lookup A, gone A
 
-unfoldable pub occupied_request : List ℕ → ℕ → Request
+unfoldable pub occupied_request : List ℕ → ℕ → Asked
 occupied_request line at = bytes_to line at (Occupied at)
 
-unfoldable pub step_request : List ℕ → ℕ → Request
+unfoldable pub step_request : List ℕ → ℕ → Asked
 step_request line at = symbols_to line at (Step at)
 
-unfoldable pub choose_request : List ℕ → ℕ → Request
+unfoldable pub choose_request : List ℕ → ℕ → Asked
 choose_request line at = symbols_to line at (Choose at)
 
-unfoldable pub lookup_request : List ℕ → ℕ → Request
-lookup_request line at = byte_on Lookup line (byte_at line at)
+unfoldable pub lookup_request : List ℕ → ℕ → Asked
+lookup_request line at = after (lone_byte line (byte_at line at)) (λ (b : ℕ). Ok (Lookup b))
 
-unfoldable pub gone_request : List ℕ → ℕ → Request
-gone_request line at = byte_on Gone line (byte_at line at)
+unfoldable pub gone_request : List ℕ → ℕ → Asked
+gone_request line at = after (lone_byte line (byte_at line at)) (λ (b : ℕ). Ok (Gone b))
 
 -- ---- target UDID BYTE FLAG
 
-unfoldable pub target_flag : Udid → ℕ → ℕ → List ℕ → ℕ → Request
-target_flag u place b line at = byte_on (λ (f : ℕ). Target (record { udid = u; byte = b; flag = f }) place) line (byte_at line at)
-
-abbrev pub byte_is : Udid → ℕ → List ℕ → ByteWord → Request
-byte_is u place line (Byte b next) = target_flag u place b line next
-byte_is u place line (NoByte at) = Unclear expected.Byte at
-
-unfoldable pub target_byte : Udid → ℕ → List ℕ → ℕ → Request
-target_byte u place line at = byte_is u place line (byte_at line at)
-
-abbrev pub udid_is : List ℕ → UdidWord → Request
-udid_is line (Identifier u place next) = target_byte u place line next
-udid_is line (NoIdentifier at) = Unclear expected.Udid at
-
-unfoldable pub target_request : List ℕ → ℕ → Request
-target_request line at = udid_is line (udid_at line at)
+unfoldable pub target_request : List ℕ → ℕ → Asked
+target_request line at =
+    after (due expected.Udid (udid_at line at)) (λ (u : Word Udid).
+    after (due expected.Byte (byte_at line u.to)) (λ (b : Word ℕ).
+    after (due expected.Byte (byte_at line b.to)) (λ (f : Word ℕ).
+    ended (Target (record { udid = u.value; byte = b.value; flag = f.value }) u.from) line f.to)))
 
 -- ---- module UDID BYTE FLAG, and for a random module the last four bytes that its identifier takes at a reset
 
@@ -205,70 +156,57 @@ abbrev pub is_random : Udid → Bool
 is_random u = eqb (top_bits u) 3
 
 -- 8 digits, and no word after them
-abbrev pub fresh_is : Record → List ℕ → FreshWord → Request
-fresh_is t line (Fresh f next) = ended (Module t f) line next
-fresh_is t line (NoFresh place) = Unclear expected.Fresh place
-
-unfoldable pub module_fresh : Record → List ℕ → ℕ → Request
-module_fresh t line at = fresh_is t line (fresh_at line at)
+unfoldable pub fresh_given : List ℕ → ℕ → Result ℕ Unclear
+fresh_given line at = after (due expected.Fresh (fresh_at line at)) (λ (f : Word ℕ). ended f.value line f.to)
 
 -- without a fourth word the last bytes stay; only a random module may have one
-abbrev pub fourth_is : Record → List ℕ → ℕ → Rest → Request
-fourth_is t line at left.Nothing = Module t (t.udid.low % 2 ^ 32)
-fourth_is t line at (left.Word place) = module_fresh t line at
+abbrev pub fresh_is : Udid → List ℕ → ℕ → Option ℕ → Result ℕ Unclear
+fresh_is u line at None = Ok (u.low % 2 ^ 32)
+fresh_is u line at (Some place) = fresh_given line at
 
-unfoldable pub fresh_on : Record → List ℕ → ℕ → Request
-fresh_on t line at = pick (is_random t.udid) (fourth_is t line at (rest_at line at)) (ended (Module t (t.udid.low % 2 ^ 32)) line at)
+unfoldable pub fresh_on : Udid → List ℕ → ℕ → Result ℕ Unclear
+fresh_on u line at = pick (is_random u) (fresh_is u line at (rest_at line at)) (ended (u.low % 2 ^ 32) line at)
 
--- FLAG, whose word begins from a place on, is 0 or 1
-unfoldable pub flag_on : Udid → ℕ → ℕ → List ℕ → ℕ → ℕ → Request
-flag_on u b f line at next = pick (ltb 1 f) (Unclear expected.Flag (word_from line at).from) (fresh_on (record { udid = u; byte = b; flag = f }) line next)
-
-abbrev pub module_flag_is : Udid → ℕ → List ℕ → ℕ → ByteWord → Request
-module_flag_is u b line at (Byte f next) = flag_on u b f line at next
-module_flag_is u b line at (NoByte place) = Unclear expected.Byte place
-
-unfoldable pub module_flag : Udid → ℕ → List ℕ → ℕ → Request
-module_flag u b line at = module_flag_is u b line at (byte_at line at)
+-- FLAG is 0 or 1
+unfoldable pub module_flag : List ℕ → ℕ → Result (Word ℕ) Unclear
+module_flag line at = after (due expected.Byte (byte_at line at)) (λ (f : Word ℕ). pick (ltb 1 f.value) (unclear expected.Flag f.from) (Ok f))
 
 -- BYTE is odd, and 255, with which no address is valid, only for a movable module
 unfoldable pub is_module_byte : Udid → ℕ → Bool
 is_module_byte u b = and (not (eqb (b % 2) 0)) (not (and (is_fixed u) (eqb b 0xFF)))
 
-unfoldable pub byte_in : Udid → ℕ → List ℕ → ℕ → ℕ → Request
-byte_in u b line at next = pick (is_module_byte u b) (module_flag u b line next) (Unclear expected.OddByte (word_from line at).from)
+unfoldable pub module_byte : Udid → List ℕ → ℕ → Result (Word ℕ) Unclear
+module_byte u line at =
+    after (due expected.Byte (byte_at line at)) (λ (b : Word ℕ). pick (is_module_byte u b.value) (Ok b) (unclear expected.OddByte b.from))
 
-abbrev pub module_byte_is : Udid → List ℕ → ℕ → ByteWord → Request
-module_byte_is u line at (Byte b next) = byte_in u b line at next
-module_byte_is u line at (NoByte place) = Unclear expected.Byte place
-
-unfoldable pub module_byte : Udid → List ℕ → ℕ → Request
-module_byte u line at = module_byte_is u line at (byte_at line at)
-
-abbrev pub module_is : List ℕ → UdidWord → Request
-module_is line (Identifier u place next) = module_byte u line next
-module_is line (NoIdentifier at) = Unclear expected.Udid at
-
-unfoldable pub module_request : List ℕ → ℕ → Request
-module_request line at = module_is line (udid_at line at)
+unfoldable pub module_request : List ℕ → ℕ → Asked
+module_request line at =
+    after (due expected.Udid (udid_at line at)) (λ (u : Word Udid).
+    after (module_byte u.value line u.to) (λ (b : Word ℕ).
+    after (module_flag line b.to) (λ (f : Word ℕ).
+    after (fresh_on u.value line f.to) (λ (last : ℕ).
+    Ok (Module (record { udid = u.value; byte = b.value; flag = f.value }) last)))))
 
 -- ---- m start, byte B..., supply, lost, stop or state; the place is that of m
 
-abbrev pub event_in : EventWord → List ℕ → ℕ → LineWord → Request
-event_in event.Start line place w = ended (Event happens.Start place) line w.to
-event_in event.Byte line place w = bytes_to line w.to (Event (happens.Bytes w.to) place)
-event_in event.Supply line place w = ended (Event happens.Supply place) line w.to
-event_in event.Lost line place w = ended (Event happens.Lost place) line w.to
-event_in event.Stop line place w = ended (Event happens.Stop place) line w.to
-event_in event.State line place w = ended (Event happens.State place) line w.to
-event_in event.Other line place w = Unclear expected.Event w.from
+abbrev pub event_in : EventWord → List ℕ → ℕ → Result ModuleEvent Unclear
+event_in event.Start line at = ended happens.Start line at
+event_in event.Byte line at = bytes_to line at (happens.Bytes at)
+event_in event.Supply line at = ended happens.Supply line at
+event_in event.Lost line at = ended happens.Lost line at
+event_in event.Stop line at = ended happens.Stop line at
+event_in event.State line at = ended happens.State line at
 
-unfoldable pub event_request : List ℕ → ℕ → ℕ → Request
-event_request line place at = event_in (event_of (word_in line (word_from line at))) line place (word_from line at)
+abbrev pub event_is : Option EventWord → List ℕ → ℕ → LineWord → Asked
+event_is (Some e) line place w = after (event_in e line w.to) (λ (what : ModuleEvent). Ok (Event what place))
+event_is None line place w = unclear expected.Event w.from
+
+unfoldable pub event_request : List ℕ → ℕ → ℕ → Asked
+event_request line place at = event_is (event_of (word_in line (word_from line at))) line place (word_from line at)
 
 -- ---- a line: its verb, and the words after it
 
-abbrev pub request_in : Verb → List ℕ → ℕ → ℕ → Request
+abbrev pub request_in : Verb → List ℕ → ℕ → ℕ → Asked
 request_in verb.Pec line place at = pec_request line at
 request_in verb.Encode line place at = encode_request line at
 request_in verb.Decode line place at = decode_request line at
@@ -286,10 +224,13 @@ request_in verb.M line place at = event_request line place at
 request_in verb.Choose line place at = choose_request line at
 request_in verb.Issue line place at = ended Issue line at
 request_in verb.Decline line place at = ended Decline line at
-request_in verb.Other line place at = Unclear expected.Verb place
+
+abbrev pub request_is : Option Verb → List ℕ → ℕ → ℕ → Asked
+request_is (Some v) line place at = request_in v line place at
+request_is None line place at = unclear expected.Verb place
 
 -- a line of no word asks for nothing
-unfoldable pub request_of : List ℕ → Request
+unfoldable pub request_of : List ℕ → Asked
 request_of line =
-    pick (leb (word_from line 0).to (word_from line 0).from) Nothing
-    (request_in (verb_of (word_in line (word_from line 0))) line (word_from line 0).from (word_from line 0).to)
+    pick (leb (word_from line 0).to (word_from line 0).from) (Ok Nothing)
+    (request_is (verb_of (word_in line (word_from line 0))) line (word_from line 0).from (word_from line 0).to)

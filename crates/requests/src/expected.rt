@@ -1,5 +1,8 @@
-// What was expected where a line is no request.
-#[derive(Clone, Copy)]
+// What was expected where a line is no request, and the place of the word that stands there instead.
+ghost use Rattle.std.specs.Prelude.{◌≡◌};
+ghost use Rattle.requests.specs.Clear.{due};
+
+#[derive(Clone, Copy, PartialEq, Eq)]
 pub enum Expected {
     // One of the verbs.
     Verb,
@@ -33,4 +36,21 @@ pub enum Expected {
     Module,
     // A line that is no longer than a line may be.
     Line,
+}
+
+// A line that is no request: what was expected, and where.
+#[derive(Clone, Copy, PartialEq, Eq)]
+pub struct Unclear {
+    pub expected: Expected,
+    pub place: usize,
+}
+
+// What a word says, or that something was expected in its place.
+pub(crate) fn due<T: Copy>(expected: Expected, word: Result<T, usize>) -> Result<T, Unclear>
+    ensures { result ≡ due expected word }
+{
+    match word {
+        Ok(said) => Ok(said),
+        Err(place) => Err(Unclear { expected, place }),
+    }
 }

@@ -1,86 +1,43 @@
 // The words that the requests encode and decode begin with, and those that stand before encode's lists.
 ghost use Rattle.std.specs.Prelude.{◌≡◌};
-ghost use Rattle.requests.specs.Requests.{head_at, fields_at, rest_of_fields};
+ghost use Rattle.requests.specs.Requests.{head_at, fields_at};
 
-use crate::expected::Expected;
+use crate::expected::{Expected, Unclear, due};
 use crate::request::{Fields, Head};
-use words::word::{ByteWord, PecWord, byte_word, pec_word, protocol_word};
-
-// A head and the place after it, or what was expected at which place.
-#[derive(Clone, Copy)]
-pub(crate) enum HeadWords {
-    HeadIs(Head, usize),
-    NoHead(Expected, usize),
-}
-
-// Fields and the place after them, or the place of a word that is no byte.
-#[derive(Clone, Copy)]
-pub(crate) enum FieldWords {
-    FieldsAre(Fields, usize),
-    NoFields(usize),
-}
+use words::word::{Word, byte_word, pec_word, protocol_word};
 
 // P p|-
-pub(crate) fn head(line: &[u8], from: usize) -> HeadWords
+#[tactic(auto, unfolding(crate::specs::Requests::head_at))]
+pub(crate) fn head(line: &[u8], from: usize) -> Result<Word<Head>, Unclear>
     ensures { result ≡ head_at line.now from }
 {
-    let p = protocol_word(line, from);
-    match p {
-        ByteWord::NoByte(at) => HeadWords::NoHead(Expected::Protocol, at),
-        ByteWord::Byte(protocol, at) => {
-            let c = pec_word(line, at);
-            match c {
-                PecWord::With(next) => HeadWords::HeadIs(
-                    Head {
-                        protocol,
-                        pec: true,
-                    },
-                    next,
-                ),
-                PecWord::Without(next) => HeadWords::HeadIs(
-                    Head {
-                        protocol,
-                        pec: false,
-                    },
-                    next,
-                ),
-                PecWord::Neither(place) => HeadWords::NoHead(Expected::Pec, place),
-            }
-        }
-    }
+    let p = due(Expected::Protocol, protocol_word(line, from))?;
+    let c = due(Expected::Pec, pec_word(line, p.to))?;
+    Ok(Word {
+        value: Head {
+            protocol: p.value,
+            pec: c.value,
+        },
+        from: p.from,
+        to: c.to,
+    })
 }
 
 // ADDRESS DIRECTION COMMAND
-pub(crate) fn fields(line: &[u8], from: usize) -> FieldWords
+#[tactic(auto, unfolding(crate::specs::Requests::fields_at))]
+pub(crate) fn fields(line: &[u8], from: usize) -> Result<Word<Fields>, Unclear>
     ensures { result ≡ fields_at line.now from }
 {
-    let a = byte_word(line, from);
-    match a {
-        ByteWord::NoByte(at) => FieldWords::NoFields(at),
-        ByteWord::Byte(address, at) => rest_of_fields(line, address, at),
-    }
-}
-
-// DIRECTION COMMAND
-fn rest_of_fields(line: &[u8], address: u8, from: usize) -> FieldWords
-    ensures { result ≡ rest_of_fields line.now address from }
-{
-    let d = byte_word(line, from);
-    match d {
-        ByteWord::NoByte(at) => FieldWords::NoFields(at),
-        ByteWord::Byte(direction, at) => {
-            let c = byte_word(line, at);
-            match c {
-                ByteWord::NoByte(place) => FieldWords::NoFields(place),
-                ByteWord::Byte(command, next) => FieldWords::FieldsAre(
-                    Fields {
-                        address,
-                        direction,
-                        command,
-                    },
-                    next,
-                ),
-            }
-        }
-    }
+    let a = due(Expected::Byte, byte_word(line, from))?;
+    let d = due(Expected::Byte, byte_word(line, a.to))?;
+    let c = due(Expected::Byte, byte_word(line, d.to))?;
+    Ok(Word {
+        value: Fields {
+            address: a.value,
+            direction: d.value,
+            command: c.value,
+        },
+        from: a.from,
+        to: c.to,
+    })
 }

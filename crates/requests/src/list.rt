@@ -2,50 +2,57 @@
 // words are looked at. Rests on crate words.
 ghost use Rattle.std.specs.Prelude.{◌≡◌, length};
 ghost use Rattle.writing.specs.Written.{Appended};
-ghost use Rattle.requests.specs.Lists.{bytes_end, symbols_end, bytes_from, symbols_from};
+ghost use Rattle.requests.specs.Lists.{numbers_end, bytes_end, symbols_end, bytes_from, symbols_from};
+ghost use Rattle.requests.specs.Requests.{to_end};
 
-use words::word::{ByteWord, SymbolWord, byte_word, symbol_word};
+use crate::expected::{Expected, Unclear};
+use words::word::{byte_word, number_word, symbol_word};
+
+// The place of the first word from a place on that is no number below a limit.
+fn numbers_end(line: &[u8], from: usize, limit: u64) -> usize
+    ensures { result ≡ numbers_end limit (length line.now) line.now from }
+{
+    let mut at = from;
+    for _ in 0..line.len() {
+        match number_word(line, at, limit) {
+            Ok(w) => at = w.to,
+            Err(place) => return place,
+        }
+    }
+    at
+}
 
 // The place of the first word from a place on that is no byte.
 pub(crate) fn bytes_end(line: &[u8], from: usize) -> usize
     ensures { result ≡ bytes_end (length line.now) line.now from }
 {
-    let mut left = line.len();
-    let mut at = from;
-    while left > 0 {
-        let b = byte_word(line, at);
-        match b {
-            ByteWord::Byte(_, next) => {
-                at = next;
-                left -= 1;
-            }
-            ByteWord::NoByte(p) => {
-                return p;
-            }
-        }
-    }
-    at
+    numbers_end(line, from, 256)
 }
 
 // The place of the first word from a place on that is no symbol.
 pub(crate) fn symbols_end(line: &[u8], from: usize) -> usize
     ensures { result ≡ symbols_end (length line.now) line.now from }
 {
-    let mut left = line.len();
-    let mut at = from;
-    while left > 0 {
-        let x = symbol_word(line, at);
-        match x {
-            SymbolWord::Symbol(_, next) => {
-                at = next;
-                left -= 1;
-            }
-            SymbolWord::NoSymbol(p) => {
-                return p;
-            }
-        }
+    numbers_end(line, from, 65536)
+}
+
+// What was read, where the list after it reaches to the end of the line.
+pub(crate) fn to_end<T: Copy>(
+    read: T,
+    line: &[u8],
+    expected: Expected,
+    end: usize,
+) -> Result<T, Unclear>
+    ensures { result ≡ to_end read line.now expected end }
+{
+    if end < line.len() {
+        Err(Unclear {
+            expected,
+            place: end,
+        })
+    } else {
+        Ok(read)
     }
-    at
 }
 
 // The bytes from a place on, to the front of a buffer, as many as there is room for. Answers how many.
@@ -55,16 +62,13 @@ pub fn read_bytes(line: &[u8], from: usize, out: &mut [u8]) -> usize
     let mut n: usize = 0;
     let mut at = from;
     while n < out.len() {
-        let b = byte_word(line, at);
-        match b {
-            ByteWord::Byte(v, next) => {
-                out[n] = v;
+        match byte_word(line, at) {
+            Ok(w) => {
+                out[n] = w.value;
                 n += 1;
-                at = next;
+                at = w.to;
             }
-            ByteWord::NoByte(_) => {
-                return n;
-            }
+            Err(_) => return n,
         }
     }
     n
@@ -77,16 +81,13 @@ pub fn read_symbols(line: &[u8], from: usize, out: &mut [u16]) -> usize
     let mut n: usize = 0;
     let mut at = from;
     while n < out.len() {
-        let x = symbol_word(line, at);
-        match x {
-            SymbolWord::Symbol(v, next) => {
-                out[n] = v;
+        match symbol_word(line, at) {
+            Ok(w) => {
+                out[n] = w.value;
                 n += 1;
-                at = next;
+                at = w.to;
             }
-            SymbolWord::NoSymbol(_) => {
-                return n;
-            }
+            Err(_) => return n,
         }
     }
     n

@@ -1,19 +1,15 @@
 // The requests of a module at its own end of the bus: module and m.
 ghost use Rattle.std.specs.Prelude.{◌≡◌, ◌%◌, ◌^◌};
-ghost use Rattle.requests.specs.Requests.{bytes_to, ended, is_random, is_module_byte, fresh_on, module_fresh, flag_on, module_flag, byte_in, module_byte, module_request, event_in, event_request};
-ghost use Rattle.requests.specs.declared.request.Request.TheVariants as request;
-ghost use Rattle.requests.specs.declared.request.ModuleEvent.TheVariants as happens;
+ghost use Rattle.requests.specs.Requests.{is_random, is_module_byte, fresh_given, fresh_on, module_flag, module_byte, module_request, event_in, event_request};
 
-use crate::expected::Expected;
-use crate::list::bytes_end;
+use crate::expected::{Expected, Unclear, due};
+use crate::list::{bytes_end, to_end};
 use crate::other::ending;
 use crate::request::{ModuleEvent, Record, Request};
-use text::word::{LineWord, next_word, part};
+use text::word::{next_word, part};
 use udid::Udid;
 use words::event::{Event, event_of};
-use words::word::{
-    ByteWord, FreshWord, Rest, UdidWord, after_word, byte_word, fresh_word, udid_word,
-};
+use words::word::{Word, after_word, byte_word, fresh_word, udid_word};
 
 // The top two bits are 11: the identifier has new last bytes after a reset.
 fn is_random(u: Udid) -> bool
@@ -30,143 +26,116 @@ fn last_four(u: Udid) -> u32
 }
 
 // An odd byte; where the module is fixed, not 255, which is no address.
+#[tactic(auto, unfolding(crate::specs::Requests::is_module_byte))]
 fn is_module_byte(u: Udid, b: u8) -> bool
     ensures { result ≡ is_module_byte u b }
 {
-    if b % 2 == 0 {
-        return false;
-    }
-    if u.is_fixed() {
-        return b != 0xFF;
-    }
-    true
+    b % 2 != 0 && !(u.is_fixed() && b == 0xFF)
 }
 
 // 8 digits, and no word after them.
-fn fresh_bytes(t: Record, line: &[u8], from: usize) -> Request
-    ensures { result ≡ module_fresh t line.now from }
+#[tactic(auto, unfolding(crate::specs::Requests::fresh_given))]
+fn fresh_given(line: &[u8], from: usize) -> Result<u32, Unclear>
+    ensures { result ≡ fresh_given line.now from }
 {
-    let f = fresh_word(line, from);
-    match f {
-        FreshWord::Fresh(v, next) => ending(Request::Module(t, v), line, next),
-        FreshWord::NoFresh(place) => Request::Unclear(Expected::Fresh, place),
-    }
+    let f = due(Expected::Fresh, fresh_word(line, from))?;
+    ending(f.value, line, f.to)
 }
 
-// The fourth word. A random module may have one; without it the last bytes stay.
-fn fourth(t: Record, line: &[u8], from: usize) -> Request
-    ensures { result ≡ fresh_on t line.now from }
+// The last four bytes after a reset. A random module may have a word that says them; without it they stay.
+#[tactic(auto, unfolding(crate::specs::Requests::fresh_on))]
+fn fresh(u: Udid, line: &[u8], from: usize) -> Result<u32, Unclear>
+    ensures { result ≡ fresh_on u line.now from }
 {
-    let u = t.udid;
     if is_random(u) {
-        let e = after_word(line, from);
-        match e {
-            Rest::Nothing => Request::Module(t, last_four(u)),
-            Rest::Word(_) => fresh_bytes(t, line, from),
+        match after_word(line, from) {
+            None => Ok(last_four(u)),
+            Some(_) => fresh_given(line, from),
         }
     } else {
-        ending(Request::Module(t, last_four(u)), line, from)
+        ending(last_four(u), line, from)
     }
 }
 
-// FLAG was read: 0 or 1, and what follows it.
-fn flag_read(u: Udid, byte: u8, flag: u8, line: &[u8], from: usize, next: usize) -> Request
-    ensures { result ≡ flag_on u byte flag line.now from next }
+// FLAG: 0 or 1.
+#[tactic(auto, unfolding(crate::specs::Requests::module_flag))]
+fn flag(line: &[u8], from: usize) -> Result<Word<u8>, Unclear>
+    ensures { result ≡ module_flag line.now from }
 {
-    if flag > 1 {
-        let w = next_word(line, from);
-        return Request::Unclear(Expected::Flag, w.from);
-    }
-    let t = Record {
-        udid: u,
-        byte,
-        flag,
-    };
-    fourth(t, line, next)
-}
-
-// FLAG
-fn flag(u: Udid, byte: u8, line: &[u8], from: usize) -> Request
-    ensures { result ≡ module_flag u byte line.now from }
-{
-    let f = byte_word(line, from);
-    match f {
-        ByteWord::Byte(v, next) => flag_read(u, byte, v, line, from, next),
-        ByteWord::NoByte(at) => Request::Unclear(Expected::Byte, at),
+    let f = due(Expected::Byte, byte_word(line, from))?;
+    if f.value > 1 {
+        Err(Unclear {
+            expected: Expected::Flag,
+            place: f.from,
+        })
+    } else {
+        Ok(f)
     }
 }
 
-// BYTE was read: one that a module can have, and what follows it.
-fn byte_read(u: Udid, byte: u8, line: &[u8], from: usize, next: usize) -> Request
-    ensures { result ≡ byte_in u byte line.now from next }
-{
-    if is_module_byte(u, byte) {
-        return flag(u, byte, line, next);
-    }
-    let w = next_word(line, from);
-    Request::Unclear(Expected::OddByte, w.from)
-}
-
-// BYTE FLAG
-fn byte_and_flag(u: Udid, line: &[u8], from: usize) -> Request
+// BYTE: one that a module can have.
+#[tactic(auto, unfolding(crate::specs::Requests::module_byte))]
+fn byte(u: Udid, line: &[u8], from: usize) -> Result<Word<u8>, Unclear>
     ensures { result ≡ module_byte u line.now from }
 {
-    let b = byte_word(line, from);
-    match b {
-        ByteWord::Byte(v, next) => byte_read(u, v, line, from, next),
-        ByteWord::NoByte(at) => Request::Unclear(Expected::Byte, at),
+    let b = due(Expected::Byte, byte_word(line, from))?;
+    if is_module_byte(u, b.value) {
+        Ok(b)
+    } else {
+        Err(Unclear {
+            expected: Expected::OddByte,
+            place: b.from,
+        })
     }
 }
 
-// module UDID BYTE FLAG
-pub(crate) fn resume(line: &[u8], from: usize) -> Request
+// module UDID BYTE FLAG, and where the module is random the last four bytes after a reset
+#[tactic(auto, unfolding(crate::specs::Requests::module_request))]
+pub(crate) fn resume(line: &[u8], from: usize) -> Result<Request, Unclear>
     ensures { result ≡ module_request line.now from }
 {
-    let u = udid_word(line, from);
-    match u {
-        UdidWord::Identifier(v, _, next) => byte_and_flag(v, line, next),
-        UdidWord::NoIdentifier(at) => Request::Unclear(Expected::Udid, at),
-    }
+    let u = due(Expected::Udid, udid_word(line, from))?;
+    let b = byte(u.value, line, u.to)?;
+    let f = flag(line, b.to)?;
+    let last = fresh(u.value, line, f.to)?;
+    let t = Record {
+        udid: u.value,
+        byte: b.value,
+        flag: f.value,
+    };
+    Ok(Request::Module(t, last))
 }
 
-// byte B...
-fn bytes(line: &[u8], verb: usize, from: usize) -> Request
-    ensures { result ≡ bytes_to line.now from (request.Event (happens.Bytes from) verb) }
-{
-    let end = bytes_end(line, from);
-    if end < line.len() {
-        return Request::Unclear(Expected::Byte, end);
-    }
-    Request::Event(ModuleEvent::Bytes(from), verb)
-}
-
-// No word is left after it.
-fn alone(e: ModuleEvent, line: &[u8], verb: usize, from: usize) -> Request
-    ensures { result ≡ ended (request.Event e verb) line.now from }
-{
-    ending(Request::Event(e, verb), line, from)
-}
-
-// The request of an event, with its own word and those after it.
-fn event_in(e: Event, line: &[u8], verb: usize, w: LineWord) -> Request
-    ensures { result ≡ event_in e line.now verb w }
+// What happens to the module, where no word is left after it but the bytes.
+fn event_in(e: Event, line: &[u8], from: usize) -> Result<ModuleEvent, Unclear>
+    ensures { result ≡ event_in e line.now from }
 {
     match e {
-        Event::Start => alone(ModuleEvent::Start, line, verb, w.to),
-        Event::Byte => bytes(line, verb, w.to),
-        Event::Supply => alone(ModuleEvent::Supply, line, verb, w.to),
-        Event::Lost => alone(ModuleEvent::Lost, line, verb, w.to),
-        Event::Stop => alone(ModuleEvent::Stop, line, verb, w.to),
-        Event::State => alone(ModuleEvent::State, line, verb, w.to),
-        Event::Other => Request::Unclear(Expected::Event, w.from),
+        Event::Start => ending(ModuleEvent::Start, line, from),
+        Event::Byte => to_end(
+            ModuleEvent::Bytes(from),
+            line,
+            Expected::Byte,
+            bytes_end(line, from),
+        ),
+        Event::Supply => ending(ModuleEvent::Supply, line, from),
+        Event::Lost => ending(ModuleEvent::Lost, line, from),
+        Event::Stop => ending(ModuleEvent::Stop, line, from),
+        Event::State => ending(ModuleEvent::State, line, from),
     }
 }
 
 // m start, byte B..., supply, lost, stop or state
-pub(crate) fn event(line: &[u8], verb: usize, from: usize) -> Request
+#[tactic(auto, unfolding(crate::specs::Requests::event_request))]
+pub(crate) fn event(line: &[u8], verb: usize, from: usize) -> Result<Request, Unclear>
     ensures { result ≡ event_request line.now verb from }
 {
     let w = next_word(line, from);
-    let e = event_of(part(line, w.from, w.to));
-    event_in(e, line, verb, w)
+    match event_of(part(line, w.from, w.to)) {
+        Some(e) => Ok(Request::Event(event_in(e, line, w.to)?, verb)),
+        None => Err(Unclear {
+            expected: Expected::Event,
+            place: w.from,
+        }),
+    }
 }

@@ -1,160 +1,127 @@
 // The requests of the shelf and of the controller.
 ghost use Rattle.std.specs.Prelude.{◌≡◌};
-ghost use Rattle.requests.specs.Requests.{symbols_to, occupied_request, last_at, of_byte, byte_on, run_request, step_request, choose_request, lookup_request, gone_request, target_request, target_byte, target_flag, ended};
+ghost use Rattle.requests.specs.Requests.{occupied_request, last_at, lone_byte, run_request, step_request, choose_request, lookup_request, gone_request, target_request, ended};
 
-use crate::expected::Expected;
-use crate::list::{bytes_end, symbols_end};
+use crate::expected::{Expected, Unclear, due};
+use crate::list::{bytes_end, symbols_end, to_end};
 use crate::request::{Record, Request};
-use udid::Udid;
-use words::word::{ByteWord, Rest, UdidWord, after_word, byte_word, udid_word};
+use words::word::{Word, after_word, byte_word, udid_word};
 
 // The last pick of a controller that has never picked.
 const NEVER_PICKED: u8 = 127;
 
-// The requests of one byte.
-#[derive(Clone, Copy)]
-pub(crate) enum OneByte {
-    Run,
-    Lookup,
-    Gone,
-}
-
-// A request, where no word is left for it.
-pub(crate) fn ending(q: Request, line: &[u8], from: usize) -> Request
-    ensures { result ≡ ended q line.now from }
+// What was read, where no word is left after it.
+#[tactic(auto, unfolding(crate::specs::Requests::ended))]
+pub(crate) fn ending<T: Copy>(read: T, line: &[u8], from: usize) -> Result<T, Unclear>
+    ensures { result ≡ ended read line.now from }
 {
-    let e = after_word(line, from);
-    match e {
-        Rest::Nothing => q,
-        Rest::Word(place) => Request::Unclear(Expected::End, place),
+    match after_word(line, from) {
+        None => Ok(read),
+        Some(place) => Err(Unclear {
+            expected: Expected::End,
+            place,
+        }),
     }
 }
 
 // occupied A...
-pub(crate) fn occupied(line: &[u8], from: usize) -> Request
+#[tactic(auto, unfolding(crate::specs::Requests::occupied_request))]
+pub(crate) fn occupied(line: &[u8], from: usize) -> Result<Request, Unclear>
     ensures { result ≡ occupied_request line.now from }
 {
-    let end = bytes_end(line, from);
-    if end < line.len() {
-        return Request::Unclear(Expected::Byte, end);
-    }
-    Request::Occupied(from)
+    to_end(
+        Request::Occupied(from),
+        line,
+        Expected::Byte,
+        bytes_end(line, from),
+    )
 }
 
 // LAST, a byte; where no word is left, never picked.
-fn last_pick(line: &[u8], from: usize) -> ByteWord
+#[tactic(auto, unfolding(crate::specs::Requests::last_at))]
+fn last_pick(line: &[u8], from: usize) -> Result<Word<u8>, usize>
     ensures { result ≡ last_at line.now from }
 {
-    let e = after_word(line, from);
-    match e {
-        Rest::Nothing => ByteWord::Byte(NEVER_PICKED, from),
-        Rest::Word(_) => byte_word(line, from),
+    match after_word(line, from) {
+        None => Ok(Word {
+            value: NEVER_PICKED,
+            from,
+            to: from,
+        }),
+        Some(_) => byte_word(line, from),
     }
 }
 
-// The request with its byte.
-fn of_byte(v: OneByte, b: u8) -> Request
-    ensures { result ≡ of_byte v b }
+// A byte, where no word is left after it.
+fn lone_byte(line: &[u8], word: Result<Word<u8>, usize>) -> Result<u8, Unclear>
+    ensures { result ≡ lone_byte line.now word }
 {
-    match v {
-        OneByte::Run => Request::Run(b),
-        OneByte::Lookup => Request::Lookup(b),
-        OneByte::Gone => Request::Gone(b),
-    }
-}
-
-// A request whose byte was read, where no word is left for it.
-fn one_byte(v: OneByte, w: ByteWord, line: &[u8]) -> Request
-    ensures { result ≡ byte_on (of_byte v) line.now w }
-{
-    match w {
-        ByteWord::Byte(b, next) => ending(of_byte(v, b), line, next),
-        ByteWord::NoByte(place) => Request::Unclear(Expected::Byte, place),
-    }
+    let b = due(Expected::Byte, word)?;
+    ending(b.value, line, b.to)
 }
 
 // run, or run LAST
-pub(crate) fn run(line: &[u8], from: usize) -> Request
+#[tactic(auto, unfolding(crate::specs::Requests::run_request))]
+pub(crate) fn run(line: &[u8], from: usize) -> Result<Request, Unclear>
     ensures { result ≡ run_request line.now from }
 {
-    one_byte(OneByte::Run, last_pick(line, from), line)
-}
-
-// A request whose symbols from a place on reach to the end of the line.
-fn with_symbols(q: Request, line: &[u8], from: usize) -> Request
-    ensures { result ≡ symbols_to line.now from q }
-{
-    let end = symbols_end(line, from);
-    if end < line.len() {
-        return Request::Unclear(Expected::Symbol, end);
-    }
-    q
+    Ok(Request::Run(lone_byte(line, last_pick(line, from))?))
 }
 
 // step SYMBOL...
-pub(crate) fn step(line: &[u8], from: usize) -> Request
+#[tactic(auto, unfolding(crate::specs::Requests::step_request))]
+pub(crate) fn step(line: &[u8], from: usize) -> Result<Request, Unclear>
     ensures { result ≡ step_request line.now from }
 {
-    with_symbols(Request::Step(from), line, from)
+    to_end(
+        Request::Step(from),
+        line,
+        Expected::Symbol,
+        symbols_end(line, from),
+    )
 }
 
 // choose SYMBOL...
-pub(crate) fn choose(line: &[u8], from: usize) -> Request
+#[tactic(auto, unfolding(crate::specs::Requests::choose_request))]
+pub(crate) fn choose(line: &[u8], from: usize) -> Result<Request, Unclear>
     ensures { result ≡ choose_request line.now from }
 {
-    with_symbols(Request::Choose(from), line, from)
+    to_end(
+        Request::Choose(from),
+        line,
+        Expected::Symbol,
+        symbols_end(line, from),
+    )
 }
 
 // lookup A
-pub(crate) fn lookup(line: &[u8], from: usize) -> Request
+#[tactic(auto, unfolding(crate::specs::Requests::lookup_request))]
+pub(crate) fn lookup(line: &[u8], from: usize) -> Result<Request, Unclear>
     ensures { result ≡ lookup_request line.now from }
 {
-    one_byte(OneByte::Lookup, byte_word(line, from), line)
+    Ok(Request::Lookup(lone_byte(line, byte_word(line, from))?))
 }
 
 // gone A
-pub(crate) fn gone(line: &[u8], from: usize) -> Request
+#[tactic(auto, unfolding(crate::specs::Requests::gone_request))]
+pub(crate) fn gone(line: &[u8], from: usize) -> Result<Request, Unclear>
     ensures { result ≡ gone_request line.now from }
 {
-    one_byte(OneByte::Gone, byte_word(line, from), line)
-}
-
-// FLAG
-fn flag(u: Udid, place: usize, byte: u8, line: &[u8], from: usize) -> Request
-    ensures { result ≡ target_flag u place byte line.now from }
-{
-    let f = byte_word(line, from);
-    match f {
-        ByteWord::Byte(v, next) => {
-            let t = Record {
-                udid: u,
-                byte,
-                flag: v,
-            };
-            ending(Request::Target(t, place), line, next)
-        }
-        ByteWord::NoByte(at) => Request::Unclear(Expected::Byte, at),
-    }
-}
-
-// BYTE FLAG
-fn byte_and_flag(u: Udid, place: usize, line: &[u8], from: usize) -> Request
-    ensures { result ≡ target_byte u place line.now from }
-{
-    let b = byte_word(line, from);
-    match b {
-        ByteWord::Byte(v, next) => flag(u, place, v, line, next),
-        ByteWord::NoByte(at) => Request::Unclear(Expected::Byte, at),
-    }
+    Ok(Request::Gone(lone_byte(line, byte_word(line, from))?))
 }
 
 // target UDID BYTE FLAG
-pub(crate) fn target(line: &[u8], from: usize) -> Request
+#[tactic(auto, unfolding(crate::specs::Requests::target_request))]
+pub(crate) fn target(line: &[u8], from: usize) -> Result<Request, Unclear>
     ensures { result ≡ target_request line.now from }
 {
-    let u = udid_word(line, from);
-    match u {
-        UdidWord::Identifier(v, place, next) => byte_and_flag(v, place, line, next),
-        UdidWord::NoIdentifier(at) => Request::Unclear(Expected::Udid, at),
-    }
+    let u = due(Expected::Udid, udid_word(line, from))?;
+    let b = due(Expected::Byte, byte_word(line, u.to))?;
+    let f = due(Expected::Byte, byte_word(line, b.to))?;
+    let t = Record {
+        udid: u.value,
+        byte: b.value,
+        flag: f.value,
+    };
+    ending(Request::Target(t, u.from), line, f.to)
 }

@@ -4,7 +4,7 @@ ghost use Rattle.std.specs.Prelude.{◌≡◌};
 ghost use Rattle.requests.specs.Requests.{request_of, request_in};
 
 use crate::encoding::{decode, encode, pec};
-use crate::expected::Expected;
+use crate::expected::{Expected, Unclear};
 use crate::modules::{event, resume};
 use crate::other::{choose, ending, gone, lookup, occupied, run, step, target};
 use text::word::{next_word, part};
@@ -12,14 +12,14 @@ use udid::Udid;
 use words::verb::{Verb, verb_of};
 
 // A protocol's number, and whether there is a PEC.
-#[derive(Clone, Copy)]
+#[derive(Clone, Copy, PartialEq, Eq)]
 pub struct Head {
     pub protocol: u8,
     pub pec: bool,
 }
 
 // The fields of a transaction beside its data.
-#[derive(Clone, Copy)]
+#[derive(Clone, Copy, PartialEq, Eq)]
 pub struct Fields {
     pub address: u8,
     pub direction: u8,
@@ -35,7 +35,7 @@ pub struct Record {
 }
 
 // What happens to a module at its own end of the bus, or what is asked of it there.
-#[derive(Clone, Copy)]
+#[derive(Clone, Copy, PartialEq, Eq)]
 pub enum ModuleEvent {
     Start,
     // It receives the bytes from a place on.
@@ -53,9 +53,8 @@ pub enum ModuleEvent {
 #[derive(Clone, Copy)]
 pub enum Request {
     // A line of no word.
+    // Kept: that nothing is asked is one of the answers to what a line asks for, and the console matches it beside the others.
     Nothing,
-    // No request: what was expected at which place.
-    Unclear(Expected, usize),
     // The packet error code of the bytes from a place on.
     Pec(usize),
     // A trace, with the places of the bytes that are sent and of those that are received.
@@ -90,7 +89,7 @@ pub enum Request {
 }
 
 // The request of a verb, with the words from a place on.
-fn request_in(v: Verb, line: &[u8], verb: usize, from: usize) -> Request
+fn request_in(v: Verb, line: &[u8], verb: usize, from: usize) -> Result<Request, Unclear>
     ensures { result ≡ request_in v line.now verb from }
 {
     match v {
@@ -111,18 +110,23 @@ fn request_in(v: Verb, line: &[u8], verb: usize, from: usize) -> Request
         Verb::Choose => choose(line, from),
         Verb::Issue => ending(Request::Issue, line, from),
         Verb::Decline => ending(Request::Decline, line, from),
-        Verb::Other => Request::Unclear(Expected::Verb, verb),
     }
 }
 
-// What a line means, which has no comment any more.
-pub fn read_request(line: &[u8]) -> Request
+// What a line means, which has no comment any more: what it asks for, or what was expected at which place.
+#[tactic(auto, unfolding(crate::specs::Requests::request_of))]
+pub fn read_request(line: &[u8]) -> Result<Request, Unclear>
     ensures { result ≡ request_of line.now }
 {
     let w = next_word(line, 0);
     if w.to <= w.from {
-        return Request::Nothing;
+        return Ok(Request::Nothing);
     }
-    let v = verb_of(part(line, w.from, w.to));
-    request_in(v, line, w.from, w.to)
+    match verb_of(part(line, w.from, w.to)) {
+        Some(v) => request_in(v, line, w.from, w.to),
+        None => Err(Unclear {
+            expected: Expected::Verb,
+            place: w.from,
+        }),
+    }
 }

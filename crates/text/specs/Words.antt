@@ -1,5 +1,6 @@
 -- Words: what separates them, where the next one stands, and when two texts are the same.
-use Rattle.std.specs.Prelude.{ℕ, suc, ◌+◌, ◌-◌, Bool, true, false, List, [], ◌∷◌, eqb, leb, length, take, drop}
+use Rattle.std.specs.Prelude.{ℕ, suc, ◌+◌, ◌-◌, Bool, List, [], ◌∷◌, eqb, leb, length, take, drop}
+use Rattle.std.specs.Str.{bytes_eq}
 use Rattle.lists.specs.Choice.{pick, or, and, not}
 use Rattle.text.specs.declared.word.LineWord.{LineWord}
 
@@ -29,12 +30,10 @@ start_from s at = at + before outside (drop at s)
 unfoldable pub word_from : List ℕ → ℕ → LineWord
 word_from s at = record { from = start_from s at; to = start_from s at + before blank (drop (start_from s at) s) }
 
--- the characters between two places of a text, none where they do not lie in it
-unfoldable pub part_of : List ℕ → ℕ → ℕ → List ℕ
+-- what stands between two places of a list, such as the characters of a word; nothing where that does not lie in it
+unfoldable pub part_of : {A : Type 0} → List A → ℕ → ℕ → List A
 part_of s from to = pick (and (leb from to) (leb to (length s))) (take (to - from) (drop from s)) []
 
-unfoldable pub same_text : List ℕ → List ℕ → Bool
-same_text [] [] = true
-same_text [] (d ∷ ds) = false
-same_text (c ∷ cs) [] = false
-same_text (c ∷ cs) (d ∷ ds) = and (eqb c d) (same_text cs ds)
+-- the same characters
+abbrev pub same_text : List ℕ → List ℕ → Bool
+same_text a b = bytes_eq a b

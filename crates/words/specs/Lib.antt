@@ -1,4 +1,3 @@
 pub mod Verbs
 pub mod Events
 pub mod Said
-pub mod SaidLaws

@@ -2,10 +2,8 @@
 ghost use Rattle.std.specs.Prelude.{◌≡◌};
 ghost use Rattle.words.specs.Events.{event_of};
 
-use text::word::same;
-
 // A signal, bytes received, a byte asked for; or what the module is now.
-#[derive(Clone, Copy)]
+#[derive(Clone, Copy, PartialEq, Eq)]
 pub enum Event {
     Start,
     Byte,
@@ -13,31 +11,20 @@ pub enum Event {
     Lost,
     Stop,
     State,
-    // Any other word.
-    Other,
 }
 
 // The event that a word is.
-pub fn event_of(s: &[u8]) -> Event
+#[tactic(auto, unfolding(crate::specs::Events::event_of))]
+pub fn event_of(s: &[u8]) -> Option<Event>
     ensures { result ≡ event_of s.now }
 {
-    if same(s, b"start") {
-        return Event::Start;
+    match s {
+        b"start" => Some(Event::Start),
+        b"byte" => Some(Event::Byte),
+        b"supply" => Some(Event::Supply),
+        b"lost" => Some(Event::Lost),
+        b"stop" => Some(Event::Stop),
+        b"state" => Some(Event::State),
+        _ => None,
     }
-    if same(s, b"byte") {
-        return Event::Byte;
-    }
-    if same(s, b"supply") {
-        return Event::Supply;
-    }
-    if same(s, b"lost") {
-        return Event::Lost;
-    }
-    if same(s, b"stop") {
-        return Event::Stop;
-    }
-    if same(s, b"state") {
-        return Event::State;
-    }
-    Event::Other
 }

@@ -1,10 +1,8 @@
 // The verbs: the first word of a request.
 ghost use Rattle.std.specs.Prelude.{◌≡◌};
-ghost use Rattle.words.specs.Verbs.{verb_of, pass_verb, module_verb, choice_verb};
+ghost use Rattle.words.specs.Verbs.{verb_of, codec_verb, shelf_verb, pass_verb, module_verb, choice_verb};
 
-use text::word::same;
-
-#[derive(Clone, Copy)]
+#[derive(Clone, Copy, PartialEq, Eq)]
 pub enum Verb {
     Pec,
     Encode,
@@ -25,85 +23,83 @@ pub enum Verb {
     Choose,
     Issue,
     Decline,
-    // Any other word.
-    Other,
 }
 
 // The verbs of a choice.
-fn choice_verb(s: &[u8]) -> Verb
+#[tactic(auto, unfolding(crate::specs::Verbs::choice_verb))]
+fn choice_verb(s: &[u8]) -> Option<Verb>
     ensures { result ≡ choice_verb s.now }
 {
-    if same(s, b"choose") {
-        return Verb::Choose;
+    match s {
+        b"choose" => Some(Verb::Choose),
+        b"issue" => Some(Verb::Issue),
+        b"decline" => Some(Verb::Decline),
+        _ => None,
     }
-    if same(s, b"issue") {
-        return Verb::Issue;
-    }
-    if same(s, b"decline") {
-        return Verb::Decline;
-    }
-    Verb::Other
 }
 
 // The verbs of the module's own end.
-fn module_verb(s: &[u8]) -> Verb
+#[tactic(auto, unfolding(crate::specs::Verbs::module_verb))]
+fn module_verb(s: &[u8]) -> Option<Verb>
     ensures { result ≡ module_verb s.now }
 {
-    if same(s, b"module") {
-        return Verb::Module;
+    match s {
+        b"module" => Some(Verb::Module),
+        b"m" => Some(Verb::M),
+        _ => None,
     }
-    if same(s, b"m") {
-        return Verb::M;
-    }
-    choice_verb(s)
 }
 
 // The verbs of a pass.
-fn pass_verb(s: &[u8]) -> Verb
+#[tactic(auto, unfolding(crate::specs::Verbs::pass_verb))]
+fn pass_verb(s: &[u8]) -> Option<Verb>
     ensures { result ≡ pass_verb s.now }
 {
-    if same(s, b"start") {
-        return Verb::Start;
+    match s {
+        b"start" => Some(Verb::Start),
+        b"step" => Some(Verb::Step),
+        b"lookup" => Some(Verb::Lookup),
+        b"gone" => Some(Verb::Gone),
+        b"grid" => Some(Verb::Grid),
+        _ => None,
     }
-    if same(s, b"step") {
-        return Verb::Step;
+}
+
+// The verbs of the shelf.
+#[tactic(auto, unfolding(crate::specs::Verbs::shelf_verb))]
+fn shelf_verb(s: &[u8]) -> Option<Verb>
+    ensures { result ≡ shelf_verb s.now }
+{
+    match s {
+        b"occupied" => Some(Verb::Occupied),
+        b"target" => Some(Verb::Target),
+        b"clear" => Some(Verb::Clear),
+        b"run" => Some(Verb::Run),
+        _ => None,
     }
-    if same(s, b"lookup") {
-        return Verb::Lookup;
+}
+
+// The verbs of the codec.
+#[tactic(auto, unfolding(crate::specs::Verbs::codec_verb))]
+fn codec_verb(s: &[u8]) -> Option<Verb>
+    ensures { result ≡ codec_verb s.now }
+{
+    match s {
+        b"pec" => Some(Verb::Pec),
+        b"encode" => Some(Verb::Encode),
+        b"decode" => Some(Verb::Decode),
+        _ => None,
     }
-    if same(s, b"gone") {
-        return Verb::Gone;
-    }
-    if same(s, b"grid") {
-        return Verb::Grid;
-    }
-    module_verb(s)
 }
 
 // The verb that a word is.
-pub fn verb_of(s: &[u8]) -> Verb
+#[tactic(auto, unfolding(crate::specs::Verbs::verb_of))]
+pub fn verb_of(s: &[u8]) -> Option<Verb>
     ensures { result ≡ verb_of s.now }
 {
-    if same(s, b"pec") {
-        return Verb::Pec;
-    }
-    if same(s, b"encode") {
-        return Verb::Encode;
-    }
-    if same(s, b"decode") {
-        return Verb::Decode;
-    }
-    if same(s, b"occupied") {
-        return Verb::Occupied;
-    }
-    if same(s, b"target") {
-        return Verb::Target;
-    }
-    if same(s, b"clear") {
-        return Verb::Clear;
-    }
-    if same(s, b"run") {
-        return Verb::Run;
-    }
-    pass_verb(s)
+    codec_verb(s)
+        .or(shelf_verb(s))
+        .or(pass_verb(s))
+        .or(module_verb(s))
+        .or(choice_verb(s))
 }

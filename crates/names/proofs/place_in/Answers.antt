@@ -3,27 +3,16 @@ use Rattle.names.specs.Names.{place_in}
 use Rattle.names.proofs.NamesLaws.{place_over, place_here, place_on, place_full}
 use Rattle.names.proofs.place_in.Goals as goal
 
-pub loop-k-init : goal.loop-k-init
-loop-k-init c = (omega arith, refl)
-
 pub returns-then-w-names : goal.returns-then-w-names
-returns-then-w-names c = sym (c.loop-k.invariant.1 ∙ place_over c.args.names.now c.args.s.now c.loop-k.at c.loop-k.k (255 - c.loop-k.k) (254 - c.loop-k.k) (omega arith) _ c.next_word-w.ensures (omega arith))
+returns-then-w-names c = sym (c.loop-k.invariant ∙ place_over c.args.names.now c.args.s.now c.loop-k.at c.loop-k.k (255 - c.loop-k.k) (254 - c.loop-k.k) (omega arith) _ c.next_word-w.ensures (omega arith))
 
 pub returns-then-same : goal.returns-then-same
-returns-then-same c = sym (c.loop-k.invariant.1 ∙ place_here c.args.names.now c.args.s.now c.loop-k.at c.loop-k.k (255 - c.loop-k.k) (254 - c.loop-k.k) (omega arith) _ c.next_word-w.ensures (omega arith) _ c.part.ensures _ c.same.ensures c.if-same.true)
-
-pub overflow_add-k : goal.overflow_add-k
-overflow_add-k c = omega arith
-
-pub loop-k-smaller : goal.loop-k-smaller
-loop-k-smaller c = omega arith
+returns-then-same c = sym (c.loop-k.invariant ∙ place_here c.args.names.now c.args.s.now c.loop-k.at c.loop-k.k (255 - c.loop-k.k) (254 - c.loop-k.k) (omega arith) _ c.next_word-w.ensures (omega arith) _ c.part.ensures _ c.same.ensures c.if-same.true)
 
 pub loop-k-preserved : goal.loop-k-preserved
-loop-k-preserved c = (
-  omega arith,
-  c.loop-k.invariant.1 ∙ place_on c.args.names.now c.args.s.now c.loop-k.at c.loop-k.k (255 - c.loop-k.k) (254 - c.loop-k.k) (omega arith) _ c.next_word-w.ensures (omega arith) _ c.part.ensures _ c.same.ensures c.if-same.false
-      ∙ ap (λ (n : ℕ). place_in n c.args.names.now c.args.s.now c.next_word-w.result.to (c.loop-k.k + 1)) (omega arith),
-)
+loop-k-preserved c =
+    c.loop-k.invariant ∙ place_on c.args.names.now c.args.s.now c.loop-k.at c.loop-k.k (255 - c.loop-k.k) (254 - c.loop-k.k) (omega arith) _ c.next_word-w.ensures (omega arith) _ c.part.ensures _ c.same.ensures c.if-same.false
+    ∙ ap (λ (n : ℕ). place_in n c.args.names.now c.args.s.now c.next_word-w.result.to (c.loop-k.k + 1)) (omega arith)
 
 pub returns : goal.returns
-returns c = sym (c.loop-k.invariant.1 ∙ place_full c.args.names.now c.args.s.now c.loop-k.at c.loop-k.k (255 - c.loop-k.k) (omega arith))
+returns c = sym (c.loop-k.invariant ∙ place_full c.args.names.now c.args.s.now c.loop-k.at c.loop-k.k (255 - c.loop-k.k) (omega arith))

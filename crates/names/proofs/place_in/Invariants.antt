@@ -3,7 +3,4 @@ use Rattle.names.specs.Names.{place_in}
 use Rattle.names.proofs.place_in.Given as goal
 
 abbrev pub invariant-loop-k : goal.invariant-loop-k
-invariant-loop-k l = (l.k ≤ 255) × (place_in 255 l.names l.s 0 0 ≡ place_in (255 - l.k) l.names l.s l.at l.k)
-
-abbrev pub decreases-loop-k : goal.decreases-loop-k
-decreases-loop-k l = 255 - l.k
+invariant-loop-k l = place_in 255 l.names l.s 0 0 ≡ place_in (255 - l.k) l.names l.s l.at l.k

@@ -18,7 +18,7 @@ loop-c-preserved c =
     let d = said_value c.args.base _ _ (sym c.in_ok-d.ensures.ok_part ∙ c.digit_in.ensures) in
     let h : c.loop-c.c-index < length c.args.digits.now = omega arith in
     let e : c.min-v.result ≡ capped (c.loop-c.v * c.args.base + digit_of (get_or c.args.digits.now c.loop-c.c-index 0)) =
-        c.min-v.ensures ∙ rw (c.from.ensures, c.from-in-loop-c.ensures, d.0) (capped_min _) in
+    c.min-v.ensures ∙ rw (c.from.ensures, c.from-in-loop-c.ensures, d.0) (capped_min _) in
     record {
       low = omega arith;
       digits = c.loop-c.invariant.digits ∙ digits_on c.args.base c.args.digits.now c.loop-c.c-index h (omega (arith, d.0, d.1));
@@ -30,7 +30,7 @@ returns-then-v-lt65536 c =
     let d = c.loop-c.invariant.digits ∙ digits_over c.args.base c.args.digits.now c.loop-c.c-index (omega arith) in
     let w = capped_within c.loop-c.v c.loop-c.invariant.low in
     let e : c.loop-c.v ≡ capped (value_of c.args.base c.args.digits.now) =
-        sym (c.loop-c.invariant.value ∙ ap capped (value_over c.args.base c.loop-c.v c.args.digits.now c.loop-c.c-index (omega arith)) ∙ w) in
+    sym (c.loop-c.invariant.value ∙ ap capped (value_over c.args.base c.loop-c.v c.args.digits.now c.loop-c.c-index (omega arith)) ∙ w) in
     let f : value_of c.args.base c.args.digits.now ≡ c.loop-c.v = below_cap _ _ e (omega arith) in
     sym (digits_say_number c.args.base c.args.digits.now (grind arith) d (omega (arith, f)) ∙ ap Ok f)
 
@@ -39,5 +39,5 @@ returns-else-v-lt65536 c =
     let d = c.loop-c.invariant.digits ∙ digits_over c.args.base c.args.digits.now c.loop-c.c-index (omega arith) in
     let w = capped_within c.loop-c.v c.loop-c.invariant.low in
     let e : c.loop-c.v ≡ capped (value_of c.args.base c.args.digits.now) =
-        sym (c.loop-c.invariant.value ∙ ap capped (value_over c.args.base c.loop-c.v c.args.digits.now c.loop-c.c-index (omega arith)) ∙ w) in
+    sym (c.loop-c.invariant.value ∙ ap capped (value_over c.args.base c.loop-c.v c.args.digits.now c.loop-c.c-index (omega arith)) ∙ w) in
     sym (digits_too_large c.args.base c.args.digits.now (grind arith) d (at_cap _ _ e (omega arith)))

@@ -1,7 +1,7 @@
-use Rattle.std.proofs.Common.{◌≡◌, sym, ◌∙◌, ◌+◌, ◌-◌, length, arith}
+use Rattle.std.proofs.Common.{◌≡◌, ◌+◌, ◌-◌, length, arith}
 use Rattle.writing.specs.WrittenLaws.{came_start, came_turn, came_done, put_within}
 use Rattle.requests.specs.Lists.{bytes_from}
-use Rattle.requests.specs.ListLaws.{bytes_on_lem, bytes_over, bytes_full}
+use Rattle.requests.specs.ListLaws.{numbers_on, numbers_over, numbers_full}
 use Rattle.requests.proofs.list.read_bytes.Goals as goal
 
 pub loop-n-init : goal.loop-n-init
@@ -14,17 +14,17 @@ loop-n-smaller c = omega (arith, c.loop-n.invariant.size)
 pub loop-n-preserved : goal.loop-n-preserved
 loop-n-preserved c =
     came_turn c.loop-n.invariant
-    (bytes_on_lem (length c.args.out.now - c.loop-n.n) (length c.args.out.now - (c.loop-n.n + 1)) c.args.line.now c.loop-n.at _ _ (omega (arith, c.loop-n.invariant.size)) (sym c.byte_word-b.ensures ∙ c.in-Byte.is))
+    (numbers_on 256 (length c.args.out.now - c.loop-n.n) (length c.args.out.now - (c.loop-n.n + 1)) c.args.line.now c.loop-n.at _ (omega (arith, c.loop-n.invariant.size)) c.in-Ok.ensures)
     (put_within c.loop-n-test.true)
 
-pub shape_of-out-in-NoByte : goal.shape_of-out-in-NoByte
-shape_of-out-in-NoByte c = c.loop-n.invariant.size
+pub shape_of-out-in-Err : goal.shape_of-out-in-Err
+shape_of-out-in-Err c = c.loop-n.invariant.size
 
-pub returns-in-NoByte : goal.returns-in-NoByte
-returns-in-NoByte c = came_done c.loop-n.invariant (bytes_over (length c.args.out.now - c.loop-n.n) c.args.line.now c.loop-n.at _ (sym c.byte_word-b.ensures ∙ c.in-NoByte.is))
+pub returns-in-Err : goal.returns-in-Err
+returns-in-Err c = came_done c.loop-n.invariant (numbers_over 256 (length c.args.out.now - c.loop-n.n) c.args.line.now c.loop-n.at _ c.in-Err.ensures)
 
 pub shape_of-out : goal.shape_of-out
 shape_of-out c = c.loop-n.invariant.size
 
 pub returns : goal.returns
-returns c = came_done c.loop-n.invariant (bytes_full (length c.args.out.now - c.loop-n.n) c.args.line.now c.loop-n.at (omega (arith, c.loop-n.invariant.size)))
+returns c = came_done c.loop-n.invariant (numbers_full 256 (length c.args.out.now - c.loop-n.n) c.args.line.now c.loop-n.at (omega (arith, c.loop-n.invariant.size)))

@@ -1,7 +1,7 @@
-use Rattle.std.proofs.Common.{◌≡◌, sym, ◌∙◌, ◌+◌, ◌-◌, length, arith}
+use Rattle.std.proofs.Common.{◌≡◌, ◌+◌, ◌-◌, length, arith}
 use Rattle.writing.specs.WrittenLaws.{came_start, came_turn, came_done, put_within}
 use Rattle.requests.specs.Lists.{symbols_from}
-use Rattle.requests.specs.ListLaws.{symbols_on, symbols_over, symbols_full}
+use Rattle.requests.specs.ListLaws.{numbers_on, numbers_over, numbers_full}
 use Rattle.requests.proofs.list.read_symbols.Goals as goal
 
 pub loop-n-init : goal.loop-n-init
@@ -14,17 +14,17 @@ loop-n-smaller c = omega (arith, c.loop-n.invariant.size)
 pub loop-n-preserved : goal.loop-n-preserved
 loop-n-preserved c =
     came_turn c.loop-n.invariant
-    (symbols_on (length c.args.out.now - c.loop-n.n) (length c.args.out.now - (c.loop-n.n + 1)) c.args.line.now c.loop-n.at _ _ (omega (arith, c.loop-n.invariant.size)) (sym c.symbol_word-x.ensures ∙ c.in-Symbol.is))
+    (numbers_on 65536 (length c.args.out.now - c.loop-n.n) (length c.args.out.now - (c.loop-n.n + 1)) c.args.line.now c.loop-n.at _ (omega (arith, c.loop-n.invariant.size)) c.in-Ok.ensures)
     (put_within c.loop-n-test.true)
 
-pub shape_of-out-in-NoSymbol : goal.shape_of-out-in-NoSymbol
-shape_of-out-in-NoSymbol c = c.loop-n.invariant.size
+pub shape_of-out-in-Err : goal.shape_of-out-in-Err
+shape_of-out-in-Err c = c.loop-n.invariant.size
 
-pub returns-in-NoSymbol : goal.returns-in-NoSymbol
-returns-in-NoSymbol c = came_done c.loop-n.invariant (symbols_over (length c.args.out.now - c.loop-n.n) c.args.line.now c.loop-n.at _ (sym c.symbol_word-x.ensures ∙ c.in-NoSymbol.is))
+pub returns-in-Err : goal.returns-in-Err
+returns-in-Err c = came_done c.loop-n.invariant (numbers_over 65536 (length c.args.out.now - c.loop-n.n) c.args.line.now c.loop-n.at _ c.in-Err.ensures)
 
 pub shape_of-out : goal.shape_of-out
 shape_of-out c = c.loop-n.invariant.size
 
 pub returns : goal.returns
-returns c = came_done c.loop-n.invariant (symbols_full (length c.args.out.now - c.loop-n.n) c.args.line.now c.loop-n.at (omega (arith, c.loop-n.invariant.size)))
+returns c = came_done c.loop-n.invariant (numbers_full 65536 (length c.args.out.now - c.loop-n.n) c.args.line.now c.loop-n.at (omega (arith, c.loop-n.invariant.size)))

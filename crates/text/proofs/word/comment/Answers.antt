@@ -1,13 +1,17 @@
-use Rattle.std.proofs.Common.{sym, ◌∙◌, zero-add, arith, eq-eqb, ne_eqb}
+use Rattle.std.proofs.Common.{rules, tests, ◌≡◌, ℕ, ◌∙◌, not}
+use Rattle.std.proofs.lemmas.Iterator.{YieldsList-from_slice}
+use Rattle.std.proofs.lemmas.Iterator.Consumers.{count_from_yields_List}
+use Rattle.std.proofs.lemmas.Iterator.Search.{YieldsList-from_take_while}
+use Rattle.std.proofs.lemmas.List.Folds.{length-prefix_len}
+use Rattle.std.specs.List.{prefix_len}
 use Rattle.text.specs.Words.{hash}
-use Rattle.text.specs.WordLaws.{search_found, search_on, search_over}
+use Rattle.text.specs.WordLaws.{before_prefix}
 use Rattle.text.proofs.word.comment.Goals as goal
 
-pub returns-then-s-i-eq35 : goal.returns-then-s-i-eq35
-returns-then-s-i-eq35 c = search_found hash c.args.s.now 0 c.loop-i.i (zero-add _ ∙ c.loop-i.invariant) (omega arith) (eq-eqb _ _ c.if-s-i-eq35.true) ∙ zero-add _
-
-pub loop-i-preserved : goal.loop-i-preserved
-loop-i-preserved c = sym (zero-add _) ∙ search_on hash c.args.s.now 0 c.loop-i.i (zero-add _ ∙ c.loop-i.invariant) (omega arith) (ne_eqb _ _ c.if-s-i-eq35.false)
-
 pub returns : goal.returns
-returns c = search_over hash c.args.s.now 0 c.loop-i.i (zero-add _ ∙ c.loop-i.invariant) (omega arith) ∙ zero-add _
+returns c =
+    let e : c.count.result ≡ prefix_len (λ (x : ℕ). not (hash x)) c.args.s.now =
+    count_from_yields_List c.take_while.result _ c.count.ensures.ran
+    (YieldsList-from_take_while _ (λ (x : ℕ). not (hash x)) (YieldsList-from_slice c.args.s.now cc) c.take_while.ensures.closure c.take_while.ensures.done (λ x b q k. search (rules, tests)))
+    ∙ length-prefix_len (λ (x : ℕ). not (hash x)) c.args.s.now in
+    e ∙ before_prefix hash c.args.s.now

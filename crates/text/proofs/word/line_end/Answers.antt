@@ -1,16 +1,17 @@
-use Rattle.std.proofs.Common.{refl, arith, eq-eqb, ne_eqb}
+use Rattle.std.proofs.Common.{rules, tests, ◌≡◌, ℕ, ◌∙◌, drop, not}
+use Rattle.std.proofs.lemmas.Iterator.{YieldsList-from_slice}
+use Rattle.std.proofs.lemmas.Iterator.Consumers.{count_from_yields_List}
+use Rattle.std.proofs.lemmas.Iterator.Search.{YieldsList-from_take_while}
+use Rattle.std.proofs.lemmas.List.Folds.{length-prefix_len}
+use Rattle.std.specs.List.{prefix_len}
 use Rattle.text.specs.Words.{feed}
-use Rattle.text.specs.WordLaws.{search_found, search_on, search_over}
+use Rattle.text.specs.WordLaws.{before_prefix}
 use Rattle.text.proofs.word.line_end.Goals as goal
 
-pub loop-i-init : goal.loop-i-init
-loop-i-init c = refl
-
-pub returns-then-s-i-eq10 : goal.returns-then-s-i-eq10
-returns-then-s-i-eq10 c = search_found feed c.args.s.now c.args.at c.loop-i.i c.loop-i.invariant (omega arith) (eq-eqb _ _ c.if-s-i-eq10.true)
-
-pub loop-i-preserved : goal.loop-i-preserved
-loop-i-preserved c = search_on feed c.args.s.now c.args.at c.loop-i.i c.loop-i.invariant (omega arith) (ne_eqb _ _ c.if-s-i-eq10.false)
-
 pub returns : goal.returns
-returns c = search_over feed c.args.s.now c.args.at c.loop-i.i c.loop-i.invariant (omega arith)
+returns c =
+    let e : c.count.result ≡ prefix_len (λ (x : ℕ). not (feed x)) c.rest_of.result.now =
+    count_from_yields_List c.take_while.result _ c.count.ensures.ran
+    (YieldsList-from_take_while _ (λ (x : ℕ). not (feed x)) (YieldsList-from_slice c.rest_of.result.now cc) c.take_while.ensures.closure c.take_while.ensures.done (λ x b q k. search (rules, tests)))
+    ∙ length-prefix_len (λ (x : ℕ). not (feed x)) c.rest_of.result.now in
+    rw (e, c.rest_of.ensures, before_prefix feed (drop c.args.at c.args.s.now))

@@ -1,16 +1,17 @@
-use Rattle.std.proofs.Common.{refl, sym, ◌∙◌, arith}
+use Rattle.std.proofs.Common.{rules, tests, ◌≡◌, ℕ, ◌∙◌, drop, not}
+use Rattle.std.proofs.lemmas.Iterator.{YieldsList-from_slice}
+use Rattle.std.proofs.lemmas.Iterator.Consumers.{count_from_yields_List}
+use Rattle.std.proofs.lemmas.Iterator.Search.{YieldsList-from_take_while}
+use Rattle.std.proofs.lemmas.List.Folds.{length-prefix_len}
+use Rattle.std.specs.List.{prefix_len}
 use Rattle.text.specs.Words.{blank}
-use Rattle.text.specs.WordLaws.{search_found, search_on, search_over}
+use Rattle.text.specs.WordLaws.{before_prefix}
 use Rattle.text.proofs.word.word_end.Goals as goal
 
-pub loop-i-init : goal.loop-i-init
-loop-i-init c = refl
-
-pub returns-then-is_blank : goal.returns-then-is_blank
-returns-then-is_blank c = search_found blank c.args.s.now c.args.at c.loop-i.i c.loop-i.invariant (omega arith) (sym c.is_blank.ensures ∙ c.if-is_blank.true)
-
-pub loop-i-preserved : goal.loop-i-preserved
-loop-i-preserved c = search_on blank c.args.s.now c.args.at c.loop-i.i c.loop-i.invariant (omega arith) (sym c.is_blank.ensures ∙ c.if-is_blank.false)
-
 pub returns : goal.returns
-returns c = search_over blank c.args.s.now c.args.at c.loop-i.i c.loop-i.invariant (omega arith)
+returns c =
+    let e : c.count.result ≡ prefix_len (λ (x : ℕ). not (blank x)) c.rest_of.result.now =
+    count_from_yields_List c.take_while.result _ c.count.ensures.ran
+    (YieldsList-from_take_while _ (λ (x : ℕ). not (blank x)) (YieldsList-from_slice c.rest_of.result.now cc) c.take_while.ensures.closure c.take_while.ensures.done (λ x b q k. search (rules, tests)))
+    ∙ length-prefix_len (λ (x : ℕ). not (blank x)) c.rest_of.result.now in
+    rw (e, c.rest_of.ensures, before_prefix blank (drop c.args.at c.args.s.now))

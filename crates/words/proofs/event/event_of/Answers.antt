@@ -1,31 +1,9 @@
-use Rattle.std.proofs.Common.{sym, ◌∙◌}
+use Rattle.std.proofs.Common.{rules, ◌≡◌, arith}
+use Rattle.std.proofs.lemmas.Slice.Eq.{text_from_reads}
+use Rattle.text.specs.Chars.{chars}
 use Rattle.words.specs.Events.{event_of}
 use Rattle.words.proofs.event.event_of.Goals as goal
 
-pub returns-then-same : goal.returns-then-same
+pub returns-in-supply : goal.returns-in-supply
 unfolding event_of
-returns-then-same c = rw (sym c.same.ensures ∙ c.if-same.true)
-
-pub returns-then-same-2 : goal.returns-then-same-2
-unfolding event_of
-returns-then-same-2 c = rw (sym c.same.ensures ∙ c.if-same.false, sym c.same-2.ensures ∙ c.if-same-2.true)
-
-pub returns-then-same-3 : goal.returns-then-same-3
-unfolding event_of
-returns-then-same-3 c = rw (sym c.same.ensures ∙ c.if-same.false, sym c.same-2.ensures ∙ c.if-same-2.false, sym c.same-3.ensures ∙ c.if-same-3.true)
-
-pub returns-then-same-4 : goal.returns-then-same-4
-unfolding event_of
-returns-then-same-4 c = rw (sym c.same.ensures ∙ c.if-same.false, sym c.same-2.ensures ∙ c.if-same-2.false, sym c.same-3.ensures ∙ c.if-same-3.false, sym c.same-4.ensures ∙ c.if-same-4.true)
-
-pub returns-then-same-5 : goal.returns-then-same-5
-unfolding event_of
-returns-then-same-5 c = rw (sym c.same.ensures ∙ c.if-same.false, sym c.same-2.ensures ∙ c.if-same-2.false, sym c.same-3.ensures ∙ c.if-same-3.false, sym c.same-4.ensures ∙ c.if-same-4.false, sym c.same-5.ensures ∙ c.if-same-5.true)
-
-pub returns-then-same-6 : goal.returns-then-same-6
-unfolding event_of
-returns-then-same-6 c = rw (sym c.same.ensures ∙ c.if-same.false, sym c.same-2.ensures ∙ c.if-same-2.false, sym c.same-3.ensures ∙ c.if-same-3.false, sym c.same-4.ensures ∙ c.if-same-4.false, sym c.same-5.ensures ∙ c.if-same-5.false, sym c.same-6.ensures ∙ c.if-same-6.true)
-
-pub returns : goal.returns
-unfolding event_of
-returns c = rw (sym c.same.ensures ∙ c.if-same.false, sym c.same-2.ensures ∙ c.if-same-2.false, sym c.same-3.ensures ∙ c.if-same-3.false, sym c.same-4.ensures ∙ c.if-same-4.false, sym c.same-5.ensures ∙ c.if-same-5.false, sym c.same-6.ensures ∙ c.if-same-6.false)
+returns-in-supply c = let e : c.args.s.now ≡ chars "supply" = text_from_reads _ _ (omega arith) (search rules) in rw e

@@ -1,19 +1,13 @@
-use Rattle.std.proofs.Common.{sym, ◌∙◌}
+use Rattle.std.proofs.Common.{rules, ◌≡◌, arith}
+use Rattle.std.proofs.lemmas.Slice.Eq.{text_from_reads}
+use Rattle.text.specs.Chars.{chars}
 use Rattle.words.specs.Verbs.{choice_verb}
 use Rattle.words.proofs.verb.choice_verb.Goals as goal
 
-pub returns-then-same : goal.returns-then-same
+pub returns-in-choose : goal.returns-in-choose
 unfolding choice_verb
-returns-then-same c = rw (sym c.same.ensures ∙ c.if-same.true)
+returns-in-choose c = let e : c.args.s.now ≡ chars "choose" = text_from_reads _ _ (omega arith) (search rules) in rw e
 
-pub returns-then-same-2 : goal.returns-then-same-2
+pub returns-in-decline : goal.returns-in-decline
 unfolding choice_verb
-returns-then-same-2 c = rw (sym c.same.ensures ∙ c.if-same.false, sym c.same-2.ensures ∙ c.if-same-2.true)
-
-pub returns-then-same-3 : goal.returns-then-same-3
-unfolding choice_verb
-returns-then-same-3 c = rw (sym c.same.ensures ∙ c.if-same.false, sym c.same-2.ensures ∙ c.if-same-2.false, sym c.same-3.ensures ∙ c.if-same-3.true)
-
-pub returns : goal.returns
-unfolding choice_verb
-returns c = rw (sym c.same.ensures ∙ c.if-same.false, sym c.same-2.ensures ∙ c.if-same-2.false, sym c.same-3.ensures ∙ c.if-same-3.false)
+returns-in-decline c = let e : c.args.s.now ≡ chars "decline" = text_from_reads _ _ (omega arith) (search rules) in rw e

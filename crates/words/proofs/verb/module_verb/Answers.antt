@@ -1,15 +1,9 @@
-use Rattle.std.proofs.Common.{sym, ◌∙◌}
+use Rattle.std.proofs.Common.{rules, ◌≡◌, arith}
+use Rattle.std.proofs.lemmas.Slice.Eq.{text_from_reads}
+use Rattle.text.specs.Chars.{chars}
 use Rattle.words.specs.Verbs.{module_verb}
 use Rattle.words.proofs.verb.module_verb.Goals as goal
 
-pub returns-then-same : goal.returns-then-same
+pub returns-in-module : goal.returns-in-module
 unfolding module_verb
-returns-then-same c = rw (sym c.same.ensures ∙ c.if-same.true)
-
-pub returns-then-same-2 : goal.returns-then-same-2
-unfolding module_verb
-returns-then-same-2 c = rw (sym c.same.ensures ∙ c.if-same.false, sym c.same-2.ensures ∙ c.if-same-2.true)
-
-pub returns : goal.returns
-unfolding module_verb
-returns c = rw (sym c.same.ensures ∙ c.if-same.false, sym c.same-2.ensures ∙ c.if-same-2.false, c.choice_verb.ensures)
+returns-in-module c = let e : c.args.s.now ≡ chars "module" = text_from_reads _ _ (omega arith) (search rules) in rw e
