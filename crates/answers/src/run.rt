@@ -92,10 +92,11 @@ fn put_refusal(page: &mut Page, a: ModelAnswer)
 }
 
 // The numbers of refusals are 1 to 12.
+// Kept: numbers here, and 13 and 10 above, for they are the scope's, and C gets what stands in ModelAnswer (hb_model).
 fn is_refusal(n: u32) -> bool
     ensures { result ≡ is_refusal n }
 {
-    1 <= n && n <= 12
+    matches!(n, 1..=12)
 }
 
 // What a run answered, with the binding buffer and the records that it left.

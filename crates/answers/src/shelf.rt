@@ -10,7 +10,7 @@ use writing::page::Page;
 pub fn put_occupied(page: &mut Page, n: u32)
     ensures { page.new ≡ with_text page.old (occupied_text n) }
 {
-    number_line(page, b"0 occupied ", n as u64);
+    number_line(page, b"0 occupied ", u64::from(n));
 }
 
 // A number above 127 among addresses.

@@ -32,11 +32,10 @@ impl Controller {
     pub(crate) fn free(self, u: Udid) -> Controller
         ensures { result ≡ freed self u }
     {
-        let n = self.slots.find(u);
-        if n > 127 {
-            return self;
+        match self.slots.find(u) {
+            Some(a) => self.vacate(a, Binding::Open),
+            None => self,
         }
-        self.vacate(Address(n), Binding::Open)
     }
 
     // The state with the target bound to the address, or the address claimed by two; the address is in the pool then.

@@ -16,7 +16,7 @@ pub fn put_entry(out: &mut [u8], a: Address, e: Option<Udid>)
     if a.0 > 127 {
         return;
     }
-    let u = e.unwrap_or(Udid { high: 0, low: 0 });
+    let u = e.unwrap_or(Udid::ZERO);
     let n = a.0 as usize;
     u.put_bytes(&mut out[..], 16 * n);
 }
@@ -26,7 +26,7 @@ pub fn udid_at(buffer: &[u8], a: Address) -> Udid
     ensures { result ≡ read_udid buffer.now a.0 }
 {
     if a.0 > 127 {
-        return Udid { high: 0, low: 0 };
+        return Udid::ZERO;
     }
     let n = a.0 as usize;
     Udid::from_bytes(buffer, 16 * n)

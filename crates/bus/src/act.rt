@@ -24,8 +24,7 @@ pub(crate) fn act(k: Handed, records: &mut [u8])
     requires { Reaches k (targets_of records.old) }
     ensures { records.new ≡ records_with (acted k (targets_of records.old)) records.old }
 {
-    match k {
-        Handed::Send(c) => act_on(c, &mut records[..]),
-        Handed::Wait(_) => {}
+    if let Handed::Send(c) = k {
+        act_on(c, &mut records[..]);
     }
 }

@@ -1,3 +1,3 @@
-pub mod DecodingLaws
+pub mod Refusals
 pub mod Decodings
 pub mod CodecLines

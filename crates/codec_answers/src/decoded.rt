@@ -2,11 +2,12 @@
 ghost use Rattle.std.specs.Prelude.{◌≡◌, ◌++◌};
 ghost use Rattle.writing.specs.Pages.{with_text};
 ghost use Rattle.pieces.specs.Pieces.{bytes_text};
-ghost use Rattle.codec_answers.specs.Decodings.{fields_text, transaction_text, where_text, refused_text, decoded_text};
+ghost use Rattle.codec_answers.specs.Decodings.{fields_text, transaction_text, decoded_text};
 
+use crate::refusal::put_refusal;
 use pieces::list::put_bytes;
-use pieces::piece::{number_line, put_hex, put_number};
-use scan::answer::{Decoded, Refusal, is_nack, refusal_number};
+use pieces::piece::{put_hex, put_number};
+use scan::answer::Decoded;
 use text::word::part;
 use trace::transaction::Transaction;
 use writing::page::Page;
@@ -17,7 +18,7 @@ fn put_fields(page: &mut Page, t: Transaction)
 {
     let address = t.address;
     put_hex(page, b"0 address 0x", address.0);
-    put_number(page, b" direction ", t.direction as u64);
+    put_number(page, b" direction ", u64::from(t.direction));
     put_hex(page, b" command 0x", t.command);
 }
 
@@ -39,34 +40,15 @@ fn put_transaction(page: &mut Page, t: Transaction, sent: &[u8], received: &[u8]
     page.put(b"\n");
 }
 
-// What stands after a refusal's number: nothing where the trace was not read; else which byte was not acknowledged, or the place.
-fn put_where(page: &mut Page, w: Refusal, place: usize)
-    ensures { page.new ≡ with_text page.old (where_text w place) }
-{
-    if refusal_number(w) < 3 {
-        return page.put(b"\n");
-    }
-    if is_nack(w) {
-        return number_line(page, b" byte ", place as u64);
-    }
-    number_line(page, b" place ", place as u64);
-}
-
-// A refusal: its number, and where.
-fn put_refused(page: &mut Page, w: Refusal, place: usize)
-    ensures { page.new ≡ with_text page.old (refused_text w place) }
-{
-    let n = refusal_number(w);
-    page.put_decimal(n as u64);
-    put_where(page, w, place);
-}
-
 // What the decoder answered.
 pub fn put_decoded(page: &mut Page, d: Decoded, sent: &[u8], received: &[u8])
     ensures { page.new ≡ with_text page.old (decoded_text d sent.now received.now) }
 {
     match d {
         Ok(t) => put_transaction(page, t, sent, received),
-        Err(e) => put_refused(page, e.why, e.place),
+        Err(e) => {
+            put_refusal(page, e);
+            page.put(b"\n");
+        }
     }
 }

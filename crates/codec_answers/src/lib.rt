@@ -3,4 +3,5 @@
 
 pub mod codec;
 pub mod decoded;
+pub mod refusal;
 pub mod unclear;

@@ -36,7 +36,6 @@ fn put_expected(page: &mut Page, e: Expected)
 pub fn put_unclear(page: &mut Page, e: Expected, place: usize)
     ensures { page.new ≡ with_text page.old (unclear_text e place) }
 {
-    let column = std::num::wrapping_add_u64(place as u64, 1);
-    put_number(page, b"? ", column);
+    put_number(page, b"? ", (place as u64).wrapping_add(1));
     put_expected(page, e);
 }

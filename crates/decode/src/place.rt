@@ -2,18 +2,14 @@
 ghost use Rattle.std.specs.Prelude.{◌≡◌};
 ghost use Rattle.scan.specs.Handed.{sent_place, received_place};
 
-use trace::shape::{Part, Shape};
+use trace::shape::Shape;
 
 // The data sent: behind the first address byte, the command and the count.
 pub(crate) fn sent_place(sh: Shape) -> usize
     ensures { result ≡ sent_place sh }
 {
     let command = if sh.command { 2 } else { 0 };
-    let count = if matches!(sh.sent, Part::Counted) {
-        2
-    } else {
-        0
-    };
+    let count = if sh.sent.is_counted() { 2 } else { 0 };
     3 + command + count
 }
 

@@ -16,11 +16,12 @@ use Rattle.trace.specs.Trace.{Message, trace}
 use Rattle.trace.specs.Allowed.{address_fits, direction_fits, command_fits, lengths_fit, allowed}
 use Rattle.trace.specs.Lengths.{trace_length, room_by}
 use Rattle.trace.proofs.LengthLaws.{trace_length_lem}
-use Rattle.trace.proofs.RoomLaws.{room_by_lem, some_length, some_room}
+use Rattle.trace.proofs.RoomLaws.{room_by_lem, some_room}
 use Rattle.trace.proofs.ShapeLaws.{sane}
 use Rattle.trace.proofs.ValidLaws.{allowed_valid}
 use Rattle.encode.specs.Encode.{Encoded}
-use Rattle.std.specs.Prelude.{Ok, Err}
+use Rattle.std.specs.Prelude.{Ok, Err, Option, Some, None}
+use Rattle.lists.specs.AbsurdLaws.{zero_is_one}
 use Rattle.encode.specs.declared.EncodeError.TheVariants.{Forbidden, OutputTooShort}
 use Rattle.encode.specs.Encode.{refused_by, encoded_by, WroteBy, Wrote}
 use Rattle.encode.specs.Pieces.{fields_fit, Ready}
@@ -42,7 +43,7 @@ module _ (sh : Shape) (barred pec : Bool) (t : Message) where
   abbrev lengths : Bool
   lengths = lengths_fit sh (length t.sent) (length t.received)
 
-  abbrev room : ℕ
+  abbrev room : Option ℕ
   room = room_by sh barred pec (length t.sent) (length t.received)
 
   tested : (b f h : Bool) → barred ≡ b → fields ≡ f → lengths ≡ h → refused_by sh barred t ≡ or b (not (and f h))
@@ -53,16 +54,16 @@ module _ (sh : Shape) (barred pec : Bool) (t : Message) where
       ∙ ap (λ (x : Bool). or b (not (and x lengths))) ef
       ∙ ap (λ (x : Bool). or b (not (and f x))) eh
 
-  -- a room of 0 is a refusal of the protocol, the PEC or a length
-  pub room_zero : room ≡ 0 → refused_by sh barred t ≡ true
-  room_zero z = go barred fields lengths refl refl refl
+  -- no room is a refusal of the protocol, the PEC or a length
+  pub room_none : room ≡ None → refused_by sh barred t ≡ true
+  room_none z = go barred fields lengths refl refl refl
     where
       go : (b f h : Bool) → barred ≡ b → fields ≡ f → lengths ≡ h → refused_by sh barred t ≡ true
       go true f h eb ef eh = tested true f h eb ef eh
       go false true false eb ef eh = tested false true false eb ef eh
       go false false h eb ef eh = tested false false h eb ef eh
       go false true true eb ef eh =
-          absurd (omega (arith, z, room_by_lem sh barred pec (length t.sent) (length t.received) false true eb eh, some_length sh barred pec (length t.sent) (length t.received)))
+          let e = room_by_lem sh barred pec (length t.sent) (length t.received) false true eb eh in zero_is_one (cc (z, e))
 
   -- a refusal leaves the output as it was
   pub refused_wrote : (l : List ℕ) → refused_by sh barred t ≡ true → WroteBy sh barred pec t l (Err Forbidden) l
@@ -70,9 +71,9 @@ module _ (sh : Shape) (barred pec : Bool) (t : Message) where
   refused_wrote l e = record { answer = rw e; output = refl }
 
   -- any other room is the length of the trace
-  module _ (n : ℕ) (en : n ≡ room) (z : n ≡ 0 → ⊥) where
-    given : (barred ≡ false) × (lengths ≡ true) × (room ≡ trace_length sh pec (length t.sent) (length t.received))
-    given = some_room sh barred pec (length t.sent) (length t.received) (λ e. z (en ∙ e))
+  module _ (n : ℕ) (en : room ≡ Some n) where
+    given : (barred ≡ false) × (lengths ≡ true) × (n ≡ trace_length sh pec (length t.sent) (length t.received))
+    given = some_room sh barred pec (length t.sent) (length t.received) n en
 
     pub fields_refused : fields ≡ false → refused_by sh barred t ≡ true
     fields_refused e = tested false false true given.0 e given.1
@@ -82,7 +83,7 @@ module _ (sh : Shape) (barred pec : Bool) (t : Message) where
       not_refused = tested false true true given.0 ef given.1
 
       length_is : n ≡ length (trace sh pec t)
-      length_is = en ∙ given.2 ∙ sym (trace_length_lem sh pec t)
+      length_is = given.2 ∙ sym (trace_length_lem sh pec t)
 
       pub short_wrote : (l : List ℕ) → length l < n → WroteBy sh barred pec t l (Err OutputTooShort) l
       unfolding encoded_by

@@ -4,7 +4,7 @@ ghost use Rattle.lists.specs.Onto.{onto};
 ghost use Rattle.trace.specs.Trace.{acked, in_place};
 ghost use Rattle.encode.specs.Pieces.{count_byte, part_bytes};
 
-use trace::shape::{Part, is_counted};
+use trace::shape::Part;
 use wire::symbol::ACK;
 
 // Each byte with its ACK.
@@ -12,15 +12,13 @@ fn put_acked(out: &mut [u16], at: usize, s: &[u8]) -> usize
     requires { at + 2 * length s.now ≤ length out.old }
     ensures { (result ≡ at + 2 * length s.now) × (out.new ≡ onto (take at out.old ++ acked s.now) out.old) }
 {
-    let mut i: usize = 0;
-    let mut j: usize = at;
-    while i < s.len() {
-        out[j] = s[i] as u16;
-        out[j + 1] = ACK;
-        j += 2;
-        i += 1;
+    let mut next = at;
+    for b in s {
+        out[next] = u16::from(*b);
+        out[next + 1] = ACK;
+        next += 2;
     }
-    j
+    next
 }
 
 // One byte with its ACK, where there is one.
@@ -49,6 +47,6 @@ pub(crate) fn put_part(out: &mut [u16], at: usize, a: Part, s: &[u8]) -> usize
     requires { at + 2 * length (part_bytes a s.now) ≤ length out.old }
     ensures { (result ≡ at + 2 * length (part_bytes a s.now)) × (out.new ≡ onto (take at out.old ++ acked (part_bytes a s.now)) out.old) }
 {
-    let n = put_byte_if(out, at, is_counted(a), count_of(s));
+    let n = put_byte_if(out, at, a.is_counted(), count_of(s));
     put_acked(out, n, s)
 }

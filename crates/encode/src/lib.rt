@@ -31,13 +31,7 @@ pub enum EncodeError {
 fn fields_fit(sh: Shape, address: Address, direction: u8, command: u8) -> bool
     ensures { result ≡ fields_fit sh address.0 direction command }
 {
-    if !address_fits(sh, address) {
-        return false;
-    }
-    if !direction_fits(sh, direction) {
-        return false;
-    }
-    command_fits(sh, command)
+    address_fits(sh, address) && direction_fits(sh, direction) && command_fits(sh, command)
 }
 
 // The whole trace of a valid message, where there is room for it.
@@ -78,11 +72,9 @@ fn encode_by(
     requires { Sane sh }
     ensures { WroteBy sh forbidden pec (message address.0 direction command sent.now received.now) out.old result out.new }
 {
-    // No trace is of length 0: that answer is a protocol, a PEC or a length that is refused.
-    let n = room_by(sh, forbidden, pec, sent.len(), received.len());
-    if n == 0 {
+    let Some(n) = room_by(sh, forbidden, pec, sent.len(), received.len()) else {
         return Err(EncodeError::Forbidden);
-    }
+    };
     if !fields_fit(sh, address, direction, command) {
         return Err(EncodeError::Forbidden);
     }
@@ -94,6 +86,7 @@ fn encode_by(
 }
 
 // The trace of a message of a protocol of the table.
+// Kept: a protocol is any u8, for a number that is none is refused here, as C's calls need it (`Listed`).
 pub fn encode(
     protocol: u8,
     pec: bool,

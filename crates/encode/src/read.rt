@@ -7,7 +7,7 @@ ghost use Rattle.trace.specs.Trace.{in_place};
 ghost use Rattle.encode.specs.Pieces.{repeated_start, read_bytes, read_phase, ending, rest};
 
 use crate::bytes::{put_byte_if, put_part};
-use trace::shape::{Part, Shape, has_read, has_write};
+use trace::shape::{Part, Shape};
 use wire::address::WireByte;
 use wire::symbol::{ACK, NACK, START, STOP};
 
@@ -75,9 +75,16 @@ pub(crate) fn put_rest(
     requires { (length (rest sh second.0 received.now pec pecbyte) ≤ length out.old) × (reads sh ≡ true → 0 < length (read_bytes sh.received received.now pec pecbyte)) }
     ensures { out.new ≡ onto (rest sh second.0 received.now pec pecbyte) out.old }
 {
-    let a = sh.received;
-    if has_read(sh) {
-        put_read_phase(out, has_write(sh), second, a, received, pec, pecbyte);
+    if sh.has_read() {
+        put_read_phase(
+            out,
+            sh.has_write(),
+            second,
+            sh.received,
+            received,
+            pec,
+            pecbyte,
+        );
     } else {
         put_end(out, pec, pecbyte);
     }

@@ -7,7 +7,7 @@ ghost use Rattle.encode.specs.Pieces.{part_bytes, write_bytes, bytes_after, pec_
 
 use crate::bytes::count_of;
 use pec::table::Table;
-use trace::shape::{Part, Shape, has_read, has_write, is_counted};
+use trace::shape::{Part, Shape};
 use wire::address::WireByte;
 
 // One byte more, where there is one.
@@ -21,31 +21,30 @@ fn add_byte_if(t: &Table, c: u8, there: bool, b: u8) -> u8
 fn add_part(t: &Table, c: u8, a: Part, s: &[u8]) -> u8
     ensures { result ≡ pec_from c (part_bytes a s.now) }
 {
-    t.add_bytes(add_byte_if(t, c, is_counted(a), count_of(s)), s)
+    t.add_bytes(add_byte_if(t, c, a.is_counted(), count_of(s)), s)
 }
 
 // The write phase.
 fn write_pec(t: &Table, sh: Shape, first: WireByte, command: u8, sent: &[u8]) -> u8
     ensures { result ≡ pec_of (write_bytes sh first.0 command sent.now) }
 {
-    let a = sh.sent;
-    add_part(
-        t,
-        add_byte_if(t, t.add_byte(0, first.0), sh.command, command),
-        a,
-        sent,
-    )
+    let c = add_byte_if(t, t.add_byte(0, first.0), sh.command, command);
+    add_part(t, c, sh.sent, sent)
 }
 
 // The read phase after it, where there is one.
 fn read_pec(t: &Table, c: u8, sh: Shape, second: WireByte, received: &[u8]) -> u8
     ensures { result ≡ pec_from c (bytes_after sh second.0 received.now) }
 {
-    let a = sh.received;
-    if !has_read(sh) {
+    if !sh.has_read() {
         return c;
     }
-    add_part(t, add_byte_if(t, c, has_write(sh), second.0), a, received)
+    add_part(
+        t,
+        add_byte_if(t, c, sh.has_write(), second.0),
+        sh.received,
+        received,
+    )
 }
 
 // The PEC of the whole; 0 where none is used, and no time is spent on it.

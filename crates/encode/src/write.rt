@@ -4,7 +4,7 @@ ghost use Rattle.lists.specs.Onto.{onto};
 ghost use Rattle.encode.specs.Pieces.{first_of, write_bytes, write_phase};
 
 use crate::bytes::{put_byte_if, put_part};
-use trace::shape::{Shape, has_read, has_write};
+use trace::shape::Shape;
 use wire::address::{Address, WireByte};
 use wire::symbol::{ACK, START};
 
@@ -12,16 +12,11 @@ use wire::symbol::{ACK, START};
 pub(crate) fn first_byte(sh: Shape, address: Address, direction: u8) -> WireByte
     ensures { result.0 ≡ first_of sh address.0 direction }
 {
-    if has_write(sh) {
-        return address.for_write();
+    if sh.has_write() || !sh.has_read() && direction == 0 {
+        address.for_write()
+    } else {
+        address.for_read()
     }
-    if has_read(sh) {
-        return address.for_read();
-    }
-    if direction == 0 {
-        return address.for_write();
-    }
-    address.for_read()
 }
 
 // Answers the place after the phase. A protocol without a write phase has its first address byte here too.
@@ -35,10 +30,9 @@ pub(crate) fn put_write_phase(
     requires { 1 + 2 * length (write_bytes sh first.0 command sent.now) ≤ length out.old }
     ensures { (result ≡ 1 + 2 * length (write_bytes sh first.0 command sent.now)) × (out.new ≡ onto (write_phase sh first.0 command sent.now) out.old) }
 {
-    let a = sh.sent;
     out[0] = START;
     out[1] = first.0 as u16;
     out[2] = ACK;
     let n = put_byte_if(out, 3, sh.command, command);
-    put_part(out, n, a, sent)
+    put_part(out, n, sh.sent, sent)
 }

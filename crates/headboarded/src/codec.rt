@@ -1,16 +1,15 @@
-// The requests of the codec: pec, encode and decode. A line has room for at most 8,192 numbers.
+// The requests of the codec: pec, encode and decode.
+use crate::numbers::{bytes, symbols};
 use codec_answers::codec::{put_encoded, put_pec};
 use codec_answers::decoded::put_decoded;
-use requests::list::{read_bytes, read_symbols};
 use requests::request::{Fields, Head};
 use wire::address::Address;
 use writing::page::Page;
 
 // The packet error code of the bytes from a place on.
 pub(crate) fn pec(page: &mut Page, text: &[u8], from: usize) {
-    let mut bytes = [0u8; 8192];
-    let n = read_bytes(text, from, &mut bytes);
-    put_pec(page, pec::of_bytes(&bytes[..n]));
+    let mut buffer = [0u8; 8192];
+    put_pec(page, pec::of_bytes(bytes(text, from, &mut buffer)));
 }
 
 // The trace of a transaction.
@@ -39,10 +38,10 @@ pub(crate) fn encode(
     received: usize,
 ) {
     let mut first = [0u8; 8192];
-    let m = read_bytes(text, sent, &mut first);
+    let sent = bytes(text, sent, &mut first);
     let mut second = [0u8; 8192];
-    let n = read_bytes(text, received, &mut second);
-    encoded(page, h, f, &first[..m], &second[..n]);
+    let received = bytes(text, received, &mut second);
+    encoded(page, h, f, sent, received);
 }
 
 // What a trace says.
@@ -55,7 +54,6 @@ fn decoded(page: &mut Page, h: Head, trace: &[u16]) {
 
 // What the symbols from a place on say.
 pub(crate) fn decode(page: &mut Page, h: Head, text: &[u8], from: usize) {
-    let mut trace = [0u16; 8192];
-    let n = read_symbols(text, from, &mut trace);
-    decoded(page, h, &trace[..n]);
+    let mut buffer = [0u16; 8192];
+    decoded(page, h, symbols(text, from, &mut buffer));
 }

@@ -8,6 +8,7 @@ mod answer;
 mod codec;
 mod help;
 mod line;
+mod numbers;
 mod pass;
 mod plugged;
 mod print;

@@ -1,10 +1,10 @@
 // The requests to the controller: start, step, choose, issue, decline, lookup, gone and grid.
+use crate::numbers::symbols;
 use crate::shelf::Shelf;
 use answers::command::put_command;
 use arp::state::{Controller, Stepped};
 use lookups::found::{put_found, put_gone};
 use lookups::grid::put_grid;
-use requests::list::read_symbols;
 use wire::address::Address;
 use writing::page::Page;
 
@@ -22,17 +22,15 @@ pub(crate) fn start(page: &mut Page, shelf: &mut Shelf) {
 
 // The controller hears the symbols from a place on.
 pub(crate) fn step(page: &mut Page, shelf: &mut Shelf, text: &[u8], from: usize) {
-    let mut trace = [0u16; 8192];
-    let n = read_symbols(text, from, &mut trace);
-    let next = shelf.controller.step(&trace[..n]);
+    let mut buffer = [0u16; 8192];
+    let next = shelf.controller.step(symbols(text, from, &mut buffer));
     told(page, shelf, next);
 }
 
 // The same, but an address that the controller chooses waits.
 pub(crate) fn choose(page: &mut Page, shelf: &mut Shelf, text: &[u8], from: usize) {
-    let mut trace = [0u16; 8192];
-    let n = read_symbols(text, from, &mut trace);
-    let next = shelf.controller.choose(&trace[..n]);
+    let mut buffer = [0u16; 8192];
+    let next = shelf.controller.choose(symbols(text, from, &mut buffer));
     told(page, shelf, next);
 }
 

@@ -1,11 +1,11 @@
 // The requests of a module at its own end of the bus: module, and m with what happens to it.
+use crate::numbers::bytes;
 use crate::shelf::Shelf;
 use codec_answers::unclear::put_unclear;
 use module::state::Module;
 use module_answers::heard::put_heard;
 use module_answers::line::{put_lost, put_made, put_start, put_state, put_stop, put_supplied};
 use requests::expected::Expected;
-use requests::list::read_bytes;
 use requests::request::{ModuleEvent, Record};
 use wire::address::WireByte;
 use writing::page::Page;
@@ -23,9 +23,8 @@ pub(crate) fn resume(page: &mut Page, shelf: &mut Shelf, t: Record, fresh: u32) 
 
 // The module receives the bytes that stand from a place on.
 fn receive(page: &mut Page, m: Module, text: &[u8], from: usize) -> Module {
-    let mut bytes = [0u8; 8192];
-    let n = read_bytes(text, from, &mut bytes);
-    put_heard(page, m, &bytes[..n])
+    let mut buffer = [0u8; 8192];
+    put_heard(page, m, bytes(text, from, &mut buffer))
 }
 
 // The next byte of a read.

@@ -1,9 +1,9 @@
 // The requests that set the shelf up: occupied, target and clear.
+use crate::numbers::bytes;
 use crate::shelf::Shelf;
 use answers::shelf::{put_clear, put_no_address, put_occupied, put_target};
 use codec_answers::unclear::put_unclear;
 use requests::expected::Expected;
-use requests::list::read_bytes;
 use requests::request::Record;
 use wire::address::Address;
 use writing::page::Page;
@@ -21,9 +21,8 @@ fn occupy(page: &mut Page, shelf: &mut Shelf, addresses: &[u8]) {
 
 // The addresses stand from a place on.
 pub(crate) fn occupied(page: &mut Page, shelf: &mut Shelf, text: &[u8], from: usize) {
-    let mut bytes = [0u8; 8192];
-    let n = read_bytes(text, from, &mut bytes);
-    occupy(page, shelf, &bytes[..n]);
+    let mut buffer = [0u8; 8192];
+    occupy(page, shelf, bytes(text, from, &mut buffer));
 }
 
 // Another target, where there is room for its record: the identifier, the address byte, the flag.

@@ -5,7 +5,6 @@ ghost use Rattle.std.specs.Prelude.{◌≡◌, length};
 ghost use Rattle.last.specs.Last.{belongs, last_data, last_place};
 
 use trace::protocol::{PROTOCOLS, shape_of};
-use trace::shape::has_read;
 use trace::transaction::Transaction;
 use trace::valid::lengths_fit;
 
@@ -28,7 +27,7 @@ pub fn last_data<'a>(sent: &'a [u8], received: &'a [u8], t: Transaction) -> &'a 
     if !is_whole(t, sent.len(), received.len()) {
         return &sent[..0];
     }
-    if has_read(shape_of(t.protocol)) {
+    if shape_of(t.protocol).has_read() {
         &received[..t.received]
     } else {
         &sent[..t.sent]

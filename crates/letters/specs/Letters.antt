@@ -1,5 +1,5 @@
 -- Symbols as letters: S, P, A and N, a byte as two upper-case hexadecimal digits, and a number that is no symbol in decimal.
-use Rattle.std.specs.Prelude.{ℕ, ◌+◌, ◌/◌, ◌%◌, List, [], ◌∷◌, ◌++◌, ltb, eqb, length, get_or}
+use Rattle.std.specs.Prelude.{ℕ, ◌/◌, ◌%◌, List, [], ◌∷◌, ◌++◌, ltb, eqb, length, get_or}
 use Rattle.lists.specs.Choice.{pick}
 use Rattle.wire.specs.Symbols.{START, STOP, ACK, NACK}
 use Rattle.encode.specs.Encode.{Encoded}
@@ -7,11 +7,8 @@ use Rattle.std.specs.Prelude.{Ok, Err}
 use Rattle.encode.specs.declared.EncodeError.TheVariants.{Forbidden, OutputTooShort}
 use Rattle.text.specs.Chars.{chars}
 use Rattle.writing.specs.Written.{decimal_of}
+use Rattle.writing.specs.Pages.{capital}
 use Rattle.pieces.specs.Pieces.{newline, front, below}
-
--- the character of a digit below 16: `0` to `9`, `A` to `F`
-abbrev pub capital : ℕ → ℕ
-capital d = pick (ltb d 10) (48 + d) (55 + d)
 
 -- a byte as two digits
 abbrev pub capitals : ℕ → List ℕ

@@ -1,28 +1,19 @@
 // A symbol as text, and symbols, each after a blank.
-#![tactic(auto, using(pieces::specs::PieceLaws::pieces), unfolding(crate::specs::Letters::sign_text, crate::specs::Letters::letter_text))]
+#![tactic(
+    auto,
+    using(pieces::specs::PieceLaws::pieces),
+    unfolding(
+        crate::specs::Letters::sign_text,
+        crate::specs::Letters::letter_text
+    )
+)]
 
-ghost use Rattle.std.specs.Prelude.{◌≡◌, ◌%◌};
+ghost use Rattle.std.specs.Prelude.{◌≡◌};
 ghost use Rattle.writing.specs.Pages.{with_text};
-ghost use Rattle.letters.specs.Letters.{capital, capitals, sign_text, letter_text, letters_text};
+ghost use Rattle.letters.specs.Letters.{sign_text, letter_text, letters_text};
 
 use wire::symbol::{ACK, NACK, START, STOP, is_byte};
-use writing::page::Page;
-
-// The character of a hexadecimal digit, in upper case; of a number above 15, that of its remainder.
-fn capital_of(d: u8) -> u8
-    ensures { result ≡ capital (d % 16) }
-{
-    let low = d % 16;
-    if low < 10 { 48 + low } else { 55 + low }
-}
-
-// A byte as two hexadecimal digits, in upper case.
-fn put_capitals(page: &mut Page, b: u8)
-    ensures { page.new ≡ with_text page.old (capitals b) }
-{
-    page.put_byte(capital_of(b / 16));
-    page.put_byte(capital_of(b % 16));
-}
+use writing::page::{Case, Page};
 
 // A symbol that is no byte.
 fn put_sign(page: &mut Page, x: u16)
@@ -42,7 +33,7 @@ pub fn put_letter(page: &mut Page, x: u16)
     ensures { page.new ≡ with_text page.old (letter_text x) }
 {
     if is_byte(x) {
-        put_capitals(page, (x % 256) as u8);
+        page.put_digits(Case::Upper, (x % 256) as u8);
     } else {
         put_sign(page, x);
     }

@@ -7,7 +7,7 @@ ghost use Rattle.meanings.specs.Meanings.{meaning, has_words, noted};
 
 use writing::page::Page;
 
-// The words of a number. 0 has none, and no number above 21 has.
+// The words of a number. 0 has none, and no number above 21 has. Kept: a match on numbers, for the number comes as text (number_of).
 pub fn put_meaning(page: &mut Page, n: u64)
     ensures { page.new ≡ with_text page.old (meaning n) }
 {

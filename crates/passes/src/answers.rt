@@ -25,14 +25,6 @@ fn write_tag(output: &mut impl Write, tag: u8) -> io::Result<()> {
     write_answer(output, tag, u, Address(0))
 }
 
-fn write_sent(output: &mut impl Write, c: Command) -> io::Result<()> {
-    match c {
-        Command::Prepare => write_tag(output, 0),
-        Command::GetUdid => write_tag(output, 1),
-        Command::Assign(u, a) => write_answer(output, 2, u, a),
-    }
-}
-
 // The tag of a choice that waits.
 fn choice_tag(why: Reason) -> u8 {
     match why {
@@ -43,21 +35,17 @@ fn choice_tag(why: Reason) -> u8 {
     }
 }
 
-fn write_end(output: &mut impl Write, e: End) -> io::Result<()> {
-    match e {
-        End::Ended => write_tag(output, 3),
-        End::NoneFree(u) => write_answer(output, 4, u, Address(0)),
-        End::Abandoned => write_tag(output, 5),
-        End::NotOutstanding => write_tag(output, 6),
-        End::Nothing => write_tag(output, 7),
-        End::Chosen(u, a, why) => write_answer(output, choice_tag(why), u, a),
-    }
-}
-
 pub(crate) fn write_command(output: &mut impl Write, c: Handed) -> io::Result<()> {
     match c {
-        Handed::Send(k) => write_sent(output, k),
-        Handed::Wait(e) => write_end(output, e),
+        Handed::Send(Command::Prepare) => write_tag(output, 0),
+        Handed::Send(Command::GetUdid) => write_tag(output, 1),
+        Handed::Send(Command::Assign(u, a)) => write_answer(output, 2, u, a),
+        Handed::Wait(End::Ended) => write_tag(output, 3),
+        Handed::Wait(End::NoneFree(u)) => write_answer(output, 4, u, Address(0)),
+        Handed::Wait(End::Abandoned) => write_tag(output, 5),
+        Handed::Wait(End::NotOutstanding) => write_tag(output, 6),
+        Handed::Wait(End::Nothing) => write_tag(output, 7),
+        Handed::Wait(End::Chosen(u, a, why)) => write_answer(output, choice_tag(why), u, a),
     }
 }
 
@@ -67,18 +55,10 @@ fn put_find(out: &mut [u8], at: usize, f: Found)
 {
     match f {
         Found::Bound(u) => u.put_bytes(out, at + 1),
-        Found::Nobody => {
-            out[at] = 15;
-        }
-        Found::Two => {
-            out[at] = 16;
-        }
-        Found::Left => {
-            out[at] = 20;
-        }
-        Found::NoAddress => {
-            out[at] = 1;
-        }
+        Found::Nobody => out[at] = 15,
+        Found::Two => out[at] = 16,
+        Found::Left => out[at] = 20,
+        Found::NoAddress => out[at] = 1,
     }
 }
 

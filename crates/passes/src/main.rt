@@ -34,56 +34,16 @@ fn new_controller(occupied: Pool, last: u8) -> Stepped {
 }
 
 // The controller that the script asks for.
-fn read_controller(input: &mut impl Read, st: &mut Stepped) -> io::Result<()> {
+fn read_controller(input: &mut impl Read) -> io::Result<Stepped> {
     let occupied = read_pool(input)?;
     let last = read_byte(input)?;
-    *st = new_controller(occupied, last);
-    Ok(())
+    Ok(new_controller(occupied, last))
 }
 
-// The trace is read into a lent buffer.
-fn step_on(input: &mut impl Read, trace: &mut [u16; 1000], st: &mut Stepped) -> io::Result<()> {
-    let n = read_trace(input, trace)?;
-    *st = st.state.step(&trace[..n]);
-    Ok(())
-}
-
-fn choose_on(input: &mut impl Read, trace: &mut [u16; 1000], st: &mut Stepped) -> io::Result<()> {
-    let n = read_trace(input, trace)?;
-    *st = st.state.choose(&trace[..n]);
-    Ok(())
-}
-
-// A start or a step; the command is written.
-fn go_on(
-    input: &mut impl Read,
-    output: &mut impl Write,
-    trace: &mut [u16; 1000],
-    st: &mut Stepped,
-    operation: u8,
-) -> io::Result<()> {
-    if operation == 1 {
-        *st = st.state.start();
-    } else {
-        step_on(input, trace, st)?;
-    }
-    write_command(output, st.command)
-}
-
-// The first half of a step, an issue or a decline; the command is written.
-fn go_apart(
-    input: &mut impl Read,
-    output: &mut impl Write,
-    trace: &mut [u16; 1000],
-    st: &mut Stepped,
-    operation: u8,
-) -> io::Result<()> {
-    match operation {
-        5 => choose_on(input, trace, st)?,
-        6 => *st = st.state.issue(),
-        _ => *st = st.state.decline(),
-    }
-    write_command(output, st.command)
+// The controller goes on to what a call of it left; the command is written.
+fn go_on(output: &mut impl Write, next: Stepped, st: &mut Stepped) -> io::Result<()> {
+    *st = next;
+    write_command(output, next.command)
 }
 
 // A report; its answer is written. What was handed out last stays so.
@@ -97,16 +57,24 @@ fn report(input: &mut impl Read, output: &mut impl Write, st: &mut Stepped) -> i
 // The state is large: it stays in one place, and what may fail gives nothing back but that. A proved loop has to end, and nothing says that
 // an input does: the turns are counted up to a number that no run reaches.
 fn run(input: &mut impl Read, output: &mut impl Write) -> io::Result<()> {
-    let mut st = new_controller(Pool { low: 0, high: 0 }, NEVER_PICKED);
+    let mut st = new_controller(Pool::empty(), NEVER_PICKED);
     let mut trace = [0u16; 1000];
     for _ in 0..u64::MAX {
-        let operation = read_byte(input)?;
-        match operation {
-            0 => read_controller(input, &mut st)?,
-            1 | 2 => go_on(input, output, &mut trace, &mut st, operation)?,
+        match read_byte(input)? {
+            0 => st = read_controller(input)?,
+            1 => go_on(output, st.state.start(), &mut st)?,
+            2 => {
+                let n = read_trace(input, &mut trace)?;
+                go_on(output, st.state.step(&trace[..n]), &mut st)?;
+            }
             3 => write_finds(output, st.state)?,
             4 => report(input, output, &mut st)?,
-            5 | 6 | 7 => go_apart(input, output, &mut trace, &mut st, operation)?,
+            5 => {
+                let n = read_trace(input, &mut trace)?;
+                go_on(output, st.state.choose(&trace[..n]), &mut st)?;
+            }
+            6 => go_on(output, st.state.issue(), &mut st)?,
+            7 => go_on(output, st.state.decline(), &mut st)?,
             _ => return Ok(()),
         }
     }

@@ -1,10 +1,11 @@
 // The script's bytes.
-ghost use Rattle.std.specs.Prelude.{◌*◌, ◌≤◌, ◌<◌, length, IfOk};
+ghost use Rattle.std.specs.Prelude.{◌*◌, ◌≤◌, length, IfOk};
 
 use pool::Pool;
 use std::io::{self, Read};
 
 // Reads until the buffer is full or the input ends. What the input does not reach stays as it is.
+// Kept: read_exact is no plainer here, where the end of the input is no error: a script ends there.
 fn read_full(input: &mut impl Read, buffer: &mut [u8]) -> io::Result<()> {
     let mut rest = buffer;
     for _ in 0..u64::MAX {
@@ -27,35 +28,14 @@ pub(crate) fn read_byte(input: &mut impl Read) -> io::Result<u8> {
     Ok(byte[0])
 }
 
-fn wide(x: u8) -> u64
-    ensures { result < 256 }
-{
-    x as u64
-}
-
-fn middling(x: u8) -> u16
-    ensures { result < 256 }
-{
-    x as u16
-}
-
-// The number of eight bytes, low byte first.
-fn number(bytes: &[u8]) -> u64
-    requires { 8 ≤ length bytes.now }
-{
-    let mut n: u64 = 0;
-    for k in (0..8usize).rev() {
-        n = n % 0x100_0000_0000_0000 * 256 + wide(bytes[k]);
-    }
-    n
-}
-
 pub(crate) fn read_pool(input: &mut impl Read) -> io::Result<Pool> {
     let mut bytes = [0u8; 16];
     read_full(input, &mut bytes)?;
-    let low = number(&bytes);
-    let high = number(&bytes[8..]);
-    Ok(Pool { low, high })
+    let [a, b, c, d, e, f, g, h, i, j, k, l, m, n, o, p] = bytes;
+    Ok(Pool {
+        low: u64::from_le_bytes([a, b, c, d, e, f, g, h]),
+        high: u64::from_le_bytes([i, j, k, l, m, n, o, p]),
+    })
 }
 
 // The symbols of byte pairs.
@@ -63,16 +43,14 @@ fn symbols(trace: &mut [u16], bytes: &[u8], n: usize)
     requires { (n ≤ length trace.old) × (2 * n ≤ length bytes.now) }
 {
     for i in 0..n {
-        trace[i] = middling(bytes[2 * i]) + 256 * middling(bytes[2 * i + 1]);
+        trace[i] = u16::from_le_bytes([bytes[2 * i], bytes[2 * i + 1]]);
     }
 }
 
 fn read_count(input: &mut impl Read) -> io::Result<usize> {
     let mut count = [0u8; 2];
     read_full(input, &mut count)?;
-    let low = middling(count[0]);
-    let high = middling(count[1]);
-    Ok((low + 256 * high) as usize)
+    Ok(usize::from(u16::from_le_bytes(count)))
 }
 
 fn read_pairs(input: &mut impl Read, bytes: &mut [u8], n: usize) -> io::Result<()>

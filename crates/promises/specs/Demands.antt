@@ -275,7 +275,7 @@ pub record StepNumbers (s : Controller) (tr : List ℕ) (r : Stepped) : Type 0 w
 
 -- a state has a slot for each address, the identifier of an outstanding Assign has 128 bits, and the last pick is up to 127
 abbrev pub Sound : Controller → Type 0
-Sound s = ((length s.slots.high ≡ 128) × (length s.slots.low ≡ 128)) × ((u : Udid) (a : Address) → s.last ≡ Send (Assign u a) → In128 u) × (s.picked < 128)
+Sound s = (length s.slots.udids ≡ 128) × ((u : Udid) (a : Address) → s.last ≡ Send (Assign u a) → In128 u) × (s.picked < 128)
 
 -- what holds in every state that starts, traces, reports, issues and declines reach
 pub record Reached (occupied : Pool) (s : Controller) : Type 0 where

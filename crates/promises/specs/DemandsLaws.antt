@@ -351,7 +351,7 @@ pub reached : (occupied : Pool) (last : ℕ) (es : List Event) → Reached occup
 reached occupied last es =
     let g = reached_good occupied last es in
     record {
-      sound = ((g.0.sound.size.high, g.0.sound.size.low), λ u a e. (subst (PendingIn (run occupied last es)) e g.1).fits, g.0.picked);
+      sound = (g.0.sound.size.udids, λ u a e. (subst (PendingIn (run occupied last es)) e g.1).fits, g.0.picked);
       occupies = g.0.occupies;
       pool = λ a. pool_exactly (member (starting_pool occupied) a) (member (run occupied last es).pool a) (held_at (run occupied last es).slots a) (reached_pool occupied last es a);
       unbarred = (reached_invariant occupied last es).bound_unbarred;
@@ -364,7 +364,7 @@ pub control : Control
 control = record {
   new = λ occupied last. (let n = new_controller_is_new occupied last in (n.occupies, n.pool, n.last, n.gets, n.held, n.picked, n.never));
   start = λ s. (refl, refl, refl, refl, refl, open_all, refl);
-  step = λ s tr f. let n : Sized128 s.slots = record { high = f.0.0; low = f.0.1 } in (sentences s tr n f.2, each_number_exactly s tr f.1 f.2 (stepped s tr) (sentences s tr n f.2));
+  step = λ s tr f. let n : Sized128 s.slots = record { udids = f.0 } in (sentences s tr n f.2, each_number_exactly s tr f.1 f.2 (stepped s tr) (sentences s tr n f.2));
   one_step = λ s tr r q f h g. (let a = one_step s tr r q f.1 f.2 h g in (a.command, a.last, a.gets, a.occupied, a.picked, a.same));
   reached = reached;
   kept_last = last_is_handed_out;
@@ -405,7 +405,7 @@ reports s a f = record {
 }
   where
     left : (u : Udid) × (held_at s.slots a ≡ Bound u) → Removes a s (reported s a).state
-    left (u, e) = report_removes s a u (record { high = f.0.0; low = f.0.1 }) e
+    left (u, e) = report_removes s a u (record { udids = f.0 }) e
 
     unbound : (b : Bool) → is_bound (held_at s.slots a) ≡ b → ((lookup_number (reported s a).found).0 ≡ 0 → ⊥) → is_bound (held_at s.slots a) ≡ false
     unbound true e n = absurd (n ((answered_0 s a).1 e))

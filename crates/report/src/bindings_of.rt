@@ -23,11 +23,7 @@ fn put_rows(out: &mut [u8], slots: Slots)
 {
     for a in 0..128u8 {
         let at = a as usize;
-        let u = Udid {
-            high: slots.high[at],
-            low: slots.low[at],
-        };
-        let e = slots.bound.has(Address(a)).then_some(u);
+        let e = slots.bound.has(Address(a)).then_some(slots.udids[at]);
         put_entry(&mut out[..], Address(a), e);
     }
 }

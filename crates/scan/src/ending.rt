@@ -5,7 +5,7 @@ ghost use Rattle.scan.specs.Run.{byte_count, data_length, direction_of, transact
 use crate::answer::{Decoded, Refusal, Refused};
 use crate::refusal::is_over;
 use step::state::{Decoder, Due};
-use trace::shape::{Part, Shape, has_read, has_write};
+use trace::shape::{Part, Shape};
 use trace::transaction::Transaction;
 use wire::address::{Address, WireByte};
 use wire::symbol::is_byte;
@@ -31,7 +31,7 @@ fn data_length(part: Part, m: u8) -> usize
 fn direction_of(sh: Shape, first: u8) -> u8
     ensures { result ≡ direction_of sh first }
 {
-    if has_write(sh) || has_read(sh) {
+    if sh.has_write() || sh.has_read() {
         0
     } else {
         first % 2

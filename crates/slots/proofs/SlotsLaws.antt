@@ -8,7 +8,8 @@ use Rattle.lists.specs.Choice.{pick}
 use Rattle.pool.specs.MemberLaws.{member_above, with_above, without_above, has_with_same, has_with_other, has_without_same, has_without_other}
 use Rattle.pool.specs.Pools.{member}
 use Rattle.pool.proofs.StartLaws.{member_empty}
-use Rattle.slots.specs.Slots.{Sized128, kept_udid, held_at, with_binding, no_bindings}
+use Rattle.udid.specs.declared.Udid.{Udid}
+use Rattle.slots.specs.Slots.{Sized128, zero_udid, kept_udid, held_at, with_binding, no_bindings}
 use Rattle.slots.specs.declared.Slots.{Slots}
 use Rattle.slots.specs.declared.Binding.{Binding}
 use Rattle.slots.specs.declared.Binding.TheVariants.{Open, Bound, Claimed, Left}
@@ -61,8 +62,7 @@ held_same s a Open z h = rw (has_without_same s.bound a, has_without_same s.clai
 held_same s a (Bound u) z h =
     rw (
       has_with_same s.bound a h,
-      get_or-set_same s.high a u.high 0 (omega (arith, z.high)),
-      get_or-set_same s.low a u.low 0 (omega (arith, z.low)),
+      get_or-set_same s.udids a u zero_udid (omega (arith, z.udids)),
     )
 held_same s a Claimed z h = rw (has_without_same s.bound a, has_with_same s.claimed a h)
 held_same s a Left z h = rw (has_without_same s.bound a, has_without_same s.claimed a, has_with_same s.left a h)
@@ -73,8 +73,7 @@ held_other s a i Open n = rw (has_without_other s.bound a i n, has_without_other
 held_other s a i (Bound u) n =
     rw (
       has_with_other s.bound a i n,
-      get_or-set_other s.high a i u.high 0 n,
-      get_or-set_other s.low a i u.low 0 n,
+      get_or-set_other s.udids a i u zero_udid n,
     )
 held_other s a i Claimed n = rw (has_without_other s.bound a i n, has_with_other s.claimed a i n)
 held_other s a i Left n = rw (has_without_other s.bound a i n, has_without_other s.claimed a i n, has_with_other s.left a i n)
@@ -90,16 +89,15 @@ held_out_of_range s a i x h = go (ℕ_discrete i a)
 -- nor does anything that is kept
 pub put_above : (s : Slots) (a : ℕ) (x : Binding) → Sized128 s → 128 ≤ a → with_binding s a x ≡ s
 unfolding with_binding
-put_above s a Open z h = λ j. record { bound = without_above s.bound a h j; claimed = without_above s.claimed a h j; left = without_above s.left a h j; high = s.high; low = s.low }
+put_above s a Open z h = λ j. record { bound = without_above s.bound a h j; claimed = without_above s.claimed a h j; left = without_above s.left a h j; udids = s.udids }
 put_above s a (Bound u) z h = λ j. record {
   bound = with_above s.bound a h j;
   claimed = s.claimed;
   left = s.left;
-  high = set_out s.high a u.high (subst (λ (n : ℕ). n ≤ a) (sym z.high) h) j;
-  low = set_out s.low a u.low (subst (λ (n : ℕ). n ≤ a) (sym z.low) h) j;
+  udids = set_out s.udids a u (subst (λ (n : ℕ). n ≤ a) (sym z.udids) h) j;
 }
-put_above s a Claimed z h = λ j. record { bound = without_above s.bound a h j; claimed = with_above s.claimed a h j; left = s.left; high = s.high; low = s.low }
-put_above s a Left z h = λ j. record { bound = without_above s.bound a h j; claimed = without_above s.claimed a h j; left = with_above s.left a h j; high = s.high; low = s.low }
+put_above s a Claimed z h = λ j. record { bound = without_above s.bound a h j; claimed = with_above s.claimed a h j; left = s.left; udids = s.udids }
+put_above s a Left z h = λ j. record { bound = without_above s.bound a h j; claimed = without_above s.claimed a h j; left = with_above s.left a h j; udids = s.udids }
 
 -- what was put, or what was there elsewhere
 pub held_cases : (s : Slots) (a i : ℕ) (x h : Binding) → Sized128 s → a < 128 → held_at (with_binding s a x) i ≡ h
@@ -114,11 +112,11 @@ held_cases s a i x h z l e = go (ℕ_discrete i a)
 
 pub sized_none : Sized128 no_bindings
 unfolding no_bindings
-sized_none = record { high = length-replicate {A = ℕ} 128 0; low = length-replicate {A = ℕ} 128 0 }
+sized_none = record { udids = length-replicate {A = Udid} 128 zero_udid }
 
 pub sized_with : (s : Slots) (a : ℕ) (x : Binding) → Sized128 s → Sized128 (with_binding s a x)
 unfolding with_binding
-sized_with s a Open z = record { high = z.high; low = z.low }
-sized_with s a (Bound u) z = record { high = length-set s.high a u.high ∙ z.high; low = length-set s.low a u.low ∙ z.low }
-sized_with s a Claimed z = record { high = z.high; low = z.low }
-sized_with s a Left z = record { high = z.high; low = z.low }
+sized_with s a Open z = record { udids = z.udids }
+sized_with s a (Bound u) z = record { udids = length-set s.udids a u ∙ z.udids }
+sized_with s a Claimed z = record { udids = z.udids }
+sized_with s a Left z = record { udids = z.udids }

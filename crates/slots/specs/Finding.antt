@@ -1,6 +1,7 @@
 -- Where a target is bound.
-use Rattle.std.specs.Prelude.{ℕ, zero, suc, Bool, false, List, [], ◌∷◌}
+use Rattle.std.specs.Prelude.{ℕ, zero, suc, Bool, false, List, [], ◌∷◌, ltb, Option, Some, None}
 use Rattle.lists.specs.Choice.{pick}
+use Rattle.wire.specs.declared.address.Address.{Address}
 use Rattle.udid.specs.Udids.{same_udid}
 use Rattle.udid.specs.declared.Udid.{Udid}
 use Rattle.slots.specs.Slots.{held_at}
@@ -27,3 +28,7 @@ bound_to u h = is_only u (bound_in h)
 unfoldable pub find_from : Udid → Slots → ℕ → ℕ → ℕ
 find_from u slots zero a = 128
 find_from u slots (suc n) a = pick (bound_to u (held_at slots a)) a (find_from u slots n (suc a))
+
+-- that address, where it is one
+abbrev pub address_found : ℕ → Option Address
+address_found n = pick (ltb 127 n) None (Some (record { 0 = n }))

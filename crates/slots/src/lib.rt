@@ -29,9 +29,8 @@ pub struct Slots {
     // The addresses whose target was reported gone. The set may still have one that was bound or claimed since: `held_at` asks those
     // two first.
     pub left: Pool,
-    // The high and the low half of the identifier that is bound to each address.
-    pub high: [u64; 128],
-    pub low: [u64; 128],
+    // The identifier that is bound to each address.
+    pub udids: [Udid; 128],
 }
 
 impl Slots {
@@ -39,13 +38,11 @@ impl Slots {
     pub fn none() -> Slots
         ensures { result ≡ no_bindings }
     {
-        let none = Pool::empty();
         Slots {
-            bound: none,
-            claimed: none,
-            left: none,
-            high: [0u64; 128],
-            low: [0u64; 128],
+            bound: Pool::empty(),
+            claimed: Pool::empty(),
+            left: Pool::empty(),
+            udids: [Udid::ZERO; 128],
         }
     }
 
@@ -53,40 +50,28 @@ impl Slots {
     pub fn held_at(self, a: Address) -> Binding
         ensures { result ≡ held_at self a.0 }
     {
-        let n = a.0;
-        if n > 127 {
+        if a.0 > 127 {
             return Binding::Open;
         }
-        let bound = self.bound;
-        if bound.has(a) {
-            let at = n as usize;
-            return Binding::Bound(Udid {
-                high: self.high[at],
-                low: self.low[at],
-            });
+        if self.bound.has(a) {
+            return Binding::Bound(self.udids[a.0 as usize]);
         }
-        let claimed = self.claimed;
-        if claimed.has(a) {
+        if self.claimed.has(a) {
             return Binding::Claimed;
         }
-        let left = self.left;
-        if left.has(a) {
-            Binding::Left
-        } else {
-            Binding::Open
+        if self.left.has(a) {
+            return Binding::Left;
         }
+        Binding::Open
     }
 
     // The slots with nothing at the address.
     fn put_open(mut self, a: Address) -> Slots
         ensures { result ≡ with_binding self a.0 Open }
     {
-        let bound = self.bound;
-        let claimed = self.claimed;
-        let left = self.left;
-        self.bound = bound.without(a);
-        self.claimed = claimed.without(a);
-        self.left = left.without(a);
+        self.bound = self.bound.without(a);
+        self.claimed = self.claimed.without(a);
+        self.left = self.left.without(a);
         self
     }
 
@@ -94,15 +79,11 @@ impl Slots {
     fn put_bound(mut self, a: Address, u: Udid) -> Slots
         ensures { result ≡ with_binding self a.0 (Bound u) }
     {
-        let n = a.0;
-        if n > 127 {
+        if a.0 > 127 {
             return self;
         }
-        let at = n as usize;
-        let bound = self.bound;
-        self.bound = bound.with(a);
-        self.high[at] = u.high;
-        self.low[at] = u.low;
+        self.bound = self.bound.with(a);
+        self.udids[a.0 as usize] = u;
         self
     }
 
@@ -110,10 +91,8 @@ impl Slots {
     fn put_claimed(mut self, a: Address) -> Slots
         ensures { result ≡ with_binding self a.0 Claimed }
     {
-        let bound = self.bound;
-        let claimed = self.claimed;
-        self.bound = bound.without(a);
-        self.claimed = claimed.with(a);
+        self.bound = self.bound.without(a);
+        self.claimed = self.claimed.with(a);
         self
     }
 
@@ -121,12 +100,9 @@ impl Slots {
     fn put_left(mut self, a: Address) -> Slots
         ensures { result ≡ with_binding self a.0 Left }
     {
-        let bound = self.bound;
-        let claimed = self.claimed;
-        let left = self.left;
-        self.bound = bound.without(a);
-        self.claimed = claimed.without(a);
-        self.left = left.with(a);
+        self.bound = self.bound.without(a);
+        self.claimed = self.claimed.without(a);
+        self.left = self.left.with(a);
         self
     }
 

@@ -3,7 +3,7 @@ ghost use Rattle.std.specs.Prelude.{◌≡◌};
 ghost use Rattle.step.specs.Fits.{ack_at, way_fits, first_fits, command_fits, count_fits, fits_slot, fits};
 
 use crate::state::{Decoder, Due, Slot};
-use trace::shape::{Shape, has_read, has_write, least_of};
+use trace::shape::Shape;
 use trace::valid::{address_fits, sender_fits};
 use wire::address::{Address, WireByte};
 use wire::symbol::{ACK, NACK, START, STOP, is_byte};
@@ -22,10 +22,10 @@ fn ack_at(slot: Slot) -> u16
 fn way_fits(sh: Shape, w: WireByte) -> bool
     ensures { result ≡ way_fits sh w.0 }
 {
-    if has_write(sh) {
+    if sh.has_write() {
         return !w.is_read();
     }
-    !has_read(sh) || w.is_read()
+    !sh.has_read() || w.is_read()
 }
 
 // The first address byte.
@@ -57,7 +57,7 @@ fn fits_slot(sh: Shape, d: Decoder, x: u16) -> bool
         Slot::Start | Slot::Restart => x == START,
         Slot::First => first_fits(sh, x),
         Slot::Command => command_fits(sh, x),
-        Slot::Count => count_fits(sh, least_of(sh.received, sh.least), x),
+        Slot::Count => count_fits(sh, sh.received.least_of(sh.least), x),
         Slot::Data | Slot::Pec | Slot::ReadData | Slot::ReadPec => is_byte(x),
         Slot::Second => x == (d.first as u16 + 1) % 256,
         Slot::ReadCount => count_fits(sh, d.sentcount, x),

@@ -4,7 +4,7 @@ ghost use Rattle.step.specs.State.{to};
 ghost use Rattle.step.specs.Next.{after_read, to_read_data, to_read, after_write, to_data, to_sent, after_first};
 
 use crate::state::Slot;
-use trace::shape::{Part, Shape, has_read, has_write};
+use trace::shape::{Part, Shape};
 
 // What a trace is read by: its shape, and whether a PEC ends it.
 #[derive(Clone, Copy)]
@@ -67,8 +67,8 @@ impl Rules {
     fn after_write(self) -> Aim
         ensures { result ≡ after_write self.shape self.pec }
     {
-        if has_read(self.shape) {
-            if has_write(self.shape) {
+        if self.shape.has_read() {
+            if self.shape.has_write() {
                 return aim_at(Slot::Restart);
             }
             return self.to_read();

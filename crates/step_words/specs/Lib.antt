@@ -1,6 +1,2 @@
-pub mod Refused
-pub mod RefusedLaws
 pub mod Taken
-pub mod TakenLaws
 pub mod Stepped
-pub mod SteppedLaws

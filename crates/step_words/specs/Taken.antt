@@ -4,7 +4,7 @@ use Rattle.lists.specs.Choice.{pick}
 use Rattle.text.specs.Chars.{chars}
 use Rattle.writing.specs.Written.{decimal_of}
 use Rattle.scan.specs.Decoded.{Decoded}
-use Rattle.step_words.specs.Refused.{refusal_text}
+use Rattle.codec_answers.specs.Refusals.{refusal_text}
 use Rattle.commands.specs.Codes.{send_byte, block_read, block_write}
 use Rattle.commands.specs.declared.command.Command.{Command}
 use Rattle.commands.specs.declared.command.Command.TheVariants.{Prepare, GetUdid, Assign}

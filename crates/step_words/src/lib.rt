@@ -2,6 +2,5 @@
 // trace tells, on scan for the decoder's answer, and on meanings for the words of a number.
 #![tactic(auto, using(pieces::specs::PieceLaws::pieces))]
 
-mod refusal;
 pub mod stepped;
 mod taken;

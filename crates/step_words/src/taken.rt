@@ -3,7 +3,7 @@ ghost use Rattle.std.specs.Prelude.{◌≡◌, ◌++◌};
 ghost use Rattle.writing.specs.Pages.{with_text};
 ghost use Rattle.step_words.specs.Taken.{because, left_text, asked_text, prepare_text, unheard_text, get_text, assign_text};
 
-use super::refusal::put_refusal;
+use codec_answers::refusal::put_refusal;
 use hearing::told::Told;
 use pieces::piece::put_number;
 use scan::answer::Decoded;
@@ -16,7 +16,7 @@ fn put_because(page: &mut Page, label: &[u8], d: Decoded)
     page.put(label);
     match d {
         Ok(_) => page.put(b"another transaction"),
-        Err(e) => put_refusal(page, e.why, e.place),
+        Err(e) => put_refusal(page, e),
     }
 }
 
@@ -28,7 +28,7 @@ fn put_left(page: &mut Page, d: Decoded)
         Ok(t) => put_number(page, b"nobody is left: a count of ", t.received as u64),
         Err(e) => {
             page.put(b"nobody is left: ");
-            put_refusal(page, e.why, e.place);
+            put_refusal(page, e);
         }
     }
 }

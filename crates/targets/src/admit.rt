@@ -53,10 +53,7 @@ impl ListError {
 fn is_bad_length(n: usize) -> bool
     ensures { result ≡ is_bad_length n }
 {
-    if n > MOST_TARGETS * RECORD {
-        return true;
-    }
-    n % RECORD != 0
+    n > MOST_TARGETS * RECORD || n % RECORD != 0
 }
 
 fn among_records(records: &[u8], barred: Pool) -> Result<(), ListError>

@@ -62,7 +62,7 @@ impl<'a> Record<'a> {
         ensures { result ≡ udid_of self.entry.records.now self.entry.i }
     {
         if self.i > self.records.len() / RECORD {
-            return Udid { high: 0, low: 0 };
+            return Udid::ZERO;
         }
         Udid::from_bytes(self.records, self.i * RECORD)
     }
@@ -82,8 +82,7 @@ impl<'a> Record<'a> {
         ensures { result ≡ same_udid (udid_of self.entry.records.now self.entry.i) u }
     {
         if self.i > self.records.len() / RECORD {
-            let none = Udid { high: 0, low: 0 };
-            return none.is_same(u);
+            return Udid::ZERO.is_same(u);
         }
         u.stands_at(self.records, self.i * RECORD)
     }

@@ -1,4 +1,3 @@
-pub mod Fields
 pub mod AckedLaws
 pub mod BordersLaws
 pub mod ColumnsLaws

@@ -1,5 +1,6 @@
 -- How many symbols a trace has.
-use Rattle.std.specs.Prelude.{Bool, true, ℕ, ◌+◌, ◌*◌}
+use Rattle.std.specs.Prelude.{Bool, true, Option, Some, None, ℕ, ◌+◌, ◌*◌}
+use Rattle.std.specs.Option.{unwrap_or}
 use Rattle.lists.specs.Choice.{pick, or}
 use Rattle.trace.specs.declared.shape.Part.{Part}
 use Rattle.trace.specs.declared.shape.Part.TheVariants.{Nothing, Fixed, Counted}
@@ -26,10 +27,10 @@ longest_of sh =
     trace_length sh true (fixed_length sh.sent) (fixed_length sh.received)
     + pick (or (is_counted sh.sent) (is_counted sh.received)) (2 * sh.most) 0
 
--- the room that the encoder needs for m bytes sent and n received; 0 where the message is forbidden (barred), or a length is refused
-unfoldable pub room_by : Shape → Bool → Bool → ℕ → ℕ → ℕ
-room_by sh barred pec m n = pick barred 0 (pick (lengths_fit sh m n) (trace_length sh pec m n) 0)
+-- the room that the encoder needs for m bytes sent and n received; none where the message is forbidden (barred), or a length is refused
+unfoldable pub room_by : Shape → Bool → Bool → ℕ → ℕ → Option ℕ
+room_by sh barred pec m n = pick barred None (pick (lengths_fit sh m n) (Some (trace_length sh pec m n)) None)
 
--- for the protocols of the table
+-- for the protocols of the table, as a number: 0 for none
 abbrev pub room_for : ℕ → Bool → ℕ → ℕ → ℕ
-room_for protocol pec m n = room_by (shape_of protocol) (forbidden protocol pec) pec m n
+room_for protocol pec m n = unwrap_or (room_by (shape_of protocol) (forbidden protocol pec) pec m n) 0

@@ -5,7 +5,7 @@ ghost use Rattle.trace.specs.Shapes.{writes, reads, is_counted};
 ghost use Rattle.trace.specs.Lengths.{trace_length, room_by, room_for};
 
 use crate::protocol::{is_forbidden, shape_of};
-use crate::shape::{Shape, has_read, has_write, is_counted};
+use crate::shape::Shape;
 use crate::valid::lengths_fit;
 
 fn one_if(b: bool) -> usize
@@ -19,45 +19,39 @@ fn read_length(sh: Shape, n: usize) -> usize
     requires { n ≤ 255 }
     ensures { (result ≡ pick (reads sh) (pick (writes sh) 3 0 + 2 * (pick (is_counted sh.received) 1 0 + n)) 0) × (result ≤ 515) }
 {
-    let a = sh.received;
-    if !has_read(sh) {
+    if !sh.has_read() {
         return 0;
     }
-    let k = one_if(is_counted(a));
-    if has_write(sh) {
-        3 + 2 * (k + n)
-    } else {
-        2 * (k + n)
-    }
+    let turn = if sh.has_write() { 3 } else { 0 };
+    turn + 2 * (one_if(sh.received.is_counted()) + n)
 }
 
 // The symbols of a trace with m bytes sent and n received.
+#[tactic(auto, unfolding(crate::specs::Lengths::trace_length))]
 fn trace_length(sh: Shape, pec: bool, m: usize, n: usize) -> usize
     requires { (m ≤ 255) × (n ≤ 255) }
     ensures { result ≡ trace_length sh pec m n }
 {
-    let a = sh.sent;
     let b = one_if(sh.command);
-    let k = one_if(is_counted(a));
+    let k = one_if(sh.sent.is_counted());
     4 + 2 * (b + k + m) + read_length(sh, n) + 2 * one_if(pec)
 }
 
-// The room that the encoder needs for a message of a shape, in symbols; 0 where it is forbidden, or a length is refused.
-pub fn room_by(sh: Shape, forbidden: bool, pec: bool, m: usize, n: usize) -> usize
+// The room that the encoder needs for a message of a shape, in symbols; none where it is forbidden, or a length is refused.
+#[tactic(auto, unfolding(crate::specs::Lengths::room_by))]
+pub fn room_by(sh: Shape, forbidden: bool, pec: bool, m: usize, n: usize) -> Option<usize>
     ensures { result ≡ room_by sh forbidden pec m n }
 {
-    if forbidden {
-        return 0;
+    if !forbidden && lengths_fit(sh, m, n) {
+        Some(trace_length(sh, pec, m, n))
+    } else {
+        None
     }
-    if !lengths_fit(sh, m, n) {
-        return 0;
-    }
-    trace_length(sh, pec, m, n)
 }
 
-// The same for a protocol of the table; 0 where the encoder refuses the protocol, the PEC or a length.
+// The same for a protocol of the table, as C gets it: 0 where the encoder refuses the protocol, the PEC or a length.
 pub fn room_for(protocol: u8, pec: bool, m: usize, n: usize) -> usize
     ensures { result ≡ room_for protocol pec m n }
 {
-    room_by(shape_of(protocol), is_forbidden(protocol, pec), pec, m, n)
+    room_by(shape_of(protocol), is_forbidden(protocol, pec), pec, m, n).unwrap_or(0)
 }

@@ -5,6 +5,8 @@ ghost use Rattle.trace.specs.Shapes.{row as row_of};
 
 use crate::shape::{Part, Shape};
 
+// Kept: numbers, not an enum. Every entry takes any u8 and refuses those that are no protocol (`forbidden_cases`), so an enum would only
+// stand between two matches.
 pub const QUICK: u8 = 0;
 
 pub const SEND_BYTE: u8 = 1;
@@ -78,9 +80,5 @@ pub fn shape_of(protocol: u8) -> Shape
 pub fn is_forbidden(protocol: u8, pec: bool) -> bool
     ensures { result ≡ forbidden protocol pec }
 {
-    if protocol >= PROTOCOLS {
-        return true;
-    }
-    let sh = shape_of(protocol);
-    if pec { !sh.checked } else { false }
+    protocol >= PROTOCOLS || pec && !shape_of(protocol).checked
 }

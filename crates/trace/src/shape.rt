@@ -3,14 +3,14 @@ ghost use Rattle.std.specs.Prelude.{◌≡◌, ◌≤◌};
 ghost use Rattle.trace.specs.Shapes.{some, is_counted, count_in, writes, reads, least_of};
 
 // What a protocol sends or receives: nothing, so many bytes, or a count and as many bytes.
-#[derive(Clone, Copy)]
+#[derive(Clone, Copy, PartialEq, Eq)]
 pub enum Part {
     Nothing,
     Fixed(u8),
     Counted,
 }
 
-#[derive(Clone, Copy)]
+#[derive(Clone, Copy, PartialEq, Eq)]
 pub struct Shape {
     // A command byte follows the first address byte.
     pub command: bool,
@@ -25,61 +25,53 @@ pub struct Shape {
     pub most: u8,
 }
 
-// The part is there at all.
-pub fn is_some(a: Part) -> bool
-    ensures { result ≡ some a }
-{
-    match a {
-        Part::Nothing => false,
-        Part::Fixed(_) => true,
-        Part::Counted => true,
+impl Part {
+    // The part is there at all.
+    pub fn is_some(self) -> bool
+        ensures { result ≡ some self }
+    {
+        !matches!(self, Part::Nothing)
+    }
+
+    pub fn is_counted(self) -> bool
+        ensures { result ≡ is_counted self }
+    {
+        matches!(self, Part::Counted)
+    }
+
+    // What a part of n bytes adds to the sum of the counts.
+    pub fn count_in(self, n: usize) -> usize
+        ensures { (result ≡ count_in self n) × (result ≤ n) }
+    {
+        match self {
+            Part::Counted => n,
+            _ => 0,
+        }
+    }
+
+    // What a part adds to it at the least.
+    pub fn least_of(self, k: u8) -> u8
+        ensures { result ≡ least_of self k }
+    {
+        match self {
+            Part::Counted => k,
+            _ => 0,
+        }
     }
 }
 
-pub fn is_counted(a: Part) -> bool
-    ensures { result ≡ is_counted a }
-{
-    match a {
-        Part::Nothing => false,
-        Part::Fixed(_) => false,
-        Part::Counted => true,
+impl Shape {
+    // There is a write phase: a command or data are sent.
+    pub fn has_write(self) -> bool
+        ensures { result ≡ writes self }
+    {
+        self.command || self.sent.is_some()
     }
-}
 
-// What a part of n bytes adds to the sum of the counts.
-pub fn count_in(a: Part, n: usize) -> usize
-    ensures { (result ≡ count_in a n) × (result ≤ n) }
-{
-    match a {
-        Part::Nothing => 0,
-        Part::Fixed(_) => 0,
-        Part::Counted => n,
+    // There is a read phase.
+    pub fn has_read(self) -> bool
+        ensures { result ≡ reads self }
+    {
+        self.received.is_some()
     }
-}
-
-// What a part adds to it at the least.
-pub fn least_of(a: Part, k: u8) -> u8
-    ensures { result ≡ least_of a k }
-{
-    match a {
-        Part::Nothing => 0,
-        Part::Fixed(_) => 0,
-        Part::Counted => k,
-    }
-}
-
-// There is a write phase: a command or data are sent.
-pub fn has_write(sh: Shape) -> bool
-    ensures { result ≡ writes sh }
-{
-    let a = sh.sent;
-    if sh.command { true } else { is_some(a) }
-}
-
-// There is a read phase.
-pub fn has_read(sh: Shape) -> bool
-    ensures { result ≡ reads sh }
-{
-    let a = sh.received;
-    is_some(a)
 }

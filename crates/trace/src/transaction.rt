@@ -2,7 +2,7 @@
 use wire::address::Address;
 
 // sent and received are the lengths of its data, which lie in slices beside it.
-#[derive(Clone, Copy)]
+#[derive(Clone, Copy, PartialEq, Eq)]
 pub struct Transaction {
     pub protocol: u8,
     pub address: Address,

@@ -1,4 +1,3 @@
 pub mod ByteLaws
 pub mod UdidLaws
 pub mod WindowLaws
-pub mod WriteLaws

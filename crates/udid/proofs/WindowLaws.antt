@@ -53,6 +53,12 @@ unfolding bytes_from
 from_zeros s k i zero = refl
 from_zeros s k i (suc n) = ap₂ (λ (x : ℕ) (l : List ℕ). x ∷ l) (byte_zeros s k i) (from_zeros s k (suc i) n)
 
+-- and from a place on, what stands further on in the list
+pub from_drop : (s : List ℕ) (i j n : ℕ) → bytes_from (drop i s) j n ≡ bytes_from s (i + j) n
+unfolding bytes_from
+from_drop s i j zero = refl
+from_drop s i j (suc n) = ap₂ (λ (x : ℕ) (l : List ℕ). x ∷ l) (get_or-drop i s j 0) (from_drop s i (suc j) n ∙ ap (λ (x : ℕ). bytes_from s x n) (omega arith))
+
 -- ---- written
 
 pub put_fits : (l bs : List ℕ) (i : ℕ) → i + length bs ≤ length l → put_at l i bs ≡ take i l ++ (bs ++ drop (i + length bs) l)

@@ -9,21 +9,13 @@ impl Udid {
     pub fn is_same(self, other: Udid) -> bool
         ensures { result ≡ same_udid self other }
     {
-        if self.high == other.high {
-            self.low == other.low
-        } else {
-            false
-        }
+        self == other
     }
 
     // It comes before the other.
     pub fn is_below(self, other: Udid) -> bool
         ensures { result ≡ is_below self other }
     {
-        if self.high == other.high {
-            self.low < other.low
-        } else {
-            self.high < other.high
-        }
+        self < other
     }
 }

@@ -8,8 +8,13 @@ pub mod write;
 
 // The high half holds capabilities, version, vendor, device and interface, the low one subsystem vendor, subsystem device and the
 // vendor-specific 32 bits.
-#[derive(Clone, Copy)]
+#[derive(Clone, Copy, PartialEq, Eq, PartialOrd, Ord)]
 pub struct Udid {
     pub high: u64,
     pub low: u64,
+}
+
+impl Udid {
+    // All bits zero: what stands where there is no identifier.
+    pub const ZERO: Udid = Udid { high: 0, low: 0 };
 }

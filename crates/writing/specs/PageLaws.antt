@@ -1,17 +1,23 @@
 -- What is added to a page piece after piece is added at once.
-use Rattle.std.specs.Prelude.{ℕ, suc, ◌+◌, ◌/◌, ◌%◌, ◌<◌, ◌≤◌, ◌≡◌, List, [], ◌∷◌, ◌++◌, ltb, length, take, get_or, slice_set}
-use Rattle.std.proofs.Common.{refl, sym, ap, ◌∙◌, add-one, arith, lt-ltb, le-ltb, append-nil}
+use Rattle.std.specs.Prelude.{ℕ, ◌+◌, ◌/◌, ◌%◌, ◌<◌, ◌≤◌, ◌≡◌, List, [], ◌∷◌, ◌++◌, length, take, get_or, slice_set}
+use Rattle.std.proofs.Common.{refl, sym, ap, ◌∙◌, add-one, mod-eq_of_lt, arith, lt-ltb, le-ltb, append-nil}
 use Rattle.std.proofs.Math.Seq.{take-suc}
 use lib.Seq.{set_out}
 use Rattle.writing.specs.declared.page.Page.{Page}
-use Rattle.writing.specs.Written.{following, after, written, glyph, decimal_of, pair_of, pairs_of}
-use Rattle.writing.specs.WrittenLaws.{after_append, written_append, length_written, after_one, written_one, pair_high}
-use Rattle.writing.specs.Pages.{with_text}
+use Rattle.writing.specs.Written.{after, written, pair_of, pairs_of, Appended}
+use Rattle.writing.specs.WrittenLaws.{after_append, written_append, length_written, after_one, written_one}
+use Rattle.writing.specs.declared.page.Case.{Case}
+use Rattle.writing.specs.Pages.{with_text, glyph_in}
 
 -- two pages of one buffer are one, where their characters and their places are
 same : (p : Page) {l l' : List ℕ} {n n' : ℕ} → l ≡ l' → n ≡ n'
     → record p { out = record p.out { now = l }; at = n } ≡ record p { out = record p.out { now = l' }; at = n' }
 same p e f = rw (e, f) refl
+
+-- it is the text written from the page's place on
+pub appended : (p : Page) (xs : List ℕ) → Appended p.out.now p.at xs (with_text p xs).out.now (with_text p xs).at
+unfolding with_text
+appended p xs = record { place = refl; text = refl }
 
 -- one text after another
 pub text_on : (p : Page) (xs ys : List ℕ) → with_text (with_text p xs) ys ≡ with_text p (xs ++ ys)
@@ -41,6 +47,10 @@ unfolding with_text
 text_past p c h =
     same p (sym (written_one p.out.now p.at c ∙ set_out p.out.now p.at c h)) (sym (after_one (length p.out.now) p.at c ∙ simp (le-ltb p.at (length p.out.now) h)))
 
+-- the digits of a byte are below 16
+pub digit_high : (case : Case) (b : ℕ) → b < 256 → glyph_in case (b / 16 % 16) ≡ glyph_in case (b / 16)
+digit_high case b h = ap (glyph_in case) (mod-eq_of_lt (omega arith))
+
 -- the pieces of a loop
 pub taken_more : (s : List ℕ) (i : ℕ) → i < length s → take (i + 1) s ≡ take i s ++ (get_or s i 0 ∷ [])
 taken_more s i h = rw (add-one i) (take-suc s i 0 h)
@@ -63,4 +73,4 @@ pairs_more s i h =
 -- what the check uses where text is added to a page, and what it uses in this crate besides
 pub ruleset pages = (text_on, text_none)
 
-pub ruleset first_pages = (pages, text_one, text_past, taken_more, pairs_none, pairs_more, pair_high)
+pub ruleset first_pages = (pages, text_one, text_past, taken_more, pairs_none, pairs_more, digit_high)

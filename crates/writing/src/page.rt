@@ -1,8 +1,8 @@
 // A page: a lent buffer, and the place in it where the next character goes. What has no room is not written, and the place then is the
 // buffer's end. Rests on nothing.
-ghost use Rattle.writing.specs.Written.{glyph, decimal_of, pair_of, pairs_of};
 ghost use Rattle.std.specs.Prelude.{◌≡◌, [], ◌∷◌, ◌%◌};
-ghost use Rattle.writing.specs.Pages.{with_text};
+ghost use Rattle.writing.specs.Written.{glyph, decimal_of, pair_of, pairs_of};
+ghost use Rattle.writing.specs.Pages.{with_text, glyph_in, digits_of};
 
 // A lent buffer, and the place in it where the next character goes.
 #[derive(Drop)]
@@ -11,19 +11,32 @@ pub struct Page<'a> {
     pub at: usize,
 }
 
+// Whether the hexadecimal digits above 9 are `a` to `f` or `A` to `F`.
+#[derive(Clone, Copy)]
+pub enum Case {
+    Lower,
+    Upper,
+}
+
 // The character of a hexadecimal digit; of a number above 15, that of its remainder.
-fn digit_char(d: u8) -> u8
-    ensures { result ≡ glyph (d % 16) }
+fn digit_char(case: Case, d: u8) -> u8
+    ensures { result ≡ glyph_in case (d % 16) }
 {
     let low = d % 16;
-    if low < 10 { 48 + low } else { 87 + low }
+    if low < 10 {
+        return b'0' + low;
+    }
+    match case {
+        Case::Lower => b'a' - 10 + low,
+        Case::Upper => b'A' - 10 + low,
+    }
 }
 
 // The last decimal digit of a number.
 fn last_digit(n: u64) -> u8
     ensures { result ≡ glyph (n % 10) }
 {
-    48 + (n % 10) as u8
+    b'0' + (n % 10) as u8
 }
 
 impl Page<'_> {
@@ -46,7 +59,7 @@ impl Page<'_> {
         }
     }
 
-    // A number in decimal, with no zeros before it.
+    // A number in decimal, with no zeros before it. Kept: not by write!, whose contract says what is written only where all of it has room.
     pub fn put_decimal(&mut self, n: u64)
         ensures { self.new ≡ with_text self.old (decimal_of n) }
     {
@@ -57,11 +70,18 @@ impl Page<'_> {
     }
 
     // A byte as two hexadecimal digits.
+    pub fn put_digits(&mut self, case: Case, b: u8)
+        ensures { self.new ≡ with_text self.old (digits_of case b) }
+    {
+        self.put_byte(digit_char(case, b / 16));
+        self.put_byte(digit_char(case, b));
+    }
+
+    // The same, in small letters.
     pub fn put_pair(&mut self, b: u8)
         ensures { self.new ≡ with_text self.old (pair_of b) }
     {
-        self.put_byte(digit_char(b / 16));
-        self.put_byte(digit_char(b));
+        self.put_digits(Case::Lower, b);
     }
 
     // Bytes, two hexadecimal digits each.

@@ -1,4 +1,4 @@
-use Rattle.std.proofs.Common.{suc, ◌+◌, ◌-◌, ◌≡◌, sym, ap, ◌∙◌, arith, rules}
+use Rattle.std.proofs.Common.{suc, ◌+◌, ◌-◌, ◌≡◌, sym, ap, ◌∙◌, arith}
 use Rattle.arp.specs.Controller.{started}
 use Rattle.lists.specs.EachLaws.{all_bytes}
 use Rattle.bus.specs.TurnLaws.{sent_matches}
@@ -10,9 +10,6 @@ loop-init c = running_first c.args.occupied c.args.last c.start-st.result c.args
 
 pub returns-then-not-is_sent : goal.returns-then-not-is_sent
 returns-then-not-is_sent c = let l = c.loop in running_still c.args.occupied c.args.last c.args.records.now c.start-st.result (c.start-st.ensures ∙ ap started c.new.ensures) (300 - l.counter) l.st l.records (sym c.is_sent.ensures ∙ c.if-not-is_sent.true) l.invariant
-
-pub send-n-requires : goal.send-n-requires
-send-n-requires c = (c.loop.invariant.fit, c.loop.invariant.going.reaches, search rules)
 
 pub loop-preserved : goal.loop-preserved
 loop-preserved c =

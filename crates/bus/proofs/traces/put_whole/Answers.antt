@@ -1,4 +1,3 @@
-use Rattle.std.proofs.Common.{sym}
 use Rattle.bus.proofs.Laws.{sent_front}
 use Rattle.bus.proofs.traces.put_whole.Goals as goal
 

@@ -4,4 +4,4 @@ use Rattle.encode.proofs.trace_pec.write_pec.Goals as goal
 pub returns : goal.returns
 returns c =
     let k = c.args in
-    write_pec k.sh k.first.0 k.command k.sent.now _ _ _ c.add_byte.ensures c.add_byte_if.ensures c.add_part.ensures
+    write_pec k.sh k.first.0 k.command k.sent.now _ _ _ c.add_byte.ensures c.add_byte_if-c.ensures c.add_part.ensures

@@ -1,4 +1,4 @@
-use Rattle.std.proofs.Common.{◌≡◌, ◌++◌, drop}
+use Rattle.std.proofs.Common.{◌≡◌, drop}
 use Rattle.module.specs.Obeys.{heard_all}
 use Rattle.module_answers.specs.Hearings.{acks_text}
 use Rattle.writing.specs.Pages.{with_text}

@@ -1,49 +1,56 @@
-use Rattle.std.proofs.Common.{ℕ, suc, ◌+◌, ◌-◌, ◌<◌, ◌≡◌, refl, sym, ap, ◌∙◌, true, false, add-one, arith}
+use Rattle.std.proofs.Common.{ℕ, suc, ◌+◌, ◌-◌, ◌<◌, ◌≤◌, ◌≡◌, refl, sym, ap, ◌∙◌, Bool, true, false, ◌&&◌, Option, Some, None, eqb, add-one, arith, le-ltb}
+use Rattle.lists.specs.Choice.{and}
+use Rattle.pool.specs.Pools.{member}
+use Rattle.wire.specs.declared.address.Address.{Address}
+use Rattle.udid.specs.Udids.{same_udid}
 use Rattle.udid.specs.declared.Udid.{Udid}
-use Rattle.slots.specs.Finding.{bound_to, find_from}
-use Rattle.slots.specs.Slots.{held_at}
-use Rattle.slots.proofs.FindingLaws.{bound_by_halves}
+use Rattle.slots.specs.Finding.{bound_to, find_from, address_found}
+use Rattle.slots.specs.Slots.{kept_udid, held_at}
+use Rattle.slots.proofs.FindingLaws.{bound_by_udid}
 use Rattle.slots.specs.declared.Slots.{Slots}
 use Rattle.slots.proofs.Slots.find.Goals as goal
+use Rattle.slots.proofs.Slots.find.Goals.{else-eq-via-then-eq+else-has, else-eq-via-else-eq}
 
-here : (u : Udid) (s : Slots) (a : ℕ) → a < 128 → bound_to u (held_at s a) ≡ true → find_from u s (128 - a) a ≡ a
+both_and : (x y : Bool) → x && y ≡ and x y
+both_and true y = refl
+both_and false y = refl
+
+same_is : (v u : Udid) → eqb v.high u.high && eqb v.low u.low ≡ same_udid v u
+same_is v u = both_and (eqb v.high u.high) (eqb v.low u.low)
+
+and_false : (x : Bool) → and x false ≡ false
+and_false true = refl
+and_false false = refl
+
+here : (u : Udid) (s : Slots) (a : ℕ) → a < 128 → bound_to u (held_at s a) ≡ true → ◌≡◌ {A = Option Address} (address_found (find_from u s (128 - a) a)) (Some (record { 0 = a }))
 unfolding find_from
-here u s a h e = let n : 128 - a ≡ suc (127 - a) = omega arith in rw n (simp e)
+here u s a h e = let n : 128 - a ≡ suc (127 - a) = omega arith in rw n (simp (e, le-ltb 127 a (omega arith)))
 
 onward : (u : Udid) (s : Slots) (a : ℕ) → a < 128 → bound_to u (held_at s a) ≡ false → find_from u s (128 - a) a ≡ find_from u s (128 - (a + 1)) (a + 1)
 unfolding find_from
 onward u s a h e = let n : 128 - a ≡ suc (128 - (a + 1)) = omega arith in rw (n, add-one a) (simp e)
 
-pub loop-n-init : goal.loop-n-init
-loop-n-init c = (omega arith, refl)
+nowhere : (u : Udid) (s : Slots) (a : ℕ) → 128 ≤ a → ◌≡◌ {A = Option Address} (address_found (find_from u s (128 - a) a)) None
+unfolding find_from
+nowhere u s a h = let e : 128 - a ≡ 0 = omega arith in rw e
 
-pub overflow_cast-at : goal.overflow_cast-at
-overflow_cast-at c = omega arith
-
-pub offset_bounds-self-at : goal.offset_bounds-self-at
-offset_bounds-self-at c = omega arith
-
-pub bounds-self-at : goal.bounds-self-at
-bounds-self-at c = omega arith
-
-pub offset_bounds-self-at-in-loop-n : goal.offset_bounds-self-at-in-loop-n
-offset_bounds-self-at-in-loop-n c = omega arith
-
-pub bounds-self-at-in-loop-n : goal.bounds-self-at-in-loop-n
-bounds-self-at-in-loop-n c = omega arith
-
-pub returns-then-is_bound_to : goal.returns-then-is_bound_to
-returns-then-is_bound_to c = let l = c.loop-n in let s = c.args in sym (l.invariant.1 ∙ here s.u s.self l.n (omega arith) (bound_by_halves s.self l.n s.u ∙ sym c.is_bound_to.ensures ∙ c.if-is_bound_to.true))
-
-pub overflow_add-n : goal.overflow_add-n
-overflow_add-n c = omega arith
-
-pub loop-n-smaller : goal.loop-n-smaller
-loop-n-smaller c = omega arith
+pub returns-then-has : goal.returns-then-has
+returns-then-has c =
+    let l = c.loop-n in
+    let s = c.args in
+    let e : same_udid (kept_udid s.self l.n) s.u ≡ true = sym (same_is (kept_udid s.self l.n) s.u) ∙ sym c.eq.ensures ∙ c.if-eq.true in
+    let m : member s.self.bound l.n ≡ true = sym c.has.ensures ∙ c.if-has.true in
+    sym (ap address_found l.invariant ∙ here s.u s.self l.n c.loop-n-test.true (bound_by_udid s.self l.n s.u ∙ rw (m, e)))
 
 pub loop-n-preserved : goal.loop-n-preserved
-loop-n-preserved c = let l = c.loop-n in let s = c.args in (omega arith, l.invariant.1 ∙ onward s.u s.self l.n (omega arith) (bound_by_halves s.self l.n s.u ∙ sym c.is_bound_to.ensures ∙ c.if-is_bound_to.false))
+loop-n-preserved c =
+    let l = c.loop-n in
+    let s = c.args in
+    let other : bound_to s.u (held_at s.self l.n) ≡ false = bound_by_udid s.self l.n s.u ∙ elim c.else-eq.branch [
+        else-eq-via-then-eq+else-has w ↦ (let m : member s.self.bound l.n ≡ false = sym w.has.ensures ∙ w.if-has.false in rw m)
+      | else-eq-via-else-eq w ↦ (let e : same_udid (kept_udid s.self l.n) s.u ≡ false = sym (same_is (kept_udid s.self l.n) s.u) ∙ sym c.eq.ensures ∙ w.if-eq.false in rw e (and_false (member s.self.bound l.n)))
+    ] in
+    l.invariant ∙ onward s.u s.self l.n c.loop-n-test.true other
 
 pub returns : goal.returns
-unfolding find_from
-returns c = let l = c.loop-n in let s = c.args in let e : 128 - l.n ≡ 0 = omega arith in sym (l.invariant.1 ∙ ap (λ (n : ℕ). find_from s.u s.self n l.n) e)
+returns c = let l = c.loop-n in let s = c.args in sym (ap address_found l.invariant ∙ nowhere s.u s.self l.n c.loop-n-test.false)

@@ -1,9 +1,6 @@
-use Rattle.std.proofs.Common.{◌-◌, ◌≤◌, ◌≡◌}
+use Rattle.std.proofs.Common.{◌-◌, ◌≡◌}
 use Rattle.slots.specs.Finding.{find_from}
 use Rattle.slots.proofs.Slots.find.Given as goal
 
 abbrev pub invariant-loop-n : goal.invariant-loop-n
-invariant-loop-n l = (l.n ≤ 128) × (find_from l.u l.self 128 0 ≡ find_from l.u l.self (128 - l.n) l.n)
-
-abbrev pub decreases-loop-n : goal.decreases-loop-n
-decreases-loop-n l = 128 - l.n
+invariant-loop-n l = find_from l.u l.self 128 0 ≡ find_from l.u l.self (128 - l.n) l.n

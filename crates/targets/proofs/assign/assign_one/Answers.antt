@@ -1,4 +1,4 @@
-use Rattle.std.proofs.Common.{ℕ, ◌+◌, ◌*◌, ◌%◌, ◌≡◌, sym, ◌∙◌, arith, true, false, List, set, length-set}
+use Rattle.std.proofs.Common.{ℕ, ◌+◌, ◌*◌, ◌%◌, ◌≡◌, sym, ◌∙◌, true, false, List, set}
 use Rattle.udid.specs.Udids.{same_udid}
 use Rattle.udid.specs.declared.Udid.{Udid}
 use Rattle.targets.specs.Records.{udid_of, target_at, put_target}
@@ -14,9 +14,6 @@ taken_by i u a s b e f = rw (e, f)
 left_by : (i : ℕ) (u : Udid) (a : ℕ) (s : List ℕ) → same_udid (udid_of s i) u ≡ false → put_target i (assigned_to u a (target_at s i)) s ≡ s
 unfolding target_at
 left_by i u a s e = rw e (put_self i s)
-
-pub bounds-records-i-then-stands_at : goal.bounds-records-i-then-stands_at
-bounds-records-i-then-stands_at c = simp length-set (omega arith)
 
 pub returns-then-stands_at : goal.returns-then-stands_at
 returns-then-stands_at c = sym (taken_by c.args.i c.args.u c.args.a.0 c.args.records.now c.for_read-w.result.0 (sym c.stands_at.ensures ∙ c.if-stands_at.true) c.for_read-w.ensures)

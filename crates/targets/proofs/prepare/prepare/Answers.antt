@@ -1,5 +1,4 @@
-use Rattle.std.proofs.Common.{ℕ, suc, ◌+◌, ◌*◌, ◌-◌, ◌/◌, ◌<◌, ◌≡◌, refl, sym, ap, ◌∙◌, arith, List, add-one, length, set, length-set}
-use native.Mathlib.Nat.{sub-zero}
+use Rattle.std.proofs.Common.{ℕ, suc, ◌+◌, ◌*◌, ◌-◌, ◌/◌, ◌<◌, ◌≡◌, ap, ◌∙◌, arith, List, add-one, length, set, length-set}
 use Rattle.targets.specs.Records.{targets_from, put_from}
 use Rattle.targets.specs.Target.{prepared, cleared}
 use Rattle.targets.specs.RecordLaws.{change_one_more, put_prepared}
@@ -12,14 +11,5 @@ onward s n i h =
     rw (m, add-one i)
     (change_one_more prepared (n - suc i) i s ∙ ap (λ (x : List ℕ). put_from (cleared (targets_from x (n - suc i) (suc i))) (suc i) x) (put_prepared i s))
 
-pub loop-i-init : goal.loop-i-init
-loop-i-init c = (refl, simp sub-zero)
-
 pub loop-i-preserved : goal.loop-i-preserved
 loop-i-preserved c = (length-set c.loop-i.records _ _ ∙ c.loop-i.invariant.0, c.loop-i.invariant.1 ∙ onward c.loop-i.records (length c.args.records.now / 18) c.loop-i.i c.loop-i-test.true)
-
-pub shape_of-records : goal.shape_of-records
-shape_of-records c = c.loop-i.invariant.0
-
-pub returns : goal.returns
-returns c = let z : (length c.args.records.now / 18) - c.loop-i.i ≡ 0 = omega arith in sym (c.loop-i.invariant.1 ∙ ap (λ (x : ℕ). put_from (cleared (targets_from c.loop-i.records x c.loop-i.i)) c.loop-i.i c.loop-i.records) z)

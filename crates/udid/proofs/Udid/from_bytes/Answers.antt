@@ -1,6 +1,6 @@
 use Rattle.udid.specs.Bytes.{udid_at}
 use Rattle.udid.proofs.Udid.from_bytes.Goals as goal
 
-pub returns-then-at-s : goal.returns-then-at-s
+pub returns : goal.returns
 unfolding udid_at
-returns-then-at-s c = rw (c.whole.ensures, c.whole-then-at-s.ensures)
+returns c = rw (c.whole.ensures, c.whole-2.ensures)

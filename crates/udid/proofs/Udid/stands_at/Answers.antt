@@ -1,17 +1,22 @@
-use Rattle.std.proofs.Common.{ℕ, ◌+◌, ◌≡◌, sym, ap, ◌∙◌, false, List}
-use Rattle.udid.specs.Bytes.{number, bytes_from, udid_at}
-use Rattle.udid.specs.Udids.{same_udid}
-use Rattle.udid.proofs.UdidLaws.{other_udid}
-use Rattle.udid.specs.declared.Udid.{Udid}
+use Rattle.std.proofs.Common.{◌≡◌, refl, sym, ◌∙◌, Bool, true, false, eq-eqb, ne_eqb}
+use Rattle.lists.specs.Choice.{and}
+use Rattle.udid.specs.Bytes.{udid_at}
 use Rattle.udid.proofs.Udid.stands_at.Goals as goal
 
--- the low halves differ
-other-low : (s : List ℕ) (i r : ℕ) (u : Udid) → r ≡ number (bytes_from s (i + 8) 8) → (r ≡ u.low → ⊥) → same_udid (udid_at s i) u ≡ false
-unfolding udid_at
-other-low s i r u e h = other_udid (udid_at s i) u (λ q. h (e ∙ ap (λ (v : Udid). v.low) q))
+with_true : (b : Bool) → b ≡ and b true
+with_true true = refl
+with_true false = refl
+
+with_false : (b : Bool) → false ≡ and b false
+with_false true = refl
+with_false false = refl
 
 pub returns-then-whole-self : goal.returns-then-whole-self
-returns-then-whole-self c = sym (other-low c.args.s.now c.args.at _ c.args.self c.whole.ensures c.if-whole-self.true)
+unfolding udid_at
+returns-then-whole-self c =
+    rw (c.whole-then-whole-self.ensures, eq-eqb _ _ (sym c.whole.ensures ∙ c.if-whole-self.true)) (with_true _)
 
-pub returns : goal.returns
-returns c = c.is_same.ensures ∙ ap (λ (u : Udid). same_udid u c.args.self) c.from_bytes-own.ensures
+pub returns-else-whole-self : goal.returns-else-whole-self
+unfolding udid_at
+returns-else-whole-self c =
+    rw (ne_eqb _ _ c.if-whole-self.false, ← c.whole.ensures, ne_eqb _ _ c.if-whole-self.false) (with_false _)

@@ -6,5 +6,6 @@ use Rattle.writing.proofs.page.Page.+put_decimal.Goals as goal
 
 pub returns : goal.returns
 returns t c = elim c.if-n-ge10.branch [
-    then-n-ge10 w ↦ grind (arith, pages, decimal_more c.args.n w.if-n-ge10.true)
-  | else-n-ge10 w ↦ grind (arith, pages, decimal_digit c.args.n w.if-n-ge10.false) ]
+  | then-n-ge10 w ↦ grind (arith, pages, decimal_more c.args.n w.if-n-ge10.true)
+  | else-n-ge10 w ↦ grind (arith, pages, decimal_digit c.args.n w.if-n-ge10.false)
+]

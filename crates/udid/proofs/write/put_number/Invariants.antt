@@ -1,9 +1,0 @@
-use Rattle.std.proofs.Common.{◌+◌, ◌-◌, ◌/◌, ◌^◌, ◌≤◌, ◌≡◌, ◌++◌, take, drop}
-use Rattle.udid.specs.Bytes.{bytes_of}
-use Rattle.udid.proofs.write.put_number.Given as goal
-
-abbrev pub invariant-loop-k : goal.invariant-loop-k
-invariant-loop-k l = (l.k ≤ 8) × (l.rest ≡ l.n / 256 ^ (8 - l.k)) × (l.out ≡ take (l.at + l.k) l.initial.out ++ (bytes_of (8 - l.k) l.n ++ drop (l.at + 8) l.initial.out))
-
-abbrev pub decreases-loop-k : goal.decreases-loop-k
-decreases-loop-k l = l.k
