@@ -8,7 +8,7 @@ use pool::Pool;
 use slots::Slots;
 
 // The last pick of a controller that has picked no address yet.
-// Kept: a number, and no Option. C gives the last pick and reads it back, 127 for none (hb_controller_new, last_pick).
+// Kept: a number, and no Option. C gives the last pick and reads it back, and 127 is none there (HB_NEVER_PICKED).
 pub const NEVER_PICKED: u8 = 127;
 
 // The last pick that a controller is made with. A number above 127 is no address, and counts as never picked.

@@ -51,6 +51,7 @@ pub enum End {
 }
 
 // What is handed out.
+// Kept: no Result. An end is no failure: every pass that succeeds comes to one.
 #[derive(Clone, Copy)]
 pub enum Handed {
     // This command is to be sent.

@@ -8,17 +8,20 @@ use trace::shape::Part;
 use wire::symbol::ACK;
 
 // Each byte with its ACK.
+// Kept: a loop by index. With `for b in s` a call takes some 30 instructions more, and a Quick misses its bar of bench/codec.sh.
 fn put_acked(out: &mut [u16], at: usize, s: &[u8]) -> usize
     requires { at + 2 * length s.now ≤ length out.old }
     ensures { (result ≡ at + 2 * length s.now) × (out.new ≡ onto (take at out.old ++ acked s.now) out.old) }
 {
-    let mut next = at;
-    for b in s {
-        out[next] = u16::from(*b);
-        out[next + 1] = ACK;
-        next += 2;
+    let mut i: usize = 0;
+    let mut j: usize = at;
+    while i < s.len() {
+        out[j] = s[i] as u16;
+        out[j + 1] = ACK;
+        j += 2;
+        i += 1;
     }
-    next
+    j
 }
 
 // One byte with its ACK, where there is one.

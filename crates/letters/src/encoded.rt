@@ -10,6 +10,7 @@ use text::word::part;
 use writing::page::Page;
 
 // A trace.
+// Kept: a twin of put_trace in codec_answers. They differ in the call between, and a trait for it is longer than both.
 fn put_trace(page: &mut Page, s: &[u16])
     ensures { page.new ≡ with_text page.old (trace_letters s.now) }
 {

@@ -24,6 +24,7 @@ pub(crate) fn turned(n: u64, k: u8) -> u64
 }
 
 // The first place from k on at which n has a zero, or 64.
+// Kept: 64 for none. It is what trailing_zeros answers, and the definition FirstZero says it so.
 pub(crate) fn zero_from(n: u64, k: u8) -> u8
     requires { k < 64 }
     ensures { FirstZero n k result }

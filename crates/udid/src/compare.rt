@@ -5,6 +5,8 @@ ghost use Rattle.udid.specs.Udids.{same_udid, is_below};
 
 use super::Udid;
 
+// Kept: the two names. Their clauses say of the derived == and < what same_udid and is_below say, which C relies on
+// (hb_udid_is_same, hb_udid_is_below).
 impl Udid {
     pub fn is_same(self, other: Udid) -> bool
         ensures { result ≡ same_udid self other }
