@@ -1,3 +1,4 @@
 pub mod Refusals
+pub mod DecodingLaws
 pub mod Decodings
 pub mod CodecLines

@@ -1,6 +1,6 @@
 -- Which characters are digits, the value with one digit more, the cap at 65,536, and the case of each answer.
 use Rattle.std.specs.Prelude.{ℕ, zero, suc, ◌+◌, ◌-◌, ◌*◌, ◌^◌, ◌<◌, ◌≤◌, ◌≡◌, refl, Some, None, Ok, Err, Bool, true, false, List, [], ◌∷◌, ltb, length, take, drop, get_or}
-use Rattle.std.proofs.Common.{sym, ap, ◌∙◌, mul-suc, ◌&&◌, pow-add, pow_mono, arith, drop_of_length-le, take_all, length-drop, eqb, min, drop-cons, lt-ltb, le-ltb, ltb-true, ltb-false, le-leb, eq-eqb, ne_eqb}
+use Rattle.std.proofs.Common.{sym, ap, ◌∙◌, add-zero, mul-suc, ◌&&◌, pow-add, pow_mono, arith, drop_of_length-le, take_all, length-drop, eqb, min, drop-cons, lt-ltb, le-ltb, ltb-true, ltb-false, le-leb, eq-eqb, ne_eqb}
 use Rattle.std.proofs.Math.Numerals.{add-one}
 use Rattle.std.proofs.Math.Arith.{digits_lt}
 use Rattle.std.proofs.lemmas.Bool.{lt-leb}
@@ -316,6 +316,28 @@ hex_bound v d k h g =
 
 pub hex_fits : (v d k : ℕ) → k < 16 → v < 2 ^ (4 * k) → d < 16 → v * 16 + d < 2 ^ 64
 hex_fits v d k l h g = let m = pow_mono {i = 4 * (k + 1)} {j = 64} (omega arith) in omega (arith, hex_bound v d k h g)
+
+-- a turn, and the end
+pub hex_on : (s : List ℕ) (n v at k : ℕ) → k < n → at + k < length s
+    → value_from 16 v (take (n - k) (drop (at + k) s)) ≡ value_from 16 (v * 16 + digit_of (get_or s (at + k) 0)) (take (n - (k + 1)) (drop (at + (k + 1)) s))
+unfolding value_from
+hex_on s n v at k h g =
+    let e : n - k ≡ suc (n - (k + 1)) = omega arith in
+    let f : suc (at + k) ≡ at + (k + 1) = omega arith in
+    rw (e, drop-cons s (at + k) 0 g, f)
+
+pub hex_over : (s : List ℕ) (n v at k : ℕ) → n ≤ k → value_from 16 v (take (n - k) (drop (at + k) s)) ≡ v
+unfolding value_from
+hex_over s n v at k h = let e : n - k ≡ 0 = omega arith in rw e
+
+pub hex_start : (s : List ℕ) (n at : ℕ) → value_from 16 0 (take n (drop at s)) ≡ value_from 16 0 (take (n - 0) (drop (at + 0) s))
+hex_start s n at =
+    let e : n ≡ n - 0 = omega arith in
+    ap (λ (m : ℕ). value_from 16 0 (take m (drop at s))) e ∙ ap (λ (x : ℕ). value_from 16 0 (take (n - 0) (drop x s))) (sym (add-zero at))
+
+-- four bits a digit
+pub hex_below : (v n k : ℕ) → v < 2 ^ (4 * k) → k ≤ n → v < 2 ^ (4 * n)
+hex_below v n k h g = let m = pow_mono {i = 4 * k} {j = 4 * n} (omega arith) in omega arith
 
 -- ---- a quarter
 

@@ -1,9 +1,10 @@
 -- Different numbers have different words. Which numbers have words.
-use Rattle.std.specs.Prelude.{ℕ, zero, suc, ◌≤◌, ◌<◌, ◌≡◌, refl, Bool, true, false, List, [], ◌∷◌, length, get_or}
-use Rattle.std.proofs.Common.{sym, ap, ◌∙◌, arith, le-ltb, eq-eqb}
+use Rattle.std.specs.Prelude.{ℕ, zero, suc, ◌≤◌, ◌<◌, ◌≡◌, refl, Bool, true, false, List, [], ◌∷◌, ◌++◌, ltb, length, get_or}
+use Rattle.std.proofs.Common.{sym, ap, ◌∙◌, arith, lt-ltb, le-ltb, eq-eqb}
 use Rattle.std.proofs.Math.ListN.{get_or-eq_default}
 use Rattle.lists.specs.Choice.{and, not}
 use Rattle.lists.specs.ChoiceLaws.{both_true, false_not_true}
+use Rattle.text.specs.Chars.{chars}
 use Rattle.text.specs.Words.{same_text}
 use Rattle.meanings.specs.Meanings.{meanings, meaning, has_words, noted}
 
@@ -50,14 +51,32 @@ words_differ m n h g e = same_place meanings m n meanings_differ (omega arith) (
 
 -- ---- which numbers have words
 
+-- a number that is none of those up to k is one of those after it
+pub up : (k n : ℕ) → k ≤ n → (n ≡ k → ⊥) → suc k ≤ n
+up k n h g = omega arith
+
 pub above_none : (n : ℕ) → 22 ≤ n → meaning n ≡ []
 unfolding meaning meanings
 above_none n h = get_or-eq_default meanings [] h
+
+-- neither 0 nor any number above 21, which is all that differs from 1 to 21
+pub others_none : (n : ℕ) → (1 ≤ n → 22 ≤ n) → meaning n ≡ []
+unfolding meaning meanings
+others_none zero h = refl
+others_none (suc n) h = above_none (suc n) (h (omega arith))
 
 pub none_below : (n : ℕ) → n < 1 → has_words n ≡ false
 unfolding has_words
 none_below n h = rw (le-ltb 0 n (omega arith))
 
+pub some_from : (n : ℕ) → 1 ≤ n → ltb n 22 ≡ has_words n
+unfolding has_words meanings
+some_from n h = rw (lt-ltb 0 n (omega arith))
+
 pub words_none : (n : ℕ) → has_words n ≡ false → noted n ≡ []
 unfolding noted
 words_none n e = rw e
+
+pub words_after_colon : (n : ℕ) → has_words n ≡ true → chars ": " ++ meaning n ≡ noted n
+unfolding noted
+words_after_colon n e = rw e

@@ -1,6 +1,6 @@
 -- An answer with words: the words are put in at the end of its first line, and all else stays as it is.
 use Prim.Native.Nat.{ℕ, suc, ◌+◌, ◌-◌, ◌≤◌, zero-le}
-use Rattle.std.specs.Prelude.{◌≡◌, refl, Bool, true, false, List, [], ◌∷◌, ◌++◌, eqb, get_or}
+use Rattle.std.specs.Prelude.{◌≡◌, refl, Bool, true, false, List, [], ◌∷◌, ◌++◌, eqb, get_or, Result}
 use Rattle.std.proofs.Math.Path.{sym, ap}
 use Rattle.std.proofs.Common.{◌∙◌, append-nil, arith, take-append-drop, length-append, eqb-true}
 use Rattle.std.proofs.Math.ListN.{length, take, drop, length-drop}
@@ -10,10 +10,12 @@ use Rattle.lists.specs.Choice.{pick}
 use Rattle.text.specs.Chars.{chars}
 use Rattle.text.specs.Words.{feed, before, start_from, word_from, part_of}
 use Rattle.text.specs.WordLaws.{part_in}
+use Rattle.text.specs.declared.word.LineWord.{LineWord}
 use Rattle.digits.specs.Numbers.{digit_of, are_digits, value_from, digits_of, is_hex, number_of}
+use Rattle.digits.specs.declared.number.NumberError.{NumberError}
 use Rattle.meanings.specs.Meanings.{meanings, meaning, has_words, noted}
 use Rattle.meanings.specs.MeaningLaws.{words_none}
-use Rattle.meanings.specs.Worded.{first_line, rest, number_in, number, headed, worded}
+use Rattle.meanings.specs.Worded.{first_line, rest, or_zero, number_in, number, headed, worded}
 
 -- ---- what the functions read
 
@@ -54,6 +56,12 @@ module _ (answer : List ℕ) (k : ℕ) (e : k ≡ 0 + before feed (drop 0 answer
       part_in answer k (length answer) (omega (arith, end_is, before_within feed answer)) (omega arith)
       ∙ take_all (length answer - k) (drop k answer) (omega (arith, length-drop k answer))
       ∙ ap (λ (n : ℕ). drop n answer) end_is
+
+-- the number of the first word
+pub number_is : (line : List ℕ) (w : LineWord) (p : List ℕ) (n : Result ℕ NumberError) (v : ℕ) → w ≡ word_from line 0 → p ≡ part_of line w.from w.to → n ≡ number_of p
+    → v ≡ or_zero n → v ≡ number_in line
+unfolding number_in
+number_is line w p n v e f g h = h ∙ ap or_zero (g ∙ ap number_of (f ∙ ap (λ (x : LineWord). part_of line x.from x.to) e))
 
 -- ---- what is changed, and what is not
 

@@ -13,6 +13,19 @@ be_bytes n =
     let e : n % 256 ≡ n / 1 % 256 = omega arith in
     ap (λ (b : ℕ). n / 256 ^ 7 % 256 ∷ n / 256 ^ 6 % 256 ∷ n / 256 ^ 5 % 256 ∷ n / 256 ^ 4 % 256 ∷ n / 256 ^ 3 % 256 ∷ n / 256 ^ 2 % 256 ∷ n / 256 ^ 1 % 256 ∷ b ∷ []) e
 
+-- byte k of eight, highest first, as a quotient
+pub half_at : (n k : ℕ) → k < 8 → get_or (bytes_of 8 n) k 0 ≡ n / 2 ^ (56 - 8 * k) % 256
+unfolding bytes_of
+half_at n zero h = refl
+half_at n (suc zero) h = refl
+half_at n (suc (suc zero)) h = refl
+half_at n (suc (suc (suc zero))) h = refl
+half_at n (suc (suc (suc (suc zero)))) h = refl
+half_at n (suc (suc (suc (suc (suc zero))))) h = refl
+half_at n (suc (suc (suc (suc (suc (suc zero)))))) h = refl
+half_at n (suc (suc (suc (suc (suc (suc (suc zero))))))) h = refl
+half_at n (suc (suc (suc (suc (suc (suc (suc (suc k)))))))) h = absurd (omega arith)
+
 -- the first eight are those of the high half
 pub high_at : (u : Udid) (k : ℕ) → k < 8 → get_or (udid_bytes u) k 0 ≡ get_or (bytes_of 8 u.high) k 0
 unfolding udid_bytes bytes_of

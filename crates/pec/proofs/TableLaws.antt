@@ -1,13 +1,15 @@
--- The rule of the table, at each of its entries by one test over the whole of it; that there is one such table only; and that a byte more
--- by such a table is the packet error code's.
+-- The rule of the table, at each of its entries by one test over the whole of it; that there is one such table only; and that a byte more,
+-- and bytes more, by such a table are the packet error code's.
 use Rattle.std.specs.Prelude.{◌≡◌, true, ◌↔◌, ℕ, ◌+◌, ◌*◌, ◌≤◌, ◌<◌, length, drop, get_or}
 use Rattle.std.proofs.Math.Path.{refl, ap}
 use Rattle.std.proofs.Common.{sym, ◌∙◌, arith, add-one, drop_of_length-le, drop-cons, ext_get_or, eqb-true}
 use mathlib.Core.List.{List, [], ◌∷◌}
 use Rattle.std.specs.Int.Bits.{bit_xor}
+use Rattle.std.specs.List.{fold}
 use Rattle.std.proofs.lemmas.Nat.{xor_lt}
 use Rattle.lists.specs.All.{all_placed}
 use Rattle.lists.specs.AllLaws.{at_place}
+use Rattle.lists.specs.Each.{Bytes}
 use Rattle.pec.specs.Pec.{pec_step, pec_from}
 use Rattle.pec.proofs.PecLaws.{step_byte}
 use Rattle.pec.specs.PecDivision.{times_g}
@@ -40,6 +42,13 @@ module _ (t : List ℕ) (r : Remainders t) where
   -- the code of one byte more is the entry at the code so far xor the byte
   pub step_by_lem : (c b : ℕ) → c < 256 → b < 256 → get_or t (bit_xor c b) 0 ≡ pec_step c b
   step_by_lem c b h g = entry_is_step (bit_xor c b) (xor_lt 8 c b h g) ∙ step_alone c b
+
+  -- the code of more bytes, by the entries one after the other
+  pub from_by_lem : (c : ℕ) (bs : List ℕ) → c < 256 → Bytes bs → fold (λ (z b : ℕ). get_or t (bit_xor z b) 0) c bs ≡ pec_from c bs
+  unfolding pec_from
+  from_by_lem c [] h g = refl
+  from_by_lem c (b ∷ bs) h g =
+      ap (λ (z : ℕ). fold (λ (y x : ℕ). get_or t (bit_xor y x) 0) z bs) (step_by_lem c b h g.0) ∙ from_by_lem (pec_step c b) bs (step_byte c b h g.0) g.1
 
 -- there is one table only
 pub one_table : (s t : List ℕ) → length s ≡ 256 → length t ≡ 256 → Remainders s → Remainders t → s ≡ t

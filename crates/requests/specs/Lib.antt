@@ -2,6 +2,7 @@ pub mod Clear
 pub mod Lists
 pub mod Requests
 pub mod ListLaws
+pub mod RequestLaws
 pub mod RunLaws
 pub mod GoneLaws
 pub mod ChoiceLaws

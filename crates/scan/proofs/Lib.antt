@@ -18,5 +18,6 @@ pub mod RoomyLaws
 pub mod RunLaws
 pub mod SizeLaws
 pub mod SwapLaws
+pub mod TestLaws
 pub mod WrongCasesLaws
 pub mod WrongLaws

@@ -23,8 +23,8 @@ use Rattle.scan.specs.Run.{run}
 use Rattle.scan.specs.Stopped.{Stopped}
 use Rattle.scan.proofs.RunLaws.{refused_not_reading, run_append, run_from, run_fits, run_stops}
 
-same_refusal : {e f : Refused} → ◌≡◌ {A = Result Decoder Refused} (Err e) (Err f) → e ≡ f
-same_refusal q = cc
+same_answer : {e f : Refused} → ◌≡◌ {A = Result Decoder Refused} (Err e) (Err f) → e ≡ f
+same_answer q = cc
 
 module _ (sh : Shape) (p : Bool) where
   pub refused_at_place : (tr : List ℕ) (d : Decoder) (i : ℕ) (e : Refused) → run sh p d i tr ≡ Err e → Stopped sh p d i tr e
@@ -47,7 +47,7 @@ module _ (sh : Shape) (p : Bool) where
           }
       go false h q ih =
           let j : i ≡ i + 0 = omega arith in
-          record { place = 0; state = d; inside = omega arith; leads = refl; stuck = h; is = sym (same_refusal q) ∙ ap (λ (n : ℕ). why sh d n x) j }
+          record { place = 0; state = d; inside = omega arith; leads = refl; stuck = h; is = sym (same_answer q) ∙ ap (λ (n : ℕ). why sh d n x) j }
 
   -- and the other way
   pub stops_at : (tr : List ℕ) (k : ℕ) (d e : Decoder) → k < length tr → run sh p d 0 (take k tr) ≡ Ok e → fits sh e (get_or tr k 0) ≡ false

@@ -1,7 +1,6 @@
 -- Wrong symbols in literals: traces without PEC, each with the number and the place that it gets.
 use Rattle.std.specs.Prelude.{◌≡◌, refl, false, List, [], ◌∷◌, ℕ}
 use Rattle.trace.specs.Shapes.{shape_of}
-use Rattle.misfit.specs.Kinds.{kind_of}
 use Rattle.scan.specs.Numbers.{decode_number}
 use Rattle.scan.specs.Run.{run, finish, decoded_by}
 

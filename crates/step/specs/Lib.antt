@@ -3,3 +3,4 @@ pub mod Next
 pub mod Fits
 pub mod Move
 pub mod MoveLaws
+pub mod FirstByteLaws

@@ -1,2 +1,5 @@
+pub mod RefusedLaws
 pub mod Taken
+pub mod TakenLaws
 pub mod Stepped
+pub mod SteppedLaws

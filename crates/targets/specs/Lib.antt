@@ -20,6 +20,7 @@ pub mod MembersLaws
 pub mod ReplyLaws
 pub mod IndexLaws
 pub mod Search
+pub mod SearchLaws
 pub mod WinnerLaws
 pub mod Admission
 pub mod AdmissionLaws

@@ -1,3 +1,4 @@
 pub mod ByteLaws
 pub mod UdidLaws
 pub mod WindowLaws
+pub mod WriteLaws

@@ -1,3 +1,4 @@
 pub mod Verbs
 pub mod Events
 pub mod Said
+pub mod SaidLaws

@@ -1,8 +1,8 @@
 -- Text written piece after piece is the text written at once; the digits of a number come one after the other, the last one last.
-use Rattle.std.specs.Prelude.{ℕ, zero, suc, ◌+◌, ◌/◌, ◌%◌, ◌<◌, ◌≤◌, ◌≡◌, refl, Bool, true, false, List, [], ◌∷◌, ◌++◌, ltb, length, set}
-use Rattle.std.proofs.Common.{sym, ap, subst, ◌∙◌, mod-eq_of_lt, arith, length-set, lt-ltb, le-ltb, ltb-true, ltb-false}
+use Rattle.std.specs.Prelude.{ℕ, zero, suc, ◌+◌, ◌/◌, ◌%◌, ◌<◌, ◌≤◌, ◌≡◌, refl, Bool, true, false, List, [], ◌∷◌, ◌++◌, ltb, length, drop, get_or, set}
+use Rattle.std.proofs.Common.{sym, ap, subst, ◌∙◌, append-nil, add-one, mod-eq_of_lt, arith, length-set, drop_of_length-le, drop-cons, lt-ltb, le-ltb, ltb-true, ltb-false}
 use Rattle.lists.specs.Choice.{pick}
-use Rattle.writing.specs.Written.{following, after, written, glyph, decimal, decimal_of, Appended, Came}
+use Rattle.writing.specs.Written.{following, after, written, glyph, decimal, decimal_of, pair_of, pairs_of, Appended, Came}
 
 -- ---- one piece after another
 
@@ -69,6 +69,12 @@ pub came_end : (l₀ : List ℕ) (at : ℕ) (all l : List ℕ) (to : ℕ) → Ca
 unfolding after written
 came_end l₀ at all l to c = record { place = sym c.place; text = sym c.text }
 
+-- one writer after another
+pub appended_on : {l l₁ l₂ xs ys : List ℕ} {at t₁ t₂ : ℕ} → Appended l at xs l₁ t₁ → Appended l₁ t₁ ys l₂ t₂ → Appended l at (xs ++ ys) l₂ t₂
+appended_on {l} {l₁} {l₂} {xs} {ys} {at} {t₁} {t₂} a b =
+    came_end l at (xs ++ ys) l₂ t₂
+    (came_on l at (xs ++ ys) l₁ t₁ ys [] l₂ t₂ (rw append-nil (came_on l at (xs ++ ys) l at xs ys l₁ t₁ (came_start l at (xs ++ ys)) a.place a.text)) b.place b.text)
+
 -- a turn of a loop: what is left begins with a piece, and that is written
 pub came_turn : {l₀ all l rest xs ys l' : List ℕ} {at to to' : ℕ} → Came l₀ at all l to rest → rest ≡ xs ++ ys → Appended l to xs l' to' → Came l₀ at all l' to' ys
 came_turn {l₀} {all} {l} {rest} {xs} {ys} {l'} {at} {to} {to'} c e a =
@@ -77,6 +83,37 @@ came_turn {l₀} {all} {l} {rest} {xs} {ys} {l'} {at} {to} {to'} c e a =
 -- nothing is left
 pub came_done : {l₀ all l rest : List ℕ} {at to : ℕ} → Came l₀ at all l to rest → rest ≡ [] → Appended l₀ at all l to
 came_done {l₀} {all} {l} {rest} {at} {to} c e = came_end l₀ at all l to (subst (λ (r : List ℕ). Came l₀ at all l to r) e c)
+
+-- a text that is another
+pub appended_as : {l xs ys l' : List ℕ} {at to : ℕ} → xs ≡ ys → Appended l at xs l' to → Appended l at ys l' to
+appended_as {l} {xs} {ys} {l'} {at} {to} e a = subst (λ (zs : List ℕ). Appended l at zs l' to) e a
+
+-- nothing is written
+pub appended_none : {l : List ℕ} {at : ℕ} → Appended l at [] l at
+appended_none {l} {at} = came_end l at [] l at (came_start l at [])
+
+-- ---- the pieces of a loop
+
+pub rest_on : (s : List ℕ) (i : ℕ) → i < length s → drop i s ≡ (get_or s i 0 ∷ []) ++ drop (i + 1) s
+rest_on s i h = rw (drop-cons s i 0 h, add-one i)
+
+pub pairs_on : (s : List ℕ) (i : ℕ) → i < length s → pairs_of (drop i s) ≡ pair_of (get_or s i 0) ++ pairs_of (drop (i + 1) s)
+unfolding pairs_of
+pairs_on s i h = rw (drop-cons s i 0 h, add-one i)
+
+pub pairs_over : (s : List ℕ) (i : ℕ) → length s ≤ i → pairs_of (drop i s) ≡ []
+unfolding pairs_of
+pairs_over s i h = rw (drop_of_length-le s h)
+
+-- two characters, one after the other
+pub put_two : (l l₁ l₂ : List ℕ) (at to₁ to₂ c d : ℕ) → to₁ ≡ following (length l) at → l₁ ≡ set l at c → to₂ ≡ following (length l₁) to₁ → l₂ ≡ set l₁ to₁ d
+    → Appended l at (c ∷ d ∷ []) l₂ to₂
+unfolding after written
+put_two l l₁ l₂ at to₁ to₂ c d e f g h =
+    let n : length l₁ ≡ length l = ap length f ∙ length-set l at c in record {
+      place = g ∙ ap (λ (m : ℕ). following m to₁) n ∙ ap (following (length l)) e;
+      text = h ∙ ap (λ (z : List ℕ). set z to₁ d) f ∙ ap (λ (p : ℕ). set (set l at c) p d) e;
+    }
 
 -- ---- decimal
 
@@ -99,3 +136,29 @@ decimal_digit n h = rw (lt-ltb n 10 h, mod-eq_of_lt h, lt-ltb n 10 h)
 pub decimal_more : (n : ℕ) → 10 ≤ n → decimal_of n ≡ decimal_of (n / 10) ++ (glyph (n % 10) ∷ [])
 unfolding decimal
 decimal_more n h = rw (le-ltb n 10 h) (ap (λ (z : List ℕ). z ++ (glyph (n % 10) ∷ [])) (fuel_enough n (suc (n / 10)) (n / 10) (omega arith) (omega arith)))
+
+-- a number of one digit, and one of more
+pub put_digit : (l l' : List ℕ) (at to n d : ℕ) → n < 10 → d ≡ glyph (n % 10) → to ≡ following (length l) at → l' ≡ set l at d
+    → Appended l at (decimal_of n) l' to
+put_digit l l' at to n d h e f g =
+    let m : decimal_of n ≡ d ∷ [] = decimal_digit n h ∙ ap (λ (x : ℕ). x ∷ []) (sym e) in record {
+      place = f ∙ sym (ap (after (length l) at) m ∙ after_one (length l) at d);
+      text = g ∙ sym (ap (written l at) m ∙ written_one l at d);
+    }
+
+pub put_digits : (l l₁ l₂ : List ℕ) (at to₁ to₂ n d : ℕ) → 10 ≤ n → d ≡ glyph (n % 10)
+    → Appended l at (decimal_of (n / 10)) l₁ to₁ → to₂ ≡ following (length l₁) to₁ → l₂ ≡ set l₁ to₁ d
+    → Appended l at (decimal_of n) l₂ to₂
+put_digits l l₁ l₂ at to₁ to₂ n d h e a p q =
+    let m : decimal_of (n / 10) ++ (d ∷ []) ≡ decimal_of n = sym (decimal_more n h ∙ ap (λ (x : ℕ). decimal_of (n / 10) ++ (x ∷ [])) (sym e)) in
+    appended_as m (appended_on a (record { place = p ∙ sym (after_one (length l₁) to₁ d); text = q ∙ sym (written_one l₁ to₁ d) }))
+
+-- the digits of a byte are below 16
+pub glyph_low : (d : ℕ) → d < 16 → glyph (d % 16) ≡ glyph d
+glyph_low d h = ap glyph (mod-eq_of_lt h)
+
+pub pair_high : (b : ℕ) → b < 256 → glyph (b / 16 % 16) ≡ glyph (b / 16)
+pair_high b h = glyph_low (b / 16) (omega arith)
+
+pub pair_low : (b : ℕ) → glyph (b % 16 % 16) ≡ glyph (b % 16)
+pair_low b = glyph_low (b % 16) (omega arith)
