@@ -1,12 +1,5 @@
 // A symbol as text, and symbols, each after a blank.
-#![tactic(
-    auto,
-    using(pieces::specs::PieceLaws::pieces),
-    unfolding(
-        crate::specs::Letters::sign_text,
-        crate::specs::Letters::letter_text
-    )
-)]
+#![tactic(auto, using(pieces::specs::PieceLaws::pieces), unfolding(crate::specs::Letters::sign_text, crate::specs::Letters::letter_text))]
 
 ghost use Rattle.std.specs.Prelude.{◌≡◌};
 ghost use Rattle.writing.specs.Pages.{with_text};

@@ -47,7 +47,7 @@ loop-n-preserved c =
     let l = c.loop-n in
     let s = c.args in
     let other : bound_to s.u (held_at s.self l.n) ≡ false = bound_by_udid s.self l.n s.u ∙ elim c.else-eq.branch [
-        else-eq-via-then-eq+else-has w ↦ (let m : member s.self.bound l.n ≡ false = sym w.has.ensures ∙ w.if-has.false in rw m)
+      | else-eq-via-then-eq+else-has w ↦ (let m : member s.self.bound l.n ≡ false = sym w.has.ensures ∙ w.if-has.false in rw m)
       | else-eq-via-else-eq w ↦ (let e : same_udid (kept_udid s.self l.n) s.u ≡ false = sym (same_is (kept_udid s.self l.n) s.u) ∙ sym c.eq.ensures ∙ w.if-eq.false in rw e (and_false (member s.self.bound l.n)))
     ] in
     l.invariant ∙ onward s.u s.self l.n c.loop-n-test.true other

@@ -22,6 +22,6 @@ pub returns : goal.returns
 returns c =
     let a = c.args in
     elim c.if-at-s.branch [
-        then-at-s w ↦ few a.s.now c.if-at-s.bytes a.at _ _ _ (filled a.s.now w.copy_from_slice.new.self c.if-at-s.bytes a.at w.copy_from_slice.ensures.after w.bytes-is) c.whole.ensures c.whole-2.ensures
+      | then-at-s w ↦ few a.s.now c.if-at-s.bytes a.at _ _ _ (filled a.s.now w.copy_from_slice.new.self c.if-at-s.bytes a.at w.copy_from_slice.ensures.after w.bytes-is) c.whole.ensures c.whole-2.ensures
       | else-at-s w ↦ few a.s.now c.if-at-s.bytes a.at 16 _ _ (w.bytes-is ∙ bare a.s.now a.at (omega arith)) c.whole.ensures c.whole-2.ensures
     ]

@@ -24,7 +24,7 @@ returns-then-out-lt16 c =
     let a = c.args in
     let n = length_udid a.self in
     let h : length a.out.now ≤ a.at + 15 = elim c.then-out-lt16.branch [
-        then-out-lt16-via-then-out-lt16 w ↦ omega arith
+      | then-out-lt16-via-then-out-lt16 w ↦ omega arith
       | then-out-lt16-via-else-out-lt16+then-at-out w ↦ omega arith
     ] in
     sym (put_short a.out.now (udid_bytes a.self) a.at (omega arith))
