@@ -5,7 +5,6 @@ use Rattle.std.proofs.Math.Path.{refl, ap}
 use Rattle.std.proofs.Common.{sym, ◌∙◌, arith, add-one, drop_of_length-le, drop-cons, ext_get_or, eqb-true}
 use mathlib.Core.List.{List, [], ◌∷◌}
 use Rattle.std.specs.Int.Bits.{bit_xor}
-use Rattle.std.specs.List.{fold}
 use Rattle.std.proofs.lemmas.Nat.{xor_lt}
 use Rattle.lists.specs.All.{all_placed}
 use Rattle.lists.specs.AllLaws.{at_place}
@@ -14,7 +13,7 @@ use Rattle.pec.specs.Pec.{pec_step, pec_from}
 use Rattle.pec.proofs.PecLaws.{step_byte}
 use Rattle.pec.specs.PecDivision.{times_g}
 use Rattle.pec.proofs.PecDivisionLaws.{step_is_remainder}
-use Rattle.pec.specs.Table.{Remainders, is_remainder}
+use Rattle.pec.specs.Table.{Remainders, is_remainder, step_by, from_by}
 
 -- ---- the entries
 
@@ -40,15 +39,14 @@ module _ (t : List ℕ) (r : Remainders t) where
   entry_is_remainder k x h g = rw (entry_is_step k h) (step_is_remainder 0 k x (omega arith) h g)
 
   -- the code of one byte more is the entry at the code so far xor the byte
-  pub step_by_lem : (c b : ℕ) → c < 256 → b < 256 → get_or t (bit_xor c b) 0 ≡ pec_step c b
+  pub step_by_lem : (c b : ℕ) → c < 256 → b < 256 → step_by t c b ≡ pec_step c b
+  unfolding step_by
   step_by_lem c b h g = entry_is_step (bit_xor c b) (xor_lt 8 c b h g) ∙ step_alone c b
 
-  -- the code of more bytes, by the entries one after the other
-  pub from_by_lem : (c : ℕ) (bs : List ℕ) → c < 256 → Bytes bs → fold (λ (z b : ℕ). get_or t (bit_xor z b) 0) c bs ≡ pec_from c bs
-  unfolding pec_from
+  pub from_by_lem : (c : ℕ) (bs : List ℕ) → c < 256 → Bytes bs → from_by t c bs ≡ pec_from c bs
+  unfolding from_by pec_from
   from_by_lem c [] h g = refl
-  from_by_lem c (b ∷ bs) h g =
-      ap (λ (z : ℕ). fold (λ (y x : ℕ). get_or t (bit_xor y x) 0) z bs) (step_by_lem c b h g.0) ∙ from_by_lem (pec_step c b) bs (step_byte c b h g.0) g.1
+  from_by_lem c (b ∷ bs) h g = ap (λ (z : ℕ). from_by t z bs) (step_by_lem c b h g.0) ∙ from_by_lem (pec_step c b) bs (step_byte c b h g.0) g.1
 
 -- there is one table only
 pub one_table : (s t : List ℕ) → length s ≡ 256 → length t ≡ 256 → Remainders s → Remainders t → s ≡ t
@@ -56,10 +54,10 @@ one_table s t l m r q =
     ext_get_or 0 s t (l ∙ sym m) (λ k h. let g : k < 256 = rw (← l) h in entry_is_step s r k g ∙ sym (entry_is_step t q k g))
 
 -- a turn of a loop over a slice, and its end
-pub by_turn : (s : List ℕ) (c i : ℕ) → i < length s → pec_from c (drop i s) ≡ pec_from (pec_step c (get_or s i 0)) (drop (i + 1) s)
-unfolding pec_from
-by_turn s c i h = rw (add-one, drop-cons s i 0)
+pub by_turn : (t s : List ℕ) (c i : ℕ) → i < length s → from_by t c (drop i s) ≡ from_by t (step_by t c (get_or s i 0)) (drop (i + 1) s)
+unfolding from_by
+by_turn t s c i h = rw (add-one, drop-cons s i 0)
 
-pub by_end : (s : List ℕ) (c i : ℕ) → length s ≤ i → pec_from c (drop i s) ≡ c
-unfolding pec_from
-by_end s c i h = rw drop_of_length-le
+pub by_end : (t s : List ℕ) (c i : ℕ) → length s ≤ i → from_by t c (drop i s) ≡ c
+unfolding from_by
+by_end t s c i h = rw drop_of_length-le

@@ -1,4 +1,4 @@
-use Rattle.std.proofs.Common.{ℕ, suc, ◌+◌, ◌-◌, ◌<◌, ◌≤◌, ◌≡◌, refl, sym, ap, ◌∙◌, Bool, true, false, ◌&&◌, Option, Some, None, eqb, add-one, arith, le-ltb}
+use Rattle.std.proofs.Common.{ℕ, suc, ◌+◌, ◌-◌, ◌<◌, ◌≤◌, ◌≡◌, refl, sym, ap, ◌∙◌, Bool, true, false, Option, Some, None, add-one, arith, le-ltb}
 use Rattle.lists.specs.Choice.{and}
 use Rattle.pool.specs.Pools.{member}
 use Rattle.wire.specs.declared.address.Address.{Address}
@@ -9,14 +9,7 @@ use Rattle.slots.specs.Slots.{kept_udid, held_at}
 use Rattle.slots.proofs.FindingLaws.{bound_by_udid}
 use Rattle.slots.specs.declared.Slots.{Slots}
 use Rattle.slots.proofs.Slots.find.Goals as goal
-use Rattle.slots.proofs.Slots.find.Goals.{else-eq-via-then-eq+else-has, else-eq-via-else-eq}
-
-both_and : (x y : Bool) → x && y ≡ and x y
-both_and true y = refl
-both_and false y = refl
-
-same_is : (v u : Udid) → eqb v.high u.high && eqb v.low u.low ≡ same_udid v u
-same_is v u = both_and (eqb v.high u.high) (eqb v.low u.low)
+use Rattle.slots.proofs.Slots.find.Goals.{else-is_same-via-then-is_same+else-has, else-is_same-via-else-is_same}
 
 and_false : (x : Bool) → and x false ≡ false
 and_false true = refl
@@ -38,7 +31,7 @@ pub returns-then-has : goal.returns-then-has
 returns-then-has c =
     let l = c.loop-n in
     let s = c.args in
-    let e : same_udid (kept_udid s.self l.n) s.u ≡ true = sym (same_is (kept_udid s.self l.n) s.u) ∙ sym c.eq.ensures ∙ c.if-eq.true in
+    let e : same_udid (kept_udid s.self l.n) s.u ≡ true = sym c.is_same.ensures ∙ c.if-is_same.true in
     let m : member s.self.bound l.n ≡ true = sym c.has.ensures ∙ c.if-has.true in
     sym (ap address_found l.invariant ∙ here s.u s.self l.n c.loop-n-test.true (bound_by_udid s.self l.n s.u ∙ rw (m, e)))
 
@@ -46,9 +39,9 @@ pub loop-n-preserved : goal.loop-n-preserved
 loop-n-preserved c =
     let l = c.loop-n in
     let s = c.args in
-    let other : bound_to s.u (held_at s.self l.n) ≡ false = bound_by_udid s.self l.n s.u ∙ elim c.else-eq.branch [
-      | else-eq-via-then-eq+else-has w ↦ (let m : member s.self.bound l.n ≡ false = sym w.has.ensures ∙ w.if-has.false in rw m)
-      | else-eq-via-else-eq w ↦ (let e : same_udid (kept_udid s.self l.n) s.u ≡ false = sym (same_is (kept_udid s.self l.n) s.u) ∙ sym c.eq.ensures ∙ w.if-eq.false in rw e (and_false (member s.self.bound l.n)))
+    let other : bound_to s.u (held_at s.self l.n) ≡ false = bound_by_udid s.self l.n s.u ∙ elim c.else-is_same.branch [
+      | else-is_same-via-then-is_same+else-has w ↦ (let m : member s.self.bound l.n ≡ false = sym w.has.ensures ∙ w.if-has.false in rw m)
+      | else-is_same-via-else-is_same w ↦ (let e : same_udid (kept_udid s.self l.n) s.u ≡ false = sym c.is_same.ensures ∙ w.if-is_same.false in rw e (and_false (member s.self.bound l.n)))
     ] in
     l.invariant ∙ onward s.u s.self l.n c.loop-n-test.true other
 

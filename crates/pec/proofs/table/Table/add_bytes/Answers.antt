@@ -1,13 +1,11 @@
-use Rattle.std.proofs.Common.{rules}
-use Rattle.pec.proofs.TableLaws.{by_turn, by_end}
+use Rattle.std.proofs.Common.{◌∙◌, arith}
+use Rattle.lists.specs.EachLaws.{all_bytes}
+use Rattle.pec.proofs.TableLaws.{from_by_lem}
 use Rattle.pec.proofs.table.Table.add_bytes.Goals as goal
-
-pub loop-b-preserved : goal.loop-b-preserved
-loop-b-preserved c =
-    let l = c.loop-b in
-    cc (by_turn c.args.s.now l.z l.b-index (search rules))
 
 pub returns : goal.returns
 returns c =
-    let l = c.loop-b in
-    cc (by_end c.args.s.now l.z l.b-index (search rules))
+    let a = c.args in
+    let t = a.self.now in
+    let bytes = all_bytes a.s.now (λ i. (c.type_inv.s i).fits) in
+    c.add_bytes_by.ensures ∙ from_by_lem t.entries t.remainders a.c a.s.now (omega arith) bytes
