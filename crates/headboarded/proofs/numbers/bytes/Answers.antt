@@ -1,5 +1,5 @@
 use Rattle.headboarded.proofs.Sizes.{inside}
 use Rattle.headboarded.proofs.numbers.bytes.Goals as goal
 
-pub slice_bounds-buffer-end : goal.slice_bounds-buffer-end
-slice_bounds-buffer-end c = inside c.read_bytes-n.ensures
+pub slice_bounds-result-end : goal.slice_bounds-result-end
+slice_bounds-result-end c = inside c.read_bytes-n.ensures
