@@ -19,8 +19,8 @@ for crate in crates/*; do
     done
 done
 file=$copy/crates/encode/src/lib.rt
-old='if !address_fits(sh, address) {'
-new='if !address_fits(sh, address.for_write()) {'
+old='address_fits(sh, address) && direction_fits(sh, direction) && command_fits(sh, command)'
+new='address_fits(sh, address.for_write()) && direction_fits(sh, direction) && command_fits(sh, command)'
 [ "$(grep -cF "$old" "$file")" = 1 ] || { echo "types: '$old' does not stand once in $file"; exit 1; }
 awk -v old="$old" -v new="$new" '{ i = index($0, old); if (i) $0 = substr($0, 1, i - 1) new; print }' "$file" >"$copy/edited"
 mv "$copy/edited" "$file"
