@@ -28,12 +28,12 @@ pub(crate) fn run_pass(occupied: Pool, last: u8, records: &mut [u8]) -> Stepped
     ensures { Matches (pass occupied last (targets_of records.old)) result records.old records.new }
 {
     let mut st = Controller::new(occupied, last).start();
+    let mut out = [0u16; TRACE_ROOM];
     for _ in 0..MOST_COMMANDS {
         let k = st.command;
         if !is_sent(k) {
             return st;
         }
-        let mut out = [0u16; TRACE_ROOM];
         let n = send(k, &mut records[..], &mut out[..]);
         st = st.state.step(&out[..n]);
     }
