@@ -4,18 +4,10 @@ types with their invariants, definitions, and the statements of theorems. python
 OLD and NEW are folders with crates/. It goes by text. Of a theorem the statement is compared, and of a definition all of it."""
 import collections
 import glob
-import os
 import re
 import sys
 
-
-def braces(text, at):
-    depth = 0
-    for i in range(at, len(text)):
-        depth += {'{': 1, '}': -1}.get(text[i], 0)
-        if depth == 0 and text[i] == '}':
-            return i + 1
-    return len(text)
+from places import braces
 
 
 def flat(text):

@@ -191,4 +191,5 @@ def main():
                 print('  %s:%d %s' % (f, n, what))
 
 
-main()
+if __name__ == '__main__':
+    main()
