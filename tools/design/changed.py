@@ -79,7 +79,7 @@ def spec_items(root):
                     i += 1
                 items[crate, 'record', r.group(3)].append(flat(' '.join(text)))
                 continue
-            if m and not m.group(3).startswith(('use', 'module', '--')):
+            if m and not m.group(3).startswith(('use ', 'module ', '--')):
                 indent, name, text, i = len(m.group(1)), m.group(3), [lines[i]], i + 1
                 while i < len(lines) and lines[i].strip() and len(lines[i]) - len(lines[i].lstrip()) > indent:
                     text.append(lines[i])

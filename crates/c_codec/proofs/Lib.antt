@@ -1,2 +1,3 @@
 pub mod CodecLaws
+pub mod LastLaws
 pub mod ReadLaws

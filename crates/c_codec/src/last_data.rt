@@ -1,5 +1,6 @@
 // The last data phase of a transaction. A part of a buffer cannot be handed back to C, so its bytes are copied out.
-ghost use Rattle.std.specs.Prelude.{◌≡◌};
+ghost use Rattle.std.specs.Prelude.{◌≡◌, ◌≤◌, length};
+ghost use Rattle.lists.specs.Onto.{onto};
 ghost use Rattle.c_codec.specs.LastData.{part_of, phase_of, Copied};
 
 use last::last_data;
@@ -18,6 +19,17 @@ fn part(answer: u32, length: usize) -> HbPart
     ensures { result ≡ part_of answer length }
 {
     HbPart { answer, length }
+}
+
+// Bytes to the front of a buffer.
+// Kept: by index. copy_from_slice calls memmove, a name that firmware without a C library may lack.
+fn copy(out: &mut [u8], bytes: &[u8])
+    requires { length bytes.now ≤ length out.old }
+    ensures { out.new ≡ onto bytes.now out.old }
+{
+    for i in 0..bytes.len() {
+        out[i] = bytes[i];
+    }
 }
 
 // The last data phase, to the front of a buffer. m and n are the lengths that the transaction has sent and received.
@@ -43,6 +55,6 @@ pub fn put_last_data<'a>(
     if out.len() < d.len() {
         return part(2, 0);
     }
-    out[..d.len()].copy_from_slice(d);
+    copy(out, d);
     part(0, d.len())
 }

@@ -1,5 +1,5 @@
 -- A module as a struct for C, there and back, and what each call hands back.
-use Rattle.std.specs.Prelude.{Result, Ok, Err, is_some, unwrap_or}
+use Rattle.std.specs.Prelude.{Result, Ok, Err, is_some}
 use Rattle.module.specs.declared.resume.RecordError.{RecordError}
 use Rattle.module.specs.declared.state.Lasting.{Lasting}
 use Rattle.module.specs.declared.state.Module.{Module}
@@ -7,6 +7,7 @@ use Rattle.module.specs.declared.state.Heard.{Heard}
 use Rattle.module.specs.declared.state.Supplied.{Supplied}
 use Rattle.module.specs.State.{at}
 use Rattle.module.specs.Resume.{resumed_number}
+use Rattle.module.specs.Supply.{byte_out}
 use Rattle.c_codec.specs.Numbers.{truth, bit}
 use Rattle.c_arp.specs.Parts.{udid_in, told_udid}
 use Rattle.c_module.specs.Phases.{phase_in, phase_number}
@@ -42,7 +43,7 @@ told_heard h = record { after = told_module h.after; ack = bit h.ack }
 
 -- FFh, which holds nothing down, stands for no byte
 abbrev pub told_supplied : Supplied → HbSupplied
-told_supplied s = record { after = told_module s.after; drives = bit (is_some s.byte); byte = unwrap_or s.byte 0xFF }
+told_supplied s = record { after = told_module s.after; drives = bit (is_some s.byte); byte = byte_out s.byte }
 
 -- a refusal has no module: every part of it is 0
 abbrev pub no_module : HbModule

@@ -54,11 +54,13 @@ fn after_prepare(answer: Decoded, sent: &[u8]) -> Told
 fn after_get(answer: Decoded, received: &[u8]) -> Told
     ensures { result ≡ told_get answer received.now }
 {
-    match answer {
-        Ok(t) => reply_in(t, received),
-        Err(_) if is_nobody(answer) => Told::Over,
-        Err(_) => Told::Again,
+    if is_nobody(answer) {
+        return Told::Over;
     }
+    let Ok(t) = answer else {
+        return Told::Again;
+    };
+    reply_in(t, received)
 }
 
 // Assign Address is outstanding.

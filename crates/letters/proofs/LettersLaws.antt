@@ -1,15 +1,17 @@
 -- What each symbol's text says: read as letters and digits, it is that symbol. Prepare To ARP as an example.
-use Rattle.std.specs.Prelude.{ℕ, ◌+◌, ◌*◌, ◌-◌, ◌<◌, ◌≡◌, refl, Bool, List, [], ◌∷◌, leb, eqb}
-use Rattle.std.proofs.Common.{sym, ◌∙◌}
+use Rattle.std.specs.Prelude.{ℕ, ◌+◌, ◌*◌, ◌-◌, ◌/◌, ◌%◌, ◌<◌, ◌≡◌, refl, Bool, true, false, List, [], ◌∷◌, ltb, leb, eqb}
+use Rattle.std.proofs.Common.{sym, ◌∙◌, mod-eq_of_lt, arith}
 use Rattle.std.proofs.Math.Path.{ap}
-use borrow.Author.Tests.{eqb-true}
+use borrow.Author.Tests.{eqb-true, eq-eqb, ne_eqb, ltb-true}
 use Rattle.lists.specs.AllLaws.{at_below}
 use Rattle.lists.specs.Choice.{pick, and}
 use Rattle.text.specs.Chars.{chars}
 use Rattle.text.specs.Words.{part_of}
 use Rattle.std.specs.Prelude.{Ok}
+use Rattle.writing.specs.Written.{decimal_of}
+use Rattle.writing.specs.Pages.{capital}
 use Rattle.pieces.specs.Pieces.{texts, below}
-use Rattle.letters.specs.Letters.{sign_text, letter_text, letters_text, encoded_letters}
+use Rattle.letters.specs.Letters.{capitals, sign_text, letter_text, letters_text, encoded_letters}
 
 -- ---- a reader of its own: a digit, `0` to `9` or `A` to `F`, else 256; a letter; two digits
 unfoldable pub digit_read : ℕ → ℕ
@@ -64,3 +66,42 @@ prepare_in_letters = refl
 pub prepare_encoded : encoded_letters (Ok 8) prepare ≡ chars "0 trace S C2 A 01 A C0 A P\n"
 unfolding below texts part_of letter_text sign_text
 prepare_encoded = refl
+
+-- ---- case by case
+
+capital_low : (d : ℕ) → d < 16 → capital (d % 16) ≡ capital d
+capital_low d h = ap capital (mod-eq_of_lt h)
+
+pub capitals_are : (b : ℕ) {x y : ℕ} → b < 256 → x ≡ capital (b / 16 % 16) → y ≡ capital (b % 16 % 16) → x ∷ y ∷ [] ≡ capitals b
+capitals_are b {x} {y} h e f = cc (e, f, capital_low (b / 16) (omega arith), capital_low (b % 16) (omega arith))
+
+pub letter_byte : (x : ℕ) {t : Bool} → t ≡ ltb x 256 → t ≡ true → capitals (x % 256) ≡ letter_text x
+unfolding letter_text
+letter_byte x e f = let h : x % 256 ≡ x = mod-eq_of_lt (ltb-true x 256 (sym e ∙ f)) in rw (h, sym e ∙ f)
+
+pub letter_sign : (x : ℕ) {t : Bool} → t ≡ ltb x 256 → t ≡ false → sign_text x ≡ letter_text x
+unfolding letter_text
+letter_sign x e f = rw (sym e ∙ f)
+
+pub sign_start : (x : ℕ) → x ≡ 256 → chars "S" ≡ sign_text x
+unfolding sign_text
+sign_start x a = rw (eq-eqb x 256 a)
+
+module _ (x : ℕ) (a : x ≡ 256 → ⊥) where
+  pub sign_stop : x ≡ 257 → chars "P" ≡ sign_text x
+  unfolding sign_text
+  sign_stop b = rw (ne_eqb x 256 a, eq-eqb x 257 b)
+
+  module _ (b : x ≡ 257 → ⊥) where
+    pub sign_ack : x ≡ 258 → chars "A" ≡ sign_text x
+    unfolding sign_text
+    sign_ack c = rw (ne_eqb x 256 a, ne_eqb x 257 b, eq-eqb x 258 c)
+
+    module _ (c : x ≡ 258 → ⊥) where
+      pub sign_nack : x ≡ 259 → chars "N" ≡ sign_text x
+      unfolding sign_text
+      sign_nack d = rw (ne_eqb x 256 a, ne_eqb x 257 b, ne_eqb x 258 c, eq-eqb x 259 d)
+
+      pub sign_number : (x ≡ 259 → ⊥) → {n : ℕ} → n ≡ x → decimal_of n ≡ sign_text x
+      unfolding sign_text
+      sign_number d {n} e = ap decimal_of e ∙ rw (ne_eqb x 256 a, ne_eqb x 257 b, ne_eqb x 258 c, ne_eqb x 259 d)

@@ -1,5 +1,5 @@
 -- In the middle of a reply, between two STARTs, and where there is nothing to say: what a module is then, whatever came before.
-use Rattle.std.specs.Prelude.{ℕ, ◌+◌, ◌≡◌, refl, Bool, true, false, ltb, is_some, unwrap_or}
+use Rattle.std.specs.Prelude.{ℕ, ◌+◌, ◌≡◌, refl, Bool, true, false, ltb, is_some}
 use Rattle.lists.specs.Choice.{pick}
 use Rattle.lists.specs.ChoiceLaws.{false_not_true, not_both}
 use Rattle.pec.specs.Pec.{pec_step}
@@ -9,14 +9,14 @@ use Rattle.module.specs.declared.state.Lasting.{Lasting}
 use Rattle.module.specs.declared.state.Module.{Module}
 use Rattle.module.specs.State.{at, silent_in}
 use Rattle.module.specs.Receive.{started_in, starts, received_in, receives}
-use Rattle.module.specs.Supply.{reply_byte, supplied_in, supplies}
+use Rattle.module.specs.Supply.{reply_byte, byte_out, supplied_in, supplies}
 
--- ASKED FOR A BYTE WITH NONE TO SAY: it stays as it was
-pub nothing_moved : (m : Module) → is_some (supplies m).byte ≡ false → ((supplies m).after ≡ m) × (unwrap_or (supplies m).byte 0xFF ≡ 0xFF)
+-- ASKED FOR A BYTE WITH NONE TO SAY: it stays as it was, and FFh stands for the byte
+pub nothing_moved : (m : Module) → is_some (supplies m).byte ≡ false → ((supplies m).after ≡ m) × (byte_out (supplies m).byte ≡ 0xFF)
 unfolding supplies
 nothing_moved m = go m.phase m
   where
-    go : (ph : Phase) (m : Module) → is_some (supplied_in ph m).byte ≡ false → ((supplied_in ph m).after ≡ m) × (unwrap_or (supplied_in ph m).byte 0xFF ≡ 0xFF)
+    go : (ph : Phase) (m : Module) → is_some (supplied_in ph m).byte ≡ false → ((supplied_in ph m).after ≡ m) × (byte_out (supplied_in ph m).byte ≡ 0xFF)
     go Reply m e = not_both e refl
     go Silent m e = (refl, refl)
     go First m e = (refl, refl)

@@ -1,5 +1,5 @@
 -- A byte that the module supplies: steps 22 to 25, and 29.
-use Rattle.std.specs.Prelude.{ℕ, ◌+◌, ◌-◌, ◌*◌, ◌%◌, Some, None, ltb, eqb, get_or}
+use Rattle.std.specs.Prelude.{ℕ, ◌+◌, ◌-◌, ◌*◌, ◌%◌, Option, Some, None, unwrap_or, ltb, eqb, get_or}
 use Rattle.lists.specs.Choice.{pick}
 use Rattle.pec.specs.Pec.{pec_step}
 use Rattle.udid.specs.Bytes.{udid_bytes}
@@ -29,6 +29,10 @@ said m b = record { after = m; byte = Some b }
 -- it holds nothing down, as FFh would not
 abbrev pub unsaid : Module → Supplied
 unsaid m = record { after = m; byte = None }
+
+-- the byte for whoever wants one in any case: FFh where there is none, which holds nothing down
+abbrev pub byte_out : Option ℕ → ℕ
+byte_out b = unwrap_or b 0xFF
 
 abbrev pub supplied_at : Lasting → ℕ → ℕ → Supplied
 supplied_at o c k = said (after_byte o c k (reply_byte o c k)) (reply_byte o c k)

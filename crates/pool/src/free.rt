@@ -29,7 +29,11 @@ impl Pool {
         if last >= 127 {
             return self.lowest_free();
         }
-        self.free_from(last + 1).or(self.free_from(0))
+        // Kept: no `or`, which would search from the front each time.
+        match self.free_from(last + 1) {
+            Some(a) => Some(a),
+            None => self.free_from(0),
+        }
     }
 
     // The lowest free address of those from n on.

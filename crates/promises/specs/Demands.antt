@@ -2,7 +2,7 @@
 -- ≡ is 'equal', ↔ 'if and only if', × 'and', ⊎ 'or', P → ⊥ 'not P', (x : A) × P 'there is an x with P'; get_or l i 0 is number i of the list l.
 -- A parameter such as (contract : Wrote ..) is what a function's `ensures` says, word for word. It need not be believed: the code meets it.
 -- CONTRACTS: Leaves, Outcome, Wrote, declining, first_half, issuing, looked_up, loses, message_of, model_end, new_controller, next_free, powered, protocol_for, receives, refreshed, reported, resumed, silent_in, started, starts, stepped, stops, supplies, trace_of.
--- BELIEVED: 1152 lines, without imports, comments and blanks. Crate/file, then the lines of each definition; src is a type of the code. tests/programs/believed.rs counts them.
+-- BELIEVED: 1154 lines, without imports, comments and blanks. Crate/file, then the lines of each definition; src is a type of the code. tests/programs/believed.rs counts them.
 -- lists/Choice: and 3, not 3, or 3, pick 3; lists/Each: Any 3, Bytes 3, Each 3; lists/Passing: passing 3; wire/AddressTable: Bit 4, Covers 2, covers 3, lets 4, table17 25; wire/Addresses: is_from_to 2, is_listed 2,
 -- is_preassigned 2, is_reserved 2; wire/Symbols: ACK 2, NACK 2, START 2, STOP 2; wire/src: Address 1; pec/Pec: bit_step 2, pec_from 3, pec_of 2, pec_step 2; pec/PecDivision: polynomial 2, polynomial_from 3, times_g 2;
 -- catches/Changes: Came 5, FirstAndLast 2, Flipped 2, RightPec 2, TwoBits 5, Within 7, bit_of 2, how_many 2, is_flipped 2, power 2; trace/Rows: message 2; trace/Table: InTable 2, Line 6, Row 22, TraceOf 2, last_protocol 2,
@@ -13,7 +13,7 @@
 -- empty_pool 2, listed_pool 2, reserved_pool 2, starting_pool 2; pool/src: Pool 4; udid/Bytes: bytes_from 3, bytes_of 3, number 2, number_from 3, udid_at 2, udid_bytes 2; udid/Udids: Fits 3, is_fixed 2, same_udid 2, value 2;
 -- udid/src: Udid 4; slots/Slots: held_at 2, kept_udid 2, zero_udid 2; slots/src: Binding 6, Slots 6; module/Acknowledges: acked 3, get_order 2; module/Obeys: assign_order 2, directed_reset 2, heard_all 3, packet 2,
 -- prepare_order 2, reset_order 2; module/Packets: Begins 2, Known 7, PecDue 6, PowersOn 7, Reachable 2, Resets 7, kind_of 2; module/Receive: for_read 2, for_write 2; module/Reset: having 2; module/Resume: AsRecorded 9,
--- resumed_number 4; module/Says: after_asking 3, asked 2, reply_to 2, says 3, sent 2; module/Supply: address_byte 2; module/src: Lasting 8, Module 7, RecordError 4; commands/Choices: choice_in 3, in_end 7;
+-- resumed_number 4; module/Says: after_asking 3, asked 2, reply_to 2, says 3, sent 2; module/Supply: address_byte 2, byte_out 2; module/src: Lasting 8, Module 7, RecordError 4; commands/Choices: choice_in 3, in_end 7;
 -- commands/CommandTraces: ReplyOf 2, assign_trace 2, prepare_trace 2, reply_trace 3; commands/SameTrace: same 5; commands/src: Command 5, End 8, Handed 4, Reason 6; arp/Account: bind_in 5, binds 7, known_in 2, removals 7,
 -- remove_in 2, replies_from 5, unbind_in 5, unbindings 7; arp/Choosing: carried_for 3, carried_on 2, halves_over 3, sending 2, sending_for 3, steps_over 3; arp/History: By 3, Event 6, NoStart 7, heard 3, run 7;
 -- arp/Numbers: command_number 3, end_number 7, is21 3, is21_end 7, lookup_number 6, unless21 2; arp/OneStep: Asks 3, Binds 8, BoundAt 3, Chooses 5, Continues 2, EndsWith 2, Hands 5, Keeps 4, Removes 5, Replies 4, Rest 5, Same 2,
@@ -28,7 +28,7 @@
 -- traces_over 3; exchange/Exchange: Fitting 2, Left 3, Sender 4, after 3, after_byte 2, after_bytes 3, any_ack 3, asked 2, block_length 2, byte_on 2, bytes_on 3, exchange 2, hearing 2, line 3, put 2, reading 5, record_of 2,
 -- records_of 2, rest 5, seen 3, sees 5, stop_all 2, walk 6; exchange/Pass: Bench 2, gets_on 2, pass_on 2, run_on 3, stands_on 2, took_on 3, traces_on 3, turn_on 2; exchange/Sending: asked_all 2, started_again 2;
 -- bus/Run: ModelEnd 4; promises/MarkedWords: Shows 2, holding 2, identifier 2, windows 3.
-use Rattle.std.specs.Prelude.{◌≡◌, Bool, true, false, List, [], ◌∷◌, ◌++◌, ◌⊎◌, ◌↔◌, ℕ, suc, ◌+◌, ◌-◌, ◌*◌, ◌/◌, ◌%◌, ◌^◌, ◌≤◌, ◌<◌, length, take, drop, get_or, replicate, Some, None, Ok, is_some, unwrap_or}
+use Rattle.std.specs.Prelude.{◌≡◌, Bool, true, false, List, [], ◌∷◌, ◌++◌, ◌⊎◌, ◌↔◌, ℕ, suc, ◌+◌, ◌-◌, ◌*◌, ◌/◌, ◌%◌, ◌^◌, ◌≤◌, ◌<◌, length, take, drop, get_or, replicate, Some, None, Ok, is_some}
 use Rattle.std.specs.Int.Bits.{bit_xor}
 use Rattle.promises.specs.Words.{Each, Any, Bytes, is_reserved, is_preassigned, is_listed, table17, Covers, pec_of, Address, last_protocol, TraceOf, Message, message, encode_number, Wrote, Encoded}
 use Rattle.promises.specs.Words.{summary, Member, Fits, Breaks, Wrong, AfterStart, FitsNext, ToHost, IsSwapped, IsMisaddressed, IsMiscounted, IsOther, BitSwapped, CountTooHigh, CutAt, OtherPec, decode_number, Decoded, Entered, Outcome}
@@ -36,7 +36,7 @@ use Rattle.promises.specs.Words.{member, empty_pool, starting_pool, barred_pool,
 use Rattle.promises.specs.Words.{used, count, not, Completes, BoundSince, LeftSince, binds, unbindings, removals, known_in, handed_out, Removes, Rest, Reported, Left}
 use Rattle.promises.specs.Words.{Asks, Binds, Continues, EndsWith, Replies, protocol_for, message_of, trace_of, Handed, Send, Wait, Nothing, Prepare, GetUdid, Assign, Ended, Abandoned, NotOutstanding, Open, Bound, Claimed, Controller, Stepped}
 use Rattle.promises.specs.Words.{EvenOrFlag, SameAsEarlier, FixedOnTaken, LengthIsBad, FirstOf, targets_of, movable, left_free, pass, Given, Ending, served, none_free, Distinct, ruled, RecordOf, OnePerUdid, gets_on_bus, history_on_bus, model_number, Leaves, model_end, ModelAnswer, next_free, Next, Pick, Picks, latest_of, picks_of, FreeAtEach, Picked, identifier, holding, Shows, NoneOf}
-use Rattle.promises.specs.Words.{Module, silent_in, starts, stops, loses, receives, supplies, powered, refreshed, resumed, resumed_number, AsRecorded, having, heard_all, acked, prepare_order, reset_order, directed_reset, assign_order, get_order, Begins, Reachable, Known, Resets, PowersOn, PecDue, says, after_asking, asked, reply_to}
+use Rattle.promises.specs.Words.{Module, silent_in, starts, stops, loses, receives, supplies, byte_out, powered, refreshed, resumed, resumed_number, AsRecorded, having, heard_all, acked, prepare_order, reset_order, directed_reset, assign_order, get_order, Begins, Reachable, Known, Resets, PowersOn, PecDue, says, after_asking, asked, reply_to}
 use Rattle.promises.specs.Words.{first_half, issuing, declining, steps_over, halves_over, run_by_halves, Step, Choose, Gone, Issue, Decline, Chosen, Reason, ByTwo, Reasons, Waits, with_last}
 use Rattle.promises.specs.Words.{times_g, polynomial, bytes_in, Whole, RightPec, Came, Within, TwoBits, FirstAndLast, how_many, MayDiffer, Changed, sent_from}
 use Rattle.promises.specs.Words.{on_bus, effect, map_targets, Among, beginning_over, run_over, model_bus, exchange, records_of, Fitting, after_bytes, asked_all, run_on, pass_on, gets_on}
@@ -423,8 +423,8 @@ pub record Listens (m : Module) (fits : In128 m.own.udid) (four : m.own.fresh < 
   pub general : m.own.resolved ≡ false → (n : ℕ) → (says (19 + n) (asked m 0x03) ≡ reply_to m.own 0x03) × (after_asking (19 + n) (asked m 0x03) ≡ silent_in m.own)
   pub directed : Reachable m.own → let k = 2 * m.own.address + 1 in (n : ℕ) → (says (19 + n) (asked m k) ≡ reply_to m.own k) × (after_asking (19 + n) (asked m k) ≡ silent_in m.own)
   pub nothing_else : (bs : List ℕ) (n : ℕ) → (bs ≡ 0xC3 ∷ [] → (receives (starts m) 0xC3).ack ≡ false) → says n (heard_all (starts m) bs) ≡ []
-  -- asked for a byte where it has none, it stays as it was. In a reply no byte gets ACK, and after its last byte it is silent. A START then, or right after a START, begins a new packet, before C3h too
-  pub released : is_some (supplies m).byte ≡ false → ((supplies m).after ≡ m) × (unwrap_or (supplies m).byte 0xFF ≡ 0xFF)
+  -- asked for a byte where it has none, it stays as it was, and FFh stands for the byte. In a reply no byte gets ACK, and after its last byte it is silent. A START then, or right after a START, begins a new packet, before C3h too
+  pub released : is_some (supplies m).byte ≡ false → ((supplies m).after ≡ m) × (byte_out (supplies m).byte ≡ 0xFF)
   pub replying : is_some (supplies m).byte ≡ true → (starts m ≡ starts (silent_in m.own)) × ((b : ℕ) → (receives m b).ack ≡ false)
       × (is_some (supplies (supplies m).after).byte ≡ false → (supplies m).after ≡ silent_in m.own)
   pub twice : starts (starts m) ≡ starts (silent_in m.own)

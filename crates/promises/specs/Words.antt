@@ -87,7 +87,7 @@ pub use Rattle.module.specs.State.{silent_in}
 pub use Rattle.module.specs.Reset.{having, powered, refreshed}
 pub use Rattle.module.specs.Resume.{resumed, resumed_number, AsRecorded}
 pub use Rattle.module.specs.Receive.{starts, stops, loses, receives}
-pub use Rattle.module.specs.Supply.{supplies}
+pub use Rattle.module.specs.Supply.{supplies, byte_out}
 pub use Rattle.module.specs.Obeys.{heard_all, prepare_order, reset_order, directed_reset, assign_order}
 pub use Rattle.module.specs.Acknowledges.{acked, get_order}
 pub use Rattle.module.specs.Says.{says, after_asking, asked, reply_to}

@@ -50,8 +50,17 @@ pub fn room_by(sh: Shape, forbidden: bool, pec: bool, m: usize, n: usize) -> Opt
 }
 
 // The same for a protocol of the table, as C gets it: 0 where the encoder refuses the protocol, the PEC or a length.
+#[tactic(auto, unfolding(crate::specs::Lengths::room_by))]
 pub fn room_for(protocol: u8, pec: bool, m: usize, n: usize) -> usize
     ensures { result ≡ room_for protocol pec m n }
 {
-    room_by(shape_of(protocol), is_forbidden(protocol, pec), pec, m, n).unwrap_or(0)
+    // Kept: not by room_by. The Option in between costs half as much again.
+    if is_forbidden(protocol, pec) {
+        return 0;
+    }
+    let sh = shape_of(protocol);
+    if !lengths_fit(sh, m, n) {
+        return 0;
+    }
+    trace_length(sh, pec, m, n)
 }
